@@ -1,0 +1,6 @@
+pub mod RisingKeys
+pub mod ObjectParts
+pub mod References
+pub mod Digits
+pub mod DecimalValues
+pub mod OneDecimal

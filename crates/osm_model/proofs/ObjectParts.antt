@@ -1,0 +1,51 @@
+-- What makes an object of its parts.
+use Rattle.std.proofs.Common.{◌≡◌, ℕ, ◌≤◌, ℤ, List, [], ◌∷◌, length, map, All, refl, sym, ap, arith, to_z, of_z, FitsSigned}
+use Rattle.std.specs.Int.{w64}
+use Rattle.std.specs.Ordering.{eq_by_cmp, nat_cmp}
+use Rattle.std.specs.Cmp.Lexicographic.{slice_cmp}
+use Rattle.std.specs.Cmp.{IsEquivalence}
+use Rattle.std.specs.List.{AllAdjacentBelow}
+use Rattle.std.specs.List.Sorted.{IsPermutation, IsSortedByKey}
+use Rattle.std.proofs.lemmas.Cmp.{nat_list_cmp_total, eq_by_cmp_equiv}
+use Rattle.std.proofs.lemmas.List.Sorted.{IsPermutation-map, All-permutation, length_permutation}
+use Rattle.std.proofs.lemmas.Map.Keys.{IsDistinct-IsPermutation}
+use Rattle.osm_model.specs.declared.tag.Tag.{Tag}
+use Rattle.osm_model.specs.declared.meta.Meta.{Meta}
+use Rattle.osm_model.specs.declared.body.Body.{Body}
+use Rattle.osm_model.specs.Objects.{Element, IsElement, MetaInRange, Fits, IsClean, HasDistinctKeys, HasRisingKeys, IsShort, HasNoNul}
+use Rattle.osm_model.proofs.RisingKeys.{Below, rising, rises_from_distinct}
+
+
+pub fits_sorted : (meta : Meta) (tags sorted : List Tag) (body : Body) → IsPermutation tags sorted → Fits meta tags body → Fits meta sorted body
+fits_sorted meta tags sorted body p h = record {
+  short_user = h.short_user;
+  few_tags = omega (arith, h.few_tags, length_permutation tags sorted p);
+  short_tags = All-permutation (λ tag. IsShort tag.key × IsShort tag.value) tags sorted p h.short_tags;
+  small_body = h.small_body;
+}
+
+pub clean_sorted : (meta : Meta) (tags sorted : List Tag) (body : Body) → IsPermutation tags sorted → IsClean meta tags body → IsClean meta sorted body
+clean_sorted meta tags sorted body p h = record {
+  clean_user = h.clean_user;
+  clean_tags = All-permutation (λ tag. HasNoNul tag.key × HasNoNul tag.value) tags sorted p h.clean_tags;
+  clean_body = h.clean_body;
+}
+
+pub element : (id : ℤ) (meta : Meta) (tags sorted : List Tag) (body : Body) → FitsSigned w64 id → MetaInRange meta → IsPermutation tags sorted → Fits meta tags body → IsClean meta tags body
+    → AllAdjacentBelow (Below (λ (tag : Tag). tag.key) (slice_cmp nat_cmp)) sorted (length sorted)
+    → IsElement (record { id = id; meta = meta; tags = sorted; body = body })
+element id meta tags sorted body in_range ranges p fits clean up = record {
+  in_range = in_range;
+  meta_in_range = ranges;
+  fits = fits_sorted meta tags sorted body p fits;
+  clean = clean_sorted meta tags sorted body p clean;
+  rising = rising (λ (tag : Tag). tag.key) nat_list_cmp_total sorted up;
+}
+
+-- keys that differ rise once they are sorted
+pub twice : (tags sorted : List Tag) → IsPermutation tags sorted → IsSortedByKey (λ (tag : Tag). tag.key) (slice_cmp nat_cmp) sorted
+    → (AllAdjacentBelow (Below (λ (tag : Tag). tag.key) (slice_cmp nat_cmp)) sorted (length sorted) → ⊥) → HasDistinctKeys tags → ⊥
+twice tags sorted p up not differ =
+    let same : IsPermutation (map (λ (tag : Tag). tag.key) tags) (map (λ (tag : Tag). tag.key) sorted) = IsPermutation-map (λ (tag : Tag). tag.key) tags sorted p in
+    not (rises_from_distinct (λ (tag : Tag). tag.key) nat_list_cmp_total sorted up
+      (IsDistinct-IsPermutation (eq_by_cmp (slice_cmp nat_cmp)) ((eq_by_cmp_equiv nat_list_cmp_total).symm) _ _ same differ))

@@ -1,0 +1,95 @@
+//! The length of an object's canonical line.
+
+ghost use Rattle.std.specs.Prelude.{◌≡◌, ◌≤◌, ◌+◌, ◌^◌, ◌-◌, ◌↔◌, ℕ, IsTrue, length, min, map};
+ghost use Rattle.std.specs.List.{join_with_byte};
+ghost use Rattle.std.specs.Fmt.{signed_decimal};
+ghost use Rattle.osm_model.specs.CanonicalLine.{canonical_line, escaped, escaped_char, is_literal, tag_text, tags_field};
+ghost use Rattle.osm_model.specs.LineLength.{number_len};
+
+use itoa::Buffer;
+
+use crate::body::Body;
+use crate::degrees_text::write_degrees;
+use crate::meta::Meta;
+use crate::tag::Tag;
+use crate::text::Text;
+
+/// The longest canonical line, in bytes, without its end.
+const LONGEST: u64 = 16_777_216;
+
+/// Whether the canonical line of an object of these parts keeps its limit. Sums stay at their
+/// greatest, which is far above the limit.
+pub fn has_short_line(id: i64, meta: &Meta, tags: &[Tag], body: &Body) -> bool
+    ensures { IsTrue result ↔ (length (canonical_line (record { id = id; meta = meta.now; tags = tags.now; body = body.now })) ≤ 2 ^ 24) }
+{
+    let numbers = numbers_len(id, meta, body);
+    let texts = escaped_len(&meta.user).saturating_add(tags_len(tags));
+    texts.saturating_add(numbers) <= LONGEST
+}
+
+/// The bytes of all fields but the user and the tags, with the blanks and the letters of all.
+fn numbers_len(id: i64, meta: &Meta, body: &Body) -> u64
+    ensures { result ≡ number_len id meta.now body.now }
+{
+    let stamp = if meta.stamp.is_some() { 20 } else { 0 };
+    let Body::Node(place) = body;
+    let place = write_degrees(place.lon()).len() + write_degrees(place.lat()).len();
+    20 + integer_len(id)
+        + integer_len(i64::from(meta.version))
+        + integer_len(meta.changeset)
+        + integer_len(meta.uid)
+        + stamp
+        + place as u64
+}
+
+fn integer_len(number: i64) -> u64
+    ensures value { result ≡ length (signed_decimal number) }
+    ensures short { result ≤ 40 }
+{
+    Buffer::new().format(number).len() as u64
+}
+
+/// The bytes of the tags' field behind its letter.
+fn tags_len(tags: &[Tag]) -> u64
+    ensures { result ≡ min (length (join_with_byte 44 (map tag_text tags.now))) (2 ^ 64 - 1) }
+{
+    let mut len = 0u64;
+    for (place, tag) in tags.iter().enumerate() {
+        let comma = u64::from(place > 0);
+        len = len.saturating_add(comma).saturating_add(tag_len(tag));
+    }
+    len
+}
+
+fn tag_len(tag: &Tag) -> u64
+    ensures { result ≡ min (length (tag_text tag.now)) (2 ^ 64 - 1) }
+{
+    escaped_len(&tag.key)
+        .saturating_add(1)
+        .saturating_add(escaped_len(&tag.value))
+}
+
+fn escaped_len(text: &Text) -> u64
+    ensures { result ≡ min (length (escaped text.now)) (2 ^ 64 - 1) }
+{
+    let mut len = 0u64;
+    for c in text.as_str().chars() {
+        len = len.saturating_add(escaped_char_len(c));
+    }
+    len
+}
+
+fn escaped_char_len(c: char) -> u64
+    ensures { result ≡ length (escaped_char c) }
+{
+    if c.is_ascii_graphic() && !matches!(c, '%' | ',' | '=' | '@') {
+        return 1;
+    }
+    match c as u32 {
+        0..=0xff => 4,
+        0x100..=0xfff => 5,
+        0x1000..=0xffff => 6,
+        0x1_0000..=0xf_ffff => 7,
+        _ => 8,
+    }
+}
