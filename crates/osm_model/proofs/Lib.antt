@@ -4,3 +4,4 @@ pub mod References
 pub mod Digits
 pub mod DecimalValues
 pub mod OneDecimal
+pub mod HexLength

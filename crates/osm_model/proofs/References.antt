@@ -18,7 +18,8 @@ use Rattle.std.specs.List.Sorted.{IsPermutation, IsSortedByKey, IsSortedBy}
 use Rattle.std.proofs.lemmas.Cmp.{eq_by_cmp_equiv}
 use Rattle.std.proofs.lemmas.List.Sorted.{IsPermutation-map, searchable_from_sorted}
 use Rattle.std.proofs.lemmas.Map.Keys.{IsDistinct-IsPermutation}
-use Rattle.osm_model.specs.Objects.{Element, ref_cmp, kind_byte, reference, HasDistinctReferences}
+use Rattle.osm_model.specs.Elements.{Element, ref_cmp, kind_byte, reference}
+use Rattle.osm_model.specs.Sets.{HasDistinctReferences}
 use Rattle.osm_model.proofs.RisingKeys.{Below, rises_from_distinct}
 
 pub refs_total : IsTotalOrder ref_cmp

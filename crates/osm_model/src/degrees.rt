@@ -68,7 +68,7 @@ fn units_of(whole: &[u8], fraction: &[u8]) -> u64
     ensures { result ≡ min (digits_value 10 (whole.now ++ fraction.now)) 10000000000 * 10 ^ (7 - length fraction.now) }
 {
     let digits = capped(capped(0, whole), fraction);
-    digits * u64::from(power_of_ten(7 - fraction.len()))
+    digits * power_of_ten(7 - fraction.len())
 }
 
 /// The number that these digits make behind those before, up to a cap.

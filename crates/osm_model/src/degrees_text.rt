@@ -34,7 +34,7 @@ impl Model for DegreesText {
 pub fn write_degrees(value: i32) -> DegreesText
     ensures { result ≡ degrees value }
 {
-    let size = value.unsigned_abs();
+    let size = u64::from(value.unsigned_abs());
     let mut text = DegreesText::empty();
     if value < 0 {
         text.push(b'-');
@@ -84,7 +84,7 @@ impl DegreesText {
     }
 
     /// Whole degrees, without leading zeros.
-    fn push_whole(&mut self, whole: u32)
+    fn push_whole(&mut self, whole: u64)
         requires { length self.old + length (decimal whole) ≤ 12 }
         ensures { self.new ≡ self.old ++ decimal whole }
     {
@@ -95,7 +95,7 @@ impl DegreesText {
     }
 
     /// A point and decimals, where there are any.
-    fn push_fraction(&mut self, fraction: u32)
+    fn push_fraction(&mut self, fraction: u64)
         requires small { fraction < 10000000 }
         requires room { length self.old ≤ 4 }
         ensures { self.new ≡ self.old ++ with_point (decimals_of 7 fraction) }
@@ -107,7 +107,7 @@ impl DegreesText {
     }
 
     /// So many decimals, without zeros at the end.
-    fn push_decimals(&mut self, places: usize, fraction: u32)
+    fn push_decimals(&mut self, places: usize, fraction: u64)
         requires room { length self.old + places ≤ 12 }
         requires few { places ≤ 7 }
         requires small { fraction < 10 ^ places }

@@ -3,7 +3,7 @@
 ghost use Rattle.std.specs.Prelude.{◌≡◌, ◌≤◌, ◌+◌, ◌^◌, ◌-◌, ◌↔◌, ℕ, IsTrue, length, min, map};
 ghost use Rattle.std.specs.List.{join_with_byte};
 ghost use Rattle.std.specs.Fmt.{signed_decimal};
-ghost use Rattle.osm_model.specs.CanonicalLine.{canonical_line, escaped, escaped_char, is_literal, tag_text, tags_field};
+ghost use Rattle.osm_model.specs.CanonicalLine.{canonical_line, escaped, escaped_char, is_literal, hex_places, tag_text};
 ghost use Rattle.osm_model.specs.LineLength.{number_len};
 
 use itoa::Buffer;
@@ -79,17 +79,29 @@ fn escaped_len(text: &Text) -> u64
     len
 }
 
+#[tactic(auto, using(crate::proofs::HexLength::length_of_escape))]
 fn escaped_char_len(c: char) -> u64
-    ensures { result ≡ length (escaped_char c) }
+    ensures value { result ≡ length (escaped_char c) }
+    ensures small { result ≤ 8 }
 {
-    if c.is_ascii_graphic() && !matches!(c, '%' | ',' | '=' | '@') {
-        return 1;
-    }
+    if is_literal(c) { 1 } else { 2 + hex_places(c) }
+}
+
+fn hex_places(c: char) -> u64
+    ensures value { result ≡ hex_places c }
+    ensures small { result ≤ 6 }
+{
     match c as u32 {
-        0..=0xff => 4,
-        0x100..=0xfff => 5,
-        0x1000..=0xffff => 6,
-        0x1_0000..=0xf_ffff => 7,
-        _ => 8,
+        0..=0xff => 2,
+        0x100..=0xfff => 3,
+        0x1000..=0xffff => 4,
+        0x1_0000..=0xf_ffff => 5,
+        _ => 6,
     }
+}
+
+fn is_literal(c: char) -> bool
+    ensures { result ≡ is_literal c }
+{
+    '!' <= c && c <= '~' && !(c == '%' || c == ',' || c == '=' || c == '@')
 }

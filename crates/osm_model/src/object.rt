@@ -6,7 +6,7 @@ ghost use Rattle.std.specs.List.Sorted.{IsPermutation, IsSortedByKey};
 ghost use Rattle.std.specs.List.{AllAdjacentBelow};
 ghost use Rattle.std.specs.Cmp.Lexicographic.{slice_cmp};
 ghost use Rattle.osm_model.specs.Elements.{reference};
-ghost use Rattle.osm_model.specs.Limits.{IsShort, HasNoNul, Fits, IsClean, IsMadeOf, IsElement, Refuses};
+ghost use Rattle.osm_model.specs.Limits.{IsShort, HasNoNul, Fits, IsClean, IsMadeOf, IsElement, Refuses, BodyInRange};
 
 use std::cmp::Ordering;
 use std::marker::Model;
@@ -73,6 +73,7 @@ impl Object {
         if !has_short_line(id, &meta, &tags, &body) {
             return Err(ModelFault::LimitPassed);
         }
+        know_place(&body);
         Ok(Object {
             id,
             meta,
@@ -123,6 +124,14 @@ impl Object {
     {
         &self.body
     }
+}
+
+/// Hands on what a body's location keeps.
+fn know_place(body: &Body)
+    ensures { BodyInRange body.now }
+{
+    let Body::Node(place) = body;
+    let _ = place.lon();
 }
 
 fn parts_fit(meta: &Meta, tags: &[Tag]) -> bool
