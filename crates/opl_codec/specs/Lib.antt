@@ -1,5 +1,6 @@
 pub mod Fields
 pub mod Lines
 pub mod Files
+pub mod Loading
 pub mod Faults
 pub mod Text

@@ -7,9 +7,16 @@
 mod cause;
 mod change;
 mod fault;
+mod line;
+mod load;
+mod loader;
 mod out_mode;
+
+mod repeats;
 
 pub use cause::OplCause;
 pub use change::Change;
 pub use fault::{LoadFault, OplFault};
+pub use line::read_line;
 pub use out_mode::OutMode;
+pub use load::{one_set, read_set};
