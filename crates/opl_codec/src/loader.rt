@@ -137,13 +137,26 @@ impl Loader {
         ensures kept { self.new.pending.items ≡ self.old.pending.items }
     {
         match read_line(self.alloc, line) {
-            Ok(None) => {}
-            Ok(Some(Change::Put(object))) => self.push(object)?,
+            Ok(None) => {
+                self.count_line();
+                Ok(())
+            }
+            Ok(Some(Change::Put(object))) => {
+                self.push(object)?;
+                self.count_line();
+                Ok(())
+            }
             Ok(Some(Change::Delete(_))) => unreachable!(),
-            Err(fault) => return Err(self.refusal(fault.cause, fault.byte)),
+            Err(fault) => Err(self.refusal(fault.cause, fault.byte)),
         }
+    }
+
+    /// The next line is the one being read.
+    fn count_line(&mut self)
+        ensures objects { self.new.objects.items ≡ self.old.objects.items }
+        ensures pending { self.new.pending.items ≡ self.old.pending.items }
+    {
         self.line = self.line.saturating_add(1);
-        Ok(())
     }
 
     /// One more object.
@@ -196,6 +209,8 @@ fn split_line(text: &[u8]) -> Option<(&[u8], &[u8])>
     ensures { MatchOption result (pieces 10 text.now ≡ text.now ∷ [])
         (λ parts. (pieces 10 text.now ≡ parts.0.now ∷ pieces 10 parts.1.now) × (length parts.1.now < length text.now)) }
 {
-    let at = memchr(b'\n', text)?;
+    let Some(at) = memchr(b'\n', text) else {
+        return None;
+    };
     Some((&text[..at], &text[at + 1..]))
 }

@@ -1,6 +1,8 @@
 //! Objects that stand twice in a file.
 
 ghost use Rattle.std.specs.Prelude.{◌≡◌, IfOk, OnSome, IsTrue, MatchOption};
+ghost use Rattle.std.specs.Ordering.{eq_by_cmp};
+ghost use Rattle.osm_model.specs.Elements.{reference, ref_cmp};
 ghost use Rattle.osm_model.specs.Sets.{HasDistinctReferences};
 
 use osm_model::{Object, Ref};
@@ -43,7 +45,18 @@ fn first_place(objects: &[Object], places: &[(Ref, usize)]) -> Option<usize>
 fn is_repeat(objects: &[Object], earlier: usize, later: usize) -> bool
     ensures { IsTrue result → ¬ (HasDistinctReferences objects.now) }
 {
-    earlier < later
-        && later < objects.len()
-        && objects[earlier].reference() == objects[later].reference()
+    if later >= objects.len() {
+        return false;
+    }
+    if earlier >= later {
+        return false;
+    }
+    have_one_reference(&objects[earlier], &objects[later])
+}
+
+#[tactic(auto, unfolding(osm_model::specs::Elements::ref_cmp))]
+fn have_one_reference(first: &Object, second: &Object) -> bool
+    ensures { result ≡ eq_by_cmp ref_cmp (reference first.now) (reference second.now) }
+{
+    first.reference().cmp(&second.reference()).is_eq()
 }
