@@ -8,8 +8,13 @@ mod cause;
 mod change;
 mod fault;
 mod out_mode;
+mod write_field;
+mod write_line;
+mod write_moment;
+mod write_text;
 
 pub use cause::OplCause;
 pub use change::Change;
 pub use fault::{LoadFault, OplFault};
 pub use out_mode::OutMode;
+pub use write_line::write_object;

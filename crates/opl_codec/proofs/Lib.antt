@@ -1,0 +1,3 @@
+pub mod WriteSteps
+pub mod WriteTags
+pub mod WriteText
