@@ -3,3 +3,4 @@ pub mod Lines
 pub mod Files
 pub mod Faults
 pub mod Text
+pub mod Plain

@@ -7,6 +7,7 @@
 mod cause;
 mod change;
 mod fault;
+mod laws;
 mod out_mode;
 mod write_field;
 mod write_line;
@@ -16,5 +17,6 @@ mod write_text;
 pub use cause::OplCause;
 pub use change::Change;
 pub use fault::{LoadFault, OplFault};
+pub use laws::text_is_read;
 pub use out_mode::OutMode;
 pub use write_line::write_object;
