@@ -4,3 +4,4 @@ pub mod Files
 pub mod Loading
 pub mod Faults
 pub mod Text
+pub mod Plain
