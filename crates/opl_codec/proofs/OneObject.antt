@@ -16,7 +16,9 @@ use Rattle.osm_model.specs.declared.body.Body.TheVariants.{Node}
 use Rattle.osm_model.proofs.OneDecimal.{one_value}
 use Rattle.osm_model.proofs.UniqueTags.{same_order}
 use Rattle.opl_codec.specs.Fields.{pieces, field, Given, IsInteger, Each}
-use Rattle.opl_codec.specs.Lines.{SpellsText, SpellsTag, SpellsTags, SpellsMeta, SpellsBody, SpellsFields, SpellsObject, items, Just}
+use Rattle.opl_codec.specs.declared.change.Change.{Change}
+use Rattle.opl_codec.specs.declared.change.Change.TheVariants.{Put, Delete}
+use Rattle.opl_codec.specs.Lines.{Spells, SpellsText, SpellsTag, SpellsTags, SpellsMeta, SpellsBody, SpellsFields, SpellsObject, items, Just}
 use Rattle.opl_codec.proofs.EachLemmas.{each_same}
 use Rattle.opl_codec.proofs.OneInteger.{one_integer}
 
@@ -99,3 +101,9 @@ one_object line a b h k =
     tags_same t x y f g p q =
         let written : f.written ≡ g.written = each_same SpellsTag one_tag (items t) f.written g.written f.each g.each in
         same_order (λ (tag : Tag). tag.key) nat_list_cmp_total g.written x y (subst (λ w. IsPermutation w x) written f.order) g.order p q
+
+-- a line says one change at most
+pub one_change : (line : List ℕ) (a b : Change) → Spells line a → Spells line b → a ≡ b
+one_change line (Put a) (Put b) h k = ap Put (one_object line a b h k)
+one_change line (Put a) (Delete r) h k = absurd k
+one_change line (Delete r) b h k = absurd h

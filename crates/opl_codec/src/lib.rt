@@ -21,7 +21,7 @@ mod write_text;
 pub use cause::OplCause;
 pub use change::Change;
 pub use fault::{LoadFault, OplFault};
-pub use laws::text_is_read;
+pub use laws::{one_change, text_is_read};
 pub use line::read_line;
 pub use load::{one_set, read_set};
 pub use out_mode::OutMode;
