@@ -62,3 +62,6 @@ fn append_fields(object: &Object, mode: OutMode, out: &mut Vec<u8>) -> Result<()
         }
     }
 }
+
+#[cfg(test)]
+mod tests;
