@@ -1,0 +1,4 @@
+pub mod Ids
+pub mod Stops
+pub mod Laws
+pub mod Opened
