@@ -1,11 +1,10 @@
 -- A text is one decimal at most.
-use Rattle.std.proofs.Common.{◌≡◌, ◌≢◌, ℕ, ◌<◌, ◌≤◌, List, [], ◌∷◌, ◌++◌, length, Bool, true, false, ℤ, unsigned_abs, Option, Some, None, Result, Ok, Err, IfOk, IfErr, refl, sym, ◌∙◌, ap, subst, arith, lit≤}
+use Rattle.std.proofs.Common.{◌≡◌, ℕ, ◌<◌, ◌≤◌, List, [], ◌∷◌, ◌++◌, length, Bool, true, false, ℤ, unsigned_abs, Option, Some, None, Result, Ok, Err, IfOk, IfErr, refl, sym, ◌∙◌, ap, arith}
 use Rattle.std.specs.Char.{digit_value}
-use Rattle.std.specs.Str.Parse.{AllDigits}
 use Rattle.osm_model.specs.declared.axis.Axis.{Axis}
 use Rattle.osm_model.specs.declared.fault.ModelFault.{ModelFault}
 use Rattle.osm_model.specs.declared.fault.ModelFault.TheVariants.{EmptyNumber, NotDecimal, TooManyDecimals, OutOfRange, ObjectTwice, KeyTwice, LimitPassed, NulInText}
-use Rattle.osm_model.specs.Degrees.{Decimal, Spells, IsDegrees, IsFault, IsDigits, sign, point, value, limit, decimals, spelling}
+use Rattle.osm_model.specs.Degrees.{Decimal, Spells, IsDegrees, IsFault, IsDigits, sign, point, value, limit, decimals}
 use Rattle.osm_model.proofs.Digits.{same_front, other_point}
 
 same_point : (f g : Option (List ℕ)) → point f ≡ point g → f ≡ g
@@ -47,6 +46,10 @@ faulty text axis EmptyNumber z f h fits = not_empty h.parts.negative h.parts.who
 faulty text axis NotDecimal z f h fits = f.1 h.parts h.spells
 faulty text axis TooManyDecimals z f h fits = let fine = h.fine in let same = one_decimal text h.parts f.0 h.spells f.1 in omega (arith, f.2, ap (λ (d : Decimal). length (decimals d.fraction)) same)
 faulty text axis OutOfRange z f h fits = let same = one_value text z f.0 h f.1 in omega (arith, f.2, ap unsigned_abs same)
+faulty text axis ObjectTwice z f h fits = f
+faulty text axis KeyTwice z f h fits = f
+faulty text axis LimitPassed z f h fits = f
+faulty text axis NulInText z f h fits = f
 
 pub only : (text : List ℕ) (axis : Axis) (r : Result ℤ ModelFault) → IfOk r (λ z. IsDegrees text z × (unsigned_abs z ≤ limit axis)) → IfErr r (λ fault. IsFault text axis fault)
     → (z : ℤ) → IsDegrees text z → unsigned_abs z ≤ limit axis → r ≡ Ok z

@@ -1,9 +1,10 @@
 -- The one canonical line of an object.
 -- Source: the fields and their letters are those of Osmium's OPL manual; their order and spelling are
 -- this project's.
-use Rattle.std.specs.Prelude.{ℕ, ◌+◌, ◌/◌, ◌%◌, ℤ, Bool, ◌==◌, ◌&&◌, ◌||◌, not, nat_le, nat_lt, true, false, if◌then◌else◌, List, [], ◌∷◌, ◌++◌, map, flat_map, Option, Some, None}
-use Rattle.std.specs.Fmt.{decimal, signed_decimal, digits}
+use Rattle.std.specs.Prelude.{ℕ, zero, suc, ◌+◌, ◌/◌, ◌%◌, ◌^◌, Bool, ◌==◌, ◌&&◌, ◌||◌, not, nat_le, nat_lt, if◌then◌else◌, List, [], ◌∷◌, ◌++◌, map, flat_map, Option, Some, None}
+use Rattle.std.specs.Fmt.{decimal, signed_decimal}
 use Rattle.std.specs.Str.{chars}
+use Rattle.std.specs.Char.{digit_char}
 use Rattle.std.specs.List.{join_with_byte}
 use Rattle.osm_model.specs.CanonicalDegrees.{degrees}
 use Rattle.osm_model.specs.Moments.{Moment}
@@ -23,9 +24,18 @@ is_special c = (c == 37) || (c == 44) || (c == 61) || (c == 64)
 abbrev pub is_literal : ℕ → Bool
 is_literal c = nat_le 33 c && nat_le c 126 && not (is_special c)
 
--- the lower-case hexadecimal digits of a code point, two at least
-abbrev pub hex : ℕ → List ℕ
-hex c = if nat_lt c 16 then 48 ∷ digits 16 false c else digits 16 false c
+-- how many hexadecimal digits a code point has, two at least
+abbrev pub hex_places : ℕ → ℕ
+hex_places c = if nat_lt c 0x100 then 2 else if nat_lt c 0x1000 then 3 else if nat_lt c 0x1_0000 then 4 else if nat_lt c 0x10_0000 then 5 else 6
+
+-- the last k hexadecimal digits of n, in lower case
+abbrev pub hex_digits : ℕ → ℕ → List ℕ
+hex_digits zero n = []
+hex_digits (suc k) n = digit_char (n / 16 ^ k % 16) ∷ hex_digits k n
+
+-- a code point in hexadecimal digits
+unfoldable pub hex : ℕ → List ℕ
+hex c = hex_digits (hex_places c) c
 
 -- a character as itself, or its code point between two `%`
 abbrev pub escaped_char : ℕ → List ℕ

@@ -35,8 +35,7 @@ pub fn read_degrees(text: &[u8], axis: Axis) -> Result<i32, ModelFault>
 /// A law: a text has one value at most.
 pub fn one_value()
     ensures { (text : List ℕ) (y z : ℤ) → IsDegrees text y → IsDegrees text z → y ≡ z }
-{
-}
+{}
 
 /// The value, or the first fault.
 fn value_of(text: &[u8], axis: Axis) -> Result<i32, ModelFault>
@@ -68,7 +67,7 @@ fn units_of(whole: &[u8], fraction: &[u8]) -> u64
     ensures { result ≡ min (digits_value 10 (whole.now ++ fraction.now)) 10000000000 * 10 ^ (7 - length fraction.now) }
 {
     let digits = capped(capped(0, whole), fraction);
-    digits * u64::from(power_of_ten(7 - fraction.len()))
+    digits * power_of_ten(7 - fraction.len())
 }
 
 /// The number that these digits make behind those before, up to a cap.

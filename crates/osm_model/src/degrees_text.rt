@@ -5,9 +5,8 @@ ghost use Rattle.std.specs.Fmt.{decimal};
 ghost use Rattle.osm_model.specs.Degrees.{IsDegrees};
 ghost use Rattle.osm_model.specs.CanonicalDegrees.{degrees, decimals_of, with_point};
 
-use std::marker::Model;
-
 use crate::units::{UNITS, power_of_ten};
+use std::marker::Model;
 
 /// The text of degrees, at most 12 bytes. Contracts see its bytes.
 #[derive(Debug, Drop)]
@@ -34,7 +33,7 @@ impl Model for DegreesText {
 pub fn write_degrees(value: i32) -> DegreesText
     ensures { result ≡ degrees value }
 {
-    let size = value.unsigned_abs();
+    let size = u64::from(value.unsigned_abs());
     let mut text = DegreesText::empty();
     if value < 0 {
         text.push(b'-');
@@ -47,8 +46,7 @@ pub fn write_degrees(value: i32) -> DegreesText
 /// A law: the text of a value in an axis's range reads back as that value.
 pub fn reads_back()
     ensures { (z : ℤ) → unsigned_abs z ≤ 1800000000 → IsDegrees (degrees z) z }
-{
-}
+{}
 
 impl DegreesText {
     /// The text.
@@ -84,7 +82,7 @@ impl DegreesText {
     }
 
     /// Whole degrees, without leading zeros.
-    fn push_whole(&mut self, whole: u32)
+    fn push_whole(&mut self, whole: u64)
         requires { length self.old + length (decimal whole) ≤ 12 }
         ensures { self.new ≡ self.old ++ decimal whole }
     {
@@ -95,7 +93,7 @@ impl DegreesText {
     }
 
     /// A point and decimals, where there are any.
-    fn push_fraction(&mut self, fraction: u32)
+    fn push_fraction(&mut self, fraction: u64)
         requires small { fraction < 10000000 }
         requires room { length self.old ≤ 4 }
         ensures { self.new ≡ self.old ++ with_point (decimals_of 7 fraction) }
@@ -107,7 +105,7 @@ impl DegreesText {
     }
 
     /// So many decimals, without zeros at the end.
-    fn push_decimals(&mut self, places: usize, fraction: u32)
+    fn push_decimals(&mut self, places: usize, fraction: u64)
         requires room { length self.old + places ≤ 12 }
         requires few { places ≤ 7 }
         requires small { fraction < 10 ^ places }

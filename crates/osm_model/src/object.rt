@@ -6,10 +6,7 @@ ghost use Rattle.std.specs.List.Sorted.{IsPermutation, IsSortedByKey};
 ghost use Rattle.std.specs.List.{AllAdjacentBelow};
 ghost use Rattle.std.specs.Cmp.Lexicographic.{slice_cmp};
 ghost use Rattle.osm_model.specs.Elements.{reference};
-ghost use Rattle.osm_model.specs.Limits.{IsShort, HasNoNul, Fits, IsClean, IsMadeOf, IsElement, Refuses};
-
-use std::cmp::Ordering;
-use std::marker::Model;
+ghost use Rattle.osm_model.specs.Limits.{IsShort, HasNoNul, Fits, IsClean, IsMadeOf, IsElement, Refuses, BodyInRange};
 
 use crate::body::Body;
 use crate::fault::ModelFault;
@@ -19,6 +16,8 @@ use crate::meta::Meta;
 use crate::reference::Ref;
 use crate::tag::Tag;
 use crate::tag_list::TagList;
+use std::cmp::Ordering;
+use std::marker::Model;
 
 /// An object: its id, metadata, tags by rising key, and what is particular to its kind.
 ///
@@ -73,6 +72,7 @@ impl Object {
         if !has_short_line(id, &meta, &tags, &body) {
             return Err(ModelFault::LimitPassed);
         }
+        know_place(&body);
         Ok(Object {
             id,
             meta,
@@ -125,6 +125,14 @@ impl Object {
     }
 }
 
+/// Hands on what a body's location keeps.
+fn know_place(body: &Body)
+    ensures { BodyInRange body.now }
+{
+    let Body::Node(place) = body;
+    let _ = place.lon();
+}
+
 fn parts_fit(meta: &Meta, tags: &[Tag]) -> bool
     ensures { IsTrue result ↔ Fits meta.now tags.now }
 {
@@ -144,8 +152,7 @@ fn parts_are_clean(meta: &Meta, tags: &[Tag]) -> bool
 fn tags_are_clean(tags: &[Tag]) -> bool
     ensures { IsTrue result ↔ All (λ tag. HasNoNul tag.key × HasNoNul tag.value) tags.now }
 {
-    tags.iter()
-        .all(|tag| has_no_nul(tag.key.as_bytes()) && has_no_nul(tag.value.as_bytes()))
+    tags.iter().all(|tag| has_no_nul(tag.key.as_bytes()) && has_no_nul(tag.value.as_bytes()))
 }
 
 #[tactic(auto, unfolding(crate::specs::Limits::HasNoNul))]
