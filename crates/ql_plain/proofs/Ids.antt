@@ -2,7 +2,8 @@
 use Rattle.std.proofs.Common.{◌≡◌, ◌≢◌, ℕ, ◌+◌, ◌<◌, ◌≤◌, List, [], ◌∷◌, ◌++◌, length, get_or, Bool, true, false, ℤ, refl, sym, ◌∙◌, ap, arith, append_assoc, append-nil}
 use Rattle.std.specs.Char.{digit_value}
 use Rattle.std.specs.Str.Parse.{AllDigits, digits_value}
-use Rattle.ql_plain.specs.Numbers.{IsInteger, IsDigits, BeginsOtherwise, sign, with_sign}
+use Rattle.osm_model.specs.Degrees.{IsDigits, BeginsOtherwise, sign, with_sign}
+use Rattle.opl_codec.specs.Fields.{IsInteger}
 
 -- digits, and then something else: that is so in one way
 pub same_front : (xs zs ys bs : List ℕ) → AllDigits 10 xs → AllDigits 10 zs → BeginsOtherwise ys → BeginsOtherwise bs → xs ++ ys ≡ zs ++ bs → (xs ≡ zs) × (ys ≡ bs)

@@ -13,7 +13,8 @@ use Rattle.ql_plain.specs.declared.query.Query.{Query}
 use Rattle.ql_plain.specs.declared.fault.QlFault.{QlFault}
 use Rattle.ql_plain.specs.declared.fault.QlCause.{QlCause}
 use Rattle.ql_plain.specs.declared.fault.QlCause.TheVariants.{NotUtf8, UnexpectedCharacter, NumberOutOfRange, TooLong, UnexpectedEnd}
-use Rattle.ql_plain.specs.Numbers.{IsInteger, BeginsOtherwise, sign}
+use Rattle.osm_model.specs.Degrees.{BeginsOtherwise, sign}
+use Rattle.opl_codec.specs.Fields.{IsInteger}
 use Rattle.ql_plain.specs.Queries.{opening, closing, IsShape, IsBeginning, Reads, HasLargeId, IsFirstMisfit, IsText, IsFaultAt, FaultOf}
 use Rattle.ql_plain.proofs.Ids.{same_id}
 

@@ -10,7 +10,8 @@ use Rattle.std.specs.Str.Parse.{AllDigits, digits_value}
 use Rattle.ql_plain.specs.declared.fault.QlCause.TheVariants.{UnexpectedCharacter, UnexpectedEnd}
 use Rattle.ql_plain.specs.declared.fault.QlFault.{QlFault}
 use Rattle.ql_plain.specs.declared.query.Query.{Query}
-use Rattle.ql_plain.specs.Numbers.{IsInteger, IsDigits, BeginsOtherwise, sign, with_sign}
+use Rattle.osm_model.specs.Degrees.{IsDigits, BeginsOtherwise, sign, with_sign}
+use Rattle.opl_codec.specs.Fields.{IsInteger}
 use Rattle.ql_plain.specs.Queries.{opening, closing, Reads, HasLargeId, IsText, FaultOf}
 use Rattle.ql_plain.proofs.Ids.{no_plus_first}
 use Rattle.ql_plain.proofs.Stops.{IsStop, stopped, number_stop, number_small, closing_stop, unclosed_small, fitting_small, closed_front, closed_large, closed_whole}

@@ -4,7 +4,7 @@
 use Rattle.std.specs.Prelude.{◌≡◌, ℕ, ◌+◌, ◌<◌, ◌≤◌, ℤ, FitsSigned, List, [], ◌∷◌, ◌++◌, length, take, codes}
 use Rattle.std.specs.Int.{w64}
 use Rattle.std.specs.Str.{IsUtf8, IsValidUpTo}
-use Rattle.ql_plain.specs.Numbers.{IsInteger}
+use Rattle.opl_codec.specs.Fields.{IsInteger}
 use Rattle.ql_plain.specs.declared.query.Query.{Query}
 use Rattle.ql_plain.specs.declared.fault.QlFault.{QlFault}
 use Rattle.ql_plain.specs.declared.fault.QlCause.{QlCause}

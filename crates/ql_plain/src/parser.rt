@@ -3,7 +3,8 @@
 ghost use Rattle.std.specs.Prelude.{◌≡◌, ◌≢◌, ◌≤◌, ◌<◌, ◌+◌, ℕ, ℤ, FitsSigned, List, ◌++◌, length, take, slice_index, drop, false, IfOk, IfErr, IfSome, IfNone, IsTrue, ◌↔◌};
 ghost use Rattle.std.specs.Int.{w64};
 ghost use Rattle.std.specs.Str.Parse.{AllDigits};
-ghost use Rattle.ql_plain.specs.Numbers.{IsInteger, BeginsOtherwise, sign};
+ghost use Rattle.osm_model.specs.Degrees.{BeginsOtherwise, sign};
+ghost use Rattle.opl_codec.specs.Fields.{IsInteger};
 ghost use Rattle.ql_plain.specs.Queries.{Reads, FaultOf, opening};
 
 use crate::fault::{QlCause, QlFault};
@@ -200,3 +201,6 @@ fn id_of(text: &str) -> Option<i64>
 {
     text.parse::<i64>().ok()
 }
+
+#[cfg(test)]
+mod tests;

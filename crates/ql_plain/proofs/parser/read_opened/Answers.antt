@@ -1,7 +1,7 @@
 use Rattle.std.proofs.Common.{◌≡◌, ◌<◌, inl, inr, ap, sym, ◌∙◌, refl, subst, arith, ℤ, ℕ, List, get_or}
 use Rattle.std.proofs.lemmas.Int.{to_z-of_z}
 use Rattle.std.specs.Int.{w64}
-use Rattle.ql_plain.specs.Numbers.{IsInteger}
+use Rattle.opl_codec.specs.Fields.{IsInteger}
 use Rattle.ql_plain.proofs.Opened.{cut_of, none_from_test, some_from_test, without_digits, unclosed, boundary, id_bytes, out_of_range, unfit, read, no_plus}
 use Rattle.ql_plain.proofs.parser.read_opened.Goals.{then-is_empty-via-then-is_empty, then-is_empty-via-else-is_empty+then-closed-eq0, then-closed-via-then-closed, then-closed-via-else-closed+then-closed-number}
 use Rattle.ql_plain.proofs.parser.read_opened.Goals as goal
