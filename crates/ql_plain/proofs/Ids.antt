@@ -1,22 +1,10 @@
 -- An id at the front of a text, in one way.
-use Rattle.std.proofs.Common.{◌≡◌, ◌≢◌, ℕ, ◌+◌, ◌<◌, ◌≤◌, List, [], ◌∷◌, ◌++◌, length, get_or, Bool, true, false, ℤ, refl, sym, ◌∙◌, ap, arith, append_assoc, append-nil}
+use Rattle.std.proofs.Common.{◌≡◌, ◌≢◌, ℕ, ◌<◌, ◌≤◌, List, [], ◌∷◌, ◌++◌, get_or, Bool, true, false, ℤ, refl, sym, ◌∙◌, ap, arith, append_assoc}
 use Rattle.std.specs.Char.{digit_value}
 use Rattle.std.specs.Str.Parse.{AllDigits, digits_value}
 use Rattle.osm_model.specs.Degrees.{IsDigits, BeginsOtherwise, sign, with_sign}
+use Rattle.osm_model.proofs.Digits.{same_front}
 use Rattle.opl_codec.specs.Fields.{IsInteger}
-
--- digits, and then something else: that is so in one way
-pub same_front : (xs zs ys bs : List ℕ) → AllDigits 10 xs → AllDigits 10 zs → BeginsOtherwise ys → BeginsOtherwise bs → xs ++ ys ≡ zs ++ bs → (xs ≡ zs) × (ys ≡ bs)
-same_front [] [] ys bs dx da oy ob e = (refl, e)
-same_front [] (a ∷ zs) [] bs dx da oy ob e = cc
-same_front [] (a ∷ zs) (y ∷ ys) bs dx da oy ob e = let same : y ≡ a = cc in absurd (let d : digit_value a < 10 = da.0 in let o : 10 ≤ digit_value y = oy in omega (arith, ap digit_value same))
-same_front (x ∷ xs) [] ys [] dx da oy ob e = cc
-same_front (x ∷ xs) [] ys (b ∷ bs) dx da oy ob e = let same : x ≡ b = cc in absurd (let d : digit_value x < 10 = dx.0 in let o : 10 ≤ digit_value b = ob in omega (arith, ap digit_value same))
-same_front (x ∷ xs) (a ∷ zs) ys bs dx da oy ob e =
-    let head : x ≡ a = cc in
-    let tail : xs ++ ys ≡ zs ++ bs = cc in
-    let rest = same_front xs zs ys bs dx.1 da.1 oy ob tail in
-    (let r = rest.0 in cc, rest.1)
 
 -- a digit is no minus
 not_minus : (d : ℕ) → digit_value d < 10 → 45 ≡ d → ⊥
@@ -63,6 +51,6 @@ no_id m t y b u id_is ot plain e = no_number m id_is.negative t id_is.digits u i
 
 -- a sign and digits don't begin with a plus
 pub no_plus_first : (m : Bool) (digits : List ℕ) → digits ≢ [] → AllDigits 10 digits → get_or (sign m ++ digits) 0 0 ≢ 43
-no_plus_first true digits some all e = let same : 45 ≡ 43 = e in omega arith
+no_plus_first true digits some all e = let same : ◌≡◌ {A = ℕ} 45 43 = e in omega arith
 no_plus_first false [] some all e = some refl
 no_plus_first false (d ∷ digits) some all e = let small : digit_value d < 10 = all.0 in let same : digit_value d ≡ digit_value 43 = ap digit_value e in let it : digit_value 43 ≡ 36 = refl in omega arith

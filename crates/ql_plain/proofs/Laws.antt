@@ -1,5 +1,5 @@
 -- Bytes read as one query at most, or have one fault.
-use Rattle.std.proofs.Common.{◌≡◌, ◌≢◌, ℕ, ◌+◌, ◌<◌, ◌≤◌, List, [], ◌∷◌, ◌++◌, length, take, Bool, true, false, ℤ, FitsSigned, Result, Ok, Err, IfOk, IfErr, refl, sym, ◌∙◌, ap, subst, inl, inr, arith, append-nil, lit<, lit≤, length-append}
+use Rattle.std.proofs.Common.{◌≡◌, ℕ, ◌<◌, ◌≤◌, List, [], ◌∷◌, ◌++◌, length, Bool, true, false, ℤ, FitsSigned, Result, Ok, Err, IfOk, IfErr, refl, sym, ◌∙◌, ap, subst, inl, inr, arith, append-nil, lit<, lit≤}
 use Rattle.std.proofs.lemmas.Bool.{cases_lt}
 use Rattle.std.proofs.lemmas.List.{append_cancel_left, take_all}
 use Rattle.std.proofs.lemmas.List.Prefix.{front_fits}
@@ -15,7 +15,7 @@ use Rattle.ql_plain.specs.declared.fault.QlCause.{QlCause}
 use Rattle.ql_plain.specs.declared.fault.QlCause.TheVariants.{NotUtf8, UnexpectedCharacter, NumberOutOfRange, TooLong, UnexpectedEnd}
 use Rattle.osm_model.specs.Degrees.{BeginsOtherwise, sign}
 use Rattle.opl_codec.specs.Fields.{IsInteger}
-use Rattle.ql_plain.specs.Queries.{opening, closing, IsShape, IsBeginning, Reads, HasLargeId, IsFirstMisfit, IsText, IsFaultAt, FaultOf}
+use Rattle.ql_plain.specs.Queries.{opening, closing, IsShape, IsBeginning, Reads, IsFirstMisfit, IsText, IsFaultAt, FaultOf}
 use Rattle.ql_plain.proofs.Ids.{same_id}
 
 closing_other : BeginsOtherwise closing

@@ -1,15 +1,13 @@
 -- The answer of one node.
-use Rattle.std.proofs.Common.{◌≡◌, ℕ, List, [], ◌∷◌, ◌++◌, Bool, true, false, ◌&&◌, Option, Some, None, ℤ, refl, sym, ◌∙◌, ap, append-nil}
-use Rattle.std.specs.Prelude.{option_to_list, filter, flat_map}
+use Rattle.std.proofs.Common.{◌≡◌, List, [], ◌&&◌, Option, Some, None, ℤ, refl, sym, ◌∙◌, ap, append-nil}
+use Rattle.std.specs.Prelude.{option_to_list}
 use Rattle.std.specs.Ordering.{int_eq, eq_by_cmp}
 use Rattle.std.proofs.lemmas.List.Elements.{filter_agree}
-use Rattle.osm_model.specs.Elements.{Element, reference, references, ref_cmp, kind_of}
+use Rattle.osm_model.specs.Elements.{Element, reference, ref_cmp, kind_of}
 use Rattle.osm_model.specs.Sets.{IsObjectSet, object_at}
 use Rattle.osm_model.specs.declared.reference.Ref.{Ref}
 use Rattle.osm_model.specs.declared.kind.Kind.{Kind}
 use Rattle.osm_model.specs.declared.kind.Kind.TheVariants as kinds
-use Rattle.osm_model.specs.declared.body.Body.{Body}
-use Rattle.osm_model.specs.declared.body.Body.TheVariants as bodies
 use Rattle.osm_model.proofs.References.{refs_total}
 use Rattle.opl_codec.specs.Text.{text_of}
 use Rattle.opl_codec.specs.declared.out_mode.OutMode.TheVariants as modes

@@ -1,6 +1,6 @@
 -- The query, or the fault, of a text that begins as a query does.
-use Rattle.std.proofs.Common.{◌≡◌, ◌≢◌, ℕ, zero, suc, ◌+◌, ◌-◌, ◌<◌, ◌≤◌, ◌⊎◌, inl, inr, List, [], ◌∷◌, ◌++◌, length, get_or, take, drop, Bool, true, false, ◌==◌, ℤ, FitsSigned, refl, sym, ◌∙◌, ap, subst, arith, append_assoc, append-nil, lit<, length-append, length-drop}
-use Rattle.std.proofs.Math.Seq.{take-append_seam, drop-append_seam, get_or-append_seam}
+use Rattle.std.proofs.Common.{◌≡◌, ◌≢◌, ℕ, ◌+◌, ◌-◌, ◌<◌, ◌≤◌, ◌⊎◌, inl, List, [], ◌∷◌, ◌++◌, length, get_or, take, drop, Bool, true, false, ◌==◌, ℤ, FitsSigned, refl, sym, ◌∙◌, ap, subst, arith, append_assoc, append-nil, length-append, length-drop}
+use Rattle.std.proofs.Math.Seq.{take-append_seam, get_or-append_seam}
 use Rattle.std.proofs.lemmas.List.{take-append-drop, take_all}
 use Rattle.std.proofs.lemmas.Str.{IsCharBoundary-before_ascii}
 use Rattle.std.proofs.lemmas.Bool.Decides.{nat_tests}
@@ -10,7 +10,7 @@ use Rattle.std.specs.Str.Parse.{AllDigits, digits_value}
 use Rattle.ql_plain.specs.declared.fault.QlCause.TheVariants.{UnexpectedCharacter, UnexpectedEnd}
 use Rattle.ql_plain.specs.declared.fault.QlFault.{QlFault}
 use Rattle.ql_plain.specs.declared.query.Query.{Query}
-use Rattle.osm_model.specs.Degrees.{IsDigits, BeginsOtherwise, sign, with_sign}
+use Rattle.osm_model.specs.Degrees.{BeginsOtherwise, sign, with_sign}
 use Rattle.opl_codec.specs.Fields.{IsInteger}
 use Rattle.ql_plain.specs.Queries.{opening, closing, Reads, HasLargeId, IsText, FaultOf}
 use Rattle.ql_plain.proofs.Ids.{no_plus_first}

@@ -1,15 +1,14 @@
 -- A text that fits up to a place, and no further.
-use Rattle.std.proofs.Common.{◌≡◌, ◌≢◌, ℕ, zero, suc, ◌+◌, ◌-◌, ◌<◌, ◌≤◌, ◌⊎◌, inl, inr, List, [], ◌∷◌, ◌++◌, length, get_or, take, drop, Bool, true, false, ℤ, pos, FitsSigned, refl, sym, ◌∙◌, ap, subst, arith, append_assoc, append-nil, lit<, lit≤, length-append, length-drop}
+use Rattle.std.proofs.Common.{◌≡◌, ◌≢◌, ℕ, zero, suc, ◌+◌, ◌-◌, ◌<◌, ◌≤◌, ◌⊎◌, inl, inr, List, [], ◌∷◌, ◌++◌, length, get_or, take, drop, Bool, false, ℤ, pos, FitsSigned, refl, sym, ◌∙◌, ap, subst, arith, append_assoc, append-nil, lit<, lit≤, length-append, length-drop}
 use Rattle.std.proofs.Math.Seq.{take-append_seam, take-append-add, get_or-append_seam}
 use Rattle.std.proofs.lemmas.Bool.{cases_eq}
 use Rattle.std.proofs.lemmas.List.{take-append-drop, length-take-le, append_cancel_left, take_all}
 use Rattle.std.proofs.lemmas.List.Prefix.{front_fits, front_reads}
 use Rattle.std.specs.Int.{w64}
-use Rattle.std.specs.Char.{digit_value}
 use Rattle.ql_plain.specs.declared.fault.QlCause.{QlCause}
-use Rattle.ql_plain.specs.declared.fault.QlCause.TheVariants.{NotUtf8, UnexpectedCharacter, NumberOutOfRange, TooLong, UnexpectedEnd}
+use Rattle.ql_plain.specs.declared.fault.QlCause.TheVariants.{UnexpectedCharacter, UnexpectedEnd}
 use Rattle.ql_plain.specs.declared.fault.QlFault.{QlFault}
-use Rattle.osm_model.specs.Degrees.{IsDigits, BeginsOtherwise, sign}
+use Rattle.osm_model.specs.Degrees.{BeginsOtherwise, sign}
 use Rattle.opl_codec.specs.Fields.{IsInteger}
 use Rattle.ql_plain.specs.Queries.{opening, closing, IsShape, IsBeginning, HasLargeId, IsFirstMisfit, IsText, IsFaultAt, FaultOf}
 use Rattle.ql_plain.proofs.Ids.{same_id, no_id}

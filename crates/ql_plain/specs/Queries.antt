@@ -1,7 +1,7 @@
 -- What bytes read as a query, and the one fault of bytes that read as none.
 -- Source: the subset of the Overpass QL page of the OpenStreetMap wiki that is the query of one node
 -- by its id; the limit, the codes and their places are this project's.
-use Rattle.std.specs.Prelude.{◌≡◌, ℕ, ◌+◌, ◌<◌, ◌≤◌, ℤ, FitsSigned, List, [], ◌∷◌, ◌++◌, length, take, codes}
+use Rattle.std.specs.Prelude.{◌≡◌, ℕ, ◌<◌, ◌≤◌, ℤ, FitsSigned, List, ◌∷◌, ◌++◌, length, take, codes}
 use Rattle.std.specs.Int.{w64}
 use Rattle.std.specs.Str.{IsUtf8, IsValidUpTo}
 use Rattle.opl_codec.specs.Fields.{IsInteger}

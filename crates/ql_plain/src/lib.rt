@@ -4,10 +4,12 @@
 //! meaning of a query over a set of objects.
 #![tactic(auto)]
 
+mod answer;
 mod fault;
 mod parser;
 mod query;
 
+pub use answer::answer_plain;
 pub use fault::{QlCause, QlFault};
 pub use parser::{fault_place, never_both, one_fault, one_reading, parse};
 pub use query::Query;

@@ -1,4 +1,4 @@
-use Rattle.std.proofs.Common.{◌≡◌, ◌<◌, inl, inr, ap, sym, ◌∙◌, refl, subst, arith, ℤ, ℕ, List, get_or}
+use Rattle.std.proofs.Common.{◌<◌, inl, inr, ap, sym, ◌∙◌, refl, subst, arith, ℕ, List, get_or}
 use Rattle.std.proofs.lemmas.Int.{to_z-of_z}
 use Rattle.std.specs.Int.{w64}
 use Rattle.opl_codec.specs.Fields.{IsInteger}

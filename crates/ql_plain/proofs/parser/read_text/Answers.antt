@@ -1,5 +1,4 @@
-use Rattle.std.proofs.Common.{arith, ◌<◌, ◌≤◌, ◌≡◌, ◌∙◌, ap, length, take}
-use Rattle.ql_plain.specs.Queries.{IsText, opening}
+use Rattle.std.proofs.Common.{arith}
 use Rattle.ql_plain.proofs.Stops.{stopped_before_id}
 use Rattle.ql_plain.proofs.parser.read_text.Goals as goal
 
