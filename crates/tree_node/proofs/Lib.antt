@@ -1,0 +1,7 @@
+pub mod BagLemmas
+pub mod DigestLemmas
+pub mod FieldLemmas
+pub mod MapLemmas
+pub mod NodeLaws
+pub mod RecorderLemmas
+pub mod SkipLemmas

@@ -1,0 +1,14 @@
+pub mod BagLaws
+pub mod Bags
+pub mod Digests
+pub mod Keys
+pub mod NodeRefs
+pub mod Nodes
+pub mod Order
+pub mod OrderLemmas
+pub mod Parts
+pub mod Reading
+pub mod RecorderLaws
+pub mod Recorders
+pub mod Shelves
+pub mod Stocks
