@@ -12,3 +12,4 @@ pub mod RecorderLaws
 pub mod Recorders
 pub mod Shelves
 pub mod Stocks
+pub mod Writing

@@ -1,9 +1,13 @@
+ghost use Rattle.std.specs.Prelude.{◌≡◌, ◌++◌, ◌^◌, ◌<◌, OnOk, length};
 ghost use Rattle.tree_node.specs.NodeRefs.{link_of};
+ghost use Rattle.tree_node.specs.Nodes.{link};
 ghost use Rattle.tree_node.specs.Reading.{Gives, link_at};
+ghost use Rattle.tree_node.specs.Writing.{Extends};
 
 use crate::digest::Digest;
 use crate::fault::NodeFault;
 use crate::fields::{bytes_of_len, digest_at, u16_at, u64_at};
+use std::alloc::AllocError;
 
 /// The greatest number of entries that an inner node states of a child.
 const MOST_ENTRIES: u64 = 1_099_511_627_776;
@@ -41,5 +45,17 @@ impl<'a> Child<'a> {
             },
             rest,
         ))
+    }
+
+    /// Appends the child's bytes; what it wrote stays where memory is refused.
+    pub(crate) fn append(&self, out: &mut Vec<u8>) -> Result<(), AllocError>
+        requires { length self.now.greatest.now < 2 ^ 16 }
+        ensures written { OnOk result (out.new.items ≡ out.old.items ++ link (link_of self.now)) }
+        ensures extended { Extends out.old.items out.new.items }
+    {
+        out.extend_from_slice(&(self.greatest.len() as u16).to_be_bytes())?;
+        out.extend_from_slice(self.greatest)?;
+        out.extend_from_slice(&self.number.to_be_bytes())?;
+        out.extend_from_slice(&self.digest.0)
     }
 }

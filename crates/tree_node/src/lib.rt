@@ -18,8 +18,10 @@ mod order;
 mod part;
 mod recorder;
 mod shelf;
+mod spelling;
 mod stock;
 mod tree;
+mod write;
 
 pub use bag::Bag;
 pub use child::Child;
@@ -32,5 +34,7 @@ pub use node::NodeRef;
 pub use part::Part;
 pub use recorder::Recorder;
 pub use shelf::{Shelf, ShelfFault};
+pub use spelling::spelling_is_unique;
 pub use stock::{PutFault, Stock};
 pub use tree::Tree;
+pub use write::{write_inner, write_leaf};
