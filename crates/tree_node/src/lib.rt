@@ -20,6 +20,8 @@ mod recorder;
 mod shelf;
 mod spelling;
 mod stock;
+#[cfg(test)]
+mod tests;
 mod tree;
 mod write;
 

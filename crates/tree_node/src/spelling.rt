@@ -10,5 +10,4 @@ pub fn spelling_is_unique()
         → (node_at bytes ≡ Ok n) ↔ Spells bytes n }
     ensures read_back { (n : Node) → IsNode n → node_at (spelling n) ≡ Ok n }
     ensures unique { (bytes : List ℕ) (n m : Node) → Spells bytes n → Spells bytes m → n ≡ m }
-{
-}
+{}

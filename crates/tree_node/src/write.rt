@@ -31,7 +31,12 @@ pub fn write_leaf(tree: Tree, items: &[Item<'_>], out: &mut Vec<u8>) -> Result<(
 /// docs/FORMATS.md). They are a node's where there is a child, the greatest keys strictly rise, and
 /// the level and the numbers of entries are in range, which isn't asked here. Where memory is
 /// refused the vector is as before.
-pub fn write_inner(tree: Tree, level: u8, children: &[Child<'_>], out: &mut Vec<u8>) -> Result<(), AllocError>
+pub fn write_inner(
+    tree: Tree,
+    level: u8,
+    children: &[Child<'_>],
+    out: &mut Vec<u8>,
+) -> Result<(), AllocError>
     requires few { length children.now ≤ 64 }
     requires fit { All (λ child. length child.greatest.now < 2 ^ 16) children.now }
     ensures written { OnOk result (out.new.items ≡ out.old.items ++ spelling (Inner (number_of tree) level (links_of children.now))) }
@@ -60,7 +65,12 @@ fn append_leaf(tree: Tree, items: &[Item<'_>], out: &mut Vec<u8>) -> Result<(), 
 }
 
 /// Appends an inner node; what it wrote stays where memory is refused.
-fn append_inner(tree: Tree, level: u8, children: &[Child<'_>], out: &mut Vec<u8>) -> Result<(), AllocError>
+fn append_inner(
+    tree: Tree,
+    level: u8,
+    children: &[Child<'_>],
+    out: &mut Vec<u8>,
+) -> Result<(), AllocError>
     requires few { length children.now ≤ 64 }
     requires fit { All (λ child. length child.greatest.now < 2 ^ 16) children.now }
     ensures written { OnOk result (out.new.items ≡ out.old.items ++ spelling (Inner (number_of tree) level (links_of children.now))) }
