@@ -7,6 +7,7 @@ use Rattle.std.proofs.lemmas.Nat.{be_bytes_2, be_bytes_4, be_bytes_8, from_be_by
 use Rattle.tree_node.specs.declared.fault.NodeFault.{NodeFault}
 use Rattle.tree_node.specs.declared.fault.NodeFault.TheVariants.{CutShort, BadCount}
 use Rattle.tree_node.specs.Nodes.{Binding, Link, entry, link, FitsEntry, FitsLink}
+use Rattle.tree_node.specs.Faults.{HasWidths}
 use Rattle.tree_node.specs.Reading.{◌>>=◌, number_at, bytes_at, entry_at, link_at}
 
 abbrev pub IsBytes : List ℕ → Type 0
@@ -163,10 +164,15 @@ link_takes bytes x fits e =
     let whole : Takes bytes (link made.0) made.1 = subst (λ (n : ℕ). Takes bytes (to_be_bytes w16 n ++ (b.0.0 ++ (to_be_bytes w64 c.0.0 ++ d.0.0))) d.0.1) (sym t1.1) e0123 in
     subst (λ (y : Link × List ℕ). Takes bytes (link y.0) y.1 × FitsLink y.0) g.1 (whole, record { greatest = omega (arith, t0.1, t1.1); some = low; number = high; child = t3.1 })
 
-pub link_again : (c : Link) (rest : List ℕ) → FitsLink c → link_at (link c ++ rest) ≡ Ok (c, rest)
+-- a link whose fields have their widths is read, and then its number is looked at
+pub link_wide : (c : Link) (rest : List ℕ) → HasWidths c → link_at (link c ++ rest) ≡ cond (ltb c.number 1 || ltb 1099511627776 c.number) (Err BadCount) (Ok (c, rest))
 unfolding link_at
-link_again c rest fits =
+link_wide c rest fits =
     let regrouped : link c ++ rest ≡ to_be_bytes w16 (length c.greatest) ++ (c.greatest ++ (to_be_bytes w64 c.number ++ (c.child ++ rest))) = simp append_assoc in
+    ap link_at regrouped ∙ rw (number_again w16 (2 ^ 16) wide16 (length c.greatest) (c.greatest ++ (to_be_bytes w64 c.number ++ (c.child ++ rest))) fits.greatest, piece_again c.greatest (to_be_bytes w64 c.number ++ (c.child ++ rest)) (length c.greatest) refl, number_again w64 (2 ^ 64) wide64 c.number (c.child ++ rest) fits.number, piece_again c.child rest 32 fits.child) refl
+
+pub link_again : (c : Link) (rest : List ℕ) → FitsLink c → link_at (link c ++ rest) ≡ Ok (c, rest)
+link_again c rest fits =
     let low : ltb c.number 1 ≡ false = le-ltb _ _ fits.some in
     let high : ltb 1099511627776 c.number ≡ false = le-ltb _ _ fits.number in
-    ap link_at regrouped ∙ rw (number_again w16 (2 ^ 16) wide16 (length c.greatest) (c.greatest ++ (to_be_bytes w64 c.number ++ (c.child ++ rest))) fits.greatest, piece_again c.greatest (to_be_bytes w64 c.number ++ (c.child ++ rest)) (length c.greatest) refl, number_again w64 (2 ^ 64) wide64 c.number (c.child ++ rest) (omega (arith, fits.number)), piece_again c.child rest 32 fits.child, low, high) refl
+    link_wide c rest (record { greatest = fits.greatest; number = omega (arith, fits.number); child = fits.child }) ∙ rw (low, high) refl

@@ -111,7 +111,7 @@ abbrev items_of : Node → List ℕ
 items_of (Leaf tree entries) = flat_map entry entries
 items_of (Inner tree level links) = flat_map link links
 
-two : {c d : ℕ} → c < 256 → d < 256 → IsBytes (c ∷ d ∷ [])
+pub two : {c d : ℕ} → c < 256 → d < 256 → IsBytes (c ∷ d ∷ [])
 two p q zero = p
 two p q (suc zero) = q
 two p q (suc (suc i)) = omega arith
@@ -120,11 +120,11 @@ not_err_end : (b : Bool) (made n : Node) → cond b (Ok made) (Err BytesAfter) �
 not_err_end true made n e = refl
 not_err_end false made n e = absurd cc
 
-or_false : (a b : Bool) → (a || b) ≡ false → (a ≡ false) × (b ≡ false)
+pub or_false : (a b : Bool) → (a || b) ≡ false → (a ≡ false) × (b ≡ false)
 or_false true b e = absurd cc
 or_false false b e = (refl, e)
 
-above_zero : (count : ℕ) (b : Bool) → b ≡ true → (b && eqb count 0) ≡ false → 1 ≤ count
+pub above_zero : (count : ℕ) (b : Bool) → b ≡ true → (b && eqb count 0) ≡ false → 1 ≤ count
 above_zero zero true e f = absurd cc
 above_zero zero false e f = absurd cc
 above_zero (suc n) b e f = omega arith

@@ -1,6 +1,7 @@
 pub mod BagLaws
 pub mod Bags
 pub mod Digests
+pub mod Faults
 pub mod Keys
 pub mod NodeRefs
 pub mod Nodes

@@ -36,7 +36,7 @@ pub use node::NodeRef;
 pub use part::Part;
 pub use recorder::Recorder;
 pub use shelf::{Shelf, ShelfFault};
-pub use spelling::spelling_is_unique;
+pub use spelling::spelling_law;
 pub use stock::{PutFault, Stock};
 pub use tree::Tree;
 pub use write::{write_inner, write_leaf};

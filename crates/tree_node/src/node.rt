@@ -1,4 +1,5 @@
-ghost use Rattle.std.specs.Prelude.{◌≡◌, IfOk, IsOkAnd};
+ghost use Rattle.std.specs.Prelude.{◌≡◌, IfErr, IfOk, IsOkAnd};
+ghost use Rattle.tree_node.specs.Faults.{IsFault};
 ghost use Rattle.tree_node.specs.NodeRefs.{node_read, number_of};
 ghost use Rattle.tree_node.specs.Nodes.{Node, Spells, tree_of};
 ghost use Rattle.tree_node.specs.Reading.{Gives, node_at};
@@ -48,8 +49,9 @@ impl<'a> NodeRef<'a> {
         ensures found { IfOk result (λ n. Spells bytes.now (node_read n)) }
         // What the bytes spell is read.
         ensures only { (n : Node) → Spells bytes.now n → IsOkAnd result (λ r. node_read r ≡ n) }
-        // Which fault it is.
-        ensures exact { Gives node_read result (node_at bytes.now) }
+        // What is refused has this fault first, and what has it is refused for it.
+        ensures refused { IfErr result (λ fault. IsFault bytes.now fault) }
+        ensures fault { (fault : NodeFault) → IsFault bytes.now fault → result ≡ Err fault }
     {
         NodeRef::read_fields(bytes)
     }
