@@ -27,6 +27,14 @@ link_of child = record { greatest = child.greatest.now; number = child.number; c
 abbrev pub links_of : List Child → List Link
 links_of children = map link_of children
 
+-- the leaf with these items, the inner node with these children
+abbrev pub leaf_of : Tree → List Item → Node
+leaf_of tree items = Leaf (number_of tree) (bindings_of items)
+
+abbrev pub inner_of : Tree → ℕ → List Child → Node
+inner_of tree level children = Inner (number_of tree) level (links_of children)
+
+-- the node that was read
 abbrev pub node_read : NodeRef → Node
 node_read (nodes.Leaf tree entries) = Leaf (number_of tree) entries
 node_read (nodes.Inner tree level children) = Inner (number_of tree) level children

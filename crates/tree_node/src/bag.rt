@@ -1,5 +1,6 @@
 ghost use Rattle.std.specs.List.{All, HoldsAt};
-ghost use Rattle.std.specs.Prelude.{◌≡◌, ◌≢◌, ◌<◌, ◌↔◌, ℕ, List, IfOk, IfSome, IfNone, IsTrue, length};
+ghost use Rattle.std.specs.Prelude.{◌≡◌, ◌≢◌, ◌<◌, ◌↔◌, ℕ, List};
+ghost use Rattle.std.specs.Prelude.{IfNone, IfOk, IfSome, IsTrue, length};
 ghost use Rattle.tree_node.specs.Digests.{digest as digest_word};
 ghost use Rattle.tree_node.specs.Parts.{HaveNode, HaveRisingDigests, node_of};
 ghost use Rattle.tree_node.specs.Shelves.{IsEmptySet, SameNodes};
@@ -48,8 +49,10 @@ impl<'a> Bag<'a> {
 
     /// The place of the part with this digest, by halves.
     fn find(&self, key: &Digest) -> Option<usize>
-        ensures found { IfSome result (λ k. (k < length self.now.parts.items) × HoldsAt (λ p. digest_word (node_of p) ≡ key.now.0) self.now.parts.items k) }
-        ensures none { IfNone result (All (λ p. digest_word (node_of p) ≢ key.now.0) self.now.parts.items) }
+        ensures found { IfSome result (λ k. (k < length self.now.parts.items)
+            × HoldsAt (λ p. digest_word (node_of p) ≡ key.now.0) self.now.parts.items k) }
+        ensures none { IfNone result
+            (All (λ p. digest_word (node_of p) ≢ key.now.0) self.now.parts.items) }
     {
         let mut low = 0;
         let mut high = self.parts.len();

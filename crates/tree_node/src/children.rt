@@ -8,8 +8,8 @@ use crate::fault::NodeFault;
 use crate::order::is_above;
 use std::marker::Model;
 
-/// The children of an inner node that are still to come, in rising order of their greatest keys. Each is read from
-/// the node's bytes when its turn comes; it takes no memory.
+/// The children of an inner node that are still to come, in rising order of their greatest keys. Each
+/// is read from the node's bytes when its turn comes; it takes no memory.
 #[derive(Drop)]
 pub struct Children<'a> {
     count: u16,
@@ -46,6 +46,16 @@ impl<'a> Iterator for Children<'a> {
 }
 
 impl<'a> Children<'a> {
+    /// The same children once more, from where these stand.
+    pub fn again(&self) -> Children<'a>
+        ensures { result ≡ self.now }
+    {
+        Children {
+            count: self.count,
+            rest: self.rest,
+        }
+    }
+
     /// This many children at the front of the bytes.
     pub(crate) fn over(count: u16, bytes: &'a [u8]) -> Children<'a>
         ensures { result ≡ links_in count bytes.now }

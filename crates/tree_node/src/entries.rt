@@ -46,6 +46,16 @@ impl<'a> Iterator for Entries<'a> {
 }
 
 impl<'a> Entries<'a> {
+    /// The same entries once more, from where these stand.
+    pub fn again(&self) -> Entries<'a>
+        ensures { result ≡ self.now }
+    {
+        Entries {
+            count: self.count,
+            rest: self.rest,
+        }
+    }
+
     /// This many entries at the front of the bytes.
     pub(crate) fn over(count: u16, bytes: &'a [u8]) -> Entries<'a>
         ensures { result ≡ entries_in count bytes.now }

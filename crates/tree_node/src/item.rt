@@ -33,7 +33,8 @@ impl<'a> Item<'a> {
     /// Appends the entry's bytes; what it wrote stays where memory is refused.
     pub(crate) fn append(&self, out: &mut Vec<u8>) -> Result<(), AllocError>
         requires { FitsEntry (binding_of self.now) }
-        ensures written { OnOk result (out.new.items ≡ out.old.items ++ entry (binding_of self.now)) }
+        ensures written { OnOk result
+            (out.new.items ≡ out.old.items ++ entry (binding_of self.now)) }
         ensures extended { Extends out.old.items out.new.items }
     {
         out.extend_from_slice(&(self.key.len() as u16).to_be_bytes())?;

@@ -44,7 +44,8 @@ impl<'a> Recorder<'a> {
     /// as it is.
     pub fn parts(&self) -> Result<Vec<Part<'a>>, AllocError>
         ensures rising { IfOk result (λ parts. HaveRisingDigests parts.items) }
-        ensures used { IfOk result (λ parts. SameNodes (RecorderUsed self.now) (HaveNode parts.items)) }
+        ensures used { IfOk result (λ parts.
+            SameNodes (RecorderUsed self.now) (HaveNode parts.items)) }
     {
         let mut parts = Vec::with_capacity(self.alloc, self.given.len())?;
         for (key, bytes) in &self.given {

@@ -31,7 +31,8 @@ pub trait Shelf<'a> {
     /// and else for memory alone; after a refusal nothing has changed.
     fn fetch(&mut self, key: &Digest) -> Result<&'a [u8], ShelfFault>
         // What it gives is held, and has the digest asked.
-        ensures given { IfOk result (λ node. holds self.new node.now × (digest node.now ≡ key.now.0)) }
+        ensures given { IfOk result (λ node.
+            holds self.new node.now × (digest node.now ≡ key.now.0)) }
         // The used nodes grow by just that one.
         ensures grown { IfOk result (λ node. GrownBy (used self.old) (used self.new) node.now) }
         // Whatever the result, what was used stays used.

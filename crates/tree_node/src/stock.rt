@@ -15,7 +15,8 @@ use thiserror::Error;
 #[derive(Drop)]
 pub struct Stock {
     nodes: BTreeMap<Digest, Vec<u8>>,
-    ghost own: { (key : _) → ForSome (get digest_cmp nodes key) (λ node. digest_word node.items ≡ key.0) },
+    ghost own: { (key : _)
+        → ForSome (get digest_cmp nodes key) (λ node. digest_word node.items ≡ key.0) },
 }
 
 /// Why a node was not put into a stock.
@@ -50,7 +51,8 @@ impl Stock {
         ensures added { OnOk result (GrownBy (HasNode self.old) (HasNode self.new) bytes.items) }
         ensures unchanged { OnErr result (SameNodes (HasNode self.old) (HasNode self.new)) }
         ensures clash { result ≡ Err PutFault.Clash
-            → (x : List ℕ) × HasNode self.old x × (x ≢ bytes.items) × (digest_word x ≡ digest_word bytes.items) }
+            → (x : List ℕ) × HasNode self.old x × (x ≢ bytes.items)
+            × (digest_word x ≡ digest_word bytes.items) }
     {
         let key = digest_of(bytes.as_slice());
         if let Some(node) = self.nodes.get(&key) {
@@ -76,7 +78,8 @@ impl Stock {
 
     /// The node with this digest.
     pub(crate) fn find(&self, key: &Digest) -> Option<&[u8]>
-        ensures { option_map (λ x. x.now) result ≡ option_map (λ v. v.items) (get digest_cmp self.now.nodes key.now) }
+        ensures { option_map (λ x. x.now) result
+            ≡ option_map (λ v. v.items) (get digest_cmp self.now.nodes key.now) }
     {
         match self.nodes.get(key) {
             Some(node) => Some(node.as_slice()),

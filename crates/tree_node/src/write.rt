@@ -1,8 +1,8 @@
 ghost use Rattle.std.specs.Int.{to_be_bytes, w16};
 ghost use Rattle.std.specs.List.{All};
 ghost use Rattle.std.specs.Prelude.{◌≡◌, ◌∷◌, ◌++◌, ◌^◌, ◌<◌, ◌≤◌, OnErr, OnOk, length};
-ghost use Rattle.tree_node.specs.NodeRefs.{binding_of, bindings_of, links_of, number_of};
-ghost use Rattle.tree_node.specs.Nodes.{FitsEntry, Inner, Leaf, spelling};
+ghost use Rattle.tree_node.specs.NodeRefs.{binding_of, inner_of, leaf_of, number_of};
+ghost use Rattle.tree_node.specs.Nodes.{FitsEntry, spelling};
 ghost use Rattle.tree_node.specs.Writing.{Extends};
 
 use crate::child::Child;
@@ -16,7 +16,7 @@ use std::alloc::AllocError;
 pub fn write_leaf(tree: Tree, items: &[Item<'_>], out: &mut Vec<u8>) -> Result<(), AllocError>
     requires few { length items.now ≤ 64 }
     requires fit { All (λ item. FitsEntry (binding_of item)) items.now }
-    ensures written { OnOk result (out.new.items ≡ out.old.items ++ spelling (Leaf (number_of tree) (bindings_of items.now))) }
+    ensures written { OnOk result (out.new.items ≡ out.old.items ++ spelling (leaf_of tree items.now)) }
     ensures refused { OnErr result (out.new.items ≡ out.old.items) }
 {
     let before = out.len();
@@ -39,7 +39,8 @@ pub fn write_inner(
 ) -> Result<(), AllocError>
     requires few { length children.now ≤ 64 }
     requires fit { All (λ child. length child.greatest.now < 2 ^ 16) children.now }
-    ensures written { OnOk result (out.new.items ≡ out.old.items ++ spelling (Inner (number_of tree) level (links_of children.now))) }
+    ensures written { OnOk result
+        (out.new.items ≡ out.old.items ++ spelling (inner_of tree level children.now)) }
     ensures refused { OnErr result (out.new.items ≡ out.old.items) }
 {
     let before = out.len();
@@ -54,7 +55,7 @@ pub fn write_inner(
 fn append_leaf(tree: Tree, items: &[Item<'_>], out: &mut Vec<u8>) -> Result<(), AllocError>
     requires few { length items.now ≤ 64 }
     requires fit { All (λ item. FitsEntry (binding_of item)) items.now }
-    ensures written { OnOk result (out.new.items ≡ out.old.items ++ spelling (Leaf (number_of tree) (bindings_of items.now))) }
+    ensures written { OnOk result (out.new.items ≡ out.old.items ++ spelling (leaf_of tree items.now)) }
     ensures extended { Extends out.old.items out.new.items }
 {
     append_head(tree, 0, items.len() as u16, out)?;
@@ -73,7 +74,8 @@ fn append_inner(
 ) -> Result<(), AllocError>
     requires few { length children.now ≤ 64 }
     requires fit { All (λ child. length child.greatest.now < 2 ^ 16) children.now }
-    ensures written { OnOk result (out.new.items ≡ out.old.items ++ spelling (Inner (number_of tree) level (links_of children.now))) }
+    ensures written { OnOk result
+        (out.new.items ≡ out.old.items ++ spelling (inner_of tree level children.now)) }
     ensures extended { Extends out.old.items out.new.items }
 {
     append_head(tree, level, children.len() as u16, out)?;
@@ -85,7 +87,8 @@ fn append_inner(
 
 /// Appends the four bytes before a node's items, or nothing.
 fn append_head(tree: Tree, level: u8, count: u16, out: &mut Vec<u8>) -> Result<(), AllocError>
-    ensures written { OnOk result (out.new.items ≡ out.old.items ++ (number_of tree ∷ level ∷ to_be_bytes w16 count)) }
+    ensures written { OnOk result
+        (out.new.items ≡ out.old.items ++ (number_of tree ∷ level ∷ to_be_bytes w16 count)) }
     ensures refused { OnErr result (out.new.items ≡ out.old.items) }
 {
     let [high, low] = count.to_be_bytes();
