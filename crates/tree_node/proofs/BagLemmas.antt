@@ -32,6 +32,7 @@ module _ (parts : List Part) (key : List ℕ) (m : ℕ) (x : Part) (rising : Hav
         | inr le2 ↦ let e : m ≡ k = omega arith in subst (λ (i : ℕ). IsBelow key (digest (node_of (get_or parts i d)))) e at
       ]
 
+-- a search that ended below where it began has shown that no part has the digest
 pub absent : (parts : List Part) (key : List ℕ) (low high : ℕ) → high ≤ low
     → ((k : ℕ) → k < low → HoldsAt (λ p. IsBelow (digest (node_of p)) key) parts k)
     → ((k : ℕ) → high ≤ k → k < length parts → HoldsAt (λ p. IsBelow key (digest (node_of p))) parts k)
@@ -42,12 +43,15 @@ absent parts key low high le below above k d lt e =
       | inr after ↦ not_itself _ _ (above k (omega arith) lt d) (sym e)
     ]
 
+-- where no part has the digest, no held node has it
 pub has_none : (parts : List Part) (key x : List ℕ) → All (λ p. digest (node_of p) ≢ key) parts → HaveNode parts x → digest x ≡ key → ⊥
 has_none parts key x none has e = none has.0 has.1 has.2 (ap (λ p. digest (node_of p)) has.3 ∙ ap digest has.4 ∙ e)
 
+-- a part whose digest compares equal has that digest
 pub found_here : (parts : List Part) (key : List ℕ) (m : ℕ) (x : Part) → m < length parts → x ≡ get_or parts m x → order (digest (node_of x)) key ≡ Equal → HoldsAt (λ p. digest (node_of p) ≡ key) parts m
 found_here parts key m x lt is e d = subst (λ (p : Part). digest (node_of p) ≡ key) (get_or_read parts m x lt is d) (order_same _ _ e)
 
+-- a mark that is set stays set
 set_keeps : (marks : List Bool) (k j : ℕ) → get_or marks j false ≡ true → k < length marks → get_or (set marks k true) j false ≡ true
 set_keeps marks k j e lt =
     elim (cases_eq j k) [
@@ -55,6 +59,7 @@ set_keeps marks k j e lt =
       | inr other ↦ get_or-set_other marks k j true false other ∙ e
     ]
 
+-- one more mark, one more used node
 pub marks_grow : (parts : List Part) (marks : List Bool) (k : ℕ) (p : Part) → length marks ≡ length parts → k < length parts → p ≡ get_or parts k p
     → GrownBy (HaveMarkedNode parts marks) (HaveMarkedNode parts (set marks k true)) (node_of p)
 marks_grow parts marks k p len lt is x = (forth, back)

@@ -20,12 +20,15 @@ guard_err : {A : Type 0} (b : Bool) (d e : NodeFault) (x : A) → cond b (Err d)
 guard_err true d e x p = (refl, cc)
 guard_err false d e x p = absurd cc
 
+-- what was read was not refused
 not_err : {A : Type 0} (x : A) (e : NodeFault) (r : Result A NodeFault) → r ≡ Ok x → r ≡ Err e → ⊥
 not_err x e r p q = absurd cc
 
+-- a number fails in one way
 number_err : (w : Width) (bytes : List ℕ) (e : NodeFault) → number_at w bytes ≡ Err e → e ≡ CutShort
 number_err w bytes e p = (guard_err (ltb (length bytes) (byte_len w)) CutShort e _ p).1
 
+-- a piece of bytes fails in one way
 piece_err : (n : ℕ) (bytes : List ℕ) (e : NodeFault) → bytes_at n bytes ≡ Err e → e ≡ CutShort
 piece_err n bytes e p = (guard_err (ltb (length bytes) n) CutShort e _ p).1
 
@@ -47,6 +50,7 @@ entry_err bytes e is =
       ]
     ]
 
+-- the reader of entries, by its laws
 pub entry_reader : IsReader entry_form entry_at entries_behind
 unfolding entries_behind
 entry_reader = record {
@@ -61,6 +65,7 @@ entry_reader = record {
   some = λ n low bytes. refl;
 }
 
+-- one of two tests passed
 pub or_true : (a b : Bool) → (a || b) ≡ true → (a ≡ true) ⊎ (b ≡ true)
 or_true true b e = inl refl
 or_true false b e = inr e
@@ -73,9 +78,11 @@ out_of_range n t in_range =
       | inr high ↦ let lt : 1099511627776 < n = ltb-true _ _ high in omega (arith, in_range.1)
     ]
 
+-- a number of entries as an inner node states it
 abbrev InRange : ℕ → Type 0
 InRange n = (1 ≤ n) × (n ≤ 2 ^ 40)
 
+-- a number out of range is refused by the test
 test_far : (n : ℕ) → ¬ InRange n → (ltb n 1 || ltb 1099511627776 n) ≡ true
 test_far n not_in =
     elim (cases_Bool (ltb n 1)) [
@@ -94,9 +101,11 @@ LinkFails bytes e = (e ≡ CutShort) ⊎ ((e ≡ BadCount) × ((c : Link) × (re
 abbrev made_of : List ℕ → ℕ → List ℕ → Link
 made_of key number child = record { greatest = key; number = number; child = child }
 
+-- the test of the number
 abbrev link_end : List ℕ × List ℕ → ℕ × List ℕ → List ℕ × List ℕ → Result (Link × List ℕ) NodeFault
 link_end key number child = cond (ltb number.0 1 || ltb 1099511627776 number.0) (Err BadCount) (Ok (made_of key.0 number.0 child.0, child.1))
 
+-- where reading a link fails, it is cut short or its number is out of range
 link_err : (bytes : List ℕ) (e : NodeFault) → IsBytes bytes → link_at bytes ≡ Err e → LinkFails bytes e
 unfolding link_at
 link_err bytes e fits is =
@@ -133,6 +142,7 @@ no_link bytes read c behind fits is = by (ltb c.number 1 || ltb 1099511627776 c.
     by true p = absurd cc
     by false p = absurd cc
 
+-- the reader of links, by its laws
 pub link_reader : IsReader link_form link_at links_behind
 unfolding links_behind
 link_reader = record {

@@ -10,12 +10,15 @@ use Rattle.tree_node.specs.Nodes.{Binding, Link, entry, link, FitsEntry, FitsLin
 use Rattle.tree_node.specs.Faults.{HasWidths}
 use Rattle.tree_node.specs.Reading.{◌>>=◌, number_at, bytes_at, entry_at, link_at}
 
+-- each number is a byte
 abbrev pub IsBytes : List ℕ → Type 0
 IsBytes bytes = (i : ℕ) → get_or bytes i 0 < 256
 
+-- what stands behind some bytes is of bytes
 pub IsBytes-drop : (n : ℕ) (bytes : List ℕ) → IsBytes bytes → IsBytes (drop n bytes)
 IsBytes-drop n bytes h i = rw get_or-drop (h (n + i))
 
+-- the first of some bytes are bytes
 IsBytes-take : (n : ℕ) (bytes : List ℕ) → IsBytes bytes → IsBytes (take n bytes)
 IsBytes-take n bytes h i =
     elim (cases_lt i n) [
@@ -33,9 +36,11 @@ pub guard_ok : {A : Type 0} (b : Bool) (d : NodeFault) (x y : A) → cond b (Err
 guard_ok true d x y e = absurd cc
 guard_ok false d x y e = (refl, cc)
 
+-- a step that did not fail, whose faults are those of nodes
 abbrev done : {A : Type 0} → A → Result A NodeFault
 done x = Ok x
 
+-- two equal results have equal values
 pub ok_is : {A : Type 0} (x y : A) → done x ≡ done y → x ≡ y
 ok_is x y e = cc
 
@@ -44,6 +49,7 @@ pub record Takes (bytes text rest : List ℕ) : Type 0 where
   pub parts : bytes ≡ text ++ rest
   pub rest_fits : IsBytes rest
 
+-- one reader after the other
 pub Takes-then : (a x b y c : List ℕ) → Takes a x b → Takes b y c → Takes a (x ++ y) c
 Takes-then a x b y c p q = record { parts = p.parts ∙ ap (λ (t : List ℕ). x ++ t) q.parts ∙ sym (append_assoc x y c); rest_fits = q.rest_fits }
 
@@ -55,6 +61,7 @@ pub record IsWide (w : Width) (limit : ℕ) : Type 0 where
   pub again : (n : ℕ) → n < limit → from_be_bytes w (to_be_bytes w n) ≡ n
   pub below : (bytes : List ℕ) → IsBytes bytes → from_be_bytes w bytes < limit
 
+-- numbers of two bytes
 pub wide16 : IsWide w16 (2 ^ 16)
 wide16 = record {
   len = λ n. refl;
@@ -63,6 +70,7 @@ wide16 = record {
   below = λ bytes fits. omega (arith, fits 0, fits 1);
 }
 
+-- numbers of four bytes
 pub wide32 : IsWide w32 (2 ^ 32)
 wide32 = record {
   len = λ n. refl;
@@ -71,6 +79,7 @@ wide32 = record {
   below = λ bytes fits. omega (arith, fits 0, fits 1, fits 2, fits 3);
 }
 
+-- numbers of eight bytes
 pub wide64 : IsWide w64 (2 ^ 64)
 wide64 = record {
   len = λ n. refl;
@@ -79,6 +88,7 @@ wide64 = record {
   below = λ bytes fits. omega (arith, fits 0, fits 1, fits 2, fits 3, fits 4, fits 5, fits 6, fits 7);
 }
 
+-- a number that was read stands at the front
 pub number_takes : (w : Width) (limit : ℕ) (wide : IsWide w limit) (bytes : List ℕ) (n : ℕ) (rest : List ℕ) → IsBytes bytes → number_at w bytes ≡ Ok (n, rest) → Takes bytes (to_be_bytes w n) rest × (n < limit)
 number_takes w limit wide bytes n rest fits e =
     let g = guard_ok (ltb (length bytes) (byte_len w)) CutShort (from_be_bytes w (take (byte_len w) bytes), drop (byte_len w) bytes) (n, rest) e in
@@ -88,6 +98,7 @@ number_takes w limit wide bytes n rest fits e =
     let front : to_be_bytes w n ≡ take (byte_len w) bytes = rw (← n-is) (wide.back (take (byte_len w) bytes) (omega (arith, length-take (byte_len w) bytes)) (IsBytes-take (byte_len w) bytes fits)) in
     (record { parts = rw (front, ← rest-is) (sym (take-append-drop (byte_len w) bytes)); rest_fits = rw (← rest-is) (IsBytes-drop (byte_len w) bytes fits) }, rw (← n-is) (wide.below (take (byte_len w) bytes) (IsBytes-take (byte_len w) bytes fits)))
 
+-- a number that was written is read
 pub number_again : (w : Width) (limit : ℕ) (wide : IsWide w limit) (n : ℕ) (rest : List ℕ) → n < limit → number_at w (to_be_bytes w n ++ rest) ≡ Ok (n, rest)
 number_again w limit wide n rest lt =
     let len = wide.len n in
@@ -96,6 +107,7 @@ number_again w limit wide n rest lt =
 
 -- ---- pieces of a length
 
+-- a piece that was read stands at the front
 pub piece_takes : (n : ℕ) (bytes text rest : List ℕ) → IsBytes bytes → bytes_at n bytes ≡ Ok (text, rest) → Takes bytes text rest × (length text ≡ n)
 piece_takes n bytes text rest fits e =
     let g = guard_ok (ltb (length bytes) n) CutShort (take n bytes, drop n bytes) (text, rest) e in
@@ -104,6 +116,7 @@ piece_takes n bytes text rest fits e =
     let whole : Takes bytes (take n bytes) (drop n bytes) = record { parts = sym (take-append-drop n bytes); rest_fits = IsBytes-drop n bytes fits } in
     subst (λ (p : List ℕ × List ℕ). Takes bytes p.0 p.1 × (length p.0 ≡ n)) g.1 (whole, len)
 
+-- a piece that was written is read
 pub piece_again : (text rest : List ℕ) (n : ℕ) → length text ≡ n → bytes_at n (text ++ rest) ≡ Ok (text, rest)
 piece_again text rest n len =
     let long : ltb (length (text ++ rest)) n ≡ false = le-ltb _ _ (omega (arith, length-append text rest)) in
@@ -111,6 +124,7 @@ piece_again text rest n len =
 
 -- ---- entries
 
+-- an entry that was read stands at the front, and its fields have their widths
 pub entry_takes : (bytes : List ℕ) (x : Binding × List ℕ) → IsBytes bytes → entry_at bytes ≡ Ok x → Takes bytes (entry x.0) x.1 × FitsEntry x.0
 unfolding entry_at
 entry_takes bytes x fits e =
@@ -129,6 +143,7 @@ entry_takes bytes x fits e =
     let whole : Takes bytes (entry made.0) made.1 = subst (λ (p : ℕ × ℕ). Takes bytes (to_be_bytes w16 p.0 ++ (b.0.0 ++ (to_be_bytes w32 p.1 ++ d.0.0))) d.0.1) (λ i. (sym t1.1 i, sym t3.1 i)) e0123 in
     subst (λ (y : Binding × List ℕ). Takes bytes (entry y.0) y.1 × FitsEntry y.0) (ok_is made x d.2) (whole, record { key = omega (arith, t0.1, t1.1); value = omega (arith, t2.1, t3.1) })
 
+-- an entry that was written is read
 pub entry_again : (e : Binding) (rest : List ℕ) → FitsEntry e → entry_at (entry e ++ rest) ≡ Ok (e, rest)
 unfolding entry_at
 entry_again e rest fits =
@@ -137,10 +152,12 @@ entry_again e rest fits =
 
 -- ---- links
 
+-- neither of two tests passed
 or_false : (a b : Bool) → (a || b) ≡ false → (a ≡ false) × (b ≡ false)
 or_false true b e = absurd cc
 or_false false b e = (refl, e)
 
+-- a link that was read stands at the front, and its fields are in range
 pub link_takes : (bytes : List ℕ) (x : Link × List ℕ) → IsBytes bytes → link_at bytes ≡ Ok x → Takes bytes (link x.0) x.1 × FitsLink x.0
 unfolding link_at
 link_takes bytes x fits e =
@@ -171,6 +188,7 @@ link_wide c rest fits =
     let regrouped : link c ++ rest ≡ to_be_bytes w16 (length c.greatest) ++ (c.greatest ++ (to_be_bytes w64 c.number ++ (c.child ++ rest))) = simp append_assoc in
     ap link_at regrouped ∙ rw (number_again w16 (2 ^ 16) wide16 (length c.greatest) (c.greatest ++ (to_be_bytes w64 c.number ++ (c.child ++ rest))) fits.greatest, piece_again c.greatest (to_be_bytes w64 c.number ++ (c.child ++ rest)) (length c.greatest) refl, number_again w64 (2 ^ 64) wide64 c.number (c.child ++ rest) fits.number, piece_again c.child rest 32 fits.child) refl
 
+-- a link that was written is read
 pub link_again : (c : Link) (rest : List ℕ) → FitsLink c → link_at (link c ++ rest) ≡ Ok (c, rest)
 link_again c rest fits =
     let low : ltb c.number 1 ≡ false = le-ltb _ _ fits.some in

@@ -24,15 +24,19 @@ pub record IsReader {X : Type 0} (form : Form X) (at : List ℕ → Result (X ×
   pub some : (n : ℕ) (low : Option (List ℕ)) (bytes : List ℕ)
       → behind (suc n) low bytes ≡ (at bytes >>= λ first. cond (is_above low (form.key first.0)) (behind n (Some (form.key first.0)) first.1) (Err NotRising))
 
+-- a step that did not fail
 abbrev done : {A : Type 0} → A → Result A NodeFault
 done x = Ok x
 
+-- a step that failed
 abbrev fault_of : {A : Type 0} → NodeFault → Result A NodeFault
 fault_of e = Err e
 
+-- two equal failures have equal faults
 err_is : {A : Type 0} (d e : NodeFault) → fault_of {A = A} d ≡ Err e → d ≡ e
 err_is d e p = cc
 
+-- a step that did not fail has no fault
 not_both : {A : Type 0} (x : A) (e : NodeFault) → done x ≡ Err e → ⊥
 not_both x e p = absurd cc
 
@@ -50,6 +54,7 @@ module _ {X : Type 0} (form : Form X) (at : List ℕ → Result (X × List ℕ) 
     rise = (above, begins.rise);
   }
 
+  -- bytes begin with no items
   begins_none : (low : Option (List ℕ)) (bytes : List ℕ) → BeginsWith form low bytes [] bytes
   begins_none low bytes = record { parts = refl; fit = tt; rise = tt }
 
@@ -75,6 +80,7 @@ module _ {X : Type 0} (form : Form X) (at : List ℕ → Result (X × List ℕ) 
     first_fault (inr (count, (x, rest, parts, shaped, not_in))) =
         subst (λ (d : NodeFault). ItemsFault form low (suc n) bytes d) (sym count) ([], x, rest, record { parts = parts; fit = tt; rise = tt }, omega arith, shaped, not_in)
 
+    -- where the first item was read
     above : (x : X) (rest : List ℕ) → at bytes ≡ Ok (x, rest) → (b : Bool) → is_above low (form.key x) ≡ b → cond b (behind n (Some (form.key x)) rest) (Err NotRising) ≡ Err e → ItemsFault form low (suc n) bytes e
     above x rest read true up q =
         let took = reader.takes bytes (x, rest) fits read in
@@ -84,6 +90,7 @@ module _ {X : Type 0} (form : Form X) (at : List ℕ → Result (X × List ℕ) 
         subst (λ (d : NodeFault). ItemsFault form low (suc n) bytes d) (err_is {A = List ℕ} NotRising e q)
         ([], x, rest, record { parts = took.0.parts; fit = tt; rise = tt }, omega arith, took.1, took.2, λ up. let t = above_true low (form.key x) up.0 in absurd cc)
 
+    -- whatever came of the first item
     stops_by : (o : Result (X × List ℕ) NodeFault) → at bytes ≡ o → (o >>= λ first. cond (is_above low (form.key first.0)) (behind n (Some (form.key first.0)) first.1) (Err NotRising)) ≡ Err e → ItemsFault form low (suc n) bytes e
     stops_by (Err d) read q = first_fault (reader.fails bytes e fits (read ∙ ap (λ (x : NodeFault). fault_of {A = X × List ℕ} x) (err_is {A = List ℕ} d e q)))
     stops_by (Ok (x, rest)) read q = above x rest read (is_above low (form.key x)) refl q
@@ -136,9 +143,11 @@ module _ {X : Type 0} (form : Form X) (at : List ℕ → Result (X × List ℕ) 
             | inr far ↦ absurd (none far.1.0 far.1.1 far.1.3 far.1.2)
           ]
 
+  -- where the first item fails, all do
   first_fails : (n : ℕ) (low : Option (List ℕ)) (rest : List ℕ) (e : NodeFault) → at rest ≡ Err e → behind (suc n) low rest ≡ Err e
   first_fails n low rest e read = reader.some n low rest ∙ rw read refl
 
+  -- where the first item is not above the key before it, all fail
   not_above : (n : ℕ) (low : Option (List ℕ)) (x : X) (rest : List ℕ) → form.Shaped x → form.InRange x → is_above low (form.key x) ≡ false
       → behind (suc n) low (form.spell x ++ rest) ≡ Err NotRising
   not_above n low x rest shaped in_range down =

@@ -17,6 +17,7 @@ use Rattle.tree_node.specs.Shelves.{GrownBy}
 use Rattle.tree_node.specs.Keys.{digest_cmp, key_of, StandsIn}
 use Rattle.tree_node.specs.OrderLemmas.{order_same}
 
+-- a comparison that passes for equal is so
 equal_is : (o : Ordering) → is_eq o ≡ true → o ≡ Equal
 equal_is Less e = absurd Prim.cc
 equal_is Equal e = refl
@@ -31,13 +32,16 @@ pub record IsPut {V : Type 0} (m n : BTreeMap Digest V) (k : Digest) (v : V) : T
   pub each : (q : Digest) → get digest_cmp n q ≡ cond (is_at (digest_cmp k) q) (Some v) (get digest_cmp m q)
   pub here : get digest_cmp n k ≡ Some v
 
+-- an option has one value
 some_is : {A : Type 0} (a b : A) → Some a ≡ Some b → a ≡ b
 some_is a b e = Prim.cc
 
 module _ {V : Type 0} (view : V → List ℕ) (m n : BTreeMap Digest V) (k : Digest) (v : V) (put : IsPut m n k v) (own : k.0 ≡ digest (view v)) where
+  -- the key is that of the node
   key_is : k ≡ key_of (view v)
   key_is = ap (λ (d : List ℕ). record { 0 = d }) own
 
+  -- what the new map has, the old one had, or it is the new node
   forth : (x : List ℕ) → option_map view (get digest_cmp n (key_of x)) ≡ Some x → (option_map view (get digest_cmp m (key_of x)) ≡ Some x) ⊎ (x ≡ view v)
   forth x h =
       elim (cases_Bool (is_at (digest_cmp k) (key_of x))) [
@@ -45,9 +49,11 @@ module _ {V : Type 0} (view : V → List ℕ) (m n : BTreeMap Digest V) (k : Dig
         | inr miss ↦ inl (sym (ap (option_map view) (put.each (key_of x) ∙ ap (λ b. cond b (Some v) (get digest_cmp m (key_of x))) miss)) ∙ h)
       ]
 
+  -- the new node stands there
   here_now : (x : List ℕ) → x ≡ view v → option_map view (get digest_cmp n (key_of x)) ≡ Some x
   here_now x e = subst (λ (y : List ℕ). option_map view (get digest_cmp n (key_of y)) ≡ Some y) (sym e) (ap (λ q. option_map view (get digest_cmp n q)) (sym key_is) ∙ ap (option_map view) put.here)
 
+  -- what the old map had, the new one has
   stays_there : (x : List ℕ) → ((get digest_cmp m k ≡ None) ⊎ (option_map view (get digest_cmp m k) ≡ Some (view v))) → option_map view (get digest_cmp m (key_of x)) ≡ Some x → option_map view (get digest_cmp n (key_of x)) ≡ Some x
   stays_there x was h =
       elim (cases_Bool (is_at (digest_cmp k) (key_of x))) [
@@ -60,10 +66,12 @@ module _ {V : Type 0} (view : V → List ℕ) (m n : BTreeMap Digest V) (k : Dig
         | inr miss ↦ ap (option_map view) (put.each (key_of x) ∙ ap (λ b. cond b (Some v) (get digest_cmp m (key_of x))) miss) ∙ h
       ]
 
+  -- the map gained just this node
   pub put_grows : ((get digest_cmp m k ≡ None) ⊎ (option_map view (get digest_cmp m k) ≡ Some (view v)))
       → GrownBy (λ x. option_map view (get digest_cmp m (key_of x)) ≡ Some x) (λ x. option_map view (get digest_cmp n (key_of x)) ≡ Some x) (view v)
   put_grows was x = (forth x, λ h. elim h [ inl p ↦ stays_there x was p | inr e ↦ here_now x e ])
 
+  -- each node still stands under its own digest
   pub put_owns : ((key : Digest) → ForSome (get digest_cmp m key) (λ w. digest (view w) ≡ key.0)) → (key : Digest) → ForSome (get digest_cmp n key) (λ w. digest (view w) ≡ key.0)
   put_owns before key w e =
       elim (cases_Bool (is_at (digest_cmp k) key)) [
@@ -83,9 +91,11 @@ pub stands : (nodes : BTreeMap Digest (Vec ℕ)) (key : Digest) (w : Vec ℕ) �
 stands nodes key w e own =
     ap (λ d. option_map (λ (v : Vec ℕ). v.items) (get digest_cmp nodes (record { 0 = d }))) own ∙ ap (option_map (λ (v : Vec ℕ). v.items)) e
 
+-- a test has one outcome
 pub differ : (b : Bool) → b ≡ true → b ≡ false → ⊥
 differ b t f = Prim.cc
 
+-- an option with no value has none to copy
 pub copied_none : {V : Type 0} (o : Option (Bor V)) → ((x : Bor V) → o ≡ Some x → ⊥) → option_copied o ≡ None
 copied_none None h = refl
 copied_none (Some x) h = absurd (h x refl)
@@ -100,6 +110,7 @@ was_given nodes given k v at own = by (get digest_cmp given k) (own k)
     by None h = inl refl
     by (Some b) h = inr (sym (h b refl) ∙ at)
 
+-- after an insert, as it may have failed, each given node is still what the stock has
 pub given_after : {A E : Type 0} (nodes : BTreeMap Digest (Vec ℕ)) (m n : BTreeMap Digest (Bor (List ℕ))) (k : Digest) (v : Bor (List ℕ)) (r : Result A E) → OnOk r (Updates digest_cmp m n k (Some v)) → OnErr r (n.entries ≡ m.entries)
     → option_map (λ (w : Vec ℕ). w.items) (get digest_cmp nodes k) ≡ Some v.now
     → ((key : Digest) → ForSome (get digest_cmp m key) (λ b. option_map (λ (w : Vec ℕ). w.items) (get digest_cmp nodes key) ≡ Some b.now))
@@ -112,6 +123,7 @@ given_after nodes m n k v (Ok a) up same at before = λ key w e.
       | inr miss ↦ before key w (sym (up.0 key ∙ ap (λ b. cond b (Some v) (get digest_cmp m key)) miss) ∙ e)
     ]
 
+-- a node that stands under a digest has it
 pub own_digest : (d : List ℕ) (o : Option (Vec ℕ)) (v : List ℕ) → option_map (λ (w : Vec ℕ). w.items) o ≡ Some v → ForSome o (λ w. digest w.items ≡ d) → d ≡ digest v
 own_digest d None v e h = absurd Prim.cc
 own_digest d (Some w) v e h = sym (h w refl) ∙ ap digest (some_is w.items v e)

@@ -21,6 +21,7 @@ cond_err : {A : Type 0} (b : Bool) (d e : NodeFault) (r : Result A NodeFault) �
 cond_err true d e r p = inl (refl, cc)
 cond_err false d e r p = inr (refl, p)
 
+-- the test for bytes behind the items failed
 end_cond : (b : Bool) (node : Node) (f : NodeFault) → cond b (Ok node) (Err BytesAfter) ≡ Err f → (b ≡ false) × (f ≡ BytesAfter)
 end_cond true node f p = absurd cc
 end_cond false node f p = (refl, cc)
@@ -33,10 +34,12 @@ end_err (Ok rest) node f p =
     let g = end_cond (eqb (length rest) 0) node f p in
     inr (rest, refl, (λ is. let t : eqb (length rest) 0 ≡ true = rw is refl in let h = g.0 in absurd cc), g.1)
 
+-- what follows for each follows for all
 all_are : {X : Type 0} (P Q : X → Type 0) → ((x : X) → P x → Q x) → (xs : List X) → AllByRecursion P xs → AllByRecursion Q xs
 all_are P Q f [] all = tt
 all_are P Q f (x ∷ xs) all = (f x all.0, all_are P Q f xs all.1)
 
+-- both of two tests passed
 and_true : (a b : Bool) → (a && b) ≡ true → (a ≡ true) × (b ≡ true)
 and_true true b p = (refl, p)
 and_true false b p = absurd cc
@@ -53,6 +56,7 @@ entries_fault tree count bytes f fits p =
           (entries_in count bytes, rest, record { parts = s.taken.parts; fit = all_are FitsEntry (λ x. FitsEntry x × ⊤) (λ x fit. (fit, tt)) (entries_in count bytes) s.fit; rise = s.rise }, s.long, more)
     ]
 
+-- the fields of a link that fits, and its range
 link_is : (c : Link) → FitsLink c → HasWidths c × ((1 ≤ c.number) × (c.number ≤ 2 ^ 40))
 link_is c fits = (record { greatest = fits.greatest; number = omega (arith, fits.number); child = fits.child }, (fits.some, fits.number))
 
@@ -73,10 +77,12 @@ abbrev body_of : ℕ → ℕ → ℕ → List ℕ → Result Node NodeFault
 body_of tree level count bytes =
     cond (eqb level 0) (to_the_end (entries_behind count None bytes) (Leaf tree (entries_in count bytes))) (to_the_end (links_behind count None bytes) (Inner tree level (links_in count bytes)))
 
+-- the branch that was taken
 choose : {A : Type 0} (b : Bool) (p q r : A) → cond b p q ≡ r → ((b ≡ true) × (p ≡ r)) ⊎ ((b ≡ false) × (q ≡ r))
 choose true p q r e = inl (refl, e)
 choose false p q r e = inr (refl, e)
 
+-- what is refused behind the number of items
 body_fault : (tree level count : ℕ) (bytes : List ℕ) (f : NodeFault) → IsBytes bytes → body_of tree level count bytes ≡ Err f → BodyFault level count bytes f
 body_fault tree level count bytes f fits p =
     elim (choose (eqb level 0) (to_the_end (entries_behind count None bytes) (Leaf tree (entries_in count bytes))) (to_the_end (links_behind count None bytes) (Inner tree level (links_in count bytes))) (Err f) p) [
@@ -88,6 +94,7 @@ body_fault tree level count bytes f fits p =
     up zero e = absurd cc
     up (suc l) e = omega arith
 
+-- the test of the number of items, as it stands in the reader
 abbrev bad_count : ℕ → ℕ → Bool
 bad_count level count = ltb 64 count || (ltb 0 level && eqb count 0)
 
@@ -104,6 +111,7 @@ refuses_count level count t has =
           omega arith
     ]
 
+-- a number of items that passes is a node's
 takes_count : (level count : ℕ) → bad_count level count ≡ false → HasCount level count
 takes_count level count t =
     let both = or_false (ltb 64 count) (ltb 0 level && eqb count 0) t in
@@ -122,9 +130,11 @@ items_fault tree level count bytes f fits is_tree p =
           ]
     ]
 
+-- a node that was refused
 abbrev node_err : NodeFault → Result Node NodeFault
 node_err f = Err f
 
+-- what is refused behind the first byte
 tree_fault : (tree level count : ℕ) (bytes : List ℕ) (f : NodeFault) → IsBytes bytes → (tree_at tree >>= λ t. items_at t level count bytes) ≡ Err f → HeadFault tree level count bytes f
 tree_fault tree level count bytes f fits p =
     elim (cases_Bool (ltb tree 1 || ltb 4 tree)) [
@@ -182,6 +192,7 @@ body_err r node BytesAfter failed on =
     no_length [] more e = more refl
     no_length (x ∷ xs) more e = omega arith
 
+-- a fault behind the number of items is refused
 body_met : (tree level count : ℕ) (bytes : List ℕ) (f : NodeFault) → IsBytes bytes → BodyFault level count bytes f → body_of tree level count bytes ≡ Err f
 body_met tree level count bytes f fits (inl (is, fault)) =
     let z : eqb level 0 ≡ true = rw is refl in
@@ -194,11 +205,13 @@ body_met tree level count bytes f fits (inr (up, fault)) =
     (λ other. stopped link_form link_at links_behind link_reader count None bytes f fits fault other)
     (λ after. went_on link_form link_at links_behind link_reader count None bytes (subst (λ (e : NodeFault). ItemsFault link_form None count bytes e) after fault)))
 
+-- the number of a tree passes its test
 tree_read : (tree : ℕ) → IsTree tree → (ltb tree 1 || ltb 4 tree) ≡ false
 tree_read tree is =
     let low : ltb tree 1 ≡ false = le-ltb _ _ is.0 in
     let high : ltb 4 tree ≡ false = le-ltb _ _ is.1 in rw (low, high) refl
 
+-- a fault of the first four bytes, or behind them, is refused
 head_met : (tree level count : ℕ) (bytes : List ℕ) (f : NodeFault) → IsBytes bytes → HeadFault tree level count bytes f → (tree_at tree >>= λ t. items_at t level count bytes) ≡ Err f
 head_met tree level count bytes f fits (inl (is, no_kind)) =
     elim (cases_Bool (ltb tree 1 || ltb 4 tree)) [
@@ -223,6 +236,7 @@ head_met tree level count bytes f fits (inr (inr (kind, has, fault))) =
       | inr good ↦ rw (tree_read tree kind.0, low, good) (body_met tree level count bytes f fits fault)
     ]
 
+-- the reader, where the first four bytes are there
 head_open : (tree level count : ℕ) (bytes : List ℕ) → count < 2 ^ 16
     → node_at ((tree ∷ level ∷ to_be_bytes w16 count) ++ bytes) ≡ (tree_at tree >>= λ t. items_at t level count bytes)
 unfolding node_at
@@ -230,6 +244,7 @@ head_open tree level count bytes lt =
     let long : ltb (length ((tree ∷ level ∷ to_be_bytes w16 count) ++ bytes)) 4 ≡ false = le-ltb _ _ (omega arith) in
     rw long (ap (λ (c : ℕ). tree_at tree >>= λ t. items_at t level c bytes) (wide16.again count lt))
 
+-- less than four bytes are refused
 short_met : (bytes : List ℕ) → length bytes < 4 → node_at bytes ≡ Err CutShort
 unfolding node_at
 short_met bytes lt = rw (lt-ltb _ _ lt) refl
@@ -243,13 +258,16 @@ fault_met bytes f fits (inr (tree, level, count, behind, is, lt, fault)) =
 
 -- ---- what a function returned
 
+-- what was refused has its fault
 pub refused_is : (bytes : List ℕ) (r : Result NodeRef NodeFault) → IsBytes bytes → Gives node_read r (node_at bytes) → IfErr r (λ f. IsFault bytes f)
 refused_is bytes (Ok v) fits given = tt
 refused_is bytes (Err e) fits given = fault_found bytes e fits given
 
+-- a refusal, as the function gives it
 abbrev refused : NodeFault → Result NodeRef NodeFault
 refused f = Err f
 
+-- what has a fault was refused for it
 pub fault_refused : (bytes : List ℕ) (f : NodeFault) (r : Result NodeRef NodeFault) → IsBytes bytes → IsFault bytes f → Gives node_read r (node_at bytes) → r ≡ refused f
 fault_refused bytes f (Ok v) fits fault given = absurd (let k = sym given ∙ fault_met bytes f fits fault in cc)
 fault_refused bytes f (Err e) fits fault given = let k = sym given ∙ fault_met bytes f fits fault in cc

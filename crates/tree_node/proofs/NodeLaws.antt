@@ -19,19 +19,23 @@ use Rattle.tree_node.specs.NodeRefs.{node_read}
 use Rattle.tree_node.specs.Reading.{Gives}
 use Rattle.tree_node.proofs.FieldLemmas.{IsBytes, IsBytes-drop, bind_ok, guard_ok, ok_is, wide16, Takes, Takes-then, entry_takes, entry_again, link_takes, link_again}
 
+-- a comparison that passes for less is so
 less_is : (o : Ordering) → is_lt o ≡ true → o ≡ Less
 less_is Less e = refl
 less_is Equal e = absurd cc
 less_is Greater e = absurd cc
 
+-- a key that passes is above the one before it
 pub above_is : (low : Option (List ℕ)) (key : List ℕ) → is_above low key ≡ true → IfSome low (λ l. IsBelow l key)
 above_is None key e = tt
 above_is (Some l) key e = less_is (order l key) e
 
+-- a key above the one before it passes
 pub above_true : (low : Option (List ℕ)) (key : List ℕ) → IfSome low (λ l. IsBelow l key) → is_above low key ≡ true
 above_true None key h = refl
 above_true (Some l) key h = ap is_lt h
 
+-- a test that did not fail, and what came after it
 pub order_ok : {A : Type 0} (b : Bool) (d : NodeFault) (r : Result A NodeFault) (y : A) → cond b r (Err d) ≡ Ok y → (b ≡ true) × (r ≡ Ok y)
 order_ok true d r y e = (refl, e)
 order_ok false d r y e = absurd cc
@@ -43,6 +47,7 @@ pub record Skipped (xs : List Binding) (n : ℕ) (low : Option (List ℕ)) (byte
   pub fit : AllByRecursion FitsEntry xs
   pub rise : AreRisingFrom low (keys_of xs)
 
+-- entries that were skipped are entries of a node
 pub entries_taken : (n : ℕ) (low : Option (List ℕ)) (bytes rest : List ℕ) → IsBytes bytes → entries_behind n low bytes ≡ Ok rest → Skipped (entries_in n bytes) n low bytes rest
 unfolding entries_behind entries_in
 entries_taken zero low bytes rest fits e =
@@ -57,6 +62,7 @@ entries_taken (suc n) low bytes rest fits e =
     subst (λ (xs : List Binding). Skipped xs (suc n) low bytes rest) (sym is)
     (record { taken = rw flat_map-cons both; long = ap suc others.long; fit = (first.1, others.fit); rise = (above_is low a.0.0.key g.0, others.rise) })
 
+-- entries that were written are skipped and read
 pub entries_again : (es : List Binding) (low : Option (List ℕ)) (rest : List ℕ) → AllByRecursion FitsEntry es → AreRisingFrom low (keys_of es)
     → (entries_behind (length es) low (flat_map entry es ++ rest) ≡ Ok rest) × (entries_in (length es) (flat_map entry es ++ rest) ≡ es)
 unfolding entries_behind entries_in
@@ -76,6 +82,7 @@ pub record SkippedLinks (xs : List Link) (n : ℕ) (low : Option (List ℕ)) (by
   pub fit : AllByRecursion FitsLink xs
   pub rise : AreRisingFrom low (greatests_of xs)
 
+-- links that were skipped are links of a node
 pub links_taken : (n : ℕ) (low : Option (List ℕ)) (bytes rest : List ℕ) → IsBytes bytes → links_behind n low bytes ≡ Ok rest → SkippedLinks (links_in n bytes) n low bytes rest
 unfolding links_behind links_in
 links_taken zero low bytes rest fits e =
@@ -90,6 +97,7 @@ links_taken (suc n) low bytes rest fits e =
     subst (λ (xs : List Link). SkippedLinks xs (suc n) low bytes rest) (sym is)
     (record { taken = rw flat_map-cons both; long = ap suc others.long; fit = (first.1, others.fit); rise = (above_is low a.0.0.greatest g.0, others.rise) })
 
+-- links that were written are skipped and read
 pub links_again : (es : List Link) (low : Option (List ℕ)) (rest : List ℕ) → AllByRecursion FitsLink es → AreRisingFrom low (greatests_of es)
     → (links_behind (length es) low (flat_map link es ++ rest) ≡ Ok rest) × (links_in (length es) (flat_map link es ++ rest) ≡ es)
 unfolding links_behind links_in
@@ -107,37 +115,45 @@ abbrev count_of : Node → ℕ
 count_of (Leaf tree entries) = length entries
 count_of (Inner tree level links) = length links
 
+-- the bytes behind the first four
 abbrev items_of : Node → List ℕ
 items_of (Leaf tree entries) = flat_map entry entries
 items_of (Inner tree level links) = flat_map link links
 
+-- two bytes are bytes
 pub two : {c d : ℕ} → c < 256 → d < 256 → IsBytes (c ∷ d ∷ [])
 two p q zero = p
 two p q (suc zero) = q
 two p q (suc (suc i)) = omega arith
 
+-- nothing stood behind the items
 not_err_end : (b : Bool) (made n : Node) → cond b (Ok made) (Err BytesAfter) ≡ Ok n → b ≡ true
 not_err_end true made n e = refl
 not_err_end false made n e = absurd cc
 
+-- neither of two tests passed
 pub or_false : (a b : Bool) → (a || b) ≡ false → (a ≡ false) × (b ≡ false)
 or_false true b e = absurd cc
 or_false false b e = (refl, e)
 
+-- a number that is not refused for being 0
 pub above_zero : (count : ℕ) (b : Bool) → b ≡ true → (b && eqb count 0) ≡ false → 1 ≤ count
 above_zero zero true e f = absurd cc
 above_zero zero false e f = absurd cc
 above_zero (suc n) b e f = omega arith
 
+-- a test that did not fail, and what came after it
 not_err : {A : Type 0} (b : Bool) (d : NodeFault) (r : Result A NodeFault) (y : A) → cond b (Err d) r ≡ Ok y → (b ≡ false) × (r ≡ Ok y)
 not_err true d r y e = absurd cc
 not_err false d r y e = (refl, e)
 
+-- the items end where the bytes do
 end_ok : (r : Result (List ℕ) NodeFault) (made n : Node) → to_the_end r made ≡ Ok n → (r ≡ Ok []) × (made ≡ n)
 end_ok (Ok []) made n e = (refl, ok_is made n e)
 end_ok (Ok (x ∷ xs)) made n e = absurd (let g = not_err_end (eqb (length (x ∷ xs)) 0) made n e in let h : length (x ∷ xs) ≡ 0 = eqb-true _ _ g in omega arith)
 end_ok (Err d) made n e = absurd cc
 
+-- what is read behind the tree number is a node's
 items_takes : (tree level count : ℕ) (bytes : List ℕ) (n : Node) → IsBytes bytes → IsTree tree → items_at tree level count bytes ≡ Ok n
     → IsNode n × ((tree ∷ level ∷ to_be_bytes w16 count) ++ bytes ≡ spelling n)
 items_takes tree zero count bytes n fits is_tree e =
@@ -168,6 +184,7 @@ items_takes tree (suc l) count bytes n fits is_tree e =
     let up : 1 ≤ suc l = omega arith in
     subst (λ (m : Node). IsNode m × ((tree ∷ suc l ∷ to_be_bytes w16 count) ++ bytes ≡ spelling m)) c.1 ((is_tree, up, low, long, short, s.fit, s.rise), text)
 
+-- bytes that read as a node spell it
 pub node_takes : (bytes : List ℕ) (n : Node) → IsBytes bytes → node_at bytes ≡ Ok n → Spells bytes n
 unfolding node_at
 node_takes [] n fits e = absurd cc
@@ -186,6 +203,7 @@ node_takes (a ∷ b ∷ c ∷ d ∷ rest) n fits e =
     let r = items_takes a b (from_be_bytes w16 (c ∷ d ∷ [])) rest n fits_rest is_tree items in
     (r.0, ap (λ (t : List ℕ). (a ∷ b ∷ t) ++ rest) (sym (wide16.back (c ∷ d ∷ []) refl fits_count)) ∙ r.1)
 
+-- the items of a node are read
 items_again : (n : Node) → IsNode n → items_at (tree_of n) (level_of n) (count_of n) (items_of n) ≡ Ok n
 items_again (Leaf tree entries) is =
     let few : ltb 64 (length entries) ≡ false = le-ltb _ _ is.1 in
@@ -202,10 +220,12 @@ items_again (Inner tree level links) is =
     let at = append-nil (flat_map link links) in
     rw (low, few, up, some, z, rw at at both.0, rw at at both.1) refl
 
+-- a node's number of items has two bytes
 count_below : (n : Node) → IsNode n → count_of n < 2 ^ 16
 count_below (Leaf tree entries) is = omega (arith, is.1)
 count_below (Inner tree level links) is = omega (arith, is.4)
 
+-- a node's tree number is read
 tree_again : (n : Node) → IsNode n → tree_at (tree_of n) ≡ Ok (tree_of n)
 tree_again (Leaf tree entries) is =
     let low : ltb tree 1 ≡ false = le-ltb _ _ is.0.0 in
@@ -214,10 +234,12 @@ tree_again (Inner tree level links) is =
     let low : ltb tree 1 ≡ false = le-ltb _ _ is.0.0 in
     let high : ltb 4 tree ≡ false = le-ltb _ _ is.0.1 in rw (low, high) refl
 
+-- the spelling of a node: its first four bytes, and its items
 spelling_is : (n : Node) → spelling n ≡ (tree_of n ∷ level_of n ∷ to_be_bytes w16 (count_of n)) ++ items_of n
 spelling_is (Leaf tree entries) = refl
 spelling_is (Inner tree level links) = refl
 
+-- the first four bytes of a node are read
 head_again : (tree level count : ℕ) (items : List ℕ) (n : Node) → count < 2 ^ 16 → tree_at tree ≡ Ok tree → items_at tree level count items ≡ Ok n
     → node_at ((tree ∷ level ∷ to_be_bytes w16 count) ++ items) ≡ Ok n
 unfolding node_at
@@ -226,14 +248,17 @@ head_again tree level count items n lt t e =
     let back = wide16.again count lt in
     rw (long, t, back) e
 
+-- bytes that spell a node read as it
 pub node_again : (bytes : List ℕ) (n : Node) → Spells bytes n → node_at bytes ≡ Ok n
 node_again bytes n spells =
     ap node_at (spells.1 ∙ spelling_is n) ∙ head_again (tree_of n) (level_of n) (count_of n) (items_of n) n (count_below n spells.0) (tree_again n spells.0) (items_again n spells.0)
 
+-- what the function read is spelled
 pub is_found : (bytes : List ℕ) (r : Result NodeRef NodeFault) → IsBytes bytes → Gives node_read r (node_at bytes) → IfOk r (λ n. Spells bytes (node_read n))
 is_found bytes (Ok v) fits given = node_takes bytes (node_read v) fits given
 is_found bytes (Err e) fits given = tt
 
+-- what is spelled, the function read
 pub is_only : (bytes : List ℕ) (n : Node) (r : Result NodeRef NodeFault) → Spells bytes n → Gives node_read r (node_at bytes) → IsOkAnd r (λ v. node_read v ≡ n)
 is_only bytes n (Ok v) spells given = ok_is (node_read v) n (sym given ∙ node_again bytes n spells)
 is_only bytes n (Err e) spells given = let k = sym given ∙ node_again bytes n spells in absurd cc

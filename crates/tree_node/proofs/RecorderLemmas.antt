@@ -32,10 +32,12 @@ pairs_in_order cmp (k ∷ ks) s (suc i) (suc j) d lt ltj = pairs_in_order cmp ks
 abbrev digests_of : List Part → List Digest
 digests_of parts = map (λ (p : Part). p.digest) parts
 
+-- the keys of parts as entries are their digests
 keys_are : (parts : List Part) → keys_of (map pair_of parts) ≡ digests_of parts
 keys_are [] = refl
 keys_are (p ∷ ps) = ap (λ (ks : List Digest). p.digest ∷ ks) (keys_are ps)
 
+-- a list keeps its length
 length_same : {X Y : Type 0} (f : X → Y) (xs : List X) → length (map f xs) ≡ length xs
 length_same f [] = refl
 length_same f (x ∷ xs) = ap suc (length_same f xs)
@@ -63,6 +65,7 @@ module _ (given : BTreeMap Digest (Bor (List ℕ))) (parts : List Part) (are : m
       let key : p.digest ≡ key_of x = ap (λ (d : List ℕ). record { 0 = d }) (p.own ∙ ap digest e) in
       ap (λ q. option_map (λ (b : Bor (List ℕ)). b.now) (get digest_cmp given q)) (sym key) ∙ ap (option_map (λ (b : Bor (List ℕ)). b.now)) there ∙ ap (λ (n : List ℕ). Some n) e
 
+  -- what was given, a part holds
   some_given : (x : List ℕ) (o : Option (Bor (List ℕ))) → get digest_cmp given (key_of x) ≡ o → option_map (λ (b : Bor (List ℕ)). b.now) o ≡ Some x → HaveNode parts x
   some_given x None is e = absurd cc
   some_given x (Some b) is e =
@@ -90,6 +93,7 @@ to_come given front left back key node found are is =
     behind (λ (e : Digest × Bor (List ℕ)). get digest_cmp given e.0 ≡ Some e.1) front (key, node) back
     (subst (λ (es : List (Digest × Bor (List ℕ))). All (λ e. get digest_cmp given e.0 ≡ Some e.1) es) (sym are ∙ ap (λ (l : List (Digest × Bor (List ℕ))). front ++ l) is) found)
 
+-- the last part as an entry stands before those still to come
 moved : (parts : List Part) (p : Part) (left : List (Digest × Bor (List ℕ))) → map pair_of (parts ++ p ∷ []) ++ left ≡ map pair_of parts ++ pair_of p ∷ left
 moved [] p left = refl
 moved (q ∷ qs) p left = ap (λ (es : List (Digest × Bor (List ℕ))). pair_of q ∷ es) (moved qs p left)

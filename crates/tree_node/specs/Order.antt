@@ -1,5 +1,5 @@
 -- The order of byte strings: the first byte that differs decides, else the shorter is below.
-use Rattle.std.specs.Prelude.{◌≡◌, ℕ, ◌<◌, List, [], ◌⊎◌, length, slice_index_or}
+use Rattle.std.specs.Prelude.{◌≡◌, ℕ, List}
 use Rattle.std.specs.Ordering.{nat_cmp}
 use Rattle.std.specs.Cmp.Lexicographic.{slice_cmp}
 use Rattle.std.specs.declared.cmp.Ordering.{Ordering}
@@ -10,10 +10,3 @@ order a b = slice_cmp nat_cmp a b
 
 abbrev pub IsBelow : List ℕ → List ℕ → Type 0
 IsBelow a b = order a b ≡ Less
-
-abbrev pub IsAtMost : List ℕ → List ℕ → Type 0
-IsAtMost a b = IsBelow a b ⊎ (a ≡ b)
-
--- each is below the one behind it
-abbrev pub AreRising : List (List ℕ) → Type 0
-AreRising xs = (i j : ℕ) → i < j → j < length xs → IsBelow (slice_index_or xs i []) (slice_index_or xs j [])

@@ -1,5 +1,5 @@
 -- Reading a node from left to right, with the first fault that is met.
-use Rattle.std.specs.Prelude.{◌≡◌, ℕ, zero, suc, List, [], ◌∷◌, length, take, drop, Option, Some, None, Result, Ok, Err, nat_lt, ◌==◌, ◌&&◌, ◌||◌, if◌then◌else◌, Bool, true, refl, slice_index}
+use Rattle.std.specs.Prelude.{◌≡◌, ℕ, zero, suc, List, [], ◌∷◌, length, take, drop, Option, Some, None, Result, Ok, Err, nat_lt, ◌==◌, ◌&&◌, ◌||◌, if◌then◌else◌, Bool, true, slice_index}
 use Rattle.std.specs.Int.{Width, w16, w32, w64, byte_len, from_be_bytes}
 use Rattle.std.specs.Ordering.{is_lt}
 use Rattle.tree_node.specs.declared.fault.NodeFault.{NodeFault}
@@ -73,14 +73,7 @@ unfoldable pub links_in : ℕ → List ℕ → List Link
 links_in zero bytes = []
 links_in (suc n) bytes = and_more (link_at bytes) (λ rest. links_in n rest)
 
-pub entries_in-suc : (n : ℕ) (bytes : List ℕ) → entries_in (suc n) bytes ≡ and_more (entry_at bytes) (λ rest. entries_in n rest)
-unfolding entries_in
-entries_in-suc n bytes = refl
-
-pub entries_in-zero : (bytes : List ℕ) → entries_in 0 bytes ≡ []
-unfolding entries_in
-entries_in-zero bytes = refl
-
+-- a tree's number
 abbrev pub tree_at : ℕ → Result ℕ NodeFault
 tree_at number = if nat_lt number 1 || nat_lt 4 number then Err BadTreeOrLevel else Ok number
 
