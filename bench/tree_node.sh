@@ -1,17 +1,19 @@
 #!/usr/bin/env bash
 # Measures the reading, fetching and digesting of nodes, each beside an alternative in the same run.
-# The program bench/tree_speed is built in bench/data, over a copy of the crate tree_node, so that the
-# repository's gate doesn't prove it.
+# The program bench/tree_speed is built over a copy of the crate tree_node in a folder outside the
+# repository (WORK, or a new one), so that the gate doesn't prove it.
 set -eu
 top=$(cd "$(dirname "$0")/.." && pwd)
-work=$top/bench/data/tree_speed
+work=${WORK:-$(mktemp -d)}
 mkdir -p "$work/crates"
 printf 'tree_node: sha2 thiserror\ntree_speed: tree_node sha2 anyhow\n' > "$work/crates.txt"
 [ -d "$work/.git" ] || git init -q "$work"
 for crate in crates/tree_node bench/tree_speed; do
     name=$(basename "$crate")
     mkdir -p "$work/crates/$name"
-    cp -r "$top/$crate/." "$work/crates/$name/"
+    for part in src specs proofs; do
+        [ ! -d "$top/$crate/$part" ] || cp -r "$top/$crate/$part" "$work/crates/$name/"
+    done
 done
 touch "$work/crates/tree_speed/stdin"
 cd "$work/crates/tree_speed"

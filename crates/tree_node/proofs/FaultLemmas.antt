@@ -4,10 +4,10 @@ use Rattle.std.specs.Int.{Width, w16, w32, w64, to_be_bytes, byte_len}
 use Rattle.std.proofs.lemmas.Bool.{cases_Bool, ltb-false, ltb-true}
 use Rattle.tree_node.specs.declared.fault.NodeFault.{NodeFault}
 use Rattle.tree_node.specs.declared.fault.NodeFault.TheVariants.{CutShort, BadCount}
-use Rattle.tree_node.specs.Nodes.{Link, link}
+use Rattle.tree_node.specs.Nodes.{AreBytes, Link, link}
 use Rattle.tree_node.specs.Faults.{entry_form, link_form, HasWidths, HasNoItem}
 use Rattle.tree_node.specs.Reading.{◌>>=◌, number_at, bytes_at, entry_at, link_at, entries_behind, links_behind}
-use Rattle.tree_node.proofs.FieldLemmas.{IsBytes, Takes, entry_takes, entry_again, link_takes, link_again, link_wide, number_takes, piece_takes, wide16, wide64, Takes-then}
+use Rattle.tree_node.proofs.FieldLemmas.{Takes, entry_takes, entry_again, link_takes, link_again, link_wide, number_takes, piece_takes, wide16, wide64, Takes-then}
 use Rattle.tree_node.proofs.ItemFaults.{IsReader}
 
 -- where a chain of steps failed
@@ -106,7 +106,7 @@ abbrev link_end : List ℕ × List ℕ → ℕ × List ℕ → List ℕ × List 
 link_end key number child = cond (ltb number.0 1 || ltb 1099511627776 number.0) (Err BadCount) (Ok (made_of key.0 number.0 child.0, child.1))
 
 -- where reading a link fails, it is cut short or its number is out of range
-link_err : (bytes : List ℕ) (e : NodeFault) → IsBytes bytes → link_at bytes ≡ Err e → LinkFails bytes e
+link_err : (bytes : List ℕ) (e : NodeFault) → AreBytes bytes → link_at bytes ≡ Err e → LinkFails bytes e
 unfolding link_at
 link_err bytes e fits is =
     elim (bind_err (number_at w16 bytes) (λ n. bytes_at n.0 n.1 >>= λ key. number_at w64 key.1 >>= λ m. bytes_at 32 m.1 >>= λ child. link_end key m child) e is) [

@@ -1,26 +1,22 @@
 -- A field that is read is the field that was written, and what was written is read again.
-use Rattle.std.proofs.Common.{◌≡◌, ℕ, ◌+◌, ◌^◌, ◌<◌, ◌≤◌, Bool, true, false, cond, ltb, List, ◌++◌, length, get_or, take, drop, Result, Ok, Err, refl, sym, ap, subst, ◌∙◌, append_assoc, arith, inl, inr, ◌||◌}
+use Rattle.std.proofs.Common.{◌≡◌, ℕ, ◌+◌, ◌^◌, ◌<◌, ◌≤◌, Bool, true, false, cond, ltb, List, ◌++◌, length, take, drop, Result, Ok, Err, refl, sym, ap, subst, ◌∙◌, append_assoc, arith, inl, inr, ◌||◌}
 use Rattle.std.specs.Int.{Width, w16, w32, w64, byte_len, from_be_bytes, to_be_bytes}
 use Rattle.std.proofs.lemmas.Bool.{cases_lt, ltb-false, le-ltb}
 use Rattle.std.proofs.lemmas.List.{take_at, drop_at, take-append-drop, length-append, length-take, get_or-drop, get_or-take, get_or_past}
 use Rattle.std.proofs.lemmas.Nat.{be_bytes_2, be_bytes_4, be_bytes_8, from_be_bytes-to_be_bytes_2, from_be_bytes-to_be_bytes_4, from_be_bytes-to_be_bytes_8}
 use Rattle.tree_node.specs.declared.fault.NodeFault.{NodeFault}
 use Rattle.tree_node.specs.declared.fault.NodeFault.TheVariants.{CutShort, BadCount}
-use Rattle.tree_node.specs.Nodes.{Binding, Link, entry, link, FitsEntry, FitsLink}
+use Rattle.tree_node.specs.Nodes.{AreBytes, Binding, Link, entry, link, FitsEntry, FitsLink}
 use Rattle.tree_node.specs.Faults.{HasWidths}
 use Rattle.tree_node.specs.Reading.{◌>>=◌, number_at, bytes_at, entry_at, link_at}
 
--- each number is a byte
-abbrev pub IsBytes : List ℕ → Type 0
-IsBytes bytes = (i : ℕ) → get_or bytes i 0 < 256
-
 -- what stands behind some bytes is of bytes
-pub IsBytes-drop : (n : ℕ) (bytes : List ℕ) → IsBytes bytes → IsBytes (drop n bytes)
-IsBytes-drop n bytes h i = rw get_or-drop (h (n + i))
+pub AreBytes-drop : (n : ℕ) (bytes : List ℕ) → AreBytes bytes → AreBytes (drop n bytes)
+AreBytes-drop n bytes h i = rw get_or-drop (h (n + i))
 
 -- the first of some bytes are bytes
-IsBytes-take : (n : ℕ) (bytes : List ℕ) → IsBytes bytes → IsBytes (take n bytes)
-IsBytes-take n bytes h i =
+AreBytes-take : (n : ℕ) (bytes : List ℕ) → AreBytes bytes → AreBytes (take n bytes)
+AreBytes-take n bytes h i =
     elim (cases_lt i n) [
       | inl lt ↦ rw (get_or-take n bytes i 0 lt) (h i)
       | inr le ↦ rw (get_or_past (take n bytes) i 0 (omega (arith, length-take n bytes))) (omega arith)
@@ -47,7 +43,7 @@ ok_is x y e = cc
 -- what a reader took from the front
 pub record Takes (bytes text rest : List ℕ) : Type 0 where
   pub parts : bytes ≡ text ++ rest
-  pub rest_fits : IsBytes rest
+  pub rest_fits : AreBytes rest
 
 -- one reader after the other
 pub Takes-then : (a x b y c : List ℕ) → Takes a x b → Takes b y c → Takes a (x ++ y) c
@@ -57,9 +53,9 @@ Takes-then a x b y c p q = record { parts = p.parts ∙ ap (λ (t : List ℕ). x
 
 pub record IsWide (w : Width) (limit : ℕ) : Type 0 where
   pub len : (n : ℕ) → length (to_be_bytes w n) ≡ byte_len w
-  pub back : (bytes : List ℕ) → length bytes ≡ byte_len w → IsBytes bytes → to_be_bytes w (from_be_bytes w bytes) ≡ bytes
+  pub back : (bytes : List ℕ) → length bytes ≡ byte_len w → AreBytes bytes → to_be_bytes w (from_be_bytes w bytes) ≡ bytes
   pub again : (n : ℕ) → n < limit → from_be_bytes w (to_be_bytes w n) ≡ n
-  pub below : (bytes : List ℕ) → IsBytes bytes → from_be_bytes w bytes < limit
+  pub below : (bytes : List ℕ) → AreBytes bytes → from_be_bytes w bytes < limit
 
 -- numbers of two bytes
 pub wide16 : IsWide w16 (2 ^ 16)
@@ -89,14 +85,14 @@ wide64 = record {
 }
 
 -- a number that was read stands at the front
-pub number_takes : (w : Width) (limit : ℕ) (wide : IsWide w limit) (bytes : List ℕ) (n : ℕ) (rest : List ℕ) → IsBytes bytes → number_at w bytes ≡ Ok (n, rest) → Takes bytes (to_be_bytes w n) rest × (n < limit)
+pub number_takes : (w : Width) (limit : ℕ) (wide : IsWide w limit) (bytes : List ℕ) (n : ℕ) (rest : List ℕ) → AreBytes bytes → number_at w bytes ≡ Ok (n, rest) → Takes bytes (to_be_bytes w n) rest × (n < limit)
 number_takes w limit wide bytes n rest fits e =
     let g = guard_ok (ltb (length bytes) (byte_len w)) CutShort (from_be_bytes w (take (byte_len w) bytes), drop (byte_len w) bytes) (n, rest) e in
     let long : byte_len w ≤ length bytes = ltb-false _ _ g.0 in
     let n-is : from_be_bytes w (take (byte_len w) bytes) ≡ n = ap (λ (p : ℕ × List ℕ). p.0) g.1 in
     let rest-is : drop (byte_len w) bytes ≡ rest = ap (λ (p : ℕ × List ℕ). p.1) g.1 in
-    let front : to_be_bytes w n ≡ take (byte_len w) bytes = rw (← n-is) (wide.back (take (byte_len w) bytes) (omega (arith, length-take (byte_len w) bytes)) (IsBytes-take (byte_len w) bytes fits)) in
-    (record { parts = rw (front, ← rest-is) (sym (take-append-drop (byte_len w) bytes)); rest_fits = rw (← rest-is) (IsBytes-drop (byte_len w) bytes fits) }, rw (← n-is) (wide.below (take (byte_len w) bytes) (IsBytes-take (byte_len w) bytes fits)))
+    let front : to_be_bytes w n ≡ take (byte_len w) bytes = rw (← n-is) (wide.back (take (byte_len w) bytes) (omega (arith, length-take (byte_len w) bytes)) (AreBytes-take (byte_len w) bytes fits)) in
+    (record { parts = rw (front, ← rest-is) (sym (take-append-drop (byte_len w) bytes)); rest_fits = rw (← rest-is) (AreBytes-drop (byte_len w) bytes fits) }, rw (← n-is) (wide.below (take (byte_len w) bytes) (AreBytes-take (byte_len w) bytes fits)))
 
 -- a number that was written is read
 pub number_again : (w : Width) (limit : ℕ) (wide : IsWide w limit) (n : ℕ) (rest : List ℕ) → n < limit → number_at w (to_be_bytes w n ++ rest) ≡ Ok (n, rest)
@@ -108,12 +104,12 @@ number_again w limit wide n rest lt =
 -- ---- pieces of a length
 
 -- a piece that was read stands at the front
-pub piece_takes : (n : ℕ) (bytes text rest : List ℕ) → IsBytes bytes → bytes_at n bytes ≡ Ok (text, rest) → Takes bytes text rest × (length text ≡ n)
+pub piece_takes : (n : ℕ) (bytes text rest : List ℕ) → AreBytes bytes → bytes_at n bytes ≡ Ok (text, rest) → Takes bytes text rest × (length text ≡ n)
 piece_takes n bytes text rest fits e =
     let g = guard_ok (ltb (length bytes) n) CutShort (take n bytes, drop n bytes) (text, rest) e in
     let long : n ≤ length bytes = ltb-false _ _ g.0 in
     let len : length (take n bytes) ≡ n = omega (arith, length-take n bytes) in
-    let whole : Takes bytes (take n bytes) (drop n bytes) = record { parts = sym (take-append-drop n bytes); rest_fits = IsBytes-drop n bytes fits } in
+    let whole : Takes bytes (take n bytes) (drop n bytes) = record { parts = sym (take-append-drop n bytes); rest_fits = AreBytes-drop n bytes fits } in
     subst (λ (p : List ℕ × List ℕ). Takes bytes p.0 p.1 × (length p.0 ≡ n)) g.1 (whole, len)
 
 -- a piece that was written is read
@@ -125,7 +121,7 @@ piece_again text rest n len =
 -- ---- entries
 
 -- an entry that was read stands at the front, and its fields have their widths
-pub entry_takes : (bytes : List ℕ) (x : Binding × List ℕ) → IsBytes bytes → entry_at bytes ≡ Ok x → Takes bytes (entry x.0) x.1 × FitsEntry x.0
+pub entry_takes : (bytes : List ℕ) (x : Binding × List ℕ) → AreBytes bytes → entry_at bytes ≡ Ok x → Takes bytes (entry x.0) x.1 × FitsEntry x.0
 unfolding entry_at
 entry_takes bytes x fits e =
     let a = bind_ok (number_at w16 bytes) (λ n. bytes_at n.0 n.1 >>= λ key. number_at w32 key.1 >>= λ m. bytes_at m.0 m.1 >>= λ value. Ok (record { key = key.0; value = value.0 }, value.1)) x e in
@@ -158,7 +154,7 @@ or_false true b e = absurd cc
 or_false false b e = (refl, e)
 
 -- a link that was read stands at the front, and its fields are in range
-pub link_takes : (bytes : List ℕ) (x : Link × List ℕ) → IsBytes bytes → link_at bytes ≡ Ok x → Takes bytes (link x.0) x.1 × FitsLink x.0
+pub link_takes : (bytes : List ℕ) (x : Link × List ℕ) → AreBytes bytes → link_at bytes ≡ Ok x → Takes bytes (link x.0) x.1 × FitsLink x.0
 unfolding link_at
 link_takes bytes x fits e =
     let last = λ (key : List ℕ × List ℕ) (number : ℕ × List ℕ) (child : List ℕ × List ℕ). cond (ltb number.0 1 || ltb 1099511627776 number.0) (Err BadCount) (Ok (record { greatest = key.0; number = number.0; child = child.0 }, child.1)) in

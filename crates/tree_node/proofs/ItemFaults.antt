@@ -7,18 +7,19 @@ use Rattle.std.proofs.lemmas.List.{drop_at}
 use Rattle.std.proofs.lemmas.List.Concat.{flat_map-cons}
 use Rattle.tree_node.specs.declared.fault.NodeFault.{NodeFault}
 use Rattle.tree_node.specs.declared.fault.NodeFault.TheVariants.{CutShort, BytesAfter, BadCount, NotRising, BadTreeOrLevel}
+use Rattle.tree_node.specs.Nodes.{AreBytes}
 use Rattle.tree_node.specs.Order.{IsBelow}
 use Rattle.tree_node.specs.Faults.{Form, Rise, BeginsWith, HasNoItem, ItemsFault}
 use Rattle.tree_node.specs.Reading.{◌>>=◌, is_above}
-use Rattle.tree_node.proofs.FieldLemmas.{IsBytes, IsBytes-drop, Takes}
+use Rattle.tree_node.proofs.FieldLemmas.{AreBytes-drop, Takes}
 use Rattle.tree_node.proofs.NodeLaws.{above_is, above_true}
 
 -- a reader of one item, and one of items in turn
 pub record IsReader {X : Type 0} (form : Form X) (at : List ℕ → Result (X × List ℕ) NodeFault) (behind : ℕ → Option (List ℕ) → List ℕ → Result (List ℕ) NodeFault) : Type 0 where
-  pub takes : (bytes : List ℕ) (x : X × List ℕ) → IsBytes bytes → at bytes ≡ Ok x → Takes bytes (form.spell x.0) x.1 × form.Shaped x.0 × form.InRange x.0
+  pub takes : (bytes : List ℕ) (x : X × List ℕ) → AreBytes bytes → at bytes ≡ Ok x → Takes bytes (form.spell x.0) x.1 × form.Shaped x.0 × form.InRange x.0
   pub again : (x : X) (rest : List ℕ) → form.Shaped x → form.InRange x → at (form.spell x ++ rest) ≡ Ok (x, rest)
   pub far : (x : X) (rest : List ℕ) → form.Shaped x → ¬ form.InRange x → at (form.spell x ++ rest) ≡ Err BadCount
-  pub fails : (bytes : List ℕ) (e : NodeFault) → IsBytes bytes → at bytes ≡ Err e
+  pub fails : (bytes : List ℕ) (e : NodeFault) → AreBytes bytes → at bytes ≡ Err e
       → ((e ≡ CutShort) × HasNoItem form bytes) ⊎ ((e ≡ BadCount) × ((x : X) × (rest : List ℕ) × (bytes ≡ form.spell x ++ rest) × form.Shaped x × ¬ form.InRange x))
   pub none : (low : Option (List ℕ)) (bytes : List ℕ) → behind 0 low bytes ≡ Ok bytes
   pub some : (n : ℕ) (low : Option (List ℕ)) (bytes : List ℕ)
@@ -41,8 +42,8 @@ not_both : {A : Type 0} (x : A) (e : NodeFault) → done x ≡ Err e → ⊥
 not_both x e p = absurd cc
 
 -- what stands behind some bytes is of bytes too
-pub IsBytes-behind : (front rest : List ℕ) → IsBytes (front ++ rest) → IsBytes rest
-IsBytes-behind front rest fits = subst (λ (t : List ℕ). IsBytes t) (drop_at front rest (length front) refl) (IsBytes-drop (length front) (front ++ rest) fits)
+pub AreBytes-behind : (front rest : List ℕ) → AreBytes (front ++ rest) → AreBytes rest
+AreBytes-behind front rest fits = subst (λ (t : List ℕ). AreBytes t) (drop_at front rest (length front) refl) (AreBytes-drop (length front) (front ++ rest) fits)
 
 module _ {X : Type 0} (form : Form X) (at : List ℕ → Result (X × List ℕ) NodeFault) (behind : ℕ → Option (List ℕ) → List ℕ → Result (List ℕ) NodeFault) (reader : IsReader form at behind) where
   -- one item more in front
@@ -72,8 +73,8 @@ module _ {X : Type 0} (form : Form X) (at : List ℕ → Result (X × List ℕ) 
   fault_cons low n bytes x rest BadTreeOrLevel is shaped in_range above none = none
 
   -- the same for one item, where it is known of the others
-  module _ (n : ℕ) (low : Option (List ℕ)) (bytes : List ℕ) (e : NodeFault) (fits : IsBytes bytes)
-      (others : (l : Option (List ℕ)) (b : List ℕ) → IsBytes b → behind n l b ≡ Err e → ItemsFault form l n b e) where
+  module _ (n : ℕ) (low : Option (List ℕ)) (bytes : List ℕ) (e : NodeFault) (fits : AreBytes bytes)
+      (others : (l : Option (List ℕ)) (b : List ℕ) → AreBytes b → behind n l b ≡ Err e → ItemsFault form l n b e) where
     first_fault : ((e ≡ CutShort) × HasNoItem form bytes) ⊎ ((e ≡ BadCount) × ((x : X) × (rest : List ℕ) × (bytes ≡ form.spell x ++ rest) × form.Shaped x × ¬ form.InRange x))
         → ItemsFault form low (suc n) bytes e
     first_fault (inl (short, none)) = subst (λ (d : NodeFault). ItemsFault form low (suc n) bytes d) (sym short) ([], bytes, begins_none low bytes, omega arith, none)
@@ -96,7 +97,7 @@ module _ {X : Type 0} (form : Form X) (at : List ℕ → Result (X × List ℕ) 
     stops_by (Ok (x, rest)) read q = above x rest read (is_above low (form.key x)) refl q
 
   -- the fault at which the reader stops is a fault of the items
-  pub stops : (n : ℕ) (low : Option (List ℕ)) (bytes : List ℕ) (e : NodeFault) → IsBytes bytes → behind n low bytes ≡ Err e → ItemsFault form low n bytes e
+  pub stops : (n : ℕ) (low : Option (List ℕ)) (bytes : List ℕ) (e : NodeFault) → AreBytes bytes → behind n low bytes ≡ Err e → ItemsFault form low n bytes e
   stops zero low bytes e fits is = absurd (not_both bytes e (sym (reader.none low bytes) ∙ is))
   stops (suc n) low bytes e fits is =
       stops_by n low bytes e fits (λ l b f q. stops n l b e f q) (at bytes) refl (sym (reader.some n low bytes) ∙ is)
@@ -132,7 +133,7 @@ module _ {X : Type 0} (form : Form X) (at : List ℕ → Result (X × List ℕ) 
   rise_more (y ∷ ys) low x rise up = (rise.0, rise_more ys (Some (form.key y)) x rise.1 up)
 
   -- where no item stands, the reader says so
-  short_read : (rest : List ℕ) → IsBytes rest → HasNoItem form rest → at rest ≡ Err CutShort
+  short_read : (rest : List ℕ) → AreBytes rest → HasNoItem form rest → at rest ≡ Err CutShort
   short_read rest fits none = by (at rest) refl
     where
       by : (o : Result (X × List ℕ) NodeFault) → at rest ≡ o → o ≡ Err CutShort
@@ -158,10 +159,10 @@ module _ {X : Type 0} (form : Form X) (at : List ℕ → Result (X × List ℕ) 
   more_than xs n lt = (n - (length xs + 1), omega arith)
 
   -- the reader stops at a fault of the items
-  pub stopped : (n : ℕ) (low : Option (List ℕ)) (bytes : List ℕ) (e : NodeFault) → IsBytes bytes → ItemsFault form low n bytes e → e ≢ BytesAfter → behind n low bytes ≡ Err e
+  pub stopped : (n : ℕ) (low : Option (List ℕ)) (bytes : List ℕ) (e : NodeFault) → AreBytes bytes → ItemsFault form low n bytes e → e ≢ BytesAfter → behind n low bytes ≡ Err e
   stopped n low bytes CutShort fits (xs, rest, begins, lt, none) other =
       let (k, is) = more_than xs n lt in
-      let fits_rest = IsBytes-behind (flat_map form.spell xs) rest (subst (λ (t : List ℕ). IsBytes t) begins.parts fits) in
+      let fits_rest = AreBytes-behind (flat_map form.spell xs) rest (subst (λ (t : List ℕ). AreBytes t) begins.parts fits) in
       ap (λ m. behind m low bytes) is ∙ ap (behind (length xs + suc k) low) begins.parts ∙ all_read xs (suc k) low rest begins.fit begins.rise
       ∙ first_fails k (last_of low xs) rest CutShort (short_read rest fits_rest none)
   stopped n low bytes BadCount fits (xs, x, rest, begins, lt, shaped, not_in) other =

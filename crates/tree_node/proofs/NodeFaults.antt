@@ -7,13 +7,13 @@ use Rattle.std.proofs.lemmas.Bool.{cases_Bool, ltb-false, ltb-true, le-ltb, lt-l
 use Rattle.tree_node.specs.declared.fault.NodeFault.{NodeFault}
 use Rattle.tree_node.specs.declared.fault.NodeFault.TheVariants.{CutShort, BytesAfter, BadCount, NotRising, BadTreeOrLevel}
 use Rattle.tree_node.specs.declared.node.NodeRef.{NodeRef}
-use Rattle.tree_node.specs.Nodes.{Link, Node, Leaf, Inner, FitsEntry, FitsLink, IsTree}
+use Rattle.tree_node.specs.Nodes.{AreBytes, Link, Node, Leaf, Inner, FitsEntry, FitsLink, IsTree}
 use Rattle.tree_node.specs.NodeRefs.{node_read}
 use Rattle.tree_node.specs.Faults.{entry_form, link_form, HasWidths, ItemsFault, HasKind, HasCount, BodyFault, HeadFault, IsFault}
 use Rattle.tree_node.specs.Reading.{◌>>=◌, Gives, entry_at, link_at, entries_behind, links_behind, entries_in, links_in, node_at, to_the_end, items_at, tree_at}
-use Rattle.tree_node.proofs.FieldLemmas.{IsBytes, IsBytes-drop, wide16}
+use Rattle.tree_node.proofs.FieldLemmas.{AreBytes-drop, wide16}
 use Rattle.tree_node.proofs.NodeLaws.{entries_taken, links_taken, or_false, above_zero, two}
-use Rattle.tree_node.proofs.ItemFaults.{stops, stopped, went_on, IsBytes-behind}
+use Rattle.tree_node.proofs.ItemFaults.{stops, stopped, went_on, AreBytes-behind}
 use Rattle.tree_node.proofs.FaultLemmas.{entry_reader, link_reader, or_true}
 
 -- a test that failed, or what comes after it
@@ -45,7 +45,7 @@ and_true true b p = (refl, p)
 and_true false b p = absurd cc
 
 -- entries that are at fault
-entries_fault : (tree count : ℕ) (bytes : List ℕ) (f : NodeFault) → IsBytes bytes
+entries_fault : (tree count : ℕ) (bytes : List ℕ) (f : NodeFault) → AreBytes bytes
     → to_the_end (entries_behind count None bytes) (Leaf tree (entries_in count bytes)) ≡ Err f → ItemsFault entry_form None count bytes f
 entries_fault tree count bytes f fits p =
     elim (end_err (entries_behind count None bytes) (Leaf tree (entries_in count bytes)) f p) [
@@ -61,7 +61,7 @@ link_is : (c : Link) → FitsLink c → HasWidths c × ((1 ≤ c.number) × (c.n
 link_is c fits = (record { greatest = fits.greatest; number = omega (arith, fits.number); child = fits.child }, (fits.some, fits.number))
 
 -- links that are at fault
-links_fault : (tree level count : ℕ) (bytes : List ℕ) (f : NodeFault) → IsBytes bytes
+links_fault : (tree level count : ℕ) (bytes : List ℕ) (f : NodeFault) → AreBytes bytes
     → to_the_end (links_behind count None bytes) (Inner tree level (links_in count bytes)) ≡ Err f → ItemsFault link_form None count bytes f
 links_fault tree level count bytes f fits p =
     elim (end_err (links_behind count None bytes) (Inner tree level (links_in count bytes)) f p) [
@@ -83,7 +83,7 @@ choose true p q r e = inl (refl, e)
 choose false p q r e = inr (refl, e)
 
 -- what is refused behind the number of items
-body_fault : (tree level count : ℕ) (bytes : List ℕ) (f : NodeFault) → IsBytes bytes → body_of tree level count bytes ≡ Err f → BodyFault level count bytes f
+body_fault : (tree level count : ℕ) (bytes : List ℕ) (f : NodeFault) → AreBytes bytes → body_of tree level count bytes ≡ Err f → BodyFault level count bytes f
 body_fault tree level count bytes f fits p =
     elim (choose (eqb level 0) (to_the_end (entries_behind count None bytes) (Leaf tree (entries_in count bytes))) (to_the_end (links_behind count None bytes) (Inner tree level (links_in count bytes))) (Err f) p) [
       | inl (zero_is, q) ↦ inl (eqb-true _ _ zero_is, entries_fault tree count bytes f fits q)
@@ -118,7 +118,7 @@ takes_count level count t =
     (ltb-false _ _ both.0, λ up. above_zero count (ltb 0 level) (lt-ltb 0 level (omega arith)) both.1)
 
 -- what is refused behind the tree number
-items_fault : (tree level count : ℕ) (bytes : List ℕ) (f : NodeFault) → IsBytes bytes → IsTree tree → items_at tree level count bytes ≡ Err f → HeadFault tree level count bytes f
+items_fault : (tree level count : ℕ) (bytes : List ℕ) (f : NodeFault) → AreBytes bytes → IsTree tree → items_at tree level count bytes ≡ Err f → HeadFault tree level count bytes f
 items_fault tree level count bytes f fits is_tree p =
     elim (cond_err (ltb 63 level) BadTreeOrLevel f (cond (bad_count level count) (Err BadCount) (body_of tree level count bytes)) p) [
       | inl (high, is) ↦ inl (is, λ kind. let lt : 63 < level = ltb-true _ _ high in omega (arith, kind.1))
@@ -135,7 +135,7 @@ abbrev node_err : NodeFault → Result Node NodeFault
 node_err f = Err f
 
 -- what is refused behind the first byte
-tree_fault : (tree level count : ℕ) (bytes : List ℕ) (f : NodeFault) → IsBytes bytes → (tree_at tree >>= λ t. items_at t level count bytes) ≡ Err f → HeadFault tree level count bytes f
+tree_fault : (tree level count : ℕ) (bytes : List ℕ) (f : NodeFault) → AreBytes bytes → (tree_at tree >>= λ t. items_at t level count bytes) ≡ Err f → HeadFault tree level count bytes f
 tree_fault tree level count bytes f fits p =
     elim (cases_Bool (ltb tree 1 || ltb 4 tree)) [
       | inl bad ↦ inl (
@@ -154,7 +154,7 @@ tree_fault tree level count bytes f fits p =
     bad_tree bad = let q : node_err BadTreeOrLevel ≡ Err f = rw bad at p in cc
 
 -- the fault at which the reader stops is a fault of the bytes
-pub fault_found : (bytes : List ℕ) (f : NodeFault) → IsBytes bytes → node_at bytes ≡ Err f → IsFault bytes f
+pub fault_found : (bytes : List ℕ) (f : NodeFault) → AreBytes bytes → node_at bytes ≡ Err f → IsFault bytes f
 unfolding node_at
 fault_found [] f fits p = inl (cc, omega arith)
 fault_found (a ∷ []) f fits p = inl (cc, omega arith)
@@ -163,8 +163,8 @@ fault_found (a ∷ b ∷ c ∷ []) f fits p = inl (cc, omega arith)
 fault_found (a ∷ b ∷ c ∷ d ∷ rest) f fits p =
     let long : ltb (length (a ∷ b ∷ c ∷ d ∷ rest)) 4 ≡ false = le-ltb _ _ (omega arith) in
     let q : (tree_at a >>= λ t. items_at t b (from_be_bytes w16 (c ∷ d ∷ [])) rest) ≡ Err f = rw long at p in
-    let fits_rest : IsBytes rest = IsBytes-drop 4 (a ∷ b ∷ c ∷ d ∷ rest) fits in
-    let fits_count : IsBytes (c ∷ d ∷ []) = two (fits 2) (fits 3) in
+    let fits_rest : AreBytes rest = AreBytes-drop 4 (a ∷ b ∷ c ∷ d ∷ rest) fits in
+    let fits_count : AreBytes (c ∷ d ∷ []) = two (fits 2) (fits 3) in
     inr (
       a,
       b,
@@ -193,7 +193,7 @@ body_err r node BytesAfter failed on =
     no_length (x ∷ xs) more e = omega arith
 
 -- a fault behind the number of items is refused
-body_met : (tree level count : ℕ) (bytes : List ℕ) (f : NodeFault) → IsBytes bytes → BodyFault level count bytes f → body_of tree level count bytes ≡ Err f
+body_met : (tree level count : ℕ) (bytes : List ℕ) (f : NodeFault) → AreBytes bytes → BodyFault level count bytes f → body_of tree level count bytes ≡ Err f
 body_met tree level count bytes f fits (inl (is, fault)) =
     let z : eqb level 0 ≡ true = rw is refl in
     rw z (body_err (entries_behind count None bytes) (Leaf tree (entries_in count bytes)) f
@@ -212,7 +212,7 @@ tree_read tree is =
     let high : ltb 4 tree ≡ false = le-ltb _ _ is.1 in rw (low, high) refl
 
 -- a fault of the first four bytes, or behind them, is refused
-head_met : (tree level count : ℕ) (bytes : List ℕ) (f : NodeFault) → IsBytes bytes → HeadFault tree level count bytes f → (tree_at tree >>= λ t. items_at t level count bytes) ≡ Err f
+head_met : (tree level count : ℕ) (bytes : List ℕ) (f : NodeFault) → AreBytes bytes → HeadFault tree level count bytes f → (tree_at tree >>= λ t. items_at t level count bytes) ≡ Err f
 head_met tree level count bytes f fits (inl (is, no_kind)) =
     elim (cases_Bool (ltb tree 1 || ltb 4 tree)) [
       | inl bad ↦ rw (bad, is) refl
@@ -250,16 +250,16 @@ unfolding node_at
 short_met bytes lt = rw (lt-ltb _ _ lt) refl
 
 -- the reader stops at a fault of the bytes
-pub fault_met : (bytes : List ℕ) (f : NodeFault) → IsBytes bytes → IsFault bytes f → node_at bytes ≡ Err f
+pub fault_met : (bytes : List ℕ) (f : NodeFault) → AreBytes bytes → IsFault bytes f → node_at bytes ≡ Err f
 fault_met bytes f fits (inl (is, lt)) = short_met bytes lt ∙ ap (λ (e : NodeFault). Err e) (sym is)
 fault_met bytes f fits (inr (tree, level, count, behind, is, lt, fault)) =
     ap node_at is ∙ head_open tree level count behind lt
-    ∙ head_met tree level count behind f (IsBytes-behind (tree ∷ level ∷ to_be_bytes w16 count) behind (subst (λ (t : List ℕ). IsBytes t) is fits)) fault
+    ∙ head_met tree level count behind f (AreBytes-behind (tree ∷ level ∷ to_be_bytes w16 count) behind (subst (λ (t : List ℕ). AreBytes t) is fits)) fault
 
 -- ---- what a function returned
 
 -- what was refused has its fault
-pub refused_is : (bytes : List ℕ) (r : Result NodeRef NodeFault) → IsBytes bytes → Gives node_read r (node_at bytes) → IfErr r (λ f. IsFault bytes f)
+pub refused_is : (bytes : List ℕ) (r : Result NodeRef NodeFault) → AreBytes bytes → Gives node_read r (node_at bytes) → IfErr r (λ f. IsFault bytes f)
 refused_is bytes (Ok v) fits given = tt
 refused_is bytes (Err e) fits given = fault_found bytes e fits given
 
@@ -268,6 +268,6 @@ abbrev refused : NodeFault → Result NodeRef NodeFault
 refused f = Err f
 
 -- what has a fault was refused for it
-pub fault_refused : (bytes : List ℕ) (f : NodeFault) (r : Result NodeRef NodeFault) → IsBytes bytes → IsFault bytes f → Gives node_read r (node_at bytes) → r ≡ refused f
+pub fault_refused : (bytes : List ℕ) (f : NodeFault) (r : Result NodeRef NodeFault) → AreBytes bytes → IsFault bytes f → Gives node_read r (node_at bytes) → r ≡ refused f
 fault_refused bytes f (Ok v) fits fault given = absurd (let k = sym given ∙ fault_met bytes f fits fault in cc)
 fault_refused bytes f (Err e) fits fault given = let k = sym given ∙ fault_met bytes f fits fault in cc

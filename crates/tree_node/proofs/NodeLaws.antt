@@ -12,12 +12,12 @@ use Rattle.std.proofs.lemmas.List.Concat.{flat_map-cons}
 use Rattle.tree_node.specs.declared.fault.NodeFault.{NodeFault}
 use Rattle.tree_node.specs.declared.fault.NodeFault.TheVariants.{NotRising, BadTreeOrLevel, BadCount, CutShort, BytesAfter}
 use Rattle.tree_node.specs.Order.{order, IsBelow}
-use Rattle.tree_node.specs.Nodes.{Binding, Link, Node, Leaf, Inner, entry, link, FitsEntry, FitsLink, keys_of, greatests_of, AreRisingFrom, Spells, spelling, IsNode, IsTree, tree_of, level_of}
+use Rattle.tree_node.specs.Nodes.{AreBytes, Binding, Link, Node, Leaf, Inner, entry, link, FitsEntry, FitsLink, keys_of, greatests_of, AreRisingFrom, Spells, spelling, IsNode, IsTree, tree_of, level_of}
 use Rattle.tree_node.specs.Reading.{◌>>=◌, entry_at, link_at, entries_behind, links_behind, entries_in, links_in, is_above, node_at, and_more, to_the_end, items_at, tree_at}
 use Rattle.tree_node.specs.declared.node.NodeRef.{NodeRef}
 use Rattle.tree_node.specs.NodeRefs.{node_read}
 use Rattle.tree_node.specs.Reading.{Gives}
-use Rattle.tree_node.proofs.FieldLemmas.{IsBytes, IsBytes-drop, bind_ok, guard_ok, ok_is, wide16, Takes, Takes-then, entry_takes, entry_again, link_takes, link_again}
+use Rattle.tree_node.proofs.FieldLemmas.{AreBytes-drop, bind_ok, guard_ok, ok_is, wide16, Takes, Takes-then, entry_takes, entry_again, link_takes, link_again}
 
 -- a comparison that passes for less is so
 less_is : (o : Ordering) → is_lt o ≡ true → o ≡ Less
@@ -48,7 +48,7 @@ pub record Skipped (xs : List Binding) (n : ℕ) (low : Option (List ℕ)) (byte
   pub rise : AreRisingFrom low (keys_of xs)
 
 -- entries that were skipped are entries of a node
-pub entries_taken : (n : ℕ) (low : Option (List ℕ)) (bytes rest : List ℕ) → IsBytes bytes → entries_behind n low bytes ≡ Ok rest → Skipped (entries_in n bytes) n low bytes rest
+pub entries_taken : (n : ℕ) (low : Option (List ℕ)) (bytes rest : List ℕ) → AreBytes bytes → entries_behind n low bytes ≡ Ok rest → Skipped (entries_in n bytes) n low bytes rest
 unfolding entries_behind entries_in
 entries_taken zero low bytes rest fits e =
     subst (λ (r : List ℕ). Skipped [] 0 low bytes r) (ok_is bytes rest e) (record { taken = record { parts = refl; rest_fits = fits }; long = refl; fit = tt; rise = tt })
@@ -83,7 +83,7 @@ pub record SkippedLinks (xs : List Link) (n : ℕ) (low : Option (List ℕ)) (by
   pub rise : AreRisingFrom low (greatests_of xs)
 
 -- links that were skipped are links of a node
-pub links_taken : (n : ℕ) (low : Option (List ℕ)) (bytes rest : List ℕ) → IsBytes bytes → links_behind n low bytes ≡ Ok rest → SkippedLinks (links_in n bytes) n low bytes rest
+pub links_taken : (n : ℕ) (low : Option (List ℕ)) (bytes rest : List ℕ) → AreBytes bytes → links_behind n low bytes ≡ Ok rest → SkippedLinks (links_in n bytes) n low bytes rest
 unfolding links_behind links_in
 links_taken zero low bytes rest fits e =
     subst (λ (r : List ℕ). SkippedLinks [] 0 low bytes r) (ok_is bytes rest e) (record { taken = record { parts = refl; rest_fits = fits }; long = refl; fit = tt; rise = tt })
@@ -121,7 +121,7 @@ items_of (Leaf tree entries) = flat_map entry entries
 items_of (Inner tree level links) = flat_map link links
 
 -- two bytes are bytes
-pub two : {c d : ℕ} → c < 256 → d < 256 → IsBytes (c ∷ d ∷ [])
+pub two : {c d : ℕ} → c < 256 → d < 256 → AreBytes (c ∷ d ∷ [])
 two p q zero = p
 two p q (suc zero) = q
 two p q (suc (suc i)) = omega arith
@@ -154,7 +154,7 @@ end_ok (Ok (x ∷ xs)) made n e = absurd (let g = not_err_end (eqb (length (x �
 end_ok (Err d) made n e = absurd cc
 
 -- what is read behind the tree number is a node's
-items_takes : (tree level count : ℕ) (bytes : List ℕ) (n : Node) → IsBytes bytes → IsTree tree → items_at tree level count bytes ≡ Ok n
+items_takes : (tree level count : ℕ) (bytes : List ℕ) (n : Node) → AreBytes bytes → IsTree tree → items_at tree level count bytes ≡ Ok n
     → IsNode n × ((tree ∷ level ∷ to_be_bytes w16 count) ++ bytes ≡ spelling n)
 items_takes tree zero count bytes n fits is_tree e =
     let a = not_err (ltb 63 0) BadTreeOrLevel (cond (ltb 64 count || (ltb 0 0 && eqb count 0)) (Err BadCount) (to_the_end (entries_behind count None bytes) (Leaf tree (entries_in count bytes)))) n e in
@@ -185,7 +185,7 @@ items_takes tree (suc l) count bytes n fits is_tree e =
     subst (λ (m : Node). IsNode m × ((tree ∷ suc l ∷ to_be_bytes w16 count) ++ bytes ≡ spelling m)) c.1 ((is_tree, up, low, long, short, s.fit, s.rise), text)
 
 -- bytes that read as a node spell it
-pub node_takes : (bytes : List ℕ) (n : Node) → IsBytes bytes → node_at bytes ≡ Ok n → Spells bytes n
+pub node_takes : (bytes : List ℕ) (n : Node) → AreBytes bytes → node_at bytes ≡ Ok n → Spells bytes n
 unfolding node_at
 node_takes [] n fits e = absurd cc
 node_takes (a ∷ []) n fits e = absurd cc
@@ -198,8 +198,8 @@ node_takes (a ∷ b ∷ c ∷ d ∷ rest) n fits e =
     let tests = or_false (ltb a 1) (ltb 4 a) k.0 in
     let is_tree : IsTree a = (ltb-false _ _ tests.0, ltb-false _ _ tests.1) in
     let items : items_at a b (from_be_bytes w16 (c ∷ d ∷ [])) rest ≡ Ok n = rw k.1 t.2 in
-    let fits_rest : IsBytes rest = IsBytes-drop 4 (a ∷ b ∷ c ∷ d ∷ rest) fits in
-    let fits_count : IsBytes (c ∷ d ∷ []) = two (fits 2) (fits 3) in
+    let fits_rest : AreBytes rest = AreBytes-drop 4 (a ∷ b ∷ c ∷ d ∷ rest) fits in
+    let fits_count : AreBytes (c ∷ d ∷ []) = two (fits 2) (fits 3) in
     let r = items_takes a b (from_be_bytes w16 (c ∷ d ∷ [])) rest n fits_rest is_tree items in
     (r.0, ap (λ (t : List ℕ). (a ∷ b ∷ t) ++ rest) (sym (wide16.back (c ∷ d ∷ []) refl fits_count)) ∙ r.1)
 
@@ -254,7 +254,7 @@ node_again bytes n spells =
     ap node_at (spells.1 ∙ spelling_is n) ∙ head_again (tree_of n) (level_of n) (count_of n) (items_of n) n (count_below n spells.0) (tree_again n spells.0) (items_again n spells.0)
 
 -- what the function read is spelled
-pub is_found : (bytes : List ℕ) (r : Result NodeRef NodeFault) → IsBytes bytes → Gives node_read r (node_at bytes) → IfOk r (λ n. Spells bytes (node_read n))
+pub is_found : (bytes : List ℕ) (r : Result NodeRef NodeFault) → AreBytes bytes → Gives node_read r (node_at bytes) → IfOk r (λ n. Spells bytes (node_read n))
 is_found bytes (Ok v) fits given = node_takes bytes (node_read v) fits given
 is_found bytes (Err e) fits given = tt
 

@@ -305,25 +305,36 @@ fn makes_parts(rt: HostRuntime) {
     assert_eq!(rt; part.digest(), digest_of(b"abc"));
 }
 
-/// Where memory is refused, a stock, a recorder and a bag are as before, and the next call, with
-/// ample memory, gives the full result.
+/// These bytes, owned; asked for once more where memory was refused.
+fn owned(alloc: Global, bytes: &[u8]) -> Result<Vec<u8>, AllocError> {
+    match bytes.to_vec(alloc) {
+        Ok(copy) => Ok(copy),
+        Err(AllocError) => bytes.to_vec(alloc),
+    }
+}
+
+/// Where memory is refused, a stock, a recorder, a bag and a lent vector are as before, and the next
+/// call, with ample memory, gives the full result. Run with each allocation refused in turn.
 #[test]
 fn stands_after_refused_memory(rt: HostRuntime) -> Result<(), Fail> {
     let alloc = rt.alloc();
     let mut stock = Stock::new(alloc);
     for node in [b"a", b"b", b"c"] {
-        if stock.put(node.to_vec(alloc)?) == Err(PutFault::Memory) {
-            assert_eq!(rt; stock.put(node.to_vec(alloc)?)?, digest_of(node));
+        if stock.put(owned(alloc, node)?) == Err(PutFault::Memory) {
+            let key = digest_of(node);
+            assert_eq!(rt; stock.shelf(alloc).fetch(&key), Err(ShelfFault::Missing));
+            assert_eq!(rt; stock.put(owned(alloc, node)?)?, key);
         }
     }
     let mut shelf = stock.shelf(alloc);
-    for key in [b"a", b"b"] {
-        let first = shelf.fetch(&digest_of(key));
-        if first == Err(ShelfFault::Memory) {
-            assert_eq!(rt; shelf.fetch(&digest_of(key))?, key.as_slice());
-        } else {
-            assert_eq!(rt; first?, key.as_slice());
+    for (count, key) in [b"a", b"b"].into_iter().enumerate() {
+        let key_of = digest_of(key);
+        let mut fetched = shelf.fetch(&key_of);
+        if fetched == Err(ShelfFault::Memory) {
+            assert_eq!(rt; shelf.parts()?.len(), count);
+            fetched = shelf.fetch(&key_of);
         }
+        assert_eq!(rt; fetched?, key.as_slice());
     }
     let parts = match shelf.parts() {
         Ok(parts) => parts,
@@ -345,5 +356,16 @@ fn stands_after_refused_memory(rt: HostRuntime) -> Result<(), Fail> {
         write_leaf(Tree::Objects, &[item], &mut out)?;
     }
     assert_eq!(rt; out.as_slice(), LEAF);
+    let child = Child {
+        greatest: b"a",
+        number: 1,
+        digest: digest_of(LEAF),
+    };
+    let mut out = Vec::new(alloc);
+    if write_inner(Tree::Objects, 1, &[child], &mut out).is_err() {
+        assert!(rt; out.is_empty());
+        write_inner(Tree::Objects, 1, &[child], &mut out)?;
+    }
+    assert_eq!(rt; out.len(), 47);
     Ok(())
 }
