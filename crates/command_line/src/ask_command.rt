@@ -11,7 +11,8 @@ use crate::job::Job;
 use clap::{ArgMatches, Command};
 use std::alloc::{AllocError, Global};
 
-const ASK: &str = "ask";
+/// The name of the command.
+pub const ASK: &str = "ask";
 
 const QUERY: &str = "QUERY";
 

@@ -6,7 +6,7 @@ ghost use Rattle.clap.specs.Words.{fault_of, found_of, kind_of, rows_of, subcomm
 ghost use Rattle.command_line.specs.CommandLine.{program_app};
 ghost use Rattle.command_line.specs.Jobs.{Gives, GivesMatch, IsCommandName};
 
-use crate::ask_command::ask_job;
+use crate::ask_command::{ASK, ask_job};
 use crate::job::Job;
 use crate::program_command::program_command;
 use crate::words_fault::WordsFault;
@@ -43,7 +43,10 @@ fn job_of(alloc: Global, name: &str, matches: &ArgMatches<'_>) -> Result<Job, Al
     requires { IsCommandName name.now }
     ensures { IfOk result (λ job. Gives job name.now (rows_of (found_of matches.now))) }
 {
-    ask_job(alloc, matches)
+    match name {
+        ASK => ask_job(alloc, matches),
+        _ => unreachable!("each command has its arm"),
+    }
 }
 
 /// The refusal of `clap`, with its text.
