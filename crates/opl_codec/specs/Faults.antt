@@ -1,0 +1,76 @@
+-- At which byte of a line each cause of a refusal stands, apart from how the line is read.
+-- Source: this project.
+use Rattle.std.specs.Prelude.{◌≡◌, ◌≢◌, ℕ, ◌+◌, ◌<◌, ◌≤◌, ◌^◌, ◌⊎◌, ℤ, FitsSigned, unsigned_abs, pos, Bool, true, false, List, [], ◌∷◌, ◌++◌, length, drop, sum_by, slice_index, Option, Some, None, ⊤}
+use Rattle.std.specs.Int.{w64}
+use Rattle.std.specs.Str.{IsUtf8, IsValidUpTo}
+use Rattle.osm_model.specs.Degrees.{IsDegrees, limit}
+use Rattle.osm_model.specs.Elements.{Element}
+use Rattle.osm_model.specs.CanonicalLine.{canonical_line}
+use Rattle.osm_model.specs.Limits.{IsShort, HasDistinctKeys}
+use Rattle.osm_model.specs.declared.axis.Axis.{Axis}
+use Rattle.osm_model.specs.declared.axis.Axis.TheVariants as axes
+use Rattle.osm_model.specs.declared.tag.Tag.{Tag}
+use Rattle.std.specs.Prelude.{All}
+use Rattle.opl_codec.specs.Fields.{pieces, field, letter_of, IsInteger, Each}
+use Rattle.opl_codec.specs.Lines.{SpellsTag, SpellsFields, is_node_letter, items}
+use Rattle.opl_codec.specs.declared.cause.OplCause.{OplCause}
+use Rattle.opl_codec.specs.declared.cause.OplCause.TheVariants as causes
+
+-- the byte at which a field begins, behind these and a blank each
+abbrev pub behind : List (List ℕ) → ℕ
+behind fields = sum_by (λ f. length f + 1) fields
+
+-- the line has this field behind its first, at this byte; before are the fields from the first on
+pub record FieldAt (line f : List ℕ) (byte : ℕ) : Type 0 where
+  pub before : List (List ℕ)
+  pub after : List (List ℕ)
+  pub fields : pieces 32 line ≡ before ++ f ∷ after
+  pub further : before ≢ []
+  pub place : behind before ≡ byte
+
+-- what stands behind the letter of the first field
+abbrev pub id_text_of : List (List ℕ) → List ℕ
+id_text_of [] = []
+id_text_of (f ∷ fields) = drop 1 f
+
+-- narrow: the values that a field of this letter may have, whatever their range
+abbrev pub HasForm : ℕ → List ℕ → Type 0
+HasForm letter text = ((letter ≡ 118) × (text ≡ 48 ∷ []))
+    ⊎ (((letter ≡ 100) × (text ≡ 86 ∷ []))
+    ⊎ (((letter ≡ 99) × (text ≡ 48 ∷ []))
+    ⊎ (((letter ≡ 116) × (text ≡ []))
+    ⊎ (((letter ≡ 105) × (text ≡ 48 ∷ []))
+    ⊎ (((letter ≡ 117) × (text ≡ []))
+    ⊎ (((letter ≡ 84) × ((tags : List Tag) × Each SpellsTag (items text) tags))
+    ⊎ ((((letter ≡ 120) ⊎ (letter ≡ 121)) × ((text ≡ []) ⊎ ((z : ℤ) × IsDegrees text z))))))))))
+
+-- the location is out of its axis's range
+abbrev pub IsBeyond : ℕ → List ℕ → Type 0
+IsBeyond letter text = ((letter ≡ 120) × ((z : ℤ) × IsDegrees text z × (limit axes.Lon < unsigned_abs z)))
+    ⊎ ((letter ≡ 121) × ((z : ℤ) × IsDegrees text z × (limit axes.Lat < unsigned_abs z)))
+
+-- the tags are too many or too long, or a key stands twice
+abbrev pub HasBadTags : List ℕ → Type 0
+HasBadTags text = (tags : List Tag) × Each SpellsTag (items text) tags
+    × ((65535 < length tags) ⊎ ((¬ (All (λ tag. IsShort tag.key × IsShort tag.value) tags)) ⊎ (¬ (HasDistinctKeys tags))))
+
+-- there is no such field, or nothing behind its letter
+abbrev pub IsMissing : ℕ → List (List ℕ) → Type 0
+IsMissing letter fields = (field letter fields ≡ None) ⊎ (field letter fields ≡ Some [])
+
+-- the cause stands at this byte of the line
+abbrev pub StandsAt : List ℕ → OplCause → ℕ → Type 0
+StandsAt line causes.UnknownObject byte = (byte ≡ 0) × (letter_of line ≢ 110)
+StandsAt line causes.BadId byte = (byte ≡ 1) × (letter_of line ≡ 110) × ((z : ℤ) → IsInteger (id_text_of (pieces 32 line)) z → FitsSigned w64 z → ⊥)
+StandsAt line causes.UnknownField byte = (f : List ℕ) × FieldAt line f byte × (is_node_letter (letter_of f) ≡ false)
+StandsAt line causes.FieldTwice byte = (f : List ℕ) × (at : FieldAt line f byte) × (field (letter_of f) (drop 1 at.before) ≢ None)
+StandsAt line causes.BadValue byte = (f : List ℕ) × FieldAt line f byte × (¬ (HasForm (letter_of f) (drop 1 f)))
+StandsAt line causes.BadEscape byte = (f : List ℕ) × (at : ℕ) × FieldAt line f at × (letter_of f ≡ 84) × (at < byte) × (byte < at + length f) × (slice_index line byte ≡ 37)
+StandsAt line causes.NotUtf8 byte = (¬ (IsUtf8 line)) × IsValidUpTo line byte
+StandsAt line causes.NoLocation byte = (byte ≡ length line) × (IsMissing 120 (drop 1 (pieces 32 line)) ⊎ IsMissing 121 (drop 1 (pieces 32 line)))
+StandsAt line causes.LineTooLong byte = (byte ≡ 2 ^ 25) × (2 ^ 25 < length line)
+StandsAt line causes.OutsideModel byte = ((f : List ℕ) × FieldAt line f byte × (IsBeyond (letter_of f) (drop 1 f) ⊎ ((letter_of f ≡ 84) × HasBadTags (drop 1 f))))
+    ⊎ ((byte ≡ 0) × ((o : Element) × SpellsFields line o × (2 ^ 24 < length (canonical_line o))))
+StandsAt line causes.ReaderFailed byte = ⊥
+StandsAt line causes.Endless byte = ⊥
+StandsAt line causes.Memory byte = byte ≡ 0

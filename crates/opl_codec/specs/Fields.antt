@@ -1,0 +1,51 @@
+-- How a line falls into fields, apart from how it is read.
+-- Source: Osmium's OPL manual: fields parted by blanks, in any order, each with a letter; the narrow
+-- separators are this project's.
+use Rattle.std.specs.Prelude.{◌≡◌, ◌≢◌, ℕ, ℤ, Bool, true, false, ◌==◌, if◌then◌else◌, List, [], ◌∷◌, ◌++◌, length, Option, Some, None, MatchOption, ⊤}
+use Rattle.std.specs.Str.Parse.{digits_value}
+use Rattle.osm_model.specs.Degrees.{sign, with_sign, IsDigits}
+
+-- a byte in front of the first piece
+abbrev pub onto_first : ℕ → List (List ℕ) → List (List ℕ)
+onto_first byte [] = (byte ∷ []) ∷ []
+onto_first byte (piece ∷ pieces) = (byte ∷ piece) ∷ pieces
+
+-- what stands before, between and behind the separators
+abbrev pub pieces : ℕ → List ℕ → List (List ℕ)
+pieces separator [] = [] ∷ []
+pieces separator (byte ∷ bytes) = if byte == separator then [] ∷ pieces separator bytes else onto_first byte (pieces separator bytes)
+
+-- the letter of a field, 0 where there is none
+abbrev pub letter_of : List ℕ → ℕ
+letter_of [] = 0
+letter_of (first ∷ text) = first
+
+-- the value of the first field with this letter
+abbrev pub field : ℕ → List (List ℕ) → Option (List ℕ)
+field letter [] = None
+field letter ([] ∷ fields) = field letter fields
+field letter ((first ∷ text) ∷ fields) = if first == letter then Some text else field letter fields
+
+-- each letter stands at most once: no field's letter comes again behind it
+abbrev pub IsOnce : List (List ℕ) → Type 0
+IsOnce [] = ⊤
+IsOnce (f ∷ fields) = (field (letter_of f) fields ≡ None) × IsOnce fields
+
+-- a field that is missing has its default, and one that is there spells its value
+abbrev pub Given : Option (List ℕ) → Type 0 → (List ℕ → Type 0) → Type 0
+Given found missing spelled = MatchOption found missing spelled
+
+-- a whole number: an optional minus and digits, leading zeros allowed
+pub record IsInteger (text : List ℕ) (z : ℤ) : Type 0 where
+  pub negative : Bool
+  pub digits : List ℕ
+  pub text_is : text ≡ sign negative ++ digits
+  pub digits_are : IsDigits digits
+  pub value_is : with_sign negative (digits_value 10 digits) ≡ z
+
+-- each of the first list stands in the relation to the one in its place
+abbrev pub Each : {A B : Type 0} → (A → B → Type 0) → List A → List B → Type 0
+Each R [] [] = ⊤
+Each R (x ∷ xs) (y ∷ ys) = R x y × Each R xs ys
+Each R [] (y ∷ ys) = ⊥
+Each R (x ∷ xs) [] = ⊥

@@ -1,0 +1,5 @@
+pub mod Fields
+pub mod Lines
+pub mod Files
+pub mod Faults
+pub mod Text

@@ -1,0 +1,88 @@
+-- What a line says. The parts marked narrow are those that a reader of all of OPL replaces.
+-- Source: Osmium's OPL manual; the narrow forms and the limits are this project's.
+use Rattle.std.specs.Prelude.{◌≡◌, ℕ, ◌≤◌, ◌^◌, pos, Bool, true, ◌==◌, List, [], ◌∷◌, ◌++◌, length, Option, None, ⊤}
+use Rattle.std.specs.List.{AllByRecursion, list_any}
+use Rattle.std.specs.List.Sorted.{IsPermutation}
+use Rattle.osm_model.specs.Degrees.{IsDegrees}
+use Rattle.osm_model.specs.Elements.{Element}
+use Rattle.osm_model.specs.Limits.{IsElement}
+use Rattle.osm_model.specs.CanonicalLine.{is_literal}
+use Rattle.osm_model.specs.declared.tag.Tag.{Tag}
+use Rattle.osm_model.specs.declared.meta.Meta.{Meta}
+use Rattle.osm_model.specs.declared.body.Body.{Body}
+use Rattle.osm_model.specs.declared.body.Body.TheVariants as bodies
+use Rattle.opl_codec.specs.declared.change.Change.{Change}
+use Rattle.opl_codec.specs.declared.change.Change.TheVariants as changes
+use Rattle.opl_codec.specs.Fields.{pieces, field, letter_of, IsOnce, Given, IsInteger, Each}
+
+-- narrow: each byte stands for itself
+abbrev pub SpellsText : List ℕ → List ℕ → Type 0
+SpellsText spelled text = (spelled ≡ text) × AllByRecursion (λ byte. is_literal byte ≡ true) text
+
+-- a key, `=`, a value
+pub record SpellsTag (spelled : List ℕ) (tag : Tag) : Type 0 where
+  pub key : List ℕ
+  pub value : List ℕ
+  pub parts : spelled ≡ key ++ 61 ∷ value
+  pub key_is : SpellsText key tag.key
+  pub value_is : SpellsText value tag.value
+
+-- what commas part, and nothing where there is nothing
+abbrev pub items : List ℕ → List (List ℕ)
+items [] = []
+items (byte ∷ bytes) = pieces 44 (byte ∷ bytes)
+
+-- these tags, in some order
+pub record SpellsTags (spelled : List ℕ) (tags : List Tag) : Type 0 where
+  pub written : List Tag
+  pub each : Each SpellsTag (items spelled) written
+  pub order : IsPermutation written tags
+
+-- narrow: just this text, for the default
+abbrev pub Just : List ℕ → Type 0 → List ℕ → Type 0
+Just only default spelled = (spelled ≡ only) × default
+
+-- v, d, c, t, i, u: the metadata
+pub record SpellsMeta (fields : List (List ℕ)) (meta : Meta) : Type 0 where
+  pub version : Given (field 118 fields) (meta.version ≡ 0) (Just (48 ∷ []) (meta.version ≡ 0))
+  pub visible : Given (field 100 fields) ⊤ (Just (86 ∷ []) ⊤)
+  pub changeset : Given (field 99 fields) (meta.changeset ≡ pos 0) (Just (48 ∷ []) (meta.changeset ≡ pos 0))
+  pub stamp : Given (field 116 fields) (meta.stamp ≡ None) (Just [] (meta.stamp ≡ None))
+  pub uid : Given (field 105 fields) (meta.uid ≡ pos 0) (Just (48 ∷ []) (meta.uid ≡ pos 0))
+  pub user : Given (field 117 fields) (meta.user ≡ []) (Just [] (meta.user ≡ []))
+
+-- x and y: the location of a node, which must be there
+abbrev pub SpellsBody : List (List ℕ) → Body → Type 0
+SpellsBody fields (bodies.Node place) = Given (field 120 fields) ⊥ (λ spelled. IsDegrees spelled place.lon) × Given (field 121 fields) ⊥ (λ spelled. IsDegrees spelled place.lat)
+
+-- v, d, c, t, i, u, T, x, y
+abbrev pub is_node_letter : ℕ → Bool
+is_node_letter letter = list_any (λ other. letter == other) (118 ∷ 100 ∷ 99 ∷ 116 ∷ 105 ∷ 117 ∷ 84 ∷ 120 ∷ 121 ∷ [])
+
+-- the fields of the line say these parts: a first field with the letter and the id, and further
+-- fields in any order
+pub record SpellsFields (line : List ℕ) (o : Element) : Type 0 where
+  pub id_text : List ℕ
+  pub rest : List (List ℕ)
+  pub fields : pieces 32 line ≡ (110 ∷ id_text) ∷ rest
+  pub id_is : IsInteger id_text o.id
+  pub known : AllByRecursion (λ f. is_node_letter (letter_of f) ≡ true) rest
+  pub once : IsOnce rest
+  pub meta_is : SpellsMeta rest o.meta
+  pub tags_are : Given (field 84 rest) (o.tags ≡ []) (λ spelled. SpellsTags spelled o.tags)
+  pub body_is : SpellsBody rest o.body
+
+-- the line is this object, and the line and the object keep their limits
+pub record SpellsObject (line : List ℕ) (o : Element) : Type 0 where
+  pub fields : SpellsFields line o
+  pub short : length line ≤ 2 ^ 25
+  pub element : IsElement o
+
+-- the line says this change; narrow: a line deletes nothing
+abbrev pub Spells : List ℕ → Change → Type 0
+Spells line (changes.Put o) = SpellsObject line o
+Spells line (changes.Delete r) = ⊥
+
+-- narrow: an empty line says nothing
+abbrev pub IsSkipped : List ℕ → Type 0
+IsSkipped line = line ≡ []

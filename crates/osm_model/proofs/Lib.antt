@@ -1,0 +1,11 @@
+pub mod RisingKeys
+pub mod ObjectParts
+pub mod References
+pub mod Digits
+pub mod DecimalValues
+pub mod OneDecimal
+pub mod LineLengths
+pub mod UniqueTags
+pub mod Decimals
+pub mod ReadBack
+pub mod DegreesLemmas

@@ -1,0 +1,9 @@
+pub mod Moments
+pub mod Places
+pub mod Degrees
+pub mod CanonicalDegrees
+pub mod Elements
+pub mod CanonicalLine
+pub mod LineLength
+pub mod Limits
+pub mod Sets

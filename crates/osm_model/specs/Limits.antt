@@ -1,0 +1,87 @@
+-- What every object keeps, and what parts make no object.
+-- Source: the limits of numbers, texts and lists are this project's, within the OpenStreetMap API 0.6;
+-- the keys of an object's tags differ (API 0.6).
+use Rattle.std.specs.Prelude.{◌≡◌, ◌≢◌, ℕ, ◌<◌, ◌≤◌, ◌^◌, ◌⊎◌, ℤ, FitsSigned, List, length, All}
+use Rattle.std.specs.Ordering.{eq_by_cmp, nat_cmp}
+use Rattle.std.specs.Int.{w64}
+use Rattle.std.specs.Cmp.Lexicographic.{slice_cmp}
+use Rattle.std.specs.List.{IsDistinct}
+use Rattle.std.specs.List.Sorted.{IsStrictlySortedBy, IsPermutation}
+use Rattle.osm_model.specs.Places.{IsPlace}
+use Rattle.osm_model.specs.Elements.{Element, keys}
+use Rattle.osm_model.specs.CanonicalLine.{canonical_line}
+use Rattle.osm_model.specs.declared.tag.Tag.{Tag}
+use Rattle.osm_model.specs.declared.meta.Meta.{Meta}
+use Rattle.osm_model.specs.declared.body.Body.{Body}
+use Rattle.osm_model.specs.declared.body.Body.TheVariants as bodies
+use Rattle.osm_model.specs.declared.fault.ModelFault.{ModelFault}
+use Rattle.osm_model.specs.declared.fault.ModelFault.TheVariants.{EmptyNumber, NotDecimal, TooManyDecimals, OutOfRange, ObjectTwice, KeyTwice, LimitPassed, NulInText}
+
+-- a text has at most 4,096 bytes
+abbrev pub IsShort : List ℕ → Type 0
+IsShort text = length text ≤ 4096
+
+unfoldable pub HasNoNul : List ℕ → Type 0
+HasNoNul text = All (λ byte. byte ≢ 0) text
+
+-- the numbers of a body are in their ranges
+abbrev pub BodyInRange : Body → Type 0
+BodyInRange (bodies.Node place) = IsPlace place
+
+-- the numbers of the metadata are in their types' ranges
+pub record MetaInRange (meta : Meta) : Type 0 where
+  pub version : meta.version < 2 ^ 32
+  pub changeset : FitsSigned w64 meta.changeset
+  pub uid : FitsSigned w64 meta.uid
+
+-- no text and no list is over its limit
+pub record Fits (meta : Meta) (tags : List Tag) : Type 0 where
+  pub short_user : IsShort meta.user
+  pub few_tags : length tags ≤ 65535
+  pub short_tags : All (λ tag. IsShort tag.key × IsShort tag.value) tags
+
+-- no text has a NUL
+pub record IsClean (meta : Meta) (tags : List Tag) : Type 0 where
+  pub clean_user : HasNoNul meta.user
+  pub clean_tags : All (λ tag. HasNoNul tag.key × HasNoNul tag.value) tags
+
+-- no two tags have one key
+abbrev pub HasDistinctKeys : List Tag → Type 0
+HasDistinctKeys tags = IsDistinct (eq_by_cmp (slice_cmp nat_cmp)) (keys tags)
+
+-- the tags rise by the bytes of their keys
+abbrev pub HasRisingKeys : List Tag → Type 0
+HasRisingKeys tags = IsStrictlySortedBy (slice_cmp nat_cmp) (keys tags)
+
+-- what every object is
+pub record IsElement (o : Element) : Type 0 where
+  pub in_range : FitsSigned w64 o.id
+  pub meta_in_range : MetaInRange o.meta
+  pub body_in_range : BodyInRange o.body
+  pub fits : Fits o.meta o.tags
+  pub clean : IsClean o.meta o.tags
+  pub rising : HasRisingKeys o.tags
+  pub short_line : length (canonical_line o) ≤ 2 ^ 24
+
+-- the object has just these parts, its tags by rising key
+pub record IsMadeOf (o : Element) (id : ℤ) (meta : Meta) (tags : List Tag) (body : Body) : Type 0 where
+  pub same_id : o.id ≡ id
+  pub same_meta : o.meta ≡ meta
+  pub same_tags : IsPermutation tags o.tags
+  pub same_body : o.body ≡ body
+  pub rising : HasRisingKeys o.tags
+
+-- the object of these parts has a line over the limit
+abbrev pub HasLongLine : ℤ → Meta → List Tag → Body → Type 0
+HasLongLine id meta tags body = (o : Element) × IsMadeOf o id meta tags body × (2 ^ 24 < length (canonical_line o))
+
+-- the first fault of these parts
+abbrev pub Refuses : ℤ → Meta → List Tag → Body → ModelFault → Type 0
+Refuses id meta tags body LimitPassed = (¬ (Fits meta tags)) ⊎ (IsClean meta tags × HasLongLine id meta tags body)
+Refuses id meta tags body NulInText = Fits meta tags × (¬ (IsClean meta tags))
+Refuses id meta tags body KeyTwice = Fits meta tags × IsClean meta tags × (¬ (HasDistinctKeys tags))
+Refuses id meta tags body ObjectTwice = ⊥
+Refuses id meta tags body EmptyNumber = ⊥
+Refuses id meta tags body NotDecimal = ⊥
+Refuses id meta tags body TooManyDecimals = ⊥
+Refuses id meta tags body OutOfRange = ⊥

@@ -1,0 +1,96 @@
+//! The parts of decimal text.
+
+ghost use Rattle.std.specs.Prelude.{◌≡◌, ◌≤◌, ℕ, IsTrue, ◌↔◌, length, take, drop, Option, IfSome, IfNone, List, ◌++◌};
+ghost use Rattle.std.specs.Str.Parse.{AllDigits};
+ghost use Rattle.osm_model.specs.Degrees.{Decimal, Spells, BeginsOtherwise, decimals, IsDigits, IsFraction, point, fraction_of};
+
+/// The parts of a decimal, in its text.
+#[derive(Clone, Copy)]
+pub struct Parts<'a> {
+    /// Whether a `-` comes first.
+    pub negative: bool,
+    /// The digits before the point, one or more.
+    pub whole: &'a [u8],
+    /// Whether there is a point.
+    pub has_point: bool,
+    /// The digits behind the point: one or more where there is one, else none.
+    pub fraction: &'a [u8],
+}
+
+/// The parts of a decimal, or `None` where the text is none.
+pub fn split(text: &[u8]) -> Option<Parts<'_>>
+    ensures found { IfSome result (λ p. Spells text.now (record { negative = p.negative; whole = p.whole.now; fraction = fraction_of p.has_point p.fraction.now })) }
+    ensures decimals { IfSome result (λ p. decimals (fraction_of p.has_point p.fraction.now) ≡ p.fraction.now) }
+    ensures none { IfNone result ((d : Decimal) → Spells text.now d → ⊥) }
+{
+    match text {
+        [b'-', rest @ ..] => split_unsigned(true, rest),
+        _ => split_unsigned(false, text),
+    }
+}
+
+/// The parts of a decimal behind its sign.
+fn split_unsigned(negative: bool, text: &[u8]) -> Option<Parts<'_>>
+    ensures found { IfSome result (λ p. (p.negative ≡ negative) × IsDigits p.whole.now × IsFraction (fraction_of p.has_point p.fraction.now)
+        × (text.now ≡ p.whole.now ++ point (fraction_of p.has_point p.fraction.now)) × (decimals (fraction_of p.has_point p.fraction.now) ≡ p.fraction.now)) }
+    ensures none { IfNone result ((whole : List ℕ) (f : Option (List ℕ)) → IsDigits whole → IsFraction f → text.now ≡ whole ++ point f → ⊥) }
+{
+    let len = digits_len(text);
+    if len == 0 {
+        return None;
+    }
+    after_whole(negative, &text[..len], &text[len..])
+}
+
+/// What stands behind the whole digits.
+fn after_whole<'a>(negative: bool, whole: &'a [u8], tail: &'a [u8]) -> Option<Parts<'a>>
+    requires { IsDigits whole.now }
+    ensures found { IfSome result (λ p. (p.negative ≡ negative) × (p.whole.now ≡ whole.now) × IsFraction (fraction_of p.has_point p.fraction.now) × (tail.now ≡ point (fraction_of p.has_point p.fraction.now)) × (decimals (fraction_of p.has_point p.fraction.now) ≡ p.fraction.now)) }
+    ensures none { IfNone result ((f : Option (List ℕ)) → IsFraction f → tail.now ≡ point f → ⊥) }
+{
+    match tail {
+        [] => Some(Parts {
+            negative,
+            whole,
+            has_point: false,
+            fraction: tail,
+        }),
+        [b'.', fraction @ ..] => {
+            if are_digits(fraction) {
+                Some(Parts {
+                    negative,
+                    whole,
+                    has_point: true,
+                    fraction,
+                })
+            } else {
+                None
+            }
+        }
+        _ => None,
+    }
+}
+
+/// Whether this is one or more digits, and nothing else.
+fn are_digits(text: &[u8]) -> bool
+    ensures { IsTrue result ↔ IsDigits text.now }
+{
+    match text {
+        [] => false,
+        _ => digits_len(text) == text.len(),
+    }
+}
+
+/// How many digits come first.
+fn digits_len(text: &[u8]) -> usize
+    ensures within { result ≤ length text.now }
+    ensures digits { AllDigits 10 (take result text.now) }
+    ensures stop { BeginsOtherwise (drop result text.now) }
+{
+    for (i, byte) in text.iter().enumerate() {
+        if !byte.is_ascii_digit() {
+            return i;
+        }
+    }
+    text.len()
+}

@@ -1,0 +1,41 @@
+//! The elements of OpenStreetMap: references, coordinates, metadata, tags, objects and sets of objects.
+//!
+//! The model is that of the OpenStreetMap API 0.6, within limits of this project. An [`Object`] keeps
+//! its limits and its tags by rising key, an [`ObjectSet`] keeps its objects by rising reference, and
+//! degrees are exact whole units of 1e-7 degree.
+#![tactic(auto)]
+
+mod axis;
+mod body;
+mod coord;
+mod decimal;
+mod degrees;
+mod degrees_text;
+mod fault;
+mod kind;
+mod line_length;
+mod meta;
+mod object;
+mod object_set;
+mod reference;
+mod stamp;
+mod tag;
+mod tag_list;
+mod text;
+mod units;
+
+pub use axis::Axis;
+pub use body::Body;
+pub use coord::Coord;
+pub use degrees::{one_value, read_degrees};
+pub use degrees_text::{DegreesText, reads_back, write_degrees};
+pub use fault::ModelFault;
+pub use kind::Kind;
+pub use meta::Meta;
+pub use object::Object;
+pub use object_set::ObjectSet;
+pub use reference::Ref;
+pub use stamp::Stamp;
+pub use tag::Tag;
+pub use tag_list::TagList;
+pub use text::Text;

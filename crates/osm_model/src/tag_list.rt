@@ -1,0 +1,37 @@
+//! Lists of tags.
+
+ghost use Rattle.std.specs.Prelude.{◌≡◌};
+
+use crate::tag::Tag;
+use std::marker::Model;
+
+/// Tags in their order. Contracts see the list of them.
+#[derive(Debug, Drop)]
+pub struct TagList {
+    tags: Vec<Tag>,
+}
+
+impl Model for TagList {
+    ghost use Rattle.std.specs.Prelude.{List};
+    ghost use Rattle.osm_model.specs.declared.tag.Tag.{Tag};
+
+    ghost Value = { List Tag };
+
+    ghost view = { λ a. a.tags.items };
+}
+
+impl TagList {
+    /// The list of these tags.
+    pub fn new(tags: Vec<Tag>) -> TagList
+        ensures { result ≡ tags.items }
+    {
+        TagList { tags }
+    }
+
+    /// The tags.
+    pub fn as_slice(&self) -> &[Tag]
+        ensures { result.now ≡ self.now }
+    {
+        &self.tags
+    }
+}
