@@ -18,15 +18,15 @@ explained_cause : (file query : List ℕ) (load : LoadFault) (cause : OplCause) 
 explained_cause file query load causes.ReaderFailed is only = tt
 explained_cause file query load causes.Memory is only = tt
 explained_cause file query load causes.Endless is only = inl is
-explained_cause file query load _ is only = inr only
+explained_cause file query load _ is only =
+    inr (λ objects holds. elim (only objects holds) [ inl failed ↦ cc | inr other ↦ elim other [ inl endless ↦ cc | inr memory ↦ cc ] ])
 
--- where the file holds a set, the reader's fault lies outside it
-outside_cause : (file : List ℕ) (load : LoadFault) (cause : OplCause) → load.fault.cause ≡ cause → (objects : List Element)
-    → HoldsSet file objects → ((objects : List Element) → HoldsSet file objects → IsOutsideFile cause) → IsOutside (fault_of_cause load cause)
-outside_cause file load causes.ReaderFailed is objects holds only = tt
-outside_cause file load causes.Memory is objects holds only = tt
-outside_cause file load causes.Endless is objects holds only = is
-outside_cause file load _ is objects holds only = absurd (only objects holds)
+-- a fault that lies outside the file lies outside of all that `ask` is given
+outside_cause : (load : LoadFault) (cause : OplCause) → load.fault.cause ≡ cause → IsOutsideFile cause → IsOutside (fault_of_cause load cause)
+outside_cause load causes.ReaderFailed is outside = tt
+outside_cause load causes.Memory is outside = tt
+outside_cause load causes.Endless is outside = is
+outside_cause load _ is outside = elim outside [ inl failed ↦ cc | inr other ↦ elim other [ inl endless ↦ cc | inr memory ↦ cc ] ]
 
 -- a set that isn't read: the fault is explained
 pub explained_unread : (known : Option (List ℕ)) (query : List ℕ) (load : LoadFault) (result : Result (Unit {0}) CommandFault)
@@ -46,7 +46,7 @@ pub outside_unread : (known : Option (List ℕ)) (query : List ℕ) (load : Load
 outside_unread None query load result told only = tt
 outside_unread (Some file) query load (Ok done) told only = λ text answer. tt
 outside_unread (Some file) query load (Err fault) told only = λ text answer.
-    subst IsOutside (sym told) (outside_cause file load load.fault.cause refl answer.set answer.holds only)
+    subst IsOutside (sym told) (outside_cause load load.fault.cause refl (only answer.set answer.holds))
 
 -- a query that doesn't read has no answer
 pub outside_unparsed : (known : Option (List ℕ)) (query : List ℕ) (parsed : Result QueryTree QlFault) (refused : QlFault) (result : Result (Unit {0}) CommandFault)
