@@ -52,3 +52,6 @@ pub fn one_set()
     ensures { (file : List ℕ) (a b : List Element) → HoldsSet file a → HoldsSet file b → a ≡ b }
 {
 }
+
+#[cfg(test)]
+mod tests;
