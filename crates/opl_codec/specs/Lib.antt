@@ -2,4 +2,5 @@ pub mod Fields
 pub mod Lines
 pub mod Files
 pub mod Faults
+pub mod Reading
 pub mod Text

@@ -7,9 +7,20 @@
 mod cause;
 mod change;
 mod fault;
+mod fields;
+mod id;
+mod key_order;
+mod letter;
+mod line;
+mod location;
+mod misfit;
 mod out_mode;
+mod seen;
+mod tag_spelling;
+mod tags;
 
 pub use cause::OplCause;
 pub use change::Change;
 pub use fault::{LoadFault, OplFault};
+pub use line::{one_change, read_line};
 pub use out_mode::OutMode;
