@@ -1,6 +1,7 @@
 -- The tags of a text, one after another, and their limits.
 use Rattle.std.proofs.Common.{◌≡◌, ◌≢◌, ℕ, zero, suc, ◌+◌, ◌-◌, ◌<◌, ◌≤◌, List, [], ◌∷◌, ◌++◌, length, get_or, take, drop, Bool, true, false, Option, Some, None, MatchOption, Bor, All, refl, sym, ◌∙◌, ap, subst, arith, inl, inr, append_assoc, length-append}
-use Rattle.std.specs.Prelude.{◌⊎◌}
+use Rattle.std.specs.Prelude.{◌⊎◌, IfOk, IfErr, IfSome, IfNone}
+use Rattle.std.specs.Option.{ok_or}
 use Rattle.std.specs.Bool.{⊤}
 use Rattle.std.specs.declared.cmp.Ordering.TheVariants.{Less}
 use Rattle.std.specs.Ordering.{nat_cmp, eq_by_cmp}
@@ -93,9 +94,6 @@ pub memory_unspelled : (text : List ℕ) (parts : List (List ℕ)) (misfit : Mis
 memory_unspelled text parts misfit e = subst (IsUnspelled text parts) (sym e) tt
 
 -- ---- limits
-pub same_order : (tags : List Tag) → IsPermutation tags tags
-same_order tags = ?
-
 pub distinct_from_rising : (tags : List Tag) → AllAdjacentBelow (Below (λ (tag : Tag). tag.key) (slice_cmp nat_cmp)) tags (length tags) → HasDistinctKeys tags
 distinct_from_rising tags up = IsDistinct-from_sorted (slice_cmp nat_cmp) (keys tags) (rising (λ (tag : Tag). tag.key) nat_list_cmp_total tags up)
 
@@ -119,3 +117,10 @@ pub tags_read : (text : List ℕ) (tags found : List Tag) → Each SpellsTag (it
 tags_read text tags found each limits order differ =
     ( record { written = tags; each = each; order = order }
     , record { few = omega (arith, limits.0, length_permutation tags found order); short = All-permutation (λ tag. IsShort tag.key × IsShort tag.value) tags found order limits.1; differ = differ } )
+
+-- tags whose keys differ, or not
+pub ordered : {V : Type 0} (items_of : V → List Tag) (text : List ℕ) (tags : List Tag) (o : Option V) → Each SpellsTag (items text) tags → (length tags ≤ 65535) × All (λ tag. IsShort tag.key × IsShort tag.value) tags
+    → IfSome o (λ v. IsPermutation tags (items_of v) × HasDistinctKeys (items_of v)) → IfNone o (HasDistinctKeys tags → ⊥)
+    → record { read : IfOk (ok_or o misfits.Model) (λ v. SpellsTags text (items_of v) × KeepsLimits (items_of v)); refused : IfErr (ok_or o misfits.Model) (λ misfit. IsBadTags text (items text) misfit) }
+ordered items_of text tags None each limits found none = record { read = tt; refused = key_twice text tags each none }
+ordered items_of text tags (Some v) each limits found none = record { read = tags_read text tags (items_of v) each limits found.0 found.1; refused = tt }
