@@ -4,3 +4,6 @@ pub mod ReadLiterals
 pub mod ReadIds
 pub mod ReadLocations
 pub mod ReadTags
+pub mod ReadLetters
+pub mod ReadSeen
+pub mod ReadLines

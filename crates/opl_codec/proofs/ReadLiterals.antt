@@ -4,7 +4,7 @@ use Rattle.std.specs.Bool.{⊤}
 use Rattle.std.specs.List.{AllByRecursion}
 use Rattle.std.specs.Str.{IsUtf8, IsAscii}
 use Rattle.std.proofs.lemmas.Str.{IsUtf8-from_ascii}
-use Rattle.std.proofs.lemmas.List.{take-append-drop, take_all}
+use Rattle.std.proofs.lemmas.List.{take-append-drop}
 use Rattle.std.proofs.Math.Seq.{drop-length}
 use Rattle.std.proofs.lemmas.Bool.Decides.{nat_tests}
 use Rattle.osm_model.specs.CanonicalLine.{is_literal}
@@ -225,10 +225,6 @@ ends_there text m e = ap (λ k. pieces 44 (drop k text)) e ∙ ap (λ t. pieces 
 -- where a comma follows
 pub goes_on : (text more : List ℕ) (m : ℕ) → more ≡ drop (m + 1) text → m < length text → get_or text m 0 ≡ 44 → pieces 44 (drop m text) ≡ [] ∷ pieces 44 more
 goes_on text more m is lt comma = ap (λ t. pieces 44 t) (split_there text more m lt is ∙ ap (λ c. c ∷ more) comma)
-
--- the rest of a text, as a range gives it
-pub rest_is : (text : List ℕ) (n : ℕ) → take (length text - (n + 1)) (drop (n + 1) text) ≡ drop (n + 1) text
-rest_is text n = take_all (length text - (n + 1)) (drop (n + 1) text) (omega (arith, length-drop (n + 1) text))
 
 pub not_empty : (b : Bool) (text : List ℕ) → b ≡ (length text == 0) → b ≡ false → text ≢ []
 not_empty b text is h e = let zero : (length text == 0) ≡ true = ap (λ t. length t == 0) e in cc

@@ -2,7 +2,7 @@
 use Rattle.std.proofs.Common.{◌≡◌, ◌≢◌, ℕ, zero, suc, ◌+◌, ◌-◌, ◌<◌, ◌≤◌, List, [], ◌∷◌, ◌++◌, length, get_or, take, drop, Bool, true, false, cond, ◌==◌, refl, sym, ◌∙◌, ap, subst, arith, zero-add, length-drop, add-one}
 use Rattle.std.proofs.Common.{Option, Some, None, Bor, MatchOption}
 use Rattle.std.specs.List.{AllByRecursion, join_with_byte}
-use Rattle.std.proofs.lemmas.List.{get_or_append_left, get_or-append-add, length-take-le}
+use Rattle.std.proofs.lemmas.List.{get_or_append_left, get_or-append-add, length-take-le, take_all}
 use Rattle.std.proofs.lemmas.Bool.Decides.{nat_tests}
 use Rattle.memchr.specs.Find.{IsFirst, Passes, is_byte, NoneBefore}
 use Rattle.opl_codec.specs.Fields.{pieces, onto_first, letter_of}
@@ -34,15 +34,18 @@ stood separator x e = grind (arith, nat_tests, e)
 pub cut_none : (separator : ℕ) (text : List ℕ) → ((k : ℕ) → 0 ≤ k → k < length text → Passes (is_byte separator) text k → ⊥) → pieces separator text ≡ text ∷ []
 cut_none separator text none = one_piece separator text (λ k lt e. none k (omega arith) lt (passed separator (get_or text k 0) e))
 
-pub cut_some : (separator : ℕ) (text : List ℕ) (n : ℕ) → NoneBefore (Passes (is_byte separator) text) 0 (length text) n → Passes (is_byte separator) text n
-    → (pieces separator text ≡ take n text ∷ pieces separator (drop (n + 1) text)) × (length (take n text) + 1 + length (drop (n + 1) text) ≡ length text)
-cut_some separator text n found at =
+pub cut_some : (separator : ℕ) (text rest : List ℕ) (n : ℕ) → rest ≡ drop (n + 1) text → NoneBefore (Passes (is_byte separator) text) 0 (length text) n → Passes (is_byte separator) text n
+    → (pieces separator text ≡ take n text ∷ pieces separator rest) × (length (take n text) + 1 + length rest ≡ length text)
+cut_some separator text rest n is found at =
     let high = found.high in
-    ( rw add-one (first_piece separator text n (λ k lt e. found.before k (omega arith) lt (passed separator (get_or text k 0) e)) high (stood separator (get_or text n 0) at))
-    , lengths text n high )
-  where
-    lengths : (text : List ℕ) (n : ℕ) → n < length text → length (take n text) + 1 + length (drop (n + 1) text) ≡ length text
-    lengths text n lt = let le : n ≤ length text = omega arith in omega (arith, length-take-le n text le, length-drop (n + 1) text)
+    let first = first_piece separator text n (λ k lt e. found.before k (omega arith) lt (passed separator (get_or text k 0) e)) high (stood separator (get_or text n 0) at) in
+    let le : n ≤ length text = omega arith in
+    ( first ∙ ap (λ r. take n text ∷ pieces separator r) (rw add-one at (sym is))
+    , omega (arith, length-take-le n text le, ap length is, length-drop (n + 1) text) )
+
+-- the rest of a text, as a range gives it
+pub rest_is : (text : List ℕ) (n : ℕ) → take (length text - (n + 1)) (drop (n + 1) text) ≡ drop (n + 1) text
+rest_is text n = take_all (length text - (n + 1)) (drop (n + 1) text) (omega (arith, length-drop (n + 1) text))
 
 -- there is always a piece
 pub some_piece : (separator : ℕ) (text : List ℕ) → pieces separator text ≡ [] → ⊥

@@ -1,8 +1,8 @@
 //! The letters of a node's fields.
 
-ghost use Rattle.std.specs.Prelude.{◌≡◌, MatchOption, false};
+ghost use Rattle.std.specs.Prelude.{◌≡◌, ◌<◌, MatchOption, false};
 ghost use Rattle.opl_codec.specs.Lines.{is_node_letter};
-ghost use Rattle.opl_codec.specs.Reading.{code};
+ghost use Rattle.opl_codec.specs.Reading.{code, place_of};
 
 /// What a field of a node says, by its letter (Osmium's OPL manual).
 #[derive(Clone, Copy)]
@@ -44,5 +44,13 @@ impl Letter {
             b'y' => Some(Letter::Lat),
             _ => None,
         }
+    }
+
+    /// Its place among all letters.
+    pub fn place(self) -> usize
+        ensures value { result ≡ place_of self }
+        ensures small { result < 9 }
+    {
+        self as usize
     }
 }

@@ -59,13 +59,14 @@ impl Seen {
         let Some(letter) = Letter::of(*first) else {
             return Err(unknown);
         };
-        if self.given[letter as usize] {
+        let place = letter.place();
+        if self.given[place] {
             return Err(OplFault {
                 cause: OplCause::FieldTwice,
                 byte,
             });
         }
-        self.given[letter as usize] = true;
+        self.given[place] = true;
         match self.read(alloc, letter, text) {
             Ok(()) => Ok(()),
             Err(misfit) => Err(misfit.fault(byte)),

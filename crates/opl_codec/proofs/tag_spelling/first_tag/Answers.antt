@@ -1,6 +1,7 @@
 use Rattle.std.proofs.Common.{arith, ◌≡◌, ◌<◌, ◌-◌, ◌+◌, length, take, drop, length-drop, refl, sym, ◌∙◌, get_or, [], List, ℕ}
 use Rattle.opl_codec.specs.Fields.{pieces}
-use Rattle.opl_codec.proofs.ReadLiterals.{sign_there, comma_there, tag_first, ends_there, goes_on, rest_is, shorter, ends_with}
+use Rattle.opl_codec.proofs.ReadPieces.{rest_is}
+use Rattle.opl_codec.proofs.ReadLiterals.{sign_there, comma_there, tag_first, ends_there, goes_on, shorter, ends_with}
 use Rattle.opl_codec.proofs.tag_spelling.first_tag.Goals as goal
 
 pub misfit_at-requires : goal.misfit_at-requires
