@@ -7,3 +7,6 @@ pub mod ReadTags
 pub mod ReadLetters
 pub mod ReadSeen
 pub mod ReadLines
+pub mod ReadObject
+pub mod ReadOrder
+pub mod ReadLaw

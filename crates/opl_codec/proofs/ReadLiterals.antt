@@ -22,7 +22,7 @@ pub literal_some : (byte : ℕ) → is_literal byte ≡ true → byte ≢ 0
 literal_some byte h e = grind (arith, nat_tests)
 
 -- each of a list, by places
-pub all_places : (P : ℕ → Type 0) (bytes : List ℕ) (k d : ℕ) → AllByRecursion P bytes → k < length bytes → P (get_or bytes k d)
+pub all_places : {A : Type 0} (P : A → Type 0) (bytes : List A) (k : ℕ) (d : A) → AllByRecursion P bytes → k < length bytes → P (get_or bytes k d)
 all_places P [] k d all lt = absurd (omega arith)
 all_places P (x ∷ bytes) zero d all lt = all.0
 all_places P (x ∷ bytes) (suc k) d all lt = all_places P bytes k d all.1 (omega arith)
