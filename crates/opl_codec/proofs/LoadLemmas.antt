@@ -1,5 +1,5 @@
 -- Files that are loaded, ruined, or hold no set.
-use Rattle.std.proofs.Common.{◌≡◌, ◌≢◌, ◌⊎◌, inl, inr, ℕ, List, [], ◌∷◌, ◌++◌, map, refl, sym, ◌∙◌, ap, subst, append_assoc, append-nil, Option, Some, None, Result, Ok, Err, IfSome, MatchResult}
+use Rattle.std.proofs.Common.{◌≡◌, ◌≢◌, ◌⊎◌, inl, inr, ℕ, List, [], ◌∷◌, ◌++◌, refl, sym, ◌∙◌, ap, subst, append_assoc, append-nil, Option, Some, None, Result, IfSome, MatchResult}
 use Rattle.std.specs.Io.KnownBytes.{Consumes, IsAtEnd}
 use Rattle.std.proofs.lemmas.Result.{MatchResult-weaker}
 use Rattle.std.specs.Ordering.{eq_by_cmp}
@@ -8,10 +8,10 @@ use Rattle.std.proofs.lemmas.Cmp.{eq_by_cmp_equiv}
 use Rattle.std.proofs.lemmas.List.Sorted.{IsPermutation-map, IsPermutation-sym}
 use Rattle.std.proofs.lemmas.Map.Keys.{IsDistinct-IsPermutation, IsDistinct-from_sorted}
 use Rattle.osm_model.specs.Elements.{Element, reference, references, ref_cmp}
-use Rattle.osm_model.specs.Sets.{HasDistinctReferences, IsObjectSet}
+use Rattle.osm_model.specs.Sets.{HasDistinctReferences}
 use Rattle.osm_model.proofs.References.{refs_total}
 use Rattle.osm_model.proofs.UniqueTags.{same_order}
-use Rattle.opl_codec.specs.Fields.{Each, pieces}
+use Rattle.opl_codec.specs.Fields.{pieces}
 use Rattle.opl_codec.specs.Lines.{SpellsObject}
 use Rattle.opl_codec.specs.Files.{HoldsSet, spoken_of, IsOutside}
 use Rattle.opl_codec.specs.declared.cause.OplCause.{OplCause}

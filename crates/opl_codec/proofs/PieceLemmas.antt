@@ -1,5 +1,5 @@
 -- The pieces of a text that is longer by another.
-use Rattle.std.proofs.Common.{◌≡◌, ◌≢◌, ℕ, zero, suc, ◌+◌, ◌<◌, List, [], ◌∷◌, ◌++◌, length, get_or, take, drop, Bool, true, false, ◌==◌, if◌then◌else◌, refl, sym, ◌∙◌, ap, arith}
+use Rattle.std.proofs.Common.{◌≡◌, ◌≢◌, ℕ, List, [], ◌∷◌, ◌++◌, true, false, ◌==◌, if◌then◌else◌, refl, sym, ◌∙◌, ap}
 use Rattle.opl_codec.specs.Fields.{pieces, onto_first}
 use Rattle.opl_codec.proofs.ReadPieces.{some_piece}
 
@@ -27,9 +27,9 @@ glue_empty (b ∷ bs) some = refl
 pub pieces-append : (c : ℕ) (a b : List ℕ) → pieces c (a ++ b) ≡ glue (pieces c a) (pieces c b)
 pieces-append c [] b = sym (glue_empty (pieces c b) (some_piece c b))
 pieces-append c (byte ∷ a) b = elim (byte == c) as (λ t. (if t then [] ∷ pieces c (a ++ b) else onto_first byte (pieces c (a ++ b))) ≡ glue (if t then [] ∷ pieces c a else onto_first byte (pieces c a)) (pieces c b)) [
-    | true ↦ ap (λ ps. [] ∷ ps) (pieces-append c a b) ∙ sym (glue_cons [] (pieces c a) (pieces c b) (some_piece c a))
-    | false ↦ ap (onto_first byte) (pieces-append c a b) ∙ sym (glue_onto byte (pieces c a) (pieces c b) (some_piece c a))
-  ]
+  | true ↦ ap (λ ps. [] ∷ ps) (pieces-append c a b) ∙ sym (glue_cons [] (pieces c a) (pieces c b) (some_piece c a))
+  | false ↦ ap (onto_first byte) (pieces-append c a b) ∙ sym (glue_onto byte (pieces c a) (pieces c b) (some_piece c a))
+]
 
 front_some : (ls : List (List ℕ)) (p : List ℕ) → ls ++ p ∷ [] ≢ []
 front_some [] p e = cc

@@ -1,7 +1,6 @@
 -- Fields by their letters.
-use Rattle.std.proofs.Common.{◌≡◌, ◌≢◌, ℕ, zero, suc, ◌+◌, ◌<◌, ◌≤◌, List, [], ◌∷◌, ◌++◌, length, drop, Bool, true, false, cond, ◌==◌, Option, Some, None, MatchOption, refl, sym, ◌∙◌, ap, subst, arith, inl, inr}
+use Rattle.std.proofs.Common.{◌≡◌, ℕ, List, [], ◌∷◌, ◌++◌, true, false, cond, ◌==◌, Option, Some, None, refl, ◌∙◌, ap, arith}
 use Rattle.std.specs.List.{AllByRecursion}
-use Rattle.std.specs.Prelude.{is_some}
 use Rattle.std.proofs.lemmas.Bool.Decides.{nat_tests}
 use Rattle.opl_codec.specs.Fields.{field, letter_of, IsOnce}
 use Rattle.opl_codec.specs.Lines.{is_node_letter}
@@ -19,9 +18,9 @@ pub field_behind : (c : ℕ) (done more : List (List ℕ)) → field c done ≡ 
 field_behind c [] more none = refl
 field_behind c ([] ∷ done) more none = field_behind c done more none
 field_behind c ((x ∷ text) ∷ done) more none = elim (x == c) as (λ b. cond b (Some text) (field c done) ≡ None → cond b (Some text) (field c (done ++ more)) ≡ field c more) [
-    | true ↦ λ e. cc
-    | false ↦ λ e. field_behind c done more e
-  ] none
+  | true ↦ λ e. cc
+  | false ↦ λ e. field_behind c done more e
+] none
 
 same_letter : (c : ℕ) → (c == c) ≡ true
 same_letter c = grind (arith, nat_tests)
@@ -35,18 +34,18 @@ pub found_somewhere : (c : ℕ) (done : List (List ℕ)) (u : List ℕ) (rest : 
 found_somewhere c [] u rest e = let f = found_at c u rest in cc
 found_somewhere c ([] ∷ done) u rest e = found_somewhere c done u rest e
 found_somewhere c ((x ∷ text) ∷ done) u rest e = elim (x == c) as (λ b. cond b (Some text) (field c (done ++ (c ∷ u) ∷ rest)) ≡ None → ⊥) [
-    | true ↦ λ h. cc
-    | false ↦ λ h. found_somewhere c done u rest h
-  ] e
+  | true ↦ λ h. cc
+  | false ↦ λ h. found_somewhere c done u rest h
+] e
 
 flipped : (x c : ℕ) → (x == c) ≡ false → (c == x) ≡ false
 flipped x c e = grind (arith, nat_tests)
 
 not_first : (x c : ℕ) (text : List ℕ) (done : List (List ℕ)) → field c ((x ∷ text) ∷ done) ≡ None → ((x == c) ≡ false) × (field c done ≡ None)
 not_first x c text done none = elim (x == c) as (λ b. cond b (Some text) (field c done) ≡ None → (b ≡ false) × (field c done ≡ None)) [
-    | true ↦ λ h. cc
-    | false ↦ λ h. (refl, h)
-  ] none
+  | true ↦ λ h. cc
+  | false ↦ λ h. (refl, h)
+] none
 
 not_here : (c x : ℕ) (u : List ℕ) → (x == c) ≡ false → field x ((c ∷ u) ∷ []) ≡ None
 not_here c x u e = rw (flipped x c e) refl
@@ -56,9 +55,9 @@ pub twice : (c : ℕ) (done : List (List ℕ)) (u : List ℕ) (rest : List (List
 twice c [] u rest some once = some refl
 twice c ([] ∷ done) u rest some once = twice c done u rest some once.1
 twice c ((x ∷ text) ∷ done) u rest some once = elim (x == c) as (λ b. (x == c) ≡ b → (cond b (Some text) (field c done) ≡ None → ⊥) → ⊥) [
-    | true ↦ λ e h. found_somewhere c done u rest (rw (equal_from x c e) at once.0)
-    | false ↦ λ e h. twice c done u rest h once.1
-  ] refl some
+  | true ↦ λ e h. found_somewhere c done u rest (rw (equal_from x c e) at once.0)
+  | false ↦ λ e h. twice c done u rest h once.1
+] refl some
 
 pub once_push : (done : List (List ℕ)) (c : ℕ) (u : List ℕ) → IsOnce done → field c done ≡ None → Known done → IsOnce (done ++ (c ∷ u) ∷ [])
 once_push [] c u once none known = (refl, tt)

@@ -1,13 +1,10 @@
 -- Whole numbers of 64 bits.
-use Rattle.std.proofs.Common.{◌≡◌, ◌≢◌, ℕ, zero, suc, ◌+◌, ◌-◌, ◌*◌, ◌<◌, ◌≤◌, ◌^◌, min, List, [], ◌∷◌, ◌++◌, length, get_or, take, drop, Bool, true, false, Option, Some, None, ℤ, pos, refl, sym, ◌∙◌, ap, subst, arith, append-nil, add-one, drop-cons, lit≤, lit<}
-use Rattle.std.specs.Prelude.{FitsSigned, neg_ℤ, ◌-ℤ◌, ◌+ℤ◌, IfSome, IfNone, MatchOption}
-use Rattle.std.specs.Int.{w64}
-use Rattle.std.specs.Option.{SomeIff}
+use Rattle.std.proofs.Common.{◌≡◌, ℕ, zero, suc, ◌+◌, ◌-◌, ◌*◌, ◌<◌, ◌≤◌, min, List, [], ◌∷◌, ◌++◌, length, get_or, drop, Bool, true, false, None, ℤ, pos, refl, sym, ◌∙◌, ap, subst, arith, append-nil, add-one, drop-cons}
+use Rattle.std.specs.Prelude.{neg_ℤ}
 use Rattle.std.specs.Char.{digit_value, IsNotAsciiDigit}
 use Rattle.std.specs.Str.Parse.{AllDigits, digits_value, digits_value_after}
-use Rattle.std.specs.List.{AllByRecursion}
 use Rattle.std.proofs.lemmas.Bool.Decides.{nat_tests}
-use Rattle.osm_model.specs.Degrees.{sign, with_sign, IsDigits, Spells, Decimal, spelling}
+use Rattle.osm_model.specs.Degrees.{sign, with_sign, IsDigits, Spells, Decimal}
 use Rattle.osm_model.proofs.OneDecimal.{one_decimal}
 use Rattle.osm_model.proofs.Digits.{capped_more}
 use Rattle.opl_codec.specs.Fields.{IsInteger}

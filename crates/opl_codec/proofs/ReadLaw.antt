@@ -1,7 +1,6 @@
 -- A line says one object at most, and none where a fault stands.
-use Rattle.std.proofs.Common.{◌≡◌, ◌≢◌, ℕ, zero, suc, ◌+◌, ◌-◌, ◌<◌, ◌≤◌, ◌^◌, List, [], ◌∷◌, ◌++◌, length, drop, get_or, Bool, true, false, cond, ◌==◌, ◌||◌, All, Option, Some, None, MatchOption, Result, Ok, Err, ℤ, pos, unsigned_abs, refl, sym, ◌∙◌, ap, subst, arith, inl, inr, lit<}
-use Rattle.std.specs.Prelude.{◌⊎◌, IfOk, IfErr, MatchResult, FitsSigned}
-use Rattle.std.specs.Bool.{⊤}
+use Rattle.std.proofs.Common.{◌≡◌, ◌≢◌, ℕ, zero, suc, ◌+◌, ◌-◌, ◌<◌, ◌≤◌, List, [], ◌∷◌, ◌++◌, length, drop, get_or, Bool, true, false, ◌==◌, ◌||◌, All, Option, Some, None, MatchOption, Result, Ok, Err, ℤ, unsigned_abs, refl, sym, ◌∙◌, ap, subst, arith, inl, inr, lit<}
+use Rattle.std.specs.Prelude.{◌⊎◌, IfOk, IfErr, MatchResult}
 use Rattle.std.specs.Char.{digit_value}
 use Rattle.std.specs.Str.{IsUtf8}
 use Rattle.std.specs.Str.Parse.{AllDigits}
@@ -15,11 +14,11 @@ use Rattle.std.proofs.lemmas.Str.{IsUtf8-from_ascii}
 use Rattle.std.proofs.lemmas.List.Sorted.{All-permutation, length_permutation, IsPermutation-sym, IsPermutation-trans, IsPermutation-map}
 use Rattle.std.proofs.lemmas.Map.Keys.{IsDistinct-from_sorted, IsDistinct-IsPermutation}
 use Rattle.osm_model.specs.Degrees.{IsDegrees, limit, sign, point, IsDigits, IsFraction}
-use Rattle.osm_model.specs.Places.{Place, IsPlace}
+use Rattle.osm_model.specs.Places.{Place}
 use Rattle.osm_model.specs.Moments.{Moment}
 use Rattle.osm_model.specs.Elements.{Element, keys}
-use Rattle.osm_model.specs.CanonicalLine.{canonical_line, is_literal}
-use Rattle.osm_model.specs.Limits.{IsElement, BodyInRange, IsShort, HasDistinctKeys, HasRisingKeys}
+use Rattle.osm_model.specs.CanonicalLine.{canonical_line}
+use Rattle.osm_model.specs.Limits.{IsElement, BodyInRange, IsShort, HasRisingKeys}
 use Rattle.osm_model.specs.declared.axis.Axis.TheVariants as axes
 use Rattle.osm_model.specs.declared.tag.Tag.{Tag}
 use Rattle.osm_model.specs.declared.meta.Meta.{Meta}
@@ -27,9 +26,9 @@ use Rattle.osm_model.specs.declared.body.Body.{Body}
 use Rattle.osm_model.specs.declared.body.Body.TheVariants.{Node}
 use Rattle.osm_model.proofs.OneDecimal.{one_value}
 use Rattle.opl_codec.specs.Fields.{pieces, field, letter_of, IsOnce, IsInteger, Each}
-use Rattle.opl_codec.specs.Lines.{SpellsText, SpellsTag, SpellsTags, SpellsMeta, SpellsBody, SpellsFields, SpellsObject, Spells, IsSkipped, items, is_node_letter}
-use Rattle.opl_codec.specs.Faults.{behind, id_text_of, FieldAt, StandsAt, IsBeyond, HasBadTags, HasForm, IsMissing}
-use Rattle.opl_codec.specs.Reading.{code, only_text, AreLiteral}
+use Rattle.opl_codec.specs.Lines.{SpellsTag, SpellsTags, SpellsMeta, SpellsBody, SpellsFields, SpellsObject, Spells, IsSkipped, items, is_node_letter}
+use Rattle.opl_codec.specs.Faults.{behind, id_text_of, FieldAt, StandsAt, HasBadTags, HasForm, IsMissing}
+use Rattle.opl_codec.specs.Reading.{code, AreLiteral}
 use Rattle.opl_codec.specs.declared.change.Change.{Change}
 use Rattle.opl_codec.specs.declared.change.Change.TheVariants as changes
 use Rattle.opl_codec.specs.declared.cause.OplCause.{OplCause}
@@ -131,7 +130,7 @@ one_of b c rest letter is others h = from (b == c) refl h
 letter_from : (b : ℕ) → is_node_letter b ≡ true → (m : Letter) × (code m ≡ b)
 letter_from b h =
     one_of b 118 _ Version refl (one_of b 100 _ Visible refl (one_of b 99 _ Changeset refl (one_of b 116 _ Stamp refl (one_of b 105 _ Uid refl
-      (one_of b 117 _ User refl (one_of b 84 _ Tags refl (one_of b 120 _ Lon refl (one_of b 121 _ Lat refl (λ e. absurd (let f : false ≡ true = e in cc)))))))))) h
+    (one_of b 117 _ User refl (one_of b 84 _ Tags refl (one_of b 120 _ Lon refl (one_of b 121 _ Lat refl (λ e. absurd (let f : false ≡ true = e in cc)))))))))) h
 
 -- a field of a line that says an object: its letter, its text and the form of the text
 record Formed (rest : List (List ℕ)) (f : List ℕ) : Type 0 where
@@ -178,7 +177,7 @@ formed line o h before f after e =
     let is = some_letter f which.0 known which.1 in
     let once : IsOnce (before ++ (code which.0 ∷ drop 1 f) ∷ after) = subst (λ g. IsOnce (before ++ g ∷ after)) is (subst IsOnce e h.once) in
     let found : field (code which.0) h.rest ≡ Some (drop 1 f) =
-      ap (field (code which.0)) e ∙ (ap (λ g. field (code which.0) (before ++ g ∷ after)) is ∙ only_field before after (code which.0) (drop 1 f) once) in
+    ap (field (code which.0)) e ∙ (ap (λ g. field (code which.0) (before ++ g ∷ after)) is ∙ only_field before after (code which.0) (drop 1 f) once) in
     record { letter = which.0; text = drop 1 f; field_is = is; found = found; form = form_spelled which.0 (drop 1 f) line o h found }
 
 -- where a field stands
@@ -244,14 +243,15 @@ spelled_utf8 line o h =
 -- ---- each fault excludes that the line says something
 no_missing : (rest : List (List ℕ)) (c : ℕ) (z : ℤ) → IsMissing c rest → MatchOption (field c rest) ⊥ (λ spelled. IsDegrees spelled z) → ⊥
 no_missing rest c z missing h = elim missing [
-    | inl none ↦ subst (λ o. MatchOption o ⊥ (λ spelled. IsDegrees spelled z)) none h
-    | inr empty ↦ no_empty z (location_form (field c rest) [] z empty h)
-  ]
+  | inl none ↦ subst (λ o. MatchOption o ⊥ (λ spelled. IsDegrees spelled z)) none h
+  | inr empty ↦ no_empty z (location_form (field c rest) [] z empty h)
+]
   where
     sign_some : (negative : Bool) (digits more : List ℕ) → IsDigits digits → sign negative ++ (digits ++ more) ≡ [] → ⊥
     sign_some true digits more d e = cc
     sign_some false [] more d e = d.0 refl
     sign_some false (x ∷ digits) more d e = cc
+
     no_empty : (z : ℤ) → IsDegrees [] z → ⊥
     no_empty z d = sign_some d.parts.negative d.parts.whole (point d.parts.fraction) d.spells.decimal.whole (sym d.spells.text_is)
 
@@ -331,17 +331,17 @@ excludes line causes.NoLocation byte o real s h =
     no_location line h.fields.rest o.body h.fields.body_is (subst (λ r. IsMissing 120 r ⊎ IsMissing 121 r) rest s.1)
 excludes line causes.LineTooLong byte o real s h = let a = s.1 in let b = h.short in omega arith
 excludes line causes.OutsideModel byte o real s h = elim s [
-    | inl inside ↦ elim inside.2 [
-      | inl beyond ↦ elim beyond [
-        | inl x ↦ lon_in_range h.fields.rest (drop 1 inside.0) o x.1.0 h.element h.fields.body_is (found_for h.fields.rest inside.0 120 (formed_at line o h.fields inside.0 byte inside.1) x.0) x.1.1 x.1.2
-        | inr y ↦ lat_in_range h.fields.rest (drop 1 inside.0) o y.1.0 h.element h.fields.body_is (found_for h.fields.rest inside.0 121 (formed_at line o h.fields inside.0 byte inside.1) y.0) y.1.1 y.1.2
-      ]
-      | inr tags ↦ no_bad_tags (drop 1 inside.0) o.tags
-          (tags_form (field 84 h.fields.rest) (drop 1 inside.0) o.tags (found_for h.fields.rest inside.0 84 (formed_at line o h.fields inside.0 byte inside.1) tags.0) h.fields.tags_are)
-          h.element.fits.few_tags h.element.fits.short_tags h.element.rising tags.1
+  | inl inside ↦ elim inside.2 [
+    | inl beyond ↦ elim beyond [
+      | inl x ↦ lon_in_range h.fields.rest (drop 1 inside.0) o x.1.0 h.element h.fields.body_is (found_for h.fields.rest inside.0 120 (formed_at line o h.fields inside.0 byte inside.1) x.0) x.1.1 x.1.2
+      | inr y ↦ lat_in_range h.fields.rest (drop 1 inside.0) o y.1.0 h.element h.fields.body_is (found_for h.fields.rest inside.0 121 (formed_at line o h.fields inside.0 byte inside.1) y.0) y.1.1 y.1.2
     ]
-    | inr whole ↦ let p = whole.1 in let same = one_object line o p.0 h.fields p.1 h.element.rising p.2 in let short = h.element.short_line in let long = p.3 in omega (arith, ap (λ (e : Element). length (canonical_line e)) same)
+    | inr tags ↦ no_bad_tags (drop 1 inside.0) o.tags
+        (tags_form (field 84 h.fields.rest) (drop 1 inside.0) o.tags (found_for h.fields.rest inside.0 84 (formed_at line o h.fields inside.0 byte inside.1) tags.0) h.fields.tags_are)
+        h.element.fits.few_tags h.element.fits.short_tags h.element.rising tags.1
   ]
+  | inr whole ↦ let p = whole.1 in let same = one_object line o p.0 h.fields p.1 h.element.rising p.2 in let short = h.element.short_line in let long = p.3 in omega (arith, ap (λ (e : Element). length (canonical_line e)) same)
+]
 excludes line causes.ReaderFailed byte o real s h = s
 excludes line causes.Endless byte o real s h = s
 excludes line causes.Memory byte o real s h = real refl

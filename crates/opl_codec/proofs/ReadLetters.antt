@@ -1,8 +1,7 @@
 -- The letters of fields, and the forms of their values.
-use Rattle.std.proofs.Common.{◌≡◌, ◌≢◌, ℕ, zero, suc, ◌+◌, ◌<◌, ◌≤◌, List, [], ◌∷◌, ◌++◌, length, Bool, true, false, cond, ◌==◌, Option, Some, None, ℤ, unsigned_abs, refl, sym, ◌∙◌, ap, subst, arith, inl, inr, lit<}
+use Rattle.std.proofs.Common.{◌≡◌, ◌≢◌, ℕ, ◌<◌, List, [], ◌∷◌, Bool, true, false, cond, ◌==◌, Some, ℤ, refl, sym, ◌∙◌, ap, subst, inl, inr, lit<}
 use Rattle.std.specs.Prelude.{◌⊎◌}
-use Rattle.osm_model.specs.Degrees.{IsDegrees, limit}
-use Rattle.osm_model.specs.declared.axis.Axis.{Axis}
+use Rattle.osm_model.specs.Degrees.{IsDegrees}
 use Rattle.osm_model.specs.declared.axis.Axis.TheVariants as axes
 use Rattle.osm_model.specs.declared.tag.Tag.{Tag}
 use Rattle.opl_codec.specs.Fields.{Each}
@@ -94,23 +93,22 @@ only letter known text t e form = subst (λ l. FormOf l text) (sym (same_code le
 
 pub form_from : (letter : Letter) (text : List ℕ) → HasForm (code letter) text → FormOf letter text
 form_from letter text h = elim h [
-    | inl v ↦ only letter Version text text v.0 (ap Some (sym v.1))
-    | inr h1 ↦ elim h1 [
-      | inl d ↦ only letter Visible text text d.0 (ap Some (sym d.1))
-      | inr h2 ↦ elim h2 [
-        | inl c ↦ only letter Changeset text text c.0 (ap Some (sym c.1))
-        | inr h3 ↦ elim h3 [
-          | inl t ↦ only letter Stamp text text t.0 (ap Some (sym t.1))
-          | inr h4 ↦ elim h4 [
-            | inl i ↦ only letter Uid text text i.0 (ap Some (sym i.1))
-            | inr h5 ↦ elim h5 [
-              | inl u ↦ only letter User text text u.0 (ap Some (sym u.1))
-              | inr h6 ↦ elim h6 [
-                | inl g ↦ only letter Tags text text g.0 g.1
-                | inr p ↦ elim p.0 [
-                  | inl x ↦ only letter Lon text text x p.1
-                  | inr y ↦ only letter Lat text text y p.1
-                ]
+  | inl v ↦ only letter Version text text v.0 (ap Some (sym v.1))
+  | inr h1 ↦ elim h1 [
+    | inl d ↦ only letter Visible text text d.0 (ap Some (sym d.1))
+    | inr h2 ↦ elim h2 [
+      | inl c ↦ only letter Changeset text text c.0 (ap Some (sym c.1))
+      | inr h3 ↦ elim h3 [
+        | inl t ↦ only letter Stamp text text t.0 (ap Some (sym t.1))
+        | inr h4 ↦ elim h4 [
+          | inl i ↦ only letter Uid text text i.0 (ap Some (sym i.1))
+          | inr h5 ↦ elim h5 [
+            | inl u ↦ only letter User text text u.0 (ap Some (sym u.1))
+            | inr h6 ↦ elim h6 [
+              | inl g ↦ only letter Tags text text g.0 g.1
+              | inr p ↦ elim p.0 [
+                | inl x ↦ only letter Lon text text x p.1
+                | inr y ↦ only letter Lat text text y p.1
               ]
             ]
           ]
@@ -118,6 +116,7 @@ form_from letter text h = elim h [
       ]
     ]
   ]
+]
 
 same_text : (a b : List ℕ) → Some a ≡ Some b → b ≡ a
 same_text a b e = cc

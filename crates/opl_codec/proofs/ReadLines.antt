@@ -1,5 +1,5 @@
 -- The fields of a line, one after another.
-use Rattle.std.proofs.Common.{◌≡◌, ◌≢◌, ℕ, zero, suc, ◌+◌, ◌-◌, ◌<◌, ◌≤◌, ◌^◌, List, [], ◌∷◌, ◌++◌, length, Option, Some, None, MatchOption, Bor, ℤ, refl, sym, ◌∙◌, ap, subst, arith, inl, inr, append_assoc, append-nil}
+use Rattle.std.proofs.Common.{◌≡◌, ℕ, ◌+◌, ◌-◌, ◌≤◌, List, [], ◌∷◌, ◌++◌, length, Option, Some, None, Bor, sym, ◌∙◌, ap, arith, append_assoc}
 use Rattle.std.specs.Bool.{⊤}
 use Rattle.std.specs.List.{join_with_byte}
 use Rattle.opl_codec.specs.Fields.{pieces}

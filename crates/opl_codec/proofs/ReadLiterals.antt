@@ -1,5 +1,5 @@
 -- Texts of which each byte stands for itself, and how tags are spelled with them.
-use Rattle.std.proofs.Common.{◌≡◌, ◌≢◌, ℕ, zero, suc, ◌+◌, ◌-◌, ◌<◌, ◌≤◌, List, [], ◌∷◌, ◌++◌, length, get_or, take, drop, Bool, true, false, cond, ◌==◌, ◌||◌, Option, Some, None, MatchOption, Bor, refl, sym, ◌∙◌, ap, subst, arith, inl, inr, lit≤, lit<, add-one, drop-cons, append-nil, append_assoc, length-drop}
+use Rattle.std.proofs.Common.{◌≡◌, ◌≢◌, ℕ, zero, suc, ◌+◌, ◌<◌, ◌≤◌, List, [], ◌∷◌, ◌++◌, length, get_or, take, drop, Bool, true, false, cond, ◌==◌, refl, sym, ◌∙◌, ap, subst, arith, lit<, add-one, drop-cons, append-nil, append_assoc, length-drop}
 use Rattle.std.specs.Bool.{⊤}
 use Rattle.std.specs.List.{AllByRecursion}
 use Rattle.std.specs.Str.{IsUtf8, IsAscii}
@@ -94,9 +94,9 @@ onto_item x text item rest (p ∷ ps) before is eq =
 pub first_item : (text item : List ℕ) (rest : List (List ℕ)) → pieces 44 text ≡ item ∷ rest → HasItem text item
 first_item [] item rest e = let same : [] ≡ item = cc in ([], same ∙ sym (append-nil item), tt)
 first_item (x ∷ text) item rest e = elim (x == 44) as (λ b. (x == 44) ≡ b → cond b ([] ∷ pieces 44 text) (onto_first x (pieces 44 text)) ≡ item ∷ rest → HasItem (x ∷ text) item) [
-    | true ↦ λ h eq. let none : [] ≡ item = cc in (x ∷ text, ap (λ i. i ++ x ∷ text) none, equal_from x 44 h)
-    | false ↦ λ h eq. onto_item x text item rest (pieces 44 text) (λ p qs is. first_item text p qs is) refl eq
-  ] refl e
+  | true ↦ λ h eq. let none : [] ≡ item = cc in (x ∷ text, ap (λ i. i ++ x ∷ text) none, equal_from x 44 h)
+  | false ↦ λ h eq. onto_item x text item rest (pieces 44 text) (λ p qs is. first_item text p qs is) refl eq
+] refl e
 
 -- a text whose items are tags begins with a key, `=` and a value
 pub record FirstTag (text : List ℕ) : Type 0 where
@@ -160,7 +160,7 @@ sign_piece text item rest e = rw e refl
 pub tag_piece : (key value tail : List ℕ) (rest : List (List ℕ)) → AreLiteral key → AreLiteral value → pieces 44 tail ≡ [] ∷ rest → pieces 44 (key ++ 61 ∷ (value ++ tail)) ≡ (key ++ 61 ∷ value) ∷ rest
 tag_piece key value tail rest k v e =
     literal_piece key (61 ∷ (value ++ tail)) (61 ∷ value) rest k (sign_piece (value ++ tail) value rest
-      (literal_piece value tail [] rest v e ∙ ap (λ i. i ∷ rest) (append-nil value)))
+    (literal_piece value tail [] rest v e ∙ ap (λ i. i ∷ rest) (append-nil value)))
 
 -- a byte of a text whose items are tags
 abbrev pub FitsTags : ℕ → Type 0
@@ -215,7 +215,7 @@ pub tag_first : (text rest : List ℕ) (n m : ℕ) (others : List (List ℕ)) �
 tag_first text rest n m others is lt sign key value e =
     let front : drop n text ≡ 61 ∷ rest = split_there text rest n lt is ∙ ap (λ c. c ∷ rest) sign in
     let whole : take n text ++ 61 ∷ (take m rest ++ drop m rest) ≡ text =
-      ap (λ t. take n text ++ 61 ∷ t) (take-append-drop m rest) ∙ (ap (λ t. take n text ++ t) (sym front) ∙ take-append-drop n text) in
+    ap (λ t. take n text ++ 61 ∷ t) (take-append-drop m rest) ∙ (ap (λ t. take n text ++ t) (sym front) ∙ take-append-drop n text) in
     ap (λ t. pieces 44 t) (sym whole) ∙ tag_piece (take n text) (take m rest) (drop m rest) others key value e
 
 -- where nothing follows
@@ -234,6 +234,7 @@ shorter text rest more n m is so lt = omega (arith, ap length is, ap length so, 
 
 -- the rest of a text ends it
 pub ends_with : (text rest more : List ℕ) (n m : ℕ) → rest ≡ drop (n + 1) text → more ≡ drop (m + 1) rest → Ends more text
-ends_with text rest more n m is so =
-    ( take (n + 1) text ++ take (m + 1) rest
-    , sym (take-append-drop (n + 1) text) ∙ (ap (λ r. take (n + 1) text ++ r) (sym is ∙ (sym (take-append-drop (m + 1) rest) ∙ ap (λ r. take (m + 1) rest ++ r) (sym so))) ∙ sym (append_assoc (take (n + 1) text) (take (m + 1) rest) more)) )
+ends_with text rest more n m is so = (
+  take (n + 1) text ++ take (m + 1) rest,
+  sym (take-append-drop (n + 1) text) ∙ (ap (λ r. take (n + 1) text ++ r) (sym is ∙ (sym (take-append-drop (m + 1) rest) ∙ ap (λ r. take (m + 1) rest ++ r) (sym so))) ∙ sym (append_assoc (take (n + 1) text) (take (m + 1) rest) more)),
+)

@@ -1,6 +1,6 @@
 -- Coordinates: what makes none.
-use Rattle.std.proofs.Common.{◌≡◌, ◌≢◌, ℕ, ◌<◌, ◌≤◌, List, [], ℤ, length, unsigned_abs, refl, sym, ◌∙◌, ap, arith}
-use Rattle.osm_model.specs.Degrees.{IsDegrees, IsFault, Decimal, decimals, limit}
+use Rattle.std.proofs.Common.{◌≡◌, ◌≢◌, ℕ, List, [], ℤ, length, refl, ap, arith}
+use Rattle.osm_model.specs.Degrees.{IsDegrees, IsFault, Decimal, decimals}
 use Rattle.osm_model.specs.declared.axis.Axis.{Axis}
 use Rattle.osm_model.specs.declared.fault.ModelFault.{ModelFault}
 use Rattle.osm_model.specs.declared.fault.ModelFault.TheVariants.{EmptyNumber, NotDecimal, TooManyDecimals, OutOfRange, ObjectTwice, KeyTwice, LimitPassed, NulInText}

@@ -1,6 +1,5 @@
 -- The object that the fields of a line make.
-use Rattle.std.proofs.Common.{◌≡◌, ◌≢◌, ℕ, zero, suc, ◌+◌, ◌<◌, ◌≤◌, ◌^◌, List, [], ◌∷◌, ◌++◌, length, All, true, Option, Some, None, MatchOption, ℤ, pos, unsigned_abs, refl, sym, ◌∙◌, ap, subst, arith, inl, inr, get_or}
-use Rattle.std.specs.Prelude.{◌⊎◌, FitsSigned}
+use Rattle.std.proofs.Common.{◌≡◌, ◌≢◌, ℕ, List, [], ◌∷◌, length, All, true, Option, Some, None, MatchOption, ℤ, pos, refl, sym, ◌∙◌, ap, subst, arith, inl, inr}
 use Rattle.std.specs.Bool.{⊤}
 use Rattle.std.specs.List.{AllByRecursion}
 use Rattle.std.specs.List.Sorted.{IsPermutation}
@@ -8,8 +7,8 @@ use Rattle.std.proofs.lemmas.List.Sorted.{All-permutation, length_permutation, I
 use Rattle.osm_model.specs.Degrees.{IsDegrees}
 use Rattle.osm_model.specs.Places.{Place}
 use Rattle.osm_model.specs.Elements.{Element}
-use Rattle.osm_model.specs.CanonicalLine.{canonical_line, is_literal}
-use Rattle.osm_model.specs.Limits.{HasNoNul, HasRisingKeys, Fits, IsClean, IsMadeOf, HasLongLine, Refuses, IsShort}
+use Rattle.osm_model.specs.CanonicalLine.{is_literal}
+use Rattle.osm_model.specs.Limits.{HasNoNul, Fits, IsClean, IsMadeOf, HasLongLine, Refuses}
 use Rattle.osm_model.specs.declared.axis.Axis.{Axis}
 use Rattle.osm_model.specs.declared.axis.Axis.TheVariants as axes
 use Rattle.osm_model.specs.declared.tag.Tag.{Tag}
@@ -19,7 +18,7 @@ use Rattle.osm_model.specs.declared.body.Body.TheVariants.{Node}
 use Rattle.osm_model.specs.declared.fault.ModelFault.{ModelFault}
 use Rattle.osm_model.specs.declared.fault.ModelFault.TheVariants.{EmptyNumber, NotDecimal, TooManyDecimals, OutOfRange, ObjectTwice, KeyTwice, LimitPassed, NulInText}
 use Rattle.opl_codec.specs.Fields.{field, Each, IsInteger}
-use Rattle.opl_codec.specs.Lines.{SpellsText, SpellsTag, SpellsTags, SpellsMeta, SpellsBody, SpellsFields, items}
+use Rattle.opl_codec.specs.Lines.{SpellsTag, SpellsTags, SpellsMeta, SpellsBody, SpellsFields, items}
 use Rattle.opl_codec.specs.Faults.{StandsAt}
 use Rattle.opl_codec.specs.Reading.{AreLiteral, IsLocation, KeepsLimits, Reads, IsRead}
 use Rattle.opl_codec.specs.declared.cause.OplCause.TheVariants as causes

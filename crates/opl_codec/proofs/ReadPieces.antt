@@ -1,10 +1,10 @@
 -- The pieces between separators.
-use Rattle.std.proofs.Common.{◌≡◌, ◌≢◌, ℕ, zero, suc, ◌+◌, ◌-◌, ◌<◌, ◌≤◌, List, [], ◌∷◌, ◌++◌, length, get_or, take, drop, Bool, true, false, cond, ◌==◌, refl, sym, ◌∙◌, ap, subst, arith, zero-add, length-drop, add-one}
+use Rattle.std.proofs.Common.{◌≡◌, ◌≢◌, ℕ, zero, suc, ◌+◌, ◌-◌, ◌<◌, ◌≤◌, List, [], ◌∷◌, ◌++◌, length, get_or, take, drop, true, false, cond, ◌==◌, refl, sym, ◌∙◌, ap, subst, arith, zero-add, length-drop, add-one}
 use Rattle.std.proofs.Common.{Option, Some, None, Bor, MatchOption}
 use Rattle.std.specs.List.{AllByRecursion, join_with_byte}
 use Rattle.std.proofs.lemmas.List.{get_or_append_left, get_or-append-add, length-take-le, take_all}
 use Rattle.std.proofs.lemmas.Bool.Decides.{nat_tests}
-use Rattle.memchr.specs.Find.{IsFirst, Passes, is_byte, NoneBefore}
+use Rattle.memchr.specs.Find.{Passes, is_byte, NoneBefore}
 use Rattle.opl_codec.specs.Fields.{pieces, onto_first, letter_of}
 use Rattle.opl_codec.specs.Faults.{behind}
 
@@ -39,9 +39,10 @@ pub cut_some : (separator : ℕ) (text rest : List ℕ) (n : ℕ) → rest ≡ d
 cut_some separator text rest n is found at =
     let high = found.high in
     let first = first_piece separator text n (λ k lt e. found.before k (omega arith) lt (passed separator (get_or text k 0) e)) high (stood separator (get_or text n 0) at) in
-    let le : n ≤ length text = omega arith in
-    ( first ∙ ap (λ r. take n text ∷ pieces separator r) (rw add-one at (sym is))
-    , omega (arith, length-take-le n text le, ap length is, length-drop (n + 1) text) )
+    let le : n ≤ length text = omega arith in (
+      first ∙ ap (λ r. take n text ∷ pieces separator r) (rw add-one at (sym is)),
+      omega (arith, length-take-le n text le, ap length is, length-drop (n + 1) text),
+    )
 
 -- the rest of a text, as a range gives it
 pub rest_is : (text : List ℕ) (n : ℕ) → take (length text - (n + 1)) (drop (n + 1) text) ≡ drop (n + 1) text
@@ -51,9 +52,9 @@ rest_is text n = take_all (length text - (n + 1)) (drop (n + 1) text) (omega (ar
 pub some_piece : (separator : ℕ) (text : List ℕ) → pieces separator text ≡ [] → ⊥
 some_piece separator [] e = cc
 some_piece separator (x ∷ text) e = elim (x == separator) as (λ b. cond b ([] ∷ pieces separator text) (onto_first x (pieces separator text)) ≡ [] → ⊥) [
-    | true ↦ λ h. cc
-    | false ↦ λ h. onto_some x (pieces separator text) h
-  ] e
+  | true ↦ λ h. cc
+  | false ↦ λ h. onto_some x (pieces separator text) h
+] e
   where
     onto_some : (x : ℕ) (ps : List (List ℕ)) → onto_first x ps ≡ [] → ⊥
     onto_some x [] h = cc
@@ -75,9 +76,9 @@ equal_from x c e = grind (arith, nat_tests, e)
 pub join_pieces : (separator : ℕ) (text : List ℕ) → join_with_byte separator (pieces separator text) ≡ text
 join_pieces separator [] = refl
 join_pieces separator (x ∷ text) = elim (x == separator) as (λ b. (x == separator) ≡ b → join_with_byte separator (cond b ([] ∷ pieces separator text) (onto_first x (pieces separator text))) ≡ x ∷ text) [
-    | true ↦ λ e. join_behind separator (pieces separator text) (some_piece separator text) ∙ (ap (λ c. c ∷ join_with_byte separator (pieces separator text)) (sym (equal_from x separator e)) ∙ ap (λ t. x ∷ t) (join_pieces separator text))
-    | false ↦ λ e. join_onto separator x (pieces separator text) ∙ ap (λ t. x ∷ t) (join_pieces separator text)
-  ] refl
+  | true ↦ λ e. join_behind separator (pieces separator text) (some_piece separator text) ∙ (ap (λ c. c ∷ join_with_byte separator (pieces separator text)) (sym (equal_from x separator e)) ∙ ap (λ t. x ∷ t) (join_pieces separator text))
+  | false ↦ λ e. join_onto separator x (pieces separator text) ∙ ap (λ t. x ∷ t) (join_pieces separator text)
+] refl
 
 skip : (b rest : List ℕ) (c n j : ℕ) → get_or (b ++ c ∷ rest) (length b + 1 + n + j) 0 ≡ get_or rest (n + j) 0
 skip b rest c n j = let place : length b + 1 + n + j ≡ length b + suc (n + j) = omega arith in rw (place, get_or-append-add b (c ∷ rest) (suc (n + j)) 0) refl
@@ -97,9 +98,9 @@ piece_at separator text before f after j e lt =
 pub pieces_all : (P : ℕ → Type 0) (separator : ℕ) (text : List ℕ) → P separator → AllByRecursion (AllByRecursion P) (pieces separator text) → AllByRecursion P text
 pieces_all P separator [] here all = tt
 pieces_all P separator (x ∷ text) here all = elim (x == separator) as (λ b. (x == separator) ≡ b → AllByRecursion (AllByRecursion P) (cond b ([] ∷ pieces separator text) (onto_first x (pieces separator text))) → AllByRecursion P (x ∷ text)) [
-    | true ↦ λ e h. (subst P (sym (equal_from x separator e)) here, pieces_all P separator text here h.1)
-    | false ↦ λ e h. let parts = onto_all x (pieces separator text) h in (parts.0, pieces_all P separator text here parts.1)
-  ] refl all
+  | true ↦ λ e h. (subst P (sym (equal_from x separator e)) here, pieces_all P separator text here h.1)
+  | false ↦ λ e h. let parts = onto_all x (pieces separator text) h in (parts.0, pieces_all P separator text here parts.1)
+] refl all
   where
     onto_all : (x : ℕ) (ps : List (List ℕ)) → AllByRecursion (AllByRecursion P) (onto_first x ps) → P x × AllByRecursion (AllByRecursion P) ps
     onto_all x [] h = (h.0.0, tt)
@@ -109,9 +110,9 @@ pieces_all P separator (x ∷ text) here all = elim (x == separator) as (λ b. (
 pub head_letter : (separator : ℕ) (text : List ℕ) (c : ℕ) (t : List ℕ) (rest : List (List ℕ)) → pieces separator text ≡ (c ∷ t) ∷ rest → letter_of text ≡ c
 head_letter separator [] c t rest e = cc
 head_letter separator (x ∷ text) c t rest e = elim (x == separator) as (λ b. cond b ([] ∷ pieces separator text) (onto_first x (pieces separator text)) ≡ (c ∷ t) ∷ rest → x ≡ c) [
-    | true ↦ λ h. cc
-    | false ↦ λ h. onto_head x (pieces separator text) h
-  ] e
+  | true ↦ λ h. cc
+  | false ↦ λ h. onto_head x (pieces separator text) h
+] e
   where
     onto_head : (x : ℕ) (ps : List (List ℕ)) → onto_first x ps ≡ (c ∷ t) ∷ rest → x ≡ c
     onto_head x [] h = cc

@@ -1,8 +1,7 @@
 -- One more field that is seen.
-use Rattle.std.proofs.Common.{◌≡◌, ◌≢◌, ℕ, zero, suc, ◌+◌, ◌<◌, ◌≤◌, List, [], ◌∷◌, ◌++◌, length, get_or, set, drop, Bool, true, false, cond, ◌==◌, Option, Some, None, ℤ, MatchOption, refl, sym, ◌∙◌, ap, subst, arith, inl, inr}
-use Rattle.std.specs.Prelude.{◌⊎◌, is_some}
+use Rattle.std.proofs.Common.{◌≡◌, ℕ, suc, ◌+◌, ◌<◌, ◌≤◌, List, [], ◌∷◌, ◌++◌, length, get_or, set, drop, Bool, true, false, ◌==◌, Option, Some, None, ℤ, MatchOption, refl, sym, ◌∙◌, ap, subst, arith, inl, inr}
+use Rattle.std.specs.Prelude.{is_some}
 use Rattle.std.specs.Bool.{⊤}
-use Rattle.std.specs.List.{AllByRecursion}
 use Rattle.std.proofs.lemmas.List.{get_or-set_same, get_or-set_other, length-set}
 use Rattle.std.proofs.lemmas.List.Elements.{All-nil}
 use Rattle.std.proofs.lemmas.Map.Keys.{IsDistinct-from_apart}
@@ -86,10 +85,10 @@ Push done letter text = done ++ (code letter ∷ text) ∷ []
 given_push : (letter m : Letter) (text : List ℕ) (done : List (List ℕ)) (given : List Bool) → length given ≡ 9 → field (code letter) done ≡ None
     → get_or given (place_of m) false ≡ is_some (field (code m) done) → get_or (set given (place_of letter) true) (place_of m) false ≡ is_some (field (code m) (Push done letter text))
 given_push letter m text done given nine none before = elim (cases_code letter m) [
-    | inl same ↦ subst (λ l. get_or (set given (place_of letter) true) (place_of l) false ≡ is_some (field (code l) (Push done letter text))) same
-        (get_or-set_same given (place_of letter) true false (omega (arith, place_small letter)) ∙ ap is_some (sym (new_field (code letter) text done none)))
-    | inr differ ↦ get_or-set_other given (place_of letter) (place_of m) true false (λ e. apart letter m differ (sym (same_place m letter e))) ∙ (before ∙ ap is_some (sym (other_field (code m) (code letter) text done differ)))
-  ]
+  | inl same ↦ subst (λ l. get_or (set given (place_of letter) true) (place_of l) false ≡ is_some (field (code l) (Push done letter text))) same
+      (get_or-set_same given (place_of letter) true false (omega (arith, place_small letter)) ∙ ap is_some (sym (new_field (code letter) text done none)))
+  | inr differ ↦ get_or-set_other given (place_of letter) (place_of m) true false (λ e. apart letter m differ (sym (same_place m letter e))) ∙ (before ∙ ap is_some (sym (other_field (code m) (code letter) text done differ)))
+]
   where
     apart : (a b : Letter) → (code a == code b) ≡ false → a ≡ b → ⊥
     apart a b differ e = let f : (code a == code b) ≡ (code b == code b) = ap (λ l. code l == code b) e in let g : (code b == code b) ≡ true = grind (arith, nat_tests) in cc
@@ -97,10 +96,10 @@ given_push letter m text done given nine none before = elim (cases_code letter m
 fixed_push : (letter m : Letter) (text t : List ℕ) (done : List (List ℕ)) → field (code letter) done ≡ None → ((s : List ℕ) → only_text letter ≡ Some s → text ≡ s) → only_text m ≡ Some t
     → MatchOption (field (code m) done) ⊤ (λ spelled. spelled ≡ t) → MatchOption (field (code m) (Push done letter text)) ⊤ (λ spelled. spelled ≡ t)
 fixed_push letter m text t done none fixed is before = elim (cases_code letter m) [
-    | inl same ↦ subst (λ l. MatchOption (field (code l) (Push done letter text)) ⊤ (λ spelled. spelled ≡ t)) same
-        (subst (λ f. MatchOption f ⊤ (λ spelled. spelled ≡ t)) (sym (new_field (code letter) text done none)) (fixed t (ap only_text same ∙ is)))
-    | inr differ ↦ subst (λ f. MatchOption f ⊤ (λ spelled. spelled ≡ t)) (sym (other_field (code m) (code letter) text done differ)) before
-  ]
+  | inl same ↦ subst (λ l. MatchOption (field (code l) (Push done letter text)) ⊤ (λ spelled. spelled ≡ t)) same
+      (subst (λ f. MatchOption f ⊤ (λ spelled. spelled ≡ t)) (sym (new_field (code letter) text done none)) (fixed t (ap only_text same ∙ is)))
+  | inr differ ↦ subst (λ f. MatchOption f ⊤ (λ spelled. spelled ≡ t)) (sym (other_field (code m) (code letter) text done differ)) before
+]
 
 module _ (text : List ℕ) (done : List (List ℕ)) where
   abbrev TagsAre : Option (List ℕ) → List Tag → Type 0

@@ -1,13 +1,12 @@
 -- The tags of a text, one after another, and their limits.
-use Rattle.std.proofs.Common.{◌≡◌, ◌≢◌, ℕ, zero, suc, ◌+◌, ◌-◌, ◌<◌, ◌≤◌, List, [], ◌∷◌, ◌++◌, length, get_or, take, drop, Bool, true, false, Option, Some, None, MatchOption, Bor, All, refl, sym, ◌∙◌, ap, subst, arith, inl, inr, append_assoc, length-append}
-use Rattle.std.specs.Prelude.{◌⊎◌, IfOk, IfErr, IfSome, IfNone}
+use Rattle.std.proofs.Common.{◌≡◌, ◌≢◌, ℕ, ◌+◌, ◌-◌, ◌<◌, ◌≤◌, List, [], ◌∷◌, ◌++◌, length, get_or, Option, Some, None, MatchOption, Bor, All, refl, sym, ◌∙◌, ap, subst, arith, inl, inr, append_assoc, length-append}
+use Rattle.std.specs.Prelude.{IfOk, IfErr, IfSome, IfNone}
 use Rattle.std.specs.Option.{ok_or}
 use Rattle.std.specs.Bool.{⊤}
-use Rattle.std.specs.declared.cmp.Ordering.TheVariants.{Less}
-use Rattle.std.specs.Ordering.{nat_cmp, eq_by_cmp}
+use Rattle.std.specs.Ordering.{nat_cmp}
 use Rattle.std.specs.Cmp.Lexicographic.{slice_cmp}
 use Rattle.std.specs.List.{AllAdjacentBelow}
-use Rattle.std.specs.List.Sorted.{IsPermutation, IsSortedByKey}
+use Rattle.std.specs.List.Sorted.{IsPermutation}
 use Rattle.std.proofs.lemmas.Cmp.{nat_list_cmp_total}
 use Rattle.std.proofs.lemmas.Bool.{cases_lt}
 use Rattle.std.proofs.lemmas.List.{get_or-append-add}
@@ -99,9 +98,9 @@ distinct_from_rising tags up = IsDistinct-from_sorted (slice_cmp nat_cmp) (keys 
 
 pub too_long : (text : List ℕ) (tags : List Tag) → Each SpellsTag (items text) tags → (((length tags ≤ 65535) × All (λ tag. IsShort tag.key × IsShort tag.value) tags) → ⊥) → HasBadTags text
 too_long text tags each long = elim (cases_lt 65535 (length tags)) [
-    | inl more ↦ (tags, each, inl more)
-    | inr few ↦ (tags, each, inr (inl (λ short. long (few, short))))
-  ]
+  | inl more ↦ (tags, each, inl more)
+  | inr few ↦ (tags, each, inr (inl (λ short. long (few, short))))
+]
 
 pub key_twice : (text : List ℕ) (tags : List Tag) → Each SpellsTag (items text) tags → (HasDistinctKeys tags → ⊥) → HasBadTags text
 key_twice text tags each twice = (tags, each, inr (inr twice))
@@ -114,9 +113,10 @@ unspelled_bad text parts misfits.Memory h = tt
 
 pub tags_read : (text : List ℕ) (tags found : List Tag) → Each SpellsTag (items text) tags → (length tags ≤ 65535) × All (λ tag. IsShort tag.key × IsShort tag.value) tags → IsPermutation tags found → HasDistinctKeys found
     → SpellsTags text found × KeepsLimits found
-tags_read text tags found each limits order differ =
-    ( record { written = tags; each = each; order = order }
-    , record { few = omega (arith, limits.0, length_permutation tags found order); short = All-permutation (λ tag. IsShort tag.key × IsShort tag.value) tags found order limits.1; differ = differ } )
+tags_read text tags found each limits order differ = (
+  record { written = tags; each = each; order = order },
+  record { few = omega (arith, limits.0, length_permutation tags found order); short = All-permutation (λ tag. IsShort tag.key × IsShort tag.value) tags found order limits.1; differ = differ },
+)
 
 -- tags whose keys differ, or not
 pub ordered : {V : Type 0} (items_of : V → List Tag) (text : List ℕ) (tags : List Tag) (o : Option V) → Each SpellsTag (items text) tags → (length tags ≤ 65535) × All (λ tag. IsShort tag.key × IsShort tag.value) tags

@@ -1,5 +1,5 @@
 -- Lines and the objects that they say.
-use Rattle.std.proofs.Common.{◌≡◌, ◌≢◌, ◌⊎◌, inl, inr, ℕ, List, [], ◌∷◌, ◌++◌, ◌<◌, length, get_or, arith, Bool, true, false, not, filter, map, if◌then◌else◌, refl, sym, ◌∙◌, ap, subst, append_assoc, append-nil}
+use Rattle.std.proofs.Common.{◌≡◌, ◌⊎◌, inl, inr, ℕ, List, [], ◌∷◌, ◌++◌, ◌<◌, length, get_or, arith, Bool, false, not, if◌then◌else◌, refl, sym, ◌∙◌, ap, subst, append_assoc, append-nil}
 use Rattle.std.proofs.lemmas.List.Elements.{filter-append}
 use Rattle.std.specs.Ordering.{eq_by_cmp}
 use Rattle.std.specs.List.{IsDistinct, AllByRecursion}
@@ -70,11 +70,11 @@ not_skipped (byte ∷ bytes) some = refl
 
 -- a line says one object more
 pub say_more : (lines : List (List ℕ)) (line : List ℕ) (objects : List Element) (o : Element) → SpellsObject line o → Say lines objects → Say (lines ++ line ∷ []) (objects ++ o ∷ [])
-say_more lines line objects o spells say = 
+say_more lines line objects o spells say =
     let some : is_skipped line ≡ false = not_skipped line (empty_spells_nothing line o spells) in
     let one : spoken_of (line ∷ []) ≡ line ∷ [] = ap (λ b. if not b then line ∷ [] else []) some in
     subst (λ ls. Each SpellsObject ls (objects ++ o ∷ [])) (sym (spoken-append lines (line ∷ []) ∙ ap (λ ls. spoken_of lines ++ ls) one))
-      (each_append SpellsObject (spoken_of lines) (line ∷ []) objects (o ∷ []) say (spells, tt))
+    (each_append SpellsObject (spoken_of lines) (line ∷ []) objects (o ∷ []) say (spells, tt))
 
 -- a line that isn't skipped and says no object leaves no hope
 pub no_object : (lines : List (List ℕ)) (line : List ℕ) (objects : List Element) → (line ≡ [] → ⊥) → ((o : Element) → SpellsObject line o → ⊥) → Say lines objects → IsHopeless (lines ++ line ∷ [])

@@ -1,13 +1,12 @@
 -- At which byte of a line each cause of a refusal stands, apart from how the line is read.
 -- Source: this project.
-use Rattle.std.specs.Prelude.{◌≡◌, ◌≢◌, ℕ, ◌+◌, ◌<◌, ◌≤◌, ◌^◌, ◌⊎◌, ℤ, FitsSigned, unsigned_abs, pos, Bool, true, false, List, [], ◌∷◌, ◌++◌, length, drop, slice_index, Option, Some, None, ⊤}
+use Rattle.std.specs.Prelude.{◌≡◌, ◌≢◌, ℕ, ◌+◌, ◌<◌, ◌^◌, ◌⊎◌, ℤ, FitsSigned, unsigned_abs, false, List, [], ◌∷◌, ◌++◌, length, drop, slice_index, Some, None}
 use Rattle.std.specs.Int.{w64}
 use Rattle.std.specs.Str.{IsUtf8, IsValidUpTo}
 use Rattle.osm_model.specs.Degrees.{IsDegrees, limit}
 use Rattle.osm_model.specs.Elements.{Element}
 use Rattle.osm_model.specs.CanonicalLine.{canonical_line}
 use Rattle.osm_model.specs.Limits.{IsShort, HasDistinctKeys, HasRisingKeys}
-use Rattle.osm_model.specs.declared.axis.Axis.{Axis}
 use Rattle.osm_model.specs.declared.axis.Axis.TheVariants as axes
 use Rattle.osm_model.specs.declared.tag.Tag.{Tag}
 use Rattle.std.specs.Prelude.{All}

@@ -1,7 +1,7 @@
 -- How a line falls into fields, apart from how it is read.
 -- Source: Osmium's OPL manual: fields parted by blanks, in any order, each with a letter; the narrow
 -- separators are this project's.
-use Rattle.std.specs.Prelude.{◌≡◌, ◌≢◌, ℕ, ℤ, Bool, true, false, ◌==◌, if◌then◌else◌, List, [], ◌∷◌, ◌++◌, length, Option, Some, None, MatchOption, ⊤}
+use Rattle.std.specs.Prelude.{◌≡◌, ℕ, ℤ, Bool, ◌==◌, if◌then◌else◌, List, [], ◌∷◌, ◌++◌, Option, Some, None, MatchOption, ⊤}
 use Rattle.std.specs.Str.Parse.{digits_value}
 use Rattle.osm_model.specs.Degrees.{sign, with_sign, IsDigits}
 

@@ -1,6 +1,6 @@
 -- What a line says. The parts marked narrow are those that a reader of all of OPL replaces.
 -- Source: Osmium's OPL manual; the narrow forms and the limits are this project's.
-use Rattle.std.specs.Prelude.{◌≡◌, ℕ, ◌≤◌, ◌^◌, pos, Bool, true, ◌==◌, List, [], ◌∷◌, ◌++◌, length, Option, None, ⊤}
+use Rattle.std.specs.Prelude.{◌≡◌, ℕ, ◌≤◌, ◌^◌, pos, Bool, true, ◌==◌, List, [], ◌∷◌, ◌++◌, length, None, ⊤}
 use Rattle.std.specs.List.{AllByRecursion, list_any}
 use Rattle.std.specs.List.Sorted.{IsPermutation}
 use Rattle.osm_model.specs.Degrees.{IsDegrees}

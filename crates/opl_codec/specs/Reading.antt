@@ -1,6 +1,6 @@
 -- What was read of a line so far: words of the reader's own clauses.
 -- Source: this project.
-use Rattle.std.specs.Prelude.{◌≡◌, ◌≢◌, ℕ, ◌+◌, ◌<◌, ◌≤◌, ◌⊎◌, ℤ, unsigned_abs, Bool, true, false, List, [], ◌∷◌, ◌++◌, length, All, slice_index, slice_index_or, Option, Some, None, is_some, MatchOption, ⊤}
+use Rattle.std.specs.Prelude.{◌≡◌, ◌≢◌, ℕ, ◌+◌, ◌<◌, ◌≤◌, ◌⊎◌, ℤ, unsigned_abs, true, false, List, [], ◌∷◌, ◌++◌, length, All, slice_index, slice_index_or, Option, Some, None, is_some, MatchOption, ⊤}
 use Rattle.std.specs.List.{AllByRecursion}
 use Rattle.osm_model.specs.Degrees.{IsDegrees, limit}
 use Rattle.osm_model.specs.Limits.{IsShort, HasDistinctKeys}
@@ -9,9 +9,8 @@ use Rattle.osm_model.specs.declared.axis.Axis.{Axis}
 use Rattle.osm_model.specs.declared.axis.Axis.TheVariants as axes
 use Rattle.osm_model.specs.declared.tag.Tag.{Tag}
 use Rattle.opl_codec.specs.Fields.{pieces, field, letter_of, IsOnce, IsInteger, Each}
-use Rattle.opl_codec.specs.Lines.{SpellsTag, SpellsTags, is_node_letter, items}
-use Rattle.opl_codec.specs.Faults.{behind, HasForm, IsBeyond, HasBadTags}
-use Rattle.opl_codec.specs.declared.cause.OplCause.{OplCause}
+use Rattle.opl_codec.specs.Lines.{SpellsTag, SpellsTags, is_node_letter}
+use Rattle.opl_codec.specs.Faults.{HasForm, IsBeyond, HasBadTags}
 use Rattle.opl_codec.specs.declared.cause.OplCause.TheVariants as causes
 use Rattle.opl_codec.specs.declared.fault.OplFault.{OplFault}
 use Rattle.opl_codec.specs.declared.letter.Letter.{Letter}

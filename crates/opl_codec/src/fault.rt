@@ -3,11 +3,10 @@
 ghost use Rattle.std.specs.Prelude.{◌≡◌};
 ghost use Rattle.opl_codec.specs.declared.cause.OplCause.TheVariants as causes;
 
+use crate::cause::OplCause;
 use std::alloc::AllocError;
 use std::fmt;
 use thiserror::Error;
-
-use crate::cause::OplCause;
 
 /// A line that isn't read: the cause, and the place in the line.
 ///

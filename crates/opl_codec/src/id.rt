@@ -30,7 +30,9 @@ fn read_digits(digits: &[u8]) -> Option<u64>
         if !byte.is_ascii_digit() {
             return None;
         }
-        value = value.saturating_mul(10).saturating_add(u64::from(*byte - b'0'));
+        value = value
+            .saturating_mul(10)
+            .saturating_add(u64::from(*byte - b'0'));
     }
     Some(value)
 }

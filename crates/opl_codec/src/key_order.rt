@@ -7,9 +7,8 @@ ghost use Rattle.std.specs.List.Sorted.{IsPermutation, IsSortedByKey};
 ghost use Rattle.std.specs.Cmp.Lexicographic.{slice_cmp};
 ghost use Rattle.osm_model.specs.Limits.{HasDistinctKeys};
 
-use std::cmp::Ordering;
-
 use osm_model::Tag;
+use std::cmp::Ordering;
 
 /// The same tags, in an order of their own, or `None` where two have one key.
 pub fn with_distinct_keys(mut tags: Vec<Tag>) -> Option<Vec<Tag>>

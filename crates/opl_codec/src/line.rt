@@ -9,17 +9,15 @@ ghost use Rattle.opl_codec.specs.Reading.{IsRead};
 ghost use Rattle.opl_codec.specs.declared.change.Change.{Change};
 ghost use Rattle.opl_codec.specs.declared.cause.OplCause.TheVariants as OplCause;
 
-use std::alloc::Global;
-
-use osm_model::{Body, Coord, Meta, Object, Text};
-use simdutf8::compat::from_utf8;
-
 use crate::cause::OplCause;
 use crate::change::Change;
 use crate::fault::OplFault;
 use crate::fields::cut;
 use crate::id::read_id;
 use crate::seen::Seen;
+use osm_model::{Body, Coord, Meta, Object, Text};
+use simdutf8::compat::from_utf8;
+use std::alloc::Global;
 
 /// The most bytes of a line, its end aside.
 const LONGEST: usize = 1 << 25;
@@ -47,8 +45,7 @@ pub fn read_line(alloc: Global, line: &[u8]) -> Result<Option<Change>, OplFault>
 /// A law: a line says one change at most.
 pub fn one_change()
     ensures { (line : List ℕ) (a b : Change) → Spells line a → Spells line b → a ≡ b }
-{
-}
+{}
 
 /// Looks at the length and the encoding of a line.
 fn check_bytes(line: &[u8]) -> Result<(), OplFault>

@@ -4,13 +4,12 @@ ghost use Rattle.std.specs.Prelude.{◌≡◌, ℕ, IfSome, IfOk, List, MatchRes
 ghost use Rattle.osm_model.specs.Elements.{Element};
 ghost use Rattle.opl_codec.specs.Files.{HoldsSet, IsOutside};
 
-use osm_model::ObjectSet;
-use std::alloc::Global;
-use std::io::Read;
-
 use crate::cause::OplCause;
 use crate::fault::LoadFault;
 use crate::loader::Loader;
+use osm_model::ObjectSet;
+use std::alloc::Global;
+use std::io::Read;
 
 /// How many bytes a read asks for at most.
 const PIECE: usize = 65_536;
@@ -50,8 +49,7 @@ pub fn read_set<R: Read>(alloc: Global, reader: &mut R) -> Result<ObjectSet, Loa
 /// A law: a file holds one set at most.
 pub fn one_set()
     ensures { (file : List ℕ) (a b : List Element) → HoldsSet file a → HoldsSet file b → a ≡ b }
-{
-}
+{}
 
 #[cfg(test)]
 mod tests;

@@ -7,16 +7,15 @@ ghost use Rattle.opl_codec.specs.Fields.{pieces};
 ghost use Rattle.opl_codec.specs.Files.{HoldsSet, IsOutside};
 ghost use Rattle.opl_codec.specs.Loading.{Say, Loads, Ruins, IsHopeless};
 
-use memchr::memchr;
-use osm_model::{Object, ObjectSet, Ref};
-use std::alloc::{AllocError, Global};
-use std::mem;
-
 use crate::cause::OplCause;
 use crate::change::Change;
 use crate::fault::LoadFault;
 use crate::line::read_line;
 use crate::repeats::first_repeat;
+use memchr::memchr;
+use osm_model::{Object, ObjectSet, Ref};
+use std::alloc::{AllocError, Global};
+use std::mem;
 
 /// What was read of a file so far: the objects of its lines, and the line that hasn't ended yet.
 #[derive(Drop)]
@@ -57,7 +56,7 @@ impl Loader {
     pub fn feed(&mut self, piece: &[u8]) -> Result<(), LoadFault>
         ensures { (front : List ℕ) → Loads [] front self.old.objects.items self.old.pending.items
             → MatchResult result (λ _. Loads [] (front ++ piece.now) self.new.objects.items self.new.pending.items)
-                (λ fault. IsOutside fault.fault.cause ⊎ Ruins [] (front ++ piece.now)) }
+            (λ fault. IsOutside fault.fault.cause ⊎ Ruins [] (front ++ piece.now)) }
     {
         match split_line(piece) {
             None => self.keep(piece),
@@ -72,7 +71,7 @@ impl Loader {
     pub fn finish(self) -> Result<ObjectSet, LoadFault>
         ensures { (file : List ℕ) → Loads [] file self.objects.items self.pending.items
             → MatchResult result (λ set. HoldsSet file set)
-                (λ fault. IsOutside fault.fault.cause ⊎ ((objects : List Element) → HoldsSet file objects → ⊥)) }
+            (λ fault. IsOutside fault.fault.cause ⊎ ((objects : List Element) → HoldsSet file objects → ⊥)) }
     {
         let mut loader = self;
         loader.end_line(&[])?;
@@ -101,7 +100,7 @@ impl Loader {
         requires { self.old.pending.items ≡ [] }
         ensures { (lines : List (List ℕ)) → Say lines self.old.objects.items
             → MatchResult result (λ _. Loads lines text.now self.new.objects.items self.new.pending.items)
-                (λ fault. IsOutside fault.fault.cause ⊎ Ruins lines text.now) }
+            (λ fault. IsOutside fault.fault.cause ⊎ Ruins lines text.now) }
     {
         let mut left = text;
         while let Some((line, rest)) = split_line(left) {
@@ -115,7 +114,7 @@ impl Loader {
     fn end_line(&mut self, end: &[u8]) -> Result<(), LoadFault>
         ensures taken { (lines : List (List ℕ)) → Say lines self.old.objects.items
             → MatchResult result (λ _. Say (lines ++ (self.old.pending.items ++ end.now) ∷ []) self.new.objects.items)
-                (λ fault. IsOutside fault.fault.cause ⊎ IsHopeless (lines ++ (self.old.pending.items ++ end.now) ∷ [])) }
+            (λ fault. IsOutside fault.fault.cause ⊎ IsHopeless (lines ++ (self.old.pending.items ++ end.now) ∷ [])) }
         ensures ended { MatchResult result (λ _. self.new.pending.items ≡ []) (λ _. Unit {0}) }
     {
         if self.pending.is_empty() {
@@ -133,7 +132,7 @@ impl Loader {
     fn take_line(&mut self, line: &[u8]) -> Result<(), LoadFault>
         ensures taken { (lines : List (List ℕ)) → Say lines self.old.objects.items
             → MatchResult result (λ _. Say (lines ++ line.now ∷ []) self.new.objects.items)
-                (λ fault. IsOutside fault.fault.cause ⊎ IsHopeless (lines ++ line.now ∷ [])) }
+            (λ fault. IsOutside fault.fault.cause ⊎ IsHopeless (lines ++ line.now ∷ [])) }
         ensures kept { self.new.pending.items ≡ self.old.pending.items }
     {
         match read_line(self.alloc, line) {

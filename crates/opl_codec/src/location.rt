@@ -5,9 +5,8 @@ ghost use Rattle.osm_model.specs.Degrees.{IsFault};
 ghost use Rattle.osm_model.specs.declared.axis.Axis.{Axis};
 ghost use Rattle.opl_codec.specs.Reading.{IsLocation, IsBadLocation};
 
-use osm_model::{Axis, ModelFault, read_degrees};
-
 use crate::misfit::Misfit;
+use osm_model::{Axis, ModelFault, read_degrees};
 
 /// A coordinate, in 1e-7 degree, or `None` where there is no text.
 pub fn read_location(text: &[u8], axis: Axis) -> Result<Option<i32>, Misfit>

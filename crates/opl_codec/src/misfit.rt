@@ -3,10 +3,9 @@
 ghost use Rattle.std.specs.Prelude.{◌≡◌, ◌+◌, ◌<◌, ◌^◌};
 ghost use Rattle.opl_codec.specs.Reading.{fault_of, moved_by, place_in};
 
-use std::alloc::{AllocError, AllocFailed};
-
 use crate::cause::OplCause;
 use crate::fault::OplFault;
+use std::alloc::{AllocError, AllocFailed};
 
 /// Why what stands behind a field's letter isn't its value.
 #[derive(Clone, Copy)]

@@ -5,16 +5,14 @@ ghost use Rattle.opl_codec.specs.Fields.{pieces};
 ghost use Rattle.opl_codec.specs.Faults.{behind, StandsAt};
 ghost use Rattle.opl_codec.specs.Reading.{Reads, Says, IsMisfit, only_text};
 
-use std::alloc::Global;
-
-use osm_model::{Axis, Tag};
-
 use crate::cause::OplCause;
 use crate::fault::OplFault;
 use crate::letter::Letter;
 use crate::location::read_location;
 use crate::misfit::Misfit;
 use crate::tags::read_tags;
+use osm_model::{Axis, Tag};
+use std::alloc::Global;
 
 /// What was read of the fields behind the first, so far. What no field says is as it is by default.
 #[derive(Drop)]

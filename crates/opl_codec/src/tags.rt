@@ -6,14 +6,12 @@ ghost use Rattle.opl_codec.specs.Fields.{Each};
 ghost use Rattle.opl_codec.specs.Lines.{SpellsTag, SpellsTags, items};
 ghost use Rattle.opl_codec.specs.Reading.{AreLiteral, KeepsLimits, IsBadTags, IsUnspelled};
 
-use std::alloc::{AllocError, Global};
-
-use memchr::memchr_iter;
-use osm_model::{Tag, Text};
-
 use crate::key_order::with_distinct_keys;
 use crate::misfit::Misfit;
 use crate::tag_spelling::{TagSpelling, first_tag};
+use memchr::memchr_iter;
+use osm_model::{Tag, Text};
+use std::alloc::{AllocError, Global};
 
 /// The tags of this text, in an order of their own.
 pub fn read_tags(alloc: Global, text: &[u8]) -> Result<Vec<Tag>, Misfit>

@@ -1,14 +1,12 @@
 //! Files as sets: lines in any order, pieces of any size, repeated objects, failing readers.
 
+use crate::{LoadFault, OplCause, OplFault, read_set};
+use osm_model::{Kind, Ref};
 use std::alloc::Global;
 use std::io;
 use std::io::Read;
 use std::process::Abort;
 use std::test::Fail;
-
-use osm_model::{Kind, Ref};
-
-use crate::{LoadFault, OplCause, OplFault, read_set};
 
 /// A reader that gives some bytes a call, and fails at one call (0: at none).
 #[derive(Drop)]
@@ -46,7 +44,12 @@ fn fault(line: u64, cause: OplCause, byte: usize) -> Option<LoadFault> {
 }
 
 /// Whether the file holds just the nodes 1, 2 and 3.
-fn holds_three(rt: &impl Abort, alloc: Global, file: &str, at_once: usize) -> Result<bool, LoadFault> {
+fn holds_three(
+    rt: &impl Abort,
+    alloc: Global,
+    file: &str,
+    at_once: usize,
+) -> Result<bool, LoadFault> {
     let mut reader = SlowReader {
         left: file.as_bytes(),
         at_once,
@@ -83,11 +86,26 @@ fn an_empty_file_holds_the_empty_set(rt: HostRuntime) -> Result<(), LoadFault> {
 #[test]
 fn the_first_line_with_a_fault_is_told(rt: HostRuntime) {
     let alloc = rt.alloc();
-    assert_eq!(rt; refusal(alloc, "n1 x13.4"), fault(1, OplCause::NoLocation, 8));
-    assert_eq!(rt; refusal(alloc, "n1 x1 y1\n\nc5\nn2"), fault(3, OplCause::UnknownObject, 0));
-    assert_eq!(rt; refusal(alloc, "n1 x1 y1\nn2 x2 y2\nn1 x3 y3\nc5\n"), fault(3, OplCause::OutsideModel, 0));
-    assert_eq!(rt; refusal(alloc, "n2 x1 y1\nn1 x2 y2\nn1 x3 y3\nn2 x3 y3\n"), fault(3, OplCause::OutsideModel, 0));
-    assert_eq!(rt; refusal(alloc, "n1 x1 y1\nc5\nn1 x1 y1\n"), fault(2, OplCause::UnknownObject, 0));
+    assert_eq!(rt;
+        refusal(alloc, "n1 x13.4"),
+        fault(1, OplCause::NoLocation, 8)
+    );
+    assert_eq!(rt;
+        refusal(alloc, "n1 x1 y1\n\nc5\nn2"),
+        fault(3, OplCause::UnknownObject, 0)
+    );
+    assert_eq!(rt;
+        refusal(alloc, "n1 x1 y1\nn2 x2 y2\nn1 x3 y3\nc5\n"),
+        fault(3, OplCause::OutsideModel, 0)
+    );
+    assert_eq!(rt;
+        refusal(alloc, "n2 x1 y1\nn1 x2 y2\nn1 x3 y3\nn2 x3 y3\n"),
+        fault(3, OplCause::OutsideModel, 0)
+    );
+    assert_eq!(rt;
+        refusal(alloc, "n1 x1 y1\nc5\nn1 x1 y1\n"),
+        fault(2, OplCause::UnknownObject, 0)
+    );
 }
 
 #[test]

@@ -1,4 +1,4 @@
-use Rattle.std.proofs.Common.{rules, arith, ◌≡◌, ◌<◌, ◌-◌, ◌^◌, length, get_or, lit≤}
+use Rattle.std.proofs.Common.{arith, ◌<◌, ◌-◌, ◌^◌, get_or, lit≤}
 use Rattle.std.specs.Char.{digit_value}
 use Rattle.std.proofs.lemmas.Int.Digits.{digits_more}
 use Rattle.opl_codec.proofs.ReadIds.{digits_all, not_digit, digit_is, cap_more}

@@ -1,4 +1,4 @@
-use Rattle.std.proofs.Common.{rules, nat_lt}
+use Rattle.std.proofs.Common.{rules}
 use Rattle.std.specs.Ordering.{nat_cmp, is_lt}
 use Rattle.std.specs.Cmp.Lexicographic.{slice_cmp}
 use Rattle.std.proofs.lemmas.List.Sorted.{answers_always, ranks_by}

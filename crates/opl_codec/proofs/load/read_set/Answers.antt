@@ -1,4 +1,4 @@
-use Rattle.std.proofs.Common.{◌≡◌, ◌<◌, ◌++◌, [], List, ℕ, take, refl, inl, inr, arith, length}
+use Rattle.std.proofs.Common.{◌<◌, ◌++◌, take, refl, inl, inr, arith, length}
 use Rattle.std.proofs.KnownBytes.{Consumes-trans}
 use Rattle.std.proofs.lemmas.Result.{err_from_is_err_and}
 use Rattle.opl_codec.proofs.LoadLemmas.{all_read, told_of_ruin, told_outside, told_at_end}

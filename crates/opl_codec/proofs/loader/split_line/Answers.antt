@@ -1,8 +1,6 @@
-use Rattle.std.proofs.Common.{◌≡◌, ◌<◌, ◌+◌, ◌-◌, suc, ◌∷◌, length, get_or, take, drop, arith, ap, sym, ◌∙◌, add-one, length-drop, subst, List, ℕ}
+use Rattle.std.proofs.Common.{◌≡◌, ◌<◌, ◌+◌, ◌-◌, suc, length, get_or, take, drop, arith, add-one, length-drop}
 use Rattle.std.proofs.lemmas.Bool.{eqb-true, eq-eqb}
 use Rattle.std.proofs.lemmas.List.{take_all}
-use Rattle.memchr.specs.Find.{NoneBefore}
-use Rattle.opl_codec.specs.Fields.{pieces}
 use Rattle.opl_codec.proofs.ReadPieces.{one_piece, first_piece}
 use Rattle.opl_codec.proofs.loader.split_line.Goals as goal
 

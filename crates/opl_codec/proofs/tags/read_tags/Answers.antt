@@ -1,6 +1,5 @@
-use Rattle.std.proofs.Common.{Vec, Global, refl}
-use Rattle.osm_model.specs.declared.tag.Tag.{Tag}
-use Rattle.opl_codec.proofs.ReadTags.{too_long, ordered, unspelled_bad}
+use Rattle.std.proofs.Common.{refl}
+use Rattle.opl_codec.proofs.ReadTags.{too_long, ordered}
 use Rattle.opl_codec.proofs.tags.read_tags.Goals as goal
 
 pub returns-then-not-are_short-clause-refused : goal.returns-then-not-are_short-clause-refused

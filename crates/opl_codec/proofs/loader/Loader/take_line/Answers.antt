@@ -1,4 +1,3 @@
-use Rattle.std.proofs.Common.{◌≡◌, ◌++◌, ◌∷◌, []}
 use Rattle.opl_codec.specs.Lines.{SpellsObject}
 use Rattle.opl_codec.specs.declared.change.Change.TheVariants.{Put}
 use Rattle.opl_codec.proofs.SayLemmas.{say_more, told_line}

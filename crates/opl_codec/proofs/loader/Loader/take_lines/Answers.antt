@@ -1,4 +1,4 @@
-use Rattle.std.proofs.Common.{◌≡◌, ◌++◌, ◌∷◌, [], ◌∙◌, sym, ap, subst, append_assoc}
+use Rattle.std.proofs.Common.{◌++◌, ◌∷◌, [], ◌∙◌, sym, ap, subst, append_assoc}
 use Rattle.std.proofs.lemmas.Result.{err_from_is_err_and}
 use Rattle.opl_codec.specs.Fields.{pieces}
 use Rattle.opl_codec.specs.Loading.{Say}
@@ -16,7 +16,9 @@ loop-line-preserved c =
     let read = c.loop-line.invariant.read in
     record {
       none = c.take_line.ensures.kept ∙ c.loop-line.invariant.none;
-      read = (read.0 ++ c.in-Some.line.now ∷ [],
+      read = (
+        read.0 ++ c.in-Some.line.now ∷ [],
         read.1 ∙ ap (λ ps. read.0 ++ ps) c.in-Some.ensures.0 ∙ sym (append_assoc read.0 (c.in-Some.line.now ∷ []) (pieces 10 c.in-Some.rest.now)),
-        λ lines say. subst (λ ls. Say ls c.take_line.new.self.objects.items) (append_assoc lines read.0 (c.in-Some.line.now ∷ [])) (c.in_ok-take_line.ensures.taken (lines ++ read.0) (read.2 lines say)));
+        λ lines say. subst (λ ls. Say ls c.take_line.new.self.objects.items) (append_assoc lines read.0 (c.in-Some.line.now ∷ [])) (c.in_ok-take_line.ensures.taken (lines ++ read.0) (read.2 lines say)),
+      );
     }

@@ -1,4 +1,4 @@
-use Rattle.std.proofs.Common.{◌≡◌, ◌++◌, ◌∷◌, [], List, ℕ, length, Option, Some, None}
+use Rattle.std.proofs.Common.{◌≡◌, ◌++◌, [], List, ℕ, length}
 use Rattle.opl_codec.specs.Fields.{pieces}
 use Rattle.opl_codec.specs.Loading.{Say}
 use Rattle.opl_codec.proofs.loader.Loader.take_lines.Given as goal

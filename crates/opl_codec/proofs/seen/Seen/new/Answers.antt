@@ -1,5 +1,4 @@
-use Rattle.std.proofs.Common.{refl, sym, subst, List}
-use Rattle.osm_model.specs.declared.tag.Tag.{Tag}
+use Rattle.std.proofs.Common.{refl, sym, subst}
 use Rattle.opl_codec.specs.Reading.{KeepsLimits}
 use Rattle.opl_codec.proofs.ReadSeen.{no_limits, unmarked}
 use Rattle.opl_codec.proofs.seen.Seen.new.Goals as goal

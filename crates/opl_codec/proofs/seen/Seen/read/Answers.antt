@@ -1,6 +1,5 @@
-use Rattle.std.proofs.Common.{refl}
 use Rattle.std.proofs.lemmas.Result.{err_from_is_err_and}
-use Rattle.opl_codec.proofs.ReadLetters.{lon_misfit, lat_misfit, tags_misfit}
+use Rattle.opl_codec.proofs.ReadLetters.{lon_misfit, lat_misfit}
 use Rattle.opl_codec.proofs.seen.Seen.read.Goals as goal
 
 pub returns-in_err-self-in-Lon-clause-refused : goal.returns-in_err-self-in-Lon-clause-refused

@@ -1,6 +1,5 @@
-use Rattle.std.proofs.Common.{◌≡◌, ◌∷◌, List, ℕ, length, take, drop, ◌-◌, refl, sym, ◌∙◌, ap, subst, arith, length-drop, set, true}
+use Rattle.std.proofs.Common.{length, take, drop, ◌-◌, refl, ap, arith, length-drop, set, true}
 use Rattle.std.proofs.lemmas.List.{take_all}
-use Rattle.opl_codec.specs.Fields.{pieces}
 use Rattle.opl_codec.specs.Reading.{code}
 use Rattle.opl_codec.specs.declared.seen.Seen.{Seen}
 use Rattle.opl_codec.proofs.ReadSeen.{letter_first, no_letter, split_field, unknown_stands, twice_stands, misfit_stands, reads_more}
@@ -26,7 +25,7 @@ returns-in-Ok-clause-ok c done h =
     let split = split_field field text (code c.in-Some.letter) (omega arith) c.in-Some.ensures (take_all _ _ (omega (arith, length-drop 1 field))) in
     let mid : Seen = record c.args.self.now { given = set c.args.self.now.given c.place-place.result true } in
     rw split (reads_more done c.in-Some.letter text c.args.self.now mid c.read.new.self (ap (λ i. set c.args.self.now.given i true) c.place-place.ensures.value) refl refl refl h
-      (rw c.place-place.ensures.value at c.if-self-place.false) c.in-Ok.ensures.ok)
+    (rw c.place-place.ensures.value at c.if-self-place.false) c.in-Ok.ensures.ok)
 
 pub returns-in-Err-clause-refused : goal.returns-in-Err-clause-refused
 returns-in-Err-clause-refused c line first done rest h e place =
