@@ -1,3 +1,9 @@
+pub mod PieceLemmas
+pub mod SayLemmas
+pub mod LoadLemmas
+pub mod EachLemmas
+pub mod OneInteger
+pub mod OneObject
 pub mod WriteSteps
 pub mod WriteTags
 pub mod WriteText
