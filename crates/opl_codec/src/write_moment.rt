@@ -1,6 +1,6 @@
 //! Moments to text.
 
-ghost use Rattle.std.specs.Prelude.{◌≡◌, ◌<◌, ◌+◌, ◌/◌, ◌%◌, Some};
+ghost use Rattle.std.specs.Prelude.{◌≡◌, ◌<◌, ◌+◌, ◌/◌, ◌%◌};
 ghost use Rattle.osm_model.specs.CanonicalLine.{moment};
 
 use osm_model::Stamp;

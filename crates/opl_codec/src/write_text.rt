@@ -1,9 +1,9 @@
 //! Texts, escaped.
 
-ghost use Rattle.std.specs.Prelude.{◌≡◌, ◌++◌, ◌+◌, ◌%◌, ◌^◌, ◌<◌, ◌-◌, [], ◌∷◌, length, take, drop, OnOk, OnErr, if◌then◌else◌, nat_lt};
+ghost use Rattle.std.specs.Prelude.{◌≡◌, ◌++◌, ◌%◌, ◌<◌, [], ◌∷◌, length, take, OnOk, OnErr};
 ghost use Rattle.std.specs.Char.{digit_char};
 ghost use Rattle.std.specs.List.{list_all};
-ghost use Rattle.osm_model.specs.CanonicalLine.{is_literal, escaped, escaped_char, hex, hex_places, hex_digits};
+ghost use Rattle.osm_model.specs.CanonicalLine.{is_literal, escaped, escaped_char, hex, hex_places};
 
 use osm_model::Text;
 use std::alloc::AllocError;
