@@ -1,4 +1,4 @@
--- A line says one object at most, and none where a fault stands.
+-- Where a fault stands in a line, the line says nothing.
 use Rattle.std.proofs.Common.{◌≡◌, ◌≢◌, ℕ, zero, suc, ◌+◌, ◌-◌, ◌<◌, ◌≤◌, ◌^◌, List, [], ◌∷◌, ◌++◌, length, drop, get_or, Bool, true, false, cond, ◌==◌, ◌||◌, All, Option, Some, None, MatchOption, Result, Ok, Err, ℤ, pos, unsigned_abs, refl, sym, ◌∙◌, ap, subst, arith, inl, inr, lit<}
 use Rattle.std.specs.Prelude.{◌⊎◌, IfOk, IfErr, MatchResult, FitsSigned}
 use Rattle.std.specs.Bool.{⊤}
@@ -41,84 +41,8 @@ use Rattle.opl_codec.proofs.ReadPieces.{pieces_all, piece_at, head_letter, equal
 use Rattle.opl_codec.proofs.ReadFields.{Known, known_at, twice, only_field, each_from_places}
 use Rattle.opl_codec.proofs.ReadLiterals.{FitsTags, tags_fit, all_weaker, all_append, all_places, ascii_from, same_literals}
 use Rattle.opl_codec.proofs.ReadLetters.{FormOf, form_to, same_code}
-use Rattle.opl_codec.proofs.ReadIds.{one_integer}
-use Rattle.opl_codec.proofs.ReadOrder.{one_order}
-
--- ---- one object
-given_is : {D : Type 0} (found : Option (List ℕ)) (text : List ℕ) → MatchOption found D (λ spelled. (spelled ≡ text) × D) → D
-given_is None text h = h
-given_is (Some t) text h = h.1
-
-one_meta : (rest : List (List ℕ)) (a b : Meta) → SpellsMeta rest a → SpellsMeta rest b → a ≡ b
-one_meta rest a b h k =
-    let version : a.version ≡ b.version = given_is (field 118 rest) (48 ∷ []) h.version ∙ sym (given_is (field 118 rest) (48 ∷ []) k.version) in
-    let changeset : a.changeset ≡ b.changeset = given_is (field 99 rest) (48 ∷ []) h.changeset ∙ sym (given_is (field 99 rest) (48 ∷ []) k.changeset) in
-    let stamp : a.stamp ≡ b.stamp = given_is (field 116 rest) [] h.stamp ∙ sym (given_is (field 116 rest) [] k.stamp) in
-    let uid : a.uid ≡ b.uid = given_is (field 105 rest) (48 ∷ []) h.uid ∙ sym (given_is (field 105 rest) (48 ∷ []) k.uid) in
-    let user : a.user ≡ b.user = given_is (field 117 rest) [] h.user ∙ sym (given_is (field 117 rest) [] k.user) in
-    let f1 : ℕ → Meta = λ x. record { version = x; changeset = a.changeset; stamp = a.stamp; uid = a.uid; user = a.user } in
-    let f2 : ℤ → Meta = λ x. record { version = b.version; changeset = x; stamp = a.stamp; uid = a.uid; user = a.user } in
-    let f3 : Option Moment → Meta = λ x. record { version = b.version; changeset = b.changeset; stamp = x; uid = a.uid; user = a.user } in
-    let f4 : ℤ → Meta = λ x. record { version = b.version; changeset = b.changeset; stamp = b.stamp; uid = x; user = a.user } in
-    let f5 : List ℕ → Meta = λ x. record { version = b.version; changeset = b.changeset; stamp = b.stamp; uid = b.uid; user = x } in
-    ap f1 version ∙ (ap f2 changeset ∙ (ap f3 stamp ∙ (ap f4 uid ∙ ap f5 user)))
-
-one_tag : (spelled : List ℕ) (a b : Tag) → SpellsTag spelled a → SpellsTag spelled b → a ≡ b
-one_tag spelled a b h k =
-    let h_key : AreLiteral h.key = subst AreLiteral (sym h.key_is.0) h.key_is.1 in
-    let k_key : AreLiteral k.key = subst AreLiteral (sym k.key_is.0) k.key_is.1 in
-    let parts = same_literals h.key k.key (61 ∷ h.value) (61 ∷ k.value) h_key k_key refl refl (sym h.parts ∙ k.parts) in
-    let behind : 61 ∷ h.value ≡ 61 ∷ k.value = parts.1 in
-    let values : h.value ≡ k.value = cc in
-    let f : List ℕ → Tag = λ x. record { key = x; value = a.value } in
-    let g : List ℕ → Tag = λ x. record { key = b.key; value = x } in
-    ap f (sym h.key_is.0 ∙ (parts.0 ∙ k.key_is.0)) ∙ ap g (sym h.value_is.0 ∙ (values ∙ k.value_is.0))
-
-pub same_written : (parts : List (List ℕ)) (a b : List Tag) → Each SpellsTag parts a → Each SpellsTag parts b → a ≡ b
-same_written [] [] [] h k = refl
-same_written [] [] (y ∷ b) h k = absurd k
-same_written [] (x ∷ a) b h k = absurd h
-same_written (p ∷ parts) [] b h k = absurd h
-same_written (p ∷ parts) (x ∷ a) [] h k = absurd k
-same_written (p ∷ parts) (x ∷ a) (y ∷ b) h k = ap (λ t. t ∷ a) (one_tag p x y h.0 k.0) ∙ ap (λ l. y ∷ l) (same_written parts a b h.1 k.1)
-
-one_tags : (found : Option (List ℕ)) (a b : List Tag) → MatchOption found (a ≡ []) (λ spelled. SpellsTags spelled a) → MatchOption found (b ≡ []) (λ spelled. SpellsTags spelled b) → HasRisingKeys a → HasRisingKeys b → a ≡ b
-one_tags None a b h k up down = h ∙ sym k
-one_tags (Some t) a b h k up down =
-    let same = same_written (items t) h.written k.written h.each k.each in
-    let order : IsPermutation h.written b = subst (λ w. IsPermutation w b) (sym same) k.order in
-    one_order (λ (tag : Tag). tag.key) nat_list_cmp_total a b (IsPermutation-trans a h.written b (IsPermutation-sym h.written a h.order) order) up down
-
-one_coordinate : (found : Option (List ℕ)) (y z : ℤ) → MatchOption found ⊥ (λ spelled. IsDegrees spelled y) → MatchOption found ⊥ (λ spelled. IsDegrees spelled z) → y ≡ z
-one_coordinate None y z h k = absurd h
-one_coordinate (Some t) y z h k = one_value t y z h k
-
-one_body : (rest : List (List ℕ)) (a b : Body) → SpellsBody rest a → SpellsBody rest b → a ≡ b
-one_body rest (Node p) (Node q) h k =
-    let f : ℤ → Place = λ x. record { lon = x; lat = p.lat } in
-    let g : ℤ → Place = λ x. record { lon = q.lon; lat = x } in
-    ap Node (ap f (one_coordinate (field 120 rest) p.lon q.lon h.0 k.0) ∙ ap g (one_coordinate (field 121 rest) p.lat q.lat h.1 k.1))
-
--- the fields of a line make one object at most, its tags in their order
-pub one_object : (line : List ℕ) (a b : Element) → SpellsFields line a → SpellsFields line b → HasRisingKeys a.tags → HasRisingKeys b.tags → a ≡ b
-one_object line a b h k up down =
-    let same : (110 ∷ h.id_text) ∷ h.rest ≡ (110 ∷ k.id_text) ∷ k.rest = sym h.fields ∙ k.fields in
-    let texts : h.id_text ≡ k.id_text = cc in
-    let rests : h.rest ≡ k.rest = cc in
-    let id : a.id ≡ b.id = one_integer k.id_text a.id b.id (subst (λ t. IsInteger t a.id) texts h.id_is) k.id_is in
-    let meta : a.meta ≡ b.meta = one_meta k.rest a.meta b.meta (subst (λ r. SpellsMeta r a.meta) rests h.meta_is) k.meta_is in
-    let tags : a.tags ≡ b.tags = one_tags (field 84 k.rest) a.tags b.tags (subst (λ r. MatchOption (field 84 r) (a.tags ≡ []) (λ spelled. SpellsTags spelled a.tags)) rests h.tags_are) k.tags_are up down in
-    let body : a.body ≡ b.body = one_body k.rest a.body b.body (subst (λ r. SpellsBody r a.body) rests h.body_is) k.body_is in
-    let f1 : ℤ → Element = λ x. record { id = x; meta = a.meta; tags = a.tags; body = a.body } in
-    let f2 : Meta → Element = λ x. record { id = b.id; meta = x; tags = a.tags; body = a.body } in
-    let f3 : List Tag → Element = λ x. record { id = b.id; meta = b.meta; tags = x; body = a.body } in
-    let f4 : Body → Element = λ x. record { id = b.id; meta = b.meta; tags = b.tags; body = x } in
-    ap f1 id ∙ (ap f2 meta ∙ (ap f3 tags ∙ ap f4 body))
-
-pub one_change : (line : List ℕ) (a b : Change) → Spells line a → Spells line b → a ≡ b
-one_change line (changes.Put o) (changes.Put p) h k = ap changes.Put (one_object line o p h.fields k.fields h.element.rising k.element.rising)
-one_change line (changes.Put o) (changes.Delete r) h k = absurd k
-one_change line (changes.Delete r) b h k = absurd h
+use Rattle.opl_codec.proofs.EachLemmas.{each_same}
+use Rattle.opl_codec.proofs.OneObject.{one_tag, one_by_fields, one_change}
 
 -- ---- the form of each field
 one_of : (b c : ℕ) (rest : Bool) (letter : Letter) → code letter ≡ c → (rest ≡ true → (m : Letter) × (code m ≡ b)) → ((b == c) || rest) ≡ true → (m : Letter) × (code m ≡ b)
@@ -279,7 +203,7 @@ found_for rest f c g e =
 
 no_bad_tags : (text : List ℕ) (tags : List Tag) → SpellsTags text tags → length tags ≤ 65535 → All (λ tag. IsShort tag.key × IsShort tag.value) tags → HasRisingKeys tags → HasBadTags text → ⊥
 no_bad_tags text tags s few short up bad =
-    let same : s.written ≡ bad.0 = same_written (items text) s.written bad.0 s.each bad.1 in
+    let same : s.written ≡ bad.0 = each_same SpellsTag one_tag (items text) s.written bad.0 s.each bad.1 in
     let order : IsPermutation tags bad.0 = IsPermutation-sym bad.0 tags (subst (λ w. IsPermutation w tags) same s.order) in
     elim bad.2 [
       | inl many ↦ omega (arith, length_permutation tags bad.0 order)
@@ -340,7 +264,7 @@ excludes line causes.OutsideModel byte o real s h = elim s [
           (tags_form (field 84 h.fields.rest) (drop 1 inside.0) o.tags (found_for h.fields.rest inside.0 84 (formed_at line o h.fields inside.0 byte inside.1) tags.0) h.fields.tags_are)
           h.element.fits.few_tags h.element.fits.short_tags h.element.rising tags.1
     ]
-    | inr whole ↦ let p = whole.1 in let same = one_object line o p.0 h.fields p.1 h.element.rising p.2 in let short = h.element.short_line in let long = p.3 in omega (arith, ap (λ (e : Element). length (canonical_line e)) same)
+    | inr whole ↦ let p = whole.1 in let same = one_by_fields line o p.0 h.fields p.1 h.element.rising p.2 in let short = h.element.short_line in let long = p.3 in omega (arith, ap (λ (e : Element). length (canonical_line e)) same)
   ]
 excludes line causes.ReaderFailed byte o real s h = s
 excludes line causes.Endless byte o real s h = s

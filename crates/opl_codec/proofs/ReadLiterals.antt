@@ -12,7 +12,8 @@ use Rattle.osm_model.specs.declared.tag.Tag.{Tag}
 use Rattle.opl_codec.specs.Fields.{pieces, onto_first, Each}
 use Rattle.opl_codec.specs.Lines.{SpellsTag, SpellsText, items}
 use Rattle.opl_codec.specs.Reading.{AreLiteral, BeginsNonliteral, Ends}
-use Rattle.opl_codec.proofs.ReadPieces.{pieces_all, some_piece, equal_from}
+use Rattle.opl_codec.proofs.ReadPieces.{pieces_all, equal_from}
+use Rattle.opl_codec.proofs.PieceLemmas.{some_piece}
 
 -- a literal byte is ASCII, and none of these
 pub literal_small : (byte : ℕ) → is_literal byte ≡ true → byte < 128

@@ -7,22 +7,7 @@ use Rattle.std.proofs.lemmas.Bool.Decides.{nat_tests}
 use Rattle.memchr.specs.Find.{IsFirst, Passes, is_byte, NoneBefore}
 use Rattle.opl_codec.specs.Fields.{pieces, onto_first, letter_of}
 use Rattle.opl_codec.specs.Faults.{behind}
-
--- no separator: one piece
-pub one_piece : (separator : ℕ) (text : List ℕ) → ((k : ℕ) → k < length text → get_or text k 0 ≢ separator) → pieces separator text ≡ text ∷ []
-one_piece separator [] none = refl
-one_piece separator (x ∷ text) none =
-    let other : (x == separator) ≡ false = grind (arith, nat_tests, none 0 (omega arith)) in
-    rw (other, one_piece separator text (λ k lt. none (suc k) (omega arith))) refl
-
--- the first piece ends at the first separator
-pub first_piece : (separator : ℕ) (text : List ℕ) (n : ℕ) → ((k : ℕ) → k < n → get_or text k 0 ≢ separator) → n < length text → get_or text n 0 ≡ separator → pieces separator text ≡ take n text ∷ pieces separator (drop (suc n) text)
-first_piece separator [] n none lt at = absurd (omega arith)
-first_piece separator (x ∷ text) zero none lt at =
-    let same : (x == separator) ≡ true = grind (arith, nat_tests, at) in rw same refl
-first_piece separator (x ∷ text) (suc n) none lt at =
-    let other : (x == separator) ≡ false = grind (arith, nat_tests, none 0 (omega arith)) in
-    rw (other, first_piece separator text n (λ k h. none (suc k) (omega arith)) (omega arith) at) refl
+use Rattle.opl_codec.proofs.PieceLemmas.{some_piece, one_piece, first_piece}
 
 passed : (separator x : ℕ) → x ≡ separator → is_byte separator x ≡ true
 passed separator x e = grind (arith, nat_tests, e)
@@ -38,7 +23,7 @@ pub cut_some : (separator : ℕ) (text rest : List ℕ) (n : ℕ) → rest ≡ d
     → (pieces separator text ≡ take n text ∷ pieces separator rest) × (length (take n text) + 1 + length rest ≡ length text)
 cut_some separator text rest n is found at =
     let high = found.high in
-    let first = first_piece separator text n (λ k lt e. found.before k (omega arith) lt (passed separator (get_or text k 0) e)) high (stood separator (get_or text n 0) at) in
+    let first = first_piece separator text n high (λ k lt e. found.before k (omega arith) lt (passed separator (get_or text k 0) e)) (stood separator (get_or text n 0) at) in
     let le : n ≤ length text = omega arith in
     ( first ∙ ap (λ r. take n text ∷ pieces separator r) (rw add-one at (sym is))
     , omega (arith, length-take-le n text le, ap length is, length-drop (n + 1) text) )
@@ -46,18 +31,6 @@ cut_some separator text rest n is found at =
 -- the rest of a text, as a range gives it
 pub rest_is : (text : List ℕ) (n : ℕ) → take (length text - (n + 1)) (drop (n + 1) text) ≡ drop (n + 1) text
 rest_is text n = take_all (length text - (n + 1)) (drop (n + 1) text) (omega (arith, length-drop (n + 1) text))
-
--- there is always a piece
-pub some_piece : (separator : ℕ) (text : List ℕ) → pieces separator text ≡ [] → ⊥
-some_piece separator [] e = cc
-some_piece separator (x ∷ text) e = elim (x == separator) as (λ b. cond b ([] ∷ pieces separator text) (onto_first x (pieces separator text)) ≡ [] → ⊥) [
-    | true ↦ λ h. cc
-    | false ↦ λ h. onto_some x (pieces separator text) h
-  ] e
-  where
-    onto_some : (x : ℕ) (ps : List (List ℕ)) → onto_first x ps ≡ [] → ⊥
-    onto_some x [] h = cc
-    onto_some x (p ∷ ps) h = cc
 
 join_onto : (separator x : ℕ) (ps : List (List ℕ)) → join_with_byte separator (onto_first x ps) ≡ x ∷ join_with_byte separator ps
 join_onto separator x [] = refl

@@ -23,14 +23,12 @@ use Rattle.opl_codec.specs.Faults.{HasBadTags}
 use Rattle.opl_codec.specs.Reading.{AreLiteral, Ends, IsUnspelled, IsBadTags, KeepsLimits, place_in, moved_by}
 use Rattle.opl_codec.specs.declared.misfit.Misfit.{Misfit}
 use Rattle.opl_codec.specs.declared.misfit.Misfit.TheVariants as misfits
+use Rattle.opl_codec.proofs.EachLemmas.{each_append}
 use Rattle.opl_codec.proofs.ReadPieces.{pieces_left}
 
 -- ---- one after another
 pub each_push : {A B : Type 0} (R : A → B → Type 0) (xs : List A) (ys : List B) (x : A) (y : B) → Each R xs ys → R x y → Each R (xs ++ x ∷ []) (ys ++ y ∷ [])
-each_push R [] [] x y each r = (r, tt)
-each_push R [] (z ∷ ys) x y each r = absurd each
-each_push R (w ∷ xs) [] x y each r = absurd each
-each_push R (w ∷ xs) (z ∷ ys) x y each r = (each.0, each_push R xs ys x y each.1 r)
+each_push R xs ys x y each r = each_append R xs (x ∷ []) ys (y ∷ []) each (r, tt)
 
 pub each_behind : {A B : Type 0} (R : A → B → Type 0) (xs more : List A) (ys : List B) → Each R (xs ++ more) ys → (zs : List B) × Each R more zs
 each_behind R [] more ys each = (ys, each)

@@ -44,12 +44,6 @@ pub fn read_line(alloc: Global, line: &[u8]) -> Result<Option<Change>, OplFault>
     Ok(Some(Change::Put(object)))
 }
 
-/// A law: a line says one change at most.
-pub fn one_change()
-    ensures { (line : List ℕ) (a b : Change) → Spells line a → Spells line b → a ≡ b }
-{
-}
-
 /// Looks at the length and the encoding of a line.
 fn check_bytes(line: &[u8]) -> Result<(), OplFault>
     ensures ok { OnOk result (length line.now ≤ 2 ^ 25) }

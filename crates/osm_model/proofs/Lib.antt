@@ -4,4 +4,8 @@ pub mod References
 pub mod Digits
 pub mod DecimalValues
 pub mod OneDecimal
-pub mod HexLength
+pub mod LineLengths
+pub mod UniqueTags
+pub mod Decimals
+pub mod ReadBack
+pub mod DegreesLemmas

@@ -1,11 +1,10 @@
 -- A text is one decimal at most.
-use Rattle.std.proofs.Common.{◌≡◌, ◌≢◌, ℕ, ◌<◌, ◌≤◌, List, [], ◌∷◌, ◌++◌, length, Bool, true, false, ℤ, unsigned_abs, Option, Some, None, Result, Ok, Err, IfOk, IfErr, refl, sym, ◌∙◌, ap, subst, arith, lit≤}
+use Rattle.std.proofs.Common.{◌≡◌, ℕ, ◌<◌, ◌≤◌, List, [], ◌∷◌, ◌++◌, length, Bool, true, false, ℤ, unsigned_abs, Option, Some, None, Result, Ok, Err, IfOk, IfErr, refl, sym, ◌∙◌, ap, arith}
 use Rattle.std.specs.Char.{digit_value}
-use Rattle.std.specs.Str.Parse.{AllDigits}
 use Rattle.osm_model.specs.declared.axis.Axis.{Axis}
 use Rattle.osm_model.specs.declared.fault.ModelFault.{ModelFault}
 use Rattle.osm_model.specs.declared.fault.ModelFault.TheVariants.{EmptyNumber, NotDecimal, TooManyDecimals, OutOfRange, ObjectTwice, KeyTwice, LimitPassed, NulInText}
-use Rattle.osm_model.specs.Degrees.{Decimal, Spells, IsDegrees, IsFault, IsDigits, sign, point, value, limit, decimals, spelling}
+use Rattle.osm_model.specs.Degrees.{Decimal, Spells, IsDegrees, IsFault, IsDigits, sign, point, value, limit, decimals}
 use Rattle.osm_model.proofs.Digits.{same_front, other_point}
 
 same_point : (f g : Option (List ℕ)) → point f ≡ point g → f ≡ g

@@ -1,17 +1,17 @@
 -- References are in one order, and a search finds the object that has one.
-use Rattle.std.proofs.Common.{◌≡◌, ◌≢◌, ℕ, zero, suc, ◌+◌, ◌<◌, ◌≤◌, List, [], ◌∷◌, length, get_or, map, Bool, true, false, cond, Some, None, Option, Result, Ok, Err, inl, inr, refl, sym, ◌∙◌, ap, arith, rules}
+use Rattle.std.proofs.Common.{◌≡◌, ℕ, zero, suc, ◌+◌, ◌<◌, List, [], ◌∷◌, length, get_or, map, Bool, false, Some, None, Result, Ok, Err, inl, inr, refl, sym, ◌∙◌, arith}
 use Rattle.std.specs.List.{find, HoldsAt, slice_get}
 use Rattle.std.specs.Prelude.{IfOk, IfErr}
 use Rattle.std.proofs.lemmas.Bool.{cases_lt}
 use Rattle.std.proofs.lemmas.Option.{slice_get-get_or}
 use Rattle.std.specs.declared.cmp.Ordering.{Ordering}
-use Rattle.std.specs.declared.cmp.Ordering.TheVariants.{Less, Equal, Greater}
-use Rattle.std.specs.Ordering.{nat_cmp, int_cmp, is_eq, is_lt, eq_by_cmp, ordering_reverse, ordering_index}
+use Rattle.std.specs.declared.cmp.Ordering.TheVariants.{Less, Equal}
+use Rattle.std.specs.Ordering.{is_eq, is_lt, eq_by_cmp}
 use Rattle.std.specs.Cmp.{IsTotalOrder}
 use Rattle.std.specs.List.Sorted.{IsStrictlySortedBy, IsBinarySearchResult, IsSearchInRange}
 use Rattle.std.proofs.lemmas.List.{get_or-map, length-map}
 use Rattle.std.proofs.lemmas.Map.Keys.{Less-from_sorted, sorted_tail}
-use Rattle.std.proofs.lemmas.Cmp.{nat_cmp_total, int_cmp_total, on_total, then_total, alike_right, tied_back}
+use Rattle.std.proofs.lemmas.Cmp.{nat_cmp_total, int_cmp_total, on_total, then_total, alike_right}
 use Rattle.osm_model.specs.declared.reference.Ref.{Ref}
 use Rattle.std.specs.List.{AllAdjacentBelow}
 use Rattle.std.specs.List.Sorted.{IsPermutation, IsSortedByKey, IsSortedBy}
@@ -61,12 +61,15 @@ module _ {X K : Type 0} (key : X → K) {cmp : K → K → Ordering} (o : IsTota
   pub searched : (xs : List X) (p : Result ℕ ℕ) → IsStrictlySortedBy cmp (map key xs) → IsSearchInRange p (length xs) → IsBinarySearchResult (λ x. cmp (key x) r) xs p
       → record { found : IfOk p (λ at. (at < length xs) × (find Has xs ≡ slice_get xs at)); none : IfErr p (λ _. find Has xs ≡ None) }
   searched xs (Ok at) up bound e = record { found = (bound, from_place xs at up bound e); none = tt }
-  searched xs (Err at) up bound parts = record { found = tt; none = finds_none xs (λ k d lt.
-      let sides = parts (searchable_from_sorted o key xs r (sorted xs up)) in
-      elim (cases_lt k at) [
-        | inl before ↦ rw (sides.0 k d (omega arith) before) refl
-        | inr after ↦ rw (sides.1 k d after lt) refl
-      ]) }
+  searched xs (Err at) up bound parts = record {
+    found = tt;
+    none = finds_none xs (λ k d lt.
+        let sides = parts (searchable_from_sorted o key xs r (sorted xs up)) in
+        elim (cases_lt k at) [
+          | inl before ↦ rw (sides.0 k d (omega arith) before) refl
+          | inr after ↦ rw (sides.1 k d after lt) refl
+        ]);
+  }
 
 -- references that differ rise once the objects are sorted
 pub twice : (objects sorted : List Element) → IsPermutation objects sorted → IsSortedByKey (λ (o : Element). reference o) ref_cmp sorted
@@ -74,4 +77,4 @@ pub twice : (objects sorted : List Element) → IsPermutation objects sorted →
 twice objects sorted p up not differ =
     let same : IsPermutation (map (λ (o : Element). reference o) objects) (map (λ (o : Element). reference o) sorted) = IsPermutation-map (λ (o : Element). reference o) objects sorted p in
     not (rises_from_distinct (λ (o : Element). reference o) refs_total sorted up
-      (IsDistinct-IsPermutation (eq_by_cmp ref_cmp) ((eq_by_cmp_equiv refs_total).symm) _ _ same differ))
+    (IsDistinct-IsPermutation (eq_by_cmp ref_cmp) ((eq_by_cmp_equiv refs_total).symm) _ _ same differ))

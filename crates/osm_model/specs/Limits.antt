@@ -1,7 +1,7 @@
 -- What every object keeps, and what parts make no object.
 -- Source: the limits of numbers, texts and lists are this project's, within the OpenStreetMap API 0.6;
 -- the keys of an object's tags differ (API 0.6).
-use Rattle.std.specs.Prelude.{◌≡◌, ◌≢◌, ℕ, ◌<◌, ◌≤◌, ◌^◌, ◌⊎◌, ℤ, FitsSigned, List, length, All, ⊤}
+use Rattle.std.specs.Prelude.{◌≡◌, ◌≢◌, ℕ, ◌<◌, ◌≤◌, ◌^◌, ◌⊎◌, ℤ, FitsSigned, List, length, All}
 use Rattle.std.specs.Ordering.{eq_by_cmp, nat_cmp}
 use Rattle.std.specs.Int.{w64}
 use Rattle.std.specs.Cmp.Lexicographic.{slice_cmp}

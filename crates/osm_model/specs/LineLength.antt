@@ -1,5 +1,5 @@
 -- How long a canonical line is, field by field.
-use Rattle.std.specs.Prelude.{ℕ, ◌+◌, ℤ, pos, length}
+use Rattle.std.specs.Prelude.{ℕ, ◌+◌, ℤ, length}
 use Rattle.std.specs.Fmt.{decimal, signed_decimal}
 use Rattle.osm_model.specs.CanonicalDegrees.{degrees}
 use Rattle.osm_model.specs.CanonicalLine.{moment}
@@ -10,6 +10,6 @@ use Rattle.osm_model.specs.declared.body.Body.TheVariants as bodies
 abbrev pub body_len : Body → ℕ
 body_len (bodies.Node place) = length (degrees place.lon) + length (degrees place.lat)
 
--- all but the user and the tags: ten letters, nine blanks and the `V` among it
+-- all but the user and the tags: ten letters, the `V`, and eight of the nine blanks
 abbrev pub number_len : ℤ → Meta → Body → ℕ
-number_len id meta body = 20 + length (signed_decimal id) + length (decimal meta.version) + length (signed_decimal meta.changeset) + length (signed_decimal meta.uid) + length (moment meta.stamp) + body_len body
+number_len id meta body = 19 + length (signed_decimal id) + length (decimal meta.version) + length (signed_decimal meta.changeset) + length (signed_decimal meta.uid) + length (moment meta.stamp) + body_len body

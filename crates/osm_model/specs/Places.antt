@@ -1,5 +1,5 @@
 -- Locations, in 1e-7 degree (OpenStreetMap API 0.6).
-use Rattle.std.specs.Prelude.{ℕ, ◌≤◌, ℤ, unsigned_abs}
+use Rattle.std.specs.Prelude.{◌≤◌, ℤ, unsigned_abs}
 
 pub record Place : Type 0 where
   pub lon : ℤ

@@ -35,8 +35,7 @@ pub fn read_degrees(text: &[u8], axis: Axis) -> Result<i32, ModelFault>
 /// A law: a text has one value at most.
 pub fn one_value()
     ensures { (text : List ℕ) (y z : ℤ) → IsDegrees text y → IsDegrees text z → y ≡ z }
-{
-}
+{}
 
 /// The value, or the first fault.
 fn value_of(text: &[u8], axis: Axis) -> Result<i32, ModelFault>

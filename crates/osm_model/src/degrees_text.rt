@@ -5,9 +5,8 @@ ghost use Rattle.std.specs.Fmt.{decimal};
 ghost use Rattle.osm_model.specs.Degrees.{IsDegrees};
 ghost use Rattle.osm_model.specs.CanonicalDegrees.{degrees, decimals_of, with_point};
 
-use std::marker::Model;
-
 use crate::units::{UNITS, power_of_ten};
+use std::marker::Model;
 
 /// The text of degrees, at most 12 bytes. Contracts see its bytes.
 #[derive(Debug, Drop)]
@@ -47,8 +46,7 @@ pub fn write_degrees(value: i32) -> DegreesText
 /// A law: the text of a value in an axis's range reads back as that value.
 pub fn reads_back()
     ensures { (z : ℤ) → unsigned_abs z ≤ 1800000000 → IsDegrees (degrees z) z }
-{
-}
+{}
 
 impl DegreesText {
     /// The text.

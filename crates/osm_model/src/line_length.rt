@@ -2,17 +2,15 @@
 
 ghost use Rattle.std.specs.Prelude.{◌≡◌, ◌≤◌, ◌+◌, ◌^◌, ◌-◌, ◌↔◌, ℕ, IsTrue, length, min, map};
 ghost use Rattle.std.specs.List.{join_with_byte};
-ghost use Rattle.std.specs.Fmt.{signed_decimal};
+ghost use Rattle.std.specs.Fmt.{signed_decimal, decimal};
 ghost use Rattle.osm_model.specs.CanonicalLine.{canonical_line, escaped, escaped_char, is_literal, hex_places, tag_text};
-ghost use Rattle.osm_model.specs.LineLength.{number_len};
-
-use itoa::Buffer;
+ghost use Rattle.osm_model.specs.LineLength.{number_len, body_len};
 
 use crate::body::Body;
 use crate::degrees_text::write_degrees;
 use crate::meta::Meta;
 use crate::tag::Tag;
-use crate::text::Text;
+use itoa::Buffer;
 
 /// The longest canonical line, in bytes, without its end.
 const LONGEST: u64 = 16_777_216;
@@ -23,40 +21,58 @@ pub fn has_short_line(id: i64, meta: &Meta, tags: &[Tag], body: &Body) -> bool
     ensures { IsTrue result ↔ (length (canonical_line (record { id = id; meta = meta.now; tags = tags.now; body = body.now })) ≤ 2 ^ 24) }
 {
     let numbers = numbers_len(id, meta, body);
-    let texts = escaped_len(&meta.user).saturating_add(tags_len(tags));
+    let texts = escaped_len(meta.user.as_str()).saturating_add(tags_len(tags));
     texts.saturating_add(numbers) <= LONGEST
 }
 
-/// The bytes of all fields but the user and the tags, with the blanks and the letters of all.
+/// The bytes of all fields but the user and the tags, with the letters of all and the blanks between
+/// them, but for the one behind the tags.
 fn numbers_len(id: i64, meta: &Meta, body: &Body) -> u64
-    ensures { result ≡ number_len id meta.now body.now }
+    ensures value { result ≡ number_len id meta.now body.now }
+    ensures small { result ≤ 300 }
 {
     let stamp = if meta.stamp.is_some() { 20 } else { 0 };
-    let Body::Node(place) = body;
-    let place = write_degrees(place.lon()).len() + write_degrees(place.lat()).len();
-    20 + integer_len(id)
-        + integer_len(i64::from(meta.version))
-        + integer_len(meta.changeset)
-        + integer_len(meta.uid)
+    19 + signed_len(id)
+        + unsigned_len(meta.version)
+        + signed_len(meta.changeset)
+        + signed_len(meta.uid)
         + stamp
-        + place as u64
+        + place_len(body)
 }
 
-fn integer_len(number: i64) -> u64
+fn signed_len(number: i64) -> u64
     ensures value { result ≡ length (signed_decimal number) }
-    ensures short { result ≤ 40 }
+    ensures small { result ≤ 40 }
 {
     Buffer::new().format(number).len() as u64
 }
 
-/// The bytes of the tags' field behind its letter.
-fn tags_len(tags: &[Tag]) -> u64
-    ensures { result ≡ min (length (join_with_byte 44 (map tag_text tags.now))) (2 ^ 64 - 1) }
+fn unsigned_len(number: u32) -> u64
+    ensures value { result ≡ length (decimal number) }
+    ensures small { result ≤ 40 }
 {
+    Buffer::new().format(number).len() as u64
+}
+
+fn place_len(body: &Body) -> u64
+    ensures value { result ≡ body_len body.now }
+    ensures small { result ≤ 24 }
+{
+    let Body::Node(place) = body;
+    let len = write_degrees(place.lon()).len() + write_degrees(place.lat()).len();
+    len as u64
+}
+
+/// The bytes of the tags' field behind its letter, with one byte more behind them.
+fn tags_len(tags: &[Tag]) -> u64
+    ensures { result ≡ min (length (join_with_byte 44 (map tag_text tags.now)) + 1) (2 ^ 64 - 1) }
+{
+    if tags.is_empty() {
+        return 1;
+    }
     let mut len = 0u64;
-    for (place, tag) in tags.iter().enumerate() {
-        let comma = u64::from(place > 0);
-        len = len.saturating_add(comma).saturating_add(tag_len(tag));
+    for tag in tags {
+        len = len.saturating_add(1).saturating_add(tag_len(tag));
     }
     len
 }
@@ -64,22 +80,22 @@ fn tags_len(tags: &[Tag]) -> u64
 fn tag_len(tag: &Tag) -> u64
     ensures { result ≡ min (length (tag_text tag.now)) (2 ^ 64 - 1) }
 {
-    escaped_len(&tag.key)
-        .saturating_add(1)
-        .saturating_add(escaped_len(&tag.value))
+    let key = escaped_len(tag.key.as_str());
+    let value = escaped_len(tag.value.as_str());
+    key.saturating_add(1).saturating_add(value)
 }
 
-fn escaped_len(text: &Text) -> u64
+fn escaped_len(text: &str) -> u64
     ensures { result ≡ min (length (escaped text.now)) (2 ^ 64 - 1) }
 {
     let mut len = 0u64;
-    for c in text.as_str().chars() {
+    for c in text.chars() {
         len = len.saturating_add(escaped_char_len(c));
     }
     len
 }
 
-#[tactic(auto, using(crate::proofs::HexLength::length_of_escape))]
+#[tactic(auto, using(crate::proofs::LineLengths::length_of_escape))]
 fn escaped_char_len(c: char) -> u64
     ensures value { result ≡ length (escaped_char c) }
     ensures small { result ≤ 8 }

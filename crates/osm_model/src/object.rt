@@ -8,9 +8,6 @@ ghost use Rattle.std.specs.Cmp.Lexicographic.{slice_cmp};
 ghost use Rattle.osm_model.specs.Elements.{reference};
 ghost use Rattle.osm_model.specs.Limits.{IsShort, HasNoNul, Fits, IsClean, IsMadeOf, IsElement, Refuses, BodyInRange};
 
-use std::cmp::Ordering;
-use std::marker::Model;
-
 use crate::body::Body;
 use crate::fault::ModelFault;
 use crate::kind::Kind;
@@ -19,6 +16,8 @@ use crate::meta::Meta;
 use crate::reference::Ref;
 use crate::tag::Tag;
 use crate::tag_list::TagList;
+use std::cmp::Ordering;
+use std::marker::Model;
 
 /// An object: its id, metadata, tags by rising key, and what is particular to its kind.
 ///
@@ -153,8 +152,7 @@ fn parts_are_clean(meta: &Meta, tags: &[Tag]) -> bool
 fn tags_are_clean(tags: &[Tag]) -> bool
     ensures { IsTrue result ↔ All (λ tag. HasNoNul tag.key × HasNoNul tag.value) tags.now }
 {
-    tags.iter()
-        .all(|tag| has_no_nul(tag.key.as_bytes()) && has_no_nul(tag.value.as_bytes()))
+    tags.iter().all(|tag| has_no_nul(tag.key.as_bytes()) && has_no_nul(tag.value.as_bytes()))
 }
 
 #[tactic(auto, unfolding(crate::specs::Limits::HasNoNul))]

@@ -8,12 +8,11 @@ ghost use Rattle.osm_model.specs.Elements.{reference, ref_cmp, kind_byte};
 ghost use Rattle.osm_model.specs.Limits.{IsElement};
 ghost use Rattle.osm_model.specs.Sets.{IsObjectSet, HasDistinctReferences, object_at};
 
-use std::cmp::Ordering;
-use std::marker::Model;
-
 use crate::fault::ModelFault;
 use crate::object::Object;
 use crate::reference::Ref;
+use std::cmp::Ordering;
+use std::marker::Model;
 
 /// A set of objects: no two have one reference. Contracts see the list of them by rising reference.
 #[derive(Debug, Drop)]

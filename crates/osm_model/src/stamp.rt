@@ -34,14 +34,7 @@ impl Model for Stamp {
 
 impl Stamp {
     /// The moment of these numbers, or `None` where one is out of its range.
-    pub fn new(
-        year: u16,
-        month: u8,
-        day: u8,
-        hour: u8,
-        minute: u8,
-        second: u8,
-    ) -> Option<Stamp>
+    pub fn new(year: u16, month: u8, day: u8, hour: u8, minute: u8, second: u8) -> Option<Stamp>
         ensures { let moment : Moment = record { year = year; month = month; day = day; hour = hour; minute = minute; second = second } in
             MatchOption result (¬ IsMoment moment) (λ stamp. (stamp ≡ moment) × IsMoment moment) }
     {

@@ -2,9 +2,8 @@
 
 ghost use Rattle.std.specs.Prelude.{◌≡◌};
 
-use std::marker::Model;
-
 use crate::tag::Tag;
+use std::marker::Model;
 
 /// Tags in their order. Contracts see the list of them.
 #[derive(Debug, Drop)]

@@ -10,6 +10,7 @@ pub fn power_of_ten(n: usize) -> u64
     requires { n ≤ 7 }
     ensures value { result ≡ 10 ^ n }
     ensures bound { result ≤ 10000000 }
+    ensures some { 1 ≤ result }
 {
     match n {
         0 => 1,

@@ -1,4 +1,4 @@
-use Rattle.std.proofs.Common.{rules, arith, length-drop}
+use Rattle.std.proofs.Common.{arith, length-drop}
 use Rattle.std.proofs.lemmas.List.{take_all}
 use Rattle.osm_model.proofs.Digits.{none_without_digits, none_behind, if_none_weaker}
 use Rattle.osm_model.proofs.decimal.split_unsigned.Goals as goal

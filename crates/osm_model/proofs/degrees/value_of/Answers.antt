@@ -1,5 +1,5 @@
-use Rattle.std.proofs.Common.{rules, arith}
-use Rattle.osm_model.proofs.DecimalValues.{refuses, accepts}
+use Rattle.std.proofs.Common.{arith}
+use Rattle.osm_model.proofs.DecimalValues.{refuses}
 use Rattle.osm_model.proofs.degrees.value_of.Goals as goal
 
 pub returns-then-units-limit-clause-refused : goal.returns-then-units-limit-clause-refused

@@ -1,4 +1,4 @@
-use Rattle.std.proofs.Common.{rules, ℕ, ℤ}
+use Rattle.std.proofs.Common.{rules}
 use Rattle.std.proofs.lemmas.List.Sorted.{answers_always}
 use Rattle.osm_model.specs.Elements.{Element, reference, ref_cmp, kind_byte}
 use Rattle.osm_model.proofs.References.{refs_total, searched}

@@ -1,10 +1,9 @@
-use Rattle.std.proofs.Common.{rules, arith, ◌≡◌, sym, refl}
+use Rattle.std.proofs.Common.{refl}
 use Rattle.std.specs.Ordering.{eq_by_cmp}
 use Rattle.std.proofs.lemmas.Cmp.{eq_by_cmp_equiv}
 use Rattle.std.proofs.lemmas.List.Sorted.{IsPermutation-map, IsPermutation-sym}
 use Rattle.std.proofs.lemmas.Map.Keys.{IsDistinct-IsPermutation, IsDistinct-from_sorted}
-use Rattle.osm_model.specs.Elements.{Element, reference, references, ref_cmp}
-use Rattle.osm_model.specs.Sets.{IsObjectSet}
+use Rattle.osm_model.specs.Elements.{Element, reference, ref_cmp}
 use Rattle.osm_model.proofs.References.{refs_total, twice}
 use Rattle.osm_model.proofs.RisingKeys.{rising}
 use Rattle.osm_model.proofs.object_set.ObjectSet.from_objects.Goals as goal

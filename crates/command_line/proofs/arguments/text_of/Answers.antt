@@ -1,0 +1,9 @@
+use Rattle.std.proofs.Common.{rules, ◌∙◌}
+use Rattle.clap.specs.Words.{found_of}
+use Rattle.clap.proofs.WalkLemmas.{first_value-rows}
+use Rattle.command_line.proofs.arguments.text_of.Goals as goal
+
+pub returns : goal.returns
+returns c =
+    let found = c.get_str.ensures ∙ first_value-rows (found_of c.args.matches.now) c.args.id.now in
+    rw (← found) (search rules)

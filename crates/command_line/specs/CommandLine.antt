@@ -1,0 +1,13 @@
+-- The program's command line, as clap defines it.
+use Rattle.std.specs.Prelude.{codes, true}
+use Rattle.clap.specs.Words.{App, new_app, with_subcommand}
+use Rattle.command_line.specs.AskCommand.{ask_app}
+
+-- the program, of which a command is required; its help is no command
+abbrev pub bare_app : App
+bare_app = let app = new_app (codes "osm_mirror") in
+    record app { top = record app.top { subcommand_required = true; disable_help_subcommand = true } }
+
+-- one level of commands
+abbrev pub program_app : App
+program_app = with_subcommand bare_app ask_app.top

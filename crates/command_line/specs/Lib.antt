@@ -1,0 +1,4 @@
+pub mod Arguments
+pub mod AskCommand
+pub mod CommandLine
+pub mod Jobs

@@ -1,0 +1,18 @@
+//! The words of the command line of `osm_mirror`, read by `clap`.
+//!
+//! A command has a file of its own (`ask_command.rt`), with the part of the command line that it adds and
+//! the job that its matches ask for. `program_command.rt` joins the commands, `words.rt` reads the words.
+#![tactic(auto)]
+
+mod arguments;
+mod ask_command;
+mod job;
+mod program_command;
+#[cfg(test)]
+mod tests;
+mod words;
+mod words_fault;
+
+pub use job::Job;
+pub use words::read_words;
+pub use words_fault::WordsFault;

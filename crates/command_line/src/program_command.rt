@@ -1,0 +1,31 @@
+//! The whole command line of the program.
+
+ghost use Rattle.std.specs.Prelude.{◌≡◌, IfOk, false};
+ghost use Rattle.clap.specs.declared.builder.command.Command.TheViews.{out-Command as fields_of};
+ghost use Rattle.clap.specs.Words.{app_of, with_subcommand};
+ghost use Rattle.command_line.specs.Arguments.{IsCommand};
+ghost use Rattle.command_line.specs.CommandLine.{program_app};
+
+use crate::ask_command::ask_command;
+use clap::Command;
+use std::alloc::{AllocError, Global};
+
+/// The command line of the program: one level of commands, of which one has to be there. `--help` and `-h`
+/// are `clap`'s; there is no command `help`.
+pub fn program_command<'a>(alloc: Global) -> Result<Command<'a>, AllocError>
+    ensures { IfOk result (IsCommand program_app) }
+{
+    let program = Command::new(alloc, "osm_mirror")
+        .subcommand_required(true)
+        .disable_help_subcommand(true);
+    and_command(program, ask_command(alloc)?)
+}
+
+/// The program with one more command.
+fn and_command<'a>(program: Command<'a>, command: Command<'a>) -> Result<Command<'a>, AllocError>
+    requires program { (fields_of program).has_globals ≡ false }
+    requires command { (fields_of command).has_globals ≡ false }
+    ensures { IfOk result (IsCommand (with_subcommand (app_of program.entry) (app_of command.entry).top)) }
+{
+    program.subcommand(command)
+}

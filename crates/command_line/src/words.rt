@@ -1,0 +1,63 @@
+//! The words, read.
+
+ghost use Rattle.std.specs.Prelude.{◌≡◌, [], IfErr, IfOk, OnOk, map, true};
+ghost use Rattle.std.specs.String.{string_bytes};
+ghost use Rattle.clap.specs.Words.{fault_of, found_of, kind_of, rows_of, subcommand_of, takes};
+ghost use Rattle.command_line.specs.CommandLine.{program_app};
+ghost use Rattle.command_line.specs.Jobs.{Gives, GivesMatch, IsCommandName};
+
+use crate::ask_command::{ASK, ask_job};
+use crate::job::Job;
+use crate::program_command::program_command;
+use crate::words_fault::WordsFault;
+use clap::ArgMatches;
+use clap::error::ErrorKind;
+use std::alloc::{AllocError, Global};
+
+/// What the words ask for, the first of which is the program's own name.
+///
+/// The command and its texts are what `clap` makes of the words. A text that begins with `-` stands behind
+/// the word `--`.
+///
+/// # Errors
+///
+/// `Usage` with `clap`'s text, where the words are none of this command line, or ask for help. `Memory`
+/// where an allocation was refused.
+pub fn read_words(alloc: Global, words: Vec<String>) -> Result<Job, WordsFault>
+    ensures read { IfOk result (λ job. GivesMatch job (subcommand_of program_app (map string_bytes words.items))) }
+    ensures accepted { OnOk result (fault_of program_app (map string_bytes words.items) ≡ []) }
+    ensures refused { takes program_app (map string_bytes words.items) ≡ true → IfErr result (λ e. e ≡ WordsFault.Memory) }
+{
+    let program = program_command(alloc)?;
+    match program.try_get_matches_from(words.as_slice()) {
+        Ok(matches) => match matches.subcommand() {
+            Some((name, inner)) => Ok(job_of(alloc, name, inner)?),
+            None => unreachable!("a command is required"),
+        },
+        Err(error) => Err(fault_from(alloc, &error)),
+    }
+}
+
+/// What the matches of the command of this name ask for.
+fn job_of(alloc: Global, name: &str, matches: &ArgMatches<'_>) -> Result<Job, AllocError>
+    requires { IsCommandName name.now }
+    ensures { IfOk result (λ job. Gives job name.now (rows_of (found_of matches.now))) }
+{
+    match name {
+        ASK => ask_job(alloc, matches),
+        _ => unreachable!("each command has its arm"),
+    }
+}
+
+/// The refusal of `clap`, with its text.
+fn fault_from(alloc: Global, error: &clap::Error) -> WordsFault
+    ensures { kind_of error.now ≡ ErrorKind.OutOfMemory → result ≡ WordsFault.Memory }
+{
+    if error.kind() == ErrorKind::OutOfMemory {
+        return WordsFault::Memory;
+    }
+    match error.to_string(alloc) {
+        Ok(text) => WordsFault::Usage(text),
+        Err(_) => WordsFault::Memory,
+    }
+}

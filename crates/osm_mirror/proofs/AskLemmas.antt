@@ -1,0 +1,57 @@
+-- Faults of `ask` from the faults of the calls that it makes.
+use Rattle.std.proofs.Common.{◌≡◌, ℕ, List, Option, None, Some, Result, Ok, Err, IfSome, IfErr, IsErrAnd, ◌⊎◌, inl, inr, refl, sym, subst}
+use Rattle.osm_model.specs.Elements.{Element}
+use Rattle.opl_codec.specs.Files.{HoldsSet, IsOutside as IsOutsideFile}
+use Rattle.opl_codec.specs.declared.cause.OplCause.{OplCause}
+use Rattle.opl_codec.specs.declared.cause.OplCause.TheVariants as causes
+use Rattle.opl_codec.specs.declared.fault.LoadFault.{LoadFault}
+use Rattle.ql_plain.specs.Queries.{Reads}
+use Rattle.ql_plain.specs.declared.query.Query.{Query as QueryTree}
+use Rattle.ql_plain.specs.declared.fault.QlFault.{QlFault}
+use Rattle.osm_mirror.specs.Ask.{Explains, IsAnswer, IsOutside}
+use Rattle.osm_mirror.specs.Faults.{fault_of_cause, fault_of_load}
+use Rattle.osm_mirror.specs.declared.command_fault.CommandFault.{CommandFault}
+
+-- what the reader doesn't read is refused as it should be
+explained_cause : (file query : List ℕ) (load : LoadFault) (cause : OplCause) → load.fault.cause ≡ cause
+    → ((objects : List Element) → HoldsSet file objects → IsOutsideFile cause) → Explains file query (fault_of_cause load cause)
+explained_cause file query load causes.ReaderFailed is only = tt
+explained_cause file query load causes.Memory is only = tt
+explained_cause file query load causes.Endless is only = inl is
+explained_cause file query load _ is only =
+    inr (λ objects holds. elim (only objects holds) [ inl failed ↦ cc | inr other ↦ elim other [ inl endless ↦ cc | inr memory ↦ cc ] ])
+
+-- a fault that lies outside the file lies outside of all that `ask` is given
+outside_cause : (load : LoadFault) (cause : OplCause) → load.fault.cause ≡ cause → IsOutsideFile cause → IsOutside (fault_of_cause load cause)
+outside_cause load causes.ReaderFailed is outside = tt
+outside_cause load causes.Memory is outside = tt
+outside_cause load causes.Endless is outside = is
+outside_cause load _ is outside = elim outside [ inl failed ↦ cc | inr other ↦ elim other [ inl endless ↦ cc | inr memory ↦ cc ] ]
+
+-- a set that isn't read: the fault is explained
+pub explained_unread : (known : Option (List ℕ)) (query : List ℕ) (load : LoadFault) (result : Result (Unit {0}) CommandFault)
+    → IsErrAnd result (λ fault. fault ≡ fault_of_load load)
+    → IfSome known (λ file. (objects : List Element) → HoldsSet file objects → IsOutsideFile load.fault.cause)
+    → IfSome known (λ file. IfErr result (Explains file query))
+explained_unread None query load result told only = tt
+explained_unread (Some file) query load (Ok done) told only = tt
+explained_unread (Some file) query load (Err fault) told only =
+    subst (Explains file query) (sym told) (explained_cause file query load load.fault.cause refl only)
+
+-- a set that isn't read: where there is an answer, the fault lies outside
+pub outside_unread : (known : Option (List ℕ)) (query : List ℕ) (load : LoadFault) (result : Result (Unit {0}) CommandFault)
+    → IsErrAnd result (λ fault. fault ≡ fault_of_load load)
+    → IfSome known (λ file. (objects : List Element) → HoldsSet file objects → IsOutsideFile load.fault.cause)
+    → IfSome known (λ file. (text : List ℕ) → IsAnswer file query text → IfErr result IsOutside)
+outside_unread None query load result told only = tt
+outside_unread (Some file) query load (Ok done) told only = λ text answer. tt
+outside_unread (Some file) query load (Err fault) told only = λ text answer.
+    subst IsOutside (sym told) (outside_cause load load.fault.cause refl (only answer.set answer.holds))
+
+-- a query that doesn't read has no answer
+pub outside_unparsed : (known : Option (List ℕ)) (query : List ℕ) (parsed : Result QueryTree QlFault) (refused : QlFault) (result : Result (Unit {0}) CommandFault)
+    → parsed ≡ Err refused → ((tree : QueryTree) → Reads query tree → parsed ≡ Ok tree)
+    → IfSome known (λ file. (text : List ℕ) → IsAnswer file query text → IfErr result IsOutside)
+outside_unparsed None query parsed refused result is only = tt
+outside_unparsed (Some file) query parsed refused result is only = λ text answer.
+    let same = only answer.tree answer.reads in absurd (cc)

@@ -1,0 +1,4 @@
+pub mod Written
+pub mod Statuses
+pub mod Faults
+pub mod Ask

@@ -1,0 +1,50 @@
+//! The command `ask QUERY`.
+
+ghost use Rattle.std.specs.Prelude.{◌≡◌, ◌≢◌, ℕ, List, IfErr, IfSome, OnOk};
+ghost use Rattle.std.specs.Io.KnownBytes.{Appends, Keeps};
+ghost use Rattle.osm_mirror.specs.Ask.{Explains, IsAnswer, IsBegun, IsOutside};
+
+use crate::command_fault::CommandFault;
+use crate::write_whole::write_whole;
+use opl_codec::read_set;
+use ql_plain::{answer_plain, parse};
+use std::alloc::Global;
+use std::io::{Read, Write};
+
+/// Reads the input as the OPL text of a set of objects, and writes the query's answer over that set: the
+/// OPL text of its meaning. The query is these bytes as they stand.
+///
+/// # Errors
+///
+/// The input is looked at before the query. `Opl` where the input holds no set of objects, or was read 2^32
+/// times without an end; `Query` where the query doesn't read; `Memory` where an allocation was refused;
+/// `Device` where a read failed, or a write failed or took nothing. Nothing is written then, but where
+/// the output failed a beginning of the answer. The input is left where it stood.
+///
+/// Clauses that speak of the input's bytes do so where the reader tells them.
+pub fn ask<R: Read, W: Write>(
+    alloc: Global,
+    query: &[u8],
+    input: &mut R,
+    output: &mut W,
+) -> Result<(), CommandFault>
+    // The output has gained exactly the answer.
+    ensures answered { OnOk result (IfSome (R.remaining input.old) (λ file. (text : List ℕ)
+        × IsAnswer file query.now text × Appends (W.contents output.old) (W.contents output.new) text)) }
+    // What has an answer is answered, unless memory or a device fails.
+    ensures only { IfSome (R.remaining input.old) (λ file. (text : List ℕ)
+        → IsAnswer file query.now text → IfErr result IsOutside) }
+    // Which fault it is.
+    ensures refused { IfSome (R.remaining input.old) (λ file. IfErr result (Explains file query.now)) }
+    // Nothing is written but where a device fails,
+    ensures nothing { IfErr result (λ fault. fault ≢ CommandFault.Device
+        → Keeps (W.contents output.old) (W.contents output.new)) }
+    // and never anything but a beginning of the answer.
+    ensures begun { IfSome (R.remaining input.old) (λ file.
+        IsBegun file query.now (W.contents output.old) (W.contents output.new)) }
+{
+    let set = read_set(alloc, input)?;
+    let parsed = parse(query)?;
+    let answer = answer_plain(alloc, &parsed, &set)?;
+    write_whole(output, &answer)
+}

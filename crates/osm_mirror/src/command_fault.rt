@@ -1,0 +1,69 @@
+//! Why a command isn't carried out.
+
+ghost use Rattle.std.specs.Prelude.{◌≡◌};
+ghost use Rattle.osm_mirror.specs.Faults.{fault_of_load, status_of};
+ghost use Rattle.osm_mirror.specs.declared.command_fault.CommandFault.TheVariants.{Memory, Query};
+
+use crate::status::Status;
+use opl_codec::{LoadFault, OplCause};
+use ql_plain::QlFault;
+use std::alloc::AllocError;
+use thiserror::Error;
+
+/// Why a command isn't carried out. Its text is the line that the program prints on standard error.
+#[derive(Clone, Copy, Debug, PartialEq, Eq, Error)]
+pub enum CommandFault {
+    /// The input holds no set of objects, or its reader never ended: `O9 line 1 byte 8`.
+    #[error("{0}")]
+    Opl(LoadFault),
+    /// The query doesn't read: `Q7 byte 5`.
+    #[error("{0}")]
+    Query(QlFault),
+    /// An allocation was refused.
+    #[error("no memory")]
+    Memory,
+    /// A reader failed, or a writer failed or took nothing.
+    #[error("device")]
+    Device,
+}
+
+impl CommandFault {
+    /// How the program ends after this fault.
+    pub fn status(self) -> Status
+        ensures { result ≡ status_of self }
+    {
+        match self {
+            CommandFault::Opl(_) | CommandFault::Query(_) => Status::Refused,
+            CommandFault::Memory | CommandFault::Device => Status::Failed,
+        }
+    }
+}
+
+impl From<LoadFault> for CommandFault {
+    ghost from_gives = { λ load fault. fault ≡ fault_of_load load };
+
+    /// A reader that failed is a device, and want of memory is want of memory; else the input is refused.
+    fn from(load: LoadFault) -> CommandFault {
+        match load.fault.cause {
+            OplCause::ReaderFailed => CommandFault::Device,
+            OplCause::Memory => CommandFault::Memory,
+            _ => CommandFault::Opl(load),
+        }
+    }
+}
+
+impl From<QlFault> for CommandFault {
+    ghost from_gives = { λ refused fault. fault ≡ Query refused };
+
+    fn from(refused: QlFault) -> CommandFault {
+        CommandFault::Query(refused)
+    }
+}
+
+impl From<AllocError> for CommandFault {
+    ghost from_gives = { λ _ fault. fault ≡ Memory };
+
+    fn from(_: AllocError) -> CommandFault {
+        CommandFault::Memory
+    }
+}

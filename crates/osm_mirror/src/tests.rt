@@ -1,0 +1,246 @@
+use crate::ask::ask;
+use crate::command_fault::CommandFault;
+use crate::status::Status;
+use std::alloc::Global;
+use std::io;
+use std::io::{Read, Write};
+use std::process::Abort;
+use std::test::Fail;
+
+const TWO_NODES: &str = "n1 Thighway=crossing x13.4 y52.5\nn2 x13.4000001 y52.5\n";
+
+const FIRST: &str = "node(1);out;";
+
+const FIRST_ANSWER: &str = "n1 Thighway=crossing x13.4 y52.5\n";
+
+/// A reader that gives some bytes a call, and fails at one call (0: at none).
+#[derive(Drop)]
+struct SlowReader<'a> {
+    left: &'a [u8],
+    at_once: usize,
+    fails_at: usize,
+    calls: usize,
+}
+
+impl Read for SlowReader<'_> {
+    fn read(&mut self, buf: &mut [u8]) -> io::Result<usize> {
+        self.calls = self.calls.saturating_add(1);
+        if self.calls == self.fails_at {
+            return Err(io::Error::from(io::ErrorKind::Other));
+        }
+        let len = self.at_once.min(self.left.len()).min(buf.len());
+        let (now, left) = self.left.split_at(len);
+        buf[..len].copy_from_slice(now);
+        self.left = left;
+        Ok(len)
+    }
+}
+
+/// What a writer does at the call at which it stops.
+#[derive(Clone, Copy, Debug, PartialEq, Eq)]
+enum Stop {
+    Fails,
+    TakesNothing,
+}
+
+/// A writer that takes some bytes a call, and stops at one call (0: at none).
+#[derive(Drop)]
+struct NarrowWriter {
+    taken: Vec<u8>,
+    at_once: usize,
+    stops_at: usize,
+    stop: Stop,
+    calls: usize,
+}
+
+impl Write for NarrowWriter {
+    fn write(&mut self, buf: &[u8]) -> io::Result<usize> {
+        self.calls = self.calls.saturating_add(1);
+        if self.calls == self.stops_at {
+            return match self.stop {
+                Stop::Fails => Err(io::Error::from(io::ErrorKind::Other)),
+                Stop::TakesNothing => Ok(0),
+            };
+        }
+        let len = self.at_once.min(buf.len());
+        self.taken.extend_from_slice(&buf[..len])?;
+        Ok(len)
+    }
+
+    fn flush(&mut self) -> io::Result<()> {
+        Ok(())
+    }
+}
+
+/// The answer to the query over the file.
+fn answer(alloc: Global, file: &str, query: &str) -> Result<Vec<u8>, CommandFault> {
+    let mut output = Vec::new(alloc);
+    ask(alloc, query.as_bytes(), &mut file.as_bytes(), &mut output)?;
+    Ok(output)
+}
+
+#[test]
+fn answers(rt: HostRuntime) -> Result<(), Fail> {
+    for (file, query, want) in [
+        (TWO_NODES, FIRST, FIRST_ANSWER),
+        (TWO_NODES, "node(2);out;", "n2 T x13.4000001 y52.5\n"),
+        (TWO_NODES, "node(3);out;", ""),
+        (
+            "n-3 x-0.0000001 y-90\n",
+            "node(-3);out;",
+            "n-3 T x-0.0000001 y-90\n",
+        ),
+        ("n1 x180 y0\n", FIRST, "n1 T x180 y0\n"),
+        ("", FIRST, ""),
+    ] {
+        let got = answer(rt.alloc(), file, query)?;
+        assert_eq!(rt; got.as_slice(), want.as_bytes(), "{query} of {file}");
+    }
+    Ok(())
+}
+
+/// The query over the file is refused with this line and the status 2, and nothing is written.
+fn check_refused(
+    rt: &impl Abort,
+    alloc: Global,
+    file: &str,
+    query: &str,
+    want: &str,
+) -> Result<(), Fail> {
+    let mut output = Vec::new(alloc);
+    let outcome = ask(alloc, query.as_bytes(), &mut file.as_bytes(), &mut output);
+    let Err(fault) = outcome else {
+        panic!(rt; "answered, and not {want}")
+    };
+    assert_eq!(rt; fault.status(), Status::Refused, "{want}");
+    assert_eq!(rt; output.len(), 0, "{want}");
+    let told = format!(in alloc; "{fault}")?;
+    assert!(rt; told.as_str() == want, "{told}, and not {want}");
+    Ok(())
+}
+
+#[test]
+fn refuses(rt: HostRuntime) -> Result<(), Fail> {
+    for (file, query, want) in [
+        (TWO_NODES, "node(1)", "Q11 byte 7"),
+        (TWO_NODES, "node(-;", "Q2 byte 6"),
+        ("n1 x13.4", FIRST, "O9 line 1 byte 8"),
+        ("n1 x13.4 y52.5 x1", FIRST, "O4 line 1 byte 15"),
+        ("n1 Ta=%2 x1 y1", FIRST, "O7 line 1 byte 6"),
+        ("n1 Ta=1,a=2 x1 y1", FIRST, "O13 line 1 byte 3"),
+        ("n1 x180.0000001 y0", FIRST, "O13 line 1 byte 3"),
+        ("c5", FIRST, "O1 line 1 byte 0"),
+        ("n1  x1 y1", FIRST, "O3 line 1 byte 3"),
+        // The input is looked at before the query.
+        ("c5", "node(1)", "O1 line 1 byte 0"),
+    ] {
+        check_refused(&rt, rt.alloc(), file, query, want)?;
+    }
+    Ok(())
+}
+
+/// One byte a read: the read that fails is a device's fault, whichever it is, and nothing is written.
+#[test]
+fn readers_fail(rt: HostRuntime) -> Result<(), Fail> {
+    let alloc = rt.alloc();
+    // A read a byte, and one at the end.
+    let reads = TWO_NODES.len() + 1;
+    for fails_at in 0..=reads {
+        let mut input = SlowReader {
+            left: TWO_NODES.as_bytes(),
+            at_once: 1,
+            fails_at,
+            calls: 0,
+        };
+        let mut output = Vec::new(alloc);
+        let outcome = ask(alloc, FIRST.as_bytes(), &mut input, &mut output);
+        if fails_at == 0 {
+            assert_eq!(rt; outcome, Ok(()));
+            assert_eq!(rt; input.calls, reads);
+            assert_eq!(rt; output.as_slice(), FIRST_ANSWER.as_bytes());
+        } else {
+            assert_eq!(rt; outcome, Err(CommandFault::Device), "read {fails_at}");
+            assert_eq!(rt; output.len(), 0, "read {fails_at}");
+        }
+    }
+    Ok(())
+}
+
+/// Some bytes a write: a write that fails or takes nothing leaves what was written before it.
+#[test]
+fn writers_stop(rt: HostRuntime) -> Result<(), Fail> {
+    let alloc = rt.alloc();
+    let want = FIRST_ANSWER.as_bytes();
+    for (at_once, stop) in [
+        (1, Stop::Fails),
+        (7, Stop::TakesNothing),
+        (7, Stop::Fails),
+        (64, Stop::TakesNothing),
+    ] {
+        let writes = want.len().div_ceil(at_once);
+        for stops_at in 0..=writes {
+            let mut output = NarrowWriter {
+                taken: Vec::new(alloc),
+                at_once,
+                stops_at,
+                stop,
+                calls: 0,
+            };
+            let outcome = ask(
+                alloc,
+                FIRST.as_bytes(),
+                &mut TWO_NODES.as_bytes(),
+                &mut output,
+            );
+            let taken = output.taken.as_slice();
+            if stops_at == 0 {
+                assert_eq!(rt; outcome, Ok(()));
+                assert_eq!(rt; taken, want);
+            } else {
+                assert_eq!(rt;
+                    outcome,
+                    Err(CommandFault::Device),
+                    "{stop:?} at {stops_at}"
+                );
+                assert!(rt; want.starts_with(taken), "{stop:?} at {stops_at}");
+                let before = (stops_at - 1).saturating_mul(at_once);
+                assert_eq!(rt; taken.len(), before, "{stop:?} at {stops_at}");
+            }
+        }
+    }
+    Ok(())
+}
+
+#[test]
+fn ends_with_the_status(rt: HostRuntime) {
+    for (fault, status, code) in [
+        (CommandFault::Memory, Status::Failed, 3),
+        (CommandFault::Device, Status::Failed, 3),
+    ] {
+        assert_eq!(rt; fault.status(), status);
+        assert_eq!(rt; status.code(), code);
+    }
+    assert_eq!(rt; Status::Refused.code(), 2);
+    assert_eq!(rt; Status::Done.code(), 0);
+}
+
+/// Want of memory, or the whole result: also where an allocation is refused (tests/system).
+#[test]
+fn answers_within_memory(rt: HostRuntime) -> Result<(), Fail> {
+    let alloc = rt.alloc();
+    let mut output = Vec::new(alloc);
+    match ask(
+        alloc,
+        FIRST.as_bytes(),
+        &mut TWO_NODES.as_bytes(),
+        &mut output,
+    ) {
+        Ok(()) => assert_eq!(rt; output.as_slice(), FIRST_ANSWER.as_bytes()),
+        // The output is a vector, so that want of memory for it is a device's fault.
+        Err(CommandFault::Memory | CommandFault::Device) => assert_eq!(rt; output.len(), 0),
+        Err(fault) => panic!(rt; "{fault}"),
+    }
+    let again = answer(alloc, TWO_NODES, "node(2);out;")?;
+    assert_eq!(rt; again.as_slice(), b"n2 T x13.4000001 y52.5\n".as_slice());
+    Ok(())
+}

@@ -1,0 +1,126 @@
+/* A library to be preloaded: it refuses one chosen call of the C library, and can make reads and writes short.
+ *
+ * Calls are counted from the start of `main`, each kind by itself, from 1:
+ *   REFUSE_ALLOCATION=N  the Nth malloc, calloc or realloc answers null, with ENOMEM
+ *   REFUSE_READ=N        the Nth read fails
+ *   REFUSE_WRITE=N       the Nth write fails
+ *   REFUSE_ERRNO=E       with this errno (EIO where it is left out); 0: the call answers 0 in place of failing
+ *   SHORT_READS=K        each read asks for K bytes at most
+ *   SHORT_WRITES=K       each write hands on K bytes at most
+ *   REFUSE_MARK=FILE     this file is made as soon as a call is refused, so that who started the program can
+ *                        tell a run in which the Nth call came from one that has fewer
+ *
+ * The program is one thread, so plain counters serve.
+ */
+#define _GNU_SOURCE
+#include <dlfcn.h>
+#include <errno.h>
+#include <fcntl.h>
+#include <stdlib.h>
+#include <string.h>
+#include <sys/syscall.h>
+#include <unistd.h>
+
+/* The allocator of glibc under the names that it has beside malloc, calloc and realloc. */
+extern void *__libc_malloc(size_t size);
+extern void *__libc_calloc(size_t count, size_t size);
+extern void *__libc_realloc(void *old, size_t size);
+
+/* How many calls of a kind were made, and which of them is refused (0: none). */
+struct calls {
+    unsigned long made;
+    unsigned long refused;
+};
+
+static struct calls allocations, reads, writes;
+static unsigned long most_read, most_written;
+static int refused_with = EIO;
+static const char *mark;
+static int is_counting;
+
+static unsigned long number(const char *name) {
+    const char *text = getenv(name);
+    return text == NULL ? 0 : strtoul(text, NULL, 10);
+}
+
+/* Whether this call is the one to refuse. */
+static int is_refused(struct calls *calls) {
+    if (!is_counting || ++calls->made != calls->refused)
+        return 0;
+    if (mark != NULL) {
+        int file = syscall(SYS_openat, AT_FDCWD, mark, O_WRONLY | O_CREAT | O_CLOEXEC, 0600);
+        if (file >= 0)
+            syscall(SYS_close, file);
+    }
+    return 1;
+}
+
+void *malloc(size_t size) {
+    if (!is_refused(&allocations))
+        return __libc_malloc(size);
+    errno = ENOMEM;
+    return NULL;
+}
+
+void *calloc(size_t count, size_t size) {
+    if (!is_refused(&allocations))
+        return __libc_calloc(count, size);
+    errno = ENOMEM;
+    return NULL;
+}
+
+void *realloc(void *old, size_t size) {
+    if (!is_refused(&allocations))
+        return __libc_realloc(old, size);
+    errno = ENOMEM;
+    return NULL;
+}
+
+static ssize_t refusal(void) {
+    if (refused_with == 0)
+        return 0;
+    errno = refused_with;
+    return -1;
+}
+
+static size_t shortened(size_t count, unsigned long most) {
+    return is_counting && most != 0 && count > most ? most : count;
+}
+
+ssize_t read(int file, void *bytes, size_t count) {
+    if (is_refused(&reads))
+        return refusal();
+    return syscall(SYS_read, file, bytes, shortened(count, most_read));
+}
+
+ssize_t write(int file, const void *bytes, size_t count) {
+    if (is_refused(&writes))
+        return refusal();
+    return syscall(SYS_write, file, bytes, shortened(count, most_written));
+}
+
+typedef int main_type(int, char **, char **);
+typedef int start_type(main_type *, int, char **, void (*)(void), void (*)(void), void (*)(void), void *);
+
+static main_type *program;
+
+static int counted_main(int count, char **words, char **environment) {
+    is_counting = 1;
+    return program(count, words, environment);
+}
+
+/* The C library's start of a program, which calls `main`: here, with counting begun. */
+int __libc_start_main(main_type *main, int count, char **words, void (*init)(void), void (*fini)(void),
+                      void (*linker_fini)(void), void *stack_end) {
+    start_type *start = (start_type *)dlsym(RTLD_NEXT, "__libc_start_main");
+    program = main;
+    allocations.refused = number("REFUSE_ALLOCATION");
+    reads.refused = number("REFUSE_READ");
+    writes.refused = number("REFUSE_WRITE");
+    most_read = number("SHORT_READS");
+    most_written = number("SHORT_WRITES");
+    if (getenv("REFUSE_ERRNO") != NULL)
+        refused_with = (int)number("REFUSE_ERRNO");
+    mark = getenv("REFUSE_MARK");
+    return start(counted_main, count, words, init, fini, linker_fini, stack_end);
+}
