@@ -127,3 +127,6 @@ fn object_of(alloc: Global, id: i64, seen: Seen, line: &[u8]) -> Result<Object, 
         }),
     }
 }
+
+#[cfg(test)]
+mod tests;
