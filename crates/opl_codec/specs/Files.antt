@@ -1,21 +1,26 @@
 -- What a file says: the set of the objects that its lines are.
 -- Source: Osmium's OPL manual: one object a line; lines end with LF.
-use Rattle.std.specs.Prelude.{Bool, true, false, not, List, [], ◌∷◌, filter}
+use Rattle.std.specs.Prelude.{◌≡◌, ◌⊎◌, ℕ, Bool, true, false, not, List, [], ◌∷◌, filter}
 use Rattle.std.specs.List.Sorted.{IsPermutation}
 use Rattle.osm_model.specs.Elements.{Element}
 use Rattle.osm_model.specs.Sets.{IsObjectSet}
-use Rattle.std.specs.Prelude.{ℕ}
 use Rattle.opl_codec.specs.Fields.{pieces, Each}
 use Rattle.opl_codec.specs.Lines.{SpellsObject}
+use Rattle.opl_codec.specs.declared.cause.OplCause.{OplCause}
+use Rattle.opl_codec.specs.declared.cause.OplCause.TheVariants as causes
 
 -- narrow: an empty line
 abbrev pub is_skipped : List ℕ → Bool
 is_skipped [] = true
 is_skipped (byte ∷ bytes) = false
 
--- the lines that say something; a last line may lack its end
+-- the lines that say something
+abbrev pub spoken_of : List (List ℕ) → List (List ℕ)
+spoken_of lines = filter (λ line. not (is_skipped line)) lines
+
+-- the same of a file; its last line may lack its end
 abbrev pub spoken : List ℕ → List (List ℕ)
-spoken file = filter (λ line. not (is_skipped line)) (pieces 10 file)
+spoken file = spoken_of (pieces 10 file)
 
 -- the file's lines are the objects of the set, each once, in any order
 pub record HoldsSet (file : List ℕ) (objects : List Element) : Type 0 where
@@ -23,3 +28,7 @@ pub record HoldsSet (file : List ℕ) (objects : List Element) : Type 0 where
   pub each : Each SpellsObject (spoken file) written
   pub order : IsPermutation written objects
   pub set : IsObjectSet objects
+
+-- the reader failed, it never ended, or memory ran out
+abbrev pub IsOutside : OplCause → Type 0
+IsOutside cause = (cause ≡ causes.ReaderFailed) ⊎ ((cause ≡ causes.Endless) ⊎ (cause ≡ causes.Memory))

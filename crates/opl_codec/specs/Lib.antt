@@ -1,5 +1,7 @@
 pub mod Fields
 pub mod Lines
 pub mod Files
+pub mod Loading
 pub mod Faults
 pub mod Text
+pub mod Plain

@@ -1,6 +1,10 @@
 //! Refusals of lines and of files.
 
+ghost use Rattle.std.specs.Prelude.{◌≡◌};
+ghost use Rattle.opl_codec.specs.declared.cause.OplCause.TheVariants as causes;
+
 use std::alloc::AllocError;
+use std::fmt;
 use thiserror::Error;
 
 use crate::cause::OplCause;
@@ -28,3 +32,57 @@ pub struct LoadFault {
     /// What stands there.
     pub fault: OplFault,
 }
+
+impl LoadFault {
+    /// The cause at byte 0 of this line.
+    pub fn at(line: u64, cause: OplCause) -> LoadFault
+        ensures { result.fault.cause ≡ cause }
+    {
+        LoadFault {
+            line,
+            fault: OplFault { cause, byte: 0 },
+        }
+    }
+
+    /// Want of memory.
+    pub fn memory() -> LoadFault
+        ensures { result.fault.cause ≡ OplCause.Memory }
+    {
+        LoadFault::at(0, OplCause::Memory)
+    }
+
+    /// The same at another byte.
+    pub fn behind(self, byte: usize) -> LoadFault
+        ensures { result.fault.cause ≡ self.fault.cause }
+    {
+        LoadFault {
+            line: self.line,
+            fault: OplFault {
+                cause: self.fault.cause,
+                byte,
+            },
+        }
+    }
+}
+
+impl From<AllocError> for LoadFault {
+    ghost from_gives = { λ _ e. e.fault.cause ≡ causes.Memory };
+
+    fn from(_error: AllocError) -> LoadFault {
+        LoadFault::memory()
+    }
+}
+
+impl fmt::Display for LoadFault {
+    fn fmt<W: fmt::Write>(&self, f: &mut fmt::Formatter<W>) -> fmt::Result {
+        let cause = self.fault.cause;
+        if cause == OplCause::Memory {
+            return write!(f, "{cause}");
+        }
+        let line = self.line;
+        let byte = self.fault.byte;
+        write!(f, "{cause} line {line} byte {byte}")
+    }
+}
+
+impl std::error::Error for LoadFault {}

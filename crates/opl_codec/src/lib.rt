@@ -7,9 +7,22 @@
 mod cause;
 mod change;
 mod fault;
+mod laws;
+mod line;
+mod load;
+mod loader;
 mod out_mode;
+mod repeats;
+mod write_field;
+mod write_line;
+mod write_moment;
+mod write_text;
 
 pub use cause::OplCause;
 pub use change::Change;
 pub use fault::{LoadFault, OplFault};
+pub use laws::{one_change, text_is_read};
+pub use line::read_line;
+pub use load::{one_set, read_set};
 pub use out_mode::OutMode;
+pub use write_line::write_object;

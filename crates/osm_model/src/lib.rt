@@ -39,3 +39,6 @@ pub use stamp::Stamp;
 pub use tag::Tag;
 pub use tag_list::TagList;
 pub use text::Text;
+
+#[cfg(test)]
+mod tests;

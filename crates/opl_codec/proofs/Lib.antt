@@ -1,0 +1,13 @@
+pub mod PieceLemmas
+pub mod SayLemmas
+pub mod LoadLemmas
+pub mod EachLemmas
+pub mod OneInteger
+pub mod OneObject
+pub mod WriteSteps
+pub mod WriteTags
+pub mod WriteText
+pub mod TextPieces
+pub mod TextNumbers
+pub mod TextTags
+pub mod TextFields

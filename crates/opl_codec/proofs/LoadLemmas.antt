@@ -1,0 +1,138 @@
+-- Files that are loaded, ruined, or hold no set.
+use Rattle.std.proofs.Common.{◌≡◌, ◌≢◌, ◌⊎◌, inl, inr, ℕ, List, [], ◌∷◌, ◌++◌, map, refl, sym, ◌∙◌, ap, subst, append_assoc, append-nil, Option, Some, None, Result, Ok, Err, IfSome, MatchResult}
+use Rattle.std.specs.Io.KnownBytes.{Consumes, IsAtEnd}
+use Rattle.std.proofs.lemmas.Result.{MatchResult-weaker}
+use Rattle.std.specs.Ordering.{eq_by_cmp}
+use Rattle.std.specs.List.Sorted.{IsPermutation}
+use Rattle.std.proofs.lemmas.Cmp.{eq_by_cmp_equiv}
+use Rattle.std.proofs.lemmas.List.Sorted.{IsPermutation-map, IsPermutation-sym}
+use Rattle.std.proofs.lemmas.Map.Keys.{IsDistinct-IsPermutation, IsDistinct-from_sorted}
+use Rattle.osm_model.specs.Elements.{Element, reference, references, ref_cmp}
+use Rattle.osm_model.specs.Sets.{HasDistinctReferences, IsObjectSet}
+use Rattle.osm_model.proofs.References.{refs_total}
+use Rattle.osm_model.proofs.UniqueTags.{same_order}
+use Rattle.opl_codec.specs.Fields.{Each, pieces}
+use Rattle.opl_codec.specs.Lines.{SpellsObject}
+use Rattle.opl_codec.specs.Files.{HoldsSet, spoken_of, IsOutside}
+use Rattle.opl_codec.specs.declared.cause.OplCause.{OplCause}
+use Rattle.opl_codec.specs.declared.fault.LoadFault.{LoadFault}
+use Rattle.opl_codec.specs.Loading.{Say, Loads, Ruins, IsHopeless, Spoils}
+use Rattle.opl_codec.proofs.PieceLemmas.{pieces_join, some_piece}
+use Rattle.opl_codec.proofs.EachLemmas.{each_same}
+use Rattle.opl_codec.proofs.OneObject.{one_object}
+use Rattle.opl_codec.proofs.SayLemmas.{hopeless_more, repeated}
+
+-- the last of some
+split_last : (ps : List (List ℕ)) → ps ≢ [] → (front : List (List ℕ)) × (last : List ℕ) × (ps ≡ front ++ last ∷ [])
+split_last [] some = absurd (some refl)
+split_last (p ∷ []) some = ([], p, refl)
+split_last (p ∷ next ∷ ps) some = let rest = split_last (next ∷ ps) (λ e. cc) in (p ∷ rest.0, rest.1, ap (λ qs. p ∷ qs) rest.2)
+
+pub sum_map : {A B C D : Type 0} → (A → C) → (B → D) → A ⊎ B → C ⊎ D
+sum_map f g (inl a) = inl (f a)
+sum_map f g (inr b) = inr (g b)
+
+-- a line that leaves no hope ruins the text in which it ends
+pub ruins_at : (lines before : List (List ℕ)) (line rest text : List ℕ) → pieces 10 text ≡ before ++ line ∷ pieces 10 rest → IsHopeless ((lines ++ before) ++ line ∷ []) → Ruins lines text
+ruins_at lines before line rest text cut hopeless =
+    let last = split_last (pieces 10 rest) (some_piece 10 rest) in
+    let again : (lines ++ before) ++ line ∷ last.0 ≡ lines ++ (before ++ line ∷ last.0) = append_assoc lines before (line ∷ last.0) in
+    let more : ((lines ++ before) ++ line ∷ []) ++ last.0 ≡ (lines ++ before) ++ line ∷ last.0 = append_assoc (lines ++ before) (line ∷ []) last.0 in
+    record {
+      ended = before ++ line ∷ last.0;
+      pending = last.1;
+      cut = cut ∙ ap (λ ps. before ++ line ∷ ps) last.2 ∙ sym (append_assoc before (line ∷ last.0) (last.1 ∷ []));
+      hopeless = subst IsHopeless (more ∙ again) (hopeless_more ((lines ++ before) ++ line ∷ []) last.0 hopeless);
+    }
+
+-- what a set's file says has no reference twice
+pub distinct_written : (file : List ℕ) (objects : List Element) (h : HoldsSet file objects) → HasDistinctReferences h.written
+distinct_written file objects h =
+    let back = IsPermutation-map (λ (o : Element). reference o) objects h.written (IsPermutation-sym h.written objects h.order) in
+    IsDistinct-IsPermutation (eq_by_cmp ref_cmp) ((eq_by_cmp_equiv refs_total).symm) (references objects) (references h.written) back (IsDistinct-from_sorted ref_cmp (references objects) h.set.rising)
+
+-- a file of such lines holds no set
+pub no_set : (file : List ℕ) (lines : List (List ℕ)) → pieces 10 file ≡ lines → IsHopeless lines → (objects : List Element) → HoldsSet file objects → ⊥
+no_set file lines cut hopeless objects h =
+    hopeless [] h.written (subst (λ ls. Say ls h.written) (cut ∙ sym (append-nil lines)) h.each) (distinct_written file objects h)
+
+-- nor does any file that goes on
+pub ruined : (front : List ℕ) → Ruins [] front → Spoils front
+ruined front r more objects h = split (pieces 10 more) refl (some_piece 10 more)
+  where
+    split : (ps : List (List ℕ)) → pieces 10 more ≡ ps → ps ≢ [] → ⊥
+    split [] e some = some refl
+    split (q ∷ qs) e some =
+        let whole = pieces_join 10 front more r.ended r.pending q qs r.cut e in
+        no_set (front ++ more) (r.ended ++ (r.pending ++ q) ∷ qs) whole (hopeless_more r.ended ((r.pending ++ q) ∷ qs) r.hopeless) objects h
+
+-- objects that were loaded and repeat a reference ruin the file
+pub repeats_ruin : (front : List ℕ) (objects : List Element) (pending : List ℕ) → Loads [] front objects pending → (HasDistinctReferences objects → ⊥) → Ruins [] front
+repeats_ruin front objects pending l twice = record { ended = l.ended; pending = pending; cut = l.cut; hopeless = repeated l.ended objects twice l.say }
+
+-- a loaded file, and lines behind it
+pub loads_more : (front piece line rest : List ℕ) (objects more : List Element) (pending left : List ℕ) (l : Loads [] front objects pending) → pieces 10 piece ≡ line ∷ pieces 10 rest
+    → Loads (l.ended ++ (pending ++ line) ∷ []) rest more left → Loads [] (front ++ piece) more left
+loads_more front piece line rest objects more pending left l cut next = record {
+  ended = l.ended ++ (pending ++ line) ∷ next.ended;
+  cut = pieces_join 10 front piece l.ended pending line (pieces 10 rest) l.cut cut ∙ ap (λ ps. l.ended ++ (pending ++ line) ∷ ps) next.cut ∙ sym (append_assoc l.ended ((pending ++ line) ∷ next.ended) (left ∷ []));
+  say = subst (λ ls. Say ls more) (append_assoc l.ended ((pending ++ line) ∷ []) next.ended) next.say;
+}
+
+pub ruins_more : (front piece line rest : List ℕ) (objects : List Element) (pending : List ℕ) (l : Loads [] front objects pending) → pieces 10 piece ≡ line ∷ pieces 10 rest
+    → Ruins (l.ended ++ (pending ++ line) ∷ []) rest → Ruins [] (front ++ piece)
+ruins_more front piece line rest objects pending l cut next = record {
+  ended = l.ended ++ (pending ++ line) ∷ next.ended;
+  pending = next.pending;
+  cut = pieces_join 10 front piece l.ended pending line (pieces 10 rest) l.cut cut ∙ ap (λ ps. l.ended ++ (pending ++ line) ∷ ps) next.cut ∙ sym (append_assoc l.ended ((pending ++ line) ∷ next.ended) (next.pending ∷ []));
+  hopeless = subst IsHopeless (append_assoc l.ended ((pending ++ line) ∷ []) next.ended) next.hopeless;
+}
+
+-- a loaded file that goes on without a line end
+pub loads_on : (front piece : List ℕ) (objects : List Element) (pending left : List ℕ) → Loads [] front objects pending → pieces 10 piece ≡ piece ∷ [] → left ≡ pending ++ piece → Loads [] (front ++ piece) objects left
+loads_on front piece objects pending left l cut is = record {
+  ended = l.ended;
+  cut = pieces_join 10 front piece l.ended pending piece [] l.cut cut ∙ ap (λ p. l.ended ++ p ∷ []) (sym is);
+  say = l.say;
+}
+
+-- a file holds one set at most
+pub one_set : (file : List ℕ) (a b : List Element) → HoldsSet file a → HoldsSet file b → a ≡ b
+one_set file a b h k =
+    let same : h.written ≡ k.written = each_same SpellsObject one_object (spoken_of (pieces 10 file)) h.written k.written h.each k.each in
+    same_order (λ (o : Element). reference o) refs_total k.written a b (subst (λ w. IsPermutation w a) same h.order) k.order h.set.rising k.set.rising
+
+if_some_map : {T : Type 0} {P Q : T → Type 0} (o : Option T) → IfSome o P → ((x : T) → P x → Q x) → IfSome o Q
+if_some_map None h f = tt
+if_some_map (Some x) h f = f x h
+
+-- where no byte is left, all bytes were read
+pub all_read : (old mid new : Option (List ℕ)) (front : List ℕ) → Consumes old mid front → Consumes mid new [] → IsAtEnd new → IfSome old (λ file. file ≡ front)
+all_read None mid new front h k end = tt
+all_read (Some file) None new front h k end = absurd h
+all_read (Some file) (Some rest) None front h k end = absurd k
+all_read (Some file) (Some rest) (Some left) front h k end = h ∙ ap (λ r. front ++ r) (k ∙ end) ∙ append-nil front
+
+-- what is told of a ruined file whose front was read
+pub told_of_ruin : (old new : Option (List ℕ)) (front : List ℕ) (told : OplCause) → Consumes old new front → IsOutside told ⊎ Ruins [] front → IfSome old (λ file. (objects : List Element) → HoldsSet file objects → IsOutside told)
+told_of_ruin None new front told h k = tt
+told_of_ruin (Some file) None front told h k = absurd h
+told_of_ruin (Some file) (Some rest) front told h (inl outside) = λ objects holds. outside
+told_of_ruin (Some file) (Some rest) front told h (inr ruin) = λ objects holds. absurd (ruined front ruin rest objects (subst (λ f. HoldsSet f objects) h holds))
+
+-- what the loader tells of a cause outside the file
+pub told_outside : (front : List ℕ) (objects : List Element) (pending : List ℕ) (cause told : OplCause) → Loads [] front objects pending → IsOutside cause → (told ≡ cause) ⊎ (IsOutside told ⊎ (HasDistinctReferences objects → ⊥)) → IsOutside told ⊎ Ruins [] front
+told_outside front objects pending cause told l outside (inl same) = inl (subst IsOutside (sym same) outside)
+told_outside front objects pending cause told l outside (inr (inl it)) = inl it
+told_outside front objects pending cause told l outside (inr (inr twice)) = inr (repeats_ruin front objects pending l twice)
+
+-- the set of a file that was read whole
+pub told_at_end : (old : Option (List ℕ)) (front : List ℕ) (r : Result (List Element) LoadFault) → IfSome old (λ file. file ≡ front) → MatchResult r (λ set. HoldsSet front set) (λ fault. IsOutside fault.fault.cause ⊎ ((objects : List Element) → HoldsSet front objects → ⊥))
+    → IfSome old (λ file. (objects : List Element) → HoldsSet file objects → MatchResult r (λ set. set ≡ objects) (λ fault. IsOutside fault.fault.cause))
+told_at_end old front r all done = if_some_map old all (λ file is objects holds.
+    let here : HoldsSet front objects = subst (λ f. HoldsSet f objects) is holds in
+    MatchResult-weaker r done (λ set got. one_set front set objects got here) (λ fault told. outside_of told objects here))
+  where
+    outside_of : {cause : OplCause} → IsOutside cause ⊎ ((objects : List Element) → HoldsSet front objects → ⊥) → (objects : List Element) → HoldsSet front objects → IsOutside cause
+    outside_of (inl outside) objects h = outside
+    outside_of (inr none) objects h = absurd (none objects h)

@@ -1,0 +1,34 @@
+-- A file of which a front was read, line by line.
+-- Source: this project.
+use Rattle.std.specs.Prelude.{◌≡◌, ℕ, List, [], ◌∷◌, ◌++◌}
+use Rattle.osm_model.specs.Elements.{Element}
+use Rattle.osm_model.specs.Sets.{HasDistinctReferences}
+use Rattle.opl_codec.specs.Fields.{pieces, Each}
+use Rattle.opl_codec.specs.Lines.{SpellsObject}
+use Rattle.opl_codec.specs.Files.{HoldsSet, spoken_of}
+
+-- what these lines say is these objects, in their order
+abbrev pub Say : List (List ℕ) → List Element → Type 0
+Say lines objects = Each SpellsObject (spoken_of lines) objects
+
+-- behind these lines the text has further ones that end, which together say these objects, and then
+-- the beginning of a line
+pub record Loads (lines : List (List ℕ)) (text : List ℕ) (objects : List Element) (pending : List ℕ) : Type 0 where
+  pub ended : List (List ℕ)
+  pub cut : pieces 10 text ≡ ended ++ pending ∷ []
+  pub say : Say (lines ++ ended) objects
+
+-- whatever lines follow, no objects are said of which no two have one reference
+abbrev pub IsHopeless : List (List ℕ) → Type 0
+IsHopeless lines = (more : List (List ℕ)) (objects : List Element) → Say (lines ++ more) objects → HasDistinctReferences objects → ⊥
+
+-- behind these lines the text has further ones that end, and with them all hope
+pub record Ruins (lines : List (List ℕ)) (text : List ℕ) : Type 0 where
+  pub ended : List (List ℕ)
+  pub pending : List ℕ
+  pub cut : pieces 10 text ≡ ended ++ pending ∷ []
+  pub hopeless : IsHopeless (lines ++ ended)
+
+-- no file that begins so holds a set
+abbrev pub Spoils : List ℕ → Type 0
+Spoils front = (more : List ℕ) (objects : List Element) → HoldsSet (front ++ more) objects → ⊥

@@ -1,0 +1,19 @@
+-- The objects that a narrow line spells: what a reader of all of OPL makes of every object.
+-- Source: this project.
+use Rattle.std.specs.Prelude.{◌≡◌, ℕ, pos, true, List, [], None}
+use Rattle.std.specs.List.{AllByRecursion}
+use Rattle.osm_model.specs.CanonicalLine.{is_literal}
+use Rattle.osm_model.specs.Elements.{Element}
+
+-- each character stands for itself
+abbrev pub IsLiteral : List ℕ → Type 0
+IsLiteral text = AllByRecursion (λ byte. is_literal byte ≡ true) text
+
+-- nothing is known of the last change, and no key or value has a character to escape
+pub record IsPlain (o : Element) : Type 0 where
+  pub version : o.meta.version ≡ 0
+  pub changeset : o.meta.changeset ≡ pos 0
+  pub stamp : o.meta.stamp ≡ None
+  pub uid : o.meta.uid ≡ pos 0
+  pub user : o.meta.user ≡ []
+  pub tags : AllByRecursion (λ tag. IsLiteral tag.key × IsLiteral tag.value) o.tags

@@ -1,0 +1,57 @@
+//! Sets of objects, read from files.
+
+ghost use Rattle.std.specs.Prelude.{◌≡◌, ℕ, IfSome, IfOk, List, MatchResult};
+ghost use Rattle.osm_model.specs.Elements.{Element};
+ghost use Rattle.opl_codec.specs.Files.{HoldsSet, IsOutside};
+
+use osm_model::ObjectSet;
+use std::alloc::Global;
+use std::io::Read;
+
+use crate::cause::OplCause;
+use crate::fault::LoadFault;
+use crate::loader::Loader;
+
+/// How many bytes a read asks for at most.
+const PIECE: usize = 65_536;
+
+/// How many reads are made of one file.
+const READS: u64 = 4_294_967_296;
+
+/// The set of the objects that a file holds, one a line. It reads pieces of at most 65,536 bytes, in
+/// time linear in the bytes where the objects come by rising reference, as extracts do, and sorts
+/// them otherwise.
+///
+/// Refused by the first line with a fault: the line's own (see `read_line`), or `OutsideModel` at
+/// byte 0 where an earlier line holds the same object. `ReaderFailed` and `Endless` (2^32 reads
+/// without an end) name the line that was being read; want of memory has line 0 and byte 0. The
+/// reader is left where it stood.
+pub fn read_set<R: Read>(alloc: Global, reader: &mut R) -> Result<ObjectSet, LoadFault>
+    // What is read is what the file holds.
+    ensures read { IfSome (R.remaining reader.old) (λ file. IfOk result (HoldsSet file)) }
+    // What the file holds is read, unless the reader failed, never ended, or memory ran out.
+    ensures only { IfSome (R.remaining reader.old) (λ file. (objects : List Element) → HoldsSet file objects
+        → MatchResult result (λ set. set ≡ objects) (λ fault. IsOutside fault.fault.cause)) }
+{
+    let mut loader = Loader::new(alloc);
+    let mut piece = [0u8; PIECE];
+    for _ in 0..READS {
+        let Ok(len) = reader.read(&mut piece) else {
+            return Err(loader.refusal(OplCause::ReaderFailed, 0));
+        };
+        if len == 0 {
+            return loader.finish();
+        }
+        loader.feed(&piece[..len])?;
+    }
+    Err(loader.refusal(OplCause::Endless, 0))
+}
+
+/// A law: a file holds one set at most.
+pub fn one_set()
+    ensures { (file : List ℕ) (a b : List Element) → HoldsSet file a → HoldsSet file b → a ≡ b }
+{
+}
+
+#[cfg(test)]
+mod tests;

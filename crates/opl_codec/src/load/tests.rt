@@ -1,0 +1,120 @@
+//! Files as sets: lines in any order, pieces of any size, repeated objects, failing readers.
+
+use std::alloc::Global;
+use std::io;
+use std::io::Read;
+use std::process::Abort;
+use std::test::Fail;
+
+use osm_model::{Kind, Ref};
+
+use crate::{LoadFault, OplCause, OplFault, read_set};
+
+/// A reader that gives some bytes a call, and fails at one call (0: at none).
+#[derive(Drop)]
+struct SlowReader<'a> {
+    left: &'a [u8],
+    at_once: usize,
+    fails_at: usize,
+    calls: usize,
+}
+
+impl Read for SlowReader<'_> {
+    fn read(&mut self, buf: &mut [u8]) -> io::Result<usize> {
+        self.calls = self.calls.saturating_add(1);
+        if self.calls == self.fails_at {
+            return Err(io::Error::from(io::ErrorKind::Other));
+        }
+        let len = self.at_once.min(self.left.len()).min(buf.len());
+        let (now, left) = self.left.split_at(len);
+        buf[..len].copy_from_slice(now);
+        self.left = left;
+        Ok(len)
+    }
+}
+
+fn refusal(alloc: Global, file: &str) -> Option<LoadFault> {
+    let mut reader = file.as_bytes();
+    read_set(alloc, &mut reader).err()
+}
+
+fn fault(line: u64, cause: OplCause, byte: usize) -> Option<LoadFault> {
+    Some(LoadFault {
+        line,
+        fault: OplFault { cause, byte },
+    })
+}
+
+/// Whether the file holds just the nodes 1, 2 and 3.
+fn holds_three(rt: &impl Abort, alloc: Global, file: &str, at_once: usize) -> Result<bool, LoadFault> {
+    let mut reader = SlowReader {
+        left: file.as_bytes(),
+        at_once,
+        fails_at: 0,
+        calls: 0,
+    };
+    let set = read_set(alloc, &mut reader)?;
+    assert_eq!(rt; set.as_slice().len(), 3);
+    let named = |id| Ref {
+        kind: Kind::Node,
+        id,
+    };
+    Ok(set.get(named(1)).is_some() && set.get(named(2)).is_some() && set.get(named(3)).is_some())
+}
+
+#[test]
+fn lines_may_stand_in_any_order(rt: HostRuntime) -> Result<(), LoadFault> {
+    let alloc = rt.alloc();
+    assert!(rt; holds_three(&rt, alloc, "n1 x1 y1\nn2 x2 y2\nn3 x3 y3\n", 4096)?);
+    assert!(rt; holds_three(&rt, alloc, "n3 x3 y3\nn1 x1 y1\n\nn2 x2 y2", 4096)?);
+    assert!(rt; holds_three(&rt, alloc, "\n\nn2 x2 y2\nn3 x3 y3\nn1 x1 y1\n\n", 1)?);
+    assert!(rt; holds_three(&rt, alloc, "n2 x2 y2\nn3 x3 y3\nn1 x1 y1", 7)?);
+    Ok(())
+}
+
+#[test]
+fn an_empty_file_holds_the_empty_set(rt: HostRuntime) -> Result<(), LoadFault> {
+    let mut reader = b"".as_slice();
+    let set = read_set(rt.alloc(), &mut reader)?;
+    assert_eq!(rt; set.as_slice().len(), 0);
+    Ok(())
+}
+
+#[test]
+fn the_first_line_with_a_fault_is_told(rt: HostRuntime) {
+    let alloc = rt.alloc();
+    assert_eq!(rt; refusal(alloc, "n1 x13.4"), fault(1, OplCause::NoLocation, 8));
+    assert_eq!(rt; refusal(alloc, "n1 x1 y1\n\nc5\nn2"), fault(3, OplCause::UnknownObject, 0));
+    assert_eq!(rt; refusal(alloc, "n1 x1 y1\nn2 x2 y2\nn1 x3 y3\nc5\n"), fault(3, OplCause::OutsideModel, 0));
+    assert_eq!(rt; refusal(alloc, "n2 x1 y1\nn1 x2 y2\nn1 x3 y3\nn2 x3 y3\n"), fault(3, OplCause::OutsideModel, 0));
+    assert_eq!(rt; refusal(alloc, "n1 x1 y1\nc5\nn1 x1 y1\n"), fault(2, OplCause::UnknownObject, 0));
+}
+
+#[test]
+fn a_failing_reader_names_the_line(rt: HostRuntime) {
+    let alloc = rt.alloc();
+    let file = "n1 x1 y1\nn2 x2 y2\n";
+    for fails_at in 1..19 {
+        let mut reader = SlowReader {
+            left: file.as_bytes(),
+            at_once: 1,
+            fails_at,
+            calls: 0,
+        };
+        let line = if fails_at <= 9 { 1 } else { 2 };
+        let told = read_set(alloc, &mut reader).err();
+        assert_eq!(rt; told, fault(line, OplCause::ReaderFailed, 0));
+    }
+}
+
+#[test]
+fn memory_changes_no_set(rt: HostRuntime) -> Result<(), LoadFault> {
+    let alloc = rt.alloc();
+    let file = "n3 Ta=1 x3 y3\nn1 x1 y1\nn2 x2 y2\n";
+    match holds_three(&rt, alloc, file, 5) {
+        Ok(holds) => assert!(rt; holds),
+        Err(told) => assert_eq!(rt; Some(told), fault(0, OplCause::Memory, 0)),
+    }
+    assert!(rt; holds_three(&rt, alloc, file, 5)?);
+    Ok(())
+}

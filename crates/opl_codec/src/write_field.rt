@@ -1,0 +1,124 @@
+//! The fields of a line.
+
+ghost use Rattle.std.specs.Prelude.{◌≡◌, ◌++◌, [], ◌∷◌, length, take, flat_map, OnOk, OnErr};
+ghost use Rattle.std.specs.Fmt.{decimal, signed_decimal};
+ghost use Rattle.osm_model.specs.CanonicalDegrees.{degrees};
+ghost use Rattle.osm_model.specs.CanonicalLine.{name_field, meta_fields, tags_field, tag_text, body_fields, moment, escaped};
+
+use crate::write_moment::moment_text;
+use crate::write_text::append_text;
+use itoa::Buffer;
+use osm_model::{Body, Coord, Kind, Meta, Object, Stamp, Tag, write_degrees};
+use std::alloc::AllocError;
+
+/// Appends the letter of the object's kind and its id.
+pub fn append_name(object: &Object, out: &mut Vec<u8>) -> Result<(), AllocError>
+    ensures ok { OnOk result (out.new.items ≡ out.old.items ++ name_field object.now) }
+    ensures err { OnErr result (take (length out.old.items) out.new.items ≡ out.old.items) }
+{
+    let reference = object.reference();
+    let letter = match reference.kind {
+        Kind::Node => b'n',
+        Kind::Way => b'w',
+        Kind::Rel => b'r',
+    };
+    out.push(letter)?;
+    append_number(reference.id, out)
+}
+
+/// Appends a blank and the fields of the metadata, a blank between two.
+pub fn append_meta(meta: &Meta, out: &mut Vec<u8>) -> Result<(), AllocError>
+    ensures ok { OnOk result (out.new.items ≡ out.old.items ++ flat_map (λ f. 32 ∷ f) (meta_fields meta.now)) }
+    ensures err { OnErr result (take (length out.old.items) out.new.items ≡ out.old.items) }
+{
+    append_change(meta, out)?;
+    append_author(meta, out)
+}
+
+/// The version, that it is visible, the changeset and the moment.
+fn append_change(meta: &Meta, out: &mut Vec<u8>) -> Result<(), AllocError>
+    ensures ok { OnOk result (out.new.items ≡ out.old.items ++ ((32 ∷ 118 ∷ decimal meta.now.version) ++ ((32 ∷ 100 ∷ 86 ∷ []) ++ ((32 ∷ 99 ∷ signed_decimal meta.now.changeset) ++ (32 ∷ 116 ∷ moment meta.now.stamp))))) }
+    ensures err { OnErr result (take (length out.old.items) out.new.items ≡ out.old.items) }
+{
+    out.extend_from_slice(b" v")?;
+    append_number(i64::from(meta.version), out)?;
+    out.extend_from_slice(b" dV c")?;
+    append_number(meta.changeset, out)?;
+    out.extend_from_slice(b" t")?;
+    append_moment(meta.stamp, out)
+}
+
+/// Who made the change.
+fn append_author(meta: &Meta, out: &mut Vec<u8>) -> Result<(), AllocError>
+    ensures ok { OnOk result (out.new.items ≡ out.old.items ++ ((32 ∷ 105 ∷ signed_decimal meta.now.uid) ++ (32 ∷ 117 ∷ escaped meta.now.user))) }
+    ensures err { OnErr result (take (length out.old.items) out.new.items ≡ out.old.items) }
+{
+    out.extend_from_slice(b" i")?;
+    append_number(meta.uid, out)?;
+    out.extend_from_slice(b" u")?;
+    append_text(&meta.user, out)
+}
+
+/// Appends a blank and the field of these tags.
+pub fn append_tags(tags: &[Tag], out: &mut Vec<u8>) -> Result<(), AllocError>
+    ensures ok { OnOk result (out.new.items ≡ out.old.items ++ 32 ∷ tags_field tags.now) }
+    ensures err { OnErr result (take (length out.old.items) out.new.items ≡ out.old.items) }
+{
+    out.extend_from_slice(b" T")?;
+    let Some((first, others)) = tags.split_first() else {
+        return Ok(());
+    };
+    append_tag(first, out)?;
+    for tag in others {
+        out.push(b',')?;
+        append_tag(tag, out)?;
+    }
+    Ok(())
+}
+
+/// Appends a blank and the fields of a body, a blank between two.
+pub fn append_body(body: &Body, out: &mut Vec<u8>) -> Result<(), AllocError>
+    ensures ok { OnOk result (out.new.items ≡ out.old.items ++ flat_map (λ f. 32 ∷ f) (body_fields body.now)) }
+    ensures err { OnErr result (take (length out.old.items) out.new.items ≡ out.old.items) }
+{
+    match body {
+        Body::Node(place) => append_place(*place, out),
+    }
+}
+
+fn append_place(place: Coord, out: &mut Vec<u8>) -> Result<(), AllocError>
+    ensures ok { OnOk result (out.new.items ≡ out.old.items ++ (32 ∷ 120 ∷ degrees place.lon) ++ (32 ∷ 121 ∷ degrees place.lat)) }
+    ensures err { OnErr result (take (length out.old.items) out.new.items ≡ out.old.items) }
+{
+    out.extend_from_slice(b" x")?;
+    out.extend_from_slice(write_degrees(place.lon()).as_bytes())?;
+    out.extend_from_slice(b" y")?;
+    out.extend_from_slice(write_degrees(place.lat()).as_bytes())
+}
+
+fn append_tag(tag: &Tag, out: &mut Vec<u8>) -> Result<(), AllocError>
+    ensures ok { OnOk result (out.new.items ≡ out.old.items ++ tag_text tag.now) }
+    ensures err { OnErr result (take (length out.old.items) out.new.items ≡ out.old.items) }
+{
+    append_text(&tag.key, out)?;
+    out.push(b'=')?;
+    append_text(&tag.value, out)
+}
+
+#[tactic(auto, unfolding(osm_model::specs::CanonicalLine::moment))]
+fn append_moment(stamp: Option<Stamp>, out: &mut Vec<u8>) -> Result<(), AllocError>
+    ensures ok { OnOk result (out.new.items ≡ out.old.items ++ moment stamp) }
+    ensures err { OnErr result (out.new.items ≡ out.old.items) }
+{
+    match stamp {
+        None => Ok(()),
+        Some(stamp) => out.extend_from_slice(&moment_text(stamp)),
+    }
+}
+
+fn append_number(number: i64, out: &mut Vec<u8>) -> Result<(), AllocError>
+    ensures ok { OnOk result (out.new.items ≡ out.old.items ++ signed_decimal number) }
+    ensures err { OnErr result (out.new.items ≡ out.old.items) }
+{
+    out.extend_from_slice(Buffer::new().format(number).as_bytes())
+}

@@ -1,0 +1,5 @@
+use Rattle.ql_plain.proofs.Laws.{one_fault}
+use Rattle.ql_plain.proofs.parser.one_fault.Goals as goal
+
+pub returns : goal.returns
+returns c = one_fault

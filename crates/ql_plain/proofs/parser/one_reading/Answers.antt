@@ -1,0 +1,5 @@
+use Rattle.ql_plain.proofs.Laws.{one_reading}
+use Rattle.ql_plain.proofs.parser.one_reading.Goals as goal
+
+pub returns : goal.returns
+returns c = one_reading

@@ -1,0 +1,15 @@
+//! The small query of one node by its id, and its plain answer.
+//!
+//! [`parse`] reads a query, or tells the one fault of a text that is none; [`answer_plain`] gives the
+//! meaning of a query over a set of objects.
+#![tactic(auto)]
+
+mod answer;
+mod fault;
+mod parser;
+mod query;
+
+pub use answer::answer_plain;
+pub use fault::{QlCause, QlFault};
+pub use parser::{fault_place, never_both, one_fault, one_reading, parse};
+pub use query::Query;

@@ -1,0 +1,10 @@
+pub mod BagLemmas
+pub mod DigestLemmas
+pub mod FaultLemmas
+pub mod FieldLemmas
+pub mod ItemFaults
+pub mod MapLemmas
+pub mod NodeFaults
+pub mod NodeLaws
+pub mod RecorderLemmas
+pub mod SkipLemmas

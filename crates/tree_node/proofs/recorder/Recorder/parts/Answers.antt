@@ -1,0 +1,28 @@
+use Rattle.std.proofs.Common.{map}
+use Rattle.std.specs.BTreeMap.{get}
+use Rattle.tree_node.specs.Keys.{digest_cmp}
+use Rattle.tree_node.specs.Parts.{pair_of}
+use Rattle.tree_node.proofs.MapLemmas.{own_digest}
+use Rattle.tree_node.proofs.RecorderLemmas.{parts_rise, parts_given, to_come, one_more, none_more}
+use Rattle.tree_node.proofs.recorder.Recorder.parts.Goals as goal
+
+pub with_digest-requires : goal.with_digest-requires
+with_digest-requires c =
+    let there = to_come c.args.self.now.given (map pair_of c.loop-key.parts.items) _ c.next.new.self c.in-Some.key.now c.in-Some.bytes.now
+    c.into_iter-key-iterator.ensures.into_iter_gives.6 c.loop-key.invariant c.in-Some.ensures.steps in
+    own_digest _ (get digest_cmp c.args.self.now.stock.now.nodes c.in-Some.key.now) _ (c.args.self.now.own c.in-Some.key.now c.in-Some.bytes.now there)
+    (c.args.self.now.stock.now.own c.in-Some.key.now)
+
+pub loop-key-preserved : goal.loop-key-preserved
+loop-key-preserved c =
+    one_more c.loop-key.parts.items c.push.new.self.items c.with_digest.result (c.in-Some.key.now, c.in-Some.bytes.now) _ _ _
+    c.in_ok-push.ensures.items c.with_digest.ensures c.in-Some.ensures.steps c.loop-key.invariant
+
+pub returns : goal.returns
+returns c =
+    let all = none_more c.loop-key.parts.items _ _ c.in-None.ensures.steps.0 c.loop-key.invariant in
+    let ordered = c.into_iter-key-iterator.ensures.into_iter_gives.5 in
+    record {
+      rising = parts_rise c.loop-key.parts.items (rw all ordered);
+      used = parts_given c.args.self.now.given c.loop-key.parts.items all c.into_iter-key-iterator.ensures.into_iter_gives.6;
+    }

@@ -1,0 +1,30 @@
+use Rattle.std.proofs.Common.{◌≡◌, ℕ, sym, ap, ◌∙◌, inl}
+use Rattle.std.specs.Global.{Vec}
+use Rattle.std.proofs.lemmas.Slice.Eq.{bytes_eq-Decides}
+use Rattle.tree_node.specs.Digests.{digest}
+use Rattle.tree_node.proofs.MapLemmas.{put_grows, owns_after, stands, differ, copied_none}
+use Rattle.tree_node.proofs.stock.Stock.put.Goals as goal
+
+pub returns-in-Some-clause-clash : goal.returns-in-Some-clause-clash
+returns-in-Some-clause-clash c =
+    let at = sym c.in-Some.ensures.value in
+    let own = c.args.self.now.own c.digest_of-key.result c.in-Some.node.now at in
+    let same : digest c.in-Some.node.now.items ≡ digest c.args.bytes.items = own ∙ c.digest_of-key.ensures ∙ ap digest c.as_slice.ensures.value in
+    let decides = bytes_eq-Decides c.as_slice-in-Some.result.now c.as_slice-in-Some-2.result.now in
+    λ _. (
+      c.in-Some.node.now.items,
+      stands c.args.self.now.nodes c.digest_of-key.result c.in-Some.node.now at own,
+      (λ e. let t = decides.1 (c.as_slice-in-Some.ensures.value ∙ e ∙ sym c.as_slice-in-Some-2.ensures.value) in let f = sym c.eq.ensures ∙ c.if-eq.false in differ _ t f),
+      same,
+    )
+
+pub invariant_of-self : goal.invariant_of-self
+invariant_of-self c =
+    record { own = owns_after (λ (w : Vec ℕ). w.items) c.args.self.now.nodes c.insert.new.self c.digest_of-key.result c.args.bytes c.insert.result c.insert.ensures.updates c.insert.ensures.err (c.digest_of-key.ensures ∙ ap digest c.as_slice.ensures.value) c.args.self.now.own }
+
+pub returns-in-Ok-clause-added : goal.returns-in-Ok-clause-added
+returns-in-Ok-clause-added c =
+    put_grows (λ (w : Vec ℕ). w.items) c.args.self.now.nodes c.insert.new.self c.digest_of-key.result c.args.bytes
+    (record { each = c.in-Ok.ensures.updates.0; here = c.in-Ok.ensures.updates.1 })
+    (c.digest_of-key.ensures ∙ ap digest c.as_slice.ensures.value)
+    (inl (sym c.get.ensures.value ∙ copied_none c.get.result c.in_default.not-Some))

@@ -1,0 +1,16 @@
+pub mod BagLaws
+pub mod Bags
+pub mod Digests
+pub mod Faults
+pub mod Keys
+pub mod NodeRefs
+pub mod Nodes
+pub mod Order
+pub mod OrderLemmas
+pub mod Parts
+pub mod Reading
+pub mod RecorderLaws
+pub mod Recorders
+pub mod Shelves
+pub mod Stocks
+pub mod Writing

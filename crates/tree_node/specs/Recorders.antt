@@ -1,0 +1,14 @@
+-- What a recorder holds, and which of its nodes were used.
+use Rattle.std.specs.Prelude.{ℕ, List}
+use Rattle.std.specs.Borrow.{Bor}
+use Rattle.tree_node.specs.Keys.{StandsIn}
+use Rattle.tree_node.specs.Stocks.{HasNode}
+use Rattle.tree_node.specs.declared.recorder.Recorder.{Recorder}
+
+-- the recorder's stock holds this node
+abbrev pub RecorderHolds : Recorder → List ℕ → Type 0
+RecorderHolds recorder = HasNode recorder.stock.now
+
+-- this node was used
+abbrev pub RecorderUsed : Recorder → List ℕ → Type 0
+RecorderUsed recorder = StandsIn (λ (b : Bor (List ℕ)). b.now) recorder.given

@@ -1,0 +1,42 @@
+//! The bytes of a tree's nodes, their digests, and where nodes are kept.
+//!
+//! A tree is made of nodes that are named by the SHA-256 digests of their bytes. This crate reads and
+//! `Recorder` is a shelf over it that knows which nodes were used, and a `Bag` is a shelf over the
+//! nodes of a proof.
+#![tactic(auto)]
+
+mod bag;
+mod child;
+mod children;
+mod digest;
+mod entries;
+mod fault;
+mod fields;
+mod item;
+mod node;
+mod order;
+mod part;
+mod recorder;
+mod shelf;
+mod spelling;
+mod stock;
+#[cfg(test)]
+mod tests;
+mod tree;
+mod write;
+
+pub use bag::Bag;
+pub use child::Child;
+pub use children::Children;
+pub use digest::{Digest, digest_of};
+pub use entries::Entries;
+pub use fault::NodeFault;
+pub use item::Item;
+pub use node::NodeRef;
+pub use part::Part;
+pub use recorder::Recorder;
+pub use shelf::{Shelf, ShelfFault};
+pub use spelling::spelling_law;
+pub use stock::{PutFault, Stock};
+pub use tree::Tree;
+pub use write::{write_inner, write_leaf};

@@ -1,0 +1,108 @@
+ghost use Rattle.std.specs.Prelude.{◌≡◌, IfErr, IfOk, IsOkAnd};
+ghost use Rattle.tree_node.specs.Faults.{IsFault};
+ghost use Rattle.tree_node.specs.NodeRefs.{node_read, number_of};
+ghost use Rattle.tree_node.specs.Nodes.{Node, Spells, tree_of};
+ghost use Rattle.tree_node.specs.Reading.{Gives, node_at};
+
+use crate::children::{Children, skip_children};
+use crate::entries::{Entries, skip_entries};
+use crate::fault::NodeFault;
+use crate::tree::Tree;
+
+/// The greatest number of items in a node.
+const MOST_ITEMS: u16 = 64;
+
+/// The greatest level of an inner node.
+const MOST_LEVEL: u8 = 63;
+
+/// A node as it stands in its bytes: keys and values are slices of them, and nothing is copied.
+#[derive(Drop)]
+pub enum NodeRef<'a> {
+    /// A node with entries, at level 0.
+    Leaf {
+        /// The tree that the node belongs to.
+        tree: Tree,
+        /// 0 to 64 entries.
+        entries: Entries<'a>,
+    },
+    /// A node with children, each a level below.
+    Inner {
+        /// The tree that the node belongs to.
+        tree: Tree,
+        /// From 1 to 63.
+        level: u8,
+        /// 1 to 64 children.
+        children: Children<'a>,
+    },
+}
+
+impl<'a> NodeRef<'a> {
+    /// The node that these bytes are, all of them (this project's form of nodes, docs/FORMATS.md).
+    /// It takes no memory and is linear in the bytes.
+    ///
+    /// Of several faults the first one met from the left is told: a header of less than four bytes
+    /// (N1), the tree number and the level (N5), the number of items (N3); then, item by item, an
+    /// item that is cut short (N1), a child's number of entries (N3), a key that isn't above the one
+    /// before it (N4); last, bytes behind the items (N2).
+    pub fn read(bytes: &'a [u8]) -> Result<NodeRef<'a>, NodeFault>
+        // What is read is what the bytes spell.
+        ensures found { IfOk result (λ n. Spells bytes.now (node_read n)) }
+        // What the bytes spell is read.
+        ensures only { (n : Node) → Spells bytes.now n → IsOkAnd result (λ r. node_read r ≡ n) }
+        // What is refused has this fault first, and what has it is refused for it.
+        ensures refused { IfErr result (λ fault. IsFault bytes.now fault) }
+        ensures fault { (fault : NodeFault) → IsFault bytes.now fault → result ≡ Err fault }
+    {
+        NodeRef::read_fields(bytes)
+    }
+
+    /// The tree that the node belongs to.
+    pub fn tree(&self) -> Tree
+        ensures { number_of result ≡ tree_of (node_read self.now) }
+    {
+        match self {
+            NodeRef::Leaf { tree, entries: _ } => *tree,
+            NodeRef::Inner {
+                tree,
+                level: _,
+                children: _,
+            } => *tree,
+        }
+    }
+
+    /// What `read` gives, by the definition that goes through the bytes from the left.
+    #[tactic(auto, unfolding(crate::specs::Reading::node_at))]
+    fn read_fields(bytes: &'a [u8]) -> Result<NodeRef<'a>, NodeFault>
+        ensures { Gives node_read result (node_at bytes.now) }
+    {
+        if bytes.len() < 4 {
+            return Err(NodeFault::CutShort);
+        }
+        let (head, rest) = bytes.split_at(4);
+        let tree = Tree::from_number(head[0])?;
+        let level = head[1];
+        if level > MOST_LEVEL {
+            return Err(NodeFault::BadTreeOrLevel);
+        }
+        let count = u16::from_be_bytes([head[2], head[3]]);
+        if count > MOST_ITEMS || (level > 0 && count == 0) {
+            return Err(NodeFault::BadCount);
+        }
+        if level == 0 {
+            if !skip_entries(count, rest)?.is_empty() {
+                return Err(NodeFault::BytesAfter);
+            }
+            let entries = Entries::over(count, rest);
+            return Ok(NodeRef::Leaf { tree, entries });
+        }
+        if !skip_children(count, rest)?.is_empty() {
+            return Err(NodeFault::BytesAfter);
+        }
+        let children = Children::over(count, rest);
+        Ok(NodeRef::Inner {
+            tree,
+            level,
+            children,
+        })
+    }
+}

@@ -1,0 +1,83 @@
+ghost use Rattle.std.specs.BTreeMap.{get};
+ghost use Rattle.std.specs.Option.{ForSome, option_map};
+ghost use Rattle.std.specs.Prelude.{◌≡◌, Some, IfOk};
+ghost use Rattle.tree_node.specs.Keys.{digest_cmp};
+ghost use Rattle.tree_node.specs.Parts.{HaveNode, HaveRisingDigests};
+ghost use Rattle.tree_node.specs.Shelves.{IsEmptySet, SameNodes};
+
+use crate::digest::Digest;
+use crate::part::Part;
+use crate::shelf::{Shelf, ShelfFault};
+use crate::stock::Stock;
+use std::alloc::{AllocError, Global};
+use std::collections::BTreeMap;
+
+/// A shelf over a stock, which keeps the nodes that were used, each beside its digest. It copies no
+/// bytes.
+#[derive(Drop)]
+pub struct Recorder<'a> {
+    alloc: Global,
+    stock: &'a Stock,
+    given: BTreeMap<Digest, &'a [u8]>,
+    ghost own: { (key : _) → ForSome (get digest_cmp given key)
+        (λ b. option_map (λ v. v.items) (get digest_cmp stock.now.nodes key) ≡ Some b.now) },
+}
+
+impl<'a> Recorder<'a> {
+    ghost use Rattle.tree_node.specs.Recorders.{RecorderHolds, RecorderUsed};
+    ghost use Rattle.tree_node.specs.Stocks.{HasNode};
+
+    /// A shelf over this stock, no node of it used. It takes no memory yet; what it remembers later
+    /// comes from `alloc`.
+    pub fn new(alloc: Global, stock: &'a Stock) -> Recorder<'a>
+        ensures holds { SameNodes (HasNode stock.now) (RecorderHolds result) }
+        ensures unused { IsEmptySet (RecorderUsed result) }
+    {
+        Recorder {
+            alloc,
+            stock,
+            given: BTreeMap::new(alloc),
+        }
+    }
+
+    /// The used nodes, each once, by rising digest. No digest is computed again; the recorder stays
+    /// as it is.
+    pub fn parts(&self) -> Result<Vec<Part<'a>>, AllocError>
+        ensures rising { IfOk result (λ parts. HaveRisingDigests parts.items) }
+        ensures used { IfOk result (λ parts.
+            SameNodes (RecorderUsed self.now) (HaveNode parts.items)) }
+    {
+        let mut parts = Vec::with_capacity(self.alloc, self.given.len())?;
+        for (key, bytes) in &self.given {
+            parts.push(Part::with_digest(*key, *bytes))?;
+        }
+        Ok(parts)
+    }
+}
+
+impl<'a> Shelf<'a> for Recorder<'a> {
+    ghost use Rattle.tree_node.specs.Recorders.{RecorderHolds, RecorderUsed};
+
+    ghost holds = { RecorderHolds };
+
+    ghost used = { RecorderUsed };
+
+    ghost use Rattle.tree_node.specs.RecorderLaws.{stands_once, given_held};
+
+    ghost clash_free = { λ r. stands_once r.stock.now.nodes };
+
+    ghost used_held = { λ r. given_held r.stock.now.nodes r.given r.own };
+
+    /// It takes memory only for a node that was not used before, and is logarithmic in the number
+    /// of nodes.
+    fn fetch(&mut self, key: &Digest) -> Result<&'a [u8], ShelfFault> {
+        let stock = self.stock;
+        match stock.find(key) {
+            Some(node) => match self.given.insert(*key, node) {
+                Ok(_) => Ok(node),
+                Err(_) => Err(ShelfFault::Memory),
+            },
+            None => Err(ShelfFault::Missing),
+        }
+    }
+}

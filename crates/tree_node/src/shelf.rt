@@ -1,0 +1,50 @@
+ghost use Rattle.std.specs.Prelude.{◌≡◌, ℕ, List, IfOk, OnErr};
+ghost use Rattle.tree_node.specs.Digests.{digest};
+ghost use Rattle.tree_node.specs.Shelves.{GrownBy, HasNone, IsClashFree, SameNodes};
+
+use crate::digest::Digest;
+use thiserror::Error;
+
+/// Why a shelf gave no node.
+#[derive(Clone, Copy, Debug, PartialEq, Eq, Error)]
+pub enum ShelfFault {
+    /// N7: the shelf holds no node with this digest.
+    #[error("N7")]
+    Missing,
+    /// Memory to remember the node was refused.
+    #[error("no memory")]
+    Memory,
+}
+
+/// Nodes by digest, which remembers the nodes that it gave. This is the only way by which a walk
+/// reads a tree, so what is proved over it holds of a publisher's nodes and of a stranger's alike.
+///
+/// A node here is a byte string, of any form. A node that was lent outlives later fetches.
+pub trait Shelf<'a> {
+    /// The nodes that the shelf holds.
+    ghost holds: { Self → List ℕ → Type 0 };
+
+    /// The nodes that were used: those that it gave.
+    ghost used: { Self → List ℕ → Type 0 };
+
+    /// The node with this digest. Refused with `Missing` (N7) exactly where the shelf holds none,
+    /// and else for memory alone; after a refusal nothing has changed.
+    fn fetch(&mut self, key: &Digest) -> Result<&'a [u8], ShelfFault>
+        // What it gives is held, and has the digest asked.
+        ensures given { IfOk result (λ node.
+            holds self.new node.now × (digest node.now ≡ key.now.0)) }
+        // The used nodes grow by just that one.
+        ensures grown { IfOk result (λ node. GrownBy (used self.old) (used self.new) node.now) }
+        // Whatever the result, what was used stays used.
+        ensures grows { (x : List ℕ) → used self.old x → used self.new x }
+        ensures unchanged { OnErr result (SameNodes (used self.old) (used self.new)) }
+        // The held nodes never change.
+        ensures stays { SameNodes (holds self.old) (holds self.new) }
+        ensures missing { result ≡ Err ShelfFault.Missing → HasNone (holds self.new) key.now.0 };
+
+    /// A shelf holds no two nodes with one digest.
+    ghost clash_free: { (s : Self) → IsClashFree (holds s) };
+
+    /// Each used node is held.
+    ghost used_held: { (s : Self) (x : List ℕ) → used s x → holds s x };
+}

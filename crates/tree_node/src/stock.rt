@@ -1,0 +1,89 @@
+ghost use Rattle.std.specs.BTreeMap.{get};
+ghost use Rattle.std.specs.Option.{ForSome, option_map};
+ghost use Rattle.std.specs.Prelude.{◌≡◌, ◌≢◌, ℕ, List, IfOk, OnOk, OnErr};
+ghost use Rattle.tree_node.specs.Digests.{digest as digest_word};
+ghost use Rattle.tree_node.specs.Keys.{digest_cmp};
+ghost use Rattle.tree_node.specs.Shelves.{GrownBy, IsEmptySet, SameNodes};
+
+use crate::digest::{Digest, digest_of};
+use crate::recorder::Recorder;
+use std::alloc::Global;
+use std::collections::BTreeMap;
+use thiserror::Error;
+
+/// Owned nodes, found by their digests in logarithmic time. The bytes of each are held once.
+#[derive(Drop)]
+pub struct Stock {
+    nodes: BTreeMap<Digest, Vec<u8>>,
+    ghost own: { (key : _)
+        → ForSome (get digest_cmp nodes key) (λ node. digest_word node.items ≡ key.0) },
+}
+
+/// Why a node was not put into a stock.
+#[derive(Clone, Copy, Debug, PartialEq, Eq, Error)]
+pub enum PutFault {
+    /// N6: another node has this digest.
+    #[error("N6")]
+    Clash,
+    /// Memory to hold the node was refused.
+    #[error("no memory")]
+    Memory,
+}
+
+impl Stock {
+    ghost use Rattle.tree_node.specs.Recorders.{RecorderHolds, RecorderUsed};
+    ghost use Rattle.tree_node.specs.Stocks.{HasNode};
+
+    /// A stock without nodes. It takes no memory yet; what it holds later comes from `alloc`.
+    pub fn new(alloc: Global) -> Stock
+        ensures { IsEmptySet (HasNode result) }
+    {
+        Stock {
+            nodes: BTreeMap::new(alloc),
+        }
+    }
+
+    /// Adds this node, and gives its digest. A node that is there already stays, once. After a
+    /// refusal the stock is as before, and the bytes are dropped: `Clash` (N6) comes only where
+    /// another node has the digest.
+    pub fn put(&mut self, bytes: Vec<u8>) -> Result<Digest, PutFault>
+        ensures key { IfOk result (λ key. key.0 ≡ digest_word bytes.items) }
+        ensures added { OnOk result (GrownBy (HasNode self.old) (HasNode self.new) bytes.items) }
+        ensures unchanged { OnErr result (SameNodes (HasNode self.old) (HasNode self.new)) }
+        ensures clash { result ≡ Err PutFault.Clash
+            → (x : List ℕ) × HasNode self.old x × (x ≢ bytes.items)
+            × (digest_word x ≡ digest_word bytes.items) }
+    {
+        let key = digest_of(bytes.as_slice());
+        if let Some(node) = self.nodes.get(&key) {
+            if node.as_slice() == bytes.as_slice() {
+                return Ok(key);
+            }
+            return Err(PutFault::Clash);
+        }
+        match self.nodes.insert(key, bytes) {
+            Ok(_) => Ok(key),
+            Err(_) => Err(PutFault::Memory),
+        }
+    }
+
+    /// A shelf over these nodes, none of them used. It takes no memory yet; what it remembers later
+    /// comes from `alloc`.
+    pub fn shelf(&self, alloc: Global) -> Recorder<'_>
+        ensures holds { SameNodes (HasNode self.now) (RecorderHolds result) }
+        ensures unused { IsEmptySet (RecorderUsed result) }
+    {
+        Recorder::new(alloc, self)
+    }
+
+    /// The node with this digest.
+    pub(crate) fn find(&self, key: &Digest) -> Option<&[u8]>
+        ensures { option_map (λ x. x.now) result
+            ≡ option_map (λ v. v.items) (get digest_cmp self.now.nodes key.now) }
+    {
+        match self.nodes.get(key) {
+            Some(node) => Some(node.as_slice()),
+            None => None,
+        }
+    }
+}

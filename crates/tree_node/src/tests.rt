@@ -1,0 +1,371 @@
+//! Worked values from outside this crate: the bytes and codes of docs/FORMATS.md, FIPS 180-4's two
+//! messages, and the digest of a tree that an independent program computed.
+
+ghost use Rattle.std.specs.Prelude.{◌^◌, ◌<◌, length};
+ghost use Rattle.tree_node.specs.NodeRefs.{binding_of};
+ghost use Rattle.tree_node.specs.Nodes.{FitsEntry};
+
+use super::*;
+use std::alloc::{AllocError, Global};
+use std::test::Fail;
+
+/// The leaf of the one object `n1 x0 y0`.
+const LEAF: &[u8] =
+    b"\x01\x00\x00\x01\x00\x09\x01\x80\x00\x00\x00\x00\x00\x00\x01\x00\x00\x00\x1an1 v0 dV c0 t i0 u T x0 y0";
+
+/// The canonical line of that object.
+const LINE: &[u8] = b"n1 v0 dV c0 t i0 u T x0 y0";
+
+/// The digest that this text in lower-case hexadecimal is.
+fn shown(alloc: Global, digest: &Digest) -> Result<String, AllocError> {
+    let mut text = String::new(alloc);
+    for byte in digest.0 {
+        text.push_str(format!(in alloc; "{byte:02x}")?.as_str())?;
+    }
+    Ok(text)
+}
+
+#[test]
+fn digests(rt: HostRuntime) -> Result<(), Fail> {
+    let empty = shown(rt.alloc(), &digest_of(b""))?;
+    assert_eq!(rt;
+        empty.as_str(),
+        "e3b0c44298fc1c149afbf4c8996fb92427ae41e4649b934ca495991b7852b855"
+    );
+    let abc = shown(rt.alloc(), &digest_of(b"abc"))?;
+    assert_eq!(rt;
+        abc.as_str(),
+        "ba7816bf8f01cfea414140de5dae2223b00361a396177a9cb410ff61f20015ad"
+    );
+    assert_eq!(rt;
+        Digest::from_slice(&digest_of(b"abc").0),
+        Some(digest_of(b"abc"))
+    );
+    assert_eq!(rt; Digest::from_slice(b"abc"), None);
+    Ok(())
+}
+
+#[test]
+fn refuses_bytes_that_are_no_node(rt: HostRuntime) {
+    let cases: [(&[u8], NodeFault); 14] = [
+        (b"", NodeFault::CutShort),
+        (b"\x05\x00\x00", NodeFault::CutShort),
+        (b"\x05\x00\x00\x00", NodeFault::BadTreeOrLevel),
+        (b"\x00\x00\x00\x00", NodeFault::BadTreeOrLevel),
+        (b"\x01\x40\x00\x00", NodeFault::BadTreeOrLevel),
+        (b"\x01\x00\x00\x41", NodeFault::BadCount),
+        (b"\x01\x01\x00\x00", NodeFault::BadCount),
+        (b"\x01\x00\x00\x01\x00", NodeFault::CutShort),
+        (b"\x01\x00\x00\x00\x00", NodeFault::BytesAfter),
+        // A second key that isn't above the first, before what is cut short behind it.
+        (
+            b"\x01\x00\x00\x03\x00\x01a\x00\x00\x00\x00\x00\x01a\x00\x00\x00\x00",
+            NodeFault::NotRising,
+        ),
+        // The greatest byte of a key decides, and then its length.
+        (
+            b"\x01\x00\x00\x02\x00\x02ab\x00\x00\x00\x00\x00\x01a\x00\x00\x00\x00",
+            NodeFault::NotRising,
+        ),
+        (
+            b"\x01\x00\x00\x02\x00\x01b\x00\x00\x00\x00\x00\x02ac\x00\x00\x00\x00",
+            NodeFault::NotRising,
+        ),
+        // A child of no entries, and one of more than 2^40.
+        (
+            b"\x01\x01\x00\x01\x00\x01a\x00\x00\x00\x00\x00\x00\x00\x0000000000000000000000000000000000",
+            NodeFault::BadCount,
+        ),
+        (
+            b"\x01\x01\x00\x01\x00\x01a\x00\x00\x01\x00\x00\x00\x00\x0100000000000000000000000000000000",
+            NodeFault::BadCount,
+        ),
+    ];
+    for (bytes, fault) in cases {
+        assert_eq!(rt; NodeRef::read(bytes).err(), Some(fault), "{bytes:?}");
+    }
+}
+
+#[test]
+fn shows_the_codes(rt: HostRuntime) -> Result<(), Fail> {
+    let alloc = rt.alloc();
+    let faults = [
+        (NodeFault::CutShort, "N1"),
+        (NodeFault::BytesAfter, "N2"),
+        (NodeFault::BadCount, "N3"),
+        (NodeFault::NotRising, "N4"),
+        (NodeFault::BadTreeOrLevel, "N5"),
+    ];
+    for (fault, code) in faults {
+        assert_eq!(rt; format!(in alloc; "{fault}")?.as_str(), code);
+    }
+    assert_eq!(rt; format!(in alloc; "{}", PutFault::Clash)?.as_str(), "N6");
+    assert_eq!(rt;
+        format!(in alloc; "{}", ShelfFault::Missing)?.as_str(),
+        "N7"
+    );
+    assert_eq!(rt;
+        format!(in alloc; "{}", PutFault::Memory)?.as_str(),
+        "no memory"
+    );
+    assert_eq!(rt;
+        format!(in alloc; "{}", ShelfFault::Memory)?.as_str(),
+        "no memory"
+    );
+    Ok(())
+}
+
+#[test]
+fn reads_the_leaf_of_one_object(rt: HostRuntime) -> Result<(), Fail> {
+    let node = NodeRef::read(LEAF)?;
+    assert_eq!(rt; node.tree(), Tree::Objects);
+    let mut entries = entries_of(node).ok_or("a leaf was expected")?;
+    let item = entries.next().ok_or("an entry was expected")?;
+    assert_eq!(rt;
+        item.key,
+        b"\x01\x80\x00\x00\x00\x00\x00\x00\x01".as_slice()
+    );
+    assert_eq!(rt; item.value, LINE);
+    assert!(rt; entries.next().is_none());
+    Ok(())
+}
+
+#[test]
+fn writes_leaves(rt: HostRuntime) -> Result<(), Fail> {
+    let mut empty = Vec::new(rt.alloc());
+    write_leaf(Tree::Objects, &[], &mut empty)?;
+    assert_eq!(rt; empty.as_slice(), b"\x01\x00\x00\x00".as_slice());
+    // What stands in the vector stays in front.
+    let mut out = b"before".to_vec(rt.alloc())?;
+    let item = Item {
+        key: b"\x01\x80\x00\x00\x00\x00\x00\x00\x01",
+        value: LINE,
+    };
+    write_leaf(Tree::Objects, &[item], &mut out)?;
+    assert_eq!(rt; out.as_slice().starts_with(b"before"), true);
+    assert_eq!(rt; out.as_slice().ends_with(LEAF), true);
+    assert_eq!(rt; out.len(), 51);
+    Ok(())
+}
+
+/// The entries of a leaf; none of an inner node.
+fn entries_of(node: NodeRef<'_>) -> Option<Entries<'_>> {
+    match node {
+        NodeRef::Leaf { tree: _, entries } => Some(entries),
+        NodeRef::Inner {
+            tree: _,
+            level: _,
+            children: _,
+        } => None,
+    }
+}
+
+/// The entry of this key without a value.
+fn key_alone(key: &[u8]) -> Item<'_>
+    requires { length key.now < 2 ^ 16 }
+    ensures { FitsEntry (binding_of result) }
+{
+    Item { key, value: b"" }
+}
+
+/// The leaf of tree 2 with these keys of one byte each, without values.
+fn leaf_of(alloc: Global, keys: &[u8]) -> Result<Vec<u8>, AllocError> {
+    let mut items = Vec::new(alloc);
+    for at in 0..keys.len() {
+        items.push(key_alone(&keys[at..at + 1]))?;
+    }
+    let mut out = Vec::new(alloc);
+    if items.len() <= 64 {
+        write_leaf(Tree::Tags, items.as_slice(), &mut out)?;
+    }
+    Ok(out)
+}
+
+#[test]
+fn makes_the_tree_of_65_keys(rt: HostRuntime) -> Result<(), Fail> {
+    let alloc = rt.alloc();
+    let keys: Vec<u8> = (0..65u8).collect(alloc)?;
+    let keys = keys.as_slice();
+    assert_eq!(rt; keys.len(), 65);
+    let (front, back) = keys.split_at(64);
+    let first = leaf_of(alloc, front)?;
+    let second = leaf_of(alloc, back)?;
+    assert_eq!(rt; first.len(), 452);
+    assert_eq!(rt;
+        second.as_slice(),
+        b"\x02\x00\x00\x01\x00\x01\x40\x00\x00\x00\x00".as_slice()
+    );
+    let children = [
+        Child {
+            greatest: b"\x3f",
+            number: 64,
+            digest: digest_of(first.as_slice()),
+        },
+        Child {
+            greatest: b"\x40",
+            number: 1,
+            digest: digest_of(second.as_slice()),
+        },
+    ];
+    let mut top = Vec::new(alloc);
+    write_inner(Tree::Tags, 1, &children, &mut top)?;
+    assert_eq!(rt; top.len(), 90);
+    assert_eq!(rt;
+        top.as_slice().starts_with(b"\x02\x01\x00\x02\x00\x01\x3f\x00\x00\x00\x00\x00\x00\x00\x40"),
+        true
+    );
+    let digest = shown(alloc, &digest_of(top.as_slice()))?;
+    assert_eq!(rt;
+        digest.as_str(),
+        "862f81b59ecd60b2305c967b9a5478337c3887a8cef47f593830d4d446390bc2"
+    );
+    let NodeRef::Inner {
+        tree,
+        level,
+        mut children,
+    } = NodeRef::read(top.as_slice())?
+    else {
+        assert!(rt; false, "an inner node was expected");
+        return Ok(());
+    };
+    assert_eq!(rt; (tree, level), (Tree::Tags, 1));
+    let child = children.next().ok_or("a child was expected")?;
+    assert_eq!(rt; (child.greatest, child.number), (b"\x3f".as_slice(), 64));
+    assert_eq!(rt; child.digest, digest_of(first.as_slice()));
+    assert!(rt; children.next().is_some());
+    assert!(rt; children.next().is_none());
+    Ok(())
+}
+
+/// The two nodes with these digests, over any shelf; the first outlives the second fetch.
+fn fetch_two<'a, S: Shelf<'a>>(
+    shelf: &mut S,
+    one: &Digest,
+    two: &Digest,
+) -> Result<(&'a [u8], &'a [u8]), ShelfFault> {
+    let first = shelf.fetch(one)?;
+    let second = shelf.fetch(two)?;
+    Ok((first, second))
+}
+
+/// A stock of these nodes.
+fn stock_of(alloc: Global, nodes: &[&[u8]]) -> Result<Stock, Fail> {
+    let mut stock = Stock::new(alloc);
+    for node in nodes {
+        stock.put(Vec::from_slice(alloc, *node)?)?;
+    }
+    Ok(stock)
+}
+
+#[test]
+fn records_what_was_used(rt: HostRuntime) -> Result<(), Fail> {
+    let alloc = rt.alloc();
+    // Their digests begin with ca (`a`), 3e (`b`), 2e (`c`) and 18 (`d`).
+    let stock = stock_of(alloc, &[b"a", b"b", b"c", b"a"])?;
+    let mut shelf = stock.shelf(alloc);
+    assert!(rt; shelf.parts()?.is_empty());
+    let (a, b) = fetch_two(&mut shelf, &digest_of(b"a"), &digest_of(b"b"))?;
+    assert_eq!(rt; (a, b), (b"a".as_slice(), b"b".as_slice()));
+    assert_eq!(rt; shelf.fetch(&digest_of(b"a"))?, b"a".as_slice());
+    assert_eq!(rt; shelf.fetch(&digest_of(b"d")), Err(ShelfFault::Missing));
+    let parts = shelf.parts()?;
+    assert_eq!(rt; parts.len(), 2);
+    assert_eq!(rt;
+        (parts[0].bytes(), parts[1].bytes()),
+        (b"b".as_slice(), b"a".as_slice())
+    );
+    assert_eq!(rt; parts[0].digest(), digest_of(b"b"));
+    Ok(())
+}
+
+#[test]
+fn lends_the_parts_of_a_proof(rt: HostRuntime) -> Result<(), Fail> {
+    let alloc = rt.alloc();
+    let stock = stock_of(alloc, &[b"a", b"b", b"c"])?;
+    let mut shelf = stock.shelf(alloc);
+    for key in [b"a", b"b", b"c"] {
+        shelf.fetch(&digest_of(key))?;
+    }
+    let mut bag = Bag::new(alloc, shelf.parts()?)?;
+    assert!(rt; !bag.all_used());
+    let (c, a) = fetch_two(&mut bag, &digest_of(b"c"), &digest_of(b"a"))?;
+    assert_eq!(rt; (c, a), (b"c".as_slice(), b"a".as_slice()));
+    assert_eq!(rt; bag.fetch(&digest_of(b"d")), Err(ShelfFault::Missing));
+    assert!(rt; !bag.all_used());
+    assert_eq!(rt; bag.fetch(&digest_of(b"b"))?, b"b".as_slice());
+    assert!(rt; bag.all_used());
+    assert!(rt; Bag::new(alloc, Vec::new(alloc))?.all_used());
+    Ok(())
+}
+
+#[test]
+fn makes_parts(rt: HostRuntime) {
+    let part = Part::new(b"abc");
+    assert_eq!(rt; part.bytes(), b"abc".as_slice());
+    assert_eq!(rt; part.digest(), digest_of(b"abc"));
+}
+
+/// These bytes, owned; asked for once more where memory was refused.
+fn owned(alloc: Global, bytes: &[u8]) -> Result<Vec<u8>, AllocError> {
+    match bytes.to_vec(alloc) {
+        Ok(copy) => Ok(copy),
+        Err(AllocError) => bytes.to_vec(alloc),
+    }
+}
+
+/// Where memory is refused, a stock, a recorder, a bag and a lent vector are as before, and the next
+/// call, with ample memory, gives the full result. Run with each allocation refused in turn.
+#[test]
+fn stands_after_refused_memory(rt: HostRuntime) -> Result<(), Fail> {
+    let alloc = rt.alloc();
+    let mut stock = Stock::new(alloc);
+    for node in [b"a", b"b", b"c"] {
+        if stock.put(owned(alloc, node)?) == Err(PutFault::Memory) {
+            let key = digest_of(node);
+            assert_eq!(rt; stock.shelf(alloc).fetch(&key), Err(ShelfFault::Missing));
+            assert_eq!(rt; stock.put(owned(alloc, node)?)?, key);
+        }
+    }
+    let mut shelf = stock.shelf(alloc);
+    for (count, key) in [b"a", b"b"].into_iter().enumerate() {
+        let key_of = digest_of(key);
+        let mut fetched = shelf.fetch(&key_of);
+        if fetched == Err(ShelfFault::Memory) {
+            assert_eq!(rt; shelf.parts()?.len(), count);
+            fetched = shelf.fetch(&key_of);
+        }
+        assert_eq!(rt; fetched?, key.as_slice());
+    }
+    let parts = match shelf.parts() {
+        Ok(parts) => parts,
+        Err(AllocError) => shelf.parts()?,
+    };
+    assert_eq!(rt; parts.len(), 2);
+    let bag = match Bag::new(alloc, parts) {
+        Ok(bag) => bag,
+        Err(AllocError) => Bag::new(alloc, shelf.parts()?)?,
+    };
+    assert!(rt; !bag.all_used());
+    let mut out = Vec::new(alloc);
+    let item = Item {
+        key: b"\x01\x80\x00\x00\x00\x00\x00\x00\x01",
+        value: LINE,
+    };
+    if write_leaf(Tree::Objects, &[item], &mut out).is_err() {
+        assert!(rt; out.is_empty());
+        write_leaf(Tree::Objects, &[item], &mut out)?;
+    }
+    assert_eq!(rt; out.as_slice(), LEAF);
+    let child = Child {
+        greatest: b"a",
+        number: 1,
+        digest: digest_of(LEAF),
+    };
+    let mut out = Vec::new(alloc);
+    if write_inner(Tree::Objects, 1, &[child], &mut out).is_err() {
+        assert!(rt; out.is_empty());
+        write_inner(Tree::Objects, 1, &[child], &mut out)?;
+    }
+    assert_eq!(rt; out.len(), 47);
+    Ok(())
+}
