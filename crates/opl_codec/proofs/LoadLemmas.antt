@@ -17,10 +17,10 @@ use Rattle.opl_codec.specs.Files.{HoldsSet, spoken_of, IsOutside}
 use Rattle.opl_codec.specs.declared.cause.OplCause.{OplCause}
 use Rattle.opl_codec.specs.declared.fault.LoadFault.{LoadFault}
 use Rattle.opl_codec.specs.Loading.{Say, Loads, Ruins, IsHopeless, Spoils}
-use Rattle.opl_codec.proofs.PieceLemmas.{pieces_join, some_piece}
+use Rattle.opl_codec.proofs.PieceLemmas.{pieces_join}
+use Rattle.opl_codec.proofs.ReadPieces.{some_piece}
 use Rattle.opl_codec.proofs.EachLemmas.{each_same}
-use Rattle.opl_codec.proofs.OneObject.{one_object}
-use Rattle.opl_codec.proofs.SayLemmas.{hopeless_more, repeated}
+use Rattle.opl_codec.proofs.SayLemmas.{hopeless_more, repeated, one_object}
 
 -- the last of some
 split_last : (ps : List (List ℕ)) → ps ≢ [] → (front : List (List ℕ)) × (last : List ℕ) × (ps ≡ front ++ last ∷ [])

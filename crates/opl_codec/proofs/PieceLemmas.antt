@@ -1,7 +1,7 @@
 -- The pieces of a text that is longer by another.
 use Rattle.std.proofs.Common.{◌≡◌, ◌≢◌, ℕ, zero, suc, ◌+◌, ◌<◌, List, [], ◌∷◌, ◌++◌, length, get_or, take, drop, Bool, true, false, ◌==◌, if◌then◌else◌, refl, sym, ◌∙◌, ap, arith}
-use borrow.Author.Tests.{eqb-true, eq-eqb}
 use Rattle.opl_codec.specs.Fields.{pieces, onto_first}
+use Rattle.opl_codec.proofs.ReadPieces.{some_piece}
 
 -- the last piece of the first text goes on with the first piece of the second
 abbrev pub glue : List (List ℕ) → List (List ℕ) → List (List ℕ)
@@ -15,18 +15,6 @@ glue_onto byte [] bs some = absurd (some refl)
 glue_onto byte (a ∷ []) [] some = refl
 glue_onto byte (a ∷ []) (b ∷ bs) some = refl
 glue_onto byte (a ∷ next ∷ as') bs some = refl
-
-onto_some : (byte : ℕ) (ps : List (List ℕ)) → onto_first byte ps ≢ []
-onto_some byte [] e = cc
-onto_some byte (p ∷ ps) e = cc
-
--- there is always a piece
-pub some_piece : (c : ℕ) (text : List ℕ) → pieces c text ≢ []
-some_piece c [] e = cc
-some_piece c (byte ∷ text) e = elim (byte == c) as (λ b. (if b then [] ∷ pieces c text else onto_first byte (pieces c text)) ≡ [] → ⊥) [
-    | true ↦ λ f. cc
-    | false ↦ λ f. onto_some byte (pieces c text) f
-  ] e
 
 glue_cons : (a : List ℕ) (as' bs : List (List ℕ)) → as' ≢ [] → glue (a ∷ as') bs ≡ a ∷ glue as' bs
 glue_cons a [] bs some = absurd (some refl)
@@ -54,20 +42,3 @@ glue_last (l ∷ ls) p q qs = glue_cons l (ls ++ p ∷ []) (q ∷ qs) (front_som
 -- the pieces of both, where the first text's last piece and the second text's first are known
 pub pieces_join : (c : ℕ) (a b : List ℕ) (ls : List (List ℕ)) (p q : List ℕ) (qs : List (List ℕ)) → pieces c a ≡ ls ++ p ∷ [] → pieces c b ≡ q ∷ qs → pieces c (a ++ b) ≡ ls ++ (p ++ q) ∷ qs
 pieces_join c a b ls p q qs e f = pieces-append c a b ∙ ap (λ x. glue x (pieces c b)) e ∙ ap (glue (ls ++ p ∷ [])) f ∙ glue_last ls p q qs
-
--- no separator: one piece
-pub one_piece : (c : ℕ) (text : List ℕ) → ((k : ℕ) → k < length text → get_or text k 0 ≢ c) → pieces c text ≡ text ∷ []
-one_piece c [] none = refl
-one_piece c (byte ∷ text) none = elim (byte == c) as (λ b. (byte == c) ≡ b → (if b then [] ∷ pieces c text else onto_first byte (pieces c text)) ≡ (byte ∷ text) ∷ []) [
-    | true ↦ λ e. absurd (none 0 (omega arith) (eqb-true byte c e))
-    | false ↦ λ e. ap (onto_first byte) (one_piece c text (λ k lt. none (suc k) (omega arith)))
-  ] refl
-
--- the piece before the first separator
-pub first_piece : (c : ℕ) (text : List ℕ) (n : ℕ) → n < length text → ((k : ℕ) → k < n → get_or text k 0 ≢ c) → get_or text n 0 ≡ c → pieces c text ≡ take n text ∷ pieces c (drop (suc n) text)
-first_piece c [] n inside before at = absurd (omega arith)
-first_piece c (byte ∷ text) zero inside before at = rw (eq-eqb byte c at) refl
-first_piece c (byte ∷ text) (suc n) inside before at = elim (byte == c) as (λ b. (byte == c) ≡ b → (if b then [] ∷ pieces c text else onto_first byte (pieces c text)) ≡ (byte ∷ take n text) ∷ pieces c (drop (suc n) text)) [
-    | true ↦ λ e. absurd (before 0 (omega arith) (eqb-true byte c e))
-    | false ↦ λ e. ap (onto_first byte) (first_piece c text n (omega arith) (λ k lt. before (suc k) (omega arith)) at)
-  ] refl

@@ -14,7 +14,11 @@ use Rattle.opl_codec.specs.declared.cause.OplCause.TheVariants.{UnknownObject, B
 use Rattle.opl_codec.specs.Loading.{Say, IsHopeless}
 use Rattle.opl_codec.specs.Fields.{Each, pieces}
 use Rattle.opl_codec.proofs.EachLemmas.{each_append, each_front}
-use Rattle.opl_codec.proofs.OneObject.{one_object}
+use Rattle.opl_codec.proofs.ReadLaw.{one_object as one_by_fields}
+
+-- a line says one object at most
+pub one_object : (line : List ℕ) (a b : Element) → SpellsObject line a → SpellsObject line b → a ≡ b
+one_object line a b h k = one_by_fields line a b h.fields k.fields h.element.rising k.element.rising
 
 empty_spells_nothing : (line : List ℕ) (o : Element) → SpellsObject line o → line ≡ [] → ⊥
 empty_spells_nothing line o spells none = let cut : pieces 32 [] ≡ (110 ∷ spells.fields.id_text) ∷ spells.fields.rest = subst (λ l. pieces 32 l ≡ (110 ∷ spells.fields.id_text) ∷ spells.fields.rest) none spells.fields.fields in cc

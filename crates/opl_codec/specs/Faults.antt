@@ -1,12 +1,12 @@
 -- At which byte of a line each cause of a refusal stands, apart from how the line is read.
 -- Source: this project.
-use Rattle.std.specs.Prelude.{◌≡◌, ◌≢◌, ℕ, ◌+◌, ◌<◌, ◌≤◌, ◌^◌, ◌⊎◌, ℤ, FitsSigned, unsigned_abs, pos, Bool, true, false, List, [], ◌∷◌, ◌++◌, length, drop, sum_by, slice_index, Option, Some, None, ⊤}
+use Rattle.std.specs.Prelude.{◌≡◌, ◌≢◌, ℕ, ◌+◌, ◌<◌, ◌≤◌, ◌^◌, ◌⊎◌, ℤ, FitsSigned, unsigned_abs, pos, Bool, true, false, List, [], ◌∷◌, ◌++◌, length, drop, slice_index, Option, Some, None, ⊤}
 use Rattle.std.specs.Int.{w64}
 use Rattle.std.specs.Str.{IsUtf8, IsValidUpTo}
 use Rattle.osm_model.specs.Degrees.{IsDegrees, limit}
 use Rattle.osm_model.specs.Elements.{Element}
 use Rattle.osm_model.specs.CanonicalLine.{canonical_line}
-use Rattle.osm_model.specs.Limits.{IsShort, HasDistinctKeys}
+use Rattle.osm_model.specs.Limits.{IsShort, HasDistinctKeys, HasRisingKeys}
 use Rattle.osm_model.specs.declared.axis.Axis.{Axis}
 use Rattle.osm_model.specs.declared.axis.Axis.TheVariants as axes
 use Rattle.osm_model.specs.declared.tag.Tag.{Tag}
@@ -18,7 +18,8 @@ use Rattle.opl_codec.specs.declared.cause.OplCause.TheVariants as causes
 
 -- the byte at which a field begins, behind these and a blank each
 abbrev pub behind : List (List ℕ) → ℕ
-behind fields = sum_by (λ f. length f + 1) fields
+behind [] = 0
+behind (f ∷ fields) = length f + 1 + behind fields
 
 -- the line has this field behind its first, at this byte; before are the fields from the first on
 pub record FieldAt (line f : List ℕ) (byte : ℕ) : Type 0 where
@@ -70,7 +71,7 @@ StandsAt line causes.NotUtf8 byte = (¬ (IsUtf8 line)) × IsValidUpTo line byte
 StandsAt line causes.NoLocation byte = (byte ≡ length line) × (IsMissing 120 (drop 1 (pieces 32 line)) ⊎ IsMissing 121 (drop 1 (pieces 32 line)))
 StandsAt line causes.LineTooLong byte = (byte ≡ 2 ^ 25) × (2 ^ 25 < length line)
 StandsAt line causes.OutsideModel byte = ((f : List ℕ) × FieldAt line f byte × (IsBeyond (letter_of f) (drop 1 f) ⊎ ((letter_of f ≡ 84) × HasBadTags (drop 1 f))))
-    ⊎ ((byte ≡ 0) × ((o : Element) × SpellsFields line o × (2 ^ 24 < length (canonical_line o))))
+    ⊎ ((byte ≡ 0) × ((o : Element) × SpellsFields line o × HasRisingKeys o.tags × (2 ^ 24 < length (canonical_line o))))
 StandsAt line causes.ReaderFailed byte = ⊥
 StandsAt line causes.Endless byte = ⊥
 StandsAt line causes.Memory byte = byte ≡ 0

@@ -3,5 +3,6 @@ pub mod Lines
 pub mod Files
 pub mod Loading
 pub mod Faults
+pub mod Reading
 pub mod Text
 pub mod Plain

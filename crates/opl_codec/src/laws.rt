@@ -1,6 +1,6 @@
 //! Laws: what reading and writing say of one another.
 
-ghost use Rattle.std.specs.Prelude.{◌≡◌, ◌++◌, [], ◌∷◌, List, ℕ};
+ghost use Rattle.std.specs.Prelude.{◌≡◌, ◌++◌, [], ◌∷◌};
 ghost use Rattle.osm_model.specs.Elements.{Element};
 ghost use Rattle.osm_model.specs.Limits.{IsElement};
 ghost use Rattle.osm_model.specs.CanonicalLine.{canonical_line};
@@ -17,9 +17,4 @@ pub fn text_is_read()
     ensures line { (o : Element) → text_of o OutMode.Meta ≡ canonical_line o ++ 10 ∷ [] }
     ensures read { (o : Element) → IsElement o → IsPlain o → Spells (canonical_line o) (Change.Put o) }
     ensures only { (o : Element) (change : Change) → IsElement o → IsPlain o → Spells (canonical_line o) change → change ≡ Change.Put o }
-{}
-
-/// A law: a line says one change at most.
-pub fn one_change()
-    ensures { (line : List ℕ) (a b : Change) → Spells line a → Spells line b → a ≡ b }
 {}

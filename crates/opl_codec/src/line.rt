@@ -1,22 +1,132 @@
-//! STAND-IN (the real one is another helper's).
-ghost use Rattle.std.specs.Prelude.{◌≡◌, IfOk, IfErr, MatchOption, MatchResult};
-ghost use Rattle.opl_codec.specs.Lines.{Spells, IsSkipped};
+//! One line to a change.
+
+ghost use Rattle.std.specs.Prelude.{◌≡◌, ◌+◌, ◌<◌, ◌≤◌, ◌^◌, ℕ, ℤ, List, [], ◌∷◌, ◌++◌, length, IfOk, OnOk, IfErr, MatchOption, MatchResult, Some, None, Ok};
+ghost use Rattle.osm_model.specs.Limits.{IsElement};
+ghost use Rattle.opl_codec.specs.Fields.{pieces, IsInteger};
+ghost use Rattle.opl_codec.specs.Lines.{IsSkipped, Spells, SpellsObject, SpellsFields};
 ghost use Rattle.opl_codec.specs.Faults.{StandsAt};
+ghost use Rattle.opl_codec.specs.Reading.{IsRead};
+ghost use Rattle.opl_codec.specs.declared.change.Change.{Change};
+ghost use Rattle.opl_codec.specs.declared.cause.OplCause.TheVariants as OplCause;
 
 use std::alloc::Global;
+
+use osm_model::{Body, Coord, Meta, Object, Text};
+use simdutf8::compat::from_utf8;
+
 use crate::cause::OplCause;
 use crate::change::Change;
 use crate::fault::OplFault;
+use crate::fields::cut;
+use crate::id::read_id;
+use crate::seen::Seen;
 
+/// The most bytes of a line, its end aside.
+const LONGEST: usize = 1 << 25;
+
+/// What a line says, without its end: a change, or `None` where it is skipped.
 pub fn read_line(alloc: Global, line: &[u8]) -> Result<Option<Change>, OplFault>
+    // What is read is what the line says.
     ensures read { IfOk result (λ found. MatchOption found (IsSkipped line.now) (Spells line.now)) }
+    // What the line says is read, want of memory aside.
     ensures only { (change : Change) → Spells line.now change → MatchResult result (λ found. found ≡ Some change) (λ fault. fault.cause ≡ OplCause.Memory) }
+    // A skipped line is read as none.
     ensures skipped { IsSkipped line.now → result ≡ Ok None }
+    // A refusal's cause stands at its place.
     ensures refused { IfErr result (λ fault. StandsAt line.now fault.cause fault.byte) }
 {
-    let _ = alloc;
     if line.is_empty() {
         return Ok(None);
     }
-    Err(OplFault { cause: OplCause::Memory, byte: 0 })
+    check_bytes(line)?;
+    let (id, seen) = read_fields(alloc, line)?;
+    let object = object_of(alloc, id, seen, line)?;
+    Ok(Some(Change::Put(object)))
+}
+
+/// A law: a line says one change at most.
+pub fn one_change()
+    ensures { (line : List ℕ) (a b : Change) → Spells line a → Spells line b → a ≡ b }
+{
+}
+
+/// Looks at the length and the encoding of a line.
+fn check_bytes(line: &[u8]) -> Result<(), OplFault>
+    ensures ok { OnOk result (length line.now ≤ 2 ^ 25) }
+    ensures refused { IfErr result (λ fault. StandsAt line.now fault.cause fault.byte) }
+{
+    if line.len() > LONGEST {
+        return Err(OplFault {
+            cause: OplCause::LineTooLong,
+            byte: LONGEST,
+        });
+    }
+    match from_utf8(line) {
+        Ok(_) => Ok(()),
+        Err(error) => Err(OplFault {
+            cause: OplCause::NotUtf8,
+            byte: error.valid_up_to(),
+        }),
+    }
+}
+
+/// The id, and what the further fields say.
+fn read_fields(alloc: Global, line: &[u8]) -> Result<(i64, Seen), OplFault>
+    ensures read { IfOk result (λ p. IsRead line.now p.0 p.1) }
+    ensures refused { IfErr result (λ fault. StandsAt line.now fault.cause fault.byte) }
+{
+    let (first, mut left) = cut(line, b' ');
+    let id = read_first(first)?;
+    let mut seen = Seen::new(alloc);
+    while let Some(rest) = left {
+        let (field, more) = cut(rest, b' ');
+        seen.take(alloc, field, line.len() - rest.len())?;
+        left = more;
+    }
+    Ok((id, seen))
+}
+
+/// The id of the first field.
+fn read_first(first: &[u8]) -> Result<i64, OplFault>
+    ensures read { IfOk result (λ id. (text : List ℕ) × (first.now ≡ 110 ∷ text) × IsInteger text id) }
+    ensures refused { (line : List ℕ) (rest : List (List ℕ)) → pieces 32 line ≡ first.now ∷ rest → IfErr result (λ fault. StandsAt line fault.cause fault.byte) }
+{
+    let [b'n', text @ ..] = first else {
+        return Err(OplFault {
+            cause: OplCause::UnknownObject,
+            byte: 0,
+        });
+    };
+    read_id(text).ok_or(OplFault {
+        cause: OplCause::BadId,
+        byte: 1,
+    })
+}
+
+/// The object that the line's fields make.
+fn object_of(alloc: Global, id: i64, seen: Seen, line: &[u8]) -> Result<Object, OplFault>
+    requires { IsRead line.now id seen }
+    ensures read { IfOk result (λ o. SpellsFields line.now o × IsElement o) }
+    ensures refused { IfErr result (λ fault. StandsAt line.now fault.cause fault.byte) }
+{
+    let (Some(lon), Some(lat)) = (seen.lon, seen.lat) else {
+        return Err(OplFault {
+            cause: OplCause::NoLocation,
+            byte: line.len(),
+        });
+    };
+    let meta = Meta {
+        version: 0,
+        changeset: 0,
+        stamp: None,
+        uid: 0,
+        user: Text::new(String::new(alloc)),
+    };
+    match Object::new(id, meta, seen.tags, Body::Node(Coord::new(lon, lat))) {
+        Ok(object) => Ok(object),
+        Err(_) => Err(OplFault {
+            cause: OplCause::OutsideModel,
+            byte: 0,
+        }),
+    }
 }

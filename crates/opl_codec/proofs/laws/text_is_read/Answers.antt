@@ -1,5 +1,5 @@
 use Rattle.opl_codec.specs.declared.change.Change.TheVariants.{Put}
-use Rattle.opl_codec.proofs.OneObject.{one_change}
+use Rattle.opl_codec.proofs.ReadLaw.{one_change}
 use Rattle.opl_codec.proofs.TextFields.{text_of-Meta, line_spells}
 use Rattle.opl_codec.proofs.laws.text_is_read.Goals as goal
 

@@ -1,0 +1,126 @@
+-- The tags of a text, one after another, and their limits.
+use Rattle.std.proofs.Common.{◌≡◌, ◌≢◌, ℕ, zero, suc, ◌+◌, ◌-◌, ◌<◌, ◌≤◌, List, [], ◌∷◌, ◌++◌, length, get_or, take, drop, Bool, true, false, Option, Some, None, MatchOption, Bor, All, refl, sym, ◌∙◌, ap, subst, arith, inl, inr, append_assoc, length-append}
+use Rattle.std.specs.Prelude.{◌⊎◌, IfOk, IfErr, IfSome, IfNone}
+use Rattle.std.specs.Option.{ok_or}
+use Rattle.std.specs.Bool.{⊤}
+use Rattle.std.specs.declared.cmp.Ordering.TheVariants.{Less}
+use Rattle.std.specs.Ordering.{nat_cmp, eq_by_cmp}
+use Rattle.std.specs.Cmp.Lexicographic.{slice_cmp}
+use Rattle.std.specs.List.{AllAdjacentBelow}
+use Rattle.std.specs.List.Sorted.{IsPermutation, IsSortedByKey}
+use Rattle.std.proofs.lemmas.Cmp.{nat_list_cmp_total}
+use Rattle.std.proofs.lemmas.Bool.{cases_lt}
+use Rattle.std.proofs.lemmas.List.{get_or-append-add}
+use Rattle.std.proofs.lemmas.List.Sorted.{All-permutation, length_permutation}
+use Rattle.std.proofs.lemmas.Map.Keys.{IsDistinct-from_sorted}
+use Rattle.osm_model.specs.Elements.{keys}
+use Rattle.osm_model.specs.Limits.{IsShort, HasDistinctKeys}
+use Rattle.osm_model.specs.declared.tag.Tag.{Tag}
+use Rattle.osm_model.proofs.RisingKeys.{Below, rising}
+use Rattle.opl_codec.specs.Fields.{pieces, Each}
+use Rattle.opl_codec.specs.Lines.{SpellsTag, SpellsTags, items}
+use Rattle.opl_codec.specs.Faults.{HasBadTags}
+use Rattle.opl_codec.specs.Reading.{AreLiteral, Ends, IsUnspelled, IsBadTags, KeepsLimits, place_in, moved_by}
+use Rattle.opl_codec.specs.declared.misfit.Misfit.{Misfit}
+use Rattle.opl_codec.specs.declared.misfit.Misfit.TheVariants as misfits
+use Rattle.opl_codec.proofs.ReadPieces.{pieces_left}
+
+-- ---- one after another
+pub each_push : {A B : Type 0} (R : A → B → Type 0) (xs : List A) (ys : List B) (x : A) (y : B) → Each R xs ys → R x y → Each R (xs ++ x ∷ []) (ys ++ y ∷ [])
+each_push R [] [] x y each r = (r, tt)
+each_push R [] (z ∷ ys) x y each r = absurd each
+each_push R (w ∷ xs) [] x y each r = absurd each
+each_push R (w ∷ xs) (z ∷ ys) x y each r = (each.0, each_push R xs ys x y each.1 r)
+
+pub each_behind : {A B : Type 0} (R : A → B → Type 0) (xs more : List A) (ys : List B) → Each R (xs ++ more) ys → (zs : List B) × Each R more zs
+each_behind R [] more ys each = (ys, each)
+each_behind R (x ∷ xs) more [] each = absurd each
+each_behind R (x ∷ xs) more (y ∷ ys) each = each_behind R xs more ys each.1
+
+pub items_are : (text : List ℕ) → text ≢ [] → items text ≡ pieces 44 text
+items_are [] some = absurd (some refl)
+items_are (x ∷ text) some = refl
+
+pub spells : (key value : List ℕ) (tag : Tag) → AreLiteral key → AreLiteral value → tag.key ≡ key → tag.value ≡ value → SpellsTag (key ++ 61 ∷ value) tag
+spells key value tag k v key_is value_is = record {
+  key = key;
+  value = value;
+  parts = refl;
+  key_is = (sym key_is, subst AreLiteral (sym key_is) k);
+  value_is = (sym value_is, subst AreLiteral (sym value_is) v);
+}
+
+-- what is left ends the text
+abbrev pub LeftEnds : Option (Bor (List ℕ)) → List ℕ → Type 0
+LeftEnds None text = ⊤
+LeftEnds (Some rest) text = Ends rest.now text
+
+pub ends_all : (text : List ℕ) → Ends text text
+ends_all text = ([], refl)
+
+pub ends_further : (left : Option (Bor (List ℕ))) (rest text : List ℕ) → MatchOption left ⊤ (λ more. Ends more.now rest) → Ends rest text → LeftEnds left text
+ends_further None rest text h e = tt
+ends_further (Some more) rest text h e = (e.0 ++ h.0, e.1 ∙ (ap (λ r. e.0 ++ r) h.1 ∙ sym (append_assoc e.0 h.0 more.now)))
+
+pub pieces_further : (separator : ℕ) (text rest piece : List ℕ) (done : List (List ℕ)) (left : Option (Bor (List ℕ))) → pieces separator text ≡ done ++ pieces separator rest → pieces separator rest ≡ piece ∷ pieces_left separator left → pieces separator text ≡ (done ++ piece ∷ []) ++ pieces_left separator left
+pieces_further separator text rest piece done left e f = e ∙ (ap (λ p. done ++ p) f ∙ sym (append_assoc done (piece ∷ []) (pieces_left separator left)))
+
+pub tag_left : (text piece : List ℕ) (more : Option (Bor (List ℕ))) → MatchOption more (pieces 44 text ≡ piece ∷ []) (λ rest. (pieces 44 text ≡ piece ∷ pieces 44 rest.now) × (length rest.now < length text)) → pieces 44 text ≡ piece ∷ pieces_left 44 more
+tag_left text piece None h = h
+tag_left text piece (Some rest) h = h.0
+
+pub ends_le : (rest text : List ℕ) → Ends rest text → length rest ≤ length text
+ends_le rest text e = omega (arith, ap length e.1, length-append e.0 rest)
+
+byte_there : (rest text : List ℕ) (k : ℕ) → Ends rest text → get_or text (length text - length rest + k) 0 ≡ get_or rest k 0
+byte_there rest text k e =
+    let place : length text - length rest ≡ length e.0 = omega (arith, ap length e.1, length-append e.0 rest) in
+    ap (λ n. get_or text (n + k) 0) place ∙ (ap (λ t. get_or t (length e.0 + k) 0) e.1 ∙ get_or-append-add e.0 rest k 0)
+
+-- a misfit of what is left is one of the text
+pub misfit_place : (rest : List ℕ) (parts : List (List ℕ)) (misfit : Misfit) → IsUnspelled rest parts misfit → place_in misfit ≤ length rest
+misfit_place rest parts misfits.Value h = omega arith
+misfit_place rest parts (misfits.Escape at) h = let lt = h.0 in omega arith
+misfit_place rest parts misfits.Model h = absurd h
+misfit_place rest parts misfits.Memory h = omega arith
+
+pub misfit_moved : (rest text : List ℕ) (done parts : List (List ℕ)) (misfit : Misfit) → Ends rest text → parts ≡ done ++ pieces 44 rest → IsUnspelled rest (pieces 44 rest) misfit → IsUnspelled text parts (moved_by misfit (length text - length rest))
+misfit_moved rest text done parts misfits.Value ends e h = λ tags each. let behind = each_behind SpellsTag done (pieces 44 rest) tags (subst (λ p. Each SpellsTag p tags) e each) in h behind.0 behind.1
+misfit_moved rest text done parts (misfits.Escape at) ends e h = let lt = h.0 in (omega (arith, ap length ends.1, length-append ends.0 rest), byte_there rest text at ends ∙ h.1)
+misfit_moved rest text done parts misfits.Model ends e h = h
+misfit_moved rest text done parts misfits.Memory ends e h = tt
+
+pub memory_unspelled : (text : List ℕ) (parts : List (List ℕ)) (misfit : Misfit) → misfit ≡ misfits.Memory → IsUnspelled text parts misfit
+memory_unspelled text parts misfit e = subst (IsUnspelled text parts) (sym e) tt
+
+-- ---- limits
+pub distinct_from_rising : (tags : List Tag) → AllAdjacentBelow (Below (λ (tag : Tag). tag.key) (slice_cmp nat_cmp)) tags (length tags) → HasDistinctKeys tags
+distinct_from_rising tags up = IsDistinct-from_sorted (slice_cmp nat_cmp) (keys tags) (rising (λ (tag : Tag). tag.key) nat_list_cmp_total tags up)
+
+pub too_long : (text : List ℕ) (tags : List Tag) → Each SpellsTag (items text) tags → (((length tags ≤ 65535) × All (λ tag. IsShort tag.key × IsShort tag.value) tags) → ⊥) → HasBadTags text
+too_long text tags each long = elim (cases_lt 65535 (length tags)) [
+    | inl more ↦ (tags, each, inl more)
+    | inr few ↦ (tags, each, inr (inl (λ short. long (few, short))))
+  ]
+
+pub key_twice : (text : List ℕ) (tags : List Tag) → Each SpellsTag (items text) tags → (HasDistinctKeys tags → ⊥) → HasBadTags text
+key_twice text tags each twice = (tags, each, inr (inr twice))
+
+pub unspelled_bad : (text : List ℕ) (parts : List (List ℕ)) (misfit : Misfit) → IsUnspelled text parts misfit → IsBadTags text parts misfit
+unspelled_bad text parts misfits.Value h = h
+unspelled_bad text parts (misfits.Escape at) h = h
+unspelled_bad text parts misfits.Model h = absurd h
+unspelled_bad text parts misfits.Memory h = tt
+
+pub tags_read : (text : List ℕ) (tags found : List Tag) → Each SpellsTag (items text) tags → (length tags ≤ 65535) × All (λ tag. IsShort tag.key × IsShort tag.value) tags → IsPermutation tags found → HasDistinctKeys found
+    → SpellsTags text found × KeepsLimits found
+tags_read text tags found each limits order differ =
+    ( record { written = tags; each = each; order = order }
+    , record { few = omega (arith, limits.0, length_permutation tags found order); short = All-permutation (λ tag. IsShort tag.key × IsShort tag.value) tags found order limits.1; differ = differ } )
+
+-- tags whose keys differ, or not
+pub ordered : {V : Type 0} (items_of : V → List Tag) (text : List ℕ) (tags : List Tag) (o : Option V) → Each SpellsTag (items text) tags → (length tags ≤ 65535) × All (λ tag. IsShort tag.key × IsShort tag.value) tags
+    → IfSome o (λ v. IsPermutation tags (items_of v) × HasDistinctKeys (items_of v)) → IfNone o (HasDistinctKeys tags → ⊥)
+    → record { read : IfOk (ok_or o misfits.Model) (λ v. SpellsTags text (items_of v) × KeepsLimits (items_of v)); refused : IfErr (ok_or o misfits.Model) (λ misfit. IsBadTags text (items text) misfit) }
+ordered items_of text tags None each limits found none = record { read = tt; refused = key_twice text tags each none }
+ordered items_of text tags (Some v) each limits found none = record { read = tags_read text tags (items_of v) each limits found.0 found.1; refused = tt }

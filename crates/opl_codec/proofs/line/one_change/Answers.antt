@@ -1,0 +1,5 @@
+use Rattle.opl_codec.proofs.ReadLaw.{one_change}
+use Rattle.opl_codec.proofs.line.one_change.Goals as goal
+
+pub returns : goal.returns
+returns c = one_change

@@ -1,0 +1,91 @@
+//! Tags as they are spelled.
+
+ghost use Rattle.std.specs.Prelude.{◌≡◌, ◌+◌, ◌<◌, ◌≤◌, ℕ, List, [], ◌∷◌, ◌++◌, length, take, drop, IfOk, IfErr, MatchOption, true, false, slice_index, IsTrue, ◌↔◌, ⊤};
+ghost use Rattle.osm_model.specs.CanonicalLine.{is_literal};
+ghost use Rattle.osm_model.specs.declared.tag.Tag.{Tag};
+ghost use Rattle.opl_codec.specs.Fields.{pieces, Each};
+ghost use Rattle.opl_codec.specs.Lines.{SpellsTag};
+ghost use Rattle.opl_codec.specs.Reading.{AreLiteral, BeginsNonliteral, Ends, IsUnspelled};
+
+use crate::misfit::Misfit;
+
+/// The first tag of a text, as it is spelled there.
+#[derive(Clone, Copy)]
+pub struct TagSpelling<'a> {
+    /// The bytes of the key.
+    pub key: &'a [u8],
+    /// The bytes of the value.
+    pub value: &'a [u8],
+    /// What stands behind the comma, where there is one.
+    pub more: Option<&'a [u8]>,
+}
+
+/// The first of the tags that commas part.
+pub fn first_tag(text: &[u8]) -> Result<TagSpelling<'_>, Misfit>
+    ensures literal { IfOk result (λ tag. AreLiteral tag.key.now × AreLiteral tag.value.now) }
+    ensures parts { IfOk result (λ tag. MatchOption tag.more
+        (pieces 44 text.now ≡ (tag.key.now ++ 61 ∷ tag.value.now) ∷ [])
+        (λ more. (pieces 44 text.now ≡ (tag.key.now ++ 61 ∷ tag.value.now) ∷ pieces 44 more.now) × (length more.now < length text.now))) }
+    ensures place { IfOk result (λ tag. MatchOption tag.more ⊤ (λ more. Ends more.now text.now)) }
+    ensures refused { IfErr result (λ misfit. IsUnspelled text.now (pieces 44 text.now) misfit) }
+{
+    let key_len = literal_len(text);
+    if !is_at(text, key_len, b'=') {
+        return Err(misfit_at(text, key_len));
+    }
+    let behind = &text[key_len + 1..];
+    let value_len = literal_len(behind);
+    let (key, value) = (&text[..key_len], &behind[..value_len]);
+    if value_len == behind.len() {
+        return Ok(TagSpelling {
+            key,
+            value,
+            more: None,
+        });
+    }
+    if behind[value_len] != b',' {
+        return Err(misfit_at(text, key_len + 1 + value_len));
+    }
+    let more = Some(&behind[value_len + 1..]);
+    Ok(TagSpelling { key, value, more })
+}
+
+/// What is wrong at this place of a text that begins with no tag.
+fn misfit_at(text: &[u8], place: usize) -> Misfit
+    requires { (tags : List Tag) → Each SpellsTag (pieces 44 text.now) tags → ⊥ }
+    ensures { IsUnspelled text.now (pieces 44 text.now) result }
+{
+    if is_at(text, place, b'%') {
+        Misfit::Escape(place)
+    } else {
+        Misfit::Value
+    }
+}
+
+/// Whether the byte stands at the place.
+fn is_at(text: &[u8], place: usize, byte: u8) -> bool
+    ensures { IsTrue result ↔ ((place < length text.now) × (slice_index text.now place ≡ byte)) }
+{
+    place < text.len() && text[place] == byte
+}
+
+/// How many bytes stand for themselves before the first that doesn't.
+fn literal_len(text: &[u8]) -> usize
+    ensures within { result ≤ length text.now }
+    ensures literal { AreLiteral (take result text.now) }
+    ensures stop { BeginsNonliteral (drop result text.now) }
+{
+    for (i, byte) in text.iter().enumerate() {
+        if !is_literal(*byte) {
+            return i;
+        }
+    }
+    text.len()
+}
+
+/// Whether the byte stands for itself: from `!` to `~`, without `%`, `,`, `=` and `@`.
+fn is_literal(byte: u8) -> bool
+    ensures { result ≡ is_literal byte }
+{
+    byte.is_ascii_graphic() && !matches!(byte, b'%' | b',' | b'=' | b'@')
+}
