@@ -1,6 +1,6 @@
 #!/usr/bin/env bash
 # Measures the reading, fetching and digesting of nodes, each beside an alternative in the same run.
-# The program bench/tree_speed is built over a copy of the crate tree_node in a folder outside the
+# The program bench/tree_speed.program is built over a copy of the crate tree_node in a folder outside the
 # repository (WORK, or a new one), so that the gate doesn't prove it.
 set -eu
 top=$(cd "$(dirname "$0")/.." && pwd)
@@ -8,13 +8,11 @@ work=${WORK:-$(mktemp -d)}
 mkdir -p "$work/crates"
 printf 'tree_node: sha2 thiserror\ntree_speed: tree_node sha2 anyhow\n' > "$work/crates.txt"
 [ -d "$work/.git" ] || git init -q "$work"
-for crate in crates/tree_node bench/tree_speed; do
-    name=$(basename "$crate")
-    mkdir -p "$work/crates/$name"
-    for part in src specs proofs; do
-        [ ! -d "$top/$crate/$part" ] || cp -r "$top/$crate/$part" "$work/crates/$name/"
-    done
+mkdir -p "$work/crates/tree_node" "$work/crates/tree_speed/src"
+for part in src specs proofs; do
+    cp -r "$top/crates/tree_node/$part" "$work/crates/tree_node/"
 done
+cp "$top/bench/tree_speed.program" "$work/crates/tree_speed/src/main.rt"
 touch "$work/crates/tree_speed/stdin"
 cd "$work/crates/tree_speed"
 rt run > "$work/build.log" 2>&1 || { tail -n 20 "$work/build.log"; exit 1; }
