@@ -4,20 +4,50 @@ ghost use Rattle.std.specs.Prelude.{◌≡◌, ◌≤◌, ◌+◌, ◌^◌, ◌-
 ghost use Rattle.std.specs.List.{join_with_byte};
 ghost use Rattle.std.specs.Fmt.{signed_decimal, decimal};
 ghost use Rattle.osm_model.specs.CanonicalLine.{canonical_line, escaped, escaped_char, is_literal, hex_places, tag_text};
-ghost use Rattle.osm_model.specs.LineLength.{number_len, body_len};
+ghost use Rattle.osm_model.specs.LineLength.{number_len, body_len, text_bytes};
 
-use crate::body::Body;
+use crate::body::{Body, know_place};
 use crate::degrees_text::write_degrees;
-use crate::meta::Meta;
+use crate::meta::{Meta, know_numbers};
 use crate::tag::Tag;
 use itoa::Buffer;
 
 /// The longest canonical line, in bytes, without its end.
 const LONGEST: u64 = 16_777_216;
 
-/// Whether the canonical line of an object of these parts keeps its limit. Sums stay at their
-/// greatest, which is far above the limit.
+/// Whether the canonical line of an object of these parts keeps its limit. Few bytes of text make a
+/// short line, so most lines are not measured.
 pub fn has_short_line(id: i64, meta: &Meta, tags: &[Tag], body: &Body) -> bool
+    ensures { IsTrue result ↔ (length (canonical_line (record { id = id; meta = meta.now; tags = tags.now; body = body.now })) ≤ 2 ^ 24) }
+{
+    if meta.user.len() <= FEW && has_few_bytes(tags) {
+        know_numbers(meta);
+        know_place(body);
+        return true;
+    }
+    is_short(id, meta, tags, body)
+}
+
+/// Bytes of text that make a short line, however they are escaped.
+const FEW: usize = 1_000_000;
+
+/// Whether the tags have few bytes of text, each tag counted with a few more.
+fn has_few_bytes(tags: &[Tag]) -> bool
+    ensures { IsTrue result → text_bytes tags.now ≤ 1000000 }
+{
+    let mut bytes = 0usize;
+    for tag in tags {
+        bytes = bytes
+            .saturating_add(tag.key.len())
+            .saturating_add(tag.value.len())
+            .saturating_add(2);
+    }
+    bytes <= FEW
+}
+
+/// Whether the canonical line keeps its limit, measured field by field. Sums stay at their greatest,
+/// which is far above the limit.
+fn is_short(id: i64, meta: &Meta, tags: &[Tag], body: &Body) -> bool
     ensures { IsTrue result ↔ (length (canonical_line (record { id = id; meta = meta.now; tags = tags.now; body = body.now })) ≤ 2 ^ 24) }
 {
     let numbers = numbers_len(id, meta, body);

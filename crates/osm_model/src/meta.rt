@@ -1,5 +1,7 @@
 //! What is known of an object's last change.
 
+ghost use Rattle.osm_model.specs.Limits.{MetaInRange};
+
 use crate::stamp::Stamp;
 use crate::text::Text;
 
@@ -18,4 +20,13 @@ pub struct Meta {
     pub uid: i64,
     /// The name of that user.
     pub user: Text,
+}
+
+/// Hands on what the numbers of metadata keep: the ranges of their types.
+pub fn know_numbers(meta: &Meta)
+    ensures { MetaInRange meta.now }
+{
+    let _version = meta.version;
+    let _changeset = meta.changeset;
+    let _uid = meta.uid;
 }

@@ -6,9 +6,9 @@ ghost use Rattle.std.specs.List.Sorted.{IsPermutation, IsSortedByKey};
 ghost use Rattle.std.specs.List.{AllAdjacentBelow};
 ghost use Rattle.std.specs.Cmp.Lexicographic.{slice_cmp};
 ghost use Rattle.osm_model.specs.Elements.{reference};
-ghost use Rattle.osm_model.specs.Limits.{IsShort, HasNoNul, Fits, IsClean, IsMadeOf, IsElement, Refuses, BodyInRange};
+ghost use Rattle.osm_model.specs.Limits.{IsShort, HasNoNul, Fits, IsClean, IsMadeOf, IsElement, Refuses};
 
-use crate::body::Body;
+use crate::body::{Body, know_place};
 use crate::fault::ModelFault;
 use crate::kind::Kind;
 use crate::line_length::has_short_line;
@@ -123,14 +123,6 @@ impl Object {
     {
         &self.body
     }
-}
-
-/// Hands on what a body's location keeps.
-fn know_place(body: &Body)
-    ensures { BodyInRange body.now }
-{
-    let Body::Node(place) = body;
-    let _ = place.lon();
 }
 
 fn parts_fit(meta: &Meta, tags: &[Tag]) -> bool

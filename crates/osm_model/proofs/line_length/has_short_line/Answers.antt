@@ -1,16 +1,10 @@
-use Rattle.std.proofs.Common.{◌≡◌, min, length, arith, rules, FitsSigned}
+use Rattle.std.proofs.Common.{rules, arith, refl, FitsSigned}
 use Rattle.std.specs.Int.{w64}
-use Rattle.std.proofs.lemmas.Int.{to_z-of_z}
-use Rattle.std.proofs.lemmas.Bool.Decides.{nat_tests}
-use Rattle.osm_model.specs.CanonicalLine.{escaped}
-use Rattle.osm_model.proofs.LineLengths.{line_is}
+use Rattle.osm_model.proofs.LineLengths.{few_make_short}
 use Rattle.osm_model.proofs.line_length.has_short_line.Goals as goal
 
-pub returns : goal.returns
-returns c =
-    let user : c.escaped_len.result ≡ min (length (escaped c.args.meta.now.user)) 18446744073709551615 = rw c.as_str.ensures at c.escaped_len.ensures in
+pub returns-then-has_few_bytes : goal.returns-then-has_few_bytes
+returns-then-has_few_bytes c =
     let id_fits : FitsSigned w64 c.args.id = search rules in
-    let numbers = simp to_z-of_z at c.numbers_len-numbers.ensures.value in
-    let both = line_is c.args.id c.args.meta.now c.args.tags.now c.args.body.now _ _ _ _ numbers user c.tags_len.ensures c.saturating_add-texts.ensures c.numbers_len-numbers.ensures.small in
-    let sum = c.saturating_add.ensures in
-    (λ h. both.0 (grind (arith, nat_tests)), λ h. let k = both.1 h in grind (arith, nat_tests))
+    let short = few_make_short c.args.id c.args.meta.now c.args.tags.now c.args.body.now id_fits c.know_numbers.ensures c.know_place.ensures (omega (arith, c.len.ensures)) (c.has_few_bytes.ensures c.if-has_few_bytes.true) in
+    (λ _. short, λ _. refl)
