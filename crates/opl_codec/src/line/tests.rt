@@ -128,11 +128,20 @@ fn the_first_fault_is_told(rt: HostRuntime) {
     }
 }
 
+fn filled(alloc: Global, len: usize) -> Result<Vec<u8>, AllocError> {
+    vec![in alloc; 0xffu8; len]
+}
+
 #[test]
 fn too_long_a_line_is_told_first(rt: HostRuntime) -> Result<(), Fail> {
-    let line = vec![in rt.alloc(); 0xffu8; (1 << 25) + 1]?;
-    assert_refused(&rt, &line, OplCause::LineTooLong, 1 << 25);
-    assert_refused(&rt, &line[..1 << 25], OplCause::NotUtf8, 0);
+    let longest = 1 << 25;
+    assert_refused(
+        &rt,
+        &filled(rt.alloc(), longest + 1)?,
+        OplCause::LineTooLong,
+        longest,
+    );
+    assert_refused(&rt, &filled(rt.alloc(), longest)?, OplCause::NotUtf8, 0);
     Ok(())
 }
 
