@@ -11,7 +11,8 @@ import re
 from runs import TOP, Tally, each_refused, run
 
 ENDED_BY_ERROR = "the test failed: its result gives status 1"
-WANT_OF_MEMORY = re.compile(r"^error: .*(AllocError|AllocFailed|OutOfMemory|Memory|no memory)", re.MULTILINE)
+# `Device`: no such test has a device, but a vector that is written to fails as a writer where memory is wanted.
+WANT_OF_MEMORY = re.compile(r"^[Ee]rror: .*(AllocError|AllocFailed|OutOfMemory|Memory|no memory|Device$)", re.MULTILINE)
 
 
 def memory_tests(binary):

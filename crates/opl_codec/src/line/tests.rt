@@ -10,9 +10,9 @@ fn assert_refused(rt: &(impl Abort + AllocGlobal), line: &[u8], cause: OplCause,
 }
 
 /// The canonical text of what the line puts, or nothing.
-fn canonical(alloc: Global, line: &[u8], mode: OutMode) -> Result<Vec<u8>, AllocError> {
+fn canonical(alloc: Global, line: &[u8], mode: OutMode) -> Result<Vec<u8>, Fail> {
     let mut out = Vec::new(alloc);
-    if let Ok(Some(Change::Put(object))) = read_line(alloc, line) {
+    if let Some(Change::Put(object)) = read_line(alloc, line)? {
         write_object(&object, mode, &mut out)?;
     }
     Ok(out)
