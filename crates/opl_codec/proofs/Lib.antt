@@ -10,6 +10,7 @@ pub mod ReadLines
 pub mod ReadObject
 pub mod ReadOrder
 pub mod ReadLaw
+pub mod ReadPlain
 pub mod PieceLemmas
 pub mod EachLemmas
 pub mod SayLemmas

@@ -44,7 +44,8 @@ use Rattle.opl_codec.proofs.ReadIds.{one_integer}
 use Rattle.opl_codec.proofs.ReadOrder.{one_order}
 
 -- ---- one object
-given_is : {D : Type 0} (found : Option (List ℕ)) (text : List ℕ) → MatchOption found D (λ spelled. (spelled ≡ text) × D) → D
+-- the default that a field gives, there or not
+pub given_is : {D : Type 0} (found : Option (List ℕ)) (text : List ℕ) → MatchOption found D (λ spelled. (spelled ≡ text) × D) → D
 given_is None text h = h
 given_is (Some t) text h = h.1
 

@@ -1,12 +1,13 @@
 -- Numbers and degrees as they stand in a line.
-use Rattle.std.proofs.Common.{ℕ, suc, ◌^◌, ◌<◌, Bool, List, ◌++◌, length, true, false, ℤ, pos, negsuc, neg_ℤ, FitsSigned, Option, Some, None, refl, ap, arith}
+use Rattle.std.proofs.Common.{◌≡◌, ℕ, suc, ◌^◌, ◌<◌, Bool, List, ◌++◌, length, true, false, ℤ, pos, negsuc, neg_ℤ, FitsSigned, Option, Some, None, refl, ap, arith}
 use Rattle.std.specs.Int.{w64}
 use Rattle.std.specs.Fmt.{decimal, signed_decimal}
 use Rattle.std.proofs.lemmas.Fmt.{decimal_is_IsNumeral}
 use Rattle.std.proofs.lemmas.Int.{ints}
+use Rattle.std.proofs.lemmas.Bool.Decides.{nat_tests}
 use Rattle.osm_model.specs.Degrees.{IsDegrees, IsDigits, IsFraction, sign, point}
 use Rattle.opl_codec.specs.Fields.{IsInteger}
-use Rattle.opl_codec.proofs.TextPieces.{Lacks, lacks_append, digits_lack_blank}
+use Rattle.opl_codec.proofs.TextPieces.{Lacks, lacks_append, digits_lack}
 
 are_digits : (n : ℕ) → n < 2 ^ 64 → IsDigits (decimal n)
 are_digits n fits = let numeral = decimal_is_IsNumeral n fits in ((λ none. let long : 0 < length (decimal n) = numeral.0.0 in omega (arith, ap (λ x. length x) none)), numeral.0.1)
@@ -20,20 +21,20 @@ signed_decimal_spells (negsuc n) fits =
     let small : suc n < 2 ^ 64 = omega (arith, ints) in
     record { negative = true; digits = decimal (suc n); text_is = refl; digits_are = are_digits (suc n) small; value_is = ap (λ m. neg_ℤ (pos m)) (decimal_is_IsNumeral (suc n) small).1 }
 
-sign_lacks_blank : (negative : Bool) → Lacks 32 (sign negative)
-sign_lacks_blank true = (refl, tt)
-sign_lacks_blank false = tt
+sign_lacks : (separator : ℕ) → separator < 33 → (negative : Bool) → Lacks separator (sign negative)
+sign_lacks separator low true = (grind (arith, nat_tests), tt)
+sign_lacks separator low false = tt
 
-point_lacks_blank : (fraction : Option (List ℕ)) → IsFraction fraction → Lacks 32 (point fraction)
-point_lacks_blank None h = tt
-point_lacks_blank (Some digits) h = (refl, digits_lack_blank digits h.1)
+point_lacks : (separator : ℕ) → separator < 33 → (fraction : Option (List ℕ)) → IsFraction fraction → Lacks separator (point fraction)
+point_lacks separator low None h = tt
+point_lacks separator low (Some digits) h = (grind (arith, nat_tests), digits_lack separator low digits h.1)
 
--- a whole number has no blank
-pub integer_lacks_blank : (text : List ℕ) (z : ℤ) → IsInteger text z → Lacks 32 text
-integer_lacks_blank text z h = rw h.text_is (lacks_append 32 (sign h.negative) h.digits (sign_lacks_blank h.negative) (digits_lack_blank h.digits h.digits_are.1))
+-- a whole number has no blank and no line end
+pub integer_lacks : (separator : ℕ) → separator < 33 → (text : List ℕ) (z : ℤ) → IsInteger text z → Lacks separator text
+integer_lacks separator low text z h = rw h.text_is (lacks_append separator (sign h.negative) h.digits (sign_lacks separator low h.negative) (digits_lack separator low h.digits h.digits_are.1))
 
--- degrees have no blank
-pub degrees_lack_blank : (text : List ℕ) (z : ℤ) → IsDegrees text z → Lacks 32 text
-degrees_lack_blank text z h =
+-- degrees have no blank and no line end
+pub degrees_lack : (separator : ℕ) → separator < 33 → (text : List ℕ) (z : ℤ) → IsDegrees text z → Lacks separator text
+degrees_lack separator low text z h =
     let d = h.parts in
-    rw h.spells.text_is (lacks_append 32 (sign d.negative) (d.whole ++ point d.fraction) (sign_lacks_blank d.negative) (lacks_append 32 d.whole (point d.fraction) (digits_lack_blank d.whole h.spells.decimal.whole.1) (point_lacks_blank d.fraction h.spells.decimal.fraction)))
+    rw h.spells.text_is (lacks_append separator (sign d.negative) (d.whole ++ point d.fraction) (sign_lacks separator low d.negative) (lacks_append separator d.whole (point d.fraction) (digits_lack separator low d.whole h.spells.decimal.whole.1) (point_lacks separator low d.fraction h.spells.decimal.fraction)))

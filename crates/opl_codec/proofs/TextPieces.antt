@@ -39,10 +39,10 @@ lacks_joined absent separator other [] h = tt
 lacks_joined absent separator other (part ∷ []) h = h.0
 lacks_joined absent separator other (part ∷ more ∷ parts) h = lacks_append absent part (separator ∷ join_with_byte separator (more ∷ parts)) h.0 (other, lacks_joined absent separator other (more ∷ parts) h.1)
 
-digit_is_no_blank : (byte : ℕ) → digit_value byte < 10 → (byte == 32) ≡ false
-digit_is_no_blank byte h = let range = digit_from_value byte h in grind (arith, nat_tests)
+digit_differs : (separator byte : ℕ) → separator < 33 → digit_value byte < 10 → (byte == separator) ≡ false
+digit_differs separator byte low h = let range = digit_from_value byte h in grind (arith, nat_tests)
 
--- digits have no blank
-pub digits_lack_blank : (digits : List ℕ) → AllDigits 10 digits → Lacks 32 digits
-digits_lack_blank [] h = tt
-digits_lack_blank (d ∷ digits) h = (digit_is_no_blank d h.0, digits_lack_blank digits h.1)
+-- digits have no blank and no line end
+pub digits_lack : (separator : ℕ) → separator < 33 → (digits : List ℕ) → AllDigits 10 digits → Lacks separator digits
+digits_lack separator low [] h = tt
+digits_lack separator low (d ∷ digits) h = (digit_differs separator d low h.0, digits_lack separator low digits h.1)

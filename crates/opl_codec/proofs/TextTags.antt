@@ -26,6 +26,9 @@ literal_lacks separator other (b ∷ text) h = (other b h.0, literal_lacks separ
 no_blank : (b : ℕ) → is_literal b ≡ true → (b == 32) ≡ false
 no_blank b h = grind (arith, nat_tests)
 
+no_end : (b : ℕ) → is_literal b ≡ true → (b == 10) ≡ false
+no_end b h = grind (arith, nat_tests)
+
 no_comma : (b : ℕ) → is_literal b ≡ true → (b == 44) ≡ false
 no_comma b h = grind (arith, nat_tests)
 
@@ -43,6 +46,10 @@ tags_lack separator other equals (tag ∷ tags) h = (tag_lacks separator other e
 -- the text of plain tags has no blank
 pub tags_lack_blank : (tags : List Tag) → AllByRecursion IsPlainTag tags → Lacks 32 (join_with_byte 44 (map tag_text tags))
 tags_lack_blank tags h = lacks_joined 32 44 refl (map tag_text tags) (tags_lack 32 no_blank refl tags h)
+
+-- and no line end
+pub tags_lack_end : (tags : List Tag) → AllByRecursion IsPlainTag tags → Lacks 10 (join_with_byte 44 (map tag_text tags))
+tags_lack_end tags h = lacks_joined 10 44 refl (map tag_text tags) (tags_lack 10 no_end refl tags h)
 
 each_tag : (tags : List Tag) → AllByRecursion IsPlainTag tags → Each SpellsTag (map tag_text tags) tags
 each_tag [] h = tt

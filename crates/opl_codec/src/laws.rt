@@ -1,9 +1,10 @@
 //! Laws: what reading and writing say of one another.
 
-ghost use Rattle.std.specs.Prelude.{◌≡◌, ◌++◌, [], ◌∷◌};
+ghost use Rattle.std.specs.Prelude.{◌≡◌, ◌++◌, ℕ, List, [], ◌∷◌};
 ghost use Rattle.osm_model.specs.Elements.{Element};
 ghost use Rattle.osm_model.specs.Limits.{IsElement};
 ghost use Rattle.osm_model.specs.CanonicalLine.{canonical_line};
+ghost use Rattle.opl_codec.specs.Fields.{pieces};
 ghost use Rattle.opl_codec.specs.Lines.{Spells};
 ghost use Rattle.opl_codec.specs.Plain.{IsPlain};
 ghost use Rattle.opl_codec.specs.Text.{text_of};
@@ -11,10 +12,12 @@ ghost use Rattle.opl_codec.specs.Text.{text_of};
 use crate::change::Change;
 use crate::out_mode::OutMode;
 
-/// A law: the text of an object with all its fields is its canonical line and an LF, and that line
-/// says just that the object is put.
+/// A law: the text of an object with all its fields is its canonical line and an LF. For a plain object
+/// that line has no LF within, and says just that the object is put; and what any line says is plain.
 pub fn text_is_read()
     ensures line { (o : Element) → text_of o OutMode.Meta ≡ canonical_line o ++ 10 ∷ [] }
     ensures read { (o : Element) → IsElement o → IsPlain o → Spells (canonical_line o) (Change.Put o) }
     ensures only { (o : Element) (change : Change) → IsElement o → IsPlain o → Spells (canonical_line o) change → change ≡ Change.Put o }
+    ensures one { (o : Element) → IsElement o → IsPlain o → pieces 10 (canonical_line o) ≡ canonical_line o ∷ [] }
+    ensures plain { (line : List ℕ) (o : Element) → Spells line (Change.Put o) → IsPlain o }
 {}

@@ -1,0 +1,5 @@
+use Rattle.osm_check.proofs.OneVerdict.{under_root}
+use Rattle.osm_check.proofs.laws.under_root.Goals as goal
+
+pub returns : goal.returns
+returns c = under_root

@@ -1,0 +1,31 @@
+-- A canonical text of which a front was read, line by line.
+-- Source: this project.
+use Rattle.std.specs.Prelude.{◌≡◌, ℕ, false, ◌==◌, List, [], ◌∷◌, ◌++◌, Option, Some, None}
+use Rattle.std.specs.List.{AllByRecursion}
+use Rattle.osm_model.specs.CanonicalLine.{canonical_line}
+use Rattle.osm_model.specs.Elements.{Element, reference}
+use Rattle.osm_model.specs.declared.reference.Ref.{Ref}
+use Rattle.ql_plain.specs.Meaning.{meaning}
+use Rattle.ql_plain.specs.declared.query.Query.{Query}
+use Rattle.osm_check.specs.Roots.{IsPlainSet}
+
+-- the text has no LF
+abbrev pub HasNoEnd : List ℕ → Type 0
+HasNoEnd text = AllByRecursion (λ byte. (byte == 10) ≡ false) text
+
+-- the reference of the last object
+abbrev pub last_reference : List Element → Option Ref
+last_reference [] = None
+last_reference (o ∷ []) = Some (reference o)
+last_reference (o ∷ p ∷ os) = last_reference (p ∷ os)
+
+-- these objects were read: the last reference, and the query's answer over them
+pub record HasRead (query : Query) (objects : List Element) (last : Option Ref) (answer : List ℕ) : Type 0 where
+  pub set : IsPlainSet objects
+  pub last_is : last ≡ last_reference objects
+  pub answer_is : answer ≡ meaning query objects
+
+-- the line is that of this object, which may stand behind these
+pub record IsNext (objects : List Element) (line : List ℕ) (o : Element) : Type 0 where
+  pub set : IsPlainSet (objects ++ o ∷ [])
+  pub line_is : line ≡ canonical_line o
