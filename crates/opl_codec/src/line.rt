@@ -20,7 +20,7 @@ use simdutf8::compat::from_utf8;
 use std::alloc::Global;
 
 /// The most bytes of a line, its end aside.
-const LONGEST: usize = 1 << 25;
+pub const LONGEST_LINE: usize = 1 << 25;
 
 /// What a line says, without its end: a change, or `None` where it is skipped.
 pub fn read_line(alloc: Global, line: &[u8]) -> Result<Option<Change>, OplFault>
@@ -52,10 +52,10 @@ fn check_bytes(line: &[u8]) -> Result<(), OplFault>
     ensures ok { OnOk result (length line.now ≤ 2 ^ 25) }
     ensures refused { IfErr result (λ fault. StandsAt line.now fault.cause fault.byte) }
 {
-    if line.len() > LONGEST {
+    if line.len() > LONGEST_LINE {
         return Err(OplFault {
             cause: OplCause::LineTooLong,
-            byte: LONGEST,
+            byte: LONGEST_LINE,
         });
     }
     match from_utf8(line) {

@@ -2,7 +2,7 @@
 
 use crate::{LoadFault, OplCause, OplFault, read_set};
 use osm_model::{Kind, Ref};
-use std::alloc::Global;
+use std::alloc::{AllocError, Global};
 use std::io;
 use std::io::Read;
 use std::process::Abort;
@@ -106,6 +106,56 @@ fn the_first_line_with_a_fault_is_told(rt: HostRuntime) {
         refusal(alloc, "n1 x1 y1\nc5\nn1 x1 y1\n"),
         fault(2, OplCause::UnknownObject, 0)
     );
+}
+
+/// What is told of a file whose first bytes are given, and whose next ones are `0xff`, none of which
+/// ends a line; and how many bytes were left with the reader.
+fn refusal_of_long(
+    alloc: Global,
+    first: &[u8],
+    more: usize,
+) -> Result<(Option<LoadFault>, usize), AllocError> {
+    let mut file = Vec::from_slice(alloc, first)?;
+    file.resize(first.len() + more, 0xff)?;
+    let mut reader = SlowReader {
+        left: &file,
+        at_once: 65_536,
+        fails_at: 0,
+        calls: 0,
+    };
+    let told = read_set(alloc, &mut reader).err();
+    Ok((told, reader.left.len()))
+}
+
+#[test]
+fn a_line_is_refused_as_soon_as_it_is_too_long(rt: HostRuntime) -> Result<(), Fail> {
+    let longest = 33_554_432;
+    // 513 pieces are read: the last byte of the 512th is within the longest line.
+    let rows = [
+        ("", fault(1, OplCause::LineTooLong, longest), 4_464),
+        (
+            "n1 x1 y1\n",
+            fault(2, OplCause::LineTooLong, longest),
+            4_473,
+        ),
+        (
+            "n2 x1 y1\nn1 x1 y1\nn1 x1 y1\n",
+            fault(3, OplCause::OutsideModel, 0),
+            4_491,
+        ),
+    ];
+    for (first, wanted, left) in rows {
+        let told = refusal_of_long(rt.alloc(), first.as_bytes(), longest + 70_000)?;
+        assert_eq!(rt; told, (wanted, left), "behind {first}");
+    }
+    Ok(())
+}
+
+#[test]
+fn the_longest_line_is_looked_at(rt: HostRuntime) -> Result<(), Fail> {
+    let told = refusal_of_long(rt.alloc(), b"n1 x1 y1\n", 33_554_432)?;
+    assert_eq!(rt; told, (fault(2, OplCause::NotUtf8, 0), 0));
+    Ok(())
 }
 
 #[test]
