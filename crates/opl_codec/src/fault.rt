@@ -1,6 +1,7 @@
 //! Refusals of lines and of files.
 
-ghost use Rattle.std.specs.Prelude.{◌≡◌};
+ghost use Rattle.std.specs.Prelude.{◌≡◌, Some};
+ghost use Rattle.opl_codec.specs.Refusals.{load_text};
 ghost use Rattle.opl_codec.specs.declared.cause.OplCause.TheVariants as causes;
 
 use crate::cause::OplCause;
@@ -73,6 +74,8 @@ impl From<AllocError> for LoadFault {
 }
 
 impl fmt::Display for LoadFault {
+    ghost output = { λ fault. Some (load_text fault) };
+
     fn fmt<W: fmt::Write>(&self, f: &mut fmt::Formatter<W>) -> fmt::Result {
         let cause = self.fault.cause;
         if cause == OplCause::Memory {
