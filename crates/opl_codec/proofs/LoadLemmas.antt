@@ -1,5 +1,5 @@
 -- Files that are loaded, ruined, or hold no set.
-use Rattle.std.proofs.Common.{◌≡◌, ◌≢◌, ◌⊎◌, inl, inr, ℕ, List, [], ◌∷◌, ◌++◌, refl, sym, ◌∙◌, ap, subst, append_assoc, append-nil, Option, Some, None, Result, IfSome, MatchResult}
+use Rattle.std.proofs.Common.{◌≡◌, ◌≢◌, ◌⊎◌, inl, inr, ℕ, ◌<◌, ◌^◌, length, length-append, arith, List, [], ◌∷◌, ◌++◌, refl, sym, ◌∙◌, ap, subst, append_assoc, append-nil, Option, Some, None, Result, IfSome, MatchResult}
 use Rattle.std.specs.Io.KnownBytes.{Consumes, IsAtEnd}
 use Rattle.std.proofs.lemmas.Result.{MatchResult-weaker}
 use Rattle.std.specs.Ordering.{eq_by_cmp}
@@ -16,11 +16,11 @@ use Rattle.opl_codec.specs.Lines.{SpellsObject}
 use Rattle.opl_codec.specs.Files.{HoldsSet, spoken_of, IsOutside}
 use Rattle.opl_codec.specs.declared.cause.OplCause.{OplCause}
 use Rattle.opl_codec.specs.declared.fault.LoadFault.{LoadFault}
-use Rattle.opl_codec.specs.Loading.{Say, Loads, Ruins, IsHopeless, Spoils}
+use Rattle.opl_codec.specs.Loading.{Say, Loads, Ruins, IsHopeless, BeginsHopeless, Spoils}
 use Rattle.opl_codec.proofs.PieceLemmas.{pieces_join}
 use Rattle.opl_codec.proofs.ReadPieces.{some_piece}
 use Rattle.opl_codec.proofs.EachLemmas.{each_same}
-use Rattle.opl_codec.proofs.SayLemmas.{hopeless_more, repeated, one_object}
+use Rattle.opl_codec.proofs.SayLemmas.{hopeless_more, no_object, repeated, one_object}
 
 -- the last of some
 split_last : (ps : List (List ℕ)) → ps ≢ [] → (front : List (List ℕ)) × (last : List ℕ) × (ps ≡ front ++ last ∷ [])
@@ -32,6 +32,37 @@ pub sum_map : {A B C D : Type 0} → (A → C) → (B → D) → A ⊎ B → C �
 sum_map f g (inl a) = inl (f a)
 sum_map f g (inr b) = inr (g b)
 
+-- where lines leave no hope, none comes with a further one
+hopeless_on : (lines more : List (List ℕ)) (line : List ℕ) → IsHopeless lines → BeginsHopeless (lines ++ more) line
+hopeless_on lines more line h rest = hopeless_more (lines ++ more) ((line ++ rest) ∷ []) (hopeless_more lines more h)
+
+-- nor where it goes on no further
+pub hopeless_so : (lines : List (List ℕ)) (line : List ℕ) → BeginsHopeless lines line → IsHopeless (lines ++ line ∷ [])
+hopeless_so lines line h = subst (λ l. IsHopeless (lines ++ l ∷ [])) (append-nil line) (h [])
+
+-- a line that is too long says no object, however it goes on
+too_long : (lines : List (List ℕ)) (line : List ℕ) (objects : List Element) → 2 ^ 25 < length line → Say lines objects → BeginsHopeless lines line
+too_long lines line objects long say more =
+    no_object lines (line ++ more) objects
+    (λ none. omega (arith, ap length none, length-append line more))
+    (λ o spells. let short = spells.short in omega (arith, length-append line more))
+    say
+
+-- what the loader tells of a line that is too long before it ends
+pub told_too_long : (cause told : OplCause) (line : List ℕ) (objects : List Element) → 2 ^ 25 < length line → (told ≡ cause) ⊎ (IsOutside told ⊎ (HasDistinctReferences objects → ⊥))
+    → IsOutside told ⊎ ((lines : List (List ℕ)) → Say lines objects → BeginsHopeless lines line)
+told_too_long cause told line objects long (inl same) = inr (λ lines say. too_long lines line objects long say)
+told_too_long cause told line objects long (inr (inl outside)) = inl outside
+told_too_long cause told line objects long (inr (inr twice)) = inr (λ lines say more. hopeless_more lines ((line ++ more) ∷ []) (repeated lines objects twice say))
+
+-- the same of the text in which the line begins
+pub ruins_long : (lines before : List (List ℕ)) (line text : List ℕ) (objects : List Element) → pieces 10 text ≡ before ++ line ∷ [] → Say (lines ++ before) objects → ((ls : List (List ℕ)) → Say ls objects → BeginsHopeless ls line) → Ruins lines text
+ruins_long lines before line text objects cut say long = record { ended = before; pending = line; cut = cut; hopeless = long (lines ++ before) say }
+
+-- the pieces of a text and of one that goes on without a line end
+pub cut_on : (front piece pending : List ℕ) (ended : List (List ℕ)) → pieces 10 front ≡ ended ++ pending ∷ [] → pieces 10 piece ≡ piece ∷ [] → pieces 10 (front ++ piece) ≡ ended ++ (pending ++ piece) ∷ []
+cut_on front piece pending ended here cut = pieces_join 10 front piece ended pending piece [] here cut
+
 -- a line that leaves no hope ruins the text in which it ends
 pub ruins_at : (lines before : List (List ℕ)) (line rest text : List ℕ) → pieces 10 text ≡ before ++ line ∷ pieces 10 rest → IsHopeless ((lines ++ before) ++ line ∷ []) → Ruins lines text
 ruins_at lines before line rest text cut hopeless =
@@ -42,7 +73,7 @@ ruins_at lines before line rest text cut hopeless =
       ended = before ++ line ∷ last.0;
       pending = last.1;
       cut = cut ∙ ap (λ ps. before ++ line ∷ ps) last.2 ∙ sym (append_assoc before (line ∷ last.0) (last.1 ∷ []));
-      hopeless = subst IsHopeless (more ∙ again) (hopeless_more ((lines ++ before) ++ line ∷ []) last.0 hopeless);
+      hopeless = subst (λ ls. BeginsHopeless ls last.1) (more ∙ again) (hopeless_on ((lines ++ before) ++ line ∷ []) last.0 last.1 hopeless);
     }
 
 -- what a set's file says has no reference twice
@@ -64,11 +95,12 @@ ruined front r more objects h = split (pieces 10 more) refl (some_piece 10 more)
     split [] e some = some refl
     split (q ∷ qs) e some =
         let whole = pieces_join 10 front more r.ended r.pending q qs r.cut e in
-        no_set (front ++ more) (r.ended ++ (r.pending ++ q) ∷ qs) whole (hopeless_more r.ended ((r.pending ++ q) ∷ qs) r.hopeless) objects h
+        let again : (r.ended ++ (r.pending ++ q) ∷ []) ++ qs ≡ r.ended ++ (r.pending ++ q) ∷ qs = append_assoc r.ended ((r.pending ++ q) ∷ []) qs in
+        no_set (front ++ more) (r.ended ++ (r.pending ++ q) ∷ qs) whole (subst IsHopeless again (hopeless_more (r.ended ++ (r.pending ++ q) ∷ []) qs (r.hopeless q))) objects h
 
 -- objects that were loaded and repeat a reference ruin the file
 pub repeats_ruin : (front : List ℕ) (objects : List Element) (pending : List ℕ) → Loads [] front objects pending → (HasDistinctReferences objects → ⊥) → Ruins [] front
-repeats_ruin front objects pending l twice = record { ended = l.ended; pending = pending; cut = l.cut; hopeless = repeated l.ended objects twice l.say }
+repeats_ruin front objects pending l twice = record { ended = l.ended; pending = pending; cut = l.cut; hopeless = λ more. hopeless_more l.ended ((pending ++ more) ∷ []) (repeated l.ended objects twice l.say) }
 
 -- a loaded file, and lines behind it
 pub loads_more : (front piece line rest : List ℕ) (objects more : List Element) (pending left : List ℕ) (l : Loads [] front objects pending) → pieces 10 piece ≡ line ∷ pieces 10 rest
@@ -85,14 +117,14 @@ ruins_more front piece line rest objects pending l cut next = record {
   ended = l.ended ++ (pending ++ line) ∷ next.ended;
   pending = next.pending;
   cut = pieces_join 10 front piece l.ended pending line (pieces 10 rest) l.cut cut ∙ ap (λ ps. l.ended ++ (pending ++ line) ∷ ps) next.cut ∙ sym (append_assoc l.ended ((pending ++ line) ∷ next.ended) (next.pending ∷ []));
-  hopeless = subst IsHopeless (append_assoc l.ended ((pending ++ line) ∷ []) next.ended) next.hopeless;
+  hopeless = subst (λ ls. BeginsHopeless ls next.pending) (append_assoc l.ended ((pending ++ line) ∷ []) next.ended) next.hopeless;
 }
 
 -- a loaded file that goes on without a line end
 pub loads_on : (front piece : List ℕ) (objects : List Element) (pending left : List ℕ) → Loads [] front objects pending → pieces 10 piece ≡ piece ∷ [] → left ≡ pending ++ piece → Loads [] (front ++ piece) objects left
 loads_on front piece objects pending left l cut is = record {
   ended = l.ended;
-  cut = pieces_join 10 front piece l.ended pending piece [] l.cut cut ∙ ap (λ p. l.ended ++ p ∷ []) (sym is);
+  cut = cut_on front piece pending l.ended l.cut cut ∙ ap (λ p. l.ended ++ p ∷ []) (sym is);
   say = l.say;
 }
 

@@ -1,5 +1,7 @@
 -- The tags of a text, one after another, and their limits.
-use Rattle.std.proofs.Common.{◌≡◌, ◌≢◌, ℕ, ◌+◌, ◌-◌, ◌<◌, ◌≤◌, List, [], ◌∷◌, ◌++◌, length, get_or, Option, Some, None, MatchOption, Bor, All, refl, sym, ◌∙◌, ap, subst, arith, inl, inr, append_assoc, length-append}
+use Rattle.std.proofs.Common.{◌≡◌, ◌≢◌, ℕ, ◌+◌, ◌-◌, ◌<◌, ◌≤◌, List, [], ◌∷◌, ◌++◌, length, get_or, Option, Some, None, MatchOption, Bor, All, refl, sym, ◌∙◌, ap, subst, arith, inl, inr, append_assoc, append-nil, length-append}
+use Rattle.std.proofs.Math.Seq.{take-append_seam}
+use Rattle.std.proofs.lemmas.List.Elements.{All-take}
 use Rattle.std.specs.Prelude.{IfOk, IfErr, IfSome, IfNone}
 use Rattle.std.specs.Option.{ok_or}
 use Rattle.std.specs.Bool.{⊤}
@@ -19,7 +21,7 @@ use Rattle.osm_model.proofs.RisingKeys.{Below, rising}
 use Rattle.opl_codec.specs.Fields.{pieces, Each}
 use Rattle.opl_codec.specs.Lines.{SpellsTag, SpellsTags, items}
 use Rattle.opl_codec.specs.Faults.{HasBadTags}
-use Rattle.opl_codec.specs.Reading.{AreLiteral, Ends, IsUnspelled, IsBadTags, KeepsLimits, place_in, moved_by}
+use Rattle.opl_codec.specs.Reading.{AreLiteral, AreFirstTags, Ends, IsUnspelled, IsBadTags, KeepsLimits, place_in, moved_by}
 use Rattle.opl_codec.specs.declared.misfit.Misfit.{Misfit}
 use Rattle.opl_codec.specs.declared.misfit.Misfit.TheVariants as misfits
 use Rattle.opl_codec.proofs.ReadPieces.{pieces_left}
@@ -47,6 +49,34 @@ spells key value tag k v key_is value_is = record {
   parts = refl;
   key_is = (sym key_is, subst AreLiteral (sym key_is) k);
   value_is = (sym value_is, subst AreLiteral (sym value_is) v);
+}
+
+-- ---- the first of them
+pub no_tags : AreFirstTags [] []
+no_tags = record { others = []; each = tt; first = inl refl; few = omega arith }
+
+-- few tags are all of them
+pub whole_tags : (parts : List (List ℕ)) (tags : List Tag) → AreFirstTags parts tags → length tags ≤ 65535 → Each SpellsTag parts tags
+whole_tags parts tags t short = elim t.first [
+  | inl none ↦ subst (Each SpellsTag parts) (ap (λ (o : List Tag). tags ++ o) none ∙ append-nil tags) t.each
+  | inr full ↦ absurd (omega arith)
+]
+
+-- one more that is kept, and one that isn't
+pub first_kept : (parts : List (List ℕ)) (tags : List Tag) (piece : List ℕ) (tag : Tag) → AreFirstTags parts tags → length tags ≤ 65535 → SpellsTag piece tag → AreFirstTags (parts ++ piece ∷ []) (tags ++ tag ∷ [])
+first_kept parts tags piece tag t short spelled = record {
+  others = [];
+  each = subst (Each SpellsTag (parts ++ piece ∷ [])) (sym (append-nil (tags ++ tag ∷ []))) (each_push SpellsTag parts tags piece tag (whole_tags parts tags t short) spelled);
+  first = inl refl;
+  few = omega (arith, length-append tags (tag ∷ []));
+}
+
+pub first_full : (parts : List (List ℕ)) (tags : List Tag) (piece : List ℕ) (tag : Tag) → AreFirstTags parts tags → 65535 < length tags → SpellsTag piece tag → AreFirstTags (parts ++ piece ∷ []) tags
+first_full parts tags piece tag t full spelled = let few = t.few in record {
+  others = t.others ++ tag ∷ [];
+  each = subst (Each SpellsTag (parts ++ piece ∷ [])) (append_assoc tags t.others (tag ∷ [])) (each_push SpellsTag parts (tags ++ t.others) piece tag t.each spelled);
+  first = inr (omega arith);
+  few = few;
 }
 
 -- what is left ends the text
@@ -96,11 +126,20 @@ memory_unspelled text parts misfit e = subst (IsUnspelled text parts) (sym e) tt
 pub distinct_from_rising : (tags : List Tag) → AllAdjacentBelow (Below (λ (tag : Tag). tag.key) (slice_cmp nat_cmp)) tags (length tags) → HasDistinctKeys tags
 distinct_from_rising tags up = IsDistinct-from_sorted (slice_cmp nat_cmp) (keys tags) (rising (λ (tag : Tag). tag.key) nat_list_cmp_total tags up)
 
-pub too_long : (text : List ℕ) (tags : List Tag) → Each SpellsTag (items text) tags → (((length tags ≤ 65535) × All (λ tag. IsShort tag.key × IsShort tag.value) tags) → ⊥) → HasBadTags text
+too_long : (text : List ℕ) (tags : List Tag) → Each SpellsTag (items text) tags → (((length tags ≤ 65535) × All (λ tag. IsShort tag.key × IsShort tag.value) tags) → ⊥) → HasBadTags text
 too_long text tags each long = elim (cases_lt 65535 (length tags)) [
   | inl more ↦ (tags, each, inl more)
   | inr few ↦ (tags, each, inr (inl (λ short. long (few, short))))
 ]
+
+-- the first tags are too many or too long: so are all
+pub first_bad : (text : List ℕ) (tags : List Tag) → AreFirstTags (items text) tags → (((length tags ≤ 65535) × All (λ tag. IsShort tag.key × IsShort tag.value) tags) → ⊥) → HasBadTags text
+first_bad text tags t long =
+    let Short : Tag → Type 0 = λ tag. IsShort tag.key × IsShort tag.value in
+    too_long text (tags ++ t.others) t.each (λ h. let few = h.0 in long (
+      omega (arith, length-append tags t.others),
+      subst (All Short) (take-append_seam tags t.others) (All-take Short (length tags) (tags ++ t.others) h.1),
+    ))
 
 pub key_twice : (text : List ℕ) (tags : List Tag) → Each SpellsTag (items text) tags → (HasDistinctKeys tags → ⊥) → HasBadTags text
 key_twice text tags each twice = (tags, each, inr (inr twice))

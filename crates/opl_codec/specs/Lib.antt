@@ -3,6 +3,7 @@ pub mod Lines
 pub mod Files
 pub mod Loading
 pub mod Faults
+pub mod Refusals
 pub mod Reading
 pub mod Text
 pub mod Plain

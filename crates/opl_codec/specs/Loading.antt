@@ -22,12 +22,18 @@ pub record Loads (lines : List (List ℕ)) (text : List ℕ) (objects : List Ele
 abbrev pub IsHopeless : List (List ℕ) → Type 0
 IsHopeless lines = (more : List (List ℕ)) (objects : List Element) → Say (lines ++ more) objects → HasDistinctReferences objects → ⊥
 
--- behind these lines the text has further ones that end, and with them all hope
+-- behind these lines a line begins so, and however it goes on, and whatever lines follow, there is no
+-- hope
+abbrev pub BeginsHopeless : List (List ℕ) → List ℕ → Type 0
+BeginsHopeless lines pending = (more : List ℕ) → IsHopeless (lines ++ (pending ++ more) ∷ [])
+
+-- behind these lines the text has further ones that end, and then the beginning of a line, and with
+-- them no hope
 pub record Ruins (lines : List (List ℕ)) (text : List ℕ) : Type 0 where
   pub ended : List (List ℕ)
   pub pending : List ℕ
   pub cut : pieces 10 text ≡ ended ++ pending ∷ []
-  pub hopeless : IsHopeless (lines ++ ended)
+  pub hopeless : BeginsHopeless (lines ++ ended) pending
 
 -- no file that begins so holds a set
 abbrev pub Spoils : List ℕ → Type 0

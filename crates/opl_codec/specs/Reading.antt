@@ -99,6 +99,14 @@ IsBadLocation axis text (misfits.Escape at) = ⊥
 IsBadLocation axis text misfits.Model = (z : ℤ) × IsDegrees text z × (limit axis < unsigned_abs z)
 IsBadLocation axis text misfits.Memory = ⊥
 
+-- these tags are spelled, each by its item; where there are more than 65,536 items, the first 65,536
+-- are, and the others spell tags too
+pub record AreFirstTags (parts : List (List ℕ)) (tags : List Tag) : Type 0 where
+  pub others : List Tag
+  pub each : Each SpellsTag parts (tags ++ others)
+  pub first : (others ≡ []) ⊎ (length tags ≡ 65536)
+  pub few : length tags ≤ 65536
+
 -- these items are no tags, or tags that no object may have
 abbrev pub IsBadTags : List ℕ → List (List ℕ) → Misfit → Type 0
 IsBadTags text parts misfits.Value = (tags : List Tag) → Each SpellsTag parts tags → ⊥

@@ -1,49 +1,63 @@
 //! Causes for which a line isn't read.
 
-use thiserror::Error;
+ghost use Rattle.std.specs.Prelude.{Some};
+ghost use Rattle.opl_codec.specs.Refusals.{code_text};
 
-/// Why a line, or a file, isn't read. Its text is its code.
-#[derive(Clone, Copy, Debug, PartialEq, Eq, Error)]
+use std::fmt;
+
+/// Why a line, or a file, isn't read. Its text is its code, from `O1` to `O15`, or `no memory`.
+#[derive(Clone, Copy, Debug, PartialEq, Eq)]
 pub enum OplCause {
     /// The line begins with no letter of an object. At byte 0.
-    #[error("O1")]
     UnknownObject,
     /// The id isn't a whole number of 64 bits. At byte 1.
-    #[error("O2")]
     BadId,
     /// A field without a letter, or with an unknown one. At the field's first byte.
-    #[error("O3")]
     UnknownField,
     /// A field whose letter has come before. At the second field's first byte.
-    #[error("O4")]
     FieldTwice,
     /// A value that isn't of its field's form. At the field's first byte.
-    #[error("O6")]
     BadValue,
     /// A bad escape. At its `%`.
-    #[error("O7")]
     BadEscape,
     /// The line isn't UTF-8. At the first byte that isn't.
-    #[error("O8")]
     NotUtf8,
     /// A node without a location. At the line's length.
-    #[error("O9")]
     NoLocation,
     /// The line has more than 2^25 bytes. At byte 2^25.
-    #[error("O12")]
     LineTooLong,
     /// The model refuses the value: at the field's first byte a location out of range, tags over a
     /// limit or a key twice; at byte 0 an object that stands twice, or one whose canonical line is over
     /// its limit.
-    #[error("O13")]
     OutsideModel,
     /// The reader failed. At byte 0 of the line that was being read.
-    #[error("O14")]
     ReaderFailed,
     /// 2^32 reads were made without an end. At byte 0 of the line that was being read.
-    #[error("O15")]
     Endless,
     /// Want of memory. At byte 0.
-    #[error("no memory")]
     Memory,
 }
+
+impl fmt::Display for OplCause {
+    ghost output = { λ cause. Some (code_text cause) };
+
+    fn fmt<W: fmt::Write>(&self, f: &mut fmt::Formatter<W>) -> fmt::Result {
+        f.write_str(match self {
+            OplCause::UnknownObject => "O1",
+            OplCause::BadId => "O2",
+            OplCause::UnknownField => "O3",
+            OplCause::FieldTwice => "O4",
+            OplCause::BadValue => "O6",
+            OplCause::BadEscape => "O7",
+            OplCause::NotUtf8 => "O8",
+            OplCause::NoLocation => "O9",
+            OplCause::LineTooLong => "O12",
+            OplCause::OutsideModel => "O13",
+            OplCause::ReaderFailed => "O14",
+            OplCause::Endless => "O15",
+            OplCause::Memory => "no memory",
+        })
+    }
+}
+
+impl std::error::Error for OplCause {}

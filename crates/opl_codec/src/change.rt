@@ -2,11 +2,11 @@
 
 use osm_model::{Object, Ref};
 
-/// What a line says.
+/// What a line says: how a set of objects changes.
 #[derive(Debug, Drop)]
 pub enum Change {
     /// The object is as the line says.
     Put(Object),
-    /// There is no such object any more.
+    /// There is no such object any more. No line says so yet.
     Delete(Ref),
 }

@@ -1,6 +1,7 @@
 //! Refusals of lines and of files.
 
-ghost use Rattle.std.specs.Prelude.{◌≡◌};
+ghost use Rattle.std.specs.Prelude.{◌≡◌, Some};
+ghost use Rattle.opl_codec.specs.Refusals.{load_text};
 ghost use Rattle.opl_codec.specs.declared.cause.OplCause.TheVariants as causes;
 
 use crate::cause::OplCause;
@@ -34,8 +35,8 @@ pub struct LoadFault {
 
 impl LoadFault {
     /// The cause at byte 0 of this line.
-    pub fn at(line: u64, cause: OplCause) -> LoadFault
-        ensures { result.fault.cause ≡ cause }
+    pub(crate) fn at(line: u64, cause: OplCause) -> LoadFault
+        ensures { result ≡ record { line = line; fault = record { cause = cause; byte = 0 } } }
     {
         LoadFault {
             line,
@@ -43,16 +44,16 @@ impl LoadFault {
         }
     }
 
-    /// Want of memory.
-    pub fn memory() -> LoadFault
-        ensures { result.fault.cause ≡ OplCause.Memory }
+    /// Want of memory, at line 0 and byte 0.
+    pub(crate) fn memory() -> LoadFault
+        ensures { result ≡ record { line = 0; fault = record { cause = OplCause.Memory; byte = 0 } } }
     {
         LoadFault::at(0, OplCause::Memory)
     }
 
     /// The same at another byte.
-    pub fn behind(self, byte: usize) -> LoadFault
-        ensures { result.fault.cause ≡ self.fault.cause }
+    pub(crate) fn behind(self, byte: usize) -> LoadFault
+        ensures { result ≡ record { line = self.line; fault = record { cause = self.fault.cause; byte = byte } } }
     {
         LoadFault {
             line: self.line,
@@ -65,7 +66,7 @@ impl LoadFault {
 }
 
 impl From<AllocError> for LoadFault {
-    ghost from_gives = { λ _ e. e.fault.cause ≡ causes.Memory };
+    ghost from_gives = { λ _ e. e ≡ record { line = 0; fault = record { cause = causes.Memory; byte = 0 } } };
 
     fn from(_error: AllocError) -> LoadFault {
         LoadFault::memory()
@@ -73,6 +74,8 @@ impl From<AllocError> for LoadFault {
 }
 
 impl fmt::Display for LoadFault {
+    ghost output = { λ fault. Some (load_text fault) };
+
     fn fmt<W: fmt::Write>(&self, f: &mut fmt::Formatter<W>) -> fmt::Result {
         let cause = self.fault.cause;
         if cause == OplCause::Memory {

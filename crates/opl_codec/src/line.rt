@@ -20,9 +20,35 @@ use simdutf8::compat::from_utf8;
 use std::alloc::Global;
 
 /// The most bytes of a line, its end aside.
-const LONGEST: usize = 1 << 25;
+pub const LONGEST_LINE: usize = 1 << 25;
 
-/// What a line says, without its end: a change, or `None` where it is skipped.
+/// Reads a line, given without its end: what it says, or `None` where it is skipped. The empty line
+/// is skipped, and nothing else.
+///
+/// A line is fields with one blank between two. The first is `n` and the id. The others stand in any
+/// order, each letter at most once: `T` and the tags, a comma between two, each a key, `=` and a value;
+/// `x` and `y` and the degrees of longitude and latitude, which a node must have; and the metadata,
+/// each in its default alone: `v0`, `dV`, `c0`, `t`, `i0`, `u`. A field that is missing has its
+/// default; an `x` or `y` with nothing behind it counts as missing, and still as given once.
+///
+/// Limits: 2^25 bytes a line; an id of 64 bits with a sign; -180 to 180 and -90 to 90 degrees, with at
+/// most 7 places behind the point; 65,535 tags, no key twice, 4,096 bytes a key or a value, made of
+/// the bytes `!` to `~` but `%`, `,`, `=` and `@`; 2^24 bytes of the object's canonical line. Leading
+/// zeros are allowed.
+///
+/// Refused by the first of these that is met, each at its byte from 0: `LineTooLong` at 2^25;
+/// `NotUtf8` at the first byte that isn't; `UnknownObject` at 0 where the line doesn't begin with `n`;
+/// `BadId` at 1; then field by field from the left, at the field's first byte, `UnknownField`,
+/// `FieldTwice`, `BadValue` where its text has another form, or `BadEscape` at its `%` where the first
+/// byte of the tags that doesn't fit is one, and `OutsideModel` where its value is over a limit;
+/// `NoLocation` at the line's length; `OutsideModel` at 0 where the canonical line is too long. Want of
+/// memory, `Memory` at 0, may come in place of any answer but the first four and the empty line's.
+///
+/// The bytes are gone over a fixed number of times, and tags whose keys don't rise are sorted. It
+/// takes memory for the object's tags alone.
+///
+/// Source: fields and letters of Osmium's OPL manual; that values have one form here and escapes none,
+/// the limits, the causes and their places are this project's.
 pub fn read_line(alloc: Global, line: &[u8]) -> Result<Option<Change>, OplFault>
     // What is read is what the line says.
     ensures read { IfOk result (λ found. MatchOption found (IsSkipped line.now) (Spells line.now)) }
@@ -42,7 +68,7 @@ pub fn read_line(alloc: Global, line: &[u8]) -> Result<Option<Change>, OplFault>
     Ok(Some(Change::Put(object)))
 }
 
-/// A law: a line says one change at most.
+/// A law: a line says one change at most (`Spells` of `specs/Lines.antt`).
 pub fn one_change()
     ensures { (line : List ℕ) (a b : Change) → Spells line a → Spells line b → a ≡ b }
 {}
@@ -52,10 +78,10 @@ fn check_bytes(line: &[u8]) -> Result<(), OplFault>
     ensures ok { OnOk result (length line.now ≤ 2 ^ 25) }
     ensures refused { IfErr result (λ fault. StandsAt line.now fault.cause fault.byte) }
 {
-    if line.len() > LONGEST {
+    if line.len() > LONGEST_LINE {
         return Err(OplFault {
             cause: OplCause::LineTooLong,
-            byte: LONGEST,
+            byte: LONGEST_LINE,
         });
     }
     match from_utf8(line) {

@@ -17,14 +17,22 @@ const PIECE: usize = 65_536;
 /// How many reads are made of one file.
 const READS: u64 = 4_294_967_296;
 
-/// The set of the objects that a file holds, one a line. It reads pieces of at most 65,536 bytes, in
-/// time linear in the bytes where the objects come by rising reference, as extracts do, and sorts
-/// them otherwise.
+/// The set of the objects that a file holds, one a line (see `read_line`). Lines end with LF, which
+/// the last may lack; empty ones are skipped; objects come in any order, none twice. The reader ends
+/// where it gives no bytes.
 ///
-/// Refused by the first line with a fault: the line's own (see `read_line`), or `OutsideModel` at
-/// byte 0 where an earlier line holds the same object. `ReaderFailed` and `Endless` (2^32 reads
-/// without an end) name the line that was being read; want of memory has line 0 and byte 0. The
-/// reader is left where it stood.
+/// It reads pieces of at most 65,536 bytes, in time linear in the bytes where the objects come by
+/// rising reference, as extracts do, and sorts them otherwise. Beside the objects it keeps the
+/// beginning of one line, at most 2^25 bytes.
+///
+/// Refused by the first line with a fault, lines from 1: the line's own (see `read_line`), where
+/// `LineTooLong` is told as soon as the bytes read of a line are too many, whether it ends or not; or
+/// `OutsideModel` at byte 0 where an earlier line holds the same object. `ReaderFailed` and `Endless`
+/// (2^32 reads without an end) are told at byte 0 of the line that was being read, where no line
+/// before it repeats an object. Want of memory, at line 0 and byte 0, may come in place of any answer.
+/// Nothing is read behind the piece in which the refusal is found.
+///
+/// Source: Osmium's OPL manual; the limits, the causes and their places are this project's.
 pub fn read_set<R: Read>(alloc: Global, reader: &mut R) -> Result<ObjectSet, LoadFault>
     // What is read is what the file holds.
     ensures read { IfSome (R.remaining reader.old) (λ file. IfOk result (HoldsSet file)) }
@@ -46,7 +54,7 @@ pub fn read_set<R: Read>(alloc: Global, reader: &mut R) -> Result<ObjectSet, Loa
     Err(loader.refusal(OplCause::Endless, 0))
 }
 
-/// A law: a file holds one set at most.
+/// A law: a file holds one set at most (`HoldsSet` of `specs/Files.antt`).
 pub fn one_set()
     ensures { (file : List ℕ) (a b : List Element) → HoldsSet file a → HoldsSet file b → a ≡ b }
 {}

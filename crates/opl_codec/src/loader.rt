@@ -1,16 +1,16 @@
 //! A file that is being read.
 
-ghost use Rattle.std.specs.Prelude.{◌≡◌, ◌++◌, ◌∷◌, [], ◌⊎◌, ◌<◌, List, ℕ, MatchOption, MatchResult, IfErr, length};
+ghost use Rattle.std.specs.Prelude.{◌≡◌, ◌++◌, ◌∷◌, [], ◌⊎◌, ◌<◌, ◌≤◌, ◌^◌, List, ℕ, MatchOption, MatchResult, IfErr, OnOk, length};
 ghost use Rattle.osm_model.specs.Elements.{Element};
 ghost use Rattle.osm_model.specs.Sets.{HasDistinctReferences};
 ghost use Rattle.opl_codec.specs.Fields.{pieces};
 ghost use Rattle.opl_codec.specs.Files.{HoldsSet, IsOutside};
-ghost use Rattle.opl_codec.specs.Loading.{Say, Loads, Ruins, IsHopeless};
+ghost use Rattle.opl_codec.specs.Loading.{Say, Loads, Ruins, IsHopeless, BeginsHopeless};
 
 use crate::cause::OplCause;
 use crate::change::Change;
 use crate::fault::LoadFault;
-use crate::line::read_line;
+use crate::line::{LONGEST_LINE, read_line};
 use crate::repeats::first_repeat;
 use memchr::memchr;
 use osm_model::{Object, ObjectSet, Ref};
@@ -32,7 +32,7 @@ pub struct Loader {
     is_mixed: bool,
     /// The line that is being read, from 1.
     line: u64,
-    /// The beginning of that line.
+    /// The beginning of that line, at most 2^25 bytes.
     pub pending: Vec<u8>,
 }
 
@@ -52,11 +52,13 @@ impl Loader {
         }
     }
 
-    /// Reads the lines that end in this piece, and keeps what stands behind them.
+    /// Reads the lines that end in this piece, and keeps what stands behind them. A line is refused as
+    /// soon as it is too long, before its end.
     pub fn feed(&mut self, piece: &[u8]) -> Result<(), LoadFault>
-        ensures { (front : List ℕ) → Loads [] front self.old.objects.items self.old.pending.items
+        ensures read { (front : List ℕ) → Loads [] front self.old.objects.items self.old.pending.items
             → MatchResult result (λ _. Loads [] (front ++ piece.now) self.new.objects.items self.new.pending.items)
             (λ fault. IsOutside fault.fault.cause ⊎ Ruins [] (front ++ piece.now)) }
+        ensures short { OnOk result (length self.new.pending.items ≤ 2 ^ 25) }
     {
         match split_line(piece) {
             None => self.keep(piece),
@@ -98,9 +100,10 @@ impl Loader {
     /// Reads the lines that end in this text, which begins with a line, and keeps what stands behind.
     fn take_lines(&mut self, text: &[u8]) -> Result<(), LoadFault>
         requires { self.old.pending.items ≡ [] }
-        ensures { (lines : List (List ℕ)) → Say lines self.old.objects.items
+        ensures read { (lines : List (List ℕ)) → Say lines self.old.objects.items
             → MatchResult result (λ _. Loads lines text.now self.new.objects.items self.new.pending.items)
             (λ fault. IsOutside fault.fault.cause ⊎ Ruins lines text.now) }
+        ensures short { OnOk result (length self.new.pending.items ≤ 2 ^ 25) }
     {
         let mut left = text;
         while let Some((line, rest)) = split_line(left) {
@@ -173,11 +176,16 @@ impl Loader {
         Ok(())
     }
 
-    /// The beginning of the line that is being read grows by this.
+    /// The beginning of the line that is being read grows by this, as far as a line may.
     fn keep(&mut self, part: &[u8]) -> Result<(), LoadFault>
-        ensures kept { MatchResult result (λ _. self.new.pending.items ≡ self.old.pending.items ++ part.now) (λ fault. IsOutside fault.fault.cause) }
+        ensures kept { MatchResult result (λ _. self.new.pending.items ≡ self.old.pending.items ++ part.now)
+            (λ fault. IsOutside fault.fault.cause ⊎ ((lines : List (List ℕ)) → Say lines self.old.objects.items → BeginsHopeless lines (self.old.pending.items ++ part.now))) }
+        ensures short { OnOk result (length self.new.pending.items ≤ 2 ^ 25) }
         ensures same { self.new.objects.items ≡ self.old.objects.items }
     {
+        if self.pending.len().saturating_add(part.len()) > LONGEST_LINE {
+            return Err(self.refusal(OplCause::LineTooLong, LONGEST_LINE));
+        }
         self.pending.extend_from_slice(part)?;
         Ok(())
     }

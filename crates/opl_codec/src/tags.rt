@@ -1,10 +1,9 @@
 //! The tags of a line.
 
-ghost use Rattle.std.specs.Prelude.{◌≡◌, ◌↔◌, ◌≤◌, IsTrue, All, length, IfOk, IfErr};
+ghost use Rattle.std.specs.Prelude.{◌≡◌, ◌↔◌, ◌≤◌, ◌++◌, ◌∷◌, [], ℕ, List, IsTrue, All, length, IfOk, IfErr, OnOk};
 ghost use Rattle.osm_model.specs.Limits.{IsShort};
-ghost use Rattle.opl_codec.specs.Fields.{Each};
-ghost use Rattle.opl_codec.specs.Lines.{SpellsTag, SpellsTags, items};
-ghost use Rattle.opl_codec.specs.Reading.{AreLiteral, KeepsLimits, IsBadTags, IsUnspelled};
+ghost use Rattle.opl_codec.specs.Lines.{SpellsTags, items};
+ghost use Rattle.opl_codec.specs.Reading.{AreLiteral, AreFirstTags, KeepsLimits, IsBadTags, IsUnspelled};
 
 use crate::key_order::with_distinct_keys;
 use crate::misfit::Misfit;
@@ -12,6 +11,9 @@ use crate::tag_spelling::{TagSpelling, first_tag};
 use memchr::memchr_iter;
 use osm_model::{Tag, Text};
 use std::alloc::{AllocError, Global};
+
+/// The most tags that an object may have.
+const MOST_TAGS: usize = 65_535;
 
 /// The tags of this text, in an order of their own.
 pub fn read_tags(alloc: Global, text: &[u8]) -> Result<Vec<Tag>, Misfit>
@@ -25,9 +27,9 @@ pub fn read_tags(alloc: Global, text: &[u8]) -> Result<Vec<Tag>, Misfit>
     with_distinct_keys(tags).ok_or(Misfit::Model)
 }
 
-/// The tags of this text, in its order.
+/// The tags of this text, in its order: of too many, one more than an object may have.
 fn split_tags(alloc: Global, text: &[u8]) -> Result<Vec<Tag>, Misfit>
-    ensures read { IfOk result (λ tags. Each SpellsTag (items text.now) tags.items) }
+    ensures read { IfOk result (λ tags. AreFirstTags (items text.now) tags.items) }
     ensures refused { IfErr result (λ misfit. IsUnspelled text.now (items text.now) misfit) }
 {
     if text.is_empty() {
@@ -40,15 +42,29 @@ fn split_tags(alloc: Global, text: &[u8]) -> Result<Vec<Tag>, Misfit>
             Ok(spelling) => spelling,
             Err(misfit) => return Err(misfit.moved(text.len() - rest.len())),
         };
-        tags.push(make_tag(alloc, spelling)?)?;
+        keep_tag(alloc, spelling, &mut tags)?;
         left = spelling.more;
     }
     Ok(tags)
 }
 
-/// How many tags commas part, up to the most that an object may have.
+/// How many tags commas part, up to one more than an object may have.
 fn room(text: &[u8]) -> usize {
-    memchr_iter(b',', text).count().min(65_534) + 1
+    memchr_iter(b',', text).count().min(MOST_TAGS) + 1
+}
+
+/// Adds the tag that is spelled so. Behind one more than an object may have none is kept: they are
+/// refused already, unless one behind them has no spelling.
+fn keep_tag(alloc: Global, spelling: TagSpelling<'_>, tags: &mut Vec<Tag>) -> Result<(), AllocError>
+    requires key { AreLiteral spelling.key.now }
+    requires value { AreLiteral spelling.value.now }
+    ensures { (parts : List (List ℕ)) → AreFirstTags parts tags.old.items
+        → OnOk result (AreFirstTags (parts ++ (spelling.entry.key.now ++ 61 ∷ spelling.entry.value.now) ∷ []) tags.new.items) }
+{
+    if tags.len() <= MOST_TAGS {
+        tags.push(make_tag(alloc, spelling)?)?;
+    }
+    Ok(())
 }
 
 /// The tag that is spelled so.
@@ -76,7 +92,7 @@ fn text_of(alloc: Global, bytes: &[u8]) -> Result<Text, AllocError>
 fn are_short(tags: &[Tag]) -> bool
     ensures { IsTrue result ↔ ((length tags.now ≤ 65535) × All (λ tag. IsShort tag.key × IsShort tag.value) tags.now) }
 {
-    tags.len() <= 65_535
+    tags.len() <= MOST_TAGS
         && tags
             .iter()
             .all(|tag| tag.key.len() <= 4096 && tag.value.len() <= 4096)

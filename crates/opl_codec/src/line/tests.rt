@@ -182,6 +182,42 @@ fn a_text_has_a_limit(rt: HostRuntime) -> Result<(), Fail> {
     Ok(())
 }
 
+/// A line of so many tags with different keys, and this behind the last.
+fn line_of_tags(alloc: Global, count: usize, end: &str) -> Result<Vec<u8>, AllocError> {
+    let mut line = Vec::new(alloc);
+    line.extend_from_slice(b"n1 x1 y1 T")?;
+    for place in 0..count {
+        if place > 0 {
+            line.push(b',')?;
+        }
+        line.extend_from_slice(place.to_string(alloc)?.as_bytes())?;
+        line.push(b'=')?;
+    }
+    line.extend_from_slice(end.as_bytes())?;
+    Ok(line)
+}
+
+#[test]
+fn tags_have_a_limit(rt: HostRuntime) -> Result<(), Fail> {
+    let alloc = rt.alloc();
+    let most = line_of_tags(alloc, 65_535, "")?;
+    let Some(Change::Put(object)) = read_line(alloc, &most)? else {
+        return Err(Fail::from("the most tags are read"));
+    };
+    assert_eq!(rt; object.tags().len(), 65_535);
+    for (count, end, cause) in [
+        (65_536, "", OplCause::OutsideModel),
+        (65_537, "", OplCause::OutsideModel),
+        (70_000, "", OplCause::OutsideModel),
+        (65_537, ",a", OplCause::BadValue),
+    ] {
+        assert_refused(&rt, &line_of_tags(alloc, count, end)?, cause, 9);
+    }
+    let line = line_of_tags(alloc, 70_000, ",a=%")?;
+    assert_refused(&rt, &line, OplCause::BadEscape, line.len() - 1);
+    Ok(())
+}
+
 #[test]
 fn memory_is_wanted_or_all_is_read(rt: HostRuntime) -> Result<(), Fail> {
     let line = b"n1 Tb=2,a=1 x13.4 y52.5";

@@ -2,7 +2,7 @@
 
 use crate::{LoadFault, OplCause, OplFault, read_set};
 use osm_model::{Kind, Ref};
-use std::alloc::Global;
+use std::alloc::{AllocError, Global};
 use std::io;
 use std::io::Read;
 use std::process::Abort;
@@ -31,8 +31,14 @@ impl Read for SlowReader<'_> {
     }
 }
 
-fn refusal(alloc: Global, file: &str) -> Option<LoadFault> {
-    let mut reader = file.as_bytes();
+/// What is told of a file, given so many bytes at once.
+fn refusal(alloc: Global, file: &str, at_once: usize) -> Option<LoadFault> {
+    let mut reader = SlowReader {
+        left: file.as_bytes(),
+        at_once,
+        fails_at: 0,
+        calls: 0,
+    };
     read_set(alloc, &mut reader).err()
 }
 
@@ -85,27 +91,112 @@ fn an_empty_file_holds_the_empty_set(rt: HostRuntime) -> Result<(), LoadFault> {
 
 #[test]
 fn the_first_line_with_a_fault_is_told(rt: HostRuntime) {
-    let alloc = rt.alloc();
-    assert_eq!(rt;
-        refusal(alloc, "n1 x13.4"),
-        fault(1, OplCause::NoLocation, 8)
-    );
-    assert_eq!(rt;
-        refusal(alloc, "n1 x1 y1\n\nc5\nn2"),
-        fault(3, OplCause::UnknownObject, 0)
-    );
-    assert_eq!(rt;
-        refusal(alloc, "n1 x1 y1\nn2 x2 y2\nn1 x3 y3\nc5\n"),
-        fault(3, OplCause::OutsideModel, 0)
-    );
-    assert_eq!(rt;
-        refusal(alloc, "n2 x1 y1\nn1 x2 y2\nn1 x3 y3\nn2 x3 y3\n"),
-        fault(3, OplCause::OutsideModel, 0)
-    );
-    assert_eq!(rt;
-        refusal(alloc, "n1 x1 y1\nc5\nn1 x1 y1\n"),
-        fault(2, OplCause::UnknownObject, 0)
-    );
+    let rows = [
+        ("n1 x13.4", fault(1, OplCause::NoLocation, 8)),
+        ("n1 x13.4\n", fault(1, OplCause::NoLocation, 8)),
+        ("n1 x1 y1\n\nc5\nn2", fault(3, OplCause::UnknownObject, 0)),
+        ("n1 x1 y1\r\nc5", fault(1, OplCause::BadValue, 6)),
+        (
+            "n1 x1 y1\nn1 x1 y1\nn2 x1 y1",
+            fault(2, OplCause::OutsideModel, 0),
+        ),
+        (
+            "n1 x1 y1\nn2 x2 y2\nn1 x3 y3\nc5\n",
+            fault(3, OplCause::OutsideModel, 0),
+        ),
+        (
+            "n2 x1 y1\nn1 x2 y2\nn1 x3 y3\nn2 x3 y3\n",
+            fault(3, OplCause::OutsideModel, 0),
+        ),
+        (
+            "n1 x1 y1\nc5\nn1 x1 y1\n",
+            fault(2, OplCause::UnknownObject, 0),
+        ),
+    ];
+    for (file, wanted) in rows {
+        for at_once in [1, 5, 4096] {
+            assert_eq!(rt; refusal(rt.alloc(), file, at_once), wanted, "at {file:?}");
+        }
+    }
+}
+
+/// The texts that docs/FORMATS.md gives for each cause.
+#[test]
+fn refusals_have_their_texts(rt: HostRuntime) -> Result<(), AllocError> {
+    let rows = [
+        (OplCause::UnknownObject, "O1 line 3 byte 8", "O1 byte 8"),
+        (OplCause::BadId, "O2 line 3 byte 8", "O2 byte 8"),
+        (OplCause::UnknownField, "O3 line 3 byte 8", "O3 byte 8"),
+        (OplCause::FieldTwice, "O4 line 3 byte 8", "O4 byte 8"),
+        (OplCause::BadValue, "O6 line 3 byte 8", "O6 byte 8"),
+        (OplCause::BadEscape, "O7 line 3 byte 8", "O7 byte 8"),
+        (OplCause::NotUtf8, "O8 line 3 byte 8", "O8 byte 8"),
+        (OplCause::NoLocation, "O9 line 3 byte 8", "O9 byte 8"),
+        (OplCause::LineTooLong, "O12 line 3 byte 8", "O12 byte 8"),
+        (OplCause::OutsideModel, "O13 line 3 byte 8", "O13 byte 8"),
+        (OplCause::ReaderFailed, "O14 line 3 byte 8", "O14 byte 8"),
+        (OplCause::Endless, "O15 line 3 byte 8", "O15 byte 8"),
+        (OplCause::Memory, "no memory", "no memory byte 8"),
+    ];
+    for (cause, of_file, of_line) in rows {
+        let fault = OplFault { cause, byte: 8 };
+        let told = LoadFault { line: 3, fault };
+        let text = told.to_string(rt.alloc())?;
+        assert_eq!(rt; text.as_str(), of_file);
+        let text = fault.to_string(rt.alloc())?;
+        assert_eq!(rt; text.as_str(), of_line);
+    }
+    Ok(())
+}
+
+/// What is told of a file whose first bytes are given, and whose next ones are `0xff`, none of which
+/// ends a line; and how many bytes were left with the reader.
+fn refusal_of_long(
+    alloc: Global,
+    first: &[u8],
+    more: usize,
+) -> Result<(Option<LoadFault>, usize), AllocError> {
+    let mut file = Vec::from_slice(alloc, first)?;
+    file.resize(first.len() + more, 0xff)?;
+    let mut reader = SlowReader {
+        left: &file,
+        at_once: 65_536,
+        fails_at: 0,
+        calls: 0,
+    };
+    let told = read_set(alloc, &mut reader).err();
+    Ok((told, reader.left.len()))
+}
+
+#[test]
+fn a_line_is_refused_as_soon_as_it_is_too_long(rt: HostRuntime) -> Result<(), Fail> {
+    let longest = 33_554_432;
+    // 513 pieces are read: the last byte of the 512th is within the longest line.
+    let rows = [
+        ("", fault(1, OplCause::LineTooLong, longest), 4_464),
+        (
+            "n1 x1 y1\n",
+            fault(2, OplCause::LineTooLong, longest),
+            4_473,
+        ),
+        (
+            "n2 x1 y1\nn1 x1 y1\nn1 x1 y1\n",
+            fault(3, OplCause::OutsideModel, 0),
+            4_491,
+        ),
+    ];
+    for (first, wanted, left) in rows {
+        let told = refusal_of_long(rt.alloc(), first.as_bytes(), longest + 70_000)?;
+        assert_eq!(rt; told, (wanted, left), "behind {first}");
+    }
+    Ok(())
+}
+
+#[test]
+fn the_longest_line_is_looked_at(rt: HostRuntime) -> Result<(), Fail> {
+    let told = refusal_of_long(rt.alloc(), b"n1 x1 y1\n", 33_554_432)?;
+    assert_eq!(rt; told, (fault(2, OplCause::NotUtf8, 0), 0));
+    Ok(())
 }
 
 #[test]

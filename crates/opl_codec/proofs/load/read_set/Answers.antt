@@ -21,12 +21,12 @@ pub returns-in_err-feed-clause-only : goal.returns-in_err-feed-clause-only
 returns-in_err-feed-clause-only g c =
     let i = c.loop.invariant in
     let p = err_from_is_err_and c.from_residual.result c.from_residual.ensures.1 in
-    rw (p.1, p.2) (told_of_ruin _ _ _ _ (Consumes-trans _ _ _ i.0 _ i.1 c.in-Ok.ensures.bytes.0) (c.in_err-feed.ensures i.0 i.2))
+    rw (p.1, p.2) (told_of_ruin _ _ _ _ (Consumes-trans _ _ _ i.0 _ i.1 c.in-Ok.ensures.bytes.0) (c.in_err-feed.ensures.read i.0 i.2))
 
 pub loop-preserved : goal.loop-preserved
 loop-preserved g c =
     let i = c.loop.invariant in
-    (i.0 ++ take c.in-Ok.len c.read.new.buf, Consumes-trans _ _ _ i.0 _ i.1 c.in-Ok.ensures.bytes.0, c.in_ok-feed.ensures i.0 i.2)
+    (i.0 ++ take c.in-Ok.len c.read.new.buf, Consumes-trans _ _ _ i.0 _ i.1 c.in-Ok.ensures.bytes.0, c.in_ok-feed.ensures.read i.0 i.2)
 
 pub returns-clause-only : goal.returns-clause-only
 returns-clause-only g c =

@@ -1,14 +1,13 @@
 use Rattle.std.proofs.Common.{◌≡◌, ◌++◌, ◌∷◌, [], List, refl, sym, subst}
 use Rattle.osm_model.specs.declared.tag.Tag.{Tag}
-use Rattle.opl_codec.specs.Fields.{pieces, Each}
-use Rattle.opl_codec.specs.Lines.{SpellsTag}
-use Rattle.opl_codec.specs.Reading.{Ends}
+use Rattle.opl_codec.specs.Fields.{pieces}
+use Rattle.opl_codec.specs.Reading.{AreFirstTags, Ends}
 use Rattle.opl_codec.proofs.ReadLiterals.{not_empty}
-use Rattle.opl_codec.proofs.ReadTags.{each_push, items_are, spells, ends_all, ends_further, pieces_further, tag_left, misfit_moved}
+use Rattle.opl_codec.proofs.ReadTags.{items_are, no_tags, ends_all, ends_further, pieces_further, tag_left, misfit_moved}
 use Rattle.opl_codec.proofs.tags.split_tags.Goals as goal
 
 pub loop-left-init : goal.loop-left-init
-loop-left-init c = ([], refl, subst (λ (t : List Tag). Each SpellsTag [] t) (sym c.in_ok-tags.ensures.items) tt, ends_all c.args.text.now)
+loop-left-init c = ([], refl, subst (λ (t : List Tag). AreFirstTags [] t) (sym c.in_ok-tags.ensures.items) no_tags, ends_all c.args.text.now)
 
 pub returns-in-Err-clause-refused : goal.returns-in-Err-clause-refused
 returns-in-Err-clause-refused c =
@@ -26,7 +25,6 @@ loop-left-preserved c =
     let piece = spelling.key.now ++ 61 ∷ spelling.value.now in (
       before.0 ++ piece ∷ [],
       pieces_further 44 c.args.text.now c.in-Some.rest.now piece before.0 spelling.more parts (tag_left c.in-Some.rest.now piece spelling.more c.in-Ok.ensures.parts),
-      rw c.in_ok-push.ensures.items (each_push SpellsTag before.0 c.loop-left.tags.items piece c.in_ok-make_tag.field-0 before.2
-          (spells spelling.key.now spelling.value.now c.in_ok-make_tag.field-0 c.in-Ok.ensures.literal.0 c.in-Ok.ensures.literal.1 c.in_ok-make_tag.ensures.0 c.in_ok-make_tag.ensures.1)),
+      c.in_ok-keep_tag.ensures before.0 before.2,
       ends_further spelling.more c.in-Some.rest.now c.args.text.now c.in-Ok.ensures.place ends,
     )

@@ -5,8 +5,8 @@ use Rattle.opl_codec.specs.Loading.{Say}
 use Rattle.opl_codec.proofs.LoadLemmas.{sum_map, ruins_at}
 use Rattle.opl_codec.proofs.loader.Loader.take_lines.Goals as goal
 
-pub returns-in_err-take_line : goal.returns-in_err-take_line
-returns-in_err-take_line c = let p = err_from_is_err_and c.from_residual.result c.from_residual.ensures.1 in rw (p.1, p.2) (λ lines say.
+pub returns-in_err-take_line-clause-read : goal.returns-in_err-take_line-clause-read
+returns-in_err-take_line-clause-read c = let p = err_from_is_err_and c.from_residual.result c.from_residual.ensures.1 in rw (p.1, p.2) (λ lines say.
     let read = c.loop-line.invariant.read in
     let cut = read.1 ∙ ap (λ ps. read.0 ++ ps) c.in-Some.ensures.0 in
     sum_map (λ o. o) (ruins_at lines read.0 c.in-Some.line.now c.in-Some.rest.now c.args.text.now cut) (c.in_err-take_line.ensures.taken (lines ++ read.0) (read.2 lines say)))
