@@ -1,5 +1,5 @@
 -- Files that are loaded, ruined, or hold no set.
-use Rattle.std.proofs.Common.{◌≡◌, ◌≢◌, ◌⊎◌, inl, inr, ℕ, ◌<◌, ◌^◌, length, length-append, arith, List, [], ◌∷◌, ◌++◌, refl, sym, ◌∙◌, ap, subst, append_assoc, append-nil, Option, Some, None, Result, IfSome, MatchResult}
+use Rattle.std.proofs.Common.{◌≡◌, ◌≢◌, ◌⊎◌, inl, inr, ℕ, ◌<◌, ◌^◌, length, length-append, arith, List, [], ◌∷◌, ◌++◌, refl, sym, ◌∙◌, ap, subst, append_assoc, append-nil, Option, Some, None, Result, Ok, Err, IfOk, IfSome, MatchResult}
 use Rattle.std.specs.Io.KnownBytes.{Consumes, IsAtEnd}
 use Rattle.std.proofs.lemmas.Result.{MatchResult-weaker}
 use Rattle.std.specs.Ordering.{eq_by_cmp}
@@ -168,3 +168,8 @@ told_at_end old front r all done = if_some_map old all (λ file is objects holds
     outside_of : {cause : OplCause} → IsOutside cause ⊎ ((objects : List Element) → HoldsSet front objects → ⊥) → (objects : List Element) → HoldsSet front objects → IsOutside cause
     outside_of (inl outside) objects h = outside
     outside_of (inr none) objects h = absurd (none objects h)
+
+-- the file whose bytes were read holds the set
+pub held_at_end : (Q : LoadFault → Type 0) (front : List ℕ) (r : Result (List Element) LoadFault) → MatchResult r (λ set. HoldsSet front set) Q → IfOk r (λ set. (file : List ℕ) × HoldsSet file set)
+held_at_end Q front (Ok set) done = (front, done)
+held_at_end Q front (Err fault) done = tt

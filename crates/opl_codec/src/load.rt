@@ -36,6 +36,8 @@ const READS: u64 = 4_294_967_296;
 pub fn read_set<R: Read>(alloc: Global, reader: &mut R) -> Result<ObjectSet, LoadFault>
     // What is read is what the file holds.
     ensures read { IfSome (R.remaining reader.old) (λ file. IfOk result (HoldsSet file)) }
+    // Whatever the reader tells of its bytes, what is read is a set that a file holds.
+    ensures held { IfOk result (λ set. (file : List ℕ) × HoldsSet file set) }
     // What the file holds is read, unless the reader failed, never ended, or memory ran out.
     ensures only { IfSome (R.remaining reader.old) (λ file. (objects : List Element) → HoldsSet file objects
         → MatchResult result (λ set. set ≡ objects) (λ fault. IsOutside fault.fault.cause)) }

@@ -1,7 +1,7 @@
 use Rattle.std.proofs.Common.{◌<◌, ◌++◌, take, refl, inl, inr, arith, length}
 use Rattle.std.proofs.KnownBytes.{Consumes-trans}
 use Rattle.std.proofs.lemmas.Result.{err_from_is_err_and}
-use Rattle.opl_codec.proofs.LoadLemmas.{all_read, told_of_ruin, told_outside, told_at_end}
+use Rattle.opl_codec.proofs.LoadLemmas.{all_read, told_of_ruin, told_outside, told_at_end, held_at_end}
 use Rattle.opl_codec.proofs.load.read_set.Goals as goal
 
 pub returns-in_default-clause-only : goal.returns-in_default-clause-only
@@ -16,6 +16,11 @@ returns-then-len-eq0-clause-only g c =
     let nothing = rw c.if-len-eq0.true at b.0 in
     let some : 0 < length c.read.new.buf = omega arith in
     told_at_end _ i.0 c.finish.result (all_read _ _ _ i.0 i.1 nothing (b.1 c.if-len-eq0.true some)) (c.finish.ensures i.0 i.2)
+
+pub returns-then-len-eq0-clause-held : goal.returns-then-len-eq0-clause-held
+returns-then-len-eq0-clause-held g c =
+    let i = c.loop.invariant in
+    held_at_end _ i.0 c.finish.result (c.finish.ensures i.0 i.2)
 
 pub returns-in_err-feed-clause-only : goal.returns-in_err-feed-clause-only
 returns-in_err-feed-clause-only g c =
