@@ -1,6 +1,6 @@
 -- Which command the words name.
-use Rattle.std.proofs.Common.{◌≡◌, ◌∙◌, ◌⊎◌, List, [], ◌∷◌, Bool, true, false, refl, ap, ap₂, sym, inl, inr}
-use Rattle.std.specs.Prelude.{Option, Some, None, is_some, option_map, find, not, ◌&&◌, Box, if◌then◌else◌}
+use Rattle.std.proofs.Common.{◌≡◌, ◌∙◌, ◌⊎◌, List, [], ◌∷◌, Bool, true, false, refl, ap, ap₂, sym, subst, inl, inr, Result, Ok, Err, IfOk, IfErr}
+use Rattle.std.specs.Prelude.{OnOk, Option, Some, None, is_some, option_map, find, not, ◌&&◌, Box, if◌then◌else◌}
 use Rattle.std.specs.List.{list_any}
 use Rattle.std.specs.Box.{box_value}
 use Rattle.clap.specs.Words.{App, HasMatchesOf, Row, Shape, Text, built, fault_of, is_simple, subcommand_of, subcommand_rows, subcommand_rows_of, subcommand_name_of}
@@ -15,7 +15,10 @@ use Rattle.clap.specs.declared.parser.matches.ArgMatches.TheViews.{out-ArgMatche
 use Rattle.clap.specs.declared.parser.matches.SubCommand.{SubCommand}
 use Rattle.clap.proofs.OnLiterals.{clap_on_literals}
 use Rattle.command_line.specs.CommandLine.{program_app}
-use Rattle.command_line.specs.Jobs.{IsCommandName}
+use Rattle.command_line.specs.Jobs.{Gives, GivesMatch, HasBadRoot, IsCommandName}
+use Rattle.command_line.specs.declared.job.Job.{Job}
+use Rattle.command_line.specs.declared.words_fault.WordsFault.{WordsFault}
+use Rattle.command_line.specs.declared.words_fault.WordsFault.TheVariants.{BadRoot, Memory}
 
 -- a name and a list of rows make the pair that they came from
 pair_of : (o : Option (Text × List Row)) (name : Text) (rows : List Row)
@@ -73,8 +76,11 @@ entered-among a (Some w) p e = go (find (λ s. answers_to w.0 (label_of s)) a.su
 -- a name among the program's commands
 among-commands : (name : Text) → IsAmong (built program_app).subs name → IsCommandName name
 unfolding clap_on_literals
-among-commands name (inl e) = e
-among-commands name (inr e) = absurd e
+among-commands name (inl e) = inl e
+among-commands name (inr (inl e)) = inr (inl e)
+among-commands name (inr (inr (inl e))) = inr (inr (inl e))
+among-commands name (inr (inr (inr (inl e)))) = inr (inr (inr e))
+among-commands name (inr (inr (inr (inr e)))) = absurd e
 
 -- the command that the words name is one of the program's
 pub named : (words : List Text) (p : Text × List Row) → subcommand_of program_app words ≡ Some p → IsCommandName p.0
@@ -115,3 +121,24 @@ is_there words e =
     both : (has : Bool) → (not has && true) ≡ false → has ≡ true
     both true e = refl
     both false e = cc
+
+-- ---- what is told of a job
+
+pub on_ok : {X : Type 0} {P : Type 0} (r : Result X WordsFault) → P → OnOk r P
+on_ok (Ok x) p = p
+on_ok (Err e) p = tt
+
+-- the job of the command that was matched
+pub of_match : (matched : Option (Text × List Row)) (r : Result Job WordsFault) {name : Text} {rows : List Row} → Some (name, rows) ≡ matched → IfOk r (λ job. Gives job name rows) → IfOk r (λ job. GivesMatch job matched)
+of_match matched (Ok job) same given = subst (λ (o : Option (Text × List Row)). GivesMatch job o) same given
+of_match matched (Err e) same given = tt
+
+-- its bad root
+pub bad_match : (matched : Option (Text × List Row)) (r : Result Job WordsFault) (name : Text) (rows : List Row) → Some (name, rows) ≡ matched → r ≡ Err BadRoot
+    → IfErr r (λ e. (e ≡ Memory) ⊎ ((e ≡ BadRoot) × HasBadRoot (Some (name, rows)))) → HasBadRoot matched
+bad_match matched (Ok job) name rows same is told = cc
+bad_match matched (Err e) name rows same is told = by told
+  where
+    by : (e ≡ Memory) ⊎ ((e ≡ BadRoot) × HasBadRoot (Some (name, rows))) → HasBadRoot matched
+    by (inl memory) = let bad : e ≡ BadRoot = cc in cc
+    by (inr bad) = subst HasBadRoot same bad.1

@@ -2,6 +2,9 @@
 use Rattle.std.specs.Prelude.{codes, true}
 use Rattle.clap.specs.Words.{App, new_app, with_subcommand}
 use Rattle.command_line.specs.AskCommand.{ask_app}
+use Rattle.command_line.specs.PublishCommand.{publish_app}
+use Rattle.command_line.specs.ProveCommand.{prove_app}
+use Rattle.command_line.specs.CheckCommand.{check_app}
 
 -- the program, of which a command is required; its help is no command
 abbrev pub bare_app : App
@@ -10,4 +13,4 @@ bare_app = let app = new_app (codes "osm_mirror") in
 
 -- one level of commands
 abbrev pub program_app : App
-program_app = with_subcommand bare_app ask_app.top
+program_app = with_subcommand (with_subcommand (with_subcommand (with_subcommand bare_app ask_app.top) publish_app.top) prove_app.top) check_app.top

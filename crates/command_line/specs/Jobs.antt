@@ -1,15 +1,30 @@
 -- What a job says of clap's matches.
-use Rattle.std.specs.Prelude.{◌≡◌, List, Option, Some, None, codes}
+use Rattle.std.specs.Prelude.{◌≡◌, ◌⊎◌, List, Ok, Option, Some, None, codes}
 use Rattle.std.specs.String.{string_bytes}
 use Rattle.clap.specs.Words.{Row, Text}
+use Rattle.hex.specs.Hex.{decode_of}
 use Rattle.command_line.specs.Arguments.{text_of}
 use Rattle.command_line.specs.AskCommand.{ask_name}
+use Rattle.command_line.specs.PublishCommand.{publish_name}
+use Rattle.command_line.specs.ProveCommand.{prove_name}
+use Rattle.command_line.specs.CheckCommand.{IsRootText, check_name}
 use Rattle.command_line.specs.declared.job.Job.{Job}
-use Rattle.command_line.specs.declared.job.Job.TheVariants.{Ask}
+use Rattle.command_line.specs.declared.job.Job.TheVariants.{Ask, Publish, Prove, Check}
 
 -- the job is that of the command of this name with these matches
 abbrev pub Gives : Job → Text → List Row → Type 0
 Gives (Ask query) name rows = (name ≡ ask_name) × (string_bytes query ≡ text_of (codes "QUERY") rows)
+Gives (Publish file) name rows = (name ≡ publish_name) × (string_bytes file ≡ text_of (codes "FILE") rows)
+Gives (Prove file query answer proof) name rows = (name ≡ prove_name)
+    × (string_bytes file ≡ text_of (codes "FILE") rows)
+    × (string_bytes query ≡ text_of (codes "QUERYFILE") rows)
+    × (string_bytes answer ≡ text_of (codes "ANSWERFILE") rows)
+    × (string_bytes proof ≡ text_of (codes "PROOFFILE") rows)
+Gives (Check root query answer proof) name rows = (name ≡ check_name)
+    × (decode_of (text_of (codes "ROOT") rows) ≡ Ok root.0)
+    × (string_bytes query ≡ text_of (codes "QUERYFILE") rows)
+    × (string_bytes answer ≡ text_of (codes "ANSWERFILE") rows)
+    × (string_bytes proof ≡ text_of (codes "PROOFFILE") rows)
 
 -- the job is that of the command that was matched
 abbrev pub GivesMatch : Job → Option (Text × List Row) → Type 0
@@ -18,4 +33,9 @@ GivesMatch job (Some matched) = Gives job matched.0 matched.1
 
 -- the name of a command
 abbrev pub IsCommandName : Text → Type 0
-IsCommandName name = name ≡ ask_name
+IsCommandName name = (name ≡ ask_name) ⊎ ((name ≡ publish_name) ⊎ ((name ≡ prove_name) ⊎ (name ≡ check_name)))
+
+-- the command `check` was matched, with a root that isn't 64 hexadecimal digits
+abbrev pub HasBadRoot : Option (Text × List Row) → Type 0
+HasBadRoot None = ⊥
+HasBadRoot (Some matched) = (matched.0 ≡ check_name) × ¬ (IsRootText (text_of (codes "ROOT") matched.1))

@@ -1,4 +1,7 @@
 pub mod Arguments
 pub mod AskCommand
+pub mod CheckCommand
 pub mod CommandLine
 pub mod Jobs
+pub mod ProveCommand
+pub mod PublishCommand

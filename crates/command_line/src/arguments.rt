@@ -9,6 +9,18 @@ ghost use Rattle.command_line.specs.Arguments.{IsCommand, text_of, wanted};
 use clap::{Arg, ArgMatches, Command};
 use std::alloc::{AllocError, Global};
 
+/// The argument that names the OPL file of a set.
+pub const FILE: &str = "FILE";
+
+/// The argument that names the file of a query.
+pub const QUERY_FILE: &str = "QUERYFILE";
+
+/// The argument that names the file of an answer.
+pub const ANSWER_FILE: &str = "ANSWERFILE";
+
+/// The argument that names the file of a proof.
+pub const PROOF_FILE: &str = "PROOFFILE";
+
 /// The command with one more positional argument, which has to be there.
 pub fn and_wanted<'a>(
     alloc: Global,

@@ -1,11 +1,41 @@
 //! What the words ask for.
 
-/// What the words ask for: a variant a command, with the texts of its arguments.
+use tree_node::Digest;
+
+/// What the words ask for: a variant a command, with the texts of its arguments. A file is named by the bytes
+/// of its word as they stand.
 #[derive(Debug, Drop)]
 pub enum Job {
     /// `ask QUERY`: answer the query over the objects that standard input holds.
     Ask {
         /// The bytes of the word QUERY as they stand.
         query: String,
+    },
+    /// `publish FILE`: tell the root of a set.
+    Publish {
+        /// The OPL file with the set's objects.
+        file: String,
+    },
+    /// `prove FILE QUERYFILE ANSWERFILE PROOFFILE`: write an answer and its proof, and tell the root.
+    Prove {
+        /// The OPL file with the set's objects.
+        file: String,
+        /// The file whose bytes are the query.
+        query_file: String,
+        /// The file that the answer is written to.
+        answer_file: String,
+        /// The file that the proof is written to.
+        proof_file: String,
+    },
+    /// `check ROOT QUERYFILE ANSWERFILE PROOFFILE`: tell whether an answer is right.
+    Check {
+        /// The root, which the word ROOT tells in 64 hexadecimal digits of either case.
+        root: Digest,
+        /// The file whose bytes are the query.
+        query_file: String,
+        /// The file whose bytes are the answer.
+        answer_file: String,
+        /// The file whose bytes are the proof.
+        proof_file: String,
     },
 }

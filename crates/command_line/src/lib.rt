@@ -6,8 +6,11 @@
 
 mod arguments;
 mod ask_command;
+mod check_command;
 mod job;
 mod program_command;
+mod prove_command;
+mod publish_command;
 #[cfg(test)]
 mod tests;
 mod words;

@@ -7,6 +7,9 @@ ghost use Rattle.command_line.specs.Arguments.{IsCommand};
 ghost use Rattle.command_line.specs.CommandLine.{program_app};
 
 use crate::ask_command::ask_command;
+use crate::check_command::check_command;
+use crate::prove_command::prove_command;
+use crate::publish_command::publish_command;
 use clap::Command;
 use std::alloc::{AllocError, Global};
 
@@ -18,7 +21,10 @@ pub fn program_command<'a>(alloc: Global) -> Result<Command<'a>, AllocError>
     let program = Command::new(alloc, "osm_mirror")
         .subcommand_required(true)
         .disable_help_subcommand(true);
-    and_command(program, ask_command(alloc)?)
+    let program = and_command(program, ask_command(alloc)?)?;
+    let program = and_command(program, publish_command(alloc)?)?;
+    let program = and_command(program, prove_command(alloc)?)?;
+    and_command(program, check_command(alloc)?)
 }
 
 /// The program with one more command.

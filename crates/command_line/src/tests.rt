@@ -2,11 +2,20 @@ use crate::{Job, WordsFault, read_words};
 use std::alloc::{AllocError, Global};
 use std::test::Fail;
 
+/// The digest of the empty message, in hexadecimal digits of both cases.
+const ROOT: &str = "e3b0c44298fc1c149afbf4c8996fb92427AE41E4649B934CA495991B7852B855";
+
 /// The words of a line in which one space stands between two words.
 fn words_of(alloc: Global, line: &str) -> Result<Vec<String>, AllocError> {
     line.split(' ')
         .map(|word| String::from_str(alloc, word))
         .try_collect(alloc)
+}
+
+/// The job that the line asks for, as `Debug` shows it.
+fn shown(alloc: Global, line: &str) -> Result<String, Fail> {
+    let job = read_words(alloc, words_of(alloc, line)?)?;
+    Ok(format!(in alloc; "{job:?}")?)
 }
 
 #[test]
@@ -20,9 +29,68 @@ fn reads_ask(rt: HostRuntime) -> Result<(), Fail> {
         ("osm_mirror ask ", ""),
         ("osm_mirror ask ask", "ask"),
     ] {
-        let Job::Ask { query } = read_words(alloc, words_of(alloc, line)?)?;
-        assert_eq!(rt; query.as_str(), want, "{line}");
+        match read_words(alloc, words_of(alloc, line)?)? {
+            Job::Ask { query } => assert_eq!(rt; query.as_str(), want, "{line}"),
+            job => panic!(rt; "{line}: {job:?}"),
+        }
     }
+    Ok(())
+}
+
+#[test]
+fn reads_the_commands_over_files(rt: HostRuntime) -> Result<(), Fail> {
+    let alloc = rt.alloc();
+    for (line, want) in [
+        ("m publish a.opl", "Publish { file: \"a.opl\" }"),
+        (
+            "m prove a.opl b c d",
+            "Prove { file: \"a.opl\", query_file: \"b\", answer_file: \"c\", proof_file: \"d\" }",
+        ),
+        ("m publish -- -", "Publish { file: \"-\" }"),
+    ] {
+        assert_eq!(rt; shown(alloc, line)?.as_str(), want, "{line}");
+    }
+    Ok(())
+}
+
+#[test]
+fn reads_check(rt: HostRuntime) -> Result<(), Fail> {
+    let alloc = rt.alloc();
+    let line = format!(in alloc; "m check {ROOT} b c d")?;
+    match read_words(alloc, words_of(alloc, &line)?)? {
+        Job::Check {
+            root,
+            query_file,
+            answer_file,
+            proof_file,
+        } => {
+            assert_eq!(rt; root, tree_node::digest_of(b""));
+            assert_eq!(rt; query_file.as_str(), "b");
+            assert_eq!(rt; answer_file.as_str(), "c");
+            assert_eq!(rt; proof_file.as_str(), "d");
+        }
+        job => panic!(rt; "{job:?}"),
+    }
+    Ok(())
+}
+
+#[test]
+fn refuses_bad_roots(rt: HostRuntime) -> Result<(), Fail> {
+    let alloc = rt.alloc();
+    let mut tried = 0;
+    for end in [0, 1, 62, 63] {
+        for behind in ["", "g", "0x", "00a"] {
+            let line = format!(in alloc; "m check {}{behind} b c d", &ROOT[..end])?;
+            match read_words(alloc, words_of(alloc, &line)?) {
+                Ok(job) => panic!(rt; "{line}: {job:?}"),
+                Err(WordsFault::BadRoot) => tried += 1,
+                Err(fault) => panic!(rt; "{line}: {fault}"),
+            }
+        }
+    }
+    assert_eq!(rt; tried, 16);
+    let told = format!(in alloc; "{}", WordsFault::BadRoot)?;
+    assert_eq!(rt; told.as_str(), "bad root");
     Ok(())
 }
 
@@ -39,7 +107,15 @@ fn refuses_with_the_text_of_clap(rt: HostRuntime) -> Result<(), Fail> {
             "error: the following required arguments were not provided:\n",
         ),
         (
+            "osm_mirror check 00 b c",
+            "error: the following required arguments were not provided:\n",
+        ),
+        (
             "osm_mirror ask a b",
+            "error: unexpected argument 'b' found\n",
+        ),
+        (
+            "osm_mirror publish a b",
             "error: unexpected argument 'b' found\n",
         ),
         (
@@ -49,6 +125,10 @@ fn refuses_with_the_text_of_clap(rt: HostRuntime) -> Result<(), Fail> {
         ("osm_mirror help", "error: unrecognized subcommand 'help'\n"),
         ("osm_mirror --help", "Usage: osm_mirror <COMMAND>\n"),
         ("osm_mirror ask -h", "Usage: osm_mirror ask <QUERY>\n"),
+        (
+            "osm_mirror prove -h",
+            "Usage: osm_mirror prove <FILE> <QUERYFILE> <ANSWERFILE> <PROOFFILE>\n",
+        ),
     ] {
         match read_words(alloc, words_of(alloc, line)?) {
             Ok(job) => panic!(rt; "{line}: {job:?}"),
@@ -66,17 +146,28 @@ fn refuses_with_the_text_of_clap(rt: HostRuntime) -> Result<(), Fail> {
 #[test]
 fn reads_within_memory(rt: HostRuntime) -> Result<(), Fail> {
     let alloc = rt.alloc();
-    let words = words_of(alloc, "osm_mirror ask node(1);out;");
-    let Ok(words) = words else {
-        return Ok(());
-    };
+    let words = words_of(alloc, "osm_mirror ask node(1);out;")?;
     match read_words(alloc, words) {
         Ok(Job::Ask { query }) => assert_eq!(rt; query.as_str(), "node(1);out;"),
+        Ok(job) => panic!(rt; "{job:?}"),
         Err(WordsFault::Memory) => {}
         Err(fault) => panic!(rt; "{fault}"),
     }
-    let again = words_of(alloc, "osm_mirror ask node(2);out;")?;
-    let Job::Ask { query } = read_words(alloc, again)?;
-    assert_eq!(rt; query.as_str(), "node(2);out;");
+    let again = shown(alloc, "osm_mirror publish a.opl")?;
+    assert_eq!(rt; again.as_str(), "Publish { file: \"a.opl\" }");
+    Ok(())
+}
+
+/// The same of `check`, whose root is decoded.
+#[test]
+fn reads_check_within_memory(rt: HostRuntime) -> Result<(), Fail> {
+    let alloc = rt.alloc();
+    let line = format!(in alloc; "m check {ROOT} b c d")?;
+    match read_words(alloc, words_of(alloc, &line)?) {
+        Ok(Job::Check { root, .. }) => assert_eq!(rt; root, tree_node::digest_of(b"")),
+        Ok(job) => panic!(rt; "{job:?}"),
+        Err(WordsFault::Memory) => {}
+        Err(fault) => panic!(rt; "{fault}"),
+    }
     Ok(())
 }

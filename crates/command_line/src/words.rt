@@ -1,14 +1,17 @@
 //! The words, read.
 
-ghost use Rattle.std.specs.Prelude.{◌≡◌, [], IfErr, IfOk, OnOk, map, true};
+ghost use Rattle.std.specs.Prelude.{◌≡◌, ◌≢◌, ◌⊎◌, [], Err, IfErr, IfOk, OnOk, Some, map, true};
 ghost use Rattle.std.specs.String.{string_bytes};
 ghost use Rattle.clap.specs.Words.{fault_of, found_of, kind_of, rows_of, subcommand_of, takes};
 ghost use Rattle.command_line.specs.CommandLine.{program_app};
-ghost use Rattle.command_line.specs.Jobs.{Gives, GivesMatch, IsCommandName};
+ghost use Rattle.command_line.specs.Jobs.{Gives, GivesMatch, HasBadRoot, IsCommandName};
 
 use crate::ask_command::{ASK, ask_job};
+use crate::check_command::{CHECK, check_job};
 use crate::job::Job;
 use crate::program_command::program_command;
+use crate::prove_command::{PROVE, prove_job};
+use crate::publish_command::{PUBLISH, publish_job};
 use crate::words_fault::WordsFault;
 use clap::ArgMatches;
 use clap::error::ErrorKind;
@@ -21,17 +24,19 @@ use std::alloc::{AllocError, Global};
 ///
 /// # Errors
 ///
-/// `Usage` with `clap`'s text, where the words are none of this command line, or ask for help. `Memory`
-/// where an allocation was refused.
+/// `Usage` with `clap`'s text, where the words are none of this command line, or ask for help. `BadRoot`
+/// where the word ROOT of `check` isn't 64 hexadecimal digits. `Memory` where an allocation was refused.
 pub fn read_words(alloc: Global, words: Vec<String>) -> Result<Job, WordsFault>
     ensures read { IfOk result (λ job. GivesMatch job (subcommand_of program_app (map string_bytes words.items))) }
     ensures accepted { OnOk result (fault_of program_app (map string_bytes words.items) ≡ []) }
-    ensures refused { takes program_app (map string_bytes words.items) ≡ true → IfErr result (λ e. e ≡ WordsFault.Memory) }
+    ensures refused { takes program_app (map string_bytes words.items) ≡ true
+        → IfErr result (λ e. (e ≡ WordsFault.Memory) ⊎ (e ≡ WordsFault.BadRoot)) }
+    ensures bad_root { result ≡ Err WordsFault.BadRoot → HasBadRoot (subcommand_of program_app (map string_bytes words.items)) }
 {
     let program = program_command(alloc)?;
     match program.try_get_matches_from(words.as_slice()) {
         Ok(matches) => match matches.subcommand() {
-            Some((name, inner)) => Ok(job_of(alloc, name, inner)?),
+            Some((name, inner)) => job_of(alloc, name, inner),
             None => unreachable!("a command is required"),
         },
         Err(error) => Err(fault_from(alloc, &error)),
@@ -39,19 +44,25 @@ pub fn read_words(alloc: Global, words: Vec<String>) -> Result<Job, WordsFault>
 }
 
 /// What the matches of the command of this name ask for.
-fn job_of(alloc: Global, name: &str, matches: &ArgMatches<'_>) -> Result<Job, AllocError>
+fn job_of(alloc: Global, name: &str, matches: &ArgMatches<'_>) -> Result<Job, WordsFault>
     requires { IsCommandName name.now }
-    ensures { IfOk result (λ job. Gives job name.now (rows_of (found_of matches.now))) }
+    ensures given { IfOk result (λ job. Gives job name.now (rows_of (found_of matches.now))) }
+    ensures refused { IfErr result (λ e. (e ≡ WordsFault.Memory)
+        ⊎ ((e ≡ WordsFault.BadRoot) × HasBadRoot (Some (name.now, rows_of (found_of matches.now))))) }
 {
     match name {
-        ASK => ask_job(alloc, matches),
+        ASK => Ok(ask_job(alloc, matches)?),
+        PUBLISH => Ok(publish_job(alloc, matches)?),
+        PROVE => Ok(prove_job(alloc, matches)?),
+        CHECK => check_job(alloc, matches),
         _ => unreachable!("each command has its arm"),
     }
 }
 
 /// The refusal of `clap`, with its text.
 fn fault_from(alloc: Global, error: &clap::Error) -> WordsFault
-    ensures { kind_of error.now ≡ ErrorKind.OutOfMemory → result ≡ WordsFault.Memory }
+    ensures own { result ≢ WordsFault.BadRoot }
+    ensures memory { kind_of error.now ≡ ErrorKind.OutOfMemory → result ≡ WordsFault.Memory }
 {
     if error.kind() == ErrorKind::OutOfMemory {
         return WordsFault::Memory;

@@ -13,6 +13,9 @@ pub enum WordsFault {
     /// its own line feed.
     #[error("{0}")]
     Usage(String),
+    /// The word ROOT isn't 64 hexadecimal digits.
+    #[error("bad root")]
+    BadRoot,
     /// An allocation was refused.
     #[error("no memory")]
     Memory,

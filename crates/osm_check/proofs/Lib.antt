@@ -7,3 +7,4 @@ pub mod LineEnds
 pub mod Lines
 pub mod TextsRead
 pub mod OneVerdict
+pub mod Held

@@ -2,6 +2,7 @@
 
 ghost use Rattle.std.specs.Prelude.{◌≡◌, ◌⊎◌, ℕ, List};
 ghost use Rattle.osm_model.specs.Elements.{Element};
+ghost use Rattle.opl_codec.specs.Files.{HoldsSet};
 ghost use Rattle.osm_check.specs.Roots.{Clash, IsPlainSet, IsProofOf, proof_text, root_of};
 ghost use Rattle.osm_check.specs.Verdicts.{IsVerdict, Tells};
 ghost use Rattle.osm_check.specs.declared.verdict.Verdict.{Verdict};
@@ -9,6 +10,11 @@ ghost use Rattle.osm_check.specs.declared.verdict.Verdict.{Verdict};
 /// A law: bytes are the canonical text of one set at most.
 pub fn one_text()
     ensures { (bytes : List ℕ) (first second : List Element) → IsProofOf bytes first → IsProofOf bytes second → first ≡ second }
+{}
+
+/// A law: the set that a file holds is one of those of which the others speak.
+pub fn held_set()
+    ensures { (file : List ℕ) (objects : List Element) → HoldsSet file objects → IsPlainSet objects }
 {}
 
 /// A law: one verdict at most is owed.

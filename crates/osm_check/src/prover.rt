@@ -25,7 +25,9 @@ pub fn prove(alloc: Global, set: &ObjectSet, query: &[u8]) -> Result<Proved, Pro
         × IsAnswer query.now proved.answer.items set.now × (proved.proof.items ≡ proof_text set.now)) }
     // A query with a fault is refused with it,
     ensures refused { (fault : QlFault) → FaultOf query.now fault → result ≡ Err (ProveFault.Query fault) }
-    // and one that reads for memory alone.
+    // and no other is told;
+    ensures told { (fault : QlFault) → result ≡ Err (ProveFault.Query fault) → FaultOf query.now fault }
+    // one that reads is refused for memory alone.
     ensures only { (tree : Query) → Reads query.now tree → IfErr result (λ fault. fault ≡ ProveFault.Memory) }
 {
     let parsed = parse(query)?;

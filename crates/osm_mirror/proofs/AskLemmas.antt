@@ -1,5 +1,5 @@
 -- Faults of `ask` from the faults of the calls that it makes.
-use Rattle.std.proofs.Common.{◌≡◌, ℕ, List, Option, None, Some, Result, Ok, Err, IfSome, IfErr, IsErrAnd, inl, inr, refl, sym, subst}
+use Rattle.std.proofs.Common.{◌≡◌, ℕ, List, Option, None, Some, Result, Ok, Err, IfSome, IfErr, IsErrAnd, inl, inr, refl, sym, subst, ap, ◌∙◌}
 use Rattle.osm_model.specs.Elements.{Element}
 use Rattle.opl_codec.specs.Files.{HoldsSet, IsOutside as IsOutsideFile}
 use Rattle.opl_codec.specs.declared.cause.OplCause.{OplCause}
@@ -7,13 +7,14 @@ use Rattle.opl_codec.specs.declared.cause.OplCause.TheVariants as causes
 use Rattle.opl_codec.specs.declared.fault.LoadFault.{LoadFault}
 use Rattle.ql_plain.specs.Queries.{Reads}
 use Rattle.ql_plain.specs.declared.query.Query.{Query as QueryTree}
-use Rattle.ql_plain.specs.declared.fault.QlFault.{QlFault}
+use Rattle.osm_check.specs.declared.prove_fault.ProveFault.{ProveFault}
+use Rattle.osm_check.specs.declared.prove_fault.ProveFault.TheVariants as refusals
 use Rattle.osm_mirror.specs.Ask.{Explains, IsAnswer, IsOutside}
-use Rattle.osm_mirror.specs.Faults.{fault_of_cause, fault_of_load}
+use Rattle.osm_mirror.specs.Faults.{fault_of_cause, fault_of_load, fault_of_prove}
 use Rattle.osm_mirror.specs.declared.command_fault.CommandFault.{CommandFault}
 
 -- what the reader doesn't read is refused as it should be
-explained_cause : (file query : List ℕ) (load : LoadFault) (cause : OplCause) → load.fault.cause ≡ cause
+pub explained_cause : (file query : List ℕ) (load : LoadFault) (cause : OplCause) → load.fault.cause ≡ cause
     → ((objects : List Element) → HoldsSet file objects → IsOutsideFile cause) → Explains file query (fault_of_cause load cause)
 explained_cause file query load causes.ReaderFailed is only = tt
 explained_cause file query load causes.Memory is only = tt
@@ -22,7 +23,7 @@ explained_cause file query load _ is only =
     inr (λ objects holds. elim (only objects holds) [ inl failed ↦ cc | inr other ↦ elim other [ inl endless ↦ cc | inr memory ↦ cc ] ])
 
 -- a fault that lies outside the file lies outside of all that `ask` is given
-outside_cause : (load : LoadFault) (cause : OplCause) → load.fault.cause ≡ cause → IsOutsideFile cause → IsOutside (fault_of_cause load cause)
+pub outside_cause : (load : LoadFault) (cause : OplCause) → load.fault.cause ≡ cause → IsOutsideFile cause → IsOutside (fault_of_cause load cause)
 outside_cause load causes.ReaderFailed is outside = tt
 outside_cause load causes.Memory is outside = tt
 outside_cause load causes.Endless is outside = is
@@ -48,10 +49,11 @@ outside_unread (Some file) query load (Ok done) told only = λ text answer. tt
 outside_unread (Some file) query load (Err fault) told only = λ text answer.
     subst IsOutside (sym told) (outside_cause load load.fault.cause refl (only answer.set answer.holds))
 
--- a query that doesn't read has no answer
-pub outside_unparsed : (known : Option (List ℕ)) (query : List ℕ) (parsed : Result QueryTree QlFault) (refused : QlFault) (result : Result (Unit {0}) CommandFault)
-    → parsed ≡ Err refused → ((tree : QueryTree) → Reads query tree → parsed ≡ Ok tree)
+-- an answer that isn't made: where the query reads, the fault lies outside
+pub outside_unproved : (known : Option (List ℕ)) (query : List ℕ) (refusal : ProveFault) (result : Result (Unit {0}) CommandFault)
+    → IsErrAnd result (λ fault. fault ≡ fault_of_prove refusal) → ((tree : QueryTree) → Reads query tree → refusal ≡ refusals.Memory)
     → IfSome known (λ file. (text : List ℕ) → IsAnswer file query text → IfErr result IsOutside)
-outside_unparsed None query parsed refused result is only = tt
-outside_unparsed (Some file) query parsed refused result is only = λ text answer.
-    let same = only answer.tree answer.reads in absurd (cc)
+outside_unproved None query refusal result told only = tt
+outside_unproved (Some file) query refusal (Ok done) told only = λ text answer. tt
+outside_unproved (Some file) query refusal (Err fault) told only = λ text answer.
+    subst IsOutside (sym (told ∙ ap fault_of_prove (only answer.tree answer.reads))) tt

@@ -9,7 +9,7 @@ use Rattle.ql_plain.specs.Queries.{Reads, FaultOf}
 use Rattle.ql_plain.specs.Meaning.{meaning}
 use Rattle.ql_plain.specs.declared.query.Query.{Query as QueryTree}
 use Rattle.osm_mirror.specs.declared.command_fault.CommandFault.{CommandFault}
-use Rattle.osm_mirror.specs.declared.command_fault.CommandFault.TheVariants.{Opl, Query, Memory, Device}
+use Rattle.osm_mirror.specs.declared.command_fault.CommandFault.TheVariants.{Opl, Query, Endless, Memory, Device}
 use Rattle.osm_mirror.specs.Written.{AppendsFront}
 
 -- the file holds a set, the bytes read as a query, and this text is its meaning over the set
@@ -24,6 +24,7 @@ pub record IsAnswer (file query text : List ℕ) : Type 0 where
 abbrev pub Explains : List ℕ → List ℕ → CommandFault → Type 0
 Explains file query (Opl load) = (load.fault.cause ≡ causes.Endless) ⊎ ((set : List Element) → HoldsSet file set → ⊥)
 Explains file query (Query refused) = ((set : List Element) × HoldsSet file set) × FaultOf query refused
+Explains file query Endless = ⊥
 Explains file query Memory = ⊤
 Explains file query Device = ⊤
 
@@ -31,6 +32,7 @@ Explains file query Device = ⊤
 abbrev pub IsOutside : CommandFault → Type 0
 IsOutside (Opl load) = load.fault.cause ≡ causes.Endless
 IsOutside (Query refused) = ⊥
+IsOutside Endless = ⊥
 IsOutside Memory = ⊤
 IsOutside Device = ⊤
 

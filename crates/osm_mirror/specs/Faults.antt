@@ -3,8 +3,10 @@
 use Rattle.opl_codec.specs.declared.cause.OplCause.{OplCause}
 use Rattle.opl_codec.specs.declared.cause.OplCause.TheVariants as causes
 use Rattle.opl_codec.specs.declared.fault.LoadFault.{LoadFault}
+use Rattle.osm_check.specs.declared.prove_fault.ProveFault.{ProveFault}
+use Rattle.osm_check.specs.declared.prove_fault.ProveFault.TheVariants as refusals
 use Rattle.osm_mirror.specs.declared.command_fault.CommandFault.{CommandFault}
-use Rattle.osm_mirror.specs.declared.command_fault.CommandFault.TheVariants.{Opl, Query, Memory, Device}
+use Rattle.osm_mirror.specs.declared.command_fault.CommandFault.TheVariants.{Opl, Query, Endless, Memory, Device}
 use Rattle.osm_mirror.specs.declared.status.Status.{Status}
 use Rattle.osm_mirror.specs.declared.status.Status.TheVariants.{Refused, Failed}
 
@@ -12,6 +14,7 @@ use Rattle.osm_mirror.specs.declared.status.Status.TheVariants.{Refused, Failed}
 abbrev pub status_of : CommandFault → Status
 status_of (Opl load) = Refused
 status_of (Query refused) = Refused
+status_of Endless = Refused
 status_of Memory = Failed
 status_of Device = Failed
 
@@ -23,3 +26,8 @@ fault_of_cause load _ = Opl load
 
 abbrev pub fault_of_load : LoadFault → CommandFault
 fault_of_load load = fault_of_cause load load.fault.cause
+
+-- what a refusal of an answer is to a command
+abbrev pub fault_of_prove : ProveFault → CommandFault
+fault_of_prove (refusals.Query refused) = Query refused
+fault_of_prove refusals.Memory = Memory

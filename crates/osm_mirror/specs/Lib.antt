@@ -2,3 +2,5 @@ pub mod Written
 pub mod Statuses
 pub mod Faults
 pub mod Ask
+pub mod Files
+pub mod RootLines

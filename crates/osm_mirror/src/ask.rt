@@ -7,12 +7,13 @@ ghost use Rattle.osm_mirror.specs.Ask.{Explains, IsAnswer, IsBegun, IsOutside};
 use crate::command_fault::CommandFault;
 use crate::write_whole::write_whole;
 use opl_codec::read_set;
-use ql_plain::{answer_plain, parse};
+use osm_check::{Verdict, check, prove};
 use std::alloc::Global;
 use std::io::{Read, Write};
 
 /// Reads the input as the OPL text of a set of objects, and writes the query's answer over that set: the
-/// OPL text of its meaning. The query is these bytes as they stand.
+/// OPL text of its meaning. The query is these bytes as they stand. The answer is made with its proof, and
+/// checked by them and the set's root before it is written.
 ///
 /// # Errors
 ///
@@ -44,7 +45,9 @@ pub fn ask<R: Read, W: Write>(
         IsBegun file query.now (W.contents output.old) (W.contents output.new)) }
 {
     let set = read_set(alloc, input)?;
-    let parsed = parse(query)?;
-    let answer = answer_plain(alloc, &parsed, &set)?;
-    write_whole(output, &answer)
+    let proved = prove(alloc, &set, query)?;
+    match check(alloc, query, &proved.root, &proved.answer, &proved.proof)? {
+        Verdict::Yes(_) => write_whole(output, &proved.answer),
+        Verdict::No(_) => unreachable!("an honest answer is accepted"),
+    }
 }

@@ -1,11 +1,12 @@
 //! Why a command isn't carried out.
 
 ghost use Rattle.std.specs.Prelude.{◌≡◌};
-ghost use Rattle.osm_mirror.specs.Faults.{fault_of_load, status_of};
-ghost use Rattle.osm_mirror.specs.declared.command_fault.CommandFault.TheVariants.{Memory, Query};
+ghost use Rattle.osm_mirror.specs.Faults.{fault_of_load, fault_of_prove, status_of};
+ghost use Rattle.osm_mirror.specs.declared.command_fault.CommandFault.TheVariants.{Memory};
 
 use crate::status::Status;
 use opl_codec::{LoadFault, OplCause};
+use osm_check::ProveFault;
 use ql_plain::QlFault;
 use std::alloc::AllocError;
 use thiserror::Error;
@@ -16,9 +17,12 @@ pub enum CommandFault {
     /// The input holds no set of objects, or its reader never ended: `O9 line 1 byte 8`.
     #[error("{0}")]
     Opl(LoadFault),
-    /// The query doesn't read: `Q7 byte 5`.
+    /// The query doesn't read: `Q2 byte 6`.
     #[error("{0}")]
     Query(QlFault),
+    /// The file of a query, an answer or a proof was read 2^32 times without an end.
+    #[error("O15")]
+    Endless,
     /// An allocation was refused.
     #[error("no memory")]
     Memory,
@@ -33,7 +37,8 @@ impl CommandFault {
         ensures { result ≡ status_of self }
     {
         match self {
-            CommandFault::Opl(_) | CommandFault::Query(_) => Status::Refused,
+            CommandFault::Opl(_) | CommandFault::Query(_) | CommandFault::Endless =>
+                Status::Refused,
             CommandFault::Memory | CommandFault::Device => Status::Failed,
         }
     }
@@ -52,11 +57,14 @@ impl From<LoadFault> for CommandFault {
     }
 }
 
-impl From<QlFault> for CommandFault {
-    ghost from_gives = { λ refused fault. fault ≡ Query refused };
+impl From<ProveFault> for CommandFault {
+    ghost from_gives = { λ refused fault. fault ≡ fault_of_prove refused };
 
-    fn from(refused: QlFault) -> CommandFault {
-        CommandFault::Query(refused)
+    fn from(refused: ProveFault) -> CommandFault {
+        match refused {
+            ProveFault::Query(fault) => CommandFault::Query(fault),
+            ProveFault::Memory => CommandFault::Memory,
+        }
     }
 }
 

@@ -1,18 +1,32 @@
 //! The program `osm_mirror`: an Overpass query server whose answers can be checked.
 //!
-//! Each command is a function over a reader and a writer that it is lent ([`ask`](ask::ask)). What stands here
-//! fetches the words, runs the command that they ask for, tells of a fault and ends with the status.
+//! Each command is a function over readers and writers that it is lent: [`ask`](ask::ask),
+//! [`publish`](publish::publish), [`prove`](prove::prove), [`check`](check::check). What stands here fetches
+//! the words, lends the command that they ask for its files, tells of a fault and ends with the status.
 #![tactic(auto)]
 
 pub mod ask;
+pub mod check;
 pub mod command_fault;
+pub mod input_file;
+pub mod output_file;
+pub mod prove;
+pub mod publish;
+pub mod read_whole;
+pub mod root_line;
 pub mod status;
 #[cfg(test)]
 mod tests;
+pub mod verdict_line;
 pub mod write_whole;
 
 use crate::ask::ask;
+use crate::check::check;
 use crate::command_fault::CommandFault;
+use crate::input_file::InputFile;
+use crate::output_file::OutputFile;
+use crate::prove::prove;
+use crate::publish::publish;
 use crate::status::Status;
 use command_line::{Job, WordsFault, read_words};
 use std::env;
@@ -29,21 +43,56 @@ fn main(rt: HostRuntime) -> ExitCode {
 /// Does what the words ask for, and tells of a fault on standard error.
 fn run(rt: &HostRuntime) -> Status {
     match job(rt) {
-        Ok(Job::Ask { query }) => ended(
-            rt,
-            ask(
-                rt.alloc(),
-                query.as_bytes(),
-                &mut rt.stdin(),
-                &mut rt.stdout(),
-            ),
-        ),
+        Ok(job) => done(rt, job),
         Err(WordsFault::Usage(text)) => {
             // The text ends with a line feed of its own.
             let _ = write!(rt.stderr(), "{text}");
             Status::Refused
         }
+        Err(fault @ WordsFault::BadRoot) => {
+            let _ = writeln!(rt.stderr(), "{fault}");
+            Status::Refused
+        }
         Err(WordsFault::Memory) => ended(rt, Err(CommandFault::Memory)),
+    }
+}
+
+/// Runs the command with its files.
+fn done(rt: &HostRuntime, job: Job) -> Status {
+    let alloc = rt.alloc();
+    let output = &mut rt.stdout();
+    match job {
+        Job::Ask { query } => ended(rt, ask(alloc, query.as_bytes(), &mut rt.stdin(), output)),
+        Job::Publish { file } => {
+            let input = &mut InputFile::new(rt, &file);
+            ended(rt, publish(alloc, input, output))
+        }
+        Job::Prove {
+            file,
+            query_file,
+            answer_file,
+            proof_file,
+        } => {
+            let input = &mut InputFile::new(rt, &file);
+            let query = &mut InputFile::new(rt, &query_file);
+            let answer = &mut OutputFile::new(rt, &answer_file);
+            let proof = &mut OutputFile::new(rt, &proof_file);
+            ended(rt, prove(alloc, input, query, answer, proof, output))
+        }
+        Job::Check {
+            root,
+            query_file,
+            answer_file,
+            proof_file,
+        } => {
+            let query = &mut InputFile::new(rt, &query_file);
+            let answer = &mut InputFile::new(rt, &answer_file);
+            let proof = &mut InputFile::new(rt, &proof_file);
+            match check(alloc, &root, query, answer, proof, output) {
+                Ok(verdict) => Status::from(verdict),
+                Err(fault) => ended(rt, Err(fault)),
+            }
+        }
     }
 }
 

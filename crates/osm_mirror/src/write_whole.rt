@@ -7,7 +7,7 @@ ghost use Rattle.osm_mirror.specs.Written.{AppendsFront};
 use crate::command_fault::CommandFault;
 use std::io::Write;
 
-/// Writes the text, in as few calls as the writer takes.
+/// Writes the text, in as few calls as the writer takes, and flushes the writer.
 ///
 /// Refused with `Device` where a call fails or takes nothing; a beginning of the text is written then. (A
 /// loop of our own, since the contract of std's `write_all` doesn't say what is written where it fails.)
@@ -25,5 +25,8 @@ pub fn write_whole<W: Write>(writer: &mut W, text: &[u8]) -> Result<(), CommandF
             Ok(taken) => done += taken,
         }
     }
-    Ok(())
+    match writer.flush() {
+        Ok(()) => Ok(()),
+        Err(_) => Err(CommandFault::Device),
+    }
 }

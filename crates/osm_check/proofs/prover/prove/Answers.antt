@@ -1,4 +1,6 @@
-use Rattle.std.proofs.Common.{Err, ap, ◌∙◌}
+use Rattle.std.proofs.Common.{◌≡◌, Err, ap, sym, subst, ◌∙◌}
+use Rattle.ql_plain.specs.Queries.{FaultOf}
+use Rattle.ql_plain.specs.declared.fault.QlFault.{QlFault}
 use Rattle.std.proofs.lemmas.Result.{err_from_is_err_and}
 use Rattle.ql_plain.proofs.Laws.{never_both, one_fault}
 use Rattle.osm_check.specs.declared.prove_fault.ProveFault.TheVariants.{Query}
@@ -20,3 +22,11 @@ returns-in_err-proof-clause-refused c = λ fault f. absurd (never_both c.args.qu
 
 pub returns-clause-refused : goal.returns-clause-refused
 returns-clause-refused c = λ fault f. absurd (never_both c.args.query.now fault c.in_ok-parsed.parsed f c.in_ok-parsed.ensures.read)
+
+pub returns-in_err-parsed-clause-told : goal.returns-in_err-parsed-clause-told
+returns-in_err-parsed-clause-told c =
+    let told = err_from_is_err_and c.from_residual.result c.from_residual.ensures.1 in
+    λ fault is.
+    let same : Err (Query c.in_err-parsed.field-0.0) ≡ Err (Query fault) = sym (told.1 ∙ ap (λ e. Err e) told.2) ∙ is in
+    let one : c.in_err-parsed.field-0.0 ≡ fault = cc in
+    subst (λ (f : QlFault). FaultOf c.args.query.now f) one c.in_err-parsed.ensures.refused

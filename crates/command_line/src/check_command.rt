@@ -1,0 +1,60 @@
+//! The command `check ROOT QUERYFILE ANSWERFILE PROOFFILE`.
+
+ghost use Rattle.std.specs.Prelude.{◌≡◌, ◌↔◌, ◌⊎◌, IfErr, IfOk, IfSome, IsSome, Ok, codes};
+ghost use Rattle.clap.specs.Words.{found_of, rows_of};
+ghost use Rattle.hex.specs.Hex.{decode_of};
+ghost use Rattle.command_line.specs.Arguments.{IsCommand, text_of};
+ghost use Rattle.command_line.specs.CheckCommand.{IsRootText, check_app, check_name};
+ghost use Rattle.command_line.specs.Jobs.{Gives};
+
+use crate::arguments::{ANSWER_FILE, PROOF_FILE, QUERY_FILE, and_wanted, text_of};
+use crate::job::Job;
+use crate::words_fault::WordsFault;
+use clap::{ArgMatches, Command};
+use hex::FromHex;
+use std::alloc::{AllocError, Global};
+use tree_node::Digest;
+
+/// The name of the command.
+pub const CHECK: &str = "check";
+
+const ROOT: &str = "ROOT";
+
+/// The command, as `clap` is told of it.
+pub fn check_command<'a>(alloc: Global) -> Result<Command<'a>, AllocError>
+    ensures { IfOk result (IsCommand check_app) }
+{
+    let command = and_wanted(alloc, Command::new(alloc, CHECK), ROOT)?;
+    let command = and_wanted(alloc, command, QUERY_FILE)?;
+    let command = and_wanted(alloc, command, ANSWER_FILE)?;
+    and_wanted(alloc, command, PROOF_FILE)
+}
+
+/// What the matches of this command ask for. `BadRoot` where ROOT isn't 64 hexadecimal digits.
+pub fn check_job(alloc: Global, matches: &ArgMatches<'_>) -> Result<Job, WordsFault>
+    ensures given { IfOk result (λ job. Gives job check_name (rows_of (found_of matches.now))) }
+    ensures refused { IfErr result (λ fault. (fault ≡ WordsFault.Memory) ⊎ ((fault ≡ WordsFault.BadRoot)
+        × ¬ (IsRootText (text_of (codes "ROOT") (rows_of (found_of matches.now)))))) }
+{
+    let digits = text_of(alloc, matches, ROOT)?;
+    let Some(root) = root_from(digits.as_str()) else {
+        return Err(WordsFault::BadRoot);
+    };
+    let query_file = text_of(alloc, matches, QUERY_FILE)?;
+    let answer_file = text_of(alloc, matches, ANSWER_FILE)?;
+    let proof_file = text_of(alloc, matches, PROOF_FILE)?;
+    Ok(Job::Check {
+        root: Digest(root),
+        query_file,
+        answer_file,
+        proof_file,
+    })
+}
+
+/// The 32 bytes that 64 hexadecimal digits tell, of either case.
+fn root_from(digits: &str) -> Option<[u8; 32]>
+    ensures value { IfSome result (λ root. decode_of digits.now ≡ Ok root) }
+    ensures found { IsSome result ↔ IsRootText digits.now }
+{
+    <[u8; 32] as FromHex>::from_hex(digits).ok()
+}

@@ -1,0 +1,106 @@
+-- Files that are read whole, and sets that aren't read.
+use Rattle.std.proofs.Common.{◌≡◌, ℕ, List, [], ◌++◌, Option, None, Some, Result, Ok, Err, IfSome, IfErr, IsErrAnd, inl, inr, refl, sym, subst, ap, ◌∙◌, append-nil}
+use Rattle.std.specs.Io.KnownBytes.{Consumes, IsAtEnd}
+use Rattle.osm_model.specs.Elements.{Element}
+use Rattle.opl_codec.specs.Files.{HoldsSet, IsOutside as IsOutsideFile}
+use Rattle.opl_codec.specs.declared.cause.OplCause.{OplCause}
+use Rattle.opl_codec.specs.declared.cause.OplCause.TheVariants as causes
+use Rattle.opl_codec.specs.declared.fault.LoadFault.{LoadFault}
+use Rattle.ql_plain.specs.Queries.{Reads}
+use Rattle.ql_plain.specs.declared.query.Query.{Query as QueryTree}
+use Rattle.osm_check.specs.Verdicts.{IsVerdict}
+use Rattle.osm_check.specs.declared.verdict.Verdict.{Verdict}
+use Rattle.osm_check.specs.declared.prove_fault.ProveFault.{ProveFault}
+use Rattle.osm_check.specs.declared.prove_fault.ProveFault.TheVariants as refusals
+use Rattle.osm_mirror.specs.Ask.{Explains, IsOutside}
+use Rattle.osm_mirror.specs.Faults.{fault_of_cause, fault_of_load, fault_of_prove}
+use Rattle.osm_mirror.specs.Files.{ExplainsFiles, ExplainsSet, IfBoth, IfThree, IsBegunVerdict, IsOutsideFiles, IsProved}
+use Rattle.osm_mirror.specs.RootLines.{verdict_line}
+use Rattle.osm_mirror.specs.Written.{AppendsFront}
+use Rattle.osm_mirror.specs.declared.command_fault.CommandFault.{CommandFault}
+use Rattle.osm_mirror.proofs.AskLemmas.{outside_cause, explained_cause as explained_file}
+
+-- where no byte is left, all bytes were read
+pub whole : (old mid new : Option (List ℕ)) (front : List ℕ) → Consumes old mid front → Consumes mid new [] → IsAtEnd new → IfSome old (λ left. front ≡ left)
+whole None mid new front h k end = tt
+whole (Some file) None new front h k end = absurd h
+whole (Some file) (Some rest) None front h k end = absurd k
+whole (Some file) (Some rest) (Some left) front h k end = sym (h ∙ ap (λ r. front ++ r) (k ∙ end) ∙ append-nil front)
+
+-- a set that isn't read: where the file holds one, the fault lies outside
+pub outside_unheld : (known : Option (List ℕ)) (load : LoadFault) (result : Result (Unit {0}) CommandFault)
+    → IsErrAnd result (λ fault. fault ≡ fault_of_load load)
+    → IfSome known (λ file. (objects : List Element) → HoldsSet file objects → IsOutsideFile load.fault.cause)
+    → IfSome known (λ file. (set : List Element) → HoldsSet file set → IfErr result IsOutside)
+outside_unheld None load result told only = tt
+outside_unheld (Some file) load (Ok done) told only = λ set holds. tt
+outside_unheld (Some file) load (Err fault) told only = λ set holds. subst IsOutside (sym told) (outside_cause load load.fault.cause refl (only set holds))
+
+explained_cause : (file : List ℕ) (load : LoadFault) (cause : OplCause) → load.fault.cause ≡ cause
+    → ((objects : List Element) → HoldsSet file objects → IsOutsideFile cause) → ExplainsSet file (fault_of_cause load cause)
+explained_cause file load causes.ReaderFailed is only = tt
+explained_cause file load causes.Memory is only = tt
+explained_cause file load causes.Endless is only = inl is
+explained_cause file load _ is only =
+    inr (λ objects holds. elim (only objects holds) [ inl failed ↦ cc | inr other ↦ elim other [ inl endless ↦ cc | inr memory ↦ cc ] ])
+
+-- and why it comes
+pub explained_unheld : (known : Option (List ℕ)) (load : LoadFault) (result : Result (Unit {0}) CommandFault)
+    → IsErrAnd result (λ fault. fault ≡ fault_of_load load)
+    → IfSome known (λ file. (objects : List Element) → HoldsSet file objects → IsOutsideFile load.fault.cause)
+    → IfSome known (λ file. IfErr result (ExplainsSet file))
+explained_unheld None load result told only = tt
+explained_unheld (Some file) load (Ok done) told only = tt
+explained_unheld (Some file) load (Err fault) told only = subst (ExplainsSet file) (sym told) (explained_cause file load load.fault.cause refl only)
+
+-- ---- `prove`
+
+-- a set that isn't read
+pub outside_unheld_files : (first second : Option (List ℕ)) (load : LoadFault) (result : Result (Unit {0}) CommandFault)
+    → IsErrAnd result (λ fault. fault ≡ fault_of_load load)
+    → IfSome first (λ file. (objects : List Element) → HoldsSet file objects → IsOutsideFile load.fault.cause)
+    → IfBoth first second (λ file bytes. (set : List Element) (text : List ℕ) → IsProved file bytes text set → IfErr result IsOutsideFiles)
+outside_unheld_files None second load result told only = tt
+outside_unheld_files (Some file) None load result told only = tt
+outside_unheld_files (Some file) (Some bytes) load (Ok done) told only = λ set text proved. tt
+outside_unheld_files (Some file) (Some bytes) load (Err fault) told only = λ set text proved.
+    inl (subst IsOutside (sym told) (outside_cause load load.fault.cause refl (only set proved.holds)))
+
+pub explained_unheld_files : (first second : Option (List ℕ)) (load : LoadFault) (result : Result (Unit {0}) CommandFault)
+    → IsErrAnd result (λ fault. fault ≡ fault_of_load load)
+    → IfSome first (λ file. (objects : List Element) → HoldsSet file objects → IsOutsideFile load.fault.cause)
+    → IfBoth first second (λ file bytes. IfErr result (ExplainsFiles file bytes))
+explained_unheld_files None second load result told only = tt
+explained_unheld_files (Some file) None load result told only = tt
+explained_unheld_files (Some file) (Some bytes) load (Ok done) told only = tt
+explained_unheld_files (Some file) (Some bytes) load (Err fault) told only =
+    inl (subst (Explains file bytes) (sym told) (explained_file file bytes load load.fault.cause refl only))
+
+-- an answer that isn't made: where the query reads, the fault lies outside
+pub outside_unproved_files : (first second : Option (List ℕ)) (read : List ℕ) (refusal : ProveFault) (result : Result (Unit {0}) CommandFault)
+    → IfSome second (λ left. read ≡ left) → IsErrAnd result (λ fault. fault ≡ fault_of_prove refusal)
+    → ((tree : QueryTree) → Reads read tree → refusal ≡ refusals.Memory)
+    → IfBoth first second (λ file bytes. (set : List Element) (text : List ℕ) → IsProved file bytes text set → IfErr result IsOutsideFiles)
+outside_unproved_files None second read refusal result same told only = tt
+outside_unproved_files (Some file) None read refusal result same told only = tt
+outside_unproved_files (Some file) (Some bytes) read refusal (Ok done) same told only = λ set text proved. tt
+outside_unproved_files (Some file) (Some bytes) read refusal (Err fault) same told only = λ set text proved.
+    inl (subst IsOutside (sym (told ∙ ap fault_of_prove (only proved.answer.tree (subst (λ (b : List ℕ). Reads b proved.answer.tree) (sym same) proved.answer.reads)))) tt)
+
+-- ---- `check`
+
+-- a beginning of the line of the verdict that is owed, where the bytes that were read are those that were checked
+pub begun_verdict : (first second third : Option (List ℕ)) (root query answer proof query_read answer_read proof_read line : List ℕ) (verdict : Verdict) (old new : Option (List ℕ))
+    → query ≡ query_read → answer ≡ answer_read → proof ≡ proof_read
+    → IfSome first (λ left. query_read ≡ left) → IfSome second (λ left. answer_read ≡ left) → IfSome third (λ left. proof_read ≡ left)
+    → IsVerdict query root answer proof verdict → line ≡ verdict_line verdict → AppendsFront old new line
+    → IfThree first second third (λ q a p. IsBegunVerdict q root a p old new)
+begun_verdict None second third root query answer proof x y z line verdict old new e f g q a p is same begun = tt
+begun_verdict (Some _) None third root query answer proof x y z line verdict old new e f g q a p is same begun = tt
+begun_verdict (Some _) (Some _) None root query answer proof x y z line verdict old new e f g q a p is same begun = tt
+begun_verdict (Some u) (Some v) (Some w) root query answer proof x y z line verdict old new e f g q a p is same begun =
+    inr (
+      verdict,
+      subst (λ (b : List ℕ). IsVerdict b root v w verdict) (e ∙ q) (subst (λ (b : List ℕ). IsVerdict query root b w verdict) (f ∙ a) (subst (λ (b : List ℕ). IsVerdict query root answer b verdict) (g ∙ p) is)),
+      subst (λ (l : List ℕ). AppendsFront old new l) same begun,
+    )

@@ -1,0 +1,64 @@
+-- What the commands `publish`, `prove` and `check` write, and when they write nothing.
+-- Source: this project.
+use Rattle.std.specs.Prelude.{◌≡◌, ℕ, ◌⊎◌, List, Option, Some, None, ⊤}
+use Rattle.std.specs.Io.KnownBytes.{Keeps}
+use Rattle.osm_model.specs.Elements.{Element}
+use Rattle.opl_codec.specs.Files.{HoldsSet}
+use Rattle.opl_codec.specs.declared.cause.OplCause.TheVariants as causes
+use Rattle.osm_check.specs.Verdicts.{IsAnswer as IsRightAnswer, IsVerdict}
+use Rattle.osm_check.specs.declared.verdict.Verdict.{Verdict}
+use Rattle.osm_mirror.specs.Ask.{Explains, IsOutside}
+use Rattle.osm_mirror.specs.declared.command_fault.CommandFault.{CommandFault}
+use Rattle.osm_mirror.specs.declared.command_fault.CommandFault.TheVariants.{Opl, Query, Endless, Memory, Device}
+use Rattle.osm_mirror.specs.RootLines.{root_line, verdict_line}
+use Rattle.osm_mirror.specs.Written.{AppendsFront}
+
+-- what is said of two readers' bytes, where both tell them
+abbrev pub IfBoth : Option (List ℕ) → Option (List ℕ) → (List ℕ → List ℕ → Type 0) → Type 0
+IfBoth None second P = ⊤
+IfBoth (Some a) None P = ⊤
+IfBoth (Some a) (Some b) P = P a b
+
+-- the same of three
+abbrev pub IfThree : Option (List ℕ) → Option (List ℕ) → Option (List ℕ) → (List ℕ → List ℕ → List ℕ → Type 0) → Type 0
+IfThree None second third P = ⊤
+IfThree (Some a) second third P = IfBoth second third (P a)
+
+-- ---- `publish`
+
+-- why each fault of `publish` comes: the input holds no set, or the fault lies outside it
+abbrev pub ExplainsSet : List ℕ → CommandFault → Type 0
+ExplainsSet file (Opl load) = (load.fault.cause ≡ causes.Endless) ⊎ ((set : List Element) → HoldsSet file set → ⊥)
+ExplainsSet file (Query refused) = ⊥
+ExplainsSet file Endless = ⊥
+ExplainsSet file Memory = ⊤
+ExplainsSet file Device = ⊤
+
+-- the output has gained nothing, or a beginning of the root's line
+abbrev pub IsBegunRoot : (file : List ℕ) (old new : Option (List ℕ)) → Type 0
+IsBegunRoot file old new = Keeps old new ⊎ ((set : List Element) × HoldsSet file set × AppendsFront old new (root_line set))
+
+-- ---- `prove`
+
+-- the file holds this set, the bytes read as a query, and this text is its meaning over the set
+pub record IsProved (file query text : List ℕ) (set : List Element) : Type 0 where
+  pub holds : HoldsSet file set
+  pub answer : IsRightAnswer query text set
+
+-- the fault lies outside the files' bytes: also a query's file that never ended
+abbrev pub IsOutsideFiles : CommandFault → Type 0
+IsOutsideFiles fault = IsOutside fault ⊎ (fault ≡ Endless)
+
+-- why each fault of `prove` comes
+abbrev pub ExplainsFiles : List ℕ → List ℕ → CommandFault → Type 0
+ExplainsFiles file query fault = Explains file query fault ⊎ (fault ≡ Endless)
+
+-- ---- `check`
+
+-- the fault lies outside the three files' bytes
+abbrev pub IsUnread : CommandFault → Type 0
+IsUnread fault = (fault ≡ Endless) ⊎ ((fault ≡ Memory) ⊎ (fault ≡ Device))
+
+-- the output has gained nothing, or a beginning of the verdict's line
+abbrev pub IsBegunVerdict : (query root answer proof : List ℕ) (old new : Option (List ℕ)) → Type 0
+IsBegunVerdict query root answer proof old new = Keeps old new ⊎ ((verdict : Verdict) × IsVerdict query root answer proof verdict × AppendsFront old new (verdict_line verdict))

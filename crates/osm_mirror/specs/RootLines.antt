@@ -1,0 +1,20 @@
+-- How a root and a verdict are printed.
+-- Source: this project.
+use Rattle.std.specs.Prelude.{ℕ, List, [], ◌∷◌, ◌++◌}
+use Rattle.hex.specs.Hex.{encode_lower}
+use Rattle.osm_model.specs.Elements.{Element}
+use Rattle.osm_check.specs.Roots.{root_of}
+use Rattle.osm_check.specs.VerdictTexts.{verdict_text}
+use Rattle.osm_check.specs.declared.verdict.Verdict.{Verdict}
+
+-- the digits of a digest, in lower case, and LF
+abbrev pub digest_line : List ℕ → List ℕ
+digest_line digest = encode_lower digest ++ 10 ∷ []
+
+-- the root of a set
+abbrev pub root_line : List Element → List ℕ
+root_line objects = digest_line (root_of objects)
+
+-- a verdict and LF
+abbrev pub verdict_line : Verdict → List ℕ
+verdict_line verdict = verdict_text verdict ++ 10 ∷ []

@@ -1,0 +1,56 @@
+//! The command `check ROOT QUERYFILE ANSWERFILE PROOFFILE`.
+
+ghost use Rattle.std.specs.Prelude.{◌≡◌, ◌≢◌, IfErr, IfOk};
+ghost use Rattle.std.specs.Io.KnownBytes.{Appends, Keeps};
+ghost use Rattle.osm_check.specs.Verdicts.{IsVerdict};
+ghost use Rattle.osm_mirror.specs.Files.{IfThree, IsBegunVerdict, IsUnread};
+ghost use Rattle.osm_mirror.specs.RootLines.{verdict_line};
+
+use crate::command_fault::CommandFault;
+use crate::read_whole::read_whole;
+use crate::verdict_line::verdict_line;
+use crate::write_whole::write_whole;
+use osm_check::{Digest, Verdict};
+use std::alloc::Global;
+use std::io::{Read, Write};
+
+/// Reads the query's bytes, then the answer's, then the proof's, decides by the root and them alone whether
+/// the answer is right, and writes the verdict: `yes`, or `no` and the reason, and LF.
+///
+/// # Errors
+///
+/// `Endless` where a file was read 2^32 times without an end; `Memory` where an allocation was refused;
+/// `Device` where a read failed, or the write failed or took nothing. Nothing is written then, but where the
+/// output failed a beginning of the line. The readers are left where they stood.
+///
+/// Clauses that speak of the readers' bytes do so where they tell them.
+pub fn check<Q: Read, A: Read, P: Read, W: Write>(
+    alloc: Global,
+    root: &Digest,
+    query: &mut Q,
+    answer: &mut A,
+    proof: &mut P,
+    output: &mut W,
+) -> Result<Verdict, CommandFault>
+    // The verdict is the one that is owed, and the output has gained exactly its line.
+    ensures told { IfOk result (λ verdict. IfThree (Q.remaining query.old) (A.remaining answer.old) (P.remaining proof.old)
+        (λ query_bytes answer_bytes proof_bytes. IsVerdict query_bytes root.now.0 answer_bytes proof_bytes verdict)
+        × Appends (W.contents output.old) (W.contents output.new) (verdict_line verdict)) }
+    // Only want of memory, a device or a file without an end is refused.
+    ensures refused { IfErr result IsUnread }
+    // Nothing is written but where a device fails,
+    ensures nothing { IfErr result (λ fault. fault ≢ CommandFault.Device
+        → Keeps (W.contents output.old) (W.contents output.new)) }
+    // and never anything but a beginning of the verdict's line.
+    ensures begun { IfThree (Q.remaining query.old) (A.remaining answer.old) (P.remaining proof.old)
+        (λ query_bytes answer_bytes proof_bytes. IsBegunVerdict query_bytes root.now.0 answer_bytes proof_bytes
+        (W.contents output.old) (W.contents output.new)) }
+{
+    let query = read_whole(alloc, query)?;
+    let answer = read_whole(alloc, answer)?;
+    let proof = read_whole(alloc, proof)?;
+    let verdict = osm_check::check(alloc, &query, root, &answer, &proof)?;
+    let line = verdict_line(alloc, &verdict)?;
+    write_whole(output, line.as_bytes())?;
+    Ok(verdict)
+}

@@ -1,0 +1,51 @@
+//! A file that is made when it is first written.
+
+use std::fs::File;
+use std::io;
+use std::io::Write;
+
+/// A file that is made, or emptied, when it is first written or flushed: so a refused command leaves the file
+/// that was there. A file that can't be made is a writer that fails.
+#[derive(Drop)]
+pub struct OutputFile<'a> {
+    rt: &'a HostRuntime,
+    path: &'a str,
+    file: Option<File>,
+}
+
+impl<'a> OutputFile<'a> {
+    /// The file with this name, not made yet.
+    pub fn new(rt: &'a HostRuntime, path: &'a str) -> OutputFile<'a> {
+        OutputFile {
+            rt,
+            path,
+            file: None,
+        }
+    }
+
+    /// Makes the file, where it isn't made yet.
+    fn make(&mut self) -> io::Result<()> {
+        if self.file.is_none() {
+            self.file = Some(File::create(self.rt, self.path)?);
+        }
+        Ok(())
+    }
+}
+
+impl Write for OutputFile<'_> {
+    fn write(&mut self, buf: &[u8]) -> io::Result<usize> {
+        self.make()?;
+        match &mut self.file {
+            Some(file) => file.write(buf),
+            None => Ok(0),
+        }
+    }
+
+    fn flush(&mut self) -> io::Result<()> {
+        self.make()?;
+        match &mut self.file {
+            Some(file) => file.flush(),
+            None => Ok(()),
+        }
+    }
+}

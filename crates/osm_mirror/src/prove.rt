@@ -1,0 +1,63 @@
+//! The command `prove FILE QUERYFILE ANSWERFILE PROOFFILE`.
+
+ghost use Rattle.std.specs.Prelude.{◌≡◌, ◌≢◌, IfErr, List, ℕ, OnOk};
+ghost use Rattle.std.specs.Io.KnownBytes.{Appends, Keeps};
+ghost use Rattle.osm_model.specs.Elements.{Element};
+ghost use Rattle.osm_check.specs.Roots.{proof_text};
+ghost use Rattle.osm_mirror.specs.Files.{ExplainsFiles, IfBoth, IsOutsideFiles, IsProved};
+ghost use Rattle.osm_mirror.specs.RootLines.{root_line};
+
+use crate::command_fault::CommandFault;
+use crate::read_whole::read_whole;
+use crate::root_line::root_line;
+use crate::write_whole::write_whole;
+use opl_codec::read_set;
+use std::alloc::Global;
+use std::io::{Read, Write};
+
+/// Reads the input as the OPL text of a set of objects, then the query's bytes, and writes the answer, its
+/// proof and, to the output, the set's root as `publish` does. Each is written once all of them are made, in
+/// this order.
+///
+/// # Errors
+///
+/// The input is looked at before the query. `Opl` where the input holds no set of objects, or was read 2^32
+/// times without an end; `Endless` where the query was; `Query` where the query doesn't read; `Memory` where
+/// an allocation was refused; `Device` where a read failed, or a write failed or took nothing. Nothing is
+/// written then, but where a writer failed the texts before it and a beginning of its own. The readers are
+/// left where they stood.
+///
+/// Clauses that speak of the readers' bytes do so where they tell them.
+pub fn prove<R: Read, Q: Read, A: Write, P: Write, W: Write>(
+    alloc: Global,
+    input: &mut R,
+    query: &mut Q,
+    answer: &mut A,
+    proof: &mut P,
+    output: &mut W,
+) -> Result<(), CommandFault>
+    // The writers have gained exactly the answer, its proof and the root's line.
+    ensures proved { OnOk result (IfBoth (R.remaining input.old) (Q.remaining query.old) (λ file bytes.
+        (set : List Element) × (text : List ℕ) × IsProved file bytes text set
+        × Appends (A.contents answer.old) (A.contents answer.new) text
+        × Appends (P.contents proof.old) (P.contents proof.new) (proof_text set)
+        × Appends (W.contents output.old) (W.contents output.new) (root_line set))) }
+    // What has an answer is answered, unless memory or a device fails, or the query never ends.
+    ensures only { IfBoth (R.remaining input.old) (Q.remaining query.old) (λ file bytes.
+        (set : List Element) (text : List ℕ) → IsProved file bytes text set → IfErr result IsOutsideFiles) }
+    // Which fault it is.
+    ensures refused { IfBoth (R.remaining input.old) (Q.remaining query.old) (λ file bytes. IfErr result (ExplainsFiles file bytes)) }
+    // Nothing is written but where a device fails.
+    ensures nothing { IfErr result (λ fault. fault ≢ CommandFault.Device
+        → Keeps (A.contents answer.old) (A.contents answer.new)
+        × Keeps (P.contents proof.old) (P.contents proof.new)
+        × Keeps (W.contents output.old) (W.contents output.new)) }
+{
+    let set = read_set(alloc, input)?;
+    let query = read_whole(alloc, query)?;
+    let proved = osm_check::prove(alloc, &set, &query)?;
+    let line = root_line(alloc, &proved.root)?;
+    write_whole(answer, &proved.answer)?;
+    write_whole(proof, &proved.proof)?;
+    write_whole(output, line.as_bytes())
+}
