@@ -1,3 +1,5 @@
+mod files;
+
 use crate::ask::ask;
 use crate::command_fault::CommandFault;
 use crate::status::Status;
