@@ -41,12 +41,12 @@ pub const LONGEST_LINE: usize = 1 << 25;
 /// `NotUtf8` at the first byte that isn't; `UnknownObject` at 0 where the line doesn't begin with `n`;
 /// `BadId` at 1; then field by field from the left, at the field's first byte, `UnknownField`,
 /// `FieldTwice`, `BadValue` where its text has another form, or `BadEscape` at its `%` where the first
-/// byte of the tags that doesn't fit is one, and `OutsideModel` where its value is over a limit;
-/// `NoLocation` at the line's length; `OutsideModel` at 0 where the canonical line is too long. Want of
-/// memory, `Memory` at 0, may come in place of any answer but the first four and the empty line's.
+/// byte of the tags that doesn't fit is one, and `OutsideModel` where its value is over a limit or a
+/// key stands twice; `NoLocation` at the line's length; `OutsideModel` at 0 where the canonical line is
+/// too long. Memory is taken for tags alone: the want of it, `Memory` at 0, may come of a line with a
+/// text behind `T`, and in place of none of the first four.
 ///
-/// The bytes are gone over a fixed number of times, and tags whose keys don't rise are sorted. It
-/// takes memory for the object's tags alone.
+/// The bytes are gone over a fixed number of times, and tags whose keys don't rise are sorted.
 ///
 /// Source: fields and letters of Osmium's OPL manual; that values have one form here and escapes none,
 /// the limits, the causes and their places are this project's.
