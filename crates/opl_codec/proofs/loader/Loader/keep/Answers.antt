@@ -1,4 +1,4 @@
-use Rattle.std.proofs.Common.{◌++◌, ℕ, arith, length-append}
+use Rattle.std.proofs.Common.{◌++◌, arith, length-append}
 use Rattle.opl_codec.proofs.LoadLemmas.{told_too_long}
 use Rattle.opl_codec.proofs.loader.Loader.keep.Goals as goal
 
