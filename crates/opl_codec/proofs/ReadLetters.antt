@@ -140,19 +140,19 @@ pub lon_misfit : (text : List ℕ) (misfit : Misfit) → IsBadLocation axes.Lon 
 lon_misfit text misfits.Value h = λ form. no_location text h.0 h.1 (form_from Lon text form)
 lon_misfit text (misfits.Escape at) h = absurd h
 lon_misfit text misfits.Model h = inl (inl (refl, h))
-lon_misfit text misfits.Memory h = tt
+lon_misfit text misfits.Memory h = absurd h
 
 pub lat_misfit : (text : List ℕ) (misfit : Misfit) → IsBadLocation axes.Lat text misfit → IsMisfit Lat text misfit
 lat_misfit text misfits.Value h = λ form. no_location text h.0 h.1 (form_from Lat text form)
 lat_misfit text (misfits.Escape at) h = absurd h
 lat_misfit text misfits.Model h = inl (inr (refl, h))
-lat_misfit text misfits.Memory h = tt
+lat_misfit text misfits.Memory h = absurd h
 
 pub tags_misfit : (text : List ℕ) (misfit : Misfit) → IsBadTags text (items text) misfit → IsMisfit Tags text misfit
 tags_misfit text misfits.Value h = λ form. let tags = form_from Tags text form in h tags.0 tags.1
 tags_misfit text (misfits.Escape at) h = (refl, h.0, h.1)
 tags_misfit text misfits.Model h = inr (refl, h)
-tags_misfit text misfits.Memory h = tt
+tags_misfit text misfits.Memory h = (refl, h)
 
 -- a letter without values of its own
 abbrev pub IsPlain : Letter → Type 0

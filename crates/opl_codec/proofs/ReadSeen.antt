@@ -214,7 +214,7 @@ misfit_stands line first text letter done rest byte (misfits.Escape at) e place 
     let same : byte + 1 + at ≡ behind (first ∷ done) + suc at = omega (arith, place) in
     (code letter ∷ text, byte, field_at line first (code letter ∷ text) done rest byte e place, h.0, omega arith, omega arith, ap (λ n. get_or line n 0) same ∙ (there ∙ h.2))
 misfit_stands line first text letter done rest byte misfits.Model e place h = inl (code letter ∷ text, field_at line first (code letter ∷ text) done rest byte e place, h)
-misfit_stands line first text letter done rest byte misfits.Memory e place h = refl
+misfit_stands line first text letter done rest byte misfits.Memory e place h = (refl, (code letter ∷ text, byte, field_at line first (code letter ∷ text) done rest byte e place, h.0, h.1))
 
 pub misfit_small : (letter : Letter) (text : List ℕ) (misfit : Misfit) → IsMisfit letter text misfit → place_in misfit ≤ length text
 misfit_small letter text misfits.Value h = omega arith

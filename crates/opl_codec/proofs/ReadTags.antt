@@ -117,10 +117,14 @@ pub misfit_moved : (rest text : List ℕ) (done parts : List (List ℕ)) (misfit
 misfit_moved rest text done parts misfits.Value ends e h = λ tags each. let behind = each_behind SpellsTag done (pieces 44 rest) tags (subst (λ p. Each SpellsTag p tags) e each) in h behind.0 behind.1
 misfit_moved rest text done parts (misfits.Escape at) ends e h = let lt = h.0 in (omega (arith, ap length ends.1, length-append ends.0 rest), byte_there rest text at ends ∙ h.1)
 misfit_moved rest text done parts misfits.Model ends e h = h
-misfit_moved rest text done parts misfits.Memory ends e h = tt
+misfit_moved rest text done parts misfits.Memory ends e h = λ none. behind_some ends.0 rest h (sym ends.1 ∙ none)
+  where
+    behind_some : (front rest : List ℕ) → rest ≢ [] → front ++ rest ≢ []
+    behind_some [] rest some = some
+    behind_some (x ∷ front) rest some = λ none. cc
 
-pub memory_unspelled : (text : List ℕ) (parts : List (List ℕ)) (misfit : Misfit) → misfit ≡ misfits.Memory → IsUnspelled text parts misfit
-memory_unspelled text parts misfit e = subst (IsUnspelled text parts) (sym e) tt
+pub memory_unspelled : (text : List ℕ) (parts : List (List ℕ)) (misfit : Misfit) → misfit ≡ misfits.Memory → text ≢ [] → IsUnspelled text parts misfit
+memory_unspelled text parts misfit e some = subst (IsUnspelled text parts) (sym e) some
 
 -- ---- limits
 pub distinct_from_rising : (tags : List Tag) → AllAdjacentBelow (Below (λ (tag : Tag). tag.key) (slice_cmp nat_cmp)) tags (length tags) → HasDistinctKeys tags
@@ -148,7 +152,7 @@ pub unspelled_bad : (text : List ℕ) (parts : List (List ℕ)) (misfit : Misfit
 unspelled_bad text parts misfits.Value h = h
 unspelled_bad text parts (misfits.Escape at) h = h
 unspelled_bad text parts misfits.Model h = absurd h
-unspelled_bad text parts misfits.Memory h = tt
+unspelled_bad text parts misfits.Memory h = h
 
 pub tags_read : (text : List ℕ) (tags found : List Tag) → Each SpellsTag (items text) tags → (length tags ≤ 65535) × All (λ tag. IsShort tag.key × IsShort tag.value) tags → IsPermutation tags found → HasDistinctKeys found
     → SpellsTags text found × KeepsLimits found

@@ -1,6 +1,6 @@
 -- At which byte of a line each cause of a refusal stands, apart from how the line is read.
 -- Source: this project.
-use Rattle.std.specs.Prelude.{◌≡◌, ◌≢◌, ℕ, ◌+◌, ◌<◌, ◌^◌, ◌⊎◌, ℤ, FitsSigned, unsigned_abs, false, List, [], ◌∷◌, ◌++◌, length, drop, slice_index, Some, None}
+use Rattle.std.specs.Prelude.{◌≡◌, ◌≢◌, ℕ, ◌+◌, ◌<◌, ◌≤◌, ◌^◌, ◌⊎◌, ℤ, FitsSigned, unsigned_abs, false, List, [], ◌∷◌, ◌++◌, length, drop, slice_index, Some, None}
 use Rattle.std.specs.Int.{w64}
 use Rattle.std.specs.Str.{IsUtf8, IsValidUpTo}
 use Rattle.osm_model.specs.Degrees.{IsDegrees, limit}
@@ -54,6 +54,23 @@ abbrev pub HasBadTags : List ℕ → Type 0
 HasBadTags text = (tags : List Tag) × Each SpellsTag (items text) tags
     × ((65535 < length tags) ⊎ ((¬ (All (λ tag. IsShort tag.key × IsShort tag.value) tags)) ⊎ (¬ (HasDistinctKeys tags))))
 
+-- the line has tags, which alone take memory
+abbrev pub HasTagField : List ℕ → Type 0
+HasTagField line = (f : List ℕ) × (at : ℕ) × FieldAt line f at × (letter_of f ≡ 84) × (drop 1 f ≢ [])
+
+-- the first field is the letter and an id
+pub record HasId (line : List ℕ) : Type 0 where
+  pub letter : letter_of line ≡ 110
+  pub id : ℤ
+  pub id_is : IsInteger (id_text_of (pieces 32 line)) id
+  pub in_range : FitsSigned w64 id
+
+-- the line has none of the first four faults: too long, not UTF-8, no letter, no id
+pub record BeginsRight (line : List ℕ) : Type 0 where
+  pub short : length line ≤ 2 ^ 25
+  pub utf8 : IsUtf8 line
+  pub named : HasId line
+
 -- there is no such field, or nothing behind its letter
 abbrev pub IsMissing : ℕ → List (List ℕ) → Type 0
 IsMissing letter fields = (field letter fields ≡ None) ⊎ (field letter fields ≡ Some [])
@@ -73,4 +90,4 @@ StandsAt line causes.OutsideModel byte = ((f : List ℕ) × FieldAt line f byte 
     ⊎ ((byte ≡ 0) × ((o : Element) × SpellsFields line o × HasRisingKeys o.tags × (2 ^ 24 < length (canonical_line o))))
 StandsAt line causes.ReaderFailed byte = ⊥
 StandsAt line causes.Endless byte = ⊥
-StandsAt line causes.Memory byte = byte ≡ 0
+StandsAt line causes.Memory byte = (byte ≡ 0) × HasTagField line

@@ -90,7 +90,7 @@ abbrev pub IsMisfit : Letter → List ℕ → Misfit → Type 0
 IsMisfit letter text misfits.Value = ¬ (HasForm (code letter) text)
 IsMisfit letter text (misfits.Escape at) = (code letter ≡ 84) × (at < length text) × (slice_index text at ≡ 37)
 IsMisfit letter text misfits.Model = IsBeyond (code letter) text ⊎ ((code letter ≡ 84) × HasBadTags text)
-IsMisfit letter text misfits.Memory = ⊤
+IsMisfit letter text misfits.Memory = (code letter ≡ 84) × (text ≢ [])
 
 -- the text is no coordinate
 abbrev pub IsBadLocation : Axis → List ℕ → Misfit → Type 0
@@ -112,14 +112,14 @@ abbrev pub IsBadTags : List ℕ → List (List ℕ) → Misfit → Type 0
 IsBadTags text parts misfits.Value = (tags : List Tag) → Each SpellsTag parts tags → ⊥
 IsBadTags text parts (misfits.Escape at) = (at < length text) × (slice_index text at ≡ 37)
 IsBadTags text parts misfits.Model = HasBadTags text
-IsBadTags text parts misfits.Memory = ⊤
+IsBadTags text parts misfits.Memory = text ≢ []
 
 -- the same without limits
 abbrev pub IsUnspelled : List ℕ → List (List ℕ) → Misfit → Type 0
 IsUnspelled text parts misfits.Value = (tags : List Tag) → Each SpellsTag parts tags → ⊥
 IsUnspelled text parts (misfits.Escape at) = (at < length text) × (slice_index text at ≡ 37)
 IsUnspelled text parts misfits.Model = ⊥
-IsUnspelled text parts misfits.Memory = ⊤
+IsUnspelled text parts misfits.Memory = text ≢ []
 
 -- the text ends with this
 abbrev pub Ends : List ℕ → List ℕ → Type 0

@@ -1,10 +1,11 @@
 //! One line to a change.
 
-ghost use Rattle.std.specs.Prelude.{◌≡◌, ◌+◌, ◌<◌, ◌≤◌, ◌^◌, ℕ, ℤ, List, [], ◌∷◌, ◌++◌, length, IfOk, OnOk, IfErr, MatchOption, MatchResult, Some, None, Ok};
+ghost use Rattle.std.specs.Prelude.{◌≡◌, ◌≢◌, ◌+◌, ◌<◌, ◌≤◌, ◌^◌, ℕ, ℤ, List, [], ◌∷◌, ◌++◌, length, IfOk, OnOk, IfErr, MatchOption, MatchResult, Some, None, Ok};
+ghost use Rattle.std.specs.Str.{IsUtf8};
 ghost use Rattle.osm_model.specs.Limits.{IsElement};
 ghost use Rattle.opl_codec.specs.Fields.{pieces, IsInteger};
 ghost use Rattle.opl_codec.specs.Lines.{IsSkipped, Spells, SpellsObject, SpellsFields};
-ghost use Rattle.opl_codec.specs.Faults.{StandsAt};
+ghost use Rattle.opl_codec.specs.Faults.{StandsAt, HasId, BeginsRight};
 ghost use Rattle.opl_codec.specs.Reading.{IsRead};
 ghost use Rattle.opl_codec.specs.declared.change.Change.{Change};
 ghost use Rattle.opl_codec.specs.declared.cause.OplCause.TheVariants as OplCause;
@@ -40,12 +41,12 @@ pub const LONGEST_LINE: usize = 1 << 25;
 /// `NotUtf8` at the first byte that isn't; `UnknownObject` at 0 where the line doesn't begin with `n`;
 /// `BadId` at 1; then field by field from the left, at the field's first byte, `UnknownField`,
 /// `FieldTwice`, `BadValue` where its text has another form, or `BadEscape` at its `%` where the first
-/// byte of the tags that doesn't fit is one, and `OutsideModel` where its value is over a limit;
-/// `NoLocation` at the line's length; `OutsideModel` at 0 where the canonical line is too long. Want of
-/// memory, `Memory` at 0, may come in place of any answer but the first four and the empty line's.
+/// byte of the tags that doesn't fit is one, and `OutsideModel` where its value is over a limit or a
+/// key stands twice; `NoLocation` at the line's length; `OutsideModel` at 0 where the canonical line is
+/// too long. Memory is taken for tags alone: the want of it, `Memory` at 0, may come of a line with a
+/// text behind `T`, and in place of none of the first four.
 ///
-/// The bytes are gone over a fixed number of times, and tags whose keys don't rise are sorted. It
-/// takes memory for the object's tags alone.
+/// The bytes are gone over a fixed number of times, and tags whose keys don't rise are sorted.
 ///
 /// Source: fields and letters of Osmium's OPL manual; that values have one form here and escapes none,
 /// the limits, the causes and their places are this project's.
@@ -58,6 +59,8 @@ pub fn read_line(alloc: Global, line: &[u8]) -> Result<Option<Change>, OplFault>
     ensures skipped { IsSkipped line.now → result ≡ Ok None }
     // A refusal's cause stands at its place.
     ensures refused { IfErr result (λ fault. StandsAt line.now fault.cause fault.byte) }
+    // Want of memory is told in place of none of the first four faults.
+    ensures memory { IfErr result (λ fault. fault.cause ≡ OplCause.Memory → BeginsRight line.now) }
 {
     if line.is_empty() {
         return Ok(None);
@@ -75,7 +78,9 @@ pub fn one_change()
 
 /// Looks at the length and the encoding of a line.
 fn check_bytes(line: &[u8]) -> Result<(), OplFault>
-    ensures ok { OnOk result (length line.now ≤ 2 ^ 25) }
+    ensures short { OnOk result (length line.now ≤ 2 ^ 25) }
+    ensures utf8 { OnOk result (IsUtf8 line.now) }
+    ensures real { IfErr result (λ fault. fault.cause ≢ OplCause.Memory) }
     ensures refused { IfErr result (λ fault. StandsAt line.now fault.cause fault.byte) }
 {
     if line.len() > LONGEST_LINE {
@@ -97,6 +102,7 @@ fn check_bytes(line: &[u8]) -> Result<(), OplFault>
 fn read_fields(alloc: Global, line: &[u8]) -> Result<(i64, Seen), OplFault>
     ensures read { IfOk result (λ p. IsRead line.now p.0 p.1) }
     ensures refused { IfErr result (λ fault. StandsAt line.now fault.cause fault.byte) }
+    ensures memory { IfErr result (λ fault. fault.cause ≡ OplCause.Memory → HasId line.now) }
 {
     let (first, mut left) = cut(line, b' ');
     let id = read_first(first)?;
@@ -113,6 +119,7 @@ fn read_fields(alloc: Global, line: &[u8]) -> Result<(i64, Seen), OplFault>
 fn read_first(first: &[u8]) -> Result<i64, OplFault>
     ensures read { IfOk result (λ id. (text : List ℕ) × (first.now ≡ 110 ∷ text) × IsInteger text id) }
     ensures refused { (line : List ℕ) (rest : List (List ℕ)) → pieces 32 line ≡ first.now ∷ rest → IfErr result (λ fault. StandsAt line fault.cause fault.byte) }
+    ensures real { IfErr result (λ fault. fault.cause ≢ OplCause.Memory) }
 {
     let [b'n', text @ ..] = first else {
         return Err(OplFault {
@@ -131,6 +138,7 @@ fn object_of(alloc: Global, id: i64, seen: Seen, line: &[u8]) -> Result<Object, 
     requires { IsRead line.now id seen }
     ensures read { IfOk result (λ o. SpellsFields line.now o × IsElement o) }
     ensures refused { IfErr result (λ fault. StandsAt line.now fault.cause fault.byte) }
+    ensures real { IfErr result (λ fault. fault.cause ≢ OplCause.Memory) }
 {
     let (Some(lon), Some(lat)) = (seen.lon, seen.lat) else {
         return Err(OplFault {

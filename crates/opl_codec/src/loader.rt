@@ -1,6 +1,6 @@
 //! A file that is being read.
 
-ghost use Rattle.std.specs.Prelude.{◌≡◌, ◌++◌, ◌∷◌, [], ◌⊎◌, ◌<◌, ◌≤◌, ◌^◌, List, ℕ, MatchOption, MatchResult, IfErr, OnOk, length};
+ghost use Rattle.std.specs.Prelude.{◌≡◌, ◌++◌, ◌∷◌, [], ◌⊎◌, ◌<◌, ◌≤◌, ◌+◌, ◌-◌, ◌^◌, min, List, ℕ, MatchOption, MatchResult, IfErr, OnOk, length};
 ghost use Rattle.osm_model.specs.Elements.{Element};
 ghost use Rattle.osm_model.specs.Sets.{HasDistinctReferences};
 ghost use Rattle.opl_codec.specs.Fields.{pieces};
@@ -87,7 +87,10 @@ impl Loader {
 
     /// The refusal of the line that is being read, or of an earlier one that repeats an object.
     pub fn refusal(&self, cause: OplCause, byte: usize) -> LoadFault
-        ensures { (result.fault.cause ≡ cause) ⊎ (IsOutside result.fault.cause ⊎ (¬ (HasDistinctReferences self.now.objects.items))) }
+        ensures cause { (result.fault.cause ≡ cause) ⊎ (IsOutside result.fault.cause ⊎ (¬ (HasDistinctReferences self.now.objects.items))) }
+        ensures place { (result ≡ record { line = self.now.line; fault = record { cause = cause; byte = byte } })
+            ⊎ ((result ≡ record { line = 0; fault = record { cause = OplCause.Memory; byte = 0 } })
+            ⊎ ((result.fault ≡ record { cause = OplCause.OutsideModel; byte = 0 }) × (¬ (HasDistinctReferences self.now.objects.items)))) }
     {
         match self.repeat() {
             _ if cause == OplCause::Memory => LoadFault::memory(),
@@ -155,6 +158,7 @@ impl Loader {
 
     /// The next line is the one being read.
     fn count_line(&mut self)
+        ensures line { self.new.line ≡ min (self.old.line + 1) (2 ^ 64 - 1) }
         ensures objects { self.new.objects.items ≡ self.old.objects.items }
         ensures pending { self.new.pending.items ≡ self.old.pending.items }
     {

@@ -53,7 +53,9 @@ pub fn first_tag(text: &[u8]) -> Result<TagSpelling<'_>, Misfit>
 /// What is wrong at this place of a text that begins with no tag.
 fn misfit_at(text: &[u8], place: usize) -> Misfit
     requires { (tags : List Tag) → Each SpellsTag (pieces 44 text.now) tags → ⊥ }
-    ensures { IsUnspelled text.now (pieces 44 text.now) result }
+    ensures unspelled { IsUnspelled text.now (pieces 44 text.now) result }
+    ensures escape { place < length text.now → slice_index text.now place ≡ 37 → result ≡ Misfit.Escape place }
+    ensures other { (place < length text.now → slice_index text.now place ≡ 37 → ⊥) → result ≡ Misfit.Value }
 {
     if is_at(text, place, b'%') {
         Misfit::Escape(place)

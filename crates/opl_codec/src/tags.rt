@@ -49,7 +49,9 @@ fn split_tags(alloc: Global, text: &[u8]) -> Result<Vec<Tag>, Misfit>
 }
 
 /// How many tags commas part, up to one more than an object may have.
-fn room(text: &[u8]) -> usize {
+fn room(text: &[u8]) -> usize
+    ensures { result ≤ 65536 }
+{
     memchr_iter(b',', text).count().min(MOST_TAGS) + 1
 }
 

@@ -7,7 +7,7 @@ use std::io::Read;
 /// A file that is opened when it is first read, so that each file's turn comes when the command reads it. A
 /// file that can't be opened is a reader that fails.
 #[derive(Drop)]
-pub struct InputFile<'a> {
+pub(crate) struct InputFile<'a> {
     rt: &'a HostRuntime,
     path: &'a str,
     file: Option<File>,
@@ -15,7 +15,7 @@ pub struct InputFile<'a> {
 
 impl<'a> InputFile<'a> {
     /// The file with this name, not opened yet.
-    pub fn new(rt: &'a HostRuntime, path: &'a str) -> InputFile<'a> {
+    pub(crate) fn new(rt: &'a HostRuntime, path: &'a str) -> InputFile<'a> {
         InputFile {
             rt,
             path,

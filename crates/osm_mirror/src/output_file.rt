@@ -7,7 +7,7 @@ use std::io::Write;
 /// A file that is made, or emptied, when it is first written or flushed: so a refused command leaves the file
 /// that was there. A file that can't be made is a writer that fails.
 #[derive(Drop)]
-pub struct OutputFile<'a> {
+pub(crate) struct OutputFile<'a> {
     rt: &'a HostRuntime,
     path: &'a str,
     file: Option<File>,
@@ -15,7 +15,7 @@ pub struct OutputFile<'a> {
 
 impl<'a> OutputFile<'a> {
     /// The file with this name, not made yet.
-    pub fn new(rt: &'a HostRuntime, path: &'a str) -> OutputFile<'a> {
+    pub(crate) fn new(rt: &'a HostRuntime, path: &'a str) -> OutputFile<'a> {
         OutputFile {
             rt,
             path,

@@ -157,7 +157,7 @@ fn refusal_of_long(
     more: usize,
 ) -> Result<(Option<LoadFault>, usize), AllocError> {
     let mut file = Vec::from_slice(alloc, first)?;
-    file.resize(first.len() + more, 0xff)?;
+    file.resize(first.len().saturating_add(more), 0xff)?;
     let mut reader = SlowReader {
         left: &file,
         at_once: 65_536,

@@ -22,4 +22,4 @@ returns-in_err-object-clause-only c =
 pub returns-clause-only : goal.returns-clause-only
 returns-clause-only c =
     only_read c.args.line.now (Ok (Some (Put c.in_ok-object.object)))
-    (record { fields = c.in_ok-object.ensures.read.0; short = c.in_ok-check_bytes.ensures.ok; element = c.in_ok-object.ensures.read.1 }) tt
+    (record { fields = c.in_ok-object.ensures.read.0; short = c.in_ok-check_bytes.ensures.short; element = c.in_ok-object.ensures.read.1 }) tt

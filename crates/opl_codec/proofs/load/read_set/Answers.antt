@@ -7,7 +7,7 @@ use Rattle.opl_codec.proofs.load.read_set.Goals as goal
 pub returns-in_default-clause-only : goal.returns-in_default-clause-only
 returns-in_default-clause-only g c =
     let i = c.loop.invariant in
-    told_of_ruin _ _ i.0 _ i.1 (told_outside i.0 _ _ _ _ i.2 (inl refl) c.refusal.ensures)
+    told_of_ruin _ _ i.0 _ i.1 (told_outside i.0 _ _ _ _ i.2 (inl refl) c.refusal.ensures.cause)
 
 pub returns-then-len-eq0-clause-only : goal.returns-then-len-eq0-clause-only
 returns-then-len-eq0-clause-only g c =
@@ -36,4 +36,4 @@ loop-preserved g c =
 pub returns-clause-only : goal.returns-clause-only
 returns-clause-only g c =
     let i = c.loop.invariant in
-    told_of_ruin _ _ i.0 _ i.1 (told_outside i.0 _ _ _ _ i.2 (inr (inl refl)) c.refusal-2.ensures)
+    told_of_ruin _ _ i.0 _ i.1 (told_outside i.0 _ _ _ _ i.2 (inr (inl refl)) c.refusal-2.ensures.cause)

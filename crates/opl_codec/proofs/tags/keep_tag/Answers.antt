@@ -1,6 +1,5 @@
-use Rattle.std.proofs.Common.{◌≡◌, ◌++◌, ◌∷◌, refl, arith}
+use Rattle.std.proofs.Common.{◌++◌, ◌∷◌, refl, arith}
 use Rattle.osm_model.specs.declared.tag.Tag.{Tag}
-use Rattle.opl_codec.specs.Reading.{AreFirstTags}
 use Rattle.opl_codec.proofs.ReadTags.{first_kept, first_full, spells}
 use Rattle.opl_codec.proofs.tags.keep_tag.Goals as goal
 

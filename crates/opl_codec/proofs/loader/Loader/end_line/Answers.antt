@@ -1,4 +1,4 @@
-use Rattle.std.proofs.Common.{◌++◌, ◌∷◌, []}
+use Rattle.std.proofs.Common.{◌++◌}
 use Rattle.std.proofs.lemmas.Result.{err_from_is_err_and}
 use Rattle.opl_codec.proofs.LoadLemmas.{sum_map, hopeless_so}
 use Rattle.opl_codec.proofs.loader.Loader.end_line.Goals as goal

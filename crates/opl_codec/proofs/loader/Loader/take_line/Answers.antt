@@ -11,4 +11,4 @@ returns-in_ok-push-in-Ok-Some-Put-clause-taken c = λ lines say.
 
 pub returns-in-Err-clause-taken : goal.returns-in-Err-clause-taken
 returns-in-Err-clause-taken c = λ lines say.
-    told_line c.in-Err.fault.cause c.refusal.result.fault.cause lines c.args.line.now _ (λ none. let e = c.in-Err.ensures.skipped none in cc) (λ o s. c.in-Err.ensures.only (Put o) s) c.refusal.ensures say
+    told_line c.in-Err.fault.cause c.refusal.result.fault.cause lines c.args.line.now _ (λ none. let e = c.in-Err.ensures.skipped none in cc) (λ o s. c.in-Err.ensures.only (Put o) s) c.refusal.ensures.cause say
