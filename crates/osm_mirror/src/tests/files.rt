@@ -104,7 +104,10 @@ fn refuses_to_prove(rt: HostRuntime) -> Result<(), Fail> {
         let told = format!(in alloc; "{fault}")?;
         assert_eq!(rt; told.as_str(), want);
         assert_eq!(rt; fault.status(), Status::Refused, "{want}");
-        assert_eq!(rt; answer.len() + proof.len() + output.len(), 0, "{want}");
+        assert!(rt;
+            answer.is_empty() && proof.is_empty() && output.is_empty(),
+            "{want}"
+        );
     }
     Ok(())
 }
@@ -160,7 +163,7 @@ fn readers_fail(rt: HostRuntime) -> Result<(), Fail> {
             let calls = [6, 3, 0];
             if fails_at <= calls[place] {
                 assert_eq!(rt; outcome, Err(CommandFault::Device), "{place} at {fails_at}");
-                assert_eq!(rt; answer.len() + proof.len() + output.len(), 0);
+                assert!(rt; answer.is_empty() && proof.is_empty() && output.is_empty());
             } else {
                 assert_eq!(rt; outcome, Ok(()), "{place} at {fails_at}");
             }
@@ -194,7 +197,7 @@ fn writers_of_prove_stop(rt: HostRuntime) -> Result<(), Fail> {
     let alloc = rt.alloc();
     for stop in [Stop::Fails, Stop::TakesNothing] {
         for place in 0..3 {
-            for stops_at in 1..4 {
+            for stops_at in 1..4usize {
                 let narrow = |writer| NarrowWriter {
                     taken: Vec::new(alloc),
                     at_once: 16,
@@ -208,14 +211,16 @@ fn writers_of_prove_stop(rt: HostRuntime) -> Result<(), Fail> {
                 let query = &mut QUERY.as_bytes();
                 let outcome = prove(alloc, input, query, answer, proof, output);
                 assert_eq!(rt; outcome, Err(CommandFault::Device));
-                for (writer, text) in [ANSWER, PROOF, ROOT].iter().enumerate() {
-                    let taken = writers[writer].taken.as_slice();
+                let whole = [ANSWER, PROOF, ROOT];
+                for (writer, (written, text)) in writers.iter().zip(whole).enumerate() {
+                    let taken = written.taken.as_slice();
                     let want = match writer {
                         _ if writer < place => text.len(),
                         _ if writer > place => 0,
-                        _ => 16 * (stops_at - 1),
+                        _ => (stops_at - 1).saturating_mul(16),
                     };
-                    assert_eq!(rt; taken, &text.as_bytes()[..want], "{place} at {stops_at}");
+                    assert!(rt; text.as_bytes().starts_with(taken), "{place} at {stops_at}");
+                    assert_eq!(rt; taken.len(), want, "{place} at {stops_at}");
                 }
             }
         }
