@@ -14,3 +14,4 @@ pub mod EdgeSizes
 pub mod Leading
 pub mod OneEdge
 pub mod EdgeOrder
+pub mod EdgeLaws

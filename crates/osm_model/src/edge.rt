@@ -1,6 +1,6 @@
 //! Edges of bounding boxes.
 
-ghost use Rattle.std.specs.Prelude.{◌≡◌, ◌≤◌, ◌<◌, ◌*◌, ◌^◌, ◌++◌, ◌↔◌, ℤ, IsTrue, IfOk, IfErr, length, Ok};
+ghost use Rattle.std.specs.Prelude.{◌≡◌, ◌≤◌, ◌<◌, ◌*◌, ◌^◌, ◌++◌, ◌↔◌, ◌≤ℤ◌, ℕ, ℤ, List, IsTrue, IfOk, IfErr, length, Ok};
 ghost use Rattle.std.specs.Str.Parse.{AllDigits, digits_value};
 ghost use Rattle.osm_model.specs.Degrees.{Decimal, Spells, IsDegrees};
 ghost use Rattle.osm_model.specs.Edges.{IsEdge, IsEdgeFault, IsWithin, IsUpTo, IsFrom, IsAbove, IsAround, signed_floor, signed_ceiling};
@@ -87,6 +87,17 @@ impl<'a> Edge<'a> {
         }
     }
 }
+
+/// A law: a text spells one decimal at most, so an edge's text has one value.
+pub fn one_decimal()
+    ensures { (text : List ℕ) (d e : Decimal) → Spells text d → Spells text e → d ≡ e }
+{}
+
+/// A law: an edge with at most seven decimals compares as its value in 1e-7 degree does. So does the
+/// edge that is read from what `write_degrees` writes, by the law `reads_back`.
+pub fn compares_as_degrees()
+    ensures { (text : List ℕ) (z u : ℤ) (d : Decimal) → IsDegrees text z → Spells text d → (IsFrom u d ↔ (z ≤ℤ u)) × (IsUpTo u d ↔ (u ≤ℤ z)) }
+{}
 
 /// The edge, or the first fault.
 fn read_edge(text: &[u8], axis: Axis) -> Result<Edge<'_>, ModelFault>

@@ -33,7 +33,7 @@ pub use box_area::BoxArea;
 pub use coord::Coord;
 pub use degrees::{one_value, read_degrees};
 pub use degrees_text::{DegreesText, reads_back, write_degrees};
-pub use edge::Edge;
+pub use edge::{Edge, compares_as_degrees, one_decimal};
 pub use fault::ModelFault;
 pub use kind::Kind;
 pub use meta::Meta;
@@ -45,5 +45,7 @@ pub use tag::Tag;
 pub use tag_list::TagList;
 pub use text::Text;
 
+#[cfg(test)]
+mod box_tests;
 #[cfg(test)]
 mod tests;
