@@ -2,7 +2,8 @@
 use Rattle.std.proofs.Common.{◌≡◌, ◌↔◌, ℕ, ◌+◌, ◌-◌, ◌*◌, ◌^◌, ◌<◌, ◌≤◌, Bool, true, false, List, length, ℤ, ◌≤ℤ◌, refl, sym, ◌∙◌, ap, subst, arith}
 use Rattle.std.proofs.lemmas.Nat.{pow-add}
 use Rattle.osm_model.specs.Degrees.{Decimal, Spells, IsDegrees, decimals, units, with_sign}
-use Rattle.osm_model.specs.Edges.{size, scale, IsFrom, IsUpTo, IsAround, signed_floor, signed_ceiling}
+use Rattle.osm_model.specs.Edges.{size, scale, IsFrom, IsUpTo}
+use Rattle.osm_model.specs.EdgeUnits.{IsAround, signed_floor, signed_ceiling}
 use Rattle.osm_model.proofs.Decimals.{power_some}
 use Rattle.osm_model.proofs.Around.{up_to, from, with_sign-mul}
 use Rattle.osm_model.proofs.OneDecimal.{one_decimal}

@@ -9,4 +9,5 @@ pub mod Limits
 pub mod Sets
 pub mod DecimalParts
 pub mod Edges
+pub mod EdgeUnits
 pub mod Boxes

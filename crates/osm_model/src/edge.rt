@@ -3,7 +3,8 @@
 ghost use Rattle.std.specs.Prelude.{◌≡◌, ◌≤◌, ◌<◌, ◌*◌, ◌^◌, ◌++◌, ◌↔◌, ◌≤ℤ◌, ℕ, ℤ, List, IsTrue, IfOk, IfErr, length, Ok};
 ghost use Rattle.std.specs.Str.Parse.{AllDigits, digits_value};
 ghost use Rattle.osm_model.specs.Degrees.{Decimal, Spells, IsDegrees};
-ghost use Rattle.osm_model.specs.Edges.{IsEdge, IsEdgeFault, IsWithin, IsUpTo, IsFrom, IsAbove, IsAround, signed_floor, signed_ceiling};
+ghost use Rattle.osm_model.specs.Edges.{IsEdge, IsEdgeFault, IsWithin, IsUpTo, IsFrom, IsAbove};
+ghost use Rattle.osm_model.specs.EdgeUnits.{IsAround, signed_floor, signed_ceiling};
 
 use crate::axis::Axis;
 use crate::decimal::{Parts, split};
@@ -27,7 +28,8 @@ pub struct Edge<'a> {
 }
 
 impl<'a> Model for Edge<'a> {
-    ghost use Rattle.osm_model.specs.Edges.{ExactEdge, IsEdge, IsBetween};
+    ghost use Rattle.osm_model.specs.Edges.{ExactEdge, IsEdge};
+    ghost use Rattle.osm_model.specs.EdgeUnits.{IsBetween};
 
     ghost Value = { ExactEdge };
 
