@@ -219,6 +219,8 @@ fn an_object_gives_its_parts(rt: HostRuntime) -> Result<(), Fail> {
     assert_eq!(rt; object.reference(), named);
     assert_eq!(rt; object.meta().changeset, 0);
     assert!(rt; object.tags().is_empty());
+    assert!(rt; object == node(alloc, -5)?);
+    assert!(rt; object != node(alloc, 5)?);
     let Body::Node(place) = object.body();
     assert_eq!(rt; *place, Coord::new(134_000_000, 525_000_000));
     Ok(())
