@@ -2,7 +2,7 @@
 use Rattle.std.proofs.Common.{◌≡◌, ◌↔◌, ℕ, ◌+◌, ◌-◌, ◌*◌, ◌^◌, ◌<◌, ◌≤◌, Bool, true, false, List, length, ℤ, ◌≤ℤ◌, refl, sym, ◌∙◌, ap, subst, arith}
 use Rattle.std.proofs.lemmas.Nat.{pow-add}
 use Rattle.osm_model.specs.Degrees.{Decimal, Spells, IsDegrees, decimals, units, with_sign}
-use Rattle.osm_model.specs.Edges.{size, scale, IsFrom, IsUpTo}
+use Rattle.osm_model.specs.Edges.{size, scale, IsAtLeast, IsAtMost}
 use Rattle.osm_model.specs.EdgeUnits.{IsAround, signed_floor, signed_ceiling}
 use Rattle.osm_model.proofs.Decimals.{power_some}
 use Rattle.osm_model.proofs.Around.{up_to, from, with_sign-mul}
@@ -19,7 +19,7 @@ whole_ceiling false n = refl
 whole : (m k z : ℕ) → 0 < k → m ≡ z * k → IsAround m k z z
 whole m k z some is = record { below = omega arith; near_below = omega arith; above = omega arith; near_above = omega arith }
 
-compares_itself : (text : List ℕ) (z u : ℤ) (h : IsDegrees text z) → (IsFrom u h.parts ↔ (z ≤ℤ u)) × (IsUpTo u h.parts ↔ (u ≤ℤ z))
+compares_itself : (text : List ℕ) (z u : ℤ) (h : IsDegrees text z) → (IsAtLeast u h.parts ↔ (z ≤ℤ u)) × (IsAtMost u h.parts ↔ (u ≤ℤ z))
 compares_itself text z u h =
     let d : Decimal = h.parts in
     let k : ℕ = length (decimals d.fraction) in
@@ -35,7 +35,7 @@ compares_itself text z u h =
       rw (with_sign-mul d.negative (size d) (10 ^ 7)) (rw floor at (up_to d.negative (size d * 10 ^ 7) (scale d) (units d) (units d) a some u)),
     )
 
-pub compares_as_degrees : (text : List ℕ) (z u : ℤ) (d : Decimal) → IsDegrees text z → Spells text d → (IsFrom u d ↔ (z ≤ℤ u)) × (IsUpTo u d ↔ (u ≤ℤ z))
+pub compares_as_degrees : (text : List ℕ) (z u : ℤ) (d : Decimal) → IsDegrees text z → Spells text d → (IsAtLeast u d ↔ (z ≤ℤ u)) × (IsAtMost u d ↔ (u ≤ℤ z))
 compares_as_degrees text z u d h s =
-    let P : Decimal → Type 0 = λ x. (IsFrom u x ↔ (z ≤ℤ u)) × (IsUpTo u x ↔ (u ≤ℤ z)) in
+    let P : Decimal → Type 0 = λ x. (IsAtLeast u x ↔ (z ≤ℤ u)) × (IsAtMost u x ↔ (u ≤ℤ z)) in
     subst P (one_decimal text h.parts d h.spells s) (compares_itself text z u h)

@@ -101,8 +101,8 @@ edge_of axis negative has_point whole fraction f c decimal same a fits =
     let low = mul-le-mul_right (scale d) fits in (
       record { decimal = decimal; within = omega (arith, low, b.above) },
       record {
-        up_to = λ u. rw (with_sign-mul negative (size d) (10 ^ 7)) (up_to negative (size d * 10 ^ 7) (scale d) f c b some u);
-        from = λ u. rw (with_sign-mul negative (size d) (10 ^ 7)) (from negative (size d * 10 ^ 7) (scale d) f c b some u);
+        at_most = λ u. rw (with_sign-mul negative (size d) (10 ^ 7)) (up_to negative (size d * 10 ^ 7) (scale d) f c b some u);
+        at_least = λ u. rw (with_sign-mul negative (size d) (10 ^ 7)) (from negative (size d * 10 ^ 7) (scale d) f c b some u);
       },
     )
 

@@ -3,7 +3,7 @@
 -- one crosses the 180th meridian.
 use Rattle.std.specs.Prelude.{◌≡◌, ◌⊎◌, ℤ}
 use Rattle.osm_model.specs.Degrees.{Decimal}
-use Rattle.osm_model.specs.Edges.{ExactEdge, IsUpTo, IsFrom, IsAbove}
+use Rattle.osm_model.specs.Edges.{ExactEdge, IsAtMost, IsAtLeast, IsAbove}
 use Rattle.osm_model.specs.Places.{Place}
 use Rattle.osm_model.specs.declared.axis.Axis.TheVariants.{Lon, Lat}
 
@@ -24,10 +24,10 @@ pub record IsBox (b : ExactBox) : Type 0 where
 
 -- a longitude from west to east, around the earth where west is above east
 abbrev pub Spans : Decimal → Decimal → ℤ → Type 0
-Spans west east lon = ((¬ (IsAbove west east)) × IsFrom lon west × IsUpTo lon east) ⊎ (IsAbove west east × (IsFrom lon west ⊎ IsUpTo lon east))
+Spans west east lon = ((¬ (IsAbove west east)) × IsAtLeast lon west × IsAtMost lon east) ⊎ (IsAbove west east × (IsAtLeast lon west ⊎ IsAtMost lon east))
 
 -- the box holds the place
 pub record Holds (b : ExactBox) (p : Place) : Type 0 where
-  pub above_south : IsFrom p.lat b.south.value
-  pub below_north : IsUpTo p.lat b.north.value
+  pub above_south : IsAtLeast p.lat b.south.value
+  pub below_north : IsAtMost p.lat b.north.value
   pub between : Spans b.west.value b.east.value p.lon

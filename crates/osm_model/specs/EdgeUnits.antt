@@ -1,12 +1,12 @@
 -- Whole units around an edge: what its private functions count with.
 use Rattle.std.specs.Prelude.{◌↔◌, ℕ, ◌+◌, ◌*◌, ◌<◌, ◌≤◌, ℤ, ◌≤ℤ◌, Bool, true, false}
 use Rattle.osm_model.specs.Degrees.{Decimal, with_sign}
-use Rattle.osm_model.specs.Edges.{IsUpTo, IsFrom}
+use Rattle.osm_model.specs.Edges.{IsAtMost, IsAtLeast}
 
 -- the next whole units below and above a decimal, which are one where it is whole
 pub record IsBetween (d : Decimal) (floor ceiling : ℤ) : Type 0 where
-  pub up_to : (u : ℤ) → (IsUpTo u d ↔ (u ≤ℤ floor))
-  pub from : (u : ℤ) → (IsFrom u d ↔ (ceiling ≤ℤ u))
+  pub at_most : (u : ℤ) → (IsAtMost u d ↔ (u ≤ℤ floor))
+  pub at_least : (u : ℤ) → (IsAtLeast u d ↔ (ceiling ≤ℤ u))
 
 -- the same in numbers without sign: m / k lies between two whole numbers, which are one where it is whole
 pub record IsAround (m k floor ceiling : ℕ) : Type 0 where

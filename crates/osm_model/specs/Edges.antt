@@ -18,13 +18,13 @@ numerator d = with_sign d.negative (size d)
 abbrev pub scale : Decimal → ℕ
 scale d = 10 ^ length (decimals d.fraction)
 
--- u units of 1e-7 degree are the decimal or less: u / 10 ^ 7 ≤ numerator / scale
-abbrev pub IsUpTo : ℤ → Decimal → Type 0
-IsUpTo u d = (u *ℤ pos (scale d)) ≤ℤ (numerator d *ℤ pos (10 ^ 7))
+-- u units of 1e-7 degree are at most the decimal: u / 10 ^ 7 ≤ numerator / scale
+abbrev pub IsAtMost : ℤ → Decimal → Type 0
+IsAtMost u d = (u *ℤ pos (scale d)) ≤ℤ (numerator d *ℤ pos (10 ^ 7))
 
--- u units of 1e-7 degree are the decimal or more
-abbrev pub IsFrom : ℤ → Decimal → Type 0
-IsFrom u d = (numerator d *ℤ pos (10 ^ 7)) ≤ℤ (u *ℤ pos (scale d))
+-- u units of 1e-7 degree are at least the decimal
+abbrev pub IsAtLeast : ℤ → Decimal → Type 0
+IsAtLeast u d = (numerator d *ℤ pos (10 ^ 7)) ≤ℤ (u *ℤ pos (scale d))
 
 -- the first decimal is greater than the second
 abbrev pub IsAbove : Decimal → Decimal → Type 0

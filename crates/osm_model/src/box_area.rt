@@ -1,7 +1,7 @@
 //! Bounding boxes.
 
 ghost use Rattle.std.specs.Prelude.{◌≡◌, ◌↔◌, IsTrue, IfOk, IfErr, Ok};
-ghost use Rattle.osm_model.specs.Edges.{IsAbove, IsFrom, IsUpTo};
+ghost use Rattle.osm_model.specs.Edges.{IsAbove, IsAtLeast, IsAtMost};
 ghost use Rattle.osm_model.specs.Boxes.{ExactBox, IsBox, Holds, Spans};
 
 use crate::axis::Axis;
@@ -80,7 +80,7 @@ impl<'a> BoxArea<'a> {
 
     /// Whether a latitude is from south to north.
     fn spans_latitude(&self, lat: i32) -> bool
-        ensures value { IsTrue result ↔ (IsFrom lat self.now.south.value × IsUpTo lat self.now.north.value) }
+        ensures value { IsTrue result ↔ (IsAtLeast lat self.now.south.value × IsAtMost lat self.now.north.value) }
         ensures shape { IsBox self.now }
     {
         self.south.at_least(lat) && self.north.at_most(lat)

@@ -3,7 +3,7 @@
 ghost use Rattle.std.specs.Prelude.{◌≡◌, ◌≤◌, ◌<◌, ◌*◌, ◌^◌, ◌++◌, ◌↔◌, ◌≤ℤ◌, ℕ, ℤ, List, IsTrue, IfOk, IfErr, length, Ok};
 ghost use Rattle.std.specs.Str.Parse.{AllDigits, digits_value};
 ghost use Rattle.osm_model.specs.Degrees.{Decimal, Spells, IsDegrees};
-ghost use Rattle.osm_model.specs.Edges.{IsEdge, IsEdgeFault, IsWithin, IsUpTo, IsFrom, IsAbove};
+ghost use Rattle.osm_model.specs.Edges.{IsEdge, IsEdgeFault, IsWithin, IsAtMost, IsAtLeast, IsAbove};
 ghost use Rattle.osm_model.specs.EdgeUnits.{IsAround, signed_floor, signed_ceiling};
 
 use crate::axis::Axis;
@@ -62,7 +62,7 @@ impl<'a> Edge<'a> {
 
     /// Whether a value, in 1e-7 degree, isn't below the edge.
     pub fn at_least(&self, units: i32) -> bool
-        ensures value { IsTrue result ↔ IsFrom units self.now.value }
+        ensures value { IsTrue result ↔ IsAtLeast units self.now.value }
         ensures edge { IsEdge self.now }
     {
         units >= self.ceiling
@@ -70,7 +70,7 @@ impl<'a> Edge<'a> {
 
     /// Whether a value, in 1e-7 degree, isn't above the edge.
     pub fn at_most(&self, units: i32) -> bool
-        ensures value { IsTrue result ↔ IsUpTo units self.now.value }
+        ensures value { IsTrue result ↔ IsAtMost units self.now.value }
         ensures edge { IsEdge self.now }
     {
         units <= self.floor
@@ -98,7 +98,7 @@ pub fn one_decimal()
 /// A law: an edge with at most seven decimals compares as its value in 1e-7 degree does. So does the
 /// edge that is read from what `write_degrees` writes, by the law `reads_back`.
 pub fn compares_as_degrees()
-    ensures { (text : List ℕ) (z u : ℤ) (d : Decimal) → IsDegrees text z → Spells text d → (IsFrom u d ↔ (z ≤ℤ u)) × (IsUpTo u d ↔ (u ≤ℤ z)) }
+    ensures { (text : List ℕ) (z u : ℤ) (d : Decimal) → IsDegrees text z → Spells text d → (IsAtLeast u d ↔ (z ≤ℤ u)) × (IsAtMost u d ↔ (u ≤ℤ z)) }
 {}
 
 /// The edge, or the first fault.

@@ -34,6 +34,25 @@ fn node(alloc: Global, id: i64) -> Result<Object, Fail> {
 }
 
 #[test]
+fn faults_print_their_codes(rt: HostRuntime) -> Result<(), Fail> {
+    let codes = [
+        (ModelFault::EmptyNumber, "M1"),
+        (ModelFault::NotDecimal, "M2"),
+        (ModelFault::TooManyDecimals, "M3"),
+        (ModelFault::OutOfRange, "M4"),
+        (ModelFault::SouthAboveNorth, "M5"),
+        (ModelFault::ObjectTwice, "M6"),
+        (ModelFault::KeyTwice, "M7"),
+        (ModelFault::LimitPassed, "M8"),
+        (ModelFault::NulInText, "M9"),
+    ];
+    for (fault, code) in codes {
+        assert_eq!(rt; format!(in rt.alloc(); "{fault}")?.as_str(), code);
+    }
+    Ok(())
+}
+
+#[test]
 fn degrees_are_read(rt: HostRuntime) {
     assert_eq!(rt; read_degrees(b"13.4", Axis::Lon), Ok(134_000_000));
     assert_eq!(rt; read_degrees(b"-0.0000001", Axis::Lon), Ok(-1));
