@@ -1,8 +1,9 @@
 //! Edges of bounding boxes.
 
-ghost use Rattle.std.specs.Prelude.{◌≡◌, ◌≤◌, ◌<◌, ◌*◌, ◌^◌, ◌++◌, ◌↔◌, ◌≤ℤ◌, ℕ, ℤ, List, IsTrue, IfOk, IfErr, length, Ok};
+ghost use Rattle.std.specs.Prelude.{◌≡◌, ◌≤◌, ◌<◌, ◌*◌, ◌^◌, ◌++◌, ◌↔◌, ◌≤ℤ◌, ℕ, ℤ, unsigned_abs, List, IsTrue, IfOk, IfErr, length, Ok};
 ghost use Rattle.std.specs.Str.Parse.{AllDigits, digits_value};
 ghost use Rattle.osm_model.specs.Degrees.{Decimal, Spells, IsDegrees};
+ghost use Rattle.osm_model.specs.CanonicalDegrees.{degrees};
 ghost use Rattle.osm_model.specs.Edges.{IsEdge, IsEdgeFault, IsWithin, IsAtMost, IsAtLeast, IsAbove};
 ghost use Rattle.osm_model.specs.EdgeUnits.{IsAround, signed_floor, signed_ceiling};
 
@@ -95,10 +96,13 @@ pub fn one_decimal()
     ensures { (text : List ℕ) (d e : Decimal) → Spells text d → Spells text e → d ≡ e }
 {}
 
-/// A law: an edge with at most seven decimals compares as its value in 1e-7 degree does. So does the
-/// edge that is read from what `write_degrees` writes, by the law `reads_back`.
+/// A law: an edge with at most seven decimals compares as its value in 1e-7 degree does, and so does
+/// the edge of what `write_degrees` writes.
 pub fn compares_as_degrees()
-    ensures { (text : List ℕ) (z u : ℤ) (d : Decimal) → IsDegrees text z → Spells text d → (IsAtLeast u d ↔ (z ≤ℤ u)) × (IsAtMost u d ↔ (u ≤ℤ z)) }
+    // An edge whose text `read_degrees` reads too.
+    ensures read { (text : List ℕ) (z u : ℤ) (d : Decimal) → IsDegrees text z → Spells text d → (IsAtLeast u d ↔ (z ≤ℤ u)) × (IsAtMost u d ↔ (u ≤ℤ z)) }
+    // The edge of a value that is written.
+    ensures written { (z u : ℤ) (d : Decimal) → unsigned_abs z ≤ 1800000000 → Spells (degrees z) d → (IsAtLeast u d ↔ (z ≤ℤ u)) × (IsAtMost u d ↔ (u ≤ℤ z)) }
 {}
 
 /// The edge, or the first fault.
