@@ -16,7 +16,7 @@ use Rattle.osm_model.specs.declared.meta.Meta.{Meta}
 use Rattle.osm_model.specs.declared.body.Body.{Body}
 use Rattle.osm_model.specs.declared.body.Body.TheVariants.{Node}
 use Rattle.osm_model.specs.declared.fault.ModelFault.{ModelFault}
-use Rattle.osm_model.specs.declared.fault.ModelFault.TheVariants.{EmptyNumber, NotDecimal, TooManyDecimals, OutOfRange, ObjectTwice, KeyTwice, LimitPassed, NulInText}
+use Rattle.osm_model.specs.declared.fault.ModelFault.TheVariants.{EmptyNumber, NotDecimal, TooManyDecimals, OutOfRange, SouthAboveNorth, ObjectTwice, KeyTwice, LimitPassed, NulInText}
 use Rattle.opl_codec.specs.Fields.{field, Each, IsInteger}
 use Rattle.opl_codec.specs.Lines.{SpellsTag, SpellsTags, SpellsMeta, SpellsBody, SpellsFields, items}
 use Rattle.opl_codec.specs.Faults.{StandsAt}
@@ -125,6 +125,7 @@ long_line id meta tags body EmptyNumber fits clean limits h = absurd h
 long_line id meta tags body NotDecimal fits clean limits h = absurd h
 long_line id meta tags body TooManyDecimals fits clean limits h = absurd h
 long_line id meta tags body OutOfRange fits clean limits h = absurd h
+long_line id meta tags body SouthAboveNorth fits clean limits h = absurd h
 
 pub long_stands : (line : List ℕ) (id : ℤ) (meta : Meta) (tags : List Tag) (body : Body) → SpellsFields line (record { id = id; meta = meta; tags = tags; body = body }) → HasLongLine id meta tags body → StandsAt line causes.OutsideModel 0
 long_stands line id meta tags body h long = inr (refl, (long.0, fields_made line id meta tags body long.0 h long.1, long.1.rising, long.2))

@@ -17,7 +17,7 @@ pub short : (k n : ℕ) → length (decimals_of k n) ≤ k
 short zero n = omega arith
 short (suc k) n = elim (n == 0) as (λ b. length (if b then [] else (48 + n / 10 ^ k) ∷ decimals_of k (n % 10 ^ k)) ≤ suc k) [ true ↦ omega arith | false ↦ omega (arith, short k (n % 10 ^ k)) ]
 
-power_some : (k : ℕ) → 0 < 10 ^ k
+pub power_some : (k : ℕ) → 0 < 10 ^ k
 power_some zero = lit≤ tt
 power_some (suc k) = omega (arith, power_some k, pow-succ' 10 k)
 

@@ -1,6 +1,7 @@
 pub mod RisingKeys
 pub mod ObjectParts
 pub mod References
+pub mod Around
 pub mod Digits
 pub mod DecimalValues
 pub mod OneDecimal
@@ -9,3 +10,8 @@ pub mod UniqueTags
 pub mod Decimals
 pub mod ReadBack
 pub mod DegreesLemmas
+pub mod EdgeSizes
+pub mod Leading
+pub mod OneEdge
+pub mod EdgeOrder
+pub mod EdgeLaws

@@ -15,7 +15,7 @@ use Rattle.osm_model.specs.Elements.{Element}
 use Rattle.osm_model.specs.CanonicalLine.{canonical_line}
 use Rattle.osm_model.specs.Limits.{IsElement, IsMadeOf, MetaInRange, BodyInRange, Fits, IsClean, HasDistinctKeys, Refuses, IsShort, HasNoNul}
 use Rattle.osm_model.specs.declared.fault.ModelFault.{ModelFault}
-use Rattle.osm_model.specs.declared.fault.ModelFault.TheVariants.{EmptyNumber, NotDecimal, TooManyDecimals, OutOfRange, ObjectTwice, KeyTwice, LimitPassed, NulInText}
+use Rattle.osm_model.specs.declared.fault.ModelFault.TheVariants.{EmptyNumber, NotDecimal, TooManyDecimals, OutOfRange, SouthAboveNorth, ObjectTwice, KeyTwice, LimitPassed, NulInText}
 use Rattle.osm_model.proofs.UniqueTags.{same_order}
 use Rattle.osm_model.proofs.RisingKeys.{Below, rising, rises_from_distinct}
 
@@ -83,6 +83,7 @@ faultless o id meta tags body made is NulInText (fits, unclean) = unclean (recor
 faultless o id meta tags body made is KeyTwice (fits, clean, twice) = twice
     (IsDistinct-IsPermutation (eq_by_cmp (slice_cmp nat_cmp)) ((eq_by_cmp_equiv nat_list_cmp_total).symm) _ _
     (IsPermutation-map (λ (tag : Tag). tag.key) o.tags tags (IsPermutation-sym tags o.tags made.same_tags)) (IsDistinct-from_sorted (slice_cmp nat_cmp) (map (λ (tag : Tag). tag.key) o.tags) is.rising))
+faultless o id meta tags body made is SouthAboveNorth h = h
 faultless o id meta tags body made is ObjectTwice h = h
 faultless o id meta tags body made is EmptyNumber h = h
 faultless o id meta tags body made is NotDecimal h = h

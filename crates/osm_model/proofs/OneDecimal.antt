@@ -3,7 +3,7 @@ use Rattle.std.proofs.Common.{◌≡◌, ℕ, ◌<◌, ◌≤◌, List, [], ◌�
 use Rattle.std.specs.Char.{digit_value}
 use Rattle.osm_model.specs.declared.axis.Axis.{Axis}
 use Rattle.osm_model.specs.declared.fault.ModelFault.{ModelFault}
-use Rattle.osm_model.specs.declared.fault.ModelFault.TheVariants.{EmptyNumber, NotDecimal, TooManyDecimals, OutOfRange, ObjectTwice, KeyTwice, LimitPassed, NulInText}
+use Rattle.osm_model.specs.declared.fault.ModelFault.TheVariants.{EmptyNumber, NotDecimal, TooManyDecimals, OutOfRange, SouthAboveNorth, ObjectTwice, KeyTwice, LimitPassed, NulInText}
 use Rattle.osm_model.specs.Degrees.{Decimal, Spells, IsDegrees, IsFault, IsDigits, sign, point, value, limit, decimals}
 use Rattle.osm_model.proofs.Digits.{same_front, other_point}
 
@@ -35,7 +35,7 @@ one_decimal text d e h k =
 pub one_value : (text : List ℕ) (y z : ℤ) → IsDegrees text y → IsDegrees text z → y ≡ z
 one_value text y z h k = sym h.value_is ∙ ap value (one_decimal text h.parts k.parts h.spells k.spells) ∙ k.value_is
 
-not_empty : (m : Bool) (digits more : List ℕ) → IsDigits digits → sign m ++ (digits ++ more) ≡ [] → ⊥
+pub not_empty : (m : Bool) (digits more : List ℕ) → IsDigits digits → sign m ++ (digits ++ more) ≡ [] → ⊥
 not_empty true digits more d e = cc
 not_empty false [] more d e = d.0 refl
 not_empty false (x ∷ xs) more d e = cc
@@ -46,6 +46,7 @@ faulty text axis EmptyNumber z f h fits = not_empty h.parts.negative h.parts.who
 faulty text axis NotDecimal z f h fits = f.1 h.parts h.spells
 faulty text axis TooManyDecimals z f h fits = let fine = h.fine in let same = one_decimal text h.parts f.0 h.spells f.1 in omega (arith, f.2, ap (λ (d : Decimal). length (decimals d.fraction)) same)
 faulty text axis OutOfRange z f h fits = let same = one_value text z f.0 h f.1 in omega (arith, f.2, ap unsigned_abs same)
+faulty text axis SouthAboveNorth z f h fits = f
 faulty text axis ObjectTwice z f h fits = f
 faulty text axis KeyTwice z f h fits = f
 faulty text axis LimitPassed z f h fits = f

@@ -6,7 +6,7 @@ use Rattle.std.specs.Str.Parse.{AllDigits, digits_value}
 use Rattle.osm_model.specs.declared.axis.Axis.{Axis}
 use Rattle.osm_model.specs.declared.axis.Axis.TheVariants.{Lon, Lat}
 use Rattle.osm_model.specs.declared.fault.ModelFault.{ModelFault}
-use Rattle.osm_model.specs.declared.fault.ModelFault.TheVariants.{EmptyNumber, NotDecimal, TooManyDecimals, OutOfRange, ObjectTwice, KeyTwice, LimitPassed, NulInText}
+use Rattle.osm_model.specs.declared.fault.ModelFault.TheVariants.{EmptyNumber, NotDecimal, TooManyDecimals, OutOfRange, SouthAboveNorth, ObjectTwice, KeyTwice, LimitPassed, NulInText}
 
 -- the parts of a decimal
 pub record Decimal : Type 0 where
@@ -82,6 +82,7 @@ IsFault text axis EmptyNumber = text ≡ []
 IsFault text axis NotDecimal = (text ≢ []) × ((d : Decimal) → Spells text d → ⊥)
 IsFault text axis TooManyDecimals = (d : Decimal) × Spells text d × (7 < length (decimals d.fraction))
 IsFault text axis OutOfRange = (z : ℤ) × IsDegrees text z × (limit axis < unsigned_abs z)
+IsFault text axis SouthAboveNorth = ⊥
 IsFault text axis ObjectTwice = ⊥
 IsFault text axis KeyTwice = ⊥
 IsFault text axis LimitPassed = ⊥

@@ -1,6 +1,6 @@
 -- What an object is, apart from where it lies in memory.
 -- Source: the element model of the OpenStreetMap API 0.6.
-use Rattle.std.specs.Prelude.{ℕ, ℤ, List, map}
+use Rattle.std.specs.Prelude.{ℕ, ℤ, Bool, ◌&&◌, List, map, bytes_eq}
 use Rattle.std.specs.Ordering.{nat_cmp, int_cmp, ordering_then}
 use Rattle.std.specs.declared.cmp.Ordering.{Ordering}
 use Rattle.osm_model.specs.declared.tag.Tag.{Tag}
@@ -17,6 +17,10 @@ pub record Element : Type 0 where
   pub meta : Meta
   pub tags : List Tag
   pub body : Body
+
+-- two tags have the same bytes
+abbrev pub tag_eq : Tag → Tag → Bool
+tag_eq a b = bytes_eq a.key b.key && bytes_eq a.value b.value
 
 -- the kinds' bytes, in their order
 abbrev pub kind_byte : Kind → ℕ

@@ -7,3 +7,7 @@ pub mod CanonicalLine
 pub mod LineLength
 pub mod Limits
 pub mod Sets
+pub mod DecimalParts
+pub mod Edges
+pub mod EdgeUnits
+pub mod Boxes

@@ -15,7 +15,7 @@ use Rattle.osm_model.specs.declared.meta.Meta.{Meta}
 use Rattle.osm_model.specs.declared.body.Body.{Body}
 use Rattle.osm_model.specs.declared.body.Body.TheVariants as bodies
 use Rattle.osm_model.specs.declared.fault.ModelFault.{ModelFault}
-use Rattle.osm_model.specs.declared.fault.ModelFault.TheVariants.{EmptyNumber, NotDecimal, TooManyDecimals, OutOfRange, ObjectTwice, KeyTwice, LimitPassed, NulInText}
+use Rattle.osm_model.specs.declared.fault.ModelFault.TheVariants.{EmptyNumber, NotDecimal, TooManyDecimals, OutOfRange, SouthAboveNorth, ObjectTwice, KeyTwice, LimitPassed, NulInText}
 
 -- a text has at most 4,096 bytes
 abbrev pub IsShort : List ℕ → Type 0
@@ -85,3 +85,4 @@ Refuses id meta tags body EmptyNumber = ⊥
 Refuses id meta tags body NotDecimal = ⊥
 Refuses id meta tags body TooManyDecimals = ⊥
 Refuses id meta tags body OutOfRange = ⊥
+Refuses id meta tags body SouthAboveNorth = ⊥

@@ -5,7 +5,7 @@ ghost use Rattle.osm_model.specs.Limits.{BodyInRange};
 use crate::coord::Coord;
 
 /// What is particular to an object's kind.
-#[derive(Debug, Drop)]
+#[derive(Debug, Drop, PartialEq, Eq)]
 pub enum Body {
     /// Where a node lies.
     Node(Coord),

@@ -9,7 +9,7 @@ use std::marker::Model;
 ///
 /// The longitude is in -1800000000 ..= 1800000000, the latitude in -900000000 ..= 900000000. Contracts
 /// see the record of the two numbers.
-#[derive(Clone, Copy, Debug)]
+#[derive(Clone, Copy, Debug, PartialEq, Eq)]
 pub struct Coord {
     lon: i32,
     lat: i32,

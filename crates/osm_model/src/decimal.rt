@@ -5,7 +5,7 @@ ghost use Rattle.std.specs.Str.Parse.{AllDigits};
 ghost use Rattle.osm_model.specs.Degrees.{Decimal, Spells, BeginsOtherwise, decimals, IsDigits, IsFraction, point, fraction_of};
 
 /// The parts of a decimal, in its text.
-#[derive(Clone, Copy)]
+#[derive(Clone, Copy, Debug)]
 pub struct Parts<'a> {
     /// Whether a `-` comes first.
     pub negative: bool,

@@ -60,18 +60,19 @@ fn value_of(text: &[u8], axis: Axis) -> Result<i32, ModelFault>
 }
 
 /// The units that these digits make, up to a cap above each limit.
-fn units_of(whole: &[u8], fraction: &[u8]) -> u64
+pub(crate) fn units_of(whole: &[u8], fraction: &[u8]) -> u64
     requires few { length fraction.now ≤ 7 }
     requires whole { AllDigits 10 whole.now }
     requires fraction { AllDigits 10 fraction.now }
-    ensures { result ≡ min (digits_value 10 (whole.now ++ fraction.now)) 10000000000 * 10 ^ (7 - length fraction.now) }
+    ensures value { result ≡ min (digits_value 10 (whole.now ++ fraction.now)) 10000000000 * 10 ^ (7 - length fraction.now) }
+    ensures bound { result ≤ 10 ^ 17 }
 {
     let digits = capped(capped(0, whole), fraction);
     digits * power_of_ten(7 - fraction.len())
 }
 
 /// The number that these digits make behind those before, up to a cap.
-fn capped(start: u64, digits: &[u8]) -> u64
+pub(crate) fn capped(start: u64, digits: &[u8]) -> u64
     requires digits { AllDigits 10 digits.now }
     requires start { start ≤ 10000000000 }
     ensures { result ≡ min (digits_value_after 10 start digits.now) 10000000000 }
@@ -84,7 +85,7 @@ fn capped(start: u64, digits: &[u8]) -> u64
 }
 
 /// The value of a digit.
-fn digit(byte: u8) -> u64
+pub(crate) fn digit(byte: u8) -> u64
     ensures value { digit_value byte < 10 → result ≡ digit_value byte }
     ensures small { result ≤ 9 }
 {

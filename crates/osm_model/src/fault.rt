@@ -17,6 +17,9 @@ pub enum ModelFault {
     /// Degrees outside the range of their axis.
     #[error("M4")]
     OutOfRange,
+    /// A box whose southern edge is above its northern one.
+    #[error("M5")]
+    SouthAboveNorth,
     /// An object that stands twice in a set.
     #[error("M6")]
     ObjectTwice,

@@ -7,10 +7,13 @@
 
 mod axis;
 mod body;
+mod box_area;
 mod coord;
 mod decimal;
+mod decimal_order;
 mod degrees;
 mod degrees_text;
+mod edge;
 mod fault;
 mod kind;
 mod line_length;
@@ -26,9 +29,11 @@ mod units;
 
 pub use axis::Axis;
 pub use body::Body;
+pub use box_area::BoxArea;
 pub use coord::Coord;
 pub use degrees::{one_value, read_degrees};
 pub use degrees_text::{DegreesText, reads_back, write_degrees};
+pub use edge::{Edge, compares_as_degrees, one_decimal};
 pub use fault::ModelFault;
 pub use kind::Kind;
 pub use meta::Meta;
@@ -40,5 +45,7 @@ pub use tag::Tag;
 pub use tag_list::TagList;
 pub use text::Text;
 
+#[cfg(test)]
+mod box_tests;
 #[cfg(test)]
 mod tests;

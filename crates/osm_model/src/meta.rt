@@ -8,7 +8,7 @@ use crate::text::Text;
 /// The metadata of an object: who changed it last, and when (OpenStreetMap API 0.6).
 ///
 /// What isn't known is 0, `None` or the empty text.
-#[derive(Debug, Drop)]
+#[derive(Debug, Drop, PartialEq, Eq)]
 pub struct Meta {
     /// How many versions the object has had.
     pub version: u32,

@@ -24,7 +24,7 @@ use std::marker::Model;
 /// Every object keeps the limits: a text has at most 4,096 bytes and no NUL, a list at most 65,535
 /// items, the canonical line at most 2^24 bytes without its end; its keys differ. Contracts see the
 /// record of its parts.
-#[derive(Debug, Drop)]
+#[derive(Debug, Drop, PartialEq, Eq)]
 pub struct Object {
     id: i64,
     meta: Meta,
@@ -42,6 +42,8 @@ impl Model for Object {
     ghost view = { λ a. record { id = a.id; meta = a.meta; tags = a.tags; body = a.body } };
 
     ghost invariant = { λ a. IsElement (record { id = a.id; meta = a.meta; tags = a.tags; body = a.body }) };
+
+    ghost inverse = { λ o. record { id = o.id; meta = o.meta; tags = o.tags; body = o.body } };
 }
 
 impl Object {

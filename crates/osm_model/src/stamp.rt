@@ -10,7 +10,7 @@ use std::marker::Model;
 /// Year 0 to 9999, month 1 to 12, day 1 to 31, hour 0 to 23, minute 0 to 59, second 0 to 60, as the
 /// timestamps `YYYY-MM-DDThh:mm:ssZ` of the OpenStreetMap API 0.6 spell it. Contracts see the record
 /// of the six numbers.
-#[derive(Clone, Copy, Debug)]
+#[derive(Clone, Copy, Debug, PartialEq, Eq)]
 pub struct Stamp {
     year: u16,
     month: u8,

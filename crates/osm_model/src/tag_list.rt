@@ -1,6 +1,10 @@
 //! Lists of tags.
 
 ghost use Rattle.std.specs.Prelude.{◌≡◌};
+ghost use Rattle.std.proofs.Common.{rules};
+ghost use Rattle.std.specs.Cmp.Lexicographic.{pointwise};
+ghost use Rattle.std.specs.Cmp.Rules.{comparing};
+ghost use Rattle.osm_model.specs.Elements.{tag_eq};
 
 use crate::tag::Tag;
 use std::marker::Model;
@@ -34,4 +38,18 @@ impl TagList {
     {
         &self.tags
     }
+}
+
+impl PartialEq for TagList {
+    ghost eq = { λ a b. pointwise tag_eq a b };
+
+    ghost laws = { Prim.search (comparing, rules) };
+
+    fn eq(&self, other: &TagList) -> bool {
+        self.tags == other.tags
+    }
+}
+
+impl Eq for TagList {
+    ghost laws = { Prim.search (comparing, rules) };
 }

@@ -1,7 +1,7 @@
 //! Rows of degrees, stamps, objects and sets.
 
 use crate::{
-    Axis, Body, Coord, Kind, Meta, ModelFault, Object, ObjectSet, Ref, Stamp, Tag, Text,
+    Axis, Body, Coord, Kind, Meta, ModelFault, Object, ObjectSet, Ref, Stamp, Tag, TagList, Text,
     read_degrees, write_degrees,
 };
 use std::alloc::Global;
@@ -31,6 +31,25 @@ fn tag(alloc: Global, key: &str, value: &str) -> Result<Tag, Fail> {
 fn node(alloc: Global, id: i64) -> Result<Object, Fail> {
     let body = Body::Node(Coord::new(134_000_000, 525_000_000));
     Ok(Object::new(id, no_meta(alloc), Vec::new(alloc), body)?)
+}
+
+#[test]
+fn faults_print_their_codes(rt: HostRuntime) -> Result<(), Fail> {
+    let codes = [
+        (ModelFault::EmptyNumber, "M1"),
+        (ModelFault::NotDecimal, "M2"),
+        (ModelFault::TooManyDecimals, "M3"),
+        (ModelFault::OutOfRange, "M4"),
+        (ModelFault::SouthAboveNorth, "M5"),
+        (ModelFault::ObjectTwice, "M6"),
+        (ModelFault::KeyTwice, "M7"),
+        (ModelFault::LimitPassed, "M8"),
+        (ModelFault::NulInText, "M9"),
+    ];
+    for (fault, code) in codes {
+        assert_eq!(rt; format!(in rt.alloc(); "{fault}")?.as_str(), code);
+    }
+    Ok(())
 }
 
 #[test]
@@ -165,5 +184,72 @@ fn references_stand_once(rt: HostRuntime) -> Result<(), Fail> {
         ObjectSet::from_objects(objects).err(),
         Some(ModelFault::ObjectTwice)
     );
+    Ok(())
+}
+
+#[test]
+fn stamps_and_places_give_their_numbers(rt: HostRuntime) {
+    let numbers = Stamp::new(2020, 1, 2, 3, 4, 5).map(|s| (
+        s.year(),
+        s.month(),
+        s.day(),
+        s.hour(),
+        s.minute(),
+        s.second(),
+    ));
+    assert_eq!(rt; numbers, Some((2020, 1, 2, 3, 4, 5)));
+    assert_eq!(rt;
+        Stamp::new(2020, 1, 2, 3, 4, 5),
+        Stamp::new(2020, 1, 2, 3, 4, 5)
+    );
+    assert_ne!(rt;
+        Stamp::new(2020, 1, 2, 3, 4, 5),
+        Stamp::new(2020, 1, 2, 3, 4, 6)
+    );
+    let place = Coord::new(134_000_000, 525_000_000);
+    assert_eq!(rt; (place.lon(), place.lat()), (134_000_000, 525_000_000));
+    assert_ne!(rt; place, Coord::new(525_000_000, 134_000_000));
+}
+
+#[test]
+fn texts_are_ordered_by_bytes(rt: HostRuntime) -> Result<(), Fail> {
+    let alloc = rt.alloc();
+    let short = text(alloc, "Zug")?;
+    assert_eq!(rt; short.as_str(), "Zug");
+    assert_eq!(rt; short.len(), 3);
+    assert!(rt; short == text(alloc, "Zug")?);
+    assert!(rt; short < text(alloc, "a")?);
+    assert!(rt; short < text(alloc, "Zugang")?);
+    assert!(rt; tag(alloc, "a", "1")? == tag(alloc, "a", "1")?);
+    assert!(rt; tag(alloc, "a", "1")? != tag(alloc, "a", "2")?);
+    assert!(rt; no_meta(alloc) == no_meta(alloc));
+    Ok(())
+}
+
+#[test]
+fn an_object_gives_its_parts(rt: HostRuntime) -> Result<(), Fail> {
+    let alloc = rt.alloc();
+    let object = node(alloc, -5)?;
+    let named = Ref {
+        kind: Kind::Node,
+        id: -5,
+    };
+    assert_eq!(rt; object.id(), -5);
+    assert_eq!(rt; object.reference(), named);
+    assert_eq!(rt; object.meta().changeset, 0);
+    assert!(rt; object.tags().is_empty());
+    assert!(rt; object == node(alloc, -5)?);
+    assert!(rt; object != node(alloc, 5)?);
+    let Body::Node(place) = object.body();
+    assert_eq!(rt; *place, Coord::new(134_000_000, 525_000_000));
+    Ok(())
+}
+
+#[test]
+fn tag_lists_keep_their_order(rt: HostRuntime) -> Result<(), Fail> {
+    let alloc = rt.alloc();
+    let tags = TagList::new(vec![in alloc; tag(alloc, "b", "1")?, tag(alloc, "a", "2")?]?);
+    assert_eq!(rt; tags.as_slice().len(), 2);
+    assert_eq!(rt; tags.as_slice()[0].key.as_bytes(), b"b".as_slice());
     Ok(())
 }

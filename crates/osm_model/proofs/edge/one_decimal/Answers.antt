@@ -1,0 +1,5 @@
+use Rattle.osm_model.proofs.OneDecimal.{one_decimal}
+use Rattle.osm_model.proofs.edge.one_decimal.Goals as goal
+
+pub returns : goal.returns
+returns c = one_decimal
