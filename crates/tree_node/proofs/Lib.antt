@@ -6,5 +6,6 @@ pub mod ItemFaults
 pub mod MapLemmas
 pub mod NodeFaults
 pub mod NodeLaws
+pub mod PieceLemmas
 pub mod RecorderLemmas
 pub mod SkipLemmas
