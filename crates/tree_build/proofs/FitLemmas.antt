@@ -1,12 +1,12 @@
 -- What each entry or link keeps, through loops over them.
-use Rattle.std.proofs.Common.{◌≡◌, ℕ, ◌+◌, ◌<◌, ◌≤◌, List, [], ◌∷◌, length, get_or, take, drop, map, sum_by, All, sym, ap, ◌∙◌, subst, ◌^◌, ◌++◌, arith}
+use Rattle.std.proofs.Common.{◌≡◌, ℕ, zero, suc, ◌+◌, ◌-◌, ◌<◌, ◌≤◌, List, [], ◌∷◌, length, get_or, take, drop, map, sum_by, All, refl, sym, ap, ◌∙◌, subst, ◌^◌, ◌++◌, arith}
 use Rattle.std.specs.List.{AllByRecursion}
 use Rattle.std.proofs.lemmas.List.{map-append, take_more, take-append-drop}
 use Rattle.std.proofs.lemmas.List.Elements.{All-from_recursion}
 use Rattle.std.proofs.lemmas.List.Sums.{sum_by-append}
 use Rattle.tree_node.specs.Nodes.{Link, FitsEntry}
 use Rattle.tree_node.specs.NodeRefs.{binding_of, bindings_of, link_of, links_of}
-use Rattle.tree_node.specs.Trees.{FitsTree}
+use Rattle.tree_node.specs.Trees.{FitsTree, last_key}
 use Rattle.tree_node.specs.declared.item.Item.{Item}
 use Rattle.tree_node.specs.declared.child.Child.{Child}
 use Rattle.tree_build.specs.Building.{AreWithin}
@@ -62,3 +62,12 @@ sum_part children i =
 -- the sum with one more child is within the limit
 pub sum_fits : (children : List Child) → AreWithin (links_of children) → (i : ℕ) (d : Child) → i < length children → numbers_of (links_of (take i children)) + (get_or children i d).number ≤ 536870912
 sum_fits children within i d lt = omega (arith, sum_more children i d lt, sum_part children (i + 1), within.few)
+
+-- the last key, where the last element was read
+pub last_is : {X Y : Type 0} (g : Y → List ℕ) (f : X → Y) (xs : List X) (x : X) → 0 < length xs → ((d : X) → x ≡ get_or xs (length xs - 1) d) → g (f x) ≡ last_key (map g (map f xs))
+last_is g f [] x lt at = absurd (omega arith)
+last_is g f (y ∷ []) x lt at = ap (λ z. g (f z)) (at y)
+last_is {X} g f (y ∷ z ∷ zs) x lt at =
+    let short : suc (suc (length zs)) - 1 ≡ suc (length zs) = omega arith in
+    let shorter : suc (length zs) - 1 ≡ length zs = omega arith in
+    last_is g f (z ∷ zs) x (omega arith) (λ d. at d ∙ ap (λ n. get_or (y ∷ z ∷ zs) n d) short ∙ ap (λ n. get_or (z ∷ zs) n d) (sym shorter))

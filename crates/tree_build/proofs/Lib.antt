@@ -1,2 +1,4 @@
 pub mod CutLemmas
 pub mod FitLemmas
+pub mod LevelLemmas
+pub mod StockLemmas

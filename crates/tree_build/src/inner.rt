@@ -4,9 +4,9 @@ ghost use Rattle.std.specs.Prelude.{◌≡◌, ◌≤◌, ◌<◌, ◌^◌, [], 
 ghost use Rattle.tree_build.specs.Building.{AreWithin, PutAll};
 ghost use Rattle.tree_build.specs.Shapes.{shape_of};
 ghost use Rattle.tree_node.specs.NodeRefs.{inner_of, link_of, links_of, number_of};
-ghost use Rattle.tree_node.specs.Nodes.{Inner, Link};
+ghost use Rattle.tree_node.specs.Nodes.{Inner, Link, greatests_of};
 ghost use Rattle.tree_node.specs.Stocks.{HasNode};
-ghost use Rattle.tree_node.specs.Trees.{ends_by, is_marked_link, link_to, pieces};
+ghost use Rattle.tree_node.specs.Trees.{ends_by, is_marked_link, last_key as key_at_end, link_to, pieces};
 
 use crate::cut::first_piece;
 use crate::fault::BuildFault;
@@ -62,15 +62,21 @@ fn put_inner<'a>(
     let mut bytes = Vec::with_capacity(alloc, inner_len(children))?;
     write_inner(tree, level, children, &mut bytes)?;
     let digest = stock.put(bytes)?;
-    let greatest = match children.last() {
-        Some(child) => child.greatest,
-        None => b"",
-    };
     Ok(Child {
-        greatest,
+        greatest: last_greatest(children),
         number: entries_below(children),
         digest,
     })
+}
+
+/// The last of the greatest keys of these children; of none the empty key.
+fn last_greatest<'a>(children: &[Child<'a>]) -> &'a [u8]
+    ensures { result.now ≡ key_at_end (greatests_of (links_of children.now)) }
+{
+    match children.last() {
+        Some(child) => child.greatest,
+        None => b"",
+    }
 }
 
 /// The number of entries below these children.

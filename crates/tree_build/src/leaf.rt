@@ -5,8 +5,9 @@ ghost use Rattle.std.specs.Prelude.{◌≡◌, ◌≤◌, [], ◌∷◌, IfOk, l
 ghost use Rattle.tree_build.specs.Building.{PutAll};
 ghost use Rattle.tree_build.specs.Shapes.{shape_of};
 ghost use Rattle.tree_node.specs.NodeRefs.{bindings_of, leaf_of, link_of, links_of, number_of};
+ghost use Rattle.tree_node.specs.Nodes.{keys_of};
 ghost use Rattle.tree_node.specs.Stocks.{HasNode};
-ghost use Rattle.tree_node.specs.Trees.{FitsTree, leaves, link_to};
+ghost use Rattle.tree_node.specs.Trees.{FitsTree, last_key as key_at_end, leaves, link_to};
 
 use crate::cut::first_piece;
 use crate::fault::BuildFault;
@@ -55,15 +56,21 @@ fn put_leaf<'a>(
     let mut bytes = Vec::with_capacity(alloc, leaf_len(entries))?;
     write_leaf(tree, entries, &mut bytes)?;
     let digest = stock.put(bytes)?;
-    let greatest = match entries.last() {
-        Some(entry) => entry.key,
-        None => b"",
-    };
     Ok(Child {
-        greatest,
+        greatest: last_key(entries),
         number: entries.len() as u64,
         digest,
     })
+}
+
+/// The last key of these entries; of none the empty one.
+fn last_key<'a>(entries: &[Item<'a>]) -> &'a [u8]
+    ensures { result.now ≡ key_at_end (keys_of (bindings_of entries.now)) }
+{
+    match entries.last() {
+        Some(entry) => entry.key,
+        None => b"",
+    }
 }
 
 /// The number of bytes of the leaf with these entries.
