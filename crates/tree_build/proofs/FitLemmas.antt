@@ -50,14 +50,19 @@ sum_more children i d lt =
     ∙ sum_by-append (λ (l : Link). l.number) (links_of (take i children)) (link_of (get_or children i d) ∷ [])
     ∙ omega arith
 
+-- a sum is that of a part in front and of the rest
+sum_parts : (children : List Child) (i : ℕ) → numbers_of (links_of children) ≡ numbers_of (links_of (take i children)) + numbers_of (links_of (drop i children))
+sum_parts children i =
+    ap (λ (cs : List Child). numbers_of (links_of cs)) (sym (take-append-drop i children))
+    ∙ ap numbers_of (map-append link_of (take i children) (drop i children))
+    ∙ sum_by-append (λ (l : Link). l.number) (links_of (take i children)) (links_of (drop i children))
+
 -- no part of a sum is above the whole
 pub sum_part : (children : List Child) (i : ℕ) → numbers_of (links_of (take i children)) ≤ numbers_of (links_of children)
-sum_part children i =
-    let whole : numbers_of (links_of children) ≡ numbers_of (links_of (take i children)) + numbers_of (links_of (drop i children)) =
-        ap (λ (cs : List Child). numbers_of (links_of cs)) (sym (take-append-drop i children))
-        ∙ ap numbers_of (map-append link_of (take i children) (drop i children))
-        ∙ sum_by-append (λ (l : Link). l.number) (links_of (take i children)) (links_of (drop i children)) in
-    omega arith
+sum_part children i = omega (arith, sum_parts children i)
+
+pub sum_rest : (children : List Child) (i : ℕ) → numbers_of (links_of (drop i children)) ≤ numbers_of (links_of children)
+sum_rest children i = omega (arith, sum_parts children i)
 
 -- the sum with one more child is within the limit
 pub sum_fits : (children : List Child) → AreWithin (links_of children) → (i : ℕ) (d : Child) → i < length children → numbers_of (links_of (take i children)) + (get_or children i d).number ≤ 536870912

@@ -10,7 +10,8 @@ use Rattle.tree_node.specs.Trees.{Shape, pieces, one_at_least, ends_by, link_to,
 use Rattle.tree_node.proofs.PieceLemmas.{pieces_map, some_pieces, least_maps, ends_same}
 use Rattle.tree_build.specs.declared.fault.BuildFault.{BuildFault}
 use Rattle.tree_build.specs.declared.fault.BuildFault.TheVariants.{Memory}
-use Rattle.tree_build.specs.Building.{IsFirstPiece, IsOneOf, PutAll}
+use Rattle.tree_build.specs.Building.{AreWithin, IsFirstPiece, IsOneOf, PutAll}
+use Rattle.tree_build.proofs.FitLemmas.{numbers_of, sum_part, sum_rest}
 use Rattle.tree_build.proofs.StockLemmas.{Underway, put_stopped, put_no_memory, gained_more, underway_more}
 
 module _ {X Y : Type 0} (shape : Shape) (marked : Y → Bool) (f : X → Y) (make : List Y → Node) where
@@ -108,3 +109,12 @@ drop_end {X} xs start n is = drop-drop n start xs ∙ ap (λ k. drop k xs) is �
 -- something stands behind another piece
 pub drop_some : {X : Type 0} (xs : List X) (start n : ℕ) → start ≤ length xs → n ≤ length (drop start xs) → start + n ≢ length xs → 1 ≤ length (drop n (drop start xs))
 drop_some xs start n within fits isnt = omega (arith, length-drop n (drop start xs), length-drop start xs)
+
+-- what is within the limits, is so at its first piece
+pub within_piece : (ends : ℕ → Child → Bool) (children : List Child) (start : ℕ) (piece : List Child) → IsFirstPiece ends (drop start children) piece → AreWithin (links_of children) → AreWithin (links_of piece)
+within_piece ends children start piece first within = record {
+  greatest = piece_all (λ (l : Link). length l.greatest ≤ 8203) link_of ends (drop start children) piece first (rest_all (λ (l : Link). length l.greatest ≤ 8203) link_of start children within.greatest);
+  few = let part : numbers_of (links_of piece) ≤ numbers_of (links_of (drop start children)) =
+            subst (λ (cs : List Child). numbers_of (links_of cs) ≤ numbers_of (links_of (drop start children))) (sym first.front) (sum_part (drop start children) (length piece)) in
+        omega (arith, sum_rest children start, within.few);
+}

@@ -6,7 +6,7 @@ ghost use Rattle.tree_build.specs.Shapes.{shape_of};
 ghost use Rattle.tree_node.specs.NodeRefs.{inner_of, link_of, links_of, number_of};
 ghost use Rattle.tree_node.specs.Nodes.{Inner, Link, greatests_of};
 ghost use Rattle.tree_node.specs.Stocks.{HasNode};
-ghost use Rattle.tree_node.specs.Trees.{ends_by, is_marked_link, last_key as key_at_end, link_to, pieces};
+ghost use Rattle.tree_node.specs.Trees.{ends_by, is_marked_link, last_key as key_at_end, link_to, one_at_least, pieces};
 
 use crate::cut::first_piece;
 use crate::fault::BuildFault;
@@ -24,13 +24,12 @@ pub(crate) fn put_level<'a>(
     shape: Shape,
     stock: &mut Stock,
 ) -> Result<Vec<Child<'a>>, BuildFault>
-    requires some { 1 ≤ length children.now }
-    requires within { AreWithin (links_of children.now) }
+    requires { AreWithin (links_of children.now) }
     ensures links { let nodes = map (Inner (number_of tree) level)
-            (pieces (ends_by (shape_of shape) is_marked_link) (links_of children.now)) in
+            (one_at_least (pieces (ends_by (shape_of shape) is_marked_link) (links_of children.now))) in
         IfOk result (λ parents. links_of parents.items ≡ map link_to nodes) }
     ensures put { let nodes = map (Inner (number_of tree) level)
-            (pieces (ends_by (shape_of shape) is_marked_link) (links_of children.now)) in
+            (one_at_least (pieces (ends_by (shape_of shape) is_marked_link) (links_of children.now))) in
         PutAll result (HasNode stock.old) (HasNode stock.new) nodes }
 {
     let mut parents = Vec::new(alloc);
