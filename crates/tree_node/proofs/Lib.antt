@@ -9,3 +9,4 @@ pub mod NodeLaws
 pub mod PieceLemmas
 pub mod RecorderLemmas
 pub mod SkipLemmas
+pub mod TreeLemmas

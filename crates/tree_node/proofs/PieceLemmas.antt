@@ -1,10 +1,10 @@
 -- The pieces of lists.
-use Rattle.std.proofs.Common.{◌≡◌, ℕ, zero, suc, ◌+◌, ◌*◌, ◌<◌, ◌≤◌, List, [], ◌∷◌, ◌++◌, length, get_or, take, drop, map, Bool, true, false, cond, refl, sym, ap, ◌∙◌, append_assoc, add-one, arith}
+use Rattle.std.proofs.Common.{◌≡◌, ℕ, zero, suc, ◌+◌, ◌*◌, ◌<◌, ◌≤◌, List, [], ◌∷◌, ◌++◌, length, get_or, take, drop, map, Bool, true, false, cond, refl, sym, ap, subst, ◌∙◌, append_assoc, add-one, length-append, arith}
 use Rattle.std.specs.List.{flat_map, AllByRecursion}
 use Rattle.std.proofs.lemmas.List.{append-nil, map-append, take_more, length-take-le}
 use Rattle.std.proofs.lemmas.List.{length-map}
 use Rattle.std.proofs.Math.Seq.{drop-cons}
-use Rattle.tree_node.specs.Trees.{pieces, pieces_from, one_at_least}
+use Rattle.tree_node.specs.Trees.{pieces, pieces_from, one_at_least, ends_by, Shape, One, Two}
 
 -- the pieces, where one more item comes
 pub pieces_step : {X : Type 0} (ends : ℕ → X → Bool) (piece : List X) (x : X) (xs : List X)
@@ -73,3 +73,70 @@ pieces_at {X} ends items len x lt is =
 pub whole_piece : {X : Type 0} (ends : ℕ → X → Bool) (items : List X) → one_at_least (pieces_from ends items []) ≡ items ∷ []
 whole_piece ends [] = refl
 whole_piece ends (x ∷ xs) = refl
+
+-- what is left in hand at the end, where an item came
+some_last : {X : Type 0} (ends : ℕ → X → Bool) (piece : List X) (x : X) → one_at_least (pieces_from ends (piece ++ x ∷ []) []) ≡ pieces_from ends (piece ++ x ∷ []) []
+some_last ends [] x = refl
+some_last ends (y ∷ ys) x = refl
+
+some_more : {X : Type 0} (ends : ℕ → X → Bool) (piece : List X) (x : X) (xs : List X) → one_at_least (pieces_from ends (piece ++ x ∷ []) xs) ≡ pieces_from ends (piece ++ x ∷ []) xs
+some_more ends piece x [] = some_last ends piece x
+some_more {X} ends piece x (y ∷ ys) =
+    let now = pieces_step ends (piece ++ x ∷ []) y ys in
+    ap one_at_least now
+    ∙ chosen (λ (ps : List (List X)). one_at_least ps ≡ ps) (ends (length (piece ++ x ∷ []) + 1) y) (((piece ++ x ∷ []) ++ y ∷ []) ∷ pieces_from ends [] ys) (pieces_from ends ((piece ++ x ∷ []) ++ y ∷ []) ys)
+      (λ _. refl) (λ _. some_more ends (piece ++ x ∷ []) y ys)
+    ∙ sym now
+
+-- a list that isn't empty has a piece
+pub some_pieces : {X : Type 0} (ends : ℕ → X → Bool) (xs : List X) → 1 ≤ length xs → one_at_least (pieces ends xs) ≡ pieces ends xs
+some_pieces ends [] some = absurd (omega arith)
+some_pieces {X} ends (x ∷ xs) some =
+    let now = pieces_step ends [] x xs in
+    ap one_at_least now
+    ∙ chosen (λ (ps : List (List X)). one_at_least ps ≡ ps) (ends 1 x) ((x ∷ []) ∷ pieces_from ends [] xs) (pieces_from ends (x ∷ []) xs) (λ _. refl) (λ _. some_more ends [] x xs)
+    ∙ sym now
+
+-- one piece at least, of what a function makes of each item
+pub least_maps : {X Y : Type 0} (f : X → Y) (ps : List (List X)) → one_at_least (map (map f) ps) ≡ map (map f) (one_at_least ps)
+least_maps f [] = refl
+least_maps f (p ∷ ps) = refl
+
+-- where pieces of what a function makes of each item end
+pub ends_same : {X Y : Type 0} (shape : Shape) (marked : Y → Bool) (f : X → Y) → (λ (n : ℕ) (x : X). ends_by shape marked n (f x)) ≡ ends_by shape (λ x. marked (f x))
+ends_same One marked f = refl
+ends_same Two marked f = refl
+
+-- where no piece ends after its first item, there are at most half as many pieces as items, rounded up
+pub pieces_half : {X : Type 0} (ends : ℕ → X → Bool) → ((x : X) → ends 1 x ≡ false) → (piece xs : List X) → 2 * length (pieces_from ends piece xs) ≤ length piece + length xs + 1
+pieces_half ends two [] [] = omega arith
+pieces_half ends two (y ∷ ys) [] = omega arith
+pieces_half {X} ends two [] (x ∷ xs) =
+    let goes_on : pieces_from ends [] (x ∷ xs) ≡ pieces_from ends (x ∷ []) xs = ap (λ b. cond b ((x ∷ []) ∷ pieces_from ends [] xs) (pieces_from ends (x ∷ []) xs)) (two x) in
+    omega (arith, ap (length {A = List X}) goes_on, pieces_half ends two (x ∷ []) xs)
+pieces_half {X} ends two (y ∷ ys) (x ∷ xs) =
+    chosen (λ (ps : List (List X)). 2 * length ps ≤ suc (length ys) + suc (length xs) + 1) (ends (length (y ∷ ys) + 1) x) (((y ∷ ys) ++ x ∷ []) ∷ pieces_from ends [] xs) (pieces_from ends ((y ∷ ys) ++ x ∷ []) xs)
+    (λ _. omega (arith, pieces_half ends two [] xs))
+    (λ _. omega (arith, pieces_half ends two ((y ∷ ys) ++ x ∷ []) xs, length-append (y ∷ ys) (x ∷ [])))
+
+-- no piece ends after its first item
+pub two_at_least : {X : Type 0} (shape : Shape) (marked : X → Bool) (x : X) → ends_by shape marked 1 x ≡ false
+two_at_least One marked x = refl
+two_at_least Two marked x = refl
+
+-- what holds of each item holds of each item of each piece
+pub join_all : {X : Type 0} (P : X → Type 0) (ps : List (List X)) → AllByRecursion P (join ps) → AllByRecursion (AllByRecursion P) ps
+join_all P [] all = tt
+join_all {X} P (p ∷ ps) all = let parts = split p (join ps) all in (parts.0, join_all P ps parts.1)
+  where
+    split : (xs ys : List X) → AllByRecursion P (xs ++ ys) → AllByRecursion P xs × AllByRecursion P ys
+    split [] ys h = (tt, h)
+    split (x ∷ xs) ys h = let parts = split xs ys h.1 in ((h.0, parts.0), parts.1)
+
+pub pieces_all : {X : Type 0} (P : X → Type 0) (ends : ℕ → X → Bool) (xs : List X) → AllByRecursion P xs → AllByRecursion (AllByRecursion P) (one_at_least (pieces ends xs))
+pieces_all {X} P ends xs all = join_all P (one_at_least (pieces ends xs)) (subst (λ (ys : List X). AllByRecursion P ys) (sym (least_joins (pieces ends xs) ∙ pieces_join ends [] xs)) all)
+
+-- one piece at least
+pub least_some : {X : Type 0} (ps : List (List X)) → 1 ≤ length (one_at_least ps)
+least_some [] = omega arith
+least_some (p ∷ ps) = omega arith
