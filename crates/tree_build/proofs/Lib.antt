@@ -1,3 +1,4 @@
+pub mod BuildLemmas
 pub mod CutLemmas
 pub mod FitLemmas
 pub mod LevelLemmas
