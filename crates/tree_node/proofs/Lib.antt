@@ -6,7 +6,9 @@ pub mod ItemFaults
 pub mod MapLemmas
 pub mod NodeFaults
 pub mod NodeLaws
+pub mod PieceLaws
 pub mod PieceLemmas
 pub mod RecorderLemmas
 pub mod SkipLemmas
+pub mod TreeLaws
 pub mod TreeLemmas

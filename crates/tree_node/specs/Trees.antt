@@ -133,6 +133,11 @@ abbrev pub entries_in : Node → List Binding
 entries_in (Leaf tree entries) = entries
 entries_in (Inner tree level links) = []
 
+-- the number of items of a node
+abbrev pub item_count : Node → ℕ
+item_count (Leaf tree entries) = length entries
+item_count (Inner tree level links) = length links
+
 -- For each of these nodes the entries below it, where `parts` are the entries below each node of the level under them:
 -- a node takes as many parts as it has items, behind those of the nodes before it.
 abbrev pub below_each : List Node → List (List Binding) → List (List Binding)

@@ -1,0 +1,122 @@
+-- What the tree of a list is like: how its levels stand over one another, its nodes, and the entries below them.
+use Rattle.std.proofs.Common.{◌≡◌, ℕ, zero, suc, ◌+◌, ◌-◌, ◌*◌, ◌^◌, ◌<◌, ◌≤◌, ◌≢◌, List, [], ◌∷◌, ◌++◌, length, get_or, map, take, drop, sum_by, Option, Some, None, inl, inr, refl, sym, ap, subst, ◌∙◌, arith, length-append}
+use Rattle.std.specs.List.{flat_map, AllByRecursion}
+use Rattle.std.proofs.lemmas.List.{append-nil, length-map, get_or-map}
+use Rattle.std.proofs.lemmas.List.Elements.{All-from_recursion}
+use Rattle.std.proofs.lemmas.List.Sums.{sum_by-append, sum_by-cons}
+use Rattle.std.proofs.Math.Nat.{pow-suc}
+use Rattle.tree_node.specs.Digests.{digest}
+use Rattle.tree_node.specs.Nodes.{Binding, Link, Node, Leaf, Inner, spelling, keys_of, greatests_of, AreRisingFrom, FitsEntry, FitsLink, IsNode, IsTree, level_of, tree_of}
+use Rattle.tree_node.specs.Trees.{Shape, pieces, one_at_least, ends_by, is_marked_entry, is_marked_link, last_key, greatest_of, entry_count, link_to, leaves, level_over, levels_over, levels, level_at, node_in, no_node, top_of, links_in, entries_in, item_count, below_each, entries_at, entries_below, FitsTree, HasTree}
+use Rattle.tree_node.proofs.DigestLemmas.{length-digest}
+use Rattle.tree_node.proofs.PieceLemmas.{join, least_joins, pieces_all, pieces_join}
+use Rattle.tree_node.proofs.PieceLaws.{IsSized, lasts, pieces_rise, pieces_sized}
+use Rattle.tree_node.proofs.TreeLemmas.{AreLevels, HasShort, leaf_numbers, leaf_short, leaves_few, leaves_some, level_half, level_numbers, level_short, level_some, numbers_of, over_some, tree_is, tree_levels}
+
+-- ---- levels, one over the other
+
+-- A level is the one over that below it, which has two nodes or more.
+pub level_pair : (shape : Shape) (tree first : ℕ) (nodes : List Node) (above : List (List Node)) (level : ℕ) → AreLevels shape tree first nodes above → suc level < length (nodes ∷ above)
+    → (2 ≤ length (level_at (nodes ∷ above) level)) × (level_at (nodes ∷ above) (suc level) ≡ level_over shape tree (first + level) (level_at (nodes ∷ above) level))
+level_pair shape tree first nodes [] level are lt = absurd (omega arith)
+level_pair shape tree first nodes (a ∷ others) zero are lt =
+    let here : first ≡ first + 0 = omega arith in
+    (are.0, are.1 ∙ ap (λ n. level_over shape tree n nodes) here)
+level_pair shape tree first nodes (a ∷ others) (suc level) are lt =
+    let rest = level_pair shape tree (first + 1) a others level are.2 (omega arith) in
+    let here : first + 1 + level ≡ first + suc level = omega arith in
+    (rest.0, rest.1 ∙ ap (λ n. level_over shape tree n (level_at (a ∷ others) level)) here)
+
+-- each level has a node
+pub level_has : (shape : Shape) (tree first : ℕ) (nodes : List Node) (above : List (List Node)) (level : ℕ) → AreLevels shape tree first nodes above → 1 ≤ length nodes → level < length (nodes ∷ above)
+    → 1 ≤ length (level_at (nodes ∷ above) level)
+level_has shape tree first nodes above zero are some lt = some
+level_has shape tree first nodes [] (suc level) are some lt = absurd (omega arith)
+level_has shape tree first nodes (a ∷ others) (suc level) are some lt =
+    level_has shape tree (first + 1) a others level are.2
+    (subst (λ (ns : List Node). 1 ≤ length ns) (sym are.1) (level_some shape tree first nodes some)) (omega arith)
+
+-- the last level has one
+pub last_has_one : (shape : Shape) (tree first : ℕ) (nodes : List Node) (above : List (List Node)) → AreLevels shape tree first nodes above → length (level_at (nodes ∷ above) (length (nodes ∷ above) - 1)) ≡ 1
+last_has_one shape tree first nodes [] are = are
+last_has_one shape tree first nodes (a ∷ others) are =
+    let short : suc (suc (length others)) - 1 ≡ suc (length others) = omega arith in
+    let shorter : length (a ∷ others) - 1 ≡ length others = omega arith in
+    ap (λ n. length (level_at (nodes ∷ a ∷ others) n)) short
+    ∙ ap (λ n. length (level_at (a ∷ others) n)) (sym shorter)
+    ∙ last_has_one shape tree (first + 1) a others are.2
+
+-- few levels stand over few nodes
+pub few_levels : (shape : Shape) (tree first : ℕ) (nodes : List Node) (above : List (List Node)) (most : ℕ) → AreLevels shape tree first nodes above → length nodes ≤ 2 ^ most → length above ≤ most
+few_levels shape tree first nodes [] most are few = omega arith
+few_levels shape tree first nodes (a ∷ others) zero are few = absurd (omega (arith, are.0, few))
+few_levels shape tree first nodes (a ∷ others) (suc most) are few =
+    let half = level_half shape tree first nodes in
+    let fewer : length a ≤ 2 ^ most = omega (arith, ap (length {A = Node}) are.1, pow-suc 2 most, few, half) in
+    let rest = few_levels shape tree (first + 1) a others most are.2 fewer in
+    omega arith
+
+-- ---- what nodes hold, joined
+
+links_joined : (tree level : ℕ) (ps : List (List Link)) → flat_map links_in (map (Inner tree level) ps) ≡ join ps
+links_joined tree level [] = refl
+links_joined tree level (p ∷ ps) = ap (λ (ls : List Link). p ++ ls) (links_joined tree level ps)
+
+-- the items of a level stand for the nodes below it, in order
+pub over_joined : (shape : Shape) (tree level : ℕ) (nodes : List Node) → flat_map links_in (level_over shape tree level nodes) ≡ map link_to nodes
+over_joined shape tree level nodes =
+    links_joined tree level (pieces (ends_by shape is_marked_link) (map link_to nodes)) ∙ pieces_join (ends_by shape is_marked_link) [] (map link_to nodes)
+
+entries_joined : (tree : ℕ) (ps : List (List Binding)) → flat_map entries_in (map (Leaf tree) ps) ≡ join ps
+entries_joined tree [] = refl
+entries_joined tree (p ∷ ps) = ap (λ (es : List Binding). p ++ es) (entries_joined tree ps)
+
+-- the entries of the leaves are the list
+pub leaves_joined : (shape : Shape) (tree : ℕ) (entries : List Binding) → flat_map entries_in (leaves shape tree entries) ≡ entries
+leaves_joined shape tree entries =
+    let ps = pieces (ends_by shape is_marked_entry) entries in
+    entries_joined tree (one_at_least ps) ∙ least_joins ps ∙ pieces_join (ends_by shape is_marked_entry) [] entries
+
+-- ---- each node is a node
+
+-- What is known of the items that stand for the nodes of a level, where there are entries: they are an inner node's.
+pub record AreLinks (links : List Link) : Type 0 where
+  pub short : AllByRecursion HasShort links
+  pub some : AllByRecursion (λ (l : Link). 1 ≤ l.number) links
+  pub total : numbers_of links ≤ 536870912
+  pub child : AllByRecursion (λ (l : Link). length l.child ≡ 32) links
+  pub rising : AreRisingFrom None (greatests_of links)
+
+children_named : (nodes : List Node) → AllByRecursion (λ (l : Link). length l.child ≡ 32) (map link_to nodes)
+children_named [] = tt
+children_named (n ∷ ns) = (length-digest (spelling n), children_named ns)
+
+-- a sum over some items of which each is one or more
+some_sum : (links : List Link) → 1 ≤ length links → AllByRecursion (λ (l : Link). 1 ≤ l.number) links → 1 ≤ numbers_of links
+some_sum [] some all = absurd (omega arith)
+some_sum (l ∷ ls) some all = omega (arith, sum_by-cons (λ (m : Link). m.number) l ls, all.0)
+
+some_over : (tree level : ℕ) (ps : List (List Link)) → AllByRecursion IsSized ps → AllByRecursion (AllByRecursion (λ (l : Link). 1 ≤ l.number)) ps
+    → AllByRecursion (λ (l : Link). 1 ≤ l.number) (map link_to (map (Inner tree level) ps))
+some_over tree level [] sized all = tt
+some_over tree level (p ∷ ps) sized all = (some_sum p sized.0.0 all.0, some_over tree level ps sized.1 all.1)
+
+greatests_over : (tree level : ℕ) (ps : List (List Link)) → greatests_of (map link_to (map (Inner tree level) ps)) ≡ lasts (λ (l : Link). l.greatest) ps
+greatests_over tree level [] = refl
+greatests_over tree level (p ∷ ps) = ap (λ (ks : List (List ℕ)). last_key (greatests_of p) ∷ ks) (greatests_over tree level ps)
+
+-- from level to level
+pub links_over : (shape : Shape) (tree level : ℕ) (nodes : List Node) → 1 ≤ length nodes → AreLinks (map link_to nodes) → AreLinks (map link_to (level_over shape tree level nodes))
+links_over shape tree level nodes some are =
+    let ps = pieces (ends_by shape is_marked_link) (map link_to nodes) in
+    let sized = pieces_sized shape is_marked_link (map link_to nodes) in
+    let all = λ (P : Link → Type 0) (h : AllByRecursion P (map link_to nodes)). subst (λ (qs : List (List Link)). AllByRecursion (AllByRecursion P) qs) (over_some shape nodes some) (pieces_all P (ends_by shape is_marked_link) (map link_to nodes) h) in
+    let rise = pieces_rise (λ (l : Link). l.greatest) None ps sized
+        (subst (λ (ls : List Link). AreRisingFrom None (greatests_of ls)) (sym (pieces_join (ends_by shape is_marked_link) [] (map link_to nodes))) are.rising) in
+    record {
+      short = level_short shape tree level nodes some are.short;
+      some = some_over tree level ps sized (all (λ (l : Link). 1 ≤ l.number) are.some);
+      total = omega (arith, level_numbers shape tree level nodes, are.total);
+      child = children_named (level_over shape tree level nodes);
+      rising = subst (λ (ks : List (List ℕ)). AreRisingFrom None ks) (sym (greatests_over tree level ps)) rise.1;
+    }
