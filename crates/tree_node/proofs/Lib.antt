@@ -12,3 +12,4 @@ pub mod RecorderLemmas
 pub mod SkipLemmas
 pub mod TreeLaws
 pub mod TreeLemmas
+pub mod TreeParts
