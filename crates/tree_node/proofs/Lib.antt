@@ -13,3 +13,4 @@ pub mod SkipLemmas
 pub mod TreeLaws
 pub mod TreeLemmas
 pub mod TreeParts
+pub mod TreeSame
