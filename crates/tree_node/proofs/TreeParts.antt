@@ -8,16 +8,16 @@ use Rattle.std.proofs.lemmas.List.Folds.{flat_map-map}
 use Rattle.std.proofs.lemmas.List.Sums.{sum-map}
 use Rattle.std.proofs.lemmas.Grind.{flat_map-append}
 use Rattle.tree_node.specs.Nodes.{Binding, Link, Node, Leaf, Inner, level_of, tree_of}
-use Rattle.tree_node.specs.Trees.{Shape, pieces, one_at_least, ends_by, is_marked_entry, is_marked_link, entry_count, link_to, leaves, level_over, levels, level_at, node_in, no_node, entries_in, item_count, below_each, entries_at, entries_below}
+use Rattle.tree_node.specs.Trees.{Shape, pieces, one_at_least, ends_by, is_marked_entry, is_marked_link, entry_count, link_to, leaves, level_over, levels, level_at, node_in, no_node, links_in, entries_in, item_count, below_each, entries_at, entries_below}
 use Rattle.tree_node.proofs.PieceLemmas.{join, pieces_join, some_pieces}
 use Rattle.tree_node.proofs.PieceLaws.{IsSized, pieces_sized}
 use Rattle.tree_node.proofs.TreeLemmas.{tree_is}
-use Rattle.tree_node.proofs.TreeLaws.{leaves_joined, pair_at, entries_some, whole}
+use Rattle.tree_node.proofs.TreeLaws.{leaves_joined, over_joined, pair_at, entries_some, whole}
 
 -- ---- how many entries stand below each node
 
 -- the numbers that links state
-abbrev number_in : Link → ℕ
+abbrev pub number_in : Link → ℕ
 number_in link = link.number
 
 -- the number of entries below a node is that of the entries below its children, together
@@ -135,3 +135,22 @@ items_at shape tree entries some zero lt =
 items_at shape tree entries some (suc level) lt =
     subst (λ (ns : List Node). AllByRecursion HasItems ns) (sym (pair_at shape tree entries level lt).1)
     (inner_items tree (suc level) (pieces (ends_by shape is_marked_link) (map link_to (level_at (whole shape tree entries) level))) (pieces_sized shape is_marked_link (map link_to (level_at (whole shape tree entries) level))))
+
+-- no node has more items
+pub items_most : (shape : Shape) (tree : ℕ) (entries : List Binding) (level : ℕ) → level < length (whole shape tree entries) → AllByRecursion (λ (n : Node). item_count n ≤ 64) (level_at (whole shape tree entries) level)
+items_most shape tree [] zero lt = (omega arith, tt)
+items_most shape tree [] (suc level) lt = absurd (omega (arith, entries_some shape tree [] level lt))
+items_most shape tree (e ∷ es) level lt = fewer (level_at (whole shape tree (e ∷ es)) level) (items_at shape tree (e ∷ es) (omega arith) level lt)
+  where
+    fewer : (ns : List Node) → AllByRecursion HasItems ns → AllByRecursion (λ (n : Node). item_count n ≤ 64) ns
+    fewer [] all = tt
+    fewer (n ∷ ns) all = (all.0.1, fewer ns all.1)
+
+-- the items of a level state how many entries stand below the nodes under it
+pub stated_at : (shape : Shape) (tree : ℕ) (entries : List Binding) (level : ℕ) → suc level < length (whole shape tree entries)
+    → map number_in (flat_map links_in (level_at (whole shape tree entries) (suc level))) ≡ map (length {A = Binding}) (entries_at (whole shape tree entries) level)
+stated_at shape tree entries level lt =
+    let nodes = level_at (whole shape tree entries) level in
+    ap (map number_in) (ap (flat_map links_in) (pair_at shape tree entries level lt).1 ∙ over_joined shape tree (suc level) nodes)
+    ∙ sym (numbers_linked nodes)
+    ∙ sym (counts_at shape tree entries level (omega arith))
