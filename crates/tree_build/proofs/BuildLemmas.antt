@@ -21,17 +21,17 @@ use Rattle.tree_build.proofs.StockLemmas.{one_of_first, one_of_last, one_of_part
 place_of : (nodes : List Node) (bytes : List ℕ) → IsOneOf nodes bytes → (i : ℕ) × (i < length nodes) × (bytes ≡ spelling (get_or nodes i no_node))
 place_of [] bytes none = absurd none
 place_of (n ∷ ns) bytes is = elim is [
-    | inl here ↦ (zero, (omega arith), here)
-    | inr there ↦ let at = place_of ns bytes there in (suc at.0, (omega (arith, at.1)), at.2)
-  ]
+  | inl here ↦ (zero, (omega arith), here)
+  | inr there ↦ let at = place_of ns bytes there in (suc at.0, (omega (arith, at.1)), at.2)
+]
 
 -- one of the nodes of all levels stands somewhere
 pub place_in : (tree : List (List Node)) (bytes : List ℕ) → IsOneOf (join tree) bytes → IsNodeOf tree bytes
 place_in [] bytes none = absurd none
 place_in (nodes ∷ others) bytes is = elim (one_of_parts nodes (join others) bytes is) [
-    | inl here ↦ let at = place_of nodes bytes here in (zero, at.0, (omega arith, at.1, at.2))
-    | inr there ↦ let at = place_in others bytes there in (suc at.0, at.1, (omega (arith, at.2.0), at.2.1, at.2.2))
-  ]
+  | inl here ↦ let at = place_of nodes bytes here in (zero, at.0, (omega arith, at.1, at.2))
+  | inr there ↦ let at = place_in others bytes there in (suc at.0, at.1, (omega (arith, at.2.0), at.2.1, at.2.2))
+]
 
 one_at : (nodes : List Node) (i : ℕ) (bytes : List ℕ) → i < length nodes → bytes ≡ spelling (get_or nodes i no_node) → IsOneOf nodes bytes
 one_at [] i bytes lt is = absurd (omega arith)
@@ -56,9 +56,9 @@ module _ {A : Type 0} (result : Result A BuildFault) (old new : List ℕ → Typ
 
 pub gained_nodes : (old new : List ℕ → Type 0) (tree : List (List Node)) → GrownByAll old new (IsOneOf (join tree)) → GrownByAll old new (IsNodeOf tree)
 gained_nodes old new tree gained bytes = (
-    (λ has. elim ((gained bytes).0 has) [ inl was ↦ inl was | inr one ↦ inr (place_in tree bytes one) ]),
-    (λ is. elim is [ inl was ↦ (gained bytes).1 (inl was) | inr at ↦ (gained bytes).1 (inr (one_in tree at.0 at.1 bytes at.2)) ]),
-  )
+  (λ has. elim ((gained bytes).0 has) [ inl was ↦ inl was | inr one ↦ inr (place_in tree bytes one) ]),
+  (λ is. elim is [ inl was ↦ (gained bytes).1 (inl was) | inr at ↦ (gained bytes).1 (inr (one_in tree at.0 at.1 bytes at.2)) ]),
+)
 
 -- ---- from level to level
 
@@ -137,12 +137,12 @@ module _ (shape : Shape) (tree : ℕ) (entries : List Binding) (level : ℕ) (li
           → (next : ℕ) × (levels shape tree entries ≡ (so.below ++ so.nodes ∷ []) ++ over ∷ levels_over next shape tree (level + 1) over) × (length over ≤ next)
       by zero enough whole two = absurd (omega arith)
       by (suc next) enough whole two = (
-          next,
-          whole ∙ ap (λ (above : List (List Node)). so.below ++ so.nodes ∷ above) (levels_step next shape tree level so.nodes two)
-          ∙ ap (λ (ns : List Node). so.below ++ so.nodes ∷ ns ∷ levels_over next shape tree (level + 1) ns) (sym over_is)
-          ∙ sym (append_assoc so.below (so.nodes ∷ []) (over ∷ levels_over next shape tree (level + 1) over)),
-          omega (arith, ap (length {A = Node}) over_is, level_half shape tree level so.nodes),
-        )
+        next,
+        whole ∙ ap (λ (above : List (List Node)). so.below ++ so.nodes ∷ above) (levels_step next shape tree level so.nodes two)
+            ∙ ap (λ (ns : List Node). so.below ++ so.nodes ∷ ns ∷ levels_over next shape tree (level + 1) ns) (sym over_is)
+            ∙ sym (append_assoc so.below (so.nodes ∷ []) (over ∷ levels_over next shape tree (level + 1) over)),
+        omega (arith, ap (length {A = Node}) over_is, level_half shape tree level so.nodes),
+      )
 
   -- a node of the next level is refused
   pub rising_stopped : {A B : Type 0} (step : Result A BuildFault) (whole : Result B BuildFault) (fault : BuildFault) (new : List ℕ → Type 0) → 2 ≤ length links

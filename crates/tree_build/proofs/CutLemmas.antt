@@ -28,7 +28,7 @@ module _ {X : Type 0} (ends : ℕ → X → Bool) (items : List X) (len : ℕ) (
   ends_here few e =
       let n : length (take (len + 1) items) ≡ len + 1 = length-take-le (len + 1) items (omega arith) in
       let cut : pieces ends items ≡ take (len + 1) items ∷ pieces ends (drop (len + 1) items) = so ∙ pieces_at ends items len x lt is
-          ∙ ap (λ b. cond b (take (len + 1) items ∷ pieces_from ends [] (drop (len + 1) items)) (pieces_from ends (take (len + 1) items) (drop (len + 1) items))) e in
+      ∙ ap (λ b. cond b (take (len + 1) items ∷ pieces_from ends [] (drop (len + 1) items)) (pieces_from ends (take (len + 1) items) (drop (len + 1) items))) e in
       record {
         front = rw n refl;
         within = omega (arith, n);

@@ -37,7 +37,7 @@ module _ {X Y : Type 0} (shape : Shape) (marked : Y → Bool) (f : X → Y) (mak
         first_node
         ∙ ap (λ (ps : List (List X)). make (map f piece) ∷ map make (map (map f) ps)) (sym (some_pieces (ends_by shape (λ x. marked (f x))) (drop (length piece) xs) some))
         ∙ ap (λ (ps : List (List Y)). make (map f piece) ∷ map make ps)
-          (sym (least_maps f (pieces (ends_by shape (λ x. marked (f x))) (drop (length piece) xs))) ∙ ap one_at_least (sym (over_pieces (drop (length piece) xs))))
+        (sym (least_maps f (pieces (ends_by shape (λ x. marked (f x))) (drop (length piece) xs))) ∙ ap one_at_least (sym (over_pieces (drop (length piece) xs))))
 
     -- and where nothing is left, none
     pub last_node : drop (length piece) xs ≡ [] → nodes_over xs ≡ make (map f piece) ∷ []
@@ -115,6 +115,6 @@ pub within_piece : (ends : ℕ → Child → Bool) (children : List Child) (star
 within_piece ends children start piece first within = record {
   greatest = piece_all (λ (l : Link). length l.greatest ≤ 8203) link_of ends (drop start children) piece first (rest_all (λ (l : Link). length l.greatest ≤ 8203) link_of start children within.greatest);
   few = let part : numbers_of (links_of piece) ≤ numbers_of (links_of (drop start children)) =
-            subst (λ (cs : List Child). numbers_of (links_of cs) ≤ numbers_of (links_of (drop start children))) (sym first.front) (sum_part (drop start children) (length piece)) in
-        omega (arith, sum_rest children start, within.few);
+      subst (λ (cs : List Child). numbers_of (links_of cs) ≤ numbers_of (links_of (drop start children))) (sym first.front) (sum_part (drop start children) (length piece)) in
+      omega (arith, sum_rest children start, within.few);
 }

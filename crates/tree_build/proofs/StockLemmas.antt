@@ -28,15 +28,15 @@ gained_none held bytes = (λ has. inl has, λ is. elim is [ inl has ↦ has | in
 -- nodes gained after others
 pub gained_more : (old mid new : List ℕ → Type 0) (xs ys : List Node) → GrownByAll old mid (IsOneOf xs) → GrownByAll mid new (IsOneOf ys) → GrownByAll old new (IsOneOf (xs ++ ys))
 gained_more old mid new xs ys first last bytes = (
-    (λ has. elim ((last bytes).0 has) [
-      | inl before ↦ elim ((first bytes).0 before) [ inl was ↦ inl was | inr is ↦ inr (one_of_first xs ys bytes is) ]
-      | inr is ↦ inr (one_of_last xs ys bytes is)
-    ]),
-    (λ is. elim is [
-      | inl was ↦ (last bytes).1 (inl ((first bytes).1 (inl was)))
-      | inr one ↦ elim (one_of_parts xs ys bytes one) [ inl is ↦ (last bytes).1 (inl ((first bytes).1 (inr is))) | inr is ↦ (last bytes).1 (inr is) ]
-    ]),
-  )
+  (λ has. elim ((last bytes).0 has) [
+    | inl before ↦ elim ((first bytes).0 before) [ inl was ↦ inl was | inr is ↦ inr (one_of_first xs ys bytes is) ]
+    | inr is ↦ inr (one_of_last xs ys bytes is)
+  ]),
+  (λ is. elim is [
+    | inl was ↦ (last bytes).1 (inl ((first bytes).1 (inl was)))
+    | inr one ↦ elim (one_of_parts xs ys bytes one) [ inl is ↦ (last bytes).1 (inl ((first bytes).1 (inr is))) | inr is ↦ (last bytes).1 (inr is) ]
+  ]),
+)
 
 -- all nodes were put
 pub put_whole : {A : Type 0} (value : A) (old new : List ℕ → Type 0) (nodes : List Node) → GrownByAll old new (IsOneOf nodes) → PutAll (Ok value) old new nodes

@@ -42,8 +42,7 @@ pub fn build(
     // Whatever the result, each node that was held is held,
     ensures kept { (bytes : List ℕ) → HasNode stock.old bytes → HasNode stock.new bytes }
     // and each node that is held was held or is a node of the tree.
-    ensures only_its_nodes {
-        let built = levels (shape_of shape) (number_of tree) (bindings_of entries.now) in
+    ensures only_its_nodes { let built = levels (shape_of shape) (number_of tree) (bindings_of entries.now) in
         (bytes : List ℕ) → HasNode stock.new bytes → HasNode stock.old bytes ⊎ IsNodeOf built bytes }
     // Where it tells of a clash, two different nodes have one digest: a node of the tree, and a node of
     // the stock as it was or of the tree.

@@ -26,10 +26,10 @@ pub(crate) fn put_level<'a>(
 ) -> Result<Vec<Child<'a>>, BuildFault>
     requires { AreWithin (links_of children.now) }
     ensures links { let nodes = map (Inner (number_of tree) level)
-            (one_at_least (pieces (ends_by (shape_of shape) is_marked_link) (links_of children.now))) in
+        (one_at_least (pieces (ends_by (shape_of shape) is_marked_link) (links_of children.now))) in
         IfOk result (λ parents. links_of parents.items ≡ map link_to nodes) }
     ensures put { let nodes = map (Inner (number_of tree) level)
-            (one_at_least (pieces (ends_by (shape_of shape) is_marked_link) (links_of children.now))) in
+        (one_at_least (pieces (ends_by (shape_of shape) is_marked_link) (links_of children.now))) in
         PutAll result (HasNode stock.old) (HasNode stock.new) nodes }
 {
     let mut parents = Vec::new(alloc);

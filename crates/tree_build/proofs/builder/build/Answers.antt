@@ -42,7 +42,7 @@ no_level c =
     rising_stopped (shape_of c.args.shape) (number_of c.args.tree) (bindings_of c.args.entries.now) c.loop-alloc.level links (HasNode c.args.stock.now) (HasNode c.loop-alloc.stock) c.loop-alloc.invariant
     (Err c.in_err-children-2.field-0.0) r c.in_err-children-2.field-0.0 (HasNode c.put_level.new.stock) many
     (subst (λ (cs : List Child). PutAll (Err c.in_err-children-2.field-0.0) (HasNode c.loop-alloc.stock) (HasNode c.put_level.new.stock) (map (Inner (number_of c.args.tree) c.loop-alloc.level) (one_at_least (pieces (ends_by (shape_of c.args.shape) is_marked_link) (links_of cs)))))
-      c.as_slice.ensures.value c.in_err-children-2.ensures.put)
+    c.as_slice.ensures.value c.in_err-children-2.ensures.put)
     refl (err_is r c.in_err-children-2.field-0.0 c.from_residual-in_err-children-2.ensures.1)
 
 pub returns-in_err-children-2-clause-only_its_nodes : goal.returns-in_err-children-2-clause-only_its_nodes
@@ -84,7 +84,7 @@ returns-clause-gained c =
     let tree = levels (shape_of c.args.shape) (number_of c.args.tree) (bindings_of c.args.entries.now) in
     gained_nodes (HasNode c.args.stock.now) (HasNode c.loop-alloc.stock) tree
     (rising_gained (shape_of c.args.shape) (number_of c.args.tree) (bindings_of c.args.entries.now) c.loop-alloc.level links (HasNode c.args.stock.now) (HasNode c.loop-alloc.stock) c.loop-alloc.invariant
-      (omega (arith, length-map c.loop-alloc.children.items link_of, c.loop-alloc.children.ok.0, c.len.ensures)))
+    (omega (arith, length-map c.loop-alloc.children.items link_of, c.loop-alloc.children.ok.0, c.len.ensures)))
 
 pub returns-clause-only_its_nodes : goal.returns-clause-only_its_nodes
 returns-clause-only_its_nodes c =
@@ -92,5 +92,5 @@ returns-clause-only_its_nodes c =
     let tree = levels (shape_of c.args.shape) (number_of c.args.tree) (bindings_of c.args.entries.now) in
     only_nodes (Ok c.loop-alloc.level) (HasNode c.args.stock.now) (HasNode c.loop-alloc.stock) tree
     (put_whole c.loop-alloc.level (HasNode c.args.stock.now) (HasNode c.loop-alloc.stock) (join tree)
-      (rising_gained (shape_of c.args.shape) (number_of c.args.tree) (bindings_of c.args.entries.now) c.loop-alloc.level links (HasNode c.args.stock.now) (HasNode c.loop-alloc.stock) c.loop-alloc.invariant
-        (omega (arith, length-map c.loop-alloc.children.items link_of, c.loop-alloc.children.ok.0, c.len.ensures))))
+    (rising_gained (shape_of c.args.shape) (number_of c.args.tree) (bindings_of c.args.entries.now) c.loop-alloc.level links (HasNode c.args.stock.now) (HasNode c.loop-alloc.stock) c.loop-alloc.invariant
+    (omega (arith, length-map c.loop-alloc.children.items link_of, c.loop-alloc.children.ok.0, c.len.ensures))))

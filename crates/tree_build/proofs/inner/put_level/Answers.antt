@@ -49,8 +49,8 @@ all_put c =
     let first = first_of_rest ends c.args.children.now c.loop-parents.start piece c.first_piece-piece.ensures in
     let all = map (Inner (number_of c.args.tree) c.args.level) (one_at_least (pieces (ends_by (shape_of c.args.shape) is_marked_link) (links_of c.args.children.now))) in
     let last = step_last (shape_of c.args.shape) is_marked_link link_of (Inner (number_of c.args.tree) c.args.level) (HasNode c.args.stock.now) (HasNode c.loop-parents.stock) (HasNode c.put_inner.new.stock)
-        (links_of c.loop-parents.parents.items) all rest piece first c.loop-parents.invariant.so_far c.in_ok-put_inner.ensures.put.gained
-        (drop_end c.args.children.now c.loop-parents.start (length piece) c.if-start-children.true) in
+    (links_of c.loop-parents.parents.items) all rest piece first c.loop-parents.invariant.so_far c.in_ok-put_inner.ensures.put.gained
+    (drop_end c.args.children.now c.loop-parents.start (length piece) c.if-start-children.true) in
     subst (λ (ls : List Link). Underway (HasNode c.args.stock.now) (HasNode c.put_inner.new.stock) ls all [])
     (sym (links_more c.loop-parents.parents.items c.push.new.self.items c.in_ok-put_inner.field-0 (link_to (inner_of c.args.tree c.args.level piece)) c.in_ok-push.ensures.items c.in_ok-put_inner.ensures.link)) last
 
@@ -73,7 +73,7 @@ loop-parents-preserved c =
     let all = map (Inner (number_of c.args.tree) c.args.level) (one_at_least (pieces (ends_by (shape_of c.args.shape) is_marked_link) (links_of c.args.children.now))) in
     let more = drop_some c.args.children.now c.loop-parents.start (length piece) c.loop-parents.invariant.within first.within c.if-start-children.false in
     let next = step_next (shape_of c.args.shape) is_marked_link link_of (Inner (number_of c.args.tree) c.args.level) (HasNode c.args.stock.now) (HasNode c.loop-parents.stock) (HasNode c.put_inner.new.stock)
-        (links_of c.loop-parents.parents.items) all rest piece first c.loop-parents.invariant.so_far c.in_ok-put_inner.ensures.put.gained more in
+    (links_of c.loop-parents.parents.items) all rest piece first c.loop-parents.invariant.so_far c.in_ok-put_inner.ensures.put.gained more in
     let linked = links_more c.loop-parents.parents.items c.push.new.self.items c.in_ok-put_inner.field-0 (link_to (inner_of c.args.tree c.args.level piece)) c.in_ok-push.ensures.items c.in_ok-put_inner.ensures.link in
     record {
       within = omega (arith, first.within, length-drop c.loop-parents.start c.args.children.now);

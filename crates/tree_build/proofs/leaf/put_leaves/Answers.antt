@@ -51,8 +51,8 @@ all_put c =
     let first = first_of_rest ends c.args.entries.now c.loop-children.start piece c.first_piece-piece.ensures in
     let all = leaves (shape_of c.args.shape) (number_of c.args.tree) (bindings_of c.args.entries.now) in
     let last = step_last (shape_of c.args.shape) is_marked_entry binding_of (Leaf (number_of c.args.tree)) (HasNode c.args.stock.now) (HasNode c.loop-children.stock) (HasNode c.put_leaf.new.stock)
-        (links_of c.loop-children.children.items) all rest piece first c.loop-children.invariant.so_far c.in_ok-put_leaf.ensures.put.gained
-        (drop_end c.args.entries.now c.loop-children.start (length piece) c.if-start-entries.true) in
+    (links_of c.loop-children.children.items) all rest piece first c.loop-children.invariant.so_far c.in_ok-put_leaf.ensures.put.gained
+    (drop_end c.args.entries.now c.loop-children.start (length piece) c.if-start-entries.true) in
     subst (λ (ls : List Link). Underway (HasNode c.args.stock.now) (HasNode c.put_leaf.new.stock) ls all [])
     (sym (links_more c.loop-children.children.items c.push.new.self.items c.in_ok-put_leaf.field-0 (link_to (leaf_of c.args.tree piece)) c.in_ok-push.ensures.items c.in_ok-put_leaf.ensures.link)) last
 
@@ -75,7 +75,7 @@ loop-children-preserved c =
     let all = leaves (shape_of c.args.shape) (number_of c.args.tree) (bindings_of c.args.entries.now) in
     let more = drop_some c.args.entries.now c.loop-children.start (length piece) c.loop-children.invariant.within first.within c.if-start-entries.false in
     let next = step_next (shape_of c.args.shape) is_marked_entry binding_of (Leaf (number_of c.args.tree)) (HasNode c.args.stock.now) (HasNode c.loop-children.stock) (HasNode c.put_leaf.new.stock)
-        (links_of c.loop-children.children.items) all rest piece first c.loop-children.invariant.so_far c.in_ok-put_leaf.ensures.put.gained more in
+    (links_of c.loop-children.children.items) all rest piece first c.loop-children.invariant.so_far c.in_ok-put_leaf.ensures.put.gained more in
     let linked = links_more c.loop-children.children.items c.push.new.self.items c.in_ok-put_leaf.field-0 (link_to (leaf_of c.args.tree piece)) c.in_ok-push.ensures.items c.in_ok-put_leaf.ensures.link in
     record {
       within = omega (arith, first.within, length-drop c.loop-children.start c.args.entries.now);
