@@ -7,15 +7,6 @@ use Rattle.tree_node.specs.Trees.{pieces, pieces_from, one_at_least, ends_by, Sh
 use Rattle.tree_node.proofs.PieceLemmas.{pieces_at, whole_piece}
 use Rattle.tree_build.specs.Building.{IsFirstPiece}
 
--- where no piece ends, the item is not its piece's 64th
-pub goes_on : {X : Type 0} (shape : Shape) (marked : X → Bool) (n : ℕ) (x : X) → ends_by shape marked n x ≡ false → n ≢ 64
-goes_on One marked n x e = λ same. let t : eqb n 64 ≡ true = rw same refl in cc
-goes_on Two marked n x e = λ same. let t : eqb n 64 ≡ true = rw same refl in or_goes (eqb n 64) (ltb 1 n && marked x) t e
-  where
-    or_goes : (a b : Bool) → a ≡ true → (a || b) ≡ false → ⊥
-    or_goes true b t e = cc
-    or_goes false b t e = cc
-
 module _ {X : Type 0} (ends : ℕ → X → Bool) (items : List X) (len : ℕ) (x : X) (lt : len < length items) (is : x ≡ get_or items len x)
     (so : pieces ends items ≡ pieces_from ends (take len items) (drop len items)) where
   -- one item more, and no piece ends

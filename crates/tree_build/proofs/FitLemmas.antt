@@ -9,6 +9,7 @@ use Rattle.tree_node.specs.NodeRefs.{binding_of, bindings_of, link_of, links_of}
 use Rattle.tree_node.specs.Trees.{FitsTree, last_key}
 use Rattle.tree_node.specs.declared.item.Item.{Item}
 use Rattle.tree_node.specs.declared.child.Child.{Child}
+use Rattle.tree_node.proofs.TreeLemmas.{numbers_of}
 use Rattle.tree_build.specs.Building.{AreWithin}
 
 -- what holds of each image, by recursion
@@ -40,9 +41,6 @@ greatest_fits children within k d lt =
     All-from_recursion (λ (c : Child). length c.greatest.now ≤ 8203) children (images (λ (l : Link). length l.greatest ≤ 8203) link_of children within.greatest) k d lt
 
 -- the sum of the numbers up to a child, and with it
-abbrev pub numbers_of : List Link → ℕ
-numbers_of links = sum_by (λ (link : Link). link.number) links
-
 pub sum_more : (children : List Child) (i : ℕ) (d : Child) → i < length children → numbers_of (links_of (take (i + 1) children)) ≡ numbers_of (links_of (take i children)) + (get_or children i d).number
 sum_more children i d lt =
     ap (λ (cs : List Child). numbers_of (links_of cs)) (take_more children i d lt)

@@ -5,7 +5,7 @@ ghost use Rattle.std.specs.Prelude.{◌≡◌, ◌≢◌, ◌+◌, ◌-◌, ◌*
 ghost use Rattle.tree_node.specs.Digests.{digest};
 ghost use Rattle.tree_node.specs.Nodes.{Binding, IsNode, IsTree, Leaf, Link, keys_of, level_of, tree_of};
 ghost use Rattle.tree_node.specs.Trees.{Clash, HasTree, IsNodeOf, Shape};
-ghost use Rattle.tree_node.specs.Trees.{entries_at, entries_below, entries_in, entry_count, item_count, last_key};
+ghost use Rattle.tree_node.specs.Trees.{entries_at, entries_below, entries_in, entry_count, greatest_of, item_count, last_key};
 ghost use Rattle.tree_node.specs.Trees.{level_at, levels, link_to, links_in, node_in, top_of};
 
 /// The law of what a tree is of: the list can be read off its leaves, and off each of its levels.
@@ -77,12 +77,18 @@ pub fn nodes_law()
         → level < length (levels shape tree entries)
         → place < length (level_at (levels shape tree entries) level)
         → tree_of (node_in (levels shape tree entries) level place) ≡ tree }
-    // What it counts is how many entries stand below it.
+    // What it counts is how many entries stand below it,
     ensures count { (shape : Shape) (tree : ℕ) (entries : List Binding) (level place : ℕ)
         → level < length (levels shape tree entries)
         → place < length (level_at (levels shape tree entries) level)
         → entry_count (node_in (levels shape tree entries) level place)
         ≡ length (entries_below (levels shape tree entries) level place) }
+    // and its greatest key is the last of theirs.
+    ensures greatest { (shape : Shape) (tree : ℕ) (entries : List Binding) (level place : ℕ)
+        → HasTree entries → level < length (levels shape tree entries)
+        → place < length (level_at (levels shape tree entries) level)
+        → greatest_of (node_in (levels shape tree entries) level place)
+        ≡ last_key (keys_of (entries_below (levels shape tree entries) level place)) }
     // The items of a level state how many entries stand below the nodes that they stand for.
     ensures stated { (shape : Shape) (tree : ℕ) (entries : List Binding) (level : ℕ)
         → level + 1 < length (levels shape tree entries)

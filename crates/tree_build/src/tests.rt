@@ -342,6 +342,31 @@ fn cuts_the_second_shape_at_marks(rt: HostRuntime) -> Result<(), Fail> {
 }
 
 #[test]
+fn builds_the_worked_tree_of_three_keys(rt: HostRuntime) -> Result<(), Fail> {
+    let alloc = rt.alloc();
+    let entries = keys_alone(alloc, b"\x09\x0a\x0b", 1)?;
+    let mut stock = Stock::new(alloc);
+    let top = built(
+        alloc,
+        entries.as_slice(),
+        Tree::Objects,
+        Shape::Two,
+        &mut stock,
+    )?;
+    assert_eq!(rt;
+        shown(alloc, &top)?.as_str(),
+        "fc4cfbb8206c1c9fc900051898370a35d77951a3ee2009605d817b556281fd3a"
+    );
+    let first = b"\x01\x00\x00\x02\x00\x01\x09\x00\x00\x00\x00\x00\x01\x0a\x00\x00\x00\x00";
+    let second = b"\x01\x00\x00\x01\x00\x01\x0b\x00\x00\x00\x00";
+    let mut shelf = stock.shelf(alloc);
+    assert_eq!(rt; shelf.fetch(&top)?.len(), 90);
+    assert_eq!(rt; shelf.fetch(&digest_of(first))?, first.as_slice());
+    assert_eq!(rt; shelf.fetch(&digest_of(second))?, second.as_slice());
+    Ok(())
+}
+
+#[test]
 fn adds_what_the_stock_lacks(rt: HostRuntime) -> Result<(), Fail> {
     let alloc = rt.alloc();
     let keys = single_bytes(alloc, 65)?;

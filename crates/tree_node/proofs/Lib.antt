@@ -10,6 +10,7 @@ pub mod PieceLaws
 pub mod PieceLemmas
 pub mod RecorderLemmas
 pub mod SkipLemmas
+pub mod TreeKeys
 pub mod TreeLaws
 pub mod TreeLemmas
 pub mod TreeParts

@@ -50,7 +50,7 @@ leaf_lengths : (tree : ℕ) (ps : List (List Binding)) → map (length {A = Bind
 leaf_lengths tree [] = refl
 leaf_lengths tree (p ∷ ps) = ap (λ (ns : List ℕ). length p ∷ ns) (leaf_lengths tree ps)
 
-numbers_linked : (nodes : List Node) → map entry_count nodes ≡ map number_in (map link_to nodes)
+pub numbers_linked : (nodes : List Node) → map entry_count nodes ≡ map number_in (map link_to nodes)
 numbers_linked [] = refl
 numbers_linked (n ∷ ns) = ap (λ (ks : List ℕ). entry_count n ∷ ks) (numbers_linked ns)
 

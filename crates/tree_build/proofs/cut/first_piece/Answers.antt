@@ -2,7 +2,8 @@ use Rattle.std.proofs.Common.{◌≡◌, ◌≢◌, ◌+◌, ◌<◌, ◌≤◌,
 use Rattle.std.proofs.Math.Seq.{take-length, drop-length}
 use Rattle.tree_build.specs.Shapes.{shape_of}
 use Rattle.tree_node.specs.Trees.{ends_by, pieces_from}
-use Rattle.tree_build.proofs.CutLemmas.{goes_on, one_more, ends_here, ends_with_list}
+use Rattle.tree_node.proofs.PieceLaws.{goes_on}
+use Rattle.tree_build.proofs.CutLemmas.{one_more, ends_here, ends_with_list}
 use Rattle.tree_build.proofs.cut.first_piece.Goals as goal
 
 pub returns-then-ends_after : goal.returns-then-ends_after

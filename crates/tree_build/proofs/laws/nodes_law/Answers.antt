@@ -3,6 +3,7 @@ use Rattle.std.specs.List.{flat_map}
 use Rattle.std.proofs.lemmas.List.Elements.{All-from_recursion}
 use Rattle.tree_node.specs.Nodes.{Binding, Link, Node, IsNode, level_of, tree_of}
 use Rattle.tree_node.specs.Trees.{entries_at, level_at, levels, links_in, no_node}
+use Rattle.tree_node.proofs.TreeKeys.{greatest_below}
 use Rattle.tree_node.proofs.TreeLaws.{nodes_at, over_joined, pair_at, whole}
 use Rattle.tree_node.proofs.TreeParts.{count_below, kind_at, stated_at}
 use Rattle.tree_build.proofs.laws.nodes_law.Goals as goal
@@ -30,3 +31,7 @@ unfolding levels
 returns-clause-stated c = λ shape tree entries level.
     subst (λ (n : ℕ). n < length (whole shape tree entries) → map (λ (link : Link). link.number) (flat_map links_in (level_at (whole shape tree entries) n)) ≡ map (λ (part : List Binding). length part) (entries_at (whole shape tree entries) level)) (sym (add-one level))
     (stated_at shape tree entries level)
+
+pub returns-clause-greatest : goal.returns-clause-greatest
+unfolding levels
+returns-clause-greatest c = λ shape tree entries level place has lt at. greatest_below shape tree entries has level place lt at
