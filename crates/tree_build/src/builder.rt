@@ -7,12 +7,13 @@ ghost use Rattle.tree_node.specs.NodeRefs.{bindings_of, number_of};
 ghost use Rattle.tree_node.specs.Stocks.{HasNode};
 ghost use Rattle.tree_node.specs.Trees.{Clash, GrownByAll, HasTree, IsNodeOf, levels, top_of};
 
+use crate::Entry;
 use crate::fault::BuildFault;
 use crate::inner::put_level;
 use crate::leaf::put_leaves;
 use crate::shape::Shape;
 use std::alloc::Global;
-use tree_node::{Digest, Item, Stock, Tree};
+use tree_node::{Digest, Stock, Tree};
 
 /// Puts the nodes of the tree of these entries into the stock, and gives the digest of its top (this
 /// project's trees, docs/FORMATS.md). The digest stands for the list: no other list has a tree of this
@@ -27,7 +28,7 @@ use tree_node::{Digest, Item, Stock, Tree};
 /// the rest.
 pub fn build(
     alloc: Global,
-    entries: &[Item<'_>],
+    entries: &[Entry<'_>],
     tree: Tree,
     shape: Shape,
     stock: &mut Stock,

@@ -5,8 +5,9 @@ ghost use Rattle.tree_build.specs.Building.{IsFirstPiece};
 ghost use Rattle.tree_build.specs.Shapes.{shape_of};
 ghost use Rattle.tree_node.specs.Trees.{ends_by};
 
+use crate::Entry;
 use crate::shape::Shape;
-use tree_node::{Child, Item, digest_of};
+use tree_node::{Child, digest_of};
 
 /// The greatest number of items in a piece.
 const MOST_ITEMS: usize = 64;
@@ -24,7 +25,7 @@ pub(crate) trait Cut {
         ensures { result ≡ marked self.now };
 }
 
-impl<'a> Cut for Item<'a> {
+impl<'a> Cut for Entry<'a> {
     ghost use Rattle.tree_node.specs.NodeRefs.{binding_of};
     ghost use Rattle.tree_node.specs.Trees.{is_marked_entry};
 

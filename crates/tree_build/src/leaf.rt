@@ -9,16 +9,17 @@ ghost use Rattle.tree_node.specs.Nodes.{keys_of};
 ghost use Rattle.tree_node.specs.Stocks.{HasNode};
 ghost use Rattle.tree_node.specs.Trees.{FitsTree, last_key as key_at_end, leaves, link_to};
 
+use crate::Entry;
 use crate::cut::first_piece;
 use crate::fault::BuildFault;
 use crate::shape::Shape;
 use std::alloc::Global;
-use tree_node::{Child, Item, Stock, Tree, write_leaf};
+use tree_node::{Child, Stock, Tree, write_leaf};
 
 /// Puts the leaves over the entries into the stock, and gives what an inner node says of each.
 pub(crate) fn put_leaves<'a>(
     alloc: Global,
-    entries: &[Item<'a>],
+    entries: &[Entry<'a>],
     tree: Tree,
     shape: Shape,
     stock: &mut Stock,
@@ -45,7 +46,7 @@ pub(crate) fn put_leaves<'a>(
 fn put_leaf<'a>(
     alloc: Global,
     tree: Tree,
-    entries: &[Item<'a>],
+    entries: &[Entry<'a>],
     stock: &mut Stock,
 ) -> Result<Child<'a>, BuildFault>
     requires few { length entries.now ≤ 64 }
@@ -64,7 +65,7 @@ fn put_leaf<'a>(
 }
 
 /// The last key of these entries; of none the empty one.
-fn last_key<'a>(entries: &[Item<'a>]) -> &'a [u8]
+fn last_key<'a>(entries: &[Entry<'a>]) -> &'a [u8]
     ensures { result.now ≡ key_at_end (keys_of (bindings_of entries.now)) }
 {
     match entries.last() {
@@ -74,7 +75,7 @@ fn last_key<'a>(entries: &[Item<'a>]) -> &'a [u8]
 }
 
 /// The number of bytes of the leaf with these entries.
-fn leaf_len(entries: &[Item<'_>]) -> usize
+fn leaf_len(entries: &[Entry<'_>]) -> usize
     requires few { length entries.now ≤ 64 }
     requires fit { AllByRecursion FitsTree (bindings_of entries.now) }
 {

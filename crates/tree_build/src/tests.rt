@@ -15,7 +15,7 @@ use std::alloc::{AllocError, Global};
 use std::cmp::Ordering;
 use std::process::Abort;
 use std::test::Fail;
-use tree_node::{Digest, Item, NodeRef, Shelf, ShelfFault, Stock, Tree, digest_of};
+use tree_node::{Digest, NodeRef, Shelf, ShelfFault, Stock, Tree, digest_of};
 
 /// The digest in lower-case hexadecimal.
 fn shown(alloc: Global, digest: &Digest) -> Result<String, AllocError> {
@@ -27,7 +27,7 @@ fn shown(alloc: Global, digest: &Digest) -> Result<String, AllocError> {
 }
 
 /// Whether the entries have a tree.
-fn has_tree(entries: &[Item<'_>]) -> bool
+fn has_tree(entries: &[Entry<'_>]) -> bool
     ensures { IsTrue result → HasTree (bindings_of entries.now) }
 {
     let mut last: Option<&[u8]> = None;
@@ -56,7 +56,7 @@ fn is_above(last: Option<&[u8]>, key: &[u8]) -> bool
 /// The tree of these entries, which have one.
 fn built(
     alloc: Global,
-    entries: &[Item<'_>],
+    entries: &[Entry<'_>],
     tree: Tree,
     shape: Shape,
     stock: &mut Stock,
@@ -125,7 +125,7 @@ fn see_level<'a, S: Shelf<'a>>(
 }
 
 /// The tree of these entries is that of the row.
-fn meets(rt: &impl Abort, alloc: Global, entries: &[Item<'_>], row: &Row) -> Result<(), Fail> {
+fn meets(rt: &impl Abort, alloc: Global, entries: &[Entry<'_>], row: &Row) -> Result<(), Fail> {
     let mut stock = Stock::new(alloc);
     let top = built(alloc, entries, row.tree, row.shape, &mut stock)?;
     assert_eq!(rt; shown(alloc, &top)?.as_str(), row.top);
@@ -142,12 +142,12 @@ fn meets(rt: &impl Abort, alloc: Global, entries: &[Item<'_>], row: &Row) -> Res
 }
 
 /// The entries whose keys are these bytes, cut into keys of this many, without values.
-fn keys_alone(alloc: Global, keys: &[u8], len: usize) -> Result<Vec<Item<'_>>, AllocError>
+fn keys_alone(alloc: Global, keys: &[u8], len: usize) -> Result<Vec<Entry<'_>>, AllocError>
     requires { 0 < len }
 {
     let mut entries = Vec::new(alloc);
     for key in keys.chunks(len) {
-        entries.push(Item { key, value: b"" })?;
+        entries.push(Entry { key, value: b"" })?;
     }
     Ok(entries)
 }
@@ -210,7 +210,7 @@ fn builds_trees_of_entries_with_values(rt: HostRuntime) -> Result<(), Fail> {
         let squares = squares(rt.alloc(), row.entries)?;
         let mut entries = Vec::new(rt.alloc());
         for (key, value) in keys.as_slice().chunks(8).zip(&squares) {
-            entries.push(Item {
+            entries.push(Entry {
                 key,
                 value: value.as_bytes(),
             })?;
@@ -422,15 +422,15 @@ fn stands_after_refused_memory(rt: HostRuntime) -> Result<(), Fail> {
     let alloc = rt.alloc();
     // The second of these keys is marked: in the second shape there are two leaves.
     let entries = [
-        Item {
+        Entry {
             key: b"\x09",
             value: b"",
         },
-        Item {
+        Entry {
             key: b"\x0a",
             value: b"",
         },
-        Item {
+        Entry {
             key: b"\x0b",
             value: b"",
         },
