@@ -1,5 +1,5 @@
 -- A build that goes up from level to level.
-use Rattle.std.proofs.Common.{◌≡◌, ℕ, zero, suc, ◌+◌, ◌-◌, ◌*◌, ◌^◌, ◌<◌, ◌≤◌, List, [], ◌∷◌, ◌++◌, length, get_or, map, ◌⊎◌, inl, inr, Result, Ok, Err, IsErrAnd, IfOk, refl, sym, ap, subst, ◌∙◌, append_assoc, length-append, arith}
+use Rattle.std.proofs.Common.{◌≡◌, ℕ, zero, suc, ◌+◌, ◌-◌, ◌^◌, ◌<◌, ◌≤◌, List, [], ◌∷◌, ◌++◌, length, get_or, map, ◌⊎◌, inl, inr, Result, Err, refl, sym, ap, subst, ◌∙◌, append_assoc, length-append, arith}
 use Rattle.std.specs.List.{AllByRecursion}
 use Rattle.std.proofs.lemmas.List.{append-nil, length-map}
 use Rattle.std.proofs.lemmas.Grind.{flat_map-append}
@@ -7,14 +7,14 @@ use Rattle.std.proofs.Math.Nat.{pow-suc}
 use Rattle.tree_node.specs.Digests.{digest}
 use Rattle.tree_node.specs.Nodes.{Binding, Link, Node, Inner, spelling}
 use Rattle.tree_node.specs.NodeRefs.{link_of, links_of}
-use Rattle.tree_node.specs.Trees.{Shape, pieces, one_at_least, ends_by, is_marked_link, link_to, leaves, level_over, levels_over, levels, level_at, node_in, no_node, top_of, Stands, IsNodeOf, Clash as Clashes, GrownByAll, FitsTree, HasTree}
+use Rattle.tree_node.specs.Trees.{Shape, pieces, one_at_least, ends_by, is_marked_link, link_to, leaves, level_over, levels_over, levels, level_at, no_node, top_of, Stands, IsNodeOf, Clash as Clashes, GrownByAll, HasTree}
 use Rattle.tree_node.specs.declared.child.Child.{Child}
 use Rattle.tree_node.proofs.PieceLemmas.{join}
 use Rattle.tree_node.proofs.TreeLemmas.{tree_is, leaves_some, leaves_few, level_some, level_half, levels_step, levels_end, over_some, level_numbers, leaf_numbers, level_short, leaf_short, numbers_of, HasShort}
 use Rattle.tree_build.specs.declared.fault.BuildFault.{BuildFault}
 use Rattle.tree_build.specs.declared.fault.BuildFault.TheVariants.{Clash}
 use Rattle.tree_build.specs.Building.{AreWithin, IsOneOf, PutAll}
-use Rattle.tree_build.proofs.StockLemmas.{one_of_first, one_of_last, one_of_parts, gained_none, gained_more, put_stopped, put_whole}
+use Rattle.tree_build.proofs.StockLemmas.{one_of_first, one_of_last, one_of_parts, gained_none, gained_more, put_stopped}
 
 -- ---- the nodes of a tree, by their places or one level behind the other
 

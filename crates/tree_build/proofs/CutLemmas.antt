@@ -1,9 +1,8 @@
 -- The first piece of a list, as a loop over its items finds it.
-use Rattle.std.proofs.Common.{◌≡◌, ◌≢◌, ℕ, zero, suc, ◌+◌, ◌<◌, ◌≤◌, List, [], ◌∷◌, length, get_or, take, drop, Bool, true, false, cond, eqb, ltb, ◌&&◌, ◌||◌, refl, sym, ap, ◌∙◌, arith}
+use Rattle.std.proofs.Common.{◌≡◌, ℕ, ◌+◌, ◌<◌, ◌≤◌, List, [], ◌∷◌, length, get_or, take, drop, Bool, true, false, cond, refl, sym, ap, ◌∙◌, arith}
 use Rattle.std.proofs.lemmas.List.{length-take-le}
 use Rattle.std.proofs.Math.Seq.{drop-length, take-length}
-use Rattle.std.proofs.lemmas.Bool.Decides.{nat_tests}
-use Rattle.tree_node.specs.Trees.{pieces, pieces_from, one_at_least, ends_by, Shape, One, Two}
+use Rattle.tree_node.specs.Trees.{pieces, pieces_from, one_at_least}
 use Rattle.tree_node.proofs.PieceLemmas.{pieces_at, whole_piece}
 use Rattle.tree_build.specs.Building.{IsFirstPiece}
 

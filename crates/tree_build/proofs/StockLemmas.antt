@@ -1,8 +1,8 @@
 -- Sets that gain the nodes of a tree, one after the other.
 use Rattle.std.proofs.Common.{◌≡◌, ℕ, List, [], ◌∷◌, ◌++◌, map, ◌⊎◌, inl, inr, Result, Ok, Err, OnOk, refl, sym, ap, subst, ◌∙◌, append_assoc}
 use Rattle.std.proofs.lemmas.List.{map-append, append-nil}
-use Rattle.tree_node.specs.Nodes.{Link, Node, spelling}
-use Rattle.tree_node.specs.Trees.{Clash as Clashes, GrownByAll, link_to}
+use Rattle.tree_node.specs.Nodes.{Link, Node}
+use Rattle.tree_node.specs.Trees.{GrownByAll, link_to}
 use Rattle.tree_build.specs.declared.fault.BuildFault.{BuildFault}
 use Rattle.tree_build.specs.declared.fault.BuildFault.TheVariants.{Clash, Memory}
 use Rattle.tree_build.specs.Building.{IsOneOf, PutAll}

@@ -1,7 +1,7 @@
 -- What the steps of a build promise of the stock.
-use Rattle.std.specs.Prelude.{◌≡◌, ℕ, List, [], ◌∷◌, ◌++◌, ◌⊎◌, ◌≤◌, length, take, drop, Result, Err, OnOk, sum_by, Bool}
+use Rattle.std.specs.Prelude.{◌≡◌, ℕ, List, [], ◌∷◌, ◌⊎◌, ◌≤◌, length, take, drop, Result, Err, OnOk, sum_by, Bool}
 use Rattle.std.specs.List.{AllByRecursion}
-use Rattle.tree_node.specs.Nodes.{Binding, Link, Node, spelling}
+use Rattle.tree_node.specs.Nodes.{Link, Node, spelling}
 use Rattle.tree_node.specs.Trees.{Clash as Clashes, GrownByAll, pieces, one_at_least}
 use Rattle.tree_node.specs.declared.stock.PutFault.{PutFault}
 use Rattle.tree_node.specs.declared.stock.PutFault.TheVariants as puts

@@ -1,5 +1,5 @@
 -- What a piece of a list is like.
-use Rattle.std.proofs.Common.{◌≡◌, ℕ, zero, suc, ◌+◌, ◌<◌, ◌≤◌, ◌≢◌, List, [], ◌∷◌, ◌++◌, length, map, Bool, true, false, cond, eqb, ltb, ◌&&◌, ◌||◌, Option, Some, None, refl, sym, ap, subst, ◌∙◌, length-append, arith}
+use Rattle.std.proofs.Common.{◌≡◌, ℕ, ◌+◌, ◌<◌, ◌≤◌, ◌≢◌, List, [], ◌∷◌, ◌++◌, length, map, Bool, true, false, eqb, ltb, ◌&&◌, ◌||◌, Option, Some, None, refl, sym, ap, subst, length-append, arith}
 use Rattle.std.specs.Prelude.{IfSome}
 use Rattle.std.specs.List.{AllByRecursion}
 use Rattle.tree_node.specs.Order.{IsBelow}
@@ -33,8 +33,8 @@ sized_from {X} shape marked piece (x ∷ xs) few =
     let n : length (piece ++ x ∷ []) ≡ length piece + 1 = length-append piece (x ∷ []) in
     subst (λ (ps : List (List X)). AllByRecursion IsSized ps) (sym (pieces_step (ends_by shape marked) piece x xs))
     (chosen (λ (ps : List (List X)). AllByRecursion IsSized ps) (ends_by shape marked (length piece + 1) x) ((piece ++ x ∷ []) ∷ pieces_from (ends_by shape marked) [] xs) (pieces_from (ends_by shape marked) (piece ++ x ∷ []) xs)
-      (λ _. ((omega (arith, n), omega (arith, n)), sized_from shape marked [] xs (omega arith)))
-      (λ goes. let not_last = goes_on shape marked (length piece + 1) x goes in sized_from shape marked (piece ++ x ∷ []) xs (omega (arith, n, not_last))))
+    (λ _. ((omega (arith, n), omega (arith, n)), sized_from shape marked [] xs (omega arith)))
+    (λ goes. let not_last = goes_on shape marked (length piece + 1) x goes in sized_from shape marked (piece ++ x ∷ []) xs (omega (arith, n, not_last))))
 
 -- each piece has 1 to 64 items
 pub pieces_sized : {X : Type 0} (shape : Shape) (marked : X → Bool) (xs : List X) → AllByRecursion IsSized (pieces (ends_by shape marked) xs)

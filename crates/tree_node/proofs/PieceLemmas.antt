@@ -1,5 +1,5 @@
 -- The pieces of lists.
-use Rattle.std.proofs.Common.{◌≡◌, ℕ, zero, suc, ◌+◌, ◌*◌, ◌<◌, ◌≤◌, List, [], ◌∷◌, ◌++◌, length, get_or, take, drop, map, Bool, true, false, cond, refl, sym, ap, subst, ◌∙◌, append_assoc, add-one, length-append, arith}
+use Rattle.std.proofs.Common.{◌≡◌, ℕ, suc, ◌+◌, ◌*◌, ◌<◌, ◌≤◌, List, [], ◌∷◌, ◌++◌, length, get_or, take, drop, map, Bool, true, false, cond, refl, sym, ap, subst, ◌∙◌, append_assoc, add-one, length-append, arith}
 use Rattle.std.specs.List.{flat_map, AllByRecursion}
 use Rattle.std.proofs.lemmas.List.{append-nil, map-append, take_more, length-take-le}
 use Rattle.std.proofs.lemmas.List.{length-map}
@@ -55,9 +55,9 @@ pieces_map {X} {Y} f ends piece (x ∷ xs) =
     pieces_step ends (map f piece) (f x) (map f xs)
     ∙ ap (λ n. cond (ends (n + 1) (f x)) ((map f piece ++ f x ∷ []) ∷ pieces_from ends [] (map f xs)) (pieces_from ends (map f piece ++ f x ∷ []) (map f xs))) (length-map piece f)
     ∙ both (map (map f)) (ends (length piece + 1) (f x)) ((map f piece ++ f x ∷ []) ∷ pieces_from ends [] (map f xs)) (pieces_from ends (map f piece ++ f x ∷ []) (map f xs))
-        ((piece ++ x ∷ []) ∷ pieces_from (λ n y. ends n (f y)) [] xs) (pieces_from (λ n y. ends n (f y)) (piece ++ x ∷ []) xs)
-        (ap (λ (p : List Y). p ∷ pieces_from ends [] (map f xs)) (sym (map-append f piece (x ∷ []))) ∙ ap (λ (ps : List (List Y)). map f (piece ++ x ∷ []) ∷ ps) (pieces_map f ends [] xs))
-        (ap (λ (p : List Y). pieces_from ends p (map f xs)) (sym (map-append f piece (x ∷ []))) ∙ pieces_map f ends (piece ++ x ∷ []) xs)
+    ((piece ++ x ∷ []) ∷ pieces_from (λ n y. ends n (f y)) [] xs) (pieces_from (λ n y. ends n (f y)) (piece ++ x ∷ []) xs)
+    (ap (λ (p : List Y). p ∷ pieces_from ends [] (map f xs)) (sym (map-append f piece (x ∷ []))) ∙ ap (λ (ps : List (List Y)). map f (piece ++ x ∷ []) ∷ ps) (pieces_map f ends [] xs))
+    (ap (λ (p : List Y). pieces_from ends p (map f xs)) (sym (map-append f piece (x ∷ []))) ∙ pieces_map f ends (piece ++ x ∷ []) xs)
     ∙ ap (map (map f)) (sym (pieces_step (λ n y. ends n (f y)) piece x xs))
 
 -- the pieces where an item in the midst of the list comes
@@ -85,7 +85,7 @@ some_more {X} ends piece x (y ∷ ys) =
     let now = pieces_step ends (piece ++ x ∷ []) y ys in
     ap one_at_least now
     ∙ chosen (λ (ps : List (List X)). one_at_least ps ≡ ps) (ends (length (piece ++ x ∷ []) + 1) y) (((piece ++ x ∷ []) ++ y ∷ []) ∷ pieces_from ends [] ys) (pieces_from ends ((piece ++ x ∷ []) ++ y ∷ []) ys)
-      (λ _. refl) (λ _. some_more ends (piece ++ x ∷ []) y ys)
+    (λ _. refl) (λ _. some_more ends (piece ++ x ∷ []) y ys)
     ∙ sym now
 
 -- a list that isn't empty has a piece

@@ -1,12 +1,12 @@
 -- The greatest keys below the nodes of a tree.
-use Rattle.std.proofs.Common.{◌≡◌, ℕ, zero, suc, ◌+◌, ◌<◌, ◌≤◌, List, [], ◌∷◌, ◌++◌, length, get_or, map, take, drop, refl, sym, ap, subst, ◌∙◌, arith, length-append}
-use Rattle.std.specs.List.{flat_map, AllByRecursion}
+use Rattle.std.proofs.Common.{◌≡◌, ℕ, zero, suc, ◌<◌, ◌≤◌, List, [], ◌∷◌, ◌++◌, length, get_or, map, take, drop, refl, sym, ap, ◌∙◌, arith, length-append}
+use Rattle.std.specs.List.{AllByRecursion}
 use Rattle.std.proofs.lemmas.List.{append-nil, drop-map, drop_at, get_or-map, length-map, map-append, take-map, take_at}
 use Rattle.tree_node.specs.Nodes.{Binding, Link, Node, Leaf, Inner, keys_of}
-use Rattle.tree_node.specs.Trees.{Shape, pieces, one_at_least, ends_by, is_marked_entry, is_marked_link, last_key, greatest_of, entry_count, link_to, levels, level_at, node_in, no_node, links_in, entries_in, below_each, entries_at, entries_below, HasTree}
+use Rattle.tree_node.specs.Trees.{Shape, pieces, one_at_least, ends_by, is_marked_entry, is_marked_link, last_key, greatest_of, link_to, level_at, node_in, no_node, entries_in, below_each, entries_at, entries_below, HasTree}
 use Rattle.tree_node.proofs.PieceLemmas.{join, pieces_join}
 use Rattle.tree_node.proofs.PieceLaws.{IsSized, pieces_sized}
-use Rattle.tree_node.proofs.TreeLaws.{entries_some, links_at, over_joined, pair_at, whole}
+use Rattle.tree_node.proofs.TreeLaws.{entries_some, links_at, pair_at, whole}
 use Rattle.tree_node.proofs.TreeParts.{counts_at, number_in, numbers_linked, parts_at}
 
 -- ---- last keys of lists, one behind the other
@@ -60,9 +60,9 @@ below_greatests tree level (p ∷ ps) parts sized some e =
     let all : map last_of parts ≡ map greatest_in p ++ map greatest_in (join ps) = e ∙ map-append greatest_in p (join ps) in
     let size : length (map greatest_in p) ≡ length p = length-map p greatest_in in
     let front : map last_of (take (length p) parts) ≡ map greatest_in p =
-        sym (take-map last_of (length p) parts) ∙ ap (λ (ks : List (List ℕ)). take (length p) ks) all ∙ take_at (map greatest_in p) (map greatest_in (join ps)) (length p) size in
+    sym (take-map last_of (length p) parts) ∙ ap (λ (ks : List (List ℕ)). take (length p) ks) all ∙ take_at (map greatest_in p) (map greatest_in (join ps)) (length p) size in
     let back : map last_of (drop (length p) parts) ≡ map greatest_in (join ps) =
-        sym (drop-map last_of (length p) parts) ∙ ap (λ (ks : List (List ℕ)). drop (length p) ks) all ∙ drop_at (map greatest_in p) (map greatest_in (join ps)) (length p) size in
+    sym (drop-map last_of (length p) parts) ∙ ap (λ (ks : List (List ℕ)). drop (length p) ks) all ∙ drop_at (map greatest_in p) (map greatest_in (join ps)) (length p) size in
     let many : 1 ≤ length (take (length p) parts) = omega (arith, sized.0.0, length-map (take (length p) parts) last_of, ap (length {A = List ℕ}) front, size) in
     let first : last_of (join (take (length p) parts)) ≡ last_key (map greatest_in p) = last_of_parts (take (length p) parts) many (some_taken (length p) parts some) ∙ ap last_key front in
     ap (λ (k : List ℕ). k ∷ map last_of (below_each (map (Inner tree level) ps) (drop (length p) parts))) first

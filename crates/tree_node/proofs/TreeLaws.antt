@@ -1,17 +1,14 @@
 -- What the tree of a list is like: how its levels stand over one another, its nodes, and the entries below them.
-use Rattle.std.proofs.Common.{◌≡◌, ℕ, zero, suc, ◌+◌, ◌-◌, ◌*◌, ◌^◌, ◌<◌, ◌≤◌, ◌≢◌, List, [], ◌∷◌, ◌++◌, length, get_or, map, take, drop, sum_by, Option, Some, None, inl, inr, refl, sym, ap, subst, ◌∙◌, arith, length-append}
+use Rattle.std.proofs.Common.{◌≡◌, ℕ, zero, suc, ◌+◌, ◌-◌, ◌^◌, ◌<◌, ◌≤◌, List, [], ◌∷◌, ◌++◌, length, map, None, refl, sym, ap, subst, ◌∙◌, arith}
 use Rattle.std.specs.List.{flat_map, AllByRecursion}
-use Rattle.std.proofs.lemmas.List.{append-nil, length-map, get_or-map}
-use Rattle.std.proofs.lemmas.List.Elements.{All-from_recursion}
-use Rattle.std.proofs.lemmas.List.Sums.{sum_by-append, sum_by-cons}
+use Rattle.std.proofs.lemmas.List.Sums.{sum_by-cons}
 use Rattle.std.proofs.Math.Nat.{pow-suc}
-use Rattle.tree_node.specs.Digests.{digest}
-use Rattle.tree_node.specs.Nodes.{Binding, Link, Node, Leaf, Inner, spelling, keys_of, greatests_of, AreRisingFrom, FitsEntry, FitsLink, IsNode, IsTree, level_of, tree_of}
-use Rattle.tree_node.specs.Trees.{Shape, pieces, one_at_least, ends_by, is_marked_entry, is_marked_link, last_key, greatest_of, entry_count, link_to, leaves, level_over, levels_over, levels, level_at, node_in, no_node, top_of, links_in, entries_in, item_count, below_each, entries_at, entries_below, FitsTree, HasTree}
+use Rattle.tree_node.specs.Nodes.{Binding, Link, Node, Leaf, Inner, spelling, keys_of, greatests_of, AreRisingFrom, FitsEntry, FitsLink, IsNode, IsTree}
+use Rattle.tree_node.specs.Trees.{Shape, pieces, one_at_least, ends_by, is_marked_entry, is_marked_link, last_key, link_to, leaves, level_over, levels_over, level_at, links_in, entries_in, FitsTree, HasTree}
 use Rattle.tree_node.proofs.DigestLemmas.{length-digest}
 use Rattle.tree_node.proofs.PieceLemmas.{join, least_joins, pieces_all, pieces_join, some_pieces}
 use Rattle.tree_node.proofs.PieceLaws.{IsSized, lasts, pieces_rise, pieces_sized}
-use Rattle.tree_node.proofs.TreeLemmas.{AreLevels, HasShort, leaf_numbers, leaf_short, leaves_few, leaves_some, levels_end, level_half, level_numbers, level_short, level_some, numbers_of, over_some, tree_is, tree_levels}
+use Rattle.tree_node.proofs.TreeLemmas.{AreLevels, HasShort, leaf_numbers, leaf_short, leaves_few, leaves_some, levels_end, level_half, level_numbers, level_short, level_some, numbers_of, over_some, tree_levels}
 
 -- ---- levels, one over the other
 
@@ -112,7 +109,7 @@ links_over shape tree level nodes some are =
     let sized = pieces_sized shape is_marked_link (map link_to nodes) in
     let all = λ (P : Link → Type 0) (h : AllByRecursion P (map link_to nodes)). subst (λ (qs : List (List Link)). AllByRecursion (AllByRecursion P) qs) (over_some shape nodes some) (pieces_all P (ends_by shape is_marked_link) (map link_to nodes) h) in
     let rise = pieces_rise (λ (l : Link). l.greatest) None ps sized
-        (subst (λ (ls : List Link). AreRisingFrom None (greatests_of ls)) (sym (pieces_join (ends_by shape is_marked_link) [] (map link_to nodes))) are.rising) in
+    (subst (λ (ls : List Link). AreRisingFrom None (greatests_of ls)) (sym (pieces_join (ends_by shape is_marked_link) [] (map link_to nodes))) are.rising) in
     record {
       short = level_short shape tree level nodes some are.short;
       some = some_over tree level ps sized (all (λ (l : Link). 1 ≤ l.number) are.some);
@@ -141,9 +138,9 @@ over_nodes shape tree level nodes is low high some are =
     let ps = pieces (ends_by shape is_marked_link) (map link_to nodes) in
     let sized = pieces_sized shape is_marked_link (map link_to nodes) in
     let fit = subst (λ (qs : List (List Link)). AllByRecursion (AllByRecursion FitsLink) qs) (over_some shape nodes some)
-        (pieces_all FitsLink (ends_by shape is_marked_link) (map link_to nodes) (fit_all (map link_to nodes) are.short are.some are.child are.total)) in
+    (pieces_all FitsLink (ends_by shape is_marked_link) (map link_to nodes) (fit_all (map link_to nodes) are.short are.some are.child are.total)) in
     let rise = pieces_rise (λ (l : Link). l.greatest) None ps sized
-        (subst (λ (ls : List Link). AreRisingFrom None (greatests_of ls)) (sym (pieces_join (ends_by shape is_marked_link) [] (map link_to nodes))) are.rising) in
+    (subst (λ (ls : List Link). AreRisingFrom None (greatests_of ls)) (sym (pieces_join (ends_by shape is_marked_link) [] (map link_to nodes))) are.rising) in
     nodes_over tree level ps is low high sized fit rise.0
 
 -- ---- leaves

@@ -1,12 +1,12 @@
 -- The levels of the tree of a list.
-use Rattle.std.proofs.Common.{◌≡◌, ℕ, zero, suc, ◌+◌, ◌-◌, ◌*◌, ◌^◌, ◌<◌, ◌≤◌, List, [], ◌∷◌, ◌++◌, length, get_or, map, sum_by, Bool, true, false, cond, ltb, inl, inr, refl, sym, ap, subst, ◌∙◌, arith, lt-ltb, le-ltb, length-append}
+use Rattle.std.proofs.Common.{◌≡◌, ℕ, zero, suc, ◌+◌, ◌-◌, ◌*◌, ◌<◌, ◌≤◌, List, [], ◌∷◌, length, map, sum_by, inl, inr, refl, sym, ap, subst, ◌∙◌, arith, lt-ltb, le-ltb, length-append}
 use Rattle.std.proofs.lemmas.Bool.{cases_lt}
-use Rattle.std.specs.List.{flat_map, AllByRecursion}
+use Rattle.std.specs.List.{AllByRecursion}
 use Rattle.std.proofs.lemmas.List.{length-map}
 use Rattle.std.proofs.lemmas.List.Sums.{sum_by-append, sum_by-cons}
-use Rattle.tree_node.specs.Nodes.{Binding, Link, Node, Leaf, Inner, spelling, keys_of, greatests_of}
-use Rattle.tree_node.specs.Trees.{Shape, pieces, one_at_least, ends_by, is_marked_entry, is_marked_link, last_key, greatest_of, entry_count, link_to, leaves, level_over, levels_over, levels, level_at, node_in, no_node, top_of, FitsTree, HasTree}
-use Rattle.tree_node.proofs.PieceLemmas.{join, chosen, least_joins, least_some, pieces_all, pieces_half, pieces_join, some_pieces, two_at_least}
+use Rattle.tree_node.specs.Nodes.{Binding, Link, Node, Leaf, Inner, keys_of, greatests_of}
+use Rattle.tree_node.specs.Trees.{Shape, pieces, one_at_least, ends_by, is_marked_entry, is_marked_link, last_key, link_to, leaves, level_over, levels_over, levels, FitsTree}
+use Rattle.tree_node.proofs.PieceLemmas.{join, least_joins, least_some, pieces_all, pieces_half, pieces_join, some_pieces, two_at_least}
 
 -- ---- how many nodes a level has
 

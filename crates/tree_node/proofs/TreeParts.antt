@@ -1,5 +1,5 @@
 -- The entries below the nodes of a tree, and how many items a node has.
-use Rattle.std.proofs.Common.{◌≡◌, ℕ, zero, suc, ◌+◌, ◌-◌, ◌<◌, ◌≤◌, List, [], ◌∷◌, ◌++◌, length, get_or, map, take, drop, sum_by, refl, sym, ap, subst, ◌∙◌, arith, length-append}
+use Rattle.std.proofs.Common.{◌≡◌, ℕ, zero, suc, ◌<◌, ◌≤◌, List, [], ◌∷◌, ◌++◌, length, get_or, map, take, drop, sum_by, refl, sym, ap, subst, ◌∙◌, arith, length-append}
 use Rattle.std.specs.Prelude.{sum}
 use Rattle.std.specs.List.{flat_map, AllByRecursion}
 use Rattle.std.proofs.lemmas.List.{drop-map, drop_at, get_or-map, length-drop, length-map, map-append, take-append-drop, take-map, take_at}
@@ -8,10 +8,9 @@ use Rattle.std.proofs.lemmas.List.Folds.{flat_map-map}
 use Rattle.std.proofs.lemmas.List.Sums.{sum-map}
 use Rattle.std.proofs.lemmas.Grind.{flat_map-append}
 use Rattle.tree_node.specs.Nodes.{Binding, Link, Node, Leaf, Inner, level_of, tree_of}
-use Rattle.tree_node.specs.Trees.{Shape, pieces, one_at_least, ends_by, is_marked_entry, is_marked_link, entry_count, link_to, leaves, level_over, levels, level_at, node_in, no_node, links_in, entries_in, item_count, below_each, entries_at, entries_below}
+use Rattle.tree_node.specs.Trees.{Shape, pieces, one_at_least, ends_by, is_marked_entry, is_marked_link, entry_count, link_to, leaves, level_at, node_in, no_node, links_in, entries_in, item_count, below_each, entries_at, entries_below}
 use Rattle.tree_node.proofs.PieceLemmas.{join, pieces_join, some_pieces}
 use Rattle.tree_node.proofs.PieceLaws.{IsSized, pieces_sized}
-use Rattle.tree_node.proofs.TreeLemmas.{tree_is}
 use Rattle.tree_node.proofs.TreeLaws.{leaves_joined, over_joined, pair_at, entries_some, whole}
 
 -- ---- how many entries stand below each node
@@ -28,11 +27,11 @@ below_lengths tree level (p ∷ ps) parts e =
     let whole : map (length {A = Binding}) parts ≡ map number_in p ++ map number_in (join ps) = e ∙ map-append number_in p (join ps) in
     let size : length (map number_in p) ≡ length p = length-map p number_in in
     let front : map (length {A = Binding}) (take (length p) parts) ≡ map number_in p =
-        sym (take-map (length {A = Binding}) (length p) parts) ∙ ap (λ (ns : List ℕ). take (length p) ns) whole ∙ take_at (map number_in p) (map number_in (join ps)) (length p) size in
+    sym (take-map (length {A = Binding}) (length p) parts) ∙ ap (λ (ns : List ℕ). take (length p) ns) whole ∙ take_at (map number_in p) (map number_in (join ps)) (length p) size in
     let back : map (length {A = Binding}) (drop (length p) parts) ≡ map number_in (join ps) =
-        sym (drop-map (length {A = Binding}) (length p) parts) ∙ ap (λ (ns : List ℕ). drop (length p) ns) whole ∙ drop_at (map number_in p) (map number_in (join ps)) (length p) size in
+    sym (drop-map (length {A = Binding}) (length p) parts) ∙ ap (λ (ns : List ℕ). drop (length p) ns) whole ∙ drop_at (map number_in p) (map number_in (join ps)) (length p) size in
     let first : length (join (take (length p) parts)) ≡ sum_by number_in p =
-        length-flat_map (λ (part : List Binding). part) (take (length p) parts) ∙ sym (sum-map (length {A = Binding}) (take (length p) parts)) ∙ ap sum front ∙ sum-map number_in p in
+    length-flat_map (λ (part : List Binding). part) (take (length p) parts) ∙ sym (sum-map (length {A = Binding}) (take (length p) parts)) ∙ ap sum front ∙ sum-map number_in p in
     ap (λ n. n ∷ map (length {A = Binding}) (below_each (map (Inner tree level) ps) (drop (length p) parts))) first
     ∙ ap (λ (ns : List ℕ). sum_by number_in p ∷ ns) (below_lengths tree level ps (drop (length p) parts) back)
 
@@ -84,7 +83,7 @@ module _ (shape : Shape) (tree : ℕ) (entries : List Binding) where
   joined_at (suc level) lt =
       let over = (pair_at shape tree entries level lt).1 in
       let same : length (entries_at ls level) ≡ length (join (cut_at level)) =
-          parts_at level (omega arith) ∙ sym (length-map (level_at ls level) link_to) ∙ ap (length {A = Link}) (sym (pieces_join (ends_by shape is_marked_link) [] (map link_to (level_at ls level)))) in
+      parts_at level (omega arith) ∙ sym (length-map (level_at ls level) link_to) ∙ ap (length {A = Link}) (sym (pieces_join (ends_by shape is_marked_link) [] (map link_to (level_at ls level)))) in
       ap (λ (ns : List Node). join (below_each ns (entries_at ls level))) over
       ∙ below_joined tree (suc level) (cut_at level) (entries_at ls level) same
       ∙ joined_at level (omega arith)

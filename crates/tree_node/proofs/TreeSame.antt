@@ -1,5 +1,5 @@
 -- Trees with one top: they are trees of one list, or hold two different nodes with one digest.
-use Rattle.std.proofs.Common.{◌≡◌, ◌≢◌, ℕ, zero, suc, ◌+◌, ◌-◌, ◌<◌, ◌≤◌, List, [], ◌∷◌, length, get_or, map, Bool, true, false, ◌⊎◌, inl, inr, refl, sym, ap, subst, ◌∙◌, arith}
+use Rattle.std.proofs.Common.{◌≡◌, ◌≢◌, ℕ, zero, suc, ◌-◌, ◌<◌, List, [], ◌∷◌, length, get_or, map, Bool, true, false, ◌⊎◌, inl, inr, refl, sym, ap, ◌∙◌, arith}
 use Rattle.std.specs.List.{flat_map, AllByRecursion}
 use Rattle.std.specs.Str.{bytes_eq}
 use Rattle.std.proofs.lemmas.Bool.{cases_Bool}
@@ -7,10 +7,10 @@ use Rattle.std.proofs.lemmas.List.Elements.{All-from_recursion, recursion_from_A
 use Rattle.std.proofs.lemmas.Slice.Eq.{bytes_eq-Decides}
 use Rattle.tree_node.specs.Digests.{digest}
 use Rattle.tree_node.specs.Nodes.{Binding, Link, Node, spelling, IsNode, IsTree, level_of, tree_of}
-use Rattle.tree_node.specs.Trees.{Shape, link_to, leaves, levels, level_at, node_in, no_node, links_in, entries_in, top_of, IsNodeOf, Clash, HasTree}
+use Rattle.tree_node.specs.Trees.{Shape, link_to, leaves, level_at, node_in, no_node, links_in, entries_in, top_of, IsNodeOf, Clash, HasTree}
 use Rattle.tree_node.proofs.FieldLemmas.{ok_is}
 use Rattle.tree_node.proofs.NodeLaws.{node_again}
-use Rattle.tree_node.proofs.TreeLemmas.{tree_is, tree_levels}
+use Rattle.tree_node.proofs.TreeLemmas.{tree_levels}
 use Rattle.tree_node.proofs.TreeLaws.{whole, above, last_has_one, leaves_joined, nodes_at, over_joined, pair_at}
 use Rattle.tree_node.proofs.TreeParts.{kind_at}
 
@@ -74,9 +74,9 @@ module _ (shape : Shape) (tree : ℕ) (is : IsTree tree) (xs ys : List Binding) 
   same_from zero lx ly e = inl (sym (leaves_joined shape tree xs) ∙ ap (flat_map entries_in) e ∙ leaves_joined shape tree ys)
   same_from (suc level) lx ly e =
       let below : map link_to (level_at A level) ≡ map link_to (level_at B level) =
-          sym (ap (flat_map links_in) (pair_at shape tree xs level lx).1 ∙ over_joined shape tree (suc level) (level_at A level))
-          ∙ ap (flat_map links_in) e
-          ∙ ap (flat_map links_in) (pair_at shape tree ys level ly).1 ∙ over_joined shape tree (suc level) (level_at B level) in
+      sym (ap (flat_map links_in) (pair_at shape tree xs level lx).1 ∙ over_joined shape tree (suc level) (level_at A level))
+      ∙ ap (flat_map links_in) e
+      ∙ ap (flat_map links_in) (pair_at shape tree ys level ly).1 ∙ over_joined shape tree (suc level) (level_at B level) in
       elim (same_nodes (IsNodeOf A) (IsNodeOf B) (level_at A level) (level_at B level) (of_level xs has_x level (omega arith)) (of_level ys has_y level (omega arith)) below) [
         | inl same ↦ same_from level (omega arith) (omega arith) same
         | inr clash ↦ inr clash

@@ -1,6 +1,6 @@
-use Rattle.std.proofs.Common.{◌≡◌, ◌≤◌, ◌<◌, ℕ, List, length, map, Ok, Err, arith, refl, sym, ap, subst, ◌∙◌}
+use Rattle.std.proofs.Common.{◌≤◌, List, length, map, Ok, Err, arith, refl, ap, subst, ◌∙◌}
 use Rattle.std.proofs.lemmas.List.{length-map}
-use Rattle.tree_node.specs.Nodes.{Inner, Link}
+use Rattle.tree_node.specs.Nodes.{Inner}
 use Rattle.tree_node.specs.NodeRefs.{bindings_of, link_of, links_of, number_of}
 use Rattle.tree_node.specs.Stocks.{HasNode}
 use Rattle.tree_node.specs.Trees.{GrownByAll, ends_by, is_marked_link, levels, link_to, one_at_least, pieces}
@@ -10,7 +10,7 @@ use Rattle.tree_build.specs.Shapes.{shape_of}
 use Rattle.tree_build.specs.Building.{IsOneOf, PutAll}
 use Rattle.tree_build.proofs.LevelLemmas.{err_is}
 use Rattle.tree_build.proofs.StockLemmas.{put_whole}
-use Rattle.tree_build.proofs.BuildLemmas.{Rising, only_nodes, clashing_nodes, gained_nodes, rising_first, rising_none, rising_within, rising_stopped, rising_next, rising_fewer, rising_gained, rising_top}
+use Rattle.tree_build.proofs.BuildLemmas.{only_nodes, clashing_nodes, gained_nodes, rising_first, rising_none, rising_stopped, rising_next, rising_fewer, rising_gained, rising_top}
 use Rattle.tree_build.proofs.builder.build.Goals as goal
 
 -- the leaves were refused

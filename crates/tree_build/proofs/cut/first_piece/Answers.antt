@@ -1,4 +1,4 @@
-use Rattle.std.proofs.Common.{◌≡◌, ◌≢◌, ◌+◌, ◌<◌, ◌≤◌, true, length, get_or, take, drop, arith, refl, sym, ap, ◌∙◌, subst, ℕ, add-one}
+use Rattle.std.proofs.Common.{◌≡◌, ◌≢◌, ◌+◌, length, get_or, take, drop, arith, refl, sym, ap, ◌∙◌}
 use Rattle.std.proofs.Math.Seq.{take-length, drop-length}
 use Rattle.tree_build.specs.Shapes.{shape_of}
 use Rattle.tree_node.specs.Trees.{ends_by, pieces_from}

@@ -1,4 +1,4 @@
-use Rattle.std.proofs.Common.{◌≡◌, ◌<◌, ◌≤◌, take, drop}
+use Rattle.std.proofs.Common.{◌≡◌, ◌<◌, take, drop}
 use Rattle.tree_build.specs.Shapes.{shape_of}
 use Rattle.tree_node.specs.Trees.{ends_by, pieces, pieces_from}
 use Rattle.tree_build.proofs.cut.first_piece.Given as goal

@@ -1,6 +1,6 @@
 use Rattle.std.proofs.Common.{◌≡◌, ℕ, suc, ◌+◌, ◌*◌, ◌<◌, ◌≤◌, List, length, map, add-one, ap, sym, subst, ◌∙◌, arith}
 use Rattle.std.specs.List.{flat_map}
-use Rattle.tree_node.specs.Nodes.{Binding, Link, Node}
+use Rattle.tree_node.specs.Nodes.{Binding, Node}
 use Rattle.tree_node.specs.Trees.{Shape, leaves, level_at, levels, link_to, links_in}
 use Rattle.tree_node.proofs.TreeLemmas.{level_half, tree_levels}
 use Rattle.tree_node.proofs.TreeLaws.{above, last_has_one, over_joined, pair_at, whole, whole_few}

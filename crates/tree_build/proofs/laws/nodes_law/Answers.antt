@@ -1,10 +1,10 @@
-use Rattle.std.proofs.Common.{◌≡◌, ℕ, suc, ◌+◌, ◌<◌, List, length, map, add-one, ap, sym, subst, ◌∙◌}
+use Rattle.std.proofs.Common.{◌≡◌, ℕ, ◌<◌, List, length, map, add-one, sym, subst}
 use Rattle.std.specs.List.{flat_map}
 use Rattle.std.proofs.lemmas.List.Elements.{All-from_recursion}
 use Rattle.tree_node.specs.Nodes.{Binding, Link, Node, IsNode, level_of, tree_of}
 use Rattle.tree_node.specs.Trees.{entries_at, level_at, levels, links_in, no_node}
 use Rattle.tree_node.proofs.TreeKeys.{greatest_below}
-use Rattle.tree_node.proofs.TreeLaws.{nodes_at, over_joined, pair_at, whole}
+use Rattle.tree_node.proofs.TreeLaws.{nodes_at, whole}
 use Rattle.tree_node.proofs.TreeParts.{count_below, kind_at, stated_at}
 use Rattle.tree_build.proofs.laws.nodes_law.Goals as goal
 

@@ -1,7 +1,7 @@
-use Rattle.std.proofs.Common.{◌≡◌, ◌≢◌, ℕ, ◌<◌, ◌≤◌, List, [], ◌∷◌, length, refl, ap, arith}
+use Rattle.std.proofs.Common.{◌≢◌, ◌≤◌, List, [], ◌∷◌, length, refl, ap, arith}
 use Rattle.std.proofs.lemmas.List.Elements.{All-from_recursion}
 use Rattle.tree_node.specs.Nodes.{Binding, Node}
-use Rattle.tree_node.specs.Trees.{Shape, item_count, leaves, level_at, levels, no_node}
+use Rattle.tree_node.specs.Trees.{item_count, leaves, level_at, levels, no_node}
 use Rattle.tree_node.proofs.TreeLemmas.{levels_end}
 use Rattle.tree_node.proofs.TreeLaws.{whole}
 use Rattle.tree_node.proofs.TreeParts.{HasItems, items_at, items_most}

@@ -1,15 +1,12 @@
-use Rattle.std.proofs.Common.{◌≡◌, ◌≤◌, ℕ, ◌+◌, ◌∷◌, ◌++◌, List, [], length, drop, map, Err, Ok, arith, refl, sym, ap, subst, ◌∙◌}
-use Rattle.std.proofs.lemmas.List.{map-append, drop-drop, length-drop}
-use Rattle.std.proofs.Math.Seq.{drop-length}
+use Rattle.std.proofs.Common.{◌+◌, ◌∷◌, ◌++◌, List, [], length, drop, Err, arith, refl, sym, subst}
+use Rattle.std.proofs.lemmas.List.{drop-drop, length-drop}
 use Rattle.tree_node.specs.Nodes.{Leaf, Link}
-use Rattle.tree_node.specs.NodeRefs.{binding_of, bindings_of, leaf_of, link_of, links_of, number_of}
+use Rattle.tree_node.specs.NodeRefs.{binding_of, bindings_of, leaf_of, links_of, number_of}
 use Rattle.tree_node.specs.Stocks.{HasNode}
 use Rattle.tree_node.specs.Trees.{FitsTree, ends_by, is_marked_entry, leaves, link_to}
 use Rattle.tree_node.specs.declared.item.Item.{Item}
-use Rattle.tree_node.specs.declared.child.Child.{Child}
 use Rattle.tree_build.specs.declared.fault.BuildFault.TheVariants.{Memory}
 use Rattle.tree_build.specs.Shapes.{shape_of}
-use Rattle.tree_build.specs.Building.{IsFirstPiece}
 use Rattle.tree_build.proofs.StockLemmas.{Underway, put_whole, underway_links, underway_gained}
 use Rattle.tree_build.proofs.LevelLemmas.{step_stopped, step_no_memory, step_next, step_last, first_of_rest, links_more, drop_end, drop_some, piece_all, rest_all, err_is}
 use Rattle.tree_build.proofs.leaf.put_leaves.Goals as goal
