@@ -17,10 +17,11 @@ use tree_node::{Digest, Stock, Tree};
 
 /// Puts the nodes of the tree of these entries into the stock, and gives the digest of its top (this
 /// project's trees, docs/FORMATS.md). The digest stands for the list: no other list has a tree of this
-/// number with that top, unless two different nodes have one digest.
+/// number and shape with that top, unless two different nodes have one digest.
 ///
-/// It is linear in the bytes of the entries and takes the memory of the new nodes, and of one item for
-/// each node of a level while that level is built. In the second shape it digests each key once.
+/// It is linear in the bytes of the entries, and looks a digest up for each node. It takes the memory of
+/// the nodes, each made with just the room that its bytes need, and of one item for each node of the two
+/// levels in hand. In the second shape it digests each key at most once.
 ///
 /// Refused with `Clash` (N6) only where a node of the tree has the digest of a different node, of the
 /// tree or of the stock, and else with `Memory` alone. After a refusal the stock holds what it held and

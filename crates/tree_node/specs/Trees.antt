@@ -169,7 +169,7 @@ pub record HasTree (entries : List Binding) : Type 0 where
 
 -- two different byte strings with one digest, one of each set
 abbrev pub Clash : (List ℕ → Type 0) → (List ℕ → Type 0) → Type 0
-Clash Some_of Others = (a b : List ℕ) × Some_of a × Others b × (a ≢ b) × (digest a ≡ digest b)
+Clash These Those = (a b : List ℕ) × These a × Those b × (a ≢ b) × (digest a ≡ digest b)
 
 -- the set has gained just these nodes, those of them that it hadn't
 abbrev pub GrownByAll : (List ℕ → Type 0) → (List ℕ → Type 0) → (List ℕ → Type 0) → Type 0
