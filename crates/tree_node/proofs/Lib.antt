@@ -6,5 +6,12 @@ pub mod ItemFaults
 pub mod MapLemmas
 pub mod NodeFaults
 pub mod NodeLaws
+pub mod PieceLaws
+pub mod PieceLemmas
 pub mod RecorderLemmas
 pub mod SkipLemmas
+pub mod TreeKeys
+pub mod TreeLaws
+pub mod TreeLemmas
+pub mod TreeParts
+pub mod TreeSame

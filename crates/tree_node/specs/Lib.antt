@@ -13,4 +13,5 @@ pub mod RecorderLaws
 pub mod Recorders
 pub mod Shelves
 pub mod Stocks
+pub mod Trees
 pub mod Writing

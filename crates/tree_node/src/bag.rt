@@ -1,3 +1,5 @@
+//! A shelf over the nodes of a proof.
+
 ghost use Rattle.std.specs.List.{All, HoldsAt};
 ghost use Rattle.std.specs.Prelude.{◌≡◌, ◌≢◌, ◌<◌, ◌↔◌, ℕ, List};
 ghost use Rattle.std.specs.Prelude.{IfNone, IfOk, IfSome, IsTrue, length};

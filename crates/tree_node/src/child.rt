@@ -1,3 +1,5 @@
+//! What an inner node says of a child.
+
 ghost use Rattle.std.specs.Prelude.{◌≡◌, ◌++◌, ◌^◌, ◌<◌, OnOk, length};
 ghost use Rattle.tree_node.specs.NodeRefs.{link_of};
 ghost use Rattle.tree_node.specs.Nodes.{link};

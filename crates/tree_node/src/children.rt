@@ -1,3 +1,5 @@
+//! The children of an inner node, one after the other.
+
 ghost use Rattle.std.specs.Iterator.{YieldsFirstBy, item_count};
 ghost use Rattle.std.specs.Prelude.{◌≡◌, None};
 ghost use Rattle.tree_node.specs.NodeRefs.{link_of};

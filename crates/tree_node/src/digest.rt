@@ -1,3 +1,5 @@
+//! SHA-256 digests.
+
 ghost use Rattle.std.specs.Prelude.{◌≡◌, ◌↔◌, IfSome, IsSome, length};
 ghost use Rattle.tree_node.specs.Digests.{digest};
 

@@ -1,3 +1,5 @@
+//! The entries of a leaf, one after the other.
+
 ghost use Rattle.std.specs.Iterator.{YieldsFirstBy, item_count};
 ghost use Rattle.std.specs.Prelude.{◌≡◌, None};
 ghost use Rattle.tree_node.specs.NodeRefs.{binding_of};

@@ -1,3 +1,5 @@
+//! Why bytes are no node.
+
 use thiserror::Error;
 
 /// Why bytes are no node (this project's form of nodes, docs/FORMATS.md).

@@ -1,3 +1,5 @@
+//! An entry of a leaf.
+
 ghost use Rattle.std.specs.Prelude.{◌≡◌, ◌++◌, OnOk};
 ghost use Rattle.tree_node.specs.NodeRefs.{binding_of};
 ghost use Rattle.tree_node.specs.Nodes.{FitsEntry, entry};

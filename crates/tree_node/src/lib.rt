@@ -1,6 +1,7 @@
 //! The bytes of a tree's nodes, their digests, and where nodes are kept.
 //!
 //! A tree is made of nodes that are named by the SHA-256 digests of their bytes. This crate reads and
+//! writes those bytes. A `Shelf` gives nodes by their digests: a `Stock` owns a publisher's nodes, a
 //! `Recorder` is a shelf over it that knows which nodes were used, and a `Bag` is a shelf over the
 //! nodes of a proof.
 #![tactic(auto)]

@@ -1,3 +1,5 @@
+//! Reading a node from its bytes.
+
 ghost use Rattle.std.specs.Prelude.{◌≡◌, IfErr, IfOk, IsOkAnd};
 ghost use Rattle.tree_node.specs.Faults.{IsFault};
 ghost use Rattle.tree_node.specs.NodeRefs.{node_read, number_of};

@@ -1,3 +1,5 @@
+//! The order of keys.
+
 ghost use Rattle.std.specs.Option.{option_copied};
 ghost use Rattle.std.specs.Prelude.{◌≡◌};
 ghost use Rattle.tree_node.specs.Reading.{is_above as above};

@@ -1,3 +1,5 @@
+//! A node beside its digest.
+
 ghost use Rattle.std.specs.Prelude.{◌≡◌};
 ghost use Rattle.tree_node.specs.Digests.{digest as digest_word};
 

@@ -1,3 +1,5 @@
+//! A shelf over a stock that knows which nodes were used.
+
 ghost use Rattle.std.specs.BTreeMap.{get};
 ghost use Rattle.std.specs.Option.{ForSome, option_map};
 ghost use Rattle.std.specs.Prelude.{◌≡◌, Some, IfOk};

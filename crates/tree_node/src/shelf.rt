@@ -1,3 +1,5 @@
+//! Where a walk gets the nodes of a tree.
+
 ghost use Rattle.std.specs.Prelude.{◌≡◌, ℕ, List, IfOk, OnErr};
 ghost use Rattle.tree_node.specs.Digests.{digest};
 ghost use Rattle.tree_node.specs.Shelves.{GrownBy, HasNone, IsClashFree, SameNodes};

@@ -1,3 +1,5 @@
+//! The law of the form of a node's bytes.
+
 ghost use Rattle.std.specs.Prelude.{◌≡◌, ◌⊎◌, ℕ, List};
 ghost use Rattle.tree_node.specs.Faults.{IsFault};
 ghost use Rattle.tree_node.specs.Nodes.{AreBytes, IsNode, Node, Spells, spelling};

@@ -1,3 +1,5 @@
+//! The four trees.
+
 ghost use Rattle.tree_node.specs.NodeRefs.{number_of};
 ghost use Rattle.tree_node.specs.Reading.{Gives, tree_at};
 

@@ -1,0 +1,5 @@
+pub mod BuildLemmas
+pub mod CutLemmas
+pub mod FitLemmas
+pub mod LevelLemmas
+pub mod StockLemmas

@@ -1,0 +1,22 @@
+//! Trees of sorted lists of entries, built for a publisher.
+//!
+//! [`build`] makes of a list the nodes of its tree and puts them into a stock; the digest that it gives
+//! stands for the whole list. The crate's laws say what a tree is good for: it is that of one list
+//! alone, it is shallow, and each of its nodes reads back.
+#![tactic(auto)]
+
+mod builder;
+mod cut;
+mod fault;
+mod inner;
+mod laws;
+mod leaf;
+mod shape;
+#[cfg(test)]
+mod tests;
+
+pub use builder::build;
+pub use fault::BuildFault;
+pub use laws::{determines_law, entries_law, levels_law, nodes_law, pieces_law};
+pub use shape::Shape;
+pub use tree_node::Item as Entry;
