@@ -8,6 +8,7 @@ use crate::publish::publish;
 use crate::status::Status;
 use osm_check::{Digest, Verdict};
 use std::alloc::Global;
+use std::process::Abort;
 use std::test::Fail;
 
 /// The root of the two nodes, which an independent program computed, and LF.
@@ -82,32 +83,43 @@ fn proves(rt: HostRuntime) -> Result<(), Fail> {
     Ok(())
 }
 
-/// The input is looked at before the query, and nothing is written.
+/// The command is refused with this line, and nothing is written.
+fn check_refused_proof(
+    rt: &impl Abort,
+    alloc: Global,
+    file: &str,
+    text: &str,
+    want: &str,
+) -> Result<(), Fail> {
+    let mut answer = Vec::new(alloc);
+    let mut proof = Vec::new(alloc);
+    let mut output = Vec::new(alloc);
+    let input = &mut file.as_bytes();
+    let query = &mut text.as_bytes();
+    let outcome = prove(alloc, input, query, &mut answer, &mut proof, &mut output);
+    let Err(fault) = outcome else {
+        panic!(rt; "proved, and not {want}")
+    };
+    let told = format!(in alloc; "{fault}")?;
+    assert!(rt; told.as_str() == want, "{told}, and not {want}");
+    assert_eq!(rt; fault.status(), Status::Refused, "{want}");
+    assert!(rt;
+        answer.is_empty() && proof.is_empty() && output.is_empty(),
+        "{want}"
+    );
+    Ok(())
+}
+
+/// The input is looked at before the query.
 #[test]
 fn refuses_to_prove(rt: HostRuntime) -> Result<(), Fail> {
-    let alloc = rt.alloc();
     for (file, text, want) in [
         ("c5", "node(1)", "O1 line 1 byte 0"),
         (TWO_NODES, "node(1)", "Q11 byte 7"),
         (TWO_NODES, "", "Q11 byte 0"),
         (TWO_NODES, "node(1);out;\n", "Q2 byte 12"),
     ] {
-        let mut answer = Vec::new(alloc);
-        let mut proof = Vec::new(alloc);
-        let mut output = Vec::new(alloc);
-        let input = &mut file.as_bytes();
-        let query = &mut text.as_bytes();
-        let outcome = prove(alloc, input, query, &mut answer, &mut proof, &mut output);
-        let Err(fault) = outcome else {
-            panic!(rt; "proved, and not {want}")
-        };
-        let told = format!(in alloc; "{fault}")?;
-        assert_eq!(rt; told.as_str(), want);
-        assert_eq!(rt; fault.status(), Status::Refused, "{want}");
-        assert!(rt;
-            answer.is_empty() && proof.is_empty() && output.is_empty(),
-            "{want}"
-        );
+        check_refused_proof(&rt, rt.alloc(), file, text, want)?;
     }
     Ok(())
 }
@@ -191,38 +203,51 @@ fn readers_fail(rt: HostRuntime) -> Result<(), Fail> {
     Ok(())
 }
 
+/// A writer of sixteen bytes a call, which stops at one call (0: at none).
+fn narrow(alloc: Global, stop: Stop, stops_at: usize) -> NarrowWriter {
+    NarrowWriter {
+        taken: Vec::new(alloc),
+        at_once: 16,
+        stops_at,
+        stop,
+        calls: 0,
+    }
+}
+
+/// The writer has taken all of the text (`None`), or the bytes of so many whole calls.
+fn check_taken(rt: &impl Abort, writer: &NarrowWriter, text: &str, calls: Option<usize>) {
+    let taken = writer.taken.as_slice();
+    assert!(rt; text.as_bytes().starts_with(taken));
+    match calls {
+        None => assert_eq!(rt; taken.len(), text.len()),
+        Some(calls) => assert_eq!(rt; taken.len(), calls.saturating_mul(16)),
+    }
+}
+
 /// Each writer of `prove` stops in turn: the texts before its own are whole, and those behind it untouched.
 #[test]
 fn writers_of_prove_stop(rt: HostRuntime) -> Result<(), Fail> {
     let alloc = rt.alloc();
     for stop in [Stop::Fails, Stop::TakesNothing] {
-        for place in 0..3 {
-            for stops_at in 1..4usize {
-                let narrow = |writer| NarrowWriter {
-                    taken: Vec::new(alloc),
-                    at_once: 16,
-                    stops_at: if writer == place { stops_at } else { 0 },
-                    stop,
-                    calls: 0,
-                };
-                let mut writers = [narrow(0), narrow(1), narrow(2)];
-                let [answer, proof, output] = &mut writers;
-                let input = &mut TWO_NODES.as_bytes();
-                let query = &mut QUERY.as_bytes();
-                let outcome = prove(alloc, input, query, answer, proof, output);
-                assert_eq!(rt; outcome, Err(CommandFault::Device));
-                let whole = [ANSWER, PROOF, ROOT];
-                for (writer, (written, text)) in writers.iter().zip(whole).enumerate() {
-                    let taken = written.taken.as_slice();
-                    let want = match writer {
-                        _ if writer < place => text.len(),
-                        _ if writer > place => 0,
-                        _ => (stops_at - 1).saturating_mul(16),
-                    };
-                    assert!(rt; text.as_bytes().starts_with(taken), "{place} at {stops_at}");
-                    assert_eq!(rt; taken.len(), want, "{place} at {stops_at}");
-                }
-            }
+        for (first, second, third) in [
+            (Some(0), Some(0), Some(0)),
+            (Some(1), Some(0), Some(0)),
+            (None, Some(0), Some(0)),
+            (None, Some(4), Some(0)),
+            (None, None, Some(0)),
+            (None, None, Some(3)),
+        ] {
+            let stops_at = |calls: Option<usize>| calls.map_or(0, |calls| calls.saturating_add(1));
+            let mut answer = narrow(alloc, stop, stops_at(first));
+            let mut proof = narrow(alloc, stop, stops_at(second));
+            let mut output = narrow(alloc, stop, stops_at(third));
+            let input = &mut TWO_NODES.as_bytes();
+            let query = &mut QUERY.as_bytes();
+            let outcome = prove(alloc, input, query, &mut answer, &mut proof, &mut output);
+            assert_eq!(rt; outcome, Err(CommandFault::Device));
+            check_taken(&rt, &answer, ANSWER, first);
+            check_taken(&rt, &proof, PROOF, second);
+            check_taken(&rt, &output, ROOT, third);
         }
     }
     Ok(())
