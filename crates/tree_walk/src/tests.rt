@@ -90,16 +90,17 @@ fn count_in(
 fn tells_what_a_walk_over_65_keys_opens(rt: HostRuntime) -> Result<(), Fail> {
     let alloc = rt.alloc();
     let leaves: [&[u8]; 2] = [b"\x3f", b"\x40"];
-    for (range, entries, nodes) in [
-        (at(b"\x3f", false), 1, 1),
-        (at(b"\x40", false), 1, 1),
-        (at(b"\x41", false), 0, 0),
-        (at(b"\x3f\x00", false), 0, 1),
-        (range_of(b"\x3f", b"\x40", false), 2, 2),
-        (at(b"", true), 65, 2),
+    for (range, entries, nodes, closed) in [
+        (at(b"\x3f", false), 1, 1, 0),
+        (at(b"\x40", false), 1, 1, 0),
+        (at(b"\x41", false), 0, 0, 0),
+        (at(b"\x3f\x00", false), 0, 1, 0),
+        (range_of(b"\x3f", b"\x40", false), 2, 2, 1),
+        (at(b"", true), 65, 2, 1),
     ] {
         assert_eq!(rt; count_in(alloc, &range, b"", 0x40)?, entries, "{range:?}");
         assert_eq!(rt; count_met(&range, &leaves)?, nodes, "{range:?}");
+        assert_eq!(rt; count_covered(&range, &leaves), closed, "{range:?}");
     }
     Ok(())
 }
