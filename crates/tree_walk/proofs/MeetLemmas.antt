@@ -1,5 +1,5 @@
 -- The definitions of spans that meet a range or are covered by one, against what the code compares.
-use Rattle.std.proofs.Common.{◌≡◌, ◌↔◌, Bool, false, IsTrue, ℕ, zero, suc, List, [], ◌∷◌, ◌++◌, sym, ap, subst, ◌∙◌, inl, inr, arith, Option, Some, None, append_assoc}
+use Rattle.std.proofs.Common.{◌≡◌, ◌↔◌, Bool, false, IsTrue, ℕ, zero, suc, List, [], ◌∷◌, ◌++◌, refl, sym, ap, subst, ◌∙◌, inl, inr, arith, Option, Some, None, append_assoc}
 use Rattle.tree_node.specs.Nodes.{AreBytes}
 use Rattle.tree_node.specs.Order.{IsBelow}
 use Rattle.tree_walk.specs.Ranges.{IsAboveLeft, IsAtMost, IsExcepted, IsIn, IsNoHigher, Meets, Range}
@@ -81,6 +81,19 @@ covered_is_in range (Some l) greatest key is above below = (
     | inr u ↦ elim (below_or key range.hi) [
       | inl h ↦ inl (inl h)
       | inr h ↦ inr (u.0, between_begins range.hi key u.1.0 h (subst (λ (x : List ℕ). IsAtMost key x) u.1.1 below))
+    ]
+  ],
+)
+
+-- where a key stands in the range, lo does
+pub lo_is_in : (range : Range) (key : List ℕ) → IsIn range key → IsIn range range.lo
+lo_is_in range key (low, high) = (
+  inr refl,
+  elim high [
+    | inl h ↦ inl (at_most_trans range.lo key range.hi low h)
+    | inr u ↦ elim (below_or range.lo range.hi) [
+      | inl h ↦ inl (inl h)
+      | inr h ↦ inr (u.0, between_begins range.hi range.lo u.1.0 h (subst (λ (x : List ℕ). IsAtMost range.lo x) u.1.1 low))
     ]
   ],
 )

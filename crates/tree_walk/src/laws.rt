@@ -4,6 +4,12 @@ ghost use Rattle.std.specs.Prelude.{◌↔◌, None, ℕ, List, Option};
 ghost use Rattle.tree_node.specs.Nodes.{AreBytes};
 ghost use Rattle.tree_walk.specs.Ranges.{IsAboveLeft, IsAtMost, IsExcepted, IsIn, IsNoHigher, Meets, Range};
 
+/// The law of empty ranges: where any key stands in a range, its `lo` does. So a range that doesn't
+/// contain its `lo` is empty.
+pub fn empty_law()
+    ensures { (range : Range) (key : List ℕ) → IsIn range key → IsIn range range.lo }
+{}
+
 /// The law of the left edge: a node without a left bound meets a range that contains its `lo` exactly
 /// where the node's greatest key isn't below `lo`.
 pub fn left_edge_law()

@@ -11,4 +11,4 @@ mod laws;
 mod tests;
 
 pub use key_range::KeyRange;
-pub use laws::{covered_law, left_edge_law, wider_law};
+pub use laws::{covered_law, empty_law, left_edge_law, wider_law};
