@@ -104,8 +104,8 @@ one_line id meta tags place element plain =
     let lat = reads_back place.lat (omega (arith, element.body_in_range.lat)) in
     let line = line_is id meta tags place (meta_is meta plain.version plain.changeset plain.stamp plain.uid plain.user) in
     rw line (lacks_joined 10 32 refl ((110 ∷ signed_decimal id) ∷ plain_fields (join_with_byte 44 (map tag_text tags)) (degrees place.lon) (degrees place.lat)) (lacking_end (signed_decimal id) (join_with_byte 44 (map tag_text tags)) (degrees place.lon) (degrees place.lat)
-        (integer_lacks 10 (lit< tt) (signed_decimal id) id number) (tags_lack_end tags plain.tags)
-        (degrees_lack 10 (lit< tt) (degrees place.lon) place.lon lon) (degrees_lack 10 (lit< tt) (degrees place.lat) place.lat lat)))
+    (integer_lacks 10 (lit< tt) (signed_decimal id) id number) (tags_lack_end tags plain.tags)
+    (degrees_lack 10 (lit< tt) (degrees place.lon) place.lon lon) (degrees_lack 10 (lit< tt) (degrees place.lat) place.lat lat)))
 
 line_of : (id : ℤ) (meta : Meta) (tags : List Tag) (body : Body) → (let o : Element = record { id = id; meta = meta; tags = tags; body = body } in IsElement o → IsPlain o → Lacks 10 (canonical_line o))
 line_of id meta tags (Node place) = one_line id meta tags place

@@ -1,0 +1,110 @@
+-- The definitions of spans that meet a range or are covered by one, against what the code compares.
+use Rattle.std.proofs.Common.{◌≡◌, ◌↔◌, Bool, false, IsTrue, ℕ, zero, suc, List, [], ◌∷◌, ◌++◌, refl, sym, ap, subst, ◌∙◌, inl, inr, arith, Option, Some, None, append_assoc}
+use Rattle.tree_node.specs.Nodes.{AreBytes}
+use Rattle.tree_node.specs.Order.{IsBelow}
+use Rattle.tree_walk.specs.Ranges.{IsAboveLeft, IsAtMost, IsExcepted, IsIn, IsNoHigher, Meets, Range}
+use Rattle.tree_walk.specs.Reaching.{ReachesAbove}
+use Rattle.tree_walk.proofs.KeyLemmas.{at_most_below, at_most_trans, below_at_most, below_next, below_or, between_begins, next_at_most}
+
+-- what meets the range has a greatest key that isn't below lo,
+pub low_from_meets : (range : Range) (left : Option (List ℕ)) (greatest : List ℕ) → Meets range left greatest → IsAtMost range.lo greatest
+low_from_meets range left greatest (key, bytes, above, below, is) = at_most_trans range.lo key greatest is.0 below
+
+-- and a left bound above which the range goes on
+pub reaches_from_meets : (range : Range) (l greatest : List ℕ) → Meets range (Some l) greatest → ReachesAbove range l
+reaches_from_meets range l greatest (key, bytes, above, below, is) =
+    elim is.1 [
+      | inl h ↦ inl (below_at_most l key range.hi above h)
+      | inr u ↦ elim (below_or l range.hi) [
+        | inl h ↦ inl h
+        | inr h ↦ inr (u.0, between_begins range.hi l u.1.0 h (inl (subst (λ (x : List ℕ). IsBelow l x) u.1.1 above)))
+      ]
+    ]
+
+-- bytes followed by 0 are bytes
+zero_bytes : (l : List ℕ) → AreBytes l → AreBytes (l ++ 0 ∷ [])
+zero_bytes [] bytes zero = omega arith
+zero_bytes [] bytes (suc i) = omega arith
+zero_bytes (b ∷ l) bytes zero = bytes zero
+zero_bytes (b ∷ l) bytes (suc i) = zero_bytes l (λ k. bytes (suc k)) i
+
+-- at the left edge lo itself stands in both
+pub meets_at_edge : (range : Range) (greatest : List ℕ) → AreBytes range.lo → IsIn range range.lo → IsAtMost range.lo greatest → Meets range None greatest
+meets_at_edge range greatest lo_bytes lo_in low = (range.lo, lo_bytes, tt, low, lo_in)
+
+-- behind a left bound lo does, or the string after the bound
+pub meets_from_reaches : (range : Range) (l greatest : List ℕ) → AreBytes range.lo → IsIn range range.lo → AreBytes l → IsBelow l greatest
+    → IsAtMost range.lo greatest → ReachesAbove range l → Meets range (Some l) greatest
+meets_from_reaches range l greatest lo_bytes lo_in bytes below low high =
+    elim (below_or l range.lo) [
+      | inl h ↦ (range.lo, lo_bytes, h, low, lo_in)
+      | inr h ↦ (
+        l ++ 0 ∷ [],
+        zero_bytes l bytes,
+        below_next l 0 [],
+        next_at_most l greatest below,
+        (
+          inl (at_most_below range.lo l (l ++ 0 ∷ []) h (below_next l 0 [])),
+          elim high [
+            | inl p ↦ inl (next_at_most l range.hi p)
+            | inr u ↦ inr (u.0, (u.1.0 ++ 0 ∷ [], ap (λ (x : List ℕ). x ++ 0 ∷ []) u.1.1 ∙ append_assoc range.hi u.1.0 (0 ∷ [])))
+          ],
+        ),
+      )
+    ]
+
+-- ---- what the code's tests say of a span with this left bound, with none, and of one that ends below lo
+
+pub reaches_is : (range : Range) (left : Option (List ℕ)) (l greatest : List ℕ) (test : Bool) → left ≡ Some l → AreBytes range.lo → IsIn range range.lo → AreBytes l
+    → IsAtMost range.lo greatest → (IsTrue test ↔ ReachesAbove range l) → IsAboveLeft left greatest → (IsTrue test ↔ Meets range left greatest)
+reaches_is range left l greatest test e lo_bytes lo_in bytes low (told, tells) =
+    subst (λ (left : Option (List ℕ)). IsAboveLeft left greatest → (IsTrue test ↔ Meets range left greatest)) (sym e)
+    (λ above. ((λ is. meets_from_reaches range l greatest lo_bytes lo_in bytes above low (told is)), (λ meets. tells (reaches_from_meets range l greatest meets))))
+
+pub edge_is : (range : Range) (left : Option (List ℕ)) (greatest : List ℕ) (test : Bool) → left ≡ None → AreBytes range.lo → IsIn range range.lo
+    → (IsTrue test ↔ IsAtMost range.lo greatest) → (IsTrue test ↔ Meets range left greatest)
+edge_is range left greatest test e lo_bytes lo_in (told, tells) =
+    subst (λ (left : Option (List ℕ)). IsTrue test ↔ Meets range left greatest) (sym e)
+    ((λ is. meets_at_edge range greatest lo_bytes lo_in (told is)), (λ meets. tells (low_from_meets range None greatest meets)))
+
+pub low_is : (range : Range) (left : Option (List ℕ)) (greatest : List ℕ) (test : Bool) → test ≡ false
+    → (IsTrue test ↔ IsAtMost range.lo greatest) → (IsTrue test ↔ Meets range left greatest)
+low_is range left greatest test fails (told, tells) = ((λ is. absurd (Prim.cc)), (λ meets. tells (low_from_meets range left greatest meets)))
+
+-- what lies in a covered span stands in the range
+pub covered_is_in : (range : Range) (left : Option (List ℕ)) (greatest key : List ℕ) → IsExcepted range left greatest → IsAboveLeft left key → IsAtMost key greatest → IsIn range key
+covered_is_in range None greatest key is above below = absurd is
+covered_is_in range (Some l) greatest key is above below = (
+  inl (at_most_below range.lo l key is.0 above),
+  elim is.1.1 [
+    | inl h ↦ inl (at_most_trans key greatest range.hi below h)
+    | inr u ↦ elim (below_or key range.hi) [
+      | inl h ↦ inl (inl h)
+      | inr h ↦ inr (u.0, between_begins range.hi key u.1.0 h (subst (λ (x : List ℕ). IsAtMost key x) u.1.1 below))
+    ]
+  ],
+)
+
+-- where a key stands in the range, lo does
+pub lo_is_in : (range : Range) (key : List ℕ) → IsIn range key → IsIn range range.lo
+lo_is_in range key (low, high) = (
+  inr refl,
+  elim high [
+    | inl h ↦ inl (at_most_trans range.lo key range.hi low h)
+    | inr u ↦ elim (below_or range.lo range.hi) [
+      | inl h ↦ inl (inl h)
+      | inr h ↦ inr (u.0, between_begins range.hi range.lo u.1.0 h (subst (λ (x : List ℕ). IsAtMost range.lo x) u.1.1 low))
+    ]
+  ],
+)
+
+-- what is above the inner bound is above an outer one
+above_outer : (outer inner : Option (List ℕ)) (key : List ℕ) → IsNoHigher outer inner → IsAboveLeft inner key → IsAboveLeft outer key
+above_outer None inner key outer_is above = tt
+above_outer (Some o) None key outer_is above = absurd outer_is
+above_outer (Some o) (Some l) key outer_is above = at_most_below o l key outer_is above
+
+-- a wider span meets the range too
+pub meets_wider : (range : Range) (left outer : Option (List ℕ)) (greatest most : List ℕ) → Meets range left greatest → IsNoHigher outer left → IsAtMost greatest most → Meets range outer most
+meets_wider range left outer greatest most (key, bytes, above, below, is) outer_is wide =
+    (key, bytes, above_outer outer left key outer_is above, at_most_trans key greatest most below wide, is)

@@ -1,0 +1,103 @@
+//! Ranges of keys.
+
+ghost use Rattle.std.specs.Option.{option_copied};
+ghost use Rattle.std.specs.Prelude.{◌↔◌, IsTrue};
+ghost use Rattle.tree_node.specs.Nodes.{AreBytes};
+ghost use Rattle.tree_node.specs.Order.{IsBelow};
+ghost use Rattle.tree_walk.specs.Reaching.{ReachesAbove};
+ghost use Rattle.tree_walk.specs.Ranges.{Begins, IsAboveLeft, IsAtMost, IsExcepted, IsIn, Meets, range_of};
+
+use std::cmp::Ordering;
+
+/// The keys from `lo` to `hi`, both of them too, and where `under` holds those that `hi` begins (this
+/// project's trees, docs/FORMATS.md). Keys are byte strings of any length; the first byte that differs
+/// decides their order, else the shorter is below.
+///
+/// The ends are borrowed and no method takes memory. Each is linear in the bytes of the keys that it
+/// compares. A range may be empty: it is exactly where `lo` itself doesn't stand in it.
+#[derive(Clone, Copy, Debug)]
+pub struct KeyRange<'a> {
+    /// No key below this one stands in the range.
+    pub lo: &'a [u8],
+    /// No key above this one stands in the range, but for those that it begins.
+    pub hi: &'a [u8],
+    /// Whether the keys that `hi` begins stand in the range.
+    pub under: bool,
+}
+
+impl<'a> KeyRange<'a> {
+    /// Whether the key stands in the range: it isn't below `lo`, and it isn't above `hi`, or `hi` begins
+    /// it and `under` holds (this project's trees, docs/FORMATS.md).
+    pub fn contains(&self, key: &[u8]) -> bool
+        ensures { IsTrue result ↔ IsIn (range_of self.now) key.now }
+    {
+        is_at_most(self.lo, key)
+            && (is_at_most(key, self.hi) || (self.under && begins(self.hi, key)))
+    }
+
+    /// Whether a node meets the range: exactly where some byte string that is above `left` (any is, where
+    /// there is none) and not above `greatest` stands in the range. `left` is the greatest key of the
+    /// node's left neighbour, or for a first child its parent's own left bound; `greatest` is the
+    /// greatest key below the node (this project's trees, docs/FORMATS.md).
+    ///
+    /// The answer is by four comparisons, which two conditions make right. `lo` stands in the range, as
+    /// `contains` tells: else nothing does. `left` is below `greatest`: else no string lies between them.
+    pub fn meets(&self, left: Option<&[u8]>, greatest: &[u8]) -> bool
+        requires some { IsIn (range_of self.now) self.now.lo.now }
+        requires rising { IsAboveLeft (option_copied left) greatest.now }
+        ensures { IsTrue result
+            ↔ Meets (range_of self.now) (option_copied left.entry) greatest.now }
+    {
+        let starts_below = is_at_most(self.lo, greatest);
+        match left {
+            Some(left) => starts_below && self.reaches_above(left),
+            None => starts_below,
+        }
+    }
+
+    /// Whether a node is one that a count leaves closed: exactly where it has a left bound that isn't
+    /// below `lo`, and its greatest key stands in the range (this project's trees, docs/FORMATS.md). Then
+    /// whatever stands below the node stands in the range, as `covered_law` says. A node without a left
+    /// bound is opened, since a key below `lo` could stand there.
+    pub fn covers(&self, left: Option<&[u8]>, greatest: &[u8]) -> bool
+        ensures { IsTrue result
+            ↔ IsExcepted (range_of self.now) (option_copied left.entry) greatest.now }
+    {
+        match left {
+            Some(left) => is_at_most(self.lo, left) && self.contains(greatest),
+            None => false,
+        }
+    }
+
+    /// Whether the range goes on above this bound: it is below `hi`, or `hi` begins it and `under` holds.
+    fn reaches_above(&self, bound: &[u8]) -> bool
+        ensures told { IsTrue result ↔ ReachesAbove (range_of self.now) bound.now }
+        // As its type says.
+        ensures bytes { AreBytes bound.now }
+    {
+        is_below(bound, self.hi) || (self.under && begins(self.hi, bound))
+    }
+}
+
+/// Whether the low key is below the high one.
+fn is_below(low: &[u8], high: &[u8]) -> bool
+    ensures { IsTrue result ↔ IsBelow low.now high.now }
+{
+    matches!(low.cmp(high), Ordering::Less)
+}
+
+/// Whether the low key is below the high one, or is the same.
+fn is_at_most(low: &[u8], high: &[u8]) -> bool
+    ensures told { IsTrue result ↔ IsAtMost low.now high.now }
+    // As its type says.
+    ensures bytes { AreBytes low.now }
+{
+    !is_below(high, low)
+}
+
+/// Whether the whole is the front and some bytes behind it.
+fn begins(front: &[u8], whole: &[u8]) -> bool
+    ensures { IsTrue result ↔ Begins front.now whole.now }
+{
+    whole.starts_with(front)
+}

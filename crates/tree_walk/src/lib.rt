@@ -1,0 +1,14 @@
+//! Ranges of keys, for walks over trees of which only some nodes are at hand.
+//!
+//! A [`KeyRange`] tells which keys stand in it, which nodes of a tree a walk has to open for it, and
+//! which a count may leave closed: each by comparing a few keys, which stay where they lie. The crate's
+//! laws say why.
+#![tactic(auto)]
+
+mod key_range;
+mod laws;
+#[cfg(test)]
+mod tests;
+
+pub use key_range::KeyRange;
+pub use laws::{covered_law, empty_law, left_edge_law, wider_law};
