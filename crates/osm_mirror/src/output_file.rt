@@ -1,11 +1,14 @@
 //! A file that is made when it is first written.
 
+ghost use Rattle.std.specs.Prelude.{◌≡◌};
+
 use std::fs::File;
 use std::io;
 use std::io::Write;
+use std::marker::Model;
 
 /// A file that is made, or emptied, when it is first written or flushed: so a refused command leaves the file
-/// that was there. A file that can't be made is a writer that fails.
+/// that was there. A file that can't be made is a writer that fails. Contracts see its path.
 #[derive(Drop)]
 pub(crate) struct OutputFile<'a> {
     rt: &'a HostRuntime,
@@ -13,9 +16,19 @@ pub(crate) struct OutputFile<'a> {
     file: Option<File>,
 }
 
+impl<'a> Model for OutputFile<'a> {
+    ghost use Rattle.std.specs.Prelude.{List, ℕ};
+
+    ghost Value = { List ℕ };
+
+    ghost view = { λ a. a.path.now };
+}
+
 impl<'a> OutputFile<'a> {
     /// The file with this name, not made yet.
-    pub(crate) fn new(rt: &'a HostRuntime, path: &'a str) -> OutputFile<'a> {
+    pub(crate) fn new(rt: &'a HostRuntime, path: &'a str) -> OutputFile<'a>
+        ensures { result ≡ path.now }
+    {
         OutputFile {
             rt,
             path,
