@@ -1,10 +1,11 @@
 -- What the commands `publish`, `prove` and `check` write, and when they write nothing.
 -- Source: this project.
 use Rattle.std.specs.Prelude.{◌≡◌, ℕ, ◌⊎◌, List, Option, Some, None, ⊤}
-use Rattle.std.specs.Io.KnownBytes.{Keeps}
+use Rattle.std.specs.Io.KnownBytes.{Appends, Keeps}
 use Rattle.osm_model.specs.Elements.{Element}
 use Rattle.opl_codec.specs.Files.{HoldsSet}
 use Rattle.opl_codec.specs.declared.cause.OplCause.TheVariants as causes
+use Rattle.osm_check.specs.Roots.{proof_text}
 use Rattle.osm_check.specs.Verdicts.{IsAnswer as IsRightAnswer, IsVerdict}
 use Rattle.osm_check.specs.declared.verdict.Verdict.{Verdict}
 use Rattle.osm_mirror.specs.Ask.{Explains, IsOutside}
@@ -52,6 +53,20 @@ IsOutsideFiles fault = IsOutside fault ⊎ (fault ≡ Endless)
 -- why each fault of `prove` comes
 abbrev pub ExplainsFiles : List ℕ → List ℕ → CommandFault → Type 0
 ExplainsFiles file query fault = Explains file query fault ⊎ (fault ≡ Endless)
+
+-- three texts are written in turn, each to a writer of its own, and the last that is begun may lack its end
+abbrev pub AppendInTurn : (first second third : List ℕ) (old new old_second new_second old_third new_third : Option (List ℕ)) → Type 0
+AppendInTurn first second third old new old_second new_second old_third new_third =
+    (AppendsFront old new first × Keeps old_second new_second × Keeps old_third new_third)
+    ⊎ ((Appends old new first × AppendsFront old_second new_second second × Keeps old_third new_third)
+    ⊎ (Appends old new first × Appends old_second new_second second × AppendsFront old_third new_third third))
+
+-- the three writers have gained nothing, or, in this order, the answer, its proof and the root's line, as far as it went
+abbrev pub IsBegunProof : (file query : List ℕ) (old_answer new_answer old_proof new_proof old_root new_root : Option (List ℕ)) → Type 0
+IsBegunProof file query old_answer new_answer old_proof new_proof old_root new_root =
+    (Keeps old_answer new_answer × Keeps old_proof new_proof × Keeps old_root new_root)
+    ⊎ ((set : List Element) × (text : List ℕ) × IsProved file query text set
+    × AppendInTurn text (proof_text set) (root_line set) old_answer new_answer old_proof new_proof old_root new_root)
 
 -- ---- `check`
 

@@ -4,7 +4,7 @@ ghost use Rattle.std.specs.Prelude.{◌≡◌, ◌≢◌, IfErr, List, ℕ, OnOk
 ghost use Rattle.std.specs.Io.KnownBytes.{Appends, Keeps};
 ghost use Rattle.osm_model.specs.Elements.{Element};
 ghost use Rattle.osm_check.specs.Roots.{proof_text};
-ghost use Rattle.osm_mirror.specs.Files.{ExplainsFiles, IfBoth, IsOutsideFiles, IsProved};
+ghost use Rattle.osm_mirror.specs.Files.{ExplainsFiles, IfBoth, IsBegunProof, IsOutsideFiles, IsProved};
 ghost use Rattle.osm_mirror.specs.RootLines.{root_line};
 
 use crate::command_fault::CommandFault;
@@ -47,11 +47,15 @@ pub fn prove<R: Read, Q: Read, A: Write, P: Write, W: Write>(
         (set : List Element) (text : List ℕ) → IsProved file bytes text set → IfErr result IsOutsideFiles) }
     // Which fault it is.
     ensures refused { IfBoth (R.remaining input.old) (Q.remaining query.old) (λ file bytes. IfErr result (ExplainsFiles file bytes)) }
-    // Nothing is written but where a device fails.
+    // Nothing is written but where a device fails,
     ensures nothing { IfErr result (λ fault. fault ≢ CommandFault.Device
         → Keeps (A.contents answer.old) (A.contents answer.new)
         × Keeps (P.contents proof.old) (P.contents proof.new)
         × Keeps (W.contents output.old) (W.contents output.new)) }
+    // and never anything but the three texts in their order: behind one that lacks its end nothing.
+    ensures begun { IfBoth (R.remaining input.old) (Q.remaining query.old) (λ file bytes.
+        IsBegunProof file bytes (A.contents answer.old) (A.contents answer.new)
+        (P.contents proof.old) (P.contents proof.new) (W.contents output.old) (W.contents output.new)) }
 {
     let set = read_set(alloc, input)?;
     let query = read_whole(alloc, query)?;
