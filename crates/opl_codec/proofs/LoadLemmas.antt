@@ -1,5 +1,5 @@
 -- Files that are loaded, ruined, or hold no set.
-use Rattle.std.proofs.Common.{◌≡◌, ◌≢◌, ◌⊎◌, inl, inr, ℕ, ◌<◌, ◌^◌, length, length-append, arith, List, [], ◌∷◌, ◌++◌, refl, sym, ◌∙◌, ap, subst, append_assoc, append-nil, Option, Some, None, Result, Ok, Err, IfOk, IfSome, MatchResult}
+use Rattle.std.proofs.Common.{◌≡◌, ◌≢◌, ◌⊎◌, inl, inr, ℕ, ◌<◌, ◌≤◌, ◌^◌, length, length-append, arith, List, [], ◌∷◌, ◌++◌, refl, sym, ◌∙◌, ap, subst, append_assoc, append-nil, Option, Some, None, Result, Ok, Err, IfErr, IfOk, IfSome, MatchResult}
 use Rattle.std.specs.Io.KnownBytes.{Consumes, IsAtEnd}
 use Rattle.std.proofs.lemmas.Result.{MatchResult-weaker}
 use Rattle.std.specs.Ordering.{eq_by_cmp}
@@ -13,8 +13,10 @@ use Rattle.osm_model.proofs.References.{refs_total}
 use Rattle.osm_model.proofs.UniqueTags.{same_order}
 use Rattle.opl_codec.specs.Fields.{pieces}
 use Rattle.opl_codec.specs.Lines.{SpellsObject}
+use Rattle.opl_codec.specs.Faults.{StandsAt}
 use Rattle.opl_codec.specs.Files.{HoldsSet, spoken_of, IsOutside}
 use Rattle.opl_codec.specs.declared.cause.OplCause.{OplCause}
+use Rattle.opl_codec.specs.declared.cause.OplCause.TheVariants as causes
 use Rattle.opl_codec.specs.declared.fault.LoadFault.{LoadFault}
 use Rattle.opl_codec.specs.Loading.{Say, Loads, Ruins, IsHopeless, BeginsHopeless, Spoils}
 use Rattle.opl_codec.proofs.PieceLemmas.{pieces_join}
@@ -173,3 +175,24 @@ told_at_end old front r all done = if_some_map old all (λ file is objects holds
 pub held_at_end : (Q : LoadFault → Type 0) (front : List ℕ) (r : Result (List Element) LoadFault) → MatchResult r (λ set. HoldsSet front set) Q → IfOk r (λ set. (file : List ℕ) × HoldsSet file set)
 held_at_end Q front (Ok set) done = (front, done)
 held_at_end Q front (Err fault) done = tt
+
+-- ---- files without an end
+
+-- no line is refused as endless
+pub finite_line : (line : List ℕ) (cause : OplCause) (byte : ℕ) → StandsAt line cause byte → cause ≢ causes.Endless
+finite_line line cause byte at same = subst (λ (k : OplCause). StandsAt line k byte) same at
+
+-- a refusal for another cause
+pub told_otherwise : (known : Option (List ℕ)) (result : Result (List Element) LoadFault) → IfErr result (λ fault. fault.fault.cause ≢ causes.Endless)
+    → IfSome known (λ file. IfErr result (λ fault. fault.fault.cause ≡ causes.Endless → 2 ^ 32 ≤ length file))
+told_otherwise None result other = tt
+told_otherwise (Some file) (Ok read) other = tt
+told_otherwise (Some file) (Err fault) other = λ same. absurd (other same)
+
+-- the file has as many bytes as were read of it
+pub told_endless : (known rest : Option (List ℕ)) (front : List ℕ) (result : Result (List Element) LoadFault) → Consumes known rest front → 2 ^ 32 ≤ length front
+    → IfSome known (λ file. IfErr result (λ fault. fault.fault.cause ≡ causes.Endless → 2 ^ 32 ≤ length file))
+told_endless None rest front result read many = tt
+told_endless (Some file) None front result read many = absurd read
+told_endless (Some file) (Some left) front (Ok set) read many = tt
+told_endless (Some file) (Some left) front (Err fault) read many = λ same. omega (arith, ap length read, length-append front left)

@@ -1,12 +1,12 @@
 -- What a line says is plain.
-use Rattle.std.proofs.Common.{◌≡◌, ℕ, List, [], ◌∷◌, pos, true, Option, Some, None, MatchOption, refl, sym, subst}
+use Rattle.std.proofs.Common.{◌≡◌, ℕ, List, [], ◌∷◌, Option, Some, None, MatchOption, sym, subst}
 use Rattle.std.specs.List.{AllByRecursion}
 use Rattle.std.proofs.lemmas.List.Elements.{All-from_recursion, recursion_from_All}
 use Rattle.std.proofs.lemmas.List.Sorted.{All-permutation}
 use Rattle.osm_model.specs.Elements.{Element}
 use Rattle.osm_model.specs.declared.tag.Tag.{Tag}
 use Rattle.opl_codec.specs.Fields.{field, Each}
-use Rattle.opl_codec.specs.Lines.{SpellsTag, SpellsTags, SpellsFields, SpellsObject}
+use Rattle.opl_codec.specs.Lines.{SpellsTag, SpellsTags, SpellsObject}
 use Rattle.opl_codec.specs.Plain.{IsLiteral, IsPlain}
 use Rattle.opl_codec.proofs.ReadLaw.{given_is}
 

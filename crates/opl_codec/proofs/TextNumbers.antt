@@ -1,5 +1,5 @@
 -- Numbers and degrees as they stand in a line.
-use Rattle.std.proofs.Common.{◌≡◌, ℕ, suc, ◌^◌, ◌<◌, Bool, List, ◌++◌, length, true, false, ℤ, pos, negsuc, neg_ℤ, FitsSigned, Option, Some, None, refl, ap, arith}
+use Rattle.std.proofs.Common.{ℕ, suc, ◌^◌, ◌<◌, Bool, List, ◌++◌, length, true, false, ℤ, pos, negsuc, neg_ℤ, FitsSigned, Option, Some, None, refl, ap, arith}
 use Rattle.std.specs.Int.{w64}
 use Rattle.std.specs.Fmt.{decimal, signed_decimal}
 use Rattle.std.proofs.lemmas.Fmt.{decimal_is_IsNumeral}

@@ -1,6 +1,6 @@
 //! Sets of objects, read from files.
 
-ghost use Rattle.std.specs.Prelude.{◌≡◌, ℕ, IfSome, IfOk, List, MatchResult};
+ghost use Rattle.std.specs.Prelude.{◌≡◌, ◌≤◌, ◌^◌, ℕ, IfErr, IfSome, IfOk, List, MatchResult, length};
 ghost use Rattle.osm_model.specs.Elements.{Element};
 ghost use Rattle.opl_codec.specs.Files.{HoldsSet, IsOutside};
 
@@ -41,6 +41,9 @@ pub fn read_set<R: Read>(alloc: Global, reader: &mut R) -> Result<ObjectSet, Loa
     // What the file holds is read, unless the reader failed, never ended, or memory ran out.
     ensures only { IfSome (R.remaining reader.old) (λ file. (objects : List Element) → HoldsSet file objects
         → MatchResult result (λ set. set ≡ objects) (λ fault. IsOutside fault.fault.cause)) }
+    // A file that is refused as endless has 2^32 bytes at least.
+    ensures endless { IfSome (R.remaining reader.old) (λ file. IfErr result (λ fault.
+        fault.fault.cause ≡ OplCause.Endless → 2 ^ 32 ≤ length file)) }
 {
     let mut loader = Loader::new(alloc);
     let mut piece = [0u8; PIECE];

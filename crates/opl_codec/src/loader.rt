@@ -1,6 +1,6 @@
 //! A file that is being read.
 
-ghost use Rattle.std.specs.Prelude.{◌≡◌, ◌++◌, ◌∷◌, [], ◌⊎◌, ◌<◌, ◌≤◌, ◌+◌, ◌-◌, ◌^◌, min, List, ℕ, MatchOption, MatchResult, IfErr, OnOk, length};
+ghost use Rattle.std.specs.Prelude.{◌≡◌, ◌≢◌, ◌++◌, ◌∷◌, [], ◌⊎◌, ◌<◌, ◌≤◌, ◌+◌, ◌-◌, ◌^◌, min, List, ℕ, MatchOption, MatchResult, IfErr, OnOk, length};
 ghost use Rattle.osm_model.specs.Elements.{Element};
 ghost use Rattle.osm_model.specs.Sets.{HasDistinctReferences};
 ghost use Rattle.opl_codec.specs.Fields.{pieces};
@@ -59,6 +59,7 @@ impl Loader {
             → MatchResult result (λ _. Loads [] (front ++ piece.now) self.new.objects.items self.new.pending.items)
             (λ fault. IsOutside fault.fault.cause ⊎ Ruins [] (front ++ piece.now)) }
         ensures short { OnOk result (length self.new.pending.items ≤ 2 ^ 25) }
+        ensures finite { IfErr result (λ fault. fault.fault.cause ≢ OplCause.Endless) }
     {
         match split_line(piece) {
             None => self.keep(piece),
@@ -71,9 +72,10 @@ impl Loader {
 
     /// The set of the objects of a file that ends here.
     pub fn finish(self) -> Result<ObjectSet, LoadFault>
-        ensures { (file : List ℕ) → Loads [] file self.objects.items self.pending.items
+        ensures read { (file : List ℕ) → Loads [] file self.objects.items self.pending.items
             → MatchResult result (λ set. HoldsSet file set)
             (λ fault. IsOutside fault.fault.cause ⊎ ((objects : List Element) → HoldsSet file objects → ⊥)) }
+        ensures finite { IfErr result (λ fault. fault.fault.cause ≢ OplCause.Endless) }
     {
         let mut loader = self;
         loader.end_line(&[])?;
@@ -91,6 +93,7 @@ impl Loader {
         ensures place { (result ≡ record { line = self.now.line; fault = record { cause = cause; byte = byte } })
             ⊎ ((result ≡ record { line = 0; fault = record { cause = OplCause.Memory; byte = 0 } })
             ⊎ ((result.fault ≡ record { cause = OplCause.OutsideModel; byte = 0 }) × (¬ (HasDistinctReferences self.now.objects.items)))) }
+        ensures finite { cause ≢ OplCause.Endless → result.fault.cause ≢ OplCause.Endless }
     {
         match self.repeat() {
             _ if cause == OplCause::Memory => LoadFault::memory(),
@@ -107,6 +110,7 @@ impl Loader {
             → MatchResult result (λ _. Loads lines text.now self.new.objects.items self.new.pending.items)
             (λ fault. IsOutside fault.fault.cause ⊎ Ruins lines text.now) }
         ensures short { OnOk result (length self.new.pending.items ≤ 2 ^ 25) }
+        ensures finite { IfErr result (λ fault. fault.fault.cause ≢ OplCause.Endless) }
     {
         let mut left = text;
         while let Some((line, rest)) = split_line(left) {
@@ -122,6 +126,7 @@ impl Loader {
             → MatchResult result (λ _. Say (lines ++ (self.old.pending.items ++ end.now) ∷ []) self.new.objects.items)
             (λ fault. IsOutside fault.fault.cause ⊎ IsHopeless (lines ++ (self.old.pending.items ++ end.now) ∷ [])) }
         ensures ended { MatchResult result (λ _. self.new.pending.items ≡ []) (λ _. Unit {0}) }
+        ensures finite { IfErr result (λ fault. fault.fault.cause ≢ OplCause.Endless) }
     {
         if self.pending.is_empty() {
             return self.take_line(end);
@@ -140,6 +145,7 @@ impl Loader {
             → MatchResult result (λ _. Say (lines ++ line.now ∷ []) self.new.objects.items)
             (λ fault. IsOutside fault.fault.cause ⊎ IsHopeless (lines ++ line.now ∷ [])) }
         ensures kept { self.new.pending.items ≡ self.old.pending.items }
+        ensures finite { IfErr result (λ fault. fault.fault.cause ≢ OplCause.Endless) }
     {
         match read_line(self.alloc, line) {
             Ok(None) => {
@@ -169,6 +175,7 @@ impl Loader {
     fn push(&mut self, object: Object) -> Result<(), LoadFault>
         ensures pushed { MatchResult result (λ _. self.new.objects.items ≡ self.old.objects.items ++ object ∷ []) (λ fault. IsOutside fault.fault.cause) }
         ensures kept { self.new.pending.items ≡ self.old.pending.items }
+        ensures finite { IfErr result (λ fault. fault.fault.cause ≢ OplCause.Endless) }
     {
         let name = object.reference();
         if self.last.is_some_and(|last| name <= last) {
@@ -186,6 +193,7 @@ impl Loader {
             (λ fault. IsOutside fault.fault.cause ⊎ ((lines : List (List ℕ)) → Say lines self.old.objects.items → BeginsHopeless lines (self.old.pending.items ++ part.now))) }
         ensures short { OnOk result (length self.new.pending.items ≤ 2 ^ 25) }
         ensures same { self.new.objects.items ≡ self.old.objects.items }
+        ensures finite { IfErr result (λ fault. fault.fault.cause ≢ OplCause.Endless) }
     {
         if self.pending.len().saturating_add(part.len()) > LONGEST_LINE {
             return Err(self.refusal(OplCause::LineTooLong, LONGEST_LINE));
@@ -196,7 +204,8 @@ impl Loader {
 
     /// Refuses the first line that repeats an object.
     fn refuse_repeats(&self) -> Result<(), LoadFault>
-        ensures { IfErr result (λ fault. IsOutside fault.fault.cause ⊎ (¬ (HasDistinctReferences self.now.objects.items))) }
+        ensures twice { IfErr result (λ fault. IsOutside fault.fault.cause ⊎ (¬ (HasDistinctReferences self.now.objects.items))) }
+        ensures finite { IfErr result (λ fault. fault.fault.cause ≢ OplCause.Endless) }
     {
         match self.repeat()? {
             None => Ok(()),
