@@ -47,7 +47,7 @@ below_more None key last h k = tt
 below_more (Some l) key last h k = order_trans l key last h k
 
 -- keys that rise, in two parts of which the first has some
-split_rising : (low : Option (List ℕ)) (key : List ℕ) (keys others : List (List ℕ)) → AreRisingFrom low ((key ∷ keys) ++ others)
+pub split_rising : (low : Option (List ℕ)) (key : List ℕ) (keys others : List (List ℕ)) → AreRisingFrom low ((key ∷ keys) ++ others)
     → AreRisingFrom low (key ∷ keys) × AreRisingFrom (Some (last_key (key ∷ keys))) others × IfSome low (λ l. IsBelow l (last_key (key ∷ keys)))
 split_rising low key [] others h = ((h.0, tt), h.1, h.0)
 split_rising low key (next ∷ keys) others h =

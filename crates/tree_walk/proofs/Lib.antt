@@ -1,2 +1,16 @@
+pub mod AgreeLemmas
+pub mod ChoiceLemmas
+pub mod DescentFetches
+pub mod DescentLemmas
+pub mod FetchLemmas
+pub mod HonestLemmas
 pub mod KeyLemmas
+pub mod LevelChoices
+pub mod LevelFetches
+pub mod LevelLemmas
 pub mod MeetLemmas
+pub mod OutcomeLemmas
+pub mod Pendings
+pub mod SpotOrder
+pub mod TopLemmas
+pub mod VisitLemmas

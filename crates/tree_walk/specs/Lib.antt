@@ -1,2 +1,9 @@
+pub mod Choices
+pub mod Descents
+pub mod Fetches
+pub mod Outcomes
+pub mod Pendings
 pub mod Ranges
 pub mod Reaching
+pub mod Refusals
+pub mod Walks

@@ -5,10 +5,19 @@
 //! laws say why.
 #![tactic(auto)]
 
+mod fault;
 mod key_range;
 mod laws;
+mod pending;
+mod tally;
 #[cfg(test)]
 mod tests;
+mod visit;
+mod walk;
 
+pub use fault::WalkFault;
 pub use key_range::KeyRange;
 pub use laws::{covered_law, empty_law, left_edge_law, wider_law};
+pub use tally::Tally;
+pub use tree_node::Item;
+pub use walk::range;

@@ -1,0 +1,10 @@
+use Rattle.std.proofs.Common.{◌≡◌, ◌++◌, List}
+use Rattle.tree_node.specs.NodeRefs.{bindings_of}
+use Rattle.tree_walk.specs.Ranges.{range_of}
+use Rattle.tree_walk.specs.Walks.{IsEntryIn}
+use Rattle.tree_walk.proofs.ChoiceLemmas.{ArePicked}
+use Rattle.tree_walk.proofs.walk.take.Given as goal
+
+-- the entries so far that stand in the range were put behind those before them
+abbrev pub invariant-loop-item : goal.invariant-loop-item
+invariant-loop-item l = (taken : List _) × (bindings_of l.found.items ≡ bindings_of l.fn.found.items ++ taken) × ArePicked (IsEntryIn (range_of l.range)) l.fn.entries l.item-iterator taken

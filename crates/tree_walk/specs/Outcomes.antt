@@ -1,0 +1,25 @@
+-- How a call ends that reads nodes from a shelf, of which it needs some.
+use Rattle.std.specs.Prelude.{ℕ, List, ◌⊎◌, Result, Ok, Err, ⊤}
+use Rattle.tree_node.specs.Trees.{Clash, GrownByAll}
+
+-- why a call was refused, as far as it says something of the shelf
+pub data Cause : Type 0 where
+  NoMemory : Cause
+  NodeMissing : Cause
+  OtherCause : Cause
+
+-- A refusal over honest nodes: memory, or a node that is needed isn't held.
+abbrev pub RefusedFor : (List ℕ → Type 0) → (List ℕ → Type 0) → Cause → Type 0
+RefusedFor needed held NoMemory = ⊤
+RefusedFor needed held NodeMissing = (bytes : List ℕ) × needed bytes × ¬ held bytes
+RefusedFor needed held OtherCause = ⊥
+
+-- what the call gave is as it should be and it used just the needed nodes, or it was refused for memory or for a needed
+-- node that isn't held
+abbrev pub EndsBy : {A F : Type 0} → (F → Cause) → (A → Type 0) → (List ℕ → Type 0) → (List ℕ → Type 0) → (List ℕ → Type 0) → (List ℕ → Type 0) → Result A F → Type 0
+EndsBy cause_of Is needed held old new (Ok value) = Is value × GrownByAll old new needed
+EndsBy cause_of Is needed held old new (Err fault) = RefusedFor needed held (cause_of fault)
+
+-- it ends so, unless a needed node and a different used one have one digest
+abbrev pub Outcome : {A F : Type 0} → (F → Cause) → (A → Type 0) → (List ℕ → Type 0) → (List ℕ → Type 0) → (List ℕ → Type 0) → (List ℕ → Type 0) → Result A F → Type 0
+Outcome cause_of Is needed held old new result = Clash needed new ⊎ EndsBy cause_of Is needed held old new result

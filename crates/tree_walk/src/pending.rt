@@ -1,0 +1,114 @@
+//! Children that a walk will fetch.
+
+ghost use Rattle.std.specs.Option.{option_copied};
+ghost use Rattle.std.specs.Prelude.{◌≡◌, ◌++◌, ◌↔◌, IsTrue, List, OnOk, ℕ, length, sum_by};
+ghost use Rattle.tree_node.specs.NodeRefs.{binding_of, bindings_of, link_of};
+ghost use Rattle.tree_node.specs.Nodes.{AreRisingFrom, Inner, Leaf, Link, greatests_of, keys_of};
+ghost use Rattle.tree_node.specs.Trees.{last_key};
+ghost use Rattle.tree_walk.specs.Choices.{AreThose};
+ghost use Rattle.tree_walk.specs.Pendings.{Agrees, IsMetChild, children_placed, spot_of, spots_of};
+ghost use Rattle.tree_walk.specs.Ranges.{IsAboveLeft, IsIn, range_of};
+
+use crate::key_range::KeyRange;
+use std::alloc::AllocError;
+use std::cmp::Ordering;
+use tree_node::{Child, Children, Entries};
+
+/// A child that meets the range, as its parent states it.
+#[derive(Clone, Copy, Debug)]
+pub(crate) struct Pending<'a> {
+    /// The greatest key of its left neighbour; a first child has its parent's left bound.
+    pub(crate) left: Option<&'a [u8]>,
+    /// What its parent states of it.
+    pub(crate) child: Child<'a>,
+}
+
+impl<'a> Pending<'a> {
+    /// Whether an inner node with these children is as its parent states.
+    pub(crate) fn is_inner(&self, children: &Children<'a>) -> bool
+        ensures { (tree level : ℕ) → IsTrue result ↔ Agrees (spot_of self.now) (Inner tree level children.now) }
+    {
+        let starts = match children.again().next() {
+            Some(first) => is_above(self.left, first.greatest),
+            None => true,
+        };
+        starts && children_end(children.again(), self.child.greatest, self.child.number)
+    }
+
+    /// Whether a leaf with these entries is as its parent states.
+    pub(crate) fn is_leaf(&self, entries: &Entries<'a>) -> bool
+        ensures { (tree : ℕ) → IsTrue result ↔ Agrees (spot_of self.now) (Leaf tree entries.now) }
+    {
+        let starts = match entries.again().next() {
+            Some(first) => is_above(self.left, first.key),
+            None => true,
+        };
+        starts && entries_end(entries.again(), self.child.greatest, self.child.number)
+    }
+}
+
+/// Whether the key is above the left bound, where there is one.
+fn is_above(left: Option<&[u8]>, key: &[u8]) -> bool
+    ensures { IsTrue result ↔ IsAboveLeft (option_copied left.entry) key.now }
+{
+    match left {
+        Some(left) => matches!(left.cmp(key), Ordering::Less),
+        None => true,
+    }
+}
+
+/// Whether this is the last of the children's greatest keys, and so many entries stand below them.
+fn children_end(children: Children<'_>, greatest: &[u8], number: u64) -> bool
+    ensures { IsTrue result ↔ ((last_key (greatests_of children.entry) ≡ greatest.now)
+        × (sum_by (λ (link : Link). link.number) children.entry ≡ number)) }
+{
+    let mut last: &[u8] = b"";
+    let mut missing = number;
+    for child in children {
+        match missing.checked_sub(child.number) {
+            Some(rest) => missing = rest,
+            None => return false,
+        }
+        last = child.greatest;
+    }
+    missing == 0 && matches!(last.cmp(greatest), Ordering::Equal)
+}
+
+/// Whether this is the last of the entries' keys, and there are so many of them.
+fn entries_end(entries: Entries<'_>, greatest: &[u8], number: u64) -> bool
+    ensures { IsTrue result ↔ ((last_key (keys_of entries.entry) ≡ greatest.now) × (length entries.entry ≡ number)) }
+{
+    let mut last: &[u8] = b"";
+    let mut missing = number;
+    for item in entries {
+        match missing.checked_sub(1) {
+            Some(rest) => missing = rest,
+            None => return false,
+        }
+        last = item.key;
+    }
+    missing == 0 && matches!(last.cmp(greatest), Ordering::Equal)
+}
+
+/// Puts the children that meet the range behind those of the nodes to the left.
+pub(crate) fn pick<'a>(
+    children: Children<'a>,
+    left: Option<&'a [u8]>,
+    range: &KeyRange<'_>,
+    pending: &mut Vec<Pending<'a>>,
+) -> Result<(), AllocError>
+    requires some { IsIn (range_of range.now) range.now.lo.now }
+    requires rising { AreRisingFrom (option_copied left) (greatests_of children) }
+    ensures { OnOk result ((picked : List _)
+        × (spots_of pending.new.items ≡ spots_of pending.old.items ++ picked)
+        × AreThose (IsMetChild (range_of range.now)) (children_placed (option_copied left.entry) children.entry) picked) }
+{
+    let mut bound = left;
+    for child in children {
+        if range.meets(bound, child.greatest) {
+            pending.push(Pending { left: bound, child })?;
+        }
+        bound = Some(child.greatest);
+    }
+    Ok(())
+}
