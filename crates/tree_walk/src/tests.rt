@@ -4,6 +4,8 @@ ghost use Rattle.std.specs.Option.{option_copied};
 ghost use Rattle.std.specs.Prelude.{IsTrue};
 ghost use Rattle.tree_walk.specs.Ranges.{IsAboveLeft};
 
+mod walks;
+
 use super::*;
 use std::alloc::{AllocError, Global};
 use std::cmp::Ordering;
