@@ -5,25 +5,12 @@
 #
 #   bench/tree_build.sh [RUNS]
 set -eu
-top=$(cd "$(dirname "$0")/.." && pwd)
 runs=${1:-3}
-work=${WORK:-$(mktemp -d)}
-mkdir -p "$work/crates"
-printf 'tree_node: sha2 thiserror\ntree_build: tree_node thiserror\nbuild_speed: tree_build tree_node sha2 anyhow\n' > "$work/crates.txt"
-[ -d "$work/.git" ] || git init -q "$work"
-for crate in tree_node tree_build; do
-    mkdir -p "$work/crates/$crate"
-    for part in src specs proofs; do
-        cp -r "$top/crates/$crate/$part" "$work/crates/$crate/"
-    done
-done
-speed=$work/crates/build_speed
-mkdir -p "$speed/src" "$speed/proofs/has_tree"
-cp "$top/bench/build_speed.program" "$speed/src/main.rt"
-cp "$top/bench/build_speed.invariants" "$speed/proofs/has_tree/Invariants.antt"
-touch "$speed/stdin"
-cd "$speed"
-rt run > "$work/build.log" 2>&1 || { tail -n 20 "$work/build.log"; exit 1; }
+. "$(dirname "$0")/program.sh"
+invariants build_speed has_tree has_tree
+build_program build_speed 'tree_node: sha2 thiserror
+tree_build: tree_node thiserror
+build_speed: tree_build tree_node sha2 anyhow' tree_node tree_build
 python3 - "$runs" <<'END'
 import os
 import subprocess

@@ -57,12 +57,12 @@ stated_from range tree level left (n ∷ ns) pending are kinds start (inr unmet)
 -- ---- what stands below the nodes of a list that meet the range
 
 -- a left bound doesn't leave out what it lets in,
-no_higher_itself : (left : Option (List ℕ)) → IsNoHigher left left
+pub no_higher_itself : (left : Option (List ℕ)) → IsNoHigher left left
 no_higher_itself None = tt
 no_higher_itself (Some l) = inr refl
 
 -- nor what a key above it lets in
-no_higher_next : (outer left : Option (List ℕ)) (key : List ℕ) → IsNoHigher outer left → IsAboveLeft left key → IsNoHigher outer (Some key)
+pub no_higher_next : (outer left : Option (List ℕ)) (key : List ℕ) → IsNoHigher outer left → IsAboveLeft left key → IsNoHigher outer (Some key)
 no_higher_next None left key is above = tt
 no_higher_next (Some o) None key is above = absurd is
 no_higher_next (Some o) (Some l) key is above = inl (at_most_below o l key is above)
@@ -73,7 +73,7 @@ first_at_most low key [] rise = inr refl
 first_at_most low key (next ∷ keys) rise = inl (below_at_most key next (last_key (next ∷ keys)) rise.1.0 (first_at_most (Some key) next keys rise.1))
 
 -- and none is
-all_at_most : (low : Option (List ℕ)) (keys : List (List ℕ)) → AreRisingFrom low keys → AllByRecursion (λ (key : List ℕ). IsAtMost key (last_key keys)) keys
+pub all_at_most : (low : Option (List ℕ)) (keys : List (List ℕ)) → AreRisingFrom low keys → AllByRecursion (λ (key : List ℕ). IsAtMost key (last_key keys)) keys
 all_at_most low [] rise = tt
 all_at_most low (key ∷ []) rise = (inr refl, tt)
 all_at_most low (key ∷ next ∷ keys) rise = (first_at_most low key (next ∷ keys) rise, all_at_most (Some key) (next ∷ keys) rise.1)
@@ -99,7 +99,7 @@ no_entry_in range outer left most (e ∷ es) unmet no_higher rise below bytes =
     )
 
 -- children behind others have the last one's greatest key as their left bound
-children_append : (left : Option (List ℕ)) (l : Link) (ls more : List Link)
+pub children_append : (left : Option (List ℕ)) (l : Link) (ls more : List Link)
     → children_placed left ((l ∷ ls) ++ more) ≡ children_placed left (l ∷ ls) ++ children_placed (Some (last_key (greatests_of (l ∷ ls)))) more
 children_append left l [] more = refl
 children_append left l (m ∷ ls) more = ap (λ (cs : List (Option (List ℕ) × Link)). (left, l) ∷ cs) (children_append (Some l.greatest) m ls more)
@@ -161,7 +161,7 @@ entries_from range tree left ((e ∷ es) ∷ ps) spots found sized bytes rise th
 -- ---- the places of the nodes of a list that meet the range
 
 -- the left bound of a place, where the first node has this one
-abbrev left_from : Option (List ℕ) → List Node → ℕ → Option (List ℕ)
+abbrev pub left_from : Option (List ℕ) → List Node → ℕ → Option (List ℕ)
 left_from left nodes zero = left
 left_from left [] (suc place) = left
 left_from left (node ∷ nodes) (suc place) = left_from (Some (greatest_of node)) nodes place
@@ -173,7 +173,7 @@ left_behind node [] (suc place) lt = absurd (omega arith)
 left_behind node (n ∷ nodes) (suc place) lt = left_behind n nodes place (omega arith)
 
 -- without one they are those of a level
-left_none : (nodes : List Node) (place : ℕ) → place < length nodes → left_from None nodes place ≡ left_at nodes place
+pub left_none : (nodes : List Node) (place : ℕ) → place < length nodes → left_from None nodes place ≡ left_at nodes place
 left_none nodes zero lt = refl
 left_none [] (suc place) lt = absurd (omega arith)
 left_none (n ∷ nodes) (suc place) lt = left_behind n nodes place (omega arith)

@@ -27,7 +27,7 @@ leaf_rising : (shape : Shape) (entries : List Binding) → HasTree entries → A
 leaf_rising shape entries has = subst (λ (es : List Binding). AreRisingFrom None (keys_of es)) (sym (pieces_join (ends_by shape is_marked_entry) [] entries)) has.rising
 
 -- the greatest keys of the nodes of a level rise over all nodes of the level above it
-inner_rising : (shape : Shape) (tree : ℕ) (entries : List Binding) (level : ℕ) → HasTree entries → suc level < length (whole shape tree entries)
+pub inner_rising : (shape : Shape) (tree : ℕ) (entries : List Binding) (level : ℕ) → HasTree entries → suc level < length (whole shape tree entries)
     → AreRisingFrom None (greatests_of (join (pieces (ends_by shape is_marked_link) (map link_to (level_at (whole shape tree entries) level)))))
 inner_rising shape tree entries level has lt =
     subst (λ (ls : List Link). AreRisingFrom None (greatests_of ls)) (sym (pieces_join (ends_by shape is_marked_link) [] (map link_to (level_at (whole shape tree entries) level))))

@@ -11,6 +11,7 @@ pub mod LevelLemmas
 pub mod MeetLemmas
 pub mod OutcomeLemmas
 pub mod Pendings
+pub mod SpanLaws
 pub mod SpotOrder
 pub mod TopLemmas
 pub mod VisitLemmas

@@ -6,4 +6,5 @@ pub mod Pendings
 pub mod Ranges
 pub mod Reaching
 pub mod Refusals
+pub mod Spans
 pub mod Walks

@@ -1,8 +1,12 @@
 //! Laws of ranges, over their definitions alone. There is nothing to do when they run.
 
-ghost use Rattle.std.specs.Prelude.{◌↔◌, None, ℕ, List, Option};
-ghost use Rattle.tree_node.specs.Nodes.{AreBytes};
+ghost use Rattle.std.specs.List.{AllByRecursion};
+ghost use Rattle.std.specs.Prelude.{◌≡◌, ◌<◌, ◌↔◌, None, ℕ, suc, List, Option, length, map, slice_index_or};
+ghost use Rattle.tree_node.specs.Nodes.{AreBytes, Binding, Node};
+ghost use Rattle.tree_node.specs.Trees.{HasTree, Shape, greatest_of, left_at, level_at, levels, link_to, no_node};
+ghost use Rattle.tree_walk.specs.Pendings.{children_of_all, children_placed, placed};
 ghost use Rattle.tree_walk.specs.Ranges.{IsAboveLeft, IsAtMost, IsExcepted, IsIn, IsNoHigher, Meets, Range};
+ghost use Rattle.tree_walk.specs.Spans.{HasChildrenWithin};
 
 /// The law of empty ranges: where any key stands in a range, its `lo` does. So a range that doesn't
 /// contain its `lo` is empty.
@@ -33,4 +37,25 @@ pub fn wider_law()
     ensures { (range : Range) (left outer : Option (List ℕ)) (greatest last : List ℕ)
         → Meets range left greatest → IsNoHigher outer left → IsAtMost greatest last
         → Meets range outer last }
+{}
+
+/// The law of spans: a node's left bound is taken from its whole level, and the range is asked of each
+/// node alone. It says that this is as a walk has it, which knows of a node what its parent states.
+pub fn spans_law()
+    // The nodes of a level, each beside its left bound.
+    ensures bounds { (nodes : List Node) (place : ℕ) → place < length nodes
+        → slice_index_or (placed greatest_of None nodes) place (None, no_node)
+        ≡ (left_at nodes place, slice_index_or nodes place no_node) }
+    // The nodes of a level are the children of the nodes above them, in order. A first child has its
+    // parent's left bound, each other the greatest key that its parent states of the child before it.
+    ensures children { (shape : Shape) (tree : ℕ) (entries : List Binding) (level : ℕ)
+        → suc level < length (levels shape tree entries)
+        → children_of_all (placed greatest_of None (level_at (levels shape tree entries) (suc level)))
+        ≡ children_placed None (map link_to (level_at (levels shape tree entries) level)) }
+    // A child meets a range only where its parent does, and where a range covers a node it covers the
+    // node's children, and so all below it.
+    ensures within { (range : Range) (shape : Shape) (tree : ℕ) (entries : List Binding) (level : ℕ)
+        → HasTree entries → suc level < length (levels shape tree entries)
+        → AllByRecursion (HasChildrenWithin range)
+        (placed greatest_of None (level_at (levels shape tree entries) (suc level))) }
 {}

@@ -1,8 +1,9 @@
-//! Ranges of keys, for walks over trees of which only some nodes are at hand.
+//! Walks over trees of which only some nodes are at hand.
 //!
-//! A [`KeyRange`] tells which keys stand in it, which nodes of a tree a walk has to open for it, and
-//! which a count may leave closed: each by comparing a few keys, which stay where they lie. The crate's
-//! laws say why.
+//! [`range`] gives the entries of a tree in a range of keys, complete and exact, or refuses by name,
+//! whatever the nodes are that a shelf gives it. A [`KeyRange`] tells which keys stand in it, which
+//! nodes of a tree a walk has to open for it, and which a count may leave closed: each by comparing a
+//! few keys, which stay where they lie. The crate's laws say why.
 #![tactic(auto)]
 
 mod fault;
@@ -17,7 +18,7 @@ mod walk;
 
 pub use fault::WalkFault;
 pub use key_range::KeyRange;
-pub use laws::{covered_law, empty_law, left_edge_law, wider_law};
+pub use laws::{covered_law, empty_law, left_edge_law, spans_law, wider_law};
 pub use tally::Tally;
 pub use tree_node::Item;
 pub use walk::range;
