@@ -1,5 +1,5 @@
 -- What a node says, and what its parent states of it.
-use Rattle.std.proofs.Common.{◌≡◌, ◌≢◌, ◌↔◌, Bool, true, false, IsTrue, List, ℕ, [], ◌∷◌, refl, sym, subst, ◌∙◌}
+use Rattle.std.proofs.Common.{◌≡◌, ◌≢◌, ◌↔◌, true, false, IsTrue, List, ℕ, [], ◌∷◌, refl, sym, subst, ◌∙◌}
 use Rattle.std.specs.declared.cmp.Ordering.TheVariants.{Equal}
 use Rattle.tree_node.specs.Order.{order}
 use Rattle.tree_node.specs.OrderLemmas.{order_itself, order_same}

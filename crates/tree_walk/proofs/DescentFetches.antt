@@ -1,7 +1,7 @@
 -- Which nodes a walk fetched on its way down: of each level different ones, and no two levels share one.
-use Rattle.std.proofs.Common.{◌≡◌, ℕ, suc, ◌+◌, ◌<◌, ◌≤◌, List, [], ◌∷◌, ◌++◌, length, inl, inr, Result, Ok, Err, refl, sym, ap, subst, ◌∙◌, append_assoc, arith}
+use Rattle.std.proofs.Common.{◌≡◌, ℕ, suc, ◌<◌, ◌≤◌, List, [], ◌∷◌, ◌++◌, inl, inr, Result, Ok, Err, refl, sym, ap, subst, append_assoc, arith}
 use Rattle.std.specs.List.{AllByRecursion}
-use Rattle.tree_node.specs.Nodes.{Node, level_of}
+use Rattle.tree_node.specs.Nodes.{level_of}
 use Rattle.tree_node.specs.Shelves.{SameNodes}
 use Rattle.tree_walk.specs.Fetches.{AreDifferent, HasFetched, IsAmong}
 use Rattle.tree_walk.specs.Pendings.{FetchesBelow, FetchesLevel, IsBetweenLevels, IsOfLevel}

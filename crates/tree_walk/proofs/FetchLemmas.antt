@@ -1,8 +1,7 @@
 -- Nodes that were fetched, one after the other.
-use Rattle.std.proofs.Common.{◌≡◌, ◌↔◌, ℕ, zero, suc, ◌+◌, ◌-◌, ◌^◌, min, List, [], ◌∷◌, ◌++◌, length, ◌⊎◌, inl, inr, refl, sym, ap, subst, ◌∙◌, arith, length-append}
+use Rattle.std.proofs.Common.{◌≡◌, ℕ, zero, suc, ◌+◌, ◌-◌, ◌^◌, min, List, [], ◌∷◌, ◌++◌, length, ◌⊎◌, inl, inr, refl, sym, ap, ◌∙◌, arith, length-append}
 use Rattle.std.specs.List.{AllByRecursion}
 use Rattle.tree_node.specs.Shelves.{GrownBy, SameNodes}
-use Rattle.tree_node.specs.Trees.{GrownByAll}
 use Rattle.tree_walk.specs.Fetches.{HasFetched, IsAmong, counted_up}
 
 -- ---- counts

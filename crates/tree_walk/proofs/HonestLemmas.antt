@@ -1,12 +1,12 @@
 -- A level whose pending children are honest nodes: what was read of them so far, unless a node of the shelf clashes.
-use Rattle.std.proofs.Common.{◌≡◌, ℕ, List, [], ◌∷◌, ◌++◌, Option, ◌⊎◌, inl, inr, Result, Ok, Err, refl, sym, ap, subst, ◌∙◌, append_assoc}
+use Rattle.std.proofs.Common.{◌≡◌, ℕ, List, [], ◌∷◌, ◌++◌, Option, ◌⊎◌, inl, inr, refl, sym, ap, subst, ◌∙◌, append_assoc}
 use Rattle.std.specs.List.{flat_map}
 use Rattle.std.proofs.lemmas.Grind.{flat_map-append}
 use Rattle.std.proofs.lemmas.List.{append-nil}
 use Rattle.tree_node.specs.Nodes.{Link, Node, spelling}
 use Rattle.tree_node.specs.Trees.{Clash, GrownByAll}
 use Rattle.tree_walk.specs.Choices.{AreThose}
-use Rattle.tree_walk.specs.Outcomes.{Cause, EndsBy, NoMemory, NodeMissing, OtherCause, Outcome, RefusedFor}
+use Rattle.tree_walk.specs.Outcomes.{Cause, NoMemory, NodeMissing, OtherCause, RefusedFor}
 use Rattle.tree_walk.specs.Pendings.{AreStated, IsOneOf, IsStated}
 use Rattle.tree_walk.proofs.ChoiceLemmas.{those_append}
 use Rattle.tree_walk.proofs.OutcomeLemmas.{clash_more}

@@ -1,10 +1,8 @@
 -- The pending children of a level, one after the other.
-use Rattle.std.proofs.Common.{◌≡◌, ℕ, ◌+◌, ◌<◌, List, [], ◌∷◌, drop, get_or, length, Option, Result, Ok, Err, refl, sym, ap, subst, ◌∙◌, arith, ◌⊎◌, inl, inr}
+use Rattle.std.proofs.Common.{◌≡◌, ℕ, ◌+◌, ◌<◌, List, ◌∷◌, drop, get_or, length, Option, Result, Ok, Err, ap}
 use Rattle.std.specs.Result.{IsErrAnd}
 use Rattle.std.proofs.lemmas.List.{drop_more}
-use Rattle.tree_node.specs.Nodes.{AreRisingFrom, Inner, Link, Node, greatests_of}
-use Rattle.tree_walk.specs.Fetches.{cause_of}
-use Rattle.tree_walk.specs.Outcomes.{Outcome}
+use Rattle.tree_node.specs.Nodes.{AreRisingFrom, Inner, Link, greatests_of}
 use Rattle.tree_walk.specs.Pendings.{FetchedNode, StartAbove, spot_of, spots_of}
 use Rattle.tree_walk.specs.declared.fault.WalkFault.{WalkFault}
 use Rattle.tree_walk.specs.declared.pending.Pending.{Pending}

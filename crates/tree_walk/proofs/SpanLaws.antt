@@ -3,7 +3,7 @@ use Rattle.std.proofs.Common.{◌≡◌, ℕ, zero, suc, ◌<◌, List, [], ◌�
 use Rattle.std.specs.List.{AllByRecursion}
 use Rattle.std.proofs.lemmas.List.{map-append}
 use Rattle.tree_node.specs.Nodes.{AreRisingFrom, Binding, Inner, Link, Node, greatests_of}
-use Rattle.tree_node.specs.Trees.{HasTree, Shape, ends_by, greatest_of, is_marked_link, last_key, left_at, level_at, levels, link_to, links_in, no_node, pieces}
+use Rattle.tree_node.specs.Trees.{HasTree, Shape, ends_by, greatest_of, is_marked_link, last_key, left_at, level_at, levels, link_to, no_node, pieces}
 use Rattle.tree_node.proofs.PieceLaws.{IsSized, pieces_sized, split_rising}
 use Rattle.tree_node.proofs.PieceLemmas.{join, pieces_join}
 use Rattle.tree_node.proofs.TreeLaws.{pair_at, whole}

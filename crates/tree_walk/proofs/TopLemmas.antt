@@ -1,8 +1,8 @@
 -- A walk that begins at the top of a tree.
-use Rattle.std.proofs.Common.{◌≡◌, ◌↔◌, ℕ, zero, suc, ◌-◌, ◌<◌, ◌≤◌, List, [], ◌∷◌, ◌++◌, length, map, Option, None, ◌⊎◌, inl, inr, Result, Ok, Err, refl, sym, ap, subst, ◌∙◌, arith}
+use Rattle.std.proofs.Common.{◌≡◌, ℕ, suc, ◌-◌, List, [], ◌∷◌, ◌++◌, length, map, Option, None, ◌⊎◌, inl, inr, Result, Ok, Err, sym, ap, subst, ◌∙◌, arith}
 use Rattle.std.specs.List.{AllByRecursion}
 use Rattle.std.proofs.lemmas.Bool.{cases_order}
-use Rattle.tree_node.specs.Nodes.{AreBytes, Binding, Inner, IsTree, Leaf, Link, Node, level_of, spelling}
+use Rattle.tree_node.specs.Nodes.{AreBytes, Binding, Inner, IsTree, Leaf, Link, Node, level_of}
 use Rattle.tree_node.specs.NodeRefs.{number_of}
 use Rattle.tree_node.specs.Shelves.{SameNodes}
 use Rattle.tree_node.specs.Trees.{Clash, GrownByAll, HasTree, Shape, Stands, entries_in, level_at, levels, link_to, links_in, node_in, top_of}
@@ -10,14 +10,14 @@ use Rattle.tree_node.specs.declared.tree.Tree.{Tree}
 use Rattle.tree_node.specs.declared.tree.Tree.TheVariants.{Objects, Tags, Cells, Backs}
 use Rattle.tree_walk.specs.Choices.{AreThose}
 use Rattle.tree_walk.specs.Descents.{IsMetIn, IsReached}
-use Rattle.tree_walk.specs.Fetches.{AreDifferent, Fetches, HasFetched, IsAmong, IsNodeText}
+use Rattle.tree_walk.specs.Fetches.{AreDifferent, Fetches, HasFetched, IsNodeText}
 use Rattle.tree_walk.specs.Outcomes.{Cause, Outcome, RefusedFor}
 use Rattle.tree_walk.specs.Pendings.{FetchedFew, FetchedNode, FetchesBelow, IsBetweenLevels, IsMetChild, children_placed}
 use Rattle.tree_walk.specs.Ranges.{Range}
 use Rattle.tree_walk.specs.Walks.{IsEntryIn, IsMet, MeetsAt}
 use Rattle.tree_walk.specs.declared.fault.WalkFault.{WalkFault}
 use Rattle.tree_walk.proofs.DescentFetches.{differ_append, levels_apart}
-use Rattle.tree_walk.proofs.FetchLemmas.{all_append, all_weaker, fetched_one, fetched_then}
+use Rattle.tree_walk.proofs.FetchLemmas.{all_weaker, fetched_one, fetched_then}
 use Rattle.tree_walk.proofs.HonestLemmas.{refused_more}
 use Rattle.tree_walk.proofs.LevelLemmas.{few_levels_here, top_children, top_entries, top_is, top_met}
 use Rattle.tree_walk.proofs.OutcomeLemmas.{clash_more}

@@ -2,12 +2,12 @@
 use Rattle.std.specs.Prelude.{◌≡◌, ℕ, List, [], ◌∷◌, map, Option, Some, Result, Ok, Err, ⊤, ◌<◌, ◌≤◌, length, ◌++◌, ◌⊎◌}
 use Rattle.std.specs.Option.{option_copied}
 use Rattle.std.specs.List.{AllByRecursion, flat_map}
-use Rattle.tree_node.specs.Nodes.{Binding, Leaf, Inner, Link, Node, IsNode, Spells, spelling, level_of, tree_of, keys_of, greatests_of, AreRisingFrom}
+use Rattle.tree_node.specs.Nodes.{Binding, Leaf, Inner, Link, Node, IsNode, Spells, spelling, level_of, tree_of, keys_of, greatests_of}
 use Rattle.tree_node.specs.NodeRefs.{link_of}
 use Rattle.tree_node.specs.Shelves.{GrownBy}
-use Rattle.tree_node.specs.Trees.{entries_in, entry_count, greatest_of, last_key, link_to, links_in}
+use Rattle.tree_node.specs.Trees.{entries_in, entry_count, greatest_of, link_to, links_in}
 use Rattle.tree_walk.specs.Fetches.{AreDifferent, HasFetched, counted_up}
-use Rattle.tree_walk.specs.Ranges.{IsAboveLeft, IsAtMost, IsNoHigher, Meets, Range}
+use Rattle.tree_walk.specs.Ranges.{IsAboveLeft, IsNoHigher, Meets, Range}
 use Rattle.tree_walk.specs.declared.fault.WalkFault.{WalkFault}
 use Rattle.tree_walk.specs.declared.pending.Pending.{Pending}
 

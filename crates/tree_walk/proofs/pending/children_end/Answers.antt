@@ -1,4 +1,4 @@
-use Rattle.std.proofs.Common.{◌≡◌, ◌≢◌, arith, ap, refl, sym, ◌∙◌, List, [], length, sum_by}
+use Rattle.std.proofs.Common.{arith, ap, sym, ◌∙◌, List, [], sum_by}
 use Rattle.tree_node.specs.Nodes.{Link, greatests_of}
 use Rattle.tree_walk.proofs.AgreeLemmas.{end_is, end_is_not, last_from, last_is}
 use Rattle.tree_walk.proofs.pending.children_end.Goals as goal

@@ -1,4 +1,4 @@
-use Rattle.std.proofs.Common.{◌≡◌, ℕ, List, [], ◌∷◌, inl, inr, refl, subst, ◌∙◌, arith}
+use Rattle.std.proofs.Common.{ℕ, List, [], ◌∷◌, inl, inr, refl, subst, ◌∙◌, arith}
 use Rattle.tree_node.specs.Shelves.{GrownBy}
 use Rattle.tree_walk.proofs.FetchLemmas.{fetched_one}
 use Rattle.tree_walk.proofs.OutcomeLemmas.{honest_or_clash}

@@ -1,4 +1,4 @@
-use Rattle.std.proofs.Common.{◌≡◌, ◌++◌, ◌∷◌, ℕ, ◌+◌, List, [], Option, None, Some, drop, Result, Err, inl, inr, refl, sym, ap, subst, ◌∙◌}
+use Rattle.std.proofs.Common.{ℕ, ◌+◌, List, Option, Some, drop, Result, refl, sym, subst, ◌∙◌}
 use Rattle.std.specs.Global.{Vec}
 use Rattle.std.proofs.Math.ListN.{drop_of_length-le}
 use Rattle.tree_node.specs.NodeRefs.{number_of}
@@ -7,7 +7,7 @@ use Rattle.tree_node.specs.Trees.{links_in}
 use Rattle.tree_walk.specs.Choices.{AreThose}
 use Rattle.tree_walk.specs.Fetches.{cause_of}
 use Rattle.tree_walk.specs.Outcomes.{Outcome}
-use Rattle.tree_walk.specs.Pendings.{IsMetChild, IsOneOf, children_of_all, children_placed, spot_of, spots_of}
+use Rattle.tree_walk.specs.Pendings.{IsMetChild, IsOneOf, children_of_all, children_placed, spots_of}
 use Rattle.tree_walk.specs.Ranges.{range_of}
 use Rattle.tree_walk.specs.declared.fault.WalkFault.{WalkFault}
 use Rattle.tree_walk.specs.declared.fault.WalkFault.TheVariants.{Memory}
@@ -16,7 +16,7 @@ use Rattle.tree_walk.proofs.FetchLemmas.{same_then}
 use Rattle.tree_walk.proofs.HonestLemmas.{HonestSoFar, honest_end, honest_step, honest_stop}
 use Rattle.tree_walk.proofs.LevelFetches.{FetchingLevel, level_end, level_refused, level_step, level_stopped}
 use Rattle.tree_walk.proofs.Pendings.{err_is, fetched_rises, rest_is}
-use Rattle.tree_walk.proofs.SpotOrder.{IsOrderedUpTo, order_end, order_step}
+use Rattle.tree_walk.proofs.SpotOrder.{order_step}
 use Rattle.tree_walk.proofs.walk.descend.Goals as goal
 
 pub returns-in_err-children-clause-fetches : goal.returns-in_err-children-clause-fetches

@@ -1,11 +1,11 @@
-use Rattle.std.proofs.Common.{◌≡◌, ◌++◌, ℕ, suc, ◌-◌, List, [], None, Option, Result, Ok, Err, inl, inr, refl, sym, ap, subst, ◌∙◌, arith, length}
+use Rattle.std.proofs.Common.{◌≡◌, ◌++◌, suc, ◌-◌, List, Result, inl, inr, refl, sym, ap, subst, ◌∙◌, arith, length}
 use Rattle.std.specs.Global.{Vec}
 use Rattle.tree_node.specs.NodeRefs.{bindings_of, node_read, number_of}
 use Rattle.tree_node.specs.Nodes.{Node, spelling}
 use Rattle.tree_node.specs.Trees.{levels, node_in}
 use Rattle.tree_node.specs.declared.item.Item.{Item}
 use Rattle.tree_walk.specs.Choices.{AreThose}
-use Rattle.tree_walk.specs.Fetches.{Fetches, cause_of}
+use Rattle.tree_walk.specs.Fetches.{cause_of}
 use Rattle.tree_walk.specs.Outcomes.{Outcome}
 use Rattle.tree_walk.specs.Pendings.{FetchedNode, IsMetChild, spots_of}
 use Rattle.tree_walk.specs.Ranges.{range_of}

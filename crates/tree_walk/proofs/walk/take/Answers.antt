@@ -1,4 +1,4 @@
-use Rattle.std.proofs.Common.{◌≡◌, ◌++◌, ◌∷◌, List, [], subst}
+use Rattle.std.proofs.Common.{◌++◌, ◌∷◌, List, [], subst}
 use Rattle.tree_node.specs.NodeRefs.{binding_of, bindings_of}
 use Rattle.tree_node.specs.Nodes.{Binding}
 use Rattle.tree_walk.specs.Ranges.{range_of}

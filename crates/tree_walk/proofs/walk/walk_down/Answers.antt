@@ -1,7 +1,6 @@
-use Rattle.std.proofs.Common.{◌≡◌, ℕ, suc, ◌-◌, List, Option, Result, Err, sym, subst, ◌∙◌, arith}
+use Rattle.std.proofs.Common.{◌≡◌, ℕ, suc, ◌-◌, Result, sym, subst, ◌∙◌, arith}
 use Rattle.std.specs.Global.{Vec}
 use Rattle.tree_node.specs.NodeRefs.{bindings_of, number_of}
-use Rattle.tree_node.specs.Nodes.{Link}
 use Rattle.tree_node.specs.Trees.{levels}
 use Rattle.tree_node.specs.declared.item.Item.{Item}
 use Rattle.tree_walk.specs.Choices.{AreThose}
