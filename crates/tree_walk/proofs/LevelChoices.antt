@@ -89,7 +89,7 @@ no_child_met range outer left most (l ∷ ls) unmet no_higher rise below =
     )
 
 -- and no entry of bytes there stands in it
-no_entry_in : (range : Range) (outer left : Option (List ℕ)) (most : List ℕ) (es : List Binding) → (¬ Meets range outer most) → IsNoHigher outer left → AreRisingFrom left (keys_of es)
+pub no_entry_in : (range : Range) (outer left : Option (List ℕ)) (most : List ℕ) (es : List Binding) → (¬ Meets range outer most) → IsNoHigher outer left → AreRisingFrom left (keys_of es)
     → AllByRecursion (λ (key : List ℕ). IsAtMost key most) (keys_of es) → AllByRecursion (λ (e : Binding). AreBytes e.key) es → AreThose (IsEntryIn range) es []
 no_entry_in range outer left most [] unmet no_higher rise below bytes = refl
 no_entry_in range outer left most (e ∷ es) unmet no_higher rise below bytes =

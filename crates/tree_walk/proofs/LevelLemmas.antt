@@ -34,7 +34,7 @@ inner_rising shape tree entries level has lt =
     (links_at shape tree entries has (entries_some shape tree entries level lt) level (omega arith)).rising
 
 -- the keys of each node of a level start above the greatest key of the node before it
-start_at : (shape : Shape) (tree : ℕ) (entries : List Binding) (level : ℕ) → HasTree entries → suc level < length (whole shape tree entries) → StartEachAbove None (level_at (whole shape tree entries) level)
+pub start_at : (shape : Shape) (tree : ℕ) (entries : List Binding) (level : ℕ) → HasTree entries → suc level < length (whole shape tree entries) → StartEachAbove None (level_at (whole shape tree entries) level)
 start_at shape tree entries zero has lt =
     subst (λ (ns : List Node). StartEachAbove None ns) (sym (leaf_cut shape tree entries (entries_some shape tree entries 0 lt)))
     (leaves_start tree None (pieces (ends_by shape is_marked_entry) entries) (pieces_sized shape is_marked_entry entries) (leaf_rising shape entries has))

@@ -1,5 +1,11 @@
 pub mod AgreeLemmas
 pub mod ChoiceLemmas
+pub mod CountBelow
+pub mod CountChoices
+pub mod CountDescents
+pub mod CountLemmas
+pub mod CountLevels
+pub mod CountTops
 pub mod DescentFetches
 pub mod DescentLemmas
 pub mod FetchLemmas

@@ -99,7 +99,7 @@ lo_is_in range key (low, high) = (
 )
 
 -- what is above the inner bound is above an outer one
-above_outer : (outer inner : Option (List ℕ)) (key : List ℕ) → IsNoHigher outer inner → IsAboveLeft inner key → IsAboveLeft outer key
+pub above_outer : (outer inner : Option (List ℕ)) (key : List ℕ) → IsNoHigher outer inner → IsAboveLeft inner key → IsAboveLeft outer key
 above_outer None inner key outer_is above = tt
 above_outer (Some o) None key outer_is above = absurd outer_is
 above_outer (Some o) (Some l) key outer_is above = at_most_below o l key outer_is above

@@ -1,4 +1,5 @@
 pub mod Choices
+pub mod Counts
 pub mod Descents
 pub mod Fetches
 pub mod Outcomes

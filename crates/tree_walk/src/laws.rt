@@ -30,6 +30,15 @@ pub fn covered_law()
         → IsIn range key }
 {}
 
+/// The law of what is inside: where a node is one that a count leaves closed, so is each whose left bound
+/// isn't lower and whose greatest key isn't higher. A child's bounds are such, so whatever stands below a
+/// node that a count leaves closed isn't needed either.
+pub fn inside_law()
+    ensures { (range : Range) (left outer : Option (List ℕ)) (greatest last : List ℕ)
+        → IsExcepted range outer last → IsNoHigher outer left → IsAboveLeft left greatest
+        → IsAtMost greatest last → IsExcepted range left greatest }
+{}
+
 /// The law of wider nodes: where a node meets a range, so does each whose left bound isn't higher and
 /// whose greatest key isn't lower. A parent's bounds are such, so whatever stands above a node that
 /// meets the range meets it too.

@@ -6,6 +6,7 @@
 //! few keys, which stay where they lie. The crate's laws say why.
 #![tactic(auto)]
 
+mod counting;
 mod fault;
 mod key_range;
 mod laws;
@@ -16,9 +17,10 @@ mod tests;
 mod visit;
 mod walk;
 
+pub use counting::count;
 pub use fault::WalkFault;
 pub use key_range::KeyRange;
-pub use laws::{covered_law, empty_law, left_edge_law, spans_law, wider_law};
+pub use laws::{covered_law, empty_law, inside_law, left_edge_law, spans_law, wider_law};
 pub use tally::Tally;
 pub use tree_node::Item;
 pub use walk::range;

@@ -1,0 +1,86 @@
+use Rattle.std.proofs.Common.{◌≡◌, ◌++◌, ℕ, ◌+◌, List, Option, Some, drop, length, Result, inl, inr, refl, sym, subst, ◌∙◌}
+use Rattle.std.proofs.Math.ListN.{drop_of_length-le}
+use Rattle.tree_node.specs.NodeRefs.{number_of}
+use Rattle.tree_node.specs.Nodes.{Binding, Leaf, Link, Node}
+use Rattle.tree_node.specs.Trees.{entries_in}
+use Rattle.tree_walk.specs.Choices.{AreThose}
+use Rattle.tree_walk.specs.Counts.{capped}
+use Rattle.tree_walk.specs.Fetches.{cause_of}
+use Rattle.tree_walk.specs.Outcomes.{Outcome}
+use Rattle.tree_walk.specs.Pendings.{IsOneOf, entries_of_all, spots_of}
+use Rattle.tree_walk.specs.Ranges.{range_of}
+use Rattle.tree_walk.specs.Walks.{IsEntryIn}
+use Rattle.tree_walk.specs.declared.fault.WalkFault.{WalkFault}
+use Rattle.tree_walk.specs.declared.pending.Pending.{Pending}
+use Rattle.tree_walk.proofs.CountLemmas.{capped_lengths}
+use Rattle.tree_walk.proofs.FetchLemmas.{same_then}
+use Rattle.tree_walk.proofs.HonestLemmas.{HonestSoFar, honest_end, honest_step, honest_stop}
+use Rattle.tree_walk.proofs.LevelFetches.{FetchingLevel, level_end, level_step, level_stopped}
+use Rattle.tree_walk.proofs.Pendings.{err_is, rest_is}
+use Rattle.tree_walk.proofs.counting.harvest_count.Goals as goal
+
+pub returns-in_err-entries-clause-fetches : goal.returns-in_err-entries-clause-fetches
+returns-in_err-entries-clause-fetches g c =
+    let so = c.loop-node.invariant.level in
+    level_stopped 0 (g.S.Shelf.used c.args.shelf.now) c.args.tally.now.fetches c.from_residual.result c.in_err-entries.field-0.0 so.0 (g.S.Shelf.holds c.loop-node.shelf) (g.S.Shelf.holds c.open_leaf.new.shelf)
+    (g.S.Shelf.used c.loop-node.shelf) (g.S.Shelf.used c.open_leaf.new.shelf) c.loop-node.tally.fetches c.open_leaf.new.tally.fetches (spots_of (drop c.loop-node.node-index c.args.nodes.now))
+    (err_is c.from_residual.result c.in_err-entries.field-0.0 c.from_residual.ensures.1) so.1 c.open_leaf.ensures.stays c.in_err-entries.ensures.opens
+
+pub returns-in_err-entries-clause-answer : goal.returns-in_err-entries-clause-answer
+returns-in_err-entries-clause-answer g c = λ all stated.
+    let items = λ (spot : Option (List ℕ) × Node). entries_in spot.1 in
+    let has = IsEntryIn (range_of c.args.range.now) in
+    let spots = spots_of c.args.nodes.now in
+    let found = c.loop-node.invariant.honest.0 in
+    let used = g.S.Shelf.used c.open_leaf.new.shelf in
+    let before = subst (λ (rest : List (Option (List ℕ) × Link)). HonestSoFar items has (number_of c.args.tree) 0 spots rest found (g.S.Shelf.used c.args.shelf.now) (g.S.Shelf.used c.loop-node.shelf))
+    (rest_is c.args.nodes.now c.loop-node.node-index _ c.loop-node-test.true) c.loop-node.invariant.honest.2 in
+    subst (λ (r : Result ℕ WalkFault). Outcome cause_of (λ (number : ℕ). (those : List Binding) × AreThose has (entries_of_all all) those × (number ≡ capped (length those))) (IsOneOf all) (g.S.Shelf.holds c.open_leaf.new.shelf) (g.S.Shelf.used c.args.shelf.now) used r)
+    (sym (err_is c.from_residual.result c.in_err-entries.field-0.0 c.from_residual.ensures.1))
+    (honest_stop items has (number_of c.args.tree) 0 (cause_of c.in_err-entries.field-0.0) (g.S.Shelf.holds c.open_leaf.new.shelf) spots (spots_of (drop (c.loop-node.node-index + 1) c.args.nodes.now)) _ found
+    (g.S.Shelf.used c.args.shelf.now) (g.S.Shelf.used c.loop-node.shelf) used before c.open_leaf.ensures.grows c.in_err-entries.ensures.answer all stated)
+
+pub loop-node-preserved : goal.loop-node-preserved
+loop-node-preserved g c =
+    let items = λ (spot : Option (List ℕ) × Node). entries_in spot.1 in
+    let has = IsEntryIn (range_of c.args.range.now) in
+    let spots = spots_of c.args.nodes.now in
+    let rest = spots_of (drop (c.loop-node.node-index + 1) c.args.nodes.now) in
+    let found = c.loop-node.invariant.honest.0 in
+    let so = c.loop-node.invariant.level in
+    let node = Leaf (number_of c.args.tree) c.in_ok-entries.entries in
+    let before = subst (λ (rest : List (Option (List ℕ) × Link)). FetchingLevel 0 so.0 (g.S.Shelf.holds c.loop-node.shelf) (g.S.Shelf.used c.args.shelf.now) (g.S.Shelf.used c.loop-node.shelf) c.args.tally.now.fetches c.loop-node.tally.fetches rest)
+    (rest_is c.args.nodes.now c.loop-node.node-index _ c.loop-node-test.true) so.1 in
+    let next = level_step 0 (g.S.Shelf.used c.args.shelf.now) c.args.tally.now.fetches so.0 (g.S.Shelf.holds c.loop-node.shelf) (g.S.Shelf.holds c.open_leaf.new.shelf) (g.S.Shelf.used c.loop-node.shelf) (g.S.Shelf.used c.open_leaf.new.shelf)
+    c.loop-node.tally.fetches c.open_leaf.new.tally.fetches _ rest node before c.open_leaf.ensures.stays c.in_ok-entries.ensures.opens refl c.in_ok-entries.ensures.agrees.1.0 in
+    let picked = c.count_in.ensures in
+    let honest_before = subst (λ (rest : List (Option (List ℕ) × Link)). HonestSoFar items has (number_of c.args.tree) 0 spots rest found (g.S.Shelf.used c.args.shelf.now) (g.S.Shelf.used c.loop-node.shelf))
+    (rest_is c.args.nodes.now c.loop-node.node-index _ c.loop-node-test.true) c.loop-node.invariant.honest.2 in
+    let honest = honest_step items has (number_of c.args.tree) 0 (Leaf (number_of c.args.tree)) c.in_ok-entries.entries spots rest _ found picked.0
+    (g.S.Shelf.used c.args.shelf.now) (g.S.Shelf.used c.loop-node.shelf) (g.S.Shelf.used c.open_leaf.new.shelf) honest_before c.open_leaf.ensures.grows c.in_ok-entries.ensures.answer picked.1 in
+    record {
+      calls = c.open_leaf.ensures.calls ∙ c.loop-node.invariant.calls;
+      stays = same_then _ _ _ c.loop-node.invariant.stays c.open_leaf.ensures.stays;
+      grows = λ bytes was. c.open_leaf.ensures.grows bytes (c.loop-node.invariant.grows bytes was);
+      level = (Some _, next);
+      honest = (found ++ picked.0, c.saturating_add-counted.ensures ∙ capped_lengths found picked.0 c.loop-node.counted c.count_in.result c.loop-node.invariant.honest.1 picked.2, honest);
+    }
+
+pub returns-clause-fetches : goal.returns-clause-fetches
+returns-clause-fetches g c =
+    let so = c.loop-node.invariant.level in
+    level_end 0 (g.S.Shelf.used c.args.shelf.now) c.args.tally.now.fetches c.loop-node.counted so.0 (g.S.Shelf.holds c.loop-node.shelf) (g.S.Shelf.used c.loop-node.shelf) c.loop-node.tally.fetches
+    (spots_of (drop c.loop-node.node-index c.args.nodes.now)) so.1
+
+pub returns-clause-answer : goal.returns-clause-answer
+returns-clause-answer g c = λ all stated.
+    let items = λ (spot : Option (List ℕ) × Node). entries_in spot.1 in
+    let has = IsEntryIn (range_of c.args.range.now) in
+    let spots = spots_of c.args.nodes.now in
+    let found = c.loop-node.invariant.honest.0 in
+    let so = subst (λ (rest : List Pending). HonestSoFar items has (number_of c.args.tree) 0 spots (spots_of rest) found (g.S.Shelf.used c.args.shelf.now) (g.S.Shelf.used c.loop-node.shelf))
+    (drop_of_length-le c.args.nodes.now c.loop-node-test.false) c.loop-node.invariant.honest.2 in
+    elim (honest_end items has (number_of c.args.tree) 0 spots found (g.S.Shelf.used c.args.shelf.now) (g.S.Shelf.used c.loop-node.shelf) so all stated) [
+      | inl clash ↦ inl clash
+      | inr ends ↦ inr ((found, ends.0, c.loop-node.invariant.honest.1), ends.1)
+    ]

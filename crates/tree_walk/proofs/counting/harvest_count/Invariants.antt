@@ -1,0 +1,24 @@
+use Rattle.std.proofs.Common.{◌≡◌, ℕ, List, Option, drop, length}
+use Rattle.tree_node.specs.NodeRefs.{number_of}
+use Rattle.tree_node.specs.Nodes.{Binding, Node}
+use Rattle.tree_node.specs.Shelves.{SameNodes}
+use Rattle.tree_node.specs.Trees.{entries_in}
+use Rattle.tree_walk.specs.Counts.{capped}
+use Rattle.tree_walk.specs.Pendings.{spots_of}
+use Rattle.tree_walk.specs.Ranges.{range_of}
+use Rattle.tree_walk.specs.Walks.{IsEntryIn}
+use Rattle.tree_walk.proofs.HonestLemmas.{HonestSoFar}
+use Rattle.tree_walk.proofs.LevelFetches.{FetchingLevel}
+use Rattle.tree_walk.proofs.counting.harvest_count.Given as goal
+
+-- the leaves so far were fetched, and those of their entries that stand in the range were counted
+abbrev pub invariant-loop-node : goal.invariant-loop-node
+invariant-loop-node g l = record {
+  calls : l.tally.calls ≡ l.fn.tally.calls;
+  stays : SameNodes (g.S.Shelf.holds l.fn.shelf) (g.S.Shelf.holds l.shelf);
+  grows : (bytes : List ℕ) → g.S.Shelf.used l.fn.shelf bytes → g.S.Shelf.used l.shelf bytes;
+  level : (low : Option (List ℕ)) × FetchingLevel 0 low (g.S.Shelf.holds l.shelf) (g.S.Shelf.used l.fn.shelf) (g.S.Shelf.used l.shelf) l.fn.tally.fetches l.tally.fetches (spots_of (drop l.node-index l.nodes));
+  honest : (those : List Binding) × (l.counted ≡ capped (length those))
+      × HonestSoFar (λ (spot : Option (List ℕ) × Node). entries_in spot.1) (IsEntryIn (range_of l.range)) (number_of l.tree) 0 (spots_of l.nodes) (spots_of (drop l.node-index l.nodes)) those
+      (g.S.Shelf.used l.fn.shelf) (g.S.Shelf.used l.shelf);
+}
