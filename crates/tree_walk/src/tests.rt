@@ -4,6 +4,7 @@ ghost use Rattle.std.specs.Option.{option_copied};
 ghost use Rattle.std.specs.Prelude.{IsTrue};
 ghost use Rattle.tree_walk.specs.Ranges.{IsAboveLeft};
 
+mod counts;
 mod walks;
 
 use super::*;

@@ -22,8 +22,20 @@ use crate::visit::{open, open_inner, open_leaf};
 use std::alloc::{AllocError, Global};
 use tree_node::{Children, Digest, Entries, Item, NodeRef, Shelf, Tree};
 
-/// The entries of a tree in a range of keys, in order: their keys and values are slices of the nodes
-/// that the shelf gave.
+/// The entries of a tree in a range of keys, in the order of their keys: what stands under the node with
+/// the digest `top`. Keys and values are slices of the nodes that the shelf gave, and outlive it.
+///
+/// It fetches the top, and of each inner node that it fetched the children that meet the range, level by
+/// level: over a tree as a publisher builds it exactly the nodes that meet the range, each once. Over
+/// other nodes it ends too, since each node that it accepts is another one. The tally counts one call,
+/// and each node that the shelf gave.
+///
+/// Refused with `Missing` (V1) where the shelf doesn't hold a node that the walk needs, `Malformed` (V2)
+/// where what it gave is no node, `WrongTreeOrLevel` (V3) and `Disagrees` (V4) where a child isn't as its
+/// parent states, and for want of memory. Then shelf and tally stand as far as nodes were fetched. Linear
+/// in the bytes of the fetched nodes.
+///
+/// Source: this project's trees, docs/FORMATS.md.
 pub fn range<'a, S: Shelf<'a>>(
     alloc: Global,
     shelf: &mut S,

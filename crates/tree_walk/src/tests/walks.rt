@@ -15,7 +15,12 @@ use tree_node::{
 };
 
 /// The keys of the front and one byte more, from the first to the last, one behind the other.
-fn keys(alloc: Global, front: &[u8], first: u8, last: u8) -> Result<Vec<u8>, AllocError> {
+pub(super) fn keys(
+    alloc: Global,
+    front: &[u8],
+    first: u8,
+    last: u8,
+) -> Result<Vec<u8>, AllocError> {
     let mut bytes = Vec::new(alloc);
     for byte in first..=last {
         bytes.extend_from_slice(front)?;
@@ -35,7 +40,7 @@ fn entry_of(key: &[u8]) -> Result<Item<'_>, Fail>
 }
 
 /// Puts the leaf of these keys, cut into keys of this many bytes.
-fn put_leaf(
+pub(super) fn put_leaf(
     alloc: Global,
     stock: &mut Stock,
     tree: Tree,
@@ -64,7 +69,7 @@ fn can_be_written(children: &[Child<'_>]) -> bool
 }
 
 /// Puts the inner node of these children.
-fn put_inner(
+pub(super) fn put_inner(
     alloc: Global,
     stock: &mut Stock,
     tree: Tree,
@@ -80,7 +85,7 @@ fn put_inner(
 }
 
 /// What a parent states of a child.
-fn child<'a>(greatest: &'a [u8], number: u64, digest: Digest) -> Child<'a> {
+pub(super) fn child<'a>(greatest: &'a [u8], number: u64, digest: Digest) -> Child<'a> {
     Child {
         greatest,
         number,
@@ -105,7 +110,7 @@ fn walked<'a, S: Shelf<'a>>(
 }
 
 /// The whole of a tree.
-fn all<'a>() -> KeyRange<'a> {
+pub(super) fn all<'a>() -> KeyRange<'a> {
     at(b"", true)
 }
 
@@ -126,7 +131,7 @@ fn is_refused(
 }
 
 /// Puts the tree of the 65 keys 00 to 40, whose two leaves lie below one top.
-fn put_65_keys(alloc: Global, stock: &mut Stock) -> Result<Digest, Fail> {
+pub(super) fn put_65_keys(alloc: Global, stock: &mut Stock) -> Result<Digest, Fail> {
     let first = put_leaf(
         alloc,
         stock,
