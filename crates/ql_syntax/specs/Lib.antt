@@ -1,0 +1,5 @@
+pub mod Refusals
+pub mod Gaps
+pub mod Words
+pub mod Numbers
+pub mod NumberParts

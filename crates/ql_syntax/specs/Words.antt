@@ -1,0 +1,47 @@
+-- Words, runs without quotes, and names of sets.
+-- Source: the Overpass QL page of the OpenStreetMap wiki: a set's name is a letter or `_` and then
+-- letters, digits and `_`; that these are those of ASCII, and that words are spelled so too, is this
+-- project's.
+use Rattle.std.specs.Prelude.{◌≡◌, ◌≢◌, ℕ, Bool, true, false, ◌==◌, ◌||◌, List, [], ◌∷◌, ◌++◌, IsTrue, ⊤}
+use Rattle.std.specs.Char.{is_ascii_alphabetic, is_ascii_alphanumeric}
+use Rattle.std.specs.List.{list_all}
+use Rattle.ql_syntax.specs.declared.cause.QlCause.{QlCause}
+use Rattle.ql_syntax.specs.declared.cause.QlCause.TheVariants as causes
+
+-- a letter, a digit or `_`
+abbrev pub is_run_byte : ℕ → Bool
+is_run_byte b = is_ascii_alphanumeric b || b == 95
+
+-- a letter or `_`
+abbrev pub is_word_start : ℕ → Bool
+is_word_start b = is_ascii_alphabetic b || b == 95
+
+-- the first byte passes the test, where there is one
+abbrev pub begins_with : (ℕ → Bool) → List ℕ → Bool
+begins_with test [] = false
+begins_with test (b ∷ s) = test b
+
+-- the run is the longest one of letters, digits and `_` at the front of the text, perhaps empty
+pub record IsRun (text run rest : List ℕ) : Type 0 where
+  pub parts : text ≡ run ++ rest
+  pub bytes : list_all is_run_byte run ≡ true
+  pub longest : begins_with is_run_byte rest ≡ false
+
+-- a word: a run that doesn't begin with a digit
+pub record IsWord (text word rest : List ℕ) : Type 0 where
+  pub run : IsRun text word rest
+  pub start : begins_with is_word_start word ≡ true
+
+-- the name of a set behind its dot
+abbrev pub IsName : List ℕ → List ℕ → List ℕ → Type 0
+IsName text name rest = (behind : List ℕ) × (text ≡ 46 ∷ behind) × IsWord behind name rest
+
+-- text is left where a token begins that ends too early: behind it the text ends, or something else stands
+abbrev pub IsUnfinished : List ℕ → List ℕ → QlCause → List ℕ → Type 0
+IsUnfinished text [] cause place = (cause ≡ causes.UnexpectedEnd) × (place ≡ [])
+IsUnfinished text (b ∷ behind) cause place = (cause ≡ causes.UnexpectedCharacter) × (place ≡ text)
+
+-- a dot, and no word behind it: at the text's end it is too short, else the dot fits nothing
+abbrev pub IsNoName : List ℕ → QlCause → List ℕ → Type 0
+IsNoName text cause place = (behind : List ℕ) × (text ≡ 46 ∷ behind) × (begins_with is_word_start behind ≡ false)
+    × IsUnfinished text behind cause place

@@ -1,0 +1,24 @@
+//! Places at which a text can't go on.
+
+ghost use Rattle.std.specs.Prelude.{◌≡◌};
+
+use crate::cause::QlCause;
+
+/// A place at which a text can't go on as a query: why, and what is left from there on.
+#[derive(Clone, Copy, Debug)]
+pub struct Stop<'a> {
+    /// Why it can't go on.
+    pub cause: QlCause,
+    /// The text from that place to its end.
+    pub rest: &'a [u8],
+}
+
+impl<'a> Stop<'a> {
+    /// The stop for this cause in front of this rest.
+    pub fn at(cause: QlCause, rest: &'a [u8]) -> Stop<'a>
+        ensures cause { result.cause ≡ cause }
+        ensures rest { result.rest.now ≡ rest.now }
+    {
+        Stop { cause, rest }
+    }
+}

@@ -1,0 +1,82 @@
+//! Words, and the names of sets.
+
+ghost use Rattle.std.specs.Prelude.{◌≡◌, ◌<◌, ◌≤◌, IsTrue, length, take, drop, slice_index, false, true, IfOk, IfErr, IsSome, IfSome, IfNone};
+ghost use Rattle.std.specs.List.{list_all};
+ghost use Rattle.ql_syntax.specs.Words.{IsRun, IsWord, IsName, IsNoName, begins_with, is_run_byte, is_word_start};
+
+use crate::cause::QlCause;
+use crate::stop::Stop;
+
+/// The letters, digits and `_` at the front of a text, and what is left behind them.
+#[derive(Clone, Copy, Debug)]
+pub struct Run<'a> {
+    /// The longest such run, perhaps empty.
+    pub run: &'a [u8],
+    /// What is left.
+    pub rest: &'a [u8],
+}
+
+/// Takes the longest run of letters, digits and `_` off the front of a text. It may be empty.
+pub fn split_run(text: &[u8]) -> Run<'_>
+    ensures run { IsRun text.now result.run.now result.rest.now }
+    ensures within { length result.rest.now ≤ length text.now }
+{
+    let (run, rest) = text.split_at(run_len(text));
+    Run { run, rest }
+}
+
+/// Takes a word off the front of a text, where one stands there.
+pub fn split_word(text: &[u8]) -> Option<Run<'_>>
+    ensures word { IfSome result (λ found. IsWord text.now found.run.now found.rest.now) }
+    ensures none { IfNone result (begins_with is_word_start text.now ≡ false) }
+{
+    match text {
+        [first, ..] if is_word_start(*first) => Some(split_run(text)),
+        _ => None,
+    }
+}
+
+/// Takes the name of a set off a text that begins with its dot.
+///
+/// Where no word follows the dot, it is `UnexpectedCharacter` at the dot, or `UnexpectedEnd` where the
+/// text ends there.
+pub fn split_name(text: &[u8]) -> Result<Run<'_>, Stop<'_>>
+    requires { slice_index text.now 0 ≡ 46 }
+    ensures name { IfOk result (λ found. IsName text.now found.run.now found.rest.now) }
+    ensures refused { IfErr result (λ stop. IsNoName text.now stop.cause stop.rest.now) }
+{
+    let behind = &text[1..];
+    match split_word(behind) {
+        Some(found) => Ok(found),
+        None if behind.is_empty() => Err(Stop::at(QlCause::UnexpectedEnd, behind)),
+        None => Err(Stop::at(QlCause::UnexpectedCharacter, text)),
+    }
+}
+
+/// How many letters, digits and `_` come first.
+fn run_len(text: &[u8]) -> usize
+    ensures within { result ≤ length text.now }
+    ensures run { list_all is_run_byte (take result text.now) ≡ true }
+    ensures longest { begins_with is_run_byte (drop result text.now) ≡ false }
+{
+    for (i, byte) in text.iter().enumerate() {
+        if !is_run_byte(*byte) {
+            return i;
+        }
+    }
+    text.len()
+}
+
+/// Whether the byte is a letter, a digit or `_`.
+fn is_run_byte(byte: u8) -> bool
+    ensures { result ≡ is_run_byte byte }
+{
+    byte.is_ascii_alphanumeric() || byte == b'_'
+}
+
+/// Whether a word may begin with the byte: a letter or `_`.
+pub fn is_word_start(byte: u8) -> bool
+    ensures { result ≡ is_word_start byte }
+{
+    byte.is_ascii_alphabetic() || byte == b'_'
+}
