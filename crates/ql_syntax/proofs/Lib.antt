@@ -1,3 +1,5 @@
 pub mod Exits
 pub mod GapLemmas
 pub mod NumberLemmas
+pub mod EscapeLemmas
+pub mod QuotedLemmas

@@ -3,3 +3,7 @@ pub mod Gaps
 pub mod Words
 pub mod Numbers
 pub mod NumberParts
+pub mod QuotedTexts
+pub mod EscapeParts
+pub mod Places
+pub mod QuotedSteps

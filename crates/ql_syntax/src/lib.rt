@@ -2,13 +2,17 @@
 #![tactic(auto)]
 
 mod cause;
+mod escape;
 mod fault;
 mod gap;
 mod name;
 mod number;
+mod ql_text;
+mod quoted;
 mod stop;
 mod word;
 
 pub use cause::QlCause;
 pub use fault::QlFault;
 pub use name::Name;
+pub use ql_text::QlText;

@@ -1,8 +1,10 @@
 //! Places at which a text can't go on.
 
 ghost use Rattle.std.specs.Prelude.{◌≡◌};
+ghost use Rattle.ql_syntax.specs.declared.cause.QlCause.TheVariants as causes;
 
 use crate::cause::QlCause;
+use std::alloc::AllocError;
 
 /// A place at which a text can't go on as a query: why, and what is left from there on.
 #[derive(Clone, Copy, Debug)]
@@ -20,5 +22,13 @@ impl<'a> Stop<'a> {
         ensures rest { result.rest.now ≡ rest.now }
     {
         Stop { cause, rest }
+    }
+}
+
+impl<'a> From<AllocError> for Stop<'a> {
+    ghost from_gives = { λ _ stop. stop.cause ≡ causes.Memory };
+
+    fn from(_error: AllocError) -> Stop<'a> {
+        Stop::at(QlCause::Memory, &[])
     }
 }

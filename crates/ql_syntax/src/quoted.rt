@@ -1,0 +1,105 @@
+//! Texts between quotes.
+
+ghost use Rattle.std.specs.Prelude.{◌≡◌, ◌≢◌, ◌≤◌, ◌<◌, ℕ, List, [], ◌∷◌, ◌++◌, true, false, length, take, drop, slice_index, IfOk, IfErr, MatchOption};
+ghost use Rattle.std.specs.List.{AllByRecursion};
+ghost use Rattle.ql_syntax.specs.Words.{begins_with};
+ghost use Rattle.ql_syntax.specs.Places.{IsMemoryOr};
+ghost use Rattle.ql_syntax.specs.QuotedTexts.{IsQuoted, IsNotQuoted, StopsInside, is_quote};
+ghost use Rattle.ql_syntax.specs.QuotedSteps.{EndsLiterals, Takes, Closes, IsLiteral};
+
+use crate::cause::QlCause;
+use crate::escape::{Escape, split_escape};
+use crate::ql_text::QlText;
+use crate::stop::Stop;
+use std::alloc::{AllocError, Global};
+
+/// The text between quotes at the front of a text, and what is left behind it.
+#[derive(Debug, Drop)]
+pub struct Quoted<'a> {
+    /// The text, with its escapes read.
+    pub text: QlText,
+    /// What is left.
+    pub rest: &'a [u8],
+}
+
+/// Takes a text between quotes off the front of a text that begins with `"` or `'`.
+///
+/// It is `Unclosed` at the quote where the text ends inside, also inside an escape, `BadEscape` at the
+/// `\` of what is no escape, and `UnexpectedCharacter` at a NUL: the first of these from the left.
+/// Linear; it takes memory for the text that it gives.
+pub fn read_quoted(alloc: Global, text: &[u8]) -> Result<Quoted<'_>, Stop<'_>>
+    requires { begins_with is_quote text.now ≡ true }
+    ensures read { IfOk result (λ quoted. IsQuoted text.now quoted.text quoted.rest.now) }
+    ensures refused { IfErr result (λ stop. IsMemoryOr (IsNotQuoted text.now) stop) }
+{
+    let mut content = Vec::new(alloc);
+    let mut place = &text[1..];
+    while let Some(next) = take_pieces(text, place, &mut content)? {
+        place = next;
+    }
+    Ok(Quoted {
+        text: QlText::new(content),
+        rest: &place[1..],
+    })
+}
+
+/// Takes what comes next inside a text between quotes, and adds what it stands for: bytes that stand
+/// for themselves, or one escape. Gives what is left then, or nothing at the closing quote.
+fn take_pieces<'a>(
+    text: &'a [u8],
+    place: &'a [u8],
+    content: &mut Vec<u8>,
+) -> Result<Option<&'a [u8]>, Stop<'a>>
+    requires { 0 < length text.now }
+    ensures read { IfOk result (λ next. MatchOption next (Closes (slice_index text.now 0) place.now content.old.items content.new.items)
+        (λ rest. Takes (slice_index text.now 0) place.now rest.now content.old.items content.new.items)) }
+    ensures refused { IfErr result (λ stop. IsMemoryOr (StopsInside text.now place.now) stop) }
+{
+    let (literal, rest) = place.split_at(literal_len(text[0], place));
+    if !literal.is_empty() {
+        content.extend_from_slice(literal)?;
+        return Ok(Some(rest));
+    }
+    match place {
+        [] => Err(Stop::at(QlCause::Unclosed, text)),
+        [b'\\', ..] => Ok(Some(take_escape(text, place, content)?)),
+        [0, ..] => Err(Stop::at(QlCause::UnexpectedCharacter, place)),
+        _ => Ok(None),
+    }
+}
+
+/// Takes an escape, and adds what it stands for. Gives what is left.
+fn take_escape<'a>(
+    text: &'a [u8],
+    place: &'a [u8],
+    content: &mut Vec<u8>,
+) -> Result<&'a [u8], Stop<'a>>
+    requires some { 0 < length place.now }
+    requires escape { slice_index place.now 0 ≡ 92 }
+    ensures read { IfOk result (λ rest. (quote : ℕ) → Takes quote place.now rest.now content.old.items content.new.items) }
+    ensures refused { IfErr result (λ stop. IsMemoryOr (StopsInside text.now place.now) stop) }
+{
+    match split_escape(&place[1..]) {
+        Escape::Character(character, rest) => {
+            let mut buffer = [0; 4];
+            content.extend_from_slice(character.encode_utf8(&mut buffer).as_bytes())?;
+            Ok(rest)
+        }
+        Escape::Bad => Err(Stop::at(QlCause::BadEscape, place)),
+        Escape::Cut => Err(Stop::at(QlCause::Unclosed, text)),
+    }
+}
+
+/// How many bytes stand for themselves before the first that doesn't.
+fn literal_len(quote: u8, text: &[u8]) -> usize
+    ensures within { result ≤ length text.now }
+    ensures literal { AllByRecursion (IsLiteral quote) (take result text.now) }
+    ensures stop { EndsLiterals quote (drop result text.now) }
+{
+    for (i, byte) in text.iter().enumerate() {
+        if *byte == quote || *byte == b'\\' || *byte == 0 {
+            return i;
+        }
+    }
+    text.len()
+}
