@@ -7,3 +7,4 @@ pub mod QuotedTexts
 pub mod EscapeParts
 pub mod Places
 pub mod QuotedSteps
+pub mod Signs

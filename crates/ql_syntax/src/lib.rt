@@ -9,6 +9,7 @@ mod name;
 mod number;
 mod ql_text;
 mod quoted;
+mod sign;
 mod stop;
 mod word;
 
