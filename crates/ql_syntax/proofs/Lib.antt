@@ -3,3 +3,4 @@ pub mod GapLemmas
 pub mod NumberLemmas
 pub mod EscapeLemmas
 pub mod QuotedLemmas
+pub mod WholeLemmas

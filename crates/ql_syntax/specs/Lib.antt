@@ -8,3 +8,4 @@ pub mod EscapeParts
 pub mod Places
 pub mod QuotedSteps
 pub mod Signs
+pub mod WholeNumbers

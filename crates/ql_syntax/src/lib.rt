@@ -11,6 +11,7 @@ mod ql_text;
 mod quoted;
 mod sign;
 mod stop;
+mod whole;
 mod word;
 
 pub use cause::QlCause;
