@@ -9,3 +9,4 @@ pub mod Places
 pub mod QuotedSteps
 pub mod Signs
 pub mod WholeNumbers
+pub mod Tokens

@@ -11,6 +11,7 @@ mod ql_text;
 mod quoted;
 mod sign;
 mod stop;
+mod token;
 mod whole;
 mod word;
 

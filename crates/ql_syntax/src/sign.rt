@@ -61,6 +61,19 @@ pub enum Sign {
     Other,
 }
 
+impl Sign {
+    /// How many bytes the punctuation has; 0 where it is none.
+    pub fn len(self) -> usize
+        ensures { result ≡ len_of self }
+    {
+        match self {
+            Sign::End | Sign::Word | Sign::Number | Sign::Quote | Sign::Other => 0,
+            Sign::NotEqual | Sign::NotTilde | Sign::Arrow | Sign::DownAll | Sign::UpAll => 2,
+            _ => 1,
+        }
+    }
+}
+
 /// What begins at this place of a text.
 pub fn sign_of(place: &[u8]) -> Sign
     ensures { result ≡ sign_of place.now }
