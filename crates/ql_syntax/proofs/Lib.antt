@@ -4,3 +4,5 @@ pub mod NumberLemmas
 pub mod EscapeLemmas
 pub mod QuotedLemmas
 pub mod WholeLemmas
+pub mod TokenLaws
+pub mod QuotedLaws

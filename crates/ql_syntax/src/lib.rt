@@ -1,10 +1,14 @@
-//! The text of queries.
+//! The text of queries: its tokens.
+//!
+//! A place in a text is what is left of it from there on. Each reader of a token takes a text whose
+//! front is to be read, and gives what it found and what is left, or a stop: a cause, and the place.
 #![tactic(auto)]
 
 mod cause;
 mod escape;
 mod fault;
 mod gap;
+mod laws;
 mod name;
 mod number;
 mod ql_text;
@@ -17,5 +21,9 @@ mod word;
 
 pub use cause::QlCause;
 pub use fault::QlFault;
+pub use laws::{one_name, one_number};
 pub use name::Name;
 pub use ql_text::QlText;
+
+#[cfg(test)]
+mod tests;

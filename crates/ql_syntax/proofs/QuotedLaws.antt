@@ -1,0 +1,89 @@
+-- At a quote stands one text at most, or one fault.
+use Rattle.std.proofs.Common.{◌≡◌, ◌≢◌, ℕ, ◌<◌, ◌≤◌, ◌==◌, List, [], ◌∷◌, ◌++◌, length, Bool, true, false, Option, Some, None, refl, sym, ◌∙◌, ap, subst, arith, append_assoc, length-append}
+use Rattle.std.specs.Char.{digit_value}
+use Rattle.std.specs.List.{AllByRecursion, flat_map}
+use Rattle.std.specs.Str.Parse.{AllDigits, digits_value}
+use Rattle.ql_syntax.specs.declared.cause.QlCause.{QlCause}
+use Rattle.ql_syntax.specs.declared.cause.QlCause.TheVariants as causes
+use Rattle.ql_syntax.specs.QuotedTexts.{Piece, Literal, Escape, Code, IsPiece, IsCode, IsQuoted, IsNotQuoted, Passes, StopsInside, AtEnd, InEscape, AtEscape, AtNul, IsCutEscape, IsBadEscape, Letter, NoDigit, NoCharacter, is_quote, escaped, spelling, value}
+
+-- two lists of one length before the rest
+same_len : (a b s t : List ℕ) → length a ≡ length b → a ++ s ≡ b ++ t → (a ≡ b) × (s ≡ t)
+same_len [] [] s t l e = (refl, e)
+same_len [] (y ∷ b) s t l e = absurd (omega arith)
+same_len (x ∷ a) [] s t l e = absurd (omega arith)
+same_len (x ∷ a) (y ∷ b) s t l e =
+    let head : x ≡ y = cc in
+    let tail : a ++ s ≡ b ++ t = cc in
+    let r = same_len a b s t (omega arith) tail in
+    (ap (λ (z : ℕ). z ∷ a) head ∙ ap (λ (z : List ℕ). y ∷ z) r.0, r.1)
+
+no_code_letter : (letter b : ℕ) → escaped letter ≡ Some b → letter ≡ 117 → ⊥
+no_code_letter letter b e is = let none : escaped letter ≡ None = ap escaped is in let bad : Some b ≡ None = sym e ∙ none in cc
+
+-- the first pieces of one text
+one_piece : (quote : ℕ) (p q : Piece) (s t : List ℕ) → IsPiece quote p → IsPiece quote q → spelling p ++ s ≡ spelling q ++ t → (p ≡ q) × (s ≡ t)
+one_piece quote (Literal b) (Literal c) s t h k e = (let same : b ≡ c = cc in ap (λ (x : ℕ). Literal x) same, cc)
+one_piece quote (Literal b) (Escape l c) s t h k e = absurd (h.1 (cc))
+one_piece quote (Literal b) (Code ds c) s t h k e = absurd (h.1 (cc))
+one_piece quote (Escape l b) (Literal c) s t h k e = absurd (k.1 (cc))
+one_piece quote (Code ds b) (Literal c) s t h k e = absurd (k.1 (cc))
+one_piece quote (Escape l b) (Escape m c) s t h k e =
+    let letter : l ≡ m = cc in
+    let byte : Some b ≡ Some c = sym h ∙ ap escaped letter ∙ k in
+    let same : b ≡ c = cc in
+    (ap (λ (x : ℕ). Escape x b) letter ∙ ap (λ (x : ℕ). Escape m x) same, cc)
+one_piece quote (Escape l b) (Code ds c) s t h k e = absurd (no_code_letter l b h (cc))
+one_piece quote (Code ds b) (Escape m c) s t h k e = absurd (no_code_letter m c k (cc))
+one_piece quote (Code ds b) (Code es c) s t h k e =
+    let tail : ds ++ s ≡ es ++ t = cc in
+    let r = same_len ds es s t (h.four ∙ sym k.four) tail in
+    let same : b ≡ c = sym h.names ∙ ap (λ (x : List ℕ). digits_value 16 x) r.0 ∙ k.names in
+    (ap (λ (x : List ℕ). Code x b) r.0 ∙ ap (λ (x : ℕ). Code es x) same, r.1)
+
+-- no piece stands at the place
+abbrev Halts : ℕ → List ℕ → Type 0
+Halts quote place = (p : Piece) (rest : List ℕ) → IsPiece quote p → place ≡ spelling p ++ rest → ⊥
+
+-- pieces up to such a place
+one_way : (quote : ℕ) (ps qs : List Piece) (s t : List ℕ) → AllByRecursion (IsPiece quote) ps → AllByRecursion (IsPiece quote) qs → Halts quote s → Halts quote t
+    → flat_map spelling ps ++ s ≡ flat_map spelling qs ++ t → (ps ≡ qs) × (s ≡ t)
+one_way quote [] [] s t a b hs ht e = (refl, e)
+one_way quote [] (q ∷ qs) s t a b hs ht e = absurd (hs q (flat_map spelling qs ++ t) b.0 (e ∙ append_assoc (spelling q) (flat_map spelling qs) t))
+one_way quote (p ∷ ps) [] s t a b hs ht e = absurd (ht p (flat_map spelling ps ++ s) a.0 (sym e ∙ append_assoc (spelling p) (flat_map spelling ps) s))
+one_way quote (p ∷ ps) (q ∷ qs) s t a b hs ht e =
+    let whole = sym (append_assoc (spelling p) (flat_map spelling ps) s) ∙ e ∙ append_assoc (spelling q) (flat_map spelling qs) t in
+    let first = one_piece quote p q (flat_map spelling ps ++ s) (flat_map spelling qs ++ t) a.0 b.0 whole in
+    let r = one_way quote ps qs s t a.1 b.1 hs ht first.1 in
+    (ap (λ (x : Piece). x ∷ ps) first.0 ∙ ap (λ (x : List Piece). q ∷ x) r.0, r.1)
+
+quote_not_escape : (quote : ℕ) → is_quote quote ≡ true → quote ≡ 92 → ⊥
+quote_not_escape quote is e = let bad : true ≡ false = sym is ∙ ap is_quote e in cc
+
+quote_halts : (quote : ℕ) (rest : List ℕ) → is_quote quote ≡ true → Halts quote (quote ∷ rest)
+quote_halts quote rest is (Literal b) more h e = h.0 (cc)
+quote_halts quote rest is (Escape l b) more h e = quote_not_escape quote is (cc)
+quote_halts quote rest is (Code ds b) more h e = quote_not_escape quote is (cc)
+
+same_passes : (quote : ℕ) (from s t v w : List ℕ) → Passes quote from s v → Passes quote from t w → Halts quote s → Halts quote t → (v ≡ w) × (s ≡ t)
+same_passes quote from s t v w h k hs ht =
+    let r = one_way quote h.pieces k.pieces s t h.each k.each hs ht (sym h.parts ∙ k.parts) in
+    (h.bytes_are ∙ ap (λ (ps : List Piece). flat_map value ps) r.0 ∙ sym k.bytes_are, r.1)
+
+same_quote : (text inside other : List ℕ) (quote mark : ℕ) → text ≡ quote ∷ inside → text ≡ mark ∷ other → (quote ≡ mark) × (inside ≡ other)
+same_quote text inside other quote mark e f = let g : quote ∷ inside ≡ mark ∷ other = sym e ∙ f in (cc, cc)
+
+-- the pieces of a second text, counted from the first's quote
+moved : (text : List ℕ) (quote mark : ℕ) (inside other to v : List ℕ) → text ≡ quote ∷ inside → text ≡ mark ∷ other → Passes mark other to v → Passes quote inside to v
+moved text quote mark inside other to v e f passes =
+    let same = same_quote text inside other quote mark e f in
+    subst (λ (q : ℕ). Passes q inside to v) (sym same.0) (subst (λ (s : List ℕ). Passes mark s to v) (sym same.1) passes)
+
+pub one_text : (text v w rest left : List ℕ) → IsQuoted text v rest → IsQuoted text w left → (v ≡ w) × (rest ≡ left)
+one_text text v w rest left h k =
+    let same = same_quote text h.inside k.inside h.quote k.quote h.opens k.opens in
+    let again = moved text h.quote k.quote h.inside k.inside (k.quote ∷ left) w h.opens k.opens k.passes in
+    let r = same_passes h.quote h.inside (h.quote ∷ rest) (k.quote ∷ left) v w h.passes again (quote_halts h.quote rest h.is_quote)
+    (subst (λ (q : ℕ). Halts q (k.quote ∷ left)) (sym same.0) (quote_halts k.quote left k.is_quote)) in
+    let ends : h.quote ∷ rest ≡ k.quote ∷ left = r.1 in
+    (r.0, cc)

@@ -1,0 +1,203 @@
+//! Rows of tokens, and of places where a text breaks off.
+
+use crate::cause::QlCause;
+use crate::gap::skip_gap;
+use crate::number::split_number;
+use crate::quoted::read_quoted;
+use crate::sign::{Sign, sign_of};
+use crate::stop::Stop;
+use crate::token::next_token;
+use crate::whole::{count_of, id_of};
+use crate::word::split_name;
+use std::alloc::Global;
+use std::process::Abort;
+use std::test::Fail;
+
+/// What was found in a text: how many bytes it takes, or the cause and the place of the stop.
+type Found = Result<usize, (QlCause, usize)>;
+
+/// What was found, with places counted from the text's first byte.
+fn found(text: &[u8], outcome: Result<&[u8], Stop<'_>>) -> Found {
+    match outcome {
+        Ok(rest) => Ok(text.len().saturating_sub(rest.len())),
+        Err(stop) => Err((stop.cause, text.len().saturating_sub(stop.rest.len()))),
+    }
+}
+
+#[test]
+fn skips_blanks_and_comments(rt: HostRuntime) {
+    for (text, wanted) in [
+        ("", Ok(0)),
+        (" \t\r\nnode", Ok(4)),
+        ("/* a */ node", Ok(8)),
+        ("/**//***/x", Ok(9)),
+        ("// a\nnode", Ok(5)),
+        ("// a", Ok(4)),
+        ("/", Ok(0)),
+        (" /;", Ok(1)),
+        ("/* a", Err((QlCause::Unclosed, 0))),
+        (" /*/", Err((QlCause::Unclosed, 1))),
+        ("/* a */ /* b *", Err((QlCause::Unclosed, 8))),
+    ] {
+        let text = text.as_bytes();
+        assert_eq!(rt; found(text, skip_gap(text)), wanted);
+    }
+}
+
+#[test]
+fn splits_numbers(rt: HostRuntime) {
+    for (text, wanted) in [
+        ("1)", Ok(1)),
+        ("-007,", Ok(4)),
+        ("52.50000000001,", Ok(14)),
+        ("10ids", Ok(2)),
+        ("1.5.5", Ok(3)),
+        ("-;", Err((QlCause::UnexpectedCharacter, 1))),
+        ("-", Err((QlCause::UnexpectedEnd, 1))),
+        ("--1", Err((QlCause::UnexpectedCharacter, 1))),
+        ("1.", Err((QlCause::UnexpectedCharacter, 1))),
+        ("1.)", Err((QlCause::UnexpectedCharacter, 1))),
+        ("-.5", Err((QlCause::UnexpectedCharacter, 1))),
+    ] {
+        let text = text.as_bytes();
+        assert_eq!(rt;
+            found(text, split_number(text).map(|number| number.rest)),
+            wanted
+        );
+    }
+}
+
+/// The id and the count that a text is.
+fn values(text: &[u8]) -> Option<(Option<i64>, Option<u64>)> {
+    let number = split_number(text).ok()?;
+    Some((id_of(number), count_of(number)))
+}
+
+#[test]
+fn values_of_numbers(rt: HostRuntime) {
+    for (text, id, count) in [
+        ("25", Some(25), Some(25)),
+        ("-0", Some(0), Some(0)),
+        ("-1", Some(-1), None),
+        ("1.5", None, None),
+        (
+            "9223372036854775807",
+            Some(i64::MAX),
+            Some(9_223_372_036_854_775_807),
+        ),
+        ("9223372036854775808", None, Some(9_223_372_036_854_775_808)),
+        ("-9223372036854775808", Some(i64::MIN), None),
+        ("-9223372036854775809", None, None),
+        ("00018446744073709551615", None, Some(u64::MAX)),
+        ("18446744073709551616", None, None),
+    ] {
+        assert_eq!(rt; values(text.as_bytes()), Some((id, count)));
+    }
+}
+
+#[test]
+fn splits_names(rt: HostRuntime) {
+    for (text, wanted) in [
+        (".a;", Ok(2)),
+        ("._", Ok(2)),
+        (".a_1 ", Ok(4)),
+        (".;", Err((QlCause::UnexpectedCharacter, 0))),
+        (".1", Err((QlCause::UnexpectedCharacter, 0))),
+        (".", Err((QlCause::UnexpectedEnd, 1))),
+    ] {
+        let text = text.as_bytes();
+        if let [b'.', ..] = text {
+            assert_eq!(rt; found(text, split_name(text).map(|name| name.rest)), wanted);
+        }
+    }
+}
+
+/// Asserts that a text begins with this text between quotes.
+fn assert_quoted(rt: &impl Abort, alloc: Global, text: &[u8], wanted: &[u8]) -> Result<(), Fail> {
+    if let [b'"' | b'\'', ..] = text {
+        match read_quoted(alloc, text) {
+            Ok(quoted) => assert_eq!(rt; quoted.text.as_bytes(), wanted),
+            Err(_) => return Err(Fail::from("no text between quotes")),
+        }
+    }
+    Ok(())
+}
+
+#[test]
+fn reads_quoted_texts(rt: HostRuntime) -> Result<(), Fail> {
+    for (text, wanted) in [
+        ("\"\"", ""),
+        ("\"a\"]", "a"),
+        ("'it\"s'", "it\"s"),
+        ("\"it's\"", "it's"),
+        ("\"a\\nb\\t\\\\\\\"\\'\"", "a\nb\t\\\"'"),
+        ("\"\\u0041\\u00e9\\u20AC\"", "A\u{e9}\u{20ac}"),
+        ("\"caf\u{e9}\"", "caf\u{e9}"),
+    ] {
+        assert_quoted(&rt, rt.alloc(), text.as_bytes(), wanted.as_bytes())?;
+    }
+    Ok(())
+}
+
+#[test]
+fn refuses_quoted_texts(rt: HostRuntime) {
+    for (text, wanted) in [
+        ("\"a", (QlCause::Unclosed, 0)),
+        ("'a\"", (QlCause::Unclosed, 0)),
+        ("\"a\\", (QlCause::Unclosed, 0)),
+        ("\"a\\u12", (QlCause::Unclosed, 0)),
+        ("\"\\ud8", (QlCause::Unclosed, 0)),
+        ("\"\\x\"", (QlCause::BadEscape, 1)),
+        ("\"a\\u12\"", (QlCause::BadEscape, 2)),
+        ("\"\\u0000\"", (QlCause::BadEscape, 1)),
+        ("\"\\ud800\"", (QlCause::BadEscape, 1)),
+        ("\"a\0", (QlCause::UnexpectedCharacter, 2)),
+    ] {
+        let text = text.as_bytes();
+        if let [b'"' | b'\'', ..] = text {
+            let outcome = read_quoted(rt.alloc(), text).map(|quoted| quoted.rest);
+            assert_eq!(rt; found(text, outcome), Err(wanted));
+        }
+    }
+}
+
+#[test]
+fn takes_the_longest_sign(rt: HostRuntime) {
+    for (text, wanted) in [
+        ("", Sign::End),
+        ("_a", Sign::Word),
+        ("0", Sign::Number),
+        ("-1", Sign::Number),
+        ("-", Sign::Minus),
+        ("->>", Sign::Arrow),
+        (">>>", Sign::DownAll),
+        (">", Sign::Down),
+        ("<<", Sign::UpAll),
+        ("<>", Sign::Up),
+        ("!=", Sign::NotEqual),
+        ("!~", Sign::NotTilde),
+        ("!a", Sign::Not),
+        ("/", Sign::Other),
+        ("\u{e9}", Sign::Other),
+    ] {
+        assert_eq!(rt; sign_of(text.as_bytes()), wanted);
+    }
+}
+
+#[test]
+fn tells_where_a_token_is_unexpected(rt: HostRuntime) {
+    for (text, wanted) in [
+        (" ", (QlCause::UnexpectedEnd, 1)),
+        (" a", (QlCause::UnexpectedWord, 1)),
+        ("/**/;", (QlCause::UnexpectedCharacter, 4)),
+        ("//", (QlCause::UnexpectedEnd, 2)),
+        ("/*", (QlCause::Unclosed, 0)),
+    ] {
+        let text = text.as_bytes();
+        let stop = match next_token(text) {
+            Ok(token) => token.unexpected(),
+            Err(stop) => stop,
+        };
+        assert_eq!(rt; found(text, Err(stop)), Err(wanted));
+    }
+}
