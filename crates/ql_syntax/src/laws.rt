@@ -4,6 +4,7 @@ ghost use Rattle.std.specs.Prelude.{◌≡◌, ℕ, List};
 ghost use Rattle.osm_model.specs.Degrees.{Decimal};
 ghost use Rattle.ql_syntax.specs.Words.{IsName, IsNoName};
 ghost use Rattle.ql_syntax.specs.Numbers.{IsNumber, IsNoNumber};
+ghost use Rattle.ql_syntax.specs.QuotedTexts.{IsQuoted, IsNotQuoted};
 ghost use Rattle.ql_syntax.specs.declared.cause.QlCause.{QlCause};
 
 /// A law: at a place stands one name of a set at most, and then no fault of one.
@@ -16,4 +17,10 @@ pub fn one_name()
 pub fn one_number()
     ensures one { (text : List ℕ) (number other : Decimal) (rest left : List ℕ) → IsNumber text number rest → IsNumber text other left → (number ≡ other) × (rest ≡ left) }
     ensures never_both { (text : List ℕ) (number : Decimal) (rest : List ℕ) (cause : QlCause) (at : List ℕ) → IsNumber text number rest → IsNoNumber text cause at → ⊥ }
+{}
+
+/// A law: at a quote stands one text at most, and then no fault of one.
+pub fn one_text()
+    ensures one { (text bytes other rest left : List ℕ) → IsQuoted text bytes rest → IsQuoted text other left → (bytes ≡ other) × (rest ≡ left) }
+    ensures never_both { (text bytes rest : List ℕ) (cause : QlCause) (at : List ℕ) → IsQuoted text bytes rest → IsNotQuoted text cause at → ⊥ }
 {}

@@ -21,7 +21,7 @@ mod word;
 
 pub use cause::QlCause;
 pub use fault::QlFault;
-pub use laws::{one_name, one_number};
+pub use laws::{one_name, one_number, one_text};
 pub use name::Name;
 pub use ql_text::QlText;
 
