@@ -6,3 +6,5 @@ pub mod QuotedLemmas
 pub mod WholeLemmas
 pub mod TokenLaws
 pub mod QuotedLaws
+pub mod PointLemmas
+pub mod SettingLemmas

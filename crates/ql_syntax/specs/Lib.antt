@@ -10,3 +10,7 @@ pub mod QuotedSteps
 pub mod Signs
 pub mod WholeNumbers
 pub mod Tokens
+pub mod Points
+pub mod NumberSpots
+pub mod SettingWords
+pub mod Settings

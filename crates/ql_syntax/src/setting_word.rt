@@ -1,0 +1,63 @@
+//! The words of settings.
+
+ghost use Rattle.std.specs.Prelude.{◌≡◌, bytes_eq};
+ghost use Rattle.ql_syntax.specs.SettingWords.{setting_of, format_of};
+
+/// What the first word of a setting begins.
+#[derive(Clone, Copy, Debug, PartialEq, Eq)]
+pub enum SettingWord {
+    /// A format: `out`.
+    Format,
+    /// A number: `timeout` or `maxsize`.
+    Count,
+    /// A setting that the profile leaves out.
+    Outside,
+    /// No setting.
+    Unknown,
+}
+
+/// What the word of a format names.
+#[derive(Clone, Copy, Debug, PartialEq, Eq)]
+pub enum FormatWord {
+    /// A format that is read, and has no effect: `json` or `xml`.
+    Known,
+    /// A format that the profile leaves out.
+    Outside,
+    /// No format.
+    Unknown,
+}
+
+/// What this word begins.
+pub fn setting_of(word: &[u8]) -> SettingWord
+    ensures { result ≡ setting_of word.now }
+{
+    if is(word, b"out") {
+        SettingWord::Format
+    } else if is(word, b"timeout") || is(word, b"maxsize") {
+        SettingWord::Count
+    } else if is(word, b"bbox") || is(word, b"date") || is(word, b"diff") || is(word, b"adiff") {
+        SettingWord::Outside
+    } else {
+        SettingWord::Unknown
+    }
+}
+
+/// What this word names as a format.
+pub fn format_of(word: &[u8]) -> FormatWord
+    ensures { result ≡ format_of word.now }
+{
+    if is(word, b"json") || is(word, b"xml") {
+        FormatWord::Known
+    } else if is(word, b"csv") || is(word, b"custom") || is(word, b"popup") {
+        FormatWord::Outside
+    } else {
+        FormatWord::Unknown
+    }
+}
+
+/// Whether a word is this one.
+fn is(word: &[u8], other: &[u8]) -> bool
+    ensures { result ≡ bytes_eq word.now other.now }
+{
+    word == other
+}
