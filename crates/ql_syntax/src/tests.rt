@@ -4,6 +4,7 @@ use crate::cause::QlCause;
 use crate::gap::skip_gap;
 use crate::number::split_number;
 use crate::quoted::read_quoted;
+use crate::settings::skip_setting;
 use crate::sign::{Sign, sign_of};
 use crate::stop::Stop;
 use crate::token::next_token;
@@ -199,5 +200,32 @@ fn tells_where_a_token_is_unexpected(rt: HostRuntime) {
             Err(stop) => stop,
         };
         assert_eq!(rt; found(text, Err(stop)), Err(wanted));
+    }
+}
+
+#[test]
+fn skips_a_setting(rt: HostRuntime) {
+    for (text, wanted) in [
+        ("out:json];", Ok(9)),
+        (" out : xml ];", Ok(12)),
+        ("timeout:25];", Ok(11)),
+        ("maxsize:-0];", Ok(11)),
+        ("bbox:1,2,3,4];", Err((QlCause::OutsideProfile, 0))),
+        ("out:csv];", Err((QlCause::OutsideProfile, 4))),
+        ("out:html];", Err((QlCause::UnexpectedWord, 4))),
+        ("size:1];", Err((QlCause::UnexpectedWord, 0))),
+        ("~];", Err((QlCause::UnexpectedCharacter, 0))),
+        ("timeout 25];", Err((QlCause::UnexpectedCharacter, 8))),
+        ("timeout:1.5];", Err((QlCause::NumberOutOfRange, 8))),
+        ("timeout:-1];", Err((QlCause::NumberOutOfRange, 8))),
+        (
+            "timeout:18446744073709551616];",
+            Err((QlCause::NumberOutOfRange, 8)),
+        ),
+        ("timeout:1.];", Err((QlCause::UnexpectedCharacter, 9))),
+        ("timeout:1", Err((QlCause::UnexpectedEnd, 9))),
+    ] {
+        let text = text.as_bytes();
+        assert_eq!(rt; found(text, skip_setting(text)), wanted);
     }
 }
