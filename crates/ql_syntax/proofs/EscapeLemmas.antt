@@ -1,5 +1,5 @@
 -- Escapes, from their parts.
-use Rattle.std.proofs.Common.{◌≡◌, ◌≢◌, ℕ, zero, suc, ◌+◌, ◌-◌, ◌*◌, ◌^◌, ◌<◌, ◌≤◌, List, [], ◌∷◌, ◌++◌, length, get_or, take, drop, Bool, true, false, Option, None, Some, refl, sym, ◌∙◌, ap, subst, arith, drop-cons, length-drop, lit≤}
+use Rattle.std.proofs.Common.{◌≡◌, ◌≢◌, ℕ, zero, suc, ◌^◌, ◌<◌, ◌≤◌, List, [], ◌∷◌, ◌++◌, length, get_or, take, drop, None, Some, refl, sym, ◌∙◌, ap, subst, arith, drop-cons, lit≤}
 use Rattle.std.specs.Prelude.{encode_utf8}
 use Rattle.std.specs.Char.{digit_value, IsScalar}
 use Rattle.std.specs.Str.Parse.{AllDigits, digits_value}
@@ -7,9 +7,8 @@ use Rattle.std.proofs.lemmas.Int.Digits.{digits_value-lt}
 use Rattle.std.proofs.lemmas.List.{take-append-drop, length-take-le}
 use Rattle.std.proofs.lemmas.Str.{encode_ascii}
 use Rattle.std.proofs.lemmas.Bool.Decides.{nat_tests}
-use Rattle.ql_syntax.specs.QuotedTexts.{Piece, Literal, Escape, Code, IsPiece, IsCode, IsBadEscape, Letter, NoDigit, NoCharacter, escaped, spelling, value}
+use Rattle.ql_syntax.specs.QuotedTexts.{Escape, Code, IsBadEscape, Letter, NoDigit, NoCharacter, escaped}
 use Rattle.ql_syntax.specs.EscapeParts.{IsEscape}
-use Rattle.ql_syntax.proofs.GapLemmas.{tail_is}
 
 -- a few hexadecimal digits make a small number
 pub few_digits : (text : List ℕ) (n number : ℕ) → n < 4 → n ≤ length text → AllDigits 16 (take n text) → number ≡ digits_value 16 (take n text) → number < 4096

@@ -1,7 +1,7 @@
 -- One step of a gap.
-use Rattle.std.proofs.Common.{◌≡◌, ◌≢◌, ℕ, suc, ◌+◌, ◌-◌, ◌<◌, ◌≤◌, ◌⊎◌, inl, inr, List, [], ◌∷◌, length, get_or, take, drop, Bool, true, false, ◌==◌, ◌&&◌, refl, sym, subst, ◌∙◌, ap, arith, rules, add-one, drop-cons, length-drop}
+use Rattle.std.proofs.Common.{◌≡◌, ◌≢◌, ℕ, suc, ◌+◌, ◌-◌, ◌<◌, ◌≤◌, List, [], ◌∷◌, length, get_or, take, drop, true, refl, sym, subst, ◌∙◌, ap, arith, rules, add-one, drop-cons, length-drop}
 use Rattle.std.proofs.lemmas.Grind.{common_steps}
-use Rattle.ql_syntax.specs.Gaps.{gap, GapEnd, Between, InLine, InBlock, Behind, Open, is_blank}
+use Rattle.ql_syntax.specs.Gaps.{gap, Between, InLine, InBlock, Open, is_blank}
 
 line_goes_on : (a : ℕ) (s : List ℕ) → a ≢ 10 → gap InLine (a ∷ s) ≡ gap InLine s
 line_goes_on a s other = search rules

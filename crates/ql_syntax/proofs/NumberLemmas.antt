@@ -8,7 +8,7 @@ use Rattle.ql_syntax.specs.declared.cause.QlCause.{QlCause}
 use Rattle.ql_syntax.specs.declared.cause.QlCause.TheVariants.{UnexpectedCharacter}
 use Rattle.ql_syntax.specs.declared.number.Fraction.{Fraction}
 use Rattle.ql_syntax.specs.declared.number.Number.{Number}
-use Rattle.ql_syntax.specs.Numbers.{IsNumber, IsNoNumber, NoDigit, NoFraction, IsMisfit, is_minus, is_point}
+use Rattle.ql_syntax.specs.Numbers.{IsNoNumber, NoDigit, NoFraction, IsMisfit, is_minus, is_point}
 use Rattle.ql_syntax.specs.NumberParts.{IsNumberOf, IsFractionOf, IsLonePoint, decimal_of}
 use Rattle.ql_syntax.specs.Words.{begins_with}
 

@@ -1,10 +1,10 @@
 -- Points of productions.
-use Rattle.std.proofs.Common.{◌≡◌, ℕ, ◌⊎◌, inl, inr, List, [], ◌∷◌, drop, Bool, true, false, cond, refl, sym, ◌∙◌, ap, subst}
+use Rattle.std.proofs.Common.{◌≡◌, ℕ, List, [], ◌∷◌, drop, Bool, true, false, cond, sym, ◌∙◌, ap}
 use Rattle.std.specs.Prelude.{if◌then◌else◌, ◌==◌}
 use Rattle.std.specs.Char.{is_ascii_digit}
 use Rattle.ql_syntax.specs.QuotedTexts.{is_quote}
-use Rattle.ql_syntax.specs.Points.{At, Sees, SeesWord, SeesNumber, BeginsNumber, Misses, Other, OpenComment}
-use Rattle.ql_syntax.specs.Signs.{sign_of, sign_at, single_sign, minus_sign, not_sign, len_of}
+use Rattle.ql_syntax.specs.Points.{At, Sees, Misses, Other}
+use Rattle.ql_syntax.specs.Signs.{sign_of, single_sign, minus_sign, not_sign, len_of}
 use Rattle.ql_syntax.specs.Tokens.{IsToken, IsUnexpected}
 use Rattle.ql_syntax.specs.Words.{begins_with, is_word_start}
 use Rattle.ql_syntax.specs.declared.cause.QlCause.{QlCause}

@@ -1,13 +1,12 @@
 -- At a place stands one token at most, or one fault.
-use Rattle.std.proofs.Common.{◌≡◌, ◌≢◌, ℕ, ◌<◌, ◌≤◌, ◌==◌, ◌&&◌, List, [], ◌∷◌, ◌++◌, Bool, true, false, Option, Some, None, refl, sym, ◌∙◌, ap, subst, arith, append_assoc, lit≤}
+use Rattle.std.proofs.Common.{◌≡◌, ℕ, ◌<◌, ◌&&◌, List, [], ◌∷◌, ◌++◌, Bool, true, false, Option, Some, None, refl, sym, ◌∙◌, ap, subst, arith, append_assoc, lit≤}
 use Rattle.std.specs.Char.{digit_value}
 use Rattle.std.specs.List.{list_all}
-use Rattle.osm_model.specs.Degrees.{Decimal, IsDigits, IsFraction, BeginsOtherwise, sign, point, spelling}
+use Rattle.osm_model.specs.Degrees.{Decimal, IsDigits, IsFraction, BeginsOtherwise, sign, point}
 use Rattle.osm_model.proofs.Digits.{same_front}
 use Rattle.ql_syntax.specs.declared.cause.QlCause.{QlCause}
-use Rattle.ql_syntax.specs.declared.cause.QlCause.TheVariants as causes
-use Rattle.ql_syntax.specs.Words.{IsRun, IsWord, IsName, IsNoName, IsUnfinished, begins_with, is_run_byte, is_word_start}
-use Rattle.ql_syntax.specs.Numbers.{IsNumber, IsNoNumber, NoDigit, NoFraction, IsMisfit, is_minus, is_point}
+use Rattle.ql_syntax.specs.Words.{IsRun, IsWord, IsName, IsNoName, begins_with, is_run_byte, is_word_start}
+use Rattle.ql_syntax.specs.Numbers.{IsNumber, IsNoNumber, NoDigit, NoFraction, is_minus, is_point}
 
 passes : (p q : Bool) → (p && q) ≡ true → p ≡ true
 passes true q e = refl

@@ -1,7 +1,7 @@
 -- Numbers: an optional `-`, digits, and optionally `.` and digits.
 -- Source: numbers of the Overpass QL page of the OpenStreetMap wiki, without a leading `+` and without
 -- exponents (this project).
-use Rattle.std.specs.Prelude.{◌≡◌, ℕ, ◌==◌, Bool, true, false, List, [], ◌∷◌, ◌++◌, None}
+use Rattle.std.specs.Prelude.{◌≡◌, ℕ, ◌==◌, Bool, false, List, [], ◌∷◌, ◌++◌, None}
 use Rattle.osm_model.specs.Degrees.{Decimal, IsDecimal, IsDigits, BeginsOtherwise, sign, spelling}
 use Rattle.ql_syntax.specs.declared.cause.QlCause.{QlCause}
 use Rattle.ql_syntax.specs.declared.cause.QlCause.TheVariants as causes

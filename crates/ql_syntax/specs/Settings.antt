@@ -2,9 +2,9 @@
 -- and then `;`. They have no effect.
 -- Source: the Overpass QL page of the OpenStreetMap wiki, "Settings"; which are left out is this
 -- project's.
-use Rattle.std.specs.Prelude.{◌≡◌, ◌⊎◌, ℕ, List}
+use Rattle.std.specs.Prelude.{◌≡◌, ℕ, List}
 use Rattle.osm_model.specs.Degrees.{Decimal}
-use Rattle.ql_syntax.specs.Points.{Sees, SeesWord, SeesNumber, Misses, MissesNumber, At}
+use Rattle.ql_syntax.specs.Points.{Sees, SeesWord, SeesNumber, Misses, MissesNumber}
 use Rattle.ql_syntax.specs.SettingWords.{setting_of, format_of}
 use Rattle.ql_syntax.specs.WholeNumbers.{IsCount}
 use Rattle.ql_syntax.specs.declared.cause.QlCause.{QlCause}

@@ -1,7 +1,7 @@
 -- What begins at a place: punctuation, the longest there, or the first byte of another token.
 -- Source: the punctuation of the Overpass QL page of the OpenStreetMap wiki; that the longest is taken
 -- is this project's.
-use Rattle.std.specs.Prelude.{ℕ, Bool, ◌==◌, ◌||◌, if◌then◌else◌, List, [], ◌∷◌}
+use Rattle.std.specs.Prelude.{ℕ, ◌==◌, if◌then◌else◌, List, [], ◌∷◌}
 use Rattle.std.specs.Char.{is_ascii_digit}
 use Rattle.ql_syntax.specs.Words.{is_word_start, begins_with}
 use Rattle.ql_syntax.specs.QuotedTexts.{is_quote}

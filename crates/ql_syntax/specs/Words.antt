@@ -2,7 +2,7 @@
 -- Source: the Overpass QL page of the OpenStreetMap wiki: a set's name is a letter or `_` and then
 -- letters, digits and `_`; that these are those of ASCII, and that words are spelled so too, is this
 -- project's.
-use Rattle.std.specs.Prelude.{◌≡◌, ◌≢◌, ℕ, Bool, true, false, ◌==◌, ◌||◌, List, [], ◌∷◌, ◌++◌, IsTrue, ⊤}
+use Rattle.std.specs.Prelude.{◌≡◌, ℕ, Bool, true, false, ◌==◌, ◌||◌, List, [], ◌∷◌, ◌++◌}
 use Rattle.std.specs.Char.{is_ascii_alphabetic, is_ascii_alphanumeric}
 use Rattle.std.specs.List.{list_all}
 use Rattle.ql_syntax.specs.declared.cause.QlCause.{QlCause}

@@ -1,4 +1,4 @@
-use Rattle.std.proofs.Common.{arith, ℕ, List, sym, ◌∙◌, subst}
+use Rattle.std.proofs.Common.{arith, ℕ, List, sym, subst}
 use Rattle.std.specs.Prelude.{encode_utf8}
 use Rattle.ql_syntax.specs.EscapeParts.{IsEscape}
 use Rattle.ql_syntax.proofs.EscapeLemmas.{letter_escape, bad_letter}

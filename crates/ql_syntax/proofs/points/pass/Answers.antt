@@ -1,4 +1,4 @@
-use Rattle.std.proofs.Common.{◌≡◌, sym, ◌∙◌, rules}
+use Rattle.std.proofs.Common.{◌≡◌, sym, rules}
 use denote.Enum.Bare.{same_true, same_false}
 use Rattle.ql_syntax.specs.contracts.sign.Sign.{the_type}
 use Rattle.ql_syntax.specs.declared.sign.Sign.{Sign}

@@ -1,4 +1,4 @@
-use Rattle.std.proofs.Common.{inr, ◌∙◌, ap, sym, subst, List, ℕ, ◌++◌, drop}
+use Rattle.std.proofs.Common.{inr, ◌∙◌, ap, subst, List, ℕ, ◌++◌, drop}
 use Rattle.std.specs.Prelude.{encode_utf8}
 use Rattle.ql_syntax.specs.QuotedTexts.{AtEscape, InEscape, IsBadEscape, IsCutEscape}
 use Rattle.ql_syntax.specs.EscapeParts.{IsEscape}

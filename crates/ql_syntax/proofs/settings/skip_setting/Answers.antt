@@ -1,4 +1,4 @@
-use Rattle.std.proofs.Common.{sym, ◌∙◌}
+use Rattle.std.proofs.Common.{sym}
 use Rattle.ql_syntax.specs.Settings.{StopsSetting, NoWord, Outside, Unknown, NoFormatColon, NoFormat, NoCountColon, NoCount}
 use Rattle.ql_syntax.specs.declared.stop.Stop.{Stop}
 use Rattle.ql_syntax.proofs.Exits.{handed_on}

@@ -1,4 +1,4 @@
-use Rattle.std.proofs.Common.{arith, get_or, ◌≤◌, ◌^◌, ℕ, Option, None}
+use Rattle.std.proofs.Common.{arith, get_or, ◌≤◌, ◌^◌}
 use Rattle.std.specs.Str.Parse.{digits_value}
 use Rattle.opl_codec.proofs.ReadIds.{digit_is}
 use Rattle.ql_syntax.proofs.WholeLemmas.{next_within, digit_here}
