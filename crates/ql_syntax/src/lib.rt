@@ -1,4 +1,6 @@
-//! The text of queries: its tokens.
+//! The text of queries: its tokens, and the first of its productions, a setting.
+//!
+//! The reader of whole queries is not written here yet; what stands is proved for it.
 //!
 //! A place in a text is what is left of it from there on. Each reader of a token takes a text whose
 //! front is to be read, and gives what it found and what is left, or a stop: a cause, and the place.
