@@ -229,3 +229,29 @@ fn skips_a_setting(rt: HostRuntime) {
         assert_eq!(rt; found(text, skip_setting(text)), wanted);
     }
 }
+
+/// The text between quotes at the front of a text; asked for once more where memory was refused.
+fn quoted_again(rt: &impl Abort, alloc: Global, text: &[u8]) -> Result<(), Fail> {
+    let [b'"', ..] = text else {
+        return Err(Fail::from("no quote comes first"));
+    };
+    let quoted = match read_quoted(alloc, text) {
+        Ok(quoted) => quoted,
+        Err(stop) => {
+            assert_eq!(rt; stop.cause, QlCause::Memory);
+            match read_quoted(alloc, text) {
+                Ok(quoted) => quoted,
+                Err(_) => return Err(Fail::from("no text between quotes")),
+            }
+        }
+    };
+    assert_eq!(rt; quoted.text.as_bytes(), b"a\nb".as_slice());
+    assert_eq!(rt; quoted.rest, b"]".as_slice());
+    Ok(())
+}
+
+/// Where memory is refused the next call gives the full result. Run with each allocation refused in turn.
+#[test]
+fn reads_quoted_texts_after_refused_memory(rt: HostRuntime) -> Result<(), Fail> {
+    quoted_again(&rt, rt.alloc(), b"\"a\\nb\"]")
+}
