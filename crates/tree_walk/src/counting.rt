@@ -25,9 +25,9 @@ use tree_node::{Children, Digest, Entries, NodeRef, Shelf, Tree};
 /// The number of entries of a tree in a range of keys: what stands under the node with the digest `top`.
 ///
 /// It goes as `range` does, but that a child that the range covers stays closed: of it the number is
-/// counted that its parent states. So it fetches at most the nodes at the two ends of the range. Over a
-/// tree as a publisher builds it the number is at most 2^29; over other nodes a number at its greatest
-/// stays there. Refusals, shelf and tally are as for `range`; a closed child isn't looked at.
+/// counted that its parent states. Over a tree as a publisher builds it the number is at most 2^29; over
+/// other nodes a number at its greatest stays there. Refusals, shelf and tally are as for `range`; a
+/// closed child isn't looked at.
 ///
 /// Source: this project's trees, docs/FORMATS.md.
 pub fn count<'a, S: Shelf<'a>>(
