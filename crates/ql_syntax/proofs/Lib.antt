@@ -6,5 +6,11 @@ pub mod QuotedLemmas
 pub mod WholeLemmas
 pub mod TokenLaws
 pub mod QuotedLaws
-pub mod PointLemmas
-pub mod SettingLemmas
+pub mod RuleLemmas
+pub mod RoundLemmas
+pub mod Lengths
+pub mod SettingLengths
+pub mod FilterLemmas
+pub mod OutLemmas
+pub mod WordStarts
+pub mod OutLengths

@@ -36,20 +36,15 @@ same_span test (x ∷ v) (y ∷ w) s t a b c d e =
 pub one_run : (text run other rest left : List ℕ) → IsRun text run rest → IsRun text other left → (run ≡ other) × (rest ≡ left)
 one_run text run other rest left h k = same_span is_run_byte run other rest left h.bytes k.bytes h.longest k.longest (sym h.parts ∙ k.parts)
 
-pub one_name : (text name other rest left : List ℕ) → IsName text name rest → IsName text other left → (name ≡ other) × (rest ≡ left)
-one_name text name other rest left h k =
-    let same : h.0 ≡ k.0 = let e : 46 ∷ h.0 ≡ 46 ∷ k.0 = sym h.1 ∙ k.1 in cc in
-    one_run k.0 name other rest left (subst (λ (s : List ℕ). IsRun s name rest) same h.2.run) k.2.run
+pub one_name : (behind name other rest left : List ℕ) → IsName behind name rest → IsName behind other left → (name ≡ other) × (rest ≡ left)
+one_name behind name other rest left h k = one_run behind name other rest left h.run k.run
 
 word_starts : (text word rest : List ℕ) → IsWord text word rest → begins_with is_word_start text ≡ true
 word_starts text [] rest w = absurd (let e = w.start in cc)
 word_starts text (b ∷ word) rest w = ap (λ (s : List ℕ). begins_with is_word_start s) w.run.parts ∙ w.start
 
-pub name_or_not : (text name rest : List ℕ) (cause : QlCause) (at : List ℕ) → IsName text name rest → IsNoName text cause at → ⊥
-name_or_not text name rest cause at h k =
-    let same : h.0 ≡ k.0 = let e : 46 ∷ h.0 ≡ 46 ∷ k.0 = sym h.1 ∙ k.1 in cc in
-    let bad : true ≡ false = sym (word_starts h.0 name rest h.2) ∙ ap (λ (s : List ℕ). begins_with is_word_start s) same ∙ k.2 in
-    cc
+pub name_or_not : (dot behind name rest : List ℕ) (cause : QlCause) (at : List ℕ) → IsName behind name rest → IsNoName dot behind cause at → ⊥
+name_or_not dot behind name rest cause at h k = let bad : true ≡ false = sym (word_starts behind name rest h) ∙ k.0 in cc
 
 -- digits don't begin with a sign, nor with what begins otherwise
 no_minus : (digits rest more : List ℕ) → IsDigits digits → 45 ∷ rest ≡ digits ++ more → ⊥

@@ -11,6 +11,13 @@ pub mod Signs
 pub mod WholeNumbers
 pub mod Tokens
 pub mod Points
-pub mod NumberSpots
+pub mod Rules
+pub mod Following
+pub mod Views
 pub mod SettingWords
 pub mod Settings
+pub mod Filters
+pub mod TagFilters
+pub mod FilterViews
+pub mod OutWords
+pub mod Outs

@@ -3,57 +3,66 @@
 -- Source: the Overpass QL page of the OpenStreetMap wiki, "Settings"; which are left out is this
 -- project's.
 use Rattle.std.specs.Prelude.{◌≡◌, ℕ, List}
-use Rattle.osm_model.specs.Degrees.{Decimal}
-use Rattle.ql_syntax.specs.Points.{Sees, SeesWord, SeesNumber, Misses, MissesNumber}
+use Rattle.ql_syntax.specs.Points.{Next, Word, next_token, pass, unexpected, a_word, a_number}
+use Rattle.ql_syntax.specs.Rules.{Rule, ◌>>=◌, give, refuse, from, choose, by_case, repeat, Round, More, Done}
 use Rattle.ql_syntax.specs.SettingWords.{setting_of, format_of}
-use Rattle.ql_syntax.specs.WholeNumbers.{IsCount}
-use Rattle.ql_syntax.specs.declared.cause.QlCause.{QlCause}
+use Rattle.ql_syntax.specs.WholeNumbers.{count_of}
 use Rattle.ql_syntax.specs.declared.cause.QlCause.TheVariants as causes
-use Rattle.ql_syntax.specs.declared.setting_word.SettingWord.TheVariants as settings
+use Rattle.ql_syntax.specs.declared.setting_word.SettingWord.{SettingWord}
+use Rattle.ql_syntax.specs.declared.setting_word.SettingWord.TheVariants as words
+use Rattle.ql_syntax.specs.declared.setting_word.FormatWord.{FormatWord}
 use Rattle.ql_syntax.specs.declared.setting_word.FormatWord.TheVariants as formats
 use Rattle.ql_syntax.specs.declared.sign.Sign.TheVariants as signs
 
--- the word of a format stands between the two places
-pub record ReadsFormat (text rest : List ℕ) : Type 0 where
-  pub word : List ℕ
-  pub place : List ℕ
-  pub sees : SeesWord word text place rest
-  pub known : format_of word ≡ formats.Known
+abbrev pub format_named : List ℕ → FormatWord → Rule (Unit {0})
+format_named place formats.Known = give tt
+format_named place formats.Outside = refuse causes.OutsideProfile place
+format_named place formats.Unknown = refuse causes.UnexpectedWord place
 
--- a number in the range of 64 bits without a sign does
-pub record ReadsCount (text rest : List ℕ) : Type 0 where
-  pub number : Decimal
-  pub place : List ℕ
-  pub count : ℕ
-  pub sees : SeesNumber number text place rest
-  pub count_is : IsCount number count
+-- the word of a format
+unfoldable pub format : Rule (Unit {0})
+format = do
+  found ← a_word
+  by_case (format_of found.word) (format_named found.place)
 
--- why none of them does
-pub data StopsFormat (text : List ℕ) (cause : QlCause) (at : List ℕ) : Type 0 where
-  NoFormatWord : Misses (λ s. s ≡ signs.Word) text cause at → StopsFormat text cause at
-  FormatOutside : (word place rest : List ℕ) → SeesWord word text place rest → format_of word ≡ formats.Outside → cause ≡ causes.OutsideProfile → at ≡ place → StopsFormat text cause at
-  FormatUnknown : (word place rest : List ℕ) → SeesWord word text place rest → format_of word ≡ formats.Unknown → cause ≡ causes.UnexpectedWord → at ≡ place → StopsFormat text cause at
+-- a number in the range of 64 bits without a sign
+unfoldable pub count : Rule (Unit {0})
+count = do
+  found ← a_number
+  value ← count_of found.number found.place
+  give tt
 
-pub data StopsCount (text : List ℕ) (cause : QlCause) (at : List ℕ) : Type 0 where
-  NoCountNumber : MissesNumber text cause at → StopsCount text cause at
-  CountOutOfRange : (number : Decimal) (place rest : List ℕ) → SeesNumber number text place rest → ((count : ℕ) → IsCount number count → ⊥)
-      → cause ≡ causes.NumberOutOfRange → at ≡ place → StopsCount text cause at
+-- what follows the first word of a setting
+abbrev pub setting_named : List ℕ → SettingWord → Rule (Unit {0})
+setting_named place words.Format = do
+  colon ← pass signs.Colon
+  format
+setting_named place words.Count = do
+  colon ← pass signs.Colon
+  count
+setting_named place words.Outside = refuse causes.OutsideProfile place
+setting_named place words.Unknown = refuse causes.UnexpectedWord place
 
--- one setting, behind its `[` and up to its `]`
-pub data ReadsSetting (text rest : List ℕ) : Type 0 where
-  Format : (word place a b c : List ℕ) → SeesWord word text place a → setting_of word ≡ settings.Format → Sees signs.Colon a b → ReadsFormat b c → Sees signs.CloseBracket c rest → ReadsSetting text rest
-  Count : (word place a b c : List ℕ) → SeesWord word text place a → setting_of word ≡ settings.Count → Sees signs.Colon a b → ReadsCount b c → Sees signs.CloseBracket c rest → ReadsSetting text rest
+unfoldable pub setting_value : Word → Rule (Unit {0})
+setting_value name = by_case (setting_of name.word) (setting_named name.place)
 
--- why none stands there
-pub data StopsSetting (text : List ℕ) (cause : QlCause) (at : List ℕ) : Type 0 where
-  NoWord : Misses (λ s. s ≡ signs.Word) text cause at → StopsSetting text cause at
-  Outside : (word place rest : List ℕ) → SeesWord word text place rest → setting_of word ≡ settings.Outside → cause ≡ causes.OutsideProfile → at ≡ place → StopsSetting text cause at
-  Unknown : (word place rest : List ℕ) → SeesWord word text place rest → setting_of word ≡ settings.Unknown → cause ≡ causes.UnexpectedWord → at ≡ place → StopsSetting text cause at
-  NoFormatColon : (word place a : List ℕ) → SeesWord word text place a → setting_of word ≡ settings.Format → Misses (λ s. s ≡ signs.Colon) a cause at → StopsSetting text cause at
-  NoFormat : (word place a b : List ℕ) → SeesWord word text place a → setting_of word ≡ settings.Format → Sees signs.Colon a b → StopsFormat b cause at → StopsSetting text cause at
-  NoFormatBracket : (word place a b c : List ℕ) → SeesWord word text place a → setting_of word ≡ settings.Format → Sees signs.Colon a b → ReadsFormat b c
-      → Misses (λ s. s ≡ signs.CloseBracket) c cause at → StopsSetting text cause at
-  NoCountColon : (word place a : List ℕ) → SeesWord word text place a → setting_of word ≡ settings.Count → Misses (λ s. s ≡ signs.Colon) a cause at → StopsSetting text cause at
-  NoCount : (word place a b : List ℕ) → SeesWord word text place a → setting_of word ≡ settings.Count → Sees signs.Colon a b → StopsCount b cause at → StopsSetting text cause at
-  NoCountBracket : (word place a b c : List ℕ) → SeesWord word text place a → setting_of word ≡ settings.Count → Sees signs.Colon a b → ReadsCount b c
-      → Misses (λ s. s ≡ signs.CloseBracket) c cause at → StopsSetting text cause at
+-- one setting behind its `[`, and its `]`
+unfoldable pub setting : Rule (Unit {0})
+setting = do
+  name ← a_word
+  value ← setting_value name
+  pass signs.CloseBracket
+
+-- one setting of several: another follows, or the `;` behind the last
+unfoldable pub setting_round : Unit {0} → Rule (Round (Unit {0}) (Unit {0}))
+setting_round state = do
+  found ← setting
+  next ← next_token
+  choose (next.sign ≡ signs.OpenBracket) (give (More tt))
+      (choose (next.sign ≡ signs.Semicolon) (give (Done tt)) (unexpected next))
+
+-- the settings before the first statement, or none
+unfoldable pub settings : Rule (Unit {0})
+settings = do
+  next ← next_token
+  choose (next.sign ≡ signs.OpenBracket) (repeat setting_round tt) (from next.place (give tt))

@@ -32,16 +32,16 @@ pub record IsWord (text word rest : List ℕ) : Type 0 where
   pub run : IsRun text word rest
   pub start : begins_with is_word_start word ≡ true
 
--- the name of a set behind its dot
+-- the name of a set, behind its dot
 abbrev pub IsName : List ℕ → List ℕ → List ℕ → Type 0
-IsName text name rest = (behind : List ℕ) × (text ≡ 46 ∷ behind) × IsWord behind name rest
+IsName behind name rest = IsWord behind name rest
 
--- text is left where a token begins that ends too early: behind it the text ends, or something else stands
+-- the text from dot on begins a token that ends too early: behind its dot the text ends, or something else
+-- stands, and then it is the dot that fits nothing
 abbrev pub IsUnfinished : List ℕ → List ℕ → QlCause → List ℕ → Type 0
-IsUnfinished text [] cause place = (cause ≡ causes.UnexpectedEnd) × (place ≡ [])
-IsUnfinished text (b ∷ behind) cause place = (cause ≡ causes.UnexpectedCharacter) × (place ≡ text)
+IsUnfinished dot [] cause place = (cause ≡ causes.UnexpectedEnd) × (place ≡ [])
+IsUnfinished dot (b ∷ behind) cause place = (cause ≡ causes.UnexpectedCharacter) × (place ≡ dot)
 
--- a dot, and no word behind it: at the text's end it is too short, else the dot fits nothing
-abbrev pub IsNoName : List ℕ → QlCause → List ℕ → Type 0
-IsNoName text cause place = (behind : List ℕ) × (text ≡ 46 ∷ behind) × (begins_with is_word_start behind ≡ false)
-    × IsUnfinished text behind cause place
+-- no word behind a dot, from which on the text is dot
+abbrev pub IsNoName : List ℕ → List ℕ → QlCause → List ℕ → Type 0
+IsNoName dot behind cause place = (begins_with is_word_start behind ≡ false) × IsUnfinished dot behind cause place

@@ -7,10 +7,10 @@ ghost use Rattle.ql_syntax.specs.Numbers.{IsNumber, IsNoNumber};
 ghost use Rattle.ql_syntax.specs.QuotedTexts.{IsQuoted, IsNotQuoted};
 ghost use Rattle.ql_syntax.specs.declared.cause.QlCause.{QlCause};
 
-/// A law: at a place stands one name of a set at most, and then no fault of one.
+/// A law: behind a dot stands one name of a set at most, and then no fault of one.
 pub fn one_name()
-    ensures one { (text name other rest left : List ℕ) → IsName text name rest → IsName text other left → (name ≡ other) × (rest ≡ left) }
-    ensures never_both { (text name rest : List ℕ) (cause : QlCause) (at : List ℕ) → IsName text name rest → IsNoName text cause at → ⊥ }
+    ensures one { (behind name other rest left : List ℕ) → IsName behind name rest → IsName behind other left → (name ≡ other) × (rest ≡ left) }
+    ensures never_both { (dot behind name rest : List ℕ) (cause : QlCause) (at : List ℕ) → IsName behind name rest → IsNoName dot behind cause at → ⊥ }
 {}
 
 /// A law: at a place stands one number at most, and then no fault of one.

@@ -9,10 +9,14 @@
 mod cause;
 mod escape;
 mod fault;
+mod filter;
 mod gap;
 mod laws;
 mod name;
 mod number;
+mod out_options;
+mod out_word;
+mod path;
 mod points;
 mod ql_text;
 mod quoted;
@@ -20,14 +24,17 @@ mod setting_word;
 mod settings;
 mod sign;
 mod stop;
+mod tag_filter;
 mod token;
 mod whole;
 mod word;
 
 pub use cause::QlCause;
 pub use fault::QlFault;
+pub use filter::Filter;
 pub use laws::{one_name, one_number, one_text};
 pub use name::Name;
+pub use path::Path;
 pub use ql_text::QlText;
 
 #[cfg(test)]

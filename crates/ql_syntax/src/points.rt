@@ -1,18 +1,26 @@
-//! What may stand at the points of a production.
+//! Readers of one token.
 
-ghost use Rattle.std.specs.Prelude.{◌≡◌, IfOk, IfErr};
-ghost use Rattle.ql_syntax.specs.NumberSpots.{IsSpotOf};
-ghost use Rattle.ql_syntax.specs.Points.{Sees, SeesWord, Misses, MissesNumber, begins_number};
+ghost use Rattle.std.specs.Prelude.{◌≡◌, Ok, IfOk, ℕ, List};
+ghost use Rattle.std.specs.Str.Parse.{AllDigits};
+ghost use Rattle.osm_model.specs.Degrees.{spelling};
+ghost use Rattle.ql_syntax.specs.Following.{Follows};
+ghost use Rattle.ql_syntax.specs.NumberParts.{decimal_of};
+ghost use Rattle.ql_syntax.specs.Points.{pass, word_at, a_word, number_at, a_number, name_behind, a_name, into, begins_number};
+ghost use Rattle.ql_syntax.specs.Views.{the_rest, next_of, the_word, number_of, the_number, the_name};
+ghost use Rattle.ql_syntax.specs.WholeNumbers.{id_of, count_of};
 
+use crate::cause::QlCause;
+use crate::name::Name;
 use crate::number::{Number, split_number};
 use crate::sign::Sign;
 use crate::stop::Stop;
-use crate::token::next_token;
-use crate::word::split_word;
+use crate::token::{Token, next_token};
+use crate::whole::{count_of, id_of};
+use crate::word::{split_name, split_run};
 
 /// A word, where it begins, and what is left behind it.
 #[derive(Clone, Copy, Debug)]
-pub struct Word<'a> {
+pub struct WordSpot<'a> {
     /// The text from the word on.
     pub place: &'a [u8],
     /// The word.
@@ -23,20 +31,39 @@ pub struct Word<'a> {
 
 /// A number, and where it begins.
 #[derive(Clone, Copy, Debug)]
-pub struct Spot<'a> {
+pub struct NumberSpot<'a> {
     /// The text from the number on.
     pub place: &'a [u8],
     /// The number.
     pub number: Number<'a>,
 }
 
+impl<'a> NumberSpot<'a> {
+    /// The id that the number is, of 64 bits with a sign. `NumberOutOfRange` at the number where it is
+    /// none.
+    pub fn id(self) -> Result<i64, Stop<'a>>
+        requires { AllDigits 10 self.number.whole.now }
+        ensures { (text : List ℕ) → Follows (id_of (number_of self.entry).number self.entry.place.now) (λ id. (id, text)) text result }
+    {
+        id_of(self.number).ok_or(Stop::at(QlCause::NumberOutOfRange, self.place))
+    }
+
+    /// The count that the number is, of 64 bits without a sign. `NumberOutOfRange` at the number where it
+    /// is none.
+    pub fn count(self) -> Result<u64, Stop<'a>>
+        requires { AllDigits 10 self.number.whole.now }
+        ensures { (text : List ℕ) → Follows (count_of (number_of self.entry).number self.entry.place.now) (λ count. (count, text)) text result }
+    {
+        count_of(self.number).ok_or(Stop::at(QlCause::NumberOutOfRange, self.place))
+    }
+}
+
 /// What is left behind this punctuation, which must come next.
 pub fn pass(text: &[u8], sign: Sign) -> Result<&[u8], Stop<'_>>
-    ensures read { IfOk result (λ rest. Sees sign text.now rest.now) }
-    ensures refused { IfErr result (λ stop. Misses (λ s. s ≡ sign) text.now stop.cause stop.rest.now) }
+    ensures { Follows (pass sign) the_rest text.now result }
 {
     let token = next_token(text)?;
-    if token.sign == sign {
+    if token.is(sign) {
         Ok(token.rest)
     } else {
         Err(token.unexpected())
@@ -44,40 +71,95 @@ pub fn pass(text: &[u8], sign: Sign) -> Result<&[u8], Stop<'_>>
 }
 
 /// The word that must come next.
-pub fn next_word(text: &[u8]) -> Result<Word<'_>, Stop<'_>>
-    ensures read { IfOk result (λ found. SeesWord found.word.now text.now found.place.now found.rest.now) }
-    ensures refused { IfErr result (λ stop. Misses (λ s. s ≡ Sign.Word) text.now stop.cause stop.rest.now) }
+pub fn next_word(text: &[u8]) -> Result<WordSpot<'_>, Stop<'_>>
+    ensures { Follows a_word the_word text.now result }
 {
     let token = next_token(text)?;
-    match split_word(token.place) {
-        Some(found) => Ok(Word {
-            place: token.place,
-            word: found.run,
-            rest: found.rest,
-        }),
-        None => Err(token.unexpected()),
+    if token.is(Sign::Word) {
+        Ok(word_at(token))
+    } else {
+        Err(token.unexpected())
+    }
+}
+
+/// The word that begins with this token.
+pub fn word_at(token: Token<'_>) -> WordSpot<'_>
+    ensures { Follows (word_at (next_of token.entry)) the_word token.entry.rest.now (Ok result) }
+{
+    let found = split_run(token.rest);
+    WordSpot {
+        place: token.place,
+        word: found.run,
+        rest: found.rest,
     }
 }
 
 /// The number that must come next.
-pub fn next_number(text: &[u8]) -> Result<Spot<'_>, Stop<'_>>
-    ensures read { IfOk result (λ spot. IsSpotOf text.now spot) }
-    ensures refused { IfErr result (λ stop. MissesNumber text.now stop.cause stop.rest.now) }
+pub fn next_number(text: &[u8]) -> Result<NumberSpot<'_>, Stop<'_>>
+    ensures follows { Follows a_number the_number text.now result }
+    ensures spelled { IfOk result (λ spot. spot.number.text.now ≡ spelling (decimal_of spot.number)) }
+    ensures digits { IfOk result (λ spot. AllDigits 10 spot.number.whole.now) }
 {
     let token = next_token(text)?;
-    if !begins_number(token.sign) {
-        return Err(token.unexpected());
+    if begins_number(token.sign) {
+        number_at(token)
+    } else {
+        Err(token.unexpected())
     }
+}
+
+/// The number that begins with this token.
+pub fn number_at(token: Token<'_>) -> Result<NumberSpot<'_>, Stop<'_>>
+    ensures follows { Follows (number_at (next_of token.entry)) the_number token.entry.rest.now result }
+    ensures spelled { IfOk result (λ spot. spot.number.text.now ≡ spelling (decimal_of spot.number)) }
+    ensures digits { IfOk result (λ spot. AllDigits 10 spot.number.whole.now) }
+{
     let number = split_number(token.place)?;
-    Ok(Spot {
+    Ok(NumberSpot {
         place: token.place,
         number,
     })
 }
 
 /// Whether a number may begin so.
-fn begins_number(sign: Sign) -> bool
+pub fn begins_number(sign: Sign) -> bool
     ensures { result ≡ begins_number sign }
 {
     matches!(sign, Sign::Number | Sign::Minus)
+}
+
+/// The name of a set, which must come next.
+pub fn next_name(text: &[u8]) -> Result<(Name<'_>, &[u8]), Stop<'_>>
+    ensures { Follows a_name the_name text.now result }
+{
+    let token = next_token(text)?;
+    if token.is(Sign::Dot) {
+        name_behind(token)
+    } else {
+        Err(token.unexpected())
+    }
+}
+
+/// The name behind its dot, which is this token.
+pub fn name_behind(dot: Token<'_>) -> Result<(Name<'_>, &[u8]), Stop<'_>>
+    ensures { Follows (name_behind (next_of dot.entry)) the_name dot.entry.rest.now result }
+{
+    let found = split_name(dot.place, dot.rest)?;
+    Ok((Name::new(found.run), found.rest))
+}
+
+/// The set that a statement writes to, and its end: `->` and a name, or nothing, and `;`.
+pub fn read_into(text: &[u8]) -> Result<(Name<'_>, &[u8]), Stop<'_>>
+    ensures { Follows into the_name text.now result }
+{
+    let token = next_token(text)?;
+    if token.is(Sign::Arrow) {
+        let (name, rest) = next_name(token.rest)?;
+        let rest = pass(rest, Sign::Semicolon)?;
+        Ok((name, rest))
+    } else if token.is(Sign::Semicolon) {
+        Ok((Name::default_set(), token.rest))
+    } else {
+        Err(token.unexpected())
+    }
 }

@@ -1,7 +1,8 @@
 //! Keys and values of filters.
 
-ghost use Rattle.std.specs.Prelude.{◌≡◌};
+ghost use Rattle.std.specs.Prelude.{◌≡◌, IfOk};
 
+use std::alloc::{AllocError, Global};
 use std::marker::Model;
 
 /// A key or a value of a filter, with its escapes read. Contracts see its bytes.
@@ -26,6 +27,15 @@ impl QlText {
         ensures { result ≡ content.items }
     {
         QlText { content }
+    }
+
+    /// The text that is this run of letters, digits and `_`.
+    pub(crate) fn from_run(alloc: Global, run: &[u8]) -> Result<QlText, AllocError>
+        ensures { IfOk result (λ text. text ≡ run.now) }
+    {
+        let mut content = Vec::new(alloc);
+        content.extend_from_slice(run)?;
+        Ok(QlText { content })
     }
 
     /// Its bytes.

@@ -22,6 +22,13 @@ pub struct Quoted<'a> {
     pub rest: &'a [u8],
 }
 
+/// Whether a quote comes first.
+pub fn begins_quoted(text: &[u8]) -> bool
+    ensures { result ≡ begins_with is_quote text.now }
+{
+    matches!(text, [b'"' | b'\'', ..])
+}
+
 /// Takes a text between quotes off the front of a text that begins with `"` or `'`.
 ///
 /// It is `Unclosed` at the quote where the text ends inside, also inside an escape, `BadEscape` at the

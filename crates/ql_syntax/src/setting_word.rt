@@ -1,7 +1,9 @@
 //! The words of settings.
 
-ghost use Rattle.std.specs.Prelude.{◌≡◌, bytes_eq};
+ghost use Rattle.std.specs.Prelude.{◌≡◌};
 ghost use Rattle.ql_syntax.specs.SettingWords.{setting_of, format_of};
+
+use crate::word::is;
 
 /// What the first word of a setting begins.
 #[derive(Clone, Copy, Debug, PartialEq, Eq)]
@@ -53,11 +55,4 @@ pub fn format_of(word: &[u8]) -> FormatWord
     } else {
         FormatWord::Unknown
     }
-}
-
-/// Whether a word is this one.
-fn is(word: &[u8], other: &[u8]) -> bool
-    ensures { result ≡ bytes_eq word.now other.now }
-{
-    word == other
 }

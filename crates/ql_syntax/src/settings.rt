@@ -1,41 +1,86 @@
 //! Settings, which have no effect.
 
-ghost use Rattle.std.specs.Prelude.{◌≡◌, IfOk, IfErr};
-ghost use Rattle.ql_syntax.specs.Settings.{ReadsSetting, ReadsFormat, ReadsCount, StopsSetting, StopsFormat, StopsCount};
+ghost use Rattle.std.specs.Prelude.{◌<◌, IfOk, length};
+ghost use Rattle.ql_syntax.specs.Following.{Follows};
+ghost use Rattle.ql_syntax.specs.Rules.{repeat};
+ghost use Rattle.ql_syntax.specs.Settings.{settings, setting_round, setting, setting_value, format, count};
+ghost use Rattle.ql_syntax.specs.Views.{the_rest, the_round, word_of};
 
 use crate::cause::QlCause;
-use crate::points::{next_number, next_word, pass};
+use crate::points::{WordSpot, next_number, next_word, pass};
 use crate::setting_word::{FormatWord, SettingWord, format_of, setting_of};
 use crate::sign::Sign;
 use crate::stop::Stop;
-use crate::whole::count_of;
+use crate::token::next_token;
 
-/// What is left behind one setting and its `]`; its `[` stands before the text.
+/// What is left behind the settings before the first statement, where there are some.
 ///
 /// `OutsideProfile` at the word of a setting or of a format that the profile leaves out.
-pub fn skip_setting(text: &[u8]) -> Result<&[u8], Stop<'_>>
-    ensures read { IfOk result (λ rest. ReadsSetting text.now rest.now) }
-    ensures refused { IfErr result (λ stop. StopsSetting text.now stop.cause stop.rest.now) }
+pub fn skip_settings(text: &[u8]) -> Result<&[u8], Stop<'_>>
+    ensures { Follows settings the_rest text.now result }
 {
-    let found = next_word(text)?;
-    match setting_of(found.word) {
-        SettingWord::Format => {
-            let behind = skip_format(pass(found.rest, Sign::Colon)?)?;
-            pass(behind, Sign::CloseBracket)
+    let first = next_token(text)?;
+    if first.is(Sign::OpenBracket) {
+        skip_rounds(first.rest)
+    } else {
+        Ok(first.place)
+    }
+}
+
+/// What is left behind the settings that follow a first `[`, and their `;`.
+fn skip_rounds(text: &[u8]) -> Result<&[u8], Stop<'_>>
+    ensures { Follows (repeat setting_round tt) the_rest text.now result }
+{
+    let mut place = text;
+    loop {
+        let (more, rest) = skip_round(place)?;
+        if !more {
+            return Ok(rest);
         }
-        SettingWord::Count => {
-            let behind = skip_count(pass(found.rest, Sign::Colon)?)?;
-            pass(behind, Sign::CloseBracket)
-        }
-        SettingWord::Outside => Err(Stop::at(QlCause::OutsideProfile, found.place)),
-        SettingWord::Unknown => Err(Stop::at(QlCause::UnexpectedWord, found.place)),
+        place = rest;
+    }
+}
+
+/// Whether another setting follows, and what is left behind this one and the `[` of the next, or the `;`.
+fn skip_round(text: &[u8]) -> Result<(bool, &[u8]), Stop<'_>>
+    ensures follows { Follows (setting_round tt) the_round text.now result }
+    ensures shorter { IfOk result (λ found. length found.1.now < length text.now) }
+{
+    let behind = skip_setting(text)?;
+    let token = next_token(behind)?;
+    if token.is(Sign::OpenBracket) {
+        Ok((true, token.rest))
+    } else if token.is(Sign::Semicolon) {
+        Ok((false, token.rest))
+    } else {
+        Err(token.unexpected())
+    }
+}
+
+/// What is left behind one setting and its `]`; its `[` stands before the text.
+fn skip_setting(text: &[u8]) -> Result<&[u8], Stop<'_>>
+    ensures { Follows setting the_rest text.now result }
+{
+    let name = next_word(text)?;
+    let rest = skip_value(name)?;
+    pass(rest, Sign::CloseBracket)
+}
+
+/// What is left behind the value of the setting with this name.
+fn skip_value(name: WordSpot<'_>) -> Result<&[u8], Stop<'_>>
+    ensures { Follows (setting_value (word_of name.entry)) the_rest name.entry.rest.now result }
+{
+    match setting_of(name.word) {
+        SettingWord::Format => skip_format(pass(name.rest, Sign::Colon)?),
+        SettingWord::Count => skip_count(pass(name.rest, Sign::Colon)?),
+        SettingWord::Outside => Err(Stop::at(QlCause::OutsideProfile, name.place)),
+        SettingWord::Unknown => Err(Stop::at(QlCause::UnexpectedWord, name.place)),
     }
 }
 
 /// What is left behind the word of a format.
 fn skip_format(text: &[u8]) -> Result<&[u8], Stop<'_>>
-    ensures read { IfOk result (λ rest. ReadsFormat text.now rest.now) }
-    ensures refused { IfErr result (λ stop. StopsFormat text.now stop.cause stop.rest.now) }
+    ensures { Follows format the_rest text.now result }
 {
     let found = next_word(text)?;
     match format_of(found.word) {
@@ -47,12 +92,9 @@ fn skip_format(text: &[u8]) -> Result<&[u8], Stop<'_>>
 
 /// What is left behind a number.
 fn skip_count(text: &[u8]) -> Result<&[u8], Stop<'_>>
-    ensures read { IfOk result (λ rest. ReadsCount text.now rest.now) }
-    ensures refused { IfErr result (λ stop. StopsCount text.now stop.cause stop.rest.now) }
+    ensures { Follows count the_rest text.now result }
 {
     let spot = next_number(text)?;
-    match count_of(spot.number) {
-        Some(_) => Ok(spot.number.rest),
-        None => Err(Stop::at(QlCause::NumberOutOfRange, spot.place)),
-    }
+    spot.count()?;
+    Ok(spot.number.rest)
 }

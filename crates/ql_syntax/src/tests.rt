@@ -1,15 +1,20 @@
 //! Rows of tokens, and of places where a text breaks off.
 
 use crate::cause::QlCause;
+use crate::filter::Filter;
 use crate::gap::skip_gap;
 use crate::number::split_number;
+use crate::out_options::read_out_options;
+use crate::points::read_into;
 use crate::quoted::read_quoted;
-use crate::settings::skip_setting;
+use crate::settings::skip_settings;
 use crate::sign::{Sign, sign_of};
 use crate::stop::Stop;
+use crate::tag_filter::read_tag_filter;
 use crate::token::next_token;
 use crate::whole::{count_of, id_of};
 use crate::word::split_name;
+use opl_codec::OutMode;
 use std::alloc::Global;
 use std::process::Abort;
 use std::test::Fail;
@@ -107,8 +112,9 @@ fn splits_names(rt: HostRuntime) {
         (".", Err((QlCause::UnexpectedEnd, 1))),
     ] {
         let text = text.as_bytes();
-        if let [b'.', ..] = text {
-            assert_eq!(rt; found(text, split_name(text).map(|name| name.rest)), wanted);
+        if let [_, behind @ ..] = text {
+            let outcome = split_name(text, behind).map(|name| name.rest);
+            assert_eq!(rt; found(text, outcome), wanted);
         }
     }
 }
@@ -204,30 +210,174 @@ fn tells_where_a_token_is_unexpected(rt: HostRuntime) {
 }
 
 #[test]
-fn skips_a_setting(rt: HostRuntime) {
+fn skips_settings(rt: HostRuntime) {
     for (text, wanted) in [
-        ("out:json];", Ok(9)),
-        (" out : xml ];", Ok(12)),
-        ("timeout:25];", Ok(11)),
-        ("maxsize:-0];", Ok(11)),
-        ("bbox:1,2,3,4];", Err((QlCause::OutsideProfile, 0))),
-        ("out:csv];", Err((QlCause::OutsideProfile, 4))),
-        ("out:html];", Err((QlCause::UnexpectedWord, 4))),
-        ("size:1];", Err((QlCause::UnexpectedWord, 0))),
-        ("~];", Err((QlCause::UnexpectedCharacter, 0))),
-        ("timeout 25];", Err((QlCause::UnexpectedCharacter, 8))),
-        ("timeout:1.5];", Err((QlCause::NumberOutOfRange, 8))),
-        ("timeout:-1];", Err((QlCause::NumberOutOfRange, 8))),
+        ("node;", Ok(0)),
+        (" ", Ok(1)),
+        ("[out:json];", Ok(11)),
+        ("[out:json][timeout:25];node", Ok(23)),
+        (" [ out : xml ] ;", Ok(16)),
+        ("[maxsize:-0];", Ok(13)),
+        ("[bbox:1,2,3,4];", Err((QlCause::OutsideProfile, 1))),
+        ("[out:csv];", Err((QlCause::OutsideProfile, 5))),
+        ("[out:html];", Err((QlCause::UnexpectedWord, 5))),
+        ("[size:1];", Err((QlCause::UnexpectedWord, 1))),
+        ("[~];", Err((QlCause::UnexpectedCharacter, 1))),
+        ("[timeout 25];", Err((QlCause::UnexpectedCharacter, 9))),
+        ("[timeout:1.5];", Err((QlCause::NumberOutOfRange, 9))),
+        ("[timeout:-1];", Err((QlCause::NumberOutOfRange, 9))),
         (
-            "timeout:18446744073709551616];",
-            Err((QlCause::NumberOutOfRange, 8)),
+            "[timeout:18446744073709551616];",
+            Err((QlCause::NumberOutOfRange, 9)),
         ),
-        ("timeout:1.];", Err((QlCause::UnexpectedCharacter, 9))),
-        ("timeout:1", Err((QlCause::UnexpectedEnd, 9))),
+        ("[timeout:1.];", Err((QlCause::UnexpectedCharacter, 10))),
+        ("[timeout:1", Err((QlCause::UnexpectedEnd, 10))),
+        ("[timeout:1]node", Err((QlCause::UnexpectedWord, 11))),
     ] {
         let text = text.as_bytes();
-        assert_eq!(rt; found(text, skip_setting(text)), wanted);
+        assert_eq!(rt; found(text, skip_settings(text)), wanted);
     }
+}
+
+#[test]
+fn reads_where_a_statement_writes(rt: HostRuntime) {
+    for (text, name, wanted) in [
+        (";", "_", Ok(1)),
+        (" -> .a ;", "a", Ok(8)),
+        ("->._;", "_", Ok(5)),
+        ("->a;", "", Err((QlCause::UnexpectedWord, 2))),
+        ("->.;", "", Err((QlCause::UnexpectedCharacter, 2))),
+        ("->.", "", Err((QlCause::UnexpectedEnd, 3))),
+        ("->.a", "", Err((QlCause::UnexpectedEnd, 4))),
+        ("out;", "", Err((QlCause::UnexpectedWord, 0))),
+    ] {
+        let text = text.as_bytes();
+        let outcome = read_into(text);
+        if let Ok((set, _)) = &outcome {
+            assert_eq!(rt; set.as_bytes(), name.as_bytes());
+        }
+        assert_eq!(rt; found(text, outcome.map(|(_, rest)| rest)), wanted);
+    }
+}
+
+#[test]
+fn reads_tag_filters(rt: HostRuntime) {
+    for (text, wanted) in [
+        ("a]", Ok(2)),
+        (" \"a b\" ] ", Ok(8)),
+        ("3=4]", Ok(4)),
+        ("name='x']", Ok(9)),
+        ("name!=\"x\"]", Ok(10)),
+        ("!name]", Ok(6)),
+        ("~\"a\"~\"b\"]", Err((QlCause::OutsideProfile, 0))),
+        ("\"a\"~\"b\"]", Err((QlCause::OutsideProfile, 3))),
+        ("a!~b]", Err((QlCause::OutsideProfile, 1))),
+        ("!~b]", Err((QlCause::OutsideProfile, 0))),
+        ("a=~b]", Err((QlCause::OutsideProfile, 2))),
+        ("!a~b]", Err((QlCause::OutsideProfile, 2))),
+        ("!=a]", Err((QlCause::UnexpectedCharacter, 0))),
+        ("a!b]", Err((QlCause::UnexpectedCharacter, 1))),
+        ("a b]", Err((QlCause::UnexpectedWord, 2))),
+        ("a 1]", Err((QlCause::UnexpectedCharacter, 2))),
+        ("a=1.5]", Err((QlCause::UnexpectedCharacter, 3))),
+        ("a=-1]", Err((QlCause::UnexpectedCharacter, 2))),
+        ("\"\\x\"]", Err((QlCause::BadEscape, 1))),
+        ("\"a", Err((QlCause::Unclosed, 0))),
+        ("a", Err((QlCause::UnexpectedEnd, 1))),
+    ] {
+        let text = text.as_bytes();
+        let outcome = read_tag_filter(rt.alloc(), text).map(|(_, rest)| rest);
+        assert_eq!(rt; found(text, outcome), wanted);
+    }
+}
+
+/// How a filter is written: its sign, its key, and its value where it has one.
+fn written<'a>(filter: &'a Filter<'_>) -> (&'static str, &'a [u8], &'a [u8]) {
+    match filter {
+        Filter::HasKey(key) => ("", key.as_bytes(), b""),
+        Filter::KeyIs(key, value) => ("=", key.as_bytes(), value.as_bytes()),
+        Filter::LacksKey(key) => ("!", key.as_bytes(), b""),
+        Filter::KeyIsNot(key, value) => ("!=", key.as_bytes(), value.as_bytes()),
+        _ => ("other", b"", b""),
+    }
+}
+
+#[test]
+fn tells_tag_filters_apart(rt: HostRuntime) -> Result<(), Fail> {
+    for (text, sign, key, value) in [
+        ("k]", "", "k", ""),
+        ("k=v]", "=", "k", "v"),
+        ("'k'!=\"v\\n\"]", "!=", "k", "v\n"),
+        ("!k]", "!", "k", ""),
+    ] {
+        match read_tag_filter(rt.alloc(), text.as_bytes()) {
+            Ok((filter, _)) => {
+                let (found_sign, found_key, found_value) = written(&filter);
+                assert_eq!(rt; found_sign, sign);
+                assert_eq!(rt; found_key, key.as_bytes());
+                assert_eq!(rt; found_value, value.as_bytes());
+            }
+            Err(_) => return Err(Fail::from("no tag filter")),
+        }
+    }
+    Ok(())
+}
+
+#[test]
+fn reads_out_options(rt: HostRuntime) {
+    for (text, wanted) in [
+        (";", Ok(1)),
+        (" body qt 10 ;", Ok(13)),
+        ("5 asc ids;", Ok(10)),
+        ("-0;", Ok(3)),
+        (" ids ids;", Err((QlCause::UnexpectedWord, 5))),
+        (" qt asc;", Err((QlCause::UnexpectedWord, 4))),
+        (
+            " 1 18446744073709551616;",
+            Err((QlCause::UnexpectedWord, 3)),
+        ),
+        (" 1 1.5;", Err((QlCause::UnexpectedWord, 3))),
+        (" 1.5;", Err((QlCause::NumberOutOfRange, 1))),
+        (" -1;", Err((QlCause::NumberOutOfRange, 1))),
+        (" 1 5.;", Err((QlCause::UnexpectedCharacter, 4))),
+        (" count;", Err((QlCause::OutsideProfile, 1))),
+        (" noids;", Err((QlCause::OutsideProfile, 1))),
+        (" ids (1,2,3,4);", Err((QlCause::OutsideProfile, 5))),
+        (" all;", Err((QlCause::UnexpectedWord, 1))),
+        ("->.a;", Err((QlCause::UnexpectedCharacter, 0))),
+        ("", Err((QlCause::UnexpectedEnd, 0))),
+    ] {
+        let text = text.as_bytes();
+        assert_eq!(rt;
+            found(text, read_out_options(text).map(|(_, rest)| rest)),
+            wanted
+        );
+    }
+}
+
+#[test]
+fn keeps_out_options(rt: HostRuntime) -> Result<(), Fail> {
+    for (text, mode, ordered, limit) in [
+        (";", None, false, None),
+        ("skel;", Some(OutMode::Skel), false, None),
+        (
+            "qt 18446744073709551615 tags;",
+            Some(OutMode::Tags),
+            true,
+            Some(u64::MAX),
+        ),
+        ("meta asc;", Some(OutMode::Meta), true, None),
+    ] {
+        match read_out_options(text.as_bytes()) {
+            Ok((options, _)) => {
+                assert_eq!(rt; options.mode, mode);
+                assert_eq!(rt; options.ordered, ordered);
+                assert_eq!(rt; options.limit, limit);
+            }
+            Err(_) => return Err(Fail::from("no options")),
+        }
+    }
+    Ok(())
 }
 
 /// The text between quotes at the front of a text; asked for once more where memory was refused.
@@ -254,4 +404,28 @@ fn quoted_again(rt: &impl Abort, alloc: Global, text: &[u8]) -> Result<(), Fail>
 #[test]
 fn reads_quoted_texts_after_refused_memory(rt: HostRuntime) -> Result<(), Fail> {
     quoted_again(&rt, rt.alloc(), b"\"a\\nb\"]")
+}
+
+/// The tag filter `k="v"]`; asked for once more where memory was refused.
+fn tag_filter_again(rt: &impl Abort, alloc: Global) -> Result<(), Fail> {
+    let text = b"k=\"v\"]".as_slice();
+    let (filter, rest) = match read_tag_filter(alloc, text) {
+        Ok(found) => found,
+        Err(stop) => {
+            assert_eq!(rt; stop.cause, QlCause::Memory);
+            match read_tag_filter(alloc, text) {
+                Ok(found) => found,
+                Err(_) => return Err(Fail::from("no tag filter")),
+            }
+        }
+    };
+    assert_eq!(rt; written(&filter), ("=", b"k".as_slice(), b"v".as_slice()));
+    assert_eq!(rt; rest, b"".as_slice());
+    Ok(())
+}
+
+/// Where memory is refused the next call gives the full result. Run with each allocation refused in turn.
+#[test]
+fn reads_tag_filters_after_refused_memory(rt: HostRuntime) -> Result<(), Fail> {
+    tag_filter_again(&rt, rt.alloc())
 }

@@ -1,7 +1,10 @@
 //! Tokens, where they begin.
 
-ghost use Rattle.std.specs.Prelude.{◌≡◌, ◌≤◌, length, IfOk, IfErr, drop};
-ghost use Rattle.ql_syntax.specs.Tokens.{IsToken, IsOpenComment, IsUnexpected};
+ghost use Rattle.std.specs.Prelude.{◌≡◌, true, false};
+ghost use Rattle.ql_syntax.specs.Following.{Follows};
+ghost use Rattle.ql_syntax.specs.Points.{next_token};
+ghost use Rattle.ql_syntax.specs.Tokens.{IsUnexpected};
+ghost use Rattle.ql_syntax.specs.Views.{the_token};
 
 use crate::cause::QlCause;
 use crate::gap::skip_gap;
@@ -23,8 +26,7 @@ pub struct Token<'a> {
 ///
 /// A comment that isn't closed is `Unclosed` at its first byte. It takes no memory.
 pub fn next_token(text: &[u8]) -> Result<Token<'_>, Stop<'_>>
-    ensures read { IfOk result (λ token. IsToken text.now token) }
-    ensures refused { IfErr result (λ stop. IsOpenComment text.now stop.cause stop.rest.now) }
+    ensures { Follows next_token the_token text.now result }
 {
     let place = skip_gap(text)?;
     let sign = sign_of(place);
@@ -33,6 +35,14 @@ pub fn next_token(text: &[u8]) -> Result<Token<'_>, Stop<'_>>
 }
 
 impl<'a> Token<'a> {
+    /// Whether this begins here.
+    pub fn is(&self, sign: Sign) -> bool
+        ensures yes { result ≡ true → self.now.sign ≡ sign }
+        ensures no { result ≡ false → self.now.sign ≡ sign → ⊥ }
+    {
+        self.sign == sign
+    }
+
     /// The stop at a token that can't stand where it does: `UnexpectedEnd` at the end,
     /// `UnexpectedWord` at a word, and else `UnexpectedCharacter`.
     pub fn unexpected(self) -> Stop<'a>

@@ -1,6 +1,6 @@
 //! Words, and the names of sets.
 
-ghost use Rattle.std.specs.Prelude.{◌≡◌, ◌<◌, ◌≤◌, IsTrue, length, take, drop, slice_index, false, true, IfOk, IfErr, IsSome, IfSome, IfNone};
+ghost use Rattle.std.specs.Prelude.{bytes_eq, ◌≡◌, ◌<◌, ◌≤◌, IsTrue, length, take, drop, slice_index, false, true, IfOk, IfErr, IsSome, IfSome, IfNone};
 ghost use Rattle.std.specs.List.{list_all};
 ghost use Rattle.ql_syntax.specs.Words.{IsRun, IsWord, IsName, IsNoName, begins_with, is_run_byte, is_word_start};
 
@@ -36,20 +36,18 @@ pub fn split_word(text: &[u8]) -> Option<Run<'_>>
     }
 }
 
-/// Takes the name of a set off a text that begins with its dot.
+/// The name of a set behind its dot; `dot` is the text from the dot on.
 ///
 /// Where no word follows the dot, it is `UnexpectedCharacter` at the dot, or `UnexpectedEnd` where the
 /// text ends there.
-pub fn split_name(text: &[u8]) -> Result<Run<'_>, Stop<'_>>
-    requires { slice_index text.now 0 ≡ 46 }
-    ensures name { IfOk result (λ found. IsName text.now found.run.now found.rest.now) }
-    ensures refused { IfErr result (λ stop. IsNoName text.now stop.cause stop.rest.now) }
+pub fn split_name<'a>(dot: &'a [u8], behind: &'a [u8]) -> Result<Run<'a>, Stop<'a>>
+    ensures name { IfOk result (λ found. IsName behind.now found.run.now found.rest.now) }
+    ensures refused { IfErr result (λ stop. IsNoName dot.now behind.now stop.cause stop.rest.now) }
 {
-    let behind = &text[1..];
     match split_word(behind) {
         Some(found) => Ok(found),
         None if behind.is_empty() => Err(Stop::at(QlCause::UnexpectedEnd, behind)),
-        None => Err(Stop::at(QlCause::UnexpectedCharacter, text)),
+        None => Err(Stop::at(QlCause::UnexpectedCharacter, dot)),
     }
 }
 
@@ -67,6 +65,16 @@ fn run_len(text: &[u8]) -> usize
     text.len()
 }
 
+/// Whether a letter, a digit or `_` comes first.
+pub fn begins_run(text: &[u8]) -> bool
+    ensures { result ≡ begins_with is_run_byte text.now }
+{
+    match text {
+        [first, ..] => is_run_byte(*first),
+        [] => false,
+    }
+}
+
 /// Whether the byte is a letter, a digit or `_`.
 fn is_run_byte(byte: u8) -> bool
     ensures { result ≡ is_run_byte byte }
@@ -79,4 +87,11 @@ pub fn is_word_start(byte: u8) -> bool
     ensures { result ≡ is_word_start byte }
 {
     byte.is_ascii_alphabetic() || byte == b'_'
+}
+
+/// Whether a word is this one.
+pub fn is(word: &[u8], other: &[u8]) -> bool
+    ensures { result ≡ bytes_eq word.now other.now }
+{
+    word == other
 }

@@ -1,10 +1,17 @@
-use Rattle.std.proofs.Common.{◌≡◌, sym, ◌∙◌}
-use Rattle.ql_syntax.specs.declared.sign.Sign.{Sign}
-use Rattle.ql_syntax.specs.declared.sign.Sign.TheVariants.{Word}
-use Rattle.ql_syntax.proofs.PointLemmas.{misses_token, no_word}
+use Rattle.ql_syntax.proofs.RuleLemmas.{follows_no, follows_stop, follows_then, follows_unexpected, follows_yes}
+use Rattle.ql_syntax.specs.Points.{a_word}
 use Rattle.ql_syntax.proofs.points.next_word.Goals as goal
 
-pub returns-in-None-clause-refused : goal.returns-in-None-clause-refused
-returns-in-None-clause-refused c =
-    misses_token (λ (s : Sign). s ≡ Word) c.args.text.now c.in_ok-token.token _ _ c.in_ok-token.ensures.read
-    (λ e. no_word c.in_ok-token.token.place.now c.in-None.ensures.none (sym c.in_ok-token.ensures.read.sign_is ∙ e)) c.unexpected.ensures
+pub returns-in_err-token : goal.returns-in_err-token
+unfolding a_word
+returns-in_err-token c = follows_stop _ c.in_err-token.ensures c.from_residual.ensures.1
+
+pub returns-then-is : goal.returns-then-is
+unfolding a_word
+returns-then-is c =
+    follows_then _ c.in_ok-token.ensures (follows_yes _ (c.is.ensures.yes c.if-is.true) (c.word_at.ensures))
+
+pub returns-else-is : goal.returns-else-is
+unfolding a_word
+returns-else-is c =
+    follows_then _ c.in_ok-token.ensures (follows_no _ (c.is.ensures.no c.if-is.false) (follows_unexpected _ c.unexpected.ensures))

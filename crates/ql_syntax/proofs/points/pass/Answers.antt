@@ -1,16 +1,18 @@
-use Rattle.std.proofs.Common.{◌≡◌, sym, rules}
-use denote.Enum.Bare.{same_true, same_false}
-use Rattle.ql_syntax.specs.contracts.sign.Sign.{the_type}
-use Rattle.ql_syntax.specs.declared.sign.Sign.{Sign}
-use Rattle.ql_syntax.proofs.PointLemmas.{sees_token, misses_token}
+use Rattle.ql_syntax.proofs.RuleLemmas.{follows_give, follows_no, follows_stop, follows_then, follows_unexpected, follows_yes}
+use Rattle.ql_syntax.specs.Points.{pass}
+use Rattle.std.proofs.Common.{refl}
 use Rattle.ql_syntax.proofs.points.pass.Goals as goal
 
-pub returns-then-eq-clause-read : goal.returns-then-eq-clause-read
-returns-then-eq-clause-read c =
-    let same : c.in_ok-token.token.sign ≡ c.args.sign = same_true the_type (search rules) _ _ (sym c.if-eq.ensures) in
-    sees_token c.args.text.now c.in_ok-token.token c.args.sign c.in_ok-token.ensures.read same
+pub returns-in_err-token : goal.returns-in_err-token
+unfolding pass
+returns-in_err-token c = follows_stop _ c.in_err-token.ensures c.from_residual.ensures.1
 
-pub returns-else-eq-clause-refused : goal.returns-else-eq-clause-refused
-returns-else-eq-clause-refused c =
-    misses_token (λ (s : Sign). s ≡ c.args.sign) c.args.text.now c.in_ok-token.token _ _ c.in_ok-token.ensures.read
-    (same_false the_type _ _ (sym c.if-eq.ensures)) c.unexpected.ensures
+pub returns-then-is : goal.returns-then-is
+unfolding pass
+returns-then-is c =
+    follows_then _ c.in_ok-token.ensures (follows_yes _ (c.is.ensures.yes c.if-is.true) (follows_give refl refl))
+
+pub returns-else-is : goal.returns-else-is
+unfolding pass
+returns-else-is c =
+    follows_then _ c.in_ok-token.ensures (follows_no _ (c.is.ensures.no c.if-is.false) (follows_unexpected _ c.unexpected.ensures))

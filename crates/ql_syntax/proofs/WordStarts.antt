@@ -1,26 +1,13 @@
--- Points of productions.
-use Rattle.std.proofs.Common.{◌≡◌, ℕ, List, [], ◌∷◌, drop, Bool, true, false, cond, sym, ◌∙◌, ap}
-use Rattle.std.specs.Prelude.{if◌then◌else◌, ◌==◌}
-use Rattle.std.specs.Char.{is_ascii_digit}
+-- What begins as a word.
+use Rattle.std.specs.Prelude.{if◌then◌else◌}
+use Rattle.std.proofs.Common.{◌≡◌, ℕ, ◌<◌, List, [], ◌∷◌, ◌++◌, ◌==◌, ◌||◌, Bool, true, false, cond, refl, sym, ◌∙◌, ap, arith, length, length-append}
+use Rattle.std.proofs.lemmas.Grind.{common_steps}
+use Rattle.std.specs.Char.{is_ascii_alphabetic, is_ascii_alphanumeric, is_ascii_digit}
 use Rattle.ql_syntax.specs.QuotedTexts.{is_quote}
-use Rattle.ql_syntax.specs.Points.{At, Sees, Misses, Other}
-use Rattle.ql_syntax.specs.Signs.{sign_of, single_sign, minus_sign, not_sign, len_of}
-use Rattle.ql_syntax.specs.Tokens.{IsToken, IsUnexpected}
-use Rattle.ql_syntax.specs.Words.{begins_with, is_word_start}
-use Rattle.ql_syntax.specs.declared.cause.QlCause.{QlCause}
+use Rattle.ql_syntax.specs.Signs.{sign_of, single_sign, minus_sign, not_sign}
+use Rattle.ql_syntax.specs.Words.{IsRun, begins_with, is_word_start, is_run_byte}
 use Rattle.ql_syntax.specs.declared.sign.Sign.{Sign}
 use Rattle.ql_syntax.specs.declared.sign.Sign.TheVariants as signs
-use Rattle.ql_syntax.specs.declared.token.Token.{Token}
-
-pub at_token : (text : List ℕ) (t : Token) → IsToken text t → At text t.sign t.place.now
-at_token text t is = record { behind_gap = is.behind_gap; sign_is = is.sign_is }
-
-pub sees_token : (text : List ℕ) (t : Token) (sign : Sign) → IsToken text t → t.sign ≡ sign → Sees sign text t.rest.now
-sees_token text t sign is same =
-    (t.place.now, record { behind_gap = is.behind_gap; sign_is = sym same ∙ is.sign_is }, is.rest_is ∙ ap (λ (s : Sign). drop (len_of s) t.place.now) same)
-
-pub misses_token : (May : Sign → Type 0) (text : List ℕ) (t : Token) (cause : QlCause) (at : List ℕ) → IsToken text t → (May t.sign → ⊥) → IsUnexpected t.sign t.place.now cause at → Misses May text cause at
-misses_token May text t cause at is none unexpected = Other t.sign t.place.now (at_token text t is) none unexpected
 
 -- of two tests the one that fails is not the sign of a word
 neither : (b : Bool) (x y : Sign) → (x ≡ signs.Word → ⊥) → (y ≡ signs.Word → ⊥) → cond b x y ≡ signs.Word → ⊥
@@ -58,3 +45,22 @@ no_word_at false b s none e =
 pub no_word : (place : List ℕ) → begins_with is_word_start place ≡ false → sign_of place ≡ signs.Word → ⊥
 no_word [] none e = absurd (cc)
 no_word (b ∷ s) none e = no_word_at (is_word_start b) b s none e
+
+a_word_byte : (b : ℕ) → is_word_start b ≡ true → is_run_byte b ≡ true
+a_word_byte b starts = grind (arith, common_steps)
+
+run_some : (place run rest : List ℕ) → begins_with is_word_start place ≡ true → IsRun place run rest → length rest < length place
+run_some [] run rest starts is = absurd (let e = starts in cc)
+run_some (b ∷ s) [] rest starts is =
+    let same : begins_with is_run_byte (b ∷ s) ≡ false = ap (λ (x : List ℕ). begins_with is_run_byte x) is.parts ∙ is.longest in
+    let bad : true ≡ false = sym (a_word_byte b starts) ∙ same in
+    absurd (cc)
+run_some (b ∷ s) (x ∷ run) rest starts is = let n = ap (λ (x : List ℕ). length x) is.parts in omega (arith, length-append (x ∷ run) rest)
+
+-- a run at a token that is a word leaves less
+pub word_shorter : (place run rest : List ℕ) → signs.Word ≡ sign_of place → IsRun place run rest → length rest < length place
+word_shorter place run rest is runs = tested (begins_with is_word_start place) refl
+  where
+    tested : (b : Bool) → begins_with is_word_start place ≡ b → length rest < length place
+    tested true e = run_some place run rest e runs
+    tested false e = absurd (no_word place e (sym is))

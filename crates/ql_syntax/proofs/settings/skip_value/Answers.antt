@@ -1,0 +1,33 @@
+use Rattle.ql_syntax.proofs.RuleLemmas.{follows_case, follows_refuse, follows_stop, follows_then}
+use Rattle.ql_syntax.specs.Points.{pass}
+use Rattle.ql_syntax.specs.Settings.{setting_value}
+use Rattle.ql_syntax.proofs.settings.skip_value.Goals as goal
+
+pub returns-in_err-pass-in-Format : goal.returns-in_err-pass-in-Format
+unfolding setting_value
+returns-in_err-pass-in-Format c =
+    follows_case _ c.in-Format.ensures (follows_stop _ c.in_err-pass-in-Format.ensures c.from_residual.ensures.1)
+
+pub returns-in_err-pass-in-Count : goal.returns-in_err-pass-in-Count
+unfolding setting_value
+returns-in_err-pass-in-Count c =
+    follows_case _ c.in-Count.ensures (follows_stop _ c.in_err-pass-in-Count.ensures c.from_residual-in_err-pass-in-Count.ensures.1)
+
+pub returns-in_ok-pass-in-Format : goal.returns-in_ok-pass-in-Format
+unfolding setting_value
+returns-in_ok-pass-in-Format c =
+    follows_case _ c.in-Format.ensures (follows_then _ c.in_ok-pass-in-Format.ensures c.skip_format.ensures)
+
+pub returns-in_ok-pass-in-Count : goal.returns-in_ok-pass-in-Count
+unfolding setting_value
+returns-in_ok-pass-in-Count c =
+    follows_case _ c.in-Count.ensures (follows_then _ c.in_ok-pass-in-Count.ensures c.skip_count.ensures)
+
+pub returns-in-Outside : goal.returns-in-Outside
+unfolding setting_value
+returns-in-Outside c = follows_case _ c.in-Outside.ensures (follows_refuse c.at.ensures.cause c.at.ensures.rest)
+
+pub returns-in-Unknown : goal.returns-in-Unknown
+unfolding setting_value
+returns-in-Unknown c =
+    follows_case _ c.in-Unknown.ensures (follows_refuse c.at-in-Unknown.ensures.cause c.at-in-Unknown.ensures.rest)

@@ -1,0 +1,19 @@
+use Rattle.ql_syntax.proofs.FilterLemmas.{follows_not_in_tag}
+use Rattle.ql_syntax.proofs.RuleLemmas.{follows_give, follows_no, follows_stop, follows_then, follows_yes}
+use Rattle.ql_syntax.specs.TagFilters.{tag_close}
+use Rattle.std.proofs.Common.{refl}
+use Rattle.ql_syntax.proofs.tag_filter.pass_tag_close.Goals as goal
+
+pub returns-in_err-token : goal.returns-in_err-token
+unfolding tag_close
+returns-in_err-token c = follows_stop _ c.in_err-token.ensures c.from_residual.ensures.1
+
+pub returns-then-is : goal.returns-then-is
+unfolding tag_close
+returns-then-is c =
+    follows_then _ c.in_ok-token.ensures (follows_yes _ (c.is.ensures.yes c.if-is.true) (follows_give refl refl))
+
+pub returns-else-is : goal.returns-else-is
+unfolding tag_close
+returns-else-is c =
+    follows_then _ c.in_ok-token.ensures (follows_no _ (c.is.ensures.no c.if-is.false) (follows_not_in_tag _ c.not_in_tag.ensures.cause c.not_in_tag.ensures.rest))

@@ -1,0 +1,18 @@
+-- The words behind `out`.
+-- Source: the Overpass QL page of the OpenStreetMap wiki, "Output action"; which are left out is this
+-- project's.
+use Rattle.std.specs.Prelude.{ℕ, ◌||◌, if◌then◌else◌, List, codes, bytes_eq}
+use Rattle.opl_codec.specs.declared.out_mode.OutMode.TheVariants as modes
+use Rattle.ql_syntax.specs.declared.out_word.OutWord.{OutWord}
+use Rattle.ql_syntax.specs.declared.out_word.OutWord.TheVariants as words
+
+abbrev pub out_word : List ℕ → OutWord
+out_word word =
+    if bytes_eq word (codes "ids") then words.Mode modes.Ids
+    else if bytes_eq word (codes "tags") then words.Mode modes.Tags
+    else if bytes_eq word (codes "skel") then words.Mode modes.Skel
+    else if bytes_eq word (codes "body") then words.Mode modes.Body
+    else if bytes_eq word (codes "meta") then words.Mode modes.Meta
+    else if bytes_eq word (codes "asc") || bytes_eq word (codes "qt") then words.Order
+    else if bytes_eq word (codes "count") || bytes_eq word (codes "geom") || bytes_eq word (codes "center") || bytes_eq word (codes "bb") || bytes_eq word (codes "noids") then words.Outside
+    else words.Unknown

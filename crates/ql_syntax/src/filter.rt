@@ -1,0 +1,27 @@
+//! Filters of query statements.
+
+use crate::name::Name;
+use crate::path::Path;
+use crate::ql_text::QlText;
+use osm_model::BoxArea;
+
+/// A filter of a query statement. It borrows the text of the query, but for its texts.
+#[derive(Debug, Drop)]
+pub enum Filter<'a> {
+    /// The objects of a set: `.a`.
+    InSet(Name<'a>),
+    /// The objects that have the key: `[k]`.
+    HasKey(QlText),
+    /// The objects whose key has the value: `[k=v]`.
+    KeyIs(QlText, QlText),
+    /// The objects that lack the key: `[!k]`.
+    LacksKey(QlText),
+    /// The objects whose key has another value, or that lack it: `[k!=v]`.
+    KeyIsNot(QlText, QlText),
+    /// The objects with these ids: `(id)`, `(id:..)`. One or more, in the order of the query.
+    Ids(Vec<i64>),
+    /// The nodes in a box: `(south,west,north,east)`.
+    Within(BoxArea<'a>),
+    /// The objects to which a path leads from those of a set: `(w)`, `(bn.a)`.
+    Via(Path, Name<'a>),
+}

@@ -1,0 +1,126 @@
+//! What an out statement says of its answer.
+
+ghost use Rattle.std.specs.Prelude.{◌<◌, IfOk, ℕ, List, length};
+ghost use Rattle.ql_syntax.specs.Following.{Follows};
+ghost use Rattle.ql_syntax.specs.Outs.{once, with_word, with_number, out_round, out_options};
+ghost use Rattle.ql_syntax.specs.Views.{number_of, the_options, the_option_round, word_of};
+ghost use Rattle.std.specs.Str.Parse.{AllDigits};
+
+use crate::cause::QlCause;
+use crate::out_word::{OutWord, out_word};
+use crate::points::{NumberSpot, WordSpot, begins_number, number_at, word_at};
+use crate::sign::Sign;
+use crate::stop::Stop;
+use crate::token::next_token;
+use opl_codec::OutMode;
+
+/// What the words and the number behind `out` say.
+#[derive(Clone, Copy, Debug)]
+pub struct OutOptions {
+    /// The mode.
+    pub mode: Option<OutMode>,
+    /// Whether an order was asked for. It has no effect.
+    pub ordered: bool,
+    /// How many objects are printed at most.
+    pub limit: Option<u64>,
+}
+
+/// The options behind `out`, and what is left behind their `;`.
+///
+/// `UnexpectedWord` at a second mode, order or number, and at a word that is none of them;
+/// `OutsideProfile` at a word that the profile leaves out, and at a `(`.
+pub fn read_out_options(text: &[u8]) -> Result<(OutOptions, &[u8]), Stop<'_>>
+    ensures { Follows out_options the_options text.now result }
+{
+    let mut options = OutOptions {
+        mode: None,
+        ordered: false,
+        limit: None,
+    };
+    let mut place = text;
+    loop {
+        let (more, seen, rest) = read_round(options, place)?;
+        if !more {
+            return Ok((seen, rest));
+        }
+        options = seen;
+        place = rest;
+    }
+}
+
+/// The options with one more, whether another may follow, and what is left behind it.
+fn read_round<'a>(
+    seen: OutOptions,
+    text: &'a [u8],
+) -> Result<(bool, OutOptions, &'a [u8]), Stop<'a>>
+    ensures { Follows (out_round seen) the_option_round text.now result }
+{
+    let token = next_token(text)?;
+    if token.is(Sign::Word) {
+        let word = word_at(token);
+        let more = seen.with_word(word)?;
+        Ok((true, more, word.rest))
+    } else if begins_number(token.sign) {
+        let number = number_at(token)?;
+        let more = seen.with_number(number)?;
+        Ok((true, more, number.number.rest))
+    } else if token.is(Sign::OpenParenthesis) {
+        Err(Stop::at(QlCause::OutsideProfile, token.place))
+    } else if token.is(Sign::Semicolon) {
+        Ok((false, seen, token.rest))
+    } else {
+        Err(token.unexpected())
+    }
+}
+
+impl OutOptions {
+    /// The options with this word too.
+    fn with_word(self, word: WordSpot<'_>) -> Result<OutOptions, Stop<'_>>
+        ensures { (text : List ℕ) → Follows (with_word self (word_of word.entry)) (λ options. (options, text)) text result }
+    {
+        match out_word(word.word) {
+            OutWord::Mode(mode) => once(
+                self.mode.is_some(),
+                word.place,
+                OutOptions {
+                    mode: Some(mode),
+                    ..self
+                },
+            ),
+            OutWord::Order => once(
+                self.ordered,
+                word.place,
+                OutOptions {
+                    ordered: true,
+                    ..self
+                },
+            ),
+            OutWord::Outside => Err(Stop::at(QlCause::OutsideProfile, word.place)),
+            OutWord::Unknown => Err(Stop::at(QlCause::UnexpectedWord, word.place)),
+        }
+    }
+
+    /// The options with this number too.
+    fn with_number(self, number: NumberSpot<'_>) -> Result<OutOptions, Stop<'_>>
+        requires { AllDigits 10 number.number.whole.now }
+        ensures { (text : List ℕ) → Follows (with_number self (number_of number.entry)) (λ options. (options, text)) text result }
+    {
+        once(self.limit.is_some(), number.place, self)?;
+        let limit = number.count()?;
+        Ok(OutOptions {
+            limit: Some(limit),
+            ..self
+        })
+    }
+}
+
+/// These options, where what they say stood not yet; else `UnexpectedWord` at its place.
+fn once(stood: bool, place: &[u8], options: OutOptions) -> Result<OutOptions, Stop<'_>>
+    ensures { (text : List ℕ) → Follows (once stood place.now options) (λ o. (o, text)) text result }
+{
+    if stood {
+        Err(Stop::at(QlCause::UnexpectedWord, place))
+    } else {
+        Ok(options)
+    }
+}

@@ -1,0 +1,54 @@
+//! The words behind `out`.
+
+ghost use Rattle.std.specs.Prelude.{◌≡◌, ◌||◌, bytes_eq, codes};
+ghost use Rattle.ql_syntax.specs.OutWords.{out_word};
+
+use crate::word::is;
+use opl_codec::OutMode;
+
+/// What a word behind `out` asks for.
+#[derive(Clone, Copy, Debug, PartialEq, Eq)]
+pub enum OutWord {
+    /// A mode: `ids`, `tags`, `skel`, `body` or `meta`.
+    Mode(OutMode),
+    /// An order, which has no effect: `asc` or `qt`.
+    Order,
+    /// What the profile leaves out.
+    Outside,
+    /// Nothing.
+    Unknown,
+}
+
+/// What this word asks for.
+pub fn out_word(word: &[u8]) -> OutWord
+    ensures { result ≡ out_word word.now }
+{
+    if is(word, b"ids") {
+        OutWord::Mode(OutMode::Ids)
+    } else if is(word, b"tags") {
+        OutWord::Mode(OutMode::Tags)
+    } else if is(word, b"skel") {
+        OutWord::Mode(OutMode::Skel)
+    } else if is(word, b"body") {
+        OutWord::Mode(OutMode::Body)
+    } else if is(word, b"meta") {
+        OutWord::Mode(OutMode::Meta)
+    } else if is(word, b"asc") || is(word, b"qt") {
+        OutWord::Order
+    } else if is_outside(word) {
+        OutWord::Outside
+    } else {
+        OutWord::Unknown
+    }
+}
+
+/// Whether the profile leaves out what this word asks for.
+fn is_outside(word: &[u8]) -> bool
+    ensures { result ≡ (bytes_eq word.now (codes "count") || bytes_eq word.now (codes "geom") || bytes_eq word.now (codes "center") || bytes_eq word.now (codes "bb") || bytes_eq word.now (codes "noids")) }
+{
+    is(word, b"count")
+        || is(word, b"geom")
+        || is(word, b"center")
+        || is(word, b"bb")
+        || is(word, b"noids")
+}

@@ -1,0 +1,108 @@
+//! Filters by tags.
+
+ghost use Rattle.ql_syntax.specs.Following.{Follows};
+ghost use Rattle.ql_syntax.specs.TagFilters.{tag_filter, tag_rest, tag_value, tag_text, tag_text_at, tag_close, cause_in_tag};
+ghost use Rattle.ql_syntax.specs.FilterViews.{the_filter, the_text};
+ghost use Rattle.ql_syntax.specs.Views.{next_of, the_rest};
+ghost use Rattle.std.specs.Prelude.{◌≡◌};
+
+use crate::cause::QlCause;
+use crate::filter::Filter;
+use crate::ql_text::QlText;
+use crate::quoted::{begins_quoted, read_quoted};
+use crate::sign::Sign;
+use crate::stop::Stop;
+use crate::token::{Token, next_token};
+use crate::word::{begins_run, split_run};
+use std::alloc::Global;
+
+/// The filter behind its `[`, and what is left behind its `]`.
+///
+/// `OutsideProfile` at a `~` or a `!~`, wherever it stands inside.
+pub fn read_tag_filter(alloc: Global, text: &[u8]) -> Result<(Filter<'_>, &[u8]), Stop<'_>>
+    ensures { Follows tag_filter the_filter text.now result }
+{
+    let token = next_token(text)?;
+    if token.is(Sign::Not) {
+        let (key, rest) = read_tag_value(alloc, token.rest)?;
+        return Ok((Filter::LacksKey(key), rest));
+    }
+    let (key, rest) = tag_text_at(alloc, token)?;
+    read_tag_rest(alloc, key, rest)
+}
+
+/// The filter whose key has been read.
+fn read_tag_rest<'a>(
+    alloc: Global,
+    key: QlText,
+    text: &'a [u8],
+) -> Result<(Filter<'a>, &'a [u8]), Stop<'a>>
+    ensures { Follows (tag_rest key) the_filter text.now result }
+{
+    let token = next_token(text)?;
+    if token.is(Sign::CloseBracket) {
+        Ok((Filter::HasKey(key), token.rest))
+    } else if token.is(Sign::Equal) {
+        let (value, rest) = read_tag_value(alloc, token.rest)?;
+        Ok((Filter::KeyIs(key, value), rest))
+    } else if token.is(Sign::NotEqual) {
+        let (value, rest) = read_tag_value(alloc, token.rest)?;
+        Ok((Filter::KeyIsNot(key, value), rest))
+    } else {
+        Err(not_in_tag(token))
+    }
+}
+
+/// A key or a value, and what is left behind the `]` that follows it.
+fn read_tag_value(alloc: Global, text: &[u8]) -> Result<(QlText, &[u8]), Stop<'_>>
+    ensures { Follows tag_value the_text text.now result }
+{
+    let (value, rest) = read_tag_text(alloc, text)?;
+    let rest = pass_tag_close(rest)?;
+    Ok((value, rest))
+}
+
+/// A key or a value.
+fn read_tag_text(alloc: Global, text: &[u8]) -> Result<(QlText, &[u8]), Stop<'_>>
+    ensures { Follows tag_text the_text text.now result }
+{
+    tag_text_at(alloc, next_token(text)?)
+}
+
+/// The key or value that begins with this token.
+fn tag_text_at(alloc: Global, token: Token<'_>) -> Result<(QlText, &[u8]), Stop<'_>>
+    ensures { Follows (tag_text_at (next_of token.entry)) the_text token.entry.rest.now result }
+{
+    if begins_quoted(token.place) {
+        let quoted = read_quoted(alloc, token.place)?;
+        Ok((quoted.text, quoted.rest))
+    } else if begins_run(token.place) {
+        let found = split_run(token.place);
+        Ok((QlText::from_run(alloc, found.run)?, found.rest))
+    } else {
+        Err(not_in_tag(token))
+    }
+}
+
+/// What is left behind the `]`.
+fn pass_tag_close(text: &[u8]) -> Result<&[u8], Stop<'_>>
+    ensures { Follows tag_close the_rest text.now result }
+{
+    let token = next_token(text)?;
+    if token.is(Sign::CloseBracket) {
+        Ok(token.rest)
+    } else {
+        Err(not_in_tag(token))
+    }
+}
+
+/// The stop at a token that can't stand where it does inside the `[ ]`.
+fn not_in_tag(token: Token<'_>) -> Stop<'_>
+    ensures cause { result.cause ≡ cause_in_tag token.entry.sign }
+    ensures rest { result.rest.now ≡ token.entry.place.now }
+{
+    match token.sign {
+        Sign::Tilde | Sign::NotTilde => Stop::at(QlCause::OutsideProfile, token.place),
+        _ => token.unexpected(),
+    }
+}
