@@ -90,7 +90,8 @@ fn entries_end(entries: Entries<'_>, greatest: &[u8], number: u64) -> bool
     missing == 0 && matches!(last.cmp(greatest), Ordering::Equal)
 }
 
-/// Puts the children that meet the range behind those of the nodes to the left.
+/// Puts the children that meet the range behind those of the nodes to the left. It leaves off at the
+/// first child that begins where the range has ended.
 pub(crate) fn pick<'a>(
     children: Children<'a>,
     left: Option<&'a [u8]>,
@@ -105,7 +106,10 @@ pub(crate) fn pick<'a>(
 {
     let mut bound = left;
     for child in children {
-        if range.meets(bound, child.greatest) {
+        if range.starts_by(child.greatest) {
+            if !range.goes_on_above(bound) {
+                return Ok(());
+            }
             pending.push(Pending { left: bound, child })?;
         }
         bound = Some(child.greatest);
