@@ -7,7 +7,7 @@ ghost use Rattle.tree_node.specs.Order.{IsBelow};
 ghost use Rattle.tree_walk.specs.Reaching.{GoesOnAbove, Reaches, ReachesAbove};
 ghost use Rattle.tree_walk.specs.Ranges.{Begins, IsAboveLeft, IsAtMost, IsExcepted, IsIn, Meets, range_of};
 
-use std::cmp::Ordering;
+use tree_node::is_below;
 
 /// The keys from `lo` to `hi`, both of them too, and where `under` holds those that `hi` begins (this
 /// project's trees, docs/FORMATS.md). Keys are byte strings of any length; the first byte that differs
@@ -103,13 +103,6 @@ impl<'a> KeyRange<'a> {
     {
         is_below(bound, self.hi) || (self.under && begins(self.hi, bound))
     }
-}
-
-/// Whether the low key is below the high one.
-fn is_below(low: &[u8], high: &[u8]) -> bool
-    ensures { IsTrue result ↔ IsBelow low.now high.now }
-{
-    matches!(low.cmp(high), Ordering::Less)
 }
 
 /// Whether the low key is below the high one, or is the same.

@@ -12,7 +12,7 @@ ghost use Rattle.tree_walk.specs.Ranges.{IsAboveLeft, IsIn, range_of};
 use crate::key_range::KeyRange;
 use std::alloc::AllocError;
 use std::cmp::Ordering;
-use tree_node::{Child, Children, Entries};
+use tree_node::{Child, Children, Entries, is_below};
 
 /// A child that meets the range, as its parent states it.
 #[derive(Clone, Copy, Debug)]
@@ -52,7 +52,7 @@ fn is_above(left: Option<&[u8]>, key: &[u8]) -> bool
     ensures { IsTrue result ↔ IsAboveLeft (option_copied left.entry) key.now }
 {
     match left {
-        Some(left) => matches!(left.cmp(key), Ordering::Less),
+        Some(left) => is_below(left, key),
         None => true,
     }
 }
