@@ -11,16 +11,7 @@ use Rattle.tree_walk.specs.Walks.{IsEntryIn}
 use Rattle.tree_walk.proofs.KeyLemmas.{below_at_most, below_or, between_begins}
 use Rattle.tree_walk.proofs.MeetLemmas.{goes_on_from_meets}
 
--- what reaches a key reaches those below it,
-reaches_lower : (range : Range) (low high : List ℕ) → IsBelow low high → Reaches range high → Reaches range low
-reaches_lower range low high below (inl h) = inl (inl (below_at_most low high range.hi below h))
-reaches_lower range low high below (inr u) =
-    elim (below_or low range.hi) [
-      | inl h ↦ inl (inl h)
-      | inr h ↦ inr (u.0, between_begins range.hi low u.1.0 h (inl (subst (λ (x : List ℕ). IsBelow low x) u.1.1 below)))
-    ]
-
--- and what reaches a key goes on above those below it
+-- what reaches a key goes on above those below it,
 goes_on_lower : (range : Range) (low high : List ℕ) → IsBelow low high → Reaches range high → ReachesAbove range low
 goes_on_lower range low high below (inl h) = inl (below_at_most low high range.hi below h)
 goes_on_lower range low high below (inr u) =
@@ -29,10 +20,14 @@ goes_on_lower range low high below (inr u) =
       | inr h ↦ inr (u.0, between_begins range.hi low u.1.0 h (inl (subst (λ (x : List ℕ). IsBelow low x) u.1.1 below)))
     ]
 
--- what goes on above a bound reaches it
+-- what goes on above a bound reaches it,
 reaches_bound : (range : Range) (bound : List ℕ) → ReachesAbove range bound → Reaches range bound
 reaches_bound range bound (inl h) = inl (inl h)
 reaches_bound range bound (inr h) = inr h
+
+-- and so what reaches a key reaches those below it
+reaches_lower : (range : Range) (low high : List ℕ) → IsBelow low high → Reaches range high → Reaches range low
+reaches_lower range low high below reaches = reaches_bound range low (goes_on_lower range low high below reaches)
 
 -- rising keys rise without a bound too
 pub rises_unbounded : (low : Option (List ℕ)) (keys : List (List ℕ)) → AreRisingFrom low keys → AreRisingFrom None keys
