@@ -34,6 +34,7 @@ pub use entries::Entries;
 pub use fault::NodeFault;
 pub use item::Item;
 pub use node::NodeRef;
+pub use order::is_below;
 pub use part::Part;
 pub use recorder::Recorder;
 pub use shelf::{Shelf, ShelfFault};

@@ -1,17 +1,65 @@
 //! The order of keys.
 
+ghost use Rattle.std.specs.Int.{from_be_bytes, w64};
 ghost use Rattle.std.specs.Option.{option_copied};
-ghost use Rattle.std.specs.Prelude.{◌≡◌};
+ghost use Rattle.std.specs.Prelude.{◌≡◌, ◌↔◌, IsTrue, length};
+ghost use Rattle.tree_node.specs.Order.{IsBelow};
 ghost use Rattle.tree_node.specs.Reading.{is_above as above};
 
 use std::cmp::Ordering;
+
+/// How many bytes at the front of two keys are compared as one number.
+const FRONT: usize = 8;
 
 /// Whether a key is above the one before it; the first key of all is.
 pub(crate) fn is_above(low: Option<&[u8]>, key: &[u8]) -> bool
     ensures { result ≡ above (option_copied low.entry) key.now }
 {
     match low {
-        Some(low) => matches!(low.cmp(key), Ordering::Less),
+        Some(low) => is_below(low, key),
         None => true,
     }
+}
+
+/// Whether the low key is below the high one: the first byte that differs decides, else the shorter is
+/// below. It takes no memory and is linear in the bytes of the shorter.
+///
+/// The first eight bytes of each are compared as one number, since the keys of a tree mostly differ
+/// behind some equal bytes: std's order of slices, which ends byte by byte, took more than four times the
+/// instructions at keys of nine bytes.
+pub fn is_below(low: &[u8], high: &[u8]) -> bool
+    ensures { IsTrue result ↔ IsBelow low.now high.now }
+{
+    if low.len() < FRONT || high.len() < FRONT {
+        return is_rest_below(low, high);
+    }
+    let (low_front, low_rest) = low.split_at(FRONT);
+    let (high_front, high_rest) = high.split_at(FRONT);
+    let low_number = number(low_front);
+    let high_number = number(high_front);
+    if low_number != high_number {
+        return low_number < high_number;
+    }
+    is_rest_below(low_rest, high_rest)
+}
+
+/// Whether the low bytes are below the high ones. One byte of each is compared without a call: that is
+/// all that is left of the keys of objects.
+fn is_rest_below(low: &[u8], high: &[u8]) -> bool
+    ensures { IsTrue result ↔ IsBelow low.now high.now }
+{
+    match (low, high) {
+        ([low], [high]) => low < high,
+        _ => matches!(low.cmp(high), Ordering::Less),
+    }
+}
+
+/// Eight bytes as one number, the first byte the highest.
+fn number(bytes: &[u8]) -> u64
+    requires { length bytes.now ≡ 8 }
+    ensures { result ≡ from_be_bytes w64 bytes.now }
+{
+    u64::from_be_bytes([
+        bytes[0], bytes[1], bytes[2], bytes[3], bytes[4], bytes[5], bytes[6], bytes[7],
+    ])
 }

@@ -116,6 +116,27 @@ fn shows_the_codes(rt: HostRuntime) -> Result<(), Fail> {
 }
 
 #[test]
+fn orders_keys(rt: HostRuntime) {
+    // They rise. Some differ in their first eight bytes, others behind them.
+    let keys: [&[u8]; 9] = [
+        b"",
+        b"\x00",
+        b"\x00\xff",
+        b"\x01\x80\x00\x00\x00\x00\x00\x00",
+        b"\x01\x80\x00\x00\x00\x00\x00\x00\x01",
+        b"\x01\x80\x00\x00\x00\x00\x00\x00\xff",
+        b"\x01\x80\x00\x00\x00\x00\x00\x01\x00",
+        b"\x01\x80\x00\x00\x00\x00\x00\x01\x00\x00",
+        b"\x02",
+    ];
+    for (low, high) in keys.iter().zip(&keys[1..]) {
+        assert!(rt; is_below(*low, *high), "{low:?}");
+        assert!(rt; !is_below(*high, *low), "{low:?}");
+        assert!(rt; !is_below(*low, *low), "{low:?}");
+    }
+}
+
+#[test]
 fn reads_the_leaf_of_one_object(rt: HostRuntime) -> Result<(), Fail> {
     let node = NodeRef::read(LEAF)?;
     assert_eq!(rt; node.tree(), Tree::Objects);

@@ -40,9 +40,13 @@ picked_one Has all rest picked x has are more others =
 pub picked_other : {X : Type 0} (Has : X → Type 0) (all rest picked : List X) (x : X) → ¬ Has x → ArePicked Has all (x ∷ rest) picked → ArePicked Has all rest picked
 picked_other Has all rest picked x hasnt are more others = are more (inr (hasnt, others))
 
--- at the end all are
+-- where none of the rest has it, all are picked
+pub picked_stop : {X : Type 0} (Has : X → Type 0) (all rest picked : List X) → AreThose Has rest [] → ArePicked Has all rest picked → AreThose Has all picked
+picked_stop Has all rest picked none are = subst (λ (fs : List _). AreThose Has all fs) (append-nil picked) (are [] none)
+
+-- so they are at the end
 pub picked_all : {X : Type 0} (Has : X → Type 0) (all picked : List X) → ArePicked Has all [] picked → AreThose Has all picked
-picked_all Has all picked are = subst (λ (fs : List _). AreThose Has all fs) (append-nil picked) (are [] refl)
+picked_all Has all picked are = picked_stop Has all [] picked refl are
 
 -- one more item at the end of a list whose views are known
 pub one_behind : {X Y : Type 0} (view : X → Y) (old picked : List Y) (items new : List X) (x : X) → new ≡ items ++ x ∷ [] → map view items ≡ old ++ picked → map view new ≡ old ++ (picked ++ view x ∷ [])

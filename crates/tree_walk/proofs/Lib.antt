@@ -8,6 +8,7 @@ pub mod CountLevels
 pub mod CountTops
 pub mod DescentFetches
 pub mod DescentLemmas
+pub mod EndLemmas
 pub mod FetchLemmas
 pub mod HonestLemmas
 pub mod KeyLemmas

@@ -1,9 +1,10 @@
 -- The definitions of spans that meet a range or are covered by one, against what the code compares.
-use Rattle.std.proofs.Common.{◌≡◌, ◌↔◌, Bool, false, IsTrue, ℕ, zero, suc, List, [], ◌∷◌, ◌++◌, refl, sym, ap, subst, ◌∙◌, inl, inr, arith, Option, Some, None, append_assoc}
+use Rattle.std.proofs.Common.{ℕ, zero, suc, List, [], ◌∷◌, ◌++◌, refl, ap, subst, ◌∙◌, inl, inr, arith, Option, Some, None, append_assoc}
+use Rattle.std.specs.Prelude.{IfSome}
 use Rattle.tree_node.specs.Nodes.{AreBytes}
 use Rattle.tree_node.specs.Order.{IsBelow}
 use Rattle.tree_walk.specs.Ranges.{IsAboveLeft, IsAtMost, IsExcepted, IsIn, IsNoHigher, Meets, Range}
-use Rattle.tree_walk.specs.Reaching.{ReachesAbove}
+use Rattle.tree_walk.specs.Reaching.{GoesOnAbove, ReachesAbove}
 use Rattle.tree_walk.proofs.KeyLemmas.{at_most_below, at_most_trans, below_at_most, below_next, below_or, between_begins, next_at_most}
 
 -- what meets the range has a greatest key that isn't below lo,
@@ -11,7 +12,7 @@ pub low_from_meets : (range : Range) (left : Option (List ℕ)) (greatest : List
 low_from_meets range left greatest (key, bytes, above, below, is) = at_most_trans range.lo key greatest is.0 below
 
 -- and a left bound above which the range goes on
-pub reaches_from_meets : (range : Range) (l greatest : List ℕ) → Meets range (Some l) greatest → ReachesAbove range l
+reaches_from_meets : (range : Range) (l greatest : List ℕ) → Meets range (Some l) greatest → ReachesAbove range l
 reaches_from_meets range l greatest (key, bytes, above, below, is) =
     elim is.1 [
       | inl h ↦ inl (below_at_most l key range.hi above h)
@@ -33,7 +34,7 @@ pub meets_at_edge : (range : Range) (greatest : List ℕ) → AreBytes range.lo 
 meets_at_edge range greatest lo_bytes lo_in low = (range.lo, lo_bytes, tt, low, lo_in)
 
 -- behind a left bound lo does, or the string after the bound
-pub meets_from_reaches : (range : Range) (l greatest : List ℕ) → AreBytes range.lo → IsIn range range.lo → AreBytes l → IsBelow l greatest
+meets_from_reaches : (range : Range) (l greatest : List ℕ) → AreBytes range.lo → IsIn range range.lo → AreBytes l → IsBelow l greatest
     → IsAtMost range.lo greatest → ReachesAbove range l → Meets range (Some l) greatest
 meets_from_reaches range l greatest lo_bytes lo_in bytes below low high =
     elim (below_or l range.lo) [
@@ -53,23 +54,16 @@ meets_from_reaches range l greatest lo_bytes lo_in bytes below low high =
       )
     ]
 
--- ---- what the code's tests say of a span with this left bound, with none, and of one that ends below lo
+-- so the range goes on above the left bound, where there is one
+pub goes_on_from_meets : (range : Range) (left : Option (List ℕ)) (greatest : List ℕ) → Meets range left greatest → GoesOnAbove range left
+goes_on_from_meets range None greatest meets = tt
+goes_on_from_meets range (Some l) greatest meets = reaches_from_meets range l greatest meets
 
-pub reaches_is : (range : Range) (left : Option (List ℕ)) (l greatest : List ℕ) (test : Bool) → left ≡ Some l → AreBytes range.lo → IsIn range range.lo → AreBytes l
-    → IsAtMost range.lo greatest → (IsTrue test ↔ ReachesAbove range l) → IsAboveLeft left greatest → (IsTrue test ↔ Meets range left greatest)
-reaches_is range left l greatest test e lo_bytes lo_in bytes low (told, tells) =
-    subst (λ (left : Option (List ℕ)). IsAboveLeft left greatest → (IsTrue test ↔ Meets range left greatest)) (sym e)
-    (λ above. ((λ is. meets_from_reaches range l greatest lo_bytes lo_in bytes above low (told is)), (λ meets. tells (reaches_from_meets range l greatest meets))))
-
-pub edge_is : (range : Range) (left : Option (List ℕ)) (greatest : List ℕ) (test : Bool) → left ≡ None → AreBytes range.lo → IsIn range range.lo
-    → (IsTrue test ↔ IsAtMost range.lo greatest) → (IsTrue test ↔ Meets range left greatest)
-edge_is range left greatest test e lo_bytes lo_in (told, tells) =
-    subst (λ (left : Option (List ℕ)). IsTrue test ↔ Meets range left greatest) (sym e)
-    ((λ is. meets_at_edge range greatest lo_bytes lo_in (told is)), (λ meets. tells (low_from_meets range None greatest meets)))
-
-pub low_is : (range : Range) (left : Option (List ℕ)) (greatest : List ℕ) (test : Bool) → test ≡ false
-    → (IsTrue test ↔ IsAtMost range.lo greatest) → (IsTrue test ↔ Meets range left greatest)
-low_is range left greatest test fails (told, tells) = ((λ is. absurd (Prim.cc)), (λ meets. tells (low_from_meets range left greatest meets)))
+-- what ends no lower than lo, and has a left bound above which the range goes on, meets it
+pub meets_from_both : (range : Range) (left : Option (List ℕ)) (greatest : List ℕ) → AreBytes range.lo → IsIn range range.lo → IfSome left AreBytes → IsAboveLeft left greatest
+    → IsAtMost range.lo greatest → GoesOnAbove range left → Meets range left greatest
+meets_from_both range None greatest lo_bytes lo_in bytes above low goes = meets_at_edge range greatest lo_bytes lo_in low
+meets_from_both range (Some l) greatest lo_bytes lo_in bytes above low goes = meets_from_reaches range l greatest lo_bytes lo_in bytes above low goes
 
 -- what lies in a covered span stands in the range
 pub covered_is_in : (range : Range) (left : Option (List ℕ)) (greatest key : List ℕ) → IsExcepted range left greatest → IsAboveLeft left key → IsAtMost key greatest → IsIn range key

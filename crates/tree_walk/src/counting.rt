@@ -3,7 +3,7 @@
 ghost use Rattle.std.specs.Option.{option_copied};
 ghost use Rattle.std.specs.Prelude.{◌≡◌, ◌≤◌, ◌++◌, ℕ, suc, None, List, IfOk, Option, length};
 ghost use Rattle.tree_node.specs.NodeRefs.{number_of};
-ghost use Rattle.tree_node.specs.Nodes.{AreRisingFrom, Binding, Link, Node, greatests_of};
+ghost use Rattle.tree_node.specs.Nodes.{AreRisingFrom, Binding, Link, Node, greatests_of, keys_of};
 ghost use Rattle.tree_node.specs.Shelves.{SameNodes};
 ghost use Rattle.tree_node.specs.Trees.{Shape, levels};
 ghost use Rattle.tree_walk.specs.Choices.{AreThose, IsCount};
@@ -173,7 +173,8 @@ fn harvest_count<'a, S: Shelf<'a>>(
 }
 
 /// Puts the children that have to be opened behind those of the nodes to the left, and gives the number
-/// of entries below those that the range covers.
+/// of entries below those that the range covers. It leaves off at the first child that begins where the
+/// range has ended.
 fn pick_open<'a>(
     children: Children<'a>,
     left: Option<&'a [u8]>,
@@ -191,25 +192,36 @@ fn pick_open<'a>(
     let mut bound = left;
     let mut counted: u64 = 0;
     for child in children {
-        if range.covers(bound, child.greatest) {
-            counted = counted.saturating_add(child.number);
-        } else if range.meets(bound, child.greatest) {
-            pending.push(Pending { left: bound, child })?;
+        if range.starts_by(child.greatest) {
+            if !range.goes_on_above(bound) {
+                return Ok(counted);
+            }
+            if range.covers(bound, child.greatest) {
+                counted = counted.saturating_add(child.number);
+            } else {
+                pending.push(Pending { left: bound, child })?;
+            }
         }
         bound = Some(child.greatest);
     }
     Ok(counted)
 }
 
-/// The number of these entries that stand in the range.
+/// The number of these entries that stand in the range. It leaves off at the first key that the range
+/// doesn't reach.
 fn count_in(entries: Entries<'_>, range: &KeyRange<'_>) -> u64
+    requires { AreRisingFrom None (keys_of entries) }
     ensures { (those : List Binding) × AreThose (IsEntryIn (range_of range.now)) entries.entry those × (result ≡ capped (length those)) }
 {
     let mut counted: u64 = 0;
     for item in entries {
-        if range.contains(item.key) {
-            counted = counted.saturating_add(1);
+        if !range.starts_by(item.key) {
+            continue;
         }
+        if !range.reaches(item.key) {
+            return counted;
+        }
+        counted = counted.saturating_add(1);
     }
     counted
 }

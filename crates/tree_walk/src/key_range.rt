@@ -1,13 +1,13 @@
 //! Ranges of keys.
 
 ghost use Rattle.std.specs.Option.{option_copied};
-ghost use Rattle.std.specs.Prelude.{◌↔◌, IsTrue};
+ghost use Rattle.std.specs.Prelude.{◌↔◌, IfSome, IsTrue};
 ghost use Rattle.tree_node.specs.Nodes.{AreBytes};
 ghost use Rattle.tree_node.specs.Order.{IsBelow};
-ghost use Rattle.tree_walk.specs.Reaching.{ReachesAbove};
+ghost use Rattle.tree_walk.specs.Reaching.{GoesOnAbove, Reaches, ReachesAbove};
 ghost use Rattle.tree_walk.specs.Ranges.{Begins, IsAboveLeft, IsAtMost, IsExcepted, IsIn, Meets, range_of};
 
-use std::cmp::Ordering;
+use tree_node::is_below;
 
 /// The keys from `lo` to `hi`, both of them too, and where `under` holds those that `hi` begins (this
 /// project's trees, docs/FORMATS.md). Keys are byte strings of any length; the first byte that differs
@@ -31,8 +31,7 @@ impl<'a> KeyRange<'a> {
     pub fn contains(&self, key: &[u8]) -> bool
         ensures { IsTrue result ↔ IsIn (range_of self.now) key.now }
     {
-        is_at_most(self.lo, key)
-            && (is_at_most(key, self.hi) || (self.under && begins(self.hi, key)))
+        self.starts_by(key) && self.reaches(key)
     }
 
     /// Whether a node meets the range: exactly where some byte string that is above `left` (any is, where
@@ -48,11 +47,7 @@ impl<'a> KeyRange<'a> {
         ensures { IsTrue result
             ↔ Meets (range_of self.now) (option_copied left.entry) greatest.now }
     {
-        let starts_below = is_at_most(self.lo, greatest);
-        match left {
-            Some(left) => starts_below && self.reaches_above(left),
-            None => starts_below,
-        }
+        self.starts_by(greatest) && self.goes_on_above(left)
     }
 
     /// Whether a node is one that a count leaves closed: exactly where it has a left bound that isn't
@@ -69,6 +64,37 @@ impl<'a> KeyRange<'a> {
         }
     }
 
+    /// Whether the range starts at this key or below it: the key isn't below `lo`. Where it doesn't,
+    /// nothing up to the key stands in the range.
+    pub(crate) fn starts_by(&self, key: &[u8]) -> bool
+        ensures told { IsTrue result ↔ IsAtMost self.now.lo.now key.now }
+        // As its type says.
+        ensures bytes { AreBytes self.now.lo.now }
+    {
+        is_at_most(self.lo, key)
+    }
+
+    /// Whether the range reaches this key: it isn't above `hi`, or `hi` begins it and `under` holds. Where
+    /// it doesn't, no key above this one stands in the range.
+    pub(crate) fn reaches(&self, key: &[u8]) -> bool
+        ensures { IsTrue result ↔ Reaches (range_of self.now) key.now }
+    {
+        is_at_most(key, self.hi) || (self.under && begins(self.hi, key))
+    }
+
+    /// Whether the range goes on above this left bound, as `reaches_above` tells; without a bound it does.
+    /// Where it doesn't, it doesn't above any greater one.
+    pub(crate) fn goes_on_above(&self, left: Option<&[u8]>) -> bool
+        ensures told { IsTrue result ↔ GoesOnAbove (range_of self.now) (option_copied left.entry) }
+        // As its type says.
+        ensures bytes { IfSome (option_copied left.entry) AreBytes }
+    {
+        match left {
+            Some(left) => self.reaches_above(left),
+            None => true,
+        }
+    }
+
     /// Whether the range goes on above this bound: it is below `hi`, or `hi` begins it and `under` holds.
     fn reaches_above(&self, bound: &[u8]) -> bool
         ensures told { IsTrue result ↔ ReachesAbove (range_of self.now) bound.now }
@@ -77,13 +103,6 @@ impl<'a> KeyRange<'a> {
     {
         is_below(bound, self.hi) || (self.under && begins(self.hi, bound))
     }
-}
-
-/// Whether the low key is below the high one.
-fn is_below(low: &[u8], high: &[u8]) -> bool
-    ensures { IsTrue result ↔ IsBelow low.now high.now }
-{
-    matches!(low.cmp(high), Ordering::Less)
 }
 
 /// Whether the low key is below the high one, or is the same.

@@ -12,7 +12,7 @@ ghost use Rattle.tree_walk.specs.Ranges.{IsAboveLeft, IsIn, range_of};
 use crate::key_range::KeyRange;
 use std::alloc::AllocError;
 use std::cmp::Ordering;
-use tree_node::{Child, Children, Entries};
+use tree_node::{Child, Children, Entries, is_below};
 
 /// A child that meets the range, as its parent states it.
 #[derive(Clone, Copy, Debug)]
@@ -52,7 +52,7 @@ fn is_above(left: Option<&[u8]>, key: &[u8]) -> bool
     ensures { IsTrue result ↔ IsAboveLeft (option_copied left.entry) key.now }
 {
     match left {
-        Some(left) => matches!(left.cmp(key), Ordering::Less),
+        Some(left) => is_below(left, key),
         None => true,
     }
 }
@@ -90,7 +90,8 @@ fn entries_end(entries: Entries<'_>, greatest: &[u8], number: u64) -> bool
     missing == 0 && matches!(last.cmp(greatest), Ordering::Equal)
 }
 
-/// Puts the children that meet the range behind those of the nodes to the left.
+/// Puts the children that meet the range behind those of the nodes to the left. It leaves off at the
+/// first child that begins where the range has ended.
 pub(crate) fn pick<'a>(
     children: Children<'a>,
     left: Option<&'a [u8]>,
@@ -105,7 +106,10 @@ pub(crate) fn pick<'a>(
 {
     let mut bound = left;
     for child in children {
-        if range.meets(bound, child.greatest) {
+        if range.starts_by(child.greatest) {
+            if !range.goes_on_above(bound) {
+                return Ok(());
+            }
             pending.push(Pending { left: bound, child })?;
         }
         bound = Some(child.greatest);

@@ -3,7 +3,7 @@
 ghost use Rattle.std.specs.List.{AllByRecursion};
 ghost use Rattle.std.specs.Prelude.{◌≡◌, ◌≤◌, ◌++◌, ℕ, suc, None, List, OnOk, IfOk, map, Option};
 ghost use Rattle.tree_node.specs.NodeRefs.{bindings_of, number_of};
-ghost use Rattle.tree_node.specs.Nodes.{Binding, Node};
+ghost use Rattle.tree_node.specs.Nodes.{AreRisingFrom, Binding, Node, keys_of};
 ghost use Rattle.tree_node.specs.Shelves.{SameNodes};
 ghost use Rattle.tree_node.specs.Trees.{Shape, levels};
 ghost use Rattle.tree_walk.specs.Choices.{AreThose};
@@ -165,20 +165,26 @@ fn harvest<'a, S: Shelf<'a>>(
     Ok(found)
 }
 
-/// Puts the entries that stand in the range behind those found so far.
+/// Puts the entries that stand in the range behind those found so far. It leaves off at the first key
+/// that the range doesn't reach.
 fn take<'a>(
     entries: Entries<'a>,
     range: &KeyRange<'_>,
     found: &mut Vec<Item<'a>>,
 ) -> Result<(), AllocError>
+    requires { AreRisingFrom None (keys_of entries) }
     ensures { OnOk result ((taken : List Binding)
         × (bindings_of found.new.items ≡ bindings_of found.old.items ++ taken)
         × AreThose (IsEntryIn (range_of range.now)) entries.entry taken) }
 {
     for item in entries {
-        if range.contains(item.key) {
-            found.push(item)?;
+        if !range.starts_by(item.key) {
+            continue;
         }
+        if !range.reaches(item.key) {
+            return Ok(());
+        }
+        found.push(item)?;
     }
     Ok(())
 }

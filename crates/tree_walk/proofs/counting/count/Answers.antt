@@ -41,6 +41,11 @@ returns-in_err-covered-in-Inner-clause-fetches g c =
     rw (sym c.count_call.ensures.fetches) (top_then_refused c.from_residual-in_err-covered-in-Inner.result Memory (node_read c.in_ok-entries.field-0) (g.S.Shelf.holds c.open.new.shelf) (g.S.Shelf.used c.args.shelf.now) (g.S.Shelf.used c.open.new.shelf)
     c.count_call.new.self.fetches c.open.new.tally.fetches (err_is c.from_residual-in_err-covered-in-Inner.result Memory c.from_residual-in_err-covered-in-Inner.ensures.1) c.in_ok-entries.ensures.opens)
 
+pub count_in-requires : goal.count_in-requires
+count_in-requires g c =
+    let top = subst (λ (n : Node). FetchedNode n (g.S.Shelf.holds c.open.new.shelf) (g.S.Shelf.used c.args.shelf.now) (g.S.Shelf.used c.open.new.shelf) c.count_call.new.self.fetches c.open.new.tally.fetches) (ap node_read c.in-Leaf.is) c.in_ok-entries.ensures.opens in
+    top.spells.0.3
+
 pub count_down-requires : goal.count_down-requires
 count_down-requires g c κs =
     let picked = c.in_ok-covered-in-Inner.ensures in

@@ -19,6 +19,9 @@ use Rattle.tree_walk.proofs.LevelFetches.{FetchingLevel, level_end, level_step, 
 use Rattle.tree_walk.proofs.Pendings.{err_is, rest_is}
 use Rattle.tree_walk.proofs.counting.harvest_count.Goals as goal
 
+pub count_in-requires : goal.count_in-requires
+count_in-requires g c = c.in_ok-entries.ensures.opens.spells.0.3
+
 pub returns-in_err-entries-clause-fetches : goal.returns-in_err-entries-clause-fetches
 returns-in_err-entries-clause-fetches g c =
     let so = c.loop-node.invariant.level in

@@ -41,6 +41,9 @@ returns-in_err-entries-clause-answer g c = λ all stated.
     (honest_stop items has (number_of c.args.tree) 0 (cause_of c.in_err-entries.field-0.0) (g.S.Shelf.holds c.open_leaf.new.shelf) spots (spots_of (drop (c.loop-node.node-index + 1) c.args.nodes.now)) _ found
     (g.S.Shelf.used c.args.shelf.now) (g.S.Shelf.used c.loop-node.shelf) used before c.open_leaf.ensures.grows c.in_err-entries.ensures.answer all stated)
 
+pub take-requires : goal.take-requires
+take-requires g c = c.in_ok-entries.ensures.opens.spells.0.3
+
 pub returns-in_err-take-clause-fetches : goal.returns-in_err-take-clause-fetches
 returns-in_err-take-clause-fetches g c =
     let so = c.loop-node.invariant.level in

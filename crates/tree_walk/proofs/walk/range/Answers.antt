@@ -45,6 +45,11 @@ returns-in_err-pick-in-Inner-clause-fetches g c =
     rw (sym c.count_call.ensures.fetches) (top_then_refused c.from_residual-in_err-pick-in-Inner.result Memory (node_read c.in_ok-entries.field-0) (g.S.Shelf.holds c.open.new.shelf) (g.S.Shelf.used c.args.shelf.now) (g.S.Shelf.used c.open.new.shelf)
     c.count_call.new.self.fetches c.open.new.tally.fetches (err_is c.from_residual-in_err-pick-in-Inner.result Memory c.from_residual-in_err-pick-in-Inner.ensures.1) c.in_ok-entries.ensures.opens)
 
+pub take-requires : goal.take-requires
+take-requires g c =
+    let top = subst (λ (n : Node). FetchedNode n (g.S.Shelf.holds c.open.new.shelf) (g.S.Shelf.used c.args.shelf.now) (g.S.Shelf.used c.open.new.shelf) c.count_call.new.self.fetches c.open.new.tally.fetches) (ap node_read c.in-Leaf.is) c.in_ok-entries.ensures.opens in
+    top.spells.0.3
+
 pub walk_down-requires : goal.walk_down-requires
 walk_down-requires g c κs =
     let picked = c.in_ok-pick-in-Inner.ensures in
