@@ -1,7 +1,7 @@
 -- What `prove`, `ask`, `publish` and `check` have written where they end.
-use Rattle.std.proofs.Common.{◌≡◌, ℕ, List, Option, None, Some, Result, Ok, Err, IfSome, OnOk, inl, inr, subst, ◌∙◌}
+use Rattle.std.proofs.Common.{◌≡◌, ◌≢◌, ℕ, List, Option, None, Some, Result, Ok, Err, IfErr, IfSome, OnOk, inl, inr, subst, ◌∙◌}
 use Rattle.std.proofs.KnownBytes.{Keeps-refl}
-use Rattle.std.specs.Io.KnownBytes.{Appends}
+use Rattle.std.specs.Io.KnownBytes.{Appends, Keeps}
 use Rattle.osm_model.specs.Elements.{Element}
 use Rattle.opl_codec.specs.Files.{HoldsSet}
 use Rattle.osm_check.specs.Roots.{proof_text}
@@ -12,6 +12,7 @@ use Rattle.osm_mirror.specs.Files.{AppendInTurn, IfBoth, IfThree, IsBegunProof, 
 use Rattle.osm_mirror.specs.RootLines.{root_line, verdict_line}
 use Rattle.osm_mirror.specs.Written.{AppendsFront}
 use Rattle.osm_mirror.specs.declared.command_fault.CommandFault.{CommandFault}
+use Rattle.osm_mirror.specs.declared.command_fault.CommandFault.TheVariants.{Device}
 
 -- ---- `prove`
 
@@ -20,6 +21,12 @@ pub unwritten : (first second answer proof root : Option (List ℕ)) → IfBoth 
 unwritten None second answer proof root = tt
 unwritten (Some file) None answer proof root = tt
 unwritten (Some file) (Some bytes) answer proof root = inl (Keeps-refl answer, Keeps-refl proof, Keeps-refl root)
+
+-- nothing is written, whatever the result
+pub kept : (answer proof root : Option (List ℕ)) (result : Result (Unit {0}) CommandFault)
+    → IfErr result (λ fault. fault ≢ Device → Keeps answer answer × Keeps proof proof × Keeps root root)
+kept answer proof root (Ok done) = tt
+kept answer proof root (Err fault) = λ other. (Keeps-refl answer, Keeps-refl proof, Keeps-refl root)
 
 -- what was read is proved, where the bytes that were read are those that were looked at
 pub proved_files : (first second : Option (List ℕ)) (set : List Element) (read query text : List ℕ)

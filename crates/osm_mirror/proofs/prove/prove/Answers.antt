@@ -3,7 +3,7 @@ use Rattle.ql_plain.specs.Queries.{Reads}
 use Rattle.ql_plain.specs.declared.query.Query.{Query}
 use Rattle.osm_check.specs.declared.prove_fault.ProveFault.TheVariants.{Memory}
 use Rattle.osm_mirror.specs.RootLines.{digest_line}
-use Rattle.osm_mirror.proofs.BegunLemmas.{unwritten, proved_files, answer_begun, proof_begun, root_begun, written_in_turn, written_whole}
+use Rattle.osm_mirror.proofs.BegunLemmas.{kept, unwritten, proved_files, answer_begun, proof_begun, root_begun, written_in_turn, written_whole}
 use Rattle.osm_mirror.proofs.FileLemmas.{outside_unheld_files, explained_unheld_files, outside_unproved_files}
 use Rattle.osm_mirror.proofs.prove.prove.Goals as goal
 
@@ -19,6 +19,10 @@ pub returns-in_err-set-clause-begun : goal.returns-in_err-set-clause-begun
 returns-in_err-set-clause-begun g c =
     unwritten (g.R.Read.remaining c.args.input.now) (g.Q.Read.remaining c.args.query.now) (g.A.Write.contents c.args.answer.now) (g.P.Write.contents c.args.proof.now) (g.W.Write.contents c.args.output.now)
 
+pub returns-in_err-query-clause-nothing : goal.returns-in_err-query-clause-nothing
+returns-in_err-query-clause-nothing g c =
+    kept (g.A.Write.contents c.args.answer.now) (g.P.Write.contents c.args.proof.now) (g.W.Write.contents c.args.output.now) c.from_residual-in_err-query.result
+
 pub returns-in_err-query-clause-begun : goal.returns-in_err-query-clause-begun
 returns-in_err-query-clause-begun g c =
     unwritten (g.R.Read.remaining c.args.input.now) (g.Q.Read.remaining c.args.query.now) (g.A.Write.contents c.args.answer.now) (g.P.Write.contents c.args.proof.now) (g.W.Write.contents c.args.output.now)
@@ -29,9 +33,17 @@ returns-in_err-proved-clause-only g c =
     c.in_ok-query.ensures.read c.from_residual-in_err-proved.ensures.1
     (subst (λ (b : List ℕ). (tree : Query) → Reads b tree → c.in_err-proved.field-0.0 ≡ Memory) c.deref.ensures.value c.in_err-proved.ensures.only)
 
+pub returns-in_err-proved-clause-nothing : goal.returns-in_err-proved-clause-nothing
+returns-in_err-proved-clause-nothing g c =
+    kept (g.A.Write.contents c.args.answer.now) (g.P.Write.contents c.args.proof.now) (g.W.Write.contents c.args.output.now) c.from_residual-in_err-proved.result
+
 pub returns-in_err-proved-clause-begun : goal.returns-in_err-proved-clause-begun
 returns-in_err-proved-clause-begun g c =
     unwritten (g.R.Read.remaining c.args.input.now) (g.Q.Read.remaining c.args.query.now) (g.A.Write.contents c.args.answer.now) (g.P.Write.contents c.args.proof.now) (g.W.Write.contents c.args.output.now)
+
+pub returns-in_err-line-clause-nothing : goal.returns-in_err-line-clause-nothing
+returns-in_err-line-clause-nothing g c =
+    kept (g.A.Write.contents c.args.answer.now) (g.P.Write.contents c.args.proof.now) (g.W.Write.contents c.args.output.now) c.from_residual-in_err-line.result
 
 pub returns-in_err-line-clause-begun : goal.returns-in_err-line-clause-begun
 returns-in_err-line-clause-begun g c =
