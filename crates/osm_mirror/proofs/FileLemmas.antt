@@ -8,15 +8,11 @@ use Rattle.opl_codec.specs.declared.cause.OplCause.TheVariants as causes
 use Rattle.opl_codec.specs.declared.fault.LoadFault.{LoadFault}
 use Rattle.ql_plain.specs.Queries.{Reads}
 use Rattle.ql_plain.specs.declared.query.Query.{Query as QueryTree}
-use Rattle.osm_check.specs.Verdicts.{IsVerdict}
-use Rattle.osm_check.specs.declared.verdict.Verdict.{Verdict}
 use Rattle.osm_check.specs.declared.prove_fault.ProveFault.{ProveFault}
 use Rattle.osm_check.specs.declared.prove_fault.ProveFault.TheVariants as refusals
 use Rattle.osm_mirror.specs.Ask.{Explains, IsOutside}
 use Rattle.osm_mirror.specs.Faults.{fault_of_cause, fault_of_load, fault_of_prove}
-use Rattle.osm_mirror.specs.Files.{ExplainsFiles, ExplainsSet, IfBoth, IfThree, IsBegunVerdict, IsOutsideFiles, IsProved}
-use Rattle.osm_mirror.specs.RootLines.{verdict_line}
-use Rattle.osm_mirror.specs.Written.{AppendsFront}
+use Rattle.osm_mirror.specs.Files.{ExplainsFiles, ExplainsSet, IfBoth, IsOutsideFiles, IsProved}
 use Rattle.osm_mirror.specs.declared.command_fault.CommandFault.{CommandFault}
 use Rattle.osm_mirror.proofs.AskLemmas.{outside_cause, explained_cause as explained_file}
 
@@ -86,21 +82,3 @@ outside_unproved_files (Some file) None read refusal result same told only = tt
 outside_unproved_files (Some file) (Some bytes) read refusal (Ok done) same told only = λ set text proved. tt
 outside_unproved_files (Some file) (Some bytes) read refusal (Err fault) same told only = λ set text proved.
     inl (subst IsOutside (sym (told ∙ ap fault_of_prove (only proved.answer.tree (subst (λ (b : List ℕ). Reads b proved.answer.tree) (sym same) proved.answer.reads)))) tt)
-
--- ---- `check`
-
--- a beginning of the line of the verdict that is owed, where the bytes that were read are those that were checked
-pub begun_verdict : (first second third : Option (List ℕ)) (root query answer proof query_read answer_read proof_read line : List ℕ) (verdict : Verdict) (old new : Option (List ℕ))
-    → query ≡ query_read → answer ≡ answer_read → proof ≡ proof_read
-    → IfSome first (λ left. query_read ≡ left) → IfSome second (λ left. answer_read ≡ left) → IfSome third (λ left. proof_read ≡ left)
-    → IsVerdict query root answer proof verdict → line ≡ verdict_line verdict → AppendsFront old new line
-    → IfThree first second third (λ q a p. IsBegunVerdict q root a p old new)
-begun_verdict None second third root query answer proof x y z line verdict old new e f g q a p is same begun = tt
-begun_verdict (Some _) None third root query answer proof x y z line verdict old new e f g q a p is same begun = tt
-begun_verdict (Some _) (Some _) None root query answer proof x y z line verdict old new e f g q a p is same begun = tt
-begun_verdict (Some u) (Some v) (Some w) root query answer proof x y z line verdict old new e f g q a p is same begun =
-    inr (
-      verdict,
-      subst (λ (b : List ℕ). IsVerdict b root v w verdict) (e ∙ q) (subst (λ (b : List ℕ). IsVerdict query root b w verdict) (f ∙ a) (subst (λ (b : List ℕ). IsVerdict query root answer b verdict) (g ∙ p) is)),
-      subst (λ (l : List ℕ). AppendsFront old new l) same begun,
-    )

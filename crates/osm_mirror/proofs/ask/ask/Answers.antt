@@ -3,6 +3,7 @@ use Rattle.osm_check.specs.Roots.{IsProofOf}
 use Rattle.osm_check.specs.Verdicts.{IsAnswer as IsRightAnswer}
 use Rattle.osm_check.proofs.Held.{held_set}
 use Rattle.osm_mirror.proofs.AskLemmas.{explained_unread, outside_unread, outside_unproved}
+use Rattle.osm_mirror.proofs.BegunLemmas.{answer_is, begun_answer, whole_answer}
 use Rattle.osm_mirror.proofs.ask.ask.Goals as goal
 
 pub returns-in_err-set-clause-only : goal.returns-in_err-set-clause-only
@@ -27,3 +28,19 @@ unreachable-requires g c =
     let yes = c.in_ok-check.ensures.honest set proof right.0 answer in
     let no = c.in-No.is in
     cc
+
+pub returns-clause-answered : goal.returns-clause-answered
+returns-clause-answered g c =
+    let known = g.R.Read.remaining c.args.input.now in
+    let text = c.in_ok-proved.proved.answer.items in
+    whole_answer known c.args.query.now c.deref-in-Yes.result.now text _ _ _
+    (answer_is known c.in_ok-set.set c.args.query.now text c.in_ok-set.ensures.read c.in_ok-proved.ensures.proved.1)
+    c.deref-in-Yes.ensures.value c.write_whole.ensures.whole
+
+pub returns-clause-begun : goal.returns-clause-begun
+returns-clause-begun g c =
+    let known = g.R.Read.remaining c.args.input.now in
+    let text = c.in_ok-proved.proved.answer.items in
+    begun_answer known c.args.query.now c.deref-in-Yes.result.now text _ _
+    (answer_is known c.in_ok-set.set c.args.query.now text c.in_ok-set.ensures.read c.in_ok-proved.ensures.proved.1)
+    c.deref-in-Yes.ensures.value c.write_whole.ensures.begun

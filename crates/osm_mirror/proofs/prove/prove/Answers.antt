@@ -1,7 +1,9 @@
-use Rattle.std.proofs.Common.{◌≡◌, List, ℕ, subst}
+use Rattle.std.proofs.Common.{◌≡◌, List, ℕ, subst, ap, ◌∙◌}
 use Rattle.ql_plain.specs.Queries.{Reads}
 use Rattle.ql_plain.specs.declared.query.Query.{Query}
 use Rattle.osm_check.specs.declared.prove_fault.ProveFault.TheVariants.{Memory}
+use Rattle.osm_mirror.specs.RootLines.{digest_line}
+use Rattle.osm_mirror.proofs.BegunLemmas.{kept, unwritten, proved_files, answer_begun, proof_begun, root_begun, written_in_turn, written_whole}
 use Rattle.osm_mirror.proofs.FileLemmas.{outside_unheld_files, explained_unheld_files, outside_unproved_files}
 use Rattle.osm_mirror.proofs.prove.prove.Goals as goal
 
@@ -13,8 +15,83 @@ pub returns-in_err-set-clause-refused : goal.returns-in_err-set-clause-refused
 returns-in_err-set-clause-refused g c =
     explained_unheld_files (g.R.Read.remaining c.args.input.now) (g.Q.Read.remaining c.args.query.now) c.in_err-set.field-0.0 c.from_residual.result c.from_residual.ensures.1 c.in_err-set.ensures.only
 
+pub returns-in_err-set-clause-begun : goal.returns-in_err-set-clause-begun
+returns-in_err-set-clause-begun g c =
+    unwritten (g.R.Read.remaining c.args.input.now) (g.Q.Read.remaining c.args.query.now) (g.A.Write.contents c.args.answer.now) (g.P.Write.contents c.args.proof.now) (g.W.Write.contents c.args.output.now)
+
+pub returns-in_err-query-clause-nothing : goal.returns-in_err-query-clause-nothing
+returns-in_err-query-clause-nothing g c =
+    kept (g.A.Write.contents c.args.answer.now) (g.P.Write.contents c.args.proof.now) (g.W.Write.contents c.args.output.now) c.from_residual-in_err-query.result
+
+pub returns-in_err-query-clause-begun : goal.returns-in_err-query-clause-begun
+returns-in_err-query-clause-begun g c =
+    unwritten (g.R.Read.remaining c.args.input.now) (g.Q.Read.remaining c.args.query.now) (g.A.Write.contents c.args.answer.now) (g.P.Write.contents c.args.proof.now) (g.W.Write.contents c.args.output.now)
+
 pub returns-in_err-proved-clause-only : goal.returns-in_err-proved-clause-only
 returns-in_err-proved-clause-only g c =
     outside_unproved_files (g.R.Read.remaining c.args.input.now) (g.Q.Read.remaining c.args.query.now) c.in_ok-query.query.items c.in_err-proved.field-0.0 c.from_residual-in_err-proved.result
     c.in_ok-query.ensures.read c.from_residual-in_err-proved.ensures.1
     (subst (λ (b : List ℕ). (tree : Query) → Reads b tree → c.in_err-proved.field-0.0 ≡ Memory) c.deref.ensures.value c.in_err-proved.ensures.only)
+
+pub returns-in_err-proved-clause-nothing : goal.returns-in_err-proved-clause-nothing
+returns-in_err-proved-clause-nothing g c =
+    kept (g.A.Write.contents c.args.answer.now) (g.P.Write.contents c.args.proof.now) (g.W.Write.contents c.args.output.now) c.from_residual-in_err-proved.result
+
+pub returns-in_err-proved-clause-begun : goal.returns-in_err-proved-clause-begun
+returns-in_err-proved-clause-begun g c =
+    unwritten (g.R.Read.remaining c.args.input.now) (g.Q.Read.remaining c.args.query.now) (g.A.Write.contents c.args.answer.now) (g.P.Write.contents c.args.proof.now) (g.W.Write.contents c.args.output.now)
+
+pub returns-in_err-line-clause-nothing : goal.returns-in_err-line-clause-nothing
+returns-in_err-line-clause-nothing g c =
+    kept (g.A.Write.contents c.args.answer.now) (g.P.Write.contents c.args.proof.now) (g.W.Write.contents c.args.output.now) c.from_residual-in_err-line.result
+
+pub returns-in_err-line-clause-begun : goal.returns-in_err-line-clause-begun
+returns-in_err-line-clause-begun g c =
+    unwritten (g.R.Read.remaining c.args.input.now) (g.Q.Read.remaining c.args.query.now) (g.A.Write.contents c.args.answer.now) (g.P.Write.contents c.args.proof.now) (g.W.Write.contents c.args.output.now)
+
+pub returns-in_err-write_whole-clause-begun : goal.returns-in_err-write_whole-clause-begun
+returns-in_err-write_whole-clause-begun g c =
+    let file = g.R.Read.remaining c.args.input.now in
+    let bytes = g.Q.Read.remaining c.args.query.now in
+    let set = c.in_ok-set.set in
+    let text = c.in_ok-proved.proved.answer.items in
+    let made = c.in_ok-proved.ensures.proved in
+    written_in_turn file bytes set text _ _ _ _ _ _
+    (proved_files file bytes set c.in_ok-query.query.items c.deref.result.now text c.in_ok-set.ensures.read c.in_ok-query.ensures.read c.deref.ensures.value made.1)
+    (answer_begun c.deref-2.result.now text _ _ _ _ _ _ c.deref-2.ensures.value c.write_whole.ensures.begun)
+
+pub returns-in_err-write_whole-2-clause-begun : goal.returns-in_err-write_whole-2-clause-begun
+returns-in_err-write_whole-2-clause-begun g c =
+    let file = g.R.Read.remaining c.args.input.now in
+    let bytes = g.Q.Read.remaining c.args.query.now in
+    let set = c.in_ok-set.set in
+    let text = c.in_ok-proved.proved.answer.items in
+    let made = c.in_ok-proved.ensures.proved in
+    written_in_turn file bytes set text _ _ _ _ _ _
+    (proved_files file bytes set c.in_ok-query.query.items c.deref.result.now text c.in_ok-set.ensures.read c.in_ok-query.ensures.read c.deref.ensures.value made.1)
+    (proof_begun c.deref-2.result.now c.deref-3.result.now text _ _ _ _ _ _ _ c.deref-2.ensures.value c.in_ok-write_whole.ensures.whole (c.deref-3.ensures.value ∙ made.2) c.write_whole-2.ensures.begun)
+
+pub returns-clause-begun : goal.returns-clause-begun
+returns-clause-begun g c =
+    let file = g.R.Read.remaining c.args.input.now in
+    let bytes = g.Q.Read.remaining c.args.query.now in
+    let set = c.in_ok-set.set in
+    let text = c.in_ok-proved.proved.answer.items in
+    let made = c.in_ok-proved.ensures.proved in
+    written_in_turn file bytes set text _ _ _ _ _ _
+    (proved_files file bytes set c.in_ok-query.query.items c.deref.result.now text c.in_ok-set.ensures.read c.in_ok-query.ensures.read c.deref.ensures.value made.1)
+    (root_begun c.deref-2.result.now c.deref-3.result.now c.as_bytes.result.now text _ _ _ _ _ _ _ _
+    c.deref-2.ensures.value c.in_ok-write_whole.ensures.whole (c.deref-3.ensures.value ∙ made.2) c.in_ok-write_whole-2.ensures.whole
+    (c.as_bytes.ensures.value ∙ c.in_ok-line.ensures ∙ ap digest_line made.0) c.write_whole-3.ensures.begun)
+
+pub returns-clause-proved : goal.returns-clause-proved
+returns-clause-proved g c =
+    let file = g.R.Read.remaining c.args.input.now in
+    let bytes = g.Q.Read.remaining c.args.query.now in
+    let set = c.in_ok-set.set in
+    let text = c.in_ok-proved.proved.answer.items in
+    let made = c.in_ok-proved.ensures.proved in
+    written_whole file bytes set c.deref-2.result.now c.deref-3.result.now c.as_bytes.result.now text _ _ _ _ _ _ _
+    (proved_files file bytes set c.in_ok-query.query.items c.deref.result.now text c.in_ok-set.ensures.read c.in_ok-query.ensures.read c.deref.ensures.value made.1)
+    c.deref-2.ensures.value c.in_ok-write_whole.ensures.whole (c.deref-3.ensures.value ∙ made.2) c.in_ok-write_whole-2.ensures.whole
+    (c.as_bytes.ensures.value ∙ c.in_ok-line.ensures ∙ ap digest_line made.0) c.write_whole-3.ensures.whole
