@@ -406,26 +406,27 @@ fn reads_quoted_texts_after_refused_memory(rt: HostRuntime) -> Result<(), Fail> 
     quoted_again(&rt, rt.alloc(), b"\"a\\nb\"]")
 }
 
-/// The tag filter `k="v"]`; asked for once more where memory was refused.
-fn tag_filter_again(rt: &impl Abort, alloc: Global) -> Result<(), Fail> {
-    let text = b"k=\"v\"]".as_slice();
-    let (filter, rest) = match read_tag_filter(alloc, text) {
-        Ok(found) => found,
-        Err(stop) => {
-            assert_eq!(rt; stop.cause, QlCause::Memory);
-            match read_tag_filter(alloc, text) {
-                Ok(found) => found,
-                Err(_) => return Err(Fail::from("no tag filter")),
-            }
+/// How many bytes follow the tag filter `k="v"]`.
+fn assert_tag_filter(rt: &impl Abort, alloc: Global, text: &[u8]) -> Result<usize, QlCause> {
+    match read_tag_filter(alloc, text) {
+        Ok((filter, rest)) => {
+            let (sign, key, value) = written(&filter);
+            assert_eq!(rt; sign, "=");
+            assert_eq!(rt; key, b"k".as_slice());
+            assert_eq!(rt; value, b"v".as_slice());
+            Ok(rest.len())
         }
-    };
-    assert_eq!(rt; written(&filter), ("=", b"k".as_slice(), b"v".as_slice()));
-    assert_eq!(rt; rest, b"".as_slice());
-    Ok(())
+        Err(stop) => Err(stop.cause),
+    }
 }
 
 /// Where memory is refused the next call gives the full result. Run with each allocation refused in turn.
 #[test]
-fn reads_tag_filters_after_refused_memory(rt: HostRuntime) -> Result<(), Fail> {
-    tag_filter_again(&rt, rt.alloc())
+fn reads_tag_filters_after_refused_memory(rt: HostRuntime) {
+    let text = b"k=\"v\"];".as_slice();
+    let mut outcome = assert_tag_filter(&rt, rt.alloc(), text);
+    if outcome == Err(QlCause::Memory) {
+        outcome = assert_tag_filter(&rt, rt.alloc(), text);
+    }
+    assert_eq!(rt; outcome, Ok(1));
 }
