@@ -286,7 +286,10 @@ fn reads_tag_filters(rt: HostRuntime) {
         ("a", Err((QlCause::UnexpectedEnd, 1))),
     ] {
         let text = text.as_bytes();
-        let outcome = read_tag_filter(rt.alloc(), text).map(|(_, rest)| rest);
+        let outcome = match read_tag_filter(rt.alloc(), text) {
+            Ok((_, rest)) => Ok(rest),
+            Err(stop) => Err(stop),
+        };
         assert_eq!(rt; found(text, outcome), wanted);
     }
 }
