@@ -1,8 +1,8 @@
 -- What rules leave is no longer than what they read.
-use Rattle.std.proofs.Common.{◌≡◌, ℕ, ◌≤◌, ◌<◌, List, [], ◌∷◌, ◌++◌, ◌==◌, ◌&&◌, Bool, true, false, cond, length, drop, arith, refl, inl, inr, ap, length-append, length-drop}
+use Rattle.std.proofs.Common.{◌≡◌, ℕ, ◌≤◌, ◌<◌, List, [], ◌∷◌, ◌==◌, ◌&&◌, Bool, true, false, cond, length, drop, arith, refl, inl, inr, ap, length-append, length-drop}
 use Rattle.osm_model.specs.Degrees.{Decimal, spelling}
 use Rattle.ql_syntax.specs.Gaps.{gap, Where, Between, InLine, InBlock, GapEnd, Behind, is_blank}
-use Rattle.ql_syntax.specs.Points.{Next, At, Word, Number, next_token, unexpected, pass, run_here, word_at, a_word, number_here, number_at, a_number, begins_number}
+use Rattle.ql_syntax.specs.Points.{Next, next_token, unexpected, pass, run_here, word_at, a_word, number_here, number_at, a_number}
 use Rattle.ql_syntax.specs.Rules.{Rule, ◌>>=◌, give, refuse, from, choose, by_case}
 use Rattle.ql_syntax.specs.Signs.{sign_of, len_of}
 use Rattle.ql_syntax.specs.WholeNumbers.{count_of, id_of}

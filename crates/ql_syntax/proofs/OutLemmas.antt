@@ -1,5 +1,5 @@
 -- Readers of out statements that follow rules.
-use Rattle.std.proofs.Common.{◌≡◌, ℕ, List, Result, Bool, true, false, sym, subst}
+use Rattle.std.proofs.Common.{◌≡◌, ℕ, List, Result, Bool, sym, subst}
 use Rattle.ql_syntax.specs.Following.{Follows}
 use Rattle.ql_syntax.specs.Outs.{once}
 use Rattle.ql_syntax.specs.declared.stop.Stop.{Stop}

@@ -1,18 +1,16 @@
 -- A round of an out statement leaves less.
-use Rattle.std.proofs.Common.{◌≡◌, ℕ, ◌<◌, ◌≤◌, List, [], ◌∷◌, ◌++◌, Bool, true, false, length, drop, arith, sym, ◌∙◌, ap, subst, inl, inr, lit≤, length-append}
+use Rattle.std.proofs.Common.{◌≡◌, ℕ, ◌<◌, ◌≤◌, List, [], ◌∷◌, ◌++◌, Bool, true, false, length, drop, arith, sym, ◌∙◌, ap, inl, inr, length-append}
 use Rattle.std.specs.Option.{is_some}
 use Rattle.osm_model.specs.Degrees.{Decimal, IsDigits, sign, point, spelling}
 use Rattle.ql_syntax.specs.Gaps.{Between}
 use Rattle.ql_syntax.specs.Numbers.{IsNumber}
-use Rattle.ql_syntax.specs.OutWords.{out_word}
 use Rattle.ql_syntax.specs.Outs.{once, out_word_at, with_word, with_number, out_round}
 use Rattle.ql_syntax.specs.Points.{Next, Word, Number, next_token, unexpected, run_here, word_at, number_here, number_at}
-use Rattle.ql_syntax.specs.Rules.{Rule, ◌>>=◌, give, refuse, from, choose, Round, More}
+use Rattle.ql_syntax.specs.Rules.{◌>>=◌, give, refuse, from, choose, Round, More}
 use Rattle.ql_syntax.specs.Signs.{sign_of, len_of}
 use Rattle.ql_syntax.specs.declared.out_options.OutOptions.{OutOptions}
 use Rattle.ql_syntax.specs.declared.out_word.OutWord.{OutWord}
 use Rattle.ql_syntax.specs.declared.out_word.OutWord.TheVariants as words
-use Rattle.ql_syntax.specs.declared.sign.Sign.{Sign}
 use Rattle.ql_syntax.specs.declared.sign.Sign.TheVariants as signs
 use Rattle.ql_syntax.proofs.Lengths.{Within, Shorter, within_then, within_case, within_give, within_refuse, within_count, gap_within, behind_sign}
 use Rattle.ql_syntax.proofs.WordStarts.{word_shorter}

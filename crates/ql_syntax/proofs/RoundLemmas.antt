@@ -1,5 +1,5 @@
 -- Readers that go on in rounds.
-use Rattle.std.proofs.Common.{◌≡◌, ℕ, List, Result, Ok, Err, sym}
+use Rattle.std.proofs.Common.{◌≡◌, ℕ, List, Result, Ok}
 use Rattle.ql_syntax.specs.Following.{Follows, Read, Stopped, NoMemory}
 use Rattle.ql_syntax.specs.Rules.{Rule, repeat, Round, More, Done, RoundsRead, Last, Next, RoundsStop, Here, Later}
 use Rattle.ql_syntax.specs.declared.cause.QlCause.{QlCause}

@@ -4,10 +4,9 @@ use Rattle.std.specs.Prelude.{IsErrAnd}
 use Rattle.ql_syntax.specs.Following.{Follows, Read, Stopped, NoMemory}
 use Rattle.ql_syntax.specs.Places.{IsMemoryOr}
 use Rattle.ql_syntax.specs.Points.{Next, unexpected}
-use Rattle.ql_syntax.specs.Rules.{Rule, ◌>>=◌, give, refuse, from, choose, by_case, BothRead, OneStops, First, Second}
+use Rattle.ql_syntax.specs.Rules.{Rule, ◌>>=◌, give, refuse, from, choose, by_case, First, Second}
 use Rattle.ql_syntax.specs.Tokens.{IsUnexpected}
 use Rattle.ql_syntax.specs.declared.cause.QlCause.{QlCause}
-use Rattle.ql_syntax.specs.declared.cause.QlCause.TheVariants as causes
 use Rattle.ql_syntax.specs.declared.stop.Stop.{Stop}
 
 -- what a test that failed says

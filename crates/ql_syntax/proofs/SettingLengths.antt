@@ -1,8 +1,6 @@
 -- A round of settings leaves less.
 use Rattle.std.proofs.Common.{List, ℕ, lit≤}
-use Rattle.ql_syntax.specs.Points.{Word}
 use Rattle.ql_syntax.specs.Settings.{format, format_named, count, setting_named, setting_value, setting, setting_round}
-use Rattle.ql_syntax.specs.WholeNumbers.{count_of}
 use Rattle.ql_syntax.specs.declared.setting_word.SettingWord.{SettingWord}
 use Rattle.ql_syntax.specs.declared.setting_word.SettingWord.TheVariants as words
 use Rattle.ql_syntax.specs.declared.setting_word.FormatWord.{FormatWord}

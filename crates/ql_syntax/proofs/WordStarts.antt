@@ -1,8 +1,8 @@
 -- What begins as a word.
 use Rattle.std.specs.Prelude.{if◌then◌else◌}
-use Rattle.std.proofs.Common.{◌≡◌, ℕ, ◌<◌, List, [], ◌∷◌, ◌++◌, ◌==◌, ◌||◌, Bool, true, false, cond, refl, sym, ◌∙◌, ap, arith, length, length-append}
+use Rattle.std.proofs.Common.{◌≡◌, ℕ, ◌<◌, List, [], ◌∷◌, ◌==◌, Bool, true, false, cond, refl, sym, ◌∙◌, ap, arith, length, length-append}
 use Rattle.std.proofs.lemmas.Grind.{common_steps}
-use Rattle.std.specs.Char.{is_ascii_alphabetic, is_ascii_alphanumeric, is_ascii_digit}
+use Rattle.std.specs.Char.{is_ascii_digit}
 use Rattle.ql_syntax.specs.QuotedTexts.{is_quote}
 use Rattle.ql_syntax.specs.Signs.{sign_of, single_sign, minus_sign, not_sign}
 use Rattle.ql_syntax.specs.Words.{IsRun, begins_with, is_word_start, is_run_byte}

@@ -4,7 +4,7 @@
 use Rattle.std.specs.Prelude.{◌≡◌, ℕ, Bool, true, false, List, None, Some}
 use Rattle.std.specs.Option.{is_some}
 use Rattle.ql_syntax.specs.OutWords.{out_word}
-use Rattle.ql_syntax.specs.Points.{Next, Word, Number, next_token, unexpected, word_at, number_at, begins_number}
+use Rattle.ql_syntax.specs.Points.{Word, Number, next_token, unexpected, word_at, number_at, begins_number}
 use Rattle.ql_syntax.specs.Rules.{Rule, ◌>>=◌, give, refuse, choose, by_case, repeat, Round, More, Done}
 use Rattle.ql_syntax.specs.WholeNumbers.{count_of}
 use Rattle.ql_syntax.specs.declared.cause.QlCause.TheVariants as causes

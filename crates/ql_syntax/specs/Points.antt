@@ -1,6 +1,6 @@
 -- The rules that read one token.
 -- Source: this project.
-use Rattle.std.specs.Prelude.{◌≡◌, ◌⊎◌, ℕ, Bool, true, false, List, drop, codes}
+use Rattle.std.specs.Prelude.{◌≡◌, ℕ, Bool, true, false, List, drop, codes}
 use Rattle.osm_model.specs.Degrees.{Decimal}
 use Rattle.ql_syntax.specs.Gaps.{gap, Between, Behind}
 use Rattle.ql_syntax.specs.Numbers.{IsNumber, IsNoNumber}

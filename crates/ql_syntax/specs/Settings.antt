@@ -3,7 +3,7 @@
 -- Source: the Overpass QL page of the OpenStreetMap wiki, "Settings"; which are left out is this
 -- project's.
 use Rattle.std.specs.Prelude.{◌≡◌, ℕ, List}
-use Rattle.ql_syntax.specs.Points.{Next, Word, next_token, pass, unexpected, a_word, a_number}
+use Rattle.ql_syntax.specs.Points.{Word, next_token, pass, unexpected, a_word, a_number}
 use Rattle.ql_syntax.specs.Rules.{Rule, ◌>>=◌, give, refuse, from, choose, by_case, repeat, Round, More, Done}
 use Rattle.ql_syntax.specs.SettingWords.{setting_of, format_of}
 use Rattle.ql_syntax.specs.WholeNumbers.{count_of}

@@ -1,6 +1,6 @@
 -- The values of numbers without a point.
 -- Source: ids of 64 bits with a sign (OpenStreetMap API 0.6); limits of 64 bits without one (this project).
-use Rattle.std.specs.Prelude.{◌≡◌, ◌⊎◌, ℕ, ◌<◌, ◌^◌, ℤ, pos, FitsSigned, None, List}
+use Rattle.std.specs.Prelude.{◌≡◌, ℕ, ◌<◌, ◌^◌, ℤ, pos, FitsSigned, None, List}
 use Rattle.std.specs.Int.{w64}
 use Rattle.std.specs.Str.Parse.{digits_value}
 use Rattle.osm_model.specs.Degrees.{Decimal, with_sign}

@@ -1,5 +1,5 @@
 use Rattle.ql_syntax.proofs.RuleLemmas.{follows_no, follows_stop, follows_then, follows_unexpected, follows_yes}
-use Rattle.ql_syntax.specs.Points.{a_number, begins_number}
+use Rattle.ql_syntax.specs.Points.{a_number}
 use Rattle.std.proofs.Common.{sym, ◌∙◌}
 use Rattle.std.proofs.Common.{◌≡◌, true, false}
 use Rattle.ql_syntax.proofs.points.next_number.Goals as goal

@@ -1,5 +1,4 @@
 use Rattle.ql_syntax.proofs.RuleLemmas.{follows_case, follows_refuse, follows_stop, follows_then}
-use Rattle.ql_syntax.specs.Points.{pass}
 use Rattle.ql_syntax.specs.Settings.{setting_value}
 use Rattle.ql_syntax.proofs.settings.skip_value.Goals as goal
 

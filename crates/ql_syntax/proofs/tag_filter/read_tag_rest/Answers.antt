@@ -1,6 +1,5 @@
 use Rattle.ql_syntax.proofs.FilterLemmas.{follows_not_in_tag}
 use Rattle.ql_syntax.proofs.RuleLemmas.{follows_give, follows_no, follows_stop, follows_then, follows_yes}
-use Rattle.ql_syntax.specs.QuotedTexts.{value}
 use Rattle.ql_syntax.specs.TagFilters.{tag_rest}
 use Rattle.std.proofs.Common.{refl}
 use Rattle.ql_syntax.proofs.tag_filter.read_tag_rest.Goals as goal

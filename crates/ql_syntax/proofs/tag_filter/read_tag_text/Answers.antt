@@ -1,5 +1,4 @@
 use Rattle.ql_syntax.proofs.RuleLemmas.{follows_stop, follows_then}
-use Rattle.ql_syntax.specs.Points.{next_token}
 use Rattle.ql_syntax.specs.TagFilters.{tag_text}
 use Rattle.ql_syntax.proofs.tag_filter.read_tag_text.Goals as goal
 

@@ -1,5 +1,4 @@
 use Rattle.ql_syntax.proofs.RuleLemmas.{follows_give, follows_stop, follows_then}
-use Rattle.ql_syntax.specs.QuotedTexts.{value}
 use Rattle.ql_syntax.specs.TagFilters.{tag_value}
 use Rattle.std.proofs.Common.{refl}
 use Rattle.ql_syntax.proofs.tag_filter.read_tag_value.Goals as goal
