@@ -133,9 +133,13 @@ within_number_here : {start : List ℕ} → Within start number_here
 unfolding number_here
 within_number_here = record { at_most = λ text n rest le reads. let e = ap (λ (x : List ℕ). length x) reads.parts in omega (arith, length-append (spelling n) rest) }
 
+pub within_number_at : (next : Next) → Within next.place (number_at next)
+unfolding number_at
+within_number_at next = within_then _ (within_from within_number_here) (λ number. within_give _)
+
 pub within_number : {start : List ℕ} → Within start a_number
-unfolding a_number number_at
-within_number = within_next _ (λ next. within_choose _ (within_then _ (within_from within_number_here) (λ number. within_give _)) (within_unexpected next))
+unfolding a_number
+within_number = within_next _ (λ next. within_choose _ (within_number_at next) (within_unexpected next))
 
 pub within_count : {start : List ℕ} (number : Decimal) (place : List ℕ) → Within start (count_of number place)
 unfolding count_of

@@ -14,3 +14,11 @@ pub mod FilterLemmas
 pub mod OutLemmas
 pub mod WordStarts
 pub mod OutLengths
+pub mod TokenLengths
+pub mod GatherLemmas
+pub mod SelectorLengths
+pub mod AreaLemmas
+pub mod TagLengths
+pub mod StatementLengths
+pub mod StatementLemmas
+pub mod QueryLemmas

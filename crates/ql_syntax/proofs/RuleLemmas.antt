@@ -97,3 +97,11 @@ follows_no first not (NoMemory stop same memory) = NoMemory stop same memory
 pub follows_case : {A X K : Type 0} {view : X → A × List ℕ} {text : List ℕ} {case actual : K} (rule : K → Rule A) {r : Result X Stop} → case ≡ actual → Follows (rule case) view text r → Follows (by_case actual rule) view text r
 unfolding by_case
 follows_case {view = view} {text = text} rule {r = r} is follows = subst (λ (k : _). Follows (rule k) view text r) is follows
+
+-- a rule of an equal value
+pub follows_at : {A X K : Type 0} {view : X → A × List ℕ} {text : List ℕ} {k same : K} (rule : K → Rule A) {r : Result X Stop} → k ≡ same → Follows (rule k) view text r → Follows (rule same) view text r
+follows_at {view = view} {text = text} rule {r = r} is follows = subst (λ (k : _). Follows (rule k) view text r) is follows
+
+-- a rule that goes on at an equal place
+pub follows_from_at : {A X : Type 0} (rule : Rule A) {view : X → A × List ℕ} {start same : List ℕ} (text : List ℕ) {r : Result X Stop} → start ≡ same → Follows rule view start r → Follows (from same rule) view text r
+follows_from_at rule {view = view} text {r = r} is follows = follows_from (subst (λ (s : List ℕ). Follows rule view s r) is follows)

@@ -1,6 +1,6 @@
 -- Rules of a grammar, and how they are put together. A place in a text is what is left of it there.
 -- Source: this project.
-use Rattle.std.specs.Prelude.{◌≡◌, ◌⊎◌, ℕ, List}
+use Rattle.std.specs.Prelude.{◌≡◌, ◌⊎◌, ℕ, List, [], ◌∷◌, ◌++◌, Option, None, Some}
 use Rattle.ql_syntax.specs.declared.cause.QlCause.{QlCause}
 
 -- a rule: as what it reads the front of a text, and what it leaves; or why it reads none there, and the
@@ -63,3 +63,17 @@ pub data RoundsStop {S A : Type 0} (round : S → Rule (Round S A)) (cause : QlC
 -- rounds, from this state on, until one gives the value of all
 unfoldable pub repeat : {S A : Type 0} → (S → Rule (Round S A)) → S → Rule A
 repeat round state = record { reads = λ text value rest. RoundsRead round value rest state text; stops = λ text cause place. RoundsStop round cause place state text }
+
+-- one more of a list, or its end
+abbrev pub gathered : {A : Type 0} → List A → Option A → Round (List A) (List A)
+gathered found None = Done found
+gathered found (Some one) = More (found ++ one ∷ [])
+
+unfoldable pub gather_round : {A : Type 0} → Rule (Option A) → List A → Rule (Round (List A) (List A))
+gather_round item found = do
+  next ← item
+  give (gathered found next)
+
+-- items one behind the other, after those found before, until there is none
+unfoldable pub gather : {A : Type 0} → Rule (Option A) → List A → Rule (List A)
+gather item found = repeat (gather_round item) found

@@ -31,8 +31,9 @@ number_of spot = record { number = decimal_of spot.number; place = spot.place.no
 abbrev pub the_number : NumberSpot → Number × List ℕ
 the_number spot = (number_of spot, spot.number.rest.now)
 
-abbrev pub the_name : (List ℕ × Bor (List ℕ)) → List ℕ × List ℕ
-the_name found = (found.0, found.1.now)
+-- the name of a set, or a key or value
+abbrev pub the_bytes : (List ℕ × Bor (List ℕ)) → List ℕ × List ℕ
+the_bytes found = (found.0, found.1.now)
 
 -- whether a round is followed by another
 abbrev pub round_of : Bool → Round (Unit {0}) (Unit {0})

@@ -5,7 +5,8 @@ use thiserror::Error;
 
 /// A text that is no query: the cause, and the place in the text.
 ///
-/// Its text is the code and the place, as `Q7 byte 5`. Want of memory stands at byte 0.
+/// Its text is the code and the place, as `Q7 byte 5`. Want of memory has no place, and its byte says
+/// nothing.
 #[derive(Clone, Copy, Debug, PartialEq, Eq, Error)]
 #[error("{cause} byte {byte}")]
 pub struct QlFault {

@@ -1,28 +1,39 @@
-//! The text of queries: its tokens, and the first of its productions, a setting.
-//!
-//! The reader of whole queries is not written here yet; what stands is proved for it.
+//! Queries of the Overpass query language, as far as the profile goes, read from text.
 //!
 //! A place in a text is what is left of it from there on. Each reader of a token takes a text whose
 //! front is to be read, and gives what it found and what is left, or a stop: a cause, and the place.
 #![tactic(auto)]
 
+mod area;
 mod cause;
 mod escape;
 mod fault;
 mod filter;
 mod gap;
 mod laws;
+mod level;
+mod list;
 mod name;
 mod number;
 mod out_options;
 mod out_word;
+mod parser;
 mod path;
+mod pick;
 mod points;
 mod ql_text;
+mod query;
 mod quoted;
+mod recursion;
+mod selection;
+mod selector;
+mod selector_word;
 mod setting_word;
 mod settings;
 mod sign;
+mod statement;
+mod statement_word;
+mod statements;
 mod stop;
 mod tag_filter;
 mod token;
@@ -34,8 +45,15 @@ pub use fault::QlFault;
 pub use filter::Filter;
 pub use laws::{one_name, one_number, one_text};
 pub use name::Name;
+pub use parser::parse;
 pub use path::Path;
+pub use pick::Pick;
 pub use ql_text::QlText;
+pub use query::Query;
+pub use recursion::Recursion;
+pub use statement::{Out, Stmt};
 
+#[cfg(test)]
+mod parser_tests;
 #[cfg(test)]
 mod tests;

@@ -2,11 +2,11 @@
 
 ghost use Rattle.std.specs.Prelude.{◌≡◌, Ok, IfOk, ℕ, List};
 ghost use Rattle.std.specs.Str.Parse.{AllDigits};
-ghost use Rattle.osm_model.specs.Degrees.{spelling};
+ghost use Rattle.osm_model.specs.Degrees.{Spells};
 ghost use Rattle.ql_syntax.specs.Following.{Follows};
 ghost use Rattle.ql_syntax.specs.NumberParts.{decimal_of};
 ghost use Rattle.ql_syntax.specs.Points.{pass, word_at, a_word, number_at, a_number, name_behind, a_name, into, begins_number};
-ghost use Rattle.ql_syntax.specs.Views.{the_rest, next_of, the_word, number_of, the_number, the_name};
+ghost use Rattle.ql_syntax.specs.Views.{the_rest, next_of, the_word, number_of, the_number, the_bytes};
 ghost use Rattle.ql_syntax.specs.WholeNumbers.{id_of, count_of};
 
 use crate::cause::QlCause;
@@ -97,7 +97,7 @@ pub fn word_at(token: Token<'_>) -> WordSpot<'_>
 /// The number that must come next.
 pub fn next_number(text: &[u8]) -> Result<NumberSpot<'_>, Stop<'_>>
     ensures follows { Follows a_number the_number text.now result }
-    ensures spelled { IfOk result (λ spot. spot.number.text.now ≡ spelling (decimal_of spot.number)) }
+    ensures spelled { IfOk result (λ spot. Spells spot.number.text.now (decimal_of spot.number)) }
     ensures digits { IfOk result (λ spot. AllDigits 10 spot.number.whole.now) }
 {
     let token = next_token(text)?;
@@ -111,7 +111,7 @@ pub fn next_number(text: &[u8]) -> Result<NumberSpot<'_>, Stop<'_>>
 /// The number that begins with this token.
 pub fn number_at(token: Token<'_>) -> Result<NumberSpot<'_>, Stop<'_>>
     ensures follows { Follows (number_at (next_of token.entry)) the_number token.entry.rest.now result }
-    ensures spelled { IfOk result (λ spot. spot.number.text.now ≡ spelling (decimal_of spot.number)) }
+    ensures spelled { IfOk result (λ spot. Spells spot.number.text.now (decimal_of spot.number)) }
     ensures digits { IfOk result (λ spot. AllDigits 10 spot.number.whole.now) }
 {
     let number = split_number(token.place)?;
@@ -130,7 +130,7 @@ pub fn begins_number(sign: Sign) -> bool
 
 /// The name of a set, which must come next.
 pub fn next_name(text: &[u8]) -> Result<(Name<'_>, &[u8]), Stop<'_>>
-    ensures { Follows a_name the_name text.now result }
+    ensures { Follows a_name the_bytes text.now result }
 {
     let token = next_token(text)?;
     if token.is(Sign::Dot) {
@@ -142,7 +142,7 @@ pub fn next_name(text: &[u8]) -> Result<(Name<'_>, &[u8]), Stop<'_>>
 
 /// The name behind its dot, which is this token.
 pub fn name_behind(dot: Token<'_>) -> Result<(Name<'_>, &[u8]), Stop<'_>>
-    ensures { Follows (name_behind (next_of dot.entry)) the_name dot.entry.rest.now result }
+    ensures { Follows (name_behind (next_of dot.entry)) the_bytes dot.entry.rest.now result }
 {
     let found = split_name(dot.place, dot.rest)?;
     Ok((Name::new(found.run), found.rest))
@@ -150,7 +150,7 @@ pub fn name_behind(dot: Token<'_>) -> Result<(Name<'_>, &[u8]), Stop<'_>>
 
 /// The set that a statement writes to, and its end: `->` and a name, or nothing, and `;`.
 pub fn read_into(text: &[u8]) -> Result<(Name<'_>, &[u8]), Stop<'_>>
-    ensures { Follows into the_name text.now result }
+    ensures { Follows into the_bytes text.now result }
 {
     let token = next_token(text)?;
     if token.is(Sign::Arrow) {

@@ -2,8 +2,8 @@
 
 ghost use Rattle.ql_syntax.specs.Following.{Follows};
 ghost use Rattle.ql_syntax.specs.TagFilters.{tag_filter, tag_rest, tag_value, tag_text, tag_text_at, tag_close, cause_in_tag};
-ghost use Rattle.ql_syntax.specs.FilterViews.{the_filter, the_text};
-ghost use Rattle.ql_syntax.specs.Views.{next_of, the_rest};
+ghost use Rattle.ql_syntax.specs.FilterViews.{the_filter};
+ghost use Rattle.ql_syntax.specs.Views.{next_of, the_rest, the_bytes};
 ghost use Rattle.std.specs.Prelude.{◌≡◌};
 
 use crate::cause::QlCause;
@@ -55,7 +55,7 @@ fn read_tag_rest<'a>(
 
 /// A key or a value, and what is left behind the `]` that follows it.
 fn read_tag_value(alloc: Global, text: &[u8]) -> Result<(QlText, &[u8]), Stop<'_>>
-    ensures { Follows tag_value the_text text.now result }
+    ensures { Follows tag_value the_bytes text.now result }
 {
     let (value, rest) = read_tag_text(alloc, text)?;
     let rest = pass_tag_close(rest)?;
@@ -64,14 +64,14 @@ fn read_tag_value(alloc: Global, text: &[u8]) -> Result<(QlText, &[u8]), Stop<'_
 
 /// A key or a value.
 fn read_tag_text(alloc: Global, text: &[u8]) -> Result<(QlText, &[u8]), Stop<'_>>
-    ensures { Follows tag_text the_text text.now result }
+    ensures { Follows tag_text the_bytes text.now result }
 {
     tag_text_at(alloc, next_token(text)?)
 }
 
 /// The key or value that begins with this token.
 fn tag_text_at(alloc: Global, token: Token<'_>) -> Result<(QlText, &[u8]), Stop<'_>>
-    ensures { Follows (tag_text_at (next_of token.entry)) the_text token.entry.rest.now result }
+    ensures { Follows (tag_text_at (next_of token.entry)) the_bytes token.entry.rest.now result }
 {
     if begins_quoted(token.place) {
         let quoted = read_quoted(alloc, token.place)?;

@@ -1,0 +1,48 @@
+-- Readers that gather a list.
+use Rattle.std.proofs.Common.{◌≡◌, ℕ, List, [], ◌∷◌, ◌++◌, Option, None, Some, Result, Ok, Err, refl, sym, ◌∙◌, ap, subst, map}
+use Rattle.std.proofs.lemmas.List.{map-append}
+use Rattle.std.specs.Prelude.{IsErrAnd}
+use Rattle.ql_syntax.specs.Following.{Follows, Read, Stopped, NoMemory}
+use Rattle.ql_syntax.specs.Rules.{Rule, ◌>>=◌, give, repeat, gather, gather_round, gathered, Round, More, Done}
+use Rattle.ql_syntax.specs.declared.stop.Stop.{Stop}
+use Rattle.ql_syntax.proofs.Lengths.{Within, within_then, within_give}
+use Rattle.ql_syntax.proofs.RoundLemmas.{Reaches, Start, Step, follows_rounds}
+use Rattle.ql_syntax.proofs.RuleLemmas.{read_of, stop_of, follows_then, follows_give, follows_stop}
+use Rattle.ql_syntax.proofs.TokenLengths.{IsOne, within_repeat}
+
+module _ {A : Type 0} {item : Rule (Option A)} {first : List A} {begin : List ℕ} where
+  -- one more
+  pub gather_next : {Y : Type 0} {found longer : List A} {one : A} {text : List ℕ} {v : Y → Option A × List ℕ} {y : Y} → Reaches (gather_round item) first begin found text
+      → Follows item v text (Ok y) → longer ≡ found ++ one ∷ [] → (v y).0 ≡ Some one → Reaches (gather_round item) first begin longer (v y).1
+  unfolding gather_round ◌>>=◌ give
+  gather_next {found = found} {longer = longer} {text = text} {v = v} {y = y} reach follows with_one is =
+      Step found longer text (v y).1 reach (record { front = (v y).0; middle = (v y).1; front_reads = read_of follows; back_reads = (ap (λ (all : List A). More all) with_one ∙ ap (λ (o : Option A). gathered found o) (sym is), refl) })
+
+  -- the end
+  pub gather_done : {X Y : Type 0} {found : List A} {text : List ℕ} {v : Y → Option A × List ℕ} {y : Y} {view : X → List A × List ℕ} {x : X} → Reaches (gather_round item) first begin found text
+      → Follows item v text (Ok y) → (v y).0 ≡ None → (view x).0 ≡ found → (view x).1 ≡ (v y).1 → Follows (gather item first) view begin (Ok x)
+  unfolding gather gather_round ◌>>=◌ give
+  gather_done {found = found} {v = v} {y = y} {view = view} {x = x} reach follows is all rest =
+      follows_rounds reach (follows_then _ follows (follows_give (ap (λ (s : List A). Done s) all ∙ sym (ap (λ (o : Option A). gathered found o) is)) rest))
+
+  -- a stop
+  pub gather_stop : {X Y : Type 0} {found : List A} {text : List ℕ} {v : Y → Option A × List ℕ} {stop : Stop} {view : X → List A × List ℕ} {r : Result X Stop} → Reaches (gather_round item) first begin found text
+      → Follows item v text (Err stop) → IsErrAnd r (λ f. f ≡ stop) → Follows (gather item first) view begin r
+  unfolding gather gather_round
+  gather_stop reach follows is = follows_rounds reach (follows_stop _ follows is)
+
+pub within_gather : {A : Type 0} {start : List ℕ} {item : Rule (Option A)} → Within start item → (found : List A) → Within start (gather item found)
+unfolding gather gather_round
+within_gather w found = within_repeat (λ (state : _). within_then _ w (λ next. within_give _)) found
+
+-- gathering begins with the same list
+pub gather_from : {A X : Type 0} (item : Rule (Option A)) {first same : List A} {text : List ℕ} {view : X → List A × List ℕ} {r : Result X Stop} → first ≡ same → Follows (gather item first) view text r → Follows (gather item same) view text r
+gather_from item {text = text} {view = view} {r = r} is follows = subst (λ (list : List _). Follows (gather item list) view text r) is follows
+
+-- one more, as it is seen
+pub mapped : {A B : Type 0} (f : A → B) {all : List A} (found : List A) (one : A) → all ≡ found ++ one ∷ [] → map f all ≡ map f found ++ f one ∷ []
+mapped f found one is = ap (map f) is ∙ map-append f found (one ∷ [])
+
+pub one_such : {A : Type 0} {o : Option A} {one : A} → o ≡ Some one → IsOne o
+one_such {o = Some a} is = tt
+one_such {o = None} is = absurd (cc)

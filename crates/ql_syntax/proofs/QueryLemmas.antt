@@ -1,0 +1,48 @@
+-- The end of a query.
+use Rattle.std.proofs.Common.{◌≡◌, ℕ, List, [], ◌∷◌, ◌++◌, Option, None, Some, Result, Ok, Err, refl, sym, ◌∙◌, ap, subst, inl, inr}
+use Rattle.std.specs.Prelude.{◌⊎◌, ◌-◌, ◌<◌, length}
+use Rattle.ql_syntax.specs.Following.{Follows, Read, Stopped, NoMemory}
+use Rattle.ql_syntax.specs.Points.{next_token}
+use Rattle.ql_syntax.specs.Queries.{query, IsText, Reads, HasFault, NoQuery}
+use Rattle.ql_syntax.specs.Rules.{Rule, ◌>>=◌, give, from, choose, repeat, gather, gather_round, gathered, Round, More, Done, RoundsRead, Last, Next}
+use Rattle.ql_syntax.specs.StatementRules.{top_statement}
+use Rattle.ql_syntax.specs.Statements.{Statement}
+use Rattle.ql_syntax.specs.declared.cause.QlCause.TheVariants as causes
+use Rattle.ql_syntax.specs.declared.fault.QlFault.{QlFault}
+use Rattle.ql_syntax.specs.declared.stop.Stop.{Stop}
+use Rattle.ql_syntax.proofs.RuleLemmas.{read_of}
+
+-- where no statement comes next, nothing is left
+none_left : (text rest : List ℕ) (front : Option Statement) → front ≡ None → top_statement.reads text front rest → rest ≡ []
+unfolding top_statement ◌>>=◌ choose from give
+none_left text rest front none reads = elim reads.back_reads [
+  | inl end ↦ end.1.1
+  | inr other ↦ (let some : None ≡ Some (other.1).front = sym none ∙ ((other.1).back_reads).0 in absurd (cc))
+]
+
+last_left : (state : List Statement) (text rest : List ℕ) (value : List Statement) → (gather_round top_statement state).reads text (Done value) rest → rest ≡ []
+unfolding gather_round ◌>>=◌ give
+last_left state text rest value reads = reads.back_reads.1 ∙ none_left text reads.middle reads.front (is_none reads.front reads.back_reads.0) reads.front_reads
+  where
+    is_none : (front : Option Statement) → Done value ≡ gathered state front → front ≡ None
+    is_none None e = refl
+    is_none (Some s) e = absurd (cc)
+
+rounds_end : (value : List Statement) (rest : List ℕ) (state : List Statement) (text : List ℕ) → RoundsRead (gather_round top_statement) value rest state text → rest ≡ []
+rounds_end value rest _ _ (Last state text reads) = last_left state text rest value reads
+rounds_end value rest _ _ (Next state next text middle reads more) = rounds_end value rest next middle more
+
+-- behind a query nothing is left
+query_ends : (text rest : List ℕ) (value : List Statement) → query.reads text value rest → rest ≡ []
+unfolding query ◌>>=◌ gather repeat
+query_ends text rest value reads = rounds_end _ _ _ _ reads.back_reads
+
+pub read_whole : {X : Type 0} {v : X → List Statement × List ℕ} {text : List ℕ} {x : X} → IsText text → Follows query v text (Ok x) → Reads text (v x).0
+read_whole {v = v} {text = text} {x = x} is follows = record { text = is; reads = subst (λ (rest : List ℕ). query.reads text (v x).0 rest) (query_ends _ _ _ (read_of follows)) (read_of follows) }
+
+pub refused_at : {X : Type 0} {v : X → List Statement × List ℕ} {text : List ℕ} {stop : Stop} {fault : QlFault} → IsText text → Follows query v text (Err stop) → fault.cause ≡ stop.cause → fault.byte ≡ length text - length stop.rest.now → (fault.cause ≡ causes.Memory) ⊎ HasFault text fault
+refused_at is (Read x same reads) cause byte = absurd (cc)
+refused_at {text = text} {stop = stop} is (Stopped at same stops) cause byte =
+    let e : stop ≡ at = cc in
+    inr (NoQuery is stop.rest.now (rw cause (subst (λ (s : Stop). query.stops text s.cause s.rest.now) (sym e) stops)) byte)
+refused_at {stop = stop} is (NoMemory at same memory) cause byte = let e : stop ≡ at = cc in inl (cause ∙ ap (λ (s : Stop). s.cause) e ∙ memory)

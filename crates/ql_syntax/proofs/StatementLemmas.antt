@@ -1,0 +1,61 @@
+-- Readers of statements that follow rules.
+use Rattle.std.proofs.Common.{◌≡◌, ℕ, zero, suc, ◌-◌, arith, List, [], ◌∷◌, map, Result, Ok, Err, refl, sym, ◌∙◌, ap, subst}
+use Rattle.std.proofs.Common.{rules}
+use Rattle.std.specs.Prelude.{IsErrAnd}
+use Rattle.std.specs.declared.alloc.Global.{Global}
+use Rattle.std.specs.declared.vec.Vec.{Vec}
+use Rattle.ql_syntax.specs.Following.{Follows}
+use Rattle.ql_syntax.specs.Points.{Next, next_token}
+use Rattle.ql_syntax.specs.Rules.{◌>>=◌, refuse, choose}
+use Rattle.ql_syntax.specs.StatementRules.{block, plain_statement, statement}
+use Rattle.ql_syntax.specs.StatementViews as views
+use Rattle.ql_syntax.specs.StatementViews.{statement_of, statements_of}
+use Rattle.ql_syntax.specs.Statements.{Statement}
+use Rattle.ql_syntax.specs.Statements as tree
+use Rattle.ql_syntax.specs.declared.cause.QlCause.TheVariants as causes
+use Rattle.ql_syntax.specs.declared.level.Level.{Level}
+use Rattle.ql_syntax.specs.declared.level.Level.TheVariants as levels
+use Rattle.ql_syntax.specs.declared.sign.Sign.TheVariants as signs
+use Rattle.ql_syntax.specs.declared.statement.Stmt.{Stmt, Row_of-Stmt, end_of-Stmt, more_of-Stmt, items-the_row-Stmt}
+use Rattle.ql_syntax.specs.declared.statement.Stmt.TheViews.{Union, the_lemmas}
+use Rattle.ql_syntax.specs.declared.stop.Stop.{Stop}
+use Rattle.ql_syntax.proofs.RuleLemmas.{follows_then, follows_stop, follows_yes, follows_no}
+
+module _ {X Y : Type 0} {v : Y → Next × List ℕ} {view : X → Statement × List ℕ} {text : List ℕ} (level : Level) where
+  -- no token comes next
+  pub at_no_token : (depth : ℕ) {stop : Stop} {r : Result X Stop} → Follows next_token v text (Err stop) → IsErrAnd r (λ f. f ≡ stop) → Follows (statement level depth) view text r
+  unfolding statement
+  at_no_token zero stops is = follows_stop _ stops is
+  at_no_token (suc depth) stops is = follows_stop _ stops is
+
+  -- a statement that doesn't begin with `(`
+  pub at_plain : (depth : ℕ) {y : Y} {r : Result X Stop} → Follows next_token v text (Ok y) → ((v y).0.sign ≡ signs.OpenParenthesis → ⊥) → Follows (plain_statement level (v y).0) view (v y).1 r → Follows (statement level depth) view text r
+  unfolding statement
+  at_plain zero token other follows = follows_then _ token (follows_no _ other follows)
+  at_plain (suc depth) token other follows = follows_then _ token (follows_no _ other follows)
+
+  -- a `(` where none may be opened
+  pub at_last_depth : {depth : ℕ} {y : Y} {r : Result X Stop} → depth ≡ 0 → Follows next_token v text (Ok y) → (v y).0.sign ≡ signs.OpenParenthesis → Follows (refuse causes.TooDeep (v y).0.place) view (v y).1 r → Follows (statement level depth) view text r
+  unfolding statement
+  at_last_depth {r = r} last token opens follows = subst (λ (d : ℕ). Follows (statement level d) view text r) (sym last) (follows_then _ token (follows_yes _ opens follows))
+
+  -- a `(` where another may be opened
+  pub at_block : {depth : ℕ} (below : ℕ) {y : Y} {r : Result X Stop} → depth ≡ suc below → Follows next_token v text (Ok y) → (v y).0.sign ≡ signs.OpenParenthesis → Follows (block (statement levels.Inner below)) view (v y).1 r → Follows (statement level depth) view text r
+  unfolding statement
+  at_block below {r = r} is token opens follows = subst (λ (d : ℕ). Follows (statement level d) view text r) (sym is) (follows_then _ token (follows_yes _ opens follows))
+
+-- the statements of a union
+row_is : (n : _) (parts : Row_of-Stmt n) → views.row_of parts ≡ tree.row_of (statements_of (items-the_row-Stmt n parts))
+row_is n end_of-Stmt = refl
+row_is n (more_of-Stmt part rest) = ap (λ (more : tree.Statements). tree.Then (statement_of part) more) (row_is _ rest)
+
+pub union_is : (parts : Vec Stmt Global) (into : List ℕ) → statement_of (Union parts into) ≡ tree.Union (tree.row_of (statements_of parts.items)) into
+union_is parts into = search (rules, the_lemmas, row_is)
+
+pub minus_is : {left first right second : Stmt} → left ≡ first → right ≡ second → (into : List ℕ) → tree.Minus (statement_of left) (statement_of right) into ≡ tree.Minus (statement_of first) (statement_of second) into
+minus_is {first = first} {right = right} l r into =
+    ap (λ (x : Stmt). tree.Minus (statement_of x) (statement_of right) into) l ∙ ap (λ (x : Stmt). tree.Minus (statement_of first) (statement_of x) into) r
+
+pub one_less : (n : ℕ) → (n ≡ 0 → ⊥) → n ≡ suc (n - 1)
+one_less zero some = absurd (some refl)
+one_less (suc n) some = omega arith

@@ -1,0 +1,125 @@
+use Rattle.std.proofs.Common.{List, [], ap, refl, rules, sym}
+use Rattle.ql_syntax.specs.Rules.{gather}
+use Rattle.ql_syntax.specs.StatementRules.{block, difference, part, statement, union}
+use Rattle.ql_syntax.specs.StatementViews.{other_statement, statement_of, statements_of}
+use Rattle.ql_syntax.specs.declared.level.Level.TheVariants as levels
+use Rattle.ql_syntax.proofs.FilterLemmas.{follows_out}
+use Rattle.ql_syntax.proofs.GatherLemmas.{gather_done, gather_from, gather_next, gather_stop, mapped, one_such}
+use Rattle.ql_syntax.proofs.RoundLemmas.{Start}
+use Rattle.ql_syntax.proofs.RuleLemmas.{follows_from, follows_from_at, follows_give, follows_no, follows_refuse, follows_stop, follows_then, follows_yes, read_of}
+use Rattle.ql_syntax.proofs.StatementLemmas.{at_block, at_last_depth, at_no_token, at_plain, minus_is, one_less, union_is}
+use Rattle.ql_syntax.proofs.StatementLengths.{part_shorter, statement_shorter}
+use Rattle.ql_syntax.proofs.statements.+statement.Goals as goal
+
+pub read_statement-returns-in_err-token : goal.read_statement-returns-in_err-token
+read_statement-returns-in_err-token n c = at_no_token c.args.level c.args.depth c.in_err-token.ensures c.from_residual.ensures.1
+
+pub read_statement-returns-then-depth-eq0 : goal.read_statement-returns-then-depth-eq0
+read_statement-returns-then-depth-eq0 n c = at_last_depth c.args.level c.if-depth-eq0.true c.in_ok-token.ensures (c.is.ensures.yes c.if-is.true) (follows_refuse c.at.ensures.cause c.at.ensures.rest)
+
+pub read_statement-returns-else-depth-eq0 : goal.read_statement-returns-else-depth-eq0
+read_statement-returns-else-depth-eq0 n c = at_block c.args.level _ (one_less c.args.depth c.if-depth-eq0.false) c.in_ok-token.ensures (c.is.ensures.yes c.if-is.true) c.read_block.ensures
+
+pub read_statement-returns-else-is : goal.read_statement-returns-else-is
+read_statement-returns-else-is n c = at_plain c.args.level c.args.depth c.in_ok-token.ensures (c.is.ensures.no c.if-is.false) c.read_plain_statement.ensures
+
+pub read_block-returns-in_err-first : goal.read_block-returns-in_err-first
+unfolding block
+read_block-returns-in_err-first n c = follows_stop _ c.in_err-first.ensures c.from_residual.ensures.1
+
+pub read_block-returns-in_err-token : goal.read_block-returns-in_err-token
+unfolding block
+read_block-returns-in_err-token n c = follows_then _ c.in_ok-first.ensures (follows_stop _ c.in_err-token.ensures c.from_residual-in_err-token.ensures.1)
+
+pub read_block-returns-then-is : goal.read_block-returns-then-is
+unfolding block
+read_block-returns-then-is n c =
+    follows_then _ c.in_ok-first.ensures (follows_then _ c.in_ok-token.ensures (follows_yes _ (c.is.ensures.yes c.if-is.true) c.read_difference.ensures))
+
+pub read_block-returns-then-is-2 : goal.read_block-returns-then-is-2
+unfolding block
+read_block-returns-then-is-2 n c =
+    follows_then _ c.in_ok-first.ensures (follows_then _ c.in_ok-token.ensures (follows_no _ (c.is.ensures.no c.if-is.false)
+    (follows_yes _ (c.is-else-is.ensures.yes c.if-is-2.true) (follows_from_at _ _ c.behind_byte.ensures c.read_difference-then-is-2.ensures))))
+
+pub read_block-returns-else-is-2 : goal.read_block-returns-else-is-2
+unfolding block
+read_block-returns-else-is-2 n c =
+    follows_then _ c.in_ok-first.ensures (follows_then _ c.in_ok-token.ensures (follows_no _ (c.is.ensures.no c.if-is.false)
+    (follows_no _ (c.is-else-is.ensures.no c.if-is-2.false) (follows_from c.read_union.ensures))))
+
+pub read_difference-returns-in_err-right : goal.read_difference-returns-in_err-right
+unfolding difference
+read_difference-returns-in_err-right n c = follows_stop _ c.in_err-right.ensures c.from_residual.ensures.1
+
+pub read_difference-returns-in_err-rest : goal.read_difference-returns-in_err-rest
+unfolding difference
+read_difference-returns-in_err-rest n c = follows_then _ c.in_ok-right.ensures (follows_stop _ c.in_err-rest.ensures c.from_residual-in_err-rest.ensures.1)
+
+pub read_difference-returns-in_err-into : goal.read_difference-returns-in_err-into
+unfolding difference
+read_difference-returns-in_err-into n c =
+    follows_then _ c.in_ok-right.ensures (follows_then _ c.in_ok-rest.ensures (follows_stop _ c.in_err-into.ensures c.from_residual-in_err-into.ensures.1))
+
+pub read_difference-returns-in_err-left : goal.read_difference-returns-in_err-left
+read_difference-returns-in_err-left n c = let h = c.from_residual-in_err-left.ensures in follows_out h.1
+
+pub read_difference-returns-in_err-right-2 : goal.read_difference-returns-in_err-right-2
+read_difference-returns-in_err-right-2 n c = let h = c.from_residual-in_err-right-2.ensures in follows_out h.1
+
+pub read_difference-returns : goal.read_difference-returns
+unfolding difference
+read_difference-returns n c = follows_then _ c.in_ok-right.ensures (follows_then _ c.in_ok-rest.ensures (follows_then _ c.in_ok-into.ensures (follows_give (minus_is (search rules) (search rules) c.in_ok-into.into) refl)))
+
+pub read_union-returns-in_err-list_of : goal.read_union-returns-in_err-list_of
+read_union-returns-in_err-list_of n c = let h = c.from_residual.ensures in follows_out h.1
+
+pub read_union-returns-in_err-parts : goal.read_union-returns-in_err-parts
+unfolding union
+read_union-returns-in_err-parts n c = follows_stop _ (gather_from _ (ap statements_of c.in_ok-list_of.ensures) c.in_err-parts.ensures) c.from_residual-in_err-parts.ensures.1
+
+pub read_union-returns-in_err-into : goal.read_union-returns-in_err-into
+unfolding union
+read_union-returns-in_err-into n c =
+    follows_then _ (gather_from _ (ap statements_of c.in_ok-list_of.ensures) c.in_ok-parts.ensures) (follows_stop _ c.in_err-into.ensures c.from_residual-in_err-into.ensures.1)
+
+pub read_union-returns : goal.read_union-returns
+unfolding union
+read_union-returns n c =
+    follows_then _ (gather_from _ (ap statements_of c.in_ok-list_of.ensures) c.in_ok-parts.ensures) (follows_then _ c.in_ok-into.ensures (follows_give (union_is c.in_ok-parts.parts c.in_ok-into.into) refl))
+
+pub read_part-returns-in_err-token : goal.read_part-returns-in_err-token
+unfolding part
+read_part-returns-in_err-token n c = follows_stop _ c.in_err-token.ensures c.from_residual.ensures.1
+
+pub read_part-returns-in_err-statement : goal.read_part-returns-in_err-statement
+unfolding part
+read_part-returns-in_err-statement n c =
+    follows_then _ c.in_ok-token.ensures (follows_no _ (c.is.ensures.no c.if-is.false) (follows_stop _ (follows_from c.in_err-statement.ensures) c.from_residual-in_err-statement.ensures.1))
+
+pub read_part-returns-then-is : goal.read_part-returns-then-is
+unfolding part
+read_part-returns-then-is n c = follows_then _ c.in_ok-token.ensures (follows_yes _ (c.is.ensures.yes c.if-is.true) (follows_give refl refl))
+
+pub read_part-returns-in_ok-statement : goal.read_part-returns-in_ok-statement
+unfolding part
+read_part-returns-in_ok-statement n c =
+    follows_then _ c.in_ok-token.ensures (follows_no _ (c.is.ensures.no c.if-is.false) (follows_then _ (follows_from c.in_ok-statement.ensures) (follows_give refl refl)))
+
+pub read_parts-loop-other-init : goal.read_parts-loop-other-init
+read_parts-loop-other-init n c = Start
+
+pub read_parts-returns-in_err-other : goal.read_parts-returns-in_err-other
+read_parts-returns-in_err-other n c = gather_stop c.loop-other.invariant c.in_err-other.ensures c.from_residual.ensures.1
+
+pub read_parts-returns-in_err-parts-in-Some : goal.read_parts-returns-in_err-parts-in-Some
+read_parts-returns-in_err-parts-in-Some n c = let h = c.from_residual-in_err-parts-in-Some.ensures in follows_out h.1
+
+pub read_parts-loop-other-smaller : goal.read_parts-loop-other-smaller
+read_parts-loop-other-smaller n c = (part_shorter (statement_shorter levels.Inner c.args.depth)).below _ _ _ (read_of c.in_ok-other.ensures)
+
+pub read_parts-loop-other-preserved : goal.read_parts-loop-other-preserved
+read_parts-loop-other-preserved n c = gather_next c.loop-other.invariant c.in_ok-other.ensures (mapped statement_of _ _ c.in_ok-parts-in-Some.ensures) (ap other_statement c.in-Some.is)
+
+pub read_parts-returns-in-None : goal.read_parts-returns-in-None
+read_parts-returns-in-None n c = gather_done c.loop-other.invariant c.in_ok-other.ensures (ap other_statement c.in-None.is) refl refl

@@ -1,0 +1,19 @@
+use Rattle.ql_syntax.proofs.RuleLemmas.{follows_case, follows_from, follows_no, follows_stop, follows_then, follows_yes}
+use Rattle.ql_syntax.specs.StatementRules.{set_statement}
+use Rattle.ql_syntax.proofs.statements.read_set_statement.Goals as goal
+
+pub returns-in_err-token : goal.returns-in_err-token
+unfolding set_statement
+returns-in_err-token c = follows_stop _ c.in_err-token.ensures c.from_residual.ensures.1
+
+pub returns-then-is : goal.returns-then-is
+unfolding set_statement
+returns-then-is c = follows_then _ c.in_ok-token.ensures (follows_yes _ (c.is.ensures.yes c.if-is.true) (follows_then _ c.word_at.ensures c.read_set_word_statement.ensures))
+
+pub returns-in-Some : goal.returns-in-Some
+unfolding set_statement
+returns-in-Some c = follows_then _ c.in_ok-token.ensures (follows_no _ (c.is.ensures.no c.if-is.false) (follows_case _ c.in-Some.ensures c.read_recursion.ensures))
+
+pub returns-in-None : goal.returns-in-None
+unfolding set_statement
+returns-in-None c = follows_then _ c.in_ok-token.ensures (follows_no _ (c.is.ensures.no c.if-is.false) (follows_case _ c.in-None.ensures (follows_from c.read_item.ensures)))

@@ -1,0 +1,37 @@
+-- What bytes read as a query, and the fault of bytes that read as none.
+-- Source: the Overpass QL page of the OpenStreetMap wiki, as far as the profile goes; the limit, the
+-- causes and their places are this project's.
+use Rattle.std.specs.Prelude.{◌≡◌, ℕ, ◌<◌, ◌≤◌, ◌-◌, List, [], length}
+use Rattle.std.specs.Str.{IsUtf8, IsValidUpTo}
+use Rattle.ql_syntax.specs.Rules.{Rule, ◌>>=◌, gather}
+use Rattle.ql_syntax.specs.Settings.{settings}
+use Rattle.ql_syntax.specs.StatementRules.{top_statement}
+use Rattle.ql_syntax.specs.Statements.{Statement}
+use Rattle.ql_syntax.specs.declared.cause.QlCause.{QlCause}
+use Rattle.ql_syntax.specs.declared.cause.QlCause.TheVariants as causes
+use Rattle.ql_syntax.specs.declared.fault.QlFault.{QlFault}
+
+-- settings, or none, and then statements to the end, or none
+unfoldable pub query : Rule (List Statement)
+query = do
+  set ← settings
+  gather top_statement []
+
+-- at most 65,536 bytes of UTF-8
+pub record IsText (bytes : List ℕ) : Type 0 where
+  pub short : length bytes ≤ 65536
+  pub utf8 : IsUtf8 bytes
+
+-- the bytes read as these statements
+pub record Reads (bytes : List ℕ) (statements : List Statement) : Type 0 where
+  pub text : IsText bytes
+  pub reads : query.reads bytes statements []
+
+-- why the bytes read as no query, and the byte where that is told: the first of these that holds
+pub data HasFault (bytes : List ℕ) (fault : QlFault) : Type 0 where
+  -- too long
+  Long : 65536 < length bytes → fault.cause ≡ causes.TooLong → fault.byte ≡ 65536 → HasFault bytes fault
+  -- not UTF-8: the first byte that isn't
+  NoText : length bytes ≤ 65536 → ¬ (IsUtf8 bytes) → fault.cause ≡ causes.NotUtf8 → IsValidUpTo bytes fault.byte → HasFault bytes fault
+  -- no query goes on so: where this is left of the bytes
+  NoQuery : IsText bytes → (place : List ℕ) → query.stops bytes fault.cause place → fault.byte ≡ length bytes - length place → HasFault bytes fault

@@ -1,0 +1,83 @@
+//! Boxes as filters.
+
+ghost use Rattle.std.specs.Prelude.{◌≡◌, ℕ, List, IfOk, IfErr};
+ghost use Rattle.osm_model.specs.Degrees.{Spells};
+ghost use Rattle.ql_syntax.specs.Areas.{AreBox, area, box_of};
+ghost use Rattle.ql_syntax.specs.Following.{Follows};
+ghost use Rattle.ql_syntax.specs.FilterViews.{the_filter, corners_of};
+ghost use Rattle.ql_syntax.specs.NumberParts.{decimal_of};
+ghost use Rattle.ql_syntax.specs.Selectors.{box_behind, corner};
+ghost use Rattle.ql_syntax.specs.Views.{number_of, the_number};
+
+use crate::cause::QlCause;
+use crate::filter::Filter;
+use crate::number::Number;
+use crate::points::{NumberSpot, next_number, pass};
+use crate::sign::Sign;
+use crate::stop::Stop;
+use osm_model::{Axis, BoxArea, Edge, ModelFault};
+
+/// The box whose first number and comma have been read, and what is left behind its `)`.
+pub fn read_box<'a>(
+    south: NumberSpot<'a>,
+    text: &'a [u8],
+) -> Result<(Filter<'a>, &'a [u8]), Stop<'a>>
+    requires { Spells south.number.text.now (decimal_of south.number) }
+    ensures { Follows (box_behind (number_of south.entry)) the_filter text.now result }
+{
+    let west = next_number(text)?;
+    let north = next_corner(west.number.rest)?;
+    let east = next_corner(north.number.rest)?;
+    let rest = pass(east.number.rest, Sign::CloseParenthesis)?;
+    let area = area_of(south, west.number, north.number, east.number)?;
+    Ok((Filter::Within(area), rest))
+}
+
+/// The number behind a comma.
+fn next_corner(text: &[u8]) -> Result<NumberSpot<'_>, Stop<'_>>
+    ensures follows { Follows corner the_number text.now result }
+    ensures spelled { IfOk result (λ spot. Spells spot.number.text.now (decimal_of spot.number)) }
+{
+    let rest = pass(text, Sign::Comma)?;
+    next_number(rest)
+}
+
+/// The box of these corners. `BadBox` at the first of them where they are none.
+fn area_of<'a>(
+    south: NumberSpot<'a>,
+    west: Number<'a>,
+    north: Number<'a>,
+    east: Number<'a>,
+) -> Result<BoxArea<'a>, Stop<'a>>
+    requires south { Spells south.number.text.now (decimal_of south.number) }
+    requires west { Spells west.text.now (decimal_of west) }
+    requires north { Spells north.text.now (decimal_of north) }
+    requires east { Spells east.text.now (decimal_of east) }
+    ensures { (text : List ℕ) → Follows (area (corners_of south.entry.number west.entry north.entry east.entry) south.entry.place.now) (λ found. (found, text)) text result }
+{
+    match new_box(south.number, west, north, east) {
+        Ok(area) => Ok(area),
+        Err(_) => Err(Stop::at(QlCause::BadBox, south.place)),
+    }
+}
+
+/// The box of these corners.
+fn new_box<'a>(
+    south: Number<'a>,
+    west: Number<'a>,
+    north: Number<'a>,
+    east: Number<'a>,
+) -> Result<BoxArea<'a>, ModelFault>
+    requires south { Spells south.text.now (decimal_of south) }
+    requires west { Spells west.text.now (decimal_of west) }
+    requires north { Spells north.text.now (decimal_of north) }
+    requires east { Spells east.text.now (decimal_of east) }
+    ensures made { IfOk result (λ found. AreBox (corners_of south.entry west.entry north.entry east.entry) × (found ≡ box_of (corners_of south.entry west.entry north.entry east.entry))) }
+    ensures refused { IfErr result (λ _. ¬ (AreBox (corners_of south.entry west.entry north.entry east.entry))) }
+{
+    let south = Edge::read(south.text, Axis::Lat)?;
+    let west = Edge::read(west.text, Axis::Lon)?;
+    let north = Edge::read(north.text, Axis::Lat)?;
+    let east = Edge::read(east.text, Axis::Lon)?;
+    BoxArea::new(south, west, north, east)
+}

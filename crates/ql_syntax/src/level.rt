@@ -1,0 +1,10 @@
+//! Levels of statements.
+
+/// Where a statement stands.
+#[derive(Clone, Copy, Debug, PartialEq, Eq)]
+pub enum Level {
+    /// In the query itself.
+    Top,
+    /// In a union or a difference.
+    Inner,
+}

@@ -1,0 +1,25 @@
+//! Lists that grow by one.
+
+ghost use Rattle.std.specs.Prelude.{◌≡◌, ◌++◌, ◌∷◌, [], IfOk};
+
+use std::alloc::{AllocError, Global};
+
+/// The list of this item alone.
+pub fn list_of<T>(alloc: Global, item: T) -> Result<Vec<T>, AllocError>
+where
+    T: Drop,
+    ensures { IfOk result (λ list. list.items ≡ item ∷ []) }
+{
+    appended(Vec::new(alloc), item)
+}
+
+/// The list with this item behind the others.
+pub fn appended<T>(list: Vec<T>, item: T) -> Result<Vec<T>, AllocError>
+where
+    T: Drop,
+    ensures { IfOk result (λ longer. longer.items ≡ list.items ++ item ∷ []) }
+{
+    let mut longer = list;
+    longer.push(item).map_err(AllocError::from)?;
+    Ok(longer)
+}

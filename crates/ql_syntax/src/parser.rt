@@ -1,0 +1,90 @@
+//! Queries, read from text.
+
+ghost use Rattle.std.specs.Prelude.{◌≡◌, ◌⊎◌, ◌-◌, [], length, IfOk, IfErr};
+ghost use Rattle.ql_syntax.specs.Following.{Follows};
+ghost use Rattle.ql_syntax.specs.Queries.{HasFault, Reads, query};
+ghost use Rattle.ql_syntax.specs.Rules.{gather};
+ghost use Rattle.ql_syntax.specs.StatementRules.{top_statement};
+ghost use Rattle.ql_syntax.specs.StatementViews.{statements_of, the_statements};
+
+use crate::cause::QlCause;
+use crate::fault::QlFault;
+use crate::list::appended;
+use crate::query::Query;
+use crate::settings::skip_settings;
+use crate::statement::Stmt;
+use crate::statements::read_top_statement;
+use crate::stop::Stop;
+use simdutf8::compat::from_utf8;
+use std::alloc::Global;
+
+/// The most bytes that a query has.
+const MAX_LEN: usize = 65_536;
+
+/// Reads a query: settings and statements of the profile, at most 65,536 bytes.
+///
+/// Refused by the first of these that holds: `TooLong` at byte 65,536; `NotUtf8` at the first byte that
+/// isn't; else the first cause from the left for which the text can't go on as a query, at its place.
+/// `Memory`, at no place, where memory runs out: then the same call may be made again. It goes over the
+/// text once. Its recursion is no deeper than unions and differences stand in one another, at most 32.
+///
+/// Source: the Overpass QL page of the OpenStreetMap wiki; which part of it is read, limits, causes and
+/// places are this project's.
+pub fn parse(alloc: Global, text: &[u8]) -> Result<Query<'_>, QlFault>
+    // What is read is spelled so.
+    ensures read { IfOk result (λ query. Reads text.now (statements_of query)) }
+    // Which fault it is.
+    ensures refused { IfErr result (λ fault. (fault.cause ≡ QlCause.Memory) ⊎ HasFault text.now fault) }
+{
+    if text.len() > MAX_LEN {
+        return Err(QlFault {
+            cause: QlCause::TooLong,
+            byte: MAX_LEN,
+        });
+    }
+    if let Err(error) = from_utf8(text) {
+        return Err(QlFault {
+            cause: QlCause::NotUtf8,
+            byte: error.valid_up_to(),
+        });
+    }
+    match read_query(alloc, text) {
+        Ok((stmts, _)) => Ok(Query::new(stmts)),
+        Err(stop) => Err(fault_at(text, stop)),
+    }
+}
+
+/// The fault of a text that can't go on at this place.
+fn fault_at(text: &[u8], stop: Stop<'_>) -> QlFault
+    ensures cause { result.cause ≡ stop.entry.cause }
+    ensures byte { result.byte ≡ length text.now - length stop.entry.rest.now }
+{
+    QlFault {
+        cause: stop.cause,
+        byte: text.len().saturating_sub(stop.rest.len()),
+    }
+}
+
+/// The statements of a text, and what is left behind them: nothing.
+fn read_query(alloc: Global, text: &[u8]) -> Result<(Vec<Stmt<'_>>, &[u8]), Stop<'_>>
+    ensures { Follows query the_statements text.now result }
+{
+    let rest = skip_settings(text)?;
+    read_statements(alloc, rest)
+}
+
+/// The statements up to the end of the text, perhaps none.
+fn read_statements(alloc: Global, text: &[u8]) -> Result<(Vec<Stmt<'_>>, &[u8]), Stop<'_>>
+    ensures { Follows (gather top_statement []) the_statements text.now result }
+{
+    let mut statements = Vec::new(alloc);
+    let mut place = text;
+    loop {
+        let (other, rest) = read_top_statement(alloc, place)?;
+        place = rest;
+        match other {
+            Some(statement) => statements = appended(statements, statement)?,
+            None => return Ok((statements, place)),
+        }
+    }
+}

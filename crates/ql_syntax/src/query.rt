@@ -1,0 +1,43 @@
+//! Queries.
+
+ghost use Rattle.std.specs.Prelude.{◌≡◌};
+
+use crate::statement::Stmt;
+use std::marker::Model;
+
+/// A query: its statements, in their order. It borrows the text that it was read from, but for the
+/// texts of its filters. Contracts see the list of its statements, and by `statements_of` their trees.
+#[derive(Debug, Drop)]
+pub struct Query<'a> {
+    stmts: Vec<Stmt<'a>>,
+}
+
+impl<'a> Model for Query<'a> {
+    ghost use Rattle.std.specs.Coded.{codes};
+    ghost use mir.Syntax.{named};
+    ghost use Rattle.std.specs.Prelude.{List, []};
+    ghost use Rattle.ql_syntax.specs.contracts.statement.Stmt as statements;
+    ghost use Rattle.ql_syntax.specs.declared.statement.Stmt.{Stmt};
+
+    ghost Value = { List Stmt };
+
+    ghost coded = { Prim.hlevel (codes, (statements.the_row (record { mir = named 0; lft = [] })).coded) };
+
+    ghost view = { λ a. a.stmts.items };
+}
+
+impl<'a> Query<'a> {
+    /// The query of these statements.
+    pub(crate) fn new(stmts: Vec<Stmt<'a>>) -> Query<'a>
+        ensures { result ≡ stmts.entry.items }
+    {
+        Query { stmts }
+    }
+
+    /// Its statements, in their order.
+    pub fn stmts(&self) -> &[Stmt<'a>]
+        ensures { result.now ≡ self.now }
+    {
+        &self.stmts
+    }
+}

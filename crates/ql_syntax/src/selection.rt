@@ -1,0 +1,83 @@
+//! Query statements.
+
+ghost use Rattle.std.specs.Prelude.{[]};
+ghost use Rattle.ql_syntax.specs.FilterViews.{the_other_filter, the_filters};
+ghost use Rattle.ql_syntax.specs.Following.{Follows};
+ghost use Rattle.ql_syntax.specs.Rules.{gather};
+ghost use Rattle.ql_syntax.specs.Selections.{a_filter, selection};
+ghost use Rattle.ql_syntax.specs.StatementViews.{the_statement};
+
+use crate::filter::Filter;
+use crate::list::appended;
+use crate::pick::Pick;
+use crate::points::{name_behind, read_into};
+use crate::selector::read_selector;
+use crate::sign::Sign;
+use crate::statement::Stmt;
+use crate::stop::Stop;
+use crate::tag_filter::read_tag_filter;
+use crate::token::next_token;
+use std::alloc::Global;
+
+/// The query statement behind the word of its kind, and what is left behind its `;`.
+pub fn read_selection(
+    alloc: Global,
+    kind: Pick,
+    text: &[u8],
+) -> Result<(Stmt<'_>, &[u8]), Stop<'_>>
+    ensures { Follows (selection kind) the_statement text.now result }
+{
+    let (filters, rest) = read_filters(alloc, kind, text)?;
+    let (into, rest) = read_into(rest)?;
+    Ok((
+        Stmt::Select {
+            kind,
+            filters,
+            into,
+        },
+        rest,
+    ))
+}
+
+/// The filters on objects of this kind, perhaps none, and what is left behind them.
+fn read_filters(
+    alloc: Global,
+    kind: Pick,
+    text: &[u8],
+) -> Result<(Vec<Filter<'_>>, &[u8]), Stop<'_>>
+    ensures { Follows (gather (a_filter kind) []) the_filters text.now result }
+{
+    let mut filters = Vec::new(alloc);
+    let mut place = text;
+    loop {
+        let (other, rest) = read_filter(alloc, kind, place)?;
+        place = rest;
+        match other {
+            Some(filter) => filters = appended(filters, filter)?,
+            None => return Ok((filters, place)),
+        }
+    }
+}
+
+/// A filter, or none where something else comes next, and what is left from there on.
+fn read_filter(
+    alloc: Global,
+    kind: Pick,
+    text: &[u8],
+) -> Result<(Option<Filter<'_>>, &[u8]), Stop<'_>>
+    ensures { Follows (a_filter kind) the_other_filter text.now result }
+{
+    let token = next_token(text)?;
+    if token.is(Sign::Dot) {
+        let (name, rest) = name_behind(token)?;
+        Ok((Some(Filter::InSet(name)), rest))
+    } else if token.is(Sign::OpenBracket) {
+        let (filter, rest) = read_tag_filter(alloc, token.rest)?;
+        Ok((Some(filter), rest))
+    } else if token.is(Sign::OpenParenthesis) {
+        let (filter, rest) = read_selector(alloc, kind, token.rest)?;
+        Ok((Some(filter), rest))
+    } else {
+        Ok((None, token.place))
+    }
+}

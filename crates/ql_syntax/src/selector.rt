@@ -1,0 +1,171 @@
+//! Filters in parentheses.
+
+ghost use Rattle.std.specs.Prelude.{◌≡◌, ◌<◌, ◌∷◌, [], Ok, IfOk, List, ℕ, length};
+ghost use Rattle.std.specs.Str.Parse.{AllDigits};
+ghost use Rattle.osm_model.specs.Degrees.{Spells};
+ghost use Rattle.ql_syntax.specs.Following.{Follows};
+ghost use Rattle.ql_syntax.specs.FilterViews.{the_filter, the_id, the_other_id, the_ids};
+ghost use Rattle.ql_syntax.specs.NumberParts.{decimal_of};
+ghost use Rattle.ql_syntax.specs.Rules.{gather};
+ghost use Rattle.ql_syntax.specs.Selectors.{an_id, id_behind, id_list, path_close, path_from, word_selector, number_selector, selector};
+ghost use Rattle.ql_syntax.specs.Views.{number_of, the_rest, word_of};
+
+use crate::area::read_box;
+use crate::cause::QlCause;
+use crate::filter::Filter;
+use crate::list::{appended, list_of};
+use crate::name::Name;
+use crate::path::Path;
+use crate::pick::Pick;
+use crate::points::{
+    NumberSpot, WordSpot, begins_number, name_behind, next_number, number_at, pass, word_at,
+};
+use crate::selector_word::{SelectorWord, selector_word};
+use crate::sign::Sign;
+use crate::stop::Stop;
+use crate::token::next_token;
+use std::alloc::Global;
+
+/// The filter behind its `(`, on objects of this kind, and what is left behind its `)`.
+///
+/// `OutsideProfile` at the word of a filter that the profile leaves out, at a path that the kind lacks, at
+/// a `:` behind a path, and at the first number of a box on another kind than nodes; `BadBox` at the first
+/// number of a box with an edge out of its range, or whose south is above its north.
+pub fn read_selector(
+    alloc: Global,
+    pick: Pick,
+    text: &[u8],
+) -> Result<(Filter<'_>, &[u8]), Stop<'_>>
+    ensures { Follows (selector pick) the_filter text.now result }
+{
+    let token = next_token(text)?;
+    if token.is(Sign::Word) {
+        read_word_selector(alloc, pick, word_at(token))
+    } else if begins_number(token.sign) {
+        let number = number_at(token)?;
+        read_number_selector(alloc, pick, number)
+    } else {
+        Err(token.unexpected())
+    }
+}
+
+/// The filter that begins with this word.
+fn read_word_selector<'a>(
+    alloc: Global,
+    pick: Pick,
+    word: WordSpot<'a>,
+) -> Result<(Filter<'a>, &'a [u8]), Stop<'a>>
+    ensures { Follows (word_selector pick (word_of word.entry)) the_filter word.entry.rest.now result }
+{
+    match selector_word(pick, word.word) {
+        SelectorWord::Ids => read_id_list(alloc, word.rest),
+        SelectorWord::Along(path) => read_path_from(path, word.rest),
+        SelectorWord::Outside => Err(Stop::at(QlCause::OutsideProfile, word.place)),
+        SelectorWord::Unknown => Err(Stop::at(QlCause::UnexpectedWord, word.place)),
+    }
+}
+
+/// The filter that begins with this number: a box, or an id.
+fn read_number_selector<'a>(
+    alloc: Global,
+    pick: Pick,
+    number: NumberSpot<'a>,
+) -> Result<(Filter<'a>, &'a [u8]), Stop<'a>>
+    requires spelled { Spells number.number.text.now (decimal_of number.number) }
+    requires digits { AllDigits 10 number.number.whole.now }
+    ensures { Follows (number_selector pick (number_of number.entry)) the_filter number.entry.number.rest.now result }
+{
+    let token = next_token(number.number.rest)?;
+    if token.is(Sign::Comma) {
+        if pick.takes_boxes() {
+            read_box(number, token.rest)
+        } else {
+            Err(Stop::at(QlCause::OutsideProfile, number.place))
+        }
+    } else if token.is(Sign::CloseParenthesis) {
+        let id = number.id()?;
+        let ids = list_of(alloc, id)?;
+        Ok((Filter::Ids(ids), token.rest))
+    } else {
+        Err(token.unexpected())
+    }
+}
+
+/// The ids behind `id`, and what is left behind their `)`.
+fn read_id_list(alloc: Global, text: &[u8]) -> Result<(Filter<'_>, &[u8]), Stop<'_>>
+    ensures { Follows id_list the_filter text.now result }
+{
+    let rest = pass(text, Sign::Colon)?;
+    let (first, rest) = next_id(rest)?;
+    let (ids, rest) = read_ids_behind(list_of(alloc, first)?, rest)?;
+    Ok((Filter::Ids(ids), rest))
+}
+
+/// These ids and those that follow, and what is left behind their `)`.
+fn read_ids_behind(first: Vec<i64>, text: &[u8]) -> Result<(Vec<i64>, &[u8]), Stop<'_>>
+    ensures { Follows (gather id_behind first.items) the_ids text.now result }
+{
+    let mut ids = first;
+    let mut place = text;
+    loop {
+        let (other, rest) = read_id_behind(place)?;
+        place = rest;
+        match other {
+            Some(id) => ids = appended(ids, id)?,
+            None => return Ok((ids, place)),
+        }
+    }
+}
+
+/// Another id, or none, and what is left behind it or the `)`.
+fn read_id_behind(text: &[u8]) -> Result<(Option<i64>, &[u8]), Stop<'_>>
+    ensures { Follows id_behind the_other_id text.now result }
+{
+    let token = next_token(text)?;
+    if token.is(Sign::Comma) {
+        let (id, rest) = next_id(token.rest)?;
+        Ok((Some(id), rest))
+    } else if token.is(Sign::CloseParenthesis) {
+        Ok((None, token.rest))
+    } else {
+        Err(token.unexpected())
+    }
+}
+
+/// The id that must come next.
+fn next_id(text: &[u8]) -> Result<(i64, &[u8]), Stop<'_>>
+    ensures { Follows an_id the_id text.now result }
+{
+    let number = next_number(text)?;
+    let id = number.id()?;
+    Ok((id, number.number.rest))
+}
+
+/// The path whose name has been read, and what is left behind its `)`.
+fn read_path_from(path: Path, text: &[u8]) -> Result<(Filter<'_>, &[u8]), Stop<'_>>
+    ensures { Follows (path_from path) the_filter text.now result }
+{
+    let token = next_token(text)?;
+    if token.is(Sign::Dot) {
+        let (name, rest) = name_behind(token)?;
+        let rest = pass_path_close(rest)?;
+        Ok((Filter::Via(path, name), rest))
+    } else {
+        let rest = pass_path_close(token.place)?;
+        Ok((Filter::Via(path, Name::default_set()), rest))
+    }
+}
+
+/// What is left behind the `)` of a path.
+fn pass_path_close(text: &[u8]) -> Result<&[u8], Stop<'_>>
+    ensures { Follows path_close the_rest text.now result }
+{
+    let token = next_token(text)?;
+    if token.is(Sign::CloseParenthesis) {
+        Ok(token.rest)
+    } else if token.is(Sign::Colon) {
+        Err(Stop::at(QlCause::OutsideProfile, token.place))
+    } else {
+        Err(token.unexpected())
+    }
+}

@@ -1,0 +1,72 @@
+//! The words that may begin a filter in parentheses.
+
+ghost use Rattle.std.specs.Prelude.{◌≡◌, ◌||◌, bytes_eq, codes};
+ghost use Rattle.ql_syntax.specs.SelectorWords.{path_of, path_word, is_outside, selector_word};
+
+use crate::path::Path;
+use crate::pick::Pick;
+use crate::word::is;
+
+/// What the first word of a filter in parentheses begins.
+#[derive(Clone, Copy, Debug, PartialEq, Eq)]
+pub enum SelectorWord {
+    /// Ids: `id`.
+    Ids,
+    /// A path that the kind allows.
+    Along(Path),
+    /// What the profile leaves out.
+    Outside,
+    /// No filter.
+    Unknown,
+}
+
+/// What this word begins behind a kind.
+pub fn selector_word(pick: Pick, word: &[u8]) -> SelectorWord
+    ensures { result ≡ selector_word pick word.now }
+{
+    if is(word, b"id") {
+        SelectorWord::Ids
+    } else if is_outside(word) {
+        SelectorWord::Outside
+    } else {
+        match path_of(word) {
+            Some(path) if pick.allows(path) => SelectorWord::Along(path),
+            Some(_) => SelectorWord::Outside,
+            None => SelectorWord::Unknown,
+        }
+    }
+}
+
+/// The path with this name.
+fn path_of(word: &[u8]) -> Option<Path>
+    ensures { result ≡ path_of word.now }
+{
+    if is(word, b"w") {
+        Some(Path::W)
+    } else if is(word, b"r") {
+        Some(Path::R)
+    } else if is(word, b"bn") {
+        Some(Path::Bn)
+    } else if is(word, b"bw") {
+        Some(Path::Bw)
+    } else if is(word, b"br") {
+        Some(Path::Br)
+    } else {
+        None
+    }
+}
+
+/// Whether the profile leaves out the filter that this word begins.
+fn is_outside(word: &[u8]) -> bool
+    ensures { result ≡ is_outside word.now }
+{
+    is(word, b"around")
+        || is(word, b"poly")
+        || is(word, b"changed")
+        || is(word, b"newer")
+        || is(word, b"user")
+        || is(word, b"uid")
+        || is(word, b"area")
+        || is(word, b"pivot")
+        || is(word, b"if")
+}
