@@ -1,5 +1,5 @@
 -- Boxes whose corners are spelled.
-use Rattle.std.proofs.Common.{◌≡◌, ℕ, List, Result, Ok, Err, refl, ◌∙◌, ap, subst, sym}
+use Rattle.std.proofs.Common.{◌≡◌, ℕ, List, Result, Ok, Err, refl, ◌∙◌, ap, subst}
 use Rattle.std.specs.Prelude.{IfOk, IfErr}
 use Rattle.osm_model.proofs.OneDecimal.{one_decimal}
 use Rattle.osm_model.specs.Boxes.{ExactBox, IsBox}

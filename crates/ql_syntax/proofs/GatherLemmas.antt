@@ -2,12 +2,12 @@
 use Rattle.std.proofs.Common.{◌≡◌, ℕ, List, [], ◌∷◌, ◌++◌, Option, None, Some, Result, Ok, Err, refl, sym, ◌∙◌, ap, subst, map}
 use Rattle.std.proofs.lemmas.List.{map-append}
 use Rattle.std.specs.Prelude.{IsErrAnd}
-use Rattle.ql_syntax.specs.Following.{Follows, Read, Stopped, NoMemory}
-use Rattle.ql_syntax.specs.Rules.{Rule, ◌>>=◌, give, repeat, gather, gather_round, gathered, Round, More, Done}
+use Rattle.ql_syntax.specs.Following.{Follows}
+use Rattle.ql_syntax.specs.Rules.{Rule, ◌>>=◌, give, gather, gather_round, gathered, More, Done}
 use Rattle.ql_syntax.specs.declared.stop.Stop.{Stop}
 use Rattle.ql_syntax.proofs.Lengths.{Within, within_then, within_give}
-use Rattle.ql_syntax.proofs.RoundLemmas.{Reaches, Start, Step, follows_rounds}
-use Rattle.ql_syntax.proofs.RuleLemmas.{read_of, stop_of, follows_then, follows_give, follows_stop}
+use Rattle.ql_syntax.proofs.RoundLemmas.{Reaches, Step, follows_rounds}
+use Rattle.ql_syntax.proofs.RuleLemmas.{read_of, follows_then, follows_give, follows_stop}
 use Rattle.ql_syntax.proofs.TokenLengths.{IsOne, within_repeat}
 
 module _ {A : Type 0} {item : Rule (Option A)} {first : List A} {begin : List ℕ} where

@@ -22,3 +22,7 @@ pub mod TagLengths
 pub mod StatementLengths
 pub mod StatementLemmas
 pub mod QueryLemmas
+pub mod DefiniteLemmas
+pub mod DefiniteTokens
+pub mod DefiniteRules
+pub mod QueryLaws

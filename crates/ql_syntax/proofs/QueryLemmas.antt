@@ -1,10 +1,9 @@
 -- The end of a query.
-use Rattle.std.proofs.Common.{◌≡◌, ℕ, List, [], ◌∷◌, ◌++◌, Option, None, Some, Result, Ok, Err, refl, sym, ◌∙◌, ap, subst, inl, inr}
-use Rattle.std.specs.Prelude.{◌⊎◌, ◌-◌, ◌<◌, length}
+use Rattle.std.proofs.Common.{◌≡◌, ℕ, List, [], Option, None, Some, Ok, Err, refl, sym, ◌∙◌, ap, subst, inl, inr}
+use Rattle.std.specs.Prelude.{◌⊎◌, ◌-◌, length}
 use Rattle.ql_syntax.specs.Following.{Follows, Read, Stopped, NoMemory}
-use Rattle.ql_syntax.specs.Points.{next_token}
 use Rattle.ql_syntax.specs.Queries.{query, IsText, Reads, HasFault, NoQuery}
-use Rattle.ql_syntax.specs.Rules.{Rule, ◌>>=◌, give, from, choose, repeat, gather, gather_round, gathered, Round, More, Done, RoundsRead, Last, Next}
+use Rattle.ql_syntax.specs.Rules.{◌>>=◌, give, from, choose, repeat, gather, gather_round, gathered, Done, RoundsRead, Last, Next}
 use Rattle.ql_syntax.specs.StatementRules.{top_statement}
 use Rattle.ql_syntax.specs.Statements.{Statement}
 use Rattle.ql_syntax.specs.declared.cause.QlCause.TheVariants as causes

@@ -1,5 +1,6 @@
 -- At a quote stands one text at most, or one fault.
 use Rattle.std.proofs.Common.{◌≡◌, ℕ, ◌<◌, List, [], ◌∷◌, ◌++◌, length, true, false, Some, None, refl, sym, ◌∙◌, ap, subst, arith, append_assoc, length-append}
+use Rattle.std.proofs.lemmas.List.{append-nil}
 use Rattle.std.specs.Char.{digit_value}
 use Rattle.std.specs.List.{AllByRecursion, flat_map}
 use Rattle.std.specs.Str.Parse.{AllDigits, digits_value}
@@ -165,3 +166,44 @@ text_or_not text v rest cause at h k =
     let again = moved text h.quote k.quote h.inside k.inside k.place k.bytes h.opens k.opens k.passes in
     let r = same_passes h.quote h.inside (h.quote ∷ rest) k.place v k.bytes h.passes again (quote_halts h.quote rest h.is_quote) (stop_halts h.quote text k.place cause at k.stops) in
     no_stop_at_quote h.quote rest text k.place cause at h.is_quote r.1 k.stops
+
+-- one fault at most
+cut_or_bad : (behind : List ℕ) → IsCutEscape behind → IsBadEscape behind → ⊥
+cut_or_bad [] cut (Letter letter rest is other none) = cc
+cut_or_bad [] cut (NoDigit digits rest b is few hexadecimal other) = cc
+cut_or_bad [] cut (NoCharacter digits rest is four hexadecimal none) = cc
+cut_or_bad (l ∷ ds) cut (Letter letter rest is other none) = let same : l ≡ letter = cc in other (sym same ∙ cut.0)
+cut_or_bad (l ∷ ds) cut (NoDigit digits rest b is few hexadecimal other) =
+    let tail : ds ≡ digits ++ b ∷ rest = cc in
+    let n = ap (λ (x : List ℕ). length x) tail in
+    let small = digit_among digits rest ds [] b (sym tail ∙ sym (append-nil ds)) (omega (arith, length-append digits (b ∷ rest))) cut.2 in
+    omega arith
+cut_or_bad (l ∷ ds) cut (NoCharacter digits rest is four hexadecimal none) =
+    let tail : ds ≡ digits ++ rest = cc in
+    let n = ap (λ (x : List ℕ). length x) tail in
+    let few = cut.1 in
+    omega (arith, length-append digits rest)
+
+one_stop : (text place : List ℕ) (c d : QlCause) (p q : List ℕ) → StopsInside text place c p → StopsInside text place d q → (c ≡ d) × (p ≡ q)
+one_stop text place c d p q (AtEnd none is at) (AtEnd nothing it spot) = (is ∙ sym it, at ∙ sym spot)
+one_stop text place c d p q (AtEnd none is at) (InEscape behind e cut it spot) = let bad : [] ≡ 92 ∷ behind = sym none ∙ e in absurd (cc)
+one_stop text place c d p q (AtEnd none is at) (AtEscape behind e bad it spot) = let no : [] ≡ 92 ∷ behind = sym none ∙ e in absurd (cc)
+one_stop text place c d p q (AtEnd none is at) (AtNul behind e it spot) = let bad : [] ≡ 0 ∷ behind = sym none ∙ e in absurd (cc)
+one_stop text place c d p q (InEscape behind e cut is at) (AtEnd nothing it spot) = let bad : [] ≡ 92 ∷ behind = sym nothing ∙ e in absurd (cc)
+one_stop text place c d p q (InEscape behind e cut is at) (InEscape more f short it spot) = (is ∙ sym it, at ∙ sym spot)
+one_stop text place c d p q (InEscape behind e cut is at) (AtEscape more f bad it spot) = let same : behind ≡ more = cc in absurd (cut_or_bad more (subst IsCutEscape same cut) bad)
+one_stop text place c d p q (InEscape behind e cut is at) (AtNul more f it spot) = let no : 92 ∷ behind ≡ 0 ∷ more = sym e ∙ f in absurd (cc)
+one_stop text place c d p q (AtEscape behind e bad is at) (AtEnd nothing it spot) = let no : [] ≡ 92 ∷ behind = sym nothing ∙ e in absurd (cc)
+one_stop text place c d p q (AtEscape behind e bad is at) (InEscape more f short it spot) = let same : more ≡ behind = cc in absurd (cut_or_bad behind (subst IsCutEscape same short) bad)
+one_stop text place c d p q (AtEscape behind e bad is at) (AtEscape more f wrong it spot) = (is ∙ sym it, at ∙ sym spot)
+one_stop text place c d p q (AtEscape behind e bad is at) (AtNul more f it spot) = let no : 92 ∷ behind ≡ 0 ∷ more = sym e ∙ f in absurd (cc)
+one_stop text place c d p q (AtNul behind e is at) (AtEnd nothing it spot) = let no : [] ≡ 0 ∷ behind = sym nothing ∙ e in absurd (cc)
+one_stop text place c d p q (AtNul behind e is at) (InEscape more f short it spot) = let no : 92 ∷ more ≡ 0 ∷ behind = sym f ∙ e in absurd (cc)
+one_stop text place c d p q (AtNul behind e is at) (AtEscape more f wrong it spot) = let no : 92 ∷ more ≡ 0 ∷ behind = sym f ∙ e in absurd (cc)
+one_stop text place c d p q (AtNul behind e is at) (AtNul more f it spot) = (is ∙ sym it, at ∙ sym spot)
+
+pub one_no_text : (text : List ℕ) (c d : QlCause) (p q : List ℕ) → IsNotQuoted text c p → IsNotQuoted text d q → (c ≡ d) × (p ≡ q)
+one_no_text text c d p q h k =
+    let again = moved text h.quote k.quote h.inside k.inside k.place k.bytes h.opens k.opens k.passes in
+    let r = same_passes h.quote h.inside h.place k.place h.bytes k.bytes h.passes again (stop_halts h.quote text h.place c p h.stops) (stop_halts h.quote text k.place d q k.stops) in
+    one_stop text h.place c d p q h.stops (subst (λ (s : List ℕ). StopsInside text s d q) (sym r.1) k.stops)

@@ -1,5 +1,5 @@
 -- What filters in parentheses leave.
-use Rattle.std.proofs.Common.{List, ℕ, [], ◌∷◌, lit≤, length, ◌≤◌, ap, arith}
+use Rattle.std.proofs.Common.{List, ℕ, [], ◌∷◌, lit≤, length, ap, arith}
 use Rattle.ql_syntax.specs.Areas.{Corners, area}
 use Rattle.ql_syntax.specs.Points.{Number, Word, pass}
 use Rattle.ql_syntax.specs.Selectors.{an_id, id_behind, id_list, path_close, path_from, selector_named, word_selector, corner, box_behind, number_selector, selector}
@@ -7,11 +7,10 @@ use Rattle.ql_syntax.specs.declared.path.Path.{Path}
 use Rattle.ql_syntax.specs.declared.pick.Pick.{Pick}
 use Rattle.ql_syntax.specs.declared.selector_word.SelectorWord.{SelectorWord}
 use Rattle.ql_syntax.specs.declared.selector_word.SelectorWord.TheVariants as words
-use Rattle.ql_syntax.specs.declared.sign.Sign.{Sign}
 use Rattle.ql_syntax.specs.declared.sign.Sign.TheVariants as signs
 use Rattle.ql_syntax.proofs.GatherLemmas.{within_gather}
 use Rattle.ql_syntax.proofs.Lengths.{Within, Shorter, within_shorter, within_then, within_next, within_choose, within_case, within_give, within_refuse, within_unexpected, within_from, within_number, within_id, within_word_at, within_number_at, shorter_pass}
-use Rattle.ql_syntax.proofs.TokenLengths.{IsAny, shorter_next, strict_sign, strict_unexpected, within_name}
+use Rattle.ql_syntax.proofs.TokenLengths.{shorter_next, strict_sign, strict_unexpected, within_name}
 
 within_an_id : {start : List ℕ} → Within start an_id
 unfolding an_id

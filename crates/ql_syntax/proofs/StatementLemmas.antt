@@ -1,12 +1,12 @@
 -- Readers of statements that follow rules.
-use Rattle.std.proofs.Common.{◌≡◌, ℕ, zero, suc, ◌-◌, arith, List, [], ◌∷◌, map, Result, Ok, Err, refl, sym, ◌∙◌, ap, subst}
+use Rattle.std.proofs.Common.{◌≡◌, ℕ, zero, suc, ◌-◌, arith, List, Result, Ok, Err, refl, sym, ◌∙◌, ap, subst}
 use Rattle.std.proofs.Common.{rules}
 use Rattle.std.specs.Prelude.{IsErrAnd}
 use Rattle.std.specs.declared.alloc.Global.{Global}
 use Rattle.std.specs.declared.vec.Vec.{Vec}
 use Rattle.ql_syntax.specs.Following.{Follows}
 use Rattle.ql_syntax.specs.Points.{Next, next_token}
-use Rattle.ql_syntax.specs.Rules.{◌>>=◌, refuse, choose}
+use Rattle.ql_syntax.specs.Rules.{refuse}
 use Rattle.ql_syntax.specs.StatementRules.{block, plain_statement, statement}
 use Rattle.ql_syntax.specs.StatementViews as views
 use Rattle.ql_syntax.specs.StatementViews.{statement_of, statements_of}

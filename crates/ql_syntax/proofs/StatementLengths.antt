@@ -1,13 +1,11 @@
 -- A statement leaves less.
-use Rattle.std.proofs.Common.{◌≡◌, ℕ, zero, suc, ◌≤◌, List, [], ◌∷◌, Option, None, Some, length, drop, lit≤, arith, inl, inr, ap, length-drop}
-use Rattle.ql_syntax.specs.Gaps.{Between}
-use Rattle.ql_syntax.specs.Outs.{out_options, out_round}
-use Rattle.ql_syntax.specs.Points.{Next, Word, next_token, unexpected, pass, word_at, name_behind, a_name, into}
-use Rattle.ql_syntax.specs.Rules.{Rule, ◌>>=◌, give, refuse, from, choose, by_case, gather, repeat}
+use Rattle.std.proofs.Common.{ℕ, zero, suc, List, [], ◌∷◌, Option, None, Some, lit≤}
+use Rattle.ql_syntax.specs.Outs.{out_options}
+use Rattle.ql_syntax.specs.Points.{Next, Word, pass, a_name, into}
+use Rattle.ql_syntax.specs.Rules.{Rule, ◌>>=◌, give, refuse, by_case}
 use Rattle.ql_syntax.specs.Selections.{a_filter, selection}
-use Rattle.ql_syntax.specs.StatementRules.{recursion_of, recursion, item, out_of, print_at, print, statement_named, word_statement, set_statement_named, set_word_statement, recursion_or_item, set_statement, recursion_at, plain_statement, part, union, difference, block, statement, top_statement}
+use Rattle.ql_syntax.specs.StatementRules.{recursion, item, out_of, print_at, print, statement_named, word_statement, set_statement_named, set_word_statement, recursion_or_item, set_statement, recursion_at, plain_statement, part, union, difference, block, statement, top_statement}
 use Rattle.ql_syntax.specs.Statements.{Statement}
-use Rattle.ql_syntax.specs.TagFilters.{tag_filter, tag_rest, tag_value, tag_text, tag_text_at, tag_close, not_in_tag}
 use Rattle.ql_syntax.specs.declared.level.Level.{Level}
 use Rattle.ql_syntax.specs.declared.level.Level.TheVariants as levels
 use Rattle.ql_syntax.specs.declared.pick.Pick.{Pick}
@@ -16,7 +14,7 @@ use Rattle.ql_syntax.specs.declared.sign.Sign.TheVariants as signs
 use Rattle.ql_syntax.specs.declared.statement_word.StatementWord.{StatementWord}
 use Rattle.ql_syntax.specs.declared.statement_word.StatementWord.TheVariants as words
 use Rattle.ql_syntax.proofs.GatherLemmas.{within_gather}
-use Rattle.ql_syntax.proofs.Lengths.{Within, Shorter, within_shorter, within_then, within_next, within_choose, within_case, within_give, within_refuse, within_unexpected, within_from, within_word_at, shorter_pass, shorter_first, shorter_second}
+use Rattle.ql_syntax.proofs.Lengths.{Within, Shorter, within_shorter, within_then, within_next, within_choose, within_give, within_unexpected, within_from, shorter_pass, shorter_first, shorter_second}
 use Rattle.ql_syntax.proofs.OutLengths.{out_round_shorter}
 use Rattle.ql_syntax.proofs.SelectorLengths.{selector_within}
 use Rattle.ql_syntax.proofs.TagLengths.{tag_filter_within}

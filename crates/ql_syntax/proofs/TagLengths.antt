@@ -1,5 +1,5 @@
 -- What filters by tags leave.
-use Rattle.std.proofs.Common.{List, ℕ, ◌∷◌, length, ◌≤◌, arith, ap, length-append}
+use Rattle.std.proofs.Common.{List, ℕ, ◌∷◌, length, arith, ap, length-append}
 use Rattle.std.specs.List.{flat_map}
 use Rattle.ql_syntax.specs.QuotedTexts.{spelling}
 use Rattle.ql_syntax.specs.Points.{Next, text_here}
@@ -12,10 +12,12 @@ not_in_tag_within next = within_refuse _ next.place
 
 text_within : {start : List ℕ} → Within start text_here
 unfolding text_here
-text_within = record { at_most = λ text value rest le reads.
-    let e = ap (λ (x : List ℕ). length x) reads.opens in
-    let p = ap (λ (x : List ℕ). length x) (reads.passes).parts in
-    omega (arith, length-append (flat_map spelling (reads.passes).pieces) (reads.quote ∷ rest)) }
+text_within = record {
+  at_most = λ text value rest le reads.
+      let e = ap (λ (x : List ℕ). length x) reads.opens in
+      let p = ap (λ (x : List ℕ). length x) (reads.passes).parts in
+      omega (arith, length-append (flat_map spelling (reads.passes).pieces) (reads.quote ∷ rest));
+}
 
 tag_text_at_within : (next : Next) → Within next.place (tag_text_at next)
 unfolding tag_text_at

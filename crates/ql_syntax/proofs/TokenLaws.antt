@@ -6,7 +6,7 @@ use Rattle.osm_model.specs.Degrees.{Decimal, IsDigits, IsFraction, BeginsOtherwi
 use Rattle.osm_model.proofs.Digits.{same_front}
 use Rattle.ql_syntax.specs.declared.cause.QlCause.{QlCause}
 use Rattle.ql_syntax.specs.Words.{IsRun, IsWord, IsName, IsNoName, begins_with, is_run_byte, is_word_start}
-use Rattle.ql_syntax.specs.Numbers.{IsNumber, IsNoNumber, NoDigit, NoFraction, is_minus, is_point}
+use Rattle.ql_syntax.specs.Numbers.{IsNumber, IsNoNumber, IsMisfit, NoDigit, NoFraction, is_minus, is_point}
 
 passes : (p q : Bool) → (p && q) ≡ true → p ≡ true
 passes true q e = refl
@@ -111,3 +111,28 @@ number_or_not text d rest cause at h (NoDigit negative parts other plain misfit)
 number_or_not text d rest cause at h (NoFraction negative whole behind digits parts place other is) =
     let r = same_signed d.negative negative d.whole whole (point d.fraction ++ rest) at h.decimal.whole digits (behind_whole d.fraction rest h.longest) (other_place at behind place) (sym (parts_of text d rest h) ∙ parts) in
     lone_point d.fraction rest behind h.decimal.fraction h.no_point other (r.2 ∙ place)
+
+-- one fault at most
+pub one_no_name : (dot behind : List ℕ) (c d : QlCause) (p q : List ℕ) → IsNoName dot behind c p → IsNoName dot behind d q → (c ≡ d) × (p ≡ q)
+one_no_name dot [] c d p q h k = (h.1.0 ∙ sym k.1.0, h.1.1 ∙ sym k.1.1)
+one_no_name dot (b ∷ behind) c d p q h k = (h.1.0 ∙ sym k.1.0, h.1.1 ∙ sym k.1.1)
+
+same_misfit : (place : List ℕ) (c d : QlCause) → IsMisfit place c → IsMisfit place d → c ≡ d
+same_misfit [] c d h k = h ∙ sym k
+same_misfit (b ∷ place) c d h k = h ∙ sym k
+
+behind_sign : (m n : Bool) (p q : List ℕ) → (m ≡ false → begins_with is_minus p ≡ false) → (n ≡ false → begins_with is_minus q ≡ false) → sign m ++ p ≡ sign n ++ q → p ≡ q
+behind_sign true true p q mp nq e = cc
+behind_sign false false p q mp nq e = e
+behind_sign true false p q mp nq e = let bad : false ≡ true = sym (nq refl) ∙ ap (λ (s : List ℕ). begins_with is_minus s) (sym e) in cc
+behind_sign false true p q mp nq e = let bad : false ≡ true = sym (mp refl) ∙ ap (λ (s : List ℕ). begins_with is_minus s) e in cc
+
+pub one_no_number : (text : List ℕ) (c d : QlCause) (p q : List ℕ) → IsNoNumber text c p → IsNoNumber text d q → (c ≡ d) × (p ≡ q)
+one_no_number text c d p q (NoDigit m parts other plain misfit) (NoDigit n pieces else bare wrong) =
+    let same = behind_sign m n p q plain bare (sym parts ∙ pieces) in
+    (same_misfit p c d misfit (subst (λ (s : List ℕ). IsMisfit s d) (sym same) wrong), same)
+one_no_number text c d p q (NoDigit m parts other plain misfit) (NoFraction n whole behind digits pieces place else is) = absurd (no_digit_here n m whole q p digits other plain (sym pieces ∙ parts))
+one_no_number text c d p q (NoFraction m whole behind digits parts place other is) (NoDigit n pieces else bare wrong) = absurd (no_digit_here m n whole p q digits else bare (sym parts ∙ pieces))
+one_no_number text c d p q (NoFraction m whole behind digits parts place other is) (NoFraction n all more figures pieces spot else it) =
+    let r = same_signed m n whole all p q digits figures (other_place p behind place) (other_place q more spot) (sym parts ∙ pieces) in
+    (is ∙ sym it, r.2)

@@ -1,10 +1,9 @@
 -- What rules leave that begin with a token.
-use Rattle.std.proofs.Common.{◌≡◌, Option, None, Some, subst, ℕ, ◌≤◌, ◌<◌, List, [], ◌∷◌, ◌++◌, length, drop, arith, refl, sym, ◌∙◌, ap, inl, inr, length-append, length-drop}
+use Rattle.std.proofs.Common.{◌≡◌, Option, None, Some, subst, ℕ, ◌≤◌, ◌<◌, List, [], ◌∷◌, ◌++◌, length, drop, arith, sym, ◌∙◌, ap, inl, inr, length-append, length-drop}
 use Rattle.osm_model.specs.Degrees.{Decimal, IsDigits, sign, point, spelling}
 use Rattle.ql_syntax.specs.Gaps.{Between}
 use Rattle.ql_syntax.specs.Numbers.{IsNumber}
 use Rattle.ql_syntax.specs.Points.{Next, Word, Number, next_token, unexpected, run_here, word_at, number_here, number_at, name_behind}
-use Rattle.ql_syntax.specs.QuotedTexts.{IsQuoted}
 use Rattle.ql_syntax.specs.Rules.{Rule, ◌>>=◌, give, refuse, from, choose, by_case, repeat, Round, RoundsRead}
 use Rattle.ql_syntax.specs.Rules as rounds
 use Rattle.ql_syntax.specs.Signs.{sign_of, len_of}
@@ -24,10 +23,12 @@ pub record ShorterWhere {A : Type 0} (IsSuch : A → Type 0) (rule : Rule A) : T
 
 module _ {A : Type 0} {IsSuch : A → Type 0} {next : Next} where
   pub strict_shorter : {rule : Rule A} → Shorter rule → Strictly IsSuch next rule
-  strict_shorter s = record { below = λ text value rest is start such reads.
-      let h = s.below text value rest reads in
-      let n = ap (λ (x : List ℕ). length x) start in
-      omega (arith, length-drop (len_of next.sign) next.place) }
+  strict_shorter s = record {
+    below = λ text value rest is start such reads.
+        let h = s.below text value rest reads in
+        let n = ap (λ (x : List ℕ). length x) start in
+        omega (arith, length-drop (len_of next.sign) next.place);
+  }
 
   pub strict_refuse : (cause : QlCause) (place : List ℕ) → Strictly IsSuch next (refuse {A = A} cause place)
   unfolding refuse
@@ -43,10 +44,12 @@ module _ {A : Type 0} {IsSuch : A → Type 0} {next : Next} where
 
   pub strict_choose : (holds : Type 0) {first other : Rule A} → Strictly IsSuch next first → Strictly IsSuch next other → Strictly IsSuch next (choose holds first other)
   unfolding choose
-  strict_choose holds f o = record { below = λ text value rest is start such reads. elim reads [
-    | inl r ↦ f.below text value rest is start such r.1
-    | inr r ↦ o.below text value rest is start such r.1
-  ] }
+  strict_choose holds f o = record {
+    below = λ text value rest is start such reads. elim reads [
+      | inl r ↦ f.below text value rest is start such r.1
+      | inr r ↦ o.below text value rest is start such r.1
+    ];
+  }
 
   pub strict_case : {K : Type 0} (k : K) (rule : K → Rule A) → ((case : K) → Strictly IsSuch next (rule case)) → Strictly IsSuch next (by_case k rule)
   unfolding by_case
@@ -55,32 +58,36 @@ module _ {A : Type 0} {IsSuch : A → Type 0} {next : Next} where
   -- behind punctuation
   pub strict_sign : (sign : Sign) → 1 ≤ len_of sign → {first other : Rule A} → ((start : List ℕ) → Within start first) → Strictly IsSuch next other → Strictly IsSuch next (choose (next.sign ≡ sign) first other)
   unfolding choose
-  strict_sign sign some f o = record { below = λ text value rest is start such reads. elim reads [
-    | inl r ↦ (
-        let l = ap len_of r.0 in
-        let b = behind_sign next.sign next.place (omega arith) is in
-        let n = ap (λ (x : List ℕ). length x) start in
-        let h = (f text).at_most text value rest (omega arith) r.1 in
-        omega arith)
-    | inr r ↦ o.below text value rest is start such r.1
-  ] }
+  strict_sign sign some f o = record {
+    below = λ text value rest is start such reads. elim reads [
+      | inl r ↦ (
+          let l = ap len_of r.0 in
+          let b = behind_sign next.sign next.place (omega arith) is in
+          let n = ap (λ (x : List ℕ). length x) start in
+          let h = (f text).at_most text value rest (omega arith) r.1 in
+          omega arith)
+      | inr r ↦ o.below text value rest is start such r.1
+    ];
+  }
 
   -- behind a word
   pub strict_word : (second : Word → Rule A) {other : Rule A} → ((word : Word) (start : List ℕ) → Within start (second word)) → Strictly IsSuch next other
       → Strictly IsSuch next (choose (next.sign ≡ signs.Word) (word_at next >>= second) other)
   unfolding choose ◌>>=◌ word_at run_here give
-  strict_word second w o = record { below = λ text value rest is start such reads. elim reads [
-    | inl r ↦ (
-        let len : len_of next.sign ≡ 0 = ap len_of r.0 in
-        let here : text ≡ next.place = start ∙ ap (λ (n : ℕ). drop n next.place) len in
-        let run = r.1.front_reads.front_reads in
-        let short = word_shorter text _ _ (sym r.0 ∙ is ∙ ap sign_of (sym here)) run in
-        let left = ap (λ (x : List ℕ). length x) r.1.front_reads.back_reads.1 in
-        let more = (w r.1.front r.1.middle).at_most r.1.middle value rest (omega arith) r.1.back_reads in
-        let same = ap (λ (x : List ℕ). length x) here in
-        omega arith)
-    | inr r ↦ o.below text value rest is start such r.1
-  ] }
+  strict_word second w o = record {
+    below = λ text value rest is start such reads. elim reads [
+      | inl r ↦ (
+          let len : len_of next.sign ≡ 0 = ap len_of r.0 in
+          let here : text ≡ next.place = start ∙ ap (λ (n : ℕ). drop n next.place) len in
+          let run = r.1.front_reads.front_reads in
+          let short = word_shorter text _ _ (sym r.0 ∙ is ∙ ap sign_of (sym here)) run in
+          let left = ap (λ (x : List ℕ). length x) r.1.front_reads.back_reads.1 in
+          let more = (w r.1.front r.1.middle).at_most r.1.middle value rest (omega arith) r.1.back_reads in
+          let same = ap (λ (x : List ℕ). length x) here in
+          omega arith)
+      | inr r ↦ o.below text value rest is start such r.1
+    ];
+  }
 
 digits_some : (digits : List ℕ) → IsDigits digits → 1 ≤ length digits
 digits_some [] is = absurd (is.0 (cc))
@@ -95,20 +102,24 @@ number_shorter place n rest is =
 -- behind a number
 pub strict_number : {A : Type 0} {IsSuch : A → Type 0} {next : Next} (second : Number → Rule A) → ((number : Number) (start : List ℕ) → Within start (second number)) → Strictly IsSuch next (number_at next >>= second)
 unfolding ◌>>=◌ number_at number_here from give
-strict_number {next = next} second w = record { below = λ text value rest is start such reads.
-    let short = number_shorter next.place _ _ reads.front_reads.front_reads in
-    let left = ap (λ (x : List ℕ). length x) reads.front_reads.back_reads.1 in
-    let more = (w reads.front reads.middle).at_most reads.middle value rest (omega arith) reads.back_reads in
-    omega arith }
+strict_number {next = next} second w = record {
+  below = λ text value rest is start such reads.
+      let short = number_shorter next.place _ _ reads.front_reads.front_reads in
+      let left = ap (λ (x : List ℕ). length x) reads.front_reads.back_reads.1 in
+      let more = (w reads.front reads.middle).at_most reads.middle value rest (omega arith) reads.back_reads in
+      omega arith;
+}
 
 -- a rule that begins with a token
 pub where_next : {A : Type 0} (IsSuch : A → Type 0) (second : Next → Rule A) → ((next : Next) → Strictly IsSuch next (second next)) → ShorterWhere IsSuch (next_token >>= second)
 unfolding ◌>>=◌ next_token
-where_next IsSuch second s = record { below = λ text value rest such reads.
-    let at = reads.front_reads in
-    let g = gap_within Between text reads.front.place at.behind_gap in
-    let h = (s reads.front).below reads.middle value rest at.sign_is at.rest_is such reads.back_reads in
-    omega arith }
+where_next IsSuch second s = record {
+  below = λ text value rest such reads.
+      let at = reads.front_reads in
+      let g = gap_within Between text reads.front.place at.behind_gap in
+      let h = (s reads.front).below reads.middle value rest at.sign_is at.rest_is such reads.back_reads in
+      omega arith;
+}
 
 abbrev pub IsAny : {A : Type 0} → A → Type 0
 IsAny value = Unit {0}
@@ -145,10 +156,12 @@ module _ {S A : Type 0} {round : S → Rule (Round S A)} (short : (state : S) �
 -- the token's place, and then no more than a value
 pub strict_from_then : {A B : Type 0} {IsSuch : B → Type 0} {next : Next} (f : A → B) {rule : Rule A} → Shorter rule → Strictly IsSuch next (from next.place rule >>= (λ x. give (f x)))
 unfolding ◌>>=◌ from give
-strict_from_then {next = next} f s = record { below = λ text value rest is start such reads.
-    let h = s.below next.place reads.front reads.middle reads.front_reads in
-    let e = ap (λ (x : List ℕ). length x) reads.back_reads.1 in
-    omega arith }
+strict_from_then {next = next} f s = record {
+  below = λ text value rest is start such reads.
+      let h = s.below next.place reads.front reads.middle reads.front_reads in
+      let e = ap (λ (x : List ℕ). length x) reads.back_reads.1 in
+      omega arith;
+}
 
 pub within_dropped : {A : Type 0} (next : Next) {rule : Rule A} → Shorter rule → Within next.place (from (drop 1 next.place) rule)
 unfolding from

@@ -7,7 +7,6 @@ use Rattle.ql_syntax.specs.Rules.{Rule, ◌>>=◌, gather}
 use Rattle.ql_syntax.specs.Settings.{settings}
 use Rattle.ql_syntax.specs.StatementRules.{top_statement}
 use Rattle.ql_syntax.specs.Statements.{Statement}
-use Rattle.ql_syntax.specs.declared.cause.QlCause.{QlCause}
 use Rattle.ql_syntax.specs.declared.cause.QlCause.TheVariants as causes
 use Rattle.ql_syntax.specs.declared.fault.QlFault.{QlFault}
 

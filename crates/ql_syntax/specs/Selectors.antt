@@ -1,10 +1,10 @@
 -- Filters in parentheses: `(1)`, `(id:1,2)`, `(w)`, `(bn.a)`, `(50,7,51,8)`.
 -- Source: the Overpass QL page of the OpenStreetMap wiki, "Filters"; which are left out is this project's.
 use Rattle.std.specs.Prelude.{◌≡◌, ℕ, ℤ, true, List, [], ◌∷◌, Option, None, Some, codes}
-use Rattle.ql_syntax.specs.Areas.{Corners, area}
+use Rattle.ql_syntax.specs.Areas.{area}
 use Rattle.ql_syntax.specs.Filters.{Filter, Ids, Within, Via}
 use Rattle.ql_syntax.specs.Picks.{takes_boxes}
-use Rattle.ql_syntax.specs.Points.{Next, Word, Number, next_token, unexpected, pass, word_at, number_at, a_number, begins_number, name_behind}
+use Rattle.ql_syntax.specs.Points.{Word, Number, next_token, unexpected, pass, word_at, number_at, a_number, begins_number, name_behind}
 use Rattle.ql_syntax.specs.Rules.{Rule, ◌>>=◌, give, refuse, from, choose, by_case, gather}
 use Rattle.ql_syntax.specs.SelectorWords.{selector_word}
 use Rattle.ql_syntax.specs.WholeNumbers.{id_of}

@@ -1,11 +1,15 @@
-//! Laws of tokens: at a place stands one at most, or one fault.
+//! Laws: at a place stands one token at most, or one fault; and bytes are one query at most, or have one
+//! fault.
 
 ghost use Rattle.std.specs.Prelude.{◌≡◌, ℕ, List};
 ghost use Rattle.osm_model.specs.Degrees.{Decimal};
 ghost use Rattle.ql_syntax.specs.Words.{IsName, IsNoName};
 ghost use Rattle.ql_syntax.specs.Numbers.{IsNumber, IsNoNumber};
+ghost use Rattle.ql_syntax.specs.Queries.{HasFault, Reads};
 ghost use Rattle.ql_syntax.specs.QuotedTexts.{IsQuoted, IsNotQuoted};
+ghost use Rattle.ql_syntax.specs.Statements.{Statement};
 ghost use Rattle.ql_syntax.specs.declared.cause.QlCause.{QlCause};
+ghost use Rattle.ql_syntax.specs.declared.fault.QlFault.{QlFault};
 
 /// A law: behind a dot stands one name of a set at most, and then no fault of one.
 pub fn one_name()
@@ -23,4 +27,19 @@ pub fn one_number()
 pub fn one_text()
     ensures one { (text bytes other rest left : List ℕ) → IsQuoted text bytes rest → IsQuoted text other left → (bytes ≡ other) × (rest ≡ left) }
     ensures never_both { (text bytes rest : List ℕ) (cause : QlCause) (at : List ℕ) → IsQuoted text bytes rest → IsNotQuoted text cause at → ⊥ }
+{}
+
+/// A law: bytes read as one query at most.
+pub fn one_query()
+    ensures { (bytes : List ℕ) (first second : List Statement) → Reads bytes first → Reads bytes second → first ≡ second }
+{}
+
+/// A law: bytes that read as a query have no fault.
+pub fn never_both()
+    ensures { (bytes : List ℕ) (statements : List Statement) (fault : QlFault) → Reads bytes statements → HasFault bytes fault → ⊥ }
+{}
+
+/// A law: bytes have one fault at most.
+pub fn one_fault()
+    ensures { (bytes : List ℕ) (first second : QlFault) → HasFault bytes first → HasFault bytes second → first ≡ second }
 {}

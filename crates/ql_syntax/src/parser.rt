@@ -1,11 +1,13 @@
 //! Queries, read from text.
 
-ghost use Rattle.std.specs.Prelude.{◌≡◌, ◌⊎◌, ◌-◌, [], length, IfOk, IfErr};
+ghost use Rattle.std.specs.Prelude.{◌≡◌, ◌⊎◌, ◌-◌, List, [], length, IfOk, IfErr};
 ghost use Rattle.ql_syntax.specs.Following.{Follows};
 ghost use Rattle.ql_syntax.specs.Queries.{HasFault, Reads, query};
 ghost use Rattle.ql_syntax.specs.Rules.{gather};
+ghost use Rattle.ql_syntax.specs.Statements.{Statement};
 ghost use Rattle.ql_syntax.specs.StatementRules.{top_statement};
 ghost use Rattle.ql_syntax.specs.StatementViews.{statements_of, the_statements};
+ghost use Rattle.ql_syntax.specs.declared.fault.QlFault.{QlFault};
 
 use crate::cause::QlCause;
 use crate::fault::QlFault;
@@ -33,7 +35,19 @@ const MAX_LEN: usize = 65_536;
 pub fn parse(alloc: Global, text: &[u8]) -> Result<Query<'_>, QlFault>
     // What is read is spelled so.
     ensures read { IfOk result (λ query. Reads text.now (statements_of query)) }
+    // What is spelled so is read, memory aside.
+    ensures only { (statements : List Statement) → Reads text.now statements → IfOk result (λ query. statements_of query ≡ statements) × IfErr result (λ fault. fault.cause ≡ QlCause.Memory) }
     // Which fault it is.
+    ensures refused { IfErr result (λ fault. (fault.cause ≡ QlCause.Memory) ⊎ HasFault text.now fault) }
+    // What has a fault is refused with it, memory aside.
+    ensures faults { (fault : QlFault) → HasFault text.now fault → IfOk result (λ _. ⊥) × IfErr result (λ told. (told.cause ≡ QlCause.Memory) ⊎ (told ≡ fault)) }
+{
+    read_text(alloc, text)
+}
+
+/// The query that a text is, or its fault.
+fn read_text(alloc: Global, text: &[u8]) -> Result<Query<'_>, QlFault>
+    ensures read { IfOk result (λ query. Reads text.now (statements_of query)) }
     ensures refused { IfErr result (λ fault. (fault.cause ≡ QlCause.Memory) ⊎ HasFault text.now fault) }
 {
     if text.len() > MAX_LEN {

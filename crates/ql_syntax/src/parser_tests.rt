@@ -202,10 +202,7 @@ fn reads_queries(rt: HostRuntime) -> Result<(), Fail> {
         ("node(-0)(id:7);", "node(id,0)(id,7)->._;"),
         ("node(w)(r.a);", "node(w._)(r.a)->._;"),
         ("way(r)(bn.a);", "way(r._)(bn.a)->._;"),
-        (
-            "rel(r)(bn)(bw.b)(br._);",
-            "rel(r._)(bn._)(bw.b)(br._)->._;",
-        ),
+        ("rel(r)(bn)(bw.b)(br._);", "rel(r._)(bn._)(bw.b)(br._)->._;"),
         ("node(50,7,51.5,8.25);", "node(box)->._;"),
         (".a;", ".a->._;"),
         (".a->.b;", ".a->.b;"),
@@ -222,10 +219,7 @@ fn reads_queries(rt: HostRuntime) -> Result<(), Fail> {
             "(((node->._;)->._;-._>->._;)->._;way->._;)->._;",
         ),
         ("out;", "._ out body;"),
-        (
-            ".a out 5 meta;out ids asc;",
-            ".a out meta 5;._ out ids;",
-        ),
+        (".a out 5 meta;out ids asc;", ".a out meta 5;._ out ids;"),
     ] {
         assert_reads(&rt, rt.alloc(), text, wanted)?;
     }
@@ -380,10 +374,7 @@ fn takes_the_first_fault_from_the_left(rt: HostRuntime) {
         fault(rt.alloc(), b"node;\xff"),
         Some((QlCause::NotUtf8, 5))
     );
-    assert_eq!(rt;
-        fault(rt.alloc(), b"~\xff"),
-        Some((QlCause::NotUtf8, 1))
-    );
+    assert_eq!(rt; fault(rt.alloc(), b"~\xff"), Some((QlCause::NotUtf8, 1)));
     assert_eq!(rt;
         fault(rt.alloc(), &[b'('; 33]),
         Some((QlCause::TooDeep, 32))
@@ -439,14 +430,14 @@ const QUERIES: [&str; 20] = [
     "(.a;->;);(.a;->>;);.b<<->.c;<;",
     "node(w.a)(r)[k!=v].b.c;way(bn)(r.x);rel(br)(bw._)(bn.y)(r);",
     "((((node(1);way(2););-rel(3););nwr[k];););out;",
-    "/* a comment */ node // and another\n[ k ] ( 1 ) -> . a ;",
+    "/* a comment */ node // and another\n[ k ] ( 1 ) -> .a ;",
     "nwr['it\"s'][\"a\\\\b\\n\\t\\'\"='\\u20ac'];out 18446744073709551615;",
     "node(1);(way(bn);rel(bn););out ids 1;>>;out ids 2;",
     "[timeout:1][out:json][out:xml];.a->.b;.b->.a;.a;",
     "node(-90,-180,90,180);node(-0.5,179.99999999999,0.25,-179.99999999999);",
     "(node(id:9223372036854775807,-9223372036854775808);way(-1););",
     "rel[type=route][route=\"bus\"]->.r;(way(r.r);node(r.r);.r;);out body;",
-    "(((((((((((((((((((((((((((((((node;););););););););););););););););););););););););););););););",
+    "((((((((((((((((((((((((((((((((node;););););););););););););););););););););););););););););););););",
     "node[3=4][_a=_][k9=\"\"];out qt;out asc;out 0;",
     "._;.__;.a1->._;._ out;",
     "(node;way;)->.x;(.x;-(.y;-.z;););.x out meta;",

@@ -20,11 +20,7 @@ use crate::token::next_token;
 use std::alloc::Global;
 
 /// The query statement behind the word of its kind, and what is left behind its `;`.
-pub fn read_selection(
-    alloc: Global,
-    kind: Pick,
-    text: &[u8],
-) -> Result<(Stmt<'_>, &[u8]), Stop<'_>>
+pub fn read_selection(alloc: Global, kind: Pick, text: &[u8]) -> Result<(Stmt<'_>, &[u8]), Stop<'_>>
     ensures { Follows (selection kind) the_statement text.now result }
 {
     let (filters, rest) = read_filters(alloc, kind, text)?;

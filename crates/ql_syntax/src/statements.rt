@@ -136,11 +136,7 @@ fn read_parts<'a>(
 
 /// A statement of a union, or none at its `)`, and what is left behind it.
 #[cycle(statement)]
-fn read_part(
-    alloc: Global,
-    depth: u32,
-    text: &[u8],
-) -> Result<(Option<Stmt<'_>>, &[u8]), Stop<'_>>
+fn read_part(alloc: Global, depth: u32, text: &[u8]) -> Result<(Option<Stmt<'_>>, &[u8]), Stop<'_>>
     ensures { Follows (part (statement Level.Inner depth)) the_other_statement text.now result }
 {
     let token = next_token(text)?;

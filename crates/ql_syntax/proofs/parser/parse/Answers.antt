@@ -1,20 +1,9 @@
-use Rattle.std.proofs.Common.{rules, arith, ◌≤◌, length, sym, subst}
-use Rattle.std.specs.Str.{IsUtf8}
-use Rattle.ql_syntax.specs.Queries.{IsText, Reads}
 use Rattle.ql_syntax.specs.StatementViews.{statements_of}
-use Rattle.ql_syntax.proofs.QueryLemmas.{read_whole, refused_at}
+use Rattle.ql_syntax.proofs.QueryLaws.{read_only, refused_only}
 use Rattle.ql_syntax.proofs.parser.parse.Goals as goal
 
-pub returns-in-Ok-clause-read : goal.returns-in-Ok-clause-read
-returns-in-Ok-clause-read c =
-    let utf8 : IsUtf8 c.args.text.now = search rules in
-    let short : length c.args.text.now ≤ 65536 = omega arith in
-    let text : IsText c.args.text.now = record { short = short; utf8 = utf8 } in
-    rw c.new.ensures (read_whole text c.in-Ok.ensures)
+pub returns-clause-only : goal.returns-clause-only
+returns-clause-only c = read_only statements_of c.read_text.result c.read_text.ensures.read c.read_text.ensures.refused
 
-pub returns-in-Err-read_query-clause-refused : goal.returns-in-Err-read_query-clause-refused
-returns-in-Err-read_query-clause-refused c =
-    let utf8 : IsUtf8 c.args.text.now = search rules in
-    let short : length c.args.text.now ≤ 65536 = omega arith in
-    let text : IsText c.args.text.now = record { short = short; utf8 = utf8 } in
-    refused_at text c.in-Err-read_query.ensures c.fault_at.ensures.cause c.fault_at.ensures.byte
+pub returns-clause-faults : goal.returns-clause-faults
+returns-clause-faults c = refused_only statements_of c.read_text.result c.read_text.ensures.read c.read_text.ensures.refused

@@ -1,10 +1,9 @@
-use Rattle.std.proofs.Common.{List, [], ap, refl, rules, sym}
-use Rattle.ql_syntax.specs.Rules.{gather}
-use Rattle.ql_syntax.specs.StatementRules.{block, difference, part, statement, union}
+use Rattle.std.proofs.Common.{ap, refl, rules}
+use Rattle.ql_syntax.specs.StatementRules.{block, difference, part, union}
 use Rattle.ql_syntax.specs.StatementViews.{other_statement, statement_of, statements_of}
 use Rattle.ql_syntax.specs.declared.level.Level.TheVariants as levels
 use Rattle.ql_syntax.proofs.FilterLemmas.{follows_out}
-use Rattle.ql_syntax.proofs.GatherLemmas.{gather_done, gather_from, gather_next, gather_stop, mapped, one_such}
+use Rattle.ql_syntax.proofs.GatherLemmas.{gather_done, gather_from, gather_next, gather_stop, mapped}
 use Rattle.ql_syntax.proofs.RoundLemmas.{Start}
 use Rattle.ql_syntax.proofs.RuleLemmas.{follows_from, follows_from_at, follows_give, follows_no, follows_refuse, follows_stop, follows_then, follows_yes, read_of}
 use Rattle.ql_syntax.proofs.StatementLemmas.{at_block, at_last_depth, at_no_token, at_plain, minus_is, one_less, union_is}

@@ -1,0 +1,5 @@
+use Rattle.ql_syntax.proofs.QueryLaws.{one_fault}
+use Rattle.ql_syntax.proofs.laws.one_fault.Goals as goal
+
+pub returns : goal.returns
+returns c = one_fault

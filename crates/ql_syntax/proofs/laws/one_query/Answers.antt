@@ -1,0 +1,5 @@
+use Rattle.ql_syntax.proofs.QueryLaws.{one_query}
+use Rattle.ql_syntax.proofs.laws.one_query.Goals as goal
+
+pub returns : goal.returns
+returns c = one_query
