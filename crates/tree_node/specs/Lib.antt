@@ -2,6 +2,7 @@ pub mod BagLaws
 pub mod Bags
 pub mod Digests
 pub mod Faults
+pub mod Held
 pub mod Keys
 pub mod NodeRefs
 pub mod Nodes

@@ -1,6 +1,6 @@
 //! What an inner node says of a child.
 
-ghost use Rattle.std.specs.Prelude.{◌≡◌, ◌++◌, ◌^◌, ◌<◌, OnOk, length};
+ghost use Rattle.std.specs.Prelude.{◌≡◌, ◌++◌, ◌^◌, ◌<◌, ◌≤◌, IfOk, OnOk, length};
 ghost use Rattle.tree_node.specs.NodeRefs.{link_of};
 ghost use Rattle.tree_node.specs.Nodes.{link};
 ghost use Rattle.tree_node.specs.Reading.{Gives, link_at};
@@ -30,7 +30,8 @@ impl<'a> Child<'a> {
     /// where its number of entries is out of range.
     #[tactic(auto, unfolding(crate::specs::Reading::link_at))]
     pub(crate) fn read_front(bytes: &'a [u8]) -> Result<(Child<'a>, &'a [u8]), NodeFault>
-        ensures { Gives (λ x. (link_of x.0, x.1.now)) result (link_at bytes.now) }
+        ensures read { Gives (λ x. (link_of x.0, x.1.now)) result (link_at bytes.now) }
+        ensures number { IfOk result (λ x. x.0.number ≤ 2 ^ 40) }
     {
         let (len, rest) = u16_at(bytes)?;
         let (greatest, rest) = bytes_of_len(len as usize, rest)?;

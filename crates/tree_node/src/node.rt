@@ -6,8 +6,8 @@ ghost use Rattle.tree_node.specs.NodeRefs.{node_read, number_of};
 ghost use Rattle.tree_node.specs.Nodes.{Node, Spells, tree_of};
 ghost use Rattle.tree_node.specs.Reading.{Gives, node_at};
 
-use crate::children::{Children, skip_children};
-use crate::entries::{Entries, skip_entries};
+use crate::children::Children;
+use crate::entries::Entries;
 use crate::fault::NodeFault;
 use crate::tree::Tree;
 
@@ -91,16 +91,16 @@ impl<'a> NodeRef<'a> {
             return Err(NodeFault::BadCount);
         }
         if level == 0 {
-            if !skip_entries(count, rest)?.is_empty() {
+            let (entries, behind) = Entries::read(count, rest)?;
+            if !behind.is_empty() {
                 return Err(NodeFault::BytesAfter);
             }
-            let entries = Entries::over(count, rest);
             return Ok(NodeRef::Leaf { tree, entries });
         }
-        if !skip_children(count, rest)?.is_empty() {
+        let (children, behind) = Children::read(count, rest)?;
+        if !behind.is_empty() {
             return Err(NodeFault::BytesAfter);
         }
-        let children = Children::over(count, rest);
         Ok(NodeRef::Inner {
             tree,
             level,

@@ -141,6 +141,11 @@ fn reads_the_leaf_of_one_object(rt: HostRuntime) -> Result<(), Fail> {
     let node = NodeRef::read(LEAF)?;
     assert_eq!(rt; node.tree(), Tree::Objects);
     let mut entries = entries_of(node).ok_or("a leaf was expected")?;
+    assert_eq!(rt; entries.number(), 1);
+    assert_eq!(rt;
+        entries.greatest(),
+        b"\x01\x80\x00\x00\x00\x00\x00\x00\x01".as_slice()
+    );
     let item = entries.next().ok_or("an entry was expected")?;
     assert_eq!(rt;
         item.key,
@@ -148,6 +153,8 @@ fn reads_the_leaf_of_one_object(rt: HostRuntime) -> Result<(), Fail> {
     );
     assert_eq!(rt; item.value, LINE);
     assert!(rt; entries.next().is_none());
+    assert_eq!(rt; entries.number(), 0);
+    assert_eq!(rt; entries.greatest(), b"".as_slice());
     Ok(())
 }
 
@@ -250,11 +257,23 @@ fn makes_the_tree_of_65_keys(rt: HostRuntime) -> Result<(), Fail> {
         return Ok(());
     };
     assert_eq!(rt; (tree, level), (Tree::Tags, 1));
+    assert_eq!(rt;
+        (children.greatest(), children.number()),
+        (b"\x40".as_slice(), 65)
+    );
     let child = children.next().ok_or("a child was expected")?;
     assert_eq!(rt; (child.greatest, child.number), (b"\x3f".as_slice(), 64));
     assert_eq!(rt; child.digest, digest_of(first.as_slice()));
+    assert_eq!(rt;
+        (children.greatest(), children.number()),
+        (b"\x40".as_slice(), 1)
+    );
     assert!(rt; children.next().is_some());
     assert!(rt; children.next().is_none());
+    assert_eq!(rt;
+        (children.greatest(), children.number()),
+        (b"".as_slice(), 0)
+    );
     Ok(())
 }
 

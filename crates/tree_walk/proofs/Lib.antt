@@ -1,4 +1,3 @@
-pub mod AgreeLemmas
 pub mod ChoiceLemmas
 pub mod CountBelow
 pub mod CountChoices
