@@ -13,9 +13,9 @@ last_from key [] = key
 last_from key (next ∷ keys) = last_from next keys
 
 -- the key before the items to come, where there is one
-abbrev pub key_before : Option (List ℕ) → List ℕ
-key_before None = []
-key_before (Some key) = key
+abbrev pub key_or_none : Option (List ℕ) → List ℕ
+key_or_none None = []
+key_or_none (Some key) = key
 
 -- a key and others behind it
 last_behind : (key : List ℕ) (keys : List (List ℕ)) → last_key (key ∷ keys) ≡ last_from key keys
@@ -51,32 +51,32 @@ no_links bytes = refl
 module _ (count i : ℕ) (low : Option (List ℕ)) (bytes all : List ℕ) where
   -- one more entry was gone over,
   pub entries_last : (x : Binding) (rest : List ℕ) → i < count → entry_at bytes ≡ Ok (x, rest)
-      → last_from (key_before low) (keys_of (entries_in (count - i) bytes)) ≡ last_from [] (keys_of (entries_in count all))
+      → last_from (key_or_none low) (keys_of (entries_in (count - i) bytes)) ≡ last_from [] (keys_of (entries_in count all))
       → last_from x.key (keys_of (entries_in (count - (i + 1)) rest)) ≡ last_from [] (keys_of (entries_in count all))
   entries_last x rest lt read so_far =
       let k : count - i ≡ suc (count - (i + 1)) = omega arith in
       let one : entries_in (count - i) bytes ≡ x ∷ entries_in (count - (i + 1)) rest = rw k (entries_one (count - (i + 1)) bytes rest x read) in
-      sym (ap (λ (es : List Binding). last_from (key_before low) (keys_of es)) one) ∙ so_far
+      sym (ap (λ (es : List Binding). last_from (key_or_none low) (keys_of es)) one) ∙ so_far
 
   -- and at the end all were
-  pub entries_held : AreBytes all → count ≤ i → last_from (key_before low) (keys_of (entries_in (count - i) bytes)) ≡ last_from [] (keys_of (entries_in count all))
-      → entries_behind count None all ≡ Ok bytes → HoldsEntries count all (key_before low)
+  pub entries_held : AreBytes all → count ≤ i → last_from (key_or_none low) (keys_of (entries_in (count - i) bytes)) ≡ last_from [] (keys_of (entries_in count all))
+      → entries_behind count None all ≡ Ok bytes → HoldsEntries count all (key_or_none low)
   entries_held fits le so_far read =
       let k : count - i ≡ 0 = omega arith in
       let none : entries_in (count - i) bytes ≡ [] = rw k (no_entries bytes) in
       record {
         whole = (entries_taken count None all bytes fits read).long;
-        last = last_is (keys_of (entries_in count all)) (key_before low) (sym so_far ∙ ap (λ (es : List Binding). last_from (key_before low) (keys_of es)) none);
+        last = last_is (keys_of (entries_in count all)) (key_or_none low) (sym so_far ∙ ap (λ (es : List Binding). last_from (key_or_none low) (keys_of es)) none);
       }
 
   -- one more link was gone over,
   pub links_last : (x : Link) (rest : List ℕ) → i < count → link_at bytes ≡ Ok (x, rest)
-      → last_from (key_before low) (greatests_of (links_in (count - i) bytes)) ≡ last_from [] (greatests_of (links_in count all))
+      → last_from (key_or_none low) (greatests_of (links_in (count - i) bytes)) ≡ last_from [] (greatests_of (links_in count all))
       → last_from x.greatest (greatests_of (links_in (count - (i + 1)) rest)) ≡ last_from [] (greatests_of (links_in count all))
   links_last x rest lt read so_far =
       let k : count - i ≡ suc (count - (i + 1)) = omega arith in
       let one : links_in (count - i) bytes ≡ x ∷ links_in (count - (i + 1)) rest = rw k (links_one (count - (i + 1)) bytes rest x read) in
-      sym (ap (λ (ls : List Link). last_from (key_before low) (greatests_of ls)) one) ∙ so_far
+      sym (ap (λ (ls : List Link). last_from (key_or_none low) (greatests_of ls)) one) ∙ so_far
 
   pub links_sum : (number : ℕ) (x : Link) (rest : List ℕ) → i < count → link_at bytes ≡ Ok (x, rest)
       → sum_by (λ (link : Link). link.number) (links_in (count - i) bytes) + number ≡ sum_by (λ (link : Link). link.number) (links_in count all)
@@ -87,15 +87,15 @@ module _ (count i : ℕ) (low : Option (List ℕ)) (bytes all : List ℕ) where
       omega (arith, ap (λ (ls : List Link). sum_by (λ (link : Link). link.number) ls) one, sum_by-cons (λ (link : Link). link.number) x (links_in (count - (i + 1)) rest), so_far)
 
   -- and at the end all were
-  pub links_held : (number : ℕ) → AreBytes all → count ≤ i → last_from (key_before low) (greatests_of (links_in (count - i) bytes)) ≡ last_from [] (greatests_of (links_in count all))
+  pub links_held : (number : ℕ) → AreBytes all → count ≤ i → last_from (key_or_none low) (greatests_of (links_in (count - i) bytes)) ≡ last_from [] (greatests_of (links_in count all))
       → sum_by (λ (link : Link). link.number) (links_in (count - i) bytes) + number ≡ sum_by (λ (link : Link). link.number) (links_in count all)
-      → links_behind count None all ≡ Ok bytes → HoldsLinks count all (key_before low) number
+      → links_behind count None all ≡ Ok bytes → HoldsLinks count all (key_or_none low) number
   links_held number fits le so_far sum read =
       let k : count - i ≡ 0 = omega arith in
       let none : links_in (count - i) bytes ≡ [] = rw k (no_links bytes) in
       record {
         whole = (links_taken count None all bytes fits read).long;
-        last = last_is (greatests_of (links_in count all)) (key_before low) (sym so_far ∙ ap (λ (ls : List Link). last_from (key_before low) (greatests_of ls)) none);
+        last = last_is (greatests_of (links_in count all)) (key_or_none low) (sym so_far ∙ ap (λ (ls : List Link). last_from (key_or_none low) (greatests_of ls)) none);
         below = omega (arith, ap (λ (ls : List Link). sum_by (λ (link : Link). link.number) ls) none, sum);
       }
 

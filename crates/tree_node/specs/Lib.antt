@@ -13,6 +13,7 @@ pub mod Reading
 pub mod RecorderLaws
 pub mod Recorders
 pub mod Shelves
+pub mod Skips
 pub mod Stocks
 pub mod Trees
 pub mod Writing

@@ -1,16 +1,18 @@
 //! The children of an inner node, one after the other.
 
 ghost use Rattle.std.specs.Iterator.{YieldsFirstBy, item_count};
+ghost use Rattle.std.specs.Option.{option_copied};
 ghost use Rattle.std.specs.Prelude.{◌≡◌, IfOk, None, sum_by};
 ghost use Rattle.tree_node.specs.Held.{HoldsLinks};
 ghost use Rattle.tree_node.specs.NodeRefs.{link_of};
-ghost use Rattle.tree_node.specs.Nodes.{Link, greatests_of};
+ghost use Rattle.tree_node.specs.Nodes.{AreBytes, Link, greatests_of};
 ghost use Rattle.tree_node.specs.Reading.{Gives, links_behind, links_in};
+ghost use Rattle.tree_node.specs.Skips.{from_key, key_before};
 ghost use Rattle.tree_node.specs.Trees.{last_key};
 
 use crate::child::Child;
 use crate::fault::NodeFault;
-use crate::order::is_above;
+use crate::order::{is_above, is_below};
 use std::marker::Model;
 
 /// The children of an inner node that are still to come, in rising order of their greatest keys. Each
@@ -88,6 +90,27 @@ impl<'a> Children<'a> {
             0 => b"",
             _ => self.greatest,
         }
+    }
+
+    /// The children from the first one on whose greatest key isn't below this one, and the greatest key
+    /// of the one before it, where there is one.
+    pub fn skip_below(self, key: &[u8]) -> (Option<&'a [u8]>, Children<'a>)
+        ensures before { option_copied result.0 ≡ key_before (λ (link : Link). link.greatest) key.now None self.entry }
+        ensures children { result.1 ≡ from_key (λ (link : Link). link.greatest) key.now self.entry }
+        // As its type says.
+        ensures bytes { AreBytes key.now }
+    {
+        let mut before = None;
+        let mut found = self;
+        let mut ahead = found.again();
+        while let Some(child) = ahead.next() {
+            if !is_below(child.greatest, key) {
+                return (before, found);
+            }
+            before = Some(child.greatest);
+            found = ahead.again();
+        }
+        (before, found)
     }
 
     /// This many children at the front of the bytes, and what stands behind them. Their keys have to

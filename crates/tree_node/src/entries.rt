@@ -4,13 +4,14 @@ ghost use Rattle.std.specs.Iterator.{YieldsFirstBy, item_count};
 ghost use Rattle.std.specs.Prelude.{◌≡◌, IfOk, None, length};
 ghost use Rattle.tree_node.specs.Held.{HoldsEntries};
 ghost use Rattle.tree_node.specs.NodeRefs.{binding_of};
-ghost use Rattle.tree_node.specs.Nodes.{keys_of};
+ghost use Rattle.tree_node.specs.Nodes.{Binding, keys_of};
 ghost use Rattle.tree_node.specs.Reading.{Gives, entries_behind, entries_in};
+ghost use Rattle.tree_node.specs.Skips.{from_key};
 ghost use Rattle.tree_node.specs.Trees.{last_key};
 
 use crate::fault::NodeFault;
 use crate::item::Item;
-use crate::order::is_above;
+use crate::order::{is_above, is_below};
 use std::marker::Model;
 
 /// The entries of a leaf that are still to come, in rising order of their keys. Each is read from
@@ -83,6 +84,21 @@ impl<'a> Entries<'a> {
             0 => b"",
             _ => self.greatest,
         }
+    }
+
+    /// The entries from the first one on whose key isn't below this one.
+    pub fn skip_below(self, key: &[u8]) -> Entries<'a>
+        ensures { result ≡ from_key (λ (entry : Binding). entry.key) key.now self.entry }
+    {
+        let mut found = self;
+        let mut ahead = found.again();
+        while let Some(item) = ahead.next() {
+            if !is_below(item.key, key) {
+                return found;
+            }
+            found = ahead.again();
+        }
+        found
     }
 
     /// This many entries at the front of the bytes, and what stands behind them. Their keys have to

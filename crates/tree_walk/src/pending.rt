@@ -71,14 +71,13 @@ pub(crate) fn pick<'a>(
         × (spots_of pending.new.items ≡ spots_of pending.old.items ++ picked)
         × AreThose (IsMetChild (range_of range.now)) (children_placed (option_copied left.entry) children.entry) picked) }
 {
-    let mut bound = left;
+    let (before, children) = children.skip_below(range.lo);
+    let mut bound = before.or(left);
     for child in children {
-        if range.starts_by(child.greatest) {
-            if !range.goes_on_above(bound) {
-                return Ok(());
-            }
-            pending.push(Pending { left: bound, child })?;
+        if !range.goes_on_above(bound) {
+            return Ok(());
         }
+        pending.push(Pending { left: bound, child })?;
         bound = Some(child.greatest);
     }
     Ok(())

@@ -3,7 +3,7 @@ use Rattle.std.specs.Option.{option_copied}
 use Rattle.std.proofs.lemmas.Result.{err_from_is_err_and}
 use Rattle.tree_node.specs.Held.{HoldsLinks}
 use Rattle.tree_node.specs.NodeRefs.{link_of}
-use Rattle.tree_node.proofs.HeldLemmas.{key_before, links_held, links_last, links_sum}
+use Rattle.tree_node.proofs.HeldLemmas.{key_or_none, links_held, links_last, links_sum}
 use Rattle.tree_node.proofs.SkipLemmas.{links_fail, links_stop, links_go, links_end}
 use Rattle.tree_node.proofs.children.skip_children.Goals as goal
 
@@ -34,7 +34,7 @@ returns-in-Some-clause-behind c = links_end c.args.count c.loop.counter (option_
 pub returns-in-Some-clause-held : goal.returns-in-Some-clause-held
 returns-in-Some-clause-held c =
     let behind = links_end c.args.count c.loop.counter (option_copied c.loop.low) c.loop.rest.now _ c.loop-test.false c.loop.invariant.behind in
-    subst (λ (key : List ℕ). HoldsLinks c.args.count c.args.bytes.now key c.loop.number) (ap (λ (low : Option (Bor (List ℕ))). key_before (option_copied low)) c.in-Some.is)
+    subst (λ (key : List ℕ). HoldsLinks c.args.count c.args.bytes.now key c.loop.number) (ap (λ (low : Option (Bor (List ℕ))). key_or_none (option_copied low)) c.in-Some.is)
     (links_held c.args.count c.loop.counter (option_copied c.loop.low) c.loop.rest.now c.args.bytes.now c.loop.number (λ i. omega (arith, c.type_inv.bytes i)) c.loop-test.false c.loop.invariant.last c.loop.invariant.below behind)
 
 pub returns-in-None-clause-behind : goal.returns-in-None-clause-behind
@@ -43,5 +43,5 @@ returns-in-None-clause-behind c = links_end c.args.count c.loop.counter (option_
 pub returns-in-None-clause-held : goal.returns-in-None-clause-held
 returns-in-None-clause-held c =
     let behind = links_end c.args.count c.loop.counter (option_copied c.loop.low) c.loop.rest.now _ c.loop-test.false c.loop.invariant.behind in
-    subst (λ (key : List ℕ). HoldsLinks c.args.count c.args.bytes.now key c.loop.number) (ap (λ (low : Option (Bor (List ℕ))). key_before (option_copied low)) c.in-None.is)
+    subst (λ (key : List ℕ). HoldsLinks c.args.count c.args.bytes.now key c.loop.number) (ap (λ (low : Option (Bor (List ℕ))). key_or_none (option_copied low)) c.in-None.is)
     (links_held c.args.count c.loop.counter (option_copied c.loop.low) c.loop.rest.now c.args.bytes.now c.loop.number (λ i. omega (arith, c.type_inv.bytes i)) c.loop-test.false c.loop.invariant.last c.loop.invariant.below behind)

@@ -3,7 +3,7 @@ use Rattle.std.specs.Option.{option_copied}
 use Rattle.std.proofs.lemmas.Result.{err_from_is_err_and}
 use Rattle.tree_node.specs.Held.{HoldsEntries}
 use Rattle.tree_node.specs.NodeRefs.{binding_of}
-use Rattle.tree_node.proofs.HeldLemmas.{key_before, entries_held, entries_last}
+use Rattle.tree_node.proofs.HeldLemmas.{key_or_none, entries_held, entries_last}
 use Rattle.tree_node.proofs.SkipLemmas.{entries_fail, entries_stop, entries_go, entries_end}
 use Rattle.tree_node.proofs.entries.skip_entries.Goals as goal
 
@@ -31,7 +31,7 @@ returns-in-Some-clause-behind c = entries_end c.args.count c.loop.counter (optio
 pub returns-in-Some-clause-greatest : goal.returns-in-Some-clause-greatest
 returns-in-Some-clause-greatest c =
     let behind = entries_end c.args.count c.loop.counter (option_copied c.loop.low) c.loop.rest.now _ c.loop-test.false c.loop.invariant.behind in
-    subst (λ (key : List ℕ). HoldsEntries c.args.count c.args.bytes.now key) (ap (λ (low : Option (Bor (List ℕ))). key_before (option_copied low)) c.in-Some.is)
+    subst (λ (key : List ℕ). HoldsEntries c.args.count c.args.bytes.now key) (ap (λ (low : Option (Bor (List ℕ))). key_or_none (option_copied low)) c.in-Some.is)
     (entries_held c.args.count c.loop.counter (option_copied c.loop.low) c.loop.rest.now c.args.bytes.now (λ i. omega (arith, c.type_inv.bytes i)) c.loop-test.false c.loop.invariant.last behind)
 
 pub returns-in-None-clause-behind : goal.returns-in-None-clause-behind
@@ -40,5 +40,5 @@ returns-in-None-clause-behind c = entries_end c.args.count c.loop.counter (optio
 pub returns-in-None-clause-greatest : goal.returns-in-None-clause-greatest
 returns-in-None-clause-greatest c =
     let behind = entries_end c.args.count c.loop.counter (option_copied c.loop.low) c.loop.rest.now _ c.loop-test.false c.loop.invariant.behind in
-    subst (λ (key : List ℕ). HoldsEntries c.args.count c.args.bytes.now key) (ap (λ (low : Option (Bor (List ℕ))). key_before (option_copied low)) c.in-None.is)
+    subst (λ (key : List ℕ). HoldsEntries c.args.count c.args.bytes.now key) (ap (λ (low : Option (Bor (List ℕ))). key_or_none (option_copied low)) c.in-None.is)
     (entries_held c.args.count c.loop.counter (option_copied c.loop.low) c.loop.rest.now c.args.bytes.now (λ i. omega (arith, c.type_inv.bytes i)) c.loop-test.false c.loop.invariant.last behind)
