@@ -1,6 +1,8 @@
 -- What the reading of a node knows of its items, as a loop goes over them.
-use Rattle.std.proofs.Common.{◌≡◌, ℕ, suc, ◌+◌, ◌-◌, ◌≤◌, ◌<◌, List, [], ◌∷◌, length, sum_by, Option, Some, None, Ok, refl, sym, ap, ◌∙◌, arith}
+use Rattle.std.proofs.Common.{◌≡◌, ◌≢◌, ℕ, zero, suc, ◌+◌, ◌-◌, ◌≤◌, ◌<◌, List, [], ◌∷◌, length, sum_by, Option, Some, None, Result, Ok, Err, refl, sym, ap, ◌∙◌, arith}
 use Rattle.std.proofs.lemmas.List.Sums.{sum_by-cons}
+use Rattle.std.specs.Result.{IsOk}
+use Rattle.tree_node.specs.declared.fault.NodeFault.{NodeFault}
 use Rattle.tree_node.specs.Held.{IsLastOf, HoldsEntries, HoldsLinks}
 use Rattle.tree_node.specs.Nodes.{AreBytes, Binding, Link, keys_of, greatests_of}
 use Rattle.tree_node.specs.Reading.{entry_at, link_at, entries_behind, links_behind, entries_in, links_in, and_more}
@@ -108,3 +110,18 @@ links_behind_first n bytes rest greatest number x read held =
       last = last_of_rest x.greatest (greatests_of (links_in n rest)) greatest (rw one at held.last);
       below = omega (arith, ap (λ (ls : List Link). sum_by (λ (link : Link). link.number) ls) one, sum_by-cons (λ (link : Link). link.number) x (links_in n rest), held.below);
     }
+
+-- where some are still to come, the bytes begin with one
+some_read : {X : Type 0} (r : Result (X × List ℕ) NodeFault) (others : List ℕ → List X) (n : ℕ) → length (and_more r others) ≡ suc n → IsOk r
+some_read (Ok x) others n long = refl
+some_read (Err e) others n long = absurd (omega (arith, long))
+
+pub entries_begin : (n : ℕ) (bytes greatest : List ℕ) → n ≢ 0 → HoldsEntries n bytes greatest → IsOk (entry_at bytes)
+unfolding entries_in
+entries_begin zero bytes greatest some held = absurd (some refl)
+entries_begin (suc n) bytes greatest some held = some_read (entry_at bytes) (λ rest. entries_in n rest) n held.whole
+
+pub links_begin : (n : ℕ) (bytes greatest : List ℕ) (number : ℕ) → n ≢ 0 → HoldsLinks n bytes greatest number → IsOk (link_at bytes)
+unfolding links_in
+links_begin zero bytes greatest number some held = absurd (some refl)
+links_begin (suc n) bytes greatest number some held = some_read (link_at bytes) (λ rest. links_in n rest) n held.whole

@@ -46,14 +46,13 @@ impl<'a> Iterator for Children<'a> {
 
     ghost remaining = { item_count (λ s. s) };
 
+    #[inline(always)]
     #[tactic(auto, unfolding(crate::specs::Reading::links_in))]
     fn next(&mut self) -> Option<Child<'a>> {
         if self.count == 0 {
             return None;
         }
-        let Ok((child, rest)) = Child::read_front(self.rest) else {
-            return None;
-        };
+        let (child, rest) = Child::front(self.rest);
         self.rest = rest;
         self.count -= 1;
         self.number -= child.number;
@@ -63,6 +62,7 @@ impl<'a> Iterator for Children<'a> {
 
 impl<'a> Children<'a> {
     /// The same children once more, from where these stand.
+    #[inline(always)]
     pub fn again(&self) -> Children<'a>
         ensures { result ≡ self.now }
     {
@@ -133,6 +133,7 @@ impl<'a> Children<'a> {
 
 /// The last greatest key of this many children at the front of the bytes, the number of entries below
 /// them, and what stands behind them.
+#[inline(never)]
 fn skip_children(count: u16, bytes: &[u8]) -> Result<(&[u8], u64, &[u8]), NodeFault>
     ensures behind { Gives (λ x. x.2.now) result (links_behind count None bytes.now) }
     ensures held { IfOk result (λ x. HoldsLinks count bytes.now x.0.now x.1) }

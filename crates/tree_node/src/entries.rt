@@ -44,12 +44,13 @@ impl<'a> Iterator for Entries<'a> {
 
     ghost remaining = { item_count (λ s. s) };
 
+    #[inline(always)]
     #[tactic(auto, unfolding(crate::specs::Reading::entries_in))]
     fn next(&mut self) -> Option<Item<'a>> {
         if self.count == 0 {
             return None;
         }
-        let (item, rest) = Item::read_front(self.rest).ok()?;
+        let (item, rest) = Item::front(self.rest);
         self.rest = rest;
         self.count -= 1;
         Some(item)
@@ -58,6 +59,7 @@ impl<'a> Iterator for Entries<'a> {
 
 impl<'a> Entries<'a> {
     /// The same entries once more, from where these stand.
+    #[inline(always)]
     pub fn again(&self) -> Entries<'a>
         ensures { result ≡ self.now }
     {
@@ -118,6 +120,7 @@ impl<'a> Entries<'a> {
 }
 
 /// The last key of this many entries at the front of the bytes, and what stands behind them.
+#[inline(never)]
 fn skip_entries(count: u16, bytes: &[u8]) -> Result<(&[u8], &[u8]), NodeFault>
     ensures behind { Gives (λ x. x.1.now) result (entries_behind count None bytes.now) }
     ensures greatest { IfOk result (λ x. HoldsEntries count bytes.now x.0.now) }
