@@ -2,6 +2,8 @@ pub mod BagLemmas
 pub mod DigestLemmas
 pub mod FaultLemmas
 pub mod FieldLemmas
+pub mod FrontLemmas
+pub mod HeldLemmas
 pub mod ItemFaults
 pub mod MapLemmas
 pub mod NodeFaults

@@ -1,14 +1,15 @@
 -- The order of byte strings, by the numbers that their first bytes spell.
-use Rattle.std.proofs.Common.{◌≡◌, ◌≢◌, ◌↔◌, false, IsTrue, ltb, ℕ, zero, suc, ◌+◌, ◌*◌, ◌<◌, ◌≤◌, List, [], ◌∷◌, ◌++◌, length, take, drop, refl, sym, ap, subst, ◌∙◌, inl, inr, arith}
+use Rattle.std.proofs.Common.{◌≡◌, ◌≢◌, ◌↔◌, Bool, true, false, IsTrue, ltb, ℕ, zero, suc, ◌+◌, ◌*◌, ◌<◌, ◌≤◌, List, [], ◌∷◌, ◌++◌, length, take, drop, refl, sym, ap, subst, ◌∙◌, inl, inr, arith}
 use Rattle.std.specs.Int.{from_be_bytes, w64}
-use Rattle.std.specs.Ordering.{ordering_then}
+use Rattle.std.specs.Ordering.{ordering_reverse, ordering_then}
 use Rattle.std.specs.Cmp.{nat_cmp_is}
-use Rattle.std.specs.declared.cmp.Ordering.TheVariants.{Less, Equal}
+use Rattle.std.specs.declared.cmp.Ordering.{Ordering}
+use Rattle.std.specs.declared.cmp.Ordering.TheVariants.{Less, Equal, Greater}
 use Rattle.std.proofs.lemmas.Bool.{cases_order, le-ltb, lt-ltb}
 use Rattle.std.proofs.lemmas.List.{take-append-drop}
 use Rattle.tree_node.specs.Nodes.{AreBytes}
 use Rattle.tree_node.specs.Order.{order, IsBelow}
-use Rattle.tree_node.specs.OrderLemmas.{not_itself, order_trans}
+use Rattle.tree_node.specs.OrderLemmas.{not_itself, order_above, order_flip, order_trans}
 
 -- ---- the first bytes decide, or else what stands behind them
 
@@ -112,3 +113,23 @@ module _ (xs ys : List ℕ) (fits : AreBytes xs) (others : AreBytes ys) (long : 
       sym (λ i. order (take-append-drop 8 xs i) (take-append-drop 8 ys i))
       ∙ ap (λ (front : List ℕ). order (take 8 xs ++ drop 8 xs) (front ++ drop 8 ys)) (sym fronts)
       ∙ behind_front (take 8 xs) (drop 8 xs) (drop 8 ys)
+
+-- ---- the order of two, by which of them is below the other
+
+pub is_above : (xs ys : List ℕ) → IsBelow ys xs → order xs ys ≡ Greater
+is_above xs ys below = order_flip xs ys ∙ ap ordering_reverse below
+
+pub is_same : (xs ys : List ℕ) → ¬ IsBelow xs ys → ¬ IsBelow ys xs → order xs ys ≡ Equal
+is_same xs ys not_below not_above = only (order xs ys) refl
+  where
+    only : (o : Ordering) → order xs ys ≡ o → order xs ys ≡ Equal
+    only Less is = absurd (not_below is)
+    only Equal is = is
+    only Greater is = absurd (not_above (order_above xs ys is))
+
+-- a test that failed, of what it decides
+pub isnt : (P : Type 0) (test : Bool) → (IsTrue test ↔ P) → test ≡ false → ¬ P
+isnt P test decides failed is = not_both test (decides.1 is) failed
+  where
+    not_both : (t : Bool) → t ≡ true → t ≡ false → ⊥
+    not_both t p q = cc

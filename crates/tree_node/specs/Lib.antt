@@ -2,6 +2,7 @@ pub mod BagLaws
 pub mod Bags
 pub mod Digests
 pub mod Faults
+pub mod Held
 pub mod Keys
 pub mod NodeRefs
 pub mod Nodes
@@ -12,6 +13,7 @@ pub mod Reading
 pub mod RecorderLaws
 pub mod Recorders
 pub mod Shelves
+pub mod Skips
 pub mod Stocks
 pub mod Trees
 pub mod Writing

@@ -34,6 +34,11 @@ link_at bytes = do
   child ← bytes_at 32 number.1
   if nat_lt number.0 1 || nat_lt 1099511627776 number.0 then Err BadCount else Ok (record { greatest = key.0; number = number.0; child = child.0 }, child.1)
 
+-- the link whose key has this length, at the front of bytes that are long enough, and what stands behind it
+abbrev pub link_by : ℕ → List ℕ → Link × List ℕ
+link_by n bytes =
+    (record { greatest = take n (drop 2 bytes); number = from_be_bytes w64 (take 8 (drop n (drop 2 bytes))); child = take 32 (drop 8 (drop n (drop 2 bytes))) }, drop 32 (drop 8 (drop n (drop 2 bytes))))
+
 -- whether a key is above the one before it
 abbrev pub is_above : Option (List ℕ) → List ℕ → Bool
 is_above None key = true

@@ -8,6 +8,7 @@ ghost use Rattle.tree_node.specs.Parts.{HaveNode, HaveRisingDigests, node_of};
 ghost use Rattle.tree_node.specs.Shelves.{IsEmptySet, SameNodes};
 
 use crate::digest::Digest;
+use crate::order::order_of;
 use crate::part::Part;
 use crate::shelf::{Shelf, ShelfFault};
 use std::alloc::{AllocError, Global};
@@ -60,7 +61,7 @@ impl<'a> Bag<'a> {
         let mut high = self.parts.len();
         while low < high {
             let middle = low + (high - low) / 2;
-            match self.parts[middle].digest().cmp(key) {
+            match order_of(&self.parts[middle].digest(), key) {
                 Ordering::Less => low = middle + 1,
                 Ordering::Equal => return Some(middle),
                 Ordering::Greater => high = middle,

@@ -1,18 +1,21 @@
 //! What an inner node says of a child.
 
-ghost use Rattle.std.specs.Prelude.{◌≡◌, ◌++◌, ◌^◌, ◌<◌, OnOk, length};
+ghost use Rattle.std.specs.Prelude.{◌≡◌, ◌++◌, ◌^◌, ◌<◌, ◌≤◌, ◌+◌, IfOk, IsOk, Ok, OnOk, length};
 ghost use Rattle.tree_node.specs.NodeRefs.{link_of};
 ghost use Rattle.tree_node.specs.Nodes.{link};
-ghost use Rattle.tree_node.specs.Reading.{Gives, link_at};
+ghost use Rattle.tree_node.specs.Reading.{Gives, link_at, link_by};
 ghost use Rattle.tree_node.specs.Writing.{Extends};
 
 use crate::digest::Digest;
 use crate::fault::NodeFault;
-use crate::fields::{bytes_of_len, digest_at, u16_at, u64_at};
+use crate::fields::{digest_at, u16_at, u64_at};
 use std::alloc::AllocError;
 
 /// The greatest number of entries that an inner node states of a child.
 const MOST_ENTRIES: u64 = 1_099_511_627_776;
+
+/// The fewest bytes of a child, whose greatest key is then empty.
+const FEWEST_BYTES: usize = 42;
 
 /// What an inner node says of one of its children. The key is a slice of the node's bytes.
 #[derive(Clone, Copy, Debug)]
@@ -28,25 +31,51 @@ pub struct Child<'a> {
 impl<'a> Child<'a> {
     /// The child at the front of the bytes, and what stands behind it; N1 where it is cut short, N3
     /// where its number of entries is out of range.
-    #[tactic(auto, unfolding(crate::specs::Reading::link_at))]
+    #[inline(always)]
     pub(crate) fn read_front(bytes: &'a [u8]) -> Result<(Child<'a>, &'a [u8]), NodeFault>
-        ensures { Gives (λ x. (link_of x.0, x.1.now)) result (link_at bytes.now) }
+        ensures read { Gives (λ x. (link_of x.0, x.1.now)) result (link_at bytes.now) }
+        ensures number { IfOk result (λ x. x.0.number ≤ 2 ^ 40) }
     {
-        let (len, rest) = u16_at(bytes)?;
-        let (greatest, rest) = bytes_of_len(len as usize, rest)?;
-        let (number, rest) = u64_at(rest)?;
-        let (digest, rest) = digest_at(rest)?;
-        if number < 1 || number > MOST_ENTRIES {
+        if bytes.len() < FEWEST_BYTES {
+            return Err(NodeFault::CutShort);
+        }
+        let (len, _) = u16_at(bytes);
+        if bytes.len() - FEWEST_BYTES < len as usize {
+            return Err(NodeFault::CutShort);
+        }
+        let (child, rest) = Child::front_by(len as usize, bytes);
+        if child.number < 1 || child.number > MOST_ENTRIES {
             return Err(NodeFault::BadCount);
         }
-        Ok((
-            Child {
-                greatest,
-                number,
-                digest,
-            },
-            rest,
-        ))
+        Ok((child, rest))
+    }
+
+    /// The child at the front of bytes that begin with one, and what stands behind it.
+    #[inline(always)]
+    pub(crate) fn front(bytes: &'a [u8]) -> (Child<'a>, &'a [u8])
+        requires { IsOk (link_at bytes.now) }
+        ensures { link_at bytes.now ≡ Ok (link_of result.0, result.1.now) }
+    {
+        let (len, _) = u16_at(bytes);
+        Child::front_by(len as usize, bytes)
+    }
+
+    /// The child at the front of the bytes, where its greatest key has this length.
+    #[inline(always)]
+    fn front_by(len: usize, bytes: &'a [u8]) -> (Child<'a>, &'a [u8])
+        requires { 42 + len ≤ length bytes.now }
+        ensures { (link_of result.0, result.1.now) ≡ link_by len bytes.now }
+    {
+        let (_, rest) = bytes.split_at(2);
+        let (greatest, rest) = rest.split_at(len);
+        let (number, rest) = u64_at(rest);
+        let (digest, rest) = digest_at(rest);
+        let child = Child {
+            greatest,
+            number,
+            digest,
+        };
+        (child, rest)
     }
 
     /// Appends the child's bytes; what it wrote stays where memory is refused.

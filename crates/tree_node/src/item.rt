@@ -1,14 +1,17 @@
 //! An entry of a leaf.
 
-ghost use Rattle.std.specs.Prelude.{◌≡◌, ◌++◌, OnOk};
+ghost use Rattle.std.specs.Prelude.{◌≡◌, ◌++◌, IsOk, Ok, OnOk};
 ghost use Rattle.tree_node.specs.NodeRefs.{binding_of};
 ghost use Rattle.tree_node.specs.Nodes.{FitsEntry, entry};
 ghost use Rattle.tree_node.specs.Reading.{Gives, entry_at};
 ghost use Rattle.tree_node.specs.Writing.{Extends};
 
 use crate::fault::NodeFault;
-use crate::fields::{bytes_of_len, u16_at, u32_at};
+use crate::fields::{u16_at, u32_at};
 use std::alloc::AllocError;
+
+/// The fewest bytes of an entry, whose key and value are then empty.
+const FEWEST_BYTES: usize = 6;
 
 /// An entry of a leaf: two slices of the node's bytes.
 #[derive(Clone, Copy, Debug)]
@@ -21,15 +24,37 @@ pub struct Item<'a> {
 
 impl<'a> Item<'a> {
     /// The entry at the front of the bytes, and what stands behind it; N1 where it is cut short.
-    #[tactic(auto, unfolding(crate::specs::Reading::entry_at))]
+    #[inline(always)]
     pub(crate) fn read_front(bytes: &'a [u8]) -> Result<(Item<'a>, &'a [u8]), NodeFault>
         ensures { Gives (λ x. (binding_of x.0, x.1.now)) result (entry_at bytes.now) }
     {
-        let (len, rest) = u16_at(bytes)?;
-        let (key, rest) = bytes_of_len(len as usize, rest)?;
-        let (len, rest) = u32_at(rest)?;
-        let (value, rest) = bytes_of_len(len as usize, rest)?;
+        if bytes.len() < FEWEST_BYTES {
+            return Err(NodeFault::CutShort);
+        }
+        let (len, rest) = u16_at(bytes);
+        if rest.len() - 4 < len as usize {
+            return Err(NodeFault::CutShort);
+        }
+        let (key, rest) = rest.split_at(len as usize);
+        let (len, rest) = u32_at(rest);
+        if rest.len() < len as usize {
+            return Err(NodeFault::CutShort);
+        }
+        let (value, rest) = rest.split_at(len as usize);
         Ok((Item { key, value }, rest))
+    }
+
+    /// The entry at the front of bytes that begin with one, and what stands behind it.
+    #[inline(always)]
+    pub(crate) fn front(bytes: &'a [u8]) -> (Item<'a>, &'a [u8])
+        requires { IsOk (entry_at bytes.now) }
+        ensures { entry_at bytes.now ≡ Ok (binding_of result.0, result.1.now) }
+    {
+        let (len, rest) = u16_at(bytes);
+        let (key, rest) = rest.split_at(len as usize);
+        let (len, rest) = u32_at(rest);
+        let (value, rest) = rest.split_at(len as usize);
+        (Item { key, value }, rest)
     }
 
     /// Appends the entry's bytes; what it wrote stays where memory is refused.

@@ -2,16 +2,21 @@
 
 ghost use Rattle.std.specs.Int.{from_be_bytes, w64};
 ghost use Rattle.std.specs.Option.{option_copied};
-ghost use Rattle.std.specs.Prelude.{◌≡◌, ◌↔◌, IsTrue, length};
-ghost use Rattle.tree_node.specs.Order.{IsBelow};
+ghost use Rattle.std.specs.Prelude.{◌≡◌, ◌↔◌, ◌≤◌, IsTrue, length};
+ghost use Rattle.tree_node.specs.Order.{IsBelow, order};
 ghost use Rattle.tree_node.specs.Reading.{is_above as above};
 
+use crate::digest::Digest;
 use std::cmp::Ordering;
 
 /// How many bytes at the front of two keys are compared as one number.
 const FRONT: usize = 8;
 
+/// The length of the keys of objects.
+const OBJECT_KEY: usize = 9;
+
 /// Whether a key is above the one before it; the first key of all is.
+#[inline(always)]
 pub(crate) fn is_above(low: Option<&[u8]>, key: &[u8]) -> bool
     ensures { result ≡ above (option_copied low.entry) key.now }
 {
@@ -26,13 +31,36 @@ pub(crate) fn is_above(low: Option<&[u8]>, key: &[u8]) -> bool
 ///
 /// The first eight bytes of each are compared as one number, since the keys of a tree mostly differ
 /// behind some equal bytes: std's order of slices, which ends byte by byte, took more than four times the
-/// instructions at keys of nine bytes.
+/// instructions at keys of nine bytes. Two keys of objects go the same way, without a look at what their
+/// lengths leave behind the front.
+#[inline(always)]
 pub fn is_below(low: &[u8], high: &[u8]) -> bool
+    ensures { IsTrue result ↔ IsBelow low.now high.now }
+{
+    if low.len() == OBJECT_KEY && high.len() == OBJECT_KEY {
+        return is_long_below(low, high);
+    }
+    is_other_below(low, high)
+}
+
+/// Whether the low key is below the high one, of keys of any length.
+#[inline(never)]
+fn is_other_below(low: &[u8], high: &[u8]) -> bool
     ensures { IsTrue result ↔ IsBelow low.now high.now }
 {
     if low.len() < FRONT || high.len() < FRONT {
         return is_rest_below(low, high);
     }
+    is_long_below(low, high)
+}
+
+/// Whether the low key is below the high one, of keys that have a front.
+#[inline(always)]
+fn is_long_below(low: &[u8], high: &[u8]) -> bool
+    requires low { 8 ≤ length low.now }
+    requires high { 8 ≤ length high.now }
+    ensures { IsTrue result ↔ IsBelow low.now high.now }
+{
     let (low_front, low_rest) = low.split_at(FRONT);
     let (high_front, high_rest) = high.split_at(FRONT);
     let low_number = number(low_front);
@@ -43,8 +71,22 @@ pub fn is_below(low: &[u8], high: &[u8]) -> bool
     is_rest_below(low_rest, high_rest)
 }
 
+/// The order of two digests, which their fronts mostly decide.
+pub(crate) fn order_of(left: &Digest, right: &Digest) -> Ordering
+    ensures { result ≡ order left.now.0 right.now.0 }
+{
+    if is_long_below(&left.0, &right.0) {
+        return Ordering::Less;
+    }
+    if is_long_below(&right.0, &left.0) {
+        return Ordering::Greater;
+    }
+    Ordering::Equal
+}
+
 /// Whether the low bytes are below the high ones. One byte of each is compared without a call: that is
 /// all that is left of the keys of objects.
+#[inline(always)]
 fn is_rest_below(low: &[u8], high: &[u8]) -> bool
     ensures { IsTrue result ↔ IsBelow low.now high.now }
 {

@@ -141,6 +141,11 @@ fn reads_the_leaf_of_one_object(rt: HostRuntime) -> Result<(), Fail> {
     let node = NodeRef::read(LEAF)?;
     assert_eq!(rt; node.tree(), Tree::Objects);
     let mut entries = entries_of(node).ok_or("a leaf was expected")?;
+    assert_eq!(rt; entries.number(), 1);
+    assert_eq!(rt;
+        entries.greatest(),
+        b"\x01\x80\x00\x00\x00\x00\x00\x00\x01".as_slice()
+    );
     let item = entries.next().ok_or("an entry was expected")?;
     assert_eq!(rt;
         item.key,
@@ -148,6 +153,8 @@ fn reads_the_leaf_of_one_object(rt: HostRuntime) -> Result<(), Fail> {
     );
     assert_eq!(rt; item.value, LINE);
     assert!(rt; entries.next().is_none());
+    assert_eq!(rt; entries.number(), 0);
+    assert_eq!(rt; entries.greatest(), b"".as_slice());
     Ok(())
 }
 
@@ -203,6 +210,23 @@ fn leaf_of(alloc: Global, keys: &[u8]) -> Result<Vec<u8>, AllocError> {
 }
 
 #[test]
+fn skips_to_a_key(rt: HostRuntime) -> Result<(), Fail> {
+    let leaf = leaf_of(rt.alloc(), b"\x02\x04\x06")?;
+    let cases: [(&[u8], u64); 5] = [
+        (b"", 3),
+        (b"\x02\x00", 2),
+        (b"\x04", 2),
+        (b"\x05", 1),
+        (b"\x06\x00", 0),
+    ];
+    for (key, number) in cases {
+        let entries = entries_of(NodeRef::read(leaf.as_slice())?).ok_or("a leaf was expected")?;
+        assert_eq!(rt; entries.skip_below(key).number(), number, "{key:?}");
+    }
+    Ok(())
+}
+
+#[test]
 fn makes_the_tree_of_65_keys(rt: HostRuntime) -> Result<(), Fail> {
     let alloc = rt.alloc();
     let keys: Vec<u8> = (0..65u8).collect(alloc)?;
@@ -250,11 +274,27 @@ fn makes_the_tree_of_65_keys(rt: HostRuntime) -> Result<(), Fail> {
         return Ok(());
     };
     assert_eq!(rt; (tree, level), (Tree::Tags, 1));
+    assert_eq!(rt;
+        (children.greatest(), children.number()),
+        (b"\x40".as_slice(), 65)
+    );
+    let (before, found) = children.again().skip_below(b"\x3f");
+    assert_eq!(rt; (before, found.number()), (None, 65));
+    let (before, found) = children.again().skip_below(b"\x3f\x00");
+    assert_eq!(rt; (before, found.number()), (Some(b"\x3f".as_slice()), 1));
     let child = children.next().ok_or("a child was expected")?;
     assert_eq!(rt; (child.greatest, child.number), (b"\x3f".as_slice(), 64));
     assert_eq!(rt; child.digest, digest_of(first.as_slice()));
+    assert_eq!(rt;
+        (children.greatest(), children.number()),
+        (b"\x40".as_slice(), 1)
+    );
     assert!(rt; children.next().is_some());
     assert!(rt; children.next().is_none());
+    assert_eq!(rt;
+        (children.greatest(), children.number()),
+        (b"".as_slice(), 0)
+    );
     Ok(())
 }
 

@@ -1,4 +1,3 @@
-pub mod AgreeLemmas
 pub mod ChoiceLemmas
 pub mod CountBelow
 pub mod CountChoices
@@ -18,6 +17,7 @@ pub mod LevelLemmas
 pub mod MeetLemmas
 pub mod OutcomeLemmas
 pub mod Pendings
+pub mod SkipLemmas
 pub mod SpanLaws
 pub mod SpotOrder
 pub mod TopLemmas

@@ -189,18 +189,17 @@ fn pick_open<'a>(
         × AreThose (IsCoveredChild (range_of range.now)) (children_placed (option_copied left.entry) children.entry) covered
         × (number ≡ capped (sum_stated covered))) }
 {
-    let mut bound = left;
+    let (before, children) = children.skip_below(range.lo);
+    let mut bound = before.or(left);
     let mut counted: u64 = 0;
     for child in children {
-        if range.starts_by(child.greatest) {
-            if !range.goes_on_above(bound) {
-                return Ok(counted);
-            }
-            if range.covers(bound, child.greatest) {
-                counted = counted.saturating_add(child.number);
-            } else {
-                pending.push(Pending { left: bound, child })?;
-            }
+        if !range.goes_on_above(bound) {
+            return Ok(counted);
+        }
+        if range.covers(bound, child.greatest) {
+            counted = counted.saturating_add(child.number);
+        } else {
+            pending.push(Pending { left: bound, child })?;
         }
         bound = Some(child.greatest);
     }
@@ -214,10 +213,7 @@ fn count_in(entries: Entries<'_>, range: &KeyRange<'_>) -> u64
     ensures { (those : List Binding) × AreThose (IsEntryIn (range_of range.now)) entries.entry those × (result ≡ capped (length those)) }
 {
     let mut counted: u64 = 0;
-    for item in entries {
-        if !range.starts_by(item.key) {
-            continue;
-        }
+    for item in entries.skip_below(range.lo) {
         if !range.reaches(item.key) {
             return counted;
         }

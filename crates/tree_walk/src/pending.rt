@@ -1,17 +1,15 @@
 //! Children that a walk will fetch.
 
 ghost use Rattle.std.specs.Option.{option_copied};
-ghost use Rattle.std.specs.Prelude.{◌≡◌, ◌++◌, ◌↔◌, IsTrue, List, OnOk, ℕ, length, sum_by};
+ghost use Rattle.std.specs.Prelude.{◌≡◌, ◌++◌, ◌↔◌, IsTrue, List, OnOk, ℕ};
 ghost use Rattle.tree_node.specs.NodeRefs.{binding_of, bindings_of, link_of};
-ghost use Rattle.tree_node.specs.Nodes.{AreRisingFrom, Inner, Leaf, Link, greatests_of, keys_of};
-ghost use Rattle.tree_node.specs.Trees.{last_key};
+ghost use Rattle.tree_node.specs.Nodes.{AreRisingFrom, Inner, Leaf, greatests_of};
 ghost use Rattle.tree_walk.specs.Choices.{AreThose};
 ghost use Rattle.tree_walk.specs.Pendings.{Agrees, IsMetChild, children_placed, spot_of, spots_of};
 ghost use Rattle.tree_walk.specs.Ranges.{IsAboveLeft, IsIn, range_of};
 
 use crate::key_range::KeyRange;
 use std::alloc::AllocError;
-use std::cmp::Ordering;
 use tree_node::{Child, Children, Entries, is_below};
 
 /// A child that meets the range, as its parent states it.
@@ -32,7 +30,9 @@ impl<'a> Pending<'a> {
             Some(first) => is_above(self.left, first.greatest),
             None => true,
         };
-        starts && children_end(children.again(), self.child.greatest, self.child.number)
+        starts
+            && children.number() == self.child.number
+            && children.greatest() == self.child.greatest
     }
 
     /// Whether a leaf with these entries is as its parent states.
@@ -43,7 +43,7 @@ impl<'a> Pending<'a> {
             Some(first) => is_above(self.left, first.key),
             None => true,
         };
-        starts && entries_end(entries.again(), self.child.greatest, self.child.number)
+        starts && entries.number() == self.child.number && entries.greatest() == self.child.greatest
     }
 }
 
@@ -55,39 +55,6 @@ fn is_above(left: Option<&[u8]>, key: &[u8]) -> bool
         Some(left) => is_below(left, key),
         None => true,
     }
-}
-
-/// Whether this is the last of the children's greatest keys, and so many entries stand below them.
-fn children_end(children: Children<'_>, greatest: &[u8], number: u64) -> bool
-    ensures { IsTrue result ↔ ((last_key (greatests_of children.entry) ≡ greatest.now)
-        × (sum_by (λ (link : Link). link.number) children.entry ≡ number)) }
-{
-    let mut last: &[u8] = b"";
-    let mut missing = number;
-    for child in children {
-        match missing.checked_sub(child.number) {
-            Some(rest) => missing = rest,
-            None => return false,
-        }
-        last = child.greatest;
-    }
-    missing == 0 && matches!(last.cmp(greatest), Ordering::Equal)
-}
-
-/// Whether this is the last of the entries' keys, and there are so many of them.
-fn entries_end(entries: Entries<'_>, greatest: &[u8], number: u64) -> bool
-    ensures { IsTrue result ↔ ((last_key (keys_of entries.entry) ≡ greatest.now) × (length entries.entry ≡ number)) }
-{
-    let mut last: &[u8] = b"";
-    let mut missing = number;
-    for item in entries {
-        match missing.checked_sub(1) {
-            Some(rest) => missing = rest,
-            None => return false,
-        }
-        last = item.key;
-    }
-    missing == 0 && matches!(last.cmp(greatest), Ordering::Equal)
 }
 
 /// Puts the children that meet the range behind those of the nodes to the left. It leaves off at the
@@ -104,14 +71,13 @@ pub(crate) fn pick<'a>(
         × (spots_of pending.new.items ≡ spots_of pending.old.items ++ picked)
         × AreThose (IsMetChild (range_of range.now)) (children_placed (option_copied left.entry) children.entry) picked) }
 {
-    let mut bound = left;
+    let (before, children) = children.skip_below(range.lo);
+    let mut bound = before.or(left);
     for child in children {
-        if range.starts_by(child.greatest) {
-            if !range.goes_on_above(bound) {
-                return Ok(());
-            }
-            pending.push(Pending { left: bound, child })?;
+        if !range.goes_on_above(bound) {
+            return Ok(());
         }
+        pending.push(Pending { left: bound, child })?;
         bound = Some(child.greatest);
     }
     Ok(())

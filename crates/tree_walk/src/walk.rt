@@ -177,10 +177,7 @@ fn take<'a>(
         × (bindings_of found.new.items ≡ bindings_of found.old.items ++ taken)
         × AreThose (IsEntryIn (range_of range.now)) entries.entry taken) }
 {
-    for item in entries {
-        if !range.starts_by(item.key) {
-            continue;
-        }
+    for item in entries.skip_below(range.lo) {
         if !range.reaches(item.key) {
             return Ok(());
         }

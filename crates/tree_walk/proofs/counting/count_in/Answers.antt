@@ -1,24 +1,26 @@
-use Rattle.std.proofs.Common.{◌++◌, ◌∷◌, List, [], None, Some, subst, ◌∙◌}
+use Rattle.std.proofs.Common.{◌++◌, ◌∷◌, List, [], None, Some, refl, subst, ◌∙◌}
+use Rattle.std.specs.List.{AllByRecursion}
 use Rattle.tree_node.specs.NodeRefs.{binding_of}
 use Rattle.tree_node.specs.Nodes.{AreRisingFrom, Binding, keys_of}
+use Rattle.tree_node.specs.Skips.{from_key, key_before}
 use Rattle.tree_walk.specs.Ranges.{IsAtMost, range_of}
 use Rattle.tree_walk.specs.Reaching.{Reaches}
 use Rattle.tree_walk.specs.Walks.{IsEntryIn}
-use Rattle.tree_walk.proofs.ChoiceLemmas.{ArePicked, fails_not, picked_all, picked_one, picked_other, picked_stop}
+use Rattle.tree_walk.proofs.ChoiceLemmas.{ArePicked, fails_not, picked_all, picked_one, picked_stop}
 use Rattle.tree_walk.proofs.CountLemmas.{one_more}
 use Rattle.tree_walk.proofs.EndLemmas.{none_from, rises_unbounded}
+use Rattle.tree_walk.proofs.SkipLemmas.{entries_skipped, found_from, found_rises}
 use Rattle.tree_walk.proofs.counting.count_in.Goals as goal
 
-pub loop-item-preserved-then-not-starts_by : goal.loop-item-preserved-then-not-starts_by
-loop-item-preserved-then-not-starts_by c =
-    let has = IsEntryIn (range_of c.args.range.now) in
-    let before = c.loop-item.invariant.so_far in
-    let rising = subst (λ (entries : List Binding). AreRisingFrom None (keys_of entries)) c.in-Some.ensures.steps c.loop-item.invariant.rising in
-    let picking = subst (λ (entries : List Binding). ArePicked has c.args.entries entries before.0) c.in-Some.ensures.steps before.2 in
-    let below = fails_not (IsAtMost c.args.range.now.lo.now c.in-Some.item.key.now) c.starts_by.result c.starts_by.ensures.told c.if-not-starts_by.true in
+pub loop-item-init : goal.loop-item-init
+loop-item-init c =
+    let same = c.into_iter-item-iterator.ensures.into_iter_gives in
+    let range = range_of c.args.range.now in
+    let key_of = λ (entry : Binding). entry.key in
     record {
-      rising = rises_unbounded (Some c.in-Some.item.key.now) (keys_of c.next.new.self) rising.1;
-      so_far = (before.0, before.1, picked_other has c.args.entries c.next.new.self before.0 (binding_of c.in-Some.item) (λ is. below is.0) picking);
+      rising = rw (same, c.skip_below-item-items.ensures) (rises_unbounded (key_before key_of range.lo None c.args.entries) (keys_of (from_key key_of range.lo c.args.entries)) (found_rises key_of range.lo None c.args.entries c.requires));
+      from = rw (same, c.skip_below-item-items.ensures) (found_from key_of range.lo None c.args.entries c.requires);
+      so_far = ([], refl, rw (same, c.skip_below-item-items.ensures) (entries_skipped range c.args.entries));
     }
 
 pub returns-then-not-reaches : goal.returns-then-not-reaches
@@ -37,12 +39,14 @@ loop-item-preserved c =
     let before = c.loop-item.invariant.so_far in
     let rising = subst (λ (entries : List Binding). AreRisingFrom None (keys_of entries)) c.in-Some.ensures.steps c.loop-item.invariant.rising in
     let picking = subst (λ (entries : List Binding). ArePicked has c.args.entries entries before.0) c.in-Some.ensures.steps before.2 in
+    let from = subst (λ (entries : List Binding). AllByRecursion (IsAtMost c.args.range.now.lo.now) (keys_of entries)) c.in-Some.ensures.steps c.loop-item.invariant.from in
     record {
+      from = from.1;
       rising = rises_unbounded (Some c.in-Some.item.key.now) (keys_of c.next.new.self) rising.1;
       so_far = (
         before.0 ++ binding_of c.in-Some.item ∷ [],
         c.saturating_add-counted.ensures ∙ one_more before.0 (binding_of c.in-Some.item) c.loop-item.counted before.1,
-        picked_one has c.args.entries c.next.new.self before.0 (binding_of c.in-Some.item) (c.starts_by.ensures.told.0 c.if-not-starts_by.false, c.reaches.ensures.0 c.if-not-reaches.false) picking,
+        picked_one has c.args.entries c.next.new.self before.0 (binding_of c.in-Some.item) (from.0, c.reaches.ensures.0 c.if-not-reaches.false) picking,
       );
     }
 

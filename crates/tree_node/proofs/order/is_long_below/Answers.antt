@@ -2,7 +2,7 @@ use Rattle.std.proofs.Common.{◌≡◌, ◌∙◌, ap, sym, arith}
 use Rattle.std.specs.Int.{from_be_bytes, w64}
 use Rattle.tree_node.specs.Order.{order}
 use Rattle.tree_node.proofs.WordOrder.{equal_words, unequal_words}
-use Rattle.tree_node.proofs.order.is_below.Goals as goal
+use Rattle.tree_node.proofs.order.is_long_below.Goals as goal
 
 pub returns-then-low_number-high_number : goal.returns-then-low_number-high_number
 returns-then-low_number-high_number c =
@@ -17,4 +17,4 @@ returns c =
     c.number-low_number.result c.number-high_number.result (c.number-low_number.ensures ∙ ap (from_be_bytes w64) c.split_at.ensures.front) (c.number-high_number.ensures ∙ ap (from_be_bytes w64) c.split_at-2.ensures.front)
     c.if-low_number-high_number.false
     ∙ (λ i. order (sym c.split_at.ensures.back i) (sym c.split_at-2.ensures.back i)) in
-    ((λ is. same ∙ c.is_rest_below-2.ensures.0 is), (λ below. c.is_rest_below-2.ensures.1 (sym same ∙ below)))
+    ((λ is. same ∙ c.is_rest_below.ensures.0 is), (λ below. c.is_rest_below.ensures.1 (sym same ∙ below)))
