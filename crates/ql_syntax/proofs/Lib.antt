@@ -26,3 +26,10 @@ pub mod DefiniteLemmas
 pub mod DefiniteTokens
 pub mod DefiniteRules
 pub mod QueryLaws
+pub mod TotalLemmas
+pub mod TotalTokens
+pub mod TotalTexts
+pub mod TotalNumbers
+pub mod TotalRules
+pub mod GivesLemmas
+pub mod GivesRules

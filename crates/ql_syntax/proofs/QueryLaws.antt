@@ -1,14 +1,21 @@
 -- Bytes read as one query at most, or have one fault.
-use Rattle.std.proofs.Common.{◌≡◌, ℕ, List, [], length, sym, ◌∙◌, ap, inl, inr, arith}
+use Rattle.std.proofs.Common.{◌≡◌, ℕ, zero, suc, ◌≤◌, ◌<◌, ◌-◌, List, [], ◌∷◌, length, take, Bool, true, false, Result, Ok, Err, refl, sym, ◌∙◌, ap, subst, inl, inr, ◌⊎◌, arith}
 use Rattle.std.proofs.lemmas.Bool.{cases_lt}
-use Rattle.std.specs.Prelude.{◌-◌, ◌⊎◌, Result, Ok, Err, IfOk, IfErr}
-use Rattle.std.specs.Str.{IsValidUpTo}
-use Rattle.ql_syntax.specs.Queries.{Reads, HasFault, Long, NoText, NoQuery}
+use Rattle.std.proofs.lemmas.List.{take_all}
+use Rattle.std.proofs.lemmas.Str.{IsUtf8-nil, IsUtf8-from_is_utf8, is_utf8-from_IsUtf8}
+use Rattle.std.specs.Prelude.{IfOk, IfErr}
+use Rattle.std.specs.Str.{IsUtf8, IsValidUpTo, is_utf8}
+use Rattle.ql_syntax.specs.LawfulQueries.{IsQuery}
+use Rattle.ql_syntax.specs.Queries.{query, IsText, Reads, HasFault, Long, NoText, NoQuery}
 use Rattle.ql_syntax.specs.Statements.{Statement}
 use Rattle.ql_syntax.specs.declared.cause.QlCause.{QlCause}
 use Rattle.ql_syntax.specs.declared.cause.QlCause.TheVariants as causes
 use Rattle.ql_syntax.specs.declared.fault.QlFault.{QlFault}
 use Rattle.ql_syntax.proofs.DefiniteRules.{query_is}
+use Rattle.ql_syntax.proofs.GivesRules.{query_gives}
+use Rattle.ql_syntax.proofs.QueryLemmas.{query_ends}
+use Rattle.ql_syntax.proofs.TotalLemmas.{Outcome, AsRead, AsStop}
+use Rattle.ql_syntax.proofs.TotalRules as total
 
 pub one_query : (bytes : List ℕ) (first second : List Statement) → Reads bytes first → Reads bytes second → first ≡ second
 one_query bytes first second x y = let e = query_is.one bytes first second [] [] x.reads y.reads in e.0
@@ -54,3 +61,54 @@ module _ {X : Type 0} (view : X → List Statement) {bytes : List ℕ} where
   refused_only (Ok x) reads refused fault has = absurd (reads_or_not bytes (view x) fault reads has)
   refused_only (Err f) reads (inl memory) fault has = (tt, inl memory)
   refused_only (Err f) reads (inr told) fault has = (tt, inr (one_fault bytes f fault told has))
+
+-- the longest front that is UTF-8, where the whole isn't
+record Valid (bytes : List ℕ) : Type 0 where
+  n : ℕ
+  is : IsValidUpTo bytes n
+
+no_text : (bytes : List ℕ) → is_utf8 bytes ≡ false → IsUtf8 bytes → ⊥
+no_text bytes fails is = let bad : true ≡ false = sym (is_utf8-from_IsUtf8 bytes is) ∙ fails in cc
+
+-- this front is, or one below it
+here_or_below : (bytes : List ℕ) (k : ℕ) → k < length bytes → ((m : ℕ) → k < m → ¬ (IsUtf8 (take m bytes))) → (test : Bool) → is_utf8 (take k bytes) ≡ test
+    → ((¬ (IsUtf8 (take k bytes))) → Valid bytes) → Valid bytes
+here_or_below bytes k short above true is below = record { n = k; is = record { short = short; front = IsUtf8-from_is_utf8 (take k bytes) is; longest = above } }
+here_or_below bytes k short above false fails below = below (no_text (take k bytes) fails)
+
+above_too : (bytes : List ℕ) (k : ℕ) → ((m : ℕ) → suc k < m → ¬ (IsUtf8 (take m bytes))) → ¬ (IsUtf8 (take (suc k) bytes)) → (m : ℕ) → k < m → ¬ (IsUtf8 (take m bytes))
+above_too bytes k above not m more = elim (cases_lt (suc k) m) [
+  | inl less ↦ above m less
+  | inr most ↦ (let e : suc k ≡ m = omega arith in subst (λ (j : ℕ). ¬ (IsUtf8 (take j bytes))) e not)
+]
+
+valid_at : (bytes : List ℕ) (k : ℕ) → k < length bytes → ((m : ℕ) → k < m → ¬ (IsUtf8 (take m bytes))) → Valid bytes
+valid_at bytes zero short above = here_or_below bytes zero short above (is_utf8 (take 0 bytes)) refl (λ not. absurd (not IsUtf8-nil))
+valid_at bytes (suc k) short above = here_or_below bytes (suc k) short above (is_utf8 (take (suc k) bytes)) refl (λ not. valid_at bytes k (omega arith) (above_too bytes k above not))
+
+some_length : (bytes : List ℕ) → (IsUtf8 bytes → ⊥) → Valid bytes
+some_length [] not = absurd (not IsUtf8-nil)
+some_length (b ∷ s) not = valid_at (b ∷ s) (length s) (omega arith) (λ m more is. not (subst IsUtf8 (take_all m (b ∷ s) (omega arith)) is))
+
+-- bytes are a query, or have a fault
+stopped_or_read : (bytes : List ℕ) → IsText bytes → Outcome query bytes → ((statements : List Statement) × Reads bytes statements) ⊎ ((fault : QlFault) × HasFault bytes fault)
+stopped_or_read bytes text (AsRead v rest reads) = inl (v, record { text = text; reads = subst (λ (s : List ℕ). query.reads bytes v s) (query_ends bytes rest v reads) reads })
+stopped_or_read bytes text (AsStop cause place stops) = inr (record { cause = cause; byte = length bytes - length place }, NoQuery text place stops refl)
+
+short_bytes : (bytes : List ℕ) → length bytes ≤ 65536 → (test : Bool) → is_utf8 bytes ≡ test → ((statements : List Statement) × Reads bytes statements) ⊎ ((fault : QlFault) × HasFault bytes fault)
+short_bytes bytes short true is = stopped_or_read bytes (record { short = short; utf8 = IsUtf8-from_is_utf8 bytes is }) (total.query_is.at bytes)
+short_bytes bytes short false fails = let front = some_length bytes (no_text bytes fails) in inr (record { cause = causes.NotUtf8; byte = front.n }, NoText short (no_text bytes fails) refl front.is)
+
+pub one_of_both : (bytes : List ℕ) → ((statements : List Statement) × Reads bytes statements) ⊎ ((fault : QlFault) × HasFault bytes fault)
+one_of_both bytes = elim (cases_lt 65536 (length bytes)) [
+  | inl long ↦ inr (record { cause = causes.TooLong; byte = 65536 }, Long long refl refl)
+  | inr short ↦ short_bytes bytes short (is_utf8 bytes) refl
+]
+
+pub lawful : (bytes : List ℕ) (statements : List Statement) → Reads bytes statements → IsQuery statements
+lawful bytes statements reads = query_gives.gives bytes statements [] reads.reads
+
+pub fault_within : (bytes : List ℕ) (fault : QlFault) → HasFault bytes fault → fault.byte ≤ length bytes
+fault_within bytes fault (Long long cause byte) = omega arith
+fault_within bytes fault (NoText short not cause front) = let n = front.short in omega arith
+fault_within bytes fault (NoQuery text place stops byte) = omega arith

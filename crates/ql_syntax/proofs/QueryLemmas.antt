@@ -32,7 +32,7 @@ rounds_end value rest _ _ (Last state text reads) = last_left state text rest va
 rounds_end value rest _ _ (Next state next text middle reads more) = rounds_end value rest next middle more
 
 -- behind a query nothing is left
-query_ends : (text rest : List ℕ) (value : List Statement) → query.reads text value rest → rest ≡ []
+pub query_ends : (text rest : List ℕ) (value : List Statement) → query.reads text value rest → rest ≡ []
 unfolding query ◌>>=◌ gather repeat
 query_ends text rest value reads = rounds_end _ _ _ _ reads.back_reads
 

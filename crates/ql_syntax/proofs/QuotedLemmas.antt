@@ -27,7 +27,7 @@ passes_more quote s t u v w p q = record {
   bytes_are = ap (λ (x : List ℕ). x ++ w) p.bytes_are ∙ ap (λ (x : List ℕ). flat_map value p.pieces ++ x) q.bytes_are ∙ sym (flat_map-append value p.pieces q.pieces);
 }
 
-passes_one : (quote : ℕ) (s t bytes : List ℕ) (p : Piece) → IsPiece quote p → s ≡ spelling p ++ t → bytes ≡ value p → Passes quote s t bytes
+pub passes_one : (quote : ℕ) (s t bytes : List ℕ) (p : Piece) → IsPiece quote p → s ≡ spelling p ++ t → bytes ≡ value p → Passes quote s t bytes
 passes_one quote s t bytes p is parts bytes_are = record {
   pieces = p ∷ [];
   each = (is, tt);
@@ -56,7 +56,7 @@ takes_run quote n place run rest old new front back some all added =
     some_length [] some = absurd (some refl)
     some_length (x ∷ xs) some = omega arith
 
-spelling_shorter : (p : Piece) (rest s : List ℕ) → s ≡ spelling p ++ rest → length rest < length s
+pub spelling_shorter : (p : Piece) (rest s : List ℕ) → s ≡ spelling p ++ rest → length rest < length s
 spelling_shorter (Literal b) rest s e = omega (arith, ap (λ (x : List ℕ). length x) e)
 spelling_shorter (Escape l b) rest s e = omega (arith, ap (λ (x : List ℕ). length x) e)
 spelling_shorter (Code digits c) rest s e = omega (arith, ap (λ (x : List ℕ). length x) e, length-append digits rest)

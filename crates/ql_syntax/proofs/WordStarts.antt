@@ -46,7 +46,7 @@ pub no_word : (place : List ℕ) → begins_with is_word_start place ≡ false �
 no_word [] none e = absurd (cc)
 no_word (b ∷ s) none e = no_word_at (is_word_start b) b s none e
 
-a_word_byte : (b : ℕ) → is_word_start b ≡ true → is_run_byte b ≡ true
+pub a_word_byte : (b : ℕ) → is_word_start b ≡ true → is_run_byte b ≡ true
 a_word_byte b starts = grind (arith, common_steps)
 
 run_some : (place run rest : List ℕ) → begins_with is_word_start place ≡ true → IsRun place run rest → length rest < length place

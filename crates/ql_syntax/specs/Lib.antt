@@ -31,3 +31,4 @@ pub mod Selections
 pub mod StatementViews
 pub mod StatementRules
 pub mod Queries
+pub mod LawfulQueries

@@ -1,10 +1,11 @@
 //! Laws: at a place stands one token at most, or one fault; and bytes are one query at most, or have one
 //! fault.
 
-ghost use Rattle.std.specs.Prelude.{◌≡◌, ℕ, List};
+ghost use Rattle.std.specs.Prelude.{◌≡◌, ◌≤◌, ◌⊎◌, ℕ, List, length};
 ghost use Rattle.osm_model.specs.Degrees.{Decimal};
 ghost use Rattle.ql_syntax.specs.Words.{IsName, IsNoName};
 ghost use Rattle.ql_syntax.specs.Numbers.{IsNumber, IsNoNumber};
+ghost use Rattle.ql_syntax.specs.LawfulQueries.{IsQuery};
 ghost use Rattle.ql_syntax.specs.Queries.{HasFault, Reads};
 ghost use Rattle.ql_syntax.specs.QuotedTexts.{IsQuoted, IsNotQuoted};
 ghost use Rattle.ql_syntax.specs.Statements.{Statement};
@@ -42,4 +43,19 @@ pub fn never_both()
 /// A law: bytes have one fault at most.
 pub fn one_fault()
     ensures { (bytes : List ℕ) (first second : QlFault) → HasFault bytes first → HasFault bytes second → first ≡ second }
+{}
+
+/// A law: bytes read as a query or have a fault.
+pub fn one_of_both()
+    ensures { (bytes : List ℕ) → ((statements : List Statement) × Reads bytes statements) ⊎ ((fault : QlFault) × HasFault bytes fault) }
+{}
+
+/// A law: what bytes read as keeps what every query does.
+pub fn lawful_queries()
+    ensures { (bytes : List ℕ) (statements : List Statement) → Reads bytes statements → IsQuery statements }
+{}
+
+/// A law: a fault's place is within the bytes, or at their end.
+pub fn fault_place()
+    ensures { (bytes : List ℕ) (fault : QlFault) → HasFault bytes fault → fault.byte ≤ length bytes }
 {}

@@ -43,7 +43,9 @@ mod word;
 pub use cause::QlCause;
 pub use fault::QlFault;
 pub use filter::Filter;
-pub use laws::{never_both, one_fault, one_name, one_number, one_query, one_text};
+pub use laws::{
+    fault_place, lawful_queries, never_both, one_fault, one_name, one_number, one_of_both, one_query, one_text,
+};
 pub use name::Name;
 pub use parser::parse;
 pub use path::Path;

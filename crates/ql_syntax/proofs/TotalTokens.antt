@@ -1,0 +1,263 @@
+-- Each text begins with a token, or stops.
+use Rattle.std.proofs.Common.{◌≡◌, ◌≢◌, ℕ, zero, suc, ◌==◌, ◌≤◌, ◌<◌, List, [], ◌∷◌, ◌++◌, length, drop, Bool, true, false, Option, None, Some, arith, refl, sym, ◌∙◌, ap, subst, inl, inr, ◌⊎◌, ◌&&◌, append_assoc, lit≤}
+use Rattle.std.proofs.lemmas.Bool.{cases_lt}
+use Rattle.std.proofs.lemmas.Bool.Decides.{nat_tests}
+use Rattle.std.proofs.lemmas.List.{append-nil}
+use Rattle.std.specs.Str.Parse.{AllDigits}
+use Rattle.ql_syntax.specs.declared.cause.QlCause.{QlCause}
+use Rattle.ql_syntax.proofs.WordStarts.{a_word_byte}
+use Rattle.std.specs.Char.{digit_value}
+use Rattle.std.specs.List.{list_all}
+use Rattle.osm_model.specs.Degrees.{Decimal, IsDigits, IsFraction, BeginsOtherwise, sign, point, spelling}
+use Rattle.ql_syntax.specs.Gaps.{GapEnd, Behind, Open, gap, Between}
+use Rattle.ql_syntax.specs.Numbers.{IsNumber, IsNoNumber, IsMisfit, NoDigit, NoFraction, is_minus, is_point}
+use Rattle.ql_syntax.specs.Points.{Next, At, next_token, pass, run_here, word_at, a_word, number_here, number_at, a_number, begins_number, name_behind, a_name, into}
+use Rattle.ql_syntax.specs.Signs.{sign_of, len_of}
+use Rattle.ql_syntax.specs.Words.{IsRun, IsName, begins_with, is_run_byte, is_word_start}
+use Rattle.ql_syntax.specs.declared.cause.QlCause.TheVariants as causes
+use Rattle.ql_syntax.specs.declared.sign.Sign.{Sign}
+use Rattle.ql_syntax.specs.declared.sign.Sign.TheVariants as signs
+use Rattle.ql_syntax.proofs.TotalLemmas.{Outcome, AsRead, AsStop, Total, total_give, total_unexpected, total_from, total_then, total_choose}
+
+-- punctuation is one or another
+number_of : Sign → ℕ
+number_of signs.End = 0
+number_of signs.Word = 1
+number_of signs.Number = 2
+number_of signs.Quote = 3
+number_of signs.OpenBracket = 4
+number_of signs.CloseBracket = 5
+number_of signs.OpenParenthesis = 6
+number_of signs.CloseParenthesis = 7
+number_of signs.Semicolon = 8
+number_of signs.Comma = 9
+number_of signs.Colon = 10
+number_of signs.Equal = 11
+number_of signs.NotEqual = 12
+number_of signs.NotTilde = 13
+number_of signs.Not = 14
+number_of signs.Tilde = 15
+number_of signs.Dot = 16
+number_of signs.Minus = 17
+number_of signs.Arrow = 18
+number_of signs.Down = 19
+number_of signs.DownAll = 20
+number_of signs.Up = 21
+number_of signs.UpAll = 22
+number_of signs.Other = 23
+
+signs_in_order : List Sign
+signs_in_order = signs.End ∷ signs.Word ∷ signs.Number ∷ signs.Quote ∷ signs.OpenBracket ∷ signs.CloseBracket ∷ signs.OpenParenthesis ∷ signs.CloseParenthesis ∷ signs.Semicolon ∷ signs.Comma ∷ signs.Colon ∷ signs.Equal ∷ signs.NotEqual ∷ signs.NotTilde ∷ signs.Not ∷ signs.Tilde ∷ signs.Dot ∷ signs.Minus ∷ signs.Arrow ∷ signs.Down ∷ signs.DownAll ∷ signs.Up ∷ signs.UpAll ∷ signs.Other ∷ []
+
+first_or_end : List Sign → Sign
+first_or_end [] = signs.End
+first_or_end (s ∷ rest) = s
+
+sign_at : ℕ → List Sign → Sign
+sign_at n [] = signs.End
+sign_at zero (s ∷ rest) = s
+sign_at (suc n) (s ∷ rest) = sign_at n rest
+
+same_again : (s : Sign) → sign_at (number_of s) signs_in_order ≡ s
+unfolding number_of sign_at signs_in_order
+same_again signs.End = refl
+same_again signs.Word = refl
+same_again signs.Number = refl
+same_again signs.Quote = refl
+same_again signs.OpenBracket = refl
+same_again signs.CloseBracket = refl
+same_again signs.OpenParenthesis = refl
+same_again signs.CloseParenthesis = refl
+same_again signs.Semicolon = refl
+same_again signs.Comma = refl
+same_again signs.Colon = refl
+same_again signs.Equal = refl
+same_again signs.NotEqual = refl
+same_again signs.NotTilde = refl
+same_again signs.Not = refl
+same_again signs.Tilde = refl
+same_again signs.Dot = refl
+same_again signs.Minus = refl
+same_again signs.Arrow = refl
+same_again signs.Down = refl
+same_again signs.DownAll = refl
+same_again signs.Up = refl
+same_again signs.UpAll = refl
+same_again signs.Other = refl
+
+pub same_number : (a b : ℕ) → (a ≡ b) ⊎ (a ≡ b → ⊥)
+same_number a b = elim (cases_lt a b) [
+  | inl less ↦ inr (λ e. omega arith)
+  | inr more ↦ elim (cases_lt b a) [ inl less ↦ inr (λ e. omega arith) | inr same ↦ inl (omega arith) ]
+]
+
+pub is_sign : (a b : Sign) → (a ≡ b) ⊎ (a ≡ b → ⊥)
+is_sign a b = elim (same_number (number_of a) (number_of b)) [
+  | inl e ↦ inl (sym (same_again a) ∙ ap (λ (n : ℕ). sign_at n signs_in_order) e ∙ same_again b)
+  | inr not ↦ inr (λ e. not (ap number_of e))
+]
+
+pub not_equal : (a b : ℕ) → (a ≡ b → ⊥) → (a == b) ≡ false
+not_equal a b other = grind (arith, nat_tests)
+
+pub is_true : (b : Bool) → (b ≡ true) ⊎ (b ≡ true → ⊥)
+is_true true = inl refl
+is_true false = inr (λ e. let bad : false ≡ true = e in cc)
+
+-- what comes next
+token_at : (text : List ℕ) (end : GapEnd) → gap Between text ≡ end → Outcome next_token text
+unfolding next_token
+token_at text (Behind place) e = AsRead (record { sign = sign_of place; place = place }) (drop (len_of (sign_of place)) place) (record { behind_gap = e; sign_is = refl; rest_is = refl })
+token_at text (Open at) e = AsStop causes.Unclosed at (refl, e)
+
+pub total_token : Total next_token
+total_token = record { at = λ text. token_at text (gap Between text) refl }
+
+-- a run
+both_true : (p q : Bool) → p ≡ true → q ≡ true → (p && q) ≡ true
+both_true true q e f = f
+both_true false q e f = absurd (let bad : false ≡ true = e in cc)
+
+longer : (b : ℕ) (s run rest : List ℕ) → is_run_byte b ≡ true → IsRun s run rest → IsRun (b ∷ s) (b ∷ run) rest
+longer b s run rest is reads = record { parts = ap (λ (x : List ℕ). b ∷ x) reads.parts; bytes = both_true (is_run_byte b) (list_all is_run_byte run) is reads.bytes; longest = reads.longest }
+
+-- the longest run
+record SomeRun (text : List ℕ) : Type 0 where
+  run : List ℕ
+  rest : List ℕ
+  is : IsRun text run rest
+
+run_from : (b : ℕ) (s : List ℕ) (test : Bool) → is_run_byte b ≡ test → SomeRun s → SomeRun (b ∷ s)
+run_from b s true e found = record { run = b ∷ found.run; rest = found.rest; is = longer b s found.run found.rest e found.is }
+run_from b s false e found = record { run = []; rest = b ∷ s; is = record { parts = refl; bytes = refl; longest = e } }
+
+run_at : (text : List ℕ) → SomeRun text
+run_at [] = record { run = []; rest = []; is = record { parts = refl; bytes = refl; longest = refl } }
+run_at (b ∷ s) = run_from b s (is_run_byte b) refl (run_at s)
+
+pub total_run : Total run_here
+unfolding run_here
+total_run = record { at = λ text. let found = run_at text in AsRead found.run found.rest found.is }
+
+name_from : (dot : Next) (b : ℕ) (s : List ℕ) (test : Bool) → is_word_start b ≡ test → Outcome (name_behind dot) (b ∷ s)
+unfolding name_behind
+name_from dot b s true e = let found = run_at s in AsRead (b ∷ found.run) found.rest (record { run = longer b s found.run found.rest (a_word_byte b e) found.is; start = e })
+name_from dot b s false e = AsStop causes.UnexpectedCharacter dot.place (e, (refl, refl))
+
+name_at : (dot : Next) (text : List ℕ) → Outcome (name_behind dot) text
+unfolding name_behind
+name_at dot [] = AsStop causes.UnexpectedEnd [] (refl, (refl, refl))
+name_at dot (b ∷ s) = name_from dot b s (is_word_start b) refl
+
+pub total_name_behind : (dot : Next) → Total (name_behind dot)
+total_name_behind dot = record { at = name_at dot }
+
+-- digits, as many as there are
+pub record SomeDigits (radix : ℕ) (text : List ℕ) : Type 0 where
+  pub digits : List ℕ
+  pub rest : List ℕ
+  pub parts : text ≡ digits ++ rest
+  pub each : AllDigits radix digits
+  pub stop : (b : ℕ) (s : List ℕ) → rest ≡ b ∷ s → radix ≤ digit_value b
+
+digits_from : (radix b : ℕ) (s : List ℕ) → (digit_value b < radix) ⊎ (radix ≤ digit_value b) → SomeDigits radix s → SomeDigits radix (b ∷ s)
+digits_from radix b s (inl small) found = record { digits = b ∷ found.digits; rest = found.rest; parts = ap (λ (x : List ℕ). b ∷ x) found.parts; each = (small, found.each); stop = found.stop }
+digits_from radix b s (inr large) found = record { digits = []; rest = b ∷ s; parts = refl; each = tt; stop = λ c t e. (let same : b ≡ c = cc in subst (λ (x : ℕ). radix ≤ digit_value x) same large) }
+
+small_or_large : (n radix : ℕ) → (n < radix) ⊎ (radix ≤ n)
+small_or_large n radix = elim (cases_lt n radix) [ inl less ↦ inl less | inr more ↦ inr (omega arith) ]
+
+pub digits_at : (radix : ℕ) (text : List ℕ) → SomeDigits radix text
+digits_at radix [] = record { digits = []; rest = []; parts = refl; each = tt; stop = λ b s e. (absurd (cc)) }
+digits_at radix (b ∷ s) = digits_from radix b s (small_or_large (digit_value b) radix) (digits_at radix s)
+
+begins_otherwise : (rest : List ℕ) → ((b : ℕ) (s : List ℕ) → rest ≡ b ∷ s → 10 ≤ digit_value b) → BeginsOtherwise rest
+begins_otherwise [] stop = tt
+begins_otherwise (b ∷ s) stop = stop b s refl
+
+misfit_at : (place : List ℕ) → (text : List ℕ) → ((cause : QlCause) → IsMisfit place cause → IsNoNumber text cause place) → Outcome number_here text
+unfolding number_here
+misfit_at [] text stops = AsStop causes.UnexpectedEnd [] (stops causes.UnexpectedEnd refl)
+misfit_at (b ∷ s) text stops = AsStop causes.UnexpectedCharacter (b ∷ s) (stops causes.UnexpectedCharacter refl)
+
+module _ (text unsigned : List ℕ) (negative : Bool) (parts : text ≡ sign negative ++ unsigned) (plain : negative ≡ false → begins_with is_minus unsigned ≡ false) where
+  with_fraction : (whole behind digits rest : List ℕ) → IsDigits whole → unsigned ≡ whole ++ (46 ∷ behind) → behind ≡ digits ++ rest → IsDigits digits → BeginsOtherwise rest → Outcome number_here text
+  unfolding number_here
+  with_fraction whole behind digits rest all is split some stop =
+      AsRead (record { negative = negative; whole = whole; fraction = Some digits }) rest (record {
+        decimal = record { whole = all; fraction = some };
+        parts = parts ∙ ap (λ (x : List ℕ). sign negative ++ x) (is ∙ ap (λ (x : List ℕ). whole ++ 46 ∷ x) split ∙ sym (append_assoc whole (46 ∷ digits) rest)) ∙ sym (append_assoc (sign negative) (whole ++ 46 ∷ digits) rest);
+        longest = stop;
+        no_point = λ e. (absurd (cc));
+      })
+
+  behind_point : (whole behind : List ℕ) → IsDigits whole → unsigned ≡ whole ++ (46 ∷ behind) → (found : SomeDigits 10 behind) → (ds : List ℕ) → found.digits ≡ ds → Outcome number_here text
+  unfolding number_here
+  behind_point whole behind all is found [] none =
+      AsStop causes.UnexpectedCharacter (46 ∷ behind) (NoFraction negative whole behind all (parts ∙ ap (λ (x : List ℕ). sign negative ++ x) is) refl
+      (begins_otherwise behind (λ b s e. found.stop b s (sym (found.parts ∙ ap (λ (x : List ℕ). x ++ found.rest) none) ∙ e))) refl)
+  behind_point whole behind all is found (d ∷ ds) some =
+      with_fraction whole behind found.digits found.rest all is found.parts ((λ e. (let bad : d ∷ ds ≡ [] = sym some ∙ e in cc)), found.each) (begins_otherwise found.rest found.stop)
+
+  no_fraction : (whole rest : List ℕ) → IsDigits whole → unsigned ≡ whole ++ rest → BeginsOtherwise rest → begins_with is_point rest ≡ false → Outcome number_here text
+  unfolding number_here
+  no_fraction whole rest all is stop none =
+      AsRead (record { negative = negative; whole = whole; fraction = None }) rest (record {
+        decimal = record { whole = all; fraction = tt };
+        parts = parts ∙ ap (λ (x : List ℕ). sign negative ++ x) (is ∙ ap (λ (x : List ℕ). x ++ rest) (sym (append-nil whole))) ∙ sym (append_assoc (sign negative) (whole ++ []) rest);
+        longest = stop;
+        no_point = λ e. none;
+      })
+
+  behind_whole : (whole rest : List ℕ) → IsDigits whole → unsigned ≡ whole ++ rest → BeginsOtherwise rest → Outcome number_here text
+  behind_whole whole [] all is stop = no_fraction whole [] all is stop refl
+  behind_whole whole (b ∷ s) all is stop = elim (same_number b 46) [
+    | inl point ↦ behind_point whole s all (is ∙ ap (λ (x : ℕ). whole ++ x ∷ s) point) (digits_at 10 s) (digits_at 10 s).digits refl
+    | inr other ↦ no_fraction whole (b ∷ s) all is stop (not_equal b 46 other)
+  ]
+
+  number_of_parts : (found : SomeDigits 10 unsigned) → (ds : List ℕ) → found.digits ≡ ds → Outcome number_here text
+  number_of_parts found [] none =
+      misfit_at unsigned text (λ cause misfit. NoDigit negative parts (begins_otherwise unsigned (λ b s e. found.stop b s (sym (found.parts ∙ ap (λ (x : List ℕ). x ++ found.rest) none) ∙ e))) plain misfit)
+  number_of_parts found (d ∷ ds) some =
+      behind_whole found.digits found.rest ((λ e. (let bad : d ∷ ds ≡ [] = sym some ∙ e in cc)), found.each) found.parts (begins_otherwise found.rest found.stop)
+
+number_place : (text : List ℕ) → Outcome number_here text
+number_place [] = number_of_parts [] [] false refl (λ e. refl) (digits_at 10 []) (digits_at 10 []).digits refl
+number_place (b ∷ s) = elim (same_number b 45) [
+  | inl minus ↦ number_of_parts (b ∷ s) s true (ap (λ (x : ℕ). x ∷ s) minus) (λ e. (absurd (cc))) (digits_at 10 s) (digits_at 10 s).digits refl
+  | inr other ↦ number_of_parts (b ∷ s) (b ∷ s) false refl (λ e. not_equal b 45 other) (digits_at 10 (b ∷ s)) (digits_at 10 (b ∷ s)).digits refl
+]
+
+pub total_number_here : Total number_here
+total_number_here = record { at = number_place }
+
+pub total_pass : (sign : Sign) → Total (pass sign)
+unfolding pass
+total_pass sign = total_then _ total_token (λ next. total_choose (is_sign _ _) (λ is. total_give tt) (total_unexpected next))
+
+pub total_word_at : (next : Next) → Total (word_at next)
+unfolding word_at
+total_word_at next = total_then _ total_run (λ word. total_give _)
+
+pub total_word : Total a_word
+unfolding a_word
+total_word = total_then _ total_token (λ next. total_choose (is_sign _ _) (λ is. total_word_at next) (total_unexpected next))
+
+pub total_number_at : (next : Next) → Total (number_at next)
+unfolding number_at
+total_number_at next = total_then _ (total_from next.place (total_number_here.at next.place)) (λ number. total_give _)
+
+pub total_number : Total a_number
+unfolding a_number
+total_number = total_then _ total_token (λ next. total_choose (is_true _) (λ is. total_number_at next) (total_unexpected next))
+
+pub total_name : Total a_name
+unfolding a_name
+total_name = total_then _ total_token (λ next. total_choose (is_sign _ _) (λ is. total_name_behind next) (total_unexpected next))
+
+pub total_into : Total into
+unfolding into
+total_into = total_then _ total_token (λ next. total_choose (is_sign _ _) (λ is. total_then _ total_name (λ name. total_then _ (total_pass signs.Semicolon) (λ end. total_give _)))
+    (total_choose (is_sign _ _) (λ is. total_give _) (total_unexpected next)))
+

@@ -1,0 +1,5 @@
+use Rattle.ql_syntax.proofs.QueryLaws.{lawful}
+use Rattle.ql_syntax.proofs.laws.lawful_queries.Goals as goal
+
+pub returns : goal.returns
+returns c = lawful

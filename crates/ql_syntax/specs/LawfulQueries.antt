@@ -1,0 +1,47 @@
+-- What every query keeps: boxes and paths on the kinds that allow them, out statements at the top level
+-- alone, and unions and differences at most so deep in one another.
+-- Source: this project.
+use Rattle.std.specs.Prelude.{◌≡◌, ℕ, suc, true, List, ⊤}
+use Rattle.std.specs.List.{AllByRecursion}
+use Rattle.ql_syntax.specs.Filters.{Filter, InSet, HasKey, KeyIs, LacksKey, KeyIsNot, Ids, Within, Via}
+use Rattle.ql_syntax.specs.Picks.{allows, takes_boxes}
+use Rattle.ql_syntax.specs.Statements.{Statement, Statements, Select, Recurse, Item, Union, Minus, Print, End, Then}
+use Rattle.ql_syntax.specs.declared.pick.Pick.{Pick}
+
+-- the kind allows the filter
+abbrev pub Allows : Pick → Filter → Type 0
+Allows pick (InSet name) = ⊤
+Allows pick (HasKey key) = ⊤
+Allows pick (KeyIs key value) = ⊤
+Allows pick (LacksKey key) = ⊤
+Allows pick (KeyIsNot key value) = ⊤
+Allows pick (Ids ids) = ⊤
+Allows pick (Within area) = takes_boxes pick ≡ true
+Allows pick (Via path name) = allows pick path ≡ true
+
+-- inside a union or a difference, and this many deep at most
+abbrev mutual
+  pub IsInner : ℕ → Statement → Type 0
+  IsInner depth (Select pick filters set) = AllByRecursion (Allows pick) filters
+  IsInner depth (Recurse start how set) = ⊤
+  IsInner depth (Item start set) = ⊤
+  IsInner depth (Union parts set) = (below : ℕ) × (depth ≡ suc below) × AreInner below parts
+  IsInner depth (Minus left right set) = (below : ℕ) × (depth ≡ suc below) × IsInner below left × IsInner below right
+  IsInner depth (Print start mode limit) = ⊥
+
+  pub AreInner : ℕ → Statements → Type 0
+  AreInner depth End = ⊤
+  AreInner depth (Then statement statements) = IsInner depth statement × AreInner depth statements
+
+-- at the top level
+abbrev pub IsTop : Statement → Type 0
+IsTop (Print start mode limit) = ⊤
+IsTop (Select pick filters set) = IsInner 32 (Select pick filters set)
+IsTop (Recurse start how set) = ⊤
+IsTop (Item start set) = ⊤
+IsTop (Union parts set) = IsInner 32 (Union parts set)
+IsTop (Minus left right set) = IsInner 32 (Minus left right set)
+
+-- the statements of a query
+abbrev pub IsQuery : List Statement → Type 0
+IsQuery = AllByRecursion IsTop
