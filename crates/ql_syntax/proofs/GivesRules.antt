@@ -1,18 +1,17 @@
 -- What is read keeps what every query does.
-use Rattle.std.proofs.Common.{◌≡◌, ℕ, zero, suc, List, [], ◌∷◌, Option, None, Some, Bool, true, false, cond, drop, refl, sym, ◌∙◌, ap, subst}
+use Rattle.std.proofs.Common.{◌≡◌, ℕ, zero, suc, List, [], ◌∷◌, Option, None, Some, Bool, true, false, cond, drop, refl, subst}
 use Rattle.std.specs.Bool.{⊤}
 use Rattle.std.specs.List.{AllByRecursion}
-use Rattle.ql_syntax.specs.Filters.{Filter, InSet, Ids, Within, Via}
 use Rattle.ql_syntax.specs.LawfulQueries.{Allows, IsInner, AreInner, IsTop, IsQuery}
 use Rattle.ql_syntax.specs.Picks.{allows, takes_boxes}
 use Rattle.ql_syntax.specs.Points.{Next, Word, Number}
 use Rattle.ql_syntax.specs.Queries.{query}
 use Rattle.ql_syntax.specs.Rules.{Rule, by_case}
 use Rattle.ql_syntax.specs.Selections.{a_filter, selection}
-use Rattle.ql_syntax.specs.SelectorWords.{path_word, selector_word, is_outside, path_of}
+use Rattle.ql_syntax.specs.SelectorWords.{path_word, selector_word, path_of}
 use Rattle.ql_syntax.specs.Selectors.{id_list, path_from, selector_named, word_selector, box_behind, number_selector, selector}
-use Rattle.ql_syntax.specs.StatementRules.{recursion_of, recursion, item, out_of, print_at, print, statement_named, word_statement, set_statement_named, set_word_statement, recursion_or_item, set_statement, recursion_at, plain_statement, part, union, difference, block, statement, top_statement}
-use Rattle.ql_syntax.specs.Statements.{Statement, Select, Recurse, Item, Union, Minus, Print, End, Then, row_of}
+use Rattle.ql_syntax.specs.StatementRules.{recursion, item, out_of, print_at, print, statement_named, word_statement, set_statement_named, set_word_statement, recursion_or_item, set_statement, recursion_at, plain_statement, part, union, difference, block, statement, top_statement}
+use Rattle.ql_syntax.specs.Statements.{Statement, Select, Recurse, Item, Union, Minus, Print, row_of}
 use Rattle.ql_syntax.specs.TagFilters.{tag_filter, tag_rest, not_in_tag}
 use Rattle.ql_syntax.specs.declared.level.Level.{Level}
 use Rattle.ql_syntax.specs.declared.level.Level.TheVariants as levels

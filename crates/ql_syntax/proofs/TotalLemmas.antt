@@ -1,5 +1,5 @@
 -- Rules that read each text or stop at it.
-use Rattle.std.proofs.Common.{◌≡◌, ℕ, zero, suc, ◌≤◌, ◌<◌, List, [], Option, None, Some, length, arith, Bool, true, false, refl, sym, ◌∙◌, ap, subst, inl, inr, ◌⊎◌}
+use Rattle.std.proofs.Common.{ℕ, zero, suc, ◌<◌, List, Option, None, Some, length, arith, refl, ap, subst, inl, inr, ◌⊎◌}
 use Rattle.ql_syntax.specs.Points.{Next, unexpected}
 use Rattle.ql_syntax.specs.Rules.{Rule, ◌>>=◌, First, Second, give, refuse, from, choose, by_case, repeat, Round, More, Done, RoundsRead, RoundsStop, Last, Here, Later, gather, gather_round, gathered}
 use Rattle.ql_syntax.specs.Rules as rounds
@@ -96,10 +96,12 @@ module _ {S A : Type 0} {round : S → Rule (Round S A)} (each : (state : S) →
 
 more_shorter : {A : Type 0} {item : Rule (Option A)} → ShorterWhere IsOne item → (found : List A) → ShorterWhere IsMore (gather_round item found)
 unfolding gather_round ◌>>=◌ give
-more_shorter {A = A} s found = record { below = λ text value rest such reads.
-    let h = s.below text reads.front reads.middle (one_of reads.front (subst IsMore reads.back_reads.0 such)) reads.front_reads in
-    let e = ap (λ (x : List ℕ). length x) reads.back_reads.1 in
-    omega arith }
+more_shorter {A = A} s found = record {
+  below = λ text value rest such reads.
+      let h = s.below text reads.front reads.middle (one_of reads.front (subst IsMore reads.back_reads.0 such)) reads.front_reads in
+      let e = ap (λ (x : List ℕ). length x) reads.back_reads.1 in
+      omega arith;
+}
   where
     one_of : (o : Option A) → IsMore (gathered found o) → IsOne o
     one_of None more = more
@@ -108,7 +110,6 @@ more_shorter {A = A} s found = record { below = λ text value rest such reads.
 pub total_gather : {A : Type 0} {item : Rule (Option A)} → Total item → ShorterWhere IsOne item → (found : List A) → Total (gather item found)
 unfolding gather gather_round
 total_gather t s found = total_repeat (λ (state : _). total_then _ t (λ next. total_give _)) (λ (state : _). more_shorter s state) found
-
 
 pub where_shorter : {A : Type 0} {IsSuch : A → Type 0} {rule : Rule A} → Shorter rule → ShorterWhere IsSuch rule
 where_shorter s = record { below = λ text value rest such reads. s.below text value rest reads }

@@ -1,5 +1,5 @@
 -- A number has the value that is asked for, or none.
-use Rattle.std.proofs.Common.{◌≡◌, ℕ, zero, suc, lit<, ◌<◌, ◌≤◌, ◌^◌, ℤ, pos, List, Bool, true, false, Option, None, Some, FitsSigned, arith, refl, sym, ◌∙◌, ap, subst, inl, inr, ◌⊎◌}
+use Rattle.std.proofs.Common.{◌≡◌, ℕ, zero, suc, lit<, ◌<◌, ◌≤◌, ◌^◌, ℤ, pos, List, Bool, true, false, Option, None, Some, FitsSigned, arith, refl, sym, ◌∙◌, subst, inl, inr, ◌⊎◌}
 use Rattle.std.specs.Int.{w64, int_wrap}
 use Rattle.std.proofs.lemmas.Int.{SFits-int_wrap, int_wrap_fits}
 use Rattle.std.proofs.lemmas.Bool.{cases_lt, cases_Bool}
@@ -7,15 +7,14 @@ use Rattle.std.proofs.lemmas.Bool.Decides.{Decides-int_eq}
 use Rattle.std.specs.Ordering.{int_eq}
 use Rattle.std.specs.Prelude.{T}
 use Rattle.std.specs.Str.Parse.{digits_value}
-use Rattle.osm_model.specs.Degrees.{Decimal, with_sign, limit}
-use Rattle.osm_model.specs.Edges.{IsWithin, IsAbove, size, scale}
+use Rattle.osm_model.specs.Degrees.{Decimal, with_sign}
+use Rattle.osm_model.specs.Edges.{IsWithin, IsAbove}
 use Rattle.osm_model.specs.declared.axis.Axis.{Axis}
 use Rattle.osm_model.specs.declared.axis.Axis.TheVariants.{Lon, Lat}
 use Rattle.ql_syntax.specs.Areas.{Corners, AreBox, area, box_of}
-use Rattle.ql_syntax.specs.WholeNumbers.{IsWhole, IsId, IsCount, id_of, count_of}
+use Rattle.ql_syntax.specs.WholeNumbers.{id_of, count_of}
 use Rattle.ql_syntax.specs.declared.cause.QlCause.TheVariants as causes
 use Rattle.ql_syntax.proofs.TotalLemmas.{Outcome, AsRead, AsStop, Total}
-use Rattle.ql_syntax.proofs.TotalTokens.{same_number}
 
 same_integer : (x y : ℤ) → (x ≡ y) ⊎ (x ≡ y → ⊥)
 same_integer x y = elim (cases_Bool (int_eq x y)) [

@@ -1,13 +1,12 @@
 -- Behind a quote stands a text, or a fault of one.
-use Rattle.std.proofs.Common.{◌≡◌, ◌≢◌, ℕ, zero, suc, ◌≤◌, ◌<◌, List, [], ◌∷◌, ◌++◌, length, take, drop, Bool, true, false, Option, None, Some, arith, refl, sym, ◌∙◌, ap, subst, inl, inr, ◌⊎◌, append_assoc, length-append}
+use Rattle.std.proofs.Common.{◌≡◌, ◌≢◌, ℕ, zero, suc, ◌≤◌, ◌<◌, List, [], ◌∷◌, ◌++◌, length, take, drop, true, false, Option, None, Some, arith, refl, sym, ◌∙◌, ap, subst, inl, inr, ◌⊎◌, append_assoc}
 use Rattle.std.proofs.lemmas.List.{append-nil, take-append-drop, length-take-le}
 use Rattle.std.proofs.lemmas.Bool.{cases_lt}
-use Rattle.std.specs.Char.{IsScalar, digit_value}
-use Rattle.std.specs.List.{AllByRecursion, flat_map}
+use Rattle.std.specs.Char.{IsScalar}
 use Rattle.std.specs.Str.Parse.{AllDigits, digits_value}
 use Rattle.ql_syntax.specs.EscapeParts.{IsEscape}
 use Rattle.ql_syntax.specs.Points.{text_here}
-use Rattle.ql_syntax.specs.QuotedTexts.{Piece, Literal, Escape, Code, IsPiece, IsCode, Passes, StopsInside, AtEnd, InEscape, AtEscape, AtNul, IsCutEscape, IsBadEscape, Letter, NoDigit, NoCharacter, is_quote, escaped, spelling, value}
+use Rattle.ql_syntax.specs.QuotedTexts.{Literal, Escape, Code, IsCode, Passes, StopsInside, AtEnd, InEscape, AtEscape, AtNul, IsCutEscape, IsBadEscape, Letter, NoDigit, NoCharacter, is_quote, escaped, value}
 use Rattle.ql_syntax.specs.Words.{begins_with}
 use Rattle.ql_syntax.specs.declared.cause.QlCause.{QlCause}
 use Rattle.ql_syntax.specs.declared.cause.QlCause.TheVariants as causes

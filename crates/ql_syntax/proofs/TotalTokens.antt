@@ -1,5 +1,5 @@
 -- Each text begins with a token, or stops.
-use Rattle.std.proofs.Common.{◌≡◌, ◌≢◌, ℕ, zero, suc, ◌==◌, ◌≤◌, ◌<◌, List, [], ◌∷◌, ◌++◌, length, drop, Bool, true, false, Option, None, Some, arith, refl, sym, ◌∙◌, ap, subst, inl, inr, ◌⊎◌, ◌&&◌, append_assoc, lit≤}
+use Rattle.std.proofs.Common.{◌≡◌, ℕ, zero, suc, ◌==◌, ◌≤◌, ◌<◌, List, [], ◌∷◌, ◌++◌, drop, Bool, true, false, None, Some, arith, refl, sym, ◌∙◌, ap, subst, inl, inr, ◌⊎◌, ◌&&◌, append_assoc}
 use Rattle.std.proofs.lemmas.Bool.{cases_lt}
 use Rattle.std.proofs.lemmas.Bool.Decides.{nat_tests}
 use Rattle.std.proofs.lemmas.List.{append-nil}
@@ -8,12 +8,12 @@ use Rattle.ql_syntax.specs.declared.cause.QlCause.{QlCause}
 use Rattle.ql_syntax.proofs.WordStarts.{a_word_byte}
 use Rattle.std.specs.Char.{digit_value}
 use Rattle.std.specs.List.{list_all}
-use Rattle.osm_model.specs.Degrees.{Decimal, IsDigits, IsFraction, BeginsOtherwise, sign, point, spelling}
+use Rattle.osm_model.specs.Degrees.{IsDigits, BeginsOtherwise, sign, point}
 use Rattle.ql_syntax.specs.Gaps.{GapEnd, Behind, Open, gap, Between}
-use Rattle.ql_syntax.specs.Numbers.{IsNumber, IsNoNumber, IsMisfit, NoDigit, NoFraction, is_minus, is_point}
-use Rattle.ql_syntax.specs.Points.{Next, At, next_token, pass, run_here, word_at, a_word, number_here, number_at, a_number, begins_number, name_behind, a_name, into}
+use Rattle.ql_syntax.specs.Numbers.{IsNoNumber, IsMisfit, NoDigit, NoFraction, is_minus, is_point}
+use Rattle.ql_syntax.specs.Points.{Next, next_token, pass, run_here, word_at, a_word, number_here, number_at, a_number, name_behind, a_name, into}
 use Rattle.ql_syntax.specs.Signs.{sign_of, len_of}
-use Rattle.ql_syntax.specs.Words.{IsRun, IsName, begins_with, is_run_byte, is_word_start}
+use Rattle.ql_syntax.specs.Words.{IsRun, begins_with, is_run_byte, is_word_start}
 use Rattle.ql_syntax.specs.declared.cause.QlCause.TheVariants as causes
 use Rattle.ql_syntax.specs.declared.sign.Sign.{Sign}
 use Rattle.ql_syntax.specs.declared.sign.Sign.TheVariants as signs
@@ -260,4 +260,3 @@ pub total_into : Total into
 unfolding into
 total_into = total_then _ total_token (λ next. total_choose (is_sign _ _) (λ is. total_then _ total_name (λ name. total_then _ (total_pass signs.Semicolon) (λ end. total_give _)))
     (total_choose (is_sign _ _) (λ is. total_give _) (total_unexpected next)))
-

@@ -2,6 +2,8 @@ use Rattle.std.proofs.Common.{rules, arith, ◌≤◌, length}
 use Rattle.std.specs.Str.{IsUtf8}
 use Rattle.ql_syntax.specs.Queries.{IsText}
 use Rattle.ql_syntax.proofs.QueryLemmas.{read_whole, refused_at}
+use Rattle.ql_syntax.proofs.GivesRules.{query_gives}
+use Rattle.ql_syntax.proofs.RuleLemmas.{read_of}
 use Rattle.ql_syntax.proofs.parser.read_text.Goals as goal
 
 pub returns-in-Ok-clause-read : goal.returns-in-Ok-clause-read
@@ -17,3 +19,6 @@ returns-in-Err-read_query-clause-refused c =
     let short : length c.args.text.now ≤ 65536 = omega arith in
     let text : IsText c.args.text.now = record { short = short; utf8 = utf8 } in
     refused_at text c.in-Err-read_query.ensures c.fault_at.ensures.cause c.fault_at.ensures.byte
+
+pub new-requires : goal.new-requires
+new-requires c = query_gives.gives _ _ _ (read_of c.in-Ok.ensures)
