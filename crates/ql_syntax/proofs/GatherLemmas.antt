@@ -46,3 +46,7 @@ mapped f found one is = ap (map f) is ∙ map-append f found (one ∷ [])
 pub one_such : {A : Type 0} {o : Option A} {one : A} → o ≡ Some one → IsOne o
 one_such {o = Some a} is = tt
 one_such {o = None} is = absurd (cc)
+
+-- the first of a list
+pub alone : {A : Type 0} {list longer : List A} {one : A} → list ≡ [] → longer ≡ list ++ one ∷ [] → longer ≡ one ∷ []
+alone {one = one} empty with_one = with_one ∙ ap (λ (all : List _). all ++ one ∷ []) empty

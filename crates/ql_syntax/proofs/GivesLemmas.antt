@@ -1,5 +1,5 @@
 -- What rules give.
-use Rattle.std.proofs.Common.{◌≡◌, ℕ, List, [], ◌∷◌, ◌++◌, Option, None, Some, refl, sym, subst, inl, inr}
+use Rattle.std.proofs.Common.{◌≡◌, ℕ, List, [], ◌∷◌, ◌++◌, Option, None, Some, refl, sym, ◌∙◌, subst, inl, inr}
 use Rattle.std.specs.List.{AllByRecursion}
 use Rattle.opl_codec.proofs.ReadLiterals.{all_append}
 use Rattle.ql_syntax.specs.Points.{Next, unexpected}
@@ -67,3 +67,28 @@ module _ {A : Type 0} (IsSuch : A → Type 0) {item : Rule (Option A)} (each : G
   pub gives_gather : (found : List A) → AllByRecursion IsSuch found → Gives (AllByRecursion IsSuch) (gather item found)
   unfolding gather repeat
   gives_gather found all = record { gives = λ text value rest reads. rounds_give value rest found text all reads }
+
+-- what is gathered behind a first one isn't empty
+some_behind : {A : Type 0} (item : Rule (Option A)) (value : List A) (rest : List ℕ) (found : List A) (text : List ℕ) → ¬ (found ≡ []) → RoundsRead (gather_round item) value rest found text → ¬ (value ≡ [])
+unfolding gather_round ◌>>=◌ give
+some_behind item value rest _ _ some (Last found text reads) = last reads.front reads.back_reads.0
+  where
+    last : (o : Option _) → Done value ≡ gathered found o → ¬ (value ≡ [])
+    last None e none = some (let same : value ≡ found = cc in sym same ∙ none)
+    last (Some a) e none = absurd (cc)
+some_behind item value rest _ _ some (rounds.Next found next text middle reads more) = some_behind item value rest next middle (longer reads.front reads.back_reads.0) more
+  where
+    longer : (o : Option _) → More next ≡ gathered found o → ¬ (next ≡ [])
+    longer None e none = absurd (cc)
+    longer (Some a) e none = filled found (let same : next ≡ found ++ a ∷ [] = cc in sym same ∙ none)
+      where
+        filled : (list : List _) → list ++ a ∷ [] ≡ [] → ⊥
+        filled [] e = cc
+        filled (b ∷ list) e = cc
+
+pub gives_some : {A : Type 0} (item : Rule (Option A)) (first : A) → Gives (λ (all : List A). ¬ (all ≡ [])) (gather item (first ∷ []))
+unfolding gather repeat
+gives_some item first = record { gives = λ text value rest reads. some_behind item value rest (first ∷ []) text (λ e. cc) reads }
+
+pub gives_also : {A : Type 0} {IsSuch IsAlso : A → Type 0} {rule : Rule A} → Gives IsSuch rule → Gives IsAlso rule → Gives (λ (a : A). IsSuch a × IsAlso a) rule
+gives_also one other = record { gives = λ text v rest reads. (one.gives text v rest reads, other.gives text v rest reads) }

@@ -9,9 +9,9 @@ use Rattle.ql_syntax.specs.Queries.{query}
 use Rattle.ql_syntax.specs.Rules.{Rule, by_case}
 use Rattle.ql_syntax.specs.Selections.{a_filter, selection}
 use Rattle.ql_syntax.specs.SelectorWords.{path_word, selector_word, path_of}
-use Rattle.ql_syntax.specs.Selectors.{id_list, path_from, selector_named, word_selector, box_behind, number_selector, selector}
+use Rattle.ql_syntax.specs.Selectors.{id_behind, id_list, path_from, selector_named, word_selector, box_behind, number_selector, selector}
 use Rattle.ql_syntax.specs.StatementRules.{recursion, item, out_of, print_at, print, statement_named, word_statement, set_statement_named, set_word_statement, recursion_or_item, set_statement, recursion_at, plain_statement, part, union, difference, block, statement, top_statement}
-use Rattle.ql_syntax.specs.Statements.{Statement, Select, Recurse, Item, Union, Minus, Print, row_of}
+use Rattle.ql_syntax.specs.Statements.{Statement, End, Select, Recurse, Item, Union, Minus, Print, row_of}
 use Rattle.ql_syntax.specs.TagFilters.{tag_filter, tag_rest, not_in_tag}
 use Rattle.ql_syntax.specs.declared.level.Level.{Level}
 use Rattle.ql_syntax.specs.declared.level.Level.TheVariants as levels
@@ -22,7 +22,7 @@ use Rattle.ql_syntax.specs.declared.selector_word.SelectorWord.{SelectorWord}
 use Rattle.ql_syntax.specs.declared.selector_word.SelectorWord.TheVariants as selectors
 use Rattle.ql_syntax.specs.declared.statement_word.StatementWord.{StatementWord}
 use Rattle.ql_syntax.specs.declared.statement_word.StatementWord.TheVariants as words
-use Rattle.ql_syntax.proofs.GivesLemmas.{Gives, IfOne, gives_give, gives_refuse, gives_unexpected, gives_from, gives_then, gives_behind, gives_choose, gives_case, gives_gather}
+use Rattle.ql_syntax.proofs.GivesLemmas.{Gives, IfOne, gives_give, gives_refuse, gives_unexpected, gives_from, gives_then, gives_behind, gives_choose, gives_case, gives_gather, gives_some, gives_also}
 
 gives_in_tag : {A : Type 0} {IsSuch : A → Type 0} (next : Next) → Gives IsSuch (not_in_tag {A = A} next)
 unfolding not_in_tag
@@ -54,7 +54,7 @@ module _ (pick : Pick) where
 
   id_list_gives : Gives (Allows pick) id_list
   unfolding id_list
-  id_list_gives = gives_behind _ _ (λ colon. gives_behind _ _ (λ first. gives_behind _ _ (λ ids. gives_give _ tt)))
+  id_list_gives = gives_behind _ _ (λ colon. gives_behind _ _ (λ first. gives_then _ (gives_some id_behind first) (λ ids some. gives_give _ some)))
 
   named_gives : (place word : List ℕ) (case : SelectorWord) → selector_word pick word ≡ case → Gives (Allows pick) (selector_named place case)
   named_gives place word selectors.Ids is = id_list_gives
@@ -73,7 +73,7 @@ module _ (pick : Pick) where
   number_selector_gives : (number : Number) → Gives (Allows pick) (number_selector pick number)
   unfolding number_selector
   number_selector_gives number = gives_behind _ _ (λ next. gives_choose _ (λ comma. gives_choose _ (λ box. box_gives number box) (gives_refuse _ number.place))
-      (gives_choose _ (λ close. gives_behind _ _ (λ id. gives_give _ tt)) (gives_unexpected next)))
+      (gives_choose _ (λ close. gives_behind _ _ (λ id. gives_give _ (λ e. cc))) (gives_unexpected next)))
 
   selector_gives : Gives (Allows pick) (selector pick)
   unfolding selector
@@ -86,7 +86,7 @@ module _ (pick : Pick) where
       (gives_choose _ (λ is. gives_then _ selector_gives (λ filter such. gives_give _ such)) (gives_from next.place (gives_give _ tt)))))
 
 -- at a level, and this many deep at most
-abbrev IsAt : Level → ℕ → Statement → Type 0
+abbrev pub IsAt : Level → ℕ → Statement → Type 0
 IsAt levels.Inner depth s = IsInner depth s
 IsAt levels.Top depth (Print start mode limit) = ⊤
 IsAt levels.Top depth (Select pick filters set) = IsInner depth (Select pick filters set)
@@ -115,6 +115,10 @@ top_is (Minus left right set) is = is
 row_is : (depth : ℕ) (parts : List Statement) → AllByRecursion (IsInner depth) parts → AreInner depth (row_of parts)
 row_is depth [] all = tt
 row_is depth (s ∷ parts) all = (all.0, row_is depth parts all.1)
+
+some_row : (parts : List Statement) → ¬ (parts ≡ []) → ¬ (row_of parts ≡ End)
+some_row [] some e = some refl
+some_row (s ∷ parts) some e = cc
 
 module _ (level : Level) (depth : ℕ) where
   selection_gives : (pick : Pick) → Gives (IsAt level depth) (selection pick)
@@ -185,7 +189,7 @@ module _ {inner : Rule Statement} (depth : ℕ) (g : Gives (IsInner depth) inner
 
   union_gives : (first : Statement) → IsInner depth first → Gives (IsInner (suc depth)) (union inner first)
   unfolding union
-  union_gives first is = gives_then _ (gives_gather (IsInner depth) part_gives (first ∷ []) (is, tt)) (λ parts all. gives_behind _ _ (λ set. gives_give _ (depth, refl, row_is depth parts all)))
+  union_gives first is = gives_then _ (gives_also (gives_gather (IsInner depth) part_gives (first ∷ []) (is, tt)) (gives_some (part inner) first)) (λ parts all. gives_behind _ _ (λ set. gives_give _ (depth, refl, row_is depth parts all.0, some_row parts all.1)))
 
   difference_gives : (left : Statement) → IsInner depth left → Gives (IsInner (suc depth)) (difference inner left)
   unfolding difference

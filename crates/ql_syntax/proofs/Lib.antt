@@ -25,6 +25,17 @@ pub mod QueryLemmas
 pub mod DefiniteLemmas
 pub mod DefiniteTokens
 pub mod DefiniteRules
+pub mod SpellingLemmas
+pub mod GatherSpellings
+pub mod KeyStarts
+pub mod FilterSpellings
+pub mod OutSpellings
+pub mod SettingSpellings
+pub mod StatementSpellings
+pub mod StatementReadings
+pub mod QuerySpellings
+pub mod PlaceLemmas
+pub mod PlaceRules
 pub mod QueryLaws
 pub mod TotalLemmas
 pub mod TotalTokens

@@ -1,5 +1,5 @@
 -- Bytes read as one query at most, or have one fault.
-use Rattle.std.proofs.Common.{◌≡◌, ℕ, zero, suc, ◌≤◌, ◌<◌, ◌-◌, List, [], ◌∷◌, length, take, Bool, true, false, Result, Ok, Err, refl, sym, ◌∙◌, ap, subst, inl, inr, ◌⊎◌, arith}
+use Rattle.std.proofs.Common.{◌≡◌, ℕ, zero, suc, ◌≤◌, ◌<◌, ◌-◌, List, [], ◌∷◌, length, length-drop, take, drop, Bool, true, false, Result, Ok, Err, refl, sym, ◌∙◌, ap, subst, inl, inr, ◌⊎◌, arith}
 use Rattle.std.proofs.lemmas.Bool.{cases_lt}
 use Rattle.std.proofs.lemmas.List.{take_all}
 use Rattle.std.proofs.lemmas.Str.{IsUtf8-nil, IsUtf8-from_is_utf8, is_utf8-from_IsUtf8}
@@ -12,18 +12,22 @@ use Rattle.ql_syntax.specs.declared.cause.QlCause.{QlCause}
 use Rattle.ql_syntax.specs.declared.cause.QlCause.TheVariants as causes
 use Rattle.ql_syntax.specs.declared.fault.QlFault.{QlFault}
 use Rattle.ql_syntax.proofs.DefiniteRules.{query_is}
-use Rattle.ql_syntax.proofs.GivesRules.{query_gives}
-use Rattle.ql_syntax.proofs.QueryLemmas.{query_ends}
+use Rattle.ql_syntax.proofs.QueryLemmas.{reads_whole, fault_of}
+use Rattle.ql_syntax.proofs.QuerySpellings.{query_reads}
 use Rattle.ql_syntax.proofs.TotalLemmas.{Outcome, AsRead, AsStop}
 use Rattle.ql_syntax.proofs.TotalRules as total
 
+-- what is spelled so is read so
+as_read : {bytes : List ℕ} {statements : List Statement} → Reads bytes statements → query.reads bytes statements []
+as_read {bytes = bytes} {statements = statements} x = query_reads bytes statements x.lawful x.spelled
+
 pub one_query : (bytes : List ℕ) (first second : List Statement) → Reads bytes first → Reads bytes second → first ≡ second
-one_query bytes first second x y = let e = query_is.one bytes first second [] [] x.reads y.reads in e.0
+one_query bytes first second x y = let e = query_is.one bytes first second [] [] (as_read x) (as_read y) in e.0
 
 pub reads_or_not : (bytes : List ℕ) (statements : List Statement) (fault : QlFault) → Reads bytes statements → HasFault bytes fault → ⊥
 reads_or_not bytes statements fault x (Long long cause byte) = let short = (x.text).short in omega arith
 reads_or_not bytes statements fault x (NoText short not cause byte) = not (x.text).utf8
-reads_or_not bytes statements fault x (NoQuery text place stops byte) = query_is.never bytes statements [] fault.cause place x.reads stops
+reads_or_not bytes statements fault x (NoQuery text within stops) = query_is.never bytes statements [] fault.cause _ (as_read x) stops
 
 same_fault : {f g : QlFault} → f.cause ≡ g.cause → f.byte ≡ g.byte → f ≡ g
 same_fault {f = f} {g = g} cause byte = ap (λ (c : QlCause). let x : QlFault = record { cause = c; byte = f.byte } in x) cause ∙ ap (λ (b : ℕ). let x : QlFault = record { cause = g.cause; byte = b } in x) byte
@@ -35,18 +39,24 @@ one_valid bytes m n h k = elim (cases_lt m n) [
   | inr more ↦ elim (cases_lt n m) [ inl less ↦ absurd (k.longest m less h.front) | inr same ↦ omega arith ]
 ]
 
+-- where as much is left, as many bytes stand before
+same_byte : (bytes : List ℕ) (m n : ℕ) → m ≤ length bytes → n ≤ length bytes → drop m bytes ≡ drop n bytes → m ≡ n
+same_byte bytes m n low high same =
+    let left : length bytes - m ≡ length bytes - n = sym (length-drop m bytes) ∙ ap (λ (s : List ℕ). length s) same ∙ length-drop n bytes in
+    omega arith
+
 pub one_fault : (bytes : List ℕ) (first second : QlFault) → HasFault bytes first → HasFault bytes second → first ≡ second
 one_fault bytes f g (Long long cause byte) (Long more reason place) = same_fault (cause ∙ sym reason) (byte ∙ sym place)
 one_fault bytes f g (Long long cause byte) (NoText short not reason place) = absurd (omega arith)
-one_fault bytes f g (Long long cause byte) (NoQuery text place stops spot) = let short = text.short in absurd (omega arith)
+one_fault bytes f g (Long long cause byte) (NoQuery text within stops) = let short = text.short in absurd (omega arith)
 one_fault bytes f g (NoText short not cause byte) (Long more reason place) = absurd (omega arith)
 one_fault bytes f g (NoText short not cause byte) (NoText few none reason place) = same_fault (cause ∙ sym reason) (one_valid bytes f.byte g.byte byte place)
-one_fault bytes f g (NoText short not cause byte) (NoQuery text place stops spot) = absurd (not text.utf8)
-one_fault bytes f g (NoQuery text place stops spot) (Long more reason byte) = let short = text.short in absurd (omega arith)
-one_fault bytes f g (NoQuery text place stops spot) (NoText short not reason byte) = absurd (not text.utf8)
-one_fault bytes f g (NoQuery text place stops spot) (NoQuery again other halts byte) =
-    let e = query_is.fault bytes f.cause g.cause place other stops halts in
-    same_fault e.0 (spot ∙ ap (λ (s : List ℕ). length bytes - length s) e.1 ∙ sym byte)
+one_fault bytes f g (NoText short not cause byte) (NoQuery text within stops) = absurd (not text.utf8)
+one_fault bytes f g (NoQuery text within stops) (Long more reason byte) = let short = text.short in absurd (omega arith)
+one_fault bytes f g (NoQuery text within stops) (NoText short not reason byte) = absurd (not text.utf8)
+one_fault bytes f g (NoQuery text within stops) (NoQuery again below halts) =
+    let e = query_is.fault bytes f.cause g.cause _ _ stops halts in
+    same_fault e.0 (same_byte bytes f.byte g.byte within below e.1)
 
 -- what a reader gives that reads as it is spelled, and refuses by the fault
 module _ {X : Type 0} (view : X → List Statement) {bytes : List ℕ} where
@@ -92,8 +102,8 @@ some_length (b ∷ s) not = valid_at (b ∷ s) (length s) (omega arith) (λ m mo
 
 -- bytes are a query, or have a fault
 stopped_or_read : (bytes : List ℕ) → IsText bytes → Outcome query bytes → ((statements : List Statement) × Reads bytes statements) ⊎ ((fault : QlFault) × HasFault bytes fault)
-stopped_or_read bytes text (AsRead v rest reads) = inl (v, record { text = text; reads = subst (λ (s : List ℕ). query.reads bytes v s) (query_ends bytes rest v reads) reads })
-stopped_or_read bytes text (AsStop cause place stops) = inr (record { cause = cause; byte = length bytes - length place }, NoQuery text place stops refl)
+stopped_or_read bytes text (AsRead v rest reads) = inl (v, reads_whole bytes v rest text reads)
+stopped_or_read bytes text (AsStop cause place stops) = inr (record { cause = cause; byte = length bytes - length place }, fault_of place text stops refl)
 
 short_bytes : (bytes : List ℕ) → length bytes ≤ 65536 → (test : Bool) → is_utf8 bytes ≡ test → ((statements : List Statement) × Reads bytes statements) ⊎ ((fault : QlFault) × HasFault bytes fault)
 short_bytes bytes short true is = stopped_or_read bytes (record { short = short; utf8 = IsUtf8-from_is_utf8 bytes is }) (total.query_is.at bytes)
@@ -106,9 +116,9 @@ one_of_both bytes = elim (cases_lt 65536 (length bytes)) [
 ]
 
 pub lawful : (bytes : List ℕ) (statements : List Statement) → Reads bytes statements → IsQuery statements
-lawful bytes statements reads = query_gives.gives bytes statements [] reads.reads
+lawful bytes statements reads = reads.lawful
 
 pub fault_within : (bytes : List ℕ) (fault : QlFault) → HasFault bytes fault → fault.byte ≤ length bytes
 fault_within bytes fault (Long long cause byte) = omega arith
 fault_within bytes fault (NoText short not cause front) = let n = front.short in omega arith
-fault_within bytes fault (NoQuery text place stops byte) = omega arith
+fault_within bytes fault (NoQuery text within stops) = within

@@ -1,7 +1,8 @@
 -- The end of a query.
-use Rattle.std.proofs.Common.{◌≡◌, ℕ, List, [], Option, None, Some, Ok, Err, refl, sym, ◌∙◌, ap, subst, inl, inr}
+use Rattle.std.proofs.Common.{◌≡◌, ℕ, List, [], drop, arith, Option, None, Some, Ok, Err, refl, sym, ◌∙◌, ap, subst, inl, inr}
 use Rattle.std.specs.Prelude.{◌⊎◌, ◌-◌, length}
 use Rattle.ql_syntax.specs.Following.{Follows, Read, Stopped, NoMemory}
+use Rattle.ql_syntax.specs.Grammar as grammar
 use Rattle.ql_syntax.specs.Queries.{query, IsText, Reads, HasFault, NoQuery}
 use Rattle.ql_syntax.specs.Rules.{◌>>=◌, give, from, choose, repeat, gather, gather_round, gathered, Done, RoundsRead, Last, Next}
 use Rattle.ql_syntax.specs.StatementRules.{top_statement}
@@ -9,6 +10,10 @@ use Rattle.ql_syntax.specs.Statements.{Statement}
 use Rattle.ql_syntax.specs.declared.cause.QlCause.TheVariants as causes
 use Rattle.ql_syntax.specs.declared.fault.QlFault.{QlFault}
 use Rattle.ql_syntax.specs.declared.stop.Stop.{Stop}
+use Rattle.ql_syntax.proofs.GivesRules.{query_gives}
+use Rattle.ql_syntax.proofs.PlaceLemmas.{ends_at}
+use Rattle.ql_syntax.proofs.PlaceRules.{query_stops_inside}
+use Rattle.ql_syntax.proofs.QuerySpellings.{query_sound}
 use Rattle.ql_syntax.proofs.RuleLemmas.{read_of}
 
 -- where no statement comes next, nothing is left
@@ -36,12 +41,22 @@ pub query_ends : (text rest : List ℕ) (value : List Statement) → query.reads
 unfolding query ◌>>=◌ gather repeat
 query_ends text rest value reads = rounds_end _ _ _ _ reads.back_reads
 
+-- what rules read to the end is spelled so
+pub reads_whole : (text : List ℕ) (all : List Statement) (rest : List ℕ) → IsText text → query.reads text all rest → Reads text all
+reads_whole text all rest is reads = record { text = is; spelled = subst (λ (s : List ℕ). grammar.query all text s) (query_ends text rest all reads) (query_sound text rest all reads); lawful = query_gives.gives text all rest reads }
+
 pub read_whole : {X : Type 0} {v : X → List Statement × List ℕ} {text : List ℕ} {x : X} → IsText text → Follows query v text (Ok x) → Reads text (v x).0
-read_whole {v = v} {text = text} {x = x} is follows = record { text = is; reads = subst (λ (rest : List ℕ). query.reads text (v x).0 rest) (query_ends _ _ _ (read_of follows)) (read_of follows) }
+read_whole {v = v} {text = text} {x = x} is follows = reads_whole text (v x).0 (v x).1 is (read_of follows)
+
+-- a place at which a query can't go on, as the byte of a fault
+pub fault_of : {text : List ℕ} (place : List ℕ) {fault : QlFault} → IsText text → query.stops text fault.cause place → fault.byte ≡ length text - length place → HasFault text fault
+fault_of {text = text} place {fault = fault} is stops byte =
+    let at : drop fault.byte text ≡ place = ap (λ (n : ℕ). drop n text) byte ∙ ends_at (query_stops_inside text fault.cause place stops) in
+    NoQuery is (omega arith) (subst (λ (s : List ℕ). query.stops text fault.cause s) (sym at) stops)
 
 pub refused_at : {X : Type 0} {v : X → List Statement × List ℕ} {text : List ℕ} {stop : Stop} {fault : QlFault} → IsText text → Follows query v text (Err stop) → fault.cause ≡ stop.cause → fault.byte ≡ length text - length stop.rest.now → (fault.cause ≡ causes.Memory) ⊎ HasFault text fault
 refused_at is (Read x same reads) cause byte = absurd (cc)
 refused_at {text = text} {stop = stop} is (Stopped at same stops) cause byte =
     let e : stop ≡ at = cc in
-    inr (NoQuery is stop.rest.now (rw cause (subst (λ (s : Stop). query.stops text s.cause s.rest.now) (sym e) stops)) byte)
+    inr (fault_of stop.rest.now is (rw cause (subst (λ (s : Stop). query.stops text s.cause s.rest.now) (sym e) stops)) byte)
 refused_at {stop = stop} is (NoMemory at same memory) cause byte = let e : stop ≡ at = cc in inl (cause ∙ ap (λ (s : Stop). s.cause) e ∙ memory)

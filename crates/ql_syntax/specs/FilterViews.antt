@@ -1,5 +1,6 @@
 -- What the private readers of filters give, without where it lies in memory.
 use Rattle.std.specs.Borrow.{Bor}
+use Rattle.std.specs.Box.{box_value}
 use Rattle.std.specs.Prelude.{ℕ, ℤ, List, map, Option, None, Some}
 use Rattle.std.specs.declared.alloc.Global.{Global}
 use Rattle.std.specs.declared.vec.Vec.{Vec}
@@ -17,7 +18,7 @@ filter_of (filters.KeyIs key value) = tree.KeyIs key value
 filter_of (filters.LacksKey key) = tree.LacksKey key
 filter_of (filters.KeyIsNot key value) = tree.KeyIsNot key value
 filter_of (filters.Ids ids) = tree.Ids ids.items
-filter_of (filters.Within area) = tree.Within area
+filter_of (filters.Within area) = tree.Within (box_value area)
 filter_of (filters.Via path name) = tree.Via path name
 
 abbrev pub the_filter : (Filter × Bor (List ℕ)) → tree.Filter × List ℕ

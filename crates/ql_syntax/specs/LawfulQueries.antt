@@ -1,21 +1,22 @@
--- What every query keeps: boxes and paths on the kinds that allow them, out statements at the top level
--- alone, and unions and differences at most so deep in one another.
+-- What every query keeps: boxes and paths on the kinds that allow them, one id or more in a list of ids and
+-- one part or more in a union, out statements at the top level alone, and unions and differences at most so
+-- deep in one another.
 -- Source: this project.
-use Rattle.std.specs.Prelude.{◌≡◌, ℕ, suc, true, List, ⊤}
+use Rattle.std.specs.Prelude.{◌≡◌, ℕ, suc, true, List, [], ⊤}
 use Rattle.std.specs.List.{AllByRecursion}
 use Rattle.ql_syntax.specs.Filters.{Filter, InSet, HasKey, KeyIs, LacksKey, KeyIsNot, Ids, Within, Via}
 use Rattle.ql_syntax.specs.Picks.{allows, takes_boxes}
 use Rattle.ql_syntax.specs.Statements.{Statement, Statements, Select, Recurse, Item, Union, Minus, Print, End, Then}
 use Rattle.ql_syntax.specs.declared.pick.Pick.{Pick}
 
--- the kind allows the filter
+-- the kind allows the filter, and a list of ids has one or more
 abbrev pub Allows : Pick → Filter → Type 0
 Allows pick (InSet name) = ⊤
 Allows pick (HasKey key) = ⊤
 Allows pick (KeyIs key value) = ⊤
 Allows pick (LacksKey key) = ⊤
 Allows pick (KeyIsNot key value) = ⊤
-Allows pick (Ids ids) = ⊤
+Allows pick (Ids ids) = ¬ (ids ≡ [])
 Allows pick (Within area) = takes_boxes pick ≡ true
 Allows pick (Via path name) = allows pick path ≡ true
 
@@ -25,7 +26,7 @@ abbrev mutual
   IsInner depth (Select pick filters set) = AllByRecursion (Allows pick) filters
   IsInner depth (Recurse start how set) = ⊤
   IsInner depth (Item start set) = ⊤
-  IsInner depth (Union parts set) = (below : ℕ) × (depth ≡ suc below) × AreInner below parts
+  IsInner depth (Union parts set) = (below : ℕ) × (depth ≡ suc below) × AreInner below parts × ¬ (parts ≡ End)
   IsInner depth (Minus left right set) = (below : ℕ) × (depth ≡ suc below) × IsInner below left × IsInner below right
   IsInner depth (Print start mode limit) = ⊥
 

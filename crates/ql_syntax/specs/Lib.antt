@@ -30,5 +30,7 @@ pub mod FilterViews
 pub mod Selections
 pub mod StatementViews
 pub mod StatementRules
+pub mod Spellings
+pub mod Grammar
 pub mod Queries
 pub mod LawfulQueries

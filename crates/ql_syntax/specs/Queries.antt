@@ -1,8 +1,10 @@
 -- What bytes read as a query, and the fault of bytes that read as none.
 -- Source: the Overpass QL page of the OpenStreetMap wiki, as far as the profile goes; the limit, the
 -- causes and their places are this project's.
-use Rattle.std.specs.Prelude.{◌≡◌, ℕ, ◌<◌, ◌≤◌, ◌-◌, List, [], length}
+use Rattle.std.specs.Prelude.{◌≡◌, ℕ, ◌<◌, ◌≤◌, List, [], length, drop}
 use Rattle.std.specs.Str.{IsUtf8, IsValidUpTo}
+use Rattle.ql_syntax.specs.Grammar as grammar
+use Rattle.ql_syntax.specs.LawfulQueries.{IsQuery}
 use Rattle.ql_syntax.specs.Rules.{Rule, ◌>>=◌, gather}
 use Rattle.ql_syntax.specs.Settings.{settings}
 use Rattle.ql_syntax.specs.StatementRules.{top_statement}
@@ -10,7 +12,8 @@ use Rattle.ql_syntax.specs.Statements.{Statement}
 use Rattle.ql_syntax.specs.declared.cause.QlCause.TheVariants as causes
 use Rattle.ql_syntax.specs.declared.fault.QlFault.{QlFault}
 
--- settings, or none, and then statements to the end, or none
+-- settings, or none, and then statements to the end, or none: how they are read from the left, and where
+-- what comes next can't go on
 unfoldable pub query : Rule (List Statement)
 query = do
   set ← settings
@@ -21,10 +24,11 @@ pub record IsText (bytes : List ℕ) : Type 0 where
   pub short : length bytes ≤ 65536
   pub utf8 : IsUtf8 bytes
 
--- the bytes read as these statements
+-- the bytes read as these statements: they spell them, and nothing is left
 pub record Reads (bytes : List ℕ) (statements : List Statement) : Type 0 where
   pub text : IsText bytes
-  pub reads : query.reads bytes statements []
+  pub spelled : grammar.query statements bytes []
+  pub lawful : IsQuery statements
 
 -- why the bytes read as no query, and the byte where that is told: the first of these that holds
 pub data HasFault (bytes : List ℕ) (fault : QlFault) : Type 0 where
@@ -32,5 +36,5 @@ pub data HasFault (bytes : List ℕ) (fault : QlFault) : Type 0 where
   Long : 65536 < length bytes → fault.cause ≡ causes.TooLong → fault.byte ≡ 65536 → HasFault bytes fault
   -- not UTF-8: the first byte that isn't
   NoText : length bytes ≤ 65536 → ¬ (IsUtf8 bytes) → fault.cause ≡ causes.NotUtf8 → IsValidUpTo bytes fault.byte → HasFault bytes fault
-  -- no query goes on so: where this is left of the bytes
-  NoQuery : IsText bytes → (place : List ℕ) → query.stops bytes fault.cause place → fault.byte ≡ length bytes - length place → HasFault bytes fault
+  -- no query goes on so, behind that many of the bytes
+  NoQuery : IsText bytes → fault.byte ≤ length bytes → query.stops bytes fault.cause (drop fault.byte bytes) → HasFault bytes fault

@@ -16,9 +16,11 @@ use crate::points::{NumberSpot, next_number, pass};
 use crate::sign::Sign;
 use crate::stop::Stop;
 use osm_model::{Axis, BoxArea, Edge, ModelFault};
+use std::alloc::{AllocError, Global};
 
 /// The box whose first number and comma have been read, and what is left behind its `)`.
 pub fn read_box<'a>(
+    alloc: Global,
     south: NumberSpot<'a>,
     text: &'a [u8],
 ) -> Result<(Filter<'a>, &'a [u8]), Stop<'a>>
@@ -30,6 +32,7 @@ pub fn read_box<'a>(
     let east = next_corner(north.number.rest)?;
     let rest = pass(east.number.rest, Sign::CloseParenthesis)?;
     let area = area_of(south, west.number, north.number, east.number)?;
+    let area = Box::new(alloc, area).map_err(AllocError::from)?;
     Ok((Filter::Within(area), rest))
 }
 

@@ -21,7 +21,7 @@ pub enum Filter<'a> {
     /// The objects with these ids: `(id)`, `(id:..)`. One or more, in the order of the query.
     Ids(Vec<i64>),
     /// The nodes in a box: `(south,west,north,east)`.
-    Within(BoxArea<'a>),
+    Within(Box<BoxArea<'a>>),
     /// The objects to which a path leads from those of a set: `(w)`, `(bn.a)`.
     Via(Path, Name<'a>),
 }

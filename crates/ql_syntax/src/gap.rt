@@ -10,7 +10,21 @@ use crate::stop::Stop;
 ///
 /// A comment that isn't closed is `Unclosed` at its first byte. Linear in what it skips; it takes no
 /// memory.
+#[inline(always)]
 pub fn skip_gap(text: &[u8]) -> Result<&[u8], Stop<'_>>
+    ensures read { IfOk result (λ rest. gap Between text.now ≡ Behind rest.now) }
+    ensures refused { IfErr result (λ stop. (stop.cause ≡ QlCause.Unclosed) × (gap Between text.now ≡ Open stop.rest.now)) }
+    ensures within { IfOk result (λ rest. length rest.now ≤ length text.now) }
+{
+    match text {
+        [first, ..] if is_blank(*first) || *first == b'/' => skip_pieces(text),
+        _ => Ok(text),
+    }
+}
+
+/// What stands behind the blanks and comments at the front of a text.
+#[inline(never)]
+fn skip_pieces(text: &[u8]) -> Result<&[u8], Stop<'_>>
     ensures read { IfOk result (λ rest. gap Between text.now ≡ Behind rest.now) }
     ensures refused { IfErr result (λ stop. (stop.cause ≡ QlCause.Unclosed) × (gap Between text.now ≡ Open stop.rest.now)) }
     ensures within { IfOk result (λ rest. length rest.now ≤ length text.now) }

@@ -5,15 +5,19 @@ ghost use Rattle.std.specs.Prelude.{◌≡◌, ◌++◌, ◌∷◌, [], IfOk};
 use std::alloc::{AllocError, Global};
 
 /// The list of this item alone.
+#[inline(always)]
 pub fn list_of<T>(alloc: Global, item: T) -> Result<Vec<T>, AllocError>
 where
     T: Drop,
     ensures { IfOk result (λ list. list.items ≡ item ∷ []) }
 {
-    appended(Vec::new(alloc), item)
+    let mut list = Vec::with_capacity(alloc, 1)?;
+    list.push(item).map_err(AllocError::from)?;
+    Ok(list)
 }
 
 /// The list with this item behind the others.
+#[inline(always)]
 pub fn appended<T>(list: Vec<T>, item: T) -> Result<Vec<T>, AllocError>
 where
     T: Drop,

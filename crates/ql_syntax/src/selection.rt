@@ -1,6 +1,6 @@
 //! Query statements.
 
-ghost use Rattle.std.specs.Prelude.{[]};
+ghost use Rattle.std.specs.Prelude.{◌≡◌, ◌++◌, ◌∷◌, [], IfOk};
 ghost use Rattle.ql_syntax.specs.FilterViews.{the_other_filter, the_filters};
 ghost use Rattle.ql_syntax.specs.Following.{Follows};
 ghost use Rattle.ql_syntax.specs.Rules.{gather};
@@ -8,7 +8,7 @@ ghost use Rattle.ql_syntax.specs.Selections.{a_filter, selection};
 ghost use Rattle.ql_syntax.specs.StatementViews.{the_statement};
 
 use crate::filter::Filter;
-use crate::list::appended;
+use crate::list::{appended, list_of};
 use crate::pick::Pick;
 use crate::points::{name_behind, read_into};
 use crate::selector::read_selector;
@@ -17,7 +17,7 @@ use crate::statement::Stmt;
 use crate::stop::Stop;
 use crate::tag_filter::read_tag_filter;
 use crate::token::next_token;
-use std::alloc::Global;
+use std::alloc::{AllocError, Global};
 
 /// The query statement behind the word of its kind, and what is left behind its `;`.
 pub fn read_selection(alloc: Global, kind: Pick, text: &[u8]) -> Result<(Stmt<'_>, &[u8]), Stop<'_>>
@@ -49,9 +49,26 @@ fn read_filters(
         let (other, rest) = read_filter(alloc, kind, place)?;
         place = rest;
         match other {
-            Some(filter) => filters = appended(filters, filter)?,
+            Some(filter) => filters = with_filter(alloc, filters, filter)?,
             None => return Ok((filters, place)),
         }
+    }
+}
+
+/// The filters with this one behind the others. Most statements have one filter, so that the first takes
+/// memory for itself alone.
+#[inline(always)]
+fn with_filter<'a>(
+    alloc: Global,
+    filters: Vec<Filter<'a>>,
+    filter: Filter<'a>,
+) -> Result<Vec<Filter<'a>>, AllocError>
+    ensures { IfOk result (λ more. more.items ≡ filters.entry.items ++ filter.entry ∷ []) }
+{
+    if filters.is_empty() {
+        list_of(alloc, filter)
+    } else {
+        appended(filters, filter)
     }
 }
 

@@ -78,7 +78,7 @@ fn read_number_selector<'a>(
     let token = next_token(number.number.rest)?;
     if token.is(Sign::Comma) {
         if pick.takes_boxes() {
-            read_box(number, token.rest)
+            read_box(alloc, number, token.rest)
         } else {
             Err(Stop::at(QlCause::OutsideProfile, number.place))
         }

@@ -9,7 +9,7 @@ ghost use Rattle.ql_syntax.specs.Views.{next_of, word_of};
 
 use crate::cause::QlCause;
 use crate::level::Level;
-use crate::list::{appended, list_of};
+use crate::list::appended;
 use crate::name::Name;
 use crate::out_options::read_out_options;
 use crate::points::{WordSpot, name_behind, pass, read_into, word_at};
@@ -107,7 +107,7 @@ fn read_union<'a>(
 ) -> Result<(Stmt<'a>, &'a [u8]), Stop<'a>>
     ensures { Follows (union (statement Level.Inner depth) (statement_of first.entry)) the_statement text.now result }
 {
-    let (parts, rest) = read_parts(alloc, depth, list_of(alloc, first)?, text)?;
+    let (parts, rest) = read_parts(alloc, depth, appended(Vec::new(alloc), first)?, text)?;
     let (into, rest) = read_into(rest)?;
     Ok((Stmt::Union { parts, into }, rest))
 }

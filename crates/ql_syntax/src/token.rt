@@ -25,6 +25,7 @@ pub struct Token<'a> {
 /// The next token of a text.
 ///
 /// A comment that isn't closed is `Unclosed` at its first byte. It takes no memory.
+#[inline(always)]
 pub fn next_token(text: &[u8]) -> Result<Token<'_>, Stop<'_>>
     ensures { Follows next_token the_token text.now result }
 {

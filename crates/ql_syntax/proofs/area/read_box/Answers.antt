@@ -1,4 +1,7 @@
-use Rattle.std.proofs.Common.{refl}
+use Rattle.std.proofs.Common.{ap, refl, rules}
+use Rattle.osm_model.specs.Boxes.{ExactBox}
+use Rattle.ql_syntax.specs.Filters.{Within}
+use Rattle.ql_syntax.proofs.FilterLemmas.{follows_out}
 use Rattle.ql_syntax.proofs.RuleLemmas.{follows_give, follows_stop, follows_then}
 use Rattle.ql_syntax.specs.Selectors.{box_behind}
 use Rattle.ql_syntax.proofs.area.read_box.Goals as goal
@@ -23,6 +26,9 @@ pub returns-in_err-area : goal.returns-in_err-area
 unfolding box_behind
 returns-in_err-area c = follows_then _ c.in_ok-west.ensures.follows (follows_then _ c.in_ok-north.ensures.follows (follows_then _ c.in_ok-east.ensures.follows (follows_then _ c.in_ok-rest.ensures (follows_stop _ (c.in_err-area.ensures _) c.from_residual-in_err-area.ensures.1))))
 
+pub returns-in_err-area-2 : goal.returns-in_err-area-2
+returns-in_err-area-2 c = let h = c.from_residual-in_err-area-2.ensures in follows_out h.1
+
 pub returns : goal.returns
 unfolding box_behind
-returns c = follows_then _ c.in_ok-west.ensures.follows (follows_then _ c.in_ok-north.ensures.follows (follows_then _ c.in_ok-east.ensures.follows (follows_then _ c.in_ok-rest.ensures (follows_then _ (c.in_ok-area.ensures _) (follows_give refl refl)))))
+returns c = follows_then _ c.in_ok-west.ensures.follows (follows_then _ c.in_ok-north.ensures.follows (follows_then _ c.in_ok-east.ensures.follows (follows_then _ c.in_ok-rest.ensures (follows_then _ (c.in_ok-area.ensures _) (follows_give (ap (λ (b : ExactBox). Within b) (search rules)) refl)))))

@@ -3,7 +3,7 @@ use Rattle.ql_syntax.specs.StatementRules.{block, difference, part, union}
 use Rattle.ql_syntax.specs.StatementViews.{other_statement, statement_of, statements_of}
 use Rattle.ql_syntax.specs.declared.level.Level.TheVariants as levels
 use Rattle.ql_syntax.proofs.FilterLemmas.{follows_out}
-use Rattle.ql_syntax.proofs.GatherLemmas.{gather_done, gather_from, gather_next, gather_stop, mapped}
+use Rattle.ql_syntax.proofs.GatherLemmas.{alone, gather_done, gather_from, gather_next, gather_stop, mapped}
 use Rattle.ql_syntax.proofs.RoundLemmas.{Start}
 use Rattle.ql_syntax.proofs.RuleLemmas.{follows_from, follows_from_at, follows_give, follows_no, follows_refuse, follows_stop, follows_then, follows_yes, read_of}
 use Rattle.ql_syntax.proofs.StatementLemmas.{at_block, at_last_depth, at_no_token, at_plain, minus_is, one_less, union_is}
@@ -70,22 +70,22 @@ pub read_difference-returns : goal.read_difference-returns
 unfolding difference
 read_difference-returns n c = follows_then _ c.in_ok-right.ensures (follows_then _ c.in_ok-rest.ensures (follows_then _ c.in_ok-into.ensures (follows_give (minus_is (search rules) (search rules) c.in_ok-into.into) refl)))
 
-pub read_union-returns-in_err-list_of : goal.read_union-returns-in_err-list_of
-read_union-returns-in_err-list_of n c = let h = c.from_residual.ensures in follows_out h.1
+pub read_union-returns-in_err-appended : goal.read_union-returns-in_err-appended
+read_union-returns-in_err-appended n c = let h = c.from_residual.ensures in follows_out h.1
 
 pub read_union-returns-in_err-parts : goal.read_union-returns-in_err-parts
 unfolding union
-read_union-returns-in_err-parts n c = follows_stop _ (gather_from _ (ap statements_of c.in_ok-list_of.ensures) c.in_err-parts.ensures) c.from_residual-in_err-parts.ensures.1
+read_union-returns-in_err-parts n c = follows_stop _ (gather_from _ (ap statements_of (alone c.new.ensures.items c.in_ok-appended.ensures)) c.in_err-parts.ensures) c.from_residual-in_err-parts.ensures.1
 
 pub read_union-returns-in_err-into : goal.read_union-returns-in_err-into
 unfolding union
 read_union-returns-in_err-into n c =
-    follows_then _ (gather_from _ (ap statements_of c.in_ok-list_of.ensures) c.in_ok-parts.ensures) (follows_stop _ c.in_err-into.ensures c.from_residual-in_err-into.ensures.1)
+    follows_then _ (gather_from _ (ap statements_of (alone c.new.ensures.items c.in_ok-appended.ensures)) c.in_ok-parts.ensures) (follows_stop _ c.in_err-into.ensures c.from_residual-in_err-into.ensures.1)
 
 pub read_union-returns : goal.read_union-returns
 unfolding union
 read_union-returns n c =
-    follows_then _ (gather_from _ (ap statements_of c.in_ok-list_of.ensures) c.in_ok-parts.ensures) (follows_then _ c.in_ok-into.ensures (follows_give (union_is c.in_ok-parts.parts c.in_ok-into.into) refl))
+    follows_then _ (gather_from _ (ap statements_of (alone c.new.ensures.items c.in_ok-appended.ensures)) c.in_ok-parts.ensures) (follows_then _ c.in_ok-into.ensures (follows_give (union_is c.in_ok-parts.parts c.in_ok-into.into) refl))
 
 pub read_part-returns-in_err-token : goal.read_part-returns-in_err-token
 unfolding part

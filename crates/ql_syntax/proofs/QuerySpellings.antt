@@ -1,0 +1,76 @@
+-- Queries are spelled as rules read them.
+use Rattle.std.proofs.Common.{◌≡◌, ℕ, List, [], ◌∷◌, None, Some, refl, subst, inl, inr}
+use Rattle.ql_syntax.specs.Grammar as grammar
+use Rattle.ql_syntax.specs.LawfulQueries.{IsTop, IsQuery}
+use Rattle.ql_syntax.specs.Queries.{query}
+use Rattle.ql_syntax.specs.Rules.{◌>>=◌, gather}
+use Rattle.ql_syntax.specs.Spellings.{each, IsSign, IsEnd}
+use Rattle.ql_syntax.specs.StatementRules.{top_statement}
+use Rattle.ql_syntax.specs.Statements.{Statement, Select, Recurse, Item, Union, Minus, Print}
+use Rattle.ql_syntax.specs.declared.level.Level.TheVariants as levels
+use Rattle.ql_syntax.specs.declared.sign.Sign.{Sign}
+use Rattle.ql_syntax.specs.declared.sign.Sign.TheVariants as signs
+use Rattle.ql_syntax.proofs.GatherSpellings.{reads_gather}
+use Rattle.ql_syntax.proofs.GivesRules.{IsAt}
+use Rattle.ql_syntax.proofs.SettingSpellings.{settings_sound, reads_settings, reads_no_settings}
+use Rattle.ql_syntax.proofs.SpellingLemmas.{alike, from_token, both, other_sign, Reading, reads_then, reads_give, reads_yes, reads_no, reads_from, reads_token}
+use Rattle.ql_syntax.proofs.StatementReadings.{first_token, not_first, reads_statement, shift_reading}
+use Rattle.ql_syntax.proofs.StatementSpellings.{shifts_statement, shifts_gather, shifts_top, statements_sound}
+
+pub query_sound : (text rest : List ℕ) (all : List Statement) → query.reads text all rest → grammar.query all text rest
+unfolding query ◌>>=◌
+query_sound text rest all r = elim (settings_sound text r.middle r.front r.front_reads) [
+  | inl some ↦ both r.middle (inl some) (statements_sound r.middle rest all r.back_reads)
+  | inr like ↦ both text (inr refl) (statements_sound text rest all ((shifts_gather shifts_top []).shift r.middle text all rest like r.back_reads))
+]
+
+top_kept : (s : Statement) → IsTop s → IsAt levels.Top 32 s
+top_kept (Print start mode limit) is = tt
+top_kept (Select pick filters set) is = is
+top_kept (Recurse start how set) is = tt
+top_kept (Item start set) is = tt
+top_kept (Union parts set) is = is
+top_kept (Minus left right set) is = is
+
+reads_top : (s : Statement) → IsTop s → (text rest : List ℕ) → grammar.statement s text rest → Reading top_statement text (Some s) rest
+unfolding top_statement
+reads_top s is text rest g = let f = first_token s text rest g in
+    reads_then _ (reads_token (alike text) f.at) (reads_no _ (not_first signs.End f.begins (λ e. cc) (λ e. cc) (λ e. cc) refl)
+    (reads_then _ (reads_from _ (shift_reading (shifts_statement levels.Top 32) (from_token f.at) (reads_statement levels.Top 32 s (top_kept s is) text rest g))) reads_give))
+
+reads_end : {text rest : List ℕ} → IsEnd text rest → Reading top_statement text None []
+unfolding top_statement
+reads_end {text = text} e = reads_then _ (reads_token (alike text) e.at) (reads_yes _ e.is (reads_from _ reads_give))
+
+reads_all : (all : List Statement) (text middle rest : List ℕ) → IsQuery all → each grammar.statement all text middle → IsEnd middle rest → Reading (gather top_statement []) text all []
+reads_all all text middle rest such these end = reads_gather top_statement reads_top [] all such these (reads_end end)
+
+-- what comes next is no `[`
+record No_settings (text : List ℕ) : Type 0 where
+  sign : Sign
+  behind : List ℕ
+  is : IsSign sign text behind
+  other : sign ≡ signs.OpenBracket → ⊥
+
+no_settings : (all : List Statement) (text middle rest : List ℕ) → each grammar.statement all text middle → IsEnd middle rest → No_settings text
+no_settings [] text middle rest these end =
+    let e = subst (λ (t : List ℕ). IsEnd t rest) these end in
+    record { sign = (e.next).sign; behind = e.place; is = record { next = e.next; at = e.at; is = refl }; other = other_sign e.is (λ e. cc) }
+no_settings (s ∷ all) text middle rest these end =
+    let f = first_token s text these.middle these.front in
+    record { sign = (f.next).sign; behind = f.behind; is = record { next = f.next; at = f.at; is = refl }; other = not_first signs.OpenBracket f.begins (λ e. cc) (λ e. cc) (λ e. cc) refl }
+
+reads_query : (text : List ℕ) (all : List Statement) → IsQuery all → grammar.query all text [] → Reading query text all []
+unfolding query
+reads_query text all such g = from_settings g.front
+  where
+    from_settings : grammar.query_settings text g.middle → Reading query text all []
+    from_settings (inl some) = reads_then _ (reads_settings some) (reads_all all g.middle (g.back).middle [] such (g.back).front (g.back).back)
+    from_settings (inr none) =
+        let first = no_settings all g.middle (g.back).middle [] (g.back).front (g.back).back in
+        let here = subst (λ (t : List ℕ). IsSign first.sign t first.behind) none first.is in
+        let statements = subst (λ (t : List ℕ). Reading (gather top_statement []) t all []) none (reads_all all g.middle (g.back).middle [] such (g.back).front (g.back).back) in
+        reads_then _ (reads_no_settings here first.other) (shift_reading (shifts_gather shifts_top []) (from_token here.at) statements)
+
+pub query_reads : (text : List ℕ) (all : List Statement) → IsQuery all → grammar.query all text [] → query.reads text all []
+query_reads text all such g = (reads_query text all such g).reads
