@@ -10,7 +10,7 @@ use Rattle.osm_model.specs.declared.axis.Axis.TheVariants.{Lon, Lat}
 use Rattle.osm_model.specs.declared.fault.ModelFault.{ModelFault}
 use Rattle.osm_model.specs.declared.fault.ModelFault.TheVariants.{SouthAboveNorth}
 use Rattle.ql_syntax.specs.Areas.{Corners, AreBox, area, box_of}
-use Rattle.ql_syntax.specs.Following.{Follows, Read, Stopped}
+use Rattle.ql_syntax.specs.Following.{Outcome, Read, Stopped}
 use Rattle.ql_syntax.specs.declared.cause.QlCause.TheVariants as causes
 use Rattle.ql_syntax.specs.declared.stop.Stop.{Stop}
 
@@ -55,10 +55,10 @@ module _ {corners : Corners} {south west north east : ExactEdge} (s : IsEdgeOf L
   box_refused (Ok b) refused = tt
   box_refused (Err f) refused = λ are. are.upright (subst (λ (x : ExactEdge). IsAbove x.value corners.north) s.edge (subst (λ (x : ExactEdge). IsAbove south.value x.value) n.edge refused.1))
 
-pub area_read : {X : Type 0} {view : X → ExactBox × List ℕ} {corners : Corners} (at : List ℕ) {text : List ℕ} {x : X} → AreBox corners → (view x).0 ≡ box_of corners → (view x).1 ≡ text → Follows (area corners at) view text (Ok x)
+pub area_read : {M : Type 0} {X : Type 0} {view : X → ExactBox × List ℕ} {corners : Corners} (at : List ℕ) {text : List ℕ} {x : X} → AreBox corners → (view x).0 ≡ box_of corners → (view x).1 ≡ text → Outcome M (area corners at) view text (Ok x)
 unfolding area
 area_read at {x = x} are is rest = Read x refl (are, is, rest)
 
-pub area_stop : {X : Type 0} {view : X → ExactBox × List ℕ} {corners : Corners} {at text : List ℕ} {stop : Stop} → ¬ (AreBox corners) → stop.cause ≡ causes.BadBox → stop.rest.now ≡ at → Follows (area corners at) view text (Err stop)
+pub area_stop : {M : Type 0} {X : Type 0} {view : X → ExactBox × List ℕ} {corners : Corners} {at text : List ℕ} {stop : Stop} → ¬ (AreBox corners) → stop.cause ≡ causes.BadBox → stop.rest.now ≡ at → Outcome M (area corners at) view text (Err stop)
 unfolding area
 area_stop {stop = stop} not cause place = Stopped stop refl (not, cause, place)

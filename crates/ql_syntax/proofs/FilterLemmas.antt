@@ -1,7 +1,7 @@
 -- Readers of filters that follow rules.
 use Rattle.std.proofs.Common.{◌≡◌, ℕ, List, Result, Ok, Err, refl, sym, subst}
 use Rattle.std.specs.Prelude.{IsErrAnd}
-use Rattle.ql_syntax.specs.Following.{Follows, Read, NoMemory}
+use Rattle.ql_syntax.specs.Following.{Outcome, Follows, Read, NoMemory}
 use Rattle.ql_syntax.specs.Places.{IsMemoryOr}
 use Rattle.ql_syntax.specs.Points.{Next, run_here, text_here}
 use Rattle.ql_syntax.specs.QuotedTexts.{IsQuoted, IsNotQuoted}
@@ -13,7 +13,7 @@ use Rattle.ql_syntax.specs.declared.quoted.Quoted.{Quoted}
 use Rattle.ql_syntax.specs.declared.stop.Stop.{Stop}
 use Rattle.ql_syntax.proofs.RuleLemmas.{follows_refuse, follows_memory}
 
-pub follows_not_in_tag : {A X : Type 0} {view : X → A × List ℕ} {text : List ℕ} (next : Next) {stop : Stop} → stop.cause ≡ cause_in_tag next.sign → stop.rest.now ≡ next.place → Follows (not_in_tag next) view text (Err stop)
+pub follows_not_in_tag : {M : Type 0} {A X : Type 0} {view : X → A × List ℕ} {text : List ℕ} (next : Next) {stop : Stop} → stop.cause ≡ cause_in_tag next.sign → stop.rest.now ≡ next.place → Outcome M (not_in_tag next) view text (Err stop)
 unfolding not_in_tag
 follows_not_in_tag next cause place = follows_refuse cause place
 
@@ -26,9 +26,9 @@ quoted_stop stops = follows_memory tt stops
 
 pub quoted_read : {text : List ℕ} {q : Quoted} → IsQuoted text q.text q.rest.now → Follows text_here the_quoted text (Ok q)
 unfolding text_here
-quoted_read reads = follows_memory reads tt
+quoted_read {q = q} reads = Read q refl reads
 
-pub run_read : {X : Type 0} {view : X → List ℕ × List ℕ} {text run rest : List ℕ} {x : X} → IsRun text run rest → (view x).0 ≡ run → (view x).1 ≡ rest → Follows run_here view text (Ok x)
+pub run_read : {M : Type 0} {X : Type 0} {view : X → List ℕ × List ℕ} {text run rest : List ℕ} {x : X} → IsRun text run rest → (view x).0 ≡ run → (view x).1 ≡ rest → Outcome M run_here view text (Ok x)
 unfolding run_here
 run_read {view = view} {text = text} {run = run} {rest = rest} {x = x} is value left =
     Read x refl (subst (λ (a : List ℕ). IsRun text a (view x).1) (sym value) (subst (λ (b : List ℕ). IsRun text run b) (sym left) is))
@@ -36,4 +36,4 @@ run_read {view = view} {text = text} {run = run} {rest = rest} {x = x} is value 
 -- memory that runs out
 pub follows_out : {A X : Type 0} {rule : Rule A} {view : X → A × List ℕ} {text : List ℕ} {r : Result X Stop} → IsErrAnd r (λ stop. stop.cause ≡ causes.Memory) → Follows rule view text r
 follows_out {r = Ok x} is = absurd is
-follows_out {r = Err stop} is = NoMemory stop refl is
+follows_out {r = Err stop} is = NoMemory tt stop refl is

@@ -59,4 +59,4 @@ refused_at is (Read x same reads) cause byte = absurd (cc)
 refused_at {text = text} {stop = stop} is (Stopped at same stops) cause byte =
     let e : stop ≡ at = cc in
     inr (fault_of stop.rest.now is (rw cause (subst (λ (s : Stop). query.stops text s.cause s.rest.now) (sym e) stops)) byte)
-refused_at {stop = stop} is (NoMemory at same memory) cause byte = let e : stop ≡ at = cc in inl (cause ∙ ap (λ (s : Stop). s.cause) e ∙ memory)
+refused_at {stop = stop} is (NoMemory scarce at same memory) cause byte = let e : stop ≡ at = cc in inl (cause ∙ ap (λ (s : Stop). s.cause) e ∙ memory)

@@ -3,7 +3,7 @@
 ghost use Rattle.std.specs.Prelude.{◌≡◌, ℕ, List, IfOk, IfErr};
 ghost use Rattle.osm_model.specs.Degrees.{Spells};
 ghost use Rattle.ql_syntax.specs.Areas.{AreBox, area, box_of};
-ghost use Rattle.ql_syntax.specs.Following.{Follows};
+ghost use Rattle.ql_syntax.specs.Following.{Follows, Keeps};
 ghost use Rattle.ql_syntax.specs.FilterViews.{the_filter, corners_of};
 ghost use Rattle.ql_syntax.specs.NumberParts.{decimal_of};
 ghost use Rattle.ql_syntax.specs.Selectors.{box_behind, corner};
@@ -38,7 +38,7 @@ pub fn read_box<'a>(
 
 /// The number behind a comma.
 fn next_corner(text: &[u8]) -> Result<NumberSpot<'_>, Stop<'_>>
-    ensures follows { Follows corner the_number text.now result }
+    ensures follows { Keeps corner the_number text.now result }
     ensures spelled { IfOk result (λ spot. Spells spot.number.text.now (decimal_of spot.number)) }
 {
     let rest = pass(text, Sign::Comma)?;
@@ -56,7 +56,7 @@ fn area_of<'a>(
     requires west { Spells west.text.now (decimal_of west) }
     requires north { Spells north.text.now (decimal_of north) }
     requires east { Spells east.text.now (decimal_of east) }
-    ensures { (text : List ℕ) → Follows (area (corners_of south.entry.number west.entry north.entry east.entry) south.entry.place.now) (λ found. (found, text)) text result }
+    ensures { (text : List ℕ) → Keeps (area (corners_of south.entry.number west.entry north.entry east.entry) south.entry.place.now) (λ found. (found, text)) text result }
 {
     match new_box(south.number, west, north, east) {
         Ok(area) => Ok(area),

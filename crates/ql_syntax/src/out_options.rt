@@ -1,7 +1,7 @@
 //! What an out statement says of its answer.
 
 ghost use Rattle.std.specs.Prelude.{◌<◌, IfOk, ℕ, List, length};
-ghost use Rattle.ql_syntax.specs.Following.{Follows};
+ghost use Rattle.ql_syntax.specs.Following.{Keeps};
 ghost use Rattle.ql_syntax.specs.Outs.{once, with_word, with_number, out_round, out_options};
 ghost use Rattle.ql_syntax.specs.Views.{number_of, the_options, the_option_round, word_of};
 ghost use Rattle.std.specs.Str.Parse.{AllDigits};
@@ -30,7 +30,7 @@ pub struct OutOptions {
 /// `UnexpectedWord` at a second mode, order or number, and at a word that is none of them;
 /// `OutsideProfile` at a word that the profile leaves out, and at a `(`.
 pub fn read_out_options(text: &[u8]) -> Result<(OutOptions, &[u8]), Stop<'_>>
-    ensures { Follows out_options the_options text.now result }
+    ensures { Keeps out_options the_options text.now result }
 {
     let mut options = OutOptions {
         mode: None,
@@ -53,7 +53,7 @@ fn read_round<'a>(
     seen: OutOptions,
     text: &'a [u8],
 ) -> Result<(bool, OutOptions, &'a [u8]), Stop<'a>>
-    ensures { Follows (out_round seen) the_option_round text.now result }
+    ensures { Keeps (out_round seen) the_option_round text.now result }
 {
     let token = next_token(text)?;
     if token.is(Sign::Word) {
@@ -76,7 +76,7 @@ fn read_round<'a>(
 impl OutOptions {
     /// The options with this word too.
     fn with_word(self, word: WordSpot<'_>) -> Result<OutOptions, Stop<'_>>
-        ensures { (text : List ℕ) → Follows (with_word self (word_of word.entry)) (λ options. (options, text)) text result }
+        ensures { (text : List ℕ) → Keeps (with_word self (word_of word.entry)) (λ options. (options, text)) text result }
     {
         match out_word(word.word) {
             OutWord::Mode(mode) => once(
@@ -103,7 +103,7 @@ impl OutOptions {
     /// The options with this number too.
     fn with_number(self, number: NumberSpot<'_>) -> Result<OutOptions, Stop<'_>>
         requires { AllDigits 10 number.number.whole.now }
-        ensures { (text : List ℕ) → Follows (with_number self (number_of number.entry)) (λ options. (options, text)) text result }
+        ensures { (text : List ℕ) → Keeps (with_number self (number_of number.entry)) (λ options. (options, text)) text result }
     {
         once(self.limit.is_some(), number.place, self)?;
         let limit = number.count()?;
@@ -116,7 +116,7 @@ impl OutOptions {
 
 /// These options, where what they say stood not yet; else `UnexpectedWord` at its place.
 fn once(stood: bool, place: &[u8], options: OutOptions) -> Result<OutOptions, Stop<'_>>
-    ensures { (text : List ℕ) → Follows (once stood place.now options) (λ o. (o, text)) text result }
+    ensures { (text : List ℕ) → Keeps (once stood place.now options) (λ o. (o, text)) text result }
 {
     if stood {
         Err(Stop::at(QlCause::UnexpectedWord, place))

@@ -3,7 +3,7 @@
 ghost use Rattle.std.specs.Prelude.{◌≡◌, Ok, IfOk, ℕ, List};
 ghost use Rattle.std.specs.Str.Parse.{AllDigits};
 ghost use Rattle.osm_model.specs.Degrees.{Spells};
-ghost use Rattle.ql_syntax.specs.Following.{Follows};
+ghost use Rattle.ql_syntax.specs.Following.{Keeps};
 ghost use Rattle.ql_syntax.specs.NumberParts.{decimal_of};
 ghost use Rattle.ql_syntax.specs.Points.{pass, word_at, a_word, number_at, a_number, name_behind, a_name, into, begins_number};
 ghost use Rattle.ql_syntax.specs.Views.{the_rest, next_of, the_word, number_of, the_number, the_bytes};
@@ -43,7 +43,7 @@ impl<'a> NumberSpot<'a> {
     /// none.
     pub fn id(self) -> Result<i64, Stop<'a>>
         requires { AllDigits 10 self.number.whole.now }
-        ensures { (text : List ℕ) → Follows (id_of (number_of self.entry).number self.entry.place.now) (λ id. (id, text)) text result }
+        ensures { (text : List ℕ) → Keeps (id_of (number_of self.entry).number self.entry.place.now) (λ id. (id, text)) text result }
     {
         id_of(self.number).ok_or(Stop::at(QlCause::NumberOutOfRange, self.place))
     }
@@ -52,7 +52,7 @@ impl<'a> NumberSpot<'a> {
     /// is none.
     pub fn count(self) -> Result<u64, Stop<'a>>
         requires { AllDigits 10 self.number.whole.now }
-        ensures { (text : List ℕ) → Follows (count_of (number_of self.entry).number self.entry.place.now) (λ count. (count, text)) text result }
+        ensures { (text : List ℕ) → Keeps (count_of (number_of self.entry).number self.entry.place.now) (λ count. (count, text)) text result }
     {
         count_of(self.number).ok_or(Stop::at(QlCause::NumberOutOfRange, self.place))
     }
@@ -60,7 +60,7 @@ impl<'a> NumberSpot<'a> {
 
 /// What is left behind this punctuation, which must come next.
 pub fn pass(text: &[u8], sign: Sign) -> Result<&[u8], Stop<'_>>
-    ensures { Follows (pass sign) the_rest text.now result }
+    ensures { Keeps (pass sign) the_rest text.now result }
 {
     let token = next_token(text)?;
     if token.is(sign) {
@@ -72,7 +72,7 @@ pub fn pass(text: &[u8], sign: Sign) -> Result<&[u8], Stop<'_>>
 
 /// The word that must come next.
 pub fn next_word(text: &[u8]) -> Result<WordSpot<'_>, Stop<'_>>
-    ensures { Follows a_word the_word text.now result }
+    ensures { Keeps a_word the_word text.now result }
 {
     let token = next_token(text)?;
     if token.is(Sign::Word) {
@@ -84,7 +84,7 @@ pub fn next_word(text: &[u8]) -> Result<WordSpot<'_>, Stop<'_>>
 
 /// The word that begins with this token.
 pub fn word_at(token: Token<'_>) -> WordSpot<'_>
-    ensures { Follows (word_at (next_of token.entry)) the_word token.entry.rest.now (Ok result) }
+    ensures { Keeps (word_at (next_of token.entry)) the_word token.entry.rest.now (Ok result) }
 {
     let found = split_run(token.rest);
     WordSpot {
@@ -96,7 +96,7 @@ pub fn word_at(token: Token<'_>) -> WordSpot<'_>
 
 /// The number that must come next.
 pub fn next_number(text: &[u8]) -> Result<NumberSpot<'_>, Stop<'_>>
-    ensures follows { Follows a_number the_number text.now result }
+    ensures follows { Keeps a_number the_number text.now result }
     ensures spelled { IfOk result (λ spot. Spells spot.number.text.now (decimal_of spot.number)) }
     ensures digits { IfOk result (λ spot. AllDigits 10 spot.number.whole.now) }
 {
@@ -110,7 +110,7 @@ pub fn next_number(text: &[u8]) -> Result<NumberSpot<'_>, Stop<'_>>
 
 /// The number that begins with this token.
 pub fn number_at(token: Token<'_>) -> Result<NumberSpot<'_>, Stop<'_>>
-    ensures follows { Follows (number_at (next_of token.entry)) the_number token.entry.rest.now result }
+    ensures follows { Keeps (number_at (next_of token.entry)) the_number token.entry.rest.now result }
     ensures spelled { IfOk result (λ spot. Spells spot.number.text.now (decimal_of spot.number)) }
     ensures digits { IfOk result (λ spot. AllDigits 10 spot.number.whole.now) }
 {
@@ -130,7 +130,7 @@ pub fn begins_number(sign: Sign) -> bool
 
 /// The name of a set, which must come next.
 pub fn next_name(text: &[u8]) -> Result<(Name<'_>, &[u8]), Stop<'_>>
-    ensures { Follows a_name the_bytes text.now result }
+    ensures { Keeps a_name the_bytes text.now result }
 {
     let token = next_token(text)?;
     if token.is(Sign::Dot) {
@@ -142,7 +142,7 @@ pub fn next_name(text: &[u8]) -> Result<(Name<'_>, &[u8]), Stop<'_>>
 
 /// The name behind its dot, which is this token.
 pub fn name_behind(dot: Token<'_>) -> Result<(Name<'_>, &[u8]), Stop<'_>>
-    ensures { Follows (name_behind (next_of dot.entry)) the_bytes dot.entry.rest.now result }
+    ensures { Keeps (name_behind (next_of dot.entry)) the_bytes dot.entry.rest.now result }
 {
     let found = split_name(dot.place, dot.rest)?;
     Ok((Name::new(found.run), found.rest))
@@ -150,7 +150,7 @@ pub fn name_behind(dot: Token<'_>) -> Result<(Name<'_>, &[u8]), Stop<'_>>
 
 /// The set that a statement writes to, and its end: `->` and a name, or nothing, and `;`.
 pub fn read_into(text: &[u8]) -> Result<(Name<'_>, &[u8]), Stop<'_>>
-    ensures { Follows into the_bytes text.now result }
+    ensures { Keeps into the_bytes text.now result }
 {
     let token = next_token(text)?;
     if token.is(Sign::Arrow) {

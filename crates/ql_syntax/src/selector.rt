@@ -3,7 +3,7 @@
 ghost use Rattle.std.specs.Prelude.{◌≡◌, ◌<◌, ◌∷◌, [], Ok, IfOk, List, ℕ, length};
 ghost use Rattle.std.specs.Str.Parse.{AllDigits};
 ghost use Rattle.osm_model.specs.Degrees.{Spells};
-ghost use Rattle.ql_syntax.specs.Following.{Follows};
+ghost use Rattle.ql_syntax.specs.Following.{Follows, Keeps};
 ghost use Rattle.ql_syntax.specs.FilterViews.{the_filter, the_id, the_other_id, the_ids};
 ghost use Rattle.ql_syntax.specs.NumberParts.{decimal_of};
 ghost use Rattle.ql_syntax.specs.Rules.{gather};
@@ -119,7 +119,7 @@ fn read_ids_behind(first: Vec<i64>, text: &[u8]) -> Result<(Vec<i64>, &[u8]), St
 
 /// Another id, or none, and what is left behind it or the `)`.
 fn read_id_behind(text: &[u8]) -> Result<(Option<i64>, &[u8]), Stop<'_>>
-    ensures { Follows id_behind the_other_id text.now result }
+    ensures { Keeps id_behind the_other_id text.now result }
 {
     let token = next_token(text)?;
     if token.is(Sign::Comma) {
@@ -134,7 +134,7 @@ fn read_id_behind(text: &[u8]) -> Result<(Option<i64>, &[u8]), Stop<'_>>
 
 /// The id that must come next.
 fn next_id(text: &[u8]) -> Result<(i64, &[u8]), Stop<'_>>
-    ensures { Follows an_id the_id text.now result }
+    ensures { Keeps an_id the_id text.now result }
 {
     let number = next_number(text)?;
     let id = number.id()?;
@@ -143,7 +143,7 @@ fn next_id(text: &[u8]) -> Result<(i64, &[u8]), Stop<'_>>
 
 /// The path whose name has been read, and what is left behind its `)`.
 fn read_path_from(path: Path, text: &[u8]) -> Result<(Filter<'_>, &[u8]), Stop<'_>>
-    ensures { Follows (path_from path) the_filter text.now result }
+    ensures { Keeps (path_from path) the_filter text.now result }
 {
     let token = next_token(text)?;
     if token.is(Sign::Dot) {
@@ -158,7 +158,7 @@ fn read_path_from(path: Path, text: &[u8]) -> Result<(Filter<'_>, &[u8]), Stop<'
 
 /// What is left behind the `)` of a path.
 fn pass_path_close(text: &[u8]) -> Result<&[u8], Stop<'_>>
-    ensures { Follows path_close the_rest text.now result }
+    ensures { Keeps path_close the_rest text.now result }
 {
     let token = next_token(text)?;
     if token.is(Sign::CloseParenthesis) {

@@ -1,7 +1,7 @@
 //! Settings, which have no effect.
 
 ghost use Rattle.std.specs.Prelude.{◌<◌, IfOk, length};
-ghost use Rattle.ql_syntax.specs.Following.{Follows};
+ghost use Rattle.ql_syntax.specs.Following.{Keeps};
 ghost use Rattle.ql_syntax.specs.Rules.{repeat};
 ghost use Rattle.ql_syntax.specs.Settings.{settings, setting_round, setting, setting_value, format, count};
 ghost use Rattle.ql_syntax.specs.Views.{the_rest, the_round, word_of};
@@ -17,7 +17,7 @@ use crate::token::next_token;
 ///
 /// `OutsideProfile` at the word of a setting or of a format that the profile leaves out.
 pub fn skip_settings(text: &[u8]) -> Result<&[u8], Stop<'_>>
-    ensures { Follows settings the_rest text.now result }
+    ensures { Keeps settings the_rest text.now result }
 {
     let first = next_token(text)?;
     if first.is(Sign::OpenBracket) {
@@ -29,7 +29,7 @@ pub fn skip_settings(text: &[u8]) -> Result<&[u8], Stop<'_>>
 
 /// What is left behind the settings that follow a first `[`, and their `;`.
 fn skip_rounds(text: &[u8]) -> Result<&[u8], Stop<'_>>
-    ensures { Follows (repeat setting_round tt) the_rest text.now result }
+    ensures { Keeps (repeat setting_round tt) the_rest text.now result }
 {
     let mut place = text;
     loop {
@@ -43,7 +43,7 @@ fn skip_rounds(text: &[u8]) -> Result<&[u8], Stop<'_>>
 
 /// Whether another setting follows, and what is left behind this one and the `[` of the next, or the `;`.
 fn skip_round(text: &[u8]) -> Result<(bool, &[u8]), Stop<'_>>
-    ensures follows { Follows (setting_round tt) the_round text.now result }
+    ensures follows { Keeps (setting_round tt) the_round text.now result }
     ensures shorter { IfOk result (λ found. length found.1.now < length text.now) }
 {
     let behind = skip_setting(text)?;
@@ -59,7 +59,7 @@ fn skip_round(text: &[u8]) -> Result<(bool, &[u8]), Stop<'_>>
 
 /// What is left behind one setting and its `]`; its `[` stands before the text.
 fn skip_setting(text: &[u8]) -> Result<&[u8], Stop<'_>>
-    ensures { Follows setting the_rest text.now result }
+    ensures { Keeps setting the_rest text.now result }
 {
     let name = next_word(text)?;
     let rest = skip_value(name)?;
@@ -68,7 +68,7 @@ fn skip_setting(text: &[u8]) -> Result<&[u8], Stop<'_>>
 
 /// What is left behind the value of the setting with this name.
 fn skip_value(name: WordSpot<'_>) -> Result<&[u8], Stop<'_>>
-    ensures { Follows (setting_value (word_of name.entry)) the_rest name.entry.rest.now result }
+    ensures { Keeps (setting_value (word_of name.entry)) the_rest name.entry.rest.now result }
 {
     match setting_of(name.word) {
         SettingWord::Format => skip_format(pass(name.rest, Sign::Colon)?),
@@ -80,7 +80,7 @@ fn skip_value(name: WordSpot<'_>) -> Result<&[u8], Stop<'_>>
 
 /// What is left behind the word of a format.
 fn skip_format(text: &[u8]) -> Result<&[u8], Stop<'_>>
-    ensures { Follows format the_rest text.now result }
+    ensures { Keeps format the_rest text.now result }
 {
     let found = next_word(text)?;
     match format_of(found.word) {
@@ -92,7 +92,7 @@ fn skip_format(text: &[u8]) -> Result<&[u8], Stop<'_>>
 
 /// What is left behind a number.
 fn skip_count(text: &[u8]) -> Result<&[u8], Stop<'_>>
-    ensures { Follows count the_rest text.now result }
+    ensures { Keeps count the_rest text.now result }
 {
     let spot = next_number(text)?;
     spot.count()?;

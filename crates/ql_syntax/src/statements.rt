@@ -1,7 +1,7 @@
 //! Readers of statements.
 
 ghost use Rattle.std.specs.Prelude.{◌≡◌, drop};
-ghost use Rattle.ql_syntax.specs.Following.{Follows};
+ghost use Rattle.ql_syntax.specs.Following.{Follows, Keeps};
 ghost use Rattle.ql_syntax.specs.Rules.{gather};
 ghost use Rattle.ql_syntax.specs.StatementRules.{block, difference, item, out_of, part, plain_statement, print, recursion, recursion_of, set_statement, set_word_statement, statement, top_statement, union, word_statement};
 ghost use Rattle.ql_syntax.specs.StatementViews.{the_statement, the_other_statement, the_statements, statement_of, statements_of};
@@ -191,7 +191,7 @@ fn read_set_statement<'a>(
     from: Name<'a>,
     text: &'a [u8],
 ) -> Result<(Stmt<'a>, &'a [u8]), Stop<'a>>
-    ensures { Follows (set_statement level from.entry) the_statement text.now result }
+    ensures { Keeps (set_statement level from.entry) the_statement text.now result }
 {
     let token = next_token(text)?;
     if token.is(Sign::Word) {
@@ -210,7 +210,7 @@ fn read_set_word_statement<'a>(
     from: Name<'a>,
     word: WordSpot<'a>,
 ) -> Result<(Stmt<'a>, &'a [u8]), Stop<'a>>
-    ensures { Follows (set_word_statement level from.entry (word_of word.entry)) the_statement word.entry.rest.now result }
+    ensures { Keeps (set_word_statement level from.entry (word_of word.entry)) the_statement word.entry.rest.now result }
 {
     match statement_word(word.word) {
         StatementWord::Kind(_) => Err(Stop::at(QlCause::UnexpectedWord, word.place)),
@@ -227,7 +227,7 @@ fn read_print<'a>(
     from: Name<'a>,
     word: WordSpot<'a>,
 ) -> Result<(Stmt<'a>, &'a [u8]), Stop<'a>>
-    ensures { Follows (print level from.entry word.entry.place.now) the_statement word.entry.rest.now result }
+    ensures { Keeps (print level from.entry word.entry.place.now) the_statement word.entry.rest.now result }
 {
     match level {
         Level::Top => read_out(from, word.rest),
@@ -237,7 +237,7 @@ fn read_print<'a>(
 
 /// The out statement of a set, and what is left behind its `;`.
 fn read_out<'a>(from: Name<'a>, text: &'a [u8]) -> Result<(Stmt<'a>, &'a [u8]), Stop<'a>>
-    ensures { Follows (out_of from.entry) the_statement text.now result }
+    ensures { Keeps (out_of from.entry) the_statement text.now result }
 {
     let (options, rest) = read_out_options(text)?;
     let mode = options.mode.unwrap_or(OutMode::Body);
@@ -251,7 +251,7 @@ fn read_recursion<'a>(
     how: Recursion,
     text: &'a [u8],
 ) -> Result<(Stmt<'a>, &'a [u8]), Stop<'a>>
-    ensures { Follows (recursion from.entry how) the_statement text.now result }
+    ensures { Keeps (recursion from.entry how) the_statement text.now result }
 {
     let (into, rest) = read_into(text)?;
     Ok((Stmt::Recurse { from, how, into }, rest))
@@ -259,7 +259,7 @@ fn read_recursion<'a>(
 
 /// The set as a statement, whose name has been read, and what is left behind its `;`.
 fn read_item<'a>(from: Name<'a>, text: &'a [u8]) -> Result<(Stmt<'a>, &'a [u8]), Stop<'a>>
-    ensures { Follows (item from.entry) the_statement text.now result }
+    ensures { Keeps (item from.entry) the_statement text.now result }
 {
     let (into, rest) = read_into(text)?;
     Ok((Stmt::Item { from, into }, rest))

@@ -1,6 +1,6 @@
 //! Filters by tags.
 
-ghost use Rattle.ql_syntax.specs.Following.{Follows};
+ghost use Rattle.ql_syntax.specs.Following.{Follows, Keeps};
 ghost use Rattle.ql_syntax.specs.TagFilters.{tag_filter, tag_rest, tag_value, tag_text, tag_text_at, tag_close, cause_in_tag};
 ghost use Rattle.ql_syntax.specs.FilterViews.{the_filter};
 ghost use Rattle.ql_syntax.specs.Views.{next_of, the_rest, the_bytes};
@@ -86,7 +86,7 @@ fn tag_text_at(alloc: Global, token: Token<'_>) -> Result<(QlText, &[u8]), Stop<
 
 /// What is left behind the `]`.
 fn pass_tag_close(text: &[u8]) -> Result<&[u8], Stop<'_>>
-    ensures { Follows tag_close the_rest text.now result }
+    ensures { Keeps tag_close the_rest text.now result }
 {
     let token = next_token(text)?;
     if token.is(Sign::CloseBracket) {

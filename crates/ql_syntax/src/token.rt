@@ -1,7 +1,7 @@
 //! Tokens, where they begin.
 
 ghost use Rattle.std.specs.Prelude.{◌≡◌, true, false};
-ghost use Rattle.ql_syntax.specs.Following.{Follows};
+ghost use Rattle.ql_syntax.specs.Following.{Keeps};
 ghost use Rattle.ql_syntax.specs.Points.{next_token};
 ghost use Rattle.ql_syntax.specs.Tokens.{IsUnexpected};
 ghost use Rattle.ql_syntax.specs.Views.{the_token};
@@ -27,7 +27,7 @@ pub struct Token<'a> {
 /// A comment that isn't closed is `Unclosed` at its first byte. It takes no memory.
 #[inline(always)]
 pub fn next_token(text: &[u8]) -> Result<Token<'_>, Stop<'_>>
-    ensures { Follows next_token the_token text.now result }
+    ensures { Keeps next_token the_token text.now result }
 {
     let place = skip_gap(text)?;
     let sign = sign_of(place);

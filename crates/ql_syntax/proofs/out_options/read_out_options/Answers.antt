@@ -3,7 +3,7 @@ use Rattle.ql_syntax.specs.Outs.{out_options}
 use Rattle.ql_syntax.specs.Views.{option_round}
 use Rattle.ql_syntax.proofs.OutLengths.{out_round_shorter}
 use Rattle.ql_syntax.proofs.RoundLemmas.{Start, follows_rounds, reaches_next}
-use Rattle.ql_syntax.proofs.RuleLemmas.{follows_as, follows_exit, read_of}
+use Rattle.ql_syntax.proofs.RuleLemmas.{follows_as, keeps_exit, read_of}
 use Rattle.ql_syntax.proofs.out_options.read_out_options.Goals as goal
 
 pub loop-more-init : goal.loop-more-init
@@ -12,7 +12,7 @@ loop-more-init c = Start
 pub returns-in_err-more : goal.returns-in_err-more
 unfolding out_options
 returns-in_err-more c =
-    follows_rounds c.loop-more.invariant (follows_exit c.in_err-more.ensures c.from_residual.ensures.1)
+    follows_rounds c.loop-more.invariant (keeps_exit c.in_err-more.ensures c.from_residual.ensures.1)
 
 pub returns-then-not-more : goal.returns-then-not-more
 unfolding out_options

@@ -1,4 +1,4 @@
-use Rattle.ql_syntax.proofs.RuleLemmas.{follows_no, follows_stop, follows_then, follows_unexpected, follows_yes}
+use Rattle.ql_syntax.proofs.RuleLemmas.{follows_no, keeps_stop, follows_then, follows_unexpected, follows_yes}
 use Rattle.ql_syntax.specs.Points.{a_number}
 use Rattle.std.proofs.Common.{sym, ◌∙◌}
 use Rattle.std.proofs.Common.{◌≡◌, true, false}
@@ -6,7 +6,7 @@ use Rattle.ql_syntax.proofs.points.next_number.Goals as goal
 
 pub returns-in_err-token-clause-follows : goal.returns-in_err-token-clause-follows
 unfolding a_number
-returns-in_err-token-clause-follows c = follows_stop _ c.in_err-token.ensures c.from_residual.ensures.1
+returns-in_err-token-clause-follows c = keeps_stop _ c.in_err-token.ensures c.from_residual.ensures.1
 
 pub returns-then-begins_number-clause-follows : goal.returns-then-begins_number-clause-follows
 unfolding a_number

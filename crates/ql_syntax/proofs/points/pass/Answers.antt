@@ -1,11 +1,11 @@
-use Rattle.ql_syntax.proofs.RuleLemmas.{follows_give, follows_no, follows_stop, follows_then, follows_unexpected, follows_yes}
+use Rattle.ql_syntax.proofs.RuleLemmas.{follows_give, follows_no, keeps_stop, follows_then, follows_unexpected, follows_yes}
 use Rattle.ql_syntax.specs.Points.{pass}
 use Rattle.std.proofs.Common.{refl}
 use Rattle.ql_syntax.proofs.points.pass.Goals as goal
 
 pub returns-in_err-token : goal.returns-in_err-token
 unfolding pass
-returns-in_err-token c = follows_stop _ c.in_err-token.ensures c.from_residual.ensures.1
+returns-in_err-token c = keeps_stop _ c.in_err-token.ensures c.from_residual.ensures.1
 
 pub returns-then-is : goal.returns-then-is
 unfolding pass

@@ -1,21 +1,21 @@
-use Rattle.ql_syntax.proofs.RuleLemmas.{follows_give, follows_no, follows_stop, follows_then, follows_unexpected, follows_yes}
+use Rattle.ql_syntax.proofs.RuleLemmas.{follows_give, follows_no, keeps_stop, follows_then, follows_unexpected, follows_yes}
 use Rattle.ql_syntax.specs.Points.{into}
 use Rattle.std.proofs.Common.{refl}
 use Rattle.ql_syntax.proofs.points.read_into.Goals as goal
 
 pub returns-in_err-token : goal.returns-in_err-token
 unfolding into
-returns-in_err-token c = follows_stop _ c.in_err-token.ensures c.from_residual.ensures.1
+returns-in_err-token c = keeps_stop _ c.in_err-token.ensures c.from_residual.ensures.1
 
 pub returns-in_err-name : goal.returns-in_err-name
 unfolding into
 returns-in_err-name c =
-    follows_then _ c.in_ok-token.ensures (follows_yes _ (c.is.ensures.yes c.if-is.true) (follows_stop _ c.in_err-name.ensures c.from_residual-in_err-name.ensures.1))
+    follows_then _ c.in_ok-token.ensures (follows_yes _ (c.is.ensures.yes c.if-is.true) (keeps_stop _ c.in_err-name.ensures c.from_residual-in_err-name.ensures.1))
 
 pub returns-in_err-rest : goal.returns-in_err-rest
 unfolding into
 returns-in_err-rest c =
-    follows_then _ c.in_ok-token.ensures (follows_yes _ (c.is.ensures.yes c.if-is.true) (follows_then _ c.in_ok-name.ensures (follows_stop _ c.in_err-rest.ensures c.from_residual-in_err-rest.ensures.1)))
+    follows_then _ c.in_ok-token.ensures (follows_yes _ (c.is.ensures.yes c.if-is.true) (follows_then _ c.in_ok-name.ensures (keeps_stop _ c.in_err-rest.ensures c.from_residual-in_err-rest.ensures.1)))
 
 pub returns-in_ok-rest : goal.returns-in_ok-rest
 unfolding into

@@ -8,4 +8,4 @@ use Rattle.ql_syntax.proofs.points.word_at.Goals as goal
 pub returns : goal.returns
 unfolding word_at run_here
 returns c =
-    follows_then _ {v = λ (run : List ℕ × List ℕ). run} {y = (c.split_run-found.result.run.now, c.split_run-found.result.rest.now)} (Read _ refl c.split_run-found.ensures.run) (follows_give refl refl)
+    follows_then {M = ⊥} _ {v = λ (run : List ℕ × List ℕ). run} {y = (c.split_run-found.result.run.now, c.split_run-found.result.rest.now)} (Read _ refl c.split_run-found.ensures.run) (follows_give refl refl)

@@ -1,15 +1,15 @@
 use Rattle.std.proofs.Common.{refl, rules}
-use Rattle.ql_syntax.proofs.RuleLemmas.{follows_give, follows_no, follows_stop, follows_then, follows_unexpected, follows_yes}
+use Rattle.ql_syntax.proofs.RuleLemmas.{follows_give, follows_no, keeps_stop, follows_then, follows_unexpected, follows_yes}
 use Rattle.ql_syntax.specs.Selectors.{id_behind}
 use Rattle.ql_syntax.proofs.selector.read_id_behind.Goals as goal
 
 pub returns-in_err-token : goal.returns-in_err-token
 unfolding id_behind
-returns-in_err-token c = follows_stop _ c.in_err-token.ensures c.from_residual.ensures.1
+returns-in_err-token c = keeps_stop _ c.in_err-token.ensures c.from_residual.ensures.1
 
 pub returns-in_err-id : goal.returns-in_err-id
 unfolding id_behind
-returns-in_err-id c = follows_then _ c.in_ok-token.ensures (follows_yes _ (c.is.ensures.yes c.if-is.true) (follows_stop _ c.in_err-id.ensures c.from_residual-in_err-id.ensures.1))
+returns-in_err-id c = follows_then _ c.in_ok-token.ensures (follows_yes _ (c.is.ensures.yes c.if-is.true) (keeps_stop _ c.in_err-id.ensures c.from_residual-in_err-id.ensures.1))
 
 pub returns-in_ok-id : goal.returns-in_ok-id
 unfolding id_behind

@@ -1,4 +1,4 @@
-use Rattle.ql_syntax.proofs.RuleLemmas.{follows_case, follows_refuse}
+use Rattle.ql_syntax.proofs.RuleLemmas.{follows_case, follows_of, follows_refuse}
 use Rattle.ql_syntax.specs.Selectors.{word_selector}
 use Rattle.ql_syntax.proofs.selector.read_word_selector.Goals as goal
 
@@ -8,7 +8,7 @@ returns-in-Ids c = follows_case _ c.in-Ids.ensures c.read_id_list.ensures
 
 pub returns-in-Along : goal.returns-in-Along
 unfolding word_selector
-returns-in-Along c = follows_case _ c.in-Along.ensures c.read_path_from.ensures
+returns-in-Along c = follows_case _ c.in-Along.ensures (follows_of c.read_path_from.ensures)
 
 pub returns-in-Outside : goal.returns-in-Outside
 unfolding word_selector

@@ -1,11 +1,11 @@
-use Rattle.ql_syntax.proofs.RuleLemmas.{follows_case, follows_give, follows_refuse, follows_stop, follows_then}
+use Rattle.ql_syntax.proofs.RuleLemmas.{follows_case, follows_give, follows_refuse, keeps_stop, follows_then}
 use Rattle.ql_syntax.specs.Settings.{format}
 use Rattle.std.proofs.Common.{refl}
 use Rattle.ql_syntax.proofs.settings.skip_format.Goals as goal
 
 pub returns-in_err-found : goal.returns-in_err-found
 unfolding format
-returns-in_err-found c = follows_stop _ c.in_err-found.ensures c.from_residual.ensures.1
+returns-in_err-found c = keeps_stop _ c.in_err-found.ensures c.from_residual.ensures.1
 
 pub returns-in-Known : goal.returns-in-Known
 unfolding format

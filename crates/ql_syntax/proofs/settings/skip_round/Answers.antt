@@ -1,4 +1,4 @@
-use Rattle.ql_syntax.proofs.RuleLemmas.{follows_give, follows_no, follows_stop, follows_then, follows_unexpected, follows_yes, read_of}
+use Rattle.ql_syntax.proofs.RuleLemmas.{follows_give, follows_no, keeps_stop, follows_then, follows_unexpected, follows_yes, read_of}
 use Rattle.ql_syntax.proofs.SettingLengths.{round_shorter}
 use Rattle.ql_syntax.specs.Settings.{setting_round}
 use Rattle.std.proofs.Common.{refl}
@@ -6,12 +6,12 @@ use Rattle.ql_syntax.proofs.settings.skip_round.Goals as goal
 
 pub returns-in_err-behind-clause-follows : goal.returns-in_err-behind-clause-follows
 unfolding setting_round
-returns-in_err-behind-clause-follows c = follows_stop _ c.in_err-behind.ensures c.from_residual.ensures.1
+returns-in_err-behind-clause-follows c = keeps_stop _ c.in_err-behind.ensures c.from_residual.ensures.1
 
 pub returns-in_err-token-clause-follows : goal.returns-in_err-token-clause-follows
 unfolding setting_round
 returns-in_err-token-clause-follows c =
-    follows_then _ c.in_ok-behind.ensures (follows_stop _ c.in_err-token.ensures c.from_residual-in_err-token.ensures.1)
+    follows_then _ c.in_ok-behind.ensures (keeps_stop _ c.in_err-token.ensures c.from_residual-in_err-token.ensures.1)
 
 pub returns-then-is-clause-follows : goal.returns-then-is-clause-follows
 unfolding setting_round

@@ -1,7 +1,7 @@
 use Rattle.std.proofs.Common.{ap, refl}
 use Rattle.ql_syntax.specs.Views.{round_of}
 use Rattle.ql_syntax.proofs.RoundLemmas.{Start, follows_rounds, reaches_next}
-use Rattle.ql_syntax.proofs.RuleLemmas.{follows_as, follows_exit}
+use Rattle.ql_syntax.proofs.RuleLemmas.{follows_as, keeps_exit}
 use Rattle.ql_syntax.proofs.settings.skip_rounds.Goals as goal
 
 pub loop-more-init : goal.loop-more-init
@@ -9,7 +9,7 @@ loop-more-init c = Start
 
 pub returns-in_err-more : goal.returns-in_err-more
 returns-in_err-more c =
-    follows_rounds c.loop-more.invariant (follows_exit c.in_err-more.ensures.follows c.from_residual.ensures.1)
+    follows_rounds c.loop-more.invariant (keeps_exit c.in_err-more.ensures.follows c.from_residual.ensures.1)
 
 pub returns-then-not-more : goal.returns-then-not-more
 returns-then-not-more c =

@@ -1,5 +1,5 @@
 use Rattle.std.proofs.Common.{List, ℕ}
-use Rattle.ql_syntax.proofs.RuleLemmas.{follows_at, follows_case, follows_refuse}
+use Rattle.ql_syntax.proofs.RuleLemmas.{follows_at, follows_case, follows_of, follows_refuse}
 use Rattle.ql_syntax.specs.StatementRules.{print, word_statement}
 use Rattle.ql_syntax.proofs.statements.read_word_statement.Goals as goal
 
@@ -9,7 +9,7 @@ returns-in-Kind c = follows_case _ c.in-Kind.ensures c.read_selection.ensures
 
 pub returns-in-Print : goal.returns-in-Print
 unfolding word_statement
-returns-in-Print c = follows_case _ c.in-Print.ensures (follows_at (λ (name : List ℕ). print c.args.level name c.args.word.place.now) c.default_set.ensures c.read_print.ensures)
+returns-in-Print c = follows_case _ c.in-Print.ensures (follows_at (λ (name : List ℕ). print c.args.level name c.args.word.place.now) c.default_set.ensures (follows_of c.read_print.ensures))
 
 pub returns-in-Outside : goal.returns-in-Outside
 unfolding word_statement

@@ -1,12 +1,12 @@
 use Rattle.ql_syntax.proofs.FilterLemmas.{follows_not_in_tag}
-use Rattle.ql_syntax.proofs.RuleLemmas.{follows_give, follows_no, follows_stop, follows_then, follows_yes}
+use Rattle.ql_syntax.proofs.RuleLemmas.{follows_give, follows_no, keeps_stop, follows_then, follows_yes}
 use Rattle.ql_syntax.specs.TagFilters.{tag_close}
 use Rattle.std.proofs.Common.{refl}
 use Rattle.ql_syntax.proofs.tag_filter.pass_tag_close.Goals as goal
 
 pub returns-in_err-token : goal.returns-in_err-token
 unfolding tag_close
-returns-in_err-token c = follows_stop _ c.in_err-token.ensures c.from_residual.ensures.1
+returns-in_err-token c = keeps_stop _ c.in_err-token.ensures c.from_residual.ensures.1
 
 pub returns-then-is : goal.returns-then-is
 unfolding tag_close

@@ -1,4 +1,4 @@
-use Rattle.ql_syntax.specs.Following.{Follows, Read, Stopped}
+use Rattle.ql_syntax.specs.Following.{Keeps, Read, Stopped}
 use Rattle.std.proofs.Common.{refl}
 use Rattle.std.proofs.Common.{◌≡◌, ℕ, List, Option, Some, None, IfSome}
 use Rattle.std.specs.Prelude.{IfNone}
@@ -11,7 +11,7 @@ use Rattle.ql_syntax.specs.declared.stop.Stop.{Stop}
 use Rattle.ql_syntax.proofs.points.NumberSpot.count.Goals as goal
 
 value_or : (number : Decimal) (place text : List ℕ) (value : Option ℕ) (stop : Stop) → stop.cause ≡ NumberOutOfRange → stop.rest.now ≡ place
-    → IfSome value (λ v. IsCount number v) → IfNone value ((v : ℕ) → IsCount number v → ⊥) → Follows (count_of number place) (λ v. (v, text)) text (ok_or value stop)
+    → IfSome value (λ v. IsCount number v) → IfNone value ((v : ℕ) → IsCount number v → ⊥) → Keeps (count_of number place) (λ v. (v, text)) text (ok_or value stop)
 unfolding count_of
 value_or number place text (Some v) stop cause at some none = Read v refl (some, refl)
 value_or number place text None stop cause at some none = Stopped stop refl (none, cause, at)

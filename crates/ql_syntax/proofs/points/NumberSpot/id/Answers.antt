@@ -1,4 +1,4 @@
-use Rattle.ql_syntax.specs.Following.{Follows, Read, Stopped}
+use Rattle.ql_syntax.specs.Following.{Keeps, Read, Stopped}
 use Rattle.std.proofs.Common.{refl}
 use Rattle.std.proofs.Common.{◌≡◌, ℕ, ℤ, List, Option, Some, None, IfSome}
 use Rattle.std.specs.Prelude.{IfNone}
@@ -11,7 +11,7 @@ use Rattle.ql_syntax.specs.declared.stop.Stop.{Stop}
 use Rattle.ql_syntax.proofs.points.NumberSpot.id.Goals as goal
 
 value_or : (number : Decimal) (place text : List ℕ) (value : Option ℤ) (stop : Stop) → stop.cause ≡ NumberOutOfRange → stop.rest.now ≡ place
-    → IfSome value (λ v. IsId number v) → IfNone value ((v : ℤ) → IsId number v → ⊥) → Follows (id_of number place) (λ v. (v, text)) text (ok_or value stop)
+    → IfSome value (λ v. IsId number v) → IfNone value ((v : ℤ) → IsId number v → ⊥) → Keeps (id_of number place) (λ v. (v, text)) text (ok_or value stop)
 unfolding id_of
 value_or number place text (Some v) stop cause at some none = Read v refl (some, refl)
 value_or number place text None stop cause at some none = Stopped stop refl (none, cause, at)
