@@ -8,7 +8,7 @@ use Rattle.ql_syntax.specs.EscapeParts.{IsEscape}
 use Rattle.ql_syntax.specs.Places.{IsMemoryOr}
 use Rattle.ql_syntax.specs.Words.{begins_with}
 use Rattle.ql_syntax.specs.declared.stop.Stop.{Stop}
-use Rattle.ql_syntax.specs.QuotedTexts.{Piece, Literal, Escape, Code, IsPiece, Passes, StopsInside, IsNotQuoted, is_quote, spelling, value}
+use Rattle.ql_syntax.specs.QuotedTexts.{Piece, Literal, Escape, Code, IsPiece, Passes, IsQuoted, StopsInside, IsNotQuoted, is_quote, spelling, value}
 use Rattle.ql_syntax.specs.QuotedSteps.{IsLiteral, EndsLiterals, Takes, Closes}
 
 -- a list that isn't empty begins with its first element
@@ -98,3 +98,20 @@ not_quoted text place bytes stop quote passes (inr stops) =
 pub quoted_passes : (quote : ℕ) (from place next old new : List ℕ) → Passes quote from place old → Takes quote place next old new → Passes quote from next new
 quoted_passes quote from place next old new passes takes =
     subst (λ (x : List ℕ). Passes quote from next x) (sym takes.added) (passes_more quote from place next old takes.bytes passes takes.passes)
+
+-- a text without escapes
+pub literal_quoted : (text place run rest left bytes : List ℕ) (n : ℕ) → begins_with is_quote text ≡ true → place ≡ drop 1 text → run ≡ take n place → rest ≡ drop n place → AllByRecursion (IsLiteral (get_or text 0 0)) (take n place)
+    → 0 < length rest → get_or rest 0 0 ≡ get_or text 0 0 → left ≡ drop 1 rest → bytes ≡ run → IsQuoted text bytes left
+literal_quoted text place run rest left bytes n quote inside front back all some closes behind same =
+    let opens = quote_opens text quote in
+    let parts : place ≡ run ++ rest = sym (ap (λ (x : List ℕ). x ++ rest) front ∙ ap (λ (x : List ℕ). take n place ++ x) back ∙ take-append-drop n place) in
+    let closed : rest ≡ get_or text 0 0 ∷ left = first_is rest (get_or text 0 0) some closes ∙ ap (λ (x : List ℕ). get_or text 0 0 ∷ x) (sym behind) in
+    let passes = passes_run (get_or text 0 0) run rest (subst (λ (x : List ℕ). AllByRecursion (IsLiteral (get_or text 0 0)) x) (sym front) all) in
+    record {
+      quote = get_or text 0 0;
+      inside = drop 1 text;
+      opens = opens.0;
+      is_quote = opens.1;
+      passes = subst (λ (b : List ℕ). Passes (get_or text 0 0) (drop 1 text) (get_or text 0 0 ∷ left) b) (sym same)
+          (subst (λ (s : List ℕ). Passes (get_or text 0 0) s (get_or text 0 0 ∷ left) run) (sym parts ∙ inside) (subst (λ (s : List ℕ). Passes (get_or text 0 0) (run ++ rest) s run) closed passes));
+    }

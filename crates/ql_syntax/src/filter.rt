@@ -5,19 +5,19 @@ use crate::path::Path;
 use crate::ql_text::QlText;
 use osm_model::BoxArea;
 
-/// A filter of a query statement. It borrows the text of the query, but for its texts.
+/// A filter of a query statement. It borrows the text of the query, but for texts with escapes.
 #[derive(Debug, Drop)]
 pub enum Filter<'a> {
     /// The objects of a set: `.a`.
     InSet(Name<'a>),
     /// The objects that have the key: `[k]`.
-    HasKey(QlText),
+    HasKey(QlText<'a>),
     /// The objects whose key has the value: `[k=v]`.
-    KeyIs(QlText, QlText),
+    KeyIs(QlText<'a>, QlText<'a>),
     /// The objects that lack the key: `[!k]`.
-    LacksKey(QlText),
+    LacksKey(QlText<'a>),
     /// The objects whose key has another value, or that lack it: `[k!=v]`.
-    KeyIsNot(QlText, QlText),
+    KeyIsNot(QlText<'a>, QlText<'a>),
     /// The objects with these ids: `(id)`, `(id:..)`. One or more, in the order of the query.
     Ids(Vec<i64>),
     /// The nodes in a box: `(south,west,north,east)`.

@@ -1,41 +1,46 @@
 //! Keys and values of filters.
 
-ghost use Rattle.std.specs.Prelude.{◌≡◌, IfOk};
+ghost use Rattle.std.specs.Prelude.{◌≡◌};
 
-use std::alloc::{AllocError, Global};
+use std::alloc::Global;
+use std::borrow::CowSlice;
 use std::marker::Model;
 
 /// A key or a value of a filter, with its escapes read. Contracts see its bytes.
 ///
-/// It has no limit but that of the query.
+/// It borrows the text of the query, but where an escape stands in it. It has no limit but that of the
+/// query.
 #[derive(Debug, Drop)]
-pub struct QlText {
-    content: Vec<u8>,
+pub struct QlText<'a> {
+    content: CowSlice<'a, u8, Global>,
 }
 
-impl Model for QlText {
+impl<'a> Model for QlText<'a> {
+    ghost use Rattle.std.specs.Cow.{cow_slice_items};
     ghost use Rattle.std.specs.Prelude.{List, ℕ};
 
     ghost Value = { List ℕ };
 
-    ghost view = { λ a. a.content.items };
+    ghost view = { λ a. cow_slice_items a.content };
 }
 
-impl QlText {
-    /// The text of these bytes.
-    pub(crate) fn new(content: Vec<u8>) -> QlText
-        ensures { result ≡ content.items }
+impl<'a> QlText<'a> {
+    /// The text of these bytes, which stand so in the query.
+    pub(crate) fn borrowed(bytes: &'a [u8]) -> QlText<'a>
+        ensures { result ≡ bytes.now }
     {
-        QlText { content }
+        QlText {
+            content: CowSlice::Borrowed(bytes),
+        }
     }
 
-    /// The text that is this run of letters, digits and `_`.
-    pub(crate) fn from_run(alloc: Global, run: &[u8]) -> Result<QlText, AllocError>
-        ensures { IfOk result (λ text. text ≡ run.now) }
+    /// The text of these bytes.
+    pub(crate) fn owned(bytes: Vec<u8>) -> QlText<'a>
+        ensures { result ≡ bytes.items }
     {
-        let mut content = Vec::new(alloc);
-        content.extend_from_slice(run)?;
-        Ok(QlText { content })
+        QlText {
+            content: CowSlice::Owned(bytes),
+        }
     }
 
     /// Its bytes.

@@ -1,6 +1,6 @@
 //! Texts between quotes.
 
-ghost use Rattle.std.specs.Prelude.{◌≡◌, ◌≢◌, ◌≤◌, ◌<◌, ℕ, List, [], ◌∷◌, ◌++◌, true, false, length, take, drop, slice_index, IfOk, IfErr, MatchOption};
+ghost use Rattle.std.specs.Prelude.{◌≡◌, ◌≢◌, ◌≤◌, ◌<◌, ℕ, List, [], ◌∷◌, ◌++◌, true, false, length, take, drop, slice_index, IfOk, IfErr, IfSome, MatchOption};
 ghost use Rattle.std.specs.List.{AllByRecursion};
 ghost use Rattle.ql_syntax.specs.Words.{begins_with};
 ghost use Rattle.ql_syntax.specs.Places.{IsMemoryOr};
@@ -17,7 +17,7 @@ use std::alloc::{AllocError, Global};
 #[derive(Debug, Drop)]
 pub struct Quoted<'a> {
     /// The text, with its escapes read.
-    pub text: QlText,
+    pub text: QlText<'a>,
     /// What is left.
     pub rest: &'a [u8],
 }
@@ -33,21 +33,40 @@ pub fn begins_quoted(text: &[u8]) -> bool
 ///
 /// It is `Unclosed` at the quote where the text ends inside, also inside an escape, `BadEscape` at the
 /// `\` of what is no escape, and `UnexpectedCharacter` at a NUL: the first of these from the left.
-/// Linear; it takes memory for the text that it gives.
+/// Linear; it takes memory for a text with escapes alone.
 pub fn read_quoted(alloc: Global, text: &[u8]) -> Result<Quoted<'_>, Stop<'_>>
     requires { begins_with is_quote text.now ≡ true }
     ensures read { IfOk result (λ quoted. IsQuoted text.now quoted.text quoted.rest.now) }
     ensures refused { IfErr result (λ stop. IsMemoryOr (IsNotQuoted text.now) stop) }
 {
+    if let Some(quoted) = split_literal(text) {
+        return Ok(quoted);
+    }
     let mut content = Vec::new(alloc);
     let mut place = &text[1..];
     while let Some(next) = take_pieces(text, place, &mut content)? {
         place = next;
     }
     Ok(Quoted {
-        text: QlText::new(content),
+        text: QlText::owned(content),
         rest: &place[1..],
     })
+}
+
+/// The text between quotes at the front, where no escape stands in it.
+fn split_literal(text: &[u8]) -> Option<Quoted<'_>>
+    requires { begins_with is_quote text.now ≡ true }
+    ensures { IfSome result (λ quoted. IsQuoted text.now quoted.text quoted.rest.now) }
+{
+    let place = &text[1..];
+    let (literal, rest) = place.split_at(literal_len(text[0], place));
+    match rest {
+        [quote, rest @ ..] if *quote == text[0] => Some(Quoted {
+            text: QlText::borrowed(literal),
+            rest,
+        }),
+        _ => None,
+    }
 }
 
 /// Takes what comes next inside a text between quotes, and adds what it stands for: bytes that stand

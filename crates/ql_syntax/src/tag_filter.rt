@@ -34,10 +34,10 @@ pub fn read_tag_filter(alloc: Global, text: &[u8]) -> Result<(Filter<'_>, &[u8])
 /// The filter whose key has been read.
 fn read_tag_rest<'a>(
     alloc: Global,
-    key: QlText,
+    key: QlText<'a>,
     text: &'a [u8],
 ) -> Result<(Filter<'a>, &'a [u8]), Stop<'a>>
-    ensures { Follows (tag_rest key) the_filter text.now result }
+    ensures { Follows (tag_rest key.entry) the_filter text.now result }
 {
     let token = next_token(text)?;
     if token.is(Sign::CloseBracket) {
@@ -54,7 +54,7 @@ fn read_tag_rest<'a>(
 }
 
 /// A key or a value, and what is left behind the `]` that follows it.
-fn read_tag_value(alloc: Global, text: &[u8]) -> Result<(QlText, &[u8]), Stop<'_>>
+fn read_tag_value(alloc: Global, text: &[u8]) -> Result<(QlText<'_>, &[u8]), Stop<'_>>
     ensures { Follows tag_value the_bytes text.now result }
 {
     let (value, rest) = read_tag_text(alloc, text)?;
@@ -63,14 +63,14 @@ fn read_tag_value(alloc: Global, text: &[u8]) -> Result<(QlText, &[u8]), Stop<'_
 }
 
 /// A key or a value.
-fn read_tag_text(alloc: Global, text: &[u8]) -> Result<(QlText, &[u8]), Stop<'_>>
+fn read_tag_text(alloc: Global, text: &[u8]) -> Result<(QlText<'_>, &[u8]), Stop<'_>>
     ensures { Follows tag_text the_bytes text.now result }
 {
     tag_text_at(alloc, next_token(text)?)
 }
 
 /// The key or value that begins with this token.
-fn tag_text_at(alloc: Global, token: Token<'_>) -> Result<(QlText, &[u8]), Stop<'_>>
+fn tag_text_at(alloc: Global, token: Token<'_>) -> Result<(QlText<'_>, &[u8]), Stop<'_>>
     ensures { Follows (tag_text_at (next_of token.entry)) the_bytes token.entry.rest.now result }
 {
     if begins_quoted(token.place) {
@@ -78,7 +78,7 @@ fn tag_text_at(alloc: Global, token: Token<'_>) -> Result<(QlText, &[u8]), Stop<
         Ok((quoted.text, quoted.rest))
     } else if begins_run(token.place) {
         let found = split_run(token.place);
-        Ok((QlText::from_run(alloc, found.run)?, found.rest))
+        Ok((QlText::borrowed(found.run), found.rest))
     } else {
         Err(not_in_tag(token))
     }

@@ -12,5 +12,5 @@ returns-in_err-next-clause-refused c =
 
 pub loop-content-preserved : goal.loop-content-preserved
 loop-content-preserved c =
-    let step = rw c.in-Some.is at c.in_ok-next.ensures.read in
-    quoted_passes _ _ c.loop-content.place.now c.in-Some.next.now c.loop-content.content.items c.take_pieces.new.content.items c.loop-content.invariant step
+    let step = rw c.in-Some-2.is at c.in_ok-next.ensures.read in
+    quoted_passes _ _ c.loop-content.place.now c.in-Some-2.next.now c.loop-content.content.items c.take_pieces.new.content.items c.loop-content.invariant step

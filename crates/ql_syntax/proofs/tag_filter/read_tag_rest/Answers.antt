@@ -23,17 +23,17 @@ unfolding tag_rest
 returns-then-is c =
     follows_then _ c.in_ok-token.ensures (follows_yes _ (c.is.ensures.yes c.if-is.true) (follows_give refl refl))
 
-pub returns-in_ok-value : goal.returns-in_ok-value
+pub returns-then-is-2 : goal.returns-then-is-2
 unfolding tag_rest
-returns-in_ok-value c =
+returns-then-is-2 c =
     follows_then _ c.in_ok-token.ensures (follows_no _ (c.is.ensures.no c.if-is.false) (follows_yes _ (c.is-else-is.ensures.yes c.if-is-2.true) (follows_then _ c.in_ok-value.ensures (follows_give refl refl))))
 
-pub returns-in_ok-value-2 : goal.returns-in_ok-value-2
+pub returns-then-is-3 : goal.returns-then-is-3
 unfolding tag_rest
-returns-in_ok-value-2 c =
+returns-then-is-3 c =
     follows_then _ c.in_ok-token.ensures (follows_no _ (c.is.ensures.no c.if-is.false) (follows_no _ (c.is-else-is.ensures.no c.if-is-2.false) (follows_yes _ (c.is-else-is-2.ensures.yes c.if-is-3.true) (follows_then _ c.in_ok-value-2.ensures (follows_give refl refl)))))
 
-pub returns-else-is-3 : goal.returns-else-is-3
+pub returns : goal.returns
 unfolding tag_rest
-returns-else-is-3 c =
+returns c =
     follows_then _ c.in_ok-token.ensures (follows_no _ (c.is.ensures.no c.if-is.false) (follows_no _ (c.is-else-is.ensures.no c.if-is-2.false) (follows_no _ (c.is-else-is-2.ensures.no c.if-is-3.false) (follows_not_in_tag _ c.not_in_tag.ensures.cause c.not_in_tag.ensures.rest))))
