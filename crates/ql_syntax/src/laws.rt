@@ -1,12 +1,13 @@
 //! Laws: at a place stands one token at most, or one fault; and bytes are one query at most, or have one
 //! fault.
 
-ghost use Rattle.std.specs.Prelude.{◌≡◌, ◌≤◌, ◌⊎◌, ℕ, List, length};
+ghost use Rattle.std.specs.Prelude.{◌≡◌, ◌≤◌, ◌⊎◌, ◌-◌, ℕ, List, [], length, drop};
 ghost use Rattle.osm_model.specs.Degrees.{Decimal};
+ghost use Rattle.ql_syntax.specs.Grammar as grammar;
 ghost use Rattle.ql_syntax.specs.Words.{IsName, IsNoName};
 ghost use Rattle.ql_syntax.specs.Numbers.{IsNumber, IsNoNumber};
 ghost use Rattle.ql_syntax.specs.LawfulQueries.{IsQuery};
-ghost use Rattle.ql_syntax.specs.Queries.{HasFault, Reads};
+ghost use Rattle.ql_syntax.specs.Queries.{HasFault, Reads, query};
 ghost use Rattle.ql_syntax.specs.QuotedTexts.{IsQuoted, IsNotQuoted};
 ghost use Rattle.ql_syntax.specs.Statements.{Statement};
 ghost use Rattle.ql_syntax.specs.declared.cause.QlCause.{QlCause};
@@ -58,4 +59,16 @@ pub fn lawful_queries()
 /// A law: a fault's place is within the bytes, or at their end.
 pub fn fault_place()
     ensures { (bytes : List ℕ) (fault : QlFault) → HasFault bytes fault → fault.byte ≤ length bytes }
+{}
+
+/// A law: what the rules read is spelled by the grammar and keeps what every query does, with nothing left
+/// behind it; and what is spelled so and keeps that, the rules read.
+pub fn one_language()
+    ensures spelled { (bytes : List ℕ) (statements : List Statement) (rest : List ℕ) → query.reads bytes statements rest → (rest ≡ []) × grammar.query statements bytes [] × IsQuery statements }
+    ensures read { (bytes : List ℕ) (statements : List Statement) → grammar.query statements bytes [] → IsQuery statements → query.reads bytes statements [] }
+{}
+
+/// A law: where the rules stop is what is left of the text behind some of its bytes.
+pub fn stops_within()
+    ensures { (bytes : List ℕ) (cause : QlCause) (place : List ℕ) → query.stops bytes cause place → drop (length bytes - length place) bytes ≡ place }
 {}
