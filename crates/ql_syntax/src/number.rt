@@ -1,6 +1,6 @@
 //! Numbers.
 
-ghost use Rattle.std.specs.Prelude.{◌≡◌, ◌≤◌, ◌<◌, ◌++◌, false, length, take, drop, IfOk, IfErr};
+ghost use Rattle.std.specs.Prelude.{◌≡◌, ◌≤◌, ◌++◌, false, length, take, drop, IfOk, IfErr};
 ghost use Rattle.std.specs.Str.Parse.{AllDigits};
 ghost use Rattle.osm_model.specs.Degrees.{BeginsOtherwise, sign};
 ghost use Rattle.ql_syntax.specs.Words.{begins_with};

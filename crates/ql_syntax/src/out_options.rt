@@ -1,6 +1,6 @@
 //! What an out statement says of its answer.
 
-ghost use Rattle.std.specs.Prelude.{◌<◌, IfOk, ℕ, List, length};
+ghost use Rattle.std.specs.Prelude.{ℕ, List};
 ghost use Rattle.ql_syntax.specs.Following.{Keeps};
 ghost use Rattle.ql_syntax.specs.Outs.{once, with_word, with_number, out_round, out_options};
 ghost use Rattle.ql_syntax.specs.Views.{number_of, the_options, the_option_round, word_of};

@@ -1,6 +1,5 @@
 //! Filters in parentheses.
 
-ghost use Rattle.std.specs.Prelude.{◌≡◌, ◌<◌, ◌∷◌, [], Ok, IfOk, List, ℕ, length};
 ghost use Rattle.std.specs.Str.Parse.{AllDigits};
 ghost use Rattle.osm_model.specs.Degrees.{Spells};
 ghost use Rattle.ql_syntax.specs.Following.{Follows, Keeps};

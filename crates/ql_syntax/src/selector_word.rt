@@ -1,7 +1,7 @@
 //! The words that may begin a filter in parentheses.
 
-ghost use Rattle.std.specs.Prelude.{◌≡◌, ◌||◌, bytes_eq, codes};
-ghost use Rattle.ql_syntax.specs.SelectorWords.{path_of, path_word, is_outside, selector_word};
+ghost use Rattle.std.specs.Prelude.{◌≡◌};
+ghost use Rattle.ql_syntax.specs.SelectorWords.{path_of, is_outside, selector_word};
 
 use crate::path::Path;
 use crate::pick::Pick;

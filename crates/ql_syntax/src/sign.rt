@@ -1,10 +1,8 @@
 //! Punctuation, and what else may begin at a place.
 
-ghost use Rattle.std.specs.Prelude.{◌≡◌, ◌≤◌, ◌==◌, true, length, List, ℕ, ◌∷◌};
-ghost use Rattle.std.specs.Char.{is_ascii_digit};
+ghost use Rattle.std.specs.Prelude.{◌≡◌, ◌==◌};
 ghost use Rattle.ql_syntax.specs.Words.{begins_with};
-ghost use Rattle.ql_syntax.specs.QuotedTexts.{is_quote};
-ghost use Rattle.ql_syntax.specs.Signs.{sign_of, sign_at, single_sign, minus_sign, not_sign, len_of};
+ghost use Rattle.ql_syntax.specs.Signs.{sign_of, single_sign, minus_sign, not_sign, len_of};
 
 use crate::word::is_word_start;
 

@@ -1,6 +1,6 @@
 //! The words that may begin a statement.
 
-ghost use Rattle.std.specs.Prelude.{◌≡◌, ◌||◌, bytes_eq, codes};
+ghost use Rattle.std.specs.Prelude.{◌≡◌};
 ghost use Rattle.ql_syntax.specs.StatementWords.{statement_word, is_outside};
 
 use crate::pick::Pick;

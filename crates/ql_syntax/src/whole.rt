@@ -1,6 +1,6 @@
 //! The values of numbers without a point.
 
-ghost use Rattle.std.specs.Prelude.{◌≡◌, ◌≤◌, ◌^◌, ◌<◌, ◌==◌, ℕ, ℤ, false, length, MatchOption, IfSome, IfNone};
+ghost use Rattle.std.specs.Prelude.{◌≡◌, ◌≤◌, ◌^◌, ◌<◌, ℕ, ℤ, MatchOption, IfSome, IfNone};
 ghost use Rattle.std.specs.Str.Parse.{AllDigits, digits_value};
 ghost use Rattle.ql_syntax.specs.WholeNumbers.{IsId, IsCount};
 ghost use Rattle.ql_syntax.specs.NumberParts.{decimal_of};

@@ -1,6 +1,6 @@
 //! Words, and the names of sets.
 
-ghost use Rattle.std.specs.Prelude.{bytes_eq, ◌≡◌, ◌<◌, ◌≤◌, IsTrue, length, take, drop, slice_index, false, true, IfOk, IfErr, IsSome, IfSome, IfNone};
+ghost use Rattle.std.specs.Prelude.{bytes_eq, ◌≡◌, ◌≤◌, length, take, drop, false, true, IfOk, IfErr, IfSome, IfNone};
 ghost use Rattle.std.specs.List.{list_all};
 ghost use Rattle.ql_syntax.specs.Words.{IsRun, IsWord, IsName, IsNoName, begins_with, is_run_byte, is_word_start};
 
