@@ -36,6 +36,7 @@ pub mod StatementReadings
 pub mod QuerySpellings
 pub mod PlaceLemmas
 pub mod PlaceRules
+pub mod GrammarRows
 pub mod QueryLaws
 pub mod TotalLemmas
 pub mod TotalTokens

@@ -1,4 +1,4 @@
-use Rattle.std.proofs.Common.{[], List, ℕ, subst}
+use Rattle.std.proofs.Common.{List, ℕ, subst}
 use Rattle.ql_syntax.specs.Grammar as grammar
 use Rattle.ql_syntax.proofs.GivesRules.{query_gives}
 use Rattle.ql_syntax.proofs.QueryLemmas.{query_ends}
