@@ -47,17 +47,17 @@ difference_row : grammar.query (Minus (Item (codes "a") (codes "_")) (Recurse (c
 difference_row =
     both (codes "(.a;->;);") (inr refl)
     (both [] (both []
-      (both (codes ";")
-        (both (codes ".a;->;);") (sign signs.OpenParenthesis (codes "(.a;->;);") refl refl)
-          (both (codes ");")
-            (both (codes "->;);")
-              (both (codes ";->;);") (record { next = record { sign = signs.Dot; place = codes ".a;->;);" }; place = codes "a;->;);"; at = record { behind_gap = refl; sign_is = refl; rest_is = refl }; is = refl; name_is = record { run = record { parts = refl; bytes = refl; longest = refl }; start = refl } })
-                (end (codes ";->;);") refl refl))
-              (both (codes ">;);")
-                (record { next = record { sign = signs.Arrow; place = codes "->;);" }; place = codes ";);"; at = record { behind_gap = refl; sign_is = refl; rest_is = refl }; is = inr refl; rest_is = refl })
-                (both (codes ">;);") (inr (refl, refl)) (both (codes ";);") (record { sign = signs.Down; means = refl; spelled = sign signs.Down (codes ">;);") refl refl }) (end (codes ";);") refl refl)))))
-            (sign signs.CloseParenthesis (codes ");") refl refl)))
-        (end (codes ";") refl refl)) refl) stop)
+    (both (codes ";")
+    (both (codes ".a;->;);") (sign signs.OpenParenthesis (codes "(.a;->;);") refl refl)
+    (both (codes ");")
+    (both (codes "->;);")
+    (both (codes ";->;);") (record { next = record { sign = signs.Dot; place = codes ".a;->;);" }; place = codes "a;->;);"; at = record { behind_gap = refl; sign_is = refl; rest_is = refl }; is = refl; name_is = record { run = record { parts = refl; bytes = refl; longest = refl }; start = refl } })
+    (end (codes ";->;);") refl refl))
+    (both (codes ">;);")
+    (record { next = record { sign = signs.Arrow; place = codes "->;);" }; place = codes ";);"; at = record { behind_gap = refl; sign_is = refl; rest_is = refl }; is = inr refl; rest_is = refl })
+    (both (codes ">;);") (inr (refl, refl)) (both (codes ";);") (record { sign = signs.Down; means = refl; spelled = sign signs.Down (codes ">;);") refl refl }) (end (codes ";);") refl refl)))))
+    (sign signs.CloseParenthesis (codes ");") refl refl)))
+    (end (codes ";") refl refl)) refl) stop)
 
 difference_is_lawful : IsQuery (Minus (Item (codes "a") (codes "_")) (Recurse (codes "_") recursions.Down (codes "_")) (codes "_") ∷ [])
 difference_is_lawful = ((31, refl, tt, tt), tt)
@@ -70,21 +70,21 @@ out_row : grammar.query (Print (codes "_") modes.Ids None ∷ []) (codes " out q
 out_row =
     both (codes " out qt ids;") (inr refl)
     (both [] (both []
-      (both (codes " out qt ids;") (inr (refl, refl))
-        (both (codes " qt ids;") (word _ (codes " out qt ids;") (codes "out") (codes " qt ids;") refl refl (record { parts = refl; bytes = refl; longest = refl }) refl)
-          (both (codes ";")
-            (record {
-              options = Order ∷ Mode modes.Ids ∷ [];
-              given = Some modes.Ids;
-              order = Some tt;
-              one_mode = refl;
-              one_order = refl;
-              one_limit = refl;
-              mode_is = refl;
-              spelled = both (codes " ids;") (word _ (codes " qt ids;") (codes "qt") (codes " ids;") refl refl (record { parts = refl; bytes = refl; longest = refl }) refl)
-                (both (codes ";") (word _ (codes " ids;") (codes "ids") (codes ";") refl refl (record { parts = refl; bytes = refl; longest = refl }) refl) refl);
-            })
-            (sign signs.Semicolon (codes ";") refl refl)))) refl) stop)
+    (both (codes " out qt ids;") (inr (refl, refl))
+    (both (codes " qt ids;") (word _ (codes " out qt ids;") (codes "out") (codes " qt ids;") refl refl (record { parts = refl; bytes = refl; longest = refl }) refl)
+    (both (codes ";")
+    (record {
+      options = Order ∷ Mode modes.Ids ∷ [];
+      given = Some modes.Ids;
+      order = Some tt;
+      one_mode = refl;
+      one_order = refl;
+      one_limit = refl;
+      mode_is = refl;
+      spelled = both (codes " ids;") (word _ (codes " qt ids;") (codes "qt") (codes " ids;") refl refl (record { parts = refl; bytes = refl; longest = refl }) refl)
+          (both (codes ";") (word _ (codes " ids;") (codes "ids") (codes ";") refl refl (record { parts = refl; bytes = refl; longest = refl }) refl) refl);
+    })
+    (sign signs.Semicolon (codes ";") refl refl)))) refl) stop)
 
 -- two modes, whichever, are not
 two_modes_row : (given : Option OutMode) (more : List OutOption) → modes_of (Mode modes.Ids ∷ Mode modes.Ids ∷ more) ≡ at_most_one given → ⊥
@@ -107,5 +107,5 @@ unfolding query settings gather repeat gather_round top_statement statement plai
 semicolon_row =
     let here : Next = record { sign = signs.Semicolon; place = codes ";" } in
     Second tt (codes ";") (record { front = here; middle = []; front_reads = record { behind_gap = refl; sign_is = refl; rest_is = refl }; back_reads = inr (λ e. cc, (refl, refl)) })
-      (Here [] (codes ";") (First (Second here [] (record { behind_gap = refl; sign_is = refl; rest_is = refl })
-        (inr (λ e. cc, First (Second here [] (record { behind_gap = refl; sign_is = refl; rest_is = refl }) (inr (λ e. cc, inr (λ e. cc, inr (λ e. cc, (refl, refl)))))))))))
+    (Here [] (codes ";") (First (Second here [] (record { behind_gap = refl; sign_is = refl; rest_is = refl })
+    (inr (λ e. cc, First (Second here [] (record { behind_gap = refl; sign_is = refl; rest_is = refl }) (inr (λ e. cc, inr (λ e. cc, inr (λ e. cc, (refl, refl)))))))))))

@@ -4,6 +4,7 @@ use Rattle.std.specs.Box.{box_value}
 use Rattle.std.specs.Prelude.{ℕ, ℤ, List, map, Option, None, Some}
 use Rattle.std.specs.declared.alloc.Global.{Global}
 use Rattle.std.specs.declared.vec.Vec.{Vec}
+use Rattle.smallvec.specs.SmallVec.{SmallVec}
 use Rattle.ql_syntax.specs.Areas.{Corners}
 use Rattle.ql_syntax.specs.Filters as tree
 use Rattle.ql_syntax.specs.NumberParts.{decimal_of}
@@ -44,7 +45,7 @@ the_id found = (found.0, found.1.now)
 abbrev pub the_other_id : (Option ℤ × Bor (List ℕ)) → Option ℤ × List ℕ
 the_other_id found = (found.0, found.1.now)
 
-abbrev pub the_ids : (Vec ℤ Global × Bor (List ℕ)) → List ℤ × List ℕ
+abbrev pub the_ids : (SmallVec ℤ × Bor (List ℕ)) → List ℤ × List ℕ
 the_ids found = (found.0.items, found.1.now)
 
 abbrev pub corners_of : Number → Number → Number → Number → Corners

@@ -35,6 +35,7 @@ setting_body = either
 abbrev pub setting : Spelling
 setting = IsSign signs.OpenBracket & setting_body & IsSign signs.CloseBracket
 
+-- one or more
 abbrev pub some_settings : Spelling
 some_settings = some setting
 
@@ -62,13 +63,15 @@ corner value = IsNumberOf (λ number. number ≡ value)
 abbrev pub corners : Corners → Spelling
 corners all = corner all.south & IsSign signs.Comma & corner all.west & IsSign signs.Comma & corner all.north & IsSign signs.Comma & corner all.east
 
+-- the box with these corners
 abbrev pub box : ExactBox → Spelling
 box area text rest = (all : Corners) × AreBox all × (area ≡ box_of all) × corners all text rest
 
--- what stands in parentheses, on objects of this kind
+-- `(..)`
 abbrev pub in_parentheses : Spelling → Spelling
 in_parentheses spelling = IsSign signs.OpenParenthesis & spelling & IsSign signs.CloseParenthesis
 
+-- `[..]`
 abbrev pub in_brackets : Spelling → Spelling
 in_brackets spelling = IsSign signs.OpenBracket & spelling & IsSign signs.CloseBracket
 
@@ -129,6 +132,7 @@ pub record IsOut (mode : OutMode) (limit : Option ℕ) (text rest : List ℕ) : 
   pub mode_is : mode ≡ unwrap_or given modes.Body
   pub spelled : each out_option options text rest
 
+-- `node`, `way`, `rel` or `relation`, `nwr`
 abbrev pub kind : Pick → Spelling
 kind pick = IsWordOf (λ word. statement_word word ≡ words.Kind pick)
 
@@ -161,6 +165,6 @@ abbrev mutual
   row_of_some End = never
   row_of_some (Then first more) = statement first & row more
 
--- a query
+-- a query: settings, statements, and the end
 abbrev pub query : List Statement → Spelling
 query statements = query_settings & each statement statements & IsEnd

@@ -90,7 +90,7 @@ fn write_filter(text: &mut Vec<u8>, filter: &Filter<'_>) -> Result<(), AllocErro
         }
         Filter::Ids(ids) => {
             text.extend_from_slice(b"(id")?;
-            for id in ids {
+            for id in ids.as_slice() {
                 text.extend_from_slice(b",")?;
                 text.extend_from_slice(id.to_string(*text.allocator())?.as_bytes())?;
             }

@@ -1,5 +1,6 @@
 //! Filters in parentheses.
 
+ghost use Rattle.std.specs.Prelude.{◌≡◌, ◌++◌, ◌∷◌, [], IfOk};
 ghost use Rattle.std.specs.Str.Parse.{AllDigits};
 ghost use Rattle.osm_model.specs.Degrees.{Spells};
 ghost use Rattle.ql_syntax.specs.Following.{Follows, Keeps};
@@ -12,7 +13,6 @@ ghost use Rattle.ql_syntax.specs.Views.{number_of, the_rest, word_of};
 use crate::area::read_box;
 use crate::cause::QlCause;
 use crate::filter::Filter;
-use crate::list::{appended, list_of};
 use crate::name::Name;
 use crate::path::Path;
 use crate::pick::Pick;
@@ -23,7 +23,8 @@ use crate::selector_word::{SelectorWord, selector_word};
 use crate::sign::Sign;
 use crate::stop::Stop;
 use crate::token::next_token;
-use std::alloc::Global;
+use smallvec::SmallVec;
+use std::alloc::{AllocError, Global};
 
 /// The filter behind its `(`, on objects of this kind, and what is left behind its `)`.
 ///
@@ -83,7 +84,7 @@ fn read_number_selector<'a>(
         }
     } else if token.is(Sign::CloseParenthesis) {
         let id = number.id()?;
-        let ids = list_of(alloc, id)?;
+        let ids = ids_of(alloc, id)?;
         Ok((Filter::Ids(ids), token.rest))
     } else {
         Err(token.unexpected())
@@ -96,12 +97,15 @@ fn read_id_list(alloc: Global, text: &[u8]) -> Result<(Filter<'_>, &[u8]), Stop<
 {
     let rest = pass(text, Sign::Colon)?;
     let (first, rest) = next_id(rest)?;
-    let (ids, rest) = read_ids_behind(list_of(alloc, first)?, rest)?;
+    let (ids, rest) = read_ids_behind(ids_of(alloc, first)?, rest)?;
     Ok((Filter::Ids(ids), rest))
 }
 
 /// These ids and those that follow, and what is left behind their `)`.
-fn read_ids_behind(first: Vec<i64>, text: &[u8]) -> Result<(Vec<i64>, &[u8]), Stop<'_>>
+fn read_ids_behind(
+    first: SmallVec<i64, 1>,
+    text: &[u8],
+) -> Result<(SmallVec<i64, 1>, &[u8]), Stop<'_>>
     ensures { Follows (gather id_behind first.items) the_ids text.now result }
 {
     let mut ids = first;
@@ -110,10 +114,26 @@ fn read_ids_behind(first: Vec<i64>, text: &[u8]) -> Result<(Vec<i64>, &[u8]), St
         let (other, rest) = read_id_behind(place)?;
         place = rest;
         match other {
-            Some(id) => ids = appended(ids, id)?,
+            Some(id) => ids = with_id(ids, id)?,
             None => return Ok((ids, place)),
         }
     }
+}
+
+/// The list of this id alone, which takes no memory.
+fn ids_of(alloc: Global, id: i64) -> Result<SmallVec<i64, 1>, AllocError>
+    ensures { IfOk result (λ ids. ids.items ≡ id ∷ []) }
+{
+    with_id(SmallVec::new(alloc), id)
+}
+
+/// The list with this id behind the others.
+fn with_id(ids: SmallVec<i64, 1>, id: i64) -> Result<SmallVec<i64, 1>, AllocError>
+    ensures { IfOk result (λ longer. longer.items ≡ ids.items ++ id ∷ []) }
+{
+    let mut longer = ids;
+    longer.push(id).map_err(AllocError::from)?;
+    Ok(longer)
 }
 
 /// Another id, or none, and what is left behind it or the `)`.

@@ -13,13 +13,13 @@ pub returns-in_err-first : goal.returns-in_err-first
 unfolding id_list
 returns-in_err-first c = follows_then _ c.in_ok-rest.ensures (follows_stop _ c.in_err-first.ensures c.from_residual-in_err-first.ensures.1)
 
-pub returns-in_err-list_of : goal.returns-in_err-list_of
-returns-in_err-list_of c = let h = c.from_residual-in_err-list_of.ensures in follows_out h.1
+pub returns-in_err-ids_of : goal.returns-in_err-ids_of
+returns-in_err-ids_of c = let h = c.from_residual-in_err-ids_of.ensures in follows_out h.1
 
 pub returns-in_err-ids : goal.returns-in_err-ids
 unfolding id_list
-returns-in_err-ids c = follows_then _ c.in_ok-rest.ensures (follows_then _ c.in_ok-first.ensures (follows_stop _ (gather_from _ (c.in_ok-list_of.ensures ∙ search rules) c.in_err-ids.ensures) c.from_residual-in_err-ids.ensures.1))
+returns-in_err-ids c = follows_then _ c.in_ok-rest.ensures (follows_then _ c.in_ok-first.ensures (follows_stop _ (gather_from _ (c.in_ok-ids_of.ensures ∙ search rules) c.in_err-ids.ensures) c.from_residual-in_err-ids.ensures.1))
 
 pub returns : goal.returns
 unfolding id_list
-returns c = follows_then _ c.in_ok-rest.ensures (follows_then _ c.in_ok-first.ensures (follows_then _ (gather_from _ (c.in_ok-list_of.ensures ∙ search rules) c.in_ok-ids.ensures) (follows_give refl refl)))
+returns c = follows_then _ c.in_ok-rest.ensures (follows_then _ c.in_ok-first.ensures (follows_then _ (gather_from _ (c.in_ok-ids_of.ensures ∙ search rules) c.in_ok-ids.ensures) (follows_give refl refl)))
