@@ -488,3 +488,15 @@ fn reads_queries_after_refused_memory(rt: HostRuntime) -> Result<(), Fail> {
         b"(node[k=v](id,1,2)->._;-way[!k](id,1)->._;)->._;(.a->._;._>->._;)->._;._ out ids;",
     )
 }
+
+/// The text of a fault is its code and its place.
+#[test]
+fn shows_faults(rt: HostRuntime) -> Result<(), Fail> {
+    let fault = QlFault {
+        cause: QlCause::OutsideProfile,
+        byte: 5,
+    };
+    let text = fault.to_string(rt.alloc())?;
+    assert_eq!(rt; text.as_str(), "Q7 byte 5");
+    Ok(())
+}
