@@ -426,7 +426,7 @@ fn assert_tag_filter(rt: &impl Abort, alloc: Global, text: &[u8]) -> Result<usiz
 /// Where memory is refused the next call gives the full result. Run with each allocation refused in turn.
 #[test]
 fn reads_tag_filters_after_refused_memory(rt: HostRuntime) {
-    let text = b"k=\"v\"];".as_slice();
+    let text = b"k=\"\\u0076\"];".as_slice();
     let mut outcome = assert_tag_filter(&rt, rt.alloc(), text);
     if outcome == Err(QlCause::Memory) {
         outcome = assert_tag_filter(&rt, rt.alloc(), text);

@@ -1,10 +1,13 @@
-use Rattle.std.proofs.Common.{rules, arith, ◌≤◌, length}
+use Rattle.std.proofs.Common.{rules, arith, ◌≤◌, length, refl, inr}
 use Rattle.std.specs.Str.{IsUtf8}
-use Rattle.ql_syntax.specs.Queries.{IsText}
+use Rattle.ql_syntax.specs.Queries.{IsText, Long}
 use Rattle.ql_syntax.proofs.QueryLemmas.{read_whole, refused_at}
 use Rattle.ql_syntax.proofs.GivesRules.{query_gives}
 use Rattle.ql_syntax.proofs.RuleLemmas.{read_of}
 use Rattle.ql_syntax.proofs.parser.read_text.Goals as goal
+
+pub returns-then-text-gt-MAX_LEN-clause-refused : goal.returns-then-text-gt-MAX_LEN-clause-refused
+returns-then-text-gt-MAX_LEN-clause-refused c = inr (Long (omega arith) refl refl)
 
 pub returns-in-Ok-clause-read : goal.returns-in-Ok-clause-read
 returns-in-Ok-clause-read c =
