@@ -7,11 +7,12 @@ ghost use Rattle.ql_syntax.specs.StatementViews.{statements_of};
 use crate::statement::Stmt;
 use std::marker::Model;
 
-/// A query: its statements, in their order. It borrows the text that it was read from, but for the
-/// texts of its filters. Contracts see the list of its statements, and by `statements_of` their trees.
+/// A query: its statements, in their order. It borrows the text that it was read from, but for texts
+/// with escapes. Contracts see the list of its statements, and by `statements_of` their trees.
 ///
 /// It keeps that unions and differences stand at most 32 deep in one another, out statements at the top
-/// level alone, and boxes and paths on the kinds that allow them (`IsQuery`).
+/// level alone, and boxes and paths on the kinds that allow them, and that a list of ids and a union have
+/// one or more (`IsQuery`).
 #[derive(Debug, Drop)]
 pub struct Query<'a> {
     stmts: Vec<Stmt<'a>>,

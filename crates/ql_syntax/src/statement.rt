@@ -6,7 +6,7 @@ use crate::pick::Pick;
 use crate::recursion::Recursion;
 use opl_codec::OutMode;
 
-/// A statement of a query. It borrows the text of the query, but for the texts of its filters.
+/// A statement of a query. It borrows the text of the query, but for texts with escapes.
 ///
 /// Each but `Print` writes its result to a set: the one that `->` names, or the default set.
 #[derive(Debug, Drop)]
