@@ -1,3 +1,4 @@
+pub mod Bytes
 pub mod Moments
 pub mod Places
 pub mod Degrees
