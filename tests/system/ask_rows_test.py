@@ -37,7 +37,7 @@ NO_JOB = [
     (["ask"], b"error: the following required arguments were not provided:\n"),
     (["ask", "node(1);out;", "more"], b"error: unexpected argument 'more' found\n"),
     (["answer", "node(1);out;"], b"error: unrecognized subcommand 'answer'\n"),
-    (["--help"], b"Usage: osm_mirror <COMMAND>\n"),
+    (["--help"], b"Answers OpenStreetMap queries, and proves and checks the answers\n\nUsage: osm_mirror <COMMAND>\n"),
 ]
 
 

@@ -15,7 +15,8 @@ use Rattle.clap.specs.declared.parser.matches.ArgMatches.TheViews.{out-ArgMatche
 use Rattle.clap.specs.declared.parser.matches.SubCommand.{SubCommand}
 use Rattle.clap.proofs.OnLiterals.{clap_on_literals}
 use Rattle.command_line.specs.CommandLine.{program_app}
-use Rattle.command_line.specs.Jobs.{Gives, GivesMatch, HasBadRoot, IsCommandName}
+use Rattle.command_line.specs.Jobs.{Gives, GivesMatch, HasBadRoot}
+use Rattle.command_line.specs.internal.Commands.{IsCommandName}
 use Rattle.command_line.specs.declared.job.Job.{Job}
 use Rattle.command_line.specs.declared.words_fault.WordsFault.{WordsFault}
 use Rattle.command_line.specs.declared.words_fault.WordsFault.TheVariants.{BadRoot, Memory}

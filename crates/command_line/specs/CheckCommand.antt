@@ -1,4 +1,5 @@
 -- The command `check ROOT QUERYFILE ANSWERFILE PROOFFILE`.
+-- Source: this project.
 use Rattle.std.specs.Prelude.{◌≡◌, codes, length}
 use Rattle.std.specs.List.{AllPass}
 use Rattle.clap.specs.Words.{App, Text, new_app, with_rule}

@@ -1,4 +1,5 @@
 -- The program's command line, as clap defines it.
+-- Source: this project.
 use Rattle.std.specs.Prelude.{codes, true}
 use Rattle.clap.specs.Words.{App, new_app, with_subcommand}
 use Rattle.command_line.specs.AskCommand.{ask_app}

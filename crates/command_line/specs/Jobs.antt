@@ -1,5 +1,6 @@
 -- What a job says of clap's matches.
-use Rattle.std.specs.Prelude.{◌≡◌, ◌⊎◌, List, Ok, Option, Some, None, codes}
+-- Source: this project; the digits of a root are decoded as `hex` decodes them.
+use Rattle.std.specs.Prelude.{◌≡◌, List, Ok, Option, Some, None, codes}
 use Rattle.std.specs.String.{string_bytes}
 use Rattle.clap.specs.Words.{Row, Text}
 use Rattle.hex.specs.Hex.{decode_of}
@@ -30,10 +31,6 @@ Gives (Check root query answer proof) name rows = (name ≡ check_name)
 abbrev pub GivesMatch : Job → Option (Text × List Row) → Type 0
 GivesMatch job None = ⊥
 GivesMatch job (Some matched) = Gives job matched.0 matched.1
-
--- the name of a command
-abbrev pub IsCommandName : Text → Type 0
-IsCommandName name = (name ≡ ask_name) ⊎ ((name ≡ publish_name) ⊎ ((name ≡ prove_name) ⊎ (name ≡ check_name)))
 
 -- the command `check` was matched, with a root that isn't 64 hexadecimal digits
 abbrev pub HasBadRoot : Option (Text × List Row) → Type 0

@@ -5,3 +5,4 @@ pub mod CommandLine
 pub mod Jobs
 pub mod ProveCommand
 pub mod PublishCommand
+pub mod internal

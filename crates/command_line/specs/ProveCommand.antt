@@ -1,4 +1,5 @@
 -- The command `prove FILE QUERYFILE ANSWERFILE PROOFFILE`.
+-- Source: this project.
 use Rattle.std.specs.Prelude.{codes}
 use Rattle.clap.specs.Words.{App, Text, new_app, with_rule}
 use Rattle.command_line.specs.Arguments.{wanted}

@@ -4,38 +4,56 @@ ghost use Rattle.std.specs.Prelude.{◌≡◌, IfOk, false};
 ghost use Rattle.std.specs.String.{string_bytes};
 ghost use Rattle.clap.specs.declared.builder.command.Command.TheViews.{out-Command as fields_of};
 ghost use Rattle.clap.specs.Words.{app_of, found_of, rows_of, with_rule};
-ghost use Rattle.command_line.specs.Arguments.{IsCommand, text_of, wanted};
+ghost use Rattle.command_line.specs.Arguments.{text_of, wanted};
+ghost use Rattle.command_line.specs.internal.Commands.{IsCommand};
 
 use clap::{Arg, ArgMatches, Command};
 use std::alloc::{AllocError, Global};
 
-/// The argument that names the OPL file of a set.
-pub const FILE: &str = "FILE";
+/// A positional argument of a command.
+#[derive(Clone, Copy)]
+pub struct Argument {
+    /// Its name, by which the matches know it and which the usage line shows.
+    pub name: &'static str,
+    /// What the command's help says of it.
+    pub help: &'static str,
+}
 
-/// The argument that names the file of a query.
-pub const QUERY_FILE: &str = "QUERYFILE";
+/// The OPL file of a set.
+pub const FILE: Argument = Argument {
+    name: "FILE",
+    help: "OPL file with the objects of the set",
+};
 
-/// The argument that names the file of an answer.
-pub const ANSWER_FILE: &str = "ANSWERFILE";
-
-/// The argument that names the file of a proof.
-pub const PROOF_FILE: &str = "PROOFFILE";
+/// The file of a query.
+pub const QUERY_FILE: Argument = Argument {
+    name: "QUERYFILE",
+    help: "File whose bytes are the query",
+};
 
 /// The command with one more positional argument, which has to be there.
 pub fn and_wanted<'a>(
     alloc: Global,
     command: Command<'a>,
-    id: &'a str,
+    argument: Argument,
 ) -> Result<Command<'a>, AllocError>
     requires { (fields_of command).has_globals ≡ false }
-    ensures { IfOk result (IsCommand (with_rule (app_of command.entry) (wanted id.entry.now))) }
+    ensures { IfOk result (IsCommand (with_rule (app_of command.entry) (wanted argument.name.now))) }
 {
-    command.arg(Arg::new(alloc, id).required(true))
+    command.arg(
+        Arg::new(alloc, argument.name)
+            .help(argument.help)
+            .required(true),
+    )
 }
 
 /// A copy of the text that the matches have for the argument, empty where they have none.
-pub fn text_of(alloc: Global, matches: &ArgMatches<'_>, id: &str) -> Result<String, AllocError>
-    ensures { IfOk result (λ s. string_bytes s ≡ text_of id.now (rows_of (found_of matches.now))) }
+pub fn text_of(
+    alloc: Global,
+    matches: &ArgMatches<'_>,
+    argument: Argument,
+) -> Result<String, AllocError>
+    ensures { IfOk result (λ s. string_bytes s ≡ text_of argument.name.now (rows_of (found_of matches.now))) }
 {
-    String::from_str(alloc, matches.get_str(id).unwrap_or(""))
+    String::from_str(alloc, matches.get_str(argument.name).unwrap_or(""))
 }

@@ -2,11 +2,11 @@
 
 ghost use Rattle.std.specs.Prelude.{◌≡◌, IfOk};
 ghost use Rattle.clap.specs.Words.{found_of, rows_of};
-ghost use Rattle.command_line.specs.Arguments.{IsCommand};
+ghost use Rattle.command_line.specs.internal.Commands.{IsCommand};
 ghost use Rattle.command_line.specs.AskCommand.{ask_app, ask_name};
 ghost use Rattle.command_line.specs.Jobs.{Gives};
 
-use crate::arguments::{and_wanted, text_of};
+use crate::arguments::{Argument, and_wanted, text_of};
 use crate::job::Job;
 use clap::{ArgMatches, Command};
 use std::alloc::{AllocError, Global};
@@ -14,13 +14,20 @@ use std::alloc::{AllocError, Global};
 /// The name of the command.
 pub const ASK: &str = "ask";
 
-const QUERY: &str = "QUERY";
+/// What the program's help says of the command.
+const ABOUT: &str =
+    "Answers a query over the OPL text on standard input, after checking the answer";
+
+const QUERY: Argument = Argument {
+    name: "QUERY",
+    help: "The query, as 'node(1);out;'; after '--' where it begins with '-'",
+};
 
 /// The command, as `clap` is told of it.
 pub fn ask_command<'a>(alloc: Global) -> Result<Command<'a>, AllocError>
     ensures { IfOk result (IsCommand ask_app) }
 {
-    and_wanted(alloc, Command::new(alloc, ASK), QUERY)
+    and_wanted(alloc, Command::new(alloc, ASK).about(ABOUT), QUERY)
 }
 
 /// What the matches of this command ask for.

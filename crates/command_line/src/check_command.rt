@@ -3,11 +3,12 @@
 ghost use Rattle.std.specs.Prelude.{◌≡◌, ◌↔◌, ◌⊎◌, IfErr, IfOk, IfSome, IsSome, Ok, codes};
 ghost use Rattle.clap.specs.Words.{found_of, rows_of};
 ghost use Rattle.hex.specs.Hex.{decode_of};
-ghost use Rattle.command_line.specs.Arguments.{IsCommand, text_of};
+ghost use Rattle.command_line.specs.Arguments.{text_of};
+ghost use Rattle.command_line.specs.internal.Commands.{IsCommand};
 ghost use Rattle.command_line.specs.CheckCommand.{IsRootText, check_app, check_name};
 ghost use Rattle.command_line.specs.Jobs.{Gives};
 
-use crate::arguments::{ANSWER_FILE, PROOF_FILE, QUERY_FILE, and_wanted, text_of};
+use crate::arguments::{Argument, QUERY_FILE, and_wanted, text_of};
 use crate::job::Job;
 use crate::words_fault::WordsFault;
 use clap::{ArgMatches, Command};
@@ -18,13 +19,29 @@ use tree_node::Digest;
 /// The name of the command.
 pub const CHECK: &str = "check";
 
-const ROOT: &str = "ROOT";
+/// What the program's help says of the command.
+const ABOUT: &str = "Checks an answer by its proof and a root: prints 'yes', or 'no' and why";
+
+const ROOT: Argument = Argument {
+    name: "ROOT",
+    help: "Root of the set: 64 hexadecimal digits, from the publisher",
+};
+
+const ANSWER_FILE: Argument = Argument {
+    name: "ANSWERFILE",
+    help: "File whose bytes are the answer",
+};
+
+const PROOF_FILE: Argument = Argument {
+    name: "PROOFFILE",
+    help: "File whose bytes are the proof",
+};
 
 /// The command, as `clap` is told of it.
 pub fn check_command<'a>(alloc: Global) -> Result<Command<'a>, AllocError>
     ensures { IfOk result (IsCommand check_app) }
 {
-    let command = and_wanted(alloc, Command::new(alloc, CHECK), ROOT)?;
+    let command = and_wanted(alloc, Command::new(alloc, CHECK).about(ABOUT), ROOT)?;
     let command = and_wanted(alloc, command, QUERY_FILE)?;
     let command = and_wanted(alloc, command, ANSWER_FILE)?;
     and_wanted(alloc, command, PROOF_FILE)

@@ -3,7 +3,7 @@
 ghost use Rattle.std.specs.Prelude.{◌≡◌, IfOk, false};
 ghost use Rattle.clap.specs.declared.builder.command.Command.TheViews.{out-Command as fields_of};
 ghost use Rattle.clap.specs.Words.{app_of, with_subcommand};
-ghost use Rattle.command_line.specs.Arguments.{IsCommand};
+ghost use Rattle.command_line.specs.internal.Commands.{IsCommand};
 ghost use Rattle.command_line.specs.CommandLine.{program_app};
 
 use crate::ask_command::ask_command;
@@ -13,12 +13,16 @@ use crate::publish_command::publish_command;
 use clap::Command;
 use std::alloc::{AllocError, Global};
 
+/// What the help says of the program.
+const ABOUT: &str = "Answers OpenStreetMap queries, and proves and checks the answers";
+
 /// The command line of the program: one level of commands, of which one has to be there. `--help` and `-h`
 /// are `clap`'s; there is no command `help`.
 pub fn program_command<'a>(alloc: Global) -> Result<Command<'a>, AllocError>
     ensures { IfOk result (IsCommand program_app) }
 {
     let program = Command::new(alloc, "osm_mirror")
+        .about(ABOUT)
         .subcommand_required(true)
         .disable_help_subcommand(true);
     let program = and_command(program, ask_command(alloc)?)?;

@@ -123,11 +123,25 @@ fn refuses_with_the_text_of_clap(rt: HostRuntime) -> Result<(), Fail> {
             "error: unexpected argument '-x' found\n",
         ),
         ("osm_mirror help", "error: unrecognized subcommand 'help'\n"),
-        ("osm_mirror --help", "Usage: osm_mirror <COMMAND>\n"),
-        ("osm_mirror ask -h", "Usage: osm_mirror ask <QUERY>\n"),
+        (
+            "osm_mirror --help",
+            "Answers OpenStreetMap queries, and proves and checks the answers\n\nUsage: osm_mirror <COMMAND>\n\nCommands:\n  ask      Answers a query over the OPL text on standard input, after checking the answer\n  publish  Prints the root of a set, by which clients check answers\n  prove    Writes the answer to a query and its proof, and prints the root of the set\n  check    Checks an answer by its proof and a root: prints 'yes', or 'no' and why\n",
+        ),
+        (
+            "osm_mirror ask -h",
+            "Answers a query over the OPL text on standard input, after checking the answer\n\nUsage: osm_mirror ask <QUERY>\n\nArguments:\n  <QUERY>  The query, as 'node(1);out;'; after '--' where it begins with '-'\n",
+        ),
+        (
+            "osm_mirror publish -h",
+            "Prints the root of a set, by which clients check answers\n\nUsage: osm_mirror publish <FILE>\n\nArguments:\n  <FILE>  OPL file with the objects of the set\n",
+        ),
         (
             "osm_mirror prove -h",
-            "Usage: osm_mirror prove <FILE> <QUERYFILE> <ANSWERFILE> <PROOFFILE>\n",
+            "Writes the answer to a query and its proof, and prints the root of the set\n\nUsage: osm_mirror prove <FILE> <QUERYFILE> <ANSWERFILE> <PROOFFILE>\n\nArguments:\n  <FILE>        OPL file with the objects of the set\n  <QUERYFILE>   File whose bytes are the query\n  <ANSWERFILE>  File that the answer is written to\n  <PROOFFILE>   File that the proof is written to\n",
+        ),
+        (
+            "osm_mirror check -h",
+            "Checks an answer by its proof and a root: prints 'yes', or 'no' and why\n\nUsage: osm_mirror check <ROOT> <QUERYFILE> <ANSWERFILE> <PROOFFILE>\n\nArguments:\n  <ROOT>        Root of the set: 64 hexadecimal digits, from the publisher\n  <QUERYFILE>   File whose bytes are the query\n  <ANSWERFILE>  File whose bytes are the answer\n  <PROOFFILE>   File whose bytes are the proof\n",
         ),
     ] {
         match read_words(alloc, words_of(alloc, line)?) {
@@ -142,7 +156,7 @@ fn refuses_with_the_text_of_clap(rt: HostRuntime) -> Result<(), Fail> {
     Ok(())
 }
 
-/// Want of memory, or the whole result: also where an allocation is refused (tests/system).
+/// Out of memory, or the whole result: also where an allocation is refused (tests/system).
 #[test]
 fn reads_within_memory(rt: HostRuntime) -> Result<(), Fail> {
     let alloc = rt.alloc();

@@ -4,7 +4,8 @@ ghost use Rattle.std.specs.Prelude.{◌≡◌, ◌≢◌, ◌⊎◌, [], Err, If
 ghost use Rattle.std.specs.String.{string_bytes};
 ghost use Rattle.clap.specs.Words.{fault_of, found_of, kind_of, rows_of, subcommand_of, takes};
 ghost use Rattle.command_line.specs.CommandLine.{program_app};
-ghost use Rattle.command_line.specs.Jobs.{Gives, GivesMatch, HasBadRoot, IsCommandName};
+ghost use Rattle.command_line.specs.Jobs.{Gives, GivesMatch, HasBadRoot};
+ghost use Rattle.command_line.specs.internal.Commands.{IsCommandName};
 
 use crate::ask_command::{ASK, ask_job};
 use crate::check_command::{CHECK, check_job};
@@ -19,7 +20,7 @@ use std::alloc::{AllocError, Global};
 
 /// What the words ask for, the first of which is the program's own name.
 ///
-/// The command and its texts are what `clap` makes of the words. A text that begins with `-` stands behind
+/// The command and its texts are what `clap` makes of the words. A text that begins with `-` comes after
 /// the word `--`.
 ///
 /// # Errors

@@ -5,5 +5,5 @@ use Rattle.command_line.proofs.arguments.text_of.Goals as goal
 
 pub returns : goal.returns
 returns c =
-    let found = c.get_str.ensures ∙ first_value-rows (found_of c.args.matches.now) c.args.id.now in
+    let found = c.get_str.ensures ∙ first_value-rows (found_of c.args.matches.now) c.args.argument.name.now in
     rw (← found) (search rules)

@@ -1,0 +1,17 @@
+-- Commands as they are told to clap, and their names.
+use Rattle.std.specs.Prelude.{◌≡◌, ◌⊎◌, false}
+use Rattle.clap.specs.Words.{App, Text, app_of}
+use Rattle.clap.specs.declared.builder.command.Command.TheViews.{out-Command as fields_of}
+use Rattle.clap.specs.declared.builder.command.Command.{Command}
+use Rattle.command_line.specs.AskCommand.{ask_name}
+use Rattle.command_line.specs.PublishCommand.{publish_name}
+use Rattle.command_line.specs.ProveCommand.{prove_name}
+use Rattle.command_line.specs.CheckCommand.{check_name}
+
+-- the command is this one to clap, and has no argument that its subcommands share
+abbrev pub IsCommand : App → Command → Type 0
+IsCommand app c = (app_of c ≡ app) × ((fields_of c).has_globals ≡ false)
+
+-- the name of a command
+abbrev pub IsCommandName : Text → Type 0
+IsCommandName name = (name ≡ ask_name) ⊎ ((name ≡ publish_name) ⊎ ((name ≡ prove_name) ⊎ (name ≡ check_name)))
