@@ -1,9 +1,12 @@
 """The crates' own tests whose names contain `memory`, with each allocation refused in turn.
 
-Such a test calls a function that allocates, accepts the whole result or want of memory, and then calls it again.
+Such a test calls a function that allocates, accepts the whole result or "out of memory", and then calls it again.
 Here one allocation of it is refused, whichever it is: in the first call, in the second, or in what the test itself
-makes. So each run must pass, or end with the `Err` of want of memory that the test's own `?` met. An assertion
-that fails, another error, or a signal is a wrong answer.
+makes. So each run must pass, or end with the `Err` of a refused allocation that the test's own `?` met. An
+assertion that fails, another error, or a signal is a wrong answer.
+
+The gate has built a test binary for each crate that has tests. A crate whose binary isn't there is a failure, and
+so is one whose sources take memory and whose binary has no such test.
 """
 
 import re
@@ -11,8 +14,21 @@ import re
 from runs import TOP, Tally, each_refused, run
 
 ENDED_BY_ERROR = "the test failed: its result gives status 1"
-# `Device`: no such test has a device, but a vector that is written to fails as a writer where memory is wanted.
-WANT_OF_MEMORY = re.compile(r"^[Ee]rror: .*(AllocError|AllocFailed|OutOfMemory|Memory|no memory|Device$)", re.MULTILINE)
+# `Device`: no such test has a device, but a vector that is written to fails as a writer when it is out of memory.
+OUT_OF_MEMORY = re.compile(r"^[Ee]rror: .*(AllocError|AllocFailed|OutOfMemory|Memory|no memory|Device$)", re.MULTILINE)
+
+
+def crates():
+    """The folders of the crates that crates.txt lists, lowest first."""
+    lines = (TOP / "crates.txt").read_text(encoding="utf-8").splitlines()
+    return [TOP / "crates" / line.partition(":")[0].split()[0] for line in lines if line.strip() and line[0] != "#"]
+
+
+def sources(crate, of_tests):
+    """The text of a crate's tests, or of its other sources."""
+    paths = sorted(crate.glob("src/**/*.rt"))
+    chosen = [path for path in paths if ("tests" in path.relative_to(crate).as_posix()) == of_tests]
+    return "".join(path.read_text(encoding="utf-8") for path in chosen)
 
 
 def memory_tests(binary):
@@ -24,22 +40,38 @@ def memory_tests(binary):
 
 def is_well(outcome):
     told = (outcome.stdout + outcome.stderr).decode(errors="replace")
-    wanted_memory = ENDED_BY_ERROR in told and WANT_OF_MEMORY.search(told) is not None
-    return outcome.status == 0 or wanted_memory
+    ran_out = ENDED_BY_ERROR in told and OUT_OF_MEMORY.search(told) is not None
+    return outcome.status == 0 or ran_out
+
+
+def check_test(tally, binary, name):
+    """Runs one test as it is, and then once for each of its allocations, which is refused."""
+    test = f"{binary.name} {name}"
+    outcome = run([binary, name])
+    tally.check(f"{test} with ample memory", outcome.status == 0, outcome)
+    met = 0
+    for number, outcome in each_refused([binary, name], b"", "REFUSE_ALLOCATION"):
+        met += 1
+        tally.check(f"{test}, allocation {number}", is_well(outcome), outcome)
+    tally.check(f"{test}: allocations were refused", met > 0)
+
+
+def check_crate(tally, crate):
+    """Runs the tests of a crate that are about memory. Each crate that takes an allocator has some."""
+    binary = crate / "out" / f"{crate.name}_tests"
+    if "#[test]" in sources(crate, of_tests=True):
+        tally.check(f"{crate.name}: its tests were built", binary.exists())
+    names = memory_tests(binary) if binary.exists() else []
+    if "alloc: Global" in sources(crate, of_tests=False):
+        tally.check(f"{crate.name}: it has tests of refused memory", names != [])
+    for name in names:
+        check_test(tally, binary, name)
 
 
 def main():
     tally = Tally()
-    for binary in sorted(TOP.glob("crates/*/out/*_tests")):
-        for name in memory_tests(binary):
-            test = f"{binary.name} {name}"
-            outcome = run([binary, name])
-            tally.check(f"{test} with ample memory", outcome.status == 0, outcome)
-            met = 0
-            for number, outcome in each_refused([binary, name], b"", "REFUSE_ALLOCATION"):
-                met += 1
-                tally.check(f"{test}, allocation {number}", is_well(outcome), outcome)
-            tally.check(f"{test}: allocations were refused", met > 0)
+    for crate in crates():
+        check_crate(tally, crate)
     tally.end()
 
 

@@ -8,16 +8,23 @@ use Rattle.osm_check.specs.Roots.{proof_text}
 use Rattle.osm_check.specs.Verdicts.{IsAnswer as IsRightAnswer, IsVerdict}
 use Rattle.osm_check.specs.declared.verdict.Verdict.{Verdict}
 use Rattle.osm_mirror.specs.Ask.{IsAnswer, IsBegun}
-use Rattle.osm_mirror.specs.Files.{AppendInTurn, IfBoth, IfThree, IsBegunProof, IsBegunRoot, IsBegunVerdict, IsProved}
+use Rattle.osm_mirror.specs.Files.{IfBoth, IfThree, IsBegunProof, IsBegunRoot, IsBegunVerdict, IsProved}
 use Rattle.osm_mirror.specs.RootLines.{root_line, verdict_line}
-use Rattle.osm_mirror.specs.Written.{AppendsFront}
+use Rattle.osm_mirror.specs.Written.{AppendInTurn, AppendsFront, Output, UpToFirst, UpToSecond, UpToThird, Writing}
 use Rattle.osm_mirror.specs.declared.command_fault.CommandFault.{CommandFault}
 use Rattle.osm_mirror.specs.declared.command_fault.CommandFault.TheVariants.{Device}
 
 -- ---- `prove`
 
+-- a writer that wasn't written to
+abbrev same : Option (List ℕ) → Output
+same output = record { before = output; after = output }
+
+abbrev pub writing : List ℕ → Option (List ℕ) → Option (List ℕ) → Writing
+writing text old new = record { text = text; output = record { before = old; after = new } }
+
 -- nothing is written
-pub unwritten : (first second answer proof root : Option (List ℕ)) → IfBoth first second (λ file bytes. IsBegunProof file bytes answer answer proof proof root root)
+pub unwritten : (first second answer proof root : Option (List ℕ)) → IfBoth first second (λ file bytes. IsBegunProof file bytes (same answer) (same proof) (same root))
 unwritten None second answer proof root = tt
 unwritten (Some file) None answer proof root = tt
 unwritten (Some file) (Some bytes) answer proof root = inl (Keeps-refl answer, Keeps-refl proof, Keeps-refl root)
@@ -40,33 +47,29 @@ proved_files (Some file) (Some bytes) set read query text holds same is right =
 -- the answer is begun
 pub answer_begun : (written text proof root : List ℕ) (old_answer new_answer old_proof old_root : Option (List ℕ))
     → written ≡ text → AppendsFront old_answer new_answer written
-    → AppendInTurn text proof root old_answer new_answer old_proof old_proof old_root old_root
-answer_begun written text proof root a b c e is begun = inl (subst (λ (t : List ℕ). AppendsFront a b t) is begun, Keeps-refl c, Keeps-refl e)
+    → AppendInTurn (writing text old_answer new_answer) (writing proof old_proof old_proof) (writing root old_root old_root)
+answer_begun written text proof root a b c e is begun = UpToFirst (subst (λ (t : List ℕ). AppendsFront a b t) is begun) (Keeps-refl c) (Keeps-refl e)
 
 -- the answer is written, and the proof begun
 pub proof_begun : (written written_proof text proof root : List ℕ) (old_answer new_answer old_proof new_proof old_root : Option (List ℕ))
     → written ≡ text → Appends old_answer new_answer written → written_proof ≡ proof → AppendsFront old_proof new_proof written_proof
-    → AppendInTurn text proof root old_answer new_answer old_proof new_proof old_root old_root
+    → AppendInTurn (writing text old_answer new_answer) (writing proof old_proof new_proof) (writing root old_root old_root)
 proof_begun written written_proof text proof root a b c d e is whole proof_is begun =
-    inr (inl (subst (λ (t : List ℕ). Appends a b t) is whole, subst (λ (t : List ℕ). AppendsFront c d t) proof_is begun, Keeps-refl e))
+    UpToSecond (subst (λ (t : List ℕ). Appends a b t) is whole) (subst (λ (t : List ℕ). AppendsFront c d t) proof_is begun) (Keeps-refl e)
 
 -- both are written, and the root's line begun
 pub root_begun : (written written_proof line text proof root : List ℕ) (old_answer new_answer old_proof new_proof old_root new_root : Option (List ℕ))
     → written ≡ text → Appends old_answer new_answer written → written_proof ≡ proof → Appends old_proof new_proof written_proof
     → line ≡ root → AppendsFront old_root new_root line
-    → AppendInTurn text proof root old_answer new_answer old_proof new_proof old_root new_root
+    → AppendInTurn (writing text old_answer new_answer) (writing proof old_proof new_proof) (writing root old_root new_root)
 root_begun written written_proof line text proof root a b c d e f is whole proof_is proof_whole root_is begun =
-    inr (inr (
-      subst (λ (t : List ℕ). Appends a b t) is whole,
-      subst (λ (t : List ℕ). Appends c d t) proof_is proof_whole,
-      subst (λ (t : List ℕ). AppendsFront e f t) root_is begun,
-    ))
+    UpToThird (subst (λ (t : List ℕ). Appends a b t) is whole) (subst (λ (t : List ℕ). Appends c d t) proof_is proof_whole) (subst (λ (t : List ℕ). AppendsFront e f t) root_is begun)
 
 -- the three texts are written in turn, as far as it went
 pub written_in_turn : (first second : Option (List ℕ)) (set : List Element) (text : List ℕ) (old_answer new_answer old_proof new_proof old_root new_root : Option (List ℕ))
     → IfBoth first second (λ file bytes. IsProved file bytes text set)
-    → AppendInTurn text (proof_text set) (root_line set) old_answer new_answer old_proof new_proof old_root new_root
-    → IfBoth first second (λ file bytes. IsBegunProof file bytes old_answer new_answer old_proof new_proof old_root new_root)
+    → AppendInTurn (writing text old_answer new_answer) (writing (proof_text set) old_proof new_proof) (writing (root_line set) old_root new_root)
+    → IfBoth first second (λ file bytes. IsBegunProof file bytes (record { before = old_answer; after = new_answer }) (record { before = old_proof; after = new_proof }) (record { before = old_root; after = new_root }))
 written_in_turn None second set text a b c d e f proved turn = tt
 written_in_turn (Some file) None set text a b c d e f proved turn = tt
 written_in_turn (Some file) (Some bytes) set text a b c d e f proved turn = inr (set, text, proved, turn)

@@ -1,7 +1,7 @@
 -- What the commands `publish`, `prove` and `check` write, and when they write nothing.
 -- Source: this project.
 use Rattle.std.specs.Prelude.{◌≡◌, ℕ, ◌⊎◌, List, Option, Some, None, ⊤}
-use Rattle.std.specs.Io.KnownBytes.{Appends, Keeps}
+use Rattle.std.specs.Io.KnownBytes.{Keeps}
 use Rattle.osm_model.specs.Elements.{Element}
 use Rattle.opl_codec.specs.Files.{HoldsSet}
 use Rattle.opl_codec.specs.declared.cause.OplCause.TheVariants as causes
@@ -12,7 +12,7 @@ use Rattle.osm_mirror.specs.Ask.{Explains, IsOutside}
 use Rattle.osm_mirror.specs.declared.command_fault.CommandFault.{CommandFault}
 use Rattle.osm_mirror.specs.declared.command_fault.CommandFault.TheVariants.{Opl, Query, Endless, Memory, Device}
 use Rattle.osm_mirror.specs.RootLines.{root_line, verdict_line}
-use Rattle.osm_mirror.specs.Written.{AppendsFront}
+use Rattle.osm_mirror.specs.Written.{AppendInTurn, AppendsFront, IsUntouched, Output}
 
 -- what is said of two readers' bytes, where both tell them
 abbrev pub IfBoth : Option (List ℕ) → Option (List ℕ) → (List ℕ → List ℕ → Type 0) → Type 0
@@ -54,19 +54,12 @@ IsOutsideFiles fault = IsOutside fault ⊎ (fault ≡ Endless)
 abbrev pub ExplainsFiles : List ℕ → List ℕ → CommandFault → Type 0
 ExplainsFiles file query fault = Explains file query fault ⊎ (fault ≡ Endless)
 
--- three texts are written in turn, each to a writer of its own, and the last that is begun may lack its end
-abbrev pub AppendInTurn : (first second third : List ℕ) (old new old_second new_second old_third new_third : Option (List ℕ)) → Type 0
-AppendInTurn first second third old new old_second new_second old_third new_third =
-    (AppendsFront old new first × Keeps old_second new_second × Keeps old_third new_third)
-    ⊎ ((Appends old new first × AppendsFront old_second new_second second × Keeps old_third new_third)
-    ⊎ (Appends old new first × Appends old_second new_second second × AppendsFront old_third new_third third))
-
 -- the three writers have gained nothing, or, in this order, the answer, its proof and the root's line, as far as it went
-abbrev pub IsBegunProof : (file query : List ℕ) (old_answer new_answer old_proof new_proof old_root new_root : Option (List ℕ)) → Type 0
-IsBegunProof file query old_answer new_answer old_proof new_proof old_root new_root =
-    (Keeps old_answer new_answer × Keeps old_proof new_proof × Keeps old_root new_root)
+abbrev pub IsBegunProof : (file query : List ℕ) (answer proof root : Output) → Type 0
+IsBegunProof file query answer proof root =
+    (IsUntouched answer × IsUntouched proof × IsUntouched root)
     ⊎ ((set : List Element) × (text : List ℕ) × IsProved file query text set
-    × AppendInTurn text (proof_text set) (root_line set) old_answer new_answer old_proof new_proof old_root new_root)
+    × AppendInTurn (record { text = text; output = answer }) (record { text = proof_text set; output = proof }) (record { text = root_line set; output = root }))
 
 -- ---- `check`
 

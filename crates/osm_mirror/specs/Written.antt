@@ -1,7 +1,37 @@
--- What a writer has gained.
+-- What writers have gained.
+-- Source: this project; what a writer tells of its bytes is std's.
 use Rattle.std.specs.Prelude.{ℕ, ◌≤◌, List, Option, take, length}
-use Rattle.std.specs.Io.KnownBytes.{Appends}
+use Rattle.std.specs.Io.KnownBytes.{Appends, Keeps}
 
 -- a beginning of the text, which may be nothing or all of it
 abbrev pub AppendsFront : Option (List ℕ) → Option (List ℕ) → List ℕ → Type 0
 AppendsFront old new text = (k : ℕ) × (k ≤ length text) × Appends old new (take k text)
+
+-- the bytes of a writer before a call and after it, as far as it tells them
+pub record Output : Type 0 where
+  pub before : Option (List ℕ)
+  pub after : Option (List ℕ)
+
+-- the writer has gained nothing
+abbrev pub IsUntouched : Output → Type 0
+IsUntouched output = Keeps output.before output.after
+
+-- the writer has gained just this text
+abbrev pub HasGained : Output → List ℕ → Type 0
+HasGained output text = Appends output.before output.after text
+
+-- the writer has gained a beginning of this text
+abbrev pub HasBegun : Output → List ℕ → Type 0
+HasBegun output text = AppendsFront output.before output.after text
+
+-- a text and the writer that it goes to
+pub record Writing : Type 0 where
+  pub text : List ℕ
+  pub output : Output
+
+-- Three texts are written in turn, each to a writer of its own. Those before the last that is begun are
+-- whole, and nothing is written after it.
+pub data AppendInTurn (first second third : Writing) : Type 0 where
+  UpToFirst : HasBegun first.output first.text → IsUntouched second.output → IsUntouched third.output → AppendInTurn first second third
+  UpToSecond : HasGained first.output first.text → HasBegun second.output second.text → IsUntouched third.output → AppendInTurn first second third
+  UpToThird : HasGained first.output first.text → HasGained second.output second.text → HasBegun third.output third.text → AppendInTurn first second third

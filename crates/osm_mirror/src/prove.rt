@@ -52,10 +52,11 @@ pub fn prove<R: Read, Q: Read, A: Write, P: Write, W: Write>(
         → Keeps (A.contents answer.old) (A.contents answer.new)
         × Keeps (P.contents proof.old) (P.contents proof.new)
         × Keeps (W.contents output.old) (W.contents output.new)) }
-    // and never anything but the three texts in their order: behind one that lacks its end nothing.
+    // and never anything but the three texts in their order: after one that lacks its end nothing.
     ensures begun { IfBoth (R.remaining input.old) (Q.remaining query.old) (λ file bytes.
-        IsBegunProof file bytes (A.contents answer.old) (A.contents answer.new)
-        (P.contents proof.old) (P.contents proof.new) (W.contents output.old) (W.contents output.new)) }
+        IsBegunProof file bytes (record { before = A.contents answer.old; after = A.contents answer.new })
+        (record { before = P.contents proof.old; after = P.contents proof.new })
+        (record { before = W.contents output.old; after = W.contents output.new })) }
 {
     let set = read_set(alloc, input)?;
     let query = read_whole(alloc, query)?;
