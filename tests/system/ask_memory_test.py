@@ -1,4 +1,4 @@
-"""`osm_mirror ask` with each allocation refused in turn: the whole result, or want of memory, and nothing else."""
+"""`osm_mirror ask` with each allocation refused in turn: the whole result, or "no memory", and nothing else."""
 
 from ask_rows_test import TWO_NODES
 from runs import PROGRAM, Outcome, Tally, each_refused, run

@@ -53,7 +53,7 @@ def main():
         outcome = run([PROGRAM, *words], TWO_NODES)
         holds = outcome.stdout == b"" and outcome.status == 2 and outcome.stderr.startswith(beginning)
         tally.check(f"words {words}", holds, outcome)
-    # A query that begins with `-` stands behind `--`.
+    # A query that begins with `-` comes after `--`.
     outcome = run([PROGRAM, "ask", "--", "-x"], TWO_NODES)
     tally.check("ask -- -x", outcome == Outcome(b"", b"Q2 byte 0\n", 2), outcome)
     # A word that isn't text.

@@ -35,8 +35,8 @@ def check_writes(tally, words, made, texts):
                 met += 1
                 got = [path.read_bytes() if path.exists() else b"" for path in made] + [outcome.stdout]
                 begun = all(text.startswith(part) for text, part in zip(texts, got))
-                behind = [part for text, part in zip(texts, got) if part != text]
-                in_order = all(part == b"" for part in behind[1:]) and behind != []
+                unfinished = [part for text, part in zip(texts, got) if part != text]
+                in_order = all(part == b"" for part in unfinished[1:]) and unfinished != []
                 holds = begun and in_order and outcome == Outcome(outcome.stdout, b"device\n", 3)
                 tally.check(f"{words}, write {number}, {refusing}", holds, outcome, got)
             tally.check(f"{words}, {refusing}: writes were refused", met > 0)

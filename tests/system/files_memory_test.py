@@ -1,4 +1,4 @@
-"""`publish`, `prove` and `check` with each allocation refused in turn: the whole result, or want of memory."""
+"""`publish`, `prove` and `check` with each allocation refused in turn: the whole result, or "no memory"."""
 
 import tempfile
 from pathlib import Path

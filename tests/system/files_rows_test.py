@@ -52,8 +52,12 @@ def check_publish(tally, room):
         file = written(room, "set.opl", content)
         outcome = run([PROGRAM, "publish", file])
         tally.check(f"publish {number}", outcome == Outcome(root.encode() + b"\n", b"", 0), outcome)
-    outcome = run([PROGRAM, "publish", written(room, "set.opl", TWO_NODES + b"c5\n")])
-    tally.check("publish no set", outcome == Outcome(b"", b"O1 line 3 byte 0\n", 2), outcome)
+    for content, stderr in [
+        (TWO_NODES + b"c5\n", b"O1 line 3 byte 0\n"),
+        (b"n1 x1 y1\nn1 x1 y1\n", b"O13 line 2 byte 0\n"),
+    ]:
+        outcome = run([PROGRAM, "publish", written(room, "set.opl", content)])
+        tally.check(f"publish no set {stderr}", outcome == Outcome(b"", stderr, 2), outcome)
 
 
 def check_prove(tally, room):
@@ -71,6 +75,8 @@ def check_prove(tally, room):
     # A refused command leaves the files that were there: the set is looked at first, then the query.
     for content, query, stderr in [
         (TWO_NODES, b"node(1)", b"Q11 byte 7\n"),
+        (TWO_NODES, b"", b"Q11 byte 0\n"),
+        (TWO_NODES, b"node(1);out;\n", b"Q2 byte 12\n"),
         (b"c5\n", b"node(1)", b"O1 line 1 byte 0\n"),
     ]:
         written(room, "answer", b"older")

@@ -79,8 +79,8 @@ fn refuses_bad_roots(rt: HostRuntime) -> Result<(), Fail> {
     let alloc = rt.alloc();
     let mut tried = 0u32;
     for end in [0, 1, 62, 63] {
-        for behind in ["", "g", "0x", "00a"] {
-            let line = format!(in alloc; "m check {}{behind} b c d", &ROOT[..end])?;
+        for end_text in ["", "g", "0x", "00a"] {
+            let line = format!(in alloc; "m check {}{end_text} b c d", &ROOT[..end])?;
             match read_words(alloc, words_of(alloc, &line)?) {
                 Ok(job) => panic!(rt; "{line}: {job:?}"),
                 Err(WordsFault::BadRoot) => tried = tried.saturating_add(1),

@@ -36,7 +36,7 @@ pub fn check<Q: Read, A: Read, P: Read, W: Write>(
     ensures told { IfOk result (λ verdict. IfThree (Q.remaining query.old) (A.remaining answer.old) (P.remaining proof.old)
         (λ query_bytes answer_bytes proof_bytes. IsVerdict query_bytes root.now.0 answer_bytes proof_bytes verdict)
         × Appends (W.contents output.old) (W.contents output.new) (verdict_line verdict)) }
-    // Only want of memory, a device or a file without an end is refused.
+    // It is refused only out of memory, for a device, or for a file without an end.
     ensures refused { IfErr result IsUnread }
     // Nothing is written but where a device fails,
     ensures nothing { IfErr result (λ fault. fault ≢ CommandFault.Device

@@ -47,7 +47,7 @@ impl CommandFault {
 impl From<LoadFault> for CommandFault {
     ghost from_gives = { λ load fault. fault ≡ fault_of_load load };
 
-    /// A reader that failed is a device, and want of memory is want of memory; else the input is refused.
+    /// A reader that failed is a device, and out of memory stays out of memory; else the input is refused.
     fn from(load: LoadFault) -> CommandFault {
         match load.fault.cause {
             OplCause::ReaderFailed => CommandFault::Device,

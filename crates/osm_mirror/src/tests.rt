@@ -2,11 +2,9 @@ mod files;
 
 use crate::ask::ask;
 use crate::command_fault::CommandFault;
-use crate::status::Status;
 use std::alloc::Global;
 use std::io;
 use std::io::{Read, Write};
-use std::process::Abort;
 use std::test::Fail;
 
 const TWO_NODES: &str = "n1 Thighway=crossing x13.4 y52.5\nn2 x13.4000001 y52.5\n";
@@ -101,46 +99,6 @@ fn answers(rt: HostRuntime) -> Result<(), Fail> {
     Ok(())
 }
 
-/// The query over the file is refused with this line and the status 2, and nothing is written.
-fn check_refused(
-    rt: &impl Abort,
-    alloc: Global,
-    file: &str,
-    query: &str,
-    want: &str,
-) -> Result<(), Fail> {
-    let mut output = Vec::new(alloc);
-    let outcome = ask(alloc, query.as_bytes(), &mut file.as_bytes(), &mut output);
-    let Err(fault) = outcome else {
-        panic!(rt; "answered, and not {want}")
-    };
-    assert_eq!(rt; fault.status(), Status::Refused, "{want}");
-    assert_eq!(rt; output.len(), 0, "{want}");
-    let told = format!(in alloc; "{fault}")?;
-    assert!(rt; told.as_str() == want, "{told}, and not {want}");
-    Ok(())
-}
-
-#[test]
-fn refuses(rt: HostRuntime) -> Result<(), Fail> {
-    for (file, query, want) in [
-        (TWO_NODES, "node(1)", "Q11 byte 7"),
-        (TWO_NODES, "node(-;", "Q2 byte 6"),
-        ("n1 x13.4", FIRST, "O9 line 1 byte 8"),
-        ("n1 x13.4 y52.5 x1", FIRST, "O4 line 1 byte 15"),
-        ("n1 Ta=%2 x1 y1", FIRST, "O7 line 1 byte 6"),
-        ("n1 Ta=1,a=2 x1 y1", FIRST, "O13 line 1 byte 3"),
-        ("n1 x180.0000001 y0", FIRST, "O13 line 1 byte 3"),
-        ("c5", FIRST, "O1 line 1 byte 0"),
-        ("n1  x1 y1", FIRST, "O3 line 1 byte 3"),
-        // The input is looked at before the query.
-        ("c5", "node(1)", "O1 line 1 byte 0"),
-    ] {
-        check_refused(&rt, rt.alloc(), file, query, want)?;
-    }
-    Ok(())
-}
-
 /// One byte a read: the read that fails is a device's fault, whichever it is, and nothing is written.
 #[test]
 fn readers_fail(rt: HostRuntime) -> Result<(), Fail> {
@@ -213,20 +171,7 @@ fn writers_stop(rt: HostRuntime) -> Result<(), Fail> {
     Ok(())
 }
 
-#[test]
-fn ends_with_the_status(rt: HostRuntime) {
-    for (fault, status, code) in [
-        (CommandFault::Memory, Status::Failed, 3),
-        (CommandFault::Device, Status::Failed, 3),
-    ] {
-        assert_eq!(rt; fault.status(), status);
-        assert_eq!(rt; status.code(), code);
-    }
-    assert_eq!(rt; Status::Refused.code(), 2);
-    assert_eq!(rt; Status::Done.code(), 0);
-}
-
-/// Want of memory, or the whole result: also where an allocation is refused (tests/system).
+/// Out of memory, or the whole result: also where an allocation is refused (tests/system).
 #[test]
 fn answers_within_memory(rt: HostRuntime) -> Result<(), Fail> {
     let alloc = rt.alloc();
@@ -238,7 +183,7 @@ fn answers_within_memory(rt: HostRuntime) -> Result<(), Fail> {
         &mut output,
     ) {
         Ok(()) => assert_eq!(rt; output.as_slice(), FIRST_ANSWER.as_bytes()),
-        // The output is a vector, so that want of memory for it is a device's fault.
+        // The output is a vector, so when it is out of memory that is a device's fault.
         Err(CommandFault::Memory | CommandFault::Device) => assert_eq!(rt; output.len(), 0),
         Err(fault) => panic!(rt; "{fault}"),
     }

@@ -55,20 +55,6 @@ fn publishes_roots(rt: HostRuntime) -> Result<(), Fail> {
 }
 
 #[test]
-fn refuses_to_publish_no_set(rt: HostRuntime) -> Result<(), Fail> {
-    let alloc = rt.alloc();
-    let mut output = Vec::new(alloc);
-    let Err(fault) = publish(alloc, &mut "n1 x1 y1\nn1 x1 y1\n".as_bytes(), &mut output) else {
-        panic!(rt; "published")
-    };
-    let told = format!(in alloc; "{fault}")?;
-    assert_eq!(rt; told.as_str(), "O13 line 2 byte 0");
-    assert_eq!(rt; fault.status(), Status::Refused);
-    assert_eq!(rt; output.len(), 0);
-    Ok(())
-}
-
-#[test]
 fn proves(rt: HostRuntime) -> Result<(), Fail> {
     let alloc = rt.alloc();
     let mut answer = Vec::new(alloc);
@@ -80,47 +66,6 @@ fn proves(rt: HostRuntime) -> Result<(), Fail> {
     assert_eq!(rt; answer.as_slice(), ANSWER.as_bytes());
     assert_eq!(rt; proof.as_slice(), PROOF.as_bytes());
     assert_eq!(rt; output.as_slice(), ROOT.as_bytes());
-    Ok(())
-}
-
-/// The command is refused with this line, and nothing is written.
-fn check_refused_proof(
-    rt: &impl Abort,
-    alloc: Global,
-    file: &str,
-    text: &str,
-    want: &str,
-) -> Result<(), Fail> {
-    let mut answer = Vec::new(alloc);
-    let mut proof = Vec::new(alloc);
-    let mut output = Vec::new(alloc);
-    let input = &mut file.as_bytes();
-    let query = &mut text.as_bytes();
-    let outcome = prove(alloc, input, query, &mut answer, &mut proof, &mut output);
-    let Err(fault) = outcome else {
-        panic!(rt; "proved, and not {want}")
-    };
-    let told = format!(in alloc; "{fault}")?;
-    assert!(rt; told.as_str() == want, "{told}, and not {want}");
-    assert_eq!(rt; fault.status(), Status::Refused, "{want}");
-    assert!(rt;
-        answer.is_empty() && proof.is_empty() && output.is_empty(),
-        "{want}"
-    );
-    Ok(())
-}
-
-/// The input is looked at before the query.
-#[test]
-fn refuses_to_prove(rt: HostRuntime) -> Result<(), Fail> {
-    for (file, text, want) in [
-        ("c5", "node(1)", "O1 line 1 byte 0"),
-        (TWO_NODES, "node(1)", "Q11 byte 7"),
-        (TWO_NODES, "", "Q11 byte 0"),
-        (TWO_NODES, "node(1);out;\n", "Q2 byte 12"),
-    ] {
-        check_refused_proof(&rt, rt.alloc(), file, text, want)?;
-    }
     Ok(())
 }
 
@@ -224,7 +169,7 @@ fn check_taken(rt: &impl Abort, writer: &NarrowWriter, text: &str, calls: Option
     }
 }
 
-/// Each writer of `prove` stops in turn: the texts before its own are whole, and those behind it untouched.
+/// Each writer of `prove` stops in turn: the texts before its own are whole, and those after it untouched.
 #[test]
 fn writers_of_prove_stop(rt: HostRuntime) -> Result<(), Fail> {
     let alloc = rt.alloc();
@@ -253,7 +198,7 @@ fn writers_of_prove_stop(rt: HostRuntime) -> Result<(), Fail> {
     Ok(())
 }
 
-/// Want of memory, or the whole result: also where an allocation is refused (tests/system).
+/// Out of memory, or the whole result: also where an allocation is refused (tests/system).
 #[test]
 fn files_within_memory(rt: HostRuntime) -> Result<(), Fail> {
     let alloc = rt.alloc();
@@ -261,7 +206,7 @@ fn files_within_memory(rt: HostRuntime) -> Result<(), Fail> {
     let mut output = Vec::new(alloc);
     let mut answer = Vec::new(alloc);
     let mut proof = Vec::new(alloc);
-    // The writers are vectors, so that want of memory for them is a device's fault.
+    // The writers are vectors, so when they are out of memory that is a device's fault.
     match publish(alloc, &mut TWO_NODES.as_bytes(), &mut output) {
         Ok(()) => assert_eq!(rt; output.as_slice(), ROOT.as_bytes()),
         Err(CommandFault::Memory | CommandFault::Device) => assert_eq!(rt; output.len(), 0),
