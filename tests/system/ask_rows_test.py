@@ -25,7 +25,14 @@ REFUSED = [
     (b"n1 Ta=1,a=2 x1 y1\n", "node(1);out;", b"O13 line 1 byte 3\n"),
     (b"n1 x180.0000001 y0\n", "node(1);out;", b"O13 line 1 byte 3\n"),
     (b"c5\n", "node(1);out;", b"O1 line 1 byte 0\n"),
+    (b"nx x1 y1\n", "node(1);out;", b"O2 line 1 byte 1\n"),
     (b"n1  x1 y1\n", "node(1);out;", b"O3 line 1 byte 3\n"),
+    (b"n1 xa y1\n", "node(1);out;", b"O6 line 1 byte 3\n"),
+    (b"n1 Ta=\xff x1 y1\n", "node(1);out;", b"O8 line 1 byte 6\n"),
+    (b"n1 x1 y1\nn1 x1 y1\n", "node(1);out;", b"O13 line 2 byte 0\n"),
+    (b"n" * (2**25 + 1), "node(1);out;", b"O12 line 1 byte 33554432\n"),
+    (TWO_NODES, "node(9223372036854775808);out;", b"Q6 byte 5\n"),
+    (TWO_NODES, "node(1);out;" + 65525 * " ", b"Q9 byte 65536\n"),
     # The line is counted from 1, and the objects are looked at before the query.
     (TWO_NODES + b"c5\n", "node(1);out;", b"O1 line 3 byte 0\n"),
     (b"c5\n", "node(1)", b"O1 line 1 byte 0\n"),
@@ -48,7 +55,7 @@ def main():
         tally.check(f"{stdin} {query}", outcome == Outcome(stdout, b"", 0), outcome)
     for stdin, query, stderr in REFUSED:
         outcome = run([PROGRAM, "ask", query], stdin)
-        tally.check(f"{stdin} {query}", outcome == Outcome(b"", stderr, 2), outcome)
+        tally.check(f"{stdin[:80]} {query[:80]}", outcome == Outcome(b"", stderr, 2), outcome)
     for words, beginning in NO_JOB:
         outcome = run([PROGRAM, *words], TWO_NODES)
         holds = outcome.stdout == b"" and outcome.status == 2 and outcome.stderr.startswith(beginning)

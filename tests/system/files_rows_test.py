@@ -77,6 +77,7 @@ def check_prove(tally, room):
         (TWO_NODES, b"node(1)", b"Q11 byte 7\n"),
         (TWO_NODES, b"", b"Q11 byte 0\n"),
         (TWO_NODES, b"node(1);out;\n", b"Q2 byte 12\n"),
+        (TWO_NODES, b"node(\xff);out;", b"Q1 byte 5\n"),
         (b"c5\n", b"node(1)", b"O1 line 1 byte 0\n"),
     ]:
         written(room, "answer", b"older")
@@ -118,6 +119,11 @@ def check_files_not_there(tally, room):
         outcome = run([PROGRAM, *words])
         tally.check(f"{words}", outcome == device, outcome)
         tally.check(f"{words}: nothing is made", not (Path(room) / "p").exists())
+    # An empty answer into a folder that isn't there: its file is still to be made.
+    nothing = written(room, "nothing", b"node(7);out;")
+    outcome = run([PROGRAM, "prove", there, nothing, Path(room) / "no" / "folder", Path(room) / "p"])
+    tally.check("an empty answer into no folder", outcome == device, outcome)
+    tally.check("an empty answer into no folder: nothing is made", not (Path(room) / "p").exists())
     # A set that isn't read is told before a query's file that isn't there.
     outcome = run([PROGRAM, "prove", written(room, "set.opl", b"c5"), not_there, "a", "p"])
     tally.check("prove: the set first", outcome == Outcome(b"", b"O1 line 1 byte 0\n", 2), outcome)

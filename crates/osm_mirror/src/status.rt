@@ -14,7 +14,7 @@ pub enum Status {
     No,
     /// The words, the input or the query are refused.
     Refused,
-    /// Want of memory, or a device that failed.
+    /// Out of memory, or a device failed.
     Failed,
 }
 
