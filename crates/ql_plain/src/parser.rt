@@ -1,6 +1,6 @@
 //! Queries, read from text.
 
-ghost use Rattle.std.specs.Prelude.{◌≡◌, ◌≢◌, ◌≤◌, ◌<◌, ◌+◌, ℕ, ℤ, FitsSigned, List, ◌++◌, length, take, slice_index, drop, false, IfOk, IfErr, IfSome, IfNone, IsTrue, ◌↔◌};
+ghost use Rattle.std.specs.Prelude.{◌≡◌, ◌≢◌, ◌≤◌, ◌<◌, ◌+◌, ℕ, ℤ, FitsSigned, List, ◌++◌, length, take, slice_index, false, IfOk, IfErr, IfSome, IfNone, IsTrue, ◌↔◌};
 ghost use Rattle.std.specs.Int.{w64};
 ghost use Rattle.std.specs.Str.Parse.{AllDigits};
 ghost use Rattle.osm_model.specs.Degrees.{BeginsOtherwise, sign};
@@ -9,6 +9,7 @@ ghost use Rattle.ql_plain.specs.Queries.{Reads, FaultOf, opening};
 
 use crate::fault::{QlCause, QlFault};
 use crate::query::Query;
+use osm_model::digits_len;
 use simdutf8::compat::from_utf8;
 
 /// The most bytes that a query has.
@@ -162,20 +163,6 @@ fn split_number(text: &[u8]) -> Number<'_>
         digits,
         rest,
     }
-}
-
-/// How many digits come first.
-fn digits_len(text: &[u8]) -> usize
-    ensures within { result ≤ length text.now }
-    ensures digits { AllDigits 10 (take result text.now) }
-    ensures stop { BeginsOtherwise (drop result text.now) }
-{
-    for (i, byte) in text.iter().enumerate() {
-        if !byte.is_ascii_digit() {
-            return i;
-        }
-    }
-    text.len()
 }
 
 /// How many bytes of the two texts agree, from the first on.
