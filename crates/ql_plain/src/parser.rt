@@ -7,6 +7,7 @@ ghost use Rattle.osm_model.specs.Degrees.{BeginsOtherwise, sign};
 ghost use Rattle.opl_codec.specs.Fields.{IsInteger};
 ghost use Rattle.ql_plain.specs.Queries.{Reads, FaultOf, opening};
 
+use crate::common_front::common_len;
 use crate::fault::{QlCause, QlFault};
 use crate::query::Query;
 use osm_model::digits_len;
@@ -163,21 +164,6 @@ fn split_number(text: &[u8]) -> Number<'_>
         digits,
         rest,
     }
-}
-
-/// How many bytes of the two texts agree, from the first on.
-fn common_len(text: &[u8], expected: &[u8]) -> usize
-    ensures within { result ≤ length text.now }
-    ensures fits { result ≤ length expected.now }
-    ensures same { take result text.now ≡ take result expected.now }
-    ensures differ { result < length text.now → result < length expected.now → slice_index text.now result ≢ slice_index expected.now result }
-{
-    for (i, wanted) in expected.iter().enumerate() {
-        if i == text.len() || text[i] != *wanted {
-            return i;
-        }
-    }
-    expected.len()
 }
 
 /// The whole number that a text without a leading `+` spells, where 64 bits with a sign hold it.
