@@ -94,8 +94,10 @@ impl Loader {
             ⊎ ((result.fault ≡ record { cause = OplCause.OutsideModel; byte = 0 }) × (¬ (HasDistinctReferences self.now.objects.items)))) }
         ensures finite { cause ≢ OplCause.Endless → result.fault.cause ≢ OplCause.Endless }
     {
+        if let OplCause::Memory = cause {
+            return LoadFault::memory();
+        }
         match self.repeat() {
-            _ if cause == OplCause::Memory => LoadFault::memory(),
             Ok(Some(line)) => LoadFault::at(line, OplCause::OutsideModel),
             Ok(None) => LoadFault::at(self.line, cause).behind(byte),
             Err(AllocError) => LoadFault::memory(),
