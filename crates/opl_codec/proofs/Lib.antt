@@ -1,4 +1,5 @@
 pub mod ReadPieces
+pub mod Cuts
 pub mod ReadFields
 pub mod ReadLiterals
 pub mod ReadIds

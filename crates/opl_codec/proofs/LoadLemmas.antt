@@ -18,7 +18,9 @@ use Rattle.opl_codec.specs.Files.{HoldsSet, spoken_of, IsOutside}
 use Rattle.opl_codec.specs.declared.cause.OplCause.{OplCause}
 use Rattle.opl_codec.specs.declared.cause.OplCause.TheVariants as causes
 use Rattle.opl_codec.specs.declared.fault.LoadFault.{LoadFault}
-use Rattle.opl_codec.specs.Loading.{Say, Loads, Ruins, IsHopeless, BeginsHopeless, Spoils}
+use Rattle.opl_codec.specs.Loading.{Say, Loads, Ruins, IsHopeless, BeginsHopeless, Spoils, cause_of}
+use Rattle.opl_codec.specs.declared.piece_reader.PieceFault.{PieceFault}
+use Rattle.opl_codec.specs.declared.piece_reader.PieceFault.TheVariants as faults
 use Rattle.opl_codec.proofs.PieceLemmas.{pieces_join}
 use Rattle.opl_codec.proofs.ReadPieces.{some_piece}
 use Rattle.opl_codec.proofs.EachLemmas.{each_same}
@@ -196,3 +198,14 @@ told_endless None rest front result read many = tt
 told_endless (Some file) None front result read many = absurd read
 told_endless (Some file) (Some left) front (Ok set) read many = tt
 told_endless (Some file) (Some left) front (Err fault) read many = λ same. omega (arith, ap length read, length-append front left)
+
+-- what is told where there is no next piece: it lies outside the file,
+pub outside_piece : (fault : PieceFault) → IsOutside (cause_of fault)
+outside_piece faults.Failed = inl refl
+outside_piece faults.Endless = inr (inl refl)
+
+-- and only after so many reads it is told as endless
+pub told_unread : (fault : PieceFault) (told : LoadFault) (known rest : Option (List ℕ)) (front : List ℕ) → Consumes known rest front → (fault ≡ faults.Endless → 2 ^ 32 ≤ length front)
+    → (cause_of fault ≢ causes.Endless → told.fault.cause ≢ causes.Endless) → (let result : Result (List Element) LoadFault = Err told in IfSome known (λ file. IfErr result (λ f. f.fault.cause ≡ causes.Endless → 2 ^ 32 ≤ length file)))
+told_unread faults.Failed told known rest front read many finite = told_otherwise known (Err told) (finite (λ same. cc))
+told_unread faults.Endless told known rest front read many finite = told_endless known rest front (Err told) read (many refl)

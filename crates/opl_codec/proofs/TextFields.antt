@@ -14,12 +14,12 @@ use Rattle.osm_model.specs.declared.meta.Meta.{Meta}
 use Rattle.osm_model.specs.declared.body.Body.{Body}
 use Rattle.osm_model.specs.declared.body.Body.TheVariants.{Node}
 use Rattle.osm_model.proofs.ReadBack.{reads_back}
-use Rattle.opl_codec.specs.Fields.{pieces}
+use Rattle.opl_codec.specs.Fields.{pieces, Lacks}
 use Rattle.opl_codec.specs.Lines.{SpellsFields, SpellsObject}
 use Rattle.opl_codec.specs.Plain.{IsPlain}
 use Rattle.opl_codec.specs.Text.{text_of}
 use Rattle.opl_codec.specs.declared.out_mode.OutMode.TheVariants as modes
-use Rattle.opl_codec.proofs.TextPieces.{Lacks, lacks_joined, pieces-join}
+use Rattle.opl_codec.proofs.TextPieces.{lacks_joined, pieces-join}
 use Rattle.opl_codec.proofs.TextNumbers.{signed_decimal_spells, integer_lacks, degrees_lack}
 use Rattle.opl_codec.proofs.TextTags.{tags_lack_blank, tags_lack_end, tags_spelled}
 

@@ -6,8 +6,8 @@ use Rattle.std.proofs.lemmas.Fmt.{decimal_is_IsNumeral}
 use Rattle.std.proofs.lemmas.Int.{ints}
 use Rattle.std.proofs.lemmas.Bool.Decides.{nat_tests}
 use Rattle.osm_model.specs.Degrees.{IsDegrees, IsDigits, IsFraction, sign, point}
-use Rattle.opl_codec.specs.Fields.{IsInteger}
-use Rattle.opl_codec.proofs.TextPieces.{Lacks, lacks_append, digits_lack}
+use Rattle.opl_codec.specs.Fields.{IsInteger, Lacks}
+use Rattle.opl_codec.proofs.TextPieces.{lacks_append, digits_lack}
 
 are_digits : (n : ℕ) → n < 2 ^ 64 → IsDigits (decimal n)
 are_digits n fits = let numeral = decimal_is_IsNumeral n fits in ((λ none. let long : 0 < length (decimal n) = numeral.0.0 in omega (arith, ap (λ x. length x) none)), numeral.0.1)

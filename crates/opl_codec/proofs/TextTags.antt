@@ -5,10 +5,10 @@ use Rattle.std.proofs.lemmas.List.Sorted.{IsPermutation-refl}
 use Rattle.std.proofs.lemmas.Bool.Decides.{nat_tests}
 use Rattle.osm_model.specs.CanonicalLine.{is_literal, escaped, tag_text}
 use Rattle.osm_model.specs.declared.tag.Tag.{Tag}
-use Rattle.opl_codec.specs.Fields.{Each, pieces}
+use Rattle.opl_codec.specs.Fields.{Each, pieces, Lacks}
 use Rattle.opl_codec.specs.Lines.{SpellsTag, SpellsTags, items}
 use Rattle.opl_codec.specs.Plain.{IsLiteral}
-use Rattle.opl_codec.proofs.TextPieces.{Lacks, lacks_append, lacks_joined, pieces-join}
+use Rattle.opl_codec.proofs.TextPieces.{lacks_append, lacks_joined, pieces-join}
 use Rattle.opl_codec.proofs.WriteText.{escaped-literal}
 
 -- a tag whose characters all stand for themselves

@@ -1,7 +1,8 @@
 -- How a line falls into fields, apart from how it is read.
 -- Source: Osmium's OPL manual: fields parted by blanks, in any order, each with a letter; the narrow
 -- separators are this project's.
-use Rattle.std.specs.Prelude.{◌≡◌, ℕ, ℤ, Bool, ◌==◌, if◌then◌else◌, List, [], ◌∷◌, ◌++◌, Option, Some, None, MatchOption, ⊤}
+use Rattle.std.specs.Prelude.{◌≡◌, ℕ, ℤ, Bool, false, ◌==◌, if◌then◌else◌, List, [], ◌∷◌, ◌++◌, Option, Some, None, MatchOption, ⊤}
+use Rattle.std.specs.List.{AllByRecursion}
 use Rattle.std.specs.Str.Parse.{digits_value}
 use Rattle.osm_model.specs.Degrees.{sign, with_sign, IsDigits}
 
@@ -14,6 +15,10 @@ onto_first byte (piece ∷ pieces) = (byte ∷ piece) ∷ pieces
 abbrev pub pieces : ℕ → List ℕ → List (List ℕ)
 pieces separator [] = [] ∷ []
 pieces separator (byte ∷ bytes) = if byte == separator then [] ∷ pieces separator bytes else onto_first byte (pieces separator bytes)
+
+-- the byte doesn't come in the text
+abbrev pub Lacks : ℕ → List ℕ → Type 0
+Lacks byte text = AllByRecursion (λ other. (other == byte) ≡ false) text
 
 -- the letter of a field, 0 where there is none
 abbrev pub letter_of : List ℕ → ℕ

@@ -7,3 +7,4 @@ pub mod Refusals
 pub mod Reading
 pub mod Text
 pub mod Plain
+pub mod PieceReads

@@ -6,6 +6,10 @@ use Rattle.osm_model.specs.Sets.{HasDistinctReferences}
 use Rattle.opl_codec.specs.Fields.{pieces, Each}
 use Rattle.opl_codec.specs.Lines.{SpellsObject}
 use Rattle.opl_codec.specs.Files.{HoldsSet, spoken_of}
+use Rattle.opl_codec.specs.declared.cause.OplCause.{OplCause}
+use Rattle.opl_codec.specs.declared.cause.OplCause.TheVariants as causes
+use Rattle.opl_codec.specs.declared.piece_reader.PieceFault.{PieceFault}
+use Rattle.opl_codec.specs.declared.piece_reader.PieceFault.TheVariants as faults
 
 -- what these lines say is these objects, in their order
 abbrev pub Say : List (List ℕ) → List Element → Type 0
@@ -38,3 +42,8 @@ pub record Ruins (lines : List (List ℕ)) (text : List ℕ) : Type 0 where
 -- no file that begins so holds a set
 abbrev pub Spoils : List ℕ → Type 0
 Spoils front = (more : List ℕ) (objects : List Element) → HoldsSet (front ++ more) objects → ⊥
+
+-- the cause that a reader without a next piece is told as
+abbrev pub cause_of : PieceFault → OplCause
+cause_of faults.Failed = causes.ReaderFailed
+cause_of faults.Endless = causes.Endless

@@ -13,9 +13,9 @@ ghost use Rattle.opl_codec.specs.declared.cause.OplCause.TheVariants as OplCause
 use crate::cause::OplCause;
 use crate::change::Change;
 use crate::fault::OplFault;
-use crate::fields::cut;
 use crate::id::read_id;
 use crate::seen::Seen;
+use crate::separator::cut;
 use osm_model::{Body, Coord, Meta, Object, Text};
 use simdutf8::compat::from_utf8;
 use std::alloc::Global;
@@ -104,15 +104,26 @@ fn read_fields(alloc: Global, line: &[u8]) -> Result<(i64, Seen), OplFault>
     ensures refused { IfErr result (λ fault. StandsAt line.now fault.cause fault.byte) }
     ensures memory { IfErr result (λ fault. fault.cause ≡ OplCause.Memory → HasId line.now) }
 {
-    let (first, mut left) = cut(line, b' ');
+    let (first, mut left) = first_field(line);
     let id = read_first(first)?;
     let mut seen = Seen::new(alloc);
     while let Some(rest) = left {
-        let (field, more) = cut(rest, b' ');
+        let (field, more) = first_field(rest);
         seen.take(alloc, field, line.len() - rest.len())?;
         left = more;
     }
     Ok((id, seen))
+}
+
+/// The first of the fields that blanks part, and what stands after its blank.
+fn first_field(text: &[u8]) -> (&[u8], Option<&[u8]>)
+    ensures { MatchOption result.1 (pieces 32 text.now ≡ result.0.now ∷ [])
+        (λ rest. (pieces 32 text.now ≡ result.0.now ∷ pieces 32 rest.now) × (length result.0.now + 1 + length rest.now ≡ length text.now)) }
+{
+    match cut(text, b' ') {
+        Some((field, rest)) => (field, Some(rest)),
+        None => (text, None),
+    }
 }
 
 /// The id of the first field.

@@ -3,19 +3,15 @@
 ghost use Rattle.std.specs.Prelude.{◌≡◌, ◌≤◌, ◌^◌, ℕ, IfErr, IfSome, IfOk, List, MatchResult, length};
 ghost use Rattle.osm_model.specs.Elements.{Element};
 ghost use Rattle.opl_codec.specs.Files.{HoldsSet, IsOutside};
+ghost use Rattle.opl_codec.specs.Loading.{cause_of};
 
 use crate::cause::OplCause;
 use crate::fault::LoadFault;
 use crate::loader::Loader;
+use crate::piece_reader::{PieceFault, PieceReader};
 use osm_model::ObjectSet;
 use std::alloc::Global;
 use std::io::Read;
-
-/// How many bytes a read asks for at most.
-const PIECE: usize = 65_536;
-
-/// How many reads are made of one file.
-const READS: u64 = 4_294_967_296;
 
 /// The set of the objects that a file holds, one a line (see `read_line`). Lines end with LF, which
 /// the last may lack; empty ones are skipped; objects come in any order, none twice. The reader ends
@@ -46,17 +42,27 @@ pub fn read_set<R: Read>(alloc: Global, reader: &mut R) -> Result<ObjectSet, Loa
         fault.fault.cause ≡ OplCause.Endless → 2 ^ 32 ≤ length file)) }
 {
     let mut loader = Loader::new(alloc);
-    let mut piece = [0u8; PIECE];
-    for _ in 0..READS {
-        let Ok(len) = reader.read(&mut piece) else {
-            return Err(loader.refusal(OplCause::ReaderFailed, 0));
+    let mut pieces = PieceReader::new();
+    loop {
+        let more = match pieces.read_next(reader) {
+            Ok(more) => more,
+            Err(fault) => return Err(loader.refusal(cause_of(fault), 0)),
         };
-        if len == 0 {
+        if !more {
             return loader.finish();
         }
-        loader.feed(&piece[..len])?;
+        loader.feed(pieces.last())?;
     }
-    Err(loader.refusal(OplCause::Endless, 0))
+}
+
+/// The cause that a reader without a next piece is told as.
+fn cause_of(fault: PieceFault) -> OplCause
+    ensures { result ≡ cause_of fault }
+{
+    match fault {
+        PieceFault::Failed => OplCause::ReaderFailed,
+        PieceFault::Endless => OplCause::Endless,
+    }
 }
 
 /// A law: a file holds one set at most (`HoldsSet` of `specs/Files.antt`).

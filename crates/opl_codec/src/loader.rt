@@ -3,7 +3,6 @@
 ghost use Rattle.std.specs.Prelude.{◌≡◌, ◌≢◌, ◌++◌, ◌∷◌, [], ◌⊎◌, ◌<◌, ◌≤◌, ◌+◌, ◌-◌, ◌^◌, min, List, ℕ, MatchOption, MatchResult, IfErr, OnOk, length};
 ghost use Rattle.osm_model.specs.Elements.{Element};
 ghost use Rattle.osm_model.specs.Sets.{HasDistinctReferences};
-ghost use Rattle.opl_codec.specs.Fields.{pieces};
 ghost use Rattle.opl_codec.specs.Files.{HoldsSet, IsOutside};
 ghost use Rattle.opl_codec.specs.Loading.{Say, Loads, Ruins, IsHopeless, BeginsHopeless};
 
@@ -12,7 +11,7 @@ use crate::change::Change;
 use crate::fault::LoadFault;
 use crate::line::{LONGEST_LINE, read_line};
 use crate::repeats::first_repeat;
-use memchr::memchr;
+use crate::separator::cut;
 use osm_model::{Object, ObjectSet, Ref};
 use std::alloc::{AllocError, Global};
 use std::mem;
@@ -61,7 +60,7 @@ impl Loader {
         ensures short { OnOk result (length self.new.pending.items ≤ 2 ^ 25) }
         ensures finite { IfErr result (λ fault. fault.fault.cause ≢ OplCause.Endless) }
     {
-        match split_line(piece) {
+        match cut(piece, b'\n') {
             None => self.keep(piece),
             Some((line, rest)) => {
                 self.end_line(line)?;
@@ -95,8 +94,10 @@ impl Loader {
             ⊎ ((result.fault ≡ record { cause = OplCause.OutsideModel; byte = 0 }) × (¬ (HasDistinctReferences self.now.objects.items)))) }
         ensures finite { cause ≢ OplCause.Endless → result.fault.cause ≢ OplCause.Endless }
     {
+        if let OplCause::Memory = cause {
+            return LoadFault::memory();
+        }
         match self.repeat() {
-            _ if cause == OplCause::Memory => LoadFault::memory(),
             Ok(Some(line)) => LoadFault::at(line, OplCause::OutsideModel),
             Ok(None) => LoadFault::at(self.line, cause).behind(byte),
             Err(AllocError) => LoadFault::memory(),
@@ -113,7 +114,7 @@ impl Loader {
         ensures finite { IfErr result (λ fault. fault.fault.cause ≢ OplCause.Endless) }
     {
         let mut left = text;
-        while let Some((line, rest)) = split_line(left) {
+        while let Some((line, rest)) = cut(left, b'\n') {
             self.take_line(line)?;
             left = rest;
         }
@@ -222,15 +223,4 @@ impl Loader {
         }
         first_repeat(self.alloc, &self.objects, &self.lines)
     }
-}
-
-/// The text before the first line end, and what stands behind it.
-fn split_line(text: &[u8]) -> Option<(&[u8], &[u8])>
-    ensures { MatchOption result (pieces 10 text.now ≡ text.now ∷ [])
-        (λ parts. (pieces 10 text.now ≡ parts.0.now ∷ pieces 10 parts.1.now) × (length parts.1.now < length text.now)) }
-{
-    let Some(at) = memchr(b'\n', text) else {
-        return None;
-    };
-    Some((&text[..at], &text[at + 1..]))
 }

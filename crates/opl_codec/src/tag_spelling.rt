@@ -1,13 +1,13 @@
 //! Tags as they are spelled.
 
-ghost use Rattle.std.specs.Prelude.{◌≡◌, ◌+◌, ◌<◌, ◌≤◌, ℕ, List, [], ◌∷◌, ◌++◌, length, take, drop, IfOk, IfErr, MatchOption, true, false, slice_index, IsTrue, ◌↔◌, ⊤};
-ghost use Rattle.osm_model.specs.CanonicalLine.{is_literal};
+ghost use Rattle.std.specs.Prelude.{◌≡◌, ◌+◌, ◌<◌, ◌≤◌, ℕ, List, [], ◌∷◌, ◌++◌, length, take, drop, IfOk, IfErr, MatchOption, slice_index, IsTrue, ◌↔◌, ⊤};
 ghost use Rattle.osm_model.specs.declared.tag.Tag.{Tag};
 ghost use Rattle.opl_codec.specs.Fields.{pieces, Each};
 ghost use Rattle.opl_codec.specs.Lines.{SpellsTag};
 ghost use Rattle.opl_codec.specs.Reading.{AreLiteral, BeginsNonliteral, Ends, IsUnspelled};
 
 use crate::misfit::Misfit;
+use osm_model::is_literal;
 
 /// The first tag of a text, as it is spelled there.
 #[derive(Clone, Copy)]
@@ -78,16 +78,9 @@ fn literal_len(text: &[u8]) -> usize
     ensures stop { BeginsNonliteral (drop result text.now) }
 {
     for (i, byte) in text.iter().enumerate() {
-        if !is_literal(*byte) {
+        if !is_literal(*byte as u32) {
             return i;
         }
     }
     text.len()
-}
-
-/// Whether the byte stands for itself: from `!` to `~`, without `%`, `,`, `=` and `@`.
-fn is_literal(byte: u8) -> bool
-    ensures { result ≡ is_literal byte }
-{
-    byte.is_ascii_graphic() && !matches!(byte, b'%' | b',' | b'=' | b'@')
 }

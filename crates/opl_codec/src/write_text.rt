@@ -1,11 +1,11 @@
 //! Texts, escaped.
 
-ghost use Rattle.std.specs.Prelude.{◌≡◌, ◌++◌, ◌%◌, ◌<◌, [], ◌∷◌, length, take, OnOk, OnErr};
+ghost use Rattle.std.specs.Prelude.{◌≡◌, ◌++◌, ◌%◌, [], ◌∷◌, length, take, OnOk, OnErr};
 ghost use Rattle.std.specs.Char.{digit_char};
 ghost use Rattle.std.specs.List.{list_all};
-ghost use Rattle.osm_model.specs.CanonicalLine.{is_literal, escaped, escaped_char, hex, hex_places};
+ghost use Rattle.osm_model.specs.CanonicalLine.{is_literal, escaped, escaped_char, hex};
 
-use osm_model::Text;
+use osm_model::{Text, hex_places, is_literal};
 use std::alloc::AllocError;
 
 /// Appends a text, each character as itself or as an escape.
@@ -37,7 +37,7 @@ fn append_character(character: char, out: &mut Vec<u8>) -> Result<(), AllocError
     ensures err { OnErr result (take (length out.old.items) out.new.items ≡ out.old.items) }
 {
     let code = character as u32;
-    if code < 0x80 && is_literal(code as u8) {
+    if is_literal(code) {
         out.push(code as u8)?;
     } else {
         out.push(b'%')?;
@@ -63,20 +63,6 @@ fn append_hexadecimal(code: u32, out: &mut Vec<u8>) -> Result<(), AllocError>
     out.extend_from_slice(&digits[6 - hex_places(code)..])
 }
 
-/// How many digits the escape of a code point has.
-fn hex_places(code: u32) -> usize
-    ensures value { result ≡ hex_places code }
-    ensures most { result < 7 }
-{
-    match code {
-        0..=0xff => 2,
-        0x100..=0xfff => 3,
-        0x1000..=0xffff => 4,
-        0x1_0000..=0xf_ffff => 5,
-        _ => 6,
-    }
-}
-
 /// The last hexadecimal digit of a number.
 fn hex_digit(number: u32) -> u8
     ensures { result ≡ digit_char (number % 16) }
@@ -92,12 +78,5 @@ fn hex_digit(number: u32) -> u8
 fn are_literal(bytes: &[u8]) -> bool
     ensures { result ≡ list_all is_literal bytes.now }
 {
-    bytes.iter().all(|byte| is_literal(*byte))
-}
-
-/// Whether a byte is a character that stands for itself.
-fn is_literal(byte: u8) -> bool
-    ensures { result ≡ is_literal byte }
-{
-    b'!' <= byte && byte <= b'~' && !(byte == b'%' || byte == b',' || byte == b'=' || byte == b'@')
+    bytes.iter().all(|byte| is_literal(u32::from(*byte)))
 }

@@ -2,8 +2,6 @@ pub mod Texts
 pub mod Sets
 pub mod Fronts
 pub mod Answers
-pub mod Differences
-pub mod LineEnds
 pub mod Lines
 pub mod TextsRead
 pub mod OneVerdict

@@ -1,17 +1,18 @@
 -- A canonical text of which a front was read, line by line.
 -- Source: this project.
-use Rattle.std.specs.Prelude.{◌≡◌, ℕ, false, ◌==◌, List, [], ◌∷◌, ◌++◌, Option, Some, None}
-use Rattle.std.specs.List.{AllByRecursion}
+use Rattle.std.specs.Prelude.{◌≡◌, ℕ, List, [], ◌∷◌, ◌++◌, Option, Some, None}
+use Rattle.osm_model.specs.Bytes.{line_feed}
 use Rattle.osm_model.specs.CanonicalLine.{canonical_line}
 use Rattle.osm_model.specs.Elements.{Element, reference}
 use Rattle.osm_model.specs.declared.reference.Ref.{Ref}
+use Rattle.opl_codec.specs.Fields.{Lacks}
 use Rattle.ql_plain.specs.Meaning.{meaning}
 use Rattle.ql_plain.specs.declared.query.Query.{Query}
 use Rattle.osm_check.specs.Roots.{IsPlainSet}
 
 -- the text has no LF
 abbrev pub HasNoEnd : List ℕ → Type 0
-HasNoEnd text = AllByRecursion (λ byte. (byte == 10) ≡ false) text
+HasNoEnd text = Lacks line_feed text
 
 -- the reference of the last object
 abbrev pub last_reference : List Element → Option Ref

@@ -5,11 +5,10 @@ ghost use Rattle.osm_model.specs.CanonicalLine.{canonical_line};
 ghost use Rattle.osm_model.specs.Elements.{Element, ref_cmp};
 ghost use Rattle.opl_codec.specs.Lines.{SpellsObject};
 ghost use Rattle.ql_plain.specs.Meaning.{meaning, passes};
-ghost use Rattle.osm_check.specs.Replays.{HasNoEnd, HasRead, IsNext};
+ghost use Rattle.osm_check.specs.Replays.{HasRead, IsNext};
 ghost use Rattle.osm_check.specs.Roots.{IsCanonical, IsProofOf};
 
-use memchr::memchr;
-use opl_codec::{Change, OplCause, OutMode, read_line, write_object};
+use opl_codec::{Change, OplCause, OutMode, cut, read_line, write_object};
 use osm_model::{Kind, Object, Ref};
 use ql_plain::Query;
 use std::alloc::{AllocError, Global};
@@ -27,7 +26,7 @@ pub fn read_answer(
 {
     let mut reader = ProofReader::new(alloc, *query);
     let mut left = proof;
-    while let Some((line, rest)) = split_line(left) {
+    while let Some((line, rest)) = cut(left, b'\n') {
         if !reader.take_line(line)? {
             return Ok(None);
         }
@@ -155,15 +154,4 @@ fn is_asked(query: &Query, object: &Object) -> bool
 {
     let name = object.reference();
     name.kind == Kind::Node && name.id == query.id
-}
-
-/// The text before the first line end, and what stands behind it.
-fn split_line(text: &[u8]) -> Option<(&[u8], &[u8])>
-    ensures { MatchOption result (HasNoEnd text.now)
-        (λ parts. (text.now ≡ parts.0.now ++ 10 ∷ parts.1.now) × HasNoEnd parts.0.now) }
-{
-    let Some(at) = memchr(b'\n', text) else {
-        return None;
-    };
-    Some((&text[..at], &text[at + 1..]))
 }

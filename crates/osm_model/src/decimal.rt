@@ -81,8 +81,8 @@ fn are_digits(text: &[u8]) -> bool
     }
 }
 
-/// How many digits come first.
-fn digits_len(text: &[u8]) -> usize
+/// How many decimal digits a text begins with, in ASCII. Linear in them; it takes no memory.
+pub fn digits_len(text: &[u8]) -> usize
     ensures within { result ≤ length text.now }
     ensures digits { AllDigits 10 (take result text.now) }
     ensures stop { BeginsOtherwise (drop result text.now) }

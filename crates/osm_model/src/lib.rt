@@ -14,6 +14,7 @@ mod decimal_order;
 mod degrees;
 mod degrees_text;
 mod edge;
+mod escape;
 mod fault;
 mod kind;
 mod line_length;
@@ -24,6 +25,7 @@ mod reference;
 mod stamp;
 mod tag;
 mod tag_list;
+mod tag_order;
 mod text;
 mod units;
 
@@ -31,9 +33,11 @@ pub use axis::Axis;
 pub use body::Body;
 pub use box_area::BoxArea;
 pub use coord::Coord;
+pub use decimal::digits_len;
 pub use degrees::{one_value, read_degrees};
 pub use degrees_text::{DegreesText, reads_back, write_degrees};
 pub use edge::{Edge, compares_as_degrees, one_decimal};
+pub use escape::{hex_places, is_literal};
 pub use fault::ModelFault;
 pub use kind::Kind;
 pub use meta::Meta;
@@ -43,6 +47,7 @@ pub use reference::Ref;
 pub use stamp::Stamp;
 pub use tag::Tag;
 pub use tag_list::TagList;
+pub use tag_order::{keys_rise, sort_tags};
 pub use text::Text;
 
 #[cfg(test)]

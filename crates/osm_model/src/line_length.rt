@@ -3,11 +3,12 @@
 ghost use Rattle.std.specs.Prelude.{◌≡◌, ◌≤◌, ◌+◌, ◌^◌, ◌-◌, ◌↔◌, ℕ, IsTrue, length, min, map};
 ghost use Rattle.std.specs.List.{join_with_byte};
 ghost use Rattle.std.specs.Fmt.{signed_decimal, decimal};
-ghost use Rattle.osm_model.specs.CanonicalLine.{canonical_line, escaped, escaped_char, is_literal, hex_places, tag_text};
+ghost use Rattle.osm_model.specs.CanonicalLine.{canonical_line, escaped, escaped_char, tag_text};
 ghost use Rattle.osm_model.specs.LineLength.{number_len, body_len, text_bytes};
 
 use crate::body::{Body, know_place};
 use crate::degrees_text::write_degrees;
+use crate::escape::{hex_places, is_literal};
 use crate::meta::{Meta, know_numbers};
 use crate::tag::Tag;
 use itoa::Buffer;
@@ -130,24 +131,10 @@ fn escaped_char_len(c: char) -> u64
     ensures value { result ≡ length (escaped_char c) }
     ensures small { result ≤ 8 }
 {
-    if is_literal(c) { 1 } else { 2 + hex_places(c) }
-}
-
-fn hex_places(c: char) -> u64
-    ensures value { result ≡ hex_places c }
-    ensures small { result ≤ 6 }
-{
-    match c as u32 {
-        0..=0xff => 2,
-        0x100..=0xfff => 3,
-        0x1000..=0xffff => 4,
-        0x1_0000..=0xf_ffff => 5,
-        _ => 6,
+    let code = c as u32;
+    if is_literal(code) {
+        1
+    } else {
+        2 + hex_places(code) as u64
     }
-}
-
-fn is_literal(c: char) -> bool
-    ensures { result ≡ is_literal c }
-{
-    '!' <= c && c <= '~' && !(c == '%' || c == ',' || c == '=' || c == '@')
 }

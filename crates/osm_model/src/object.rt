@@ -1,10 +1,6 @@
 //! Objects.
 
-ghost use Rattle.std.specs.Prelude.{◌≡◌, ◌≤◌, ◌↔◌, IsTrue, All, IfOk, IfErr, length};
-ghost use Rattle.std.specs.Ordering.{nat_cmp};
-ghost use Rattle.std.specs.List.Sorted.{IsPermutation, IsSortedByKey};
-ghost use Rattle.std.specs.List.{AllAdjacentBelow};
-ghost use Rattle.std.specs.Cmp.Lexicographic.{slice_cmp};
+ghost use Rattle.std.specs.Prelude.{◌≡◌, ◌≤◌, ◌↔◌, IsTrue, All, IfOk, IfErr};
 ghost use Rattle.osm_model.specs.Elements.{reference};
 ghost use Rattle.osm_model.specs.Limits.{IsShort, HasNoNul, Fits, IsClean, IsMadeOf, IsElement, Refuses};
 
@@ -16,7 +12,7 @@ use crate::meta::Meta;
 use crate::reference::Ref;
 use crate::tag::Tag;
 use crate::tag_list::TagList;
-use std::cmp::Ordering;
+use crate::tag_order::{keys_rise, sort_tags};
 use std::marker::Model;
 
 /// An object: its id, metadata, tags by rising key, and what is particular to its kind.
@@ -154,30 +150,4 @@ fn has_no_nul(text: &[u8]) -> bool
     ensures { IsTrue result ↔ HasNoNul text.now }
 {
     text.iter().all(|byte| *byte != 0)
-}
-
-/// Sorts tags by their keys.
-fn sort_tags(tags: &mut Vec<Tag>)
-    ensures permutation { IsPermutation tags.old.items tags.new.items }
-    ensures sorted { IsSortedByKey (λ tag. tag.key) (slice_cmp nat_cmp) tags.new.items }
-{
-    tags.sort_unstable_by(|first, second| compare_keys(first, second));
-}
-
-/// Whether each key is below the next.
-fn keys_rise(tags: &[Tag]) -> bool
-    ensures { IsTrue result ↔ AllAdjacentBelow (λ first second. slice_cmp nat_cmp first.key second.key ≡ Ordering.Less) tags.now (length tags.now) }
-{
-    for i in 1..tags.len() {
-        if !compare_keys(&tags[i - 1], &tags[i]).is_lt() {
-            return false;
-        }
-    }
-    true
-}
-
-fn compare_keys(first: &Tag, second: &Tag) -> Ordering
-    ensures { result ≡ slice_cmp nat_cmp first.now.key second.now.key }
-{
-    first.key.as_bytes().cmp(&second.key.as_bytes())
 }

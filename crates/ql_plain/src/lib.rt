@@ -5,11 +5,13 @@
 #![tactic(auto)]
 
 mod answer;
+mod common_front;
 mod fault;
 mod parser;
 mod query;
 
 pub use answer::answer_plain;
+pub use common_front::common_len;
 pub use fault::{QlCause, QlFault};
 pub use parser::{fault_place, never_both, one_fault, one_reading, parse};
 pub use query::Query;

@@ -1,14 +1,16 @@
 //! Queries, read from text.
 
-ghost use Rattle.std.specs.Prelude.{◌≡◌, ◌≢◌, ◌≤◌, ◌<◌, ◌+◌, ℕ, ℤ, FitsSigned, List, ◌++◌, length, take, slice_index, drop, false, IfOk, IfErr, IfSome, IfNone, IsTrue, ◌↔◌};
+ghost use Rattle.std.specs.Prelude.{◌≡◌, ◌≢◌, ◌≤◌, ◌<◌, ◌+◌, ℕ, ℤ, FitsSigned, List, ◌++◌, length, take, slice_index, false, IfOk, IfErr, IfSome, IfNone, IsTrue, ◌↔◌};
 ghost use Rattle.std.specs.Int.{w64};
 ghost use Rattle.std.specs.Str.Parse.{AllDigits};
 ghost use Rattle.osm_model.specs.Degrees.{BeginsOtherwise, sign};
 ghost use Rattle.opl_codec.specs.Fields.{IsInteger};
 ghost use Rattle.ql_plain.specs.Queries.{Reads, FaultOf, opening};
 
+use crate::common_front::common_len;
 use crate::fault::{QlCause, QlFault};
 use crate::query::Query;
+use osm_model::digits_len;
 use simdutf8::compat::from_utf8;
 
 /// The most bytes that a query has.
@@ -162,35 +164,6 @@ fn split_number(text: &[u8]) -> Number<'_>
         digits,
         rest,
     }
-}
-
-/// How many digits come first.
-fn digits_len(text: &[u8]) -> usize
-    ensures within { result ≤ length text.now }
-    ensures digits { AllDigits 10 (take result text.now) }
-    ensures stop { BeginsOtherwise (drop result text.now) }
-{
-    for (i, byte) in text.iter().enumerate() {
-        if !byte.is_ascii_digit() {
-            return i;
-        }
-    }
-    text.len()
-}
-
-/// How many bytes of the two texts agree, from the first on.
-fn common_len(text: &[u8], expected: &[u8]) -> usize
-    ensures within { result ≤ length text.now }
-    ensures fits { result ≤ length expected.now }
-    ensures same { take result text.now ≡ take result expected.now }
-    ensures differ { result < length text.now → result < length expected.now → slice_index text.now result ≢ slice_index expected.now result }
-{
-    for (i, wanted) in expected.iter().enumerate() {
-        if i == text.len() || text[i] != *wanted {
-            return i;
-        }
-    }
-    expected.len()
 }
 
 /// The whole number that a text without a leading `+` spells, where 64 bits with a sign hold it.

@@ -1,7 +1,6 @@
 //! Numbers.
 
-ghost use Rattle.std.specs.Prelude.{◌≡◌, ◌≤◌, ◌++◌, false, length, take, drop, IfOk, IfErr};
-ghost use Rattle.std.specs.Str.Parse.{AllDigits};
+ghost use Rattle.std.specs.Prelude.{◌≡◌, ◌++◌, false, IfOk, IfErr};
 ghost use Rattle.osm_model.specs.Degrees.{BeginsOtherwise, sign};
 ghost use Rattle.ql_syntax.specs.Words.{begins_with};
 ghost use Rattle.ql_syntax.specs.Numbers.{IsNoNumber, IsMisfit, is_minus};
@@ -9,6 +8,7 @@ ghost use Rattle.ql_syntax.specs.NumberParts.{IsNumberOf, IsFractionOf, IsLonePo
 
 use crate::cause::QlCause;
 use crate::stop::Stop;
+use osm_model::digits_len;
 
 /// The number at the front of a text, and what is left behind it.
 #[derive(Clone, Copy, Debug)]
@@ -119,18 +119,4 @@ pub fn misfit(place: &[u8]) -> Stop<'_>
     } else {
         Stop::at(QlCause::UnexpectedCharacter, place)
     }
-}
-
-/// How many digits come first.
-fn digits_len(text: &[u8]) -> usize
-    ensures within { result ≤ length text.now }
-    ensures digits { AllDigits 10 (take result text.now) }
-    ensures stop { BeginsOtherwise (drop result text.now) }
-{
-    for (i, byte) in text.iter().enumerate() {
-        if !byte.is_ascii_digit() {
-            return i;
-        }
-    }
-    text.len()
 }

@@ -14,7 +14,7 @@ returns-then-not-branch c =
     let read = c.loop-line.invariant.read in
     let own = subst (λ (q : Query). HasRead q read.0 c.loop-line.reader.last c.loop-line.reader.answer.items) (sym c.loop-line.invariant.query) read.1 in
     let none = rw c.if-not-branch.true at (c.in_ok-take_line.ensures.taken read.0 own) in
-    next_line c.args.proof.now c.in-Some.line.now c.loop-line.left.now c.in-Some.rest.now read.0 read.1.set read.2 c.in-Some.ensures.0 c.in-Some.ensures.1 none
+    next_line c.args.proof.now c.in-Some.line.now c.loop-line.left.now c.in-Some.rest.now read.0 read.1.set read.2 c.in-Some.ensures.parts.0 c.in-Some.ensures.parts.1 none
 
 pub loop-line-preserved : goal.loop-line-preserved
 loop-line-preserved c =
@@ -27,11 +27,11 @@ loop-line-preserved c =
       read = (
         all,
         subst (λ (q : Query). HasRead q all c.take_line.new.self.last c.take_line.new.self.answer.items) c.loop-line.invariant.query more.2,
-        text_more c.args.proof.now c.in-Some.line.now c.loop-line.left.now c.in-Some.rest.now read.0 more.0 read.2 c.in-Some.ensures.0 more.1.line_is,
+        text_more c.args.proof.now c.in-Some.line.now c.loop-line.left.now c.in-Some.rest.now read.0 more.0 read.2 c.in-Some.ensures.parts.0 more.1.line_is,
       );
     }
 
 pub returns-else-is_empty : goal.returns-else-is_empty
 returns-else-is_empty c =
     let read = c.loop-line.invariant.read in
-    no_part c.args.proof.now c.loop-line.left.now read.0 read.1.set read.2 c.in_default.ensures (λ e. let none = rw e at c.is_empty.ensures in let some = c.if-is_empty.false in cc)
+    no_part c.args.proof.now c.loop-line.left.now read.0 read.1.set read.2 c.in_default.ensures.parts (λ e. let none = rw e at c.is_empty.ensures in let some = c.if-is_empty.false in cc)

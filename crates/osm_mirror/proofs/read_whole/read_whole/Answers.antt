@@ -1,10 +1,8 @@
-use Rattle.std.proofs.Common.{◌<◌, length, arith}
 use Rattle.osm_mirror.proofs.FileLemmas.{whole}
 use Rattle.osm_mirror.proofs.read_whole.read_whole.Goals as goal
 
-pub returns-then-len-eq0-clause-read : goal.returns-then-len-eq0-clause-read
-returns-then-len-eq0-clause-read g c =
-    let b = c.in-Ok.ensures.bytes in
-    let nothing = rw c.if-len-eq0.true at b.0 in
-    let some : 0 < length c.read.new.buf = omega arith in
-    whole _ _ _ c.loop.bytes.items c.loop.invariant nothing (b.1 c.if-len-eq0.true some)
+pub returns-then-not-more-clause-read : goal.returns-then-not-more-clause-read
+returns-then-not-more-clause-read g c =
+    let end = rw c.if-not-more.true at c.in-Ok.ensures.more in
+    let nothing = rw end.0 at c.in-Ok.ensures.read in
+    whole _ _ _ c.loop-more.bytes.items c.loop-more.invariant.read nothing end.1

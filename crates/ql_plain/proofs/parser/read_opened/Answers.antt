@@ -11,7 +11,7 @@ returns-then-is_empty-clause-refused c =
     let p = c.split_number-number.ensures in
     let q = c.common_len-closed.ensures in
     let cut = cut_of c.args.text.now c.as_bytes.result.now c.split_number-number.result.digits.now c.split_number-number.result.rest.now c.split_number-number.result.negative c.common_len-closed.result
-    c.requires.short c.utf8.text c.requires.opened c.as_bytes.ensures.value p.parts p.digits p.rest p.plain q.within q.fits q.same q.differ in
+    c.requires.short c.utf8.text c.requires.opened c.as_bytes.ensures.value p.parts p.digits p.rest p.plain q.within_first q.within_second q.same q.differ in
     let s = c.stop.ensures in
     elim c.then-is_empty.branch [
       | then-is_empty-via-then-is_empty w ↦ without_digits _ _ _ _ _ cut c.stop.result (none_from_test _ c.is_empty.result c.is_empty.ensures w.if-is_empty.true) s.place s.end s.within
@@ -23,7 +23,7 @@ range-requires-clause-end_boundary c =
     let p = c.split_number-number.ensures in
     let q = c.common_len-closed.ensures in
     let cut = cut_of c.args.text.now c.as_bytes.result.now c.split_number-number.result.digits.now c.split_number-number.result.rest.now c.split_number-number.result.negative c.common_len-closed.result
-    c.requires.short c.utf8.text c.requires.opened c.as_bytes.ensures.value p.parts p.digits p.rest p.plain q.within q.fits q.same q.differ in
+    c.requires.short c.utf8.text c.requires.opened c.as_bytes.ensures.value p.parts p.digits p.rest p.plain q.within_first q.within_second q.same q.differ in
     let some = some_from_test c.split_number-number.result.digits.now c.is_empty.result c.is_empty.ensures c.if-is_empty.false in
     let closed : 0 < c.common_len-closed.result = omega arith in
     boundary _ _ _ _ _ cut some closed
@@ -33,7 +33,7 @@ id_of-requires c =
     let p = c.split_number-number.ensures in
     let q = c.common_len-closed.ensures in
     let cut = cut_of c.args.text.now c.as_bytes.result.now c.split_number-number.result.digits.now c.split_number-number.result.rest.now c.split_number-number.result.negative c.common_len-closed.result
-    c.requires.short c.utf8.text c.requires.opened c.as_bytes.ensures.value p.parts p.digits p.rest p.plain q.within q.fits q.same q.differ in
+    c.requires.short c.utf8.text c.requires.opened c.as_bytes.ensures.value p.parts p.digits p.rest p.plain q.within_first q.within_second q.same q.differ in
     let some = some_from_test c.split_number-number.result.digits.now c.is_empty.result c.is_empty.ensures c.if-is_empty.false in
     let closed : 0 < c.common_len-closed.result = omega arith in
     let number = c.range.ensures.value ∙ id_bytes _ _ _ _ _ cut in
@@ -44,7 +44,7 @@ returns-in_default-clause-refused c =
     let p = c.split_number-number.ensures in
     let q = c.common_len-closed.ensures in
     let cut = cut_of c.args.text.now c.as_bytes.result.now c.split_number-number.result.digits.now c.split_number-number.result.rest.now c.split_number-number.result.negative c.common_len-closed.result
-    c.requires.short c.utf8.text c.requires.opened c.as_bytes.ensures.value p.parts p.digits p.rest p.plain q.within q.fits q.same q.differ in
+    c.requires.short c.utf8.text c.requires.opened c.as_bytes.ensures.value p.parts p.digits p.rest p.plain q.within_first q.within_second q.same q.differ in
     let some = some_from_test c.split_number-number.result.digits.now c.is_empty.result c.is_empty.ensures c.if-is_empty.false in
     let closed : 0 < c.common_len-closed.result = omega arith in
     let number = c.range.ensures.value ∙ id_bytes _ _ _ _ _ cut in
@@ -55,7 +55,7 @@ returns-then-closed-clause-refused c =
     let p = c.split_number-number.ensures in
     let q = c.common_len-closed.ensures in
     let cut = cut_of c.args.text.now c.as_bytes.result.now c.split_number-number.result.digits.now c.split_number-number.result.rest.now c.split_number-number.result.negative c.common_len-closed.result
-    c.requires.short c.utf8.text c.requires.opened c.as_bytes.ensures.value p.parts p.digits p.rest p.plain q.within q.fits q.same q.differ in
+    c.requires.short c.utf8.text c.requires.opened c.as_bytes.ensures.value p.parts p.digits p.rest p.plain q.within_first q.within_second q.same q.differ in
     let some = some_from_test c.split_number-number.result.digits.now c.is_empty.result c.is_empty.ensures c.if-is_empty.false in
     let closed : 0 < c.common_len-closed.result = omega arith in
     let number = c.range.ensures.value ∙ id_bytes _ _ _ _ _ cut in
@@ -71,7 +71,7 @@ returns-clause-read c =
     let p = c.split_number-number.ensures in
     let q = c.common_len-closed.ensures in
     let cut = cut_of c.args.text.now c.as_bytes.result.now c.split_number-number.result.digits.now c.split_number-number.result.rest.now c.split_number-number.result.negative c.common_len-closed.result
-    c.requires.short c.utf8.text c.requires.opened c.as_bytes.ensures.value p.parts p.digits p.rest p.plain q.within q.fits q.same q.differ in
+    c.requires.short c.utf8.text c.requires.opened c.as_bytes.ensures.value p.parts p.digits p.rest p.plain q.within_first q.within_second q.same q.differ in
     let some = some_from_test c.split_number-number.result.digits.now c.is_empty.result c.is_empty.ensures c.if-is_empty.false in
     let closed : 0 < c.common_len-closed.result = omega arith in
     let number = c.range.ensures.value ∙ id_bytes _ _ _ _ _ cut in

@@ -1,0 +1,89 @@
+//! A reader's bytes, piece by piece.
+
+ghost use Rattle.std.specs.Prelude.{◌≡◌, ◌≤◌, ◌<◌, ◌+◌, ◌^◌, [], length, IfOk, IfErr, OnOk, MatchBool};
+ghost use Rattle.std.specs.Io.KnownBytes.{Consumes, IsAtEnd};
+
+use std::io::Read;
+use std::marker::Model;
+
+/// How many bytes a read asks for at most.
+const PIECE: usize = 65_536;
+
+/// How many reads are made of one reader.
+const READS: u64 = 4_294_967_296;
+
+/// Why there is no next piece.
+#[derive(Clone, Copy, Debug, PartialEq, Eq)]
+pub enum PieceFault {
+    /// The reader failed.
+    Failed,
+    /// 2^32 reads were made without an end.
+    Endless,
+}
+
+/// Reads the bytes of one reader in pieces of at most 65,536 bytes, and keeps the last piece. Contracts
+/// see how many reads were made, and the bytes of the last one.
+#[derive(Drop)]
+pub struct PieceReader {
+    buffer: [u8; PIECE],
+    /// How many bytes of the buffer are the last piece.
+    len: usize,
+    reads: u64,
+}
+
+impl Model for PieceReader {
+    ghost use Rattle.std.specs.Prelude.{◌≤◌, ◌^◌, take};
+    ghost use Rattle.opl_codec.specs.PieceReads.{PieceRead};
+
+    ghost Value = { PieceRead };
+
+    ghost view = { λ p. record { reads = p.reads; last = take p.len p.buffer } };
+
+    ghost invariant = { λ p. (p.len ≤ 65536) × (p.reads ≤ 2 ^ 32) };
+}
+
+impl PieceReader {
+    /// Nothing was read yet. It takes no memory.
+    pub fn new() -> PieceReader
+        ensures { result ≡ record { reads = 0; last = [] } }
+    {
+        PieceReader {
+            buffer: [0; PIECE],
+            len: 0,
+            reads: 0,
+        }
+    }
+
+    /// Reads the next piece, with one read of at most 65,536 bytes, and says whether there was one: the
+    /// reader ends where it gives no bytes. All calls are to have one reader.
+    ///
+    /// Refused with `Failed` where the read fails, and with `Endless` where 2^32 reads were made before;
+    /// then none is made.
+    pub fn read_next<R: Read>(&mut self, reader: &mut R) -> Result<bool, PieceFault>
+        // The piece is what the reader has next.
+        ensures read { OnOk result (Consumes (R.remaining reader.old) (R.remaining reader.new) self.new.last) }
+        // There is one, or the reader is at its end.
+        ensures more { IfOk result (λ more. MatchBool more (0 < length self.new.last) ((self.new.last ≡ []) × IsAtEnd (R.remaining reader.new))) }
+        ensures counted { OnOk result (self.new.reads ≡ self.old.reads + 1) }
+        ensures few { self.new.reads ≤ 2 ^ 32 }
+        // Only after 2^32 reads it is refused as endless.
+        ensures endless { IfErr result (λ fault. fault ≡ PieceFault.Endless → self.old.reads ≡ 2 ^ 32) }
+    {
+        if self.reads >= READS {
+            return Err(PieceFault::Endless);
+        }
+        let Ok(len) = reader.read(&mut self.buffer) else {
+            return Err(PieceFault::Failed);
+        };
+        self.len = len;
+        self.reads += 1;
+        Ok(len != 0)
+    }
+
+    /// The last piece; no bytes before the first.
+    pub fn last(&self) -> &[u8]
+        ensures { result.now ≡ self.now.last }
+    {
+        &self.buffer[..self.len]
+    }
+}
