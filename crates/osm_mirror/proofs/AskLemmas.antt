@@ -9,17 +9,17 @@ use Rattle.ql_plain.specs.Queries.{Reads}
 use Rattle.ql_plain.specs.declared.query.Query.{Query as QueryTree}
 use Rattle.osm_check.specs.declared.prove_fault.ProveFault.{ProveFault}
 use Rattle.osm_check.specs.declared.prove_fault.ProveFault.TheVariants as refusals
-use Rattle.osm_mirror.specs.Ask.{Explains, IsAnswer, IsOutside}
+use Rattle.osm_mirror.specs.Ask.{Explains, IsAnswer, IsEndless, IsOutside}
 use Rattle.osm_mirror.specs.Faults.{fault_of_cause, fault_of_load, fault_of_prove}
 use Rattle.osm_mirror.specs.declared.command_fault.CommandFault.{CommandFault}
 
 -- what the reader doesn't read is refused as it should be
 pub explained_cause : (file query : List ℕ) (load : LoadFault) (cause : OplCause) → load.fault.cause ≡ cause
-    → ((objects : List Element) → HoldsSet file objects → IsOutsideFile cause) → Explains file query (fault_of_cause load cause)
-explained_cause file query load causes.ReaderFailed is only = tt
-explained_cause file query load causes.Memory is only = tt
-explained_cause file query load causes.Endless is only = inl is
-explained_cause file query load _ is only =
+    → ((objects : List Element) → HoldsSet file objects → IsOutsideFile cause) → (cause ≡ causes.Endless → IsEndless file) → Explains file query (fault_of_cause load cause)
+explained_cause file query load causes.ReaderFailed is only long = tt
+explained_cause file query load causes.Memory is only long = tt
+explained_cause file query load causes.Endless is only long = inl (is, long refl)
+explained_cause file query load _ is only long =
     inr (λ objects holds. elim (only objects holds) [ inl failed ↦ cc | inr other ↦ elim other [ inl endless ↦ cc | inr memory ↦ cc ] ])
 
 -- a fault that lies outside the file lies outside of all that `ask` is given
@@ -33,11 +33,12 @@ outside_cause load _ is outside = elim outside [ inl failed ↦ cc | inr other �
 pub explained_unread : (known : Option (List ℕ)) (query : List ℕ) (load : LoadFault) (result : Result (Unit {0}) CommandFault)
     → IsErrAnd result (λ fault. fault ≡ fault_of_load load)
     → IfSome known (λ file. (objects : List Element) → HoldsSet file objects → IsOutsideFile load.fault.cause)
+    → IfSome known (λ file. load.fault.cause ≡ causes.Endless → IsEndless file)
     → IfSome known (λ file. IfErr result (Explains file query))
-explained_unread None query load result told only = tt
-explained_unread (Some file) query load (Ok done) told only = tt
-explained_unread (Some file) query load (Err fault) told only =
-    subst (Explains file query) (sym told) (explained_cause file query load load.fault.cause refl only)
+explained_unread None query load result told only long = tt
+explained_unread (Some file) query load (Ok done) told only long = tt
+explained_unread (Some file) query load (Err fault) told only long =
+    subst (Explains file query) (sym told) (explained_cause file query load load.fault.cause refl only long)
 
 -- a set that isn't read: where there is an answer, the fault lies outside
 pub outside_unread : (known : Option (List ℕ)) (query : List ℕ) (load : LoadFault) (result : Result (Unit {0}) CommandFault)

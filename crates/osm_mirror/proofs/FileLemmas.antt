@@ -10,11 +10,12 @@ use Rattle.ql_plain.specs.Queries.{Reads}
 use Rattle.ql_plain.specs.declared.query.Query.{Query as QueryTree}
 use Rattle.osm_check.specs.declared.prove_fault.ProveFault.{ProveFault}
 use Rattle.osm_check.specs.declared.prove_fault.ProveFault.TheVariants as refusals
-use Rattle.osm_mirror.specs.Ask.{Explains, IsOutside}
+use Rattle.osm_mirror.specs.Ask.{IsEndless, IsOutside}
 use Rattle.osm_mirror.specs.Faults.{fault_of_cause, fault_of_load, fault_of_prove}
-use Rattle.osm_mirror.specs.Files.{ExplainsFiles, ExplainsSet, IfBoth, IsOutsideFiles, IsProved}
+use Rattle.osm_mirror.specs.Files.{ExplainsFiles, ExplainsSet, IfBoth, IsOutsideFiles, IsProved, IsUnread}
 use Rattle.osm_mirror.specs.declared.command_fault.CommandFault.{CommandFault}
-use Rattle.osm_mirror.proofs.AskLemmas.{outside_cause, explained_cause as explained_file}
+use Rattle.osm_mirror.specs.declared.command_fault.CommandFault.TheVariants.{Opl, Query, Endless, Memory, Device}
+use Rattle.osm_mirror.proofs.AskLemmas.{outside_cause}
 
 -- where no byte is left, all bytes were read
 pub whole : (old mid new : Option (List ℕ)) (front : List ℕ) → Consumes old mid front → Consumes mid new [] → IsAtEnd new → IfSome old (λ left. front ≡ left)
@@ -33,21 +34,22 @@ outside_unheld (Some file) load (Ok done) told only = λ set holds. tt
 outside_unheld (Some file) load (Err fault) told only = λ set holds. subst IsOutside (sym told) (outside_cause load load.fault.cause refl (only set holds))
 
 explained_cause : (file : List ℕ) (load : LoadFault) (cause : OplCause) → load.fault.cause ≡ cause
-    → ((objects : List Element) → HoldsSet file objects → IsOutsideFile cause) → ExplainsSet file (fault_of_cause load cause)
-explained_cause file load causes.ReaderFailed is only = tt
-explained_cause file load causes.Memory is only = tt
-explained_cause file load causes.Endless is only = inl is
-explained_cause file load _ is only =
+    → ((objects : List Element) → HoldsSet file objects → IsOutsideFile cause) → (cause ≡ causes.Endless → IsEndless file) → ExplainsSet file (fault_of_cause load cause)
+explained_cause file load causes.ReaderFailed is only long = tt
+explained_cause file load causes.Memory is only long = tt
+explained_cause file load causes.Endless is only long = inl (is, long refl)
+explained_cause file load _ is only long =
     inr (λ objects holds. elim (only objects holds) [ inl failed ↦ cc | inr other ↦ elim other [ inl endless ↦ cc | inr memory ↦ cc ] ])
 
 -- and why it comes
 pub explained_unheld : (known : Option (List ℕ)) (load : LoadFault) (result : Result (Unit {0}) CommandFault)
     → IsErrAnd result (λ fault. fault ≡ fault_of_load load)
     → IfSome known (λ file. (objects : List Element) → HoldsSet file objects → IsOutsideFile load.fault.cause)
+    → IfSome known (λ file. load.fault.cause ≡ causes.Endless → IsEndless file)
     → IfSome known (λ file. IfErr result (ExplainsSet file))
-explained_unheld None load result told only = tt
-explained_unheld (Some file) load (Ok done) told only = tt
-explained_unheld (Some file) load (Err fault) told only = subst (ExplainsSet file) (sym told) (explained_cause file load load.fault.cause refl only)
+explained_unheld None load result told only long = tt
+explained_unheld (Some file) load (Ok done) told only long = tt
+explained_unheld (Some file) load (Err fault) told only long = subst (ExplainsSet file) (sym told) (explained_cause file load load.fault.cause refl only long)
 
 -- ---- `prove`
 
@@ -62,15 +64,44 @@ outside_unheld_files (Some file) (Some bytes) load (Ok done) told only = λ set 
 outside_unheld_files (Some file) (Some bytes) load (Err fault) told only = λ set text proved.
     inl (subst IsOutside (sym told) (outside_cause load load.fault.cause refl (only set proved.holds)))
 
+-- what explains a fault of `publish` explains it for `prove`
+of_set : (file bytes : List ℕ) (fault : CommandFault) → ExplainsSet file fault → ExplainsFiles file bytes fault
+of_set file bytes (Opl load) why = why
+of_set file bytes (Query refused) why = absurd why
+of_set file bytes Endless why = absurd why
+of_set file bytes Memory why = tt
+of_set file bytes Device why = tt
+
 pub explained_unheld_files : (first second : Option (List ℕ)) (load : LoadFault) (result : Result (Unit {0}) CommandFault)
     → IsErrAnd result (λ fault. fault ≡ fault_of_load load)
     → IfSome first (λ file. (objects : List Element) → HoldsSet file objects → IsOutsideFile load.fault.cause)
+    → IfSome first (λ file. load.fault.cause ≡ causes.Endless → IsEndless file)
     → IfBoth first second (λ file bytes. IfErr result (ExplainsFiles file bytes))
-explained_unheld_files None second load result told only = tt
-explained_unheld_files (Some file) None load result told only = tt
-explained_unheld_files (Some file) (Some bytes) load (Ok done) told only = tt
-explained_unheld_files (Some file) (Some bytes) load (Err fault) told only =
-    inl (subst (Explains file bytes) (sym told) (explained_file file bytes load load.fault.cause refl only))
+explained_unheld_files None second load result told only long = tt
+explained_unheld_files (Some file) None load result told only long = tt
+explained_unheld_files (Some file) (Some bytes) load (Ok done) told only long = tt
+explained_unheld_files (Some file) (Some bytes) load (Err fault) told only long =
+    of_set file bytes fault (subst (ExplainsSet file) (sym told) (explained_cause file load load.fault.cause refl only long))
+
+-- a query that isn't read
+explained_query : (file bytes : List ℕ) (fault : CommandFault) → IsUnread fault → (fault ≡ Endless → IsEndless bytes) → ExplainsFiles file bytes fault
+explained_query file bytes fault unread long =
+    elim unread [
+      | inl endless ↦ subst (ExplainsFiles file bytes) (sym endless) (long endless)
+      | inr other ↦ elim other [
+        | inl memory ↦ subst (ExplainsFiles file bytes) (sym memory) tt
+        | inr device ↦ subst (ExplainsFiles file bytes) (sym device) tt
+      ]
+    ]
+
+pub explained_unread_query : (first second : Option (List ℕ)) (told : CommandFault) (result : Result (Unit {0}) CommandFault)
+    → IsErrAnd result (λ fault. fault ≡ told) → IsUnread told → IfSome second (λ left. told ≡ Endless → IsEndless left)
+    → IfBoth first second (λ file bytes. IfErr result (ExplainsFiles file bytes))
+explained_unread_query None second told result is unread long = tt
+explained_unread_query (Some file) None told result is unread long = tt
+explained_unread_query (Some file) (Some bytes) told (Ok done) is unread long = tt
+explained_unread_query (Some file) (Some bytes) told (Err fault) is unread long =
+    subst (ExplainsFiles file bytes) (sym is) (explained_query file bytes told unread long)
 
 -- an answer that isn't made: where the query reads, the fault lies outside
 pub outside_unproved_files : (first second : Option (List ℕ)) (read : List ℕ) (refusal : ProveFault) (result : Result (Unit {0}) CommandFault)

@@ -1,10 +1,11 @@
 -- What the command `ask` answers, and when it answers nothing.
 -- Source: this project.
-use Rattle.std.specs.Prelude.{◌≡◌, ℕ, ◌⊎◌, List, Option, ⊤}
+use Rattle.std.specs.Prelude.{◌≡◌, ℕ, ◌≤◌, ◌^◌, ◌⊎◌, List, Option, length, ⊤}
 use Rattle.std.specs.Io.KnownBytes.{Keeps}
 use Rattle.osm_model.specs.Elements.{Element}
 use Rattle.opl_codec.specs.Files.{HoldsSet}
 use Rattle.opl_codec.specs.declared.cause.OplCause.TheVariants as causes
+use Rattle.opl_codec.specs.declared.fault.LoadFault.{LoadFault}
 use Rattle.ql_plain.specs.Queries.{Reads, FaultOf}
 use Rattle.ql_plain.specs.Meaning.{meaning}
 use Rattle.ql_plain.specs.declared.query.Query.{Query as QueryTree}
@@ -20,9 +21,17 @@ pub record IsAnswer (file query text : List ℕ) : Type 0 where
   pub reads : Reads query tree
   pub text_is : text ≡ meaning tree set
 
+-- the bytes are so many that a reader of them may be told to have no end
+abbrev pub IsEndless : List ℕ → Type 0
+IsEndless bytes = 2 ^ 32 ≤ length bytes
+
+-- the file holds no set, or it was read too often without an end
+abbrev pub IsUnheld : List ℕ → LoadFault → Type 0
+IsUnheld file load = ((load.fault.cause ≡ causes.Endless) × IsEndless file) ⊎ ((set : List Element) → HoldsSet file set → ⊥)
+
 -- why each fault comes: the input is looked at before the query
 abbrev pub Explains : List ℕ → List ℕ → CommandFault → Type 0
-Explains file query (Opl load) = (load.fault.cause ≡ causes.Endless) ⊎ ((set : List Element) → HoldsSet file set → ⊥)
+Explains file query (Opl load) = IsUnheld file load
 Explains file query (Query refused) = ((set : List Element) × HoldsSet file set) × FaultOf query refused
 Explains file query Endless = ⊥
 Explains file query Memory = ⊤

@@ -4,11 +4,10 @@ use Rattle.std.specs.Prelude.{◌≡◌, ℕ, ◌⊎◌, List, Option, Some, Non
 use Rattle.std.specs.Io.KnownBytes.{Keeps}
 use Rattle.osm_model.specs.Elements.{Element}
 use Rattle.opl_codec.specs.Files.{HoldsSet}
-use Rattle.opl_codec.specs.declared.cause.OplCause.TheVariants as causes
 use Rattle.osm_check.specs.Roots.{proof_text}
 use Rattle.osm_check.specs.Verdicts.{IsAnswer as IsRightAnswer, IsVerdict}
 use Rattle.osm_check.specs.declared.verdict.Verdict.{Verdict}
-use Rattle.osm_mirror.specs.Ask.{Explains, IsOutside}
+use Rattle.osm_mirror.specs.Ask.{Explains, IsEndless, IsOutside, IsUnheld}
 use Rattle.osm_mirror.specs.declared.command_fault.CommandFault.{CommandFault}
 use Rattle.osm_mirror.specs.declared.command_fault.CommandFault.TheVariants.{Opl, Query, Endless, Memory, Device}
 use Rattle.osm_mirror.specs.RootLines.{root_line, verdict_line}
@@ -29,7 +28,7 @@ IfThree (Some a) second third P = IfBoth second third (P a)
 
 -- why each fault of `publish` comes: the input holds no set, or the fault lies outside it
 abbrev pub ExplainsSet : List ℕ → CommandFault → Type 0
-ExplainsSet file (Opl load) = (load.fault.cause ≡ causes.Endless) ⊎ ((set : List Element) → HoldsSet file set → ⊥)
+ExplainsSet file (Opl load) = IsUnheld file load
 ExplainsSet file (Query refused) = ⊥
 ExplainsSet file Endless = ⊥
 ExplainsSet file Memory = ⊤
@@ -52,7 +51,11 @@ IsOutsideFiles fault = IsOutside fault ⊎ (fault ≡ Endless)
 
 -- why each fault of `prove` comes
 abbrev pub ExplainsFiles : List ℕ → List ℕ → CommandFault → Type 0
-ExplainsFiles file query fault = Explains file query fault ⊎ (fault ≡ Endless)
+ExplainsFiles file query (Opl load) = IsUnheld file load
+ExplainsFiles file query (Query refused) = Explains file query (Query refused)
+ExplainsFiles file query Endless = IsEndless query
+ExplainsFiles file query Memory = ⊤
+ExplainsFiles file query Device = ⊤
 
 -- the three writers have gained nothing, or, in this order, the answer, its proof and the root's line, as far as it went
 abbrev pub IsBegunProof : (file query : List ℕ) (answer proof root : Output) → Type 0
@@ -66,6 +69,10 @@ IsBegunProof file query answer proof root =
 -- the fault lies outside the three files' bytes
 abbrev pub IsUnread : CommandFault → Type 0
 IsUnread fault = (fault ≡ Endless) ⊎ ((fault ≡ Memory) ⊎ (fault ≡ Device))
+
+-- a file is told to have no end only where one of the three is so long
+abbrev pub ExplainsThree : List ℕ → List ℕ → List ℕ → CommandFault → Type 0
+ExplainsThree query answer proof fault = fault ≡ Endless → IsEndless query ⊎ (IsEndless answer ⊎ IsEndless proof)
 
 -- the output has gained nothing, or a beginning of the verdict's line
 abbrev pub IsBegunVerdict : (query root answer proof : List ℕ) (old new : Option (List ℕ)) → Type 0

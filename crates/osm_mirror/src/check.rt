@@ -3,7 +3,7 @@
 ghost use Rattle.std.specs.Prelude.{◌≡◌, ◌≢◌, IfErr, IfOk};
 ghost use Rattle.std.specs.Io.KnownBytes.{Appends, Keeps};
 ghost use Rattle.osm_check.specs.Verdicts.{IsVerdict};
-ghost use Rattle.osm_mirror.specs.Files.{IfThree, IsBegunVerdict, IsUnread};
+ghost use Rattle.osm_mirror.specs.Files.{ExplainsThree, IfThree, IsBegunVerdict, IsUnread};
 ghost use Rattle.osm_mirror.specs.RootLines.{verdict_line};
 
 use crate::command_fault::CommandFault;
@@ -38,6 +38,9 @@ pub fn check<Q: Read, A: Read, P: Read, W: Write>(
         × Appends (W.contents output.old) (W.contents output.new) (verdict_line verdict)) }
     // It is refused only out of memory, for a device, or for a file without an end.
     ensures refused { IfErr result IsUnread }
+    // Only a file of 2^32 bytes or more is told to have no end.
+    ensures endless { IfThree (Q.remaining query.old) (A.remaining answer.old) (P.remaining proof.old)
+        (λ query_bytes answer_bytes proof_bytes. IfErr result (ExplainsThree query_bytes answer_bytes proof_bytes)) }
     // Nothing is written but where a device fails,
     ensures nothing { IfErr result (λ fault. fault ≢ CommandFault.Device
         → Keeps (W.contents output.old) (W.contents output.new)) }

@@ -12,7 +12,7 @@ returns-in_err-set-clause-only g c =
 
 pub returns-in_err-set-clause-refused : goal.returns-in_err-set-clause-refused
 returns-in_err-set-clause-refused g c =
-    explained_unread (g.R.Read.remaining c.args.input.now) c.args.query.now c.in_err-set.field-0.0 c.from_residual.result c.from_residual.ensures.1 c.in_err-set.ensures.only
+    explained_unread (g.R.Read.remaining c.args.input.now) c.args.query.now c.in_err-set.field-0.0 c.from_residual.result c.from_residual.ensures.1 c.in_err-set.ensures.only c.in_err-set.ensures.endless
 
 pub returns-in_err-proved-clause-only : goal.returns-in_err-proved-clause-only
 returns-in_err-proved-clause-only g c =
