@@ -1,9 +1,8 @@
+pub mod shared
 pub mod ReadPieces
 pub mod Cuts
 pub mod ReadFields
-pub mod ReadLiterals
-pub mod ReadIds
-pub mod ReadLocations
+pub mod ReadCoordinates
 pub mod ReadTags
 pub mod ReadLetters
 pub mod ReadSeen
@@ -11,10 +10,8 @@ pub mod ReadLines
 pub mod ReadObject
 pub mod ReadOrder
 pub mod ReadLaw
-pub mod ReadPlain
 pub mod PieceLemmas
 pub mod EachLemmas
-pub mod SayLemmas
 pub mod LoadLemmas
 pub mod WriteSteps
 pub mod WriteTags
@@ -22,4 +19,3 @@ pub mod WriteText
 pub mod TextPieces
 pub mod TextNumbers
 pub mod TextTags
-pub mod TextFields

@@ -1,4 +1,4 @@
--- Files that are loaded, ruined, or hold no set.
+-- Files that are loaded, holds_no_set, or hold no set.
 use Rattle.std.proofs.Common.{◌≡◌, ◌≢◌, ◌⊎◌, inl, inr, ℕ, ◌<◌, ◌≤◌, ◌^◌, length, length-append, arith, List, [], ◌∷◌, ◌++◌, refl, sym, ◌∙◌, ap, subst, append_assoc, append-nil, Option, Some, None, Result, Ok, Err, IfErr, IfOk, IfSome, MatchResult}
 use Rattle.std.specs.Io.KnownBytes.{Consumes, IsAtEnd}
 use Rattle.std.proofs.lemmas.Result.{MatchResult-weaker}
@@ -9,22 +9,22 @@ use Rattle.std.proofs.lemmas.List.Sorted.{IsPermutation-map, IsPermutation-sym}
 use Rattle.std.proofs.lemmas.Map.Keys.{IsDistinct-IsPermutation, IsDistinct-from_sorted}
 use Rattle.osm_model.specs.Elements.{Element, reference, references, ref_cmp}
 use Rattle.osm_model.specs.Sets.{HasDistinctReferences}
-use Rattle.osm_model.proofs.References.{refs_total}
-use Rattle.osm_model.proofs.UniqueTags.{same_order}
+use Rattle.osm_model.proofs.shared.References.{refs_total}
+use Rattle.osm_model.proofs.shared.UniqueTags.{same_order}
 use Rattle.opl_codec.specs.Fields.{pieces}
 use Rattle.opl_codec.specs.Lines.{SpellsObject}
 use Rattle.opl_codec.specs.Faults.{StandsAt}
-use Rattle.opl_codec.specs.Files.{HoldsSet, spoken_of, IsOutside}
+use Rattle.opl_codec.specs.Files.{HoldsSet, spoken_of, IsReaderOrMemory}
 use Rattle.opl_codec.specs.declared.cause.OplCause.{OplCause}
 use Rattle.opl_codec.specs.declared.cause.OplCause.TheVariants as causes
 use Rattle.opl_codec.specs.declared.fault.LoadFault.{LoadFault}
-use Rattle.opl_codec.specs.Loading.{Say, Loads, Ruins, IsHopeless, BeginsHopeless, Spoils, cause_of}
+use Rattle.opl_codec.specs.internal.Loading.{Say, Loads, LoadsNoSet, SayNoSet, BeginsNoSet, HoldsNoSet, cause_of}
 use Rattle.opl_codec.specs.declared.piece_reader.PieceFault.{PieceFault}
 use Rattle.opl_codec.specs.declared.piece_reader.PieceFault.TheVariants as faults
 use Rattle.opl_codec.proofs.PieceLemmas.{pieces_join}
 use Rattle.opl_codec.proofs.ReadPieces.{some_piece}
 use Rattle.opl_codec.proofs.EachLemmas.{each_same}
-use Rattle.opl_codec.proofs.SayLemmas.{hopeless_more, no_object, repeated, one_object}
+use Rattle.opl_codec.proofs.shared.SayLemmas.{none_said_more, no_object, repeated, one_object}
 
 -- the last of some
 split_last : (ps : List (List ℕ)) → ps ≢ [] → (front : List (List ℕ)) × (last : List ℕ) × (ps ≡ front ++ last ∷ [])
@@ -37,15 +37,15 @@ sum_map f g (inl a) = inl (f a)
 sum_map f g (inr b) = inr (g b)
 
 -- where lines leave no hope, none comes with a further one
-hopeless_on : (lines more : List (List ℕ)) (line : List ℕ) → IsHopeless lines → BeginsHopeless (lines ++ more) line
-hopeless_on lines more line h rest = hopeless_more (lines ++ more) ((line ++ rest) ∷ []) (hopeless_more lines more h)
+none_said_on : (lines more : List (List ℕ)) (line : List ℕ) → SayNoSet lines → BeginsNoSet (lines ++ more) line
+none_said_on lines more line h rest = none_said_more (lines ++ more) ((line ++ rest) ∷ []) (none_said_more lines more h)
 
 -- nor where it goes on no further
-pub hopeless_so : (lines : List (List ℕ)) (line : List ℕ) → BeginsHopeless lines line → IsHopeless (lines ++ line ∷ [])
-hopeless_so lines line h = subst (λ l. IsHopeless (lines ++ l ∷ [])) (append-nil line) (h [])
+pub none_said_so : (lines : List (List ℕ)) (line : List ℕ) → BeginsNoSet lines line → SayNoSet (lines ++ line ∷ [])
+none_said_so lines line h = subst (λ l. SayNoSet (lines ++ l ∷ [])) (append-nil line) (h [])
 
 -- a line that is too long says no object, however it goes on
-too_long : (lines : List (List ℕ)) (line : List ℕ) (objects : List Element) → 2 ^ 25 < length line → Say lines objects → BeginsHopeless lines line
+too_long : (lines : List (List ℕ)) (line : List ℕ) (objects : List Element) → 2 ^ 25 < length line → Say lines objects → BeginsNoSet lines line
 too_long lines line objects long say more =
     no_object lines (line ++ more) objects
     (λ none. omega (arith, ap length none, length-append line more))
@@ -53,23 +53,23 @@ too_long lines line objects long say more =
     say
 
 -- what the loader tells of a line that is too long before it ends
-pub told_too_long : (cause told : OplCause) (line : List ℕ) (objects : List Element) → 2 ^ 25 < length line → (told ≡ cause) ⊎ (IsOutside told ⊎ (HasDistinctReferences objects → ⊥))
-    → IsOutside told ⊎ ((lines : List (List ℕ)) → Say lines objects → BeginsHopeless lines line)
+pub told_too_long : (cause told : OplCause) (line : List ℕ) (objects : List Element) → 2 ^ 25 < length line → (told ≡ cause) ⊎ (IsReaderOrMemory told ⊎ (HasDistinctReferences objects → ⊥))
+    → IsReaderOrMemory told ⊎ ((lines : List (List ℕ)) → Say lines objects → BeginsNoSet lines line)
 told_too_long cause told line objects long (inl same) = inr (λ lines say. too_long lines line objects long say)
 told_too_long cause told line objects long (inr (inl outside)) = inl outside
-told_too_long cause told line objects long (inr (inr twice)) = inr (λ lines say more. hopeless_more lines ((line ++ more) ∷ []) (repeated lines objects twice say))
+told_too_long cause told line objects long (inr (inr twice)) = inr (λ lines say more. none_said_more lines ((line ++ more) ∷ []) (repeated lines objects twice say))
 
 -- the same of the text in which the line begins
-pub ruins_long : (lines before : List (List ℕ)) (line text : List ℕ) (objects : List Element) → pieces 10 text ≡ before ++ line ∷ [] → Say (lines ++ before) objects → ((ls : List (List ℕ)) → Say ls objects → BeginsHopeless ls line) → Ruins lines text
-ruins_long lines before line text objects cut say long = record { ended = before; pending = line; cut = cut; hopeless = long (lines ++ before) say }
+pub no_set_long : (lines before : List (List ℕ)) (line text : List ℕ) (objects : List Element) → pieces 10 text ≡ before ++ line ∷ [] → Say (lines ++ before) objects → ((ls : List (List ℕ)) → Say ls objects → BeginsNoSet ls line) → LoadsNoSet lines text
+no_set_long lines before line text objects cut say long = record { ended = before; pending = line; cut = cut; none_said = long (lines ++ before) say }
 
 -- the pieces of a text and of one that goes on without a line end
 pub cut_on : (front piece pending : List ℕ) (ended : List (List ℕ)) → pieces 10 front ≡ ended ++ pending ∷ [] → pieces 10 piece ≡ piece ∷ [] → pieces 10 (front ++ piece) ≡ ended ++ (pending ++ piece) ∷ []
 cut_on front piece pending ended here cut = pieces_join 10 front piece ended pending piece [] here cut
 
 -- a line that leaves no hope ruins the text in which it ends
-pub ruins_at : (lines before : List (List ℕ)) (line rest text : List ℕ) → pieces 10 text ≡ before ++ line ∷ pieces 10 rest → IsHopeless ((lines ++ before) ++ line ∷ []) → Ruins lines text
-ruins_at lines before line rest text cut hopeless =
+pub no_set_at : (lines before : List (List ℕ)) (line rest text : List ℕ) → pieces 10 text ≡ before ++ line ∷ pieces 10 rest → SayNoSet ((lines ++ before) ++ line ∷ []) → LoadsNoSet lines text
+no_set_at lines before line rest text cut none_said =
     let last = split_last (pieces 10 rest) (some_piece 10 rest) in
     let again : (lines ++ before) ++ line ∷ last.0 ≡ lines ++ (before ++ line ∷ last.0) = append_assoc lines before (line ∷ last.0) in
     let more : ((lines ++ before) ++ line ∷ []) ++ last.0 ≡ (lines ++ before) ++ line ∷ last.0 = append_assoc (lines ++ before) (line ∷ []) last.0 in
@@ -77,7 +77,7 @@ ruins_at lines before line rest text cut hopeless =
       ended = before ++ line ∷ last.0;
       pending = last.1;
       cut = cut ∙ ap (λ ps. before ++ line ∷ ps) last.2 ∙ sym (append_assoc before (line ∷ last.0) (last.1 ∷ []));
-      hopeless = subst (λ ls. BeginsHopeless ls last.1) (more ∙ again) (hopeless_on ((lines ++ before) ++ line ∷ []) last.0 last.1 hopeless);
+      none_said = subst (λ ls. BeginsNoSet ls last.1) (more ∙ again) (none_said_on ((lines ++ before) ++ line ∷ []) last.0 last.1 none_said);
     }
 
 -- what a set's file says has no reference twice
@@ -87,24 +87,24 @@ distinct_written file objects h =
     IsDistinct-IsPermutation (eq_by_cmp ref_cmp) ((eq_by_cmp_equiv refs_total).symm) (references objects) (references h.written) back (IsDistinct-from_sorted ref_cmp (references objects) h.set.rising)
 
 -- a file of such lines holds no set
-pub no_set : (file : List ℕ) (lines : List (List ℕ)) → pieces 10 file ≡ lines → IsHopeless lines → (objects : List Element) → HoldsSet file objects → ⊥
-no_set file lines cut hopeless objects h =
-    hopeless [] h.written (subst (λ ls. Say ls h.written) (cut ∙ sym (append-nil lines)) h.each) (distinct_written file objects h)
+pub no_set : (file : List ℕ) (lines : List (List ℕ)) → pieces 10 file ≡ lines → SayNoSet lines → (objects : List Element) → HoldsSet file objects → ⊥
+no_set file lines cut none_said objects h =
+    none_said [] h.written (subst (λ ls. Say ls h.written) (cut ∙ sym (append-nil lines)) h.each) (distinct_written file objects h)
 
 -- nor does any file that goes on
-pub ruined : (front : List ℕ) → Ruins [] front → Spoils front
-ruined front r more objects h = split (pieces 10 more) refl (some_piece 10 more)
+pub holds_no_set : (front : List ℕ) → LoadsNoSet [] front → HoldsNoSet front
+holds_no_set front r more objects h = split (pieces 10 more) refl (some_piece 10 more)
   where
     split : (ps : List (List ℕ)) → pieces 10 more ≡ ps → ps ≢ [] → ⊥
     split [] e some = some refl
     split (q ∷ qs) e some =
         let whole = pieces_join 10 front more r.ended r.pending q qs r.cut e in
         let again : (r.ended ++ (r.pending ++ q) ∷ []) ++ qs ≡ r.ended ++ (r.pending ++ q) ∷ qs = append_assoc r.ended ((r.pending ++ q) ∷ []) qs in
-        no_set (front ++ more) (r.ended ++ (r.pending ++ q) ∷ qs) whole (subst IsHopeless again (hopeless_more (r.ended ++ (r.pending ++ q) ∷ []) qs (r.hopeless q))) objects h
+        no_set (front ++ more) (r.ended ++ (r.pending ++ q) ∷ qs) whole (subst SayNoSet again (none_said_more (r.ended ++ (r.pending ++ q) ∷ []) qs (r.none_said q))) objects h
 
--- objects that were loaded and repeat a reference ruin the file
-pub repeats_ruin : (front : List ℕ) (objects : List Element) (pending : List ℕ) → Loads [] front objects pending → (HasDistinctReferences objects → ⊥) → Ruins [] front
-repeats_ruin front objects pending l twice = record { ended = l.ended; pending = pending; cut = l.cut; hopeless = λ more. hopeless_more l.ended ((pending ++ more) ∷ []) (repeated l.ended objects twice l.say) }
+-- objects that were loaded and repeat a reference none the file
+pub repeats_hold_no_set : (front : List ℕ) (objects : List Element) (pending : List ℕ) → Loads [] front objects pending → (HasDistinctReferences objects → ⊥) → LoadsNoSet [] front
+repeats_hold_no_set front objects pending l twice = record { ended = l.ended; pending = pending; cut = l.cut; none_said = λ more. none_said_more l.ended ((pending ++ more) ∷ []) (repeated l.ended objects twice l.say) }
 
 -- a loaded file, and lines behind it
 pub loads_more : (front piece line rest : List ℕ) (objects more : List Element) (pending left : List ℕ) (l : Loads [] front objects pending) → pieces 10 piece ≡ line ∷ pieces 10 rest
@@ -115,13 +115,13 @@ loads_more front piece line rest objects more pending left l cut next = record {
   say = subst (λ ls. Say ls more) (append_assoc l.ended ((pending ++ line) ∷ []) next.ended) next.say;
 }
 
-pub ruins_more : (front piece line rest : List ℕ) (objects : List Element) (pending : List ℕ) (l : Loads [] front objects pending) → pieces 10 piece ≡ line ∷ pieces 10 rest
-    → Ruins (l.ended ++ (pending ++ line) ∷ []) rest → Ruins [] (front ++ piece)
-ruins_more front piece line rest objects pending l cut next = record {
+pub no_set_more : (front piece line rest : List ℕ) (objects : List Element) (pending : List ℕ) (l : Loads [] front objects pending) → pieces 10 piece ≡ line ∷ pieces 10 rest
+    → LoadsNoSet (l.ended ++ (pending ++ line) ∷ []) rest → LoadsNoSet [] (front ++ piece)
+no_set_more front piece line rest objects pending l cut next = record {
   ended = l.ended ++ (pending ++ line) ∷ next.ended;
   pending = next.pending;
   cut = pieces_join 10 front piece l.ended pending line (pieces 10 rest) l.cut cut ∙ ap (λ ps. l.ended ++ (pending ++ line) ∷ ps) next.cut ∙ sym (append_assoc l.ended ((pending ++ line) ∷ next.ended) (next.pending ∷ []));
-  hopeless = subst (λ ls. BeginsHopeless ls next.pending) (append_assoc l.ended ((pending ++ line) ∷ []) next.ended) next.hopeless;
+  none_said = subst (λ ls. BeginsNoSet ls next.pending) (append_assoc l.ended ((pending ++ line) ∷ []) next.ended) next.none_said;
 }
 
 -- a loaded file that goes on without a line end
@@ -149,27 +149,27 @@ all_read (Some file) None new front h k end = absurd h
 all_read (Some file) (Some rest) None front h k end = absurd k
 all_read (Some file) (Some rest) (Some left) front h k end = h ∙ ap (λ r. front ++ r) (k ∙ end) ∙ append-nil front
 
--- what is told of a ruined file whose front was read
-pub told_of_ruin : (old new : Option (List ℕ)) (front : List ℕ) (told : OplCause) → Consumes old new front → IsOutside told ⊎ Ruins [] front → IfSome old (λ file. (objects : List Element) → HoldsSet file objects → IsOutside told)
-told_of_ruin None new front told h k = tt
-told_of_ruin (Some file) None front told h k = absurd h
-told_of_ruin (Some file) (Some rest) front told h (inl outside) = λ objects holds. outside
-told_of_ruin (Some file) (Some rest) front told h (inr ruin) = λ objects holds. absurd (ruined front ruin rest objects (subst (λ f. HoldsSet f objects) h holds))
+-- what is told of a holds_no_set file whose front was read
+pub told_of_no_set : (old new : Option (List ℕ)) (front : List ℕ) (told : OplCause) → Consumes old new front → IsReaderOrMemory told ⊎ LoadsNoSet [] front → IfSome old (λ file. (objects : List Element) → HoldsSet file objects → IsReaderOrMemory told)
+told_of_no_set None new front told h k = tt
+told_of_no_set (Some file) None front told h k = absurd h
+told_of_no_set (Some file) (Some rest) front told h (inl outside) = λ objects holds. outside
+told_of_no_set (Some file) (Some rest) front told h (inr none) = λ objects holds. absurd (holds_no_set front none rest objects (subst (λ f. HoldsSet f objects) h holds))
 
 -- what the loader tells of a cause outside the file
-pub told_outside : (front : List ℕ) (objects : List Element) (pending : List ℕ) (cause told : OplCause) → Loads [] front objects pending → IsOutside cause → (told ≡ cause) ⊎ (IsOutside told ⊎ (HasDistinctReferences objects → ⊥)) → IsOutside told ⊎ Ruins [] front
-told_outside front objects pending cause told l outside (inl same) = inl (subst IsOutside (sym same) outside)
+pub told_outside : (front : List ℕ) (objects : List Element) (pending : List ℕ) (cause told : OplCause) → Loads [] front objects pending → IsReaderOrMemory cause → (told ≡ cause) ⊎ (IsReaderOrMemory told ⊎ (HasDistinctReferences objects → ⊥)) → IsReaderOrMemory told ⊎ LoadsNoSet [] front
+told_outside front objects pending cause told l outside (inl same) = inl (subst IsReaderOrMemory (sym same) outside)
 told_outside front objects pending cause told l outside (inr (inl it)) = inl it
-told_outside front objects pending cause told l outside (inr (inr twice)) = inr (repeats_ruin front objects pending l twice)
+told_outside front objects pending cause told l outside (inr (inr twice)) = inr (repeats_hold_no_set front objects pending l twice)
 
 -- the set of a file that was read whole
-pub told_at_end : (old : Option (List ℕ)) (front : List ℕ) (r : Result (List Element) LoadFault) → IfSome old (λ file. file ≡ front) → MatchResult r (λ set. HoldsSet front set) (λ fault. IsOutside fault.fault.cause ⊎ ((objects : List Element) → HoldsSet front objects → ⊥))
-    → IfSome old (λ file. (objects : List Element) → HoldsSet file objects → MatchResult r (λ set. set ≡ objects) (λ fault. IsOutside fault.fault.cause))
+pub told_at_end : (old : Option (List ℕ)) (front : List ℕ) (r : Result (List Element) LoadFault) → IfSome old (λ file. file ≡ front) → MatchResult r (λ set. HoldsSet front set) (λ fault. IsReaderOrMemory fault.fault.cause ⊎ ((objects : List Element) → HoldsSet front objects → ⊥))
+    → IfSome old (λ file. (objects : List Element) → HoldsSet file objects → MatchResult r (λ set. set ≡ objects) (λ fault. IsReaderOrMemory fault.fault.cause))
 told_at_end old front r all done = if_some_map old all (λ file is objects holds.
     let here : HoldsSet front objects = subst (λ f. HoldsSet f objects) is holds in
     MatchResult-weaker r done (λ set got. one_set front set objects got here) (λ fault told. outside_of told objects here))
   where
-    outside_of : {cause : OplCause} → IsOutside cause ⊎ ((objects : List Element) → HoldsSet front objects → ⊥) → (objects : List Element) → HoldsSet front objects → IsOutside cause
+    outside_of : {cause : OplCause} → IsReaderOrMemory cause ⊎ ((objects : List Element) → HoldsSet front objects → ⊥) → (objects : List Element) → HoldsSet front objects → IsReaderOrMemory cause
     outside_of (inl outside) objects h = outside
     outside_of (inr none) objects h = absurd (none objects h)
 
@@ -200,7 +200,7 @@ told_endless (Some file) (Some left) front (Ok set) read many = tt
 told_endless (Some file) (Some left) front (Err fault) read many = λ same. omega (arith, ap length read, length-append front left)
 
 -- what is told where there is no next piece: it lies outside the file,
-pub outside_piece : (fault : PieceFault) → IsOutside (cause_of fault)
+pub outside_piece : (fault : PieceFault) → IsReaderOrMemory (cause_of fault)
 outside_piece faults.Failed = inl refl
 outside_piece faults.Endless = inr (inl refl)
 

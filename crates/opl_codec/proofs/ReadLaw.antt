@@ -24,11 +24,11 @@ use Rattle.osm_model.specs.declared.tag.Tag.{Tag}
 use Rattle.osm_model.specs.declared.meta.Meta.{Meta}
 use Rattle.osm_model.specs.declared.body.Body.{Body}
 use Rattle.osm_model.specs.declared.body.Body.TheVariants.{Node}
-use Rattle.osm_model.proofs.OneDecimal.{one_value}
+use Rattle.osm_model.proofs.shared.OneDecimal.{one_value}
 use Rattle.opl_codec.specs.Fields.{pieces, field, letter_of, IsOnce, IsInteger, Each}
 use Rattle.opl_codec.specs.Lines.{SpellsTag, SpellsTags, SpellsMeta, SpellsBody, SpellsFields, SpellsObject, Spells, IsSkipped, items, is_node_letter}
 use Rattle.opl_codec.specs.Faults.{behind, id_text_of, FieldAt, StandsAt, HasBadTags, HasForm, IsMissing}
-use Rattle.opl_codec.specs.Reading.{code, AreLiteral}
+use Rattle.opl_codec.specs.internal.Reading.{code, AreLiteral}
 use Rattle.opl_codec.specs.declared.change.Change.{Change}
 use Rattle.opl_codec.specs.declared.change.Change.TheVariants as changes
 use Rattle.opl_codec.specs.declared.cause.OplCause.{OplCause}
@@ -38,9 +38,9 @@ use Rattle.opl_codec.specs.declared.letter.Letter.{Letter}
 use Rattle.opl_codec.specs.declared.letter.Letter.TheVariants.{Version, Visible, Changeset, Stamp, Uid, User, Tags, Lon, Lat}
 use Rattle.opl_codec.proofs.ReadPieces.{pieces_all, piece_at, head_letter, equal_from}
 use Rattle.opl_codec.proofs.ReadFields.{Known, known_at, twice, only_field, each_from_places}
-use Rattle.opl_codec.proofs.ReadLiterals.{FitsTags, tags_fit, all_weaker, all_append, all_places, ascii_from, same_literals}
+use Rattle.opl_codec.proofs.shared.ReadLiterals.{FitsTags, tags_fit, all_weaker, all_append, all_places, ascii_from, same_literals}
 use Rattle.opl_codec.proofs.ReadLetters.{FormOf, form_to, same_code}
-use Rattle.opl_codec.proofs.ReadIds.{one_integer}
+use Rattle.opl_codec.proofs.shared.ReadIds.{one_integer}
 use Rattle.opl_codec.proofs.ReadOrder.{one_order}
 
 -- ---- one object

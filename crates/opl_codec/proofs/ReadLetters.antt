@@ -7,11 +7,11 @@ use Rattle.osm_model.specs.declared.tag.Tag.{Tag}
 use Rattle.opl_codec.specs.Fields.{Each}
 use Rattle.opl_codec.specs.Lines.{SpellsTag, items, is_node_letter}
 use Rattle.opl_codec.specs.Faults.{HasForm}
-use Rattle.opl_codec.specs.Reading.{code, place_of, only_text, IsMisfit, IsBadLocation, IsBadTags}
+use Rattle.opl_codec.specs.internal.Reading.{code, place_of, only_text, IsFieldFault, IsBadCoordinate, IsBadTags}
 use Rattle.opl_codec.specs.declared.letter.Letter.{Letter}
 use Rattle.opl_codec.specs.declared.letter.Letter.TheVariants.{Version, Visible, Changeset, Stamp, Uid, User, Tags, Lon, Lat}
-use Rattle.opl_codec.specs.declared.misfit.Misfit.{Misfit}
-use Rattle.opl_codec.specs.declared.misfit.Misfit.TheVariants as misfits
+use Rattle.opl_codec.specs.declared.field_fault.FieldFault.{FieldFault}
+use Rattle.opl_codec.specs.declared.field_fault.FieldFault.TheVariants as field_faults
 use Rattle.opl_codec.proofs.ReadPieces.{equal_from}
 
 by_code : ℕ → Letter
@@ -136,23 +136,23 @@ form_to Lat text h = inr (inr (inr (inr (inr (inr (inr (inr refl, h)))))))
 no_location : (text : List ℕ) → text ≢ [] → ((z : ℤ) → IsDegrees text z → ⊥) → (text ≡ []) ⊎ ((z : ℤ) × IsDegrees text z) → ⊥
 no_location text some none h = elim h [ inl e ↦ some e | inr d ↦ none d.0 d.1 ]
 
-pub lon_misfit : (text : List ℕ) (misfit : Misfit) → IsBadLocation axes.Lon text misfit → IsMisfit Lon text misfit
-lon_misfit text misfits.Value h = λ form. no_location text h.0 h.1 (form_from Lon text form)
-lon_misfit text (misfits.Escape at) h = absurd h
-lon_misfit text misfits.Model h = inl (inl (refl, h))
-lon_misfit text misfits.Memory h = absurd h
+pub lon_misfit : (text : List ℕ) (field_fault : FieldFault) → IsBadCoordinate axes.Lon text field_fault → IsFieldFault Lon text field_fault
+lon_misfit text field_faults.Value h = λ form. no_location text h.0 h.1 (form_from Lon text form)
+lon_misfit text (field_faults.Escape at) h = absurd h
+lon_misfit text field_faults.Model h = inl (inl (refl, h))
+lon_misfit text field_faults.Memory h = absurd h
 
-pub lat_misfit : (text : List ℕ) (misfit : Misfit) → IsBadLocation axes.Lat text misfit → IsMisfit Lat text misfit
-lat_misfit text misfits.Value h = λ form. no_location text h.0 h.1 (form_from Lat text form)
-lat_misfit text (misfits.Escape at) h = absurd h
-lat_misfit text misfits.Model h = inl (inr (refl, h))
-lat_misfit text misfits.Memory h = absurd h
+pub lat_misfit : (text : List ℕ) (field_fault : FieldFault) → IsBadCoordinate axes.Lat text field_fault → IsFieldFault Lat text field_fault
+lat_misfit text field_faults.Value h = λ form. no_location text h.0 h.1 (form_from Lat text form)
+lat_misfit text (field_faults.Escape at) h = absurd h
+lat_misfit text field_faults.Model h = inl (inr (refl, h))
+lat_misfit text field_faults.Memory h = absurd h
 
-pub tags_misfit : (text : List ℕ) (misfit : Misfit) → IsBadTags text (items text) misfit → IsMisfit Tags text misfit
-tags_misfit text misfits.Value h = λ form. let tags = form_from Tags text form in h tags.0 tags.1
-tags_misfit text (misfits.Escape at) h = (refl, h.0, h.1)
-tags_misfit text misfits.Model h = inr (refl, h)
-tags_misfit text misfits.Memory h = (refl, h)
+pub tags_misfit : (text : List ℕ) (field_fault : FieldFault) → IsBadTags text (items text) field_fault → IsFieldFault Tags text field_fault
+tags_misfit text field_faults.Value h = λ form. let tags = form_from Tags text form in h tags.0 tags.1
+tags_misfit text (field_faults.Escape at) h = (refl, h.0, h.1)
+tags_misfit text field_faults.Model h = inr (refl, h)
+tags_misfit text field_faults.Memory h = (refl, h)
 
 -- a letter without values of its own
 abbrev pub IsPlain : Letter → Type 0

@@ -20,11 +20,11 @@ use Rattle.osm_model.specs.declared.fault.ModelFault.TheVariants.{EmptyNumber, N
 use Rattle.opl_codec.specs.Fields.{field, Each, IsInteger}
 use Rattle.opl_codec.specs.Lines.{SpellsTag, SpellsTags, SpellsMeta, SpellsBody, SpellsFields, items}
 use Rattle.opl_codec.specs.Faults.{StandsAt}
-use Rattle.opl_codec.specs.Reading.{AreLiteral, IsLocation, KeepsLimits, Reads, IsRead}
+use Rattle.opl_codec.specs.internal.Reading.{AreLiteral, IsCoordinate, KeepsLimits, Reads, IsRead}
 use Rattle.opl_codec.specs.declared.cause.OplCause.TheVariants as causes
-use Rattle.opl_codec.specs.declared.seen.Seen.{Seen}
+use Rattle.opl_codec.specs.declared.fields_seen.FieldsSeen.{FieldsSeen}
 use Rattle.opl_codec.specs.declared.letter.Letter.TheVariants as letters
-use Rattle.opl_codec.proofs.ReadLiterals.{all_places, all_weaker, literal_some}
+use Rattle.opl_codec.proofs.shared.ReadLiterals.{all_places, all_weaker, literal_some}
 
 -- ---- what is known by default
 pub record IsDefault (meta : Meta) : Type 0 where
@@ -38,7 +38,7 @@ given_fixed : {D : Type 0} (found : Option (List ℕ)) (text : List ℕ) → D �
 given_fixed None text d h = d
 given_fixed (Some t) text d h = (h, d)
 
-meta_read : (rest : List (List ℕ)) (seen : Seen) (meta : Meta) → Reads rest seen → IsDefault meta → SpellsMeta rest meta
+meta_read : (rest : List (List ℕ)) (seen : FieldsSeen) (meta : Meta) → Reads rest seen → IsDefault meta → SpellsMeta rest meta
 meta_read rest seen meta h d = record {
   version = given_fixed (field 118 rest) (48 ∷ []) d.version (h.fixed letters.Version (48 ∷ []) refl);
   visible = given_fixed (field 100 rest) (86 ∷ []) tt (h.fixed letters.Visible (86 ∷ []) refl);
@@ -48,12 +48,12 @@ meta_read rest seen meta h d = record {
   user = given_fixed (field 117 rest) [] d.user (h.fixed letters.User [] refl);
 }
 
-given_location : (axis : Axis) (found : Option (List ℕ)) (seen : Option ℤ) (z : ℤ) → seen ≡ Some z → MatchOption found (seen ≡ None) (λ spelled. IsLocation axis spelled seen) → MatchOption found ⊥ (λ spelled. IsDegrees spelled z)
+given_location : (axis : Axis) (found : Option (List ℕ)) (seen : Option ℤ) (z : ℤ) → seen ≡ Some z → MatchOption found (seen ≡ None) (λ spelled. IsCoordinate axis spelled seen) → MatchOption found ⊥ (λ spelled. IsDegrees spelled z)
 given_location axis None seen z e h = let n : Some z ≡ None = sym e ∙ h in cc
-given_location axis (Some t) seen z e h = (subst (IsLocation axis t) e h).0
+given_location axis (Some t) seen z e h = (subst (IsCoordinate axis t) e h).0
 
 -- the fields say these parts
-pub fields_read : (line : List ℕ) (id : ℤ) (seen : Seen) (meta : Meta) (place : Place) → IsRead line id seen → IsDefault meta → seen.lon ≡ Some place.lon → seen.lat ≡ Some place.lat
+pub fields_read : (line : List ℕ) (id : ℤ) (seen : FieldsSeen) (meta : Meta) (place : Place) → IsRead line id seen → IsDefault meta → seen.lon ≡ Some place.lon → seen.lat ≡ Some place.lat
     → SpellsFields line (record { id = id; meta = meta; tags = seen.tags.items; body = Node place })
 fields_read line id seen meta place h d lon lat = record {
   id_text = h.id_text;
@@ -109,10 +109,10 @@ tags_clean None tags h = λ k d lt. absurd (omega (arith, ap (λ (t : List Tag).
 tags_clean (Some t) tags h = All-permutation (λ (tag : Tag). HasNoNul tag.key × HasNoNul tag.value) h.written tags h.order
     (λ k d lt. all_places (λ (tag : Tag). HasNoNul tag.key × HasNoNul tag.value) h.written k d (each_clean (items t) h.written h.each) lt)
 
-pub clean_read : (rest : List (List ℕ)) (seen : Seen) (meta : Meta) → Reads rest seen → IsDefault meta → IsClean meta seen.tags.items
+pub clean_read : (rest : List (List ℕ)) (seen : FieldsSeen) (meta : Meta) → Reads rest seen → IsDefault meta → IsClean meta seen.tags.items
 clean_read rest seen meta h d = record { clean_user = empty_clean meta.user d.user; clean_tags = tags_clean (field 84 rest) seen.tags.items h.tags_are }
 
-pub fits_read : (rest : List (List ℕ)) (seen : Seen) (meta : Meta) → Reads rest seen → IsDefault meta → Fits meta seen.tags.items
+pub fits_read : (rest : List (List ℕ)) (seen : FieldsSeen) (meta : Meta) → Reads rest seen → IsDefault meta → Fits meta seen.tags.items
 fits_read rest seen meta h d = record { short_user = (omega (arith, ap (λ (t : List ℕ). length t) d.user)); few_tags = h.limits.few; short_tags = h.limits.short }
 
 -- tags within their limits are refused for the length of the line alone

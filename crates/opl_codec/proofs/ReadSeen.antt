@@ -14,13 +14,13 @@ use Rattle.osm_model.specs.declared.tag.Tag.{Tag}
 use Rattle.opl_codec.specs.Fields.{pieces, field, letter_of}
 use Rattle.opl_codec.specs.Lines.{SpellsTags, is_node_letter}
 use Rattle.opl_codec.specs.Faults.{behind, FieldAt, StandsAt}
-use Rattle.opl_codec.specs.Reading.{code, place_of, only_text, IsLocation, KeepsLimits, Reads, Says, IsMisfit, fault_of, place_in}
+use Rattle.opl_codec.specs.internal.Reading.{code, place_of, only_text, IsCoordinate, KeepsLimits, Reads, Says, IsFieldFault, fault_of, place_in}
 use Rattle.opl_codec.specs.declared.cause.OplCause.TheVariants as causes
-use Rattle.opl_codec.specs.declared.seen.Seen.{Seen}
+use Rattle.opl_codec.specs.declared.fields_seen.FieldsSeen.{FieldsSeen}
 use Rattle.opl_codec.specs.declared.letter.Letter.{Letter}
 use Rattle.opl_codec.specs.declared.letter.Letter.TheVariants.{Version, Visible, Changeset, Stamp, Uid, User, Tags, Lon, Lat}
-use Rattle.opl_codec.specs.declared.misfit.Misfit.{Misfit}
-use Rattle.opl_codec.specs.declared.misfit.Misfit.TheVariants as misfits
+use Rattle.opl_codec.specs.declared.field_fault.FieldFault.{FieldFault}
+use Rattle.opl_codec.specs.declared.field_fault.FieldFault.TheVariants as field_faults
 use Rattle.opl_codec.proofs.ReadPieces.{piece_at}
 use Rattle.opl_codec.proofs.ReadFields.{known_push, once_push, other_field, new_field}
 use Rattle.opl_codec.proofs.ReadLetters.{same_place, place_small, code_known, cases_code}
@@ -50,14 +50,14 @@ TagsAfter Tags text old new = SpellsTags text new × KeepsLimits new
 TagsAfter letter text old new = new ≡ old
 
 abbrev LonAfter : Letter → List ℕ → Option ℤ → Option ℤ → Type 0
-LonAfter Lon text old new = IsLocation axes.Lon text new
+LonAfter Lon text old new = IsCoordinate axes.Lon text new
 LonAfter letter text old new = new ≡ old
 
 abbrev LatAfter : Letter → List ℕ → Option ℤ → Option ℤ → Type 0
-LatAfter Lat text old new = IsLocation axes.Lat text new
+LatAfter Lat text old new = IsCoordinate axes.Lat text new
 LatAfter letter text old new = new ≡ old
 
-record Leaves (letter : Letter) (text : List ℕ) (old new : Seen) : Type 0 where
+record Leaves (letter : Letter) (text : List ℕ) (old new : FieldsSeen) : Type 0 where
   given : new.given ≡ old.given
   fixed : (t : List ℕ) → only_text letter ≡ Some t → text ≡ t
   tags_left : TagsAfter letter text old.tags.items new.tags.items
@@ -67,7 +67,7 @@ record Leaves (letter : Letter) (text : List ℕ) (old new : Seen) : Type 0 wher
 one_text : (found : Option (List ℕ)) (text t : List ℕ) → found ≡ Some text → found ≡ Some t → text ≡ t
 one_text found text t e f = let g : Some text ≡ Some t = sym e ∙ f in cc
 
-leaves : (letter : Letter) (text : List ℕ) (old new : Seen) → Says letter text old new → Leaves letter text old new
+leaves : (letter : Letter) (text : List ℕ) (old new : FieldsSeen) → Says letter text old new → Leaves letter text old new
 leaves Version text old new h = record { given = h.1; fixed = λ t e. one_text (only_text Version) text t h.0 e; tags_left = h.2; lon_left = h.3; lat_left = h.4 }
 leaves Visible text old new h = record { given = h.1; fixed = λ t e. one_text (only_text Visible) text t h.0 e; tags_left = h.2; lon_left = h.3; lat_left = h.4 }
 leaves Changeset text old new h = record { given = h.1; fixed = λ t e. one_text (only_text Changeset) text t h.0 e; tags_left = h.2; lon_left = h.3; lat_left = h.4 }
@@ -131,7 +131,7 @@ module _ (text : List ℕ) (done : List (List ℕ)) where
   limits_push Lat old new after h = subst KeepsLimits (sym after) h
 
   abbrev LonIs : Option (List ℕ) → Option ℤ → Type 0
-  LonIs found lon = MatchOption found (lon ≡ None) (λ spelled. IsLocation axes.Lon spelled lon)
+  LonIs found lon = MatchOption found (lon ≡ None) (λ spelled. IsCoordinate axes.Lon spelled lon)
 
   same_lon : (letter : Letter) (old new : Option ℤ) → (code letter == 120) ≡ false → new ≡ old → LonIs (field 120 done) old → LonIs (field 120 (Push done letter text)) new
   same_lon letter old new differ same h = subst (λ f. LonIs f new) (sym (other_field 120 (code letter) text done differ)) (subst (LonIs (field 120 done)) (sym same) h)
@@ -148,7 +148,7 @@ module _ (text : List ℕ) (done : List (List ℕ)) where
   lon_push Lat old new none after h = same_lon Lat old new refl after h
 
   abbrev LatIs : Option (List ℕ) → Option ℤ → Type 0
-  LatIs found lat = MatchOption found (lat ≡ None) (λ spelled. IsLocation axes.Lat spelled lat)
+  LatIs found lat = MatchOption found (lat ≡ None) (λ spelled. IsCoordinate axes.Lat spelled lat)
 
   same_lat : (letter : Letter) (old new : Option ℤ) → (code letter == 121) ≡ false → new ≡ old → LatIs (field 121 done) old → LatIs (field 121 (Push done letter text)) new
   same_lat letter old new differ same h = subst (λ f. LatIs f new) (sym (other_field 121 (code letter) text done differ)) (subst (LatIs (field 121 done)) (sym same) h)
@@ -174,7 +174,7 @@ was_given None b e f none = let g : true ≡ false = sym f ∙ e in cc
 was_given (Some t) b e f none = cc
 
 -- one more field
-pub reads_more : (done : List (List ℕ)) (letter : Letter) (text : List ℕ) (old mid new : Seen) → mid.given ≡ set old.given (place_of letter) true → mid.tags.items ≡ old.tags.items → mid.lon ≡ old.lon → mid.lat ≡ old.lat
+pub reads_more : (done : List (List ℕ)) (letter : Letter) (text : List ℕ) (old mid new : FieldsSeen) → mid.given ≡ set old.given (place_of letter) true → mid.tags.items ≡ old.tags.items → mid.lon ≡ old.lon → mid.lat ≡ old.lat
     → Reads done old → get_or old.given (place_of letter) false ≡ false → Says letter text mid new → Reads (done ++ (code letter ∷ text) ∷ []) new
 reads_more done letter text old mid new given tags lon lat h fresh says =
     let none = not_given (field (code letter) done) (get_or old.given (place_of letter) false) (h.given letter) fresh in
@@ -188,8 +188,8 @@ reads_more done letter text old mid new given tags lon lat h fresh says =
       fixed = λ m t is. fixed_push letter m text t done none after.fixed is (h.fixed m t is);
       tags_are = tags_push text done letter mid.tags.items new.tags.items none after.tags_left (subst (λ (g : List Tag). MatchOption (field 84 done) (g ≡ []) (λ spelled. SpellsTags spelled g)) (sym tags) h.tags_are);
       limits = limits_push text done letter mid.tags.items new.tags.items after.tags_left (subst KeepsLimits (sym tags) h.limits);
-      lon_is = lon_push text done letter mid.lon new.lon none after.lon_left (subst (λ (g : Option ℤ). MatchOption (field 120 done) (g ≡ None) (λ spelled. IsLocation axes.Lon spelled g)) (sym lon) h.lon_is);
-      lat_is = lat_push text done letter mid.lat new.lat none after.lat_left (subst (λ (g : Option ℤ). MatchOption (field 121 done) (g ≡ None) (λ spelled. IsLocation axes.Lat spelled g)) (sym lat) h.lat_is);
+      lon_is = lon_push text done letter mid.lon new.lon none after.lon_left (subst (λ (g : Option ℤ). MatchOption (field 120 done) (g ≡ None) (λ spelled. IsCoordinate axes.Lon spelled g)) (sym lon) h.lon_is);
+      lat_is = lat_push text done letter mid.lat new.lat none after.lat_left (subst (λ (g : Option ℤ). MatchOption (field 121 done) (g ≡ None) (λ spelled. IsCoordinate axes.Lat spelled g)) (sym lat) h.lat_is);
     }
 
 -- ---- refusals at their places
@@ -199,28 +199,28 @@ field_at line first f done rest byte e place = record { before = first ∷ done;
 pub unknown_stands : (line first f : List ℕ) (done rest : List (List ℕ)) (byte : ℕ) → pieces 32 line ≡ first ∷ (done ++ f ∷ rest) → behind (first ∷ done) ≡ byte → is_node_letter (letter_of f) ≡ false → StandsAt line causes.UnknownField byte
 unknown_stands line first f done rest byte e place other = (f, field_at line first f done rest byte e place, other)
 
-pub twice_stands : (line first text : List ℕ) (letter : Letter) (done rest : List (List ℕ)) (byte : ℕ) (seen : Seen) → pieces 32 line ≡ first ∷ (done ++ (code letter ∷ text) ∷ rest) → behind (first ∷ done) ≡ byte
+pub twice_stands : (line first text : List ℕ) (letter : Letter) (done rest : List (List ℕ)) (byte : ℕ) (seen : FieldsSeen) → pieces 32 line ≡ first ∷ (done ++ (code letter ∷ text) ∷ rest) → behind (first ∷ done) ≡ byte
     → Reads done seen → get_or seen.given (place_of letter) false ≡ true → StandsAt line causes.FieldTwice byte
 unfolding field_at
 twice_stands line first text letter done rest byte seen e place h there =
     (code letter ∷ text, field_at line first (code letter ∷ text) done rest byte e place, was_given (field (code letter) done) (get_or seen.given (place_of letter) false) (h.given letter) there)
 
-pub misfit_stands : (line first text : List ℕ) (letter : Letter) (done rest : List (List ℕ)) (byte : ℕ) (misfit : Misfit) → pieces 32 line ≡ first ∷ (done ++ (code letter ∷ text) ∷ rest) → behind (first ∷ done) ≡ byte
-    → IsMisfit letter text misfit → StandsAt line (fault_of misfit byte).cause (fault_of misfit byte).byte
-misfit_stands line first text letter done rest byte misfits.Value e place h = (code letter ∷ text, field_at line first (code letter ∷ text) done rest byte e place, h)
-misfit_stands line first text letter done rest byte (misfits.Escape at) e place h =
+pub misfit_stands : (line first text : List ℕ) (letter : Letter) (done rest : List (List ℕ)) (byte : ℕ) (field_fault : FieldFault) → pieces 32 line ≡ first ∷ (done ++ (code letter ∷ text) ∷ rest) → behind (first ∷ done) ≡ byte
+    → IsFieldFault letter text field_fault → StandsAt line (fault_of field_fault byte).cause (fault_of field_fault byte).byte
+misfit_stands line first text letter done rest byte field_faults.Value e place h = (code letter ∷ text, field_at line first (code letter ∷ text) done rest byte e place, h)
+misfit_stands line first text letter done rest byte (field_faults.Escape at) e place h =
     let inside = h.1 in
     let there : get_or line (behind (first ∷ done) + suc at) 0 ≡ get_or text at 0 = piece_at 32 line (first ∷ done) (code letter ∷ text) rest (suc at) e (omega arith) in
     let same : byte + 1 + at ≡ behind (first ∷ done) + suc at = omega (arith, place) in
     (code letter ∷ text, byte, field_at line first (code letter ∷ text) done rest byte e place, h.0, omega arith, omega arith, ap (λ n. get_or line n 0) same ∙ (there ∙ h.2))
-misfit_stands line first text letter done rest byte misfits.Model e place h = inl (code letter ∷ text, field_at line first (code letter ∷ text) done rest byte e place, h)
-misfit_stands line first text letter done rest byte misfits.Memory e place h = (refl, (code letter ∷ text, byte, field_at line first (code letter ∷ text) done rest byte e place, h.0, h.1))
+misfit_stands line first text letter done rest byte field_faults.Model e place h = inl (code letter ∷ text, field_at line first (code letter ∷ text) done rest byte e place, h)
+misfit_stands line first text letter done rest byte field_faults.Memory e place h = (refl, (code letter ∷ text, byte, field_at line first (code letter ∷ text) done rest byte e place, h.0, h.1))
 
-pub misfit_small : (letter : Letter) (text : List ℕ) (misfit : Misfit) → IsMisfit letter text misfit → place_in misfit ≤ length text
-misfit_small letter text misfits.Value h = omega arith
-misfit_small letter text (misfits.Escape at) h = let lt = h.1 in omega arith
-misfit_small letter text misfits.Model h = omega arith
-misfit_small letter text misfits.Memory h = omega arith
+pub misfit_small : (letter : Letter) (text : List ℕ) (field_fault : FieldFault) → IsFieldFault letter text field_fault → place_in field_fault ≤ length text
+misfit_small letter text field_faults.Value h = omega arith
+misfit_small letter text (field_faults.Escape at) h = let lt = h.1 in omega arith
+misfit_small letter text field_faults.Model h = omega arith
+misfit_small letter text field_faults.Memory h = omega arith
 
 -- ---- a field's first byte and what stands behind it
 pub letter_first : (f : List ℕ) → letter_of f ≡ get_or f 0 0

@@ -17,13 +17,13 @@ use Rattle.std.proofs.lemmas.Map.Keys.{IsDistinct-from_sorted}
 use Rattle.osm_model.specs.Elements.{keys}
 use Rattle.osm_model.specs.Limits.{IsShort, HasDistinctKeys}
 use Rattle.osm_model.specs.declared.tag.Tag.{Tag}
-use Rattle.osm_model.proofs.RisingKeys.{Below, rising}
+use Rattle.osm_model.proofs.shared.RisingKeys.{Below, rising}
 use Rattle.opl_codec.specs.Fields.{pieces, Each}
 use Rattle.opl_codec.specs.Lines.{SpellsTag, SpellsTags, items}
 use Rattle.opl_codec.specs.Faults.{HasBadTags}
-use Rattle.opl_codec.specs.Reading.{AreLiteral, AreFirstTags, Ends, IsUnspelled, IsBadTags, KeepsLimits, place_in, moved_by}
-use Rattle.opl_codec.specs.declared.misfit.Misfit.{Misfit}
-use Rattle.opl_codec.specs.declared.misfit.Misfit.TheVariants as misfits
+use Rattle.opl_codec.specs.internal.Reading.{AreLiteral, AreFirstTags, Ends, IsUnspelled, IsBadTags, KeepsLimits, place_in, moved_by}
+use Rattle.opl_codec.specs.declared.field_fault.FieldFault.{FieldFault}
+use Rattle.opl_codec.specs.declared.field_fault.FieldFault.TheVariants as field_faults
 use Rattle.opl_codec.proofs.ReadPieces.{pieces_left}
 
 -- ---- one after another
@@ -106,25 +106,25 @@ byte_there rest text k e =
     let place : length text - length rest ≡ length e.0 = omega (arith, ap length e.1, length-append e.0 rest) in
     ap (λ n. get_or text (n + k) 0) place ∙ (ap (λ t. get_or t (length e.0 + k) 0) e.1 ∙ get_or-append-add e.0 rest k 0)
 
--- a misfit of what is left is one of the text
-pub misfit_place : (rest : List ℕ) (parts : List (List ℕ)) (misfit : Misfit) → IsUnspelled rest parts misfit → place_in misfit ≤ length rest
-misfit_place rest parts misfits.Value h = omega arith
-misfit_place rest parts (misfits.Escape at) h = let lt = h.0 in omega arith
-misfit_place rest parts misfits.Model h = absurd h
-misfit_place rest parts misfits.Memory h = omega arith
+-- a field_fault of what is left is one of the text
+pub misfit_place : (rest : List ℕ) (parts : List (List ℕ)) (field_fault : FieldFault) → IsUnspelled rest parts field_fault → place_in field_fault ≤ length rest
+misfit_place rest parts field_faults.Value h = omega arith
+misfit_place rest parts (field_faults.Escape at) h = let lt = h.0 in omega arith
+misfit_place rest parts field_faults.Model h = absurd h
+misfit_place rest parts field_faults.Memory h = omega arith
 
-pub misfit_moved : (rest text : List ℕ) (done parts : List (List ℕ)) (misfit : Misfit) → Ends rest text → parts ≡ done ++ pieces 44 rest → IsUnspelled rest (pieces 44 rest) misfit → IsUnspelled text parts (moved_by misfit (length text - length rest))
-misfit_moved rest text done parts misfits.Value ends e h = λ tags each. let behind = each_behind SpellsTag done (pieces 44 rest) tags (subst (λ p. Each SpellsTag p tags) e each) in h behind.0 behind.1
-misfit_moved rest text done parts (misfits.Escape at) ends e h = let lt = h.0 in (omega (arith, ap length ends.1, length-append ends.0 rest), byte_there rest text at ends ∙ h.1)
-misfit_moved rest text done parts misfits.Model ends e h = h
-misfit_moved rest text done parts misfits.Memory ends e h = λ none. behind_some ends.0 rest h (sym ends.1 ∙ none)
+pub misfit_moved : (rest text : List ℕ) (done parts : List (List ℕ)) (field_fault : FieldFault) → Ends rest text → parts ≡ done ++ pieces 44 rest → IsUnspelled rest (pieces 44 rest) field_fault → IsUnspelled text parts (moved_by field_fault (length text - length rest))
+misfit_moved rest text done parts field_faults.Value ends e h = λ tags each. let behind = each_behind SpellsTag done (pieces 44 rest) tags (subst (λ p. Each SpellsTag p tags) e each) in h behind.0 behind.1
+misfit_moved rest text done parts (field_faults.Escape at) ends e h = let lt = h.0 in (omega (arith, ap length ends.1, length-append ends.0 rest), byte_there rest text at ends ∙ h.1)
+misfit_moved rest text done parts field_faults.Model ends e h = h
+misfit_moved rest text done parts field_faults.Memory ends e h = λ none. behind_some ends.0 rest h (sym ends.1 ∙ none)
   where
     behind_some : (front rest : List ℕ) → rest ≢ [] → front ++ rest ≢ []
     behind_some [] rest some = some
     behind_some (x ∷ front) rest some = λ none. cc
 
-pub memory_unspelled : (text : List ℕ) (parts : List (List ℕ)) (misfit : Misfit) → misfit ≡ misfits.Memory → text ≢ [] → IsUnspelled text parts misfit
-memory_unspelled text parts misfit e some = subst (IsUnspelled text parts) (sym e) some
+pub memory_unspelled : (text : List ℕ) (parts : List (List ℕ)) (field_fault : FieldFault) → field_fault ≡ field_faults.Memory → text ≢ [] → IsUnspelled text parts field_fault
+memory_unspelled text parts field_fault e some = subst (IsUnspelled text parts) (sym e) some
 
 -- ---- limits
 pub distinct_from_rising : (tags : List Tag) → AllAdjacentBelow (Below (λ (tag : Tag). tag.key) (slice_cmp nat_cmp)) tags (length tags) → HasDistinctKeys tags
@@ -148,11 +148,11 @@ first_bad text tags t long =
 pub key_twice : (text : List ℕ) (tags : List Tag) → Each SpellsTag (items text) tags → (HasDistinctKeys tags → ⊥) → HasBadTags text
 key_twice text tags each twice = (tags, each, inr (inr twice))
 
-pub unspelled_bad : (text : List ℕ) (parts : List (List ℕ)) (misfit : Misfit) → IsUnspelled text parts misfit → IsBadTags text parts misfit
-unspelled_bad text parts misfits.Value h = h
-unspelled_bad text parts (misfits.Escape at) h = h
-unspelled_bad text parts misfits.Model h = absurd h
-unspelled_bad text parts misfits.Memory h = h
+pub unspelled_bad : (text : List ℕ) (parts : List (List ℕ)) (field_fault : FieldFault) → IsUnspelled text parts field_fault → IsBadTags text parts field_fault
+unspelled_bad text parts field_faults.Value h = h
+unspelled_bad text parts (field_faults.Escape at) h = h
+unspelled_bad text parts field_faults.Model h = absurd h
+unspelled_bad text parts field_faults.Memory h = h
 
 pub tags_read : (text : List ℕ) (tags found : List Tag) → Each SpellsTag (items text) tags → (length tags ≤ 65535) × All (λ tag. IsShort tag.key × IsShort tag.value) tags → IsPermutation tags found → HasDistinctKeys found
     → SpellsTags text found × KeepsLimits found
@@ -164,6 +164,6 @@ tags_read text tags found each limits order differ = (
 -- tags whose keys differ, or not
 pub ordered : {V : Type 0} (items_of : V → List Tag) (text : List ℕ) (tags : List Tag) (o : Option V) → Each SpellsTag (items text) tags → (length tags ≤ 65535) × All (λ tag. IsShort tag.key × IsShort tag.value) tags
     → IfSome o (λ v. IsPermutation tags (items_of v) × HasDistinctKeys (items_of v)) → IfNone o (HasDistinctKeys tags → ⊥)
-    → record { read : IfOk (ok_or o misfits.Model) (λ v. SpellsTags text (items_of v) × KeepsLimits (items_of v)); refused : IfErr (ok_or o misfits.Model) (λ misfit. IsBadTags text (items text) misfit) }
+    → record { read : IfOk (ok_or o field_faults.Model) (λ v. SpellsTags text (items_of v) × KeepsLimits (items_of v)); refused : IfErr (ok_or o field_faults.Model) (λ field_fault. IsBadTags text (items text) field_fault) }
 ordered items_of text tags None each limits found none = record { read = tt; refused = key_twice text tags each none }
 ordered items_of text tags (Some v) each limits found none = record { read = tags_read text tags (items_of v) each limits found.0 found.1; refused = tt }

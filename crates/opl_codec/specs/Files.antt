@@ -30,5 +30,5 @@ pub record HoldsSet (file : List ℕ) (objects : List Element) : Type 0 where
   pub set : IsObjectSet objects
 
 -- the reader failed, it never ended, or memory ran out
-abbrev pub IsOutside : OplCause → Type 0
-IsOutside cause = (cause ≡ causes.ReaderFailed) ⊎ ((cause ≡ causes.Endless) ⊎ (cause ≡ causes.Memory))
+abbrev pub IsReaderOrMemory : OplCause → Type 0
+IsReaderOrMemory cause = (cause ≡ causes.ReaderFailed) ⊎ ((cause ≡ causes.Endless) ⊎ (cause ≡ causes.Memory))

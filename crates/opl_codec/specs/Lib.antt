@@ -1,10 +1,9 @@
 pub mod Fields
 pub mod Lines
 pub mod Files
-pub mod Loading
 pub mod Faults
 pub mod Refusals
-pub mod Reading
 pub mod Text
 pub mod Plain
 pub mod PieceReads
+pub mod internal

@@ -39,17 +39,17 @@ pub record SpellsTags (spelled : List ℕ) (tags : List Tag) : Type 0 where
   pub order : IsPermutation written tags
 
 -- narrow: just this text, for the default
-abbrev pub Just : List ℕ → Type 0 → List ℕ → Type 0
-Just only default spelled = (spelled ≡ only) × default
+abbrev pub IsDefaultText : List ℕ → Type 0 → List ℕ → Type 0
+IsDefaultText only default spelled = (spelled ≡ only) × default
 
 -- v, d, c, t, i, u: the metadata
 pub record SpellsMeta (fields : List (List ℕ)) (meta : Meta) : Type 0 where
-  pub version : Given (field 118 fields) (meta.version ≡ 0) (Just (48 ∷ []) (meta.version ≡ 0))
-  pub visible : Given (field 100 fields) ⊤ (Just (86 ∷ []) ⊤)
-  pub changeset : Given (field 99 fields) (meta.changeset ≡ pos 0) (Just (48 ∷ []) (meta.changeset ≡ pos 0))
-  pub stamp : Given (field 116 fields) (meta.stamp ≡ None) (Just [] (meta.stamp ≡ None))
-  pub uid : Given (field 105 fields) (meta.uid ≡ pos 0) (Just (48 ∷ []) (meta.uid ≡ pos 0))
-  pub user : Given (field 117 fields) (meta.user ≡ []) (Just [] (meta.user ≡ []))
+  pub version : Given (field 118 fields) (meta.version ≡ 0) (IsDefaultText (48 ∷ []) (meta.version ≡ 0))
+  pub visible : Given (field 100 fields) ⊤ (IsDefaultText (86 ∷ []) ⊤)
+  pub changeset : Given (field 99 fields) (meta.changeset ≡ pos 0) (IsDefaultText (48 ∷ []) (meta.changeset ≡ pos 0))
+  pub stamp : Given (field 116 fields) (meta.stamp ≡ None) (IsDefaultText [] (meta.stamp ≡ None))
+  pub uid : Given (field 105 fields) (meta.uid ≡ pos 0) (IsDefaultText (48 ∷ []) (meta.uid ≡ pos 0))
+  pub user : Given (field 117 fields) (meta.user ≡ []) (IsDefaultText [] (meta.user ≡ []))
 
 -- x and y: the location of a node, which must be there
 abbrev pub SpellsBody : List (List ℕ) → Body → Type 0

@@ -2,7 +2,7 @@
 
 ghost use Rattle.std.specs.Prelude.{◌≡◌, ◌<◌, MatchOption, false};
 ghost use Rattle.opl_codec.specs.Lines.{is_node_letter};
-ghost use Rattle.opl_codec.specs.Reading.{code, place_of};
+ghost use Rattle.opl_codec.specs.internal.Reading.{code, place_of};
 
 /// What a field of a node says, by its letter (Osmium's OPL manual).
 #[derive(Clone, Copy)]

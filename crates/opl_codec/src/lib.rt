@@ -6,7 +6,10 @@
 
 mod cause;
 mod change;
+mod coordinate;
 mod fault;
+mod field_fault;
+mod fields_seen;
 mod id;
 mod key_order;
 mod laws;
@@ -14,12 +17,9 @@ mod letter;
 mod line;
 mod load;
 mod loader;
-mod location;
-mod misfit;
 mod out_mode;
 mod piece_reader;
 mod repeats;
-mod seen;
 mod separator;
 mod tag_spelling;
 mod tags;

@@ -6,15 +6,15 @@ ghost use Rattle.osm_model.specs.Limits.{IsElement};
 ghost use Rattle.opl_codec.specs.Fields.{pieces, IsInteger};
 ghost use Rattle.opl_codec.specs.Lines.{IsSkipped, Spells, SpellsObject, SpellsFields};
 ghost use Rattle.opl_codec.specs.Faults.{StandsAt, HasId, BeginsRight};
-ghost use Rattle.opl_codec.specs.Reading.{IsRead};
+ghost use Rattle.opl_codec.specs.internal.Reading.{IsRead};
 ghost use Rattle.opl_codec.specs.declared.change.Change.{Change};
 ghost use Rattle.opl_codec.specs.declared.cause.OplCause.TheVariants as OplCause;
 
 use crate::cause::OplCause;
 use crate::change::Change;
 use crate::fault::OplFault;
+use crate::fields_seen::FieldsSeen;
 use crate::id::read_id;
-use crate::seen::Seen;
 use crate::separator::cut;
 use osm_model::{Body, Coord, Meta, Object, Text};
 use simdutf8::compat::from_utf8;
@@ -99,14 +99,14 @@ fn check_bytes(line: &[u8]) -> Result<(), OplFault>
 }
 
 /// The id, and what the further fields say.
-fn read_fields(alloc: Global, line: &[u8]) -> Result<(i64, Seen), OplFault>
+fn read_fields(alloc: Global, line: &[u8]) -> Result<(i64, FieldsSeen), OplFault>
     ensures read { IfOk result (λ p. IsRead line.now p.0 p.1) }
     ensures refused { IfErr result (λ fault. StandsAt line.now fault.cause fault.byte) }
     ensures memory { IfErr result (λ fault. fault.cause ≡ OplCause.Memory → HasId line.now) }
 {
     let (first, mut left) = first_field(line);
     let id = read_first(first)?;
-    let mut seen = Seen::new(alloc);
+    let mut seen = FieldsSeen::new(alloc);
     while let Some(rest) = left {
         let (field, more) = first_field(rest);
         seen.take(alloc, field, line.len() - rest.len())?;
@@ -145,7 +145,7 @@ fn read_first(first: &[u8]) -> Result<i64, OplFault>
 }
 
 /// The object that the line's fields make.
-fn object_of(alloc: Global, id: i64, seen: Seen, line: &[u8]) -> Result<Object, OplFault>
+fn object_of(alloc: Global, id: i64, seen: FieldsSeen, line: &[u8]) -> Result<Object, OplFault>
     requires { IsRead line.now id seen }
     ensures read { IfOk result (λ o. SpellsFields line.now o × IsElement o) }
     ensures refused { IfErr result (λ fault. StandsAt line.now fault.cause fault.byte) }

@@ -2,8 +2,8 @@
 
 ghost use Rattle.std.specs.Prelude.{◌≡◌, ◌≤◌, ◌^◌, ℕ, IfErr, IfSome, IfOk, List, MatchResult, length};
 ghost use Rattle.osm_model.specs.Elements.{Element};
-ghost use Rattle.opl_codec.specs.Files.{HoldsSet, IsOutside};
-ghost use Rattle.opl_codec.specs.Loading.{cause_of};
+ghost use Rattle.opl_codec.specs.Files.{HoldsSet, IsReaderOrMemory};
+ghost use Rattle.opl_codec.specs.internal.Loading.{cause_of};
 
 use crate::cause::OplCause;
 use crate::fault::LoadFault;
@@ -36,7 +36,7 @@ pub fn read_set<R: Read>(alloc: Global, reader: &mut R) -> Result<ObjectSet, Loa
     ensures held { IfOk result (λ set. (file : List ℕ) × HoldsSet file set) }
     // What the file holds is read, unless the reader failed, never ended, or memory ran out.
     ensures only { IfSome (R.remaining reader.old) (λ file. (objects : List Element) → HoldsSet file objects
-        → MatchResult result (λ set. set ≡ objects) (λ fault. IsOutside fault.fault.cause)) }
+        → MatchResult result (λ set. set ≡ objects) (λ fault. IsReaderOrMemory fault.fault.cause)) }
     // A file that is refused as endless has 2^32 bytes at least.
     ensures endless { IfSome (R.remaining reader.old) (λ file. IfErr result (λ fault.
         fault.fault.cause ≡ OplCause.Endless → 2 ^ 32 ≤ length file)) }

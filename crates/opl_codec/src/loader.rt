@@ -3,8 +3,8 @@
 ghost use Rattle.std.specs.Prelude.{◌≡◌, ◌≢◌, ◌++◌, ◌∷◌, [], ◌⊎◌, ◌<◌, ◌≤◌, ◌+◌, ◌-◌, ◌^◌, min, List, ℕ, MatchOption, MatchResult, IfErr, OnOk, length};
 ghost use Rattle.osm_model.specs.Elements.{Element};
 ghost use Rattle.osm_model.specs.Sets.{HasDistinctReferences};
-ghost use Rattle.opl_codec.specs.Files.{HoldsSet, IsOutside};
-ghost use Rattle.opl_codec.specs.Loading.{Say, Loads, Ruins, IsHopeless, BeginsHopeless};
+ghost use Rattle.opl_codec.specs.Files.{HoldsSet, IsReaderOrMemory};
+ghost use Rattle.opl_codec.specs.internal.Loading.{Say, Loads, LoadsNoSet, SayNoSet, BeginsNoSet};
 
 use crate::cause::OplCause;
 use crate::change::Change;
@@ -56,7 +56,7 @@ impl Loader {
     pub fn feed(&mut self, piece: &[u8]) -> Result<(), LoadFault>
         ensures read { (front : List ℕ) → Loads [] front self.old.objects.items self.old.pending.items
             → MatchResult result (λ _. Loads [] (front ++ piece.now) self.new.objects.items self.new.pending.items)
-            (λ fault. IsOutside fault.fault.cause ⊎ Ruins [] (front ++ piece.now)) }
+            (λ fault. IsReaderOrMemory fault.fault.cause ⊎ LoadsNoSet [] (front ++ piece.now)) }
         ensures short { OnOk result (length self.new.pending.items ≤ 2 ^ 25) }
         ensures finite { IfErr result (λ fault. fault.fault.cause ≢ OplCause.Endless) }
     {
@@ -73,7 +73,7 @@ impl Loader {
     pub fn finish(self) -> Result<ObjectSet, LoadFault>
         ensures read { (file : List ℕ) → Loads [] file self.objects.items self.pending.items
             → MatchResult result (λ set. HoldsSet file set)
-            (λ fault. IsOutside fault.fault.cause ⊎ ((objects : List Element) → HoldsSet file objects → ⊥)) }
+            (λ fault. IsReaderOrMemory fault.fault.cause ⊎ ((objects : List Element) → HoldsSet file objects → ⊥)) }
         ensures finite { IfErr result (λ fault. fault.fault.cause ≢ OplCause.Endless) }
     {
         let mut loader = self;
@@ -88,7 +88,7 @@ impl Loader {
 
     /// The refusal of the line that is being read, or of an earlier one that repeats an object.
     pub fn refusal(&self, cause: OplCause, byte: usize) -> LoadFault
-        ensures cause { (result.fault.cause ≡ cause) ⊎ (IsOutside result.fault.cause ⊎ (¬ (HasDistinctReferences self.now.objects.items))) }
+        ensures cause { (result.fault.cause ≡ cause) ⊎ (IsReaderOrMemory result.fault.cause ⊎ (¬ (HasDistinctReferences self.now.objects.items))) }
         ensures place { (result ≡ record { line = self.now.line; fault = record { cause = cause; byte = byte } })
             ⊎ ((result ≡ record { line = 0; fault = record { cause = OplCause.Memory; byte = 0 } })
             ⊎ ((result.fault ≡ record { cause = OplCause.OutsideModel; byte = 0 }) × (¬ (HasDistinctReferences self.now.objects.items)))) }
@@ -109,7 +109,7 @@ impl Loader {
         requires { self.old.pending.items ≡ [] }
         ensures read { (lines : List (List ℕ)) → Say lines self.old.objects.items
             → MatchResult result (λ _. Loads lines text.now self.new.objects.items self.new.pending.items)
-            (λ fault. IsOutside fault.fault.cause ⊎ Ruins lines text.now) }
+            (λ fault. IsReaderOrMemory fault.fault.cause ⊎ LoadsNoSet lines text.now) }
         ensures short { OnOk result (length self.new.pending.items ≤ 2 ^ 25) }
         ensures finite { IfErr result (λ fault. fault.fault.cause ≢ OplCause.Endless) }
     {
@@ -125,7 +125,7 @@ impl Loader {
     fn end_line(&mut self, end: &[u8]) -> Result<(), LoadFault>
         ensures taken { (lines : List (List ℕ)) → Say lines self.old.objects.items
             → MatchResult result (λ _. Say (lines ++ (self.old.pending.items ++ end.now) ∷ []) self.new.objects.items)
-            (λ fault. IsOutside fault.fault.cause ⊎ IsHopeless (lines ++ (self.old.pending.items ++ end.now) ∷ [])) }
+            (λ fault. IsReaderOrMemory fault.fault.cause ⊎ SayNoSet (lines ++ (self.old.pending.items ++ end.now) ∷ [])) }
         ensures ended { MatchResult result (λ _. self.new.pending.items ≡ []) (λ _. Unit {0}) }
         ensures finite { IfErr result (λ fault. fault.fault.cause ≢ OplCause.Endless) }
     {
@@ -144,7 +144,7 @@ impl Loader {
     fn take_line(&mut self, line: &[u8]) -> Result<(), LoadFault>
         ensures taken { (lines : List (List ℕ)) → Say lines self.old.objects.items
             → MatchResult result (λ _. Say (lines ++ line.now ∷ []) self.new.objects.items)
-            (λ fault. IsOutside fault.fault.cause ⊎ IsHopeless (lines ++ line.now ∷ [])) }
+            (λ fault. IsReaderOrMemory fault.fault.cause ⊎ SayNoSet (lines ++ line.now ∷ [])) }
         ensures kept { self.new.pending.items ≡ self.old.pending.items }
         ensures finite { IfErr result (λ fault. fault.fault.cause ≢ OplCause.Endless) }
     {
@@ -174,7 +174,7 @@ impl Loader {
 
     /// One more object.
     fn push(&mut self, object: Object) -> Result<(), LoadFault>
-        ensures pushed { MatchResult result (λ _. self.new.objects.items ≡ self.old.objects.items ++ object ∷ []) (λ fault. IsOutside fault.fault.cause) }
+        ensures pushed { MatchResult result (λ _. self.new.objects.items ≡ self.old.objects.items ++ object ∷ []) (λ fault. IsReaderOrMemory fault.fault.cause) }
         ensures kept { self.new.pending.items ≡ self.old.pending.items }
         ensures finite { IfErr result (λ fault. fault.fault.cause ≢ OplCause.Endless) }
     {
@@ -191,7 +191,7 @@ impl Loader {
     /// The beginning of the line that is being read grows by this, as far as a line may.
     fn keep(&mut self, part: &[u8]) -> Result<(), LoadFault>
         ensures kept { MatchResult result (λ _. self.new.pending.items ≡ self.old.pending.items ++ part.now)
-            (λ fault. IsOutside fault.fault.cause ⊎ ((lines : List (List ℕ)) → Say lines self.old.objects.items → BeginsHopeless lines (self.old.pending.items ++ part.now))) }
+            (λ fault. IsReaderOrMemory fault.fault.cause ⊎ ((lines : List (List ℕ)) → Say lines self.old.objects.items → BeginsNoSet lines (self.old.pending.items ++ part.now))) }
         ensures short { OnOk result (length self.new.pending.items ≤ 2 ^ 25) }
         ensures same { self.new.objects.items ≡ self.old.objects.items }
         ensures finite { IfErr result (λ fault. fault.fault.cause ≢ OplCause.Endless) }
@@ -205,7 +205,7 @@ impl Loader {
 
     /// Refuses the first line that repeats an object.
     fn refuse_repeats(&self) -> Result<(), LoadFault>
-        ensures twice { IfErr result (λ fault. IsOutside fault.fault.cause ⊎ (¬ (HasDistinctReferences self.now.objects.items))) }
+        ensures twice { IfErr result (λ fault. IsReaderOrMemory fault.fault.cause ⊎ (¬ (HasDistinctReferences self.now.objects.items))) }
         ensures finite { IfErr result (λ fault. fault.fault.cause ≢ OplCause.Endless) }
     {
         match self.repeat()? {

@@ -4,9 +4,9 @@ ghost use Rattle.std.specs.Prelude.{◌≡◌, ◌+◌, ◌<◌, ◌≤◌, ℕ,
 ghost use Rattle.osm_model.specs.declared.tag.Tag.{Tag};
 ghost use Rattle.opl_codec.specs.Fields.{pieces, Each};
 ghost use Rattle.opl_codec.specs.Lines.{SpellsTag};
-ghost use Rattle.opl_codec.specs.Reading.{AreLiteral, BeginsNonliteral, Ends, IsUnspelled};
+ghost use Rattle.opl_codec.specs.internal.Reading.{AreLiteral, BeginsNonliteral, Ends, IsUnspelled};
 
-use crate::misfit::Misfit;
+use crate::field_fault::FieldFault;
 use osm_model::is_literal;
 
 /// The first tag of a text, as it is spelled there.
@@ -21,17 +21,17 @@ pub struct TagSpelling<'a> {
 }
 
 /// The first of the tags that commas part.
-pub fn first_tag(text: &[u8]) -> Result<TagSpelling<'_>, Misfit>
+pub fn first_tag(text: &[u8]) -> Result<TagSpelling<'_>, FieldFault>
     ensures literal { IfOk result (λ tag. AreLiteral tag.key.now × AreLiteral tag.value.now) }
     ensures parts { IfOk result (λ tag. MatchOption tag.more
         (pieces 44 text.now ≡ (tag.key.now ++ 61 ∷ tag.value.now) ∷ [])
         (λ more. (pieces 44 text.now ≡ (tag.key.now ++ 61 ∷ tag.value.now) ∷ pieces 44 more.now) × (length more.now < length text.now))) }
     ensures place { IfOk result (λ tag. MatchOption tag.more ⊤ (λ more. Ends more.now text.now)) }
-    ensures refused { IfErr result (λ misfit. IsUnspelled text.now (pieces 44 text.now) misfit) }
+    ensures refused { IfErr result (λ field_fault. IsUnspelled text.now (pieces 44 text.now) field_fault) }
 {
     let key_len = literal_len(text);
     if !is_at(text, key_len, b'=') {
-        return Err(misfit_at(text, key_len));
+        return Err(field_fault_at(text, key_len));
     }
     let behind = &text[key_len + 1..];
     let value_len = literal_len(behind);
@@ -44,23 +44,23 @@ pub fn first_tag(text: &[u8]) -> Result<TagSpelling<'_>, Misfit>
         });
     }
     if behind[value_len] != b',' {
-        return Err(misfit_at(text, key_len + 1 + value_len));
+        return Err(field_fault_at(text, key_len + 1 + value_len));
     }
     let more = Some(&behind[value_len + 1..]);
     Ok(TagSpelling { key, value, more })
 }
 
 /// What is wrong at this place of a text that begins with no tag.
-fn misfit_at(text: &[u8], place: usize) -> Misfit
+fn field_fault_at(text: &[u8], place: usize) -> FieldFault
     requires { (tags : List Tag) → Each SpellsTag (pieces 44 text.now) tags → ⊥ }
     ensures unspelled { IsUnspelled text.now (pieces 44 text.now) result }
-    ensures escape { place < length text.now → slice_index text.now place ≡ 37 → result ≡ Misfit.Escape place }
-    ensures other { (place < length text.now → slice_index text.now place ≡ 37 → ⊥) → result ≡ Misfit.Value }
+    ensures escape { place < length text.now → slice_index text.now place ≡ 37 → result ≡ FieldFault.Escape place }
+    ensures other { (place < length text.now → slice_index text.now place ≡ 37 → ⊥) → result ≡ FieldFault.Value }
 {
     if is_at(text, place, b'%') {
-        Misfit::Escape(place)
+        FieldFault::Escape(place)
     } else {
-        Misfit::Value
+        FieldFault::Value
     }
 }
 

@@ -3,10 +3,10 @@
 ghost use Rattle.std.specs.Prelude.{◌≡◌, ◌↔◌, ◌≤◌, ◌++◌, ◌∷◌, [], ℕ, List, IsTrue, All, length, IfOk, IfErr, OnOk};
 ghost use Rattle.osm_model.specs.Limits.{IsShort};
 ghost use Rattle.opl_codec.specs.Lines.{SpellsTags, items};
-ghost use Rattle.opl_codec.specs.Reading.{AreLiteral, AreFirstTags, KeepsLimits, IsBadTags, IsUnspelled};
+ghost use Rattle.opl_codec.specs.internal.Reading.{AreLiteral, AreFirstTags, KeepsLimits, IsBadTags, IsUnspelled};
 
+use crate::field_fault::FieldFault;
 use crate::key_order::with_distinct_keys;
-use crate::misfit::Misfit;
 use crate::tag_spelling::{TagSpelling, first_tag};
 use memchr::memchr_iter;
 use osm_model::{Tag, Text};
@@ -16,21 +16,21 @@ use std::alloc::{AllocError, Global};
 const MOST_TAGS: usize = 65_535;
 
 /// The tags of this text, in an order of their own.
-pub fn read_tags(alloc: Global, text: &[u8]) -> Result<Vec<Tag>, Misfit>
+pub fn read_tags(alloc: Global, text: &[u8]) -> Result<Vec<Tag>, FieldFault>
     ensures read { IfOk result (λ tags. SpellsTags text.now tags.items × KeepsLimits tags.items) }
-    ensures refused { IfErr result (λ misfit. IsBadTags text.now (items text.now) misfit) }
+    ensures refused { IfErr result (λ field_fault. IsBadTags text.now (items text.now) field_fault) }
 {
     let tags = split_tags(alloc, text)?;
     if !are_short(&tags) {
-        return Err(Misfit::Model);
+        return Err(FieldFault::Model);
     }
-    with_distinct_keys(tags).ok_or(Misfit::Model)
+    with_distinct_keys(tags).ok_or(FieldFault::Model)
 }
 
 /// The tags of this text, in its order: of too many, one more than an object may have.
-fn split_tags(alloc: Global, text: &[u8]) -> Result<Vec<Tag>, Misfit>
+fn split_tags(alloc: Global, text: &[u8]) -> Result<Vec<Tag>, FieldFault>
     ensures read { IfOk result (λ tags. AreFirstTags (items text.now) tags.items) }
-    ensures refused { IfErr result (λ misfit. IsUnspelled text.now (items text.now) misfit) }
+    ensures refused { IfErr result (λ field_fault. IsUnspelled text.now (items text.now) field_fault) }
 {
     if text.is_empty() {
         return Ok(Vec::new(alloc));
@@ -40,7 +40,7 @@ fn split_tags(alloc: Global, text: &[u8]) -> Result<Vec<Tag>, Misfit>
     while let Some(rest) = left {
         let spelling = match first_tag(rest) {
             Ok(spelling) => spelling,
-            Err(misfit) => return Err(misfit.moved(text.len() - rest.len())),
+            Err(field_fault) => return Err(field_fault.moved(text.len() - rest.len())),
         };
         keep_tag(alloc, spelling, &mut tags)?;
         left = spelling.more;

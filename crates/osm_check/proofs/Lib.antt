@@ -1,3 +1,4 @@
+pub mod shared
 pub mod Texts
 pub mod Sets
 pub mod Fronts
@@ -5,4 +6,3 @@ pub mod Answers
 pub mod Lines
 pub mod TextsRead
 pub mod OneVerdict
-pub mod Held

@@ -11,7 +11,7 @@ use Rattle.ql_plain.specs.Queries.{Reads, FaultOf}
 use Rattle.ql_plain.specs.Meaning.{meaning}
 use Rattle.ql_plain.specs.declared.query.Query.{Query}
 use Rattle.ql_plain.specs.declared.fault.QlFault.{QlFault}
-use Rattle.ql_plain.proofs.Laws.{one_reading, never_both, one_fault}
+use Rattle.ql_plain.proofs.shared.Laws.{one_reading, never_both, one_fault}
 use Rattle.tree_node.specs.Digests.{digest}
 use Rattle.osm_check.specs.Roots.{Clash, IsPlainSet, IsProofOf, IsCanonical, proof_text, root_of}
 use Rattle.osm_check.specs.Verdicts.{IsReadable, IsAnswer, IsFirstDifference, IsAnswerWrongAt, IsUnderRoot, IsReason, IsVerdict, Tells, no_walks}

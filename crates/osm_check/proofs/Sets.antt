@@ -8,9 +8,9 @@ use Rattle.std.proofs.lemmas.List.Elements.{All-from_recursion, recursion_from_A
 use Rattle.osm_model.specs.Elements.{Element, reference, references, ref_cmp}
 use Rattle.osm_model.specs.Limits.{IsElement}
 use Rattle.osm_model.specs.declared.reference.Ref.{Ref}
-use Rattle.osm_model.proofs.References.{refs_total}
+use Rattle.osm_model.proofs.shared.References.{refs_total}
 use Rattle.opl_codec.specs.Plain.{IsPlain}
-use Rattle.osm_check.specs.Replays.{last_reference}
+use Rattle.osm_check.specs.internal.Replays.{last_reference}
 use Rattle.osm_check.specs.Roots.{IsPlainSet}
 
 -- a reference is below

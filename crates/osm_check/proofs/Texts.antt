@@ -7,7 +7,7 @@ use Rattle.osm_model.specs.CanonicalLine.{canonical_line}
 use Rattle.osm_model.specs.Elements.{Element}
 use Rattle.opl_codec.specs.Text.{text_of}
 use Rattle.opl_codec.specs.declared.out_mode.OutMode.TheVariants as modes
-use Rattle.opl_codec.proofs.TextFields.{text_of-Meta}
+use Rattle.opl_codec.proofs.shared.TextFields.{text_of-Meta}
 use Rattle.opl_codec.specs.Fields.{Lacks}
 use Rattle.osm_check.specs.Roots.{proof_text}
 

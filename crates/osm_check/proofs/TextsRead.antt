@@ -2,9 +2,9 @@
 use Rattle.std.proofs.Common.{◌≡◌, ◌≢◌, ℕ, List, [], ◌∷◌, ◌++◌, refl, sym, ◌∙◌, ap, subst, append_assoc, append-nil}
 use Rattle.osm_model.specs.CanonicalLine.{canonical_line}
 use Rattle.osm_model.specs.Elements.{Element}
-use Rattle.osm_check.specs.Replays.{HasNoEnd, IsNext}
+use Rattle.osm_check.specs.internal.Replays.{HasNoEnd, IsNext}
 use Rattle.osm_check.specs.Roots.{IsPlainSet, IsProofOf, IsCanonical, proof_text}
-use Rattle.opl_codec.proofs.TextFields.{line_lacks_end}
+use Rattle.opl_codec.proofs.shared.TextFields.{line_lacks_end}
 use Rattle.osm_check.proofs.Fronts.{front}
 use Rattle.osm_check.proofs.Sets.{set_front, element_last, plain_last}
 use Rattle.osm_check.proofs.Texts.{proof_text-nil, proof_text-append, proof_text-cons, first_lines, no_line}

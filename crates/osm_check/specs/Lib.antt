@@ -1,4 +1,4 @@
 pub mod Roots
 pub mod Verdicts
-pub mod Replays
 pub mod VerdictTexts
+pub mod internal

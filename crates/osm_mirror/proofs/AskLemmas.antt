@@ -1,7 +1,7 @@
 -- Faults of `ask` from the faults of the calls that it makes.
 use Rattle.std.proofs.Common.{◌≡◌, ℕ, List, Option, None, Some, Result, Ok, Err, IfSome, IfErr, IsErrAnd, inl, inr, refl, sym, subst, ap, ◌∙◌}
 use Rattle.osm_model.specs.Elements.{Element}
-use Rattle.opl_codec.specs.Files.{HoldsSet, IsOutside as IsOutsideFile}
+use Rattle.opl_codec.specs.Files.{HoldsSet, IsReaderOrMemory as IsOutsideFile}
 use Rattle.opl_codec.specs.declared.cause.OplCause.{OplCause}
 use Rattle.opl_codec.specs.declared.cause.OplCause.TheVariants as causes
 use Rattle.opl_codec.specs.declared.fault.LoadFault.{LoadFault}

@@ -4,7 +4,7 @@ use Rattle.std.proofs.Math.Nat.{mul-le-mul_left, mul-le-mul_right, zero-mul, mul
 use Rattle.std.proofs.lemmas.Bool.{cases_lt}
 use Rattle.std.proofs.lemmas.Int.{ints}
 use Rattle.osm_model.specs.Degrees.{with_sign}
-use Rattle.osm_model.specs.EdgeUnits.{IsAround, signed_floor, signed_ceiling}
+use Rattle.osm_model.specs.internal.EdgeUnits.{IsAround, signed_floor, signed_ceiling}
 
 pub floor_is : (m k f c n : ℕ) → IsAround m k f c → (n * k ≤ m) ↔ (n ≤ f)
 floor_is m k f c n a = (

@@ -3,10 +3,10 @@ use Rattle.std.proofs.Common.{◌≡◌, ◌↔◌, ℕ, ◌+◌, ◌-◌, ◌*�
 use Rattle.std.proofs.lemmas.Nat.{pow-add}
 use Rattle.osm_model.specs.Degrees.{Decimal, Spells, IsDegrees, decimals, units, with_sign}
 use Rattle.osm_model.specs.Edges.{size, scale, IsAtLeast, IsAtMost}
-use Rattle.osm_model.specs.EdgeUnits.{IsAround, signed_floor, signed_ceiling}
+use Rattle.osm_model.specs.internal.EdgeUnits.{IsAround, signed_floor, signed_ceiling}
 use Rattle.osm_model.proofs.Decimals.{power_some}
 use Rattle.osm_model.proofs.Around.{up_to, from, with_sign-mul}
-use Rattle.osm_model.proofs.OneDecimal.{one_decimal}
+use Rattle.osm_model.proofs.shared.OneDecimal.{one_decimal}
 
 whole_floor : (negative : Bool) (n : ℕ) → signed_floor negative n n ≡ with_sign negative n
 whole_floor true n = refl

@@ -10,7 +10,7 @@ use Rattle.std.specs.Cmp.{ranks}
 use Rattle.std.specs.Str.Parse.{AllDigits, digits_value}
 use Rattle.osm_model.specs.Degrees.{Decimal, IsDecimal, IsFraction, decimals}
 use Rattle.osm_model.specs.Edges.{size, scale, IsAtLeast, IsAtMost, IsAbove}
-use Rattle.osm_model.proofs.Digits.{after_append}
+use Rattle.osm_model.proofs.shared.Digits.{after_append}
 use Rattle.osm_model.proofs.Decimals.{power_some}
 use Rattle.osm_model.proofs.Around.{with_sign-mul}
 use Rattle.osm_model.proofs.EdgeSizes.{value_behind}

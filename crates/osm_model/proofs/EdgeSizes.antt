@@ -12,8 +12,8 @@ use Rattle.osm_model.specs.declared.axis.Axis.{Axis}
 use Rattle.osm_model.specs.declared.axis.Axis.TheVariants.{Lon, Lat}
 use Rattle.osm_model.specs.Degrees.{Decimal, IsDecimal, decimals, fraction_of, limit}
 use Rattle.osm_model.specs.Edges.{ExactEdge, IsEdge, IsWithin, size, scale}
-use Rattle.osm_model.specs.EdgeUnits.{IsAround, IsBetween, signed_floor, signed_ceiling}
-use Rattle.osm_model.proofs.Digits.{after_append, over}
+use Rattle.osm_model.specs.internal.EdgeUnits.{IsAround, IsBetween, signed_floor, signed_ceiling}
+use Rattle.osm_model.proofs.shared.Digits.{after_append, over}
 use Rattle.osm_model.proofs.Decimals.{power_some}
 use Rattle.osm_model.proofs.Around.{cut, up_to, from, with_sign-mul}
 

@@ -1,14 +1,8 @@
-pub mod RisingKeys
-pub mod ObjectParts
-pub mod References
+pub mod shared
 pub mod Around
-pub mod Digits
 pub mod DecimalValues
-pub mod OneDecimal
 pub mod LineLengths
-pub mod UniqueTags
 pub mod Decimals
-pub mod ReadBack
 pub mod DegreesLemmas
 pub mod EdgeSizes
 pub mod Leading

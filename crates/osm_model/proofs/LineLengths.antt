@@ -12,7 +12,7 @@ use Rattle.osm_model.specs.CanonicalDegrees.{degrees, decimals_of, with_point, i
 use Rattle.osm_model.specs.Degrees.{sign}
 use Rattle.osm_model.specs.Limits.{MetaInRange, BodyInRange}
 use Rattle.osm_model.proofs.Decimals.{short}
-use Rattle.osm_model.specs.LineLength.{number_len, body_len, text_bytes}
+use Rattle.osm_model.specs.internal.LineLength.{number_len, body_len, text_bytes}
 use Rattle.osm_model.specs.Moments.{Moment}
 use Rattle.osm_model.specs.declared.tag.Tag.{Tag}
 use Rattle.osm_model.specs.declared.meta.Meta.{Meta}

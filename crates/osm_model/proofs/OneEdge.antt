@@ -5,7 +5,7 @@ use Rattle.osm_model.specs.declared.fault.ModelFault.{ModelFault}
 use Rattle.osm_model.specs.declared.fault.ModelFault.TheVariants.{EmptyNumber, NotDecimal, TooManyDecimals, OutOfRange, SouthAboveNorth, ObjectTwice, KeyTwice, LimitPassed, NulInText}
 use Rattle.osm_model.specs.Degrees.{Decimal, Spells, point}
 use Rattle.osm_model.specs.Edges.{ExactEdge, IsEdge, IsEdgeFault, IsWithin}
-use Rattle.osm_model.proofs.OneDecimal.{one_decimal, not_empty}
+use Rattle.osm_model.proofs.shared.OneDecimal.{one_decimal, not_empty}
 
 faulty : (text : List ℕ) (axis : Axis) (fault : ModelFault) (d : Decimal) → IsEdgeFault text axis fault → Spells text d → IsWithin axis d → ⊥
 faulty text axis EmptyNumber d f h fits = not_empty d.negative d.whole (point d.fraction) h.decimal.whole (sym h.text_is ∙ f)

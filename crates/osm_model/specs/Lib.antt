@@ -5,10 +5,8 @@ pub mod Degrees
 pub mod CanonicalDegrees
 pub mod Elements
 pub mod CanonicalLine
-pub mod LineLength
 pub mod Limits
 pub mod Sets
-pub mod DecimalParts
 pub mod Edges
-pub mod EdgeUnits
 pub mod Boxes
+pub mod internal

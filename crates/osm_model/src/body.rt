@@ -11,8 +11,8 @@ pub enum Body {
     Node(Coord),
 }
 
-/// Hands on what a body's location keeps.
-pub fn know_place(body: &Body)
+/// Brings to a proof that a body's location is in range. It does nothing else.
+pub fn note_place(body: &Body)
     ensures { BodyInRange body.now }
 {
     let Body::Node(place) = body;

@@ -5,7 +5,7 @@ ghost use Rattle.std.specs.Str.Parse.{AllDigits, digits_value};
 ghost use Rattle.osm_model.specs.Degrees.{Decimal, Spells, IsDegrees};
 ghost use Rattle.osm_model.specs.CanonicalDegrees.{degrees};
 ghost use Rattle.osm_model.specs.Edges.{IsEdge, IsEdgeFault, IsWithin, IsAtMost, IsAtLeast, IsAbove};
-ghost use Rattle.osm_model.specs.EdgeUnits.{IsAround, signed_floor, signed_ceiling};
+ghost use Rattle.osm_model.specs.internal.EdgeUnits.{IsAround, signed_floor, signed_ceiling};
 
 use crate::axis::Axis;
 use crate::decimal::{Parts, split};
@@ -30,11 +30,11 @@ pub struct Edge<'a> {
 
 impl<'a> Model for Edge<'a> {
     ghost use Rattle.osm_model.specs.Edges.{ExactEdge, IsEdge};
-    ghost use Rattle.osm_model.specs.EdgeUnits.{IsBetween};
+    ghost use Rattle.osm_model.specs.internal.EdgeUnits.{IsBetween};
 
     ghost Value = { ExactEdge };
 
-    ghost use Rattle.osm_model.specs.DecimalParts.{decimal_of, HasPlainFraction};
+    ghost use Rattle.osm_model.specs.internal.DecimalParts.{decimal_of, HasPlainFraction};
 
     ghost view = { λ a. record { axis = a.axis; value = decimal_of a.parts } };
 

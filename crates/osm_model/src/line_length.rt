@@ -4,12 +4,12 @@ ghost use Rattle.std.specs.Prelude.{◌≡◌, ◌≤◌, ◌+◌, ◌^◌, ◌-
 ghost use Rattle.std.specs.List.{join_with_byte};
 ghost use Rattle.std.specs.Fmt.{signed_decimal, decimal};
 ghost use Rattle.osm_model.specs.CanonicalLine.{canonical_line, escaped, escaped_char, tag_text};
-ghost use Rattle.osm_model.specs.LineLength.{number_len, body_len, text_bytes};
+ghost use Rattle.osm_model.specs.internal.LineLength.{number_len, body_len, text_bytes};
 
-use crate::body::{Body, know_place};
+use crate::body::{Body, note_place};
 use crate::degrees_text::write_degrees;
 use crate::escape::{hex_places, is_literal};
-use crate::meta::{Meta, know_numbers};
+use crate::meta::{Meta, note_numbers};
 use crate::tag::Tag;
 use itoa::Buffer;
 
@@ -22,8 +22,9 @@ pub fn has_short_line(id: i64, meta: &Meta, tags: &[Tag], body: &Body) -> bool
     ensures { IsTrue result ↔ (length (canonical_line (record { id = id; meta = meta.now; tags = tags.now; body = body.now })) ≤ 2 ^ 24) }
 {
     if meta.user.len() <= FEW && has_few_bytes(tags) {
-        know_numbers(meta);
-        know_place(body);
+        // For the proof alone: numbers in range have few digits.
+        note_numbers(meta);
+        note_place(body);
         return true;
     }
     is_short(id, meta, tags, body)

@@ -22,8 +22,8 @@ pub struct Meta {
     pub user: Text,
 }
 
-/// Hands on what the numbers of metadata keep: the ranges of their types.
-pub fn know_numbers(meta: &Meta)
+/// Brings to a proof that the numbers of metadata are in the ranges of their types. It does nothing else.
+pub fn note_numbers(meta: &Meta)
     ensures { MetaInRange meta.now }
 {
     let _version = meta.version;

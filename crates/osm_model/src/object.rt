@@ -4,7 +4,7 @@ ghost use Rattle.std.specs.Prelude.{◌≡◌, ◌≤◌, ◌↔◌, IsTrue, All
 ghost use Rattle.osm_model.specs.Elements.{reference};
 ghost use Rattle.osm_model.specs.Limits.{IsShort, HasNoNul, Fits, IsClean, IsMadeOf, IsElement, Refuses};
 
-use crate::body::{Body, know_place};
+use crate::body::{Body, note_place};
 use crate::fault::ModelFault;
 use crate::kind::Kind;
 use crate::line_length::has_short_line;
@@ -70,7 +70,7 @@ impl Object {
         if !has_short_line(id, &meta, &tags, &body) {
             return Err(ModelFault::LimitPassed);
         }
-        know_place(&body);
+        note_place(&body);
         Ok(Object {
             id,
             meta,

@@ -48,7 +48,8 @@ impl ObjectSet {
         if !references_rise(&objects) {
             return Err(ModelFault::ObjectTwice);
         }
-        know_all(&objects);
+        // For the proof alone: a set's objects keep their limits.
+        note_elements(&objects);
         Ok(ObjectSet { objects })
     }
 
@@ -99,8 +100,8 @@ fn references_rise(objects: &[Object]) -> bool
     true
 }
 
-/// Hands on what each object keeps.
-fn know_all(objects: &[Object])
+/// Brings to a proof that each object keeps its limits. It does nothing else.
+fn note_elements(objects: &[Object])
     ensures { All IsElement objects.now }
 {
     for object in objects {

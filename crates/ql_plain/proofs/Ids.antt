@@ -3,7 +3,7 @@ use Rattle.std.proofs.Common.{◌≡◌, ◌≢◌, ℕ, ◌<◌, ◌≤◌, Lis
 use Rattle.std.specs.Char.{digit_value}
 use Rattle.std.specs.Str.Parse.{AllDigits, digits_value}
 use Rattle.osm_model.specs.Degrees.{IsDigits, BeginsOtherwise, sign, with_sign}
-use Rattle.osm_model.proofs.Digits.{same_front}
+use Rattle.osm_model.proofs.shared.Digits.{same_front}
 use Rattle.opl_codec.specs.Fields.{IsInteger}
 
 -- a digit is no minus

@@ -1,6 +1,6 @@
+pub mod shared
 pub mod Ids
 pub mod Stops
 pub mod Opened
-pub mod Laws
 pub mod OneObject
 pub mod Meanings

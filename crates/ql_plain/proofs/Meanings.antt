@@ -8,7 +8,7 @@ use Rattle.osm_model.specs.Sets.{IsObjectSet, object_at}
 use Rattle.osm_model.specs.declared.reference.Ref.{Ref}
 use Rattle.osm_model.specs.declared.kind.Kind.{Kind}
 use Rattle.osm_model.specs.declared.kind.Kind.TheVariants as kinds
-use Rattle.osm_model.proofs.References.{refs_total}
+use Rattle.osm_model.proofs.shared.References.{refs_total}
 use Rattle.opl_codec.specs.Text.{text_of}
 use Rattle.opl_codec.specs.declared.out_mode.OutMode.TheVariants as modes
 use Rattle.ql_plain.specs.declared.query.Query.{Query}

@@ -1,7 +1,7 @@
 -- Boxes whose corners are spelled.
 use Rattle.std.proofs.Common.{◌≡◌, ℕ, List, Result, Ok, Err, refl, ◌∙◌, ap, subst}
 use Rattle.std.specs.Prelude.{IfOk, IfErr}
-use Rattle.osm_model.proofs.OneDecimal.{one_decimal}
+use Rattle.osm_model.proofs.shared.OneDecimal.{one_decimal}
 use Rattle.osm_model.specs.Boxes.{ExactBox, IsBox}
 use Rattle.osm_model.specs.Degrees.{Decimal, Spells}
 use Rattle.osm_model.specs.Edges.{ExactEdge, IsEdge, IsWithin, IsAbove}

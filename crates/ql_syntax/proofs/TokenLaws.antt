@@ -3,7 +3,7 @@ use Rattle.std.proofs.Common.{◌≡◌, ℕ, ◌<◌, ◌&&◌, List, [], ◌�
 use Rattle.std.specs.Char.{digit_value}
 use Rattle.std.specs.List.{list_all}
 use Rattle.osm_model.specs.Degrees.{Decimal, IsDigits, IsFraction, BeginsOtherwise, sign, point}
-use Rattle.osm_model.proofs.Digits.{same_front}
+use Rattle.osm_model.proofs.shared.Digits.{same_front}
 use Rattle.ql_syntax.specs.declared.cause.QlCause.{QlCause}
 use Rattle.ql_syntax.specs.Words.{IsRun, IsWord, IsName, IsNoName, begins_with, is_run_byte, is_word_start}
 use Rattle.ql_syntax.specs.Numbers.{IsNumber, IsNoNumber, IsMisfit, NoDigit, NoFraction, is_minus, is_point}

@@ -1,6 +1,6 @@
 use Rattle.std.proofs.Common.{refl}
 use Rattle.std.proofs.lemmas.List.Sorted.{IsPermutation-refl}
-use Rattle.osm_model.proofs.ObjectParts.{twice}
+use Rattle.osm_model.proofs.shared.ObjectParts.{twice}
 use Rattle.opl_codec.proofs.ReadTags.{distinct_from_rising}
 use Rattle.opl_codec.proofs.key_order.with_distinct_keys.Goals as goal
 

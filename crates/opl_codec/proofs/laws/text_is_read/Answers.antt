@@ -1,8 +1,8 @@
 use Rattle.opl_codec.specs.declared.change.Change.TheVariants.{Put}
 use Rattle.osm_model.specs.CanonicalLine.{canonical_line}
 use Rattle.opl_codec.proofs.ReadLaw.{one_change}
-use Rattle.opl_codec.proofs.ReadPlain.{spells_plain}
-use Rattle.opl_codec.proofs.TextFields.{text_of-Meta, line_spells, line_lacks_end}
+use Rattle.opl_codec.proofs.shared.ReadPlain.{spells_plain}
+use Rattle.opl_codec.proofs.shared.TextFields.{text_of-Meta, line_spells, line_lacks_end}
 use Rattle.opl_codec.proofs.TextPieces.{one_piece}
 use Rattle.opl_codec.proofs.laws.text_is_read.Goals as goal
 

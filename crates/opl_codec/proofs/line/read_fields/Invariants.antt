@@ -1,6 +1,6 @@
 use Rattle.std.proofs.Common.{◌≡◌, ◌++◌, ◌∷◌, ℕ, List}
 use Rattle.opl_codec.specs.Fields.{pieces, IsInteger}
-use Rattle.opl_codec.specs.Reading.{Reads}
+use Rattle.opl_codec.specs.internal.Reading.{Reads}
 use Rattle.opl_codec.proofs.ReadPieces.{pieces_left, left_len}
 use Rattle.opl_codec.proofs.ReadLines.{LeftAt}
 use Rattle.opl_codec.proofs.line.read_fields.Given as goal

@@ -1,14 +1,14 @@
 use Rattle.std.proofs.Common.{◌≤◌, ◌++◌, ◌^◌, arith, length, length-append, inl, refl}
 use Rattle.std.proofs.KnownBytes.{Consumes-trans}
 use Rattle.std.proofs.lemmas.Result.{err_from_is_err_and}
-use Rattle.opl_codec.proofs.LoadLemmas.{all_read, told_of_ruin, told_outside, told_at_end, held_at_end, outside_piece, told_unread}
+use Rattle.opl_codec.proofs.LoadLemmas.{all_read, told_of_no_set, told_outside, told_at_end, held_at_end, outside_piece, told_unread}
 use Rattle.opl_codec.proofs.load.read_set.Goals as goal
 
 pub returns-in-Err-clause-only : goal.returns-in-Err-clause-only
 returns-in-Err-clause-only g c =
     let i = c.loop-more.invariant in
     let outside = rw (← c.cause_of.ensures) at (outside_piece c.in-Err.fault) in
-    told_of_ruin _ _ i.front _ i.read (told_outside i.front _ _ _ _ i.loaded outside c.refusal.ensures.cause)
+    told_of_no_set _ _ i.front _ i.read (told_outside i.front _ _ _ _ i.loaded outside c.refusal.ensures.cause)
 
 pub returns-in-Err-clause-endless : goal.returns-in-Err-clause-endless
 returns-in-Err-clause-endless g c =
@@ -41,4 +41,4 @@ returns-in_err-feed-clause-only g c =
     let i = c.loop-more.invariant in
     let p = err_from_is_err_and c.from_residual.result c.from_residual.ensures.1 in
     let read = rw (← c.last.ensures) at c.in-Ok.ensures.read in
-    rw (p.1, p.2) (told_of_ruin _ _ _ _ (Consumes-trans _ _ _ i.front _ i.read read) (c.in_err-feed.ensures.read i.front i.loaded))
+    rw (p.1, p.2) (told_of_no_set _ _ _ _ (Consumes-trans _ _ _ i.front _ i.read read) (c.in_err-feed.ensures.read i.front i.loaded))

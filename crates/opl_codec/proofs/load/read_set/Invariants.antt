@@ -1,6 +1,6 @@
 use Rattle.std.proofs.Common.{List, ℕ, [], ◌≤◌, ◌^◌, ◌-◌, length}
 use Rattle.std.specs.Io.KnownBytes.{Consumes}
-use Rattle.opl_codec.specs.Loading.{Loads}
+use Rattle.opl_codec.specs.internal.Loading.{Loads}
 use Rattle.opl_codec.proofs.load.read_set.Given as goal
 
 abbrev pub invariant-loop-more : goal.invariant-loop-more

@@ -1,5 +1,5 @@
 use Rattle.std.proofs.Common.{arith, sym, ◌∙◌}
-use Rattle.opl_codec.proofs.SayLemmas.{apart_objects}
+use Rattle.opl_codec.proofs.shared.SayLemmas.{apart_objects}
 use Rattle.opl_codec.proofs.repeats.is_repeat.Goals as goal
 
 pub returns : goal.returns

@@ -1,16 +1,16 @@
 use Rattle.std.proofs.Common.{arith, ◌<◌, ◌-◌, ◌+◌, length, take, drop, refl, []}
 use Rattle.opl_codec.specs.Fields.{pieces}
 use Rattle.opl_codec.proofs.ReadPieces.{rest_is}
-use Rattle.opl_codec.proofs.ReadLiterals.{sign_there, comma_there, tag_first, ends_there, goes_on, shorter, ends_with}
+use Rattle.opl_codec.proofs.shared.ReadLiterals.{sign_there, comma_there, tag_first, ends_there, goes_on, shorter, ends_with}
 use Rattle.opl_codec.proofs.tag_spelling.first_tag.Goals as goal
 
-pub misfit_at-requires : goal.misfit_at-requires
-misfit_at-requires c tags each =
+pub field_fault_at-requires : goal.field_fault_at-requires
+field_fault_at-requires c tags each =
     let there = sign_there _ _ tags c.literal_len-key_len.ensures.within c.literal_len-key_len.ensures.literal c.literal_len-key_len.ensures.stop each in
     let yes = c.if-not-is_at.ensures.1 there in cc
 
-pub misfit_at-requires-then-behind-value_len-ne44 : goal.misfit_at-requires-then-behind-value_len-ne44
-misfit_at-requires-then-behind-value_len-ne44 c tags each =
+pub field_fault_at-requires-then-behind-value_len-ne44 : goal.field_fault_at-requires-then-behind-value_len-ne44
+field_fault_at-requires-then-behind-value_len-ne44 c tags each =
     let text = c.args.text.now in
     let n = c.literal_len-key_len.result in
     let m = c.literal_len-value_len.result in

@@ -1,5 +1,5 @@
 use Rattle.std.proofs.Common.{sym}
-use Rattle.opl_codec.proofs.ReadLiterals.{literal_more, stops}
+use Rattle.opl_codec.proofs.shared.ReadLiterals.{literal_more, stops}
 use Rattle.opl_codec.proofs.tag_spelling.literal_len.Goals as goal
 
 pub loop-i-preserved : goal.loop-i-preserved

@@ -1,6 +1,6 @@
 use Rattle.std.proofs.Common.{◌≡◌, ◌++◌, ℕ, List}
 use Rattle.opl_codec.specs.Fields.{pieces}
-use Rattle.opl_codec.specs.Reading.{AreFirstTags}
+use Rattle.opl_codec.specs.internal.Reading.{AreFirstTags}
 use Rattle.opl_codec.proofs.ReadPieces.{pieces_left, left_len}
 use Rattle.opl_codec.proofs.ReadTags.{LeftEnds}
 use Rattle.opl_codec.proofs.tags.split_tags.Given as goal

@@ -1,4 +1,4 @@
-use Rattle.opl_codec.proofs.ReadLiterals.{literal_utf8}
+use Rattle.opl_codec.proofs.shared.ReadLiterals.{literal_utf8}
 use Rattle.opl_codec.proofs.tags.text_of.Goals as goal
 
 pub from_utf8_unchecked-text-requires : goal.from_utf8_unchecked-text-requires

@@ -1,4 +1,4 @@
-use Rattle.osm_check.proofs.Held.{held_set}
+use Rattle.osm_check.proofs.shared.Held.{held_set}
 use Rattle.osm_check.proofs.laws.held_set.Goals as goal
 
 pub returns : goal.returns

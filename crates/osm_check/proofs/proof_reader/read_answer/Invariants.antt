@@ -1,6 +1,6 @@
 use Rattle.std.proofs.Common.{◌≡◌, ◌++◌, List, length}
 use Rattle.osm_model.specs.Elements.{Element}
-use Rattle.osm_check.specs.Replays.{HasRead}
+use Rattle.osm_check.specs.internal.Replays.{HasRead}
 use Rattle.osm_check.specs.Roots.{proof_text}
 use Rattle.osm_check.proofs.proof_reader.read_answer.Given as goal
 

@@ -2,7 +2,7 @@ use Rattle.std.proofs.Common.{◌≡◌, Err, ap, sym, subst, ◌∙◌}
 use Rattle.ql_plain.specs.Queries.{FaultOf}
 use Rattle.ql_plain.specs.declared.fault.QlFault.{QlFault}
 use Rattle.std.proofs.lemmas.Result.{err_from_is_err_and}
-use Rattle.ql_plain.proofs.Laws.{never_both, one_fault}
+use Rattle.ql_plain.proofs.shared.Laws.{never_both, one_fault}
 use Rattle.osm_check.specs.declared.prove_fault.ProveFault.TheVariants.{Query}
 use Rattle.osm_check.proofs.prover.prove.Goals as goal
 

@@ -1,7 +1,7 @@
 use Rattle.std.proofs.Common.{List, ℕ, sym, subst, ◌∙◌}
 use Rattle.osm_check.specs.Roots.{IsProofOf}
 use Rattle.osm_check.specs.Verdicts.{IsAnswer as IsRightAnswer}
-use Rattle.osm_check.proofs.Held.{held_set}
+use Rattle.osm_check.proofs.shared.Held.{held_set}
 use Rattle.osm_mirror.proofs.AskLemmas.{explained_unread, outside_unread, outside_unproved}
 use Rattle.osm_mirror.proofs.BegunLemmas.{answer_is, begun_answer, whole_answer}
 use Rattle.osm_mirror.proofs.ask.ask.Goals as goal

@@ -1,6 +1,6 @@
 use Rattle.std.proofs.Common.{arith, length, ap}
 use Rattle.std.proofs.lemmas.Bool.Decides.{nat_tests}
-use Rattle.osm_model.proofs.Digits.{all_or_not, front_is_all}
+use Rattle.osm_model.proofs.shared.Digits.{all_or_not, front_is_all}
 use Rattle.osm_model.proofs.decimal.are_digits.Goals as goal
 
 pub returns-in_default : goal.returns-in_default

@@ -1,6 +1,6 @@
 use Rattle.std.proofs.Common.{arith, length-drop}
 use Rattle.std.proofs.lemmas.List.{take_all}
-use Rattle.osm_model.proofs.Digits.{none_without_digits, none_behind, if_none_weaker}
+use Rattle.osm_model.proofs.shared.Digits.{none_without_digits, none_behind, if_none_weaker}
 use Rattle.osm_model.proofs.decimal.split_unsigned.Goals as goal
 
 pub returns-then-len-eq0-clause-none : goal.returns-then-len-eq0-clause-none

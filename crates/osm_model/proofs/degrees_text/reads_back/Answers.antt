@@ -1,4 +1,4 @@
-use Rattle.osm_model.proofs.ReadBack.{reads_back}
+use Rattle.osm_model.proofs.shared.ReadBack.{reads_back}
 use Rattle.osm_model.proofs.degrees_text.reads_back.Goals as goal
 
 pub returns : goal.returns

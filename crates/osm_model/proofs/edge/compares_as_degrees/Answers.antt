@@ -1,6 +1,6 @@
 use Rattle.osm_model.specs.CanonicalDegrees.{degrees}
 use Rattle.osm_model.proofs.EdgeLaws.{compares_as_degrees}
-use Rattle.osm_model.proofs.ReadBack.{reads_back}
+use Rattle.osm_model.proofs.shared.ReadBack.{reads_back}
 use Rattle.osm_model.proofs.edge.compares_as_degrees.Goals as goal
 
 pub returns-clause-read : goal.returns-clause-read

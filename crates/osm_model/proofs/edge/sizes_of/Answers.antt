@@ -1,7 +1,7 @@
 use Rattle.std.proofs.Common.{◌≡◌, ◌⊎◌, inl, inr, ℕ, ◌+◌, ◌-◌, ◌^◌, ◌++◌, length, min, arith, ◌∙◌, refl}
 use Rattle.std.proofs.lemmas.Bool.{cases_lt}
 use Rattle.std.specs.Str.Parse.{digits_value}
-use Rattle.osm_model.proofs.Digits.{over, under}
+use Rattle.osm_model.proofs.shared.Digits.{over, under}
 use Rattle.osm_model.proofs.Decimals.{power_some}
 use Rattle.osm_model.proofs.EdgeSizes.{around, far}
 use Rattle.osm_model.proofs.edge.sizes_of.Goals as goal

@@ -1,7 +1,7 @@
 use Rattle.std.proofs.Common.{◌≤◌, arith}
 use Rattle.std.proofs.lemmas.Bool.Decides.{nat_tests}
 use Rattle.std.proofs.lemmas.List.{at_drop_all}
-use Rattle.osm_model.specs.LineLength.{text_bytes}
+use Rattle.osm_model.specs.internal.LineLength.{text_bytes}
 use Rattle.osm_model.proofs.LineLengths.{bytes_step}
 use Rattle.osm_model.proofs.line_length.has_few_bytes.Goals as goal
 

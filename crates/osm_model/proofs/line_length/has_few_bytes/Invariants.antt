@@ -1,5 +1,5 @@
 use Rattle.std.proofs.Common.{◌≡◌, ◌≤◌, ◌+◌, drop, min}
-use Rattle.osm_model.specs.LineLength.{text_bytes}
+use Rattle.osm_model.specs.internal.LineLength.{text_bytes}
 use Rattle.osm_model.proofs.line_length.has_few_bytes.Given as goal
 
 abbrev pub invariant-loop-tag : goal.invariant-loop-tag

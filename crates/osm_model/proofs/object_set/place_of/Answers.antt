@@ -1,7 +1,7 @@
 use Rattle.std.proofs.Common.{rules}
 use Rattle.std.proofs.lemmas.List.Sorted.{answers_always}
 use Rattle.osm_model.specs.Elements.{Element, reference, ref_cmp, kind_byte}
-use Rattle.osm_model.proofs.References.{refs_total, searched}
+use Rattle.osm_model.proofs.shared.References.{refs_total, searched}
 use Rattle.osm_model.proofs.object_set.place_of.Goals as goal
 
 pub returns : goal.returns

@@ -1,4 +1,4 @@
-use Rattle.ql_plain.proofs.Laws.{fault_place}
+use Rattle.ql_plain.proofs.shared.Laws.{fault_place}
 use Rattle.ql_plain.proofs.parser.fault_place.Goals as goal
 
 pub returns : goal.returns

@@ -1,4 +1,4 @@
-use Rattle.ql_plain.proofs.Laws.{never_both}
+use Rattle.ql_plain.proofs.shared.Laws.{never_both}
 use Rattle.ql_plain.proofs.parser.never_both.Goals as goal
 
 pub returns : goal.returns

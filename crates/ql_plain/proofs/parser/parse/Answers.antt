@@ -1,4 +1,4 @@
-use Rattle.ql_plain.proofs.Laws.{only}
+use Rattle.ql_plain.proofs.shared.Laws.{only}
 use Rattle.ql_plain.proofs.parser.parse.Goals as goal
 
 pub returns-clause-only : goal.returns-clause-only

@@ -1,7 +1,7 @@
 use Rattle.std.proofs.Common.{◌≡◌, ◌++◌, ◌∷◌, [], List, ℕ, ◌∙◌, sym, ap, inr, append-nil}
 use Rattle.std.proofs.lemmas.Result.{err_from_is_err_and}
 use Rattle.opl_codec.specs.Fields.{pieces}
-use Rattle.opl_codec.proofs.SayLemmas.{repeated}
+use Rattle.opl_codec.proofs.shared.SayLemmas.{repeated}
 use Rattle.opl_codec.proofs.LoadLemmas.{sum_map, no_set}
 use Rattle.opl_codec.proofs.loader.Loader.finish.Goals as goal
 

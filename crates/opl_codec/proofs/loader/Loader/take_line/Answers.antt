@@ -1,7 +1,7 @@
 use Rattle.opl_codec.specs.Lines.{SpellsObject}
 use Rattle.opl_codec.specs.declared.change.Change.TheVariants.{Put}
 use Rattle.opl_codec.proofs.LoadLemmas.{finite_line}
-use Rattle.opl_codec.proofs.SayLemmas.{say_more, told_line}
+use Rattle.opl_codec.proofs.shared.SayLemmas.{say_more, told_line}
 use Rattle.opl_codec.proofs.loader.Loader.take_line.Goals as goal
 
 pub returns-in_ok-push-in-Ok-Some-Put-clause-taken :

@@ -1,6 +1,6 @@
 use Rattle.std.proofs.Common.{◌≡◌, ◌++◌, [], List, ℕ, length}
 use Rattle.opl_codec.specs.Fields.{pieces}
-use Rattle.opl_codec.specs.Loading.{Say}
+use Rattle.opl_codec.specs.internal.Loading.{Say}
 use Rattle.opl_codec.proofs.loader.Loader.take_lines.Given as goal
 
 abbrev pub invariant-loop-line : goal.invariant-loop-line

@@ -4,7 +4,7 @@ use Rattle.std.proofs.lemmas.Slice.Eq.{bytes_eq-Decides}
 use Rattle.osm_model.specs.CanonicalLine.{canonical_line}
 use Rattle.opl_codec.specs.Text.{text_of}
 use Rattle.opl_codec.specs.declared.out_mode.OutMode.TheVariants as modes
-use Rattle.opl_codec.proofs.TextFields.{text_of-Meta}
+use Rattle.opl_codec.proofs.shared.TextFields.{text_of-Meta}
 use Rattle.osm_check.proofs.Lines.{all_but_last}
 use Rattle.osm_check.proofs.proof_reader.ProofReader.is_canonical.Goals as goal
 

@@ -1,7 +1,7 @@
 use Rattle.std.proofs.Common.{◌≡◌, ◌++◌, ◌∷◌, [], Some, List, ℕ, sym, ◌∙◌, ap}
 use Rattle.ql_plain.specs.Meaning.{meaning}
 use Rattle.osm_check.specs.declared.proof_reader.ProofReader.{ProofReader}
-use Rattle.osm_check.specs.Replays.{IsNext, last_reference}
+use Rattle.osm_check.specs.internal.Replays.{IsNext, last_reference}
 use Rattle.osm_check.proofs.Answers.{answer_grows, answer_stays}
 use Rattle.osm_check.proofs.Sets.{last_of_more}
 use Rattle.osm_check.proofs.proof_reader.ProofReader.take_line.Goals.{then-is_asked+in_ok-write_object, else-is_asked}

@@ -4,8 +4,8 @@ use Rattle.std.proofs.lemmas.Cmp.{eq_by_cmp_equiv}
 use Rattle.std.proofs.lemmas.List.Sorted.{IsPermutation-map, IsPermutation-sym}
 use Rattle.std.proofs.lemmas.Map.Keys.{IsDistinct-IsPermutation, IsDistinct-from_sorted}
 use Rattle.osm_model.specs.Elements.{Element, reference, ref_cmp}
-use Rattle.osm_model.proofs.References.{refs_total, twice}
-use Rattle.osm_model.proofs.RisingKeys.{rising}
+use Rattle.osm_model.proofs.shared.References.{refs_total, twice}
+use Rattle.osm_model.proofs.shared.RisingKeys.{rising}
 use Rattle.osm_model.proofs.object_set.ObjectSet.from_objects.Goals as goal
 
 pub returns-then-not-references_rise-clause-twice : goal.returns-then-not-references_rise-clause-twice
@@ -15,7 +15,7 @@ returns-then-not-references_rise-clause-twice c =
 pub invariant_of-result : goal.invariant_of-result
 invariant_of-result c = record {
   rising = rising (λ (o : Element). reference o) refs_total _ (rw c.deref.ensures.value at (c.if-not-references_rise.ensures.0 refl));
-  elements = rw c.deref-2.ensures.value at c.know_all.ensures;
+  elements = rw c.deref-2.ensures.value at c.note_elements.ensures;
 }
 
 pub returns-clause-made : goal.returns-clause-made

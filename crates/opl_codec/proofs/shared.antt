@@ -1,0 +1,6 @@
+-- Lemmas for the crates above.
+pub mod ReadIds
+pub mod ReadLiterals
+pub mod ReadPlain
+pub mod SayLemmas
+pub mod TextFields

@@ -1,0 +1,8 @@
+-- Lemmas for the crates above.
+pub mod Digits
+pub mod ObjectParts
+pub mod OneDecimal
+pub mod ReadBack
+pub mod References
+pub mod RisingKeys
+pub mod UniqueTags
