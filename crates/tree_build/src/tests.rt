@@ -15,7 +15,9 @@ use std::alloc::{AllocError, Global};
 use std::cmp::Ordering;
 use std::process::Abort;
 use std::test::Fail;
-use tree_node::{Digest, NodeRef, Shelf, ShelfFault, Stock, Tree, digest_of};
+use tree_node::{
+    Digest, ENTRY_LIMIT, KEY_LIMIT, NodeRef, Shelf, ShelfFault, Stock, Tree, VALUE_LIMIT, digest_of,
+};
 
 /// The digest in lower-case hexadecimal.
 fn shown(alloc: Global, digest: &Digest) -> Result<String, AllocError> {
@@ -32,7 +34,7 @@ fn has_tree(entries: &[Entry<'_>]) -> bool
 {
     let mut last: Option<&[u8]> = None;
     for entry in entries {
-        if entry.key.len() > 8203 || entry.value.len() > 16_777_216 {
+        if entry.key.len() > KEY_LIMIT || entry.value.len() > VALUE_LIMIT {
             return false;
         }
         if !is_above(last, entry.key) {
@@ -40,7 +42,7 @@ fn has_tree(entries: &[Entry<'_>]) -> bool
         }
         last = Some(entry.key);
     }
-    entries.len() <= 536_870_912
+    entries.len() <= ENTRY_LIMIT
 }
 
 /// Whether a key is above the one before it; the first of all is.

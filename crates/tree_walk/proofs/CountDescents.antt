@@ -3,12 +3,13 @@
 use Rattle.std.proofs.Common.{◌≡◌, ℕ, suc, ◌+◌, ◌-◌, ◌^◌, ◌<◌, ◌≤◌, min, List, length, Option, None, ◌⊎◌, inl, inr, Ok, sym, subst, ◌∙◌, arith}
 use Rattle.std.proofs.lemmas.Bool.{cases_order}
 use Rattle.tree_node.specs.Nodes.{Binding, Link, Node}
-use Rattle.tree_node.specs.Trees.{Clash, GrownByAll, Shape, Stands, greatest_of, left_at, level_at, levels, node_in}
+use Rattle.tree_node.specs.Outcomes.{Clash, GrownByAll, Cause, Outcome, RefusedFor}
+use Rattle.tree_node.specs.Trees.{Shape, Stands, greatest_of, left_at, level_at, levels, node_in}
 use Rattle.tree_walk.specs.Choices.{AreThose}
-use Rattle.tree_walk.specs.Counts.{IsCountAt, IsCoveredChild, IsOpenChild, IsOpenIn, IsOpenNode, IsOpened, capped, sum_stated}
-use Rattle.tree_walk.specs.Outcomes.{Cause, Outcome, RefusedFor}
-use Rattle.tree_walk.specs.Pendings.{AreStated, IsOneOf, children_of_all, entries_of_all, placed}
-use Rattle.tree_walk.specs.Ranges.{IsExcepted, Range}
+use Rattle.tree_walk.specs.internal.Counts.{IsCountAt, IsCoveredChild, IsOpenChild, IsOpenIn, IsOpenNode, IsOpened, capped, sum_stated}
+use Rattle.tree_walk.specs.internal.Pendings.{AreStated, IsOneOf, entries_of_all}
+use Rattle.tree_walk.specs.Spans.{children_of_all, placed}
+use Rattle.tree_walk.specs.Ranges.{IsCovered, Range}
 use Rattle.tree_walk.specs.Walks.{IsEntryIn, MeetsAt}
 use Rattle.tree_walk.specs.declared.fault.WalkFault.{WalkFault}
 use Rattle.tree_walk.proofs.CountLemmas.{capped_sum}
@@ -51,13 +52,13 @@ module _ (tree : ℕ) (range : Range) (high : ℕ) (spots : List (Option (List �
   )
     where
       at : (n place : ℕ) → n ≡ level → Stands (levels shape tree entries) n place bytes → MeetsAt range (levels shape tree entries) n place
-          → (¬ IsExcepted range (left_at (level_at (levels shape tree entries) n) place) (greatest_of (node_in (levels shape tree entries) n place))) → new bytes
+          → (¬ IsCovered range (left_at (level_at (levels shape tree entries) n) place) (greatest_of (node_in (levels shape tree entries) n place))) → new bytes
       at n place e stands meets bare =
           (last bytes).1 (inr ((open_met shape tree entries range level nodes lt those bytes).1 (
             place,
             subst (λ (m : ℕ). Stands (levels shape tree entries) m place bytes) e stands,
             subst (λ (m : ℕ). MeetsAt range (levels shape tree entries) m place) e meets,
-            subst (λ (m : ℕ). ¬ IsExcepted range (left_at (level_at (levels shape tree entries) m) place) (greatest_of (node_in (levels shape tree entries) m place))) e bare,
+            subst (λ (m : ℕ). ¬ IsCovered range (left_at (level_at (levels shape tree entries) m) place) (greatest_of (node_in (levels shape tree entries) m place))) e bare,
           )))
 
       go : IsOpenIn range (levels shape tree entries) level high bytes → new bytes

@@ -4,7 +4,7 @@ use Rattle.std.specs.List.{AllByRecursion}
 use Rattle.tree_node.specs.Nodes.{level_of}
 use Rattle.tree_node.specs.Shelves.{SameNodes}
 use Rattle.tree_walk.specs.Fetches.{AreDifferent, HasFetched, IsAmong}
-use Rattle.tree_walk.specs.Pendings.{FetchesBelow, FetchesLevel, IsBetweenLevels, IsOfLevel}
+use Rattle.tree_walk.specs.internal.Pendings.{FetchesBelow, FetchesLevel, IsBetweenLevels, IsOfLevel}
 use Rattle.tree_walk.specs.declared.fault.WalkFault.{WalkFault}
 use Rattle.tree_walk.proofs.FetchLemmas.{all_append, all_weaker, among_parts, fetched_none, fetched_then}
 use Rattle.tree_walk.proofs.LevelFetches.{one_spelled}

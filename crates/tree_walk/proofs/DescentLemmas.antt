@@ -3,11 +3,12 @@
 use Rattle.std.proofs.Common.{◌≡◌, ℕ, suc, ◌<◌, ◌≤◌, List, length, Option, None, ◌⊎◌, inl, inr, Result, Ok, Err, sym, subst, arith}
 use Rattle.std.proofs.lemmas.Bool.{cases_order}
 use Rattle.tree_node.specs.Nodes.{Binding, Link, Node}
-use Rattle.tree_node.specs.Trees.{Clash, GrownByAll, Shape, Stands, greatest_of, level_at, levels}
+use Rattle.tree_node.specs.Outcomes.{Clash, GrownByAll, Cause, Outcome, RefusedFor}
+use Rattle.tree_node.specs.Trees.{Shape, Stands, greatest_of, level_at, levels}
 use Rattle.tree_walk.specs.Choices.{AreThose}
-use Rattle.tree_walk.specs.Descents.{IsMetIn, IsReached}
-use Rattle.tree_walk.specs.Outcomes.{Cause, Outcome, RefusedFor}
-use Rattle.tree_walk.specs.Pendings.{AreStated, IsMetChild, IsMetNode, IsOneOf, children_of_all, entries_of_all, placed}
+use Rattle.tree_walk.specs.internal.Descents.{IsMetIn, IsReached}
+use Rattle.tree_walk.specs.internal.Pendings.{AreStated, IsMetNode, IsOneOf, entries_of_all}
+use Rattle.tree_walk.specs.Spans.{IsMetChild, children_of_all, placed}
 use Rattle.tree_walk.specs.Ranges.{Range}
 use Rattle.tree_walk.specs.Walks.{IsEntryIn, MeetsAt}
 use Rattle.tree_walk.specs.declared.fault.WalkFault.{WalkFault}

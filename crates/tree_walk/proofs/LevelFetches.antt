@@ -3,13 +3,13 @@ use Rattle.std.proofs.Common.{◌≡◌, ℕ, List, [], ◌∷◌, ◌++◌, Opt
 use Rattle.std.proofs.lemmas.List.{append-nil}
 use Rattle.std.specs.List.{AllByRecursion}
 use Rattle.tree_node.specs.Nodes.{Link, Node, Spells, level_of}
-use Rattle.tree_node.specs.OrderLemmas.{not_itself}
+use Rattle.tree_node.specs.internal.OrderLemmas.{not_itself}
 use Rattle.tree_node.specs.Shelves.{SameNodes}
 use Rattle.tree_node.specs.Trees.{greatest_of}
-use Rattle.tree_node.proofs.FieldLemmas.{ok_is}
-use Rattle.tree_node.proofs.NodeLaws.{node_again}
+use Rattle.tree_node.proofs.shared.FieldLemmas.{ok_is}
+use Rattle.tree_node.proofs.shared.NodeLaws.{node_again}
 use Rattle.tree_walk.specs.Fetches.{AreDifferent, HasFetched, IsAmong}
-use Rattle.tree_walk.specs.Pendings.{AreInOrder, FetchedFew, FetchedNode, FetchesLevel, IsOfLevel}
+use Rattle.tree_walk.specs.internal.Pendings.{AreInOrder, FetchedFew, FetchedNode, FetchesLevel, IsOfLevel}
 use Rattle.tree_walk.specs.Ranges.{IsAboveLeft, IsAtMost, IsNoHigher}
 use Rattle.tree_walk.specs.declared.fault.WalkFault.{WalkFault}
 use Rattle.tree_walk.proofs.FetchLemmas.{all_append, all_weaker, among_parts, fetched_none, fetched_one, fetched_then}

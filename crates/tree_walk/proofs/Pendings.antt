@@ -3,7 +3,7 @@ use Rattle.std.proofs.Common.{◌≡◌, ℕ, ◌+◌, ◌<◌, List, ◌∷◌,
 use Rattle.std.specs.Result.{IsErrAnd}
 use Rattle.std.proofs.lemmas.List.{drop_more}
 use Rattle.tree_node.specs.Nodes.{AreRisingFrom, Inner, Link, greatests_of}
-use Rattle.tree_walk.specs.Pendings.{FetchedNode, StartAbove, spot_of, spots_of}
+use Rattle.tree_walk.specs.internal.Pendings.{FetchedNode, StartAbove, spot_of, spots_of}
 use Rattle.tree_walk.specs.declared.fault.WalkFault.{WalkFault}
 use Rattle.tree_walk.specs.declared.pending.Pending.{Pending}
 use Rattle.tree_walk.proofs.SpotOrder.{rises_above}

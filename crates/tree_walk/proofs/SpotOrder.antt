@@ -4,7 +4,8 @@ use Rattle.std.specs.List.{AllByRecursion}
 use Rattle.tree_node.specs.Nodes.{AreRisingFrom, Link, greatests_of}
 use Rattle.tree_node.specs.Trees.{last_key}
 use Rattle.tree_walk.specs.Choices.{AreThose}
-use Rattle.tree_walk.specs.Pendings.{AreInOrder, StartAbove, children_placed}
+use Rattle.tree_walk.specs.internal.Pendings.{AreInOrder, StartAbove}
+use Rattle.tree_walk.specs.Spans.{children_placed}
 use Rattle.tree_walk.specs.Ranges.{IsAboveLeft, IsAtMost, IsNoHigher}
 use Rattle.tree_walk.proofs.FetchLemmas.{all_append, all_weaker}
 use Rattle.tree_walk.proofs.KeyLemmas.{at_most_below, at_most_trans}

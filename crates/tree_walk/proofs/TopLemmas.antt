@@ -5,14 +5,15 @@ use Rattle.std.proofs.lemmas.Bool.{cases_order}
 use Rattle.tree_node.specs.Nodes.{AreBytes, Binding, Inner, IsTree, Leaf, Link, Node, level_of}
 use Rattle.tree_node.specs.NodeRefs.{number_of}
 use Rattle.tree_node.specs.Shelves.{SameNodes}
-use Rattle.tree_node.specs.Trees.{Clash, GrownByAll, HasTree, Shape, Stands, entries_in, level_at, levels, link_to, links_in, node_in, top_of}
+use Rattle.tree_node.specs.Outcomes.{Clash, GrownByAll, Cause, Outcome, RefusedFor}
+use Rattle.tree_node.specs.Trees.{HasTree, Shape, Stands, entries_in, level_at, levels, link_to, links_in, node_in, top_of}
 use Rattle.tree_node.specs.declared.tree.Tree.{Tree}
 use Rattle.tree_node.specs.declared.tree.Tree.TheVariants.{Objects, Tags, Cells, Backs}
 use Rattle.tree_walk.specs.Choices.{AreThose}
-use Rattle.tree_walk.specs.Descents.{IsMetIn, IsReached}
+use Rattle.tree_walk.specs.internal.Descents.{IsMetIn, IsReached}
 use Rattle.tree_walk.specs.Fetches.{AreDifferent, Fetches, HasFetched, IsNodeText}
-use Rattle.tree_walk.specs.Outcomes.{Cause, Outcome, RefusedFor}
-use Rattle.tree_walk.specs.Pendings.{FetchedFew, FetchedNode, FetchesBelow, IsBetweenLevels, IsMetChild, children_placed}
+use Rattle.tree_walk.specs.internal.Pendings.{FetchedFew, FetchedNode, FetchesBelow, IsBetweenLevels}
+use Rattle.tree_walk.specs.Spans.{IsMetChild, children_placed}
 use Rattle.tree_walk.specs.Ranges.{Range}
 use Rattle.tree_walk.specs.Walks.{IsEntryIn, IsMet, MeetsAt}
 use Rattle.tree_walk.specs.declared.fault.WalkFault.{WalkFault}

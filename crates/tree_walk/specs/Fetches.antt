@@ -1,11 +1,11 @@
 -- Which nodes a walk fetched, and how its tally counts them.
+-- Source: this project.
 use Rattle.std.specs.Prelude.{◌≡◌, ℕ, zero, suc, ◌+◌, ◌-◌, ◌^◌, ◌≤◌, min, List, [], ◌∷◌, ◌++◌, ◌⊎◌, length, Result, Ok, Err, ⊤}
 use Rattle.std.specs.List.{AllByRecursion}
 use Rattle.tree_node.specs.Nodes.{Node, Spells}
-use Rattle.tree_node.specs.Trees.{GrownByAll}
+use Rattle.tree_node.specs.Outcomes.{GrownByAll, Cause, NoMemory, NodeMissing, OtherCause}
 use Rattle.tree_walk.specs.declared.fault.WalkFault.{WalkFault}
 use Rattle.tree_walk.specs.declared.fault.WalkFault.TheVariants as faults
-use Rattle.tree_walk.specs.Outcomes.{Cause, NoMemory, NodeMissing, OtherCause}
 
 -- a count of 64 bits, so many steps further; at its greatest it stays there
 abbrev pub counted_up : ℕ → ℕ → ℕ

@@ -7,10 +7,11 @@ ghost use Rattle.tree_node.specs.Nodes.{AreRisingFrom, Binding, Link, Node, grea
 ghost use Rattle.tree_node.specs.Shelves.{SameNodes};
 ghost use Rattle.tree_node.specs.Trees.{Shape, levels};
 ghost use Rattle.tree_walk.specs.Choices.{AreThose, IsCount};
-ghost use Rattle.tree_walk.specs.Counts.{IsCountAt, IsCoveredChild, IsOpenChild, IsOpenIn, IsOpened, capped, sum_stated};
+ghost use Rattle.tree_walk.specs.internal.Counts.{IsCountAt, IsCoveredChild, IsOpenChild, IsOpenIn, IsOpened, capped, sum_stated};
 ghost use Rattle.tree_walk.specs.Fetches.{Fetches, cause_of, counted_up};
-ghost use Rattle.tree_walk.specs.Outcomes.{Outcome};
-ghost use Rattle.tree_walk.specs.Pendings.{AreInOrder, AreStated, FetchesBelow, FetchesLevel, IsOneOf, children_of_all, children_placed, entries_of_all, spots_of};
+ghost use Rattle.tree_node.specs.Outcomes.{Outcome};
+ghost use Rattle.tree_walk.specs.internal.Pendings.{AreInOrder, AreStated, FetchesBelow, FetchesLevel, IsOneOf, entries_of_all, spots_of};
+ghost use Rattle.tree_walk.specs.Spans.{children_of_all, children_placed};
 ghost use Rattle.tree_walk.specs.Ranges.{IsIn, range_of};
 ghost use Rattle.tree_walk.specs.Walks.{IsEntryIn, IsMetCounted, IsTopOf};
 

@@ -6,8 +6,8 @@ ghost use Rattle.tree_node.specs.NodeRefs.{node_read, number_of};
 ghost use Rattle.tree_node.specs.Nodes.{IsNode, Inner, Leaf, Node, spelling, tree_of};
 ghost use Rattle.tree_node.specs.Shelves.{SameNodes};
 ghost use Rattle.tree_walk.specs.Fetches.{cause_of};
-ghost use Rattle.tree_walk.specs.Outcomes.{Outcome};
-ghost use Rattle.tree_walk.specs.Pendings.{Agrees, IsStated, Opens, spot_of};
+ghost use Rattle.tree_node.specs.Outcomes.{Outcome};
+ghost use Rattle.tree_walk.specs.internal.Pendings.{Agrees, IsStated, Opens, spot_of};
 
 use crate::fault::WalkFault;
 use crate::pending::Pending;

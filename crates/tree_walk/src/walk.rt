@@ -8,11 +8,12 @@ ghost use Rattle.tree_node.specs.Shelves.{SameNodes};
 ghost use Rattle.tree_node.specs.Trees.{Shape, levels};
 ghost use Rattle.tree_walk.specs.Choices.{AreThose};
 ghost use Rattle.tree_walk.specs.Fetches.{Fetches, cause_of, counted_up};
-ghost use Rattle.tree_walk.specs.Outcomes.{Outcome};
-ghost use Rattle.tree_walk.specs.Pendings.{AreInOrder, AreStated, FetchesBelow, FetchesLevel, IsMetChild, IsOneOf, children_of_all, entries_of_all, spots_of};
+ghost use Rattle.tree_node.specs.Outcomes.{Outcome};
+ghost use Rattle.tree_walk.specs.internal.Pendings.{AreInOrder, AreStated, FetchesBelow, FetchesLevel, IsOneOf, entries_of_all, spots_of};
+ghost use Rattle.tree_walk.specs.Spans.{IsMetChild, children_of_all};
 ghost use Rattle.tree_walk.specs.Ranges.{IsIn, range_of};
 ghost use Rattle.tree_walk.specs.Walks.{IsEntryIn, IsMet, IsTopOf};
-ghost use Rattle.tree_walk.specs.Descents.{IsMetIn, IsReached};
+ghost use Rattle.tree_walk.specs.internal.Descents.{IsMetIn, IsReached};
 
 use crate::fault::WalkFault;
 use crate::key_range::KeyRange;

@@ -3,10 +3,10 @@ use Rattle.tree_node.specs.NodeRefs.{node_read, number_of}
 use Rattle.tree_node.specs.Nodes.{Node, spelling}
 use Rattle.tree_node.specs.Trees.{levels, node_in}
 use Rattle.tree_walk.specs.Choices.{IsCount}
-use Rattle.tree_walk.specs.Counts.{IsCountAt, IsOpenChild, capped}
+use Rattle.tree_walk.specs.internal.Counts.{IsCountAt, IsOpenChild, capped}
 use Rattle.tree_walk.specs.Fetches.{Fetches, cause_of}
-use Rattle.tree_walk.specs.Outcomes.{Outcome}
-use Rattle.tree_walk.specs.Pendings.{FetchedNode, spots_of}
+use Rattle.tree_node.specs.Outcomes.{Outcome}
+use Rattle.tree_walk.specs.internal.Pendings.{FetchedNode, spots_of}
 use Rattle.tree_walk.specs.Ranges.{range_of}
 use Rattle.tree_walk.specs.Walks.{IsEntryIn, IsMetCounted}
 use Rattle.tree_walk.specs.declared.fault.WalkFault.{WalkFault}

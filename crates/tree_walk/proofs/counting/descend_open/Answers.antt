@@ -5,10 +5,11 @@ use Rattle.tree_node.specs.NodeRefs.{number_of}
 use Rattle.tree_node.specs.Nodes.{Inner, Link, Node}
 use Rattle.tree_node.specs.Trees.{links_in}
 use Rattle.tree_walk.specs.Choices.{AreThose}
-use Rattle.tree_walk.specs.Counts.{IsCoveredChild, IsOpenChild, capped, sum_stated}
+use Rattle.tree_walk.specs.internal.Counts.{IsCoveredChild, IsOpenChild, capped, sum_stated}
 use Rattle.tree_walk.specs.Fetches.{cause_of}
-use Rattle.tree_walk.specs.Outcomes.{Outcome}
-use Rattle.tree_walk.specs.Pendings.{IsOneOf, children_of_all, children_placed, spots_of}
+use Rattle.tree_node.specs.Outcomes.{Outcome}
+use Rattle.tree_walk.specs.internal.Pendings.{IsOneOf, spots_of}
+use Rattle.tree_walk.specs.Spans.{children_of_all, children_placed}
 use Rattle.tree_walk.specs.Ranges.{range_of}
 use Rattle.tree_walk.specs.declared.fault.WalkFault.{WalkFault}
 use Rattle.tree_walk.specs.declared.fault.WalkFault.TheVariants.{Memory}

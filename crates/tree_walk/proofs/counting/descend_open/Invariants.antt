@@ -3,8 +3,9 @@ use Rattle.tree_node.specs.NodeRefs.{number_of}
 use Rattle.tree_node.specs.Nodes.{Link, Node}
 use Rattle.tree_node.specs.Shelves.{SameNodes}
 use Rattle.tree_node.specs.Trees.{links_in}
-use Rattle.tree_walk.specs.Counts.{IsCoveredChild, IsOpenChild, capped, sum_stated}
-use Rattle.tree_walk.specs.Pendings.{children_placed, spots_of}
+use Rattle.tree_walk.specs.internal.Counts.{IsCoveredChild, IsOpenChild, capped, sum_stated}
+use Rattle.tree_walk.specs.Spans.{children_placed}
+use Rattle.tree_walk.specs.internal.Pendings.{spots_of}
 use Rattle.tree_walk.specs.Ranges.{range_of}
 use Rattle.tree_walk.proofs.HonestLemmas.{HonestSoFar}
 use Rattle.tree_walk.proofs.LevelFetches.{FetchingLevel}

@@ -3,8 +3,8 @@ use Rattle.tree_node.specs.NodeRefs.{number_of}
 use Rattle.tree_node.specs.Nodes.{Binding, Node}
 use Rattle.tree_node.specs.Shelves.{SameNodes}
 use Rattle.tree_node.specs.Trees.{entries_in}
-use Rattle.tree_walk.specs.Counts.{capped}
-use Rattle.tree_walk.specs.Pendings.{spots_of}
+use Rattle.tree_walk.specs.internal.Counts.{capped}
+use Rattle.tree_walk.specs.internal.Pendings.{spots_of}
 use Rattle.tree_walk.specs.Ranges.{range_of}
 use Rattle.tree_walk.specs.Walks.{IsEntryIn}
 use Rattle.tree_walk.proofs.HonestLemmas.{HonestSoFar}

@@ -1,7 +1,7 @@
 use Rattle.std.proofs.Common.{◌≡◌, ◌∙◌, inl, inr, sym, subst, ap}
 use Rattle.tree_node.specs.NodeRefs.{node_read, number_of}
 use Rattle.tree_node.specs.Nodes.{Leaf, Link, Node}
-use Rattle.tree_walk.specs.Pendings.{Agrees, spot_of}
+use Rattle.tree_walk.specs.internal.Pendings.{Agrees, spot_of}
 use Rattle.tree_walk.proofs.ChoiceLemmas.{fails_not}
 use Rattle.tree_walk.proofs.VisitLemmas.{agrees_stated, few_from_node}
 use Rattle.tree_walk.proofs.visit.open_leaf.Goals as goal

@@ -6,8 +6,8 @@ use Rattle.tree_node.specs.Nodes.{Binding, Leaf, Link, Node}
 use Rattle.tree_node.specs.Trees.{entries_in}
 use Rattle.tree_walk.specs.Choices.{AreThose}
 use Rattle.tree_walk.specs.Fetches.{cause_of}
-use Rattle.tree_walk.specs.Outcomes.{Outcome}
-use Rattle.tree_walk.specs.Pendings.{IsOneOf, entries_of_all, spots_of}
+use Rattle.tree_node.specs.Outcomes.{Outcome}
+use Rattle.tree_walk.specs.internal.Pendings.{IsOneOf, entries_of_all, spots_of}
 use Rattle.tree_walk.specs.Ranges.{range_of}
 use Rattle.tree_walk.specs.Walks.{IsEntryIn}
 use Rattle.tree_node.specs.declared.item.Item.{Item}

@@ -6,8 +6,9 @@ use Rattle.tree_node.specs.Trees.{levels, node_in}
 use Rattle.tree_node.specs.declared.item.Item.{Item}
 use Rattle.tree_walk.specs.Choices.{AreThose}
 use Rattle.tree_walk.specs.Fetches.{cause_of}
-use Rattle.tree_walk.specs.Outcomes.{Outcome}
-use Rattle.tree_walk.specs.Pendings.{FetchedNode, IsMetChild, spots_of}
+use Rattle.tree_node.specs.Outcomes.{Outcome}
+use Rattle.tree_walk.specs.internal.Pendings.{FetchedNode, spots_of}
+use Rattle.tree_walk.specs.Spans.{IsMetChild}
 use Rattle.tree_walk.specs.Ranges.{range_of}
 use Rattle.tree_walk.specs.Walks.{IsEntryIn, IsMet}
 use Rattle.tree_walk.specs.declared.fault.WalkFault.{WalkFault}

@@ -4,10 +4,10 @@ use Rattle.tree_node.specs.NodeRefs.{bindings_of, number_of}
 use Rattle.tree_node.specs.Trees.{levels}
 use Rattle.tree_node.specs.declared.item.Item.{Item}
 use Rattle.tree_walk.specs.Choices.{AreThose}
-use Rattle.tree_walk.specs.Descents.{IsMetIn}
+use Rattle.tree_walk.specs.internal.Descents.{IsMetIn}
 use Rattle.tree_walk.specs.Fetches.{cause_of}
-use Rattle.tree_walk.specs.Outcomes.{Outcome}
-use Rattle.tree_walk.specs.Pendings.{FetchesBelow, spots_of}
+use Rattle.tree_node.specs.Outcomes.{Outcome}
+use Rattle.tree_walk.specs.internal.Pendings.{FetchesBelow, spots_of}
 use Rattle.tree_walk.specs.Ranges.{range_of}
 use Rattle.tree_walk.specs.Walks.{IsEntryIn}
 use Rattle.tree_walk.specs.declared.fault.WalkFault.{WalkFault}

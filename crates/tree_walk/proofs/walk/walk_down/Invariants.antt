@@ -1,7 +1,7 @@
 use Rattle.std.proofs.Common.{◌≡◌, ℕ, suc, ◌≤◌, List, None}
 use Rattle.tree_node.specs.NodeRefs.{number_of}
 use Rattle.tree_node.specs.Shelves.{SameNodes}
-use Rattle.tree_walk.specs.Pendings.{AreInOrder, spots_of}
+use Rattle.tree_walk.specs.internal.Pendings.{AreInOrder, spots_of}
 use Rattle.tree_walk.specs.Ranges.{range_of}
 use Rattle.tree_walk.proofs.DescentFetches.{FetchingDown}
 use Rattle.tree_walk.proofs.DescentLemmas.{HonestDown}

@@ -7,12 +7,13 @@ use Rattle.std.proofs.lemmas.List.Elements.{All-from_recursion, recursion_from_A
 use Rattle.std.proofs.lemmas.Slice.Eq.{bytes_eq-Decides}
 use Rattle.tree_node.specs.Digests.{digest}
 use Rattle.tree_node.specs.Nodes.{Binding, Link, Node, spelling, IsNode, IsTree, level_of, tree_of}
-use Rattle.tree_node.specs.Trees.{Shape, link_to, leaves, level_at, node_in, no_node, links_in, entries_in, top_of, IsNodeOf, Clash, HasTree}
-use Rattle.tree_node.proofs.FieldLemmas.{ok_is}
-use Rattle.tree_node.proofs.NodeLaws.{node_again}
-use Rattle.tree_node.proofs.TreeLemmas.{tree_levels}
-use Rattle.tree_node.proofs.TreeLaws.{whole, above, last_has_one, leaves_joined, nodes_at, over_joined, pair_at}
-use Rattle.tree_node.proofs.TreeParts.{kind_at}
+use Rattle.tree_node.specs.Trees.{Shape, link_to, leaves, level_at, node_in, no_node, links_in, entries_in, top_of, IsNodeOf, HasTree}
+use Rattle.tree_node.specs.Outcomes.{Clash}
+use Rattle.tree_node.proofs.shared.FieldLemmas.{ok_is}
+use Rattle.tree_node.proofs.shared.NodeLaws.{node_again}
+use Rattle.tree_node.proofs.shared.TreeLemmas.{tree_levels}
+use Rattle.tree_node.proofs.shared.TreeLaws.{whole, above, last_has_one, leaves_joined, nodes_at, over_joined, pair_at}
+use Rattle.tree_node.proofs.shared.TreeParts.{kind_at}
 
 -- byte strings are equal or not
 same_or_not : (a b : List ℕ) → (a ≡ b) ⊎ (a ≢ b)

@@ -1,4 +1,5 @@
--- The laws of a shelf, of a recorder.
+-- Proofs of a shelf's laws for a recorder. They stand among the definitions since the recorder's implementation of the
+-- shelf, which cites them, can cite definitions alone.
 use Rattle.std.specs.Prelude.{◌≡◌, ℕ, List, Option, Some, None, refl}
 use Rattle.std.specs.Option.{option_map, ForSome}
 use Rattle.std.proofs.Common.{subst, ◌∙◌}

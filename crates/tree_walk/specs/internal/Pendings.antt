@@ -11,25 +11,6 @@ use Rattle.tree_walk.specs.Ranges.{IsAboveLeft, IsNoHigher, Meets, Range}
 use Rattle.tree_walk.specs.declared.fault.WalkFault.{WalkFault}
 use Rattle.tree_walk.specs.declared.pending.Pending.{Pending}
 
--- ---- lists whose items have a left bound each
-
--- each item beside the key of the item before it, and the first beside the left bound of all
-abbrev pub placed : {X : Type 0} → (X → List ℕ) → Option (List ℕ) → List X → List (Option (List ℕ) × X)
-placed key left [] = []
-placed key left (x ∷ xs) = (left, x) ∷ placed key (Some (key x)) xs
-
--- the greatest key below a child, as its parent states it
-abbrev pub greatest_stated : Link → List ℕ
-greatest_stated link = link.greatest
-
--- the children of an inner node, each with its left bound
-abbrev pub children_placed : Option (List ℕ) → List Link → List (Option (List ℕ) × Link)
-children_placed left links = placed greatest_stated left links
-
--- the child, as its parent states it, meets the range
-abbrev pub IsMetChild : Range → Option (List ℕ) × Link → Type 0
-IsMetChild range spot = Meets range spot.0 spot.1.greatest
-
 -- the node meets the range
 abbrev pub IsMetNode : Range → Option (List ℕ) × Node → Type 0
 IsMetNode range spot = Meets range spot.0 (greatest_of spot.1)
@@ -123,10 +104,6 @@ FetchesBelow level (Err fault) held old new from to =
 abbrev pub IsOneOf : List (Option (List ℕ) × Node) → List ℕ → Type 0
 IsOneOf [] bytes = ⊥
 IsOneOf (spot ∷ spots) bytes = (bytes ≡ spelling spot.1) ⊎ IsOneOf spots bytes
-
--- the children of these nodes, each with its left bound
-abbrev pub children_of_all : List (Option (List ℕ) × Node) → List (Option (List ℕ) × Link)
-children_of_all spots = flat_map (λ (spot : Option (List ℕ) × Node). children_placed spot.0 (links_in spot.1)) spots
 
 -- the entries of these nodes
 abbrev pub entries_of_all : List (Option (List ℕ) × Node) → List Binding

@@ -3,10 +3,10 @@ use Rattle.std.proofs.Common.{◌≡◌, ℕ, ◌+◌, ◌<◌, ◌≤◌, ◌�
 use Rattle.std.specs.Prelude.{IfSome}
 use Rattle.std.specs.List.{AllByRecursion}
 use Rattle.tree_node.specs.Order.{IsBelow}
-use Rattle.tree_node.specs.OrderLemmas.{order_trans}
+use Rattle.tree_node.specs.internal.OrderLemmas.{order_trans}
 use Rattle.tree_node.specs.Nodes.{AreRisingFrom}
 use Rattle.tree_node.specs.Trees.{pieces, pieces_from, ends_by, last_key, Shape, One, Two}
-use Rattle.tree_node.proofs.PieceLemmas.{chosen, join, pieces_step}
+use Rattle.tree_node.proofs.shared.PieceLemmas.{chosen, join, pieces_step}
 
 -- ---- sizes
 

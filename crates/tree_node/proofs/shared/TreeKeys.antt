@@ -4,10 +4,10 @@ use Rattle.std.specs.List.{AllByRecursion}
 use Rattle.std.proofs.lemmas.List.{append-nil, drop-map, drop_at, get_or-map, length-map, map-append, take-map, take_at}
 use Rattle.tree_node.specs.Nodes.{Binding, Link, Node, Leaf, Inner, keys_of}
 use Rattle.tree_node.specs.Trees.{Shape, pieces, one_at_least, ends_by, is_marked_entry, is_marked_link, last_key, greatest_of, link_to, level_at, node_in, no_node, entries_in, below_each, entries_at, entries_below, HasTree}
-use Rattle.tree_node.proofs.PieceLemmas.{join, pieces_join}
-use Rattle.tree_node.proofs.PieceLaws.{IsSized, pieces_sized}
-use Rattle.tree_node.proofs.TreeLaws.{entries_some, links_at, pair_at, whole}
-use Rattle.tree_node.proofs.TreeParts.{counts_at, number_in, numbers_linked, parts_at}
+use Rattle.tree_node.proofs.shared.PieceLemmas.{join, pieces_join}
+use Rattle.tree_node.proofs.shared.PieceLaws.{IsSized, pieces_sized}
+use Rattle.tree_node.proofs.shared.TreeLaws.{entries_some, links_at, pair_at, whole}
+use Rattle.tree_node.proofs.shared.TreeParts.{counts_at, number_in, numbers_linked, parts_at}
 
 -- ---- last keys of lists, one behind the other
 

@@ -4,8 +4,8 @@ use Rattle.std.specs.List.{AllByRecursion}
 use Rattle.tree_node.specs.Nodes.{AreBytes, Binding, IsTree, Link, Node}
 use Rattle.tree_node.specs.Trees.{HasTree, Shape, Stands, entries_at, greatest_of, left_at, level_at, levels, link_to, node_in}
 use Rattle.tree_walk.specs.Choices.{AreThose, IsCount}
-use Rattle.tree_walk.specs.Pendings.{children_placed}
-use Rattle.tree_walk.specs.Ranges.{IsExcepted, Meets, Range}
+use Rattle.tree_walk.specs.Spans.{children_placed}
+use Rattle.tree_walk.specs.Ranges.{IsCovered, Meets, Range}
 use Rattle.tree_walk.specs.Walks.{IsEntryIn, MeetsAt}
 
 -- a number of 64 bits: a greater one is the greatest of them
@@ -14,7 +14,7 @@ capped n = min n (2 ^ 64 - 1)
 
 -- a count opens what has this span: it meets the range, and the range doesn't cover it
 abbrev pub IsOpen : Range → Option (List ℕ) → List ℕ → Type 0
-IsOpen range left greatest = Meets range left greatest × ¬ IsExcepted range left greatest
+IsOpen range left greatest = Meets range left greatest × ¬ IsCovered range left greatest
 
 -- the child, as its parent states it, is opened
 abbrev pub IsOpenChild : Range → Option (List ℕ) × Link → Type 0
@@ -26,7 +26,7 @@ IsOpenNode range spot = IsOpen range spot.0 (greatest_of spot.1)
 
 -- the range covers the child, as its parent states it
 abbrev pub IsCoveredChild : Range → Option (List ℕ) × Link → Type 0
-IsCoveredChild range spot = IsExcepted range spot.0 spot.1.greatest
+IsCoveredChild range spot = IsCovered range spot.0 spot.1.greatest
 
 -- the entries that are stated of these children, together
 abbrev pub sum_stated : List (Option (List ℕ) × Link) → ℕ
@@ -35,7 +35,7 @@ sum_stated spots = sum_by (λ (spot : Option (List ℕ) × Link). spot.1.number)
 -- the bytes are a node of the tree that a count opens, at a level from the first to the second
 abbrev pub IsOpenIn : Range → List (List Node) → ℕ → ℕ → List ℕ → Type 0
 IsOpenIn range tree low high bytes =
-    (level place : ℕ) × (low ≤ level) × (level ≤ high) × Stands tree level place bytes × MeetsAt range tree level place × ¬ IsExcepted range (left_at (level_at tree level) place) (greatest_of (node_in tree level place))
+    (level place : ℕ) × (low ≤ level) × (level ≤ high) × Stands tree level place bytes × MeetsAt range tree level place × ¬ IsCovered range (left_at (level_at tree level) place) (greatest_of (node_in tree level place))
 
 -- the pending children are those nodes of this level, below the top, that a count opens
 pub record IsOpened (shape : Shape) (tree : ℕ) (entries : List Binding) (range : Range) (level : ℕ) (pending : List (Option (List ℕ) × Link)) : Type 0 where

@@ -6,9 +6,9 @@ use Rattle.std.proofs.Math.Nat.{pow-suc}
 use Rattle.tree_node.specs.Nodes.{Binding, Link, Node, Leaf, Inner, spelling, keys_of, greatests_of, AreRisingFrom, FitsEntry, FitsLink, IsNode, IsTree}
 use Rattle.tree_node.specs.Trees.{Shape, pieces, one_at_least, ends_by, is_marked_entry, is_marked_link, last_key, link_to, leaves, level_over, levels_over, level_at, links_in, entries_in, FitsTree, HasTree}
 use Rattle.tree_node.proofs.DigestLemmas.{length-digest}
-use Rattle.tree_node.proofs.PieceLemmas.{join, least_joins, pieces_all, pieces_join, some_pieces}
-use Rattle.tree_node.proofs.PieceLaws.{IsSized, lasts, pieces_rise, pieces_sized}
-use Rattle.tree_node.proofs.TreeLemmas.{AreLevels, HasShort, leaf_numbers, leaf_short, leaves_few, leaves_some, levels_end, level_half, level_numbers, level_short, level_some, numbers_of, over_some, tree_levels}
+use Rattle.tree_node.proofs.shared.PieceLemmas.{join, least_joins, pieces_all, pieces_join, some_pieces}
+use Rattle.tree_node.proofs.shared.PieceLaws.{IsSized, lasts, pieces_rise, pieces_sized}
+use Rattle.tree_node.proofs.shared.TreeLemmas.{AreLevels, HasShort, leaf_numbers, leaf_short, leaves_few, leaves_some, levels_end, level_half, level_numbers, level_short, level_some, numbers_of, over_some, tree_levels}
 
 -- ---- levels, one over the other
 

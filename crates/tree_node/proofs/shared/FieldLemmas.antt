@@ -8,7 +8,7 @@ use Rattle.tree_node.specs.declared.fault.NodeFault.{NodeFault}
 use Rattle.tree_node.specs.declared.fault.NodeFault.TheVariants.{CutShort, BadCount}
 use Rattle.tree_node.specs.Nodes.{AreBytes, Binding, Link, entry, link, FitsEntry, FitsLink}
 use Rattle.tree_node.specs.Faults.{HasWidths}
-use Rattle.tree_node.specs.Reading.{◌>>=◌, number_at, bytes_at, entry_at, link_at}
+use Rattle.tree_node.specs.Fronts.{◌>>=◌, number_at, bytes_at, entry_at, link_at}
 
 -- what stands behind some bytes is of bytes
 pub AreBytes-drop : (n : ℕ) (bytes : List ℕ) → AreBytes bytes → AreBytes (drop n bytes)

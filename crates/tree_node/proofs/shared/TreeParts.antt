@@ -9,9 +9,9 @@ use Rattle.std.proofs.lemmas.List.Sums.{sum-map}
 use Rattle.std.proofs.lemmas.Grind.{flat_map-append}
 use Rattle.tree_node.specs.Nodes.{Binding, Link, Node, Leaf, Inner, level_of, tree_of}
 use Rattle.tree_node.specs.Trees.{Shape, pieces, one_at_least, ends_by, is_marked_entry, is_marked_link, entry_count, link_to, leaves, level_at, node_in, no_node, links_in, entries_in, item_count, below_each, entries_at, entries_below}
-use Rattle.tree_node.proofs.PieceLemmas.{join, pieces_join, some_pieces}
-use Rattle.tree_node.proofs.PieceLaws.{IsSized, pieces_sized}
-use Rattle.tree_node.proofs.TreeLaws.{leaves_joined, over_joined, pair_at, entries_some, whole}
+use Rattle.tree_node.proofs.shared.PieceLemmas.{join, pieces_join, some_pieces}
+use Rattle.tree_node.proofs.shared.PieceLaws.{IsSized, pieces_sized}
+use Rattle.tree_node.proofs.shared.TreeLaws.{leaves_joined, over_joined, pair_at, entries_some, whole}
 
 -- ---- how many entries stand below each node
 

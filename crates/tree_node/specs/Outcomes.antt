@@ -1,6 +1,16 @@
--- How a call ends that reads nodes from a shelf, of which it needs some.
-use Rattle.std.specs.Prelude.{ℕ, List, ◌⊎◌, Result, Ok, Err, ⊤}
-use Rattle.tree_node.specs.Trees.{Clash, GrownByAll}
+-- How a call ends that reads nodes from a shelf, of which it needs some: what the shelf gained, why the call was refused,
+-- and when two nodes clash.
+-- Source: this project.
+use Rattle.std.specs.Prelude.{◌≡◌, ◌≢◌, ℕ, List, ◌⊎◌, ◌↔◌, Result, Ok, Err, ⊤}
+use Rattle.tree_node.specs.Digests.{digest}
+
+-- a clash, which is a SHA-256 collision: two different byte strings with one digest, one of each set
+abbrev pub Clash : (List ℕ → Type 0) → (List ℕ → Type 0) → Type 0
+Clash These Those = (a b : List ℕ) × These a × Those b × (a ≢ b) × (digest a ≡ digest b)
+
+-- the set has gained just these nodes, those of them that it hadn't
+abbrev pub GrownByAll : (List ℕ → Type 0) → (List ℕ → Type 0) → (List ℕ → Type 0) → Type 0
+GrownByAll old new gained = (bytes : List ℕ) → new bytes ↔ (old bytes ⊎ gained bytes)
 
 -- why a call was refused, as far as it says something of the shelf
 pub data Cause : Type 0 where

@@ -1,10 +1,11 @@
--- The laws of a shelf, of a bag.
+-- Proofs of a shelf's laws for a bag. They stand among the definitions since the bag's implementation of the shelf, which
+-- cites them, can cite definitions alone.
 use Rattle.std.proofs.Common.{◌≡◌, ℕ, ◌<◌, List, Bool, length, get_or, sym, ap, ◌∙◌, inl, inr}
 use Rattle.std.proofs.lemmas.List.{get_or_read}
 use Rattle.std.proofs.lemmas.Bool.{cases_order}
 use Rattle.tree_node.specs.Digests.{digest}
 use Rattle.tree_node.specs.Order.{IsBelow}
-use Rattle.tree_node.specs.OrderLemmas.{not_itself}
+use Rattle.tree_node.specs.internal.OrderLemmas.{not_itself}
 use Rattle.tree_node.specs.Parts.{node_of, HaveRisingDigests, HaveNode}
 use Rattle.tree_node.specs.Bags.{HaveMarkedNode}
 use Rattle.tree_node.specs.Shelves.{IsClashFree}

@@ -4,7 +4,7 @@ use Rattle.std.specs.List.{AllByRecursion}
 use Rattle.tree_node.specs.Nodes.{AreBytes, Binding, IsTree, Link, Node}
 use Rattle.tree_node.specs.Trees.{HasTree, Shape, Stands, level_at, levels, link_to}
 use Rattle.tree_walk.specs.Choices.{AreThose}
-use Rattle.tree_walk.specs.Pendings.{IsMetChild, children_placed}
+use Rattle.tree_walk.specs.Spans.{IsMetChild, children_placed}
 use Rattle.tree_walk.specs.Ranges.{Range}
 use Rattle.tree_walk.specs.Walks.{MeetsAt}
 

@@ -6,7 +6,7 @@ use Rattle.std.proofs.lemmas.List.{length-map}
 use Rattle.std.proofs.lemmas.List.Sums.{sum_by-append, sum_by-cons}
 use Rattle.tree_node.specs.Nodes.{Binding, Link, Node, Leaf, Inner, keys_of, greatests_of}
 use Rattle.tree_node.specs.Trees.{Shape, pieces, one_at_least, ends_by, is_marked_entry, is_marked_link, last_key, link_to, leaves, level_over, levels_over, levels, FitsTree}
-use Rattle.tree_node.proofs.PieceLemmas.{join, least_joins, least_some, pieces_all, pieces_half, pieces_join, some_pieces, two_at_least}
+use Rattle.tree_node.proofs.shared.PieceLemmas.{join, least_joins, least_some, pieces_all, pieces_half, pieces_join, some_pieces, two_at_least}
 
 -- ---- how many nodes a level has
 

@@ -1,3 +1,4 @@
+-- Lemmas of the order of byte strings. They stand among the definitions since the proofs of a bag's laws cite them.
 use Rattle.std.proofs.Common.{◌≡◌, ℕ, List, refl, ap, ◌∙◌}
 use Rattle.std.specs.Ordering.{ordering_reverse}
 use Rattle.std.specs.FinMap.{slice_cmp-IsAntisymmetric, nat_cmp-IsAntisymmetric}

@@ -1,5 +1,5 @@
 use Rattle.std.proofs.Common.{◌-◌, ◌*◌, ◌≤◌, length}
-use Rattle.tree_node.proofs.node.touch.Given as goal
+use Rattle.tree_node.proofs.node.prefetch.Given as goal
 
 -- a line adds a byte
 abbrev pub invariant-loop-at : goal.invariant-loop-at
