@@ -12,6 +12,13 @@ Clash These Those = (a b : List ℕ) × These a × Those b × (a ≢ b) × (dige
 abbrev pub GrownByAll : (List ℕ → Type 0) → (List ℕ → Type 0) → (List ℕ → Type 0) → Type 0
 GrownByAll old new gained = (bytes : List ℕ) → new bytes ↔ (old bytes ⊎ gained bytes)
 
+-- the nodes of a shelf around a call: those that it holds, which never change, and those that were used before the call
+-- and after it
+pub record ShelfUse : Type 1 where
+  pub held : List ℕ → Type 0
+  pub before : List ℕ → Type 0
+  pub after : List ℕ → Type 0
+
 -- why a call was refused, as far as it says something of the shelf
 pub data Cause : Type 0 where
   NoMemory : Cause
@@ -26,10 +33,10 @@ RefusedFor needed held OtherCause = ⊥
 
 -- what the call gave is as it should be and it used just the needed nodes, or it was refused for memory or for a needed
 -- node that isn't held
-abbrev pub EndsBy : {A F : Type 0} → (F → Cause) → (A → Type 0) → (List ℕ → Type 0) → (List ℕ → Type 0) → (List ℕ → Type 0) → (List ℕ → Type 0) → Result A F → Type 0
-EndsBy cause_of Is needed held old new (Ok value) = Is value × GrownByAll old new needed
-EndsBy cause_of Is needed held old new (Err fault) = RefusedFor needed held (cause_of fault)
+abbrev pub EndsBy : {A F : Type 0} → (F → Cause) → (A → Type 0) → (List ℕ → Type 0) → ShelfUse → Result A F → Type 0
+EndsBy cause_of Is needed shelf (Ok value) = Is value × GrownByAll shelf.before shelf.after needed
+EndsBy cause_of Is needed shelf (Err fault) = RefusedFor needed shelf.held (cause_of fault)
 
 -- it ends so, unless a needed node and a different used one have one digest
-abbrev pub Outcome : {A F : Type 0} → (F → Cause) → (A → Type 0) → (List ℕ → Type 0) → (List ℕ → Type 0) → (List ℕ → Type 0) → (List ℕ → Type 0) → Result A F → Type 0
-Outcome cause_of Is needed held old new result = Clash needed new ⊎ EndsBy cause_of Is needed held old new result
+pub record Outcome {A F : Type 0} (cause_of : F → Cause) (Is : A → Type 0) (needed : List ℕ → Type 0) (shelf : ShelfUse) (result : Result A F) : Type 0 where
+  pub ends : Clash needed shelf.after ⊎ EndsBy cause_of Is needed shelf result

@@ -84,7 +84,7 @@ module _ (tree : ℕ) (range : Range) (high : ℕ) (spots : List (Option (List �
       → HonestCount (suc low) pending counted old mid → ((bytes : List ℕ) → mid bytes → new bytes)
       → ((nodes : List (Option (List ℕ) × Node)) → AreStated tree (suc low) pending nodes
       → Outcome {A = V} cause_of (λ value. AreThose (IsOpenChild range) (children_of_all nodes) (view value)
-      × ((covered : List (Option (List ℕ) × Link)) × AreThose (IsCoveredChild range) (children_of_all nodes) covered × (number value ≡ capped (sum_stated covered)))) (IsOneOf nodes) held mid new (Ok value))
+      × ((covered : List (Option (List ℕ) × Link)) × AreThose (IsCoveredChild range) (children_of_all nodes) covered × (number value ≡ capped (sum_stated covered)))) (IsOneOf nodes) (record { held = held; before = mid; after = new }) (Ok value))
       → HonestCount low (view value) next old new
   honest_count_step view number cause_of value low pending counted next held old mid new le sum_is so grows answer shape entries opened =
       elim (so shape entries opened) [
@@ -100,7 +100,7 @@ module _ (tree : ℕ) (range : Range) (high : ℕ) (spots : List (Option (List �
       go at gained so_far =
           let nodes = open_stated shape tree entries range (suc low) pending at.is_tree at.has at.within at.those in
           let below : suc low < length (levels shape tree entries) = omega (arith, at.within) in
-          elim (answer nodes.0 nodes.2) [
+          elim ((answer nodes.0 nodes.2).ends) [
             | inl clash ↦ inl (clash_more (IsOneOf nodes.0) (IsOpenIn range (levels shape tree entries) 0 high) new new (of_level shape entries (suc low) nodes.0 le at.within nodes.1) (λ x is. is) clash)
             | inr ends ↦
                 let covered = ends.0.1 in
@@ -144,14 +144,16 @@ module _ (tree : ℕ) (range : Range) (high : ℕ) (spots : List (Option (List �
   pub honest_count_end : (cause_of : WalkFault → Cause) (last number : ℕ) (pending : List (Option (List ℕ) × Link)) (counted : ℕ) (held old mid new : List ℕ → Type 0)
       → number ≡ min (counted + last) (2 ^ 64 - 1) → HonestCount 0 pending counted old mid → ((bytes : List ℕ) → mid bytes → new bytes)
       → ((nodes : List (Option (List ℕ) × Node)) → AreStated tree 0 pending nodes
-      → Outcome {A = ℕ} cause_of (λ last. (those : List Binding) × AreThose (IsEntryIn range) (entries_of_all nodes) those × (last ≡ capped (length those))) (IsOneOf nodes) held mid new (Ok last))
+      → Outcome {A = ℕ} cause_of (λ last. (those : List Binding) × AreThose (IsEntryIn range) (entries_of_all nodes) those × (last ≡ capped (length those))) (IsOneOf nodes) (record { held = held; before = mid; after = new }) (Ok last))
       → (shape : Shape) (entries : List Binding) → IsOpened shape tree entries range high spots
-      → Outcome {A = ℕ} cause_of (λ number. (n : ℕ) × IsCountAt range (levels shape tree entries) high n × (number ≡ capped n)) (IsOpenIn range (levels shape tree entries) 0 high) held old new (Ok number)
+      → Outcome {A = ℕ} cause_of (λ number. (n : ℕ) × IsCountAt range (levels shape tree entries) high n × (number ≡ capped n)) (IsOpenIn range (levels shape tree entries) 0 high) (record { held = held; before = old; after = new }) (Ok number)
   honest_count_end cause_of last number pending counted held old mid new sum_is so grows answer shape entries opened =
-      elim (so shape entries opened) [
-        | inl clash ↦ inl (clash_more (IsOpenIn range (levels shape tree entries) 0 high) (IsOpenIn range (levels shape tree entries) 0 high) mid new (λ x is. is) grows clash)
-        | inr has ↦ go has.0 has.1 has.2
-      ]
+      record {
+        ends = elim (so shape entries opened) [
+          | inl clash ↦ inl (clash_more (IsOpenIn range (levels shape tree entries) 0 high) (IsOpenIn range (levels shape tree entries) 0 high) mid new (λ x is. is) grows clash)
+          | inr has ↦ go has.0 has.1 has.2
+        ];
+      }
     where
       go : IsOpened shape tree entries range 0 pending → GrownByAll old mid (IsOpenIn range (levels shape tree entries) 1 high)
           → ((sum : ℕ) × (counted ≡ capped sum) × ((m : ℕ) → IsCountAt range (levels shape tree entries) 0 m → IsCountAt range (levels shape tree entries) high (sum + m)))
@@ -159,7 +161,7 @@ module _ (tree : ℕ) (range : Range) (high : ℕ) (spots : List (Option (List �
           ⊎ (((n : ℕ) × IsCountAt range (levels shape tree entries) high n × (number ≡ capped n)) × GrownByAll old new (IsOpenIn range (levels shape tree entries) 0 high))
       go at gained so_far =
           let nodes = open_stated shape tree entries range 0 pending at.is_tree at.has at.within at.those in
-          elim (answer nodes.0 nodes.2) [
+          elim ((answer nodes.0 nodes.2).ends) [
             | inl clash ↦ inl (clash_more (IsOneOf nodes.0) (IsOpenIn range (levels shape tree entries) 0 high) new new (of_level shape entries 0 nodes.0 (omega arith) at.within nodes.1) (λ x is. is) clash)
             | inr ends ↦ inr (
               (

@@ -18,6 +18,6 @@ err_is (Ok x) fault is = absurd is
 err_is (Err f) fault is = ap (λ g. Err g) is
 
 -- the keys of an inner node that was fetched, and agrees with its parent, rise from its left bound
-pub fetched_rises : (tree level from to : ℕ) (links : List Link) (held old new : List ℕ → Type 0) (left : Option (List ℕ)) → FetchedNode (Inner tree level links) held old new from to → StartAbove left (greatests_of links)
+pub fetched_rises : (tree level from to : ℕ) (links : List Link) (held old new : List ℕ → Type 0) (left : Option (List ℕ)) → FetchedNode (Inner tree level links) (record { held = held; before = old; after = new }) from to → StartAbove left (greatests_of links)
     → AreRisingFrom left (greatests_of links)
 fetched_rises tree level from to links held old new left is starts = rises_above left (greatests_of links) starts is.spells.0.6

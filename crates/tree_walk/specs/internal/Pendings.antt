@@ -4,6 +4,7 @@ use Rattle.std.specs.Option.{option_copied}
 use Rattle.std.specs.List.{AllByRecursion, flat_map}
 use Rattle.tree_node.specs.Nodes.{Binding, Leaf, Inner, Link, Node, IsNode, Spells, spelling, level_of, tree_of, keys_of, greatests_of}
 use Rattle.tree_node.specs.NodeRefs.{link_of}
+use Rattle.tree_node.specs.Outcomes.{ShelfUse}
 use Rattle.tree_node.specs.Shelves.{GrownBy}
 use Rattle.tree_node.specs.Trees.{entries_in, entry_count, greatest_of, link_to, links_in}
 use Rattle.tree_walk.specs.Fetches.{AreDifferent, HasFetched, counted_up}
@@ -60,45 +61,45 @@ pub record IsStated (tree level : ℕ) (spot : Option (List ℕ) × Link) (node 
   pub above : StartAbove spot.0 (node_keys node)
 
 -- one node was fetched, and it is this one
-pub record FetchedNode (node : Node) (held old new : List ℕ → Type 0) (from to : ℕ) : Type 0 where
+pub record FetchedNode (node : Node) (shelf : ShelfUse) (from to : ℕ) : Type 0 where
   pub bytes : List ℕ
   pub spells : Spells bytes node
-  pub is_held : held bytes
-  pub grown : GrownBy old new bytes
+  pub is_held : shelf.held bytes
+  pub grown : GrownBy shelf.before shelf.after bytes
   pub counted : to ≡ counted_up from 1
 
 -- one node was fetched at most
-pub record FetchedFew (held old new : List ℕ → Type 0) (from to : ℕ) : Type 0 where
+pub record FetchedFew (shelf : ShelfUse) (from to : ℕ) : Type 0 where
   pub nodes : List (List ℕ)
-  pub fetched : HasFetched held old new from to nodes
+  pub fetched : HasFetched shelf from to nodes
   pub few : length nodes ≤ 1
 
 -- a node was fetched and is what was asked for, or else one was fetched at most
-abbrev pub Opens : {A : Type 0} → (A → Node) → Result A WalkFault → (List ℕ → Type 0) → (List ℕ → Type 0) → (List ℕ → Type 0) → ℕ → ℕ → Type 0
-Opens node_of (Ok value) held old new from to = FetchedNode (node_of value) held old new from to
-Opens node_of (Err fault) held old new from to = FetchedFew held old new from to
+abbrev pub Opens : {A : Type 0} → (A → Node) → Result A WalkFault → ShelfUse → ℕ → ℕ → Type 0
+Opens node_of (Ok value) shelf from to = FetchedNode (node_of value) shelf from to
+Opens node_of (Err fault) shelf from to = FetchedFew shelf from to
 
 -- the bytes are a node of this level
 abbrev pub IsOfLevel : ℕ → List ℕ → Type 0
 IsOfLevel level bytes = (node : Node) × Spells bytes node × (level_of node ≡ level)
 
 -- which nodes of a level were fetched
-abbrev pub FetchesLevel : {A : Type 0} → ℕ → Result A WalkFault → (List ℕ → Type 0) → (List ℕ → Type 0) → (List ℕ → Type 0) → ℕ → ℕ → Type 0
-FetchesLevel level (Ok value) held old new from to =
-    (nodes : List (List ℕ)) × HasFetched held old new from to nodes × AreDifferent nodes × AllByRecursion (IsOfLevel level) nodes
-FetchesLevel level (Err fault) held old new from to =
-    (nodes last : List (List ℕ)) × HasFetched held old new from to (nodes ++ last) × AreDifferent nodes × AllByRecursion (IsOfLevel level) nodes × (length last ≤ 1)
+abbrev pub FetchesLevel : {A : Type 0} → ℕ → Result A WalkFault → ShelfUse → ℕ → ℕ → Type 0
+FetchesLevel level (Ok value) shelf from to =
+    (nodes : List (List ℕ)) × HasFetched shelf from to nodes × AreDifferent nodes × AllByRecursion (IsOfLevel level) nodes
+FetchesLevel level (Err fault) shelf from to =
+    (nodes last : List (List ℕ)) × HasFetched shelf from to (nodes ++ last) × AreDifferent nodes × AllByRecursion (IsOfLevel level) nodes × (length last ≤ 1)
 
 -- the bytes are a node of a level from the first to below the second
 abbrev pub IsBetweenLevels : ℕ → ℕ → List ℕ → Type 0
 IsBetweenLevels low high bytes = (node : Node) × Spells bytes node × (low ≤ level_of node) × (level_of node < high)
 
 -- which nodes of the levels below this one were fetched
-abbrev pub FetchesBelow : {A : Type 0} → ℕ → Result A WalkFault → (List ℕ → Type 0) → (List ℕ → Type 0) → (List ℕ → Type 0) → ℕ → ℕ → Type 0
-FetchesBelow level (Ok value) held old new from to =
-    (nodes : List (List ℕ)) × HasFetched held old new from to nodes × AreDifferent nodes × AllByRecursion (IsBetweenLevels 0 level) nodes
-FetchesBelow level (Err fault) held old new from to =
-    (nodes last : List (List ℕ)) × HasFetched held old new from to (nodes ++ last) × AreDifferent nodes × AllByRecursion (IsBetweenLevels 0 level) nodes × (length last ≤ 1)
+abbrev pub FetchesBelow : {A : Type 0} → ℕ → Result A WalkFault → ShelfUse → ℕ → ℕ → Type 0
+FetchesBelow level (Ok value) shelf from to =
+    (nodes : List (List ℕ)) × HasFetched shelf from to nodes × AreDifferent nodes × AllByRecursion (IsBetweenLevels 0 level) nodes
+FetchesBelow level (Err fault) shelf from to =
+    (nodes last : List (List ℕ)) × HasFetched shelf from to (nodes ++ last) × AreDifferent nodes × AllByRecursion (IsBetweenLevels 0 level) nodes × (length last ≤ 1)
 
 -- the bytes are one of these nodes
 abbrev pub IsOneOf : List (Option (List ℕ) × Node) → List ℕ → Type 0
