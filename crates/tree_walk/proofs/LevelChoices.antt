@@ -69,7 +69,7 @@ no_higher_next (Some o) None key is above = absurd is
 no_higher_next (Some o) (Some l) key is above = inl (at_most_below o l key is above)
 
 -- of keys that rise the first isn't above the last,
-first_at_most : (low : Option (List ℕ)) (key : List ℕ) (keys : List (List ℕ)) → AreRisingFrom low (key ∷ keys) → IsAtMost key (last_key (key ∷ keys))
+pub first_at_most : (low : Option (List ℕ)) (key : List ℕ) (keys : List (List ℕ)) → AreRisingFrom low (key ∷ keys) → IsAtMost key (last_key (key ∷ keys))
 first_at_most low key [] rise = inr refl
 first_at_most low key (next ∷ keys) rise = inl (below_at_most key next (last_key (next ∷ keys)) rise.1.0 (first_at_most (Some key) next keys rise.1))
 

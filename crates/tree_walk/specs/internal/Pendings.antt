@@ -6,7 +6,7 @@ use Rattle.tree_node.specs.Nodes.{Binding, Leaf, Inner, Link, Node, IsNode, Spel
 use Rattle.tree_node.specs.NodeRefs.{link_of}
 use Rattle.tree_node.specs.Outcomes.{ShelfUse}
 use Rattle.tree_node.specs.Shelves.{GrownBy}
-use Rattle.tree_node.specs.Trees.{entries_in, entry_count, greatest_of, link_to, links_in}
+use Rattle.tree_node.specs.Trees.{entries_in, entry_count, greatest_of, link_to}
 use Rattle.tree_walk.specs.Fetches.{AreDifferent, HasFetched, counted_up}
 use Rattle.tree_walk.specs.Ranges.{IsAboveLeft, IsNoHigher, Meets, Range}
 use Rattle.tree_walk.specs.declared.fault.WalkFault.{WalkFault}
