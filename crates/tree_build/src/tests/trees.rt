@@ -1,5 +1,4 @@
-//! Worked values from outside this crate: the rows of docs/FORMATS.md, and trees of lists made by rule,
-//! computed by an independent program.
+//! Trees of lists made by rule, and worked ones.
 
 ghost use Rattle.std.specs.Option.{option_copied};
 ghost use Rattle.std.specs.Prelude.{◌<◌, IfSome, IsTrue};
@@ -7,10 +6,8 @@ ghost use Rattle.tree_node.specs.NodeRefs.{bindings_of};
 ghost use Rattle.tree_node.specs.Order.{IsBelow};
 ghost use Rattle.tree_node.specs.Trees.{HasTree};
 
-mod rows;
-
-use super::*;
-use rows::{BYTES, NUMBERS, Row, VALUES, row_of};
+use super::rows::{BYTES, NUMBERS, Row, VALUES, row_of};
+use crate::{BuildFault, Entry, Shape, build};
 use std::alloc::{AllocError, Global};
 use std::cmp::Ordering;
 use std::process::Abort;
@@ -154,20 +151,12 @@ fn keys_alone(alloc: Global, keys: &[u8], len: usize) -> Result<Vec<Entry<'_>>, 
     Ok(entries)
 }
 
-/// The bytes 00, 01 and on, this many of them.
-fn single_bytes(alloc: Global, count: usize) -> Result<Vec<u8>, AllocError> {
+/// The last bytes of the numbers from 0, this many of them, in this many bytes each, up to 8.
+fn numbers(alloc: Global, count: usize, len: usize) -> Result<Vec<u8>, AllocError> {
     let mut bytes = Vec::new(alloc);
     for number in 0..count {
-        bytes.push((number % 256) as u8)?;
-    }
-    Ok(bytes)
-}
-
-/// The numbers from 0, this many of them, in 8 bytes each.
-fn numbers(alloc: Global, count: usize) -> Result<Vec<u8>, AllocError> {
-    let mut bytes = Vec::new(alloc);
-    for number in 0..count {
-        bytes.extend_from_slice(&(number as u64).to_be_bytes())?;
+        let all = (number as u64).to_be_bytes();
+        bytes.extend_from_slice(all.get(8usize.saturating_sub(len)..).unwrap_or(&[]))?;
     }
     Ok(bytes)
 }
@@ -182,33 +171,34 @@ fn squares(alloc: Global, count: usize) -> Result<Vec<String>, AllocError> {
     Ok(squares)
 }
 
-#[test]
-fn builds_trees_of_single_bytes(rt: HostRuntime) -> Result<(), Fail> {
-    for line in BYTES.lines() {
+/// Builds the trees of the rows, from keys of this many bytes.
+fn build_rows(rt: &impl Abort, alloc: Global, rows: &str, len: usize) -> Result<(), Fail>
+    requires { 0 < len }
+{
+    for line in rows.lines() {
         let row = row_of(line).ok_or("a row was expected")?;
-        let keys = single_bytes(rt.alloc(), row.entries)?;
-        let entries = keys_alone(rt.alloc(), keys.as_slice(), 1)?;
-        meets(&rt, rt.alloc(), entries.as_slice(), &row)?;
+        let keys = numbers(alloc, row.entries, len)?;
+        let entries = keys_alone(alloc, keys.as_slice(), len)?;
+        meets(rt, alloc, entries.as_slice(), &row)?;
     }
     Ok(())
 }
 
 #[test]
+fn builds_trees_of_single_bytes(rt: HostRuntime) -> Result<(), Fail> {
+    build_rows(&rt, rt.alloc(), BYTES, 1)
+}
+
+#[test]
 fn builds_trees_of_numbers(rt: HostRuntime) -> Result<(), Fail> {
-    for line in NUMBERS.lines() {
-        let row = row_of(line).ok_or("a row was expected")?;
-        let keys = numbers(rt.alloc(), row.entries)?;
-        let entries = keys_alone(rt.alloc(), keys.as_slice(), 8)?;
-        meets(&rt, rt.alloc(), entries.as_slice(), &row)?;
-    }
-    Ok(())
+    build_rows(&rt, rt.alloc(), NUMBERS, 8)
 }
 
 #[test]
 fn builds_trees_of_entries_with_values(rt: HostRuntime) -> Result<(), Fail> {
     for line in VALUES.lines() {
         let row = row_of(line).ok_or("a row was expected")?;
-        let keys = numbers(rt.alloc(), row.entries)?;
+        let keys = numbers(rt.alloc(), row.entries, 8)?;
         let squares = squares(rt.alloc(), row.entries)?;
         let mut entries = Vec::new(rt.alloc());
         for (key, value) in keys.as_slice().chunks(8).zip(&squares) {
@@ -251,71 +241,6 @@ fn marked_as(alloc: Global, marks: &[bool]) -> Result<Vec<u8>, Fail> {
         return Err(Fail::from("there are too few such keys"));
     }
     Ok(keys)
-}
-
-#[test]
-fn builds_the_empty_list(rt: HostRuntime) -> Result<(), Fail> {
-    let alloc = rt.alloc();
-    let mut stock = Stock::new(alloc);
-    let top = built(alloc, &[], Tree::Objects, Shape::One, &mut stock)?;
-    assert_eq!(rt; top, digest_of(b"\x01\x00\x00\x00"));
-    let mut shelf = stock.shelf(alloc);
-    assert_eq!(rt; shelf.fetch(&top)?, b"\x01\x00\x00\x00".as_slice());
-    Ok(())
-}
-
-#[test]
-fn builds_the_tree_of_65_keys(rt: HostRuntime) -> Result<(), Fail> {
-    let alloc = rt.alloc();
-    let keys = single_bytes(alloc, 65)?;
-    let entries = keys_alone(alloc, keys.as_slice(), 1)?;
-    let mut stock = Stock::new(alloc);
-    let top = built(
-        alloc,
-        entries.as_slice(),
-        Tree::Tags,
-        Shape::One,
-        &mut stock,
-    )?;
-    let mut shelf = stock.shelf(alloc);
-    let bytes = shelf.fetch(&top)?;
-    assert_eq!(rt; bytes.len(), 90);
-    let head = b"\x02\x01\x00\x02\x00\x01\x3f\x00\x00\x00\x00\x00\x00\x00\x40";
-    assert!(rt; bytes.starts_with(head.as_slice()));
-    let second = b"\x00\x01\x40\x00\x00\x00\x00\x00\x00\x00\x01";
-    assert_eq!(rt; bytes.get(47..58), Some(second.as_slice()));
-    let first = Digest::from_slice(bytes.get(15..47).ok_or("a digest was expected")?).ok_or(
-        "32 bytes were expected",
-    )?;
-    assert_eq!(rt; shelf.fetch(&first)?.len(), 452);
-    let last = digest_of(b"\x02\x00\x00\x01\x00\x01\x40\x00\x00\x00\x00");
-    assert_eq!(rt; bytes.get(58..), Some(last.0.as_slice()));
-    assert_eq!(rt; shelf.fetch(&last)?.len(), 11);
-    Ok(())
-}
-
-#[test]
-fn builds_three_levels(rt: HostRuntime) -> Result<(), Fail> {
-    let alloc = rt.alloc();
-    let keys = numbers(alloc, 4097)?;
-    let entries = keys_alone(alloc, keys.as_slice(), 8)?;
-    let mut stock = Stock::new(alloc);
-    let top = built(
-        alloc,
-        entries.as_slice(),
-        Tree::Cells,
-        Shape::One,
-        &mut stock,
-    )?;
-    let sizes = sizes_of(alloc, &stock, top)?;
-    let counts: Vec<usize> = sizes
-        .items
-        .as_slice()
-        .iter()
-        .map(|level| level.len())
-        .collect(alloc)?;
-    assert_eq!(rt; counts.as_slice(), [1, 2, 65].as_slice());
-    Ok(())
 }
 
 #[test]
@@ -369,51 +294,10 @@ fn builds_the_worked_tree_of_three_keys(rt: HostRuntime) -> Result<(), Fail> {
 }
 
 #[test]
-fn adds_what_the_stock_lacks(rt: HostRuntime) -> Result<(), Fail> {
-    let alloc = rt.alloc();
-    let keys = single_bytes(alloc, 65)?;
-    let entries = keys_alone(alloc, keys.as_slice(), 1)?;
-    let mut stock = Stock::new(alloc);
-    let other = stock.put(Vec::from_slice(alloc, b"another node")?)?;
-    let one = built(
-        alloc,
-        entries.as_slice(),
-        Tree::Tags,
-        Shape::One,
-        &mut stock,
-    )?;
-    let again = built(
-        alloc,
-        entries.as_slice(),
-        Tree::Tags,
-        Shape::One,
-        &mut stock,
-    )?;
-    assert_eq!(rt; one, again);
-    let two = built(
-        alloc,
-        entries.as_slice(),
-        Tree::Tags,
-        Shape::Two,
-        &mut stock,
-    )?;
-    assert_ne!(rt; one, two);
-    assert_eq!(rt;
-        stock.shelf(alloc).fetch(&other)?,
-        b"another node".as_slice()
-    );
-    assert_eq!(rt; sizes_of(alloc, &stock, one)?.bytes, 553);
-    assert_eq!(rt; sizes_of(alloc, &stock, two)?.bytes, 553);
-    Ok(())
-}
-
-#[test]
 fn shows_the_faults(rt: HostRuntime) -> Result<(), Fail> {
     let alloc = rt.alloc();
-    let clash = format!(in alloc; "{}", BuildFault::Clash)?;
-    assert_eq!(rt; clash.as_str(), "N6");
-    let memory = format!(in alloc; "{}", BuildFault::Memory)?;
-    assert_eq!(rt; memory.as_str(), "no memory");
+    let faults = format!(in alloc; "{}, {}", BuildFault::Clash, BuildFault::Memory)?;
+    assert_eq!(rt; faults.as_str(), "N6, no memory");
     Ok(())
 }
 

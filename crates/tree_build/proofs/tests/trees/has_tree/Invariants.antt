@@ -4,7 +4,7 @@ use Rattle.std.specs.Option.{option_copied}
 use Rattle.tree_node.specs.Nodes.{AreRisingFrom, keys_of}
 use Rattle.tree_node.specs.NodeRefs.{bindings_of}
 use Rattle.tree_node.specs.Trees.{FitsTree}
-use Rattle.tree_build.proofs.tests.has_tree.Given as goal
+use Rattle.tree_build.proofs.tests.trees.has_tree.Given as goal
 
 -- the entries have a tree where those still to come are as they have to be
 abbrev pub invariant-loop-entry : goal.invariant-loop-entry
