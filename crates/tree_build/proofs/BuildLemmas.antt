@@ -7,13 +7,14 @@ use Rattle.std.proofs.Math.Nat.{pow-suc}
 use Rattle.tree_node.specs.Digests.{digest}
 use Rattle.tree_node.specs.Nodes.{Binding, Link, Node, Inner, spelling}
 use Rattle.tree_node.specs.NodeRefs.{link_of, links_of}
-use Rattle.tree_node.specs.Trees.{Shape, pieces, one_at_least, ends_by, is_marked_link, link_to, leaves, level_over, levels_over, levels, level_at, no_node, top_of, Stands, IsNodeOf, Clash as Clashes, GrownByAll, HasTree}
+use Rattle.tree_node.specs.Trees.{Shape, pieces, one_at_least, ends_by, is_marked_link, link_to, leaves, level_over, levels_over, levels, level_at, no_node, top_of, Stands, IsNodeOf, HasTree}
+use Rattle.tree_node.specs.Outcomes.{Clash as Clashes, GrownByAll}
 use Rattle.tree_node.specs.declared.child.Child.{Child}
-use Rattle.tree_node.proofs.PieceLemmas.{join}
-use Rattle.tree_node.proofs.TreeLemmas.{tree_is, leaves_some, leaves_few, level_some, level_half, levels_step, levels_end, over_some, level_numbers, leaf_numbers, level_short, leaf_short, numbers_of, HasShort}
+use Rattle.tree_node.proofs.shared.PieceLemmas.{join}
+use Rattle.tree_node.proofs.shared.TreeLemmas.{tree_is, leaves_some, leaves_few, level_some, level_half, levels_step, levels_end, over_some, level_numbers, leaf_numbers, level_short, leaf_short, numbers_of, HasShort}
 use Rattle.tree_build.specs.declared.fault.BuildFault.{BuildFault}
 use Rattle.tree_build.specs.declared.fault.BuildFault.TheVariants.{Clash}
-use Rattle.tree_build.specs.Building.{AreWithin, IsOneOf, PutAll}
+use Rattle.tree_build.specs.internal.Building.{AreWithin, IsOneOf, PutAll}
 use Rattle.tree_build.proofs.StockLemmas.{one_of_first, one_of_last, one_of_parts, gained_none, gained_more, put_stopped}
 
 -- ---- the nodes of a tree, by their places or one level behind the other

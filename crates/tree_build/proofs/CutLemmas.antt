@@ -3,8 +3,8 @@ use Rattle.std.proofs.Common.{◌≡◌, ℕ, ◌+◌, ◌<◌, ◌≤◌, List,
 use Rattle.std.proofs.lemmas.List.{length-take-le}
 use Rattle.std.proofs.Math.Seq.{drop-length, take-length}
 use Rattle.tree_node.specs.Trees.{pieces, pieces_from, one_at_least}
-use Rattle.tree_node.proofs.PieceLemmas.{pieces_at, whole_piece}
-use Rattle.tree_build.specs.Building.{IsFirstPiece}
+use Rattle.tree_node.proofs.shared.PieceLemmas.{pieces_at, whole_piece}
+use Rattle.tree_build.specs.internal.Building.{IsFirstPiece}
 
 module _ {X : Type 0} (ends : ℕ → X → Bool) (items : List X) (len : ℕ) (x : X) (lt : len < length items) (is : x ≡ get_or items len x)
     (so : pieces ends items ≡ pieces_from ends (take len items) (drop len items)) where

@@ -9,8 +9,8 @@ use Rattle.tree_node.specs.NodeRefs.{binding_of, bindings_of, link_of, links_of}
 use Rattle.tree_node.specs.Trees.{FitsTree, last_key}
 use Rattle.tree_node.specs.declared.item.Item.{Item}
 use Rattle.tree_node.specs.declared.child.Child.{Child}
-use Rattle.tree_node.proofs.TreeLemmas.{numbers_of}
-use Rattle.tree_build.specs.Building.{AreWithin}
+use Rattle.tree_node.proofs.shared.TreeLemmas.{numbers_of}
+use Rattle.tree_build.specs.internal.Building.{AreWithin}
 
 -- what holds of each image, by recursion
 pub images : {X Y : Type 0} (P : Y → Type 0) (f : X → Y) (xs : List X) → AllByRecursion P (map f xs) → AllByRecursion (λ x. P (f x)) xs

@@ -6,12 +6,13 @@ use Rattle.std.proofs.Math.Seq.{take-length, drop-length}
 use Rattle.tree_node.specs.Nodes.{Link, Node}
 use Rattle.tree_node.specs.NodeRefs.{link_of, links_of}
 use Rattle.tree_node.specs.declared.child.Child.{Child}
-use Rattle.tree_node.specs.Trees.{Shape, pieces, one_at_least, ends_by, link_to, GrownByAll}
-use Rattle.tree_node.proofs.TreeLemmas.{numbers_of}
-use Rattle.tree_node.proofs.PieceLemmas.{pieces_map, some_pieces, least_maps, ends_same}
+use Rattle.tree_node.specs.Trees.{Shape, pieces, one_at_least, ends_by, link_to}
+use Rattle.tree_node.specs.Outcomes.{GrownByAll}
+use Rattle.tree_node.proofs.shared.TreeLemmas.{numbers_of}
+use Rattle.tree_node.proofs.shared.PieceLemmas.{pieces_map, some_pieces, least_maps, ends_same}
 use Rattle.tree_build.specs.declared.fault.BuildFault.{BuildFault}
 use Rattle.tree_build.specs.declared.fault.BuildFault.TheVariants.{Memory}
-use Rattle.tree_build.specs.Building.{AreWithin, IsFirstPiece, IsOneOf, PutAll}
+use Rattle.tree_build.specs.internal.Building.{AreWithin, IsFirstPiece, IsOneOf, PutAll}
 use Rattle.tree_build.proofs.FitLemmas.{sum_part, sum_rest}
 use Rattle.tree_build.proofs.StockLemmas.{Underway, put_stopped, put_no_memory, gained_more, underway_more}
 

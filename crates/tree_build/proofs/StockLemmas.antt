@@ -2,10 +2,11 @@
 use Rattle.std.proofs.Common.{◌≡◌, ℕ, List, [], ◌∷◌, ◌++◌, map, ◌⊎◌, inl, inr, Result, Ok, Err, OnOk, refl, sym, ap, subst, ◌∙◌, append_assoc}
 use Rattle.std.proofs.lemmas.List.{map-append, append-nil}
 use Rattle.tree_node.specs.Nodes.{Link, Node}
-use Rattle.tree_node.specs.Trees.{GrownByAll, link_to}
+use Rattle.tree_node.specs.Outcomes.{GrownByAll}
+use Rattle.tree_node.specs.Trees.{link_to}
 use Rattle.tree_build.specs.declared.fault.BuildFault.{BuildFault}
 use Rattle.tree_build.specs.declared.fault.BuildFault.TheVariants.{Clash, Memory}
-use Rattle.tree_build.specs.Building.{IsOneOf, PutAll}
+use Rattle.tree_build.specs.internal.Building.{IsOneOf, PutAll}
 
 -- one of some nodes, or of others behind them
 pub one_of_first : (xs ys : List Node) (bytes : List ℕ) → IsOneOf xs bytes → IsOneOf (xs ++ ys) bytes

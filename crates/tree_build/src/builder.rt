@@ -5,7 +5,8 @@ ghost use Rattle.tree_build.specs.Shapes.{shape_of};
 ghost use Rattle.tree_node.specs.Digests.{digest as digest_word};
 ghost use Rattle.tree_node.specs.NodeRefs.{bindings_of, number_of};
 ghost use Rattle.tree_node.specs.Stocks.{HasNode};
-ghost use Rattle.tree_node.specs.Trees.{Clash, GrownByAll, HasTree, IsNodeOf, levels, top_of};
+ghost use Rattle.tree_node.specs.Outcomes.{Clash, GrownByAll};
+ghost use Rattle.tree_node.specs.Trees.{HasTree, IsNodeOf, levels, top_of};
 
 use crate::Entry;
 use crate::fault::BuildFault;

@@ -1,16 +1,13 @@
 //! Where a list is cut into pieces.
 
 ghost use Rattle.std.specs.Prelude.{◌≡◌, Bool};
-ghost use Rattle.tree_build.specs.Building.{IsFirstPiece};
+ghost use Rattle.tree_build.specs.internal.Building.{IsFirstPiece};
 ghost use Rattle.tree_build.specs.Shapes.{shape_of};
 ghost use Rattle.tree_node.specs.Trees.{ends_by};
 
 use crate::Entry;
 use crate::shape::Shape;
-use tree_node::{Child, digest_of};
-
-/// The greatest number of items in a piece.
-const MOST_ITEMS: usize = 64;
+use tree_node::{Child, ITEM_LIMIT, digest_of};
 
 /// The first bytes of digests below this one mark an item, one in 32.
 const MARKED_BELOW: u8 = 8;
@@ -48,7 +45,7 @@ impl<'a> Cut for Child<'a> {
     }
 }
 
-/// The first piece of the list, without items only where the list has none. It looks at no item behind
+/// The first piece of the list, without items only where the list has none. It looks at no item after
 /// that piece.
 pub(crate) fn first_piece<T: Cut>(items: &[T], shape: Shape) -> &[T]
     ensures { IsFirstPiece (ends_by (shape_of shape) T.marked) items.now result.now }
@@ -69,7 +66,7 @@ fn ends_after<T: Cut>(item: &T, number: usize, shape: Shape) -> bool
     ensures { result ≡ ends_by (shape_of shape) T.marked number item.now }
 {
     match shape {
-        Shape::One => number == MOST_ITEMS,
-        Shape::Two => number == MOST_ITEMS || (number > 1 && item.is_marked()),
+        Shape::One => number == ITEM_LIMIT,
+        Shape::Two => number == ITEM_LIMIT || (number > 1 && item.is_marked()),
     }
 }

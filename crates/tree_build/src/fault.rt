@@ -1,6 +1,6 @@
 //! Why a tree was not built.
 
-ghost use Rattle.tree_build.specs.Building.{fault_of_put};
+ghost use Rattle.tree_build.specs.Refusals.{fault_of_put};
 ghost use Rattle.tree_build.specs.declared.fault.BuildFault.TheVariants.{Memory};
 ghost use Rattle.std.specs.Prelude.{◌≡◌};
 

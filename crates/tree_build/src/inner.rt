@@ -1,8 +1,9 @@
 //! The inner nodes of a tree.
 
 ghost use Rattle.std.specs.Prelude.{◌≡◌, ◌≤◌, ◌<◌, ◌^◌, [], ◌∷◌, IfOk, length, map, sum_by};
-ghost use Rattle.tree_build.specs.Building.{AreWithin, PutAll};
+ghost use Rattle.tree_build.specs.internal.Building.{AreWithin, PutAll};
 ghost use Rattle.tree_build.specs.Shapes.{shape_of};
+ghost use Rattle.tree_node.specs.declared.limits.TheConstants.{ITEM_LIMIT};
 ghost use Rattle.tree_node.specs.NodeRefs.{inner_of, link_of, links_of, number_of};
 ghost use Rattle.tree_node.specs.Nodes.{Inner, Link, greatests_of};
 ghost use Rattle.tree_node.specs.Stocks.{HasNode};
@@ -52,7 +53,7 @@ fn put_inner<'a>(
     children: &[Child<'a>],
     stock: &mut Stock,
 ) -> Result<Child<'a>, BuildFault>
-    requires few { length children.now ≤ 64 }
+    requires few { length children.now ≤ ITEM_LIMIT }
     requires within { AreWithin (links_of children.now) }
     ensures link { IfOk result (λ child. link_of child ≡ link_to (inner_of tree level children.now)) }
     ensures put { PutAll result (HasNode stock.old) (HasNode stock.new)
@@ -92,7 +93,7 @@ fn entries_below(children: &[Child<'_>]) -> u64
 
 /// The number of bytes of the inner node with these children.
 fn inner_len(children: &[Child<'_>]) -> usize
-    requires few { length children.now ≤ 64 }
+    requires few { length children.now ≤ ITEM_LIMIT }
     requires within { AreWithin (links_of children.now) }
 {
     let mut len = 4;

@@ -4,7 +4,8 @@ ghost use Rattle.std.specs.List.{flat_map};
 ghost use Rattle.std.specs.Prelude.{◌≡◌, ◌≢◌, ◌+◌, ◌-◌, ◌*◌, ◌<◌, ◌≤◌, ◌⊎◌, [], ◌∷◌, ℕ, List, length, map};
 ghost use Rattle.tree_node.specs.Digests.{digest};
 ghost use Rattle.tree_node.specs.Nodes.{Binding, IsNode, IsTree, Leaf, Link, keys_of, level_of, tree_of};
-ghost use Rattle.tree_node.specs.Trees.{Clash, HasTree, IsNodeOf, Shape};
+ghost use Rattle.tree_node.specs.Outcomes.{Clash};
+ghost use Rattle.tree_node.specs.Trees.{HasTree, IsNodeOf, Shape};
 ghost use Rattle.tree_node.specs.Trees.{entries_at, entries_below, entries_in, entry_count, greatest_of, item_count, last_key};
 ghost use Rattle.tree_node.specs.Trees.{level_at, levels, link_to, links_in, node_in, top_of};
 

@@ -2,8 +2,9 @@
 
 ghost use Rattle.std.specs.List.{AllByRecursion};
 ghost use Rattle.std.specs.Prelude.{◌≡◌, ◌≤◌, [], ◌∷◌, IfOk, length, map};
-ghost use Rattle.tree_build.specs.Building.{PutAll};
+ghost use Rattle.tree_build.specs.internal.Building.{PutAll};
 ghost use Rattle.tree_build.specs.Shapes.{shape_of};
+ghost use Rattle.tree_node.specs.declared.limits.TheConstants.{ITEM_LIMIT};
 ghost use Rattle.tree_node.specs.NodeRefs.{bindings_of, leaf_of, link_of, links_of, number_of};
 ghost use Rattle.tree_node.specs.Nodes.{keys_of};
 ghost use Rattle.tree_node.specs.Stocks.{HasNode};
@@ -50,7 +51,7 @@ fn put_leaf<'a>(
     entries: &[Entry<'a>],
     stock: &mut Stock,
 ) -> Result<Child<'a>, BuildFault>
-    requires few { length entries.now ≤ 64 }
+    requires few { length entries.now ≤ ITEM_LIMIT }
     requires fit { AllByRecursion FitsTree (bindings_of entries.now) }
     ensures link { IfOk result (λ child. link_of child ≡ link_to (leaf_of tree entries.now)) }
     ensures put { PutAll result (HasNode stock.old) (HasNode stock.new) (leaf_of tree entries.now ∷ []) }
@@ -77,7 +78,7 @@ fn last_key<'a>(entries: &[Entry<'a>]) -> &'a [u8]
 
 /// The number of bytes of the leaf with these entries.
 fn leaf_len(entries: &[Entry<'_>]) -> usize
-    requires few { length entries.now ≤ 64 }
+    requires few { length entries.now ≤ ITEM_LIMIT }
     requires fit { AllByRecursion FitsTree (bindings_of entries.now) }
 {
     let mut len = 4;

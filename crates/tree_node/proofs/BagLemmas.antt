@@ -10,7 +10,7 @@ use Rattle.tree_node.specs.Parts.{node_of, HaveRisingDigests, HaveNode}
 use Rattle.tree_node.specs.Bags.{HaveMarkedNode}
 use Rattle.tree_node.specs.Shelves.{GrownBy}
 use Rattle.tree_node.specs.declared.part.Part.{Part}
-use Rattle.tree_node.specs.OrderLemmas.{order_trans, order_above, order_same, not_itself}
+use Rattle.tree_node.specs.internal.OrderLemmas.{order_trans, order_above, order_same, not_itself}
 
 module _ (parts : List Part) (key : List ℕ) (m : ℕ) (x : Part) (rising : HaveRisingDigests parts) (lt : m < length parts) (is : x ≡ get_or parts m x) where
   here : (d : Part) → x ≡ get_or parts m d

@@ -6,8 +6,9 @@ use Rattle.tree_node.specs.declared.fault.NodeFault.{NodeFault}
 use Rattle.tree_node.specs.declared.fault.NodeFault.TheVariants.{CutShort, BadCount}
 use Rattle.tree_node.specs.Nodes.{AreBytes, Link, link}
 use Rattle.tree_node.specs.Faults.{entry_form, link_form, HasWidths, HasNoItem}
-use Rattle.tree_node.specs.Reading.{◌>>=◌, number_at, bytes_at, entry_at, link_at, entries_behind, links_behind}
-use Rattle.tree_node.proofs.FieldLemmas.{Takes, entry_takes, entry_again, link_takes, link_again, link_wide, number_takes, piece_takes, wide16, wide64, Takes-then}
+use Rattle.tree_node.specs.Fronts.{◌>>=◌, number_at, bytes_at, entry_at, link_at}
+use Rattle.tree_node.specs.internal.Reading.{entries_behind, links_behind}
+use Rattle.tree_node.proofs.shared.FieldLemmas.{Takes, entry_takes, entry_again, link_takes, link_again, link_wide, number_takes, piece_takes, wide16, wide64, Takes-then}
 use Rattle.tree_node.proofs.ItemFaults.{IsReader}
 
 -- where a chain of steps failed

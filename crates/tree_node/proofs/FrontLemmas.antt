@@ -7,7 +7,8 @@ use Rattle.std.proofs.lemmas.List.{length-drop}
 use Rattle.tree_node.specs.declared.fault.NodeFault.{NodeFault}
 use Rattle.tree_node.specs.declared.fault.NodeFault.TheVariants.{BadCount, CutShort}
 use Rattle.tree_node.specs.Nodes.{Link}
-use Rattle.tree_node.specs.Reading.{bytes_at, entry_at, link_at, link_by, number_at}
+use Rattle.tree_node.specs.Fronts.{bytes_at, entry_at, link_at, number_at}
+use Rattle.tree_node.specs.internal.Reading.{link_by}
 
 number_ok : (w : Width) (bytes : List ℕ) → byte_len w ≤ length bytes → number_at w bytes ≡ Ok (from_be_bytes w (take (byte_len w) bytes), drop (byte_len w) bytes)
 number_ok w bytes long = rw (le-ltb _ _ long) refl

@@ -10,9 +10,10 @@ use Rattle.tree_node.specs.declared.fault.NodeFault.TheVariants.{CutShort, Bytes
 use Rattle.tree_node.specs.Nodes.{AreBytes}
 use Rattle.tree_node.specs.Order.{IsBelow}
 use Rattle.tree_node.specs.Faults.{Form, Rise, BeginsWith, HasNoItem, ItemsFault}
-use Rattle.tree_node.specs.Reading.{◌>>=◌, is_above}
-use Rattle.tree_node.proofs.FieldLemmas.{AreBytes-drop, Takes}
-use Rattle.tree_node.proofs.NodeLaws.{above_is, above_true}
+use Rattle.tree_node.specs.Fronts.{◌>>=◌}
+use Rattle.tree_node.specs.internal.Reading.{is_above}
+use Rattle.tree_node.proofs.shared.FieldLemmas.{AreBytes-drop, Takes}
+use Rattle.tree_node.proofs.shared.NodeLaws.{above_is, above_true}
 
 -- a reader of one item, and one of items in turn
 pub record IsReader {X : Type 0} (form : Form X) (at : List ℕ → Result (X × List ℕ) NodeFault) (behind : ℕ → Option (List ℕ) → List ℕ → Result (List ℕ) NodeFault) : Type 0 where

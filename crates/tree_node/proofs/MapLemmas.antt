@@ -15,7 +15,7 @@ use Rattle.tree_node.specs.Digests.{digest}
 use Rattle.tree_node.specs.declared.digest.Digest.{Digest}
 use Rattle.tree_node.specs.Shelves.{GrownBy}
 use Rattle.tree_node.specs.Keys.{digest_cmp, key_of, StandsIn}
-use Rattle.tree_node.specs.OrderLemmas.{order_same}
+use Rattle.tree_node.specs.internal.OrderLemmas.{order_same}
 
 -- a comparison that passes for equal is so
 equal_is : (o : Ordering) → is_eq o ≡ true → o ≡ Equal

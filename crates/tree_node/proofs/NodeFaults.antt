@@ -10,9 +10,10 @@ use Rattle.tree_node.specs.declared.node.NodeRef.{NodeRef}
 use Rattle.tree_node.specs.Nodes.{AreBytes, Link, Node, Leaf, Inner, FitsEntry, FitsLink, IsTree}
 use Rattle.tree_node.specs.NodeRefs.{node_read}
 use Rattle.tree_node.specs.Faults.{entry_form, link_form, HasWidths, ItemsFault, HasKind, HasCount, BodyFault, HeadFault, IsFault}
-use Rattle.tree_node.specs.Reading.{◌>>=◌, Gives, entry_at, link_at, entries_behind, links_behind, entries_in, links_in, node_at, to_the_end, items_at, tree_at}
-use Rattle.tree_node.proofs.FieldLemmas.{AreBytes-drop, wide16}
-use Rattle.tree_node.proofs.NodeLaws.{entries_taken, links_taken, or_false, above_zero, two}
+use Rattle.tree_node.specs.Fronts.{◌>>=◌, entry_at, link_at, entries_at_front, links_at_front}
+use Rattle.tree_node.specs.internal.Reading.{Gives, entries_behind, links_behind, node_at, to_the_end, items_at, tree_at}
+use Rattle.tree_node.proofs.shared.FieldLemmas.{AreBytes-drop, wide16}
+use Rattle.tree_node.proofs.shared.NodeLaws.{entries_taken, links_taken, or_false, above_zero, two}
 use Rattle.tree_node.proofs.ItemFaults.{stops, stopped, went_on, AreBytes-behind}
 use Rattle.tree_node.proofs.FaultLemmas.{entry_reader, link_reader, or_true}
 
@@ -46,14 +47,14 @@ and_true false b p = absurd cc
 
 -- entries that are at fault
 entries_fault : (tree count : ℕ) (bytes : List ℕ) (f : NodeFault) → AreBytes bytes
-    → to_the_end (entries_behind count None bytes) (Leaf tree (entries_in count bytes)) ≡ Err f → ItemsFault entry_form None count bytes f
+    → to_the_end (entries_behind count None bytes) (Leaf tree (entries_at_front count bytes)) ≡ Err f → ItemsFault entry_form None count bytes f
 entries_fault tree count bytes f fits p =
-    elim (end_err (entries_behind count None bytes) (Leaf tree (entries_in count bytes)) f p) [
+    elim (end_err (entries_behind count None bytes) (Leaf tree (entries_at_front count bytes)) f p) [
       | inl q ↦ stops entry_form entry_at entries_behind entry_reader count None bytes f fits q
       | inr (rest, q, more, is) ↦
           let s = entries_taken count None bytes rest fits q in
           subst (λ (e : NodeFault). ItemsFault entry_form None count bytes e) (sym is)
-          (entries_in count bytes, rest, record { parts = s.taken.parts; fit = all_are FitsEntry (λ x. FitsEntry x × ⊤) (λ x fit. (fit, tt)) (entries_in count bytes) s.fit; rise = s.rise }, s.long, more)
+          (entries_at_front count bytes, rest, record { parts = s.taken.parts; fit = all_are FitsEntry (λ x. FitsEntry x × ⊤) (λ x fit. (fit, tt)) (entries_at_front count bytes) s.fit; rise = s.rise }, s.long, more)
     ]
 
 -- the fields of a link that fits, and its range
@@ -62,20 +63,20 @@ link_is c fits = (record { greatest = fits.greatest; number = omega (arith, fits
 
 -- links that are at fault
 links_fault : (tree level count : ℕ) (bytes : List ℕ) (f : NodeFault) → AreBytes bytes
-    → to_the_end (links_behind count None bytes) (Inner tree level (links_in count bytes)) ≡ Err f → ItemsFault link_form None count bytes f
+    → to_the_end (links_behind count None bytes) (Inner tree level (links_at_front count bytes)) ≡ Err f → ItemsFault link_form None count bytes f
 links_fault tree level count bytes f fits p =
-    elim (end_err (links_behind count None bytes) (Inner tree level (links_in count bytes)) f p) [
+    elim (end_err (links_behind count None bytes) (Inner tree level (links_at_front count bytes)) f p) [
       | inl q ↦ stops link_form link_at links_behind link_reader count None bytes f fits q
       | inr (rest, q, more, is) ↦
           let s = links_taken count None bytes rest fits q in
           subst (λ (e : NodeFault). ItemsFault link_form None count bytes e) (sym is)
-          (links_in count bytes, rest, record { parts = s.taken.parts; fit = all_are FitsLink (λ (c : Link). HasWidths c × ((1 ≤ c.number) × (c.number ≤ 2 ^ 40))) link_is (links_in count bytes) s.fit; rise = s.rise }, s.long, more)
+          (links_at_front count bytes, rest, record { parts = s.taken.parts; fit = all_are FitsLink (λ (c : Link). HasWidths c × ((1 ≤ c.number) × (c.number ≤ 2 ^ 40))) link_is (links_at_front count bytes) s.fit; rise = s.rise }, s.long, more)
     ]
 
 -- what the level and the number of items say
 abbrev body_of : ℕ → ℕ → ℕ → List ℕ → Result Node NodeFault
 body_of tree level count bytes =
-    cond (eqb level 0) (to_the_end (entries_behind count None bytes) (Leaf tree (entries_in count bytes))) (to_the_end (links_behind count None bytes) (Inner tree level (links_in count bytes)))
+    cond (eqb level 0) (to_the_end (entries_behind count None bytes) (Leaf tree (entries_at_front count bytes))) (to_the_end (links_behind count None bytes) (Inner tree level (links_at_front count bytes)))
 
 -- the branch that was taken
 choose : {A : Type 0} (b : Bool) (p q r : A) → cond b p q ≡ r → ((b ≡ true) × (p ≡ r)) ⊎ ((b ≡ false) × (q ≡ r))
@@ -85,7 +86,7 @@ choose false p q r e = inr (refl, e)
 -- what is refused behind the number of items
 body_fault : (tree level count : ℕ) (bytes : List ℕ) (f : NodeFault) → AreBytes bytes → body_of tree level count bytes ≡ Err f → BodyFault level count bytes f
 body_fault tree level count bytes f fits p =
-    elim (choose (eqb level 0) (to_the_end (entries_behind count None bytes) (Leaf tree (entries_in count bytes))) (to_the_end (links_behind count None bytes) (Inner tree level (links_in count bytes))) (Err f) p) [
+    elim (choose (eqb level 0) (to_the_end (entries_behind count None bytes) (Leaf tree (entries_at_front count bytes))) (to_the_end (links_behind count None bytes) (Inner tree level (links_at_front count bytes))) (Err f) p) [
       | inl (zero_is, q) ↦ inl (eqb-true _ _ zero_is, entries_fault tree count bytes f fits q)
       | inr (not_zero, q) ↦ inr (up level not_zero, links_fault tree level count bytes f fits q)
     ]
@@ -196,12 +197,12 @@ body_err r node BytesAfter failed on =
 body_met : (tree level count : ℕ) (bytes : List ℕ) (f : NodeFault) → AreBytes bytes → BodyFault level count bytes f → body_of tree level count bytes ≡ Err f
 body_met tree level count bytes f fits (inl (is, fault)) =
     let z : eqb level 0 ≡ true = rw is refl in
-    rw z (body_err (entries_behind count None bytes) (Leaf tree (entries_in count bytes)) f
+    rw z (body_err (entries_behind count None bytes) (Leaf tree (entries_at_front count bytes)) f
     (λ other. stopped entry_form entry_at entries_behind entry_reader count None bytes f fits fault other)
     (λ after. went_on entry_form entry_at entries_behind entry_reader count None bytes (subst (λ (e : NodeFault). ItemsFault entry_form None count bytes e) after fault)))
 body_met tree level count bytes f fits (inr (up, fault)) =
     let z : eqb level 0 ≡ false = ne_eqb _ _ (λ h. absurd (omega arith)) in
-    rw z (body_err (links_behind count None bytes) (Inner tree level (links_in count bytes)) f
+    rw z (body_err (links_behind count None bytes) (Inner tree level (links_at_front count bytes)) f
     (λ other. stopped link_form link_at links_behind link_reader count None bytes f fits fault other)
     (λ after. went_on link_form link_at links_behind link_reader count None bytes (subst (λ (e : NodeFault). ItemsFault link_form None count bytes e) after fault)))
 

@@ -13,7 +13,8 @@ use Rattle.std.proofs.lemmas.Map.Views.{Contains-from_lookup, All-after_first}
 use Rattle.std.proofs.lemmas.Map.Keys.{sorted_tail}
 use Rattle.tree_node.specs.Digests.{digest}
 use Rattle.tree_node.specs.Keys.{digest_cmp, key_of, StandsIn}
-use Rattle.tree_node.specs.Parts.{node_of, pair_of, HaveNode, HaveRisingDigests}
+use Rattle.tree_node.specs.Parts.{node_of, HaveNode, HaveRisingDigests}
+use Rattle.tree_node.specs.internal.Pairs.{pair_of}
 use Rattle.tree_node.specs.Shelves.{SameNodes}
 use Rattle.tree_node.specs.declared.digest.Digest.{Digest}
 use Rattle.tree_node.specs.declared.part.Part.{Part}

@@ -3,7 +3,8 @@ use Rattle.std.proofs.Common.{◌≡◌, ℕ, suc, ◌-◌, ◌+◌, ◌≤◌, 
 use Rattle.tree_node.specs.declared.fault.NodeFault.{NodeFault}
 use Rattle.tree_node.specs.declared.fault.NodeFault.TheVariants.{NotRising}
 use Rattle.tree_node.specs.Nodes.{Binding, Link}
-use Rattle.tree_node.specs.Reading.{entry_at, link_at, entries_behind, links_behind, is_above}
+use Rattle.tree_node.specs.Fronts.{entry_at, link_at}
+use Rattle.tree_node.specs.internal.Reading.{entries_behind, links_behind, is_above}
 
 module _ (count i : ℕ) (low : Option (List ℕ)) (bytes : List ℕ) (total : Result (List ℕ) NodeFault) where
   pub entries_fail : (e : NodeFault) → i < count → entry_at bytes ≡ Err e → entries_behind (count - i) low bytes ≡ total → total ≡ Err e

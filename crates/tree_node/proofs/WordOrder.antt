@@ -9,7 +9,7 @@ use Rattle.std.proofs.lemmas.Bool.{cases_order, le-ltb, lt-ltb}
 use Rattle.std.proofs.lemmas.List.{take-append-drop}
 use Rattle.tree_node.specs.Nodes.{AreBytes}
 use Rattle.tree_node.specs.Order.{order, IsBelow}
-use Rattle.tree_node.specs.OrderLemmas.{not_itself, order_above, order_flip, order_trans}
+use Rattle.tree_node.specs.internal.OrderLemmas.{not_itself, order_above, order_flip, order_trans}
 
 -- ---- the first bytes decide, or else what stands behind them
 

@@ -1,4 +1,5 @@
 -- What a bag holds, and which of its nodes were used.
+-- Source: this project.
 use Rattle.std.specs.Prelude.{◌≡◌, ℕ, ◌<◌, List, length, Bool, true, false, slice_index_or}
 use Rattle.tree_node.specs.Parts.{node_of, HaveNode}
 use Rattle.tree_node.specs.declared.part.Part.{Part}

@@ -1,14 +1,17 @@
 -- Why bytes are no node: the first thing from the left that a node doesn't have.
+-- Source: this project's form of nodes, docs/FORMATS.md.
 use Rattle.std.specs.Prelude.{◌≡◌, ◌≢◌, ℕ, ◌<◌, ◌≤◌, ◌^◌, List, [], ◌∷◌, ◌++◌, ◌⊎◌, length, map, Option, None, ⊤}
 use Rattle.std.specs.Int.{w16, to_be_bytes}
 use Rattle.std.specs.List.{flat_map, AllByRecursion}
 use Rattle.tree_node.specs.Nodes.{Binding, Link, entry, link, FitsEntry, IsTree, AreRisingFrom}
 use Rattle.tree_node.specs.declared.fault.NodeFault.{NodeFault}
 use Rattle.tree_node.specs.declared.fault.NodeFault.TheVariants.{CutShort, BytesAfter, BadCount, NotRising, BadTreeOrLevel}
+use Rattle.tree_node.specs.declared.limits.TheConstants.{ITEM_LIMIT, LEVEL_LIMIT, NUMBER_LIMIT}
 
 -- ---- items, of a leaf or an inner node: how one is spelled, whether its fields have their widths, whether its number
 -- ---- is in range, and its key
 
+-- how items of one kind are written, and what a node asks of them
 pub record Form (X : Type 0) : Type 1 where
   pub spell : X → List ℕ
   pub Shaped : X → Type 0
@@ -25,7 +28,7 @@ pub record HasWidths (c : Link) : Type 0 where
   pub child : length c.child ≡ 32
 
 abbrev pub link_form : Form Link
-link_form = record { spell = link; Shaped = HasWidths; InRange = λ (c : Link). (1 ≤ c.number) × (c.number ≤ 2 ^ 40); key = λ (c : Link). c.greatest }
+link_form = record { spell = link; Shaped = HasWidths; InRange = λ (c : Link). (1 ≤ c.number) × (c.number ≤ NUMBER_LIMIT); key = λ (c : Link). c.greatest }
 
 module _ {X : Type 0} (form : Form X) where
   -- the keys strictly rise, from above the key before them where there is one
@@ -60,18 +63,18 @@ module _ {X : Type 0} (form : Form X) where
 
 -- the tree and the level are a node's
 abbrev pub HasKind : ℕ → ℕ → Type 0
-HasKind tree level = IsTree tree × (level ≤ 63)
+HasKind tree level = IsTree tree × (level ≤ LEVEL_LIMIT)
 
 -- a node of this level has this many items
 abbrev pub HasCount : ℕ → ℕ → Type 0
-HasCount level count = (count ≤ 64) × (1 ≤ level → 1 ≤ count)
+HasCount level count = (count ≤ ITEM_LIMIT) × (1 ≤ level → 1 ≤ count)
 
--- the items behind the first four bytes are at fault
+-- the items after the first four bytes are at fault
 abbrev pub BodyFault : ℕ → ℕ → List ℕ → NodeFault → Type 0
 BodyFault level count bytes fault =
     ((level ≡ 0) × ItemsFault entry_form None count bytes fault) ⊎ ((1 ≤ level) × ItemsFault link_form None count bytes fault)
 
--- the first four bytes are at fault, or else what stands behind them
+-- the first four bytes are at fault, or else what follows them
 abbrev pub HeadFault : ℕ → ℕ → ℕ → List ℕ → NodeFault → Type 0
 HeadFault tree level count bytes fault =
     ((fault ≡ BadTreeOrLevel) × ¬ HasKind tree level)

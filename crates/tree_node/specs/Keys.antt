@@ -1,4 +1,5 @@
 -- Nodes in maps by digest, each under its own.
+-- Source: this project.
 use Rattle.std.specs.Prelude.{◌≡◌, ℕ, List, Some}
 use Rattle.std.specs.Option.{option_map}
 use Rattle.std.specs.Ordering.{nat_cmp}

@@ -1,19 +1,14 @@
--- Nodes that lie beside their digests.
+-- Nodes beside their digests, as a proof lists them.
+-- Source: this project.
 use Rattle.std.specs.Prelude.{◌≡◌, ℕ, List}
-use Rattle.std.specs.Borrow.{Bor}
 use Rattle.std.specs.List.{AllPairs, Any}
 use Rattle.tree_node.specs.Digests.{digest}
 use Rattle.tree_node.specs.Order.{IsBelow}
-use Rattle.tree_node.specs.declared.digest.Digest.{Digest}
 use Rattle.tree_node.specs.declared.part.Part.{Part}
 
 -- the node that a part holds
 abbrev pub node_of : Part → List ℕ
 node_of part = part.bytes.now
-
--- a part as an entry of a map by digest
-abbrev pub pair_of : Part → Digest × Bor (List ℕ)
-pair_of part = (part.digest, part.bytes)
 
 -- the digests of the parts strictly rise
 abbrev pub HaveRisingDigests : List Part → Type 0

@@ -1,4 +1,5 @@
 -- What a recorder holds, and which of its nodes were used.
+-- Source: this project.
 use Rattle.std.specs.Prelude.{ℕ, List}
 use Rattle.std.specs.Borrow.{Bor}
 use Rattle.tree_node.specs.Keys.{StandsIn}

@@ -1,4 +1,5 @@
 -- Sets of nodes, as shelves hold and use them. A set is the property of a byte string that it is in the set.
+-- Source: this project.
 use Rattle.std.specs.Prelude.{◌≡◌, ◌≢◌, ℕ, List, ◌⊎◌, ◌↔◌}
 use Rattle.tree_node.specs.Digests.{digest}
 

@@ -1,4 +1,5 @@
 -- Where a search for a key in rising keys comes to.
+-- Source: this project.
 use Rattle.std.specs.Prelude.{ℕ, List, [], ◌∷◌, Option, Some, if◌then◌else◌}
 use Rattle.std.specs.Ordering.{is_lt}
 use Rattle.tree_node.specs.Order.{order}

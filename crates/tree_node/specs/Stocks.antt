@@ -1,4 +1,5 @@
 -- What a stock holds.
+-- Source: this project.
 use Rattle.std.specs.Prelude.{ℕ, List}
 use Rattle.std.specs.Global.{Vec}
 use Rattle.tree_node.specs.Keys.{StandsIn}

@@ -1,8 +1,9 @@
 -- The tree of a list of entries: its levels of nodes, the leaves first, up to the one node at the top. The list is cut
--- into pieces, a leaf each; the nodes of a level are cut into pieces, a node of the next level each. (This project's
--- trees, docs/FORMATS.md.)
+-- into pieces, a leaf each; the nodes of a level are cut into pieces, a node of the next level each.
+-- Source: this project's trees, docs/FORMATS.md.
 use Rattle.std.specs.Prelude.{◌≡◌, ◌≢◌, ℕ, zero, suc, ◌+◌, ◌-◌, ◌<◌, ◌≤◌, ◌^◌, List, [], ◌∷◌, ◌++◌, ◌⊎◌, ◌↔◌, length, map, take, drop, sum_by, Option, Some, None, Bool, nat_lt, ◌==◌, ◌&&◌, ◌||◌, slice_index, slice_index_or, if◌then◌else◌}
 use Rattle.std.specs.List.{AllByRecursion, flat_map}
+use Rattle.tree_node.specs.declared.limits.TheConstants.{ENTRY_LIMIT, ITEM_LIMIT, KEY_LIMIT, VALUE_LIMIT}
 use Rattle.tree_node.specs.Digests.{digest}
 use Rattle.tree_node.specs.Nodes.{Binding, Link, Node, Leaf, Inner, spelling, AreRisingFrom, keys_of}
 
@@ -28,8 +29,8 @@ pub data Shape : Type 0 where
 
 -- A piece ends after its 64th item; in the second shape also after a marked item that is at least its second.
 abbrev pub ends_by : {X : Type 0} → Shape → (X → Bool) → ℕ → X → Bool
-ends_by One is_marked n x = n == 64
-ends_by Two is_marked n x = n == 64 || (nat_lt 1 n && is_marked x)
+ends_by One is_marked n x = n == ITEM_LIMIT
+ends_by Two is_marked n x = n == ITEM_LIMIT || (nat_lt 1 n && is_marked x)
 
 -- an entry is marked where the first byte of its key's digest is below 8
 abbrev pub is_marked_entry : Binding → Bool
@@ -139,7 +140,7 @@ item_count (Leaf tree entries) = length entries
 item_count (Inner tree level links) = length links
 
 -- For each of these nodes the entries below it, where `parts` are the entries below each node of the level under them:
--- a node takes as many parts as it has items, behind those of the nodes before it.
+-- a node takes as many parts as it has items, after those of the nodes before it.
 abbrev pub below_each : List Node → List (List Binding) → List (List Binding)
 below_each [] parts = []
 below_each (node ∷ nodes) parts =
@@ -154,23 +155,15 @@ entries_at tree (suc level) = below_each (level_at tree (suc level)) (entries_at
 abbrev pub entries_below : List (List Node) → ℕ → ℕ → List Binding
 entries_below tree level place = slice_index_or (entries_at tree level) place []
 
--- ---- lists that have a tree, and clashes
+-- ---- lists that have a tree
 
 -- the key and the value of an entry are within the limits
 pub record FitsTree (entry : Binding) : Type 0 where
-  pub key : length entry.key ≤ 8203
-  pub value : length entry.value ≤ 2 ^ 24
+  pub key : length entry.key ≤ KEY_LIMIT
+  pub value : length entry.value ≤ VALUE_LIMIT
 
 -- the entries have a tree: their keys strictly rise, keys and values are within the limits, and there are few enough
 pub record HasTree (entries : List Binding) : Type 0 where
   pub rising : AreRisingFrom None (keys_of entries)
   pub fit : AllByRecursion FitsTree entries
-  pub few : length entries ≤ 2 ^ 29
-
--- two different byte strings with one digest, one of each set
-abbrev pub Clash : (List ℕ → Type 0) → (List ℕ → Type 0) → Type 0
-Clash These Those = (a b : List ℕ) × These a × Those b × (a ≢ b) × (digest a ≡ digest b)
-
--- the set has gained just these nodes, those of them that it hadn't
-abbrev pub GrownByAll : (List ℕ → Type 0) → (List ℕ → Type 0) → (List ℕ → Type 0) → Type 0
-GrownByAll old new gained = (bytes : List ℕ) → new bytes ↔ (old bytes ⊎ gained bytes)
+  pub few : length entries ≤ ENTRY_LIMIT

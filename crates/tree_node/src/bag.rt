@@ -78,7 +78,7 @@ impl<'a> Shelf<'a> for Bag<'a> {
 
     ghost used = { BagUsed };
 
-    ghost use Rattle.tree_node.specs.BagLaws.{no_clash, marked_held};
+    ghost use Rattle.tree_node.specs.internal.BagLaws.{no_clash, marked_held};
 
     ghost clash_free = { λ b. no_clash b.parts.items b.rising };
 

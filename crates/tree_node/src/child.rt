@@ -3,16 +3,15 @@
 ghost use Rattle.std.specs.Prelude.{◌≡◌, ◌++◌, ◌^◌, ◌<◌, ◌≤◌, ◌+◌, IfOk, IsOk, Ok, OnOk, length};
 ghost use Rattle.tree_node.specs.NodeRefs.{link_of};
 ghost use Rattle.tree_node.specs.Nodes.{link};
-ghost use Rattle.tree_node.specs.Reading.{Gives, link_at, link_by};
-ghost use Rattle.tree_node.specs.Writing.{Extends};
+ghost use Rattle.tree_node.specs.internal.Reading.{Gives, link_by};
+ghost use Rattle.tree_node.specs.Fronts.{link_at};
+ghost use Rattle.tree_node.specs.internal.Writing.{Extends};
 
 use crate::digest::Digest;
 use crate::fault::NodeFault;
 use crate::fields::{digest_at, u16_at, u64_at};
+use crate::limits::NUMBER_LIMIT;
 use std::alloc::AllocError;
-
-/// The greatest number of entries that an inner node states of a child.
-const MOST_ENTRIES: u64 = 1_099_511_627_776;
 
 /// The fewest bytes of a child, whose greatest key is then empty.
 const FEWEST_BYTES: usize = 42;
@@ -22,14 +21,14 @@ const FEWEST_BYTES: usize = 42;
 pub struct Child<'a> {
     /// The greatest key below the child.
     pub greatest: &'a [u8],
-    /// How many entries stand below the child, from 1 to 2^40.
+    /// How many entries there are below the child, from 1 to 2^40.
     pub number: u64,
     /// The digest of the child's bytes.
     pub digest: Digest,
 }
 
 impl<'a> Child<'a> {
-    /// The child at the front of the bytes, and what stands behind it; N1 where it is cut short, N3
+    /// The child at the front of the bytes, and what follows it; N1 where it is cut short, N3
     /// where its number of entries is out of range.
     #[inline(always)]
     pub(crate) fn read_front(bytes: &'a [u8]) -> Result<(Child<'a>, &'a [u8]), NodeFault>
@@ -44,13 +43,13 @@ impl<'a> Child<'a> {
             return Err(NodeFault::CutShort);
         }
         let (child, rest) = Child::front_by(len as usize, bytes);
-        if child.number < 1 || child.number > MOST_ENTRIES {
+        if child.number < 1 || child.number > NUMBER_LIMIT {
             return Err(NodeFault::BadCount);
         }
         Ok((child, rest))
     }
 
-    /// The child at the front of bytes that begin with one, and what stands behind it.
+    /// The child at the front of bytes that begin with one, and what follows it.
     #[inline(always)]
     pub(crate) fn front(bytes: &'a [u8]) -> (Child<'a>, &'a [u8])
         requires { IsOk (link_at bytes.now) }
@@ -78,7 +77,7 @@ impl<'a> Child<'a> {
         (child, rest)
     }
 
-    /// Appends the child's bytes; what it wrote stays where memory is refused.
+    /// Appends the child's bytes; out of memory it leaves what it wrote.
     pub(crate) fn append(&self, out: &mut Vec<u8>) -> Result<(), AllocError>
         requires { length self.now.greatest.now < 2 ^ 16 }
         ensures written { OnOk result (out.new.items ≡ out.old.items ++ link (link_of self.now)) }

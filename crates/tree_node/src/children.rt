@@ -6,7 +6,8 @@ ghost use Rattle.std.specs.Prelude.{◌≡◌, IfOk, None, sum_by};
 ghost use Rattle.tree_node.specs.Held.{HoldsLinks};
 ghost use Rattle.tree_node.specs.NodeRefs.{link_of};
 ghost use Rattle.tree_node.specs.Nodes.{AreBytes, Link, greatests_of};
-ghost use Rattle.tree_node.specs.Reading.{Gives, links_behind, links_in};
+ghost use Rattle.tree_node.specs.internal.Reading.{Gives, links_behind};
+ghost use Rattle.tree_node.specs.Fronts.{links_at_front};
 ghost use Rattle.tree_node.specs.Skips.{from_key, key_before};
 ghost use Rattle.tree_node.specs.Trees.{last_key};
 
@@ -30,11 +31,11 @@ impl<'a> Model for Children<'a> {
     ghost use Rattle.std.specs.Prelude.{List};
     ghost use Rattle.tree_node.specs.Held.{HoldsLinks};
     ghost use Rattle.tree_node.specs.Nodes.{Link};
-    ghost use Rattle.tree_node.specs.Reading.{links_in};
+    ghost use Rattle.tree_node.specs.Fronts.{links_at_front};
 
     ghost Value = { List Link };
 
-    ghost view = { λ s. links_in s.count s.rest.now };
+    ghost view = { λ s. links_at_front s.count s.rest.now };
 
     ghost invariant = { λ s. HoldsLinks s.count s.rest.now s.greatest.now s.number };
 }
@@ -47,7 +48,7 @@ impl<'a> Iterator for Children<'a> {
     ghost remaining = { item_count (λ s. s) };
 
     #[inline(always)]
-    #[tactic(auto, unfolding(crate::specs::Reading::links_in))]
+    #[tactic(auto, unfolding(crate::specs::Fronts::links_at_front))]
     fn next(&mut self) -> Option<Child<'a>> {
         if self.count == 0 {
             return None;
@@ -118,7 +119,7 @@ impl<'a> Children<'a> {
     /// greatest key isn't above the one before it.
     pub(crate) fn read(count: u16, bytes: &'a [u8]) -> Result<(Children<'a>, &'a [u8]), NodeFault>
         ensures behind { Gives (λ x. x.1.now) result (links_behind count None bytes.now) }
-        ensures children { IfOk result (λ x. x.0 ≡ links_in count bytes.now) }
+        ensures children { IfOk result (λ x. x.0 ≡ links_at_front count bytes.now) }
     {
         let (greatest, number, behind) = skip_children(count, bytes)?;
         let children = Children {

@@ -5,7 +5,8 @@ ghost use Rattle.std.specs.Prelude.{◌≡◌, IfOk, None, length};
 ghost use Rattle.tree_node.specs.Held.{HoldsEntries};
 ghost use Rattle.tree_node.specs.NodeRefs.{binding_of};
 ghost use Rattle.tree_node.specs.Nodes.{Binding, keys_of};
-ghost use Rattle.tree_node.specs.Reading.{Gives, entries_behind, entries_in};
+ghost use Rattle.tree_node.specs.internal.Reading.{Gives, entries_behind};
+ghost use Rattle.tree_node.specs.Fronts.{entries_at_front};
 ghost use Rattle.tree_node.specs.Skips.{from_key};
 ghost use Rattle.tree_node.specs.Trees.{last_key};
 
@@ -28,11 +29,11 @@ impl<'a> Model for Entries<'a> {
     ghost use Rattle.std.specs.Prelude.{List};
     ghost use Rattle.tree_node.specs.Held.{HoldsEntries};
     ghost use Rattle.tree_node.specs.Nodes.{Binding};
-    ghost use Rattle.tree_node.specs.Reading.{entries_in};
+    ghost use Rattle.tree_node.specs.Fronts.{entries_at_front};
 
     ghost Value = { List Binding };
 
-    ghost view = { λ s. entries_in s.count s.rest.now };
+    ghost view = { λ s. entries_at_front s.count s.rest.now };
 
     ghost invariant = { λ s. HoldsEntries s.count s.rest.now s.greatest.now };
 }
@@ -45,7 +46,7 @@ impl<'a> Iterator for Entries<'a> {
     ghost remaining = { item_count (λ s. s) };
 
     #[inline(always)]
-    #[tactic(auto, unfolding(crate::specs::Reading::entries_in))]
+    #[tactic(auto, unfolding(crate::specs::Fronts::entries_at_front))]
     fn next(&mut self) -> Option<Item<'a>> {
         if self.count == 0 {
             return None;
@@ -107,7 +108,7 @@ impl<'a> Entries<'a> {
     /// rise: N1 where an entry is cut short, N4 where its key isn't above the one before it.
     pub(crate) fn read(count: u16, bytes: &'a [u8]) -> Result<(Entries<'a>, &'a [u8]), NodeFault>
         ensures behind { Gives (λ x. x.1.now) result (entries_behind count None bytes.now) }
-        ensures entries { IfOk result (λ x. x.0 ≡ entries_in count bytes.now) }
+        ensures entries { IfOk result (λ x. x.0 ≡ entries_at_front count bytes.now) }
     {
         let (greatest, behind) = skip_entries(count, bytes)?;
         let entries = Entries {

@@ -3,8 +3,9 @@
 ghost use Rattle.std.specs.Prelude.{◌≡◌, ◌++◌, IsOk, Ok, OnOk};
 ghost use Rattle.tree_node.specs.NodeRefs.{binding_of};
 ghost use Rattle.tree_node.specs.Nodes.{FitsEntry, entry};
-ghost use Rattle.tree_node.specs.Reading.{Gives, entry_at};
-ghost use Rattle.tree_node.specs.Writing.{Extends};
+ghost use Rattle.tree_node.specs.internal.Reading.{Gives};
+ghost use Rattle.tree_node.specs.Fronts.{entry_at};
+ghost use Rattle.tree_node.specs.internal.Writing.{Extends};
 
 use crate::fault::NodeFault;
 use crate::fields::{u16_at, u32_at};
@@ -18,12 +19,12 @@ const FEWEST_BYTES: usize = 6;
 pub struct Item<'a> {
     /// What the entries are ordered by, byte by byte.
     pub key: &'a [u8],
-    /// What stands under the key.
+    /// What the tree has under the key.
     pub value: &'a [u8],
 }
 
 impl<'a> Item<'a> {
-    /// The entry at the front of the bytes, and what stands behind it; N1 where it is cut short.
+    /// The entry at the front of the bytes, and what follows it; N1 where it is cut short.
     #[inline(always)]
     pub(crate) fn read_front(bytes: &'a [u8]) -> Result<(Item<'a>, &'a [u8]), NodeFault>
         ensures { Gives (λ x. (binding_of x.0, x.1.now)) result (entry_at bytes.now) }
@@ -44,7 +45,7 @@ impl<'a> Item<'a> {
         Ok((Item { key, value }, rest))
     }
 
-    /// The entry at the front of bytes that begin with one, and what stands behind it.
+    /// The entry at the front of bytes that begin with one, and what follows it.
     #[inline(always)]
     pub(crate) fn front(bytes: &'a [u8]) -> (Item<'a>, &'a [u8])
         requires { IsOk (entry_at bytes.now) }
@@ -57,7 +58,7 @@ impl<'a> Item<'a> {
         (Item { key, value }, rest)
     }
 
-    /// Appends the entry's bytes; what it wrote stays where memory is refused.
+    /// Appends the entry's bytes; out of memory it leaves what it wrote.
     pub(crate) fn append(&self, out: &mut Vec<u8>) -> Result<(), AllocError>
         requires { FitsEntry (binding_of self.now) }
         ensures written { OnOk result

@@ -4,26 +4,24 @@ ghost use Rattle.std.specs.Prelude.{◌≡◌, ◌≤◌, IfErr, IfOk, IsOkAnd};
 ghost use Rattle.tree_node.specs.Faults.{IsFault};
 ghost use Rattle.tree_node.specs.NodeRefs.{node_read, number_of};
 ghost use Rattle.tree_node.specs.Nodes.{Node, Spells, tree_of};
-ghost use Rattle.tree_node.specs.Reading.{Gives, node_at};
+ghost use Rattle.tree_node.specs.internal.Reading.{Gives, node_at};
 
 use crate::children::Children;
 use crate::entries::Entries;
 use crate::fault::NodeFault;
+use crate::limits::{ITEM_LIMIT, LEVEL_LIMIT};
 use crate::tree::Tree;
 
-/// The greatest number of items in a node.
-const MOST_ITEMS: u16 = 64;
+/// The number of bytes in a line of the processor's cache.
+const CACHE_LINE: usize = 64;
 
-/// The greatest level of an inner node.
-const MOST_LEVEL: u8 = 63;
+/// How many bytes of a node are prefetched at most.
+const PREFETCH_LIMIT: usize = 65_536;
 
-/// The bytes of a line of the processor's cache.
-const LINE: usize = 64;
+/// More than the bytes that `prefetch` adds up can come to.
+const SUM_LIMIT: u32 = 262_144;
 
-/// The greatest sum of bytes that are touched.
-const MOST_TOUCHED: u32 = 262_144;
-
-/// A node as it stands in its bytes: keys and values are slices of them, and nothing is copied.
+/// A node as its bytes have it: keys and values are slices of them, and nothing is copied.
 #[derive(Drop)]
 pub enum NodeRef<'a> {
     /// A node with entries, at level 0.
@@ -45,13 +43,13 @@ pub enum NodeRef<'a> {
 }
 
 impl<'a> NodeRef<'a> {
-    /// The node that these bytes are, all of them (this project's form of nodes, docs/FORMATS.md).
+    /// The node that these bytes spell, all of them (this project's form of nodes, docs/FORMATS.md).
     /// It takes no memory and is linear in the bytes.
     ///
     /// Of several faults the first one met from the left is told: a header of less than four bytes
     /// (N1), the tree number and the level (N5), the number of items (N3); then, item by item, an
     /// item that is cut short (N1), a child's number of entries (N3), a key that isn't above the one
-    /// before it (N4); last, bytes behind the items (N2).
+    /// before it (N4); last, bytes after the items (N2).
     pub fn read(bytes: &'a [u8]) -> Result<NodeRef<'a>, NodeFault>
         // What is read is what the bytes spell.
         ensures found { IfOk result (λ n. Spells bytes.now (node_read n)) }
@@ -79,7 +77,7 @@ impl<'a> NodeRef<'a> {
     }
 
     /// What `read` gives, by the definition that goes through the bytes from the left.
-    #[tactic(auto, unfolding(crate::specs::Reading::node_at))]
+    #[tactic(auto, unfolding(crate::specs::internal::Reading::node_at))]
     fn read_fields(bytes: &'a [u8]) -> Result<NodeRef<'a>, NodeFault>
         ensures { Gives node_read result (node_at bytes.now) }
     {
@@ -89,14 +87,16 @@ impl<'a> NodeRef<'a> {
         let (head, rest) = bytes.split_at(4);
         let tree = Tree::from_number(head[0])?;
         let level = head[1];
-        if level > MOST_LEVEL {
+        if level > LEVEL_LIMIT {
             return Err(NodeFault::BadTreeOrLevel);
         }
         let count = u16::from_be_bytes([head[2], head[3]]);
-        if count > MOST_ITEMS || (level > 0 && count == 0) {
+        if usize::from(count) > ITEM_LIMIT || (level > 0 && count == 0) {
             return Err(NodeFault::BadCount);
         }
-        if touch(rest) > MOST_TOUCHED {
+        // Brings the node into the cache. The sum is never above its limit: the test only keeps the
+        // compiler from leaving the reads out.
+        if prefetch(rest) > SUM_LIMIT {
             return Err(NodeFault::CutShort);
         }
         if level == 0 {
@@ -118,19 +118,18 @@ impl<'a> NodeRef<'a> {
     }
 }
 
-/// Adds up one byte of each line of the processor's cache, of a node's first 64 kibibytes. The sum is
-/// never above `MOST_TOUCHED`: a test of it keeps the compiler from leaving these reads out.
+/// Prefetches a node's first 64 kibibytes: it reads one byte of each cache line, and gives their sum.
 ///
-/// Where an item stands is known from the item before it alone, so that without this the lines of a node
-/// that isn't in the cache come one after the other; here they come side by side.
-fn touch(bytes: &[u8]) -> u32
+/// Where an item begins is known from the item before it alone. So without this the lines of a node that
+/// isn't in the cache are loaded one after the other; here they are loaded side by side.
+fn prefetch(bytes: &[u8]) -> u32
     ensures { result ≤ 262144 }
 {
     let mut sum: u32 = 0;
     let mut at = 0;
-    while at < bytes.len() && at < 65_536 {
+    while at < bytes.len() && at < PREFETCH_LIMIT {
         sum += u32::from(bytes[at]);
-        at += LINE;
+        at += CACHE_LINE;
     }
     sum
 }

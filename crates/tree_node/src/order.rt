@@ -4,7 +4,7 @@ ghost use Rattle.std.specs.Int.{from_be_bytes, w64};
 ghost use Rattle.std.specs.Option.{option_copied};
 ghost use Rattle.std.specs.Prelude.{◌≡◌, ◌↔◌, ◌≤◌, IsTrue, length};
 ghost use Rattle.tree_node.specs.Order.{IsBelow, order};
-ghost use Rattle.tree_node.specs.Reading.{is_above as above};
+ghost use Rattle.tree_node.specs.internal.Reading.{is_above as above};
 
 use crate::digest::Digest;
 use std::cmp::Ordering;

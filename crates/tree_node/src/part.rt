@@ -15,7 +15,8 @@ pub struct Part<'a> {
 }
 
 impl<'a> Part<'a> {
-    ghost use Rattle.tree_node.specs.Parts.{node_of, pair_of};
+    ghost use Rattle.tree_node.specs.Parts.{node_of};
+    ghost use Rattle.tree_node.specs.internal.Pairs.{pair_of};
 
     /// These bytes with their digest, which it computes. It takes no memory.
     pub fn new(bytes: &'a [u8]) -> Part<'a>

@@ -64,7 +64,7 @@ impl<'a> Shelf<'a> for Recorder<'a> {
 
     ghost used = { RecorderUsed };
 
-    ghost use Rattle.tree_node.specs.RecorderLaws.{stands_once, given_held};
+    ghost use Rattle.tree_node.specs.internal.RecorderLaws.{stands_once, given_held};
 
     ghost clash_free = { λ r. stands_once r.stock.now.nodes };
 

@@ -13,6 +13,9 @@ use std::test::Fail;
 const LEAF: &[u8] =
     b"\x01\x00\x00\x01\x00\x09\x01\x80\x00\x00\x00\x00\x00\x00\x01\x00\x00\x00\x1an1 v0 dV c0 t i0 u T x0 y0";
 
+/// The key of that object.
+const KEY: &[u8] = b"\x01\x80\x00\x00\x00\x00\x00\x00\x01";
+
 /// The canonical line of that object.
 const LINE: &[u8] = b"n1 v0 dV c0 t i0 u T x0 y0";
 
@@ -57,7 +60,7 @@ fn refuses_bytes_that_are_no_node(rt: HostRuntime) {
         (b"\x01\x01\x00\x00", NodeFault::BadCount),
         (b"\x01\x00\x00\x01\x00", NodeFault::CutShort),
         (b"\x01\x00\x00\x00\x00", NodeFault::BytesAfter),
-        // A second key that isn't above the first, before what is cut short behind it.
+        // A second key that isn't above the first, before what is cut short after it.
         (
             b"\x01\x00\x00\x03\x00\x01a\x00\x00\x00\x00\x00\x01a\x00\x00\x00\x00",
             NodeFault::NotRising,
@@ -89,90 +92,45 @@ fn refuses_bytes_that_are_no_node(rt: HostRuntime) {
 #[test]
 fn shows_the_codes(rt: HostRuntime) -> Result<(), Fail> {
     let alloc = rt.alloc();
-    let faults = [
+    for (fault, code) in [
         (NodeFault::CutShort, "N1"),
         (NodeFault::BytesAfter, "N2"),
         (NodeFault::BadCount, "N3"),
         (NodeFault::NotRising, "N4"),
         (NodeFault::BadTreeOrLevel, "N5"),
-    ];
-    for (fault, code) in faults {
+    ] {
         assert_eq!(rt; format!(in alloc; "{fault}")?.as_str(), code);
     }
-    assert_eq!(rt; format!(in alloc; "{}", PutFault::Clash)?.as_str(), "N6");
-    assert_eq!(rt;
-        format!(in alloc; "{}", ShelfFault::Missing)?.as_str(),
-        "N7"
-    );
-    assert_eq!(rt;
-        format!(in alloc; "{}", PutFault::Memory)?.as_str(),
-        "no memory"
-    );
-    assert_eq!(rt;
-        format!(in alloc; "{}", ShelfFault::Memory)?.as_str(),
-        "no memory"
-    );
+    let others = format!(in alloc;
+        "{}, {}, {}, {}",
+        PutFault::Clash,
+        ShelfFault::Missing,
+        PutFault::Memory,
+        ShelfFault::Memory
+    )?;
+    assert_eq!(rt; others.as_str(), "N6, N7, no memory, no memory");
     Ok(())
 }
 
 #[test]
-fn orders_keys(rt: HostRuntime) {
-    // They rise. Some differ in their first eight bytes, others behind them.
-    let keys: [&[u8]; 9] = [
-        b"",
-        b"\x00",
-        b"\x00\xff",
-        b"\x01\x80\x00\x00\x00\x00\x00\x00",
-        b"\x01\x80\x00\x00\x00\x00\x00\x00\x01",
-        b"\x01\x80\x00\x00\x00\x00\x00\x00\xff",
-        b"\x01\x80\x00\x00\x00\x00\x00\x01\x00",
-        b"\x01\x80\x00\x00\x00\x00\x00\x01\x00\x00",
-        b"\x02",
-    ];
-    for (low, high) in keys.iter().zip(&keys[1..]) {
-        assert!(rt; is_below(*low, *high), "{low:?}");
-        assert!(rt; !is_below(*high, *low), "{low:?}");
-        assert!(rt; !is_below(*low, *low), "{low:?}");
-    }
-}
-
-#[test]
-fn reads_the_leaf_of_one_object(rt: HostRuntime) -> Result<(), Fail> {
+fn reads_and_writes_the_leaf_of_one_object(rt: HostRuntime) -> Result<(), Fail> {
     let node = NodeRef::read(LEAF)?;
     assert_eq!(rt; node.tree(), Tree::Objects);
     let mut entries = entries_of(node).ok_or("a leaf was expected")?;
-    assert_eq!(rt; entries.number(), 1);
-    assert_eq!(rt;
-        entries.greatest(),
-        b"\x01\x80\x00\x00\x00\x00\x00\x00\x01".as_slice()
-    );
+    assert_eq!(rt; (entries.number(), entries.greatest()), (1, KEY));
+    assert_eq!(rt; entries.again().skip_below(KEY).number(), 1);
     let item = entries.next().ok_or("an entry was expected")?;
-    assert_eq!(rt;
-        item.key,
-        b"\x01\x80\x00\x00\x00\x00\x00\x00\x01".as_slice()
-    );
-    assert_eq!(rt; item.value, LINE);
-    assert!(rt; entries.next().is_none());
-    assert_eq!(rt; entries.number(), 0);
-    assert_eq!(rt; entries.greatest(), b"".as_slice());
-    Ok(())
-}
-
-#[test]
-fn writes_leaves(rt: HostRuntime) -> Result<(), Fail> {
-    let mut empty = Vec::new(rt.alloc());
-    write_leaf(Tree::Objects, &[], &mut empty)?;
-    assert_eq!(rt; empty.as_slice(), b"\x01\x00\x00\x00".as_slice());
+    assert_eq!(rt; (item.key, item.value), (KEY, LINE));
+    assert!(rt; is_below(b"\x01\x80", item.key));
     // What stands in the vector stays in front.
     let mut out = b"before".to_vec(rt.alloc())?;
-    let item = Item {
-        key: b"\x01\x80\x00\x00\x00\x00\x00\x00\x01",
-        value: LINE,
-    };
+    write_leaf(Tree::Objects, &[], &mut out)?;
     write_leaf(Tree::Objects, &[item], &mut out)?;
-    assert_eq!(rt; out.as_slice().starts_with(b"before"), true);
-    assert_eq!(rt; out.as_slice().ends_with(LEAF), true);
-    assert_eq!(rt; out.len(), 51);
+    assert_eq!(rt;
+        out.as_slice().get(..10),
+        Some(b"before\x01\x00\x00\x00".as_slice())
+    );
+    assert_eq!(rt; out.as_slice().get(10..), Some(LEAF));
     Ok(())
 }
 
@@ -203,27 +161,10 @@ fn leaf_of(alloc: Global, keys: &[u8]) -> Result<Vec<u8>, AllocError> {
         items.push(key_alone(&keys[at..at + 1]))?;
     }
     let mut out = Vec::new(alloc);
-    if items.len() <= 64 {
+    if items.len() <= ITEM_LIMIT {
         write_leaf(Tree::Tags, items.as_slice(), &mut out)?;
     }
     Ok(out)
-}
-
-#[test]
-fn skips_to_a_key(rt: HostRuntime) -> Result<(), Fail> {
-    let leaf = leaf_of(rt.alloc(), b"\x02\x04\x06")?;
-    let cases: [(&[u8], u64); 5] = [
-        (b"", 3),
-        (b"\x02\x00", 2),
-        (b"\x04", 2),
-        (b"\x05", 1),
-        (b"\x06\x00", 0),
-    ];
-    for (key, number) in cases {
-        let entries = entries_of(NodeRef::read(leaf.as_slice())?).ok_or("a leaf was expected")?;
-        assert_eq!(rt; entries.skip_below(key).number(), number, "{key:?}");
-    }
-    Ok(())
 }
 
 #[test]
@@ -270,30 +211,16 @@ fn makes_the_tree_of_65_keys(rt: HostRuntime) -> Result<(), Fail> {
         mut children,
     } = NodeRef::read(top.as_slice())?
     else {
-        assert!(rt; false, "an inner node was expected");
-        return Ok(());
+        return Err(Fail::from("an inner node was expected"));
     };
-    assert_eq!(rt; (tree, level), (Tree::Tags, 1));
-    assert_eq!(rt;
-        (children.greatest(), children.number()),
-        (b"\x40".as_slice(), 65)
-    );
-    let (before, found) = children.again().skip_below(b"\x3f");
-    assert_eq!(rt; (before, found.number()), (None, 65));
+    assert_eq!(rt; (tree, level, children.number()), (Tree::Tags, 1, 65));
+    assert_eq!(rt; children.greatest(), b"\x40".as_slice());
     let (before, found) = children.again().skip_below(b"\x3f\x00");
     assert_eq!(rt; (before, found.number()), (Some(b"\x3f".as_slice()), 1));
     let child = children.next().ok_or("a child was expected")?;
-    assert_eq!(rt; (child.greatest, child.number), (b"\x3f".as_slice(), 64));
-    assert_eq!(rt; child.digest, digest_of(first.as_slice()));
     assert_eq!(rt;
-        (children.greatest(), children.number()),
-        (b"\x40".as_slice(), 1)
-    );
-    assert!(rt; children.next().is_some());
-    assert!(rt; children.next().is_none());
-    assert_eq!(rt;
-        (children.greatest(), children.number()),
-        (b"".as_slice(), 0)
+        (child.number, child.digest),
+        (64, digest_of(first.as_slice()))
     );
     Ok(())
 }
@@ -319,51 +246,25 @@ fn stock_of(alloc: Global, nodes: &[&[u8]]) -> Result<Stock, Fail> {
 }
 
 #[test]
-fn records_what_was_used(rt: HostRuntime) -> Result<(), Fail> {
+fn records_and_lends_what_was_used(rt: HostRuntime) -> Result<(), Fail> {
     let alloc = rt.alloc();
     // Their digests begin with ca (`a`), 3e (`b`), 2e (`c`) and 18 (`d`).
     let stock = stock_of(alloc, &[b"a", b"b", b"c", b"a"])?;
     let mut shelf = stock.shelf(alloc);
-    assert!(rt; shelf.parts()?.is_empty());
-    let (a, b) = fetch_two(&mut shelf, &digest_of(b"a"), &digest_of(b"b"))?;
-    assert_eq!(rt; (a, b), (b"a".as_slice(), b"b".as_slice()));
-    assert_eq!(rt; shelf.fetch(&digest_of(b"a"))?, b"a".as_slice());
+    let used = fetch_two(&mut shelf, &digest_of(b"a"), &digest_of(b"b"))?;
+    assert_eq!(rt; used, (b"a".as_slice(), b"b".as_slice()));
     assert_eq!(rt; shelf.fetch(&digest_of(b"d")), Err(ShelfFault::Missing));
     let parts = shelf.parts()?;
     assert_eq!(rt; parts.len(), 2);
-    assert_eq!(rt;
-        (parts[0].bytes(), parts[1].bytes()),
-        (b"b".as_slice(), b"a".as_slice())
-    );
-    assert_eq!(rt; parts[0].digest(), digest_of(b"b"));
-    Ok(())
-}
-
-#[test]
-fn lends_the_parts_of_a_proof(rt: HostRuntime) -> Result<(), Fail> {
-    let alloc = rt.alloc();
-    let stock = stock_of(alloc, &[b"a", b"b", b"c"])?;
-    let mut shelf = stock.shelf(alloc);
-    for key in [b"a", b"b", b"c"] {
-        shelf.fetch(&digest_of(key))?;
-    }
-    let mut bag = Bag::new(alloc, shelf.parts()?)?;
+    assert_eq!(rt; parts[0].bytes(), b"b".as_slice());
+    assert_eq!(rt; parts[0].digest(), Part::new(b"b").digest());
+    let mut bag = Bag::new(alloc, parts)?;
+    assert_eq!(rt; bag.fetch(&digest_of(b"c")), Err(ShelfFault::Missing));
     assert!(rt; !bag.all_used());
-    let (c, a) = fetch_two(&mut bag, &digest_of(b"c"), &digest_of(b"a"))?;
-    assert_eq!(rt; (c, a), (b"c".as_slice(), b"a".as_slice()));
-    assert_eq!(rt; bag.fetch(&digest_of(b"d")), Err(ShelfFault::Missing));
-    assert!(rt; !bag.all_used());
-    assert_eq!(rt; bag.fetch(&digest_of(b"b"))?, b"b".as_slice());
+    let lent = fetch_two(&mut bag, &digest_of(b"b"), &digest_of(b"a"))?;
+    assert_eq!(rt; lent, (b"b".as_slice(), b"a".as_slice()));
     assert!(rt; bag.all_used());
-    assert!(rt; Bag::new(alloc, Vec::new(alloc))?.all_used());
     Ok(())
-}
-
-#[test]
-fn makes_parts(rt: HostRuntime) {
-    let part = Part::new(b"abc");
-    assert_eq!(rt; part.bytes(), b"abc".as_slice());
-    assert_eq!(rt; part.digest(), digest_of(b"abc"));
 }
 
 /// These bytes, owned; asked for once more where memory was refused.
@@ -409,7 +310,7 @@ fn stands_after_refused_memory(rt: HostRuntime) -> Result<(), Fail> {
     assert!(rt; !bag.all_used());
     let mut out = Vec::new(alloc);
     let item = Item {
-        key: b"\x01\x80\x00\x00\x00\x00\x00\x00\x01",
+        key: KEY,
         value: LINE,
     };
     if write_leaf(Tree::Objects, &[item], &mut out).is_err() {

@@ -1,7 +1,7 @@
 //! The four trees.
 
 ghost use Rattle.tree_node.specs.NodeRefs.{number_of};
-ghost use Rattle.tree_node.specs.Reading.{Gives, tree_at};
+ghost use Rattle.tree_node.specs.internal.Reading.{Gives, tree_at};
 
 use crate::fault::NodeFault;
 

@@ -3,9 +3,10 @@
 ghost use Rattle.std.specs.Int.{to_be_bytes, w16};
 ghost use Rattle.std.specs.List.{All};
 ghost use Rattle.std.specs.Prelude.{◌≡◌, ◌∷◌, ◌++◌, ◌^◌, ◌<◌, ◌≤◌, OnErr, OnOk, length};
+ghost use Rattle.tree_node.specs.declared.limits.TheConstants.{ITEM_LIMIT};
 ghost use Rattle.tree_node.specs.NodeRefs.{binding_of, inner_of, leaf_of, number_of};
 ghost use Rattle.tree_node.specs.Nodes.{FitsEntry, spelling};
-ghost use Rattle.tree_node.specs.Writing.{Extends};
+ghost use Rattle.tree_node.specs.internal.Writing.{Extends};
 
 use crate::child::Child;
 use crate::item::Item;
@@ -16,7 +17,7 @@ use std::alloc::AllocError;
 /// They are a node's where the keys strictly rise, which isn't asked here. Where memory is refused
 /// the vector is as before.
 pub fn write_leaf(tree: Tree, items: &[Item<'_>], out: &mut Vec<u8>) -> Result<(), AllocError>
-    requires few { length items.now ≤ 64 }
+    requires few { length items.now ≤ ITEM_LIMIT }
     requires fit { All (λ item. FitsEntry (binding_of item)) items.now }
     ensures written { OnOk result (out.new.items ≡ out.old.items ++ spelling (leaf_of tree items.now)) }
     ensures refused { OnErr result (out.new.items ≡ out.old.items) }
@@ -39,7 +40,7 @@ pub fn write_inner(
     children: &[Child<'_>],
     out: &mut Vec<u8>,
 ) -> Result<(), AllocError>
-    requires few { length children.now ≤ 64 }
+    requires few { length children.now ≤ ITEM_LIMIT }
     requires fit { All (λ child. length child.greatest.now < 2 ^ 16) children.now }
     ensures written { OnOk result
         (out.new.items ≡ out.old.items ++ spelling (inner_of tree level children.now)) }
@@ -53,9 +54,9 @@ pub fn write_inner(
     written
 }
 
-/// Appends a leaf; what it wrote stays where memory is refused.
+/// Appends a leaf; out of memory it leaves what it wrote.
 fn append_leaf(tree: Tree, items: &[Item<'_>], out: &mut Vec<u8>) -> Result<(), AllocError>
-    requires few { length items.now ≤ 64 }
+    requires few { length items.now ≤ ITEM_LIMIT }
     requires fit { All (λ item. FitsEntry (binding_of item)) items.now }
     ensures written { OnOk result (out.new.items ≡ out.old.items ++ spelling (leaf_of tree items.now)) }
     ensures extended { Extends out.old.items out.new.items }
@@ -67,14 +68,14 @@ fn append_leaf(tree: Tree, items: &[Item<'_>], out: &mut Vec<u8>) -> Result<(), 
     Ok(())
 }
 
-/// Appends an inner node; what it wrote stays where memory is refused.
+/// Appends an inner node; out of memory it leaves what it wrote.
 fn append_inner(
     tree: Tree,
     level: u8,
     children: &[Child<'_>],
     out: &mut Vec<u8>,
 ) -> Result<(), AllocError>
-    requires few { length children.now ≤ 64 }
+    requires few { length children.now ≤ ITEM_LIMIT }
     requires fit { All (λ child. length child.greatest.now < 2 ^ 16) children.now }
     ensures written { OnOk result
         (out.new.items ≡ out.old.items ++ spelling (inner_of tree level children.now)) }

@@ -4,14 +4,15 @@ use Rattle.std.specs.List.{AllByRecursion}
 use Rattle.std.proofs.lemmas.List.{map-append}
 use Rattle.tree_node.specs.Nodes.{AreBytes, AreRisingFrom, Binding, Link, Node, Inner, greatests_of, keys_of}
 use Rattle.tree_node.specs.Trees.{below_each, entries_in, greatest_of, last_key, link_to}
-use Rattle.tree_node.proofs.PieceLaws.{IsSized, split_rising}
-use Rattle.tree_node.proofs.PieceLemmas.{join}
-use Rattle.tree_node.proofs.TreeKeys.{last_of}
-use Rattle.tree_node.proofs.TreeParts.{number_in}
+use Rattle.tree_node.proofs.shared.PieceLaws.{IsSized, split_rising}
+use Rattle.tree_node.proofs.shared.PieceLemmas.{join}
+use Rattle.tree_node.proofs.shared.TreeKeys.{last_of}
+use Rattle.tree_node.proofs.shared.TreeParts.{number_in}
 use Rattle.tree_walk.specs.Choices.{AreThose, IsCount}
-use Rattle.tree_walk.specs.Counts.{IsCountBelow, IsCoveredChild, IsOpen, IsOpenNode, sum_stated}
-use Rattle.tree_walk.specs.Pendings.{children_of_all, children_placed, entries_of_all, placed}
-use Rattle.tree_walk.specs.Ranges.{IsAtMost, IsExcepted, IsNoHigher, Range}
+use Rattle.tree_walk.specs.internal.Counts.{IsCountBelow, IsCoveredChild, IsOpen, IsOpenNode, sum_stated}
+use Rattle.tree_walk.specs.Spans.{children_of_all, children_placed, placed}
+use Rattle.tree_walk.specs.internal.Pendings.{entries_of_all}
+use Rattle.tree_walk.specs.Ranges.{IsAtMost, IsCovered, IsNoHigher, Range}
 use Rattle.tree_walk.specs.Walks.{IsEntryIn}
 use Rattle.tree_walk.proofs.ChoiceLemmas.{those_split}
 use Rattle.tree_walk.proofs.CountChoices.{open_wider}
@@ -49,7 +50,7 @@ fit_from left (l ∷ ls) ((e ∷ es) ∷ parts) sizes lasts some rise bytes =
     )
 
 -- all entries in a covered span stand in the range
-all_in : (range : Range) (outer left : Option (List ℕ)) (most : List ℕ) (es : List Binding) → IsExcepted range outer most → IsNoHigher outer left → AreRisingFrom left (keys_of es)
+all_in : (range : Range) (outer left : Option (List ℕ)) (most : List ℕ) (es : List Binding) → IsCovered range outer most → IsNoHigher outer left → AreRisingFrom left (keys_of es)
     → AllByRecursion (λ (key : List ℕ). IsAtMost key most) (keys_of es) → IsCount (IsEntryIn range) es (length es)
 all_in range outer left most [] covered no_higher rise below = refl
 all_in range outer left most (e ∷ es) covered no_higher rise below =

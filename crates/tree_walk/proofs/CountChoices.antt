@@ -4,20 +4,21 @@ use Rattle.std.specs.List.{AllByRecursion}
 use Rattle.std.proofs.lemmas.List.{map-append}
 use Rattle.tree_node.specs.Nodes.{AreRisingFrom, Link, Node, Inner, IsNode, greatests_of, level_of, spelling, tree_of}
 use Rattle.tree_node.specs.Trees.{greatest_of, last_key, left_at, link_to, no_node}
-use Rattle.tree_node.proofs.PieceLaws.{IsSized, split_rising}
-use Rattle.tree_node.proofs.PieceLemmas.{join}
+use Rattle.tree_node.proofs.shared.PieceLaws.{IsSized, split_rising}
+use Rattle.tree_node.proofs.shared.PieceLemmas.{join}
 use Rattle.tree_walk.specs.Choices.{AreThose}
-use Rattle.tree_walk.specs.Counts.{IsOpen, IsOpenChild, IsOpenNode}
-use Rattle.tree_walk.specs.Pendings.{AreStated, IsOneOf, IsStated, children_of_all, children_placed, placed}
-use Rattle.tree_walk.specs.Ranges.{IsAboveLeft, IsAtMost, IsExcepted, IsNoHigher, Range}
+use Rattle.tree_walk.specs.internal.Counts.{IsOpen, IsOpenChild, IsOpenNode}
+use Rattle.tree_walk.specs.internal.Pendings.{AreStated, IsOneOf, IsStated}
+use Rattle.tree_walk.specs.Spans.{children_of_all, children_placed, placed}
+use Rattle.tree_walk.specs.Ranges.{IsAboveLeft, IsAtMost, IsCovered, IsNoHigher, Range}
 use Rattle.tree_walk.proofs.ChoiceLemmas.{those_append, those_split}
 use Rattle.tree_walk.proofs.KeyLemmas.{at_most_trans}
 use Rattle.tree_walk.proofs.LevelChoices.{StartEachAbove, all_at_most, children_append, left_from, left_none, no_higher_itself, no_higher_next}
 use Rattle.tree_walk.proofs.MeetLemmas.{above_outer, covered_is_in, meets_wider}
 
 -- a covered span covers those that it has in it
-pub covered_narrower : (range : Range) (left outer : Option (List ℕ)) (greatest most : List ℕ) → IsExcepted range outer most → IsNoHigher outer left → IsAboveLeft left greatest → IsAtMost greatest most
-    → IsExcepted range left greatest
+pub covered_narrower : (range : Range) (left outer : Option (List ℕ)) (greatest most : List ℕ) → IsCovered range outer most → IsNoHigher outer left → IsAboveLeft left greatest → IsAtMost greatest most
+    → IsCovered range left greatest
 covered_narrower range left None greatest most is no_higher above wide = absurd is
 covered_narrower range None (Some o) greatest most is no_higher above wide = absurd no_higher
 covered_narrower range (Some l) (Some o) greatest most is no_higher above wide =

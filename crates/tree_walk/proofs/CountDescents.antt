@@ -3,12 +3,13 @@
 use Rattle.std.proofs.Common.{◌≡◌, ℕ, suc, ◌+◌, ◌-◌, ◌^◌, ◌<◌, ◌≤◌, min, List, length, Option, None, ◌⊎◌, inl, inr, Ok, sym, subst, ◌∙◌, arith}
 use Rattle.std.proofs.lemmas.Bool.{cases_order}
 use Rattle.tree_node.specs.Nodes.{Binding, Link, Node}
-use Rattle.tree_node.specs.Trees.{Clash, GrownByAll, Shape, Stands, greatest_of, left_at, level_at, levels, node_in}
+use Rattle.tree_node.specs.Outcomes.{Clash, GrownByAll, Cause, Outcome, RefusedFor}
+use Rattle.tree_node.specs.Trees.{Shape, Stands, greatest_of, left_at, level_at, levels, node_in}
 use Rattle.tree_walk.specs.Choices.{AreThose}
-use Rattle.tree_walk.specs.Counts.{IsCountAt, IsCoveredChild, IsOpenChild, IsOpenIn, IsOpenNode, IsOpened, capped, sum_stated}
-use Rattle.tree_walk.specs.Outcomes.{Cause, Outcome, RefusedFor}
-use Rattle.tree_walk.specs.Pendings.{AreStated, IsOneOf, children_of_all, entries_of_all, placed}
-use Rattle.tree_walk.specs.Ranges.{IsExcepted, Range}
+use Rattle.tree_walk.specs.internal.Counts.{IsCountAt, IsCoveredChild, IsOpenChild, IsOpenIn, IsOpenNode, IsOpened, capped, sum_stated}
+use Rattle.tree_walk.specs.internal.Pendings.{AreStated, IsOneOf, entries_of_all}
+use Rattle.tree_walk.specs.Spans.{children_of_all, placed}
+use Rattle.tree_walk.specs.Ranges.{IsCovered, Range}
 use Rattle.tree_walk.specs.Walks.{IsEntryIn, MeetsAt}
 use Rattle.tree_walk.specs.declared.fault.WalkFault.{WalkFault}
 use Rattle.tree_walk.proofs.CountLemmas.{capped_sum}
@@ -51,13 +52,13 @@ module _ (tree : ℕ) (range : Range) (high : ℕ) (spots : List (Option (List �
   )
     where
       at : (n place : ℕ) → n ≡ level → Stands (levels shape tree entries) n place bytes → MeetsAt range (levels shape tree entries) n place
-          → (¬ IsExcepted range (left_at (level_at (levels shape tree entries) n) place) (greatest_of (node_in (levels shape tree entries) n place))) → new bytes
+          → (¬ IsCovered range (left_at (level_at (levels shape tree entries) n) place) (greatest_of (node_in (levels shape tree entries) n place))) → new bytes
       at n place e stands meets bare =
           (last bytes).1 (inr ((open_met shape tree entries range level nodes lt those bytes).1 (
             place,
             subst (λ (m : ℕ). Stands (levels shape tree entries) m place bytes) e stands,
             subst (λ (m : ℕ). MeetsAt range (levels shape tree entries) m place) e meets,
-            subst (λ (m : ℕ). ¬ IsExcepted range (left_at (level_at (levels shape tree entries) m) place) (greatest_of (node_in (levels shape tree entries) m place))) e bare,
+            subst (λ (m : ℕ). ¬ IsCovered range (left_at (level_at (levels shape tree entries) m) place) (greatest_of (node_in (levels shape tree entries) m place))) e bare,
           )))
 
       go : IsOpenIn range (levels shape tree entries) level high bytes → new bytes
@@ -83,7 +84,7 @@ module _ (tree : ℕ) (range : Range) (high : ℕ) (spots : List (Option (List �
       → HonestCount (suc low) pending counted old mid → ((bytes : List ℕ) → mid bytes → new bytes)
       → ((nodes : List (Option (List ℕ) × Node)) → AreStated tree (suc low) pending nodes
       → Outcome {A = V} cause_of (λ value. AreThose (IsOpenChild range) (children_of_all nodes) (view value)
-      × ((covered : List (Option (List ℕ) × Link)) × AreThose (IsCoveredChild range) (children_of_all nodes) covered × (number value ≡ capped (sum_stated covered)))) (IsOneOf nodes) held mid new (Ok value))
+      × ((covered : List (Option (List ℕ) × Link)) × AreThose (IsCoveredChild range) (children_of_all nodes) covered × (number value ≡ capped (sum_stated covered)))) (IsOneOf nodes) (record { held = held; before = mid; after = new }) (Ok value))
       → HonestCount low (view value) next old new
   honest_count_step view number cause_of value low pending counted next held old mid new le sum_is so grows answer shape entries opened =
       elim (so shape entries opened) [
@@ -99,7 +100,7 @@ module _ (tree : ℕ) (range : Range) (high : ℕ) (spots : List (Option (List �
       go at gained so_far =
           let nodes = open_stated shape tree entries range (suc low) pending at.is_tree at.has at.within at.those in
           let below : suc low < length (levels shape tree entries) = omega (arith, at.within) in
-          elim (answer nodes.0 nodes.2) [
+          elim ((answer nodes.0 nodes.2).ends) [
             | inl clash ↦ inl (clash_more (IsOneOf nodes.0) (IsOpenIn range (levels shape tree entries) 0 high) new new (of_level shape entries (suc low) nodes.0 le at.within nodes.1) (λ x is. is) clash)
             | inr ends ↦
                 let covered = ends.0.1 in
@@ -143,14 +144,16 @@ module _ (tree : ℕ) (range : Range) (high : ℕ) (spots : List (Option (List �
   pub honest_count_end : (cause_of : WalkFault → Cause) (last number : ℕ) (pending : List (Option (List ℕ) × Link)) (counted : ℕ) (held old mid new : List ℕ → Type 0)
       → number ≡ min (counted + last) (2 ^ 64 - 1) → HonestCount 0 pending counted old mid → ((bytes : List ℕ) → mid bytes → new bytes)
       → ((nodes : List (Option (List ℕ) × Node)) → AreStated tree 0 pending nodes
-      → Outcome {A = ℕ} cause_of (λ last. (those : List Binding) × AreThose (IsEntryIn range) (entries_of_all nodes) those × (last ≡ capped (length those))) (IsOneOf nodes) held mid new (Ok last))
+      → Outcome {A = ℕ} cause_of (λ last. (those : List Binding) × AreThose (IsEntryIn range) (entries_of_all nodes) those × (last ≡ capped (length those))) (IsOneOf nodes) (record { held = held; before = mid; after = new }) (Ok last))
       → (shape : Shape) (entries : List Binding) → IsOpened shape tree entries range high spots
-      → Outcome {A = ℕ} cause_of (λ number. (n : ℕ) × IsCountAt range (levels shape tree entries) high n × (number ≡ capped n)) (IsOpenIn range (levels shape tree entries) 0 high) held old new (Ok number)
+      → Outcome {A = ℕ} cause_of (λ number. (n : ℕ) × IsCountAt range (levels shape tree entries) high n × (number ≡ capped n)) (IsOpenIn range (levels shape tree entries) 0 high) (record { held = held; before = old; after = new }) (Ok number)
   honest_count_end cause_of last number pending counted held old mid new sum_is so grows answer shape entries opened =
-      elim (so shape entries opened) [
-        | inl clash ↦ inl (clash_more (IsOpenIn range (levels shape tree entries) 0 high) (IsOpenIn range (levels shape tree entries) 0 high) mid new (λ x is. is) grows clash)
-        | inr has ↦ go has.0 has.1 has.2
-      ]
+      record {
+        ends = elim (so shape entries opened) [
+          | inl clash ↦ inl (clash_more (IsOpenIn range (levels shape tree entries) 0 high) (IsOpenIn range (levels shape tree entries) 0 high) mid new (λ x is. is) grows clash)
+          | inr has ↦ go has.0 has.1 has.2
+        ];
+      }
     where
       go : IsOpened shape tree entries range 0 pending → GrownByAll old mid (IsOpenIn range (levels shape tree entries) 1 high)
           → ((sum : ℕ) × (counted ≡ capped sum) × ((m : ℕ) → IsCountAt range (levels shape tree entries) 0 m → IsCountAt range (levels shape tree entries) high (sum + m)))
@@ -158,7 +161,7 @@ module _ (tree : ℕ) (range : Range) (high : ℕ) (spots : List (Option (List �
           ⊎ (((n : ℕ) × IsCountAt range (levels shape tree entries) high n × (number ≡ capped n)) × GrownByAll old new (IsOpenIn range (levels shape tree entries) 0 high))
       go at gained so_far =
           let nodes = open_stated shape tree entries range 0 pending at.is_tree at.has at.within at.those in
-          elim (answer nodes.0 nodes.2) [
+          elim ((answer nodes.0 nodes.2).ends) [
             | inl clash ↦ inl (clash_more (IsOneOf nodes.0) (IsOpenIn range (levels shape tree entries) 0 high) new new (of_level shape entries 0 nodes.0 (omega arith) at.within nodes.1) (λ x is. is) clash)
             | inr ends ↦ inr (
               (

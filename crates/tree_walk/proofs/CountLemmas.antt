@@ -3,7 +3,7 @@ use Rattle.std.proofs.Common.{◌≡◌, ℕ, suc, ◌+◌, ◌-◌, ◌^◌, �
 use Rattle.std.proofs.lemmas.List.Sums.{sum_by-append, sum_by-cons}
 use Rattle.tree_node.specs.Nodes.{Link}
 use Rattle.tree_walk.specs.Choices.{AreThose, IsCount}
-use Rattle.tree_walk.specs.Counts.{capped, sum_stated}
+use Rattle.tree_walk.specs.internal.Counts.{capped, sum_stated}
 
 -- ---- numbers of 64 bits
 

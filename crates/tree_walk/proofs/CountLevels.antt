@@ -3,15 +3,16 @@ use Rattle.std.proofs.Common.{◌≡◌, ℕ, suc, ◌+◌, ◌<◌, List, [], �
 use Rattle.std.specs.List.{AllByRecursion}
 use Rattle.tree_node.specs.Nodes.{AreBytes, AreRisingFrom, Binding, IsTree, Link, Node, keys_of}
 use Rattle.tree_node.specs.Trees.{HasTree, Shape, Stands, below_each, ends_by, entries_at, greatest_of, is_marked_link, left_at, level_at, levels, link_to, node_in, pieces}
-use Rattle.tree_node.proofs.PieceLaws.{pieces_sized}
-use Rattle.tree_node.proofs.PieceLemmas.{join, join_all, pieces_join}
-use Rattle.tree_node.proofs.TreeKeys.{greatests_at, some_at}
-use Rattle.tree_node.proofs.TreeLaws.{entries_some, nodes_at, pair_at, whole}
-use Rattle.tree_node.proofs.TreeParts.{counts_at, joined_at, kind_at, numbers_linked}
+use Rattle.tree_node.proofs.shared.PieceLaws.{pieces_sized}
+use Rattle.tree_node.proofs.shared.PieceLemmas.{join, join_all, pieces_join}
+use Rattle.tree_node.proofs.shared.TreeKeys.{greatests_at, some_at}
+use Rattle.tree_node.proofs.shared.TreeLaws.{entries_some, nodes_at, pair_at, whole}
+use Rattle.tree_node.proofs.shared.TreeParts.{counts_at, joined_at, kind_at, numbers_linked}
 use Rattle.tree_walk.specs.Choices.{AreThose, IsCount}
-use Rattle.tree_walk.specs.Counts.{IsCountAt, IsCountBelow, IsCoveredChild, IsOpenChild, IsOpenNode, sum_stated}
-use Rattle.tree_walk.specs.Pendings.{AreStated, IsOneOf, children_of_all, children_placed, entries_of_all, placed}
-use Rattle.tree_walk.specs.Ranges.{IsExcepted, Range}
+use Rattle.tree_walk.specs.internal.Counts.{IsCountAt, IsCountBelow, IsCoveredChild, IsOpenChild, IsOpenNode, sum_stated}
+use Rattle.tree_walk.specs.internal.Pendings.{AreStated, IsOneOf, entries_of_all}
+use Rattle.tree_walk.specs.Spans.{children_of_all, children_placed, placed}
+use Rattle.tree_walk.specs.Ranges.{IsCovered, Range}
 use Rattle.tree_walk.specs.Walks.{IsEntryIn, MeetsAt}
 use Rattle.tree_walk.proofs.CountBelow.{AreFit, children_count, fit_from, leaves_count, nodes_count}
 use Rattle.tree_walk.proofs.CountChoices.{open_children_from, open_stated_from, open_where}
@@ -48,7 +49,7 @@ pub open_met : (shape : Shape) (tree : ℕ) (entries : List Binding) (range : Ra
     → suc level < length (levels shape tree entries)
     → AreThose (IsOpenNode range) (placed greatest_of None (level_at (levels shape tree entries) level)) spots
     → (bytes : List ℕ) → IsOneOf spots bytes ↔ ((place : ℕ) × Stands (levels shape tree entries) level place bytes × MeetsAt range (levels shape tree entries) level place
-    × ¬ IsExcepted range (left_at (level_at (levels shape tree entries) level) place) (greatest_of (node_in (levels shape tree entries) level place)))
+    × ¬ IsCovered range (left_at (level_at (levels shape tree entries) level) place) (greatest_of (node_in (levels shape tree entries) level place)))
 unfolding levels
 open_met shape tree entries range level spots lt those bytes =
     let where_open = open_where range (level_at (whole shape tree entries) level) spots bytes those in (

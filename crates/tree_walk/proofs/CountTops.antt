@@ -3,14 +3,14 @@ use Rattle.std.proofs.Common.{◌≡◌, ℕ, zero, suc, ◌+◌, ◌-◌, ◌^�
 use Rattle.std.specs.List.{AllByRecursion}
 use Rattle.std.proofs.lemmas.Bool.{cases_order}
 use Rattle.tree_node.specs.Nodes.{AreBytes, Binding, Inner, IsTree, Leaf, Link, Node, level_of}
-use Rattle.tree_node.specs.Trees.{Clash, GrownByAll, HasTree, Shape, Stands, entries_in, greatest_of, leaves, left_at, level_at, levels, link_to, links_in, node_in, top_of}
-use Rattle.tree_node.proofs.TreeLaws.{above, last_has_one, whole}
-use Rattle.tree_node.proofs.TreeLemmas.{tree_levels}
+use Rattle.tree_node.specs.Outcomes.{Clash, GrownByAll, Cause, RefusedFor}
+use Rattle.tree_node.specs.Trees.{HasTree, Shape, Stands, entries_in, greatest_of, leaves, left_at, level_at, levels, link_to, links_in, node_in, top_of}
+use Rattle.tree_node.proofs.shared.TreeLaws.{above, last_has_one, whole}
+use Rattle.tree_node.proofs.shared.TreeLemmas.{tree_levels}
 use Rattle.tree_walk.specs.Choices.{AreThose, IsCount}
-use Rattle.tree_walk.specs.Counts.{IsCountAt, IsCoveredChild, IsOpenChild, IsOpenIn, IsOpened, capped, sum_stated}
-use Rattle.tree_walk.specs.Outcomes.{Cause, RefusedFor}
-use Rattle.tree_walk.specs.Pendings.{children_placed}
-use Rattle.tree_walk.specs.Ranges.{IsExcepted, Range}
+use Rattle.tree_walk.specs.internal.Counts.{IsCountAt, IsCoveredChild, IsOpenChild, IsOpenIn, IsOpened, capped, sum_stated}
+use Rattle.tree_walk.specs.Spans.{children_placed}
+use Rattle.tree_walk.specs.Ranges.{IsCovered, Range}
 use Rattle.tree_walk.specs.Walks.{IsEntryIn, IsMetCounted, MeetsAt}
 use Rattle.tree_walk.proofs.CountLemmas.{capped_sum, count_is}
 use Rattle.tree_walk.proofs.CountLevels.{top_counted}
@@ -19,13 +19,13 @@ use Rattle.tree_walk.proofs.LevelLemmas.{few_levels_here, top_children, top_entr
 use Rattle.tree_walk.proofs.OutcomeLemmas.{clash_more}
 
 -- a node that is alone in its level has no left bound, and isn't covered
-alone_bare : (range : Range) (nodes : List Node) (place : ℕ) (greatest : List ℕ) → length nodes ≡ 1 → place < length nodes → ¬ IsExcepted range (left_at nodes place) greatest
+alone_bare : (range : Range) (nodes : List Node) (place : ℕ) (greatest : List ℕ) → length nodes ≡ 1 → place < length nodes → ¬ IsCovered range (left_at nodes place) greatest
 alone_bare range nodes zero greatest one lt = λ is. is
 alone_bare range nodes (suc place) greatest one lt = absurd (omega (arith, one, lt))
 
 -- nor is the top
 top_bare : (shape : Shape) (tree : ℕ) (entries : List Binding) (range : Range) (place : ℕ) (greatest : List ℕ) → place < length (level_at (levels shape tree entries) (length (levels shape tree entries) - 1))
-    → ¬ IsExcepted range (left_at (level_at (levels shape tree entries) (length (levels shape tree entries) - 1)) place) greatest
+    → ¬ IsCovered range (left_at (level_at (levels shape tree entries) (length (levels shape tree entries) - 1)) place) greatest
 unfolding levels
 top_bare shape tree entries range place greatest lt =
     alone_bare range (level_at (whole shape tree entries) (length (whole shape tree entries) - 1)) place greatest

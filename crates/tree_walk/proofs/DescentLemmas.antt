@@ -3,11 +3,12 @@
 use Rattle.std.proofs.Common.{◌≡◌, ℕ, suc, ◌<◌, ◌≤◌, List, length, Option, None, ◌⊎◌, inl, inr, Result, Ok, Err, sym, subst, arith}
 use Rattle.std.proofs.lemmas.Bool.{cases_order}
 use Rattle.tree_node.specs.Nodes.{Binding, Link, Node}
-use Rattle.tree_node.specs.Trees.{Clash, GrownByAll, Shape, Stands, greatest_of, level_at, levels}
+use Rattle.tree_node.specs.Outcomes.{Clash, GrownByAll, Cause, Outcome, RefusedFor}
+use Rattle.tree_node.specs.Trees.{Shape, Stands, greatest_of, level_at, levels}
 use Rattle.tree_walk.specs.Choices.{AreThose}
-use Rattle.tree_walk.specs.Descents.{IsMetIn, IsReached}
-use Rattle.tree_walk.specs.Outcomes.{Cause, Outcome, RefusedFor}
-use Rattle.tree_walk.specs.Pendings.{AreStated, IsMetChild, IsMetNode, IsOneOf, children_of_all, entries_of_all, placed}
+use Rattle.tree_walk.specs.internal.Descents.{IsMetIn, IsReached}
+use Rattle.tree_walk.specs.internal.Pendings.{AreStated, IsMetNode, IsOneOf, entries_of_all}
+use Rattle.tree_walk.specs.Spans.{IsMetChild, children_of_all, placed}
 use Rattle.tree_walk.specs.Ranges.{Range}
 use Rattle.tree_walk.specs.Walks.{IsEntryIn, MeetsAt}
 use Rattle.tree_walk.specs.declared.fault.WalkFault.{WalkFault}
@@ -72,7 +73,7 @@ module _ (tree : ℕ) (range : Range) (high : ℕ) (spots : List (Option (List �
   pub honest_down_step : {V : Type 0} (view : V → List (Option (List ℕ) × Link)) (cause_of : WalkFault → Cause) (value : V) (low : ℕ) (pending : List (Option (List ℕ) × Link)) (held old mid new : List ℕ → Type 0) → suc low ≤ high
       → HonestDown (suc low) pending old mid → ((bytes : List ℕ) → mid bytes → new bytes)
       → ((nodes : List (Option (List ℕ) × Node)) → AreStated tree (suc low) pending nodes
-      → Outcome {A = V} cause_of (λ value. AreThose (IsMetChild range) (children_of_all nodes) (view value)) (IsOneOf nodes) held mid new (Ok value))
+      → Outcome {A = V} cause_of (λ value. AreThose (IsMetChild range) (children_of_all nodes) (view value)) (IsOneOf nodes) (record { held = held; before = mid; after = new }) (Ok value))
       → HonestDown low (view value) old new
   honest_down_step view cause_of value low pending held old mid new le so grows answer shape entries reached =
       elim (so shape entries reached) [
@@ -85,7 +86,7 @@ module _ (tree : ℕ) (range : Range) (high : ℕ) (spots : List (Option (List �
           ⊎ (IsReached shape tree entries range low (view value) × GrownByAll old new (IsMetIn range (levels shape tree entries) (suc low) high))
       go at gained =
           let nodes = level_stated shape tree entries range (suc low) pending at.is_tree at.has at.within at.those in
-          elim (answer nodes.0 nodes.2) [
+          elim ((answer nodes.0 nodes.2).ends) [
             | inl clash ↦ inl (clash_more (IsOneOf nodes.0) (IsMetIn range (levels shape tree entries) 0 high) new new (of_level shape entries (suc low) nodes.0 le at.within nodes.1) (λ x is. is) clash)
             | inr ends ↦ inr (
               record {
@@ -122,22 +123,24 @@ module _ (tree : ℕ) (range : Range) (high : ℕ) (spots : List (Option (List �
   pub honest_down_end : {V : Type 0} (view : V → List Binding) (cause_of : WalkFault → Cause) (result : Result V WalkFault) (pending : List (Option (List ℕ) × Link)) (held old mid new : List ℕ → Type 0)
       → HonestDown 0 pending old mid → ((bytes : List ℕ) → mid bytes → new bytes)
       → ((nodes : List (Option (List ℕ) × Node)) → AreStated tree 0 pending nodes
-      → Outcome {A = V} cause_of (λ value. AreThose (IsEntryIn range) (entries_of_all nodes) (view value)) (IsOneOf nodes) held mid new result)
+      → Outcome {A = V} cause_of (λ value. AreThose (IsEntryIn range) (entries_of_all nodes) (view value)) (IsOneOf nodes) (record { held = held; before = mid; after = new }) result)
       → (shape : Shape) (entries : List Binding) → IsReached shape tree entries range high spots
-      → Outcome {A = V} cause_of (λ value. AreThose (IsEntryIn range) entries (view value)) (IsMetIn range (levels shape tree entries) 0 high) held old new result
-  honest_down_end view cause_of (Err fault) pending held old mid new so grows answer shape entries reached = honest_down_stop (cause_of fault) 0 pending held old mid new (omega arith) so grows answer shape entries reached
+      → Outcome {A = V} cause_of (λ value. AreThose (IsEntryIn range) entries (view value)) (IsMetIn range (levels shape tree entries) 0 high) (record { held = held; before = old; after = new }) result
+  honest_down_end view cause_of (Err fault) pending held old mid new so grows answer shape entries reached = record { ends = honest_down_stop (cause_of fault) 0 pending held old mid new (omega arith) so grows (λ nodes stated. (answer nodes stated).ends) shape entries reached }
   honest_down_end view cause_of (Ok value) pending held old mid new so grows answer shape entries reached =
-      elim (so shape entries reached) [
-        | inl clash ↦ inl (clash_more (IsMetIn range (levels shape tree entries) 0 high) (IsMetIn range (levels shape tree entries) 0 high) mid new (λ x is. is) grows clash)
-        | inr has ↦ go has.0 has.1
-      ]
+      record {
+        ends = elim (so shape entries reached) [
+          | inl clash ↦ inl (clash_more (IsMetIn range (levels shape tree entries) 0 high) (IsMetIn range (levels shape tree entries) 0 high) mid new (λ x is. is) grows clash)
+          | inr has ↦ go has.0 has.1
+        ];
+      }
     where
       go : IsReached shape tree entries range 0 pending → GrownByAll old mid (IsMetIn range (levels shape tree entries) 1 high)
           → Clash (IsMetIn range (levels shape tree entries) 0 high) new
           ⊎ (AreThose (IsEntryIn range) entries (view value) × GrownByAll old new (IsMetIn range (levels shape tree entries) 0 high))
       go at gained =
           let nodes = level_stated shape tree entries range 0 pending at.is_tree at.has at.within at.those in
-          elim (answer nodes.0 nodes.2) [
+          elim ((answer nodes.0 nodes.2).ends) [
             | inl clash ↦ inl (clash_more (IsOneOf nodes.0) (IsMetIn range (levels shape tree entries) 0 high) new new (of_level shape entries 0 nodes.0 (omega arith) at.within nodes.1) (λ x is. is) clash)
             | inr ends ↦ inr (
               leaves_found shape tree entries range nodes.0 (view value) at.has at.bytes (omega (arith, at.within)) nodes.1 ends.0,

@@ -3,10 +3,10 @@ use Rattle.std.proofs.Common.{ℕ, List, [], ◌∷◌, Option, Some, None, inl,
 use Rattle.tree_node.specs.Nodes.{AreRisingFrom, Binding, Link, greatests_of, keys_of}
 use Rattle.tree_node.specs.Order.{IsBelow}
 use Rattle.tree_walk.specs.Choices.{AreThose}
-use Rattle.tree_walk.specs.Counts.{IsCoveredChild, IsOpenChild}
-use Rattle.tree_walk.specs.Pendings.{IsMetChild, children_placed}
-use Rattle.tree_walk.specs.Ranges.{IsAboveLeft, IsAtMost, IsExcepted, Range}
-use Rattle.tree_walk.specs.Reaching.{GoesOnAbove, Reaches, ReachesAbove}
+use Rattle.tree_walk.specs.internal.Counts.{IsCoveredChild, IsOpenChild}
+use Rattle.tree_walk.specs.Spans.{IsMetChild, children_placed}
+use Rattle.tree_walk.specs.Ranges.{IsAboveLeft, IsAtMost, IsCovered, Range}
+use Rattle.tree_walk.specs.internal.Reaching.{GoesOnAbove, Reaches, ReachesAbove}
 use Rattle.tree_walk.specs.Walks.{IsEntryIn}
 use Rattle.tree_walk.proofs.KeyLemmas.{below_at_most, below_or, between_begins}
 use Rattle.tree_walk.proofs.MeetLemmas.{goes_on_from_meets}
@@ -68,11 +68,11 @@ none_open range bound links ended rise = none_ended range (IsOpenChild range) (�
 pub none_covered : (range : Range) (bound : Option (List ℕ)) (links : List Link) → ¬ GoesOnAbove range bound → AreRisingFrom bound (greatests_of links) → AreThose (IsCoveredChild range) (children_placed bound links) []
 none_covered range bound links ended rise = none_ended range (IsCoveredChild range) (λ left link above covers. covered_goes_on left link.greatest above covers) bound links ended rise
   where
-    covered_goes_on : (left : Option (List ℕ)) (greatest : List ℕ) → IsAboveLeft left greatest → IsExcepted range left greatest → GoesOnAbove range left
+    covered_goes_on : (left : Option (List ℕ)) (greatest : List ℕ) → IsAboveLeft left greatest → IsCovered range left greatest → GoesOnAbove range left
     covered_goes_on None greatest above covers = tt
     covered_goes_on (Some l) greatest above covers = goes_on_lower range l greatest above covers.1.1
 
 -- a covered child doesn't end below lo
-pub covered_low : (range : Range) (left : Option (List ℕ)) (greatest : List ℕ) → IsExcepted range left greatest → IsAtMost range.lo greatest
+pub covered_low : (range : Range) (left : Option (List ℕ)) (greatest : List ℕ) → IsCovered range left greatest → IsAtMost range.lo greatest
 covered_low range None greatest covers = absurd covers
 covered_low range (Some l) greatest covers = covers.1.0

@@ -45,7 +45,7 @@ pub same_then : (a b c : List ℕ → Type 0) → SameNodes a b → SameNodes b 
 same_then a b c first last bytes = ((λ has. (first bytes).0 ((last bytes).0 has)), (λ has. (last bytes).1 ((first bytes).1 has)))
 
 -- nothing was fetched
-pub fetched_none : (held old new : List ℕ → Type 0) (count : ℕ) → SameNodes old new → HasFetched held old new count count []
+pub fetched_none : (held old new : List ℕ → Type 0) (count : ℕ) → SameNodes old new → HasFetched (record { held = held; before = old; after = new }) count count []
 fetched_none held old new count same = record {
   gained = λ bytes. ((λ has. inl ((same bytes).0 has)), (λ is. elim is [ inl was ↦ (same bytes).1 was | inr none ↦ absurd none ]));
   all_held = tt;
@@ -53,7 +53,7 @@ fetched_none held old new count same = record {
 }
 
 -- one node was
-pub fetched_one : (held old new : List ℕ → Type 0) (count : ℕ) (node : List ℕ) → held node → GrownBy old new node → HasFetched held old new count (counted_up count 1) (node ∷ [])
+pub fetched_one : (held old new : List ℕ → Type 0) (count : ℕ) (node : List ℕ) → held node → GrownBy old new node → HasFetched (record { held = held; before = old; after = new }) count (counted_up count 1) (node ∷ [])
 fetched_one held old new count node is grown = record {
   gained = λ bytes. (
     (λ has. elim ((grown bytes).0 has) [ inl was ↦ inl was | inr here ↦ inr (inl here) ]),
@@ -65,7 +65,7 @@ fetched_one held old new count node is grown = record {
 
 -- some were, and then others
 pub fetched_then : (held after old mid new : List ℕ → Type 0) (from via to : ℕ) (xs ys : List (List ℕ)) → SameNodes held after
-    → HasFetched held old mid from via xs → HasFetched after mid new via to ys → HasFetched after old new from to (xs ++ ys)
+    → HasFetched (record { held = held; before = old; after = mid }) from via xs → HasFetched (record { held = after; before = mid; after = new }) via to ys → HasFetched (record { held = after; before = old; after = new }) from to (xs ++ ys)
 fetched_then held after old mid new from via to xs ys stays first last = record {
   gained = λ bytes. (
     (λ has. elim ((last.gained bytes).0 has) [

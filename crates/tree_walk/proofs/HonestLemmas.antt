@@ -4,10 +4,9 @@ use Rattle.std.specs.List.{flat_map}
 use Rattle.std.proofs.lemmas.Grind.{flat_map-append}
 use Rattle.std.proofs.lemmas.List.{append-nil}
 use Rattle.tree_node.specs.Nodes.{Link, Node, spelling}
-use Rattle.tree_node.specs.Trees.{Clash, GrownByAll}
+use Rattle.tree_node.specs.Outcomes.{Clash, GrownByAll, Cause, NoMemory, NodeMissing, OtherCause, RefusedFor}
 use Rattle.tree_walk.specs.Choices.{AreThose}
-use Rattle.tree_walk.specs.Outcomes.{Cause, NoMemory, NodeMissing, OtherCause, RefusedFor}
-use Rattle.tree_walk.specs.Pendings.{AreStated, IsOneOf, IsStated}
+use Rattle.tree_walk.specs.internal.Pendings.{AreStated, IsOneOf, IsStated}
 use Rattle.tree_walk.proofs.ChoiceLemmas.{those_append}
 use Rattle.tree_walk.proofs.OutcomeLemmas.{clash_more}
 

@@ -7,7 +7,7 @@ use Rattle.std.specs.declared.cmp.Ordering.{Ordering}
 use Rattle.std.specs.declared.cmp.Ordering.TheVariants.{Less, Equal, Greater}
 use Rattle.std.proofs.lemmas.Bool.{cases_order}
 use Rattle.tree_node.specs.Order.{order, IsBelow}
-use Rattle.tree_node.specs.OrderLemmas.{not_itself, order_same, order_above, order_trans}
+use Rattle.tree_node.specs.internal.OrderLemmas.{not_itself, order_same, order_above, order_trans}
 use Rattle.tree_walk.specs.Ranges.{Begins, IsAtMost}
 
 -- ---- the first bytes decide, or else what stands behind them

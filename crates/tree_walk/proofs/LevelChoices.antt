@@ -4,10 +4,11 @@ use Rattle.std.specs.List.{AllByRecursion}
 use Rattle.std.proofs.lemmas.List.{map-append}
 use Rattle.tree_node.specs.Nodes.{AreBytes, AreRisingFrom, Binding, Link, Node, Leaf, Inner, IsNode, greatests_of, keys_of, level_of, spelling, tree_of}
 use Rattle.tree_node.specs.Trees.{greatest_of, last_key, left_at, link_to, no_node}
-use Rattle.tree_node.proofs.PieceLaws.{IsSized, split_rising}
-use Rattle.tree_node.proofs.PieceLemmas.{join}
+use Rattle.tree_node.proofs.shared.PieceLaws.{IsSized, split_rising}
+use Rattle.tree_node.proofs.shared.PieceLemmas.{join}
 use Rattle.tree_walk.specs.Choices.{AreThose}
-use Rattle.tree_walk.specs.Pendings.{AreStated, IsMetChild, IsMetNode, IsOneOf, IsStated, StartAbove, children_of_all, children_placed, entries_of_all, node_keys, placed}
+use Rattle.tree_walk.specs.internal.Pendings.{AreStated, IsMetNode, IsOneOf, IsStated, StartAbove, entries_of_all, node_keys}
+use Rattle.tree_walk.specs.Spans.{IsMetChild, children_of_all, children_placed, placed}
 use Rattle.tree_walk.specs.Ranges.{IsAboveLeft, IsAtMost, IsNoHigher, Meets, Range}
 use Rattle.tree_walk.specs.Walks.{IsEntryIn}
 use Rattle.tree_walk.proofs.ChoiceLemmas.{those_append, those_split}
@@ -68,7 +69,7 @@ no_higher_next (Some o) None key is above = absurd is
 no_higher_next (Some o) (Some l) key is above = inl (at_most_below o l key is above)
 
 -- of keys that rise the first isn't above the last,
-first_at_most : (low : Option (List ℕ)) (key : List ℕ) (keys : List (List ℕ)) → AreRisingFrom low (key ∷ keys) → IsAtMost key (last_key (key ∷ keys))
+pub first_at_most : (low : Option (List ℕ)) (key : List ℕ) (keys : List (List ℕ)) → AreRisingFrom low (key ∷ keys) → IsAtMost key (last_key (key ∷ keys))
 first_at_most low key [] rise = inr refl
 first_at_most low key (next ∷ keys) rise = inl (below_at_most key next (last_key (next ∷ keys)) rise.1.0 (first_at_most (Some key) next keys rise.1))
 

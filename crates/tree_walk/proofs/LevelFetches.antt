@@ -3,13 +3,14 @@ use Rattle.std.proofs.Common.{◌≡◌, ℕ, List, [], ◌∷◌, ◌++◌, Opt
 use Rattle.std.proofs.lemmas.List.{append-nil}
 use Rattle.std.specs.List.{AllByRecursion}
 use Rattle.tree_node.specs.Nodes.{Link, Node, Spells, level_of}
-use Rattle.tree_node.specs.OrderLemmas.{not_itself}
+use Rattle.tree_node.specs.internal.OrderLemmas.{not_itself}
+use Rattle.tree_node.specs.Outcomes.{ShelfUse}
 use Rattle.tree_node.specs.Shelves.{SameNodes}
 use Rattle.tree_node.specs.Trees.{greatest_of}
-use Rattle.tree_node.proofs.FieldLemmas.{ok_is}
-use Rattle.tree_node.proofs.NodeLaws.{node_again}
+use Rattle.tree_node.proofs.shared.FieldLemmas.{ok_is}
+use Rattle.tree_node.proofs.shared.NodeLaws.{node_again}
 use Rattle.tree_walk.specs.Fetches.{AreDifferent, HasFetched, IsAmong}
-use Rattle.tree_walk.specs.Pendings.{AreInOrder, FetchedFew, FetchedNode, FetchesLevel, IsOfLevel}
+use Rattle.tree_walk.specs.internal.Pendings.{AreInOrder, FetchedFew, FetchedNode, FetchesLevel, IsOfLevel}
 use Rattle.tree_walk.specs.Ranges.{IsAboveLeft, IsAtMost, IsNoHigher}
 use Rattle.tree_walk.specs.declared.fault.WalkFault.{WalkFault}
 use Rattle.tree_walk.proofs.FetchLemmas.{all_append, all_weaker, among_parts, fetched_none, fetched_one, fetched_then}
@@ -25,9 +26,9 @@ abbrev pub IsFetchedUpTo : ℕ → Option (List ℕ) → List ℕ → Type 0
 IsFetchedUpTo level low bytes = (node : Node) × Spells bytes node × (level_of node ≡ level) × IsUpTo low (greatest_of node)
 
 -- what was fetched so far, with greatest keys up to this one, and the pending children that are left
-pub record FetchingLevel (level : ℕ) (low : Option (List ℕ)) (held old new : List ℕ → Type 0) (from to : ℕ) (rest : List (Option (List ℕ) × Link)) : Type 0 where
+pub record FetchingLevel (level : ℕ) (low : Option (List ℕ)) (shelf : ShelfUse) (from to : ℕ) (rest : List (Option (List ℕ) × Link)) : Type 0 where
   pub done : List (List ℕ)
-  pub fetched : HasFetched held old new from to done
+  pub fetched : HasFetched shelf from to done
   pub differ : AreDifferent done
   pub so_far : AllByRecursion (IsFetchedUpTo level low) done
   pub order : AreInOrder low rest
@@ -77,7 +78,7 @@ higher level (Some l) (Some k) greatest no_higher above bytes is =
 
 module _ (level : ℕ) (old : List ℕ → Type 0) (from : ℕ) where
   -- at the start
-  pub level_start : (held : List ℕ → Type 0) (spots : List (Option (List ℕ) × Link)) → AreInOrder None spots → FetchingLevel level None held old old from from spots
+  pub level_start : (held : List ℕ → Type 0) (spots : List (Option (List ℕ) × Link)) → AreInOrder None spots → FetchingLevel level None (record { held = held; before = old; after = old }) from from spots
   level_start held spots order = record {
     done = [];
     fetched = fetched_none held old old from (λ bytes. ((λ is. is), (λ is. is)));
@@ -88,8 +89,8 @@ module _ (level : ℕ) (old : List ℕ → Type 0) (from : ℕ) where
 
   -- one more
   pub level_step : (low : Option (List ℕ)) (held after mid new : List ℕ → Type 0) (via to : ℕ) (spot : Option (List ℕ) × Link) (rest : List (Option (List ℕ) × Link)) (node : Node)
-      → FetchingLevel level low held old mid from via (spot ∷ rest) → SameNodes held after → FetchedNode node after mid new via to
-      → level_of node ≡ level → greatest_of node ≡ spot.1.greatest → FetchingLevel level (Some spot.1.greatest) after old new from to rest
+      → FetchingLevel level low (record { held = held; before = old; after = mid }) from via (spot ∷ rest) → SameNodes held after → FetchedNode node (record { held = after; before = mid; after = new }) via to
+      → level_of node ≡ level → greatest_of node ≡ spot.1.greatest → FetchingLevel level (Some spot.1.greatest) (record { held = after; before = old; after = new }) from to rest
   level_step low held after mid new via to spot rest node so stays is at_level greatest =
       let above : IsAboveLeft spot.0 (greatest_of node) = subst (λ (g : List ℕ). IsAboveLeft spot.0 g) (sym greatest) so.order.1 in
       record {
@@ -107,18 +108,18 @@ module _ (level : ℕ) (old : List ℕ → Type 0) (from : ℕ) where
 
   -- at the end
   pub level_end : {A : Type 0} (value : A) (low : Option (List ℕ)) (held new : List ℕ → Type 0) (to : ℕ) (rest : List (Option (List ℕ) × Link))
-      → FetchingLevel level low held old new from to rest → FetchesLevel level (Ok value) held old new from to
+      → FetchingLevel level low (record { held = held; before = old; after = new }) from to rest → FetchesLevel level (Ok value) (record { held = held; before = old; after = new }) from to
   level_end value low held new to rest so =
       (so.done, so.fetched, so.differ, all_weaker (IsFetchedUpTo level low) (IsOfLevel level) so.done (of_level low) so.so_far)
 
   -- refused, after the last of them
   pub level_refused : {A : Type 0} (result : Result A WalkFault) (fault : WalkFault) (low : Option (List ℕ)) (held new : List ℕ → Type 0) (to : ℕ) (rest : List (Option (List ℕ) × Link))
-      → result ≡ Err fault → FetchingLevel level low held old new from to rest → FetchesLevel level result held old new from to
+      → result ≡ Err fault → FetchingLevel level low (record { held = held; before = old; after = new }) from to rest → FetchesLevel level result (record { held = held; before = old; after = new }) from to
   level_refused {A} result fault low held new to rest is so =
-      subst (λ (r : Result A WalkFault). FetchesLevel level r held old new from to) (sym is) (
+      subst (λ (r : Result A WalkFault). FetchesLevel level r (record { held = held; before = old; after = new }) from to) (sym is) (
         so.done,
         [],
-        subst (λ (ns : List (List ℕ)). HasFetched held old new from to ns) (sym (append-nil so.done)) so.fetched,
+        subst (λ (ns : List (List ℕ)). HasFetched (record { held = held; before = old; after = new }) from to ns) (sym (append-nil so.done)) so.fetched,
         so.differ,
         all_weaker (IsFetchedUpTo level low) (IsOfLevel level) so.done (of_level low) so.so_far,
         omega arith,
@@ -126,10 +127,10 @@ module _ (level : ℕ) (old : List ℕ → Type 0) (from : ℕ) where
 
   -- refused, perhaps at one more
   pub level_stopped : {A : Type 0} (result : Result A WalkFault) (fault : WalkFault) (low : Option (List ℕ)) (held after mid new : List ℕ → Type 0) (via to : ℕ) (rest : List (Option (List ℕ) × Link))
-      → result ≡ Err fault → FetchingLevel level low held old mid from via rest → SameNodes held after → FetchedFew after mid new via to
-      → FetchesLevel level result after old new from to
+      → result ≡ Err fault → FetchingLevel level low (record { held = held; before = old; after = mid }) from via rest → SameNodes held after → FetchedFew (record { held = after; before = mid; after = new }) via to
+      → FetchesLevel level result (record { held = after; before = old; after = new }) from to
   level_stopped {A} result fault low held after mid new via to rest is so stays few =
-      subst (λ (r : Result A WalkFault). FetchesLevel level r after old new from to) (sym is) (
+      subst (λ (r : Result A WalkFault). FetchesLevel level r (record { held = after; before = old; after = new }) from to) (sym is) (
         so.done,
         few.nodes,
         fetched_then held after old mid new from via to so.done few.nodes stays so.fetched few.fetched,

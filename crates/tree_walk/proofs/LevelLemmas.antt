@@ -5,13 +5,14 @@ use Rattle.std.proofs.lemmas.List.{append-nil}
 use Rattle.std.proofs.lemmas.List.Elements.{All-from_recursion}
 use Rattle.tree_node.specs.Nodes.{AreBytes, AreRisingFrom, Binding, IsNode, IsTree, Leaf, Link, Node, greatests_of, keys_of, level_of, spelling, tree_of}
 use Rattle.tree_node.specs.Trees.{HasTree, Shape, Stands, ends_by, entries_in, greatest_of, is_marked_entry, is_marked_link, leaves, level_at, levels, link_to, links_in, no_node, node_in, pieces, top_of}
-use Rattle.tree_node.proofs.PieceLaws.{pieces_sized}
-use Rattle.tree_node.proofs.PieceLemmas.{join, join_all, pieces_join, some_pieces}
-use Rattle.tree_node.proofs.TreeLemmas.{tree_levels}
-use Rattle.tree_node.proofs.TreeLaws.{above, entries_some, last_has_one, leaves_joined, links_at, nodes_at, over_joined, pair_at, whole, whole_few}
-use Rattle.tree_node.proofs.TreeParts.{kind_at}
+use Rattle.tree_node.proofs.shared.PieceLaws.{pieces_sized}
+use Rattle.tree_node.proofs.shared.PieceLemmas.{join, join_all, pieces_join, some_pieces}
+use Rattle.tree_node.proofs.shared.TreeLemmas.{tree_levels}
+use Rattle.tree_node.proofs.shared.TreeLaws.{above, entries_some, last_has_one, leaves_joined, links_at, nodes_at, over_joined, pair_at, whole, whole_few}
+use Rattle.tree_node.proofs.shared.TreeParts.{kind_at}
 use Rattle.tree_walk.specs.Choices.{AreThose}
-use Rattle.tree_walk.specs.Pendings.{AreStated, IsMetChild, IsMetNode, IsOneOf, children_of_all, children_placed, entries_of_all, placed}
+use Rattle.tree_walk.specs.internal.Pendings.{AreStated, IsMetNode, IsOneOf, entries_of_all}
+use Rattle.tree_walk.specs.Spans.{IsMetChild, children_of_all, children_placed, placed}
 use Rattle.tree_walk.specs.Ranges.{Range}
 use Rattle.tree_walk.specs.Walks.{IsEntryIn, MeetsAt}
 use Rattle.tree_walk.proofs.LevelChoices.{StartEachAbove, children_from, entries_from, inner_start, leaves_start, one_where, stated_from}

@@ -3,8 +3,8 @@ use Rattle.std.proofs.Common.{ℕ, zero, suc, List, [], ◌∷◌, ◌++◌, ref
 use Rattle.std.specs.Prelude.{IfSome}
 use Rattle.tree_node.specs.Nodes.{AreBytes}
 use Rattle.tree_node.specs.Order.{IsBelow}
-use Rattle.tree_walk.specs.Ranges.{IsAboveLeft, IsAtMost, IsExcepted, IsIn, IsNoHigher, Meets, Range}
-use Rattle.tree_walk.specs.Reaching.{GoesOnAbove, ReachesAbove}
+use Rattle.tree_walk.specs.Ranges.{IsAboveLeft, IsAtMost, IsCovered, IsIn, IsNoHigher, Meets, Range}
+use Rattle.tree_walk.specs.internal.Reaching.{GoesOnAbove, ReachesAbove}
 use Rattle.tree_walk.proofs.KeyLemmas.{at_most_below, at_most_trans, below_at_most, below_next, below_or, between_begins, next_at_most}
 
 -- what meets the range has a greatest key that isn't below lo,
@@ -66,7 +66,7 @@ meets_from_both range None greatest lo_bytes lo_in bytes above low goes = meets_
 meets_from_both range (Some l) greatest lo_bytes lo_in bytes above low goes = meets_from_reaches range l greatest lo_bytes lo_in bytes above low goes
 
 -- what lies in a covered span stands in the range
-pub covered_is_in : (range : Range) (left : Option (List ℕ)) (greatest key : List ℕ) → IsExcepted range left greatest → IsAboveLeft left key → IsAtMost key greatest → IsIn range key
+pub covered_is_in : (range : Range) (left : Option (List ℕ)) (greatest key : List ℕ) → IsCovered range left greatest → IsAboveLeft left key → IsAtMost key greatest → IsIn range key
 covered_is_in range None greatest key is above below = absurd is
 covered_is_in range (Some l) greatest key is above below = (
   inl (at_most_below range.lo l key is.0 above),

@@ -3,7 +3,7 @@ use Rattle.std.proofs.Common.{◌≡◌, ℕ, ◌+◌, ◌<◌, List, ◌∷◌,
 use Rattle.std.specs.Result.{IsErrAnd}
 use Rattle.std.proofs.lemmas.List.{drop_more}
 use Rattle.tree_node.specs.Nodes.{AreRisingFrom, Inner, Link, greatests_of}
-use Rattle.tree_walk.specs.Pendings.{FetchedNode, StartAbove, spot_of, spots_of}
+use Rattle.tree_walk.specs.internal.Pendings.{FetchedNode, StartAbove, spot_of, spots_of}
 use Rattle.tree_walk.specs.declared.fault.WalkFault.{WalkFault}
 use Rattle.tree_walk.specs.declared.pending.Pending.{Pending}
 use Rattle.tree_walk.proofs.SpotOrder.{rises_above}
@@ -18,6 +18,6 @@ err_is (Ok x) fault is = absurd is
 err_is (Err f) fault is = ap (λ g. Err g) is
 
 -- the keys of an inner node that was fetched, and agrees with its parent, rise from its left bound
-pub fetched_rises : (tree level from to : ℕ) (links : List Link) (held old new : List ℕ → Type 0) (left : Option (List ℕ)) → FetchedNode (Inner tree level links) held old new from to → StartAbove left (greatests_of links)
+pub fetched_rises : (tree level from to : ℕ) (links : List Link) (held old new : List ℕ → Type 0) (left : Option (List ℕ)) → FetchedNode (Inner tree level links) (record { held = held; before = old; after = new }) from to → StartAbove left (greatests_of links)
     → AreRisingFrom left (greatests_of links)
 fetched_rises tree level from to links held old new left is starts = rises_above left (greatests_of links) starts is.spells.0.6

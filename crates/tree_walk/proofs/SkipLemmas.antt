@@ -7,10 +7,10 @@ use Rattle.std.specs.declared.cmp.Ordering.{Ordering}
 use Rattle.std.specs.declared.cmp.Ordering.TheVariants.{Less, Equal, Greater}
 use Rattle.tree_node.specs.Nodes.{AreRisingFrom, Binding, Link}
 use Rattle.tree_node.specs.Order.{order}
-use Rattle.tree_node.specs.OrderLemmas.{not_itself, order_above, order_same}
+use Rattle.tree_node.specs.internal.OrderLemmas.{not_itself, order_above, order_same}
 use Rattle.tree_node.specs.Skips.{from_key, key_before}
 use Rattle.tree_walk.specs.Choices.{AreThose}
-use Rattle.tree_walk.specs.Pendings.{children_placed}
+use Rattle.tree_walk.specs.Spans.{children_placed}
 use Rattle.tree_walk.specs.Ranges.{IsAtMost, Range}
 use Rattle.tree_walk.specs.Walks.{IsEntryIn}
 use Rattle.tree_walk.proofs.ChoiceLemmas.{ArePicked}

@@ -4,16 +4,15 @@ use Rattle.std.specs.List.{AllByRecursion}
 use Rattle.std.proofs.lemmas.List.{map-append}
 use Rattle.tree_node.specs.Nodes.{AreRisingFrom, Binding, Inner, Link, Node, greatests_of}
 use Rattle.tree_node.specs.Trees.{HasTree, Shape, ends_by, greatest_of, is_marked_link, last_key, left_at, level_at, levels, link_to, no_node, pieces}
-use Rattle.tree_node.proofs.PieceLaws.{IsSized, pieces_sized, split_rising}
-use Rattle.tree_node.proofs.PieceLemmas.{join, pieces_join}
-use Rattle.tree_node.proofs.TreeLaws.{pair_at, whole}
-use Rattle.tree_walk.specs.Pendings.{children_of_all, children_placed, placed}
-use Rattle.tree_walk.specs.Spans.{HasChildrenWithin, IsWithin}
-use Rattle.tree_walk.specs.Ranges.{IsAboveLeft, IsAtMost, IsExcepted, IsNoHigher, Range}
-use Rattle.tree_walk.proofs.KeyLemmas.{at_most_below, at_most_trans}
+use Rattle.tree_node.proofs.shared.PieceLaws.{IsSized, pieces_sized, split_rising}
+use Rattle.tree_node.proofs.shared.PieceLemmas.{join, pieces_join}
+use Rattle.tree_node.proofs.shared.TreeLaws.{pair_at, whole}
+use Rattle.tree_walk.specs.Spans.{children_of_all, children_placed, placed, HasChildrenWithin, IsWithin}
+use Rattle.tree_walk.specs.Ranges.{IsAtMost, IsNoHigher, Range}
+use Rattle.tree_walk.proofs.CountChoices.{covered_narrower}
 use Rattle.tree_walk.proofs.LevelChoices.{all_at_most, children_append, left_from, left_none, no_higher_itself, no_higher_next}
 use Rattle.tree_walk.proofs.LevelLemmas.{inner_rising}
-use Rattle.tree_walk.proofs.MeetLemmas.{covered_is_in, meets_wider}
+use Rattle.tree_walk.proofs.MeetLemmas.{meets_wider}
 
 -- ---- the children of the nodes of a level
 
@@ -37,17 +36,11 @@ children_are shape tree entries level lt =
 
 -- ---- what holds of a child's span and its parent's
 
-covered_within : (range : Range) (outer left : Option (List ℕ)) (most key : List ℕ) → IsNoHigher outer left → IsAboveLeft left key → IsAtMost key most → IsExcepted range outer most → IsExcepted range left key
-covered_within range None left most key no_higher above below is = absurd is
-covered_within range (Some o) None most key no_higher above below is = absurd no_higher
-covered_within range (Some o) (Some l) most key no_higher above below is =
-    (at_most_trans range.lo o l is.0 no_higher, covered_is_in range (Some o) most key is (at_most_below o l key no_higher above) below)
-
 children_within : (range : Range) (outer left : Option (List ℕ)) (most : List ℕ) (links : List Link) → IsNoHigher outer left → AreRisingFrom left (greatests_of links)
     → AllByRecursion (λ (key : List ℕ). IsAtMost key most) (greatests_of links) → AllByRecursion (IsWithin range outer most) (children_placed left links)
 children_within range outer left most [] no_higher rise below = tt
 children_within range outer left most (l ∷ ls) no_higher rise below = (
-  ((λ meets. meets_wider range left outer l.greatest most meets no_higher below.0), covered_within range outer left most l.greatest no_higher rise.0 below.0),
+  ((λ meets. meets_wider range left outer l.greatest most meets no_higher below.0), λ covers. covered_narrower range left outer l.greatest most covers no_higher rise.0 below.0),
   children_within range outer (Some l.greatest) most ls (no_higher_next outer left l.greatest no_higher rise.0) rise.1 below.1,
 )
 

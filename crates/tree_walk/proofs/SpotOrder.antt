@@ -4,10 +4,12 @@ use Rattle.std.specs.List.{AllByRecursion}
 use Rattle.tree_node.specs.Nodes.{AreRisingFrom, Link, greatests_of}
 use Rattle.tree_node.specs.Trees.{last_key}
 use Rattle.tree_walk.specs.Choices.{AreThose}
-use Rattle.tree_walk.specs.Pendings.{AreInOrder, StartAbove, children_placed}
+use Rattle.tree_walk.specs.internal.Pendings.{AreInOrder, StartAbove}
+use Rattle.tree_walk.specs.Spans.{children_placed}
 use Rattle.tree_walk.specs.Ranges.{IsAboveLeft, IsAtMost, IsNoHigher}
 use Rattle.tree_walk.proofs.FetchLemmas.{all_append, all_weaker}
-use Rattle.tree_walk.proofs.KeyLemmas.{at_most_below, at_most_trans}
+use Rattle.tree_walk.proofs.KeyLemmas.{at_most_trans}
+use Rattle.tree_walk.proofs.LevelChoices.{first_at_most, no_higher_next}
 
 -- ---- bounds
 
@@ -16,15 +18,6 @@ higher_trans None b c p q = tt
 higher_trans (Some x) None c p q = absurd p
 higher_trans (Some x) (Some y) None p q = absurd q
 higher_trans (Some x) (Some y) (Some z) p q = at_most_trans x y z p q
-
-higher_key : (low left : Option (List ℕ)) (key : List ℕ) → IsNoHigher low left → IsAboveLeft left key → IsNoHigher low (Some key)
-higher_key None left key p q = tt
-higher_key (Some x) None key p q = absurd p
-higher_key (Some x) (Some y) key p q = inl (at_most_below x y key p q)
-
-no_higher_itself : (low : Option (List ℕ)) → IsNoHigher low low
-no_higher_itself None = tt
-no_higher_itself (Some x) = inr refl
 
 -- a lower bound of what comes first
 pub from_lower : (low high : Option (List ℕ)) (spots : List (Option (List ℕ) × Link)) → IsNoHigher low high → AreInOrder high spots → AreInOrder low spots
@@ -42,10 +35,6 @@ rises_above left (key ∷ keys) starts rise = (starts, rise.1)
 abbrev pub EndsUpTo : List ℕ → Option (List ℕ) × Link → Type 0
 EndsUpTo greatest spot = IsAtMost spot.1.greatest greatest
 
-first_up_to_last : (left : Option (List ℕ)) (key : List ℕ) (keys : List (List ℕ)) → AreRisingFrom left (key ∷ keys) → IsAtMost key (last_key (key ∷ keys))
-first_up_to_last left key [] rise = inr refl
-first_up_to_last left key (next ∷ keys) rise = at_most_trans key next (last_key (next ∷ keys)) (inl rise.1.0) (first_up_to_last (Some key) next keys rise.1)
-
 -- those of the children lie side by side
 picked_order : (Has : Option (List ℕ) × Link → Type 0) (low left : Option (List ℕ)) (links : List Link) (picked : List (Option (List ℕ) × Link))
     → IsNoHigher low left → AreRisingFrom left (greatests_of links) → AreThose Has (children_placed left links) picked → AreInOrder low picked
@@ -54,7 +43,7 @@ picked_order Has low left (c ∷ cs) picked lower rise (inl has) =
     subst (λ (ss : List (Option (List ℕ) × Link)). AreInOrder low ss) (sym has.1.1)
     (lower, rise.0, picked_order Has (Some c.greatest) (Some c.greatest) cs has.1.0 (inr refl) rise.1 has.1.2)
 picked_order Has low left (c ∷ cs) picked lower rise (inr has) =
-    picked_order Has low (Some c.greatest) cs picked (higher_key low left c.greatest lower rise.0) rise.1 has.1
+    picked_order Has low (Some c.greatest) cs picked (no_higher_next low left c.greatest lower rise.0) rise.1 has.1
 
 -- up to the last of the children's keys
 picked_up_to : (Has : Option (List ℕ) × Link → Type 0) (left : Option (List ℕ)) (links : List Link) (picked : List (Option (List ℕ) × Link))
@@ -65,7 +54,7 @@ picked_up_to Has left (c ∷ []) picked rise (inl has) =
 picked_up_to Has left (c ∷ []) picked rise (inr has) = subst (λ (ss : List (Option (List ℕ) × Link)). AllByRecursion (EndsUpTo c.greatest) ss) (sym has.1) tt
 picked_up_to Has left (c ∷ d ∷ cs) picked rise (inl has) =
     subst (λ (ss : List (Option (List ℕ) × Link)). AllByRecursion (EndsUpTo (last_key (greatests_of (d ∷ cs)))) ss) (sym has.1.1)
-    (first_up_to_last left c.greatest (greatests_of (d ∷ cs)) rise, picked_up_to Has (Some c.greatest) (d ∷ cs) has.1.0 rise.1 has.1.2)
+    (first_at_most left c.greatest (greatests_of (d ∷ cs)) rise, picked_up_to Has (Some c.greatest) (d ∷ cs) has.1.0 rise.1 has.1.2)
 picked_up_to Has left (c ∷ d ∷ cs) picked rise (inr has) = picked_up_to Has (Some c.greatest) (d ∷ cs) picked rise.1 has.1
 
 -- ---- the children of a level
@@ -91,7 +80,7 @@ order_step Has None left greatest links spots picked lower above ordered rise la
       subst (λ (g : List ℕ). AllByRecursion (EndsUpTo g) picked) last (picked_up_to Has left links picked rise those),
     )
 order_step Has (Some bound) left greatest links spots picked lower above ordered rise last those =
-    let higher : IsNoHigher (Some bound) (Some greatest) = higher_key (Some bound) left greatest lower above in (
+    let higher : IsNoHigher (Some bound) (Some greatest) = no_higher_next (Some bound) left greatest lower above in (
       order_append None bound spots picked tt ordered.0 ordered.1 (picked_order Has (Some bound) left links picked lower rise those),
       all_append (EndsUpTo greatest) spots picked (all_weaker (EndsUpTo bound) (EndsUpTo greatest) spots (λ s up. at_most_trans s.1.greatest bound greatest up higher) ordered.1)
           (subst (λ (g : List ℕ). AllByRecursion (EndsUpTo g) picked) last (picked_up_to Has left links picked rise those)),

@@ -5,14 +5,15 @@ use Rattle.std.proofs.lemmas.Bool.{cases_order}
 use Rattle.tree_node.specs.Nodes.{AreBytes, Binding, Inner, IsTree, Leaf, Link, Node, level_of}
 use Rattle.tree_node.specs.NodeRefs.{number_of}
 use Rattle.tree_node.specs.Shelves.{SameNodes}
-use Rattle.tree_node.specs.Trees.{Clash, GrownByAll, HasTree, Shape, Stands, entries_in, level_at, levels, link_to, links_in, node_in, top_of}
+use Rattle.tree_node.specs.Outcomes.{Cause, Clash, EndsBy, GrownByAll, Outcome, RefusedFor}
+use Rattle.tree_node.specs.Trees.{HasTree, Shape, Stands, entries_in, level_at, levels, link_to, links_in, node_in, top_of}
 use Rattle.tree_node.specs.declared.tree.Tree.{Tree}
 use Rattle.tree_node.specs.declared.tree.Tree.TheVariants.{Objects, Tags, Cells, Backs}
 use Rattle.tree_walk.specs.Choices.{AreThose}
-use Rattle.tree_walk.specs.Descents.{IsMetIn, IsReached}
+use Rattle.tree_walk.specs.internal.Descents.{IsMetIn, IsReached}
 use Rattle.tree_walk.specs.Fetches.{AreDifferent, Fetches, HasFetched, IsNodeText}
-use Rattle.tree_walk.specs.Outcomes.{Cause, Outcome, RefusedFor}
-use Rattle.tree_walk.specs.Pendings.{FetchedFew, FetchedNode, FetchesBelow, IsBetweenLevels, IsMetChild, children_placed}
+use Rattle.tree_walk.specs.internal.Pendings.{FetchedFew, FetchedNode, FetchesBelow, IsBetweenLevels}
+use Rattle.tree_walk.specs.Spans.{IsMetChild, children_placed}
 use Rattle.tree_walk.specs.Ranges.{Range}
 use Rattle.tree_walk.specs.Walks.{IsEntryIn, IsMet, MeetsAt}
 use Rattle.tree_walk.specs.declared.fault.WalkFault.{WalkFault}
@@ -32,28 +33,28 @@ is_tree Backs = (omega arith, omega arith)
 -- ---- which nodes were fetched
 
 -- the top was refused
-pub top_refused : {A : Type 0} (result : Result A WalkFault) (fault : WalkFault) (held old new : List ℕ → Type 0) (from to : ℕ) → result ≡ Err fault → FetchedFew held old new from to → Fetches result held old new from to
+pub top_refused : {A : Type 0} (result : Result A WalkFault) (fault : WalkFault) (held old new : List ℕ → Type 0) (from to : ℕ) → result ≡ Err fault → FetchedFew (record { held = held; before = old; after = new }) from to → Fetches result (record { held = held; before = old; after = new }) from to
 top_refused {A} result fault held old new from to is few =
-    subst (λ (r : Result A WalkFault). Fetches r held old new from to) (sym is) ([], few.nodes, few.fetched, tt, tt, few.few)
+    subst (λ (r : Result A WalkFault). Fetches r (record { held = held; before = old; after = new }) from to) (sym is) ([], few.nodes, few.fetched, tt, tt, few.few)
 
 -- one node alone
-pub top_fetched : (node : Node) (held old new : List ℕ → Type 0) (from to : ℕ) → FetchedNode node held old new from to
-    → (nodes : List (List ℕ)) × HasFetched held old new from to nodes × AreDifferent nodes × AllByRecursion IsNodeText nodes
+pub top_fetched : (node : Node) (held old new : List ℕ → Type 0) (from to : ℕ) → FetchedNode node (record { held = held; before = old; after = new }) from to
+    → (nodes : List (List ℕ)) × HasFetched (record { held = held; before = old; after = new }) from to nodes × AreDifferent nodes × AllByRecursion IsNodeText nodes
 top_fetched node held old new from to is =
     (is.bytes ∷ [], rw is.counted (fetched_one held old new from is.bytes is.is_held is.grown), ((λ none. none), tt), ((node, is.spells), tt))
 
 -- the top, and then want of memory
-pub top_then_refused : {A : Type 0} (result : Result A WalkFault) (fault : WalkFault) (node : Node) (held old new : List ℕ → Type 0) (from to : ℕ) → result ≡ Err fault → FetchedNode node held old new from to → Fetches result held old new from to
+pub top_then_refused : {A : Type 0} (result : Result A WalkFault) (fault : WalkFault) (node : Node) (held old new : List ℕ → Type 0) (from to : ℕ) → result ≡ Err fault → FetchedNode node (record { held = held; before = old; after = new }) from to → Fetches result (record { held = held; before = old; after = new }) from to
 top_then_refused {A} result fault node held old new from to is fetched =
-    subst (λ (r : Result A WalkFault). Fetches r held old new from to) (sym is)
+    subst (λ (r : Result A WalkFault). Fetches r (record { held = held; before = old; after = new }) from to) (sym is)
     (fetched.bytes ∷ [], [], rw fetched.counted (fetched_one held old new from fetched.bytes fetched.is_held fetched.grown), ((λ none. none), tt), ((node, fetched.spells), tt), omega arith)
 
 text_of : (low high : ℕ) (bytes : List ℕ) → IsBetweenLevels low high bytes → IsNodeText bytes
 text_of low high bytes is = (is.0, is.1)
 
 -- the top, and what is below it
-pub top_then_down : {A : Type 0} (result : Result A WalkFault) (tree level : ℕ) (links : List Link) (held after old mid new : List ℕ → Type 0) (from via to : ℕ) → FetchedNode (Inner tree (suc level) links) held old mid from via → SameNodes held after
-    → FetchesBelow (suc level) result after mid new via to → Fetches result after old new from to
+pub top_then_down : {A : Type 0} (result : Result A WalkFault) (tree level : ℕ) (links : List Link) (held after old mid new : List ℕ → Type 0) (from via to : ℕ) → FetchedNode (Inner tree (suc level) links) (record { held = held; before = old; after = mid }) from via → SameNodes held after
+    → FetchesBelow (suc level) result (record { held = after; before = mid; after = new }) via to → Fetches result (record { held = after; before = old; after = new }) from to
 top_then_down (Ok value) tree level links held after old mid new from via to top stays down =
     let node = Inner tree (suc level) links in (
       top.bytes ∷ down.0,
@@ -142,15 +143,14 @@ module _ (shape : Shape) (tree : ℕ) (entries : List Binding) (range : Range) w
         },
       )
 
-  -- the top was used, and then what is below it was read
-  pub honest_then : {V : Type 0} (cause_of : WalkFault → Cause) (Is : V → Type 0) (result : Result V WalkFault) (high : ℕ) (held old mid new : List ℕ → Type 0) → length (levels shape tree entries) ≡ suc (suc high)
-      → GrownByAll old mid (λ bytes. bytes ≡ top_of (levels shape tree entries)) → Outcome cause_of Is (IsMetIn range (levels shape tree entries) 0 high) held mid new result
-      → Outcome cause_of Is (IsMet range (levels shape tree entries)) held old new result
-  honest_then cause_of Is result high held old mid new many gained (inl clash) =
+  then_ends : {V : Type 0} (cause_of : WalkFault → Cause) (Is : V → Type 0) (result : Result V WalkFault) (high : ℕ) (held old mid new : List ℕ → Type 0) → length (levels shape tree entries) ≡ suc (suc high)
+      → GrownByAll old mid (λ bytes. bytes ≡ top_of (levels shape tree entries)) → Clash (IsMetIn range (levels shape tree entries) 0 high) new ⊎ EndsBy cause_of Is (IsMetIn range (levels shape tree entries) 0 high) (record { held = held; before = mid; after = new }) result
+      → Clash (IsMet range (levels shape tree entries)) new ⊎ EndsBy cause_of Is (IsMet range (levels shape tree entries)) (record { held = held; before = old; after = new }) result
+  then_ends cause_of Is result high held old mid new many gained (inl clash) =
       inl (clash_more (IsMetIn range (levels shape tree entries) 0 high) (IsMet range (levels shape tree entries)) new new (of_lower high) (λ x is. is) clash)
-  honest_then cause_of Is (Err fault) high held old mid new many gained (inr refused) =
+  then_ends cause_of Is (Err fault) high held old mid new many gained (inr refused) =
       inr (refused_more (IsMetIn range (levels shape tree entries) 0 high) (IsMet range (levels shape tree entries)) held (cause_of fault) (of_lower high) refused)
-  honest_then cause_of Is (Ok value) high held old mid new many gained (inr ends) = inr (
+  then_ends cause_of Is (Ok value) high held old mid new many gained (inr ends) = inr (
     ends.0,
     λ bytes. (
       (λ is. elim ((ends.1 bytes).0 is) [
@@ -163,3 +163,9 @@ module _ (shape : Shape) (tree : ℕ) (entries : List Binding) (range : Range) w
       ]),
     ),
   )
+
+  -- the top was used, and then what is below it was read
+  pub honest_then : {V : Type 0} (cause_of : WalkFault → Cause) (Is : V → Type 0) (result : Result V WalkFault) (high : ℕ) (held old mid new : List ℕ → Type 0) → length (levels shape tree entries) ≡ suc (suc high)
+      → GrownByAll old mid (λ bytes. bytes ≡ top_of (levels shape tree entries)) → Outcome cause_of Is (IsMetIn range (levels shape tree entries) 0 high) (record { held = held; before = mid; after = new }) result
+      → Outcome cause_of Is (IsMet range (levels shape tree entries)) (record { held = held; before = old; after = new }) result
+  honest_then cause_of Is result high held old mid new many gained outcome = record { ends = then_ends cause_of Is result high held old mid new many gained outcome.ends }

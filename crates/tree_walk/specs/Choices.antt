@@ -1,4 +1,5 @@
 -- The items of a list that have a property, in their order.
+-- Source: this project.
 use Rattle.std.specs.Prelude.{◌≡◌, ℕ, suc, List, [], ◌∷◌, ◌⊎◌}
 
 -- these are the items of the list that have the property, in order, and no others

@@ -1,11 +1,11 @@
 -- Which nodes a walk fetched, and how its tally counts them.
+-- Source: this project.
 use Rattle.std.specs.Prelude.{◌≡◌, ℕ, zero, suc, ◌+◌, ◌-◌, ◌^◌, ◌≤◌, min, List, [], ◌∷◌, ◌++◌, ◌⊎◌, length, Result, Ok, Err, ⊤}
 use Rattle.std.specs.List.{AllByRecursion}
 use Rattle.tree_node.specs.Nodes.{Node, Spells}
-use Rattle.tree_node.specs.Trees.{GrownByAll}
+use Rattle.tree_node.specs.Outcomes.{Cause, GrownByAll, NoMemory, NodeMissing, OtherCause, ShelfUse}
 use Rattle.tree_walk.specs.declared.fault.WalkFault.{WalkFault}
 use Rattle.tree_walk.specs.declared.fault.WalkFault.TheVariants as faults
-use Rattle.tree_walk.specs.Outcomes.{Cause, NoMemory, NodeMissing, OtherCause}
 
 -- a count of 64 bits, so many steps further; at its greatest it stays there
 abbrev pub counted_up : ℕ → ℕ → ℕ
@@ -27,18 +27,18 @@ abbrev pub IsNodeText : List ℕ → Type 0
 IsNodeText bytes = (node : Node) × Spells bytes node
 
 -- these nodes were fetched, one after the other: each is held, the used nodes have gained them, and they were counted
-pub record HasFetched (held old new : List ℕ → Type 0) (from to : ℕ) (nodes : List (List ℕ)) : Type 0 where
-  pub gained : GrownByAll old new (IsAmong nodes)
-  pub all_held : AllByRecursion held nodes
+pub record HasFetched (shelf : ShelfUse) (from to : ℕ) (nodes : List (List ℕ)) : Type 0 where
+  pub gained : GrownByAll shelf.before shelf.after (IsAmong nodes)
+  pub all_held : AllByRecursion shelf.held nodes
   pub counted : to ≡ counted_up from (length nodes)
 
 -- Which nodes a walk fetched, over any nodes whatever: different ones, each of a node's form, and where it is refused
 -- perhaps one more, which may be any.
-abbrev pub Fetches : {A : Type 0} → Result A WalkFault → (List ℕ → Type 0) → (List ℕ → Type 0) → (List ℕ → Type 0) → ℕ → ℕ → Type 0
-Fetches (Ok value) held old new from to =
-    (nodes : List (List ℕ)) × HasFetched held old new from to nodes × AreDifferent nodes × AllByRecursion IsNodeText nodes
-Fetches (Err fault) held old new from to =
-    (nodes last : List (List ℕ)) × HasFetched held old new from to (nodes ++ last) × AreDifferent nodes × AllByRecursion IsNodeText nodes × (length last ≤ 1)
+abbrev pub Fetches : {A : Type 0} → Result A WalkFault → ShelfUse → ℕ → ℕ → Type 0
+Fetches (Ok value) shelf from to =
+    (nodes : List (List ℕ)) × HasFetched shelf from to nodes × AreDifferent nodes × AllByRecursion IsNodeText nodes
+Fetches (Err fault) shelf from to =
+    (nodes last : List (List ℕ)) × HasFetched shelf from to (nodes ++ last) × AreDifferent nodes × AllByRecursion IsNodeText nodes × (length last ≤ 1)
 
 -- what a refusal of a walk says of the shelf
 abbrev pub cause_of : WalkFault → Cause

@@ -1,11 +1,7 @@
 pub mod Choices
-pub mod Counts
-pub mod Descents
 pub mod Fetches
-pub mod Outcomes
-pub mod Pendings
 pub mod Ranges
-pub mod Reaching
 pub mod Refusals
 pub mod Spans
 pub mod Walks
+pub mod internal

@@ -1,5 +1,5 @@
--- Ranges of keys: what stands in one, which spans of a tree meet it, and which it covers (this project's trees,
--- docs/FORMATS.md).
+-- Ranges of keys: what stands in one, which spans of a tree meet it, and which it covers.
+-- Source: this project's trees, docs/FORMATS.md.
 use Rattle.std.specs.Prelude.{◌≡◌, ℕ, List, ◌++◌, ◌⊎◌, Bool, true, Option, Some, None, IfSome, ⊤}
 use Rattle.tree_node.specs.Nodes.{AreBytes}
 use Rattle.tree_node.specs.Order.{IsBelow}
@@ -19,7 +19,7 @@ range_of range = record { lo = range.lo.now; hi = range.hi.now; under = range.un
 abbrev pub IsAtMost : List ℕ → List ℕ → Type 0
 IsAtMost low high = IsBelow low high ⊎ (low ≡ high)
 
--- the whole is the front and some bytes behind it
+-- the whole is the front and some bytes after it
 abbrev pub Begins : List ℕ → List ℕ → Type 0
 Begins front whole = (rest : List ℕ) × (whole ≡ front ++ rest)
 
@@ -41,9 +41,9 @@ Meets range left greatest =
 
 -- the range covers the span, so that a walk that counts leaves its node closed: the span has a left bound that isn't
 -- below lo, and its greatest key stands in the range
-abbrev pub IsExcepted : Range → Option (List ℕ) → List ℕ → Type 0
-IsExcepted range None greatest = ⊥
-IsExcepted range (Some bound) greatest = IsAtMost range.lo bound × IsIn range greatest
+abbrev pub IsCovered : Range → Option (List ℕ) → List ℕ → Type 0
+IsCovered range None greatest = ⊥
+IsCovered range (Some bound) greatest = IsAtMost range.lo bound × IsIn range greatest
 
 -- the outer left bound leaves out no key that the inner one lets in
 abbrev pub IsNoHigher : Option (List ℕ) → Option (List ℕ) → Type 0

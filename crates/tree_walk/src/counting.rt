@@ -7,10 +7,11 @@ ghost use Rattle.tree_node.specs.Nodes.{AreRisingFrom, Binding, Link, Node, grea
 ghost use Rattle.tree_node.specs.Shelves.{SameNodes};
 ghost use Rattle.tree_node.specs.Trees.{Shape, levels};
 ghost use Rattle.tree_walk.specs.Choices.{AreThose, IsCount};
-ghost use Rattle.tree_walk.specs.Counts.{IsCountAt, IsCoveredChild, IsOpenChild, IsOpenIn, IsOpened, capped, sum_stated};
+ghost use Rattle.tree_walk.specs.internal.Counts.{IsCountAt, IsCoveredChild, IsOpenChild, IsOpenIn, IsOpened, capped, sum_stated};
 ghost use Rattle.tree_walk.specs.Fetches.{Fetches, cause_of, counted_up};
-ghost use Rattle.tree_walk.specs.Outcomes.{Outcome};
-ghost use Rattle.tree_walk.specs.Pendings.{AreInOrder, AreStated, FetchesBelow, FetchesLevel, IsOneOf, children_of_all, children_placed, entries_of_all, spots_of};
+ghost use Rattle.tree_node.specs.Outcomes.{Outcome};
+ghost use Rattle.tree_walk.specs.internal.Pendings.{AreInOrder, AreStated, FetchesBelow, FetchesLevel, IsOneOf, entries_of_all, spots_of};
+ghost use Rattle.tree_walk.specs.Spans.{children_of_all, children_placed};
 ghost use Rattle.tree_walk.specs.Ranges.{IsIn, range_of};
 ghost use Rattle.tree_walk.specs.Walks.{IsEntryIn, IsMetCounted, IsTopOf};
 
@@ -44,7 +45,8 @@ pub fn count<'a, S: Shelf<'a>>(
     ensures grows { (bytes : List ℕ) → S.used shelf.old bytes → S.used shelf.new bytes }
     // One call was counted, and the fetched nodes, which differ.
     ensures calls { tally.new.calls ≡ counted_up tally.old.calls 1 }
-    ensures fetches { Fetches result (S.holds shelf.new) (S.used shelf.old) (S.used shelf.new)
+    ensures fetches { Fetches result
+        (record { held = S.holds shelf.new; before = S.used shelf.old; after = S.used shelf.new })
         tally.old.fetches tally.new.fetches }
     // Under the top of a tree: the number of the entries in the range, from exactly the nodes that meet it and that it
     // doesn't cover.
@@ -52,7 +54,7 @@ pub fn count<'a, S: Shelf<'a>>(
         → IsTopOf shape (number_of tree) entries top.now.0
         → Outcome cause_of (λ number. IsCount (IsEntryIn (range_of range.now)) entries number)
         (IsMetCounted (range_of range.now) (levels shape (number_of tree) entries))
-        (S.holds shelf.new) (S.used shelf.old) (S.used shelf.new) result }
+        (record { held = S.holds shelf.new; before = S.used shelf.old; after = S.used shelf.new }) result }
 {
     tally.count_call();
     match open(shelf, top, tree, tally)? {
@@ -85,12 +87,14 @@ fn count_down<'a, S: Shelf<'a>>(
     ensures calls { tally.new.calls ≡ tally.old.calls }
     ensures stays { SameNodes (S.holds shelf.old) (S.holds shelf.new) }
     ensures grows { (bytes : List ℕ) → S.used shelf.old bytes → S.used shelf.new bytes }
-    ensures fetches { FetchesBelow (suc level) result (S.holds shelf.new) (S.used shelf.old) (S.used shelf.new) tally.old.fetches tally.new.fetches }
+    ensures fetches { FetchesBelow (suc level) result
+        (record { held = S.holds shelf.new; before = S.used shelf.old; after = S.used shelf.new })
+        tally.old.fetches tally.new.fetches }
     ensures answer { (shape : Shape) (entries : List Binding)
         → IsOpened shape (number_of tree) entries (range_of range.now) level (spots_of pending.entry.items)
         → Outcome cause_of (λ number. (n : ℕ) × IsCountAt (range_of range.now) (levels shape (number_of tree) entries) level n × (number ≡ capped n))
         (IsOpenIn (range_of range.now) (levels shape (number_of tree) entries) 0 level)
-        (S.holds shelf.new) (S.used shelf.old) (S.used shelf.new) result }
+        (record { held = S.holds shelf.new; before = S.used shelf.old; after = S.used shelf.new }) result }
 {
     let mut pending = pending;
     let mut level = level;
@@ -130,12 +134,15 @@ fn descend_open<'a, S: Shelf<'a>>(
     ensures calls { tally.new.calls ≡ tally.old.calls }
     ensures stays { SameNodes (S.holds shelf.old) (S.holds shelf.new) }
     ensures grows { (bytes : List ℕ) → S.used shelf.old bytes → S.used shelf.new bytes }
-    ensures fetches { FetchesLevel level result (S.holds shelf.new) (S.used shelf.old) (S.used shelf.new) tally.old.fetches tally.new.fetches }
+    ensures fetches { FetchesLevel level result
+        (record { held = S.holds shelf.new; before = S.used shelf.old; after = S.used shelf.new })
+        tally.old.fetches tally.new.fetches }
     ensures order { IfOk result (λ found. AreInOrder None (spots_of found.0.items)) }
     ensures answer { (spots : List (Option (List ℕ) × Node)) → AreStated (number_of tree) level (spots_of nodes.now) spots
         → Outcome cause_of (λ found. AreThose (IsOpenChild (range_of range.now)) (children_of_all spots) (spots_of found.0.items)
         × ((covered : List (Option (List ℕ) × Link)) × AreThose (IsCoveredChild (range_of range.now)) (children_of_all spots) covered × (found.1 ≡ capped (sum_stated covered))))
-        (IsOneOf spots) (S.holds shelf.new) (S.used shelf.old) (S.used shelf.new) result }
+        (IsOneOf spots)
+        (record { held = S.holds shelf.new; before = S.used shelf.old; after = S.used shelf.new }) result }
 {
     let mut pending: Vec<Pending<'a>> = Vec::new(alloc);
     let mut counted: u64 = 0;
@@ -159,10 +166,13 @@ fn harvest_count<'a, S: Shelf<'a>>(
     ensures calls { tally.new.calls ≡ tally.old.calls }
     ensures stays { SameNodes (S.holds shelf.old) (S.holds shelf.new) }
     ensures grows { (bytes : List ℕ) → S.used shelf.old bytes → S.used shelf.new bytes }
-    ensures fetches { FetchesLevel 0 result (S.holds shelf.new) (S.used shelf.old) (S.used shelf.new) tally.old.fetches tally.new.fetches }
+    ensures fetches { FetchesLevel 0 result
+        (record { held = S.holds shelf.new; before = S.used shelf.old; after = S.used shelf.new })
+        tally.old.fetches tally.new.fetches }
     ensures answer { (spots : List (Option (List ℕ) × Node)) → AreStated (number_of tree) 0 (spots_of nodes.now) spots
         → Outcome cause_of (λ number. (those : List Binding) × AreThose (IsEntryIn (range_of range.now)) (entries_of_all spots) those × (number ≡ capped (length those)))
-        (IsOneOf spots) (S.holds shelf.new) (S.used shelf.old) (S.used shelf.new) result }
+        (IsOneOf spots)
+        (record { held = S.holds shelf.new; before = S.used shelf.old; after = S.used shelf.new }) result }
 {
     let mut counted: u64 = 0;
     for node in nodes {

@@ -4,8 +4,8 @@ ghost use Rattle.std.specs.Option.{option_copied};
 ghost use Rattle.std.specs.Prelude.{◌↔◌, IfSome, IsTrue};
 ghost use Rattle.tree_node.specs.Nodes.{AreBytes};
 ghost use Rattle.tree_node.specs.Order.{IsBelow};
-ghost use Rattle.tree_walk.specs.Reaching.{GoesOnAbove, Reaches, ReachesAbove};
-ghost use Rattle.tree_walk.specs.Ranges.{Begins, IsAboveLeft, IsAtMost, IsExcepted, IsIn, Meets, range_of};
+ghost use Rattle.tree_walk.specs.internal.Reaching.{GoesOnAbove, Reaches, ReachesAbove};
+ghost use Rattle.tree_walk.specs.Ranges.{Begins, IsAboveLeft, IsAtMost, IsCovered, IsIn, Meets, range_of};
 
 use tree_node::is_below;
 
@@ -56,7 +56,7 @@ impl<'a> KeyRange<'a> {
     /// bound is opened, since a key below `lo` could stand there.
     pub fn covers(&self, left: Option<&[u8]>, greatest: &[u8]) -> bool
         ensures { IsTrue result
-            ↔ IsExcepted (range_of self.now) (option_copied left.entry) greatest.now }
+            ↔ IsCovered (range_of self.now) (option_copied left.entry) greatest.now }
     {
         match left {
             Some(left) => is_at_most(self.lo, left) && self.contains(greatest),

@@ -4,9 +4,8 @@ ghost use Rattle.std.specs.List.{AllByRecursion};
 ghost use Rattle.std.specs.Prelude.{◌≡◌, ◌<◌, ◌↔◌, None, ℕ, suc, List, Option, length, map, slice_index_or};
 ghost use Rattle.tree_node.specs.Nodes.{AreBytes, Binding, Node};
 ghost use Rattle.tree_node.specs.Trees.{HasTree, Shape, greatest_of, left_at, level_at, levels, link_to, no_node};
-ghost use Rattle.tree_walk.specs.Pendings.{children_of_all, children_placed, placed};
-ghost use Rattle.tree_walk.specs.Ranges.{IsAboveLeft, IsAtMost, IsExcepted, IsIn, IsNoHigher, Meets, Range};
-ghost use Rattle.tree_walk.specs.Spans.{HasChildrenWithin};
+ghost use Rattle.tree_walk.specs.Spans.{children_of_all, children_placed, placed, HasChildrenWithin};
+ghost use Rattle.tree_walk.specs.Ranges.{IsAboveLeft, IsAtMost, IsCovered, IsIn, IsNoHigher, Meets, Range};
 
 /// The law of empty ranges: where any key stands in a range, its `lo` does. So a range that doesn't
 /// contain its `lo` is empty.
@@ -26,7 +25,7 @@ pub fn left_edge_law()
 /// of entries below it is the number of those in the range.
 pub fn covered_law()
     ensures { (range : Range) (left : Option (List ℕ)) (greatest key : List ℕ)
-        → IsExcepted range left greatest → IsAboveLeft left key → IsAtMost key greatest
+        → IsCovered range left greatest → IsAboveLeft left key → IsAtMost key greatest
         → IsIn range key }
 {}
 
@@ -35,8 +34,8 @@ pub fn covered_law()
 /// node that a count leaves closed isn't needed either.
 pub fn inside_law()
     ensures { (range : Range) (left outer : Option (List ℕ)) (greatest last : List ℕ)
-        → IsExcepted range outer last → IsNoHigher outer left → IsAboveLeft left greatest
-        → IsAtMost greatest last → IsExcepted range left greatest }
+        → IsCovered range outer last → IsNoHigher outer left → IsAboveLeft left greatest
+        → IsAtMost greatest last → IsCovered range left greatest }
 {}
 
 /// The law of wider nodes: where a node meets a range, so does each whose left bound isn't higher and

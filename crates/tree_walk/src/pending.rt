@@ -5,7 +5,8 @@ ghost use Rattle.std.specs.Prelude.{◌≡◌, ◌++◌, ◌↔◌, IsTrue, List
 ghost use Rattle.tree_node.specs.NodeRefs.{binding_of, bindings_of, link_of};
 ghost use Rattle.tree_node.specs.Nodes.{AreRisingFrom, Inner, Leaf, greatests_of};
 ghost use Rattle.tree_walk.specs.Choices.{AreThose};
-ghost use Rattle.tree_walk.specs.Pendings.{Agrees, IsMetChild, children_placed, spot_of, spots_of};
+ghost use Rattle.tree_walk.specs.internal.Pendings.{Agrees, spot_of, spots_of};
+ghost use Rattle.tree_walk.specs.Spans.{IsMetChild, children_placed};
 ghost use Rattle.tree_walk.specs.Ranges.{IsAboveLeft, IsIn, range_of};
 
 use crate::key_range::KeyRange;

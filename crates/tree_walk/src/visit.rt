@@ -6,8 +6,8 @@ ghost use Rattle.tree_node.specs.NodeRefs.{node_read, number_of};
 ghost use Rattle.tree_node.specs.Nodes.{IsNode, Inner, Leaf, Node, spelling, tree_of};
 ghost use Rattle.tree_node.specs.Shelves.{SameNodes};
 ghost use Rattle.tree_walk.specs.Fetches.{cause_of};
-ghost use Rattle.tree_walk.specs.Outcomes.{Outcome};
-ghost use Rattle.tree_walk.specs.Pendings.{Agrees, IsStated, Opens, spot_of};
+ghost use Rattle.tree_node.specs.Outcomes.{Outcome};
+ghost use Rattle.tree_walk.specs.internal.Pendings.{Agrees, IsStated, Opens, spot_of};
 
 use crate::fault::WalkFault;
 use crate::pending::Pending;
@@ -24,11 +24,13 @@ pub(crate) fn open<'a, S: Shelf<'a>>(
     ensures calls { tally.new.calls ≡ tally.old.calls }
     ensures stays { SameNodes (S.holds shelf.old) (S.holds shelf.new) }
     ensures grows { (bytes : List ℕ) → S.used shelf.old bytes → S.used shelf.new bytes }
-    ensures opens { Opens node_read result (S.holds shelf.new) (S.used shelf.old) (S.used shelf.new) tally.old.fetches tally.new.fetches }
+    ensures opens { Opens node_read result
+        (record { held = S.holds shelf.new; before = S.used shelf.old; after = S.used shelf.new })
+        tally.old.fetches tally.new.fetches }
     ensures tree { IfOk result (λ node. tree_of (node_read node) ≡ number_of tree) }
     ensures answer { (node : Node) → IsNode node → tree_of node ≡ number_of tree → key.now.0 ≡ digest (spelling node)
         → Outcome cause_of (λ found. node_read found ≡ node) (λ bytes. bytes ≡ spelling node)
-        (S.holds shelf.new) (S.used shelf.old) (S.used shelf.new) result }
+        (record { held = S.holds shelf.new; before = S.used shelf.old; after = S.used shelf.new }) result }
 {
     let bytes = shelf.fetch(key)?;
     tally.count_fetch();
@@ -51,11 +53,13 @@ pub(crate) fn open_inner<'a, S: Shelf<'a>>(
     ensures calls { tally.new.calls ≡ tally.old.calls }
     ensures stays { SameNodes (S.holds shelf.old) (S.holds shelf.new) }
     ensures grows { (bytes : List ℕ) → S.used shelf.old bytes → S.used shelf.new bytes }
-    ensures opens { Opens (Inner (number_of tree) level) result (S.holds shelf.new) (S.used shelf.old) (S.used shelf.new) tally.old.fetches tally.new.fetches }
+    ensures opens { Opens (Inner (number_of tree) level) result
+        (record { held = S.holds shelf.new; before = S.used shelf.old; after = S.used shelf.new })
+        tally.old.fetches tally.new.fetches }
     ensures agrees { IfOk result (λ children. Agrees (spot_of pending.now) (Inner (number_of tree) level children)) }
     ensures answer { (node : Node) → IsStated (number_of tree) level (spot_of pending.now) node
         → Outcome cause_of (λ children. Inner (number_of tree) level children ≡ node) (λ bytes. bytes ≡ spelling node)
-        (S.holds shelf.new) (S.used shelf.old) (S.used shelf.new) result }
+        (record { held = S.holds shelf.new; before = S.used shelf.old; after = S.used shelf.new }) result }
 {
     match open(shelf, &pending.child.digest, tree, tally)? {
         NodeRef::Inner {
@@ -85,11 +89,13 @@ pub(crate) fn open_leaf<'a, S: Shelf<'a>>(
     ensures calls { tally.new.calls ≡ tally.old.calls }
     ensures stays { SameNodes (S.holds shelf.old) (S.holds shelf.new) }
     ensures grows { (bytes : List ℕ) → S.used shelf.old bytes → S.used shelf.new bytes }
-    ensures opens { Opens (Leaf (number_of tree)) result (S.holds shelf.new) (S.used shelf.old) (S.used shelf.new) tally.old.fetches tally.new.fetches }
+    ensures opens { Opens (Leaf (number_of tree)) result
+        (record { held = S.holds shelf.new; before = S.used shelf.old; after = S.used shelf.new })
+        tally.old.fetches tally.new.fetches }
     ensures agrees { IfOk result (λ entries. Agrees (spot_of pending.now) (Leaf (number_of tree) entries)) }
     ensures answer { (node : Node) → IsStated (number_of tree) 0 (spot_of pending.now) node
         → Outcome cause_of (λ entries. Leaf (number_of tree) entries ≡ node) (λ bytes. bytes ≡ spelling node)
-        (S.holds shelf.new) (S.used shelf.old) (S.used shelf.new) result }
+        (record { held = S.holds shelf.new; before = S.used shelf.old; after = S.used shelf.new }) result }
 {
     match open(shelf, &pending.child.digest, tree, tally)? {
         NodeRef::Leaf { tree: _, entries } => {

@@ -8,11 +8,12 @@ ghost use Rattle.tree_node.specs.Shelves.{SameNodes};
 ghost use Rattle.tree_node.specs.Trees.{Shape, levels};
 ghost use Rattle.tree_walk.specs.Choices.{AreThose};
 ghost use Rattle.tree_walk.specs.Fetches.{Fetches, cause_of, counted_up};
-ghost use Rattle.tree_walk.specs.Outcomes.{Outcome};
-ghost use Rattle.tree_walk.specs.Pendings.{AreInOrder, AreStated, FetchesBelow, FetchesLevel, IsMetChild, IsOneOf, children_of_all, entries_of_all, spots_of};
+ghost use Rattle.tree_node.specs.Outcomes.{Outcome};
+ghost use Rattle.tree_walk.specs.internal.Pendings.{AreInOrder, AreStated, FetchesBelow, FetchesLevel, IsOneOf, entries_of_all, spots_of};
+ghost use Rattle.tree_walk.specs.Spans.{IsMetChild, children_of_all};
 ghost use Rattle.tree_walk.specs.Ranges.{IsIn, range_of};
 ghost use Rattle.tree_walk.specs.Walks.{IsEntryIn, IsMet, IsTopOf};
-ghost use Rattle.tree_walk.specs.Descents.{IsMetIn, IsReached};
+ghost use Rattle.tree_walk.specs.internal.Descents.{IsMetIn, IsReached};
 
 use crate::fault::WalkFault;
 use crate::key_range::KeyRange;
@@ -50,14 +51,15 @@ pub fn range<'a, S: Shelf<'a>>(
     ensures grows { (bytes : List ℕ) → S.used shelf.old bytes → S.used shelf.new bytes }
     // One call was counted, and the fetched nodes, which differ.
     ensures calls { tally.new.calls ≡ counted_up tally.old.calls 1 }
-    ensures fetches { Fetches result (S.holds shelf.new) (S.used shelf.old) (S.used shelf.new)
+    ensures fetches { Fetches result
+        (record { held = S.holds shelf.new; before = S.used shelf.old; after = S.used shelf.new })
         tally.old.fetches tally.new.fetches }
     // Under the top of a tree: exactly the entries in the range, from exactly the nodes that meet it.
     ensures answer { (shape : Shape) (entries : List Binding)
         → IsTopOf shape (number_of tree) entries top.now.0
         → Outcome cause_of (λ found. AreThose (IsEntryIn (range_of range.now)) entries (bindings_of found.items))
         (IsMet (range_of range.now) (levels shape (number_of tree) entries))
-        (S.holds shelf.new) (S.used shelf.old) (S.used shelf.new) result }
+        (record { held = S.holds shelf.new; before = S.used shelf.old; after = S.used shelf.new }) result }
 {
     tally.count_call();
     match open(shelf, top, tree, tally)? {
@@ -93,12 +95,14 @@ fn walk_down<'a, S: Shelf<'a>>(
     ensures calls { tally.new.calls ≡ tally.old.calls }
     ensures stays { SameNodes (S.holds shelf.old) (S.holds shelf.new) }
     ensures grows { (bytes : List ℕ) → S.used shelf.old bytes → S.used shelf.new bytes }
-    ensures fetches { FetchesBelow (suc level) result (S.holds shelf.new) (S.used shelf.old) (S.used shelf.new) tally.old.fetches tally.new.fetches }
+    ensures fetches { FetchesBelow (suc level) result
+        (record { held = S.holds shelf.new; before = S.used shelf.old; after = S.used shelf.new })
+        tally.old.fetches tally.new.fetches }
     ensures answer { (shape : Shape) (entries : List Binding)
         → IsReached shape (number_of tree) entries (range_of range.now) level (spots_of pending.entry.items)
         → Outcome cause_of (λ found. AreThose (IsEntryIn (range_of range.now)) entries (bindings_of found.items))
         (IsMetIn (range_of range.now) (levels shape (number_of tree) entries) 0 level)
-        (S.holds shelf.new) (S.used shelf.old) (S.used shelf.new) result }
+        (record { held = S.holds shelf.new; before = S.used shelf.old; after = S.used shelf.new }) result }
 {
     let mut pending = pending;
     let mut level = level;
@@ -125,11 +129,14 @@ fn descend<'a, S: Shelf<'a>>(
     ensures calls { tally.new.calls ≡ tally.old.calls }
     ensures stays { SameNodes (S.holds shelf.old) (S.holds shelf.new) }
     ensures grows { (bytes : List ℕ) → S.used shelf.old bytes → S.used shelf.new bytes }
-    ensures fetches { FetchesLevel level result (S.holds shelf.new) (S.used shelf.old) (S.used shelf.new) tally.old.fetches tally.new.fetches }
+    ensures fetches { FetchesLevel level result
+        (record { held = S.holds shelf.new; before = S.used shelf.old; after = S.used shelf.new })
+        tally.old.fetches tally.new.fetches }
     ensures order { IfOk result (λ pending. AreInOrder None (spots_of pending.items)) }
     ensures answer { (spots : List (Option (List ℕ) × Node)) → AreStated (number_of tree) level (spots_of nodes.now) spots
         → Outcome cause_of (λ pending. AreThose (IsMetChild (range_of range.now)) (children_of_all spots) (spots_of pending.items))
-        (IsOneOf spots) (S.holds shelf.new) (S.used shelf.old) (S.used shelf.new) result }
+        (IsOneOf spots)
+        (record { held = S.holds shelf.new; before = S.used shelf.old; after = S.used shelf.new }) result }
 {
     let mut pending: Vec<Pending<'a>> = Vec::new(alloc);
     for node in nodes {
@@ -152,10 +159,13 @@ fn harvest<'a, S: Shelf<'a>>(
     ensures calls { tally.new.calls ≡ tally.old.calls }
     ensures stays { SameNodes (S.holds shelf.old) (S.holds shelf.new) }
     ensures grows { (bytes : List ℕ) → S.used shelf.old bytes → S.used shelf.new bytes }
-    ensures fetches { FetchesLevel 0 result (S.holds shelf.new) (S.used shelf.old) (S.used shelf.new) tally.old.fetches tally.new.fetches }
+    ensures fetches { FetchesLevel 0 result
+        (record { held = S.holds shelf.new; before = S.used shelf.old; after = S.used shelf.new })
+        tally.old.fetches tally.new.fetches }
     ensures answer { (spots : List (Option (List ℕ) × Node)) → AreStated (number_of tree) 0 (spots_of nodes.now) spots
         → Outcome cause_of (λ found. AreThose (IsEntryIn (range_of range.now)) (entries_of_all spots) (bindings_of found.items))
-        (IsOneOf spots) (S.holds shelf.new) (S.used shelf.old) (S.used shelf.new) result }
+        (IsOneOf spots)
+        (record { held = S.holds shelf.new; before = S.used shelf.old; after = S.used shelf.new }) result }
 {
     let mut found: Vec<Item<'a>> = Vec::new(alloc);
     for node in nodes {

@@ -3,11 +3,12 @@ use Rattle.std.proofs.lemmas.List.{length-map}
 use Rattle.tree_node.specs.Nodes.{Inner}
 use Rattle.tree_node.specs.NodeRefs.{bindings_of, link_of, links_of, number_of}
 use Rattle.tree_node.specs.Stocks.{HasNode}
-use Rattle.tree_node.specs.Trees.{GrownByAll, ends_by, is_marked_link, levels, link_to, one_at_least, pieces}
+use Rattle.tree_node.specs.Outcomes.{GrownByAll}
+use Rattle.tree_node.specs.Trees.{ends_by, is_marked_link, levels, link_to, one_at_least, pieces}
 use Rattle.tree_node.specs.declared.child.Child.{Child}
-use Rattle.tree_node.proofs.PieceLemmas.{join}
+use Rattle.tree_node.proofs.shared.PieceLemmas.{join}
 use Rattle.tree_build.specs.Shapes.{shape_of}
-use Rattle.tree_build.specs.Building.{IsOneOf, PutAll}
+use Rattle.tree_build.specs.internal.Building.{IsOneOf, PutAll}
 use Rattle.tree_build.proofs.LevelLemmas.{err_is}
 use Rattle.tree_build.proofs.StockLemmas.{put_whole}
 use Rattle.tree_build.proofs.BuildLemmas.{only_nodes, clashing_nodes, gained_nodes, rising_first, rising_none, rising_stopped, rising_next, rising_fewer, rising_gained, rising_top}

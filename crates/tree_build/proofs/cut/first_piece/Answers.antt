@@ -2,7 +2,7 @@ use Rattle.std.proofs.Common.{◌≡◌, ◌≢◌, ◌+◌, length, get_or, tak
 use Rattle.std.proofs.Math.Seq.{take-length, drop-length}
 use Rattle.tree_build.specs.Shapes.{shape_of}
 use Rattle.tree_node.specs.Trees.{ends_by, pieces_from}
-use Rattle.tree_node.proofs.PieceLaws.{goes_on}
+use Rattle.tree_node.proofs.shared.PieceLaws.{goes_on}
 use Rattle.tree_build.proofs.CutLemmas.{one_more, ends_here, ends_with_list}
 use Rattle.tree_build.proofs.cut.first_piece.Goals as goal
 

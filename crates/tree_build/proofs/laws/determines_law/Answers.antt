@@ -1,5 +1,5 @@
 use Rattle.tree_node.specs.Trees.{levels}
-use Rattle.tree_node.proofs.TreeSame.{one_list}
+use Rattle.tree_node.proofs.shared.TreeSame.{one_list}
 use Rattle.tree_build.proofs.laws.determines_law.Goals as goal
 
 pub returns : goal.returns

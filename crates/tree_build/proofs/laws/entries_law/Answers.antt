@@ -1,6 +1,6 @@
 use Rattle.tree_node.specs.Trees.{levels}
-use Rattle.tree_node.proofs.TreeLaws.{leaves_joined}
-use Rattle.tree_node.proofs.TreeParts.{joined_at}
+use Rattle.tree_node.proofs.shared.TreeLaws.{leaves_joined}
+use Rattle.tree_node.proofs.shared.TreeParts.{joined_at}
 use Rattle.tree_build.proofs.laws.entries_law.Goals as goal
 
 pub returns-clause-leaves : goal.returns-clause-leaves

@@ -2,8 +2,8 @@ use Rattle.std.proofs.Common.{◌≡◌, ℕ, suc, ◌+◌, ◌*◌, ◌<◌, �
 use Rattle.std.specs.List.{flat_map}
 use Rattle.tree_node.specs.Nodes.{Binding, Node}
 use Rattle.tree_node.specs.Trees.{Shape, leaves, level_at, levels, link_to, links_in}
-use Rattle.tree_node.proofs.TreeLemmas.{level_half, tree_levels}
-use Rattle.tree_node.proofs.TreeLaws.{above, last_has_one, over_joined, pair_at, whole, whole_few}
+use Rattle.tree_node.proofs.shared.TreeLemmas.{level_half, tree_levels}
+use Rattle.tree_node.proofs.shared.TreeLaws.{above, last_has_one, over_joined, pair_at, whole, whole_few}
 use Rattle.tree_build.proofs.laws.levels_law.Goals as goal
 
 -- at most half as many

@@ -3,9 +3,9 @@ use Rattle.std.specs.List.{flat_map}
 use Rattle.std.proofs.lemmas.List.Elements.{All-from_recursion}
 use Rattle.tree_node.specs.Nodes.{Binding, Link, Node, IsNode, level_of, tree_of}
 use Rattle.tree_node.specs.Trees.{entries_at, level_at, levels, links_in, no_node}
-use Rattle.tree_node.proofs.TreeKeys.{greatest_below}
-use Rattle.tree_node.proofs.TreeLaws.{nodes_at, whole}
-use Rattle.tree_node.proofs.TreeParts.{count_below, kind_at, stated_at}
+use Rattle.tree_node.proofs.shared.TreeKeys.{greatest_below}
+use Rattle.tree_node.proofs.shared.TreeLaws.{nodes_at, whole}
+use Rattle.tree_node.proofs.shared.TreeParts.{count_below, kind_at, stated_at}
 use Rattle.tree_build.proofs.laws.nodes_law.Goals as goal
 
 pub returns-clause-nodes : goal.returns-clause-nodes

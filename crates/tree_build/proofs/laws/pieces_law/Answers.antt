@@ -2,9 +2,9 @@ use Rattle.std.proofs.Common.{◌≢◌, ◌≤◌, List, [], ◌∷◌, length,
 use Rattle.std.proofs.lemmas.List.Elements.{All-from_recursion}
 use Rattle.tree_node.specs.Nodes.{Binding, Node}
 use Rattle.tree_node.specs.Trees.{item_count, leaves, level_at, levels, no_node}
-use Rattle.tree_node.proofs.TreeLemmas.{levels_end}
-use Rattle.tree_node.proofs.TreeLaws.{whole}
-use Rattle.tree_node.proofs.TreeParts.{HasItems, items_at, items_most}
+use Rattle.tree_node.proofs.shared.TreeLemmas.{levels_end}
+use Rattle.tree_node.proofs.shared.TreeLaws.{whole}
+use Rattle.tree_node.proofs.shared.TreeParts.{HasItems, items_at, items_most}
 use Rattle.tree_build.proofs.laws.pieces_law.Goals as goal
 
 -- a list that isn't empty has a length

@@ -2,9 +2,9 @@ use Rattle.std.proofs.Common.{◌≡◌, ◌⊎◌, ℕ, List, Result, Ok, Err, 
 use Rattle.tree_node.specs.declared.fault.NodeFault.{NodeFault}
 use Rattle.tree_node.specs.Faults.{IsFault}
 use Rattle.tree_node.specs.Nodes.{AreBytes, Node, Spells, spelling}
-use Rattle.tree_node.specs.Reading.{node_at}
-use Rattle.tree_node.proofs.FieldLemmas.{ok_is}
-use Rattle.tree_node.proofs.NodeLaws.{node_takes, node_again}
+use Rattle.tree_node.specs.internal.Reading.{node_at}
+use Rattle.tree_node.proofs.shared.FieldLemmas.{ok_is}
+use Rattle.tree_node.proofs.shared.NodeLaws.{node_takes, node_again}
 use Rattle.tree_node.proofs.NodeFaults.{fault_found, fault_met}
 use Rattle.tree_node.proofs.spelling.spelling_law.Goals as goal
 

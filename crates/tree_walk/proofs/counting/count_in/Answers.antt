@@ -4,7 +4,7 @@ use Rattle.tree_node.specs.NodeRefs.{binding_of}
 use Rattle.tree_node.specs.Nodes.{AreRisingFrom, Binding, keys_of}
 use Rattle.tree_node.specs.Skips.{from_key, key_before}
 use Rattle.tree_walk.specs.Ranges.{IsAtMost, range_of}
-use Rattle.tree_walk.specs.Reaching.{Reaches}
+use Rattle.tree_walk.specs.internal.Reaching.{Reaches}
 use Rattle.tree_walk.specs.Walks.{IsEntryIn}
 use Rattle.tree_walk.proofs.ChoiceLemmas.{ArePicked, fails_not, picked_all, picked_one, picked_stop}
 use Rattle.tree_walk.proofs.CountLemmas.{one_more}

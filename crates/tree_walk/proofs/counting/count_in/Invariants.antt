@@ -1,7 +1,7 @@
 use Rattle.std.proofs.Common.{◌≡◌, List, None, length}
 use Rattle.std.specs.List.{AllByRecursion}
 use Rattle.tree_node.specs.Nodes.{AreRisingFrom, keys_of}
-use Rattle.tree_walk.specs.Counts.{capped}
+use Rattle.tree_walk.specs.internal.Counts.{capped}
 use Rattle.tree_walk.specs.Ranges.{IsAtMost, range_of}
 use Rattle.tree_walk.specs.Walks.{IsEntryIn}
 use Rattle.tree_walk.proofs.ChoiceLemmas.{ArePicked}

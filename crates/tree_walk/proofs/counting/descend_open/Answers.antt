@@ -5,10 +5,11 @@ use Rattle.tree_node.specs.NodeRefs.{number_of}
 use Rattle.tree_node.specs.Nodes.{Inner, Link, Node}
 use Rattle.tree_node.specs.Trees.{links_in}
 use Rattle.tree_walk.specs.Choices.{AreThose}
-use Rattle.tree_walk.specs.Counts.{IsCoveredChild, IsOpenChild, capped, sum_stated}
+use Rattle.tree_walk.specs.internal.Counts.{IsCoveredChild, IsOpenChild, capped, sum_stated}
 use Rattle.tree_walk.specs.Fetches.{cause_of}
-use Rattle.tree_walk.specs.Outcomes.{Outcome}
-use Rattle.tree_walk.specs.Pendings.{IsOneOf, children_of_all, children_placed, spots_of}
+use Rattle.tree_node.specs.Outcomes.{Outcome}
+use Rattle.tree_walk.specs.internal.Pendings.{IsOneOf, spots_of}
+use Rattle.tree_walk.specs.Spans.{children_of_all, children_placed}
 use Rattle.tree_walk.specs.Ranges.{range_of}
 use Rattle.tree_walk.specs.declared.fault.WalkFault.{WalkFault}
 use Rattle.tree_walk.specs.declared.fault.WalkFault.TheVariants.{Memory}
@@ -38,15 +39,17 @@ returns-in_err-children-clause-answer g c = λ all stated.
     let before = subst (λ (rest : List (Option (List ℕ) × Link)). HonestSoFar items has (number_of c.args.tree) c.args.level spots rest found (g.S.Shelf.used c.args.shelf.now) (g.S.Shelf.used c.loop-node.shelf))
     (rest_is c.args.nodes.now c.loop-node.node-index _ c.loop-node-test.true) c.loop-node.invariant.honest in
     subst (λ (r : Result (Vec Pending × ℕ) WalkFault). Outcome cause_of (λ (found : Vec Pending × ℕ). AreThose has (children_of_all all) (spots_of found.0.items)
-    × ((covered : List (Option (List ℕ) × Link)) × AreThose (IsCoveredChild (range_of c.args.range.now)) (children_of_all all) covered × (found.1 ≡ capped (sum_stated covered)))) (IsOneOf all) (g.S.Shelf.holds c.open_inner.new.shelf) (g.S.Shelf.used c.args.shelf.now) used r)
+    × ((covered : List (Option (List ℕ) × Link)) × AreThose (IsCoveredChild (range_of c.args.range.now)) (children_of_all all) covered × (found.1 ≡ capped (sum_stated covered)))) (IsOneOf all) (record { held = g.S.Shelf.holds c.open_inner.new.shelf; before = g.S.Shelf.used c.args.shelf.now; after = used }) r)
     (sym (err_is c.from_residual.result c.in_err-children.field-0.0 c.from_residual.ensures.1))
-    (honest_stop items has (number_of c.args.tree) c.args.level (cause_of c.in_err-children.field-0.0) (g.S.Shelf.holds c.open_inner.new.shelf) spots (spots_of (drop (c.loop-node.node-index + 1) c.args.nodes.now)) _ found
-    (g.S.Shelf.used c.args.shelf.now) (g.S.Shelf.used c.loop-node.shelf) used before c.open_inner.ensures.grows c.in_err-children.ensures.answer all stated)
+    (record {
+      ends = honest_stop items has (number_of c.args.tree) c.args.level (cause_of c.in_err-children.field-0.0) (g.S.Shelf.holds c.open_inner.new.shelf) spots (spots_of (drop (c.loop-node.node-index + 1) c.args.nodes.now)) _ found
+          (g.S.Shelf.used c.args.shelf.now) (g.S.Shelf.used c.loop-node.shelf) used before c.open_inner.ensures.grows (λ node is. (c.in_err-children.ensures.answer node is).ends) all stated;
+    })
 
 pub returns-in_err-covered-clause-fetches : goal.returns-in_err-covered-clause-fetches
 returns-in_err-covered-clause-fetches g c =
     let so = c.loop-node.invariant.level in
-    let before = subst (λ (rest : List (Option (List ℕ) × Link)). FetchingLevel c.args.level so.0 (g.S.Shelf.holds c.loop-node.shelf) (g.S.Shelf.used c.args.shelf.now) (g.S.Shelf.used c.loop-node.shelf) c.args.tally.now.fetches c.loop-node.tally.fetches rest)
+    let before = subst (λ (rest : List (Option (List ℕ) × Link)). FetchingLevel c.args.level so.0 (record { held = g.S.Shelf.holds c.loop-node.shelf; before = g.S.Shelf.used c.args.shelf.now; after = g.S.Shelf.used c.loop-node.shelf }) c.args.tally.now.fetches c.loop-node.tally.fetches rest)
     (rest_is c.args.nodes.now c.loop-node.node-index _ c.loop-node-test.true) so.1 in
     let next = level_step c.args.level (g.S.Shelf.used c.args.shelf.now) c.args.tally.now.fetches so.0 (g.S.Shelf.holds c.loop-node.shelf) (g.S.Shelf.holds c.open_inner.new.shelf) (g.S.Shelf.used c.loop-node.shelf) (g.S.Shelf.used c.open_inner.new.shelf)
     c.loop-node.tally.fetches c.open_inner.new.tally.fetches _ (spots_of (drop (c.loop-node.node-index + 1) c.args.nodes.now)) (Inner (number_of c.args.tree) c.args.level c.in_ok-children.children)
@@ -63,7 +66,7 @@ loop-node-preserved g c =
     let found = spots_of c.loop-node.pending.items in
     let so = c.loop-node.invariant.level in
     let node = Inner (number_of c.args.tree) c.args.level c.in_ok-children.children in
-    let before = subst (λ (rest : List (Option (List ℕ) × Link)). FetchingLevel c.args.level so.0 (g.S.Shelf.holds c.loop-node.shelf) (g.S.Shelf.used c.args.shelf.now) (g.S.Shelf.used c.loop-node.shelf) c.args.tally.now.fetches c.loop-node.tally.fetches rest)
+    let before = subst (λ (rest : List (Option (List ℕ) × Link)). FetchingLevel c.args.level so.0 (record { held = g.S.Shelf.holds c.loop-node.shelf; before = g.S.Shelf.used c.args.shelf.now; after = g.S.Shelf.used c.loop-node.shelf }) c.args.tally.now.fetches c.loop-node.tally.fetches rest)
     (rest_is c.args.nodes.now c.loop-node.node-index _ c.loop-node-test.true) so.1 in
     let next = level_step c.args.level (g.S.Shelf.used c.args.shelf.now) c.args.tally.now.fetches so.0 (g.S.Shelf.holds c.loop-node.shelf) (g.S.Shelf.holds c.open_inner.new.shelf) (g.S.Shelf.used c.loop-node.shelf) (g.S.Shelf.used c.open_inner.new.shelf)
     c.loop-node.tally.fetches c.open_inner.new.tally.fetches _ rest node before c.open_inner.ensures.stays c.in_ok-children.ensures.opens refl c.in_ok-children.ensures.agrees.1.0 in
@@ -72,13 +75,13 @@ loop-node-preserved g c =
     let honest_before = subst (λ (rest : List (Option (List ℕ) × Link)). HonestSoFar items has (number_of c.args.tree) c.args.level spots rest found (g.S.Shelf.used c.args.shelf.now) (g.S.Shelf.used c.loop-node.shelf))
     (rest_is c.args.nodes.now c.loop-node.node-index _ c.loop-node-test.true) c.loop-node.invariant.honest in
     let honest = honest_step items has (number_of c.args.tree) c.args.level (Inner (number_of c.args.tree) c.args.level) c.in_ok-children.children spots rest _ found picked.0
-    (g.S.Shelf.used c.args.shelf.now) (g.S.Shelf.used c.loop-node.shelf) (g.S.Shelf.used c.open_inner.new.shelf) honest_before c.open_inner.ensures.grows c.in_ok-children.ensures.answer picked.3 in
+    (g.S.Shelf.used c.args.shelf.now) (g.S.Shelf.used c.loop-node.shelf) (g.S.Shelf.used c.open_inner.new.shelf) honest_before c.open_inner.ensures.grows (λ node is. (c.in_ok-children.ensures.answer node is).ends) picked.3 in
     let covers = IsCoveredChild (range_of c.args.range.now) in
     let counted = c.loop-node.invariant.covered in
     let covered_before = subst (λ (rest : List (Option (List ℕ) × Link)). HonestSoFar items covers (number_of c.args.tree) c.args.level spots rest counted.0 (g.S.Shelf.used c.args.shelf.now) (g.S.Shelf.used c.loop-node.shelf))
     (rest_is c.args.nodes.now c.loop-node.node-index _ c.loop-node-test.true) counted.2 in
     let covered = honest_step items covers (number_of c.args.tree) c.args.level (Inner (number_of c.args.tree) c.args.level) c.in_ok-children.children spots rest _ counted.0 picked.1
-    (g.S.Shelf.used c.args.shelf.now) (g.S.Shelf.used c.loop-node.shelf) (g.S.Shelf.used c.open_inner.new.shelf) covered_before c.open_inner.ensures.grows c.in_ok-children.ensures.answer picked.4 in
+    (g.S.Shelf.used c.args.shelf.now) (g.S.Shelf.used c.loop-node.shelf) (g.S.Shelf.used c.open_inner.new.shelf) covered_before c.open_inner.ensures.grows (λ node is. (c.in_ok-children.ensures.answer node is).ends) picked.4 in
     record {
       calls = c.open_inner.ensures.calls ∙ c.loop-node.invariant.calls;
       stays = same_then _ _ _ c.loop-node.invariant.stays c.open_inner.ensures.stays;
@@ -107,13 +110,15 @@ returns-clause-answer g c = λ all stated.
     let counted = c.loop-node.invariant.covered in
     let so_covered = subst (λ (rest : List Pending). HonestSoFar items covers (number_of c.args.tree) c.args.level spots (spots_of rest) counted.0 (g.S.Shelf.used c.args.shelf.now) (g.S.Shelf.used c.loop-node.shelf))
     (drop_of_length-le c.args.nodes.now c.loop-node-test.false) counted.2 in
-    elim (honest_end items has (number_of c.args.tree) c.args.level spots found (g.S.Shelf.used c.args.shelf.now) (g.S.Shelf.used c.loop-node.shelf) so all stated) [
-      | inl clash ↦ inl clash
-      | inr ends ↦ elim (honest_end items covers (number_of c.args.tree) c.args.level spots counted.0 (g.S.Shelf.used c.args.shelf.now) (g.S.Shelf.used c.loop-node.shelf) so_covered all stated) [
+    record {
+      ends = elim (honest_end items has (number_of c.args.tree) c.args.level spots found (g.S.Shelf.used c.args.shelf.now) (g.S.Shelf.used c.loop-node.shelf) so all stated) [
         | inl clash ↦ inl clash
-        | inr covered ↦ inr ((ends.0, (counted.0, covered.0, counted.1)), ends.1)
-      ]
-    ]
+        | inr ends ↦ elim (honest_end items covers (number_of c.args.tree) c.args.level spots counted.0 (g.S.Shelf.used c.args.shelf.now) (g.S.Shelf.used c.loop-node.shelf) so_covered all stated) [
+          | inl clash ↦ inl clash
+          | inr covered ↦ inr ((ends.0, (counted.0, covered.0, counted.1)), ends.1)
+        ]
+      ];
+    }
 
 pub loop-node-init : goal.loop-node-init
 loop-node-init g c =

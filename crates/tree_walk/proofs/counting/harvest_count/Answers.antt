@@ -4,10 +4,10 @@ use Rattle.tree_node.specs.NodeRefs.{number_of}
 use Rattle.tree_node.specs.Nodes.{Binding, Leaf, Link, Node}
 use Rattle.tree_node.specs.Trees.{entries_in}
 use Rattle.tree_walk.specs.Choices.{AreThose}
-use Rattle.tree_walk.specs.Counts.{capped}
+use Rattle.tree_walk.specs.internal.Counts.{capped}
 use Rattle.tree_walk.specs.Fetches.{cause_of}
-use Rattle.tree_walk.specs.Outcomes.{Outcome}
-use Rattle.tree_walk.specs.Pendings.{IsOneOf, entries_of_all, spots_of}
+use Rattle.tree_node.specs.Outcomes.{Outcome}
+use Rattle.tree_walk.specs.internal.Pendings.{IsOneOf, entries_of_all, spots_of}
 use Rattle.tree_walk.specs.Ranges.{range_of}
 use Rattle.tree_walk.specs.Walks.{IsEntryIn}
 use Rattle.tree_walk.specs.declared.fault.WalkFault.{WalkFault}
@@ -38,10 +38,12 @@ returns-in_err-entries-clause-answer g c = λ all stated.
     let used = g.S.Shelf.used c.open_leaf.new.shelf in
     let before = subst (λ (rest : List (Option (List ℕ) × Link)). HonestSoFar items has (number_of c.args.tree) 0 spots rest found (g.S.Shelf.used c.args.shelf.now) (g.S.Shelf.used c.loop-node.shelf))
     (rest_is c.args.nodes.now c.loop-node.node-index _ c.loop-node-test.true) c.loop-node.invariant.honest.2 in
-    subst (λ (r : Result ℕ WalkFault). Outcome cause_of (λ (number : ℕ). (those : List Binding) × AreThose has (entries_of_all all) those × (number ≡ capped (length those))) (IsOneOf all) (g.S.Shelf.holds c.open_leaf.new.shelf) (g.S.Shelf.used c.args.shelf.now) used r)
+    subst (λ (r : Result ℕ WalkFault). Outcome cause_of (λ (number : ℕ). (those : List Binding) × AreThose has (entries_of_all all) those × (number ≡ capped (length those))) (IsOneOf all) (record { held = g.S.Shelf.holds c.open_leaf.new.shelf; before = g.S.Shelf.used c.args.shelf.now; after = used }) r)
     (sym (err_is c.from_residual.result c.in_err-entries.field-0.0 c.from_residual.ensures.1))
-    (honest_stop items has (number_of c.args.tree) 0 (cause_of c.in_err-entries.field-0.0) (g.S.Shelf.holds c.open_leaf.new.shelf) spots (spots_of (drop (c.loop-node.node-index + 1) c.args.nodes.now)) _ found
-    (g.S.Shelf.used c.args.shelf.now) (g.S.Shelf.used c.loop-node.shelf) used before c.open_leaf.ensures.grows c.in_err-entries.ensures.answer all stated)
+    (record {
+      ends = honest_stop items has (number_of c.args.tree) 0 (cause_of c.in_err-entries.field-0.0) (g.S.Shelf.holds c.open_leaf.new.shelf) spots (spots_of (drop (c.loop-node.node-index + 1) c.args.nodes.now)) _ found
+          (g.S.Shelf.used c.args.shelf.now) (g.S.Shelf.used c.loop-node.shelf) used before c.open_leaf.ensures.grows (λ node is. (c.in_err-entries.ensures.answer node is).ends) all stated;
+    })
 
 pub loop-node-preserved : goal.loop-node-preserved
 loop-node-preserved g c =
@@ -52,7 +54,7 @@ loop-node-preserved g c =
     let found = c.loop-node.invariant.honest.0 in
     let so = c.loop-node.invariant.level in
     let node = Leaf (number_of c.args.tree) c.in_ok-entries.entries in
-    let before = subst (λ (rest : List (Option (List ℕ) × Link)). FetchingLevel 0 so.0 (g.S.Shelf.holds c.loop-node.shelf) (g.S.Shelf.used c.args.shelf.now) (g.S.Shelf.used c.loop-node.shelf) c.args.tally.now.fetches c.loop-node.tally.fetches rest)
+    let before = subst (λ (rest : List (Option (List ℕ) × Link)). FetchingLevel 0 so.0 (record { held = g.S.Shelf.holds c.loop-node.shelf; before = g.S.Shelf.used c.args.shelf.now; after = g.S.Shelf.used c.loop-node.shelf }) c.args.tally.now.fetches c.loop-node.tally.fetches rest)
     (rest_is c.args.nodes.now c.loop-node.node-index _ c.loop-node-test.true) so.1 in
     let next = level_step 0 (g.S.Shelf.used c.args.shelf.now) c.args.tally.now.fetches so.0 (g.S.Shelf.holds c.loop-node.shelf) (g.S.Shelf.holds c.open_leaf.new.shelf) (g.S.Shelf.used c.loop-node.shelf) (g.S.Shelf.used c.open_leaf.new.shelf)
     c.loop-node.tally.fetches c.open_leaf.new.tally.fetches _ rest node before c.open_leaf.ensures.stays c.in_ok-entries.ensures.opens refl c.in_ok-entries.ensures.agrees.1.0 in
@@ -60,7 +62,7 @@ loop-node-preserved g c =
     let honest_before = subst (λ (rest : List (Option (List ℕ) × Link)). HonestSoFar items has (number_of c.args.tree) 0 spots rest found (g.S.Shelf.used c.args.shelf.now) (g.S.Shelf.used c.loop-node.shelf))
     (rest_is c.args.nodes.now c.loop-node.node-index _ c.loop-node-test.true) c.loop-node.invariant.honest.2 in
     let honest = honest_step items has (number_of c.args.tree) 0 (Leaf (number_of c.args.tree)) c.in_ok-entries.entries spots rest _ found picked.0
-    (g.S.Shelf.used c.args.shelf.now) (g.S.Shelf.used c.loop-node.shelf) (g.S.Shelf.used c.open_leaf.new.shelf) honest_before c.open_leaf.ensures.grows c.in_ok-entries.ensures.answer picked.1 in
+    (g.S.Shelf.used c.args.shelf.now) (g.S.Shelf.used c.loop-node.shelf) (g.S.Shelf.used c.open_leaf.new.shelf) honest_before c.open_leaf.ensures.grows (λ node is. (c.in_ok-entries.ensures.answer node is).ends) picked.1 in
     record {
       calls = c.open_leaf.ensures.calls ∙ c.loop-node.invariant.calls;
       stays = same_then _ _ _ c.loop-node.invariant.stays c.open_leaf.ensures.stays;
@@ -83,7 +85,9 @@ returns-clause-answer g c = λ all stated.
     let found = c.loop-node.invariant.honest.0 in
     let so = subst (λ (rest : List Pending). HonestSoFar items has (number_of c.args.tree) 0 spots (spots_of rest) found (g.S.Shelf.used c.args.shelf.now) (g.S.Shelf.used c.loop-node.shelf))
     (drop_of_length-le c.args.nodes.now c.loop-node-test.false) c.loop-node.invariant.honest.2 in
-    elim (honest_end items has (number_of c.args.tree) 0 spots found (g.S.Shelf.used c.args.shelf.now) (g.S.Shelf.used c.loop-node.shelf) so all stated) [
-      | inl clash ↦ inl clash
-      | inr ends ↦ inr ((found, ends.0, c.loop-node.invariant.honest.1), ends.1)
-    ]
+    record {
+      ends = elim (honest_end items has (number_of c.args.tree) 0 spots found (g.S.Shelf.used c.args.shelf.now) (g.S.Shelf.used c.loop-node.shelf) so all stated) [
+        | inl clash ↦ inl clash
+        | inr ends ↦ inr ((found, ends.0, c.loop-node.invariant.honest.1), ends.1)
+      ];
+    }

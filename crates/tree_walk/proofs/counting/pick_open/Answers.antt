@@ -6,10 +6,11 @@ use Rattle.std.specs.Option.{option_copied}
 use Rattle.tree_node.specs.NodeRefs.{link_of}
 use Rattle.tree_node.specs.Nodes.{AreRisingFrom, Link, greatests_of}
 use Rattle.tree_node.specs.Skips.{key_before}
-use Rattle.tree_walk.specs.Counts.{IsCoveredChild, IsOpenChild, capped, sum_stated}
-use Rattle.tree_walk.specs.Pendings.{children_placed, spot_of, spots_of}
+use Rattle.tree_walk.specs.internal.Counts.{IsCoveredChild, IsOpenChild, capped, sum_stated}
+use Rattle.tree_walk.specs.Spans.{children_placed}
+use Rattle.tree_walk.specs.internal.Pendings.{spot_of, spots_of}
 use Rattle.tree_walk.specs.Ranges.{IsAtMost, range_of}
-use Rattle.tree_walk.specs.Reaching.{GoesOnAbove}
+use Rattle.tree_walk.specs.internal.Reaching.{GoesOnAbove}
 use Rattle.tree_walk.proofs.ChoiceLemmas.{ArePicked, fails_not, one_behind, picked_all, picked_one, picked_other, picked_stop}
 use Rattle.tree_walk.proofs.CountLemmas.{one_more_stated}
 use Rattle.tree_walk.proofs.EndLemmas.{covered_low, none_covered, none_open}

@@ -2,8 +2,9 @@ use Rattle.std.proofs.Common.{◌≡◌, ◌++◌, ℕ, List, Option}
 use Rattle.std.specs.List.{AllByRecursion}
 use Rattle.std.specs.Option.{option_copied}
 use Rattle.tree_node.specs.Nodes.{AreRisingFrom, Link, greatests_of}
-use Rattle.tree_walk.specs.Counts.{IsCoveredChild, IsOpenChild, capped, sum_stated}
-use Rattle.tree_walk.specs.Pendings.{children_placed, spots_of}
+use Rattle.tree_walk.specs.internal.Counts.{IsCoveredChild, IsOpenChild, capped, sum_stated}
+use Rattle.tree_walk.specs.Spans.{children_placed}
+use Rattle.tree_walk.specs.internal.Pendings.{spots_of}
 use Rattle.tree_walk.specs.Ranges.{IsAtMost, range_of}
 use Rattle.tree_walk.proofs.ChoiceLemmas.{ArePicked}
 use Rattle.tree_walk.proofs.counting.pick_open.Given as goal

@@ -5,9 +5,10 @@ use Rattle.std.specs.Option.{option_copied}
 use Rattle.tree_node.specs.NodeRefs.{link_of}
 use Rattle.tree_node.specs.Nodes.{AreRisingFrom, Link, greatests_of}
 use Rattle.tree_node.specs.Skips.{key_before}
-use Rattle.tree_walk.specs.Pendings.{IsMetChild, children_placed, spot_of, spots_of}
+use Rattle.tree_walk.specs.Spans.{IsMetChild, children_placed}
+use Rattle.tree_walk.specs.internal.Pendings.{spot_of, spots_of}
 use Rattle.tree_walk.specs.Ranges.{IsAtMost, range_of}
-use Rattle.tree_walk.specs.Reaching.{GoesOnAbove}
+use Rattle.tree_walk.specs.internal.Reaching.{GoesOnAbove}
 use Rattle.tree_walk.proofs.ChoiceLemmas.{ArePicked, fails_not, one_behind, picked_all, picked_one, picked_stop}
 use Rattle.tree_walk.proofs.EndLemmas.{none_met}
 use Rattle.tree_walk.proofs.MeetLemmas.{low_from_meets, meets_from_both}

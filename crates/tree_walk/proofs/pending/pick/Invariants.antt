@@ -2,7 +2,8 @@ use Rattle.std.proofs.Common.{◌≡◌, ◌++◌, List}
 use Rattle.std.specs.List.{AllByRecursion}
 use Rattle.std.specs.Option.{option_copied}
 use Rattle.tree_node.specs.Nodes.{AreRisingFrom, greatests_of}
-use Rattle.tree_walk.specs.Pendings.{IsMetChild, children_placed, spots_of}
+use Rattle.tree_walk.specs.Spans.{IsMetChild, children_placed}
+use Rattle.tree_walk.specs.internal.Pendings.{spots_of}
 use Rattle.tree_walk.specs.Ranges.{IsAtMost, range_of}
 use Rattle.tree_walk.proofs.ChoiceLemmas.{ArePicked}
 use Rattle.tree_walk.proofs.pending.pick.Given as goal

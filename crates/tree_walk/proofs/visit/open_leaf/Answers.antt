@@ -1,7 +1,7 @@
 use Rattle.std.proofs.Common.{◌≡◌, ◌∙◌, inl, inr, sym, subst, ap}
 use Rattle.tree_node.specs.NodeRefs.{node_read, number_of}
 use Rattle.tree_node.specs.Nodes.{Leaf, Link, Node}
-use Rattle.tree_walk.specs.Pendings.{Agrees, spot_of}
+use Rattle.tree_walk.specs.internal.Pendings.{Agrees, spot_of}
 use Rattle.tree_walk.proofs.ChoiceLemmas.{fails_not}
 use Rattle.tree_walk.proofs.VisitLemmas.{agrees_stated, few_from_node}
 use Rattle.tree_walk.proofs.visit.open_leaf.Goals as goal
@@ -11,13 +11,15 @@ returns-then-not-is_leaf-clause-opens g c = few_from_node _ _ _ _ _ _ c.in_ok-en
 
 pub returns-then-not-is_leaf-clause-answer : goal.returns-then-not-is_leaf-clause-answer
 returns-then-not-is_leaf-clause-answer g c = λ node is.
-    elim (c.in_ok-entries.ensures.answer node is.is is.in_tree (ap (λ (l : Link). l.child) (sym is.link))) [
-      | inl clash ↦ inl clash
-      | inr found ↦
-          let is_read : node ≡ Leaf (number_of c.in-Leaf.tree) c.in-Leaf.entries = sym found.0 ∙ ap node_read c.in-Leaf.is in
-          absurd (fails_not (Agrees (spot_of c.args.pending.now) (Leaf (number_of c.in-Leaf.tree) c.in-Leaf.entries)) c.is_leaf.result (c.is_leaf.ensures (number_of c.in-Leaf.tree)) c.if-not-is_leaf.true
-          (subst (λ (n : Node). Agrees (spot_of c.args.pending.now) n) is_read (agrees_stated (number_of c.args.tree) 0 (spot_of c.args.pending.now) node is)))
-    ]
+    record {
+      ends = elim ((c.in_ok-entries.ensures.answer node is.is is.in_tree (ap (λ (l : Link). l.child) (sym is.link))).ends) [
+        | inl clash ↦ inl clash
+        | inr found ↦
+            let is_read : node ≡ Leaf (number_of c.in-Leaf.tree) c.in-Leaf.entries = sym found.0 ∙ ap node_read c.in-Leaf.is in
+            absurd (fails_not (Agrees (spot_of c.args.pending.now) (Leaf (number_of c.in-Leaf.tree) c.in-Leaf.entries)) c.is_leaf.result (c.is_leaf.ensures (number_of c.in-Leaf.tree)) c.if-not-is_leaf.true
+            (subst (λ (n : Node). Agrees (spot_of c.args.pending.now) n) is_read (agrees_stated (number_of c.args.tree) 0 (spot_of c.args.pending.now) node is)))
+      ];
+    }
 
 pub returns-else-not-is_leaf-clause-agrees : goal.returns-else-not-is_leaf-clause-agrees
 returns-else-not-is_leaf-clause-agrees g c = (c.is_leaf.ensures (number_of c.args.tree)).0 c.if-not-is_leaf.false

@@ -6,8 +6,9 @@ use Rattle.tree_node.specs.Nodes.{Inner, Link, Node}
 use Rattle.tree_node.specs.Trees.{links_in}
 use Rattle.tree_walk.specs.Choices.{AreThose}
 use Rattle.tree_walk.specs.Fetches.{cause_of}
-use Rattle.tree_walk.specs.Outcomes.{Outcome}
-use Rattle.tree_walk.specs.Pendings.{IsMetChild, IsOneOf, children_of_all, children_placed, spots_of}
+use Rattle.tree_node.specs.Outcomes.{Outcome}
+use Rattle.tree_walk.specs.Spans.{IsMetChild, children_of_all, children_placed}
+use Rattle.tree_walk.specs.internal.Pendings.{IsOneOf, spots_of}
 use Rattle.tree_walk.specs.Ranges.{range_of}
 use Rattle.tree_walk.specs.declared.fault.WalkFault.{WalkFault}
 use Rattle.tree_walk.specs.declared.fault.WalkFault.TheVariants.{Memory}
@@ -35,15 +36,17 @@ returns-in_err-children-clause-answer g c = λ all stated.
     let used = g.S.Shelf.used c.open_inner.new.shelf in
     let before = subst (λ (rest : List (Option (List ℕ) × Link)). HonestSoFar items has (number_of c.args.tree) c.args.level spots rest found (g.S.Shelf.used c.args.shelf.now) (g.S.Shelf.used c.loop-node.shelf))
     (rest_is c.args.nodes.now c.loop-node.node-index _ c.loop-node-test.true) c.loop-node.invariant.honest in
-    subst (λ (r : Result (Vec Pending) WalkFault). Outcome cause_of (λ (pending : Vec Pending). AreThose has (children_of_all all) (spots_of pending.items)) (IsOneOf all) (g.S.Shelf.holds c.open_inner.new.shelf) (g.S.Shelf.used c.args.shelf.now) used r)
+    subst (λ (r : Result (Vec Pending) WalkFault). Outcome cause_of (λ (pending : Vec Pending). AreThose has (children_of_all all) (spots_of pending.items)) (IsOneOf all) (record { held = g.S.Shelf.holds c.open_inner.new.shelf; before = g.S.Shelf.used c.args.shelf.now; after = used }) r)
     (sym (err_is c.from_residual.result c.in_err-children.field-0.0 c.from_residual.ensures.1))
-    (honest_stop items has (number_of c.args.tree) c.args.level (cause_of c.in_err-children.field-0.0) (g.S.Shelf.holds c.open_inner.new.shelf) spots (spots_of (drop (c.loop-node.node-index + 1) c.args.nodes.now)) _ found
-    (g.S.Shelf.used c.args.shelf.now) (g.S.Shelf.used c.loop-node.shelf) used before c.open_inner.ensures.grows c.in_err-children.ensures.answer all stated)
+    (record {
+      ends = honest_stop items has (number_of c.args.tree) c.args.level (cause_of c.in_err-children.field-0.0) (g.S.Shelf.holds c.open_inner.new.shelf) spots (spots_of (drop (c.loop-node.node-index + 1) c.args.nodes.now)) _ found
+          (g.S.Shelf.used c.args.shelf.now) (g.S.Shelf.used c.loop-node.shelf) used before c.open_inner.ensures.grows (λ node is. (c.in_err-children.ensures.answer node is).ends) all stated;
+    })
 
 pub returns-in_err-pick-clause-fetches : goal.returns-in_err-pick-clause-fetches
 returns-in_err-pick-clause-fetches g c =
     let so = c.loop-node.invariant.level in
-    let before = subst (λ (rest : List (Option (List ℕ) × Link)). FetchingLevel c.args.level so.0 (g.S.Shelf.holds c.loop-node.shelf) (g.S.Shelf.used c.args.shelf.now) (g.S.Shelf.used c.loop-node.shelf) c.args.tally.now.fetches c.loop-node.tally.fetches rest)
+    let before = subst (λ (rest : List (Option (List ℕ) × Link)). FetchingLevel c.args.level so.0 (record { held = g.S.Shelf.holds c.loop-node.shelf; before = g.S.Shelf.used c.args.shelf.now; after = g.S.Shelf.used c.loop-node.shelf }) c.args.tally.now.fetches c.loop-node.tally.fetches rest)
     (rest_is c.args.nodes.now c.loop-node.node-index _ c.loop-node-test.true) so.1 in
     let next = level_step c.args.level (g.S.Shelf.used c.args.shelf.now) c.args.tally.now.fetches so.0 (g.S.Shelf.holds c.loop-node.shelf) (g.S.Shelf.holds c.open_inner.new.shelf) (g.S.Shelf.used c.loop-node.shelf) (g.S.Shelf.used c.open_inner.new.shelf)
     c.loop-node.tally.fetches c.open_inner.new.tally.fetches _ (spots_of (drop (c.loop-node.node-index + 1) c.args.nodes.now)) (Inner (number_of c.args.tree) c.args.level c.in_ok-children.children)
@@ -60,7 +63,7 @@ loop-node-preserved g c =
     let found = spots_of c.loop-node.pending.items in
     let so = c.loop-node.invariant.level in
     let node = Inner (number_of c.args.tree) c.args.level c.in_ok-children.children in
-    let before = subst (λ (rest : List (Option (List ℕ) × Link)). FetchingLevel c.args.level so.0 (g.S.Shelf.holds c.loop-node.shelf) (g.S.Shelf.used c.args.shelf.now) (g.S.Shelf.used c.loop-node.shelf) c.args.tally.now.fetches c.loop-node.tally.fetches rest)
+    let before = subst (λ (rest : List (Option (List ℕ) × Link)). FetchingLevel c.args.level so.0 (record { held = g.S.Shelf.holds c.loop-node.shelf; before = g.S.Shelf.used c.args.shelf.now; after = g.S.Shelf.used c.loop-node.shelf }) c.args.tally.now.fetches c.loop-node.tally.fetches rest)
     (rest_is c.args.nodes.now c.loop-node.node-index _ c.loop-node-test.true) so.1 in
     let next = level_step c.args.level (g.S.Shelf.used c.args.shelf.now) c.args.tally.now.fetches so.0 (g.S.Shelf.holds c.loop-node.shelf) (g.S.Shelf.holds c.open_inner.new.shelf) (g.S.Shelf.used c.loop-node.shelf) (g.S.Shelf.used c.open_inner.new.shelf)
     c.loop-node.tally.fetches c.open_inner.new.tally.fetches _ rest node before c.open_inner.ensures.stays c.in_ok-children.ensures.opens refl c.in_ok-children.ensures.agrees.1.0 in
@@ -69,7 +72,7 @@ loop-node-preserved g c =
     let honest_before = subst (λ (rest : List (Option (List ℕ) × Link)). HonestSoFar items has (number_of c.args.tree) c.args.level spots rest found (g.S.Shelf.used c.args.shelf.now) (g.S.Shelf.used c.loop-node.shelf))
     (rest_is c.args.nodes.now c.loop-node.node-index _ c.loop-node-test.true) c.loop-node.invariant.honest in
     let honest = honest_step items has (number_of c.args.tree) c.args.level (Inner (number_of c.args.tree) c.args.level) c.in_ok-children.children spots rest _ found picked.0
-    (g.S.Shelf.used c.args.shelf.now) (g.S.Shelf.used c.loop-node.shelf) (g.S.Shelf.used c.open_inner.new.shelf) honest_before c.open_inner.ensures.grows c.in_ok-children.ensures.answer picked.2 in
+    (g.S.Shelf.used c.args.shelf.now) (g.S.Shelf.used c.loop-node.shelf) (g.S.Shelf.used c.open_inner.new.shelf) honest_before c.open_inner.ensures.grows (λ node is. (c.in_ok-children.ensures.answer node is).ends) picked.2 in
     record {
       calls = c.open_inner.ensures.calls ∙ c.loop-node.invariant.calls;
       stays = same_then _ _ _ c.loop-node.invariant.stays c.open_inner.ensures.stays;
@@ -92,4 +95,4 @@ returns-clause-answer g c = λ all stated.
     let found = spots_of c.loop-node.pending.items in
     let so = subst (λ (rest : List Pending). HonestSoFar items has (number_of c.args.tree) c.args.level spots (spots_of rest) found (g.S.Shelf.used c.args.shelf.now) (g.S.Shelf.used c.loop-node.shelf))
     (drop_of_length-le c.args.nodes.now c.loop-node-test.false) c.loop-node.invariant.honest in
-    honest_end items has (number_of c.args.tree) c.args.level spots found (g.S.Shelf.used c.args.shelf.now) (g.S.Shelf.used c.loop-node.shelf) so all stated
+    record { ends = honest_end items has (number_of c.args.tree) c.args.level spots found (g.S.Shelf.used c.args.shelf.now) (g.S.Shelf.used c.loop-node.shelf) so all stated }

@@ -3,7 +3,8 @@ use Rattle.tree_node.specs.NodeRefs.{number_of}
 use Rattle.tree_node.specs.Nodes.{Node}
 use Rattle.tree_node.specs.Shelves.{SameNodes}
 use Rattle.tree_node.specs.Trees.{links_in}
-use Rattle.tree_walk.specs.Pendings.{IsMetChild, children_placed, spots_of}
+use Rattle.tree_walk.specs.Spans.{IsMetChild, children_placed}
+use Rattle.tree_walk.specs.internal.Pendings.{spots_of}
 use Rattle.tree_walk.specs.Ranges.{range_of}
 use Rattle.tree_walk.proofs.HonestLemmas.{HonestSoFar}
 use Rattle.tree_walk.proofs.LevelFetches.{FetchingLevel}
@@ -16,7 +17,7 @@ invariant-loop-node g l = record {
   calls : l.tally.calls ≡ l.fn.tally.calls;
   stays : SameNodes (g.S.Shelf.holds l.fn.shelf) (g.S.Shelf.holds l.shelf);
   grows : (bytes : List ℕ) → g.S.Shelf.used l.fn.shelf bytes → g.S.Shelf.used l.shelf bytes;
-  level : (low : Option (List ℕ)) × FetchingLevel l.level low (g.S.Shelf.holds l.shelf) (g.S.Shelf.used l.fn.shelf) (g.S.Shelf.used l.shelf) l.fn.tally.fetches l.tally.fetches (spots_of (drop l.node-index l.nodes))
+  level : (low : Option (List ℕ)) × FetchingLevel l.level low (record { held = g.S.Shelf.holds l.shelf; before = g.S.Shelf.used l.fn.shelf; after = g.S.Shelf.used l.shelf }) l.fn.tally.fetches l.tally.fetches (spots_of (drop l.node-index l.nodes))
       × IsOrderedUpTo low (spots_of l.pending.items);
   honest : HonestSoFar (λ (spot : Option (List ℕ) × Node). children_placed spot.0 (links_in spot.1)) (IsMetChild (range_of l.range)) (number_of l.tree) l.level
       (spots_of l.nodes) (spots_of (drop l.node-index l.nodes)) (spots_of l.pending.items) (g.S.Shelf.used l.fn.shelf) (g.S.Shelf.used l.shelf);

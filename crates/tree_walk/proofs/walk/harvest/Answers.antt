@@ -6,8 +6,8 @@ use Rattle.tree_node.specs.Nodes.{Binding, Leaf, Link, Node}
 use Rattle.tree_node.specs.Trees.{entries_in}
 use Rattle.tree_walk.specs.Choices.{AreThose}
 use Rattle.tree_walk.specs.Fetches.{cause_of}
-use Rattle.tree_walk.specs.Outcomes.{Outcome}
-use Rattle.tree_walk.specs.Pendings.{IsOneOf, entries_of_all, spots_of}
+use Rattle.tree_node.specs.Outcomes.{Outcome}
+use Rattle.tree_walk.specs.internal.Pendings.{IsOneOf, entries_of_all, spots_of}
 use Rattle.tree_walk.specs.Ranges.{range_of}
 use Rattle.tree_walk.specs.Walks.{IsEntryIn}
 use Rattle.tree_node.specs.declared.item.Item.{Item}
@@ -36,10 +36,12 @@ returns-in_err-entries-clause-answer g c = λ all stated.
     let used = g.S.Shelf.used c.open_leaf.new.shelf in
     let before = subst (λ (rest : List (Option (List ℕ) × Link)). HonestSoFar items has (number_of c.args.tree) 0 spots rest found (g.S.Shelf.used c.args.shelf.now) (g.S.Shelf.used c.loop-node.shelf))
     (rest_is c.args.nodes.now c.loop-node.node-index _ c.loop-node-test.true) c.loop-node.invariant.honest in
-    subst (λ (r : Result (Vec Item) WalkFault). Outcome cause_of (λ (found : Vec Item). AreThose has (entries_of_all all) (bindings_of found.items)) (IsOneOf all) (g.S.Shelf.holds c.open_leaf.new.shelf) (g.S.Shelf.used c.args.shelf.now) used r)
+    subst (λ (r : Result (Vec Item) WalkFault). Outcome cause_of (λ (found : Vec Item). AreThose has (entries_of_all all) (bindings_of found.items)) (IsOneOf all) (record { held = g.S.Shelf.holds c.open_leaf.new.shelf; before = g.S.Shelf.used c.args.shelf.now; after = used }) r)
     (sym (err_is c.from_residual.result c.in_err-entries.field-0.0 c.from_residual.ensures.1))
-    (honest_stop items has (number_of c.args.tree) 0 (cause_of c.in_err-entries.field-0.0) (g.S.Shelf.holds c.open_leaf.new.shelf) spots (spots_of (drop (c.loop-node.node-index + 1) c.args.nodes.now)) _ found
-    (g.S.Shelf.used c.args.shelf.now) (g.S.Shelf.used c.loop-node.shelf) used before c.open_leaf.ensures.grows c.in_err-entries.ensures.answer all stated)
+    (record {
+      ends = honest_stop items has (number_of c.args.tree) 0 (cause_of c.in_err-entries.field-0.0) (g.S.Shelf.holds c.open_leaf.new.shelf) spots (spots_of (drop (c.loop-node.node-index + 1) c.args.nodes.now)) _ found
+          (g.S.Shelf.used c.args.shelf.now) (g.S.Shelf.used c.loop-node.shelf) used before c.open_leaf.ensures.grows (λ node is. (c.in_err-entries.ensures.answer node is).ends) all stated;
+    })
 
 pub take-requires : goal.take-requires
 take-requires g c = c.in_ok-entries.ensures.opens.spells.0.3
@@ -47,7 +49,7 @@ take-requires g c = c.in_ok-entries.ensures.opens.spells.0.3
 pub returns-in_err-take-clause-fetches : goal.returns-in_err-take-clause-fetches
 returns-in_err-take-clause-fetches g c =
     let so = c.loop-node.invariant.level in
-    let before = subst (λ (rest : List (Option (List ℕ) × Link)). FetchingLevel 0 so.0 (g.S.Shelf.holds c.loop-node.shelf) (g.S.Shelf.used c.args.shelf.now) (g.S.Shelf.used c.loop-node.shelf) c.args.tally.now.fetches c.loop-node.tally.fetches rest)
+    let before = subst (λ (rest : List (Option (List ℕ) × Link)). FetchingLevel 0 so.0 (record { held = g.S.Shelf.holds c.loop-node.shelf; before = g.S.Shelf.used c.args.shelf.now; after = g.S.Shelf.used c.loop-node.shelf }) c.args.tally.now.fetches c.loop-node.tally.fetches rest)
     (rest_is c.args.nodes.now c.loop-node.node-index _ c.loop-node-test.true) so.1 in
     let next = level_step 0 (g.S.Shelf.used c.args.shelf.now) c.args.tally.now.fetches so.0 (g.S.Shelf.holds c.loop-node.shelf) (g.S.Shelf.holds c.open_leaf.new.shelf) (g.S.Shelf.used c.loop-node.shelf) (g.S.Shelf.used c.open_leaf.new.shelf)
     c.loop-node.tally.fetches c.open_leaf.new.tally.fetches _ (spots_of (drop (c.loop-node.node-index + 1) c.args.nodes.now)) (Leaf (number_of c.args.tree) c.in_ok-entries.entries)
@@ -64,7 +66,7 @@ loop-node-preserved g c =
     let found = bindings_of c.loop-node.found.items in
     let so = c.loop-node.invariant.level in
     let node = Leaf (number_of c.args.tree) c.in_ok-entries.entries in
-    let before = subst (λ (rest : List (Option (List ℕ) × Link)). FetchingLevel 0 so.0 (g.S.Shelf.holds c.loop-node.shelf) (g.S.Shelf.used c.args.shelf.now) (g.S.Shelf.used c.loop-node.shelf) c.args.tally.now.fetches c.loop-node.tally.fetches rest)
+    let before = subst (λ (rest : List (Option (List ℕ) × Link)). FetchingLevel 0 so.0 (record { held = g.S.Shelf.holds c.loop-node.shelf; before = g.S.Shelf.used c.args.shelf.now; after = g.S.Shelf.used c.loop-node.shelf }) c.args.tally.now.fetches c.loop-node.tally.fetches rest)
     (rest_is c.args.nodes.now c.loop-node.node-index _ c.loop-node-test.true) so.1 in
     let next = level_step 0 (g.S.Shelf.used c.args.shelf.now) c.args.tally.now.fetches so.0 (g.S.Shelf.holds c.loop-node.shelf) (g.S.Shelf.holds c.open_leaf.new.shelf) (g.S.Shelf.used c.loop-node.shelf) (g.S.Shelf.used c.open_leaf.new.shelf)
     c.loop-node.tally.fetches c.open_leaf.new.tally.fetches _ rest node before c.open_leaf.ensures.stays c.in_ok-entries.ensures.opens refl c.in_ok-entries.ensures.agrees.1.0 in
@@ -72,7 +74,7 @@ loop-node-preserved g c =
     let honest_before = subst (λ (rest : List (Option (List ℕ) × Link)). HonestSoFar items has (number_of c.args.tree) 0 spots rest found (g.S.Shelf.used c.args.shelf.now) (g.S.Shelf.used c.loop-node.shelf))
     (rest_is c.args.nodes.now c.loop-node.node-index _ c.loop-node-test.true) c.loop-node.invariant.honest in
     let honest = honest_step items has (number_of c.args.tree) 0 (Leaf (number_of c.args.tree)) c.in_ok-entries.entries spots rest _ found picked.0
-    (g.S.Shelf.used c.args.shelf.now) (g.S.Shelf.used c.loop-node.shelf) (g.S.Shelf.used c.open_leaf.new.shelf) honest_before c.open_leaf.ensures.grows c.in_ok-entries.ensures.answer picked.2 in
+    (g.S.Shelf.used c.args.shelf.now) (g.S.Shelf.used c.loop-node.shelf) (g.S.Shelf.used c.open_leaf.new.shelf) honest_before c.open_leaf.ensures.grows (λ node is. (c.in_ok-entries.ensures.answer node is).ends) picked.2 in
     record {
       calls = c.open_leaf.ensures.calls ∙ c.loop-node.invariant.calls;
       stays = same_then _ _ _ c.loop-node.invariant.stays c.open_leaf.ensures.stays;
@@ -95,4 +97,4 @@ returns-clause-answer g c = λ all stated.
     let found = bindings_of c.loop-node.found.items in
     let so = subst (λ (rest : List Pending). HonestSoFar items has (number_of c.args.tree) 0 spots (spots_of rest) found (g.S.Shelf.used c.args.shelf.now) (g.S.Shelf.used c.loop-node.shelf))
     (drop_of_length-le c.args.nodes.now c.loop-node-test.false) c.loop-node.invariant.honest in
-    honest_end items has (number_of c.args.tree) 0 spots found (g.S.Shelf.used c.args.shelf.now) (g.S.Shelf.used c.loop-node.shelf) so all stated
+    record { ends = honest_end items has (number_of c.args.tree) 0 spots found (g.S.Shelf.used c.args.shelf.now) (g.S.Shelf.used c.loop-node.shelf) so all stated }

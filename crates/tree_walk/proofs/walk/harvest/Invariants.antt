@@ -3,7 +3,7 @@ use Rattle.tree_node.specs.NodeRefs.{bindings_of, number_of}
 use Rattle.tree_node.specs.Nodes.{Node}
 use Rattle.tree_node.specs.Shelves.{SameNodes}
 use Rattle.tree_node.specs.Trees.{entries_in}
-use Rattle.tree_walk.specs.Pendings.{spots_of}
+use Rattle.tree_walk.specs.internal.Pendings.{spots_of}
 use Rattle.tree_walk.specs.Ranges.{range_of}
 use Rattle.tree_walk.specs.Walks.{IsEntryIn}
 use Rattle.tree_walk.proofs.HonestLemmas.{HonestSoFar}
@@ -16,7 +16,7 @@ invariant-loop-node g l = record {
   calls : l.tally.calls ≡ l.fn.tally.calls;
   stays : SameNodes (g.S.Shelf.holds l.fn.shelf) (g.S.Shelf.holds l.shelf);
   grows : (bytes : List ℕ) → g.S.Shelf.used l.fn.shelf bytes → g.S.Shelf.used l.shelf bytes;
-  level : (low : Option (List ℕ)) × FetchingLevel 0 low (g.S.Shelf.holds l.shelf) (g.S.Shelf.used l.fn.shelf) (g.S.Shelf.used l.shelf) l.fn.tally.fetches l.tally.fetches (spots_of (drop l.node-index l.nodes));
+  level : (low : Option (List ℕ)) × FetchingLevel 0 low (record { held = g.S.Shelf.holds l.shelf; before = g.S.Shelf.used l.fn.shelf; after = g.S.Shelf.used l.shelf }) l.fn.tally.fetches l.tally.fetches (spots_of (drop l.node-index l.nodes));
   honest : HonestSoFar (λ (spot : Option (List ℕ) × Node). entries_in spot.1) (IsEntryIn (range_of l.range)) (number_of l.tree) 0
       (spots_of l.nodes) (spots_of (drop l.node-index l.nodes)) (bindings_of l.found.items) (g.S.Shelf.used l.fn.shelf) (g.S.Shelf.used l.shelf);
 }

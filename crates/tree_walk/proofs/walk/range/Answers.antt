@@ -6,8 +6,9 @@ use Rattle.tree_node.specs.Trees.{levels, node_in}
 use Rattle.tree_node.specs.declared.item.Item.{Item}
 use Rattle.tree_walk.specs.Choices.{AreThose}
 use Rattle.tree_walk.specs.Fetches.{cause_of}
-use Rattle.tree_walk.specs.Outcomes.{Outcome}
-use Rattle.tree_walk.specs.Pendings.{FetchedNode, IsMetChild, spots_of}
+use Rattle.tree_node.specs.Outcomes.{Outcome}
+use Rattle.tree_walk.specs.internal.Pendings.{FetchedNode, spots_of}
+use Rattle.tree_walk.specs.Spans.{IsMetChild}
 use Rattle.tree_walk.specs.Ranges.{range_of}
 use Rattle.tree_walk.specs.Walks.{IsEntryIn, IsMet}
 use Rattle.tree_walk.specs.declared.fault.WalkFault.{WalkFault}
@@ -30,10 +31,12 @@ returns-in_err-entries-clause-answer g c = λ shape entries is.
     let tree_is = is_tree c.args.tree in
     let top = top_is shape (number_of c.args.tree) entries tree_is is.has in
     subst (λ (r : Result (Vec Item) WalkFault). Outcome cause_of (λ (found : Vec Item). AreThose (IsEntryIn (range_of c.args.range.now)) entries (bindings_of found.items)) (IsMet (range_of c.args.range.now) (levels shape (number_of c.args.tree) entries))
-    (g.S.Shelf.holds c.open.new.shelf) (g.S.Shelf.used c.args.shelf.now) (g.S.Shelf.used c.open.new.shelf) r)
+    (record { held = g.S.Shelf.holds c.open.new.shelf; before = g.S.Shelf.used c.args.shelf.now; after = g.S.Shelf.used c.open.new.shelf }) r)
     (sym (err_is c.from_residual.result c.in_err-entries.field-0.0 c.from_residual.ensures.1))
-    (honest_refused shape (number_of c.args.tree) entries (range_of c.args.range.now) (cause_of c.in_err-entries.field-0.0) (g.S.Shelf.holds c.open.new.shelf) (g.S.Shelf.used c.open.new.shelf)
-    (c.in_err-entries.ensures.answer (node_in (levels shape (number_of c.args.tree) entries) (length (levels shape (number_of c.args.tree) entries) - 1) 0) top.0 top.1 is.is_top))
+    (record {
+      ends = honest_refused shape (number_of c.args.tree) entries (range_of c.args.range.now) (cause_of c.in_err-entries.field-0.0) (g.S.Shelf.holds c.open.new.shelf) (g.S.Shelf.used c.open.new.shelf)
+          ((c.in_err-entries.ensures.answer (node_in (levels shape (number_of c.args.tree) entries) (length (levels shape (number_of c.args.tree) entries) - 1) 0) top.0 top.1 is.is_top).ends);
+    })
 
 pub returns-in_err-take-in-Leaf-clause-fetches : goal.returns-in_err-take-in-Leaf-clause-fetches
 returns-in_err-take-in-Leaf-clause-fetches g c =
@@ -47,14 +50,14 @@ returns-in_err-pick-in-Inner-clause-fetches g c =
 
 pub take-requires : goal.take-requires
 take-requires g c =
-    let top = subst (λ (n : Node). FetchedNode n (g.S.Shelf.holds c.open.new.shelf) (g.S.Shelf.used c.args.shelf.now) (g.S.Shelf.used c.open.new.shelf) c.count_call.new.self.fetches c.open.new.tally.fetches) (ap node_read c.in-Leaf.is) c.in_ok-entries.ensures.opens in
+    let top = subst (λ (n : Node). FetchedNode n (record { held = g.S.Shelf.holds c.open.new.shelf; before = g.S.Shelf.used c.args.shelf.now; after = g.S.Shelf.used c.open.new.shelf }) c.count_call.new.self.fetches c.open.new.tally.fetches) (ap node_read c.in-Leaf.is) c.in_ok-entries.ensures.opens in
     top.spells.0.3
 
 pub walk_down-requires : goal.walk_down-requires
 walk_down-requires g c κs =
     let picked = c.in_ok-pick-in-Inner.ensures in
     let are : spots_of c.pick.new.pending.items ≡ picked.0 = picked.1 ∙ ap (λ (ps : List Pending). spots_of ps ++ picked.0) c.new-pending.ensures.items in
-    let top = subst (λ (n : Node). FetchedNode n (g.S.Shelf.holds c.open.new.shelf) (g.S.Shelf.used c.args.shelf.now) (g.S.Shelf.used c.open.new.shelf) c.count_call.new.self.fetches c.open.new.tally.fetches) (ap node_read c.in-Inner.is) c.in_ok-entries.ensures.opens in
+    let top = subst (λ (n : Node). FetchedNode n (record { held = g.S.Shelf.holds c.open.new.shelf; before = g.S.Shelf.used c.args.shelf.now; after = g.S.Shelf.used c.open.new.shelf }) c.count_call.new.self.fetches c.open.new.tally.fetches) (ap node_read c.in-Inner.is) c.in_ok-entries.ensures.opens in
     ((refl, tt), (c.requires, rw are (order_of_top (IsMetChild (range_of c.args.range.now)) c.in-Inner.children picked.0 top.spells.0.6 picked.2)))
 
 pub returns-in_ok-take-in-Leaf-clause-fetches : goal.returns-in_ok-take-in-Leaf-clause-fetches
@@ -69,18 +72,20 @@ returns-in_ok-take-in-Leaf-clause-answer g c = λ shape entries is.
     let node = node_in (levels shape (number_of c.args.tree) entries) (length (levels shape (number_of c.args.tree) entries) - 1) 0 in
     let taken = c.in_ok-take-in-Leaf.ensures in
     let are : bindings_of c.take.new.found.items ≡ taken.0 = taken.1 ∙ ap (λ (xs : List Item). bindings_of xs ++ taken.0) c.new-found.ensures.items in
-    elim (c.in_ok-entries.ensures.answer node top.0 top.1 is.is_top) [
-      | inl clash ↦ inl (clash_more (λ bytes. bytes ≡ spelling node) (IsMet (range_of c.args.range.now) (levels shape (number_of c.args.tree) entries)) (g.S.Shelf.used c.open.new.shelf) (g.S.Shelf.used c.open.new.shelf)
-          (of_top shape (number_of c.args.tree) entries (range_of c.args.range.now)) (λ x was. was) clash)
-      | inr found ↦
-          let whole = honest_leaf shape (number_of c.args.tree) entries (range_of c.args.range.now) (number_of c.in-Leaf.tree) c.in-Leaf.entries taken.0 (g.S.Shelf.used c.args.shelf.now) (g.S.Shelf.used c.open.new.shelf) tree_is is.has
-          (sym (ap node_read c.in-Leaf.is) ∙ found.0) found.1 taken.2 in
-          inr (rw are whole.0, whole.1)
-    ]
+    record {
+      ends = elim ((c.in_ok-entries.ensures.answer node top.0 top.1 is.is_top).ends) [
+        | inl clash ↦ inl (clash_more (λ bytes. bytes ≡ spelling node) (IsMet (range_of c.args.range.now) (levels shape (number_of c.args.tree) entries)) (g.S.Shelf.used c.open.new.shelf) (g.S.Shelf.used c.open.new.shelf)
+            (of_top shape (number_of c.args.tree) entries (range_of c.args.range.now)) (λ x was. was) clash)
+        | inr found ↦
+            let whole = honest_leaf shape (number_of c.args.tree) entries (range_of c.args.range.now) (number_of c.in-Leaf.tree) c.in-Leaf.entries taken.0 (g.S.Shelf.used c.args.shelf.now) (g.S.Shelf.used c.open.new.shelf) tree_is is.has
+            (sym (ap node_read c.in-Leaf.is) ∙ found.0) found.1 taken.2 in
+            inr (rw are whole.0, whole.1)
+      ];
+    }
 
 pub returns-in_ok-pick-in-Inner-clause-fetches : goal.returns-in_ok-pick-in-Inner-clause-fetches
 returns-in_ok-pick-in-Inner-clause-fetches g c =
-    let top = subst (λ (n : Node). FetchedNode n (g.S.Shelf.holds c.open.new.shelf) (g.S.Shelf.used c.args.shelf.now) (g.S.Shelf.used c.open.new.shelf) c.count_call.new.self.fetches c.open.new.tally.fetches) (ap node_read c.in-Inner.is) c.in_ok-entries.ensures.opens in
+    let top = subst (λ (n : Node). FetchedNode n (record { held = g.S.Shelf.holds c.open.new.shelf; before = g.S.Shelf.used c.args.shelf.now; after = g.S.Shelf.used c.open.new.shelf }) c.count_call.new.self.fetches c.open.new.tally.fetches) (ap node_read c.in-Inner.is) c.in_ok-entries.ensures.opens in
     let level : suc (c.in-Inner.level - 1) ≡ c.in-Inner.level = omega (arith, top.spells.0.1) in
     rw (sym c.count_call.ensures.fetches) (top_then_down c.walk_down.result (number_of c.in-Inner.tree) (c.in-Inner.level - 1) c.in-Inner.children (g.S.Shelf.holds c.open.new.shelf) (g.S.Shelf.holds c.walk_down.new.shelf)
     (g.S.Shelf.used c.args.shelf.now) (g.S.Shelf.used c.open.new.shelf) (g.S.Shelf.used c.walk_down.new.shelf) c.count_call.new.self.fetches c.open.new.tally.fetches c.walk_down.new.tally.fetches
@@ -94,14 +99,16 @@ returns-in_ok-pick-in-Inner-clause-answer g c = λ shape entries is.
     let node = node_in (levels shape (number_of c.args.tree) entries) (length (levels shape (number_of c.args.tree) entries) - 1) 0 in
     let picked = c.in_ok-pick-in-Inner.ensures in
     let are : spots_of c.pick.new.pending.items ≡ picked.0 = picked.1 ∙ ap (λ (ps : List Pending). spots_of ps ++ picked.0) c.new-pending.ensures.items in
-    let top = subst (λ (n : Node). FetchedNode n (g.S.Shelf.holds c.open.new.shelf) (g.S.Shelf.used c.args.shelf.now) (g.S.Shelf.used c.open.new.shelf) c.count_call.new.self.fetches c.open.new.tally.fetches) (ap node_read c.in-Inner.is) c.in_ok-entries.ensures.opens in
+    let top = subst (λ (n : Node). FetchedNode n (record { held = g.S.Shelf.holds c.open.new.shelf; before = g.S.Shelf.used c.args.shelf.now; after = g.S.Shelf.used c.open.new.shelf }) c.count_call.new.self.fetches c.open.new.tally.fetches) (ap node_read c.in-Inner.is) c.in_ok-entries.ensures.opens in
     let level : suc (c.in-Inner.level - 1) ≡ c.in-Inner.level = omega (arith, top.spells.0.1) in
-    elim (c.in_ok-entries.ensures.answer node top_at.0 top_at.1 is.is_top) [
-      | inl clash ↦ inl (clash_more (λ bytes. bytes ≡ spelling node) (IsMet range (levels shape (number_of c.args.tree) entries)) (g.S.Shelf.used c.open.new.shelf) (g.S.Shelf.used c.walk_down.new.shelf)
-          (of_top shape (number_of c.args.tree) entries range) c.walk_down.ensures.grows clash)
-      | inr found ↦
-          let below = honest_inner shape (number_of c.args.tree) entries range (number_of c.in-Inner.tree) (c.in-Inner.level - 1) c.in-Inner.children picked.0 tree_is is.has is.bytes (rw level (sym (ap node_read c.in-Inner.is) ∙ found.0)) picked.2 in
-          honest_then shape (number_of c.args.tree) entries range cause_of (λ (found : Vec Item). AreThose (IsEntryIn range) entries (bindings_of found.items)) c.walk_down.result (c.in-Inner.level - 1)
-          (g.S.Shelf.holds c.walk_down.new.shelf) (g.S.Shelf.used c.args.shelf.now) (g.S.Shelf.used c.open.new.shelf) (g.S.Shelf.used c.walk_down.new.shelf) below.0 found.1
-          (c.walk_down.ensures.answer shape entries (rw are below.1))
-    ]
+    record {
+      ends = elim ((c.in_ok-entries.ensures.answer node top_at.0 top_at.1 is.is_top).ends) [
+        | inl clash ↦ inl (clash_more (λ bytes. bytes ≡ spelling node) (IsMet range (levels shape (number_of c.args.tree) entries)) (g.S.Shelf.used c.open.new.shelf) (g.S.Shelf.used c.walk_down.new.shelf)
+            (of_top shape (number_of c.args.tree) entries range) c.walk_down.ensures.grows clash)
+        | inr found ↦
+            let below = honest_inner shape (number_of c.args.tree) entries range (number_of c.in-Inner.tree) (c.in-Inner.level - 1) c.in-Inner.children picked.0 tree_is is.has is.bytes (rw level (sym (ap node_read c.in-Inner.is) ∙ found.0)) picked.2 in
+            (honest_then shape (number_of c.args.tree) entries range cause_of (λ (found : Vec Item). AreThose (IsEntryIn range) entries (bindings_of found.items)) c.walk_down.result (c.in-Inner.level - 1)
+            (g.S.Shelf.holds c.walk_down.new.shelf) (g.S.Shelf.used c.args.shelf.now) (g.S.Shelf.used c.open.new.shelf) (g.S.Shelf.used c.walk_down.new.shelf) below.0 found.1
+            (c.walk_down.ensures.answer shape entries (rw are below.1))).ends
+      ];
+    }

@@ -4,10 +4,10 @@ use Rattle.tree_node.specs.NodeRefs.{bindings_of, number_of}
 use Rattle.tree_node.specs.Trees.{levels}
 use Rattle.tree_node.specs.declared.item.Item.{Item}
 use Rattle.tree_walk.specs.Choices.{AreThose}
-use Rattle.tree_walk.specs.Descents.{IsMetIn}
+use Rattle.tree_walk.specs.internal.Descents.{IsMetIn}
 use Rattle.tree_walk.specs.Fetches.{cause_of}
-use Rattle.tree_walk.specs.Outcomes.{Outcome}
-use Rattle.tree_walk.specs.Pendings.{FetchesBelow, spots_of}
+use Rattle.tree_node.specs.Outcomes.{Outcome}
+use Rattle.tree_walk.specs.internal.Pendings.{FetchesBelow, spots_of}
 use Rattle.tree_walk.specs.Ranges.{range_of}
 use Rattle.tree_walk.specs.Walks.{IsEntryIn}
 use Rattle.tree_walk.specs.declared.fault.WalkFault.{WalkFault}
@@ -20,7 +20,7 @@ use Rattle.tree_walk.proofs.walk.walk_down.Goals as goal
 
 pub returns-in_err-pending-clause-fetches : goal.returns-in_err-pending-clause-fetches
 returns-in_err-pending-clause-fetches g c =
-    subst (λ (r : Result (Vec Item) WalkFault). FetchesBelow (suc c.args.level) r (g.S.Shelf.holds c.descend.new.shelf) (g.S.Shelf.used c.args.shelf.now) (g.S.Shelf.used c.descend.new.shelf) c.args.tally.now.fetches c.descend.new.tally.fetches)
+    subst (λ (r : Result (Vec Item) WalkFault). FetchesBelow (suc c.args.level) r (record { held = g.S.Shelf.holds c.descend.new.shelf; before = g.S.Shelf.used c.args.shelf.now; after = g.S.Shelf.used c.descend.new.shelf }) c.args.tally.now.fetches c.descend.new.tally.fetches)
     (sym (err_is c.from_residual.result c.in_err-pending.field-0.0 c.from_residual.ensures.1))
     (down_stop (suc c.args.level) (g.S.Shelf.used c.args.shelf.now) c.args.tally.now.fetches (Vec Pending) (Vec Item) c.in_err-pending.field-0.0 c.loop-level.level (g.S.Shelf.holds c.loop-level.shelf) (g.S.Shelf.holds c.descend.new.shelf)
     (g.S.Shelf.used c.loop-level.shelf) (g.S.Shelf.used c.descend.new.shelf) c.loop-level.tally.fetches c.descend.new.tally.fetches (omega (arith, c.loop-level.invariant.within))
@@ -29,11 +29,13 @@ returns-in_err-pending-clause-fetches g c =
 pub returns-in_err-pending-clause-answer : goal.returns-in_err-pending-clause-answer
 returns-in_err-pending-clause-answer g c = λ shape entries reached.
     subst (λ (r : Result (Vec Item) WalkFault). Outcome cause_of (λ (found : Vec Item). AreThose (IsEntryIn (range_of c.args.range.now)) entries (bindings_of found.items)) (IsMetIn (range_of c.args.range.now) (levels shape (number_of c.args.tree) entries) 0 c.args.level)
-    (g.S.Shelf.holds c.descend.new.shelf) (g.S.Shelf.used c.args.shelf.now) (g.S.Shelf.used c.descend.new.shelf) r)
+    (record { held = g.S.Shelf.holds c.descend.new.shelf; before = g.S.Shelf.used c.args.shelf.now; after = g.S.Shelf.used c.descend.new.shelf }) r)
     (sym (err_is c.from_residual.result c.in_err-pending.field-0.0 c.from_residual.ensures.1))
-    (honest_down_stop (number_of c.args.tree) (range_of c.args.range.now) c.args.level (spots_of c.args.pending.items) (cause_of c.in_err-pending.field-0.0) c.loop-level.level (spots_of c.loop-level.pending.items)
-    (g.S.Shelf.holds c.descend.new.shelf) (g.S.Shelf.used c.args.shelf.now) (g.S.Shelf.used c.loop-level.shelf) (g.S.Shelf.used c.descend.new.shelf) c.loop-level.invariant.within c.loop-level.invariant.honest c.descend.ensures.grows
-    (rw (sym c.as_slice.ensures.value) c.in_err-pending.ensures.answer) shape entries reached)
+    (record {
+      ends = honest_down_stop (number_of c.args.tree) (range_of c.args.range.now) c.args.level (spots_of c.args.pending.items) (cause_of c.in_err-pending.field-0.0) c.loop-level.level (spots_of c.loop-level.pending.items)
+          (g.S.Shelf.holds c.descend.new.shelf) (g.S.Shelf.used c.args.shelf.now) (g.S.Shelf.used c.loop-level.shelf) (g.S.Shelf.used c.descend.new.shelf) c.loop-level.invariant.within c.loop-level.invariant.honest c.descend.ensures.grows
+          (λ nodes stated. ((rw c.as_slice.ensures.value at c.in_err-pending.ensures.answer) nodes stated).ends) shape entries reached;
+    })
 
 pub loop-level-preserved : goal.loop-level-preserved
 loop-level-preserved g c =
@@ -47,7 +49,7 @@ loop-level-preserved g c =
       stays = same_then _ _ _ c.loop-level.invariant.stays c.descend.ensures.stays;
       grows = λ bytes was. c.descend.ensures.grows bytes (c.loop-level.invariant.grows bytes was);
       order = c.in_ok-pending.ensures.order;
-      fetches = subst (λ (n : ℕ). FetchingDown n (suc c.args.level) (g.S.Shelf.holds c.descend.new.shelf) (g.S.Shelf.used c.args.shelf.now) (g.S.Shelf.used c.descend.new.shelf) c.args.tally.now.fetches c.descend.new.tally.fetches) (sym same) fetched;
+      fetches = subst (λ (n : ℕ). FetchingDown n (suc c.args.level) (record { held = g.S.Shelf.holds c.descend.new.shelf; before = g.S.Shelf.used c.args.shelf.now; after = g.S.Shelf.used c.descend.new.shelf }) c.args.tally.now.fetches c.descend.new.tally.fetches) (sym same) fetched;
       honest = honest_down_step (number_of c.args.tree) (range_of c.args.range.now) c.args.level (spots_of c.args.pending.items) (λ (pending : Vec Pending). spots_of pending.items) cause_of c.in_ok-pending.pending (c.loop-level.level - 1)
           (spots_of c.loop-level.pending.items) (g.S.Shelf.holds c.descend.new.shelf) (g.S.Shelf.used c.args.shelf.now) (g.S.Shelf.used c.loop-level.shelf) (g.S.Shelf.used c.descend.new.shelf) (omega (arith, same, c.loop-level.invariant.within))
           (rw same c.loop-level.invariant.honest) c.descend.ensures.grows (rw (same, sym c.as_slice.ensures.value) c.in_ok-pending.ensures.answer);
@@ -58,7 +60,7 @@ returns-clause-fetches g c =
     let last : c.loop-level.level ≡ 0 = omega (arith, c.loop-level-test.false) in
     down_last (suc c.args.level) (g.S.Shelf.used c.args.shelf.now) c.args.tally.now.fetches c.harvest.result (g.S.Shelf.holds c.loop-level.shelf) (g.S.Shelf.holds c.harvest.new.shelf)
     (g.S.Shelf.used c.loop-level.shelf) (g.S.Shelf.used c.harvest.new.shelf) c.loop-level.tally.fetches c.harvest.new.tally.fetches (omega arith)
-    (subst (λ (n : ℕ). FetchingDown (suc n) (suc c.args.level) (g.S.Shelf.holds c.loop-level.shelf) (g.S.Shelf.used c.args.shelf.now) (g.S.Shelf.used c.loop-level.shelf) c.args.tally.now.fetches c.loop-level.tally.fetches) last c.loop-level.invariant.fetches)
+    (subst (λ (n : ℕ). FetchingDown (suc n) (suc c.args.level) (record { held = g.S.Shelf.holds c.loop-level.shelf; before = g.S.Shelf.used c.args.shelf.now; after = g.S.Shelf.used c.loop-level.shelf }) c.args.tally.now.fetches c.loop-level.tally.fetches) last c.loop-level.invariant.fetches)
     c.harvest.ensures.stays c.harvest.ensures.fetches
 
 pub returns-clause-answer : goal.returns-clause-answer

@@ -1,7 +1,7 @@
 use Rattle.std.proofs.Common.{◌≡◌, ℕ, suc, ◌≤◌, List, None}
 use Rattle.tree_node.specs.NodeRefs.{number_of}
 use Rattle.tree_node.specs.Shelves.{SameNodes}
-use Rattle.tree_walk.specs.Pendings.{AreInOrder, spots_of}
+use Rattle.tree_walk.specs.internal.Pendings.{AreInOrder, spots_of}
 use Rattle.tree_walk.specs.Ranges.{range_of}
 use Rattle.tree_walk.proofs.DescentFetches.{FetchingDown}
 use Rattle.tree_walk.proofs.DescentLemmas.{HonestDown}
@@ -15,7 +15,7 @@ invariant-loop-level g l = record {
   stays : SameNodes (g.S.Shelf.holds l.fn.shelf) (g.S.Shelf.holds l.shelf);
   grows : (bytes : List ℕ) → g.S.Shelf.used l.fn.shelf bytes → g.S.Shelf.used l.shelf bytes;
   order : AreInOrder None (spots_of l.pending.items);
-  fetches : FetchingDown (suc l.level) (suc l.fn.level) (g.S.Shelf.holds l.shelf) (g.S.Shelf.used l.fn.shelf) (g.S.Shelf.used l.shelf) l.fn.tally.fetches l.tally.fetches;
+  fetches : FetchingDown (suc l.level) (suc l.fn.level) (record { held = g.S.Shelf.holds l.shelf; before = g.S.Shelf.used l.fn.shelf; after = g.S.Shelf.used l.shelf }) l.fn.tally.fetches l.tally.fetches;
   honest : HonestDown (number_of l.tree) (range_of l.range) l.fn.level (spots_of l.fn.pending.items) l.level (spots_of l.pending.items) (g.S.Shelf.used l.fn.shelf) (g.S.Shelf.used l.shelf);
 }
 

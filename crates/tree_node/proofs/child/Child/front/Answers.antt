@@ -1,5 +1,5 @@
 use Rattle.std.proofs.Common.{◌∙◌, Ok, ap, sym, arith}
-use Rattle.tree_node.specs.Reading.{link_by}
+use Rattle.tree_node.specs.internal.Reading.{link_by}
 use Rattle.tree_node.proofs.FrontLemmas.{link_first, link_long}
 use Rattle.tree_node.proofs.child.Child.front.Goals as goal
 

@@ -2,9 +2,9 @@ use Rattle.std.proofs.Common.{◌≡◌, ◌∙◌, ℕ, List, false, true, ltb,
 use Rattle.std.proofs.lemmas.Bool.{le-ltb, lt-ltb}
 use Rattle.tree_node.specs.NodeRefs.{link_of}
 use Rattle.tree_node.specs.Nodes.{Link}
-use Rattle.tree_node.specs.Reading.{link_by}
+use Rattle.tree_node.specs.internal.Reading.{link_by}
 use Rattle.tree_node.proofs.FrontLemmas.{link_cut, link_whole, key_len}
-use Rattle.tree_node.proofs.child.Child.read_front.Goals.{then-child-lt1-via-then-child-lt1, then-child-lt1-via-else-child-lt1+then-child-gt-MOST_ENTRIES}
+use Rattle.tree_node.proofs.child.Child.read_front.Goals.{then-child-lt1-via-then-child-lt1, then-child-lt1-via-else-child-lt1+then-child-gt-NUMBER_LIMIT}
 use Rattle.tree_node.proofs.child.Child.read_front.Goals as goal
 
 pub returns-then-bytes-lt-FEWEST_BYTES-clause-read : goal.returns-then-bytes-lt-FEWEST_BYTES-clause-read
@@ -20,9 +20,9 @@ returns-then-child-lt1-clause-read c =
     let whole = link_whole c.args.bytes.now (omega (arith, c.u16_at-len.ensures.number)) in
     elim c.then-child-lt1.branch [
       | then-child-lt1-via-then-child-lt1 w ↦ let low : ltb (link_by (key_len c.args.bytes.now) c.args.bytes.now).0.number 1 ≡ true = lt-ltb _ _ (omega (arith, number, w.if-child-lt1.true)) in whole ∙ rw low refl
-      | then-child-lt1-via-else-child-lt1+then-child-gt-MOST_ENTRIES w ↦
+      | then-child-lt1-via-else-child-lt1+then-child-gt-NUMBER_LIMIT w ↦
           let low : ltb (link_by (key_len c.args.bytes.now) c.args.bytes.now).0.number 1 ≡ false = le-ltb _ _ (omega (arith, number, w.if-child-lt1.false)) in
-          let high : ltb 1099511627776 (link_by (key_len c.args.bytes.now) c.args.bytes.now).0.number ≡ true = lt-ltb _ _ (omega (arith, number, w.if-child-gt-MOST_ENTRIES.true)) in
+          let high : ltb 1099511627776 (link_by (key_len c.args.bytes.now) c.args.bytes.now).0.number ≡ true = lt-ltb _ _ (omega (arith, number, w.if-child-gt-NUMBER_LIMIT.true)) in
           whole ∙ rw (low, high) refl
     ]
 

@@ -1,6 +1,6 @@
 use Rattle.std.proofs.Common.{arith}
 use Rattle.tree_node.proofs.NodeFaults.{refused_is, fault_refused}
-use Rattle.tree_node.proofs.NodeLaws.{is_found, is_only}
+use Rattle.tree_node.proofs.shared.NodeLaws.{is_found, is_only}
 use Rattle.tree_node.proofs.node.NodeRef.read.Goals as goal
 
 pub returns-clause-found : goal.returns-clause-found

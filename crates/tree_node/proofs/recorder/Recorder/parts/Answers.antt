@@ -1,7 +1,7 @@
 use Rattle.std.proofs.Common.{map}
 use Rattle.std.specs.BTreeMap.{get}
 use Rattle.tree_node.specs.Keys.{digest_cmp}
-use Rattle.tree_node.specs.Parts.{pair_of}
+use Rattle.tree_node.specs.internal.Pairs.{pair_of}
 use Rattle.tree_node.proofs.MapLemmas.{own_digest}
 use Rattle.tree_node.proofs.RecorderLemmas.{parts_rise, parts_given, to_come, one_more, none_more}
 use Rattle.tree_node.proofs.recorder.Recorder.parts.Goals as goal

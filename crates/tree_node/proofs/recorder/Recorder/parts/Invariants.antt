@@ -1,5 +1,5 @@
 use Rattle.std.proofs.Common.{◌≡◌, ◌++◌, map}
-use Rattle.tree_node.specs.Parts.{pair_of}
+use Rattle.tree_node.specs.internal.Pairs.{pair_of}
 use Rattle.tree_node.proofs.recorder.Recorder.parts.Given as goal
 
 -- the parts so far, and the entries still to come, are those that were given

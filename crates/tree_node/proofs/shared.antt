@@ -1,0 +1,10 @@
+-- Lemmas for the crates above.
+pub mod FieldLemmas
+pub mod NodeLaws
+pub mod PieceLaws
+pub mod PieceLemmas
+pub mod TreeKeys
+pub mod TreeLaws
+pub mod TreeLemmas
+pub mod TreeParts
+pub mod TreeSame

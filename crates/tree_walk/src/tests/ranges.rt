@@ -1,0 +1,138 @@
+//! Ends of ranges, told by hand.
+
+ghost use Rattle.std.specs.Option.{option_copied};
+ghost use Rattle.std.specs.Prelude.{IsTrue};
+ghost use Rattle.tree_walk.specs.Ranges.{IsAboveLeft};
+
+use super::nodes::range_of;
+use crate::KeyRange;
+use std::cmp::Ordering;
+use std::test::Fail;
+
+/// What a range says of a node: whether it contains its greatest key, meets the node, and covers it.
+type Told = (bool, bool, bool);
+
+/// Whether the key is above the left bound, where there is one.
+fn is_above(left: Option<&[u8]>, key: &[u8]) -> bool
+    ensures { IsTrue result → IsAboveLeft (option_copied left.entry) key.now }
+{
+    match left {
+        Some(left) => matches!(left.cmp(key), Ordering::Less),
+        None => true,
+    }
+}
+
+/// What the range says of a node with these bounds.
+fn told(range: &KeyRange<'_>, left: Option<&[u8]>, greatest: &[u8]) -> Result<Told, Fail> {
+    if !range.contains(range.lo) {
+        return Err(Fail::from("the range is empty"));
+    }
+    if !is_above(left, greatest) {
+        return Err(Fail::from("nothing lies between the bounds"));
+    }
+    Ok((
+        range.contains(greatest),
+        range.meets(left, greatest),
+        range.covers(left, greatest),
+    ))
+}
+
+/// The ranges from 3f to 40, without the keys that 40 begins and with them.
+#[test]
+fn tells_what_lies_between_two_keys(rt: HostRuntime) -> Result<(), Fail> {
+    let rows: [(Option<&[u8]>, &[u8], Told, Told); 13] = [
+        (
+            None,
+            b"\x3e\xff",
+            (false, false, false),
+            (false, false, false),
+        ),
+        (None, b"\x3f", (true, true, false), (true, true, false)),
+        (None, b"\x40", (true, true, false), (true, true, false)),
+        (None, b"\x41", (false, true, false), (false, true, false)),
+        (
+            Some(b"\x3e"),
+            b"\x3f",
+            (true, true, false),
+            (true, true, false),
+        ),
+        (
+            Some(b"\x3e\xff"),
+            b"\x40",
+            (true, true, false),
+            (true, true, false),
+        ),
+        (
+            Some(b"\x3f"),
+            b"\x40",
+            (true, true, true),
+            (true, true, true),
+        ),
+        (
+            Some(b"\x3f\x00"),
+            b"\x3f\x01",
+            (true, true, true),
+            (true, true, true),
+        ),
+        (
+            Some(b"\x3f"),
+            b"\x40\xff",
+            (false, true, false),
+            (true, true, true),
+        ),
+        (
+            Some(b"\x3f"),
+            b"\x41",
+            (false, true, false),
+            (false, true, false),
+        ),
+        (
+            Some(b"\x40"),
+            b"\x41",
+            (false, false, false),
+            (false, true, false),
+        ),
+        (
+            Some(b"\x40\xff"),
+            b"\x41",
+            (false, false, false),
+            (false, true, false),
+        ),
+        (
+            Some(b"\x41"),
+            b"\x42",
+            (false, false, false),
+            (false, false, false),
+        ),
+    ];
+    for (left, greatest, alone, begun) in rows {
+        let ranges = [(false, alone), (true, begun)];
+        for (under, expected) in ranges {
+            let range = range_of(b"\x3f", b"\x40", under);
+            assert_eq!(rt;
+                told(&range, left, greatest)?,
+                expected,
+                "{left:?} {greatest:?}"
+            );
+        }
+    }
+    Ok(())
+}
+
+/// Where `lo` is above `hi`, all that is left is what `hi` begins from `lo` on.
+#[test]
+fn tells_what_lies_below_its_start(rt: HostRuntime) {
+    for (lo, hi, key, contained) in [
+        (
+            b"\x40".as_slice(),
+            b"\x3f".as_slice(),
+            b"\x40".as_slice(),
+            false,
+        ),
+        (b"\x3f\x01", b"\x3f", b"\x3f\x01", true),
+        (b"\x3f\x01", b"\x3f", b"\x3f\xff", true),
+        (b"\x3f\x01", b"\x3f", b"\x3f\x00\xff", false),
+    ] {
+        assert_eq!(rt; range_of(lo, hi, true).contains(key), contained, "{key:?}");
+    }
+}
