@@ -1,9 +1,9 @@
 -- The rules of queries read and stop within the text.
-use Rattle.std.proofs.Common.{ℕ, zero, suc, List, [], ◌∷◌, Bool, true, false, Option, None, Some, refl, sym, append-nil}
+use Rattle.std.proofs.Common.{ℕ, zero, suc, List, [], ◌∷◌, Bool, true, false, Option, None, Some, sym, append-nil}
 use Rattle.std.specs.List.{flat_map}
 use Rattle.osm_model.specs.Degrees.{Decimal, sign, spelling}
 use Rattle.ql_syntax.specs.Areas.{Corners, area}
-use Rattle.ql_syntax.specs.Numbers.{IsNoNumber, NoDigit, NoFraction}
+use Rattle.ql_syntax.specs.Numbers.{IsNoNumber}
 use Rattle.ql_syntax.specs.Outs.{once, out_word_at, with_word, with_number, out_round, out_options}
 use Rattle.ql_syntax.specs.Points.{Next, Word, Number, pass, run_here, word_at, a_word, number_here, number_at, a_number, name_behind, a_name, into, text_here}
 use Rattle.ql_syntax.specs.Queries.{query}
@@ -66,8 +66,7 @@ module _ {whole : List ℕ} where
   in_a_word = inside_then _ inside_token (λ next at. inside_choose (λ is. in_word_at next at) (inside_unexpected next at))
 
   no_number : (text : List ℕ) (cause : QlCause) (place : List ℕ) → Ends whole text → IsNoNumber text cause place → Ends whole place
-  no_number text cause place it (NoDigit negative is other first misfit) = ends_behind (sign negative) is it
-  no_number text cause place it (NoFraction negative digits behind are is point other reason) = ends_behind digits refl (ends_behind (sign negative) is it)
+  no_number text cause place it stops = ends_behind (sign stops.negative) stops.parts it
 
   in_number_here : Inside whole Anywhere number_here
   unfolding number_here

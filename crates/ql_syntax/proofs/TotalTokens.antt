@@ -1,5 +1,5 @@
 -- Each text begins with a token, or stops.
-use Rattle.std.proofs.Common.{◌≡◌, ℕ, zero, suc, ◌==◌, ◌≤◌, ◌<◌, List, [], ◌∷◌, ◌++◌, drop, Bool, true, false, None, Some, arith, refl, sym, ◌∙◌, ap, subst, inl, inr, ◌⊎◌, ◌&&◌, append_assoc}
+use Rattle.std.proofs.Common.{◌≡◌, ℕ, zero, suc, ◌==◌, ◌≤◌, ◌<◌, List, [], ◌∷◌, ◌++◌, drop, Bool, true, false, None, Some, arith, refl, sym, ◌∙◌, ap, subst, inl, inr, ◌⊎◌, ◌&&◌, append_assoc, lit≤}
 use Rattle.std.proofs.lemmas.Bool.{cases_lt}
 use Rattle.std.proofs.lemmas.Bool.Decides.{nat_tests}
 use Rattle.std.proofs.lemmas.List.{append-nil}
@@ -10,7 +10,7 @@ use Rattle.std.specs.Char.{digit_value}
 use Rattle.std.specs.List.{list_all}
 use Rattle.osm_model.specs.Degrees.{IsDigits, BeginsOtherwise, sign, point}
 use Rattle.ql_syntax.specs.Gaps.{GapEnd, Behind, Open, gap, Between}
-use Rattle.ql_syntax.specs.Numbers.{IsNoNumber, IsMisfit, NoDigit, NoFraction, is_minus, is_point}
+use Rattle.ql_syntax.specs.Numbers.{IsNoNumber, IsMisfit, is_minus}
 use Rattle.ql_syntax.specs.Points.{Next, next_token, pass, run_here, word_at, a_word, number_here, number_at, a_number, name_behind, a_name, into}
 use Rattle.ql_syntax.specs.Signs.{sign_of, len_of}
 use Rattle.ql_syntax.specs.Words.{IsRun, begins_with, is_run_byte, is_word_start}
@@ -188,37 +188,43 @@ module _ (text unsigned : List ℕ) (negative : Bool) (parts : text ≡ sign neg
         decimal = record { whole = all; fraction = some };
         parts = parts ∙ ap (λ (x : List ℕ). sign negative ++ x) (is ∙ ap (λ (x : List ℕ). whole ++ 46 ∷ x) split ∙ sym (append_assoc whole (46 ∷ digits) rest)) ∙ sym (append_assoc (sign negative) (whole ++ 46 ∷ digits) rest);
         longest = stop;
-        no_point = λ e. (absurd (cc));
+        lone_point = λ e after f. (absurd (cc));
       })
 
-  behind_point : (whole behind : List ℕ) → IsDigits whole → unsigned ≡ whole ++ (46 ∷ behind) → (found : SomeDigits 10 behind) → (ds : List ℕ) → found.digits ≡ ds → Outcome number_here text
-  unfolding number_here
-  behind_point whole behind all is found [] none =
-      AsStop causes.UnexpectedCharacter (46 ∷ behind) (NoFraction negative whole behind all (parts ∙ ap (λ (x : List ℕ). sign negative ++ x) is) refl
-      (begins_otherwise behind (λ b s e. found.stop b s (sym (found.parts ∙ ap (λ (x : List ℕ). x ++ found.rest) none) ∙ e))) refl)
-  behind_point whole behind all is found (d ∷ ds) some =
-      with_fraction whole behind found.digits found.rest all is found.parts ((λ e. (let bad : d ∷ ds ≡ [] = sym some ∙ e in cc)), found.each) (begins_otherwise found.rest found.stop)
-
-  no_fraction : (whole rest : List ℕ) → IsDigits whole → unsigned ≡ whole ++ rest → BeginsOtherwise rest → begins_with is_point rest ≡ false → Outcome number_here text
+  no_fraction : (whole rest : List ℕ) → IsDigits whole → unsigned ≡ whole ++ rest → BeginsOtherwise rest → ((after : List ℕ) → rest ≡ 46 ∷ after → BeginsOtherwise after) → Outcome number_here text
   unfolding number_here
   no_fraction whole rest all is stop none =
       AsRead (record { negative = negative; whole = whole; fraction = None }) rest (record {
         decimal = record { whole = all; fraction = tt };
         parts = parts ∙ ap (λ (x : List ℕ). sign negative ++ x) (is ∙ ap (λ (x : List ℕ). x ++ rest) (sym (append-nil whole))) ∙ sym (append_assoc (sign negative) (whole ++ []) rest);
         longest = stop;
-        no_point = λ e. none;
+        lone_point = λ e. none;
       })
 
+  behind_point : (whole behind : List ℕ) → IsDigits whole → unsigned ≡ whole ++ (46 ∷ behind) → (found : SomeDigits 10 behind) → (ds : List ℕ) → found.digits ≡ ds → Outcome number_here text
+  behind_point whole behind all is found [] none =
+      no_fraction whole (46 ∷ behind) all is (lit≤ tt)
+      (λ after e. (let same : behind ≡ after = cc in
+      subst (λ (x : List ℕ). BeginsOtherwise x) same (begins_otherwise behind (λ b s f. found.stop b s (sym (found.parts ∙ ap (λ (x : List ℕ). x ++ found.rest) none) ∙ f)))))
+  behind_point whole behind all is found (d ∷ ds) some =
+      with_fraction whole behind found.digits found.rest all is found.parts ((λ e. (let bad : d ∷ ds ≡ [] = sym some ∙ e in cc)), found.each) (begins_otherwise found.rest found.stop)
+
   behind_whole : (whole rest : List ℕ) → IsDigits whole → unsigned ≡ whole ++ rest → BeginsOtherwise rest → Outcome number_here text
-  behind_whole whole [] all is stop = no_fraction whole [] all is stop refl
+  behind_whole whole [] all is stop = no_fraction whole [] all is stop (λ after e. absurd (cc))
   behind_whole whole (b ∷ s) all is stop = elim (same_number b 46) [
     | inl point ↦ behind_point whole s all (is ∙ ap (λ (x : ℕ). whole ++ x ∷ s) point) (digits_at 10 s) (digits_at 10 s).digits refl
-    | inr other ↦ no_fraction whole (b ∷ s) all is stop (not_equal b 46 other)
+    | inr other ↦ no_fraction whole (b ∷ s) all is stop (λ after e. absurd (let same : b ≡ 46 = cc in other same))
   ]
 
   number_of_parts : (found : SomeDigits 10 unsigned) → (ds : List ℕ) → found.digits ≡ ds → Outcome number_here text
   number_of_parts found [] none =
-      misfit_at unsigned text (λ cause misfit. NoDigit negative parts (begins_otherwise unsigned (λ b s e. found.stop b s (sym (found.parts ∙ ap (λ (x : List ℕ). x ++ found.rest) none) ∙ e))) plain misfit)
+      misfit_at unsigned text (λ cause misfit. record {
+        negative = negative;
+        parts = parts;
+        no_digit = begins_otherwise unsigned (λ b s e. found.stop b s (sym (found.parts ∙ ap (λ (x : List ℕ). x ++ found.rest) none) ∙ e));
+        no_minus = plain;
+        misfit = misfit;
+      })
   number_of_parts found (d ∷ ds) some =
       behind_whole found.digits found.rest ((λ e. (let bad : d ∷ ds ≡ [] = sym some ∙ e in cc)), found.each) found.parts (begins_otherwise found.rest found.stop)
 

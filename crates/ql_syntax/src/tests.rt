@@ -61,8 +61,8 @@ fn splits_numbers(rt: HostRuntime) {
         ("-;", Err((QlCause::UnexpectedCharacter, 1))),
         ("-", Err((QlCause::UnexpectedEnd, 1))),
         ("--1", Err((QlCause::UnexpectedCharacter, 1))),
-        ("1.", Err((QlCause::UnexpectedCharacter, 1))),
-        ("1.)", Err((QlCause::UnexpectedCharacter, 1))),
+        ("1.", Ok(1)),
+        ("1.)", Ok(1)),
         ("-.5", Err((QlCause::UnexpectedCharacter, 1))),
     ] {
         let text = text.as_bytes();
@@ -342,7 +342,8 @@ fn reads_out_options(rt: HostRuntime) {
         (" 1 1.5;", Err((QlCause::UnexpectedWord, 3))),
         (" 1.5;", Err((QlCause::NumberOutOfRange, 1))),
         (" -1;", Err((QlCause::NumberOutOfRange, 1))),
-        (" 1 5.;", Err((QlCause::UnexpectedCharacter, 4))),
+        (" 5.;", Err((QlCause::UnexpectedCharacter, 2))),
+        (" 1 5.;", Err((QlCause::UnexpectedWord, 3))),
         (" count;", Err((QlCause::OutsideProfile, 1))),
         (" noids;", Err((QlCause::OutsideProfile, 1))),
         (" ids (1,2,3,4);", Err((QlCause::OutsideProfile, 5))),
