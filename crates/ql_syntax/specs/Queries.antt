@@ -30,6 +30,10 @@ pub record Reads (bytes : List ℕ) (statements : List Statement) : Type 0 where
   pub spelled : grammar.query statements bytes []
   pub lawful : IsQuery statements
 
+-- out of memory: it stands at no place of the bytes, and is told at byte 0
+abbrev pub memory_fault : QlFault
+memory_fault = record { cause = causes.Memory; byte = 0 }
+
 -- why the bytes read as no query, and the byte where that is told: the first of these that holds
 pub data HasFault (bytes : List ℕ) (fault : QlFault) : Type 0 where
   -- too long

@@ -44,8 +44,8 @@ pub use cause::QlCause;
 pub use fault::QlFault;
 pub use filter::Filter;
 pub use laws::{
-    fault_place, lawful_queries, never_both, one_fault, one_language, one_name, one_number,
-    one_of_both, one_query, one_text, stops_within,
+    fault_place, lawful_queries, never_both, one_fault, one_language, one_of_both, one_query,
+    stops_within,
 };
 pub use name::Name;
 pub use parser::parse;

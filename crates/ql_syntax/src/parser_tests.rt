@@ -477,7 +477,7 @@ fn beginnings_of_queries_have_one_meaning(rt: HostRuntime) -> Result<(), Fail> {
 fn reads_again(rt: &impl Abort, alloc: Global, text: &[u8], wanted: &[u8]) -> Result<(), Fail> {
     let mut found = spelled(alloc, text);
     if let Err(fault) = &found {
-        assert_eq!(rt; fault.cause, QlCause::Memory);
+        assert_eq!(rt; (fault.cause, fault.byte), (QlCause::Memory, 0));
         found = spelled(alloc, text);
     }
     match found {
