@@ -9,16 +9,16 @@ use Rattle.ql_syntax.specs.declared.cause.QlCause.{QlCause}
 use Rattle.ql_syntax.specs.declared.number.Fraction.{Fraction}
 use Rattle.ql_syntax.specs.declared.number.Number.{Number}
 use Rattle.ql_syntax.specs.Numbers.{IsNoNumber, IsMisfit, is_minus}
-use Rattle.ql_syntax.specs.NumberParts.{IsNumberOf, IsFractionOf, decimal_of, fraction_of}
+use Rattle.ql_syntax.specs.internal.NumberParts.{IsNumberOf, IsFractionOf, decimal_of, fraction_of}
 use Rattle.ql_syntax.specs.Words.{begins_with}
 
--- behind the sign stands no digit
-pub no_digit : (text unsigned whole behind : List ℕ) (negative : Bool) (n : ℕ) (cause : QlCause) (place : List ℕ)
+-- after the sign stands no digit
+pub no_digit : (text unsigned whole after : List ℕ) (negative : Bool) (n : ℕ) (cause : QlCause) (place : List ℕ)
     → text ≡ sign negative ++ unsigned → (negative ≡ false → begins_with is_minus unsigned ≡ false)
-    → whole ≡ take n unsigned → behind ≡ drop n unsigned → whole ≡ [] → BeginsOtherwise (drop n unsigned)
-    → IsMisfit behind cause → place ≡ behind → IsNoNumber text cause place
-no_digit text unsigned whole behind negative n cause place parts plain front back none stop misfit same =
-    let all : behind ≡ unsigned = back ∙ sym (ap (λ (xs : List ℕ). xs ++ drop n unsigned) (sym front ∙ none)) ∙ take-append-drop n unsigned in
+    → whole ≡ take n unsigned → after ≡ drop n unsigned → whole ≡ [] → BeginsOtherwise (drop n unsigned)
+    → IsMisfit after cause → place ≡ after → IsNoNumber text cause place
+no_digit text unsigned whole after negative n cause place parts plain front back none stop misfit same =
+    let all : after ≡ unsigned = back ∙ sym (ap (λ (xs : List ℕ). xs ++ drop n unsigned) (sym front ∙ none)) ∙ take-append-drop n unsigned in
     let at : place ≡ unsigned = same ∙ all in
     record {
       negative = negative;
@@ -28,11 +28,11 @@ no_digit text unsigned whole behind negative n cause place parts plain front bac
       misfit = subst (λ (xs : List ℕ). IsMisfit xs cause) (sym same) misfit;
     }
 
--- a sign, digits and what stands behind them
-pub parts_of : (text unsigned whole behind : List ℕ) (negative : Bool) (n : ℕ)
-    → text ≡ sign negative ++ unsigned → whole ≡ take n unsigned → behind ≡ drop n unsigned → text ≡ sign negative ++ (whole ++ behind)
-parts_of text unsigned whole behind negative n parts front back =
-    parts ∙ ap (λ (xs : List ℕ). sign negative ++ xs) (sym (ap (λ (xs : List ℕ). xs ++ behind) front ∙ ap (λ (xs : List ℕ). take n unsigned ++ xs) back ∙ take-append-drop n unsigned))
+-- a sign, digits and what stands after them
+pub parts_of : (text unsigned whole after : List ℕ) (negative : Bool) (n : ℕ)
+    → text ≡ sign negative ++ unsigned → whole ≡ take n unsigned → after ≡ drop n unsigned → text ≡ sign negative ++ (whole ++ after)
+parts_of text unsigned whole after negative n parts front back =
+    parts ∙ ap (λ (xs : List ℕ). sign negative ++ xs) (sym (ap (λ (xs : List ℕ). xs ++ after) front ∙ ap (λ (xs : List ℕ). take n unsigned ++ xs) back ∙ take-append-drop n unsigned))
 
 pub digits_of : (unsigned whole : List ℕ) (n : ℕ) → whole ≡ take n unsigned → AllDigits 10 (take n unsigned) → whole ≢ [] → IsDigits whole
 digits_of unsigned whole n front all some = (some, subst (λ (xs : List ℕ). AllDigits 10 xs) (sym front) all)

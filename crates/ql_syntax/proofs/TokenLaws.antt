@@ -36,15 +36,15 @@ same_span test (x ∷ v) (y ∷ w) s t a b c d e =
 pub one_run : (text run other rest left : List ℕ) → IsRun text run rest → IsRun text other left → (run ≡ other) × (rest ≡ left)
 one_run text run other rest left h k = same_span is_run_byte run other rest left h.bytes k.bytes h.longest k.longest (sym h.parts ∙ k.parts)
 
-pub one_name : (behind name other rest left : List ℕ) → IsName behind name rest → IsName behind other left → (name ≡ other) × (rest ≡ left)
-one_name behind name other rest left h k = one_run behind name other rest left h.run k.run
+pub one_name : (after name other rest left : List ℕ) → IsName after name rest → IsName after other left → (name ≡ other) × (rest ≡ left)
+one_name after name other rest left h k = one_run after name other rest left h.run k.run
 
 word_starts : (text word rest : List ℕ) → IsWord text word rest → begins_with is_word_start text ≡ true
 word_starts text [] rest w = absurd (let e = w.start in cc)
 word_starts text (b ∷ word) rest w = ap (λ (s : List ℕ). begins_with is_word_start s) w.run.parts ∙ w.start
 
-pub name_or_not : (dot behind name rest : List ℕ) (cause : QlCause) (at : List ℕ) → IsName behind name rest → IsNoName dot behind cause at → ⊥
-name_or_not dot behind name rest cause at h k = let bad : true ≡ false = sym (word_starts behind name rest h) ∙ k.0 in cc
+pub name_or_not : (dot after name rest : List ℕ) (cause : QlCause) (at : List ℕ) → IsName after name rest → IsNoName dot after cause at → ⊥
+name_or_not dot after name rest cause at h k = let bad : true ≡ false = sym (word_starts after name rest h) ∙ k.0 in cc
 
 -- digits don't begin with a sign, nor with what begins otherwise
 no_minus : (digits rest more : List ℕ) → IsDigits digits → 45 ∷ rest ≡ digits ++ more → ⊥
@@ -62,9 +62,9 @@ same_signed true true v w x y dv dw ox oy e = let tail : v ++ x ≡ w ++ y = cc 
 same_signed true false v w x y dv dw ox oy e = absurd (no_minus w (v ++ x) y dw e)
 same_signed false true v w x y dv dw ox oy e = absurd (no_minus v (w ++ y) x dv (sym e))
 
-behind_whole : (f : Option (List ℕ)) (rest : List ℕ) → BeginsOtherwise rest → BeginsOtherwise (point f ++ rest)
-behind_whole None rest other = other
-behind_whole (Some digits) rest other = lit≤ tt
+after_whole : (f : Option (List ℕ)) (rest : List ℕ) → BeginsOtherwise rest → BeginsOtherwise (point f ++ rest)
+after_whole None rest other = other
+after_whole (Some digits) rest other = lit≤ tt
 
 same_point : (f g : Option (List ℕ)) (s t : List ℕ) → IsFraction f → IsFraction g → BeginsOtherwise s → BeginsOtherwise t
     → (f ≡ None → (after : List ℕ) → s ≡ 46 ∷ after → BeginsOtherwise after) → (g ≡ None → (after : List ℕ) → t ≡ 46 ∷ after → BeginsOtherwise after) → point f ++ s ≡ point g ++ t → (f ≡ g) × (s ≡ t)
@@ -82,7 +82,7 @@ parts_of text d rest h = h.parts ∙ append_assoc (sign d.negative) (d.whole ++ 
 pub one_number : (text : List ℕ) (d e : Decimal) (s t : List ℕ) → IsNumber text d s → IsNumber text e t → (d ≡ e) × (s ≡ t)
 one_number text d e s t h k =
     let r = same_signed d.negative e.negative d.whole e.whole (point d.fraction ++ s) (point e.fraction ++ t) h.decimal.whole k.decimal.whole
-    (behind_whole d.fraction s h.longest) (behind_whole e.fraction t k.longest) (sym (parts_of text d s h) ∙ parts_of text e t k) in
+    (after_whole d.fraction s h.longest) (after_whole e.fraction t k.longest) (sym (parts_of text d s h) ∙ parts_of text e t k) in
     let q = same_point d.fraction e.fraction s t h.decimal.fraction k.decimal.fraction h.longest k.longest h.lone_point k.lone_point r.2 in
     let f : Bool → Decimal = λ x. record { negative = x; whole = d.whole; fraction = d.fraction } in
     let g : List ℕ → Decimal = λ x. record { negative = e.negative; whole = x; fraction = d.fraction } in
@@ -100,21 +100,21 @@ number_or_not text d rest cause at h k =
     no_digit_here d.negative k.negative d.whole (point d.fraction ++ rest) at h.decimal.whole k.no_digit k.no_minus (sym (parts_of text d rest h) ∙ k.parts)
 
 -- one fault at most
-pub one_no_name : (dot behind : List ℕ) (c d : QlCause) (p q : List ℕ) → IsNoName dot behind c p → IsNoName dot behind d q → (c ≡ d) × (p ≡ q)
+pub one_no_name : (dot after : List ℕ) (c d : QlCause) (p q : List ℕ) → IsNoName dot after c p → IsNoName dot after d q → (c ≡ d) × (p ≡ q)
 one_no_name dot [] c d p q h k = (h.1.0 ∙ sym k.1.0, h.1.1 ∙ sym k.1.1)
-one_no_name dot (b ∷ behind) c d p q h k = (h.1.0 ∙ sym k.1.0, h.1.1 ∙ sym k.1.1)
+one_no_name dot (b ∷ after) c d p q h k = (h.1.0 ∙ sym k.1.0, h.1.1 ∙ sym k.1.1)
 
 same_misfit : (place : List ℕ) (c d : QlCause) → IsMisfit place c → IsMisfit place d → c ≡ d
 same_misfit [] c d h k = h ∙ sym k
 same_misfit (b ∷ place) c d h k = h ∙ sym k
 
-behind_sign : (m n : Bool) (p q : List ℕ) → (m ≡ false → begins_with is_minus p ≡ false) → (n ≡ false → begins_with is_minus q ≡ false) → sign m ++ p ≡ sign n ++ q → p ≡ q
-behind_sign true true p q mp nq e = cc
-behind_sign false false p q mp nq e = e
-behind_sign true false p q mp nq e = let bad : false ≡ true = sym (nq refl) ∙ ap (λ (s : List ℕ). begins_with is_minus s) (sym e) in cc
-behind_sign false true p q mp nq e = let bad : false ≡ true = sym (mp refl) ∙ ap (λ (s : List ℕ). begins_with is_minus s) e in cc
+after_sign : (m n : Bool) (p q : List ℕ) → (m ≡ false → begins_with is_minus p ≡ false) → (n ≡ false → begins_with is_minus q ≡ false) → sign m ++ p ≡ sign n ++ q → p ≡ q
+after_sign true true p q mp nq e = cc
+after_sign false false p q mp nq e = e
+after_sign true false p q mp nq e = let bad : false ≡ true = sym (nq refl) ∙ ap (λ (s : List ℕ). begins_with is_minus s) (sym e) in cc
+after_sign false true p q mp nq e = let bad : false ≡ true = sym (mp refl) ∙ ap (λ (s : List ℕ). begins_with is_minus s) e in cc
 
 pub one_no_number : (text : List ℕ) (c d : QlCause) (p q : List ℕ) → IsNoNumber text c p → IsNoNumber text d q → (c ≡ d) × (p ≡ q)
 one_no_number text c d p q h k =
-    let same = behind_sign h.negative k.negative p q h.no_minus k.no_minus (sym h.parts ∙ k.parts) in
+    let same = after_sign h.negative k.negative p q h.no_minus k.no_minus (sym h.parts ∙ k.parts) in
     (same_misfit p c d h.misfit (subst (λ (s : List ℕ). IsMisfit s d) (sym same) k.misfit), same)

@@ -39,13 +39,13 @@ pub fn fault_place()
 {}
 
 /// A law: what the rules read is spelled by the grammar and keeps what every query does, with nothing left
-/// behind it; and what is spelled so and keeps that, the rules read.
+/// after it; and what is spelled so and keeps that, the rules read.
 pub fn one_language()
     ensures spelled { (bytes : List ℕ) (statements : List Statement) (rest : List ℕ) → query.reads bytes statements rest → (rest ≡ []) × grammar.query statements bytes [] × IsQuery statements }
     ensures read { (bytes : List ℕ) (statements : List Statement) → grammar.query statements bytes [] → IsQuery statements → query.reads bytes statements [] }
 {}
 
-/// A law: where the rules stop is what is left of the text behind some of its bytes.
+/// A law: where the rules error is what is left of the text after some of its bytes.
 pub fn stops_within()
     ensures { (bytes : List ℕ) (cause : QlCause) (place : List ℕ) → query.stops bytes cause place → drop (length bytes - length place) bytes ≡ place }
 {}

@@ -5,10 +5,10 @@ ghost use Rattle.std.specs.Str.Parse.{AllDigits};
 ghost use Rattle.osm_model.specs.Degrees.{BeginsOtherwise, sign};
 ghost use Rattle.ql_syntax.specs.Words.{begins_with};
 ghost use Rattle.ql_syntax.specs.Numbers.{IsNoNumber, IsMisfit, is_minus};
-ghost use Rattle.ql_syntax.specs.NumberParts.{IsNumberOf, IsFractionOf};
+ghost use Rattle.ql_syntax.specs.internal.NumberParts.{IsNumberOf, IsFractionOf};
 
 use crate::cause::QlCause;
-use crate::stop::Stop;
+use crate::syntax_error::SyntaxError;
 
 /// The number at the front of a text, and what is left after it.
 #[derive(Clone, Copy, Debug)]
@@ -44,9 +44,9 @@ struct Fraction<'a> {
 ///
 /// Where there is no digit, after a `-` or without one, it is `UnexpectedCharacter` at what stands
 /// there, or `UnexpectedEnd` where the text ends. Linear; it takes no memory.
-pub fn split_number(text: &[u8]) -> Result<Number<'_>, Stop<'_>>
+pub fn split_number(text: &[u8]) -> Result<Number<'_>, SyntaxError<'_>>
     ensures read { IfOk result (λ number. IsNumberOf text.now number) }
-    ensures refused { IfErr result (λ stop. IsNoNumber text.now stop.cause stop.rest.now) }
+    ensures refused { IfErr result (λ error. IsNoNumber text.now error.cause error.rest.now) }
 {
     let signed = split_sign(text);
     let (whole, after) = signed.rest.split_at(digits_len(signed.rest));
@@ -100,15 +100,15 @@ fn split_fraction(text: &[u8]) -> Fraction<'_>
     }
 }
 
-/// The stop at a place where nothing fits that stands there.
-pub fn misfit(place: &[u8]) -> Stop<'_>
+/// The error at a place where nothing fits that stands there.
+pub fn misfit(place: &[u8]) -> SyntaxError<'_>
     ensures cause { IsMisfit place.now result.cause }
     ensures place { result.rest.now ≡ place.now }
 {
     if place.is_empty() {
-        Stop::at(QlCause::UnexpectedEnd, place)
+        SyntaxError::at(QlCause::UnexpectedEnd, place)
     } else {
-        Stop::at(QlCause::UnexpectedCharacter, place)
+        SyntaxError::at(QlCause::UnexpectedCharacter, place)
     }
 }
 

@@ -1,12 +1,13 @@
 //! Queries, read from text.
 
 ghost use Rattle.std.specs.Prelude.{◌≡◌, ◌⊎◌, ◌-◌, List, [], length, IfOk, IfErr};
-ghost use Rattle.ql_syntax.specs.Following.{Follows};
+ghost use Rattle.ql_syntax.specs.internal.Following.{Follows};
 ghost use Rattle.ql_syntax.specs.Queries.{HasFault, Reads, memory_fault, query};
 ghost use Rattle.ql_syntax.specs.Rules.{gather};
 ghost use Rattle.ql_syntax.specs.Statements.{Statement};
 ghost use Rattle.ql_syntax.specs.StatementRules.{top_statement};
-ghost use Rattle.ql_syntax.specs.StatementViews.{statements_of, the_statements};
+ghost use Rattle.ql_syntax.specs.StatementViews.{statements_of};
+ghost use Rattle.ql_syntax.specs.internal.StatementReaders.{the_statements};
 ghost use Rattle.ql_syntax.specs.declared.fault.QlFault.{QlFault};
 
 use crate::cause::QlCause;
@@ -16,12 +17,12 @@ use crate::query::Query;
 use crate::settings::skip_settings;
 use crate::statement::Stmt;
 use crate::statements::read_top_statement;
-use crate::stop::Stop;
+use crate::syntax_error::SyntaxError;
 use simdutf8::compat::from_utf8;
 use std::alloc::Global;
 
 /// The most bytes that a query has.
-const MAX_LEN: usize = 65_536;
+pub(crate) const TEXT_LIMIT: usize = 65_536;
 
 /// Reads a query: settings and statements of the profile, at most 65,536 bytes.
 ///
@@ -50,10 +51,10 @@ fn read_text(alloc: Global, text: &[u8]) -> Result<Query<'_>, QlFault>
     ensures read { IfOk result (λ query. Reads text.now (statements_of query)) }
     ensures refused { IfErr result (λ fault. (fault ≡ memory_fault) ⊎ HasFault text.now fault) }
 {
-    if text.len() > MAX_LEN {
+    if text.len() > TEXT_LIMIT {
         return Err(QlFault {
             cause: QlCause::TooLong,
-            byte: MAX_LEN,
+            byte: TEXT_LIMIT,
         });
     }
     if let Err(error) = from_utf8(text) {
@@ -64,28 +65,28 @@ fn read_text(alloc: Global, text: &[u8]) -> Result<Query<'_>, QlFault>
     }
     match read_query(alloc, text) {
         Ok((stmts, _)) => Ok(Query::new(stmts)),
-        Err(stop) => Err(fault_at(text, stop)),
+        Err(error) => Err(fault_at(text, error)),
     }
 }
 
 /// The fault of a text that can't go on at this place. Out of memory has no place.
-fn fault_at(text: &[u8], stop: Stop<'_>) -> QlFault
-    ensures cause { result.cause ≡ stop.entry.cause }
-    ensures memory { stop.entry.cause ≡ QlCause.Memory → result.byte ≡ 0 }
-    ensures byte { (stop.entry.cause ≡ QlCause.Memory) ⊎ (result.byte ≡ length text.now - length stop.entry.rest.now) }
+fn fault_at(text: &[u8], error: SyntaxError<'_>) -> QlFault
+    ensures cause { result.cause ≡ error.entry.cause }
+    ensures memory { error.entry.cause ≡ QlCause.Memory → result.byte ≡ 0 }
+    ensures byte { (error.entry.cause ≡ QlCause.Memory) ⊎ (result.byte ≡ length text.now - length error.entry.rest.now) }
 {
-    let byte = match stop.cause {
+    let byte = match error.cause {
         QlCause::Memory => 0,
-        _ => text.len().saturating_sub(stop.rest.len()),
+        _ => text.len().saturating_sub(error.rest.len()),
     };
     QlFault {
-        cause: stop.cause,
+        cause: error.cause,
         byte,
     }
 }
 
-/// The statements of a text, and what is left behind them: nothing.
-fn read_query(alloc: Global, text: &[u8]) -> Result<(Vec<Stmt<'_>>, &[u8]), Stop<'_>>
+/// The statements of a text, and what is left after them: nothing.
+fn read_query(alloc: Global, text: &[u8]) -> Result<(Vec<Stmt<'_>>, &[u8]), SyntaxError<'_>>
     ensures { Follows query the_statements text.now result }
 {
     let rest = skip_settings(text)?;
@@ -93,7 +94,7 @@ fn read_query(alloc: Global, text: &[u8]) -> Result<(Vec<Stmt<'_>>, &[u8]), Stop
 }
 
 /// The statements up to the end of the text, perhaps none.
-fn read_statements(alloc: Global, text: &[u8]) -> Result<(Vec<Stmt<'_>>, &[u8]), Stop<'_>>
+fn read_statements(alloc: Global, text: &[u8]) -> Result<(Vec<Stmt<'_>>, &[u8]), SyntaxError<'_>>
     ensures { Follows (gather top_statement []) the_statements text.now result }
 {
     let mut statements = Vec::new(alloc);

@@ -3,7 +3,7 @@
 ghost use Rattle.std.specs.Prelude.{◌≡◌, ◌≤◌, ◌^◌, ◌<◌, ℕ, ℤ, MatchOption, IfSome, IfNone};
 ghost use Rattle.std.specs.Str.Parse.{AllDigits, digits_value};
 ghost use Rattle.ql_syntax.specs.WholeNumbers.{IsId, IsCount};
-ghost use Rattle.ql_syntax.specs.NumberParts.{decimal_of};
+ghost use Rattle.ql_syntax.specs.internal.NumberParts.{decimal_of};
 
 use crate::number::Number;
 

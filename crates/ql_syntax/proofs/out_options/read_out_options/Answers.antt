@@ -1,6 +1,6 @@
 use Rattle.std.proofs.Common.{Bool, ap, refl}
 use Rattle.ql_syntax.specs.Outs.{out_options}
-use Rattle.ql_syntax.specs.Views.{option_round}
+use Rattle.ql_syntax.specs.internal.Views.{option_round}
 use Rattle.ql_syntax.proofs.OutLengths.{out_round_shorter}
 use Rattle.ql_syntax.proofs.RoundLemmas.{Start, follows_rounds, reaches_next}
 use Rattle.ql_syntax.proofs.RuleLemmas.{follows_as, keeps_exit, read_of}

@@ -6,8 +6,8 @@ use Rattle.ql_syntax.proofs.GivesRules.{query_gives}
 use Rattle.ql_syntax.proofs.RuleLemmas.{read_of}
 use Rattle.ql_syntax.proofs.parser.read_text.Goals as goal
 
-pub returns-then-text-gt-MAX_LEN-clause-refused : goal.returns-then-text-gt-MAX_LEN-clause-refused
-returns-then-text-gt-MAX_LEN-clause-refused c = inr (Long (omega arith) refl refl)
+pub returns-then-text-gt-TEXT_LIMIT-clause-refused : goal.returns-then-text-gt-TEXT_LIMIT-clause-refused
+returns-then-text-gt-TEXT_LIMIT-clause-refused c = inr (Long (omega arith) refl refl)
 
 pub returns-in-Ok-clause-read : goal.returns-in-Ok-clause-read
 returns-in-Ok-clause-read c =

@@ -1,5 +1,5 @@
 use Rattle.std.proofs.Common.{ap, refl}
-use Rattle.ql_syntax.specs.Views.{round_of}
+use Rattle.ql_syntax.specs.internal.Views.{round_of}
 use Rattle.ql_syntax.proofs.RoundLemmas.{Start, follows_rounds, reaches_next}
 use Rattle.ql_syntax.proofs.RuleLemmas.{follows_as, keeps_exit}
 use Rattle.ql_syntax.proofs.settings.skip_rounds.Goals as goal

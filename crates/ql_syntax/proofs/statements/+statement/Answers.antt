@@ -1,6 +1,7 @@
 use Rattle.std.proofs.Common.{ap, refl, rules}
 use Rattle.ql_syntax.specs.StatementRules.{block, difference, part, union}
-use Rattle.ql_syntax.specs.StatementViews.{other_statement, statement_of, statements_of}
+use Rattle.ql_syntax.specs.StatementViews.{statement_of, statements_of}
+use Rattle.ql_syntax.specs.internal.StatementReaders.{other_statement}
 use Rattle.ql_syntax.specs.declared.level.Level.TheVariants as levels
 use Rattle.ql_syntax.proofs.FilterLemmas.{follows_out}
 use Rattle.ql_syntax.proofs.GatherLemmas.{alone, gather_done, gather_from, gather_next, gather_stop, mapped}
@@ -39,7 +40,7 @@ pub read_block-returns-then-is-2 : goal.read_block-returns-then-is-2
 unfolding block
 read_block-returns-then-is-2 n c =
     follows_then _ c.in_ok-first.ensures (follows_then _ c.in_ok-token.ensures (follows_no _ (c.is.ensures.no c.if-is.false)
-    (follows_yes _ (c.is-else-is.ensures.yes c.if-is-2.true) (follows_from_at _ _ c.behind_byte.ensures c.read_difference-then-is-2.ensures))))
+    (follows_yes _ (c.is-else-is.ensures.yes c.if-is-2.true) (follows_from_at _ _ c.after_byte.ensures c.read_difference-then-is-2.ensures))))
 
 pub read_block-returns-else-is-2 : goal.read_block-returns-else-is-2
 unfolding block
