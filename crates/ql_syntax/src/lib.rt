@@ -24,6 +24,7 @@ mod ql_text;
 mod query;
 mod quoted;
 mod recursion;
+mod round;
 mod selection;
 mod selector;
 mod selector_word;

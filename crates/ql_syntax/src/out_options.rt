@@ -8,10 +8,11 @@ ghost use Rattle.std.specs.Str.Parse.{AllDigits};
 
 use crate::cause::QlCause;
 use crate::out_word::{OutWord, out_word};
+use crate::round::Round;
 use crate::syntax_error::SyntaxError;
 use crate::token::next_token;
 use crate::token_kind::TokenKind;
-use crate::token_readers::{NumberSpot, WordSpot, begins_number, number_at, word_at};
+use crate::token_readers::{NumberSpot, WordSpot, number_at, word_at};
 use opl_codec::OutMode;
 
 /// What the words and the number after `out` say.
@@ -39,12 +40,14 @@ pub fn read_out_options(text: &[u8]) -> Result<(OutOptions, &[u8]), SyntaxError<
     };
     let mut place = text;
     loop {
-        let (more, seen, rest) = read_round(options, place)?;
-        if !more {
-            return Ok((seen, rest));
+        let (round, seen, rest) = read_round(options, place)?;
+        match round {
+            Round::More => {
+                options = seen;
+                place = rest;
+            }
+            Round::Done => return Ok((seen, rest)),
         }
-        options = seen;
-        place = rest;
     }
 }
 
@@ -52,24 +55,24 @@ pub fn read_out_options(text: &[u8]) -> Result<(OutOptions, &[u8]), SyntaxError<
 fn read_round<'a>(
     seen: OutOptions,
     text: &'a [u8],
-) -> Result<(bool, OutOptions, &'a [u8]), SyntaxError<'a>>
+) -> Result<(Round, OutOptions, &'a [u8]), SyntaxError<'a>>
     ensures { Keeps (out_round seen) the_option_round text.now result }
 {
     let token = next_token(text)?;
-    if token.is(TokenKind::Word) {
-        let word = word_at(token);
-        let more = seen.with_word(word)?;
-        Ok((true, more, word.rest))
-    } else if begins_number(token.kind) {
-        let number = number_at(token)?;
-        let more = seen.with_number(number)?;
-        Ok((true, more, number.number.rest))
-    } else if token.is(TokenKind::OpenParenthesis) {
-        Err(SyntaxError::at(QlCause::OutsideProfile, token.place))
-    } else if token.is(TokenKind::Semicolon) {
-        Ok((false, seen, token.rest))
-    } else {
-        Err(token.unexpected())
+    match token.kind {
+        TokenKind::Word => {
+            let word = word_at(token);
+            let more = seen.with_word(word)?;
+            Ok((Round::More, more, word.rest))
+        }
+        TokenKind::Number | TokenKind::Minus => {
+            let number = number_at(token)?;
+            let more = seen.with_number(number)?;
+            Ok((Round::More, more, number.number.rest))
+        }
+        TokenKind::OpenParenthesis => { Err(SyntaxError::at(QlCause::OutsideProfile, token.place)) }
+        TokenKind::Semicolon => Ok((Round::Done, seen, token.rest)),
+        _ => Err(token.unexpected()),
     }
 }
 

@@ -85,16 +85,19 @@ fn read_filter(
     ensures { Follows (a_filter kind) the_other_filter text.now result }
 {
     let token = next_token(text)?;
-    if token.is(TokenKind::Dot) {
-        let (name, rest) = name_after(token)?;
-        Ok((Some(Filter::InSet(name)), rest))
-    } else if token.is(TokenKind::OpenBracket) {
-        let (filter, rest) = read_tag_filter(alloc, token.rest)?;
-        Ok((Some(filter), rest))
-    } else if token.is(TokenKind::OpenParenthesis) {
-        let (filter, rest) = read_selector(alloc, kind, token.rest)?;
-        Ok((Some(filter), rest))
-    } else {
-        Ok((None, token.place))
+    match token.kind {
+        TokenKind::Dot => {
+            let (name, rest) = name_after(token)?;
+            Ok((Some(Filter::InSet(name)), rest))
+        }
+        TokenKind::OpenBracket => {
+            let (filter, rest) = read_tag_filter(alloc, token.rest)?;
+            Ok((Some(filter), rest))
+        }
+        TokenKind::OpenParenthesis => {
+            let (filter, rest) = read_selector(alloc, kind, token.rest)?;
+            Ok((Some(filter), rest))
+        }
+        _ => Ok((None, token.place)),
     }
 }

@@ -21,7 +21,7 @@ use crate::syntax_error::SyntaxError;
 use crate::token::next_token;
 use crate::token_kind::TokenKind;
 use crate::token_readers::{
-    NumberSpot, WordSpot, begins_number, name_after, next_number, number_at, pass, word_at,
+    NumberSpot, WordSpot, name_after, next_number, number_at, pass, word_at,
 };
 use smallvec::SmallVec;
 use std::alloc::{AllocError, Global};
@@ -39,13 +39,12 @@ pub fn read_selector(
     ensures { Follows (selector pick) the_filter text.now result }
 {
     let token = next_token(text)?;
-    if token.is(TokenKind::Word) {
-        read_word_selector(alloc, pick, word_at(token))
-    } else if begins_number(token.kind) {
-        let number = number_at(token)?;
-        read_number_selector(alloc, pick, number)
-    } else {
-        Err(token.unexpected())
+    match token.kind {
+        TokenKind::Word => read_word_selector(alloc, pick, word_at(token)),
+        TokenKind::Number | TokenKind::Minus => {
+            read_number_selector(alloc, pick, number_at(token)?)
+        }
+        _ => Err(token.unexpected()),
     }
 }
 
@@ -76,18 +75,14 @@ fn read_number_selector<'a>(
     ensures { Follows (number_selector pick (number_of number.entry)) the_filter number.entry.number.rest.now result }
 {
     let token = next_token(number.number.rest)?;
-    if token.is(TokenKind::Comma) {
-        if pick.takes_boxes() {
-            read_box(alloc, number, token.rest)
-        } else {
-            Err(SyntaxError::at(QlCause::OutsideProfile, number.place))
+    match token.kind {
+        TokenKind::Comma if pick.takes_boxes() => read_box(alloc, number, token.rest),
+        TokenKind::Comma => Err(SyntaxError::at(QlCause::OutsideProfile, number.place)),
+        TokenKind::CloseParenthesis => {
+            let ids = ids_of(alloc, number.id()?)?;
+            Ok((Filter::Ids(ids), token.rest))
         }
-    } else if token.is(TokenKind::CloseParenthesis) {
-        let id = number.id()?;
-        let ids = ids_of(alloc, id)?;
-        Ok((Filter::Ids(ids), token.rest))
-    } else {
-        Err(token.unexpected())
+        _ => Err(token.unexpected()),
     }
 }
 
@@ -141,13 +136,13 @@ fn read_id_after(text: &[u8]) -> Result<(Option<i64>, &[u8]), SyntaxError<'_>>
     ensures { Keeps id_after the_other_id text.now result }
 {
     let token = next_token(text)?;
-    if token.is(TokenKind::Comma) {
-        let (id, rest) = next_id(token.rest)?;
-        Ok((Some(id), rest))
-    } else if token.is(TokenKind::CloseParenthesis) {
-        Ok((None, token.rest))
-    } else {
-        Err(token.unexpected())
+    match token.kind {
+        TokenKind::Comma => {
+            let (id, rest) = next_id(token.rest)?;
+            Ok((Some(id), rest))
+        }
+        TokenKind::CloseParenthesis => Ok((None, token.rest)),
+        _ => Err(token.unexpected()),
     }
 }
 
@@ -165,13 +160,16 @@ fn read_path_from(path: Path, text: &[u8]) -> Result<(Filter<'_>, &[u8]), Syntax
     ensures { Keeps (path_from path) the_filter text.now result }
 {
     let token = next_token(text)?;
-    if token.is(TokenKind::Dot) {
-        let (name, rest) = name_after(token)?;
-        let rest = pass_path_close(rest)?;
-        Ok((Filter::Via(path, name), rest))
-    } else {
-        let rest = pass_path_close(token.place)?;
-        Ok((Filter::Via(path, Name::default_set()), rest))
+    match token.kind {
+        TokenKind::Dot => {
+            let (name, rest) = name_after(token)?;
+            let rest = pass_path_close(rest)?;
+            Ok((Filter::Via(path, name), rest))
+        }
+        _ => {
+            let rest = pass_path_close(token.place)?;
+            Ok((Filter::Via(path, Name::default_set()), rest))
+        }
     }
 }
 
@@ -180,11 +178,9 @@ fn pass_path_close(text: &[u8]) -> Result<&[u8], SyntaxError<'_>>
     ensures { Keeps path_close the_rest text.now result }
 {
     let token = next_token(text)?;
-    if token.is(TokenKind::CloseParenthesis) {
-        Ok(token.rest)
-    } else if token.is(TokenKind::Colon) {
-        Err(SyntaxError::at(QlCause::OutsideProfile, token.place))
-    } else {
-        Err(token.unexpected())
+    match token.kind {
+        TokenKind::CloseParenthesis => Ok(token.rest),
+        TokenKind::Colon => Err(SyntaxError::at(QlCause::OutsideProfile, token.place)),
+        _ => Err(token.unexpected()),
     }
 }

@@ -7,6 +7,7 @@ ghost use Rattle.ql_syntax.specs.Settings.{settings, setting_round, setting, set
 ghost use Rattle.ql_syntax.specs.internal.Views.{the_rest, the_round, word_of};
 
 use crate::cause::QlCause;
+use crate::round::Round;
 use crate::setting_word::{FormatWord, SettingWord, format_of, setting_of};
 use crate::syntax_error::SyntaxError;
 use crate::token::next_token;
@@ -20,10 +21,9 @@ pub fn skip_settings(text: &[u8]) -> Result<&[u8], SyntaxError<'_>>
     ensures { Keeps settings the_rest text.now result }
 {
     let first = next_token(text)?;
-    if first.is(TokenKind::OpenBracket) {
-        skip_rounds(first.rest)
-    } else {
-        Ok(first.place)
+    match first.kind {
+        TokenKind::OpenBracket => skip_rounds(first.rest),
+        _ => Ok(first.place),
     }
 }
 
@@ -33,27 +33,25 @@ fn skip_rounds(text: &[u8]) -> Result<&[u8], SyntaxError<'_>>
 {
     let mut place = text;
     loop {
-        let (more, rest) = skip_round(place)?;
-        if !more {
-            return Ok(rest);
+        let (round, rest) = skip_round(place)?;
+        match round {
+            Round::More => place = rest,
+            Round::Done => return Ok(rest),
         }
-        place = rest;
     }
 }
 
 /// Whether another setting follows, and what is left after this one and the `[` of the next, or the `;`.
-fn skip_round(text: &[u8]) -> Result<(bool, &[u8]), SyntaxError<'_>>
+fn skip_round(text: &[u8]) -> Result<(Round, &[u8]), SyntaxError<'_>>
     ensures follows { Keeps (setting_round tt) the_round text.now result }
     ensures shorter { IfOk result (λ found. length found.1.now < length text.now) }
 {
     let after = skip_setting(text)?;
     let token = next_token(after)?;
-    if token.is(TokenKind::OpenBracket) {
-        Ok((true, token.rest))
-    } else if token.is(TokenKind::Semicolon) {
-        Ok((false, token.rest))
-    } else {
-        Err(token.unexpected())
+    match token.kind {
+        TokenKind::OpenBracket => Ok((Round::More, token.rest)),
+        TokenKind::Semicolon => Ok((Round::Done, token.rest)),
+        _ => Err(token.unexpected()),
     }
 }
 

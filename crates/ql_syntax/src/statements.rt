@@ -35,11 +35,12 @@ pub fn read_top_statement(
     ensures { Follows top_statement the_other_statement text.now result }
 {
     let token = next_token(text)?;
-    if token.is(TokenKind::End) {
-        Ok((None, &[]))
-    } else {
-        let (statement, rest) = read_statement(alloc, Level::Top, NESTING_LIMIT, token.place)?;
-        Ok((Some(statement), rest))
+    match token.kind {
+        TokenKind::End => Ok((None, &[])),
+        _ => {
+            let (statement, rest) = read_statement(alloc, Level::Top, NESTING_LIMIT, token.place)?;
+            Ok((Some(statement), rest))
+        }
     }
 }
 
@@ -56,14 +57,12 @@ fn read_statement(
     ensures { Follows (statement level depth) the_statement text.now result }
 {
     let token = next_token(text)?;
-    if token.is(TokenKind::OpenParenthesis) {
-        if depth == 0 {
+    match token.kind {
+        TokenKind::OpenParenthesis if depth == 0 => {
             Err(SyntaxError::at(QlCause::TooDeep, token.place))
-        } else {
-            read_block(alloc, depth - 1, token.rest)
         }
-    } else {
-        read_plain_statement(alloc, level, token)
+        TokenKind::OpenParenthesis => read_block(alloc, depth - 1, token.rest),
+        _ => read_plain_statement(alloc, level, token),
     }
 }
 
@@ -74,12 +73,10 @@ fn read_block(alloc: Global, depth: u32, text: &[u8]) -> Result<(Stmt<'_>, &[u8]
 {
     let (first, rest) = read_statement(alloc, Level::Inner, depth, text)?;
     let token = next_token(rest)?;
-    if token.is(TokenKind::Minus) {
-        read_difference(alloc, depth, first, token.rest)
-    } else if token.is(TokenKind::Arrow) {
-        read_difference(alloc, depth, first, after_byte(token.place))
-    } else {
-        read_union(alloc, depth, first, token.place)
+    match token.kind {
+        TokenKind::Minus => read_difference(alloc, depth, first, token.rest),
+        TokenKind::Arrow => read_difference(alloc, depth, first, after_byte(token.place)),
+        _ => read_union(alloc, depth, first, token.place),
     }
 }
 
@@ -148,11 +145,12 @@ fn read_part(
     ensures { Follows (part (statement Level.Inner depth)) the_other_statement text.now result }
 {
     let token = next_token(text)?;
-    if token.is(TokenKind::CloseParenthesis) {
-        Ok((None, token.rest))
-    } else {
-        let (statement, rest) = read_statement(alloc, Level::Inner, depth, token.place)?;
-        Ok((Some(statement), rest))
+    match token.kind {
+        TokenKind::CloseParenthesis => Ok((None, token.rest)),
+        _ => {
+            let (statement, rest) = read_statement(alloc, Level::Inner, depth, token.place)?;
+            Ok((Some(statement), rest))
+        }
     }
 }
 
@@ -164,16 +162,16 @@ fn read_plain_statement<'a>(
 ) -> Result<(Stmt<'a>, &'a [u8]), SyntaxError<'a>>
     ensures { Follows (plain_statement level (next_of token.entry)) the_statement token.entry.rest.now result }
 {
-    if token.is(TokenKind::Dot) {
-        let (name, rest) = name_after(token)?;
-        read_set_statement(level, name, rest)
-    } else if token.is(TokenKind::Word) {
-        read_word_statement(alloc, level, word_at(token))
-    } else {
-        match recursion_of(token.kind) {
+    match token.kind {
+        TokenKind::Dot => {
+            let (name, rest) = name_after(token)?;
+            read_set_statement(level, name, rest)
+        }
+        TokenKind::Word => read_word_statement(alloc, level, word_at(token)),
+        _ => match recursion_of(token.kind) {
             Some(how) => read_recursion(Name::default_set(), how, token.rest),
             None => Err(token.unexpected()),
-        }
+        },
     }
 }
 
@@ -202,13 +200,12 @@ fn read_set_statement<'a>(
     ensures { Keeps (set_statement level from.entry) the_statement text.now result }
 {
     let token = next_token(text)?;
-    if token.is(TokenKind::Word) {
-        read_set_word_statement(level, from, word_at(token))
-    } else {
-        match recursion_of(token.kind) {
+    match token.kind {
+        TokenKind::Word => read_set_word_statement(level, from, word_at(token)),
+        _ => match recursion_of(token.kind) {
             Some(how) => read_recursion(from, how, token.rest),
             None => read_item(from, token.place),
-        }
+        },
     }
 }
 

@@ -23,12 +23,16 @@ pub fn read_tag_filter(alloc: Global, text: &[u8]) -> Result<(Filter<'_>, &[u8])
     ensures { Follows tag_filter the_filter text.now result }
 {
     let token = next_token(text)?;
-    if token.is(TokenKind::Not) {
-        let (key, rest) = read_tag_value(alloc, token.rest)?;
-        return Ok((Filter::LacksKey(key), rest));
+    match token.kind {
+        TokenKind::Not => {
+            let (key, rest) = read_tag_value(alloc, token.rest)?;
+            Ok((Filter::LacksKey(key), rest))
+        }
+        _ => {
+            let (key, rest) = tag_text_at(alloc, token)?;
+            read_tag_rest(alloc, key, rest)
+        }
     }
-    let (key, rest) = tag_text_at(alloc, token)?;
-    read_tag_rest(alloc, key, rest)
 }
 
 /// The filter whose key has been read.
@@ -40,16 +44,17 @@ fn read_tag_rest<'a>(
     ensures { Follows (tag_rest key.entry) the_filter text.now result }
 {
     let token = next_token(text)?;
-    if token.is(TokenKind::CloseBracket) {
-        Ok((Filter::HasKey(key), token.rest))
-    } else if token.is(TokenKind::Equal) {
-        let (value, rest) = read_tag_value(alloc, token.rest)?;
-        Ok((Filter::KeyIs(key, value), rest))
-    } else if token.is(TokenKind::NotEqual) {
-        let (value, rest) = read_tag_value(alloc, token.rest)?;
-        Ok((Filter::KeyIsNot(key, value), rest))
-    } else {
-        Err(not_in_tag(token))
+    match token.kind {
+        TokenKind::CloseBracket => Ok((Filter::HasKey(key), token.rest)),
+        TokenKind::Equal => {
+            let (value, rest) = read_tag_value(alloc, token.rest)?;
+            Ok((Filter::KeyIs(key, value), rest))
+        }
+        TokenKind::NotEqual => {
+            let (value, rest) = read_tag_value(alloc, token.rest)?;
+            Ok((Filter::KeyIsNot(key, value), rest))
+        }
+        _ => Err(not_in_tag(token)),
     }
 }
 
@@ -89,10 +94,9 @@ fn pass_tag_close(text: &[u8]) -> Result<&[u8], SyntaxError<'_>>
     ensures { Keeps tag_close the_rest text.now result }
 {
     let token = next_token(text)?;
-    if token.is(TokenKind::CloseBracket) {
-        Ok(token.rest)
-    } else {
-        Err(not_in_tag(token))
+    match token.kind {
+        TokenKind::CloseBracket => Ok(token.rest),
+        _ => Err(not_in_tag(token)),
     }
 }
 

@@ -5,7 +5,7 @@ ghost use Rattle.std.specs.Str.Parse.{AllDigits};
 ghost use Rattle.osm_model.specs.Degrees.{Spells};
 ghost use Rattle.ql_syntax.specs.internal.Following.{Keeps};
 ghost use Rattle.ql_syntax.specs.internal.NumberParts.{decimal_of};
-ghost use Rattle.ql_syntax.specs.TokenRules.{pass, word_at, a_word, number_at, a_number, name_after, a_name, into, begins_number};
+ghost use Rattle.ql_syntax.specs.TokenRules.{pass, word_at, a_word, number_at, a_number, name_after, a_name, into};
 ghost use Rattle.ql_syntax.specs.internal.Views.{the_rest, next_of, the_word, number_of, the_number, the_bytes};
 ghost use Rattle.ql_syntax.specs.WholeNumbers.{id_of, count_of};
 
@@ -75,10 +75,9 @@ pub fn next_word(text: &[u8]) -> Result<WordSpot<'_>, SyntaxError<'_>>
     ensures { Keeps a_word the_word text.now result }
 {
     let token = next_token(text)?;
-    if token.is(TokenKind::Word) {
-        Ok(word_at(token))
-    } else {
-        Err(token.unexpected())
+    match token.kind {
+        TokenKind::Word => Ok(word_at(token)),
+        _ => Err(token.unexpected()),
     }
 }
 
@@ -101,10 +100,9 @@ pub fn next_number(text: &[u8]) -> Result<NumberSpot<'_>, SyntaxError<'_>>
     ensures digits { IfOk result (λ spot. AllDigits 10 spot.number.whole.now) }
 {
     let token = next_token(text)?;
-    if begins_number(token.kind) {
-        number_at(token)
-    } else {
-        Err(token.unexpected())
+    match token.kind {
+        TokenKind::Number | TokenKind::Minus => number_at(token),
+        _ => Err(token.unexpected()),
     }
 }
 
@@ -121,22 +119,14 @@ pub fn number_at(token: Token<'_>) -> Result<NumberSpot<'_>, SyntaxError<'_>>
     })
 }
 
-/// Whether a number may begin so.
-pub fn begins_number(kind: TokenKind) -> bool
-    ensures { result ≡ begins_number kind }
-{
-    matches!(kind, TokenKind::Number | TokenKind::Minus)
-}
-
 /// The name of a set, which must come next.
 pub fn next_name(text: &[u8]) -> Result<(Name<'_>, &[u8]), SyntaxError<'_>>
     ensures { Keeps a_name the_bytes text.now result }
 {
     let token = next_token(text)?;
-    if token.is(TokenKind::Dot) {
-        name_after(token)
-    } else {
-        Err(token.unexpected())
+    match token.kind {
+        TokenKind::Dot => name_after(token),
+        _ => Err(token.unexpected()),
     }
 }
 
@@ -153,13 +143,13 @@ pub fn read_into(text: &[u8]) -> Result<(Name<'_>, &[u8]), SyntaxError<'_>>
     ensures { Keeps into the_bytes text.now result }
 {
     let token = next_token(text)?;
-    if token.is(TokenKind::Arrow) {
-        let (name, rest) = next_name(token.rest)?;
-        let rest = pass(rest, TokenKind::Semicolon)?;
-        Ok((name, rest))
-    } else if token.is(TokenKind::Semicolon) {
-        Ok((Name::default_set(), token.rest))
-    } else {
-        Err(token.unexpected())
+    match token.kind {
+        TokenKind::Arrow => {
+            let (name, rest) = next_name(token.rest)?;
+            let rest = pass(rest, TokenKind::Semicolon)?;
+            Ok((name, rest))
+        }
+        TokenKind::Semicolon => Ok((Name::default_set(), token.rest)),
+        _ => Err(token.unexpected()),
     }
 }

@@ -1,12 +1,14 @@
 -- What the private readers give, without where it lies in memory.
 use Rattle.std.specs.Borrow.{Bor}
-use Rattle.std.specs.Prelude.{ℕ, List, Bool, true, false}
+use Rattle.std.specs.Prelude.{ℕ, List}
 use Rattle.ql_syntax.specs.Rules.{Round, More, Done}
 use Rattle.ql_syntax.specs.internal.NumberParts.{decimal_of}
 use Rattle.ql_syntax.specs.TokenRules.{Next, Word, Number}
 use Rattle.ql_syntax.specs.declared.out_options.OutOptions.{OutOptions}
 use Rattle.ql_syntax.specs.declared.token_readers.WordSpot.{WordSpot}
 use Rattle.ql_syntax.specs.declared.token_readers.NumberSpot.{NumberSpot}
+use Rattle.ql_syntax.specs.declared.round.Round as reader
+use Rattle.ql_syntax.specs.declared.round.Round.TheVariants as rounds
 use Rattle.ql_syntax.specs.declared.token.Token.{Token}
 
 -- what is left alone
@@ -36,20 +38,20 @@ abbrev pub the_bytes : (List ℕ × Bor (List ℕ)) → List ℕ × List ℕ
 the_bytes found = (found.0, found.1.now)
 
 -- whether a round is followed by another
-abbrev pub round_of : Bool → Round (Unit {0}) (Unit {0})
-round_of true = More tt
-round_of false = Done tt
+abbrev pub round_of : reader.Round → Round (Unit {0}) (Unit {0})
+round_of rounds.More = More tt
+round_of rounds.Done = Done tt
 
-abbrev pub the_round : (Bool × Bor (List ℕ)) → Round (Unit {0}) (Unit {0}) × List ℕ
+abbrev pub the_round : (reader.Round × Bor (List ℕ)) → Round (Unit {0}) (Unit {0}) × List ℕ
 the_round found = (round_of found.0, found.1.now)
 
 abbrev pub the_options : (OutOptions × Bor (List ℕ)) → OutOptions × List ℕ
 the_options found = (found.0, found.1.now)
 
 -- whether more options may follow
-abbrev pub option_round : Bool → OutOptions → Round OutOptions OutOptions
-option_round true options = More options
-option_round false options = Done options
+abbrev pub option_round : reader.Round → OutOptions → Round OutOptions OutOptions
+option_round rounds.More options = More options
+option_round rounds.Done options = Done options
 
-abbrev pub the_option_round : (Bool × OutOptions × Bor (List ℕ)) → Round OutOptions OutOptions × List ℕ
+abbrev pub the_option_round : (reader.Round × OutOptions × Bor (List ℕ)) → Round OutOptions OutOptions × List ℕ
 the_option_round found = (option_round found.0 found.1, found.2.now)

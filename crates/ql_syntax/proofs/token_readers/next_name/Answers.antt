@@ -6,12 +6,12 @@ pub returns-in_err-token : goal.returns-in_err-token
 unfolding a_name
 returns-in_err-token c = keeps_stop _ c.in_err-token.ensures c.from_residual.ensures.1
 
-pub returns-then-is : goal.returns-then-is
+pub returns-in-Dot : goal.returns-in-Dot
 unfolding a_name
-returns-then-is c =
-    follows_then _ c.in_ok-token.ensures (follows_yes _ (c.is.ensures.yes c.if-is.true) (c.name_after.ensures))
+returns-in-Dot c =
+    follows_then _ c.in_ok-token.ensures (follows_yes _ c.in-Dot.is (c.name_after.ensures))
 
-pub returns-else-is : goal.returns-else-is
+pub returns-in_default : goal.returns-in_default
 unfolding a_name
-returns-else-is c =
-    follows_then _ c.in_ok-token.ensures (follows_no _ (c.is.ensures.no c.if-is.false) (follows_unexpected _ c.unexpected.ensures))
+returns-in_default c =
+    follows_then _ c.in_ok-token.ensures (follows_no _ c.in_default.not-Dot (follows_unexpected _ c.unexpected.ensures))

@@ -6,12 +6,12 @@ pub returns-in_err-token : goal.returns-in_err-token
 unfolding a_word
 returns-in_err-token c = keeps_stop _ c.in_err-token.ensures c.from_residual.ensures.1
 
-pub returns-then-is : goal.returns-then-is
+pub returns-in-Word : goal.returns-in-Word
 unfolding a_word
-returns-then-is c =
-    follows_then _ c.in_ok-token.ensures (follows_yes _ (c.is.ensures.yes c.if-is.true) (c.word_at.ensures))
+returns-in-Word c =
+    follows_then _ c.in_ok-token.ensures (follows_yes _ c.in-Word.is (c.word_at.ensures))
 
-pub returns-else-is : goal.returns-else-is
+pub returns-in_default : goal.returns-in_default
 unfolding a_word
-returns-else-is c =
-    follows_then _ c.in_ok-token.ensures (follows_no _ (c.is.ensures.no c.if-is.false) (follows_unexpected _ c.unexpected.ensures))
+returns-in_default c =
+    follows_then _ c.in_ok-token.ensures (follows_no _ c.in_default.not-Word (follows_unexpected _ c.unexpected.ensures))
