@@ -10,9 +10,9 @@ use Rattle.osm_model.specs.declared.axis.Axis.TheVariants.{Lon, Lat}
 use Rattle.osm_model.specs.declared.fault.ModelFault.{ModelFault}
 use Rattle.osm_model.specs.declared.fault.ModelFault.TheVariants.{SouthAboveNorth}
 use Rattle.ql_syntax.specs.Areas.{Corners, AreBox, area, box_of}
-use Rattle.ql_syntax.specs.Following.{Outcome, Read, Stopped}
+use Rattle.ql_syntax.specs.internal.Following.{Outcome, Read, Stopped}
 use Rattle.ql_syntax.specs.declared.cause.QlCause.TheVariants as causes
-use Rattle.ql_syntax.specs.declared.stop.Stop.{Stop}
+use Rattle.ql_syntax.specs.declared.syntax_error.SyntaxError.{SyntaxError}
 
 -- the edge that is read of a decimal's text
 edge_is : {text : List ℕ} {axis : Axis} {d : Decimal} {e : ExactEdge} → Spells text d → (e.axis ≡ axis) × Spells text e.value × IsEdge e → e ≡ record { axis = axis; value = d }
@@ -59,6 +59,6 @@ pub area_read : {M : Type 0} {X : Type 0} {view : X → ExactBox × List ℕ} {c
 unfolding area
 area_read at {x = x} are is rest = Read x refl (are, is, rest)
 
-pub area_stop : {M : Type 0} {X : Type 0} {view : X → ExactBox × List ℕ} {corners : Corners} {at text : List ℕ} {stop : Stop} → ¬ (AreBox corners) → stop.cause ≡ causes.BadBox → stop.rest.now ≡ at → Outcome M (area corners at) view text (Err stop)
+pub area_stop : {M : Type 0} {X : Type 0} {view : X → ExactBox × List ℕ} {corners : Corners} {at text : List ℕ} {stop : SyntaxError} → ¬ (AreBox corners) → stop.cause ≡ causes.BadBox → stop.rest.now ≡ at → Outcome M (area corners at) view text (Err stop)
 unfolding area
 area_stop {stop = stop} not cause place = Stopped stop refl (not, cause, place)

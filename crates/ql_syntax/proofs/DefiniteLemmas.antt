@@ -1,6 +1,6 @@
 -- Rules that read a text in one way at most, or stop at one place for one cause, and never both.
 use Rattle.std.proofs.Common.{◌≡◌, ℕ, List, Option, refl, sym, ◌∙◌, ap, subst, inl, inr}
-use Rattle.ql_syntax.specs.Points.{Next, unexpected}
+use Rattle.ql_syntax.specs.TokenRules.{Next, unexpected}
 use Rattle.ql_syntax.specs.Rules.{Rule, ◌>>=◌, BothRead, OneStops, First, Second, give, refuse, from, choose, by_case, repeat, Round, More, Done, RoundsRead, RoundsStop, Last, Here, Later, gather, gather_round}
 use Rattle.ql_syntax.specs.Rules as rounds
 use Rattle.ql_syntax.specs.declared.cause.QlCause.{QlCause}
@@ -105,8 +105,8 @@ module _ {S A : Type 0} {round : S → Rule (Round S A)} (each : (state : S) →
   rounds_one v w r t state text (Last _ _ x) (Last _ _ y) = let e = (each state).one text (Done v) (Done w) r t x y in (done_is v w _ _ e.0 refl refl, e.1)
   rounds_one v w r t state text (Last _ _ x) (rounds.Next _ next _ middle y more) = let e = (each state).one text (Done v) (More next) r middle x y in absurd (not_done next v _ _ (sym e.0) refl refl)
   rounds_one v w r t state text (rounds.Next _ next _ middle x more) (Last _ _ y) = let e = (each state).one text (More next) (Done w) middle t x y in absurd (not_done next w _ _ e.0 refl refl)
-  rounds_one v w r t state text (rounds.Next _ next _ middle x more) (rounds.Next _ other _ behind y rest) =
-      let e = (each state).one text (More other) (More next) behind middle y x in
+  rounds_one v w r t state text (rounds.Next _ next _ middle x more) (rounds.Next _ other _ after y rest) =
+      let e = (each state).one text (More other) (More next) after middle y x in
       let same : other ≡ next = more_is other next _ _ e.0 refl refl in
       rounds_one v w r t next middle more (subst (λ (k : S). RoundsRead round w t k middle) same (subst (λ (z : List ℕ). RoundsRead round w t other z) e.1 rest))
 
@@ -114,8 +114,8 @@ module _ {S A : Type 0} {round : S → Rule (Round S A)} (each : (state : S) →
   rounds_never v r c p state text (Last _ _ x) (Here _ _ y) = (each state).never text (Done v) r c p x y
   rounds_never v r c p state text (Last _ _ x) (Later _ next _ middle y more) = let e = (each state).one text (Done v) (More next) r middle x y in absurd (not_done next v _ _ (sym e.0) refl refl)
   rounds_never v r c p state text (rounds.Next _ next _ middle x more) (Here _ _ y) = (each state).never text (More next) middle c p x y
-  rounds_never v r c p state text (rounds.Next _ next _ middle x more) (Later _ other _ behind y rest) =
-      let e = (each state).one text (More other) (More next) behind middle y x in
+  rounds_never v r c p state text (rounds.Next _ next _ middle x more) (Later _ other _ after y rest) =
+      let e = (each state).one text (More other) (More next) after middle y x in
       let same : other ≡ next = more_is other next _ _ e.0 refl refl in
       rounds_never v r c p next middle more (subst (λ (k : S). RoundsStop round c p k middle) same (subst (λ (z : List ℕ). RoundsStop round c p other z) e.1 rest))
 
@@ -123,8 +123,8 @@ module _ {S A : Type 0} {round : S → Rule (Round S A)} (each : (state : S) →
   rounds_fault c d p q state text (Here _ _ x) (Here _ _ y) = (each state).fault text c d p q x y
   rounds_fault c d p q state text (Here _ _ x) (Later _ next _ middle y more) = absurd ((each state).never text (More next) middle c p y x)
   rounds_fault c d p q state text (Later _ next _ middle x more) (Here _ _ y) = absurd ((each state).never text (More next) middle d q x y)
-  rounds_fault c d p q state text (Later _ next _ middle x more) (Later _ other _ behind y rest) =
-      let e = (each state).one text (More other) (More next) behind middle y x in
+  rounds_fault c d p q state text (Later _ next _ middle x more) (Later _ other _ after y rest) =
+      let e = (each state).one text (More other) (More next) after middle y x in
       let same : other ≡ next = more_is other next _ _ e.0 refl refl in
       rounds_fault c d p q next middle more (subst (λ (k : S). RoundsStop round d q k middle) same (subst (λ (z : List ℕ). RoundsStop round d q other z) e.1 rest))
 

@@ -2,11 +2,11 @@
 use Rattle.std.proofs.Common.{ℕ, zero, suc, List, [], ◌∷◌, Option, None, Some, Bool, true, false, drop}
 use Rattle.std.specs.Option.{is_some}
 use Rattle.ql_syntax.specs.Outs.{once, out_word_at, with_word, with_number, out_round, out_options}
-use Rattle.ql_syntax.specs.Points.{Next, Word, Number}
+use Rattle.ql_syntax.specs.TokenRules.{Next, Word, Number}
 use Rattle.ql_syntax.specs.Queries.{query}
 use Rattle.ql_syntax.specs.Rules.{Rule}
 use Rattle.ql_syntax.specs.Selections.{a_filter, selection}
-use Rattle.ql_syntax.specs.Selectors.{an_id, id_behind, id_list, path_close, path_from, selector_named, word_selector, corner, box_behind, number_selector, selector}
+use Rattle.ql_syntax.specs.Selectors.{an_id, id_after, id_list, path_close, path_from, selector_named, word_selector, corner, box_after, number_selector, selector}
 use Rattle.ql_syntax.specs.Settings.{format, format_named, count, setting_named, setting_value, setting, setting_round, settings}
 use Rattle.ql_syntax.specs.StatementRules.{recursion, item, out_of, print_at, print, statement_named, word_statement, set_statement_named, set_word_statement, recursion_or_item, set_statement, recursion_at, plain_statement, part, union, difference, block, statement, top_statement}
 use Rattle.ql_syntax.specs.Statements.{Statement}
@@ -25,16 +25,16 @@ use Rattle.ql_syntax.specs.declared.setting_word.FormatWord.{FormatWord}
 use Rattle.ql_syntax.specs.declared.setting_word.FormatWord.TheVariants as formats
 use Rattle.ql_syntax.specs.declared.setting_word.SettingWord.{SettingWord}
 use Rattle.ql_syntax.specs.declared.setting_word.SettingWord.TheVariants as setting_words
-use Rattle.ql_syntax.specs.declared.sign.Sign.TheVariants as signs
+use Rattle.ql_syntax.specs.declared.token_kind.TokenKind.TheVariants as kinds
 use Rattle.ql_syntax.specs.declared.statement_word.StatementWord.{StatementWord}
 use Rattle.ql_syntax.specs.declared.statement_word.StatementWord.TheVariants as words
 use Rattle.ql_syntax.proofs.DefiniteLemmas.{Definite, definite_give, definite_refuse, definite_unexpected, definite_from, definite_choose, definite_case, definite_then, definite_repeat, definite_gather}
-use Rattle.ql_syntax.proofs.DefiniteTokens.{definite_token, definite_run, definite_name_behind, definite_text, definite_pass, definite_word_at, definite_word, definite_number_at, definite_number, definite_into, definite_id, definite_count, definite_area}
+use Rattle.ql_syntax.proofs.DefiniteTokens.{definite_token, definite_run, definite_name_after, definite_text, definite_pass, definite_word_at, definite_word, definite_number_at, definite_number, definite_into, definite_id, definite_count, definite_area}
 
 -- settings
 format_named_is : (place : List ℕ) (word : FormatWord) → Definite (format_named place word)
 format_named_is place formats.Known = definite_give tt
-format_named_is place formats.Outside = definite_refuse _ place
+format_named_is place formats.LeftOut = definite_refuse _ place
 format_named_is place formats.Unknown = definite_refuse _ place
 
 format_is : Definite format
@@ -46,14 +46,14 @@ unfolding count
 count_is = definite_then _ definite_number (λ number. definite_then _ (definite_count number.number number.place) (λ value. definite_give tt))
 
 setting_named_is : (place : List ℕ) (word : SettingWord) → Definite (setting_named place word)
-setting_named_is place setting_words.Format = definite_then _ (definite_pass signs.Colon) (λ colon. format_is)
-setting_named_is place setting_words.Count = definite_then _ (definite_pass signs.Colon) (λ colon. count_is)
-setting_named_is place setting_words.Outside = definite_refuse _ place
+setting_named_is place setting_words.Format = definite_then _ (definite_pass kinds.Colon) (λ colon. format_is)
+setting_named_is place setting_words.Count = definite_then _ (definite_pass kinds.Colon) (λ colon. count_is)
+setting_named_is place setting_words.LeftOut = definite_refuse _ place
 setting_named_is place setting_words.Unknown = definite_refuse _ place
 
 setting_is : Definite setting
 unfolding setting setting_value
-setting_is = definite_then _ definite_word (λ word. definite_then _ (definite_case _ _ (setting_named_is word.place)) (λ value. definite_pass signs.CloseBracket))
+setting_is = definite_then _ definite_word (λ word. definite_then _ (definite_case _ _ (setting_named_is word.place)) (λ value. definite_pass kinds.CloseBracket))
 
 setting_round_is : (state : Unit {0}) → Definite (setting_round state)
 unfolding setting_round
@@ -99,13 +99,13 @@ an_id_is : Definite an_id
 unfolding an_id
 an_id_is = definite_then _ definite_number (λ number. definite_id number.number number.place)
 
-id_behind_is : Definite id_behind
-unfolding id_behind
-id_behind_is = definite_then _ definite_token (λ next. definite_choose _ (definite_then _ an_id_is (λ id. definite_give _)) (definite_choose _ (definite_give _) (definite_unexpected next)))
+id_after_is : Definite id_after
+unfolding id_after
+id_after_is = definite_then _ definite_token (λ next. definite_choose _ (definite_then _ an_id_is (λ id. definite_give _)) (definite_choose _ (definite_give _) (definite_unexpected next)))
 
 id_list_is : Definite id_list
 unfolding id_list
-id_list_is = definite_then _ (definite_pass signs.Colon) (λ colon. definite_then _ an_id_is (λ first. definite_then _ (definite_gather id_behind_is (first ∷ [])) (λ ids. definite_give _)))
+id_list_is = definite_then _ (definite_pass kinds.Colon) (λ colon. definite_then _ an_id_is (λ first. definite_then _ (definite_gather id_after_is (first ∷ [])) (λ ids. definite_give _)))
 
 path_close_is : Definite path_close
 unfolding path_close
@@ -113,13 +113,13 @@ path_close_is = definite_then _ definite_token (λ next. definite_choose _ (defi
 
 path_from_is : (path : Path) → Definite (path_from path)
 unfolding path_from
-path_from_is path = definite_then _ definite_token (λ next. definite_choose _ (definite_then _ (definite_name_behind next) (λ name. definite_then _ path_close_is (λ close. definite_give _)))
+path_from_is path = definite_then _ definite_token (λ next. definite_choose _ (definite_then _ (definite_name_after next) (λ name. definite_then _ path_close_is (λ close. definite_give _)))
     (definite_then _ (definite_from next.place path_close_is) (λ close. definite_give _)))
 
 selector_named_is : (place : List ℕ) (word : SelectorWord) → Definite (selector_named place word)
 selector_named_is place selectors.Ids = id_list_is
 selector_named_is place (selectors.Along path) = path_from_is path
-selector_named_is place selectors.Outside = definite_refuse _ place
+selector_named_is place selectors.LeftOut = definite_refuse _ place
 selector_named_is place selectors.Unknown = definite_refuse _ place
 
 word_selector_is : (pick : Pick) (word : Word) → Definite (word_selector pick word)
@@ -128,11 +128,11 @@ word_selector_is pick word = definite_case _ _ (selector_named_is word.place)
 
 corner_is : Definite corner
 unfolding corner
-corner_is = definite_then _ (definite_pass signs.Comma) (λ comma. definite_number)
+corner_is = definite_then _ (definite_pass kinds.Comma) (λ comma. definite_number)
 
-box_is : (south : Number) → Definite (box_behind south)
-unfolding box_behind
-box_is south = definite_then _ definite_number (λ west. definite_then _ corner_is (λ north. definite_then _ corner_is (λ east. definite_then _ (definite_pass signs.CloseParenthesis) (λ close. definite_then _ (definite_area _ south.place) (λ box. definite_give _)))))
+box_is : (south : Number) → Definite (box_after south)
+unfolding box_after
+box_is south = definite_then _ definite_number (λ west. definite_then _ corner_is (λ north. definite_then _ corner_is (λ east. definite_then _ (definite_pass kinds.CloseParenthesis) (λ close. definite_then _ (definite_area _ south.place) (λ box. definite_give _)))))
 
 number_selector_is : (pick : Pick) (number : Number) → Definite (number_selector pick number)
 unfolding number_selector
@@ -147,7 +147,7 @@ selector_is pick = definite_then _ definite_token (λ next. definite_choose _ (d
 -- query statements
 a_filter_is : (pick : Pick) → Definite (a_filter pick)
 unfolding a_filter
-a_filter_is pick = definite_then _ definite_token (λ next. definite_choose _ (definite_then _ (definite_name_behind next) (λ name. definite_give _))
+a_filter_is pick = definite_then _ definite_token (λ next. definite_choose _ (definite_then _ (definite_name_after next) (λ name. definite_give _))
     (definite_choose _ (definite_then _ tag_filter_is (λ filter. definite_give _))
     (definite_choose _ (definite_then _ (selector_is pick) (λ filter. definite_give _)) (definite_from next.place (definite_give _)))))
 
@@ -163,7 +163,7 @@ once_is false place value = definite_give value
 out_word_at_is : (seen : OutOptions) (place : List ℕ) (word : OutWord) → Definite (out_word_at seen place word)
 out_word_at_is seen place (outs.Mode mode) = once_is (is_some seen.mode) place _
 out_word_at_is seen place outs.Order = once_is seen.ordered place _
-out_word_at_is seen place outs.Outside = definite_refuse _ place
+out_word_at_is seen place outs.LeftOut = definite_refuse _ place
 out_word_at_is seen place outs.Unknown = definite_refuse _ place
 
 with_word_is : (seen : OutOptions) (word : Word) → Definite (with_word seen word)
@@ -204,7 +204,7 @@ print_is level start place = definite_case _ _ (print_at_is start place)
 statement_named_is : (level : Level) (place : List ℕ) (word : StatementWord) → Definite (statement_named level place word)
 statement_named_is level place (words.Kind pick) = selection_is pick
 statement_named_is level place words.Print = print_is level _ place
-statement_named_is level place words.Outside = definite_refuse _ place
+statement_named_is level place words.LeftOut = definite_refuse _ place
 statement_named_is level place words.Unknown = definite_refuse _ place
 
 word_statement_is : (level : Level) (word : Word) → Definite (word_statement level word)
@@ -214,7 +214,7 @@ word_statement_is level word = definite_case _ _ (statement_named_is level word.
 set_named_is : (level : Level) (start place : List ℕ) (word : StatementWord) → Definite (set_statement_named level start place word)
 set_named_is level start place (words.Kind pick) = definite_refuse _ place
 set_named_is level start place words.Print = print_is level start place
-set_named_is level start place words.Outside = definite_refuse _ place
+set_named_is level start place words.LeftOut = definite_refuse _ place
 set_named_is level start place words.Unknown = definite_refuse _ place
 
 set_word_is : (level : Level) (start : List ℕ) (word : Word) → Definite (set_word_statement level start word)
@@ -235,7 +235,7 @@ recursion_at_is next None = definite_unexpected next
 
 plain_is : (level : Level) (next : Next) → Definite (plain_statement level next)
 unfolding plain_statement
-plain_is level next = definite_choose _ (definite_then _ (definite_name_behind next) (set_statement_is level))
+plain_is level next = definite_choose _ (definite_then _ (definite_name_after next) (set_statement_is level))
     (definite_choose _ (definite_then _ (definite_word_at next) (word_statement_is level)) (definite_case _ _ (recursion_at_is next)))
 
 module _ {inner : Rule Statement} (d : Definite inner) where
@@ -249,7 +249,7 @@ module _ {inner : Rule Statement} (d : Definite inner) where
 
   difference_is : (left : Statement) → Definite (difference inner left)
   unfolding difference
-  difference_is left = definite_then _ d (λ right. definite_then _ (definite_pass signs.CloseParenthesis) (λ close. definite_then _ definite_into (λ set. definite_give _)))
+  difference_is left = definite_then _ d (λ right. definite_then _ (definite_pass kinds.CloseParenthesis) (λ close. definite_then _ definite_into (λ set. definite_give _)))
 
   block_is : Definite (block inner)
   unfolding block

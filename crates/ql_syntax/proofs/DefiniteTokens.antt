@@ -2,29 +2,29 @@
 use Rattle.std.proofs.Common.{◌≡◌, ℕ, pos, List, drop, sym, ◌∙◌, ap}
 use Rattle.osm_model.specs.Degrees.{Decimal}
 use Rattle.ql_syntax.specs.Areas.{Corners, area}
-use Rattle.ql_syntax.specs.Gaps.{Behind, Open}
-use Rattle.ql_syntax.specs.Points.{Next, At, next_token, pass, run_here, word_at, a_word, number_here, number_at, a_number, text_here, name_behind, a_name, into}
-use Rattle.ql_syntax.specs.Signs.{sign_of, len_of}
+use Rattle.ql_syntax.specs.Gaps.{After, Open}
+use Rattle.ql_syntax.specs.TokenRules.{Next, At, next_token, pass, run_here, word_at, a_word, number_here, number_at, a_number, text_here, name_after, a_name, into}
+use Rattle.ql_syntax.specs.TokenKinds.{token_kind_at, punctuation_len}
 use Rattle.ql_syntax.specs.WholeNumbers.{id_of, count_of}
-use Rattle.ql_syntax.specs.declared.sign.Sign.{Sign}
-use Rattle.ql_syntax.specs.declared.sign.Sign.TheVariants as signs
+use Rattle.ql_syntax.specs.declared.token_kind.TokenKind.{TokenKind}
+use Rattle.ql_syntax.specs.declared.token_kind.TokenKind.TheVariants as kinds
 use Rattle.ql_syntax.proofs.DefiniteLemmas.{Definite, definite_give, definite_unexpected, definite_from, definite_choose, definite_then}
 use Rattle.ql_syntax.proofs.QuotedLaws.{one_text, text_or_not, one_no_text}
 use Rattle.ql_syntax.proofs.TokenLaws.{one_run, one_name, name_or_not, one_no_name, one_number, number_or_not, one_no_number}
 
 one_place : (text : List ℕ) (v w : Next) (r s : List ℕ) → At text v r → At text w s → (v ≡ w) × (r ≡ s)
 one_place text v w r s x y =
-    let ends : Behind v.place ≡ Behind w.place = sym x.behind_gap ∙ y.behind_gap in
+    let ends : After v.place ≡ After w.place = sym x.after_gap ∙ y.after_gap in
     let place : v.place ≡ w.place = cc in
-    let sign : v.sign ≡ w.sign = x.sign_is ∙ ap sign_of place ∙ sym y.sign_is in
-    let rest : r ≡ s = x.rest_is ∙ ap (λ (n : ℕ). drop n v.place) (ap len_of sign) ∙ ap (λ (z : List ℕ). drop (len_of w.sign) z) place ∙ sym y.rest_is in
-    (ap (λ (k : Sign). let n : Next = record { sign = k; place = v.place } in n) sign ∙ ap (λ (z : List ℕ). let n : Next = record { sign = w.sign; place = z } in n) place, rest)
+    let kind : v.kind ≡ w.kind = x.kind_is ∙ ap token_kind_at place ∙ sym y.kind_is in
+    let rest : r ≡ s = x.rest_is ∙ ap (λ (n : ℕ). drop n v.place) (ap punctuation_len kind) ∙ ap (λ (z : List ℕ). drop (punctuation_len w.kind) z) place ∙ sym y.rest_is in
+    (ap (λ (k : TokenKind). let n : Next = record { kind = k; place = v.place } in n) kind ∙ ap (λ (z : List ℕ). let n : Next = record { kind = w.kind; place = z } in n) place, rest)
 
 pub definite_token : Definite next_token
 unfolding next_token
 definite_token = record {
   one = one_place;
-  never = λ text v r c p x y. (let bad : Behind v.place ≡ Open p = sym x.behind_gap ∙ y.1 in cc);
+  never = λ text v r c p x y. (let bad : After v.place ≡ Open p = sym x.after_gap ∙ y.1 in cc);
   fault = λ text c d p q x y. (x.0 ∙ sym y.0, (let same : Open p ≡ Open q = sym x.1 ∙ y.1 in cc));
 }
 
@@ -32,9 +32,9 @@ pub definite_run : Definite run_here
 unfolding run_here
 definite_run = record { one = λ text v w r s x y. one_run text v w r s x y; never = λ text v r c p x y. y; fault = λ text c d p q x y. absurd x }
 
-pub definite_name_behind : (dot : Next) → Definite (name_behind dot)
-unfolding name_behind
-definite_name_behind dot = record {
+pub definite_name_after : (dot : Next) → Definite (name_after dot)
+unfolding name_after
+definite_name_after dot = record {
   one = λ text v w r s x y. one_name text v w r s x y;
   never = λ text v r c p x y. name_or_not dot.place text v r c p x y;
   fault = λ text c d p q x y. one_no_name dot.place text c d p q x y;
@@ -56,9 +56,9 @@ definite_text = record {
   fault = λ text c d p q x y. one_no_text text c d p q x y;
 }
 
-pub definite_pass : (sign : Sign) → Definite (pass sign)
+pub definite_pass : (kind : TokenKind) → Definite (pass kind)
 unfolding pass
-definite_pass sign = definite_then _ definite_token (λ next. definite_choose _ (definite_give tt) (definite_unexpected next))
+definite_pass kind = definite_then _ definite_token (λ next. definite_choose _ (definite_give tt) (definite_unexpected next))
 
 pub definite_word_at : (next : Next) → Definite (word_at next)
 unfolding word_at
@@ -78,11 +78,11 @@ definite_number = definite_then _ definite_token (λ next. definite_choose _ (de
 
 pub definite_name : Definite a_name
 unfolding a_name
-definite_name = definite_then _ definite_token (λ next. definite_choose _ (definite_name_behind next) (definite_unexpected next))
+definite_name = definite_then _ definite_token (λ next. definite_choose _ (definite_name_after next) (definite_unexpected next))
 
 pub definite_into : Definite into
 unfolding into
-definite_into = definite_then _ definite_token (λ next. definite_choose _ (definite_then _ definite_name (λ name. definite_then _ (definite_pass signs.Semicolon) (λ end. definite_give _)))
+definite_into = definite_then _ definite_token (λ next. definite_choose _ (definite_then _ definite_name (λ name. definite_then _ (definite_pass kinds.Semicolon) (λ end. definite_give _)))
     (definite_choose _ (definite_give _) (definite_unexpected next)))
 
 -- the value of a number

@@ -8,7 +8,7 @@ use Rattle.std.proofs.lemmas.List.{take-append-drop, length-take-le}
 use Rattle.std.proofs.lemmas.Str.{encode_ascii}
 use Rattle.std.proofs.lemmas.Bool.Decides.{nat_tests}
 use Rattle.ql_syntax.specs.QuotedTexts.{Escape, Code, IsBadEscape, Letter, NoDigit, NoCharacter, escaped}
-use Rattle.ql_syntax.specs.EscapeParts.{IsEscape}
+use Rattle.ql_syntax.specs.internal.EscapeParts.{IsEscape}
 
 -- a few hexadecimal digits make a small number
 pub few_digits : (text : List ℕ) (n number : ℕ) → n < 4 → n ≤ length text → AllDigits 16 (take n text) → number ≡ digits_value 16 (take n text) → number < 4096
@@ -22,19 +22,19 @@ few_digits text n number few within digits is =
     small (suc (suc (suc zero))) lt = lit≤ tt
     small (suc (suc (suc (suc k)))) lt = absurd (omega arith)
 
--- a letter behind `\`
+-- a letter after `\`
 escaped_small : (letter b : ℕ) → escaped letter ≡ Some b → b < 128
 escaped_small letter b e = grind (arith, nat_tests)
 
-pub letter_escape : (behind : List ℕ) (b : ℕ) → 1 ≤ length behind → escaped (get_or behind 0 0) ≡ Some b → IsEscape behind (encode_utf8 b) (drop 1 behind)
+pub letter_escape : (after : List ℕ) (b : ℕ) → 1 ≤ length after → escaped (get_or after 0 0) ≡ Some b → IsEscape after (encode_utf8 b) (drop 1 after)
 letter_escape [] b some e = absurd (omega arith)
 letter_escape (letter ∷ rest) b some e = record { piece = Escape letter b; is_piece = λ quote. e; spelled = refl; bytes_are = encode_ascii b (escaped_small letter b e) }
 
-pub bad_letter : (behind : List ℕ) → 1 ≤ length behind → get_or behind 0 0 ≢ 117 → escaped (get_or behind 0 0) ≡ None → IsBadEscape behind
+pub bad_letter : (after : List ℕ) → 1 ≤ length after → get_or after 0 0 ≢ 117 → escaped (get_or after 0 0) ≡ None → IsBadEscape after
 bad_letter [] some other e = absurd (omega arith)
 bad_letter (letter ∷ rest) some other e = Letter letter rest refl other e
 
--- digits behind `\u`
+-- digits after `\u`
 pub code_escape : (text : List ℕ) (n number c : ℕ) → 4 ≤ n → n ≤ 4 → n ≤ length text → AllDigits 16 (take n text) → number ≡ digits_value 16 (take n text)
     → IsScalar number → c ≡ number → 0 < number → IsEscape (117 ∷ text) (encode_utf8 c) (drop 4 text)
 code_escape text n number c low high within digits is scalar same some =

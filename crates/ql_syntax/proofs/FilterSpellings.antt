@@ -10,13 +10,13 @@ use Rattle.ql_syntax.specs.Grammar as grammar
 use Rattle.ql_syntax.specs.LawfulQueries.{Allows}
 use Rattle.ql_syntax.specs.Numbers.{IsNumber}
 use Rattle.ql_syntax.specs.Picks.{takes_boxes}
-use Rattle.ql_syntax.specs.Points.{Next, At, Word, Number, next_token, unexpected, run_here, word_at, number_here, number_at, a_number, begins_number, name_behind, text_here}
+use Rattle.ql_syntax.specs.TokenRules.{Next, At, Word, Number, next_token, unexpected, run_here, word_at, number_here, number_at, a_number, begins_number, name_after, text_here}
 use Rattle.ql_syntax.specs.Rules.{◌>>=◌, give, refuse, from, choose, by_case, gather}
 use Rattle.ql_syntax.specs.Selections.{a_filter}
 use Rattle.ql_syntax.specs.SelectorWords.{selector_word}
-use Rattle.ql_syntax.specs.Selectors.{an_id, id_behind, id_list, path_close, path_from, selector_named, word_selector, corner, box_behind, number_selector, selector}
-use Rattle.ql_syntax.specs.Signs.{sign_of}
-use Rattle.ql_syntax.specs.Spellings.{Spelling, Both, either, each, when, IsSign, IsSet, IsWordOf, IsNumberOf, IsTagText}
+use Rattle.ql_syntax.specs.Selectors.{an_id, id_after, id_list, path_close, path_from, selector_named, word_selector, corner, box_after, number_selector, selector}
+use Rattle.ql_syntax.specs.TokenKinds.{token_kind_at}
+use Rattle.ql_syntax.specs.Spellings.{Spelling, Both, either, each, when, IsPunctuation, IsSet, IsWordOf, IsNumberOf, IsTagText}
 use Rattle.ql_syntax.specs.Spellings as spelling
 use Rattle.ql_syntax.specs.TagFilters.{not_in_tag, tag_text_at, tag_text, tag_close, tag_value, tag_rest, tag_filter}
 use Rattle.ql_syntax.specs.WholeNumbers.{IsId, id_of}
@@ -25,14 +25,14 @@ use Rattle.ql_syntax.specs.declared.path.Path.{Path}
 use Rattle.ql_syntax.specs.declared.pick.Pick.{Pick}
 use Rattle.ql_syntax.specs.declared.selector_word.SelectorWord.{SelectorWord}
 use Rattle.ql_syntax.specs.declared.selector_word.SelectorWord.TheVariants as words
-use Rattle.ql_syntax.specs.declared.sign.Sign.{Sign}
-use Rattle.ql_syntax.specs.declared.sign.Sign.TheVariants as signs
+use Rattle.ql_syntax.specs.declared.token_kind.TokenKind.{TokenKind}
+use Rattle.ql_syntax.specs.declared.token_kind.TokenKind.TheVariants as kinds
 use Rattle.ql_syntax.proofs.GatherSpellings.{Gathered, gather_sound, reads_gather}
 use Rattle.ql_syntax.proofs.KeyStarts.{no_quote, no_run, quote_or_run}
-use Rattle.ql_syntax.proofs.SpellingLemmas.{Alike, alike, alike_by, alike_at, alike_back, alike_on, from_token, at_rest, both, spelled_to, other_sign, Reading, reads_then, reads_give, reads_as, reads_yes, reads_no, reads_from, reads_case, reads_token, pass_sound, reads_sign, reads_name_behind}
+use Rattle.ql_syntax.proofs.SpellingLemmas.{Alike, alike, alike_by, alike_at, alike_back, alike_on, from_token, at_rest, both, spelled_to, other_kind, Reading, reads_then, reads_give, reads_as, reads_yes, reads_no, reads_from, reads_case, reads_token, pass_sound, reads_punctuation, reads_name_after}
 
 -- numbers
-pub number_at_split : {text middle rest : List ℕ} (next : Next) (found : Number) → At text next middle → begins_number next.sign ≡ true → (number_at next).reads middle found rest → IsNumberOf (λ (d : Decimal). d ≡ found.number) text rest
+pub number_at_split : {text middle rest : List ℕ} (next : Next) (found : Number) → At text next middle → begins_number next.kind ≡ true → (number_at next).reads middle found rest → IsNumberOf (λ (d : Decimal). d ≡ found.number) text rest
 unfolding number_at ◌>>=◌ from give number_here
 number_at_split {middle = middle} next found at begins r =
     record { next = next; place = middle; number = r.front; at = at; begins = begins; spelled = subst (λ (s : List ℕ). IsNumber next.place r.front s) (sym r.back_reads.1) r.front_reads; means = sym (ap (λ (n : Number). n.number) r.back_reads.0) }
@@ -80,8 +80,8 @@ reads_id : {text rest : List ℕ} (value : ℤ) → grammar.id value text rest �
 unfolding an_id
 reads_id {text = text} value n = reads_then _ (reads_number (alike text) n) (reads_value _ n.means)
 
-one_id : (value : ℤ) (text rest : List ℕ) → id_behind.reads text (Some value) rest → grammar.other_id value text rest
-unfolding id_behind ◌>>=◌ choose give next_token unexpected refuse
+one_id : (value : ℤ) (text rest : List ℕ) → id_after.reads text (Some value) rest → grammar.other_id value text rest
+unfolding id_after ◌>>=◌ choose give next_token unexpected refuse
 one_id value text rest r = elim r.back_reads [
   | inl it ↦ (let found = it.1 in let is : value ≡ found.front = (let e = found.back_reads.0 in cc) in
       both r.middle (record { next = r.front; at = r.front_reads; is = it.0 })
@@ -89,20 +89,20 @@ one_id value text rest r = elim r.back_reads [
   | inr it ↦ elim it.1 [ inl end ↦ (let bad : Some value ≡ None = end.1.0 in absurd (cc)) | inr other ↦ absurd other.1 ]
 ]
 
-no_id : (text rest : List ℕ) → id_behind.reads text None rest → IsSign signs.CloseParenthesis text rest
-unfolding id_behind ◌>>=◌ choose give next_token unexpected refuse
+no_id : (text rest : List ℕ) → id_after.reads text None rest → IsPunctuation kinds.CloseParenthesis text rest
+unfolding id_after ◌>>=◌ choose give next_token unexpected refuse
 no_id text rest r = elim r.back_reads [
   | inl it ↦ (let found = it.1 in let bad : None ≡ Some found.front = found.back_reads.0 in absurd (cc))
   | inr it ↦ elim it.1 [ inl end ↦ record { next = r.front; at = at_rest end.1.1 r.front_reads; is = end.0 } | inr other ↦ absurd other.1 ]
 ]
 
-reads_one_id : (value : ℤ) → ⊤ → (text rest : List ℕ) → grammar.other_id value text rest → Reading id_behind text (Some value) rest
-unfolding id_behind
+reads_one_id : (value : ℤ) → ⊤ → (text rest : List ℕ) → grammar.other_id value text rest → Reading id_after text (Some value) rest
+unfolding id_after
 reads_one_id value is text rest b = reads_then _ (reads_token (alike text) (b.front).at) (reads_yes _ (b.front).is (reads_then _ (reads_id value b.back) reads_give))
 
-reads_no_id : (text rest : List ℕ) → IsSign signs.CloseParenthesis text rest → Reading id_behind text None rest
-unfolding id_behind
-reads_no_id text rest s = reads_then _ (reads_token (alike text) s.at) (reads_no _ (other_sign s.is (λ e. cc)) (reads_yes _ s.is reads_give))
+reads_no_id : (text rest : List ℕ) → IsPunctuation kinds.CloseParenthesis text rest → Reading id_after text None rest
+unfolding id_after
+reads_no_id text rest s = reads_then _ (reads_token (alike text) s.at) (reads_no _ (other_kind s.is (λ e. cc)) (reads_yes _ s.is reads_give))
 
 all_such : {A : Type 0} (list : List A) → AllByRecursion (λ (a : A). ⊤) list
 all_such [] = tt
@@ -127,27 +127,27 @@ tag_text_split : {text rest : List ℕ} (value : List ℕ) → tag_text.reads te
 unfolding tag_text ◌>>=◌ next_token
 tag_text_split value r = text_at_split r.front r.middle value r.front_reads r.back_reads
 
-close_split : {text rest : List ℕ} (value : Unit {0}) → tag_close.reads text value rest → IsSign signs.CloseBracket text rest
+close_split : {text rest : List ℕ} (value : Unit {0}) → tag_close.reads text value rest → IsPunctuation kinds.CloseBracket text rest
 unfolding tag_close ◌>>=◌ choose give next_token not_in_tag refuse
 close_split value r = elim r.back_reads [
   | inl it ↦ record { next = r.front; at = at_rest it.1.1 r.front_reads; is = it.0 }
   | inr other ↦ absurd other.1
 ]
 
-value_split : {text rest : List ℕ} (value : List ℕ) → tag_value.reads text value rest → Both (IsTagText value) (IsSign signs.CloseBracket) text rest
+value_split : {text rest : List ℕ} (value : List ℕ) → tag_value.reads text value rest → Both (IsTagText value) (IsPunctuation kinds.CloseBracket) text rest
 unfolding tag_value ◌>>=◌ give
 value_split {text = text} value r = let close = r.back_reads in let is = close.back_reads in
-    both r.middle (subst (λ (v : List ℕ). IsTagText v text r.middle) (sym is.0) (tag_text_split r.front r.front_reads)) (spelled_to (IsSign signs.CloseBracket) is.1 (close_split close.front close.front_reads))
+    both r.middle (subst (λ (v : List ℕ). IsTagText v text r.middle) (sym is.0) (tag_text_split r.front r.front_reads)) (spelled_to (IsPunctuation kinds.CloseBracket) is.1 (close_split close.front close.front_reads))
 
 reads_tag_text : {text rest : List ℕ} (value : List ℕ) → IsTagText value text rest → Reading tag_text text value rest
 unfolding tag_text
 reads_tag_text {text = text} value t = reads_then _ (reads_token (alike text) t.at) (reads_text_at t)
 
-reads_close : {text rest : List ℕ} → IsSign signs.CloseBracket text rest → Reading tag_close text tt rest
+reads_close : {text rest : List ℕ} → IsPunctuation kinds.CloseBracket text rest → Reading tag_close text tt rest
 unfolding tag_close
 reads_close {text = text} s = reads_then _ (reads_token (alike text) s.at) (reads_yes _ s.is reads_give)
 
-reads_tag_value : {text middle rest : List ℕ} (value : List ℕ) → IsTagText value text middle → IsSign signs.CloseBracket middle rest → Reading tag_value text value rest
+reads_tag_value : {text middle rest : List ℕ} (value : List ℕ) → IsTagText value text middle → IsPunctuation kinds.CloseBracket middle rest → Reading tag_value text value rest
 unfolding tag_value
 reads_tag_value value t s = reads_then _ (reads_tag_text value t) (reads_then _ (reads_close s) reads_give)
 
@@ -157,34 +157,34 @@ module _ (pick : Pick) (text rest : List ℕ) where
   as_filter : {f g : Filter} → f ≡ g → grammar.filter pick g text rest → grammar.filter pick f text rest
   as_filter is it = subst (λ (h : Filter). grammar.filter pick h text rest) (sym is) it
 
-  tag_rest_split : {middle place : List ℕ} (key : List ℕ) (f : Filter) → IsSign signs.OpenBracket text middle → IsTagText key middle place → (tag_rest key).reads place f rest → grammar.filter pick f text rest
+  tag_rest_split : {middle place : List ℕ} (key : List ℕ) (f : Filter) → IsPunctuation kinds.OpenBracket text middle → IsTagText key middle place → (tag_rest key).reads place f rest → grammar.filter pick f text rest
   unfolding tag_rest ◌>>=◌ choose give next_token not_in_tag refuse
   tag_rest_split {middle = middle} {place = place} key f opened key_is r = elim r.back_reads [
     | inl it ↦ as_filter it.1.0 (both middle opened (both place key_is (record { next = r.front; at = at_rest it.1.1 r.front_reads; is = it.0 })))
     | inr it ↦ elim it.1 [
       | inl it ↦ (let found = it.1 in let is = found.back_reads in let b = value_split found.front found.front_reads in
-          as_filter is.0 (both middle opened (both b.middle (both place key_is (both r.middle (record { next = r.front; at = r.front_reads; is = it.0 }) b.front)) (spelled_to (IsSign signs.CloseBracket) is.1 b.back))))
+          as_filter is.0 (both middle opened (both b.middle (both place key_is (both r.middle (record { next = r.front; at = r.front_reads; is = it.0 }) b.front)) (spelled_to (IsPunctuation kinds.CloseBracket) is.1 b.back))))
       | inr it ↦ elim it.1 [
         | inl it ↦ (let found = it.1 in let is = found.back_reads in let b = value_split found.front found.front_reads in
-            as_filter is.0 (both middle opened (both b.middle (both place key_is (both r.middle (record { next = r.front; at = r.front_reads; is = it.0 }) b.front)) (spelled_to (IsSign signs.CloseBracket) is.1 b.back))))
+            as_filter is.0 (both middle opened (both b.middle (both place key_is (both r.middle (record { next = r.front; at = r.front_reads; is = it.0 }) b.front)) (spelled_to (IsPunctuation kinds.CloseBracket) is.1 b.back))))
         | inr other ↦ absurd other.1
       ]
     ]
   ]
 
-  tag_filter_split : {middle : List ℕ} (f : Filter) → IsSign signs.OpenBracket text middle → tag_filter.reads middle f rest → grammar.filter pick f text rest
+  tag_filter_split : {middle : List ℕ} (f : Filter) → IsPunctuation kinds.OpenBracket text middle → tag_filter.reads middle f rest → grammar.filter pick f text rest
   unfolding tag_filter ◌>>=◌ choose give next_token
   tag_filter_split {middle = middle} f opened r = elim r.back_reads [
     | inl it ↦ (let found = it.1 in let is = found.back_reads in let b = value_split found.front found.front_reads in
-        as_filter is.0 (both middle opened (both b.middle (both r.middle (record { next = r.front; at = r.front_reads; is = it.0 }) b.front) (spelled_to (IsSign signs.CloseBracket) is.1 b.back))))
+        as_filter is.0 (both middle opened (both b.middle (both r.middle (record { next = r.front; at = r.front_reads; is = it.0 }) b.front) (spelled_to (IsPunctuation kinds.CloseBracket) is.1 b.back))))
     | inr it ↦ (let key = it.1 in tag_rest_split key.front f opened (text_at_split r.front r.middle key.front r.front_reads key.front_reads) key.back_reads)
   ]
 
 -- a key begins with no `!`
-no_bang : {key text rest : List ℕ} (t : IsTagText key text rest) → (t.next).sign ≡ signs.Not → ⊥
-no_bang t is = let sign : sign_of (t.next).place ≡ signs.Not = sym (t.at).sign_is ∙ is in elim t.spelled [
-  | inl quote ↦ no_quote (t.next).place sign quote.0
-  | inr run ↦ no_run (t.next).place sign run.0
+no_bang : {key text rest : List ℕ} (t : IsTagText key text rest) → (t.next).kind ≡ kinds.Not → ⊥
+no_bang t is = let kind : token_kind_at (t.next).place ≡ kinds.Not = sym (t.at).kind_is ∙ is in elim t.spelled [
+  | inl quote ↦ no_quote (t.next).place kind quote.0
+  | inr run ↦ no_run (t.next).place kind run.0
 ]
 
 -- what follows `[`
@@ -192,24 +192,24 @@ reads_keyed : {middle place rest : List ℕ} (key : List ℕ) (f : Filter) → I
 unfolding tag_filter
 reads_keyed {middle = middle} key f t more = reads_then _ (reads_token (alike middle) t.at) (reads_no _ (no_bang t) (reads_then _ (reads_text_at t) more))
 
-reads_has_key : {place rest : List ℕ} (key : List ℕ) → IsSign signs.CloseBracket place rest → Reading (tag_rest key) place (HasKey key) rest
+reads_has_key : {place rest : List ℕ} (key : List ℕ) → IsPunctuation kinds.CloseBracket place rest → Reading (tag_rest key) place (HasKey key) rest
 unfolding tag_rest
 reads_has_key {place = place} key s = reads_then _ (reads_token (alike place) s.at) (reads_yes _ s.is reads_give)
 
-reads_key_is : {place middle last rest : List ℕ} (key value : List ℕ) → IsSign signs.Equal place middle → IsTagText value middle last → IsSign signs.CloseBracket last rest → Reading (tag_rest key) place (KeyIs key value) rest
+reads_key_is : {place middle last rest : List ℕ} (key value : List ℕ) → IsPunctuation kinds.Equal place middle → IsTagText value middle last → IsPunctuation kinds.CloseBracket last rest → Reading (tag_rest key) place (KeyIs key value) rest
 unfolding tag_rest
-reads_key_is {place = place} key value s v c = reads_then _ (reads_token (alike place) s.at) (reads_no _ (other_sign s.is (λ e. cc)) (reads_yes _ s.is (reads_then _ (reads_tag_value value v c) reads_give)))
+reads_key_is {place = place} key value s v c = reads_then _ (reads_token (alike place) s.at) (reads_no _ (other_kind s.is (λ e. cc)) (reads_yes _ s.is (reads_then _ (reads_tag_value value v c) reads_give)))
 
-reads_key_is_not : {place middle last rest : List ℕ} (key value : List ℕ) → IsSign signs.NotEqual place middle → IsTagText value middle last → IsSign signs.CloseBracket last rest → Reading (tag_rest key) place (KeyIsNot key value) rest
+reads_key_is_not : {place middle last rest : List ℕ} (key value : List ℕ) → IsPunctuation kinds.NotEqual place middle → IsTagText value middle last → IsPunctuation kinds.CloseBracket last rest → Reading (tag_rest key) place (KeyIsNot key value) rest
 unfolding tag_rest
-reads_key_is_not {place = place} key value s v c = reads_then _ (reads_token (alike place) s.at) (reads_no _ (other_sign s.is (λ e. cc)) (reads_no _ (other_sign s.is (λ e. cc)) (reads_yes _ s.is (reads_then _ (reads_tag_value value v c) reads_give))))
+reads_key_is_not {place = place} key value s v c = reads_then _ (reads_token (alike place) s.at) (reads_no _ (other_kind s.is (λ e. cc)) (reads_no _ (other_kind s.is (λ e. cc)) (reads_yes _ s.is (reads_then _ (reads_tag_value value v c) reads_give))))
 
-reads_lacks_key : {middle place last rest : List ℕ} (key : List ℕ) → IsSign signs.Not middle place → IsTagText key place last → IsSign signs.CloseBracket last rest → Reading tag_filter middle (LacksKey key) rest
+reads_lacks_key : {middle place last rest : List ℕ} (key : List ℕ) → IsPunctuation kinds.Not middle place → IsTagText key place last → IsPunctuation kinds.CloseBracket last rest → Reading tag_filter middle (LacksKey key) rest
 unfolding tag_filter
 reads_lacks_key {middle = middle} key s k c = reads_then _ (reads_token (alike middle) s.at) (reads_yes _ s.is (reads_then _ (reads_tag_value key k c) reads_give))
 
--- the `)` behind a path
-close_to : {start place rest : List ℕ} → Alike place start → (value : Unit {0}) → path_close.reads start value rest → IsSign signs.CloseParenthesis place rest
+-- the `)` after a path
+close_to : {start place rest : List ℕ} → Alike place start → (value : Unit {0}) → path_close.reads start value rest → IsPunctuation kinds.CloseParenthesis place rest
 unfolding path_close ◌>>=◌ choose give next_token unexpected refuse
 close_to like value r = elim r.back_reads [
   | inl it ↦ record { next = r.front; at = at_rest it.1.1 (alike_at like r.front_reads); is = it.0 }
@@ -217,38 +217,38 @@ close_to like value r = elim r.back_reads [
 ]
 
 -- what stands in parentheses
-module _ (pick : Pick) (text rest : List ℕ) {opened : List ℕ} (sign : IsSign signs.OpenParenthesis text opened) where
-  id_list_split : {behind : List ℕ} (f : Filter) → IsWordOf (λ (w : List ℕ). selector_word pick w ≡ words.Ids) opened behind → id_list.reads behind f rest → grammar.filter pick f text rest
+module _ (pick : Pick) (text rest : List ℕ) {opened : List ℕ} (kind : IsPunctuation kinds.OpenParenthesis text opened) where
+  id_list_split : {after : List ℕ} (f : Filter) → IsWordOf (λ (w : List ℕ). selector_word pick w ≡ words.Ids) opened after → id_list.reads after f rest → grammar.filter pick f text rest
   unfolding id_list ◌>>=◌ give
-  id_list_split {behind = behind} f word r =
+  id_list_split {after = after} f word r =
       let first = r.back_reads in
       let list = first.back_reads in
-      let g = gather_sound id_behind one_id no_id ((first.front) ∷ []) list.front first.middle list.middle list.front_reads in
-      as_filter pick text rest (list.back_reads.0 ∙ ap (λ (l : List ℤ). Ids l) g.is) (both opened sign
-      (both g.middle (inr (both behind word (both r.middle (pass_sound signs.Colon (alike _) (record { reads = r.front_reads })) (both first.middle (id_split first.front first.front_reads) g.front))))
-      (spelled_to (IsSign signs.CloseParenthesis) list.back_reads.1 g.back)))
+      let g = gather_sound id_after one_id no_id ((first.front) ∷ []) list.front first.middle list.middle list.front_reads in
+      as_filter pick text rest (list.back_reads.0 ∙ ap (λ (l : List ℤ). Ids l) g.is) (both opened kind
+      (both g.middle (inr (both after word (both r.middle (pass_sound kinds.Colon (alike _) (record { reads = r.front_reads })) (both first.middle (id_split first.front first.front_reads) g.front))))
+      (spelled_to (IsPunctuation kinds.CloseParenthesis) list.back_reads.1 g.back)))
 
-  path_split : {behind : List ℕ} (f : Filter) (path : Path) → IsWordOf (λ (w : List ℕ). selector_word pick w ≡ words.Along path) opened behind → (path_from path).reads behind f rest → grammar.filter pick f text rest
-  unfolding path_from ◌>>=◌ choose give from next_token name_behind
-  path_split {behind = behind} f path word r = elim r.back_reads [
+  path_split : {after : List ℕ} (f : Filter) (path : Path) → IsWordOf (λ (w : List ℕ). selector_word pick w ≡ words.Along path) opened after → (path_from path).reads after f rest → grammar.filter pick f text rest
+  unfolding path_from ◌>>=◌ choose give from next_token name_after
+  path_split {after = after} f path word r = elim r.back_reads [
     | inl it ↦ (let named = it.1 in let close = named.back_reads in let is = close.back_reads in
-        as_filter pick text rest is.0 (both opened sign (both named.middle
-        (both behind word (inl (record { next = r.front; place = r.middle; at = r.front_reads; is = it.0; name_is = named.front_reads })))
-        (spelled_to (IsSign signs.CloseParenthesis) is.1 (close_to (alike named.middle) close.front close.front_reads)))))
+        as_filter pick text rest is.0 (both opened kind (both named.middle
+        (both after word (inl (record { next = r.front; place = r.middle; at = r.front_reads; is = it.0; name_is = named.front_reads })))
+        (spelled_to (IsPunctuation kinds.CloseParenthesis) is.1 (close_to (alike named.middle) close.front close.front_reads)))))
     | inr it ↦ (let close = it.1 in let is = close.back_reads in
-        as_filter pick text rest is.0 (both opened sign (both behind
-        (both behind word (inr (refl, refl)))
-        (spelled_to (IsSign signs.CloseParenthesis) is.1 (close_to (alike_back (from_token r.front_reads)) close.front close.front_reads)))))
+        as_filter pick text rest is.0 (both opened kind (both after
+        (both after word (inr (refl, refl)))
+        (spelled_to (IsPunctuation kinds.CloseParenthesis) is.1 (close_to (alike_back (from_token r.front_reads)) close.front close.front_reads)))))
   ]
 
-corner_split : {text rest : List ℕ} (found : Number) → corner.reads text found rest → Both (IsSign signs.Comma) (grammar.corner found.number) text rest
+corner_split : {text rest : List ℕ} (found : Number) → corner.reads text found rest → Both (IsPunctuation kinds.Comma) (grammar.corner found.number) text rest
 unfolding corner ◌>>=◌
-corner_split found r = both r.middle (pass_sound signs.Comma (alike _) (record { reads = r.front_reads })) (number_split found (alike _) r.back_reads)
+corner_split found r = both r.middle (pass_sound kinds.Comma (alike _) (record { reads = r.front_reads })) (number_split found (alike _) r.back_reads)
 
-module _ (pick : Pick) (text rest : List ℕ) {opened : List ℕ} (sign : IsSign signs.OpenParenthesis text opened) where
-  box_split : {behind place : List ℕ} (f : Filter) (south : Number) → grammar.corner south.number opened behind → IsSign signs.Comma behind place → (box_behind south).reads place f rest → grammar.filter pick f text rest
-  unfolding box_behind ◌>>=◌ give area
-  box_split {behind = behind} {place = place} f south first comma west =
+module _ (pick : Pick) (text rest : List ℕ) {opened : List ℕ} (kind : IsPunctuation kinds.OpenParenthesis text opened) where
+  box_split : {after place : List ℕ} (f : Filter) (south : Number) → grammar.corner south.number opened after → IsPunctuation kinds.Comma after place → (box_after south).reads place f rest → grammar.filter pick f text rest
+  unfolding box_after ◌>>=◌ give area
+  box_split {after = after} {place = place} f south first comma west =
       let north = west.back_reads in
       let east = north.back_reads in
       let close = east.back_reads in
@@ -257,36 +257,36 @@ module _ (pick : Pick) (text rest : List ℕ) {opened : List ℕ} (sign : IsSign
       let all : Corners = record { south = south.number; west = (west.front).number; north = (north.front).number; east = (east.front).number } in
       let n = corner_split north.front north.front_reads in
       let e = corner_split east.front east.front_reads in
-      as_filter pick text rest made.back_reads.0 (both opened sign (both east.middle (
+      as_filter pick text rest made.back_reads.0 (both opened kind (both east.middle (
         all,
         box.0,
         box.1,
-        both behind first (both place comma (both west.middle (number_split west.front (alike place) west.front_reads)
+        both after first (both place comma (both west.middle (number_split west.front (alike place) west.front_reads)
             (both n.middle n.front (both north.middle n.back (both e.middle e.front e.back))))),
       )
-      (spelled_to (IsSign signs.CloseParenthesis) (made.back_reads.1 ∙ box.2) (pass_sound signs.CloseParenthesis (alike east.middle) (record { reads = close.front_reads })))))
+      (spelled_to (IsPunctuation kinds.CloseParenthesis) (made.back_reads.1 ∙ box.2) (pass_sound kinds.CloseParenthesis (alike east.middle) (record { reads = close.front_reads })))))
 
-  number_selector_split : {behind : List ℕ} (f : Filter) (number : Number) → grammar.corner number.number opened behind → (number_selector pick number).reads behind f rest → grammar.filter pick f text rest
+  number_selector_split : {after : List ℕ} (f : Filter) (number : Number) → grammar.corner number.number opened after → (number_selector pick number).reads after f rest → grammar.filter pick f text rest
   unfolding number_selector ◌>>=◌ choose give next_token unexpected refuse id_of
-  number_selector_split {behind = behind} f number first r = elim r.back_reads [
+  number_selector_split {after = after} f number first r = elim r.back_reads [
     | inl comma ↦ elim comma.1 [
       | inl it ↦ box_split f number first (record { next = r.front; at = r.front_reads; is = comma.0 }) it.1
       | inr other ↦ absurd other.1
     ]
     | inr it ↦ elim it.1 [
       | inl it ↦ (let id = it.1 in
-          as_filter pick text rest id.back_reads.0 (both opened sign (both behind
+          as_filter pick text rest id.back_reads.0 (both opened kind (both after
           (inl (both opened (refl, refl) (means (λ (d : Decimal) e. subst (λ (n : Decimal). IsId n id.front) (sym e) id.front_reads.0) first)))
           (record { next = r.front; at = at_rest (id.back_reads.1 ∙ id.front_reads.1) r.front_reads; is = it.0 }))))
       | inr other ↦ absurd other.1
     ]
   ]
 
-  named_split : {behind : List ℕ} (f : Filter) (place word : List ℕ) (case : SelectorWord) → selector_word pick word ≡ case → IsWordOf (λ (w : List ℕ). w ≡ word) opened behind → (selector_named place case).reads behind f rest → grammar.filter pick f text rest
+  named_split : {after : List ℕ} (f : Filter) (place word : List ℕ) (case : SelectorWord) → selector_word pick word ≡ case → IsWordOf (λ (w : List ℕ). w ≡ word) opened after → (selector_named place case).reads after f rest → grammar.filter pick f text rest
   unfolding refuse
-  named_split f place word words.Ids is spelled r = id_list_split pick text rest sign f (means_word (λ (w : List ℕ) e. ap (selector_word pick) e ∙ is) spelled) r
-  named_split f place word (words.Along path) is spelled r = path_split pick text rest sign f path (means_word (λ (w : List ℕ) e. ap (selector_word pick) e ∙ is) spelled) r
-  named_split f place word words.Outside is spelled r = absurd r
+  named_split f place word words.Ids is spelled r = id_list_split pick text rest kind f (means_word (λ (w : List ℕ) e. ap (selector_word pick) e ∙ is) spelled) r
+  named_split f place word (words.Along path) is spelled r = path_split pick text rest kind f path (means_word (λ (w : List ℕ) e. ap (selector_word pick) e ∙ is) spelled) r
+  named_split f place word words.LeftOut is spelled r = absurd r
   named_split f place word words.Unknown is spelled r = absurd r
 
   selector_split : (f : Filter) → (selector pick).reads opened f rest → grammar.filter pick f text rest
@@ -306,44 +306,44 @@ pub reads_word_at : {text rest : List ℕ} {word : List ℕ} (next : Next) → I
 unfolding word_at run_here
 reads_word_at {text = text} next run = reads_then _ (record { reads = run }) reads_give
 
-reads_word_selector : (pick : Pick) (case : SelectorWord) {opened behind rest : List ℕ} {f : Filter} → (w : IsWordOf (λ (word : List ℕ). selector_word pick word ≡ case) opened behind) → Reading (selector_named (w.next).place case) behind f rest → Reading (selector pick) opened f rest
+reads_word_selector : (pick : Pick) (case : SelectorWord) {opened after rest : List ℕ} {f : Filter} → (w : IsWordOf (λ (word : List ℕ). selector_word pick word ≡ case) opened after) → Reading (selector_named (w.next).place case) after f rest → Reading (selector pick) opened f rest
 unfolding selector word_selector
 reads_word_selector pick case {opened = opened} w more =
     reads_then _ (reads_token (alike opened) w.at) (reads_yes _ w.is (reads_then _ (reads_word_at w.next w.run) (reads_case _ w.means more)))
 
-pub word_is_no_number : (sign : Sign) → begins_number sign ≡ true → sign ≡ signs.Word → ⊥
-word_is_no_number sign begins is = let bad : begins_number signs.Word ≡ true = subst (λ (s : Sign). begins_number s ≡ true) is begins in cc
+pub word_is_no_number : (kind : TokenKind) → begins_number kind ≡ true → kind ≡ kinds.Word → ⊥
+word_is_no_number kind begins is = let bad : begins_number kinds.Word ≡ true = subst (λ (s : TokenKind). begins_number s ≡ true) is begins in cc
 
-reads_number_selector : (pick : Pick) {Means : Decimal → Type 0} {opened behind rest : List ℕ} {f : Filter} → (n : IsNumberOf Means opened behind) → Reading (number_selector pick (record { number = n.number; place = (n.next).place })) behind f rest → Reading (selector pick) opened f rest
+reads_number_selector : (pick : Pick) {Means : Decimal → Type 0} {opened after rest : List ℕ} {f : Filter} → (n : IsNumberOf Means opened after) → Reading (number_selector pick (record { number = n.number; place = (n.next).place })) after f rest → Reading (selector pick) opened f rest
 unfolding selector
 reads_number_selector pick {opened = opened} n more =
-    reads_then _ (reads_token (alike opened) n.at) (reads_no _ (word_is_no_number (n.next).sign n.begins) (reads_yes _ n.begins (reads_then _ (reads_number_at n.next n.spelled) more)))
+    reads_then _ (reads_token (alike opened) n.at) (reads_no _ (word_is_no_number (n.next).kind n.begins) (reads_yes _ n.begins (reads_then _ (reads_number_at n.next n.spelled) more)))
 
-reads_one : (pick : Pick) (place : List ℕ) (id : ℤ) (number : Decimal) {behind rest : List ℕ} → IsId number id → IsSign signs.CloseParenthesis behind rest → Reading (number_selector pick (record { number = number; place = place })) behind (Ids (id ∷ [])) rest
+reads_one : (pick : Pick) (place : List ℕ) (id : ℤ) (number : Decimal) {after rest : List ℕ} → IsId number id → IsPunctuation kinds.CloseParenthesis after rest → Reading (number_selector pick (record { number = number; place = place })) after (Ids (id ∷ [])) rest
 unfolding number_selector
-reads_one pick place id number {behind = behind} is close =
-    reads_then _ (reads_token (alike behind) close.at) (reads_no _ (other_sign close.is (λ e. cc)) (reads_yes _ close.is (reads_then _ (reads_value place is) reads_give)))
+reads_one pick place id number {after = after} is close =
+    reads_then _ (reads_token (alike after) close.at) (reads_no _ (other_kind close.is (λ e. cc)) (reads_yes _ close.is (reads_then _ (reads_value place is) reads_give)))
 
-reads_id_list : (id : ℤ) (more : List ℤ) {behind rest : List ℕ} → Both (IsSign signs.Colon) (Both (grammar.id id) (each grammar.other_id more)) behind rest → {end : List ℕ} → IsSign signs.CloseParenthesis rest end → Reading id_list behind (Ids (id ∷ more)) end
+reads_id_list : (id : ℤ) (more : List ℤ) {after rest : List ℕ} → Both (IsPunctuation kinds.Colon) (Both (grammar.id id) (each grammar.other_id more)) after rest → {end : List ℕ} → IsPunctuation kinds.CloseParenthesis rest end → Reading id_list after (Ids (id ∷ more)) end
 unfolding id_list
-reads_id_list id more {behind = behind} b close =
-    reads_then _ (reads_sign (alike behind) b.front) (reads_then _ (reads_id id (b.back).front) (reads_then _ (reads_gather id_behind reads_one_id (id ∷ []) more (all_such more) (b.back).back (reads_no_id _ _ close)) reads_give))
+reads_id_list id more {after = after} b close =
+    reads_then _ (reads_punctuation (alike after) b.front) (reads_then _ (reads_id id (b.back).front) (reads_then _ (reads_gather id_after reads_one_id (id ∷ []) more (all_such more) (b.back).back (reads_no_id _ _ close)) reads_give))
 
-reads_path_close : {start place rest : List ℕ} → Alike start place → IsSign signs.CloseParenthesis place rest → Reading path_close start tt rest
+reads_path_close : {start place rest : List ℕ} → Alike start place → IsPunctuation kinds.CloseParenthesis place rest → Reading path_close start tt rest
 unfolding path_close
 reads_path_close like close = reads_then _ (reads_token like close.at) (reads_yes _ close.is reads_give)
 
-reads_path : (path : Path) (set : List ℕ) {behind middle rest : List ℕ} → spelling.source set behind middle → IsSign signs.CloseParenthesis middle rest → Reading (path_from path) behind (Via path set) rest
+reads_path : (path : Path) (set : List ℕ) {after middle rest : List ℕ} → spelling.source set after middle → IsPunctuation kinds.CloseParenthesis middle rest → Reading (path_from path) after (Via path set) rest
 unfolding path_from
-reads_path path set {behind = behind} (inl named) close = reads_then _ (reads_token (alike behind) named.at) (reads_yes _ named.is (reads_then _ (reads_name_behind _ named.name_is) (reads_then _ (reads_path_close (alike _) close) reads_give)))
-reads_path path set {behind = behind} {middle = middle} (inr default) close =
-    let like : Alike behind middle = alike_back (alike_by default.1) in
-    reads_then _ (reads_token like close.at) (reads_no _ (other_sign close.is (λ e. cc))
+reads_path path set {after = after} (inl named) close = reads_then _ (reads_token (alike after) named.at) (reads_yes _ named.is (reads_then _ (reads_name_after _ named.name_is) (reads_then _ (reads_path_close (alike _) close) reads_give)))
+reads_path path set {after = after} {middle = middle} (inr default) close =
+    let like : Alike after middle = alike_back (alike_by default.1) in
+    reads_then _ (reads_token like close.at) (reads_no _ (other_kind close.is (λ e. cc))
     (reads_then _ (reads_from _ (reads_path_close (alike_on (from_token close.at) (alike middle)) close)) (reads_as (ap (λ (s : List ℕ). Via path s) default.0))))
 
-reads_corner : {text middle rest : List ℕ} {value : Decimal} → IsSign signs.Comma text middle → (n : grammar.corner value middle rest) → Reading corner text (record { number = n.number; place = (n.next).place }) rest
+reads_corner : {text middle rest : List ℕ} {value : Decimal} → IsPunctuation kinds.Comma text middle → (n : grammar.corner value middle rest) → Reading corner text (record { number = n.number; place = (n.next).place }) rest
 unfolding corner
-reads_corner {text = text} comma n = reads_then _ (reads_sign (alike text) comma) (reads_number (alike _) n)
+reads_corner {text = text} comma n = reads_then _ (reads_punctuation (alike text) comma) (reads_number (alike _) n)
 
 -- corners of equal numbers
 same_corners : {s t w x n o e f : Decimal} → s ≡ t → w ≡ x → n ≡ o → e ≡ f → (let c : Corners = record { south = s; west = w; north = n; east = e } in let d : Corners = record { south = t; west = x; north = o; east = f } in c ≡ d)
@@ -353,8 +353,8 @@ reads_area : {c all : Corners} (place : List ℕ) {text : List ℕ} → c ≡ al
 unfolding area
 reads_area place e is = record { reads = (subst AreBox (sym e) is, ap box_of (sym e), refl) }
 
-reads_within : (pick : Pick) (box : ExactBox) {opened middle rest : List ℕ} → takes_boxes pick ≡ true → grammar.box box opened middle → IsSign signs.CloseParenthesis middle rest → Reading (selector pick) opened (Within box) rest
-unfolding number_selector box_behind
+reads_within : (pick : Pick) (box : ExactBox) {opened middle rest : List ℕ} → takes_boxes pick ≡ true → grammar.box box opened middle → IsPunctuation kinds.CloseParenthesis middle rest → Reading (selector pick) opened (Within box) rest
+unfolding number_selector box_after
 reads_within pick box takes spelled close =
     let south = spelled.3 in
     let comma = south.back in
@@ -364,11 +364,11 @@ reads_within pick box takes spelled close =
     let east = north.back in
     reads_number_selector pick south.front (reads_then _ (reads_token (alike _) (comma.front).at) (reads_yes _ (comma.front).is (reads_yes _ takes
     (reads_then _ (reads_number (alike _) west.front) (reads_then _ (reads_corner next.front north.front) (reads_then _ (reads_corner east.front east.back)
-    (reads_then _ (reads_sign (alike _) close)
+    (reads_then _ (reads_punctuation (alike _) close)
     (reads_then _ (reads_area _ (same_corners (south.front).means (west.front).means (north.front).means ((east.back).means)) spelled.1) (reads_as (ap (λ (b : ExactBox). Within b) spelled.2))))))))))
 
 -- a filter in parentheses
-reads_ids : (pick : Pick) (ids : List ℤ) {opened middle rest : List ℕ} → grammar.ids pick ids opened middle → IsSign signs.CloseParenthesis middle rest → Reading (selector pick) opened (Ids ids) rest
+reads_ids : (pick : Pick) (ids : List ℤ) {opened middle rest : List ℕ} → grammar.ids pick ids opened middle → IsPunctuation kinds.CloseParenthesis middle rest → Reading (selector pick) opened (Ids ids) rest
 reads_ids pick [] spelled close = absurd spelled
 reads_ids pick (id ∷ more) {opened = opened} {middle = middle} {rest = rest} (inl one) close =
     let e = (one.front).0 in
@@ -378,7 +378,7 @@ reads_ids pick (id ∷ more) (inr list) close = reads_word_selector pick words.I
 
 -- filters
 one_filter : (pick : Pick) (f : Filter) (text rest : List ℕ) → (a_filter pick).reads text (Some f) rest → grammar.filter pick f text rest
-unfolding a_filter ◌>>=◌ choose from give next_token name_behind
+unfolding a_filter ◌>>=◌ choose from give next_token name_after
 one_filter pick f text rest r = elim r.back_reads [
   | inl it ↦ (let named = it.1 in let is : f ≡ InSet named.front = (let e = named.back_reads.0 in cc) in
       as_filter pick text rest is (spelled_to (IsSet named.front) named.back_reads.1 (record { next = r.front; place = r.middle; at = r.front_reads; is = it.0; name_is = named.front_reads })))
@@ -411,18 +411,18 @@ pub filters_sound : (pick : Pick) (all : List Filter) (text rest : List ℕ) →
 filters_sound pick all text rest r = gather_sound (a_filter pick) (one_filter pick) (no_filter pick) [] all text rest r
 
 -- what stands in brackets
-reads_bracket : (pick : Pick) (f : Filter) {text opened rest : List ℕ} → IsSign signs.OpenBracket text opened → Reading tag_filter opened f rest → Reading (a_filter pick) text (Some f) rest
+reads_bracket : (pick : Pick) (f : Filter) {text opened rest : List ℕ} → IsPunctuation kinds.OpenBracket text opened → Reading tag_filter opened f rest → Reading (a_filter pick) text (Some f) rest
 unfolding a_filter
-reads_bracket pick f {text = text} sign more = reads_then _ (reads_token (alike text) sign.at) (reads_no _ (other_sign sign.is (λ e. cc)) (reads_yes _ sign.is (reads_then _ more reads_give)))
+reads_bracket pick f {text = text} kind more = reads_then _ (reads_token (alike text) kind.at) (reads_no _ (other_kind kind.is (λ e. cc)) (reads_yes _ kind.is (reads_then _ more reads_give)))
 
-reads_parenthesis : (pick : Pick) (f : Filter) {text opened rest : List ℕ} → IsSign signs.OpenParenthesis text opened → Reading (selector pick) opened f rest → Reading (a_filter pick) text (Some f) rest
+reads_parenthesis : (pick : Pick) (f : Filter) {text opened rest : List ℕ} → IsPunctuation kinds.OpenParenthesis text opened → Reading (selector pick) opened f rest → Reading (a_filter pick) text (Some f) rest
 unfolding a_filter
-reads_parenthesis pick f {text = text} sign more =
-    reads_then _ (reads_token (alike text) sign.at) (reads_no _ (other_sign sign.is (λ e. cc)) (reads_no _ (other_sign sign.is (λ e. cc)) (reads_yes _ sign.is (reads_then _ more reads_give))))
+reads_parenthesis pick f {text = text} kind more =
+    reads_then _ (reads_token (alike text) kind.at) (reads_no _ (other_kind kind.is (λ e. cc)) (reads_no _ (other_kind kind.is (λ e. cc)) (reads_yes _ kind.is (reads_then _ more reads_give))))
 
 reads_in_set : (pick : Pick) (name : List ℕ) {text rest : List ℕ} → IsSet name text rest → Reading (a_filter pick) text (Some (InSet name)) rest
 unfolding a_filter
-reads_in_set pick name {text = text} s = reads_then _ (reads_token (alike text) s.at) (reads_yes _ s.is (reads_then _ (reads_name_behind _ s.name_is) reads_give))
+reads_in_set pick name {text = text} s = reads_then _ (reads_token (alike text) s.at) (reads_yes _ s.is (reads_then _ (reads_name_after _ s.name_is) reads_give))
 
 pub reads_filter : (pick : Pick) (f : Filter) → Allows pick f → (text rest : List ℕ) → grammar.filter pick f text rest → Reading (a_filter pick) text (Some f) rest
 reads_filter pick (InSet name) such text rest s = reads_in_set pick name s
@@ -437,7 +437,7 @@ reads_filter pick (Within box) such text rest s = reads_parenthesis pick (Within
 reads_filter pick (Via path set) such text rest s = let body = (s.back).front in
     reads_parenthesis pick (Via path set) s.front (reads_word_selector pick (words.Along path) body.front (reads_path path set body.back (s.back).back))
 
-pub reads_no_filter : (pick : Pick) {sign : Sign} {text rest : List ℕ} → (s : IsSign sign text rest) → (sign ≡ signs.Dot → ⊥) → (sign ≡ signs.OpenBracket → ⊥) → (sign ≡ signs.OpenParenthesis → ⊥) → Reading (a_filter pick) text None (s.next).place
+pub reads_no_filter : (pick : Pick) {kind : TokenKind} {text rest : List ℕ} → (s : IsPunctuation kind text rest) → (kind ≡ kinds.Dot → ⊥) → (kind ≡ kinds.OpenBracket → ⊥) → (kind ≡ kinds.OpenParenthesis → ⊥) → Reading (a_filter pick) text None (s.next).place
 unfolding a_filter
 reads_no_filter pick {text = text} s no_dot no_bracket no_parenthesis =
-    reads_then _ (reads_token (alike text) s.at) (reads_no _ (other_sign s.is no_dot) (reads_no _ (other_sign s.is no_bracket) (reads_no _ (other_sign s.is no_parenthesis) (reads_from _ reads_give))))
+    reads_then _ (reads_token (alike text) s.at) (reads_no _ (other_kind s.is no_dot) (reads_no _ (other_kind s.is no_bracket) (reads_no _ (other_kind s.is no_parenthesis) (reads_from _ reads_give))))

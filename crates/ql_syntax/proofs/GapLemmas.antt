@@ -16,7 +16,7 @@ line_stops a s e = subst (λ (x : ℕ). gap InLine (x ∷ s) ≡ gap Between (x 
 block_goes_on : (c : List ℕ) (a b : ℕ) (s : List ℕ) → (a ≡ 42 → b ≡ 47 → ⊥) → gap (InBlock c) (a ∷ b ∷ s) ≡ gap (InBlock c) (b ∷ s)
 block_goes_on c a b s other = grind (arith, common_steps)
 
--- a line comment goes on behind another byte than LF
+-- a line comment goes on after another byte than LF
 pub line_step : (s : List ℕ) (i : ℕ) → i < length s → get_or s i 0 ≢ 10 → gap InLine (drop i s) ≡ gap InLine (drop (i + 1) s)
 line_step s i lt other = rw (add-one, drop-cons s i 0) (line_goes_on (get_or s i 0) (drop (suc i) s) other)
 

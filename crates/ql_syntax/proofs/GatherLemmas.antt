@@ -2,9 +2,9 @@
 use Rattle.std.proofs.Common.{◌≡◌, ℕ, List, [], ◌∷◌, ◌++◌, Option, None, Some, Result, Ok, Err, refl, sym, ◌∙◌, ap, subst, map}
 use Rattle.std.proofs.lemmas.List.{map-append}
 use Rattle.std.specs.Prelude.{IsErrAnd}
-use Rattle.ql_syntax.specs.Following.{Outcome, Follows}
+use Rattle.ql_syntax.specs.internal.Following.{Outcome, Follows}
 use Rattle.ql_syntax.specs.Rules.{Rule, ◌>>=◌, give, gather, gather_round, gathered, More, Done}
-use Rattle.ql_syntax.specs.declared.stop.Stop.{Stop}
+use Rattle.ql_syntax.specs.declared.syntax_error.SyntaxError.{SyntaxError}
 use Rattle.ql_syntax.proofs.Lengths.{Within, within_then, within_give}
 use Rattle.ql_syntax.proofs.RoundLemmas.{Reaches, Step, follows_rounds}
 use Rattle.ql_syntax.proofs.RuleLemmas.{read_of, follows_then, follows_give, follows_stop}
@@ -26,7 +26,7 @@ module _ {A : Type 0} {item : Rule (Option A)} {first : List A} {begin : List �
       follows_rounds reach (follows_then _ follows (follows_give (ap (λ (s : List A). Done s) all ∙ sym (ap (λ (o : Option A). gathered found o) is)) rest))
 
   -- a stop
-  pub gather_stop : {M X Y : Type 0} {found : List A} {text : List ℕ} {v : Y → Option A × List ℕ} {stop : Stop} {view : X → List A × List ℕ} {r : Result X Stop} → Reaches (gather_round item) first begin found text
+  pub gather_stop : {M X Y : Type 0} {found : List A} {text : List ℕ} {v : Y → Option A × List ℕ} {stop : SyntaxError} {view : X → List A × List ℕ} {r : Result X SyntaxError} → Reaches (gather_round item) first begin found text
       → Outcome M item v text (Err stop) → IsErrAnd r (λ f. f ≡ stop) → Follows (gather item first) view begin r
   unfolding gather gather_round
   gather_stop reach follows is = follows_rounds reach (follows_stop _ follows is)
@@ -36,7 +36,7 @@ unfolding gather gather_round
 within_gather w found = within_repeat (λ (state : _). within_then _ w (λ next. within_give _)) found
 
 -- gathering begins with the same list
-pub gather_from : {A X : Type 0} (item : Rule (Option A)) {first same : List A} {text : List ℕ} {view : X → List A × List ℕ} {r : Result X Stop} → first ≡ same → Follows (gather item first) view text r → Follows (gather item same) view text r
+pub gather_from : {A X : Type 0} (item : Rule (Option A)) {first same : List A} {text : List ℕ} {view : X → List A × List ℕ} {r : Result X SyntaxError} → first ≡ same → Follows (gather item first) view text r → Follows (gather item same) view text r
 gather_from item {text = text} {view = view} {r = r} is follows = subst (λ (list : List _). Follows (gather item list) view text r) is follows
 
 -- one more, as it is seen

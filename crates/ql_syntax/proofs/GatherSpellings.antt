@@ -6,7 +6,7 @@ use Rattle.ql_syntax.specs.Rules as rounds
 use Rattle.ql_syntax.specs.Spellings.{Spelling, each}
 use Rattle.ql_syntax.proofs.SpellingLemmas.{both, Reading}
 
--- behind those found before these were gathered, each so spelled, and then the end
+-- after those found before these were gathered, each so spelled, and then the end
 pub record Gathered {A : Type 0} (spelled : A → Spelling) (Ending : Spelling) (found all : List A) (text rest : List ℕ) : Type 0 where
   pub more : List A
   pub is : all ≡ found ++ more

@@ -2,7 +2,7 @@
 use Rattle.std.proofs.Common.{◌≡◌, ℕ, List, [], ◌∷◌, ◌++◌, Option, None, Some, refl, sym, ◌∙◌, subst, inl, inr}
 use Rattle.std.specs.List.{AllByRecursion}
 use Rattle.opl_codec.proofs.shared.ReadLiterals.{all_append}
-use Rattle.ql_syntax.specs.Points.{Next, unexpected}
+use Rattle.ql_syntax.specs.TokenRules.{Next, unexpected}
 use Rattle.ql_syntax.specs.Rules.{Rule, ◌>>=◌, give, refuse, from, choose, by_case, repeat, gather, gather_round, gathered, Round, More, Done, RoundsRead, Last}
 use Rattle.ql_syntax.specs.Rules as rounds
 use Rattle.ql_syntax.specs.declared.cause.QlCause.{QlCause}
@@ -32,9 +32,9 @@ unfolding ◌>>=◌
 gives_then second f s = record { gives = λ text v rest reads. (s reads.front (f.gives text reads.front reads.middle reads.front_reads)).gives reads.middle v rest reads.back_reads }
 
 -- whatever the first rule gives
-pub gives_behind : {A B : Type 0} {IsThen : B → Type 0} (first : Rule A) (second : A → Rule B) → ((a : A) → Gives IsThen (second a)) → Gives IsThen (first >>= second)
+pub gives_after : {A B : Type 0} {IsThen : B → Type 0} (first : Rule A) (second : A → Rule B) → ((a : A) → Gives IsThen (second a)) → Gives IsThen (first >>= second)
 unfolding ◌>>=◌
-gives_behind first second s = record { gives = λ text v rest reads. (s reads.front).gives reads.middle v rest reads.back_reads }
+gives_after first second s = record { gives = λ text v rest reads. (s reads.front).gives reads.middle v rest reads.back_reads }
 
 pub gives_choose : {A : Type 0} {IsSuch : A → Type 0} (holds : Type 0) {first other : Rule A} → (holds → Gives IsSuch first) → Gives IsSuch other → Gives IsSuch (choose holds first other)
 unfolding choose
@@ -68,15 +68,15 @@ module _ {A : Type 0} (IsSuch : A → Type 0) {item : Rule (Option A)} (each : G
   unfolding gather repeat
   gives_gather found all = record { gives = λ text value rest reads. rounds_give value rest found text all reads }
 
--- what is gathered behind a first one isn't empty
-some_behind : {A : Type 0} (item : Rule (Option A)) (value : List A) (rest : List ℕ) (found : List A) (text : List ℕ) → ¬ (found ≡ []) → RoundsRead (gather_round item) value rest found text → ¬ (value ≡ [])
+-- what is gathered after a first one isn't empty
+some_after : {A : Type 0} (item : Rule (Option A)) (value : List A) (rest : List ℕ) (found : List A) (text : List ℕ) → ¬ (found ≡ []) → RoundsRead (gather_round item) value rest found text → ¬ (value ≡ [])
 unfolding gather_round ◌>>=◌ give
-some_behind item value rest _ _ some (Last found text reads) = last reads.front reads.back_reads.0
+some_after item value rest _ _ some (Last found text reads) = last reads.front reads.back_reads.0
   where
     last : (o : Option _) → Done value ≡ gathered found o → ¬ (value ≡ [])
     last None e none = some (let same : value ≡ found = cc in sym same ∙ none)
     last (Some a) e none = absurd (cc)
-some_behind item value rest _ _ some (rounds.Next found next text middle reads more) = some_behind item value rest next middle (longer reads.front reads.back_reads.0) more
+some_after item value rest _ _ some (rounds.Next found next text middle reads more) = some_after item value rest next middle (longer reads.front reads.back_reads.0) more
   where
     longer : (o : Option _) → More next ≡ gathered found o → ¬ (next ≡ [])
     longer None e none = absurd (cc)
@@ -88,7 +88,7 @@ some_behind item value rest _ _ some (rounds.Next found next text middle reads m
 
 pub gives_some : {A : Type 0} (item : Rule (Option A)) (first : A) → Gives (λ (all : List A). ¬ (all ≡ [])) (gather item (first ∷ []))
 unfolding gather repeat
-gives_some item first = record { gives = λ text value rest reads. some_behind item value rest (first ∷ []) text (λ e. cc) reads }
+gives_some item first = record { gives = λ text value rest reads. some_after item value rest (first ∷ []) text (λ e. cc) reads }
 
 pub gives_also : {A : Type 0} {IsSuch IsAlso : A → Type 0} {rule : Rule A} → Gives IsSuch rule → Gives IsAlso rule → Gives (λ (a : A). IsSuch a × IsAlso a) rule
 gives_also one other = record { gives = λ text v rest reads. (one.gives text v rest reads, other.gives text v rest reads) }

@@ -5,66 +5,66 @@ use Rattle.opl_codec.specs.declared.out_mode.OutMode.{OutMode}
 use Rattle.opl_codec.specs.declared.out_mode.OutMode.TheVariants as modes
 use Rattle.osm_model.specs.Boxes.{ExactBox}
 use Rattle.ql_syntax.specs.Filters.{Within}
-use Rattle.ql_syntax.specs.Gaps.{gap, Between, Behind}
+use Rattle.ql_syntax.specs.Gaps.{gap, Between, After}
 use Rattle.ql_syntax.specs.Grammar as grammar
 use Rattle.ql_syntax.specs.Grammar.{OutOption, Mode, Order, modes_of, at_most_one}
 use Rattle.ql_syntax.specs.LawfulQueries.{Allows, IsInner, IsQuery}
-use Rattle.ql_syntax.specs.Points.{Next, next_token, unexpected}
+use Rattle.ql_syntax.specs.TokenRules.{Next, next_token, unexpected}
 use Rattle.ql_syntax.specs.Queries.{query}
 use Rattle.ql_syntax.specs.Rules.{First, Second, Here, give, refuse, from, choose, by_case, ◌>>=◌, gather, gather_round, repeat}
 use Rattle.ql_syntax.specs.Settings.{settings}
-use Rattle.ql_syntax.specs.Signs.{sign_of, len_of}
+use Rattle.ql_syntax.specs.TokenKinds.{token_kind_at, punctuation_len}
 use Rattle.ql_syntax.specs.Spellings as spelling
-use Rattle.ql_syntax.specs.Spellings.{Both, IsSign, IsEnd, IsSet, IsWordOf}
+use Rattle.ql_syntax.specs.Spellings.{Both, IsPunctuation, IsEnd, IsSet, IsWordOf}
 use Rattle.ql_syntax.specs.StatementRules.{top_statement, statement, plain_statement}
 use Rattle.ql_syntax.specs.Statements.{Statements, Recurse, Item, Union, Minus, Print}
 use Rattle.ql_syntax.specs.Words.{IsRun}
 use Rattle.ql_syntax.specs.declared.cause.QlCause.TheVariants as causes
 use Rattle.ql_syntax.specs.declared.pick.Pick.TheVariants as picks
 use Rattle.ql_syntax.specs.declared.recursion.Recursion.TheVariants as recursions
-use Rattle.ql_syntax.specs.declared.sign.Sign.{Sign}
-use Rattle.ql_syntax.specs.declared.sign.Sign.TheVariants as signs
+use Rattle.ql_syntax.specs.declared.token_kind.TokenKind.{TokenKind}
+use Rattle.ql_syntax.specs.declared.token_kind.TokenKind.TheVariants as kinds
 use Rattle.ql_syntax.proofs.SpellingLemmas.{both}
 
 -- punctuation, without blanks before it
-sign : (s : Sign) (text : List ℕ) → gap Between text ≡ Behind text → s ≡ sign_of text → IsSign s text (drop (len_of s) text)
-sign s text gap is = record { next = record { sign = s; place = text }; at = record { behind_gap = gap; sign_is = is; rest_is = refl }; is = refl }
+kind : (s : TokenKind) (text : List ℕ) → gap Between text ≡ After text → s ≡ token_kind_at text → IsPunctuation s text (drop (punctuation_len s) text)
+kind s text gap is = record { next = record { kind = s; place = text }; at = record { after_gap = gap; kind_is = is; rest_is = refl }; is = refl }
 
 -- the default set, and the `;`
-end : (text : List ℕ) → gap Between text ≡ Behind text → signs.Semicolon ≡ sign_of text → spelling.into (codes "_") text (drop 1 text)
-end text gap is = inr (both text (refl, refl) (sign signs.Semicolon text gap is))
+end : (text : List ℕ) → gap Between text ≡ After text → kinds.Semicolon ≡ token_kind_at text → spelling.into (codes "_") text (drop 1 text)
+end text gap is = inr (both text (refl, refl) (kind kinds.Semicolon text gap is))
 
 -- a query that ends here
 stop : IsEnd [] []
-stop = record { next = record { sign = signs.End; place = [] }; place = []; at = record { behind_gap = refl; sign_is = refl; rest_is = refl }; is = refl; nothing_left = refl }
+stop = record { next = record { kind = kinds.End; place = [] }; place = []; at = record { after_gap = refl; kind_is = refl; rest_is = refl }; is = refl; nothing_left = refl }
 
 -- the empty text reads
 pub nothing_row : grammar.query [] [] []
 nothing_row = both [] (inr refl) (both [] refl stop)
 
--- `->` behind the first statement of a parenthesis is the `-` of a difference, and `>`
+-- `->` after the first statement of a parenthesis is the `-` of a difference, and `>`
 difference_row : grammar.query (Minus (Item (codes "a") (codes "_")) (Recurse (codes "_") recursions.Down (codes "_")) (codes "_") ∷ []) (codes "(.a;->;);") []
 difference_row =
     both (codes "(.a;->;);") (inr refl)
     (both [] (both []
     (both (codes ";")
-    (both (codes ".a;->;);") (sign signs.OpenParenthesis (codes "(.a;->;);") refl refl)
+    (both (codes ".a;->;);") (kind kinds.OpenParenthesis (codes "(.a;->;);") refl refl)
     (both (codes ");")
     (both (codes "->;);")
-    (both (codes ";->;);") (record { next = record { sign = signs.Dot; place = codes ".a;->;);" }; place = codes "a;->;);"; at = record { behind_gap = refl; sign_is = refl; rest_is = refl }; is = refl; name_is = record { run = record { parts = refl; bytes = refl; longest = refl }; start = refl } })
+    (both (codes ";->;);") (record { next = record { kind = kinds.Dot; place = codes ".a;->;);" }; place = codes "a;->;);"; at = record { after_gap = refl; kind_is = refl; rest_is = refl }; is = refl; name_is = record { run = record { parts = refl; bytes = refl; longest = refl }; start = refl } })
     (end (codes ";->;);") refl refl))
     (both (codes ">;);")
-    (record { next = record { sign = signs.Arrow; place = codes "->;);" }; place = codes ";);"; at = record { behind_gap = refl; sign_is = refl; rest_is = refl }; is = inr refl; rest_is = refl })
-    (both (codes ">;);") (inr (refl, refl)) (both (codes ";);") (record { sign = signs.Down; means = refl; spelled = sign signs.Down (codes ">;);") refl refl }) (end (codes ";);") refl refl)))))
-    (sign signs.CloseParenthesis (codes ");") refl refl)))
+    (record { next = record { kind = kinds.Arrow; place = codes "->;);" }; place = codes ";);"; at = record { after_gap = refl; kind_is = refl; rest_is = refl }; is = inr refl; rest_is = refl })
+    (both (codes ">;);") (inr (refl, refl)) (both (codes ";);") (record { kind = kinds.Down; means = refl; spelled = kind kinds.Down (codes ">;);") refl refl }) (end (codes ";);") refl refl)))))
+    (kind kinds.CloseParenthesis (codes ");") refl refl)))
     (end (codes ";") refl refl)) refl) stop)
 
 difference_is_lawful : IsQuery (Minus (Item (codes "a") (codes "_")) (Recurse (codes "_") recursions.Down (codes "_")) (codes "_") ∷ [])
 difference_is_lawful = ((31, refl, tt, tt), tt)
 
--- what stands behind `out` stands in any order
-word : (Means : List ℕ → Type 0) (text word rest : List ℕ) → gap Between text ≡ Behind (drop 1 text) → signs.Word ≡ sign_of (drop 1 text) → IsRun (drop 1 text) word rest → Means word → IsWordOf Means text rest
-word Means text w rest gap is run means = record { next = record { sign = signs.Word; place = drop 1 text }; place = drop 1 text; word = w; at = record { behind_gap = gap; sign_is = is; rest_is = refl }; is = refl; run = run; means = means }
+-- what stands after `out` stands in any order
+word : (Means : List ℕ → Type 0) (text word rest : List ℕ) → gap Between text ≡ After (drop 1 text) → kinds.Word ≡ token_kind_at (drop 1 text) → IsRun (drop 1 text) word rest → Means word → IsWordOf Means text rest
+word Means text w rest gap is run means = record { next = record { kind = kinds.Word; place = drop 1 text }; place = drop 1 text; word = w; at = record { after_gap = gap; kind_is = is; rest_is = refl }; is = refl; run = run; means = means }
 
 out_row : grammar.query (Print (codes "_") modes.Ids None ∷ []) (codes " out qt ids;") []
 out_row =
@@ -84,7 +84,7 @@ out_row =
       spelled = both (codes " ids;") (word _ (codes " qt ids;") (codes "qt") (codes " ids;") refl refl (record { parts = refl; bytes = refl; longest = refl }) refl)
           (both (codes ";") (word _ (codes " ids;") (codes "ids") (codes ";") refl refl (record { parts = refl; bytes = refl; longest = refl }) refl) refl);
     })
-    (sign signs.Semicolon (codes ";") refl refl)))) refl) stop)
+    (kind kinds.Semicolon (codes ";") refl refl)))) refl) stop)
 
 -- two modes, whichever, are not
 two_modes_row : (given : Option OutMode) (more : List OutOption) → modes_of (Mode modes.Ids ∷ Mode modes.Ids ∷ more) ≡ at_most_one given → ⊥
@@ -105,7 +105,7 @@ out_inside_row depth set limit is = is
 semicolon_row : query.stops (codes ";") causes.UnexpectedCharacter (codes ";")
 unfolding query settings gather repeat gather_round top_statement statement plain_statement ◌>>=◌ choose from give by_case unexpected refuse next_token
 semicolon_row =
-    let here : Next = record { sign = signs.Semicolon; place = codes ";" } in
-    Second tt (codes ";") (record { front = here; middle = []; front_reads = record { behind_gap = refl; sign_is = refl; rest_is = refl }; back_reads = inr (λ e. cc, (refl, refl)) })
-    (Here [] (codes ";") (First (Second here [] (record { behind_gap = refl; sign_is = refl; rest_is = refl })
-    (inr (λ e. cc, First (Second here [] (record { behind_gap = refl; sign_is = refl; rest_is = refl }) (inr (λ e. cc, inr (λ e. cc, inr (λ e. cc, (refl, refl)))))))))))
+    let here : Next = record { kind = kinds.Semicolon; place = codes ";" } in
+    Second tt (codes ";") (record { front = here; middle = []; front_reads = record { after_gap = refl; kind_is = refl; rest_is = refl }; back_reads = inr (λ e. cc, (refl, refl)) })
+    (Here [] (codes ";") (First (Second here [] (record { after_gap = refl; kind_is = refl; rest_is = refl })
+    (inr (λ e. cc, First (Second here [] (record { after_gap = refl; kind_is = refl; rest_is = refl }) (inr (λ e. cc, inr (λ e. cc, inr (λ e. cc, (refl, refl)))))))))))

@@ -1,14 +1,14 @@
 -- What rules leave is no longer than what they read.
 use Rattle.std.proofs.Common.{◌≡◌, ℕ, ◌≤◌, ◌<◌, List, [], ◌∷◌, ◌==◌, ◌&&◌, Bool, true, false, cond, length, drop, arith, refl, inl, inr, ap, length-append, length-drop}
 use Rattle.osm_model.specs.Degrees.{Decimal, spelling}
-use Rattle.ql_syntax.specs.Gaps.{gap, Where, Between, InLine, InBlock, GapEnd, Behind, is_blank}
-use Rattle.ql_syntax.specs.Points.{Next, next_token, unexpected, pass, run_here, word_at, a_word, number_here, number_at, a_number}
+use Rattle.ql_syntax.specs.Gaps.{gap, Where, Between, InLine, InBlock, GapEnd, After, is_blank}
+use Rattle.ql_syntax.specs.TokenRules.{Next, next_token, unexpected, pass, run_here, word_at, a_word, number_here, number_at, a_number}
 use Rattle.ql_syntax.specs.Rules.{Rule, ◌>>=◌, give, refuse, from, choose, by_case}
-use Rattle.ql_syntax.specs.Signs.{sign_of, len_of}
+use Rattle.ql_syntax.specs.TokenKinds.{token_kind_at, punctuation_len}
 use Rattle.ql_syntax.specs.WholeNumbers.{count_of, id_of}
 use Rattle.ql_syntax.specs.declared.cause.QlCause.{QlCause}
-use Rattle.ql_syntax.specs.declared.sign.Sign.{Sign}
-use Rattle.ql_syntax.specs.declared.sign.Sign.TheVariants as signs
+use Rattle.ql_syntax.specs.declared.token_kind.TokenKind.{TokenKind}
+use Rattle.ql_syntax.specs.declared.token_kind.TokenKind.TheVariants as kinds
 
 -- from a text that is no longer than start, the rule leaves none that is longer
 pub record Within {A : Type 0} (start : List ℕ) (rule : Rule A) : Type 0 where
@@ -60,20 +60,20 @@ unfolding by_case
 within_case k rule each = each k
 
 -- a gap leaves no more
-same_end : (s place : List ℕ) → Behind s ≡ Behind place → length place ≤ length s
+same_end : (s place : List ℕ) → After s ≡ After place → length place ≤ length s
 same_end s place e = let same : s ≡ place = cc in let n = ap (λ (x : List ℕ). length x) same in omega arith
 
-of_two : (b : Bool) (x y : GapEnd) (n : ℕ) (place : List ℕ) → (x ≡ Behind place → length place ≤ n) → (y ≡ Behind place → length place ≤ n) → cond b x y ≡ Behind place → length place ≤ n
+of_two : (b : Bool) (x y : GapEnd) (n : ℕ) (place : List ℕ) → (x ≡ After place → length place ≤ n) → (y ≡ After place → length place ≤ n) → cond b x y ≡ After place → length place ≤ n
 of_two true x y n place f g e = f e
 of_two false x y n place f g e = g e
 
-pub gap_within : (w : Where) (text place : List ℕ) → gap w text ≡ Behind place → length place ≤ length text
+pub gap_within : (w : Where) (text place : List ℕ) → gap w text ≡ After place → length place ≤ length text
 gap_within Between [] place e = same_end [] place e
-gap_within Between (a ∷ []) place e = of_two (is_blank a) (Behind []) (Behind (a ∷ [])) (length (a ∷ [])) place (λ h. let n = same_end [] place h in omega arith) (λ h. same_end (a ∷ []) place h) e
+gap_within Between (a ∷ []) place e = of_two (is_blank a) (After []) (After (a ∷ [])) (length (a ∷ [])) place (λ h. let n = same_end [] place h in omega arith) (λ h. same_end (a ∷ []) place h) e
 gap_within Between (a ∷ b ∷ s) place e =
     of_two (is_blank a) _ _ _ place (λ h. let n = gap_within Between (b ∷ s) place h in omega arith)
     (λ h. of_two (a == 47 && b == 47) _ _ _ place (λ h. let n = gap_within InLine s place h in omega arith)
-    (λ h. of_two (a == 47 && b == 42) (gap (InBlock (a ∷ b ∷ s)) s) (Behind (a ∷ b ∷ s)) _ place (λ h. let n = gap_within (InBlock (a ∷ b ∷ s)) s place h in omega arith) (λ h. same_end (a ∷ b ∷ s) place h) h) h) e
+    (λ h. of_two (a == 47 && b == 42) (gap (InBlock (a ∷ b ∷ s)) s) (After (a ∷ b ∷ s)) _ place (λ h. let n = gap_within (InBlock (a ∷ b ∷ s)) s place h in omega arith) (λ h. same_end (a ∷ b ∷ s) place h) h) h) e
 gap_within InLine [] place e = same_end [] place e
 gap_within InLine (a ∷ s) place e =
     of_two (a == 10) (gap Between s) (gap InLine s) (length (a ∷ s)) place (λ h. let n = gap_within Between s place h in omega arith) (λ h. let n = gap_within InLine s place h in omega arith) e
@@ -83,35 +83,35 @@ gap_within (InBlock c) (a ∷ b ∷ s) place e =
     of_two (a == 42 && b == 47) (gap Between s) (gap (InBlock c) (b ∷ s)) (length (a ∷ b ∷ s)) place (λ h. let n = gap_within Between s place h in omega arith)
     (λ h. let n = gap_within (InBlock c) (b ∷ s) place h in omega arith) e
 
--- behind a token nothing is longer than the text from it on
+-- after a token nothing is longer than the text from it on
 pub within_next : {B : Type 0} {start : List ℕ} (second : Next → Rule B) → ((next : Next) → Within next.place (second next)) → Within start (next_token >>= second)
 unfolding ◌>>=◌ next_token
 within_next second s = record {
   at_most = λ text value rest le reads.
       let at = reads.front_reads in
-      let g = gap_within Between text reads.front.place at.behind_gap in
+      let g = gap_within Between text reads.front.place at.after_gap in
       let n = ap (λ (x : List ℕ). length x) at.rest_is in
-      let k = (s reads.front).at_most reads.middle value rest (omega (arith, length-drop (len_of reads.front.sign) reads.front.place)) reads.back_reads in
+      let k = (s reads.front).at_most reads.middle value rest (omega (arith, length-drop (punctuation_len reads.front.kind) reads.front.place)) reads.back_reads in
       omega arith;
 }
 
 -- punctuation is passed
-pub behind_sign : (sign : Sign) (place : List ℕ) → 1 ≤ len_of sign → sign ≡ sign_of place → length (drop (len_of sign) place) < length place
-behind_sign sign [] some is = let n = ap len_of is in let z : len_of signs.End ≡ 0 = refl in absurd (omega arith)
-behind_sign sign (b ∷ s) some is = omega (arith, length-drop (len_of sign) (b ∷ s))
+pub after_punctuation : (kind : TokenKind) (place : List ℕ) → 1 ≤ punctuation_len kind → kind ≡ token_kind_at place → length (drop (punctuation_len kind) place) < length place
+after_punctuation kind [] some is = let n = ap punctuation_len is in let z : punctuation_len kinds.End ≡ 0 = refl in absurd (omega arith)
+after_punctuation kind (b ∷ s) some is = omega (arith, length-drop (punctuation_len kind) (b ∷ s))
 
-pub shorter_pass : (sign : Sign) → 1 ≤ len_of sign → Shorter (pass sign)
+pub shorter_pass : (kind : TokenKind) → 1 ≤ punctuation_len kind → Shorter (pass kind)
 unfolding ◌>>=◌ next_token pass choose unexpected refuse give
-shorter_pass sign some = record {
+shorter_pass kind some = record {
   below = λ text value rest reads.
       let at = reads.front_reads in
-      let g = gap_within Between text reads.front.place at.behind_gap in
+      let g = gap_within Between text reads.front.place at.after_gap in
       elim reads.back_reads [
         | inl r ↦ (
             let n = ap (λ (x : List ℕ). length x) at.rest_is in
             let m = ap (λ (x : List ℕ). length x) r.1.1 in
-            let l = ap len_of r.0 in
-            let b = behind_sign reads.front.sign reads.front.place (omega arith) at.sign_is in
+            let l = ap punctuation_len r.0 in
+            let b = after_punctuation reads.front.kind reads.front.place (omega arith) at.kind_is in
             omega arith)
         | inr r ↦ absurd r.1
       ];

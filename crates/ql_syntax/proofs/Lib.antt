@@ -1,4 +1,5 @@
 pub mod Exits
+pub mod KindLemmas
 pub mod GapLemmas
 pub mod NumberLemmas
 pub mod EscapeLemmas

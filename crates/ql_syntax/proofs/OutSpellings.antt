@@ -1,4 +1,4 @@
--- What stands behind `out` is spelled as rules read it.
+-- What stands after `out` is spelled as rules read it.
 use Rattle.std.proofs.Common.{◌≡◌, ℕ, List, [], ◌∷◌, ◌++◌, Option, None, Some, Bool, true, false, refl, sym, ◌∙◌, ap, subst, inl, inr, append-nil}
 use Rattle.std.specs.Option.{is_some, unwrap_or}
 use Rattle.opl_codec.specs.declared.out_mode.OutMode.{OutMode}
@@ -8,18 +8,18 @@ use Rattle.ql_syntax.specs.Grammar as grammar
 use Rattle.ql_syntax.specs.Grammar.{OutOption, Mode, Order, Limit, modes_of, orders_of, limits_of, at_most_one}
 use Rattle.ql_syntax.specs.OutWords.{out_word}
 use Rattle.ql_syntax.specs.Outs.{once, out_word_at, with_word, with_number, out_round, out_options}
-use Rattle.ql_syntax.specs.Points.{Number, next_token, unexpected, begins_number}
+use Rattle.ql_syntax.specs.TokenRules.{Number, next_token, unexpected, begins_number}
 use Rattle.ql_syntax.specs.Rules.{Rule, ◌>>=◌, give, refuse, from, choose, by_case, repeat, Round, More, Done, RoundsRead, Last}
 use Rattle.ql_syntax.specs.Rules as rounds
-use Rattle.ql_syntax.specs.Spellings.{Both, each, IsSign, IsWordOf, IsNumberOf}
+use Rattle.ql_syntax.specs.Spellings.{Both, each, IsPunctuation, IsWordOf, IsNumberOf}
 use Rattle.ql_syntax.specs.WholeNumbers.{IsCount, count_of}
 use Rattle.ql_syntax.specs.declared.out_options.OutOptions.{OutOptions}
 use Rattle.ql_syntax.specs.declared.out_word.OutWord.{OutWord}
 use Rattle.ql_syntax.specs.declared.out_word.OutWord.TheVariants as words
-use Rattle.ql_syntax.specs.declared.sign.Sign.{Sign}
-use Rattle.ql_syntax.specs.declared.sign.Sign.TheVariants as signs
+use Rattle.ql_syntax.specs.declared.token_kind.TokenKind.{TokenKind}
+use Rattle.ql_syntax.specs.declared.token_kind.TokenKind.TheVariants as kinds
 use Rattle.ql_syntax.proofs.FilterSpellings.{means, means_word, number_at_split, word_split, reads_word_at, reads_number_at, word_is_no_number}
-use Rattle.ql_syntax.proofs.SpellingLemmas.{alike, at_rest, both, spelled_to, other_sign, Reading, reads_then, reads_give, reads_yes, reads_no, reads_case, reads_token}
+use Rattle.ql_syntax.proofs.SpellingLemmas.{alike, at_rest, both, spelled_to, other_kind, Reading, reads_then, reads_give, reads_yes, reads_no, reads_case, reads_token}
 
 abbrev order_of : Bool → Option (Unit {0})
 order_of true = Some tt
@@ -35,7 +35,7 @@ record Leads (seen : OutOptions) (options : List OutOption) (found : OutOptions)
 record Spelled (seen found : OutOptions) (text rest : List ℕ) : Type 0 where
   options : List OutOption
   leads : Leads seen options found
-  spelled : Both (each grammar.out_option options) (IsSign signs.Semicolon) text rest
+  spelled : Both (each grammar.out_option options) (IsPunctuation kinds.Semicolon) text rest
 
 stays : {A : Type 0} (o : Option A) → at_most_one o ++ [] ≡ at_most_one o
 stays o = append-nil (at_most_one o)
@@ -62,11 +62,11 @@ same_reads : {A : Type 0} (rule : Rule A) {text rest same : List ℕ} {value fou
 same_reads rule {text = text} {rest = rest} {found = found} is at reads = subst (λ (s : List ℕ). rule.reads text found s) (sym at) (subst (λ (v : _). rule.reads text v rest) (sym is) reads)
 
 -- the first of a sort
-first_of : {A : Type 0} (a : A) (more : List A) (before after found : Option A) → before ≡ None → after ≡ Some a → at_most_one after ++ more ≡ at_most_one found → at_most_one before ++ a ∷ more ≡ at_most_one found
-first_of a more before after found none some leads = ap (λ (o : Option _). at_most_one o ++ a ∷ more) none ∙ ap (λ (o : Option _). at_most_one o ++ more) (sym some) ∙ leads
+first_of : {A : Type 0} (a : A) (more : List A) (before later found : Option A) → before ≡ None → later ≡ Some a → at_most_one later ++ more ≡ at_most_one found → at_most_one before ++ a ∷ more ≡ at_most_one found
+first_of a more before later found none some leads = ap (λ (o : Option _). at_most_one o ++ a ∷ more) none ∙ ap (λ (o : Option _). at_most_one o ++ more) (sym some) ∙ leads
 
-as_before : {A : Type 0} (more : List A) (before after found : Option A) → after ≡ before → at_most_one after ++ more ≡ at_most_one found → at_most_one before ++ more ≡ at_most_one found
-as_before more before after found same leads = ap (λ (o : Option _). at_most_one o ++ more) (sym same) ∙ leads
+as_before : {A : Type 0} (more : List A) (before later found : Option A) → later ≡ before → at_most_one later ++ more ≡ at_most_one found → at_most_one before ++ more ≡ at_most_one found
+as_before more before later found same leads = ap (λ (o : Option _). at_most_one o ++ more) (sym same) ∙ leads
 
 -- one option more in front
 module _ (seen next found : OutOptions) (text middle rest : List ℕ) (more : Spelled next found middle rest) where
@@ -87,7 +87,7 @@ module _ (seen next found : OutOptions) (text middle rest : List ℕ) (more : Sp
         orders = first_of tt (orders_of more.options) (order_of seen.ordered) (order_of next.ordered) (order_of found.ordered) (ap order_of o.0) (ap (λ (x : OutOptions). order_of x.ordered) e) (more.leads).orders;
         limits = as_before (limits_of more.options) seen.limit next.limit found.limit (ap (λ (x : OutOptions). x.limit) e) (more.leads).limits;
       }) (spelled_to (grammar.out_option Order) o.2 (means_word (λ (w : List ℕ) same. ap out_word same ∙ is) spelled))
-  word_leads place word begin words.Outside is spelled r = absurd r
+  word_leads place word begin words.LeftOut is spelled r = absurd r
   word_leads place word begin words.Unknown is spelled r = absurd r
 
   number_leads : (number : Number) (begin : List ℕ) → IsNumberOf (λ (d : Decimal). d ≡ number.number) text begin → (with_number seen number).reads begin next middle → Spelled seen found text rest
@@ -146,7 +146,7 @@ rounds_sound found rest _ _ (rounds.Next seen next text middle r more) = next_ro
 abbrev no_options : OutOptions
 no_options = record { mode = None; ordered = false; limit = None }
 
-pub out_sound : (found : OutOptions) (text rest : List ℕ) → out_options.reads text found rest → Both (grammar.IsOut (unwrap_or found.mode modes.Body) found.limit) (IsSign signs.Semicolon) text rest
+pub out_sound : (found : OutOptions) (text rest : List ℕ) → out_options.reads text found rest → Both (grammar.IsOut (unwrap_or found.mode modes.Body) found.limit) (IsPunctuation kinds.Semicolon) text rest
 unfolding out_options repeat
 out_sound found text rest r =
     let s = rounds_sound found rest no_options text r in
@@ -196,18 +196,18 @@ word_option seen next case {text = text} w more = reads_then _ (reads_token (ali
 number_option : (seen : OutOptions) (limit : ℕ) {text rest : List ℕ} → seen.limit ≡ None → IsNumberOf (λ (d : Decimal). IsCount d limit) text rest → Reading (out_round seen) text (More (record { mode = seen.mode; ordered = seen.ordered; limit = Some limit })) rest
 unfolding out_round with_number
 number_option seen limit {text = text} none n =
-    reads_then _ (reads_token (alike text) n.at) (reads_no _ (word_is_no_number (n.next).sign n.begins) (reads_yes _ n.begins
+    reads_then _ (reads_token (alike text) n.at) (reads_no _ (word_is_no_number (n.next).kind n.begins) (reads_yes _ n.begins
     (reads_then _ (reads_number_at n.next n.spelled) (reads_then _ (reads_then _ (reads_once _ none) (reads_then _ (reads_count _ n.means) reads_give)) reads_give))))
 
-end_option : (seen : OutOptions) {text rest : List ℕ} → IsSign signs.Semicolon text rest → Reading (out_round seen) text (Done seen) rest
+end_option : (seen : OutOptions) {text rest : List ℕ} → IsPunctuation kinds.Semicolon text rest → Reading (out_round seen) text (Done seen) rest
 unfolding out_round
 end_option seen {text = text} s = reads_then _ (reads_token (alike text) s.at)
-    (reads_no _ (other_sign s.is (λ e. cc)) (reads_no _ (λ begins. (let bad : begins_number signs.Semicolon ≡ true = subst (λ (x : Sign). begins_number x ≡ true) s.is begins in cc)) (reads_no _ (other_sign s.is (λ e. cc)) (reads_yes _ s.is reads_give))))
+    (reads_no _ (other_kind s.is (λ e. cc)) (reads_no _ (λ begins. (let bad : begins_number kinds.Semicolon ≡ true = subst (λ (x : TokenKind). begins_number x ≡ true) s.is begins in cc)) (reads_no _ (other_kind s.is (λ e. cc)) (reads_yes _ s.is reads_give))))
 
-rounds_of : (options : List OutOption) (seen found : OutOptions) (text middle rest : List ℕ) → Leads seen options found → each grammar.out_option options text middle → IsSign signs.Semicolon middle rest → RoundsRead out_round found rest seen text
+rounds_of : (options : List OutOption) (seen found : OutOptions) (text middle rest : List ℕ) → Leads seen options found → each grammar.out_option options text middle → IsPunctuation kinds.Semicolon middle rest → RoundsRead out_round found rest seen text
 rounds_of [] seen found text middle rest leads these end =
     let same : found ≡ seen = same_options (as_found seen.mode found.mode leads.modes) (same_order seen.ordered found.ordered (as_found (order_of seen.ordered) (order_of found.ordered) leads.orders)) (as_found seen.limit found.limit leads.limits) in
-    Last seen text (subst (λ (o : OutOptions). (out_round seen).reads text (Done o) rest) (sym same) (end_option seen (subst (λ (s : List ℕ). IsSign signs.Semicolon s rest) these end)).reads)
+    Last seen text (subst (λ (o : OutOptions). (out_round seen).reads text (Done o) rest) (sym same) (end_option seen (subst (λ (s : List ℕ). IsPunctuation kinds.Semicolon s rest) these end)).reads)
 rounds_of (Mode mode ∷ options) seen found text middle rest leads these end =
     let none = none_before seen.mode found.mode mode (modes_of options) leads.modes in
     let next : OutOptions = record { mode = Some mode; ordered = seen.ordered; limit = seen.limit } in
@@ -232,7 +232,7 @@ order_is : (o : Option (Unit {0})) → order_of (is_some o) ≡ o
 order_is None = refl
 order_is (Some tt) = refl
 
-pub reads_out : (mode : OutMode) (limit : Option ℕ) {text middle rest : List ℕ} → (is : grammar.IsOut mode limit text middle) → IsSign signs.Semicolon middle rest → Reading out_options text (options_of is) rest
+pub reads_out : (mode : OutMode) (limit : Option ℕ) {text middle rest : List ℕ} → (is : grammar.IsOut mode limit text middle) → IsPunctuation kinds.Semicolon middle rest → Reading out_options text (options_of is) rest
 unfolding out_options repeat
 reads_out mode limit {text = text} {middle = middle} {rest = rest} is end = record {
   reads = rounds_of is.options no_options (options_of is) text middle rest (record { modes = is.one_mode; orders = is.one_order ∙ ap (λ (o : Option (Unit {0})). at_most_one o) (sym (order_is is.order)); limits = is.one_limit }) is.spelled end;

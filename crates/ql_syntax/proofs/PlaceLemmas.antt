@@ -1,10 +1,10 @@
 -- Rules read and stop within the text.
 use Rattle.std.proofs.Common.{◌≡◌, ℕ, zero, suc, ◌-◌, ◌+◌, List, [], ◌∷◌, ◌++◌, Bool, true, false, cond, ◌==◌, ◌&&◌, Option, length, drop, refl, sym, ◌∙◌, ap, subst, inl, inr, arith, append_assoc, length-append}
-use Rattle.ql_syntax.specs.Gaps.{gap, is_blank, Where, Between, InLine, InBlock, GapEnd, Behind, Open}
-use Rattle.ql_syntax.specs.Points.{Next, unexpected, next_token}
+use Rattle.ql_syntax.specs.Gaps.{gap, is_blank, Where, Between, InLine, InBlock, GapEnd, After, Open}
+use Rattle.ql_syntax.specs.TokenRules.{Next, unexpected, next_token}
 use Rattle.ql_syntax.specs.Rules.{Rule, ◌>>=◌, give, refuse, from, choose, by_case, repeat, gather, gather_round, gathered, Round, More, Done, RoundsRead, RoundsStop, Last, Here, Later, First, Second}
 use Rattle.ql_syntax.specs.Rules as rounds
-use Rattle.ql_syntax.specs.Signs.{len_of}
+use Rattle.ql_syntax.specs.TokenKinds.{punctuation_len}
 use Rattle.ql_syntax.specs.declared.cause.QlCause.{QlCause}
 
 -- the whole ends with this
@@ -18,18 +18,18 @@ ends_whole whole = record { front = []; parts = refl }
 pub ends_same : {whole place same : List ℕ} → same ≡ place → Ends whole place → Ends whole same
 ends_same {whole = whole} is e = subst (λ (s : List ℕ). Ends whole s) (sym is) e
 
-pub ends_behind : {whole place rest : List ℕ} (run : List ℕ) → place ≡ run ++ rest → Ends whole place → Ends whole rest
-ends_behind {rest = rest} run is e = record { front = e.front ++ run; parts = e.parts ∙ ap (λ (s : List ℕ). e.front ++ s) is ∙ sym (append_assoc e.front run rest) }
+pub ends_after : {whole place rest : List ℕ} (run : List ℕ) → place ≡ run ++ rest → Ends whole place → Ends whole rest
+ends_after {rest = rest} run is e = record { front = e.front ++ run; parts = e.parts ∙ ap (λ (s : List ℕ). e.front ++ s) is ∙ sym (append_assoc e.front run rest) }
 
 pub ends_tail : {whole rest : List ℕ} {b : ℕ} → Ends whole (b ∷ rest) → Ends whole rest
-ends_tail {b = b} e = ends_behind (b ∷ []) refl e
+ends_tail {b = b} e = ends_after (b ∷ []) refl e
 
 pub ends_drop : {whole place : List ℕ} (n : ℕ) → Ends whole place → Ends whole (drop n place)
 ends_drop zero e = e
 ends_drop {place = []} (suc n) e = e
 ends_drop {place = b ∷ place} (suc n) e = ends_drop n (ends_tail e)
 
--- the place is what is left behind so many bytes
+-- the place is what is left after so many bytes
 pub ends_at : {whole place : List ℕ} → Ends whole place → drop (length whole - length place) whole ≡ place
 ends_at {whole = whole} {place = place} e = counted e.front whole e.parts
   where
@@ -48,20 +48,20 @@ of_two : (P : Type 0) (b : Bool) (x y z : GapEnd) → (x ≡ z → P) → (y ≡
 of_two P true x y z f g e = f e
 of_two P false x y z f g e = g e
 
-same_behind : {whole s place : List ℕ} → Behind s ≡ Behind place → Ends whole s → Ends whole place
-same_behind {s = s} {place = place} e it = let same : place ≡ s = cc in ends_same same it
+same_after : {whole s place : List ℕ} → After s ≡ After place → Ends whole s → Ends whole place
+same_after {s = s} {place = place} e it = let same : place ≡ s = cc in ends_same same it
 
 same_open : {whole s at : List ℕ} → Open s ≡ Open at → Ends whole s → Ends whole at
 same_open {s = s} {at = at} e it = let same : at ≡ s = cc in ends_same same it
 
-pub ends_gap : (whole : List ℕ) (w : Where) (text place : List ℕ) → gap w text ≡ Behind place → Ends whole text → Ends whole place
-ends_gap whole Between [] place e it = same_behind e it
-ends_gap whole Between (a ∷ []) place e it = of_two _ (is_blank a) (Behind []) (Behind (a ∷ [])) _ (λ h. same_behind h (ends_tail it)) (λ h. same_behind h it) e
+pub ends_gap : (whole : List ℕ) (w : Where) (text place : List ℕ) → gap w text ≡ After place → Ends whole text → Ends whole place
+ends_gap whole Between [] place e it = same_after e it
+ends_gap whole Between (a ∷ []) place e it = of_two _ (is_blank a) (After []) (After (a ∷ [])) _ (λ h. same_after h (ends_tail it)) (λ h. same_after h it) e
 ends_gap whole Between (a ∷ b ∷ s) place e it =
     of_two _ (is_blank a) _ _ _ (λ h. ends_gap whole Between (b ∷ s) place h (ends_tail it))
     (λ h. of_two _ (a == 47 && b == 47) _ _ _ (λ h. ends_gap whole InLine s place h (ends_tail (ends_tail it)))
-    (λ h. of_two _ (a == 47 && b == 42) (gap (InBlock (a ∷ b ∷ s)) s) (Behind (a ∷ b ∷ s)) _ (λ h. ends_gap whole (InBlock (a ∷ b ∷ s)) s place h (ends_tail (ends_tail it))) (λ h. same_behind h it) h) h) e
-ends_gap whole InLine [] place e it = same_behind e it
+    (λ h. of_two _ (a == 47 && b == 42) (gap (InBlock (a ∷ b ∷ s)) s) (After (a ∷ b ∷ s)) _ (λ h. ends_gap whole (InBlock (a ∷ b ∷ s)) s place h (ends_tail (ends_tail it))) (λ h. same_after h it) h) h) e
+ends_gap whole InLine [] place e it = same_after e it
 ends_gap whole InLine (a ∷ s) place e it = of_two _ (a == 10) (gap Between s) (gap InLine s) _ (λ h. ends_gap whole Between s place h (ends_tail it)) (λ h. ends_gap whole InLine s place h (ends_tail it)) e
 ends_gap whole (InBlock c) [] place e it = absurd (cc)
 ends_gap whole (InBlock c) (a ∷ []) place e it = absurd (cc)
@@ -75,11 +75,11 @@ BeganIn whole (InBlock c) = Ends whole c
 
 pub ends_open : (whole : List ℕ) (w : Where) (text at : List ℕ) → gap w text ≡ Open at → BeganIn whole w → Ends whole text → Ends whole at
 ends_open whole Between [] at e began it = absurd (cc)
-ends_open whole Between (a ∷ []) at e began it = of_two _ (is_blank a) (Behind []) (Behind (a ∷ [])) _ (λ h. absurd (cc)) (λ h. absurd (cc)) e
+ends_open whole Between (a ∷ []) at e began it = of_two _ (is_blank a) (After []) (After (a ∷ [])) _ (λ h. absurd (cc)) (λ h. absurd (cc)) e
 ends_open whole Between (a ∷ b ∷ s) at e began it =
     of_two _ (is_blank a) _ _ _ (λ h. ends_open whole Between (b ∷ s) at h tt (ends_tail it))
     (λ h. of_two _ (a == 47 && b == 47) _ _ _ (λ h. ends_open whole InLine s at h tt (ends_tail (ends_tail it)))
-    (λ h. of_two _ (a == 47 && b == 42) (gap (InBlock (a ∷ b ∷ s)) s) (Behind (a ∷ b ∷ s)) _ (λ h. ends_open whole (InBlock (a ∷ b ∷ s)) s at h it (ends_tail (ends_tail it))) (λ h. absurd (cc)) h) h) e
+    (λ h. of_two _ (a == 47 && b == 42) (gap (InBlock (a ∷ b ∷ s)) s) (After (a ∷ b ∷ s)) _ (λ h. ends_open whole (InBlock (a ∷ b ∷ s)) s at h it (ends_tail (ends_tail it))) (λ h. absurd (cc)) h) h) e
 ends_open whole InLine [] at e began it = absurd (cc)
 ends_open whole InLine (a ∷ s) at e began it = of_two _ (a == 10) (gap Between s) (gap InLine s) _ (λ h. ends_open whole Between s at h tt (ends_tail it)) (λ h. ends_open whole InLine s at h tt (ends_tail it)) e
 ends_open whole (InBlock c) [] at e began it = same_open e began
@@ -155,6 +155,6 @@ module _ {whole : List ℕ} where
   pub inside_token : Inside whole (NextIn whole) next_token
   unfolding next_token
   inside_token = record {
-    read = λ text v rest it at. (let here = ends_gap whole Between text v.place at.behind_gap it in (ends_same at.rest_is (ends_drop (len_of v.sign) here), here));
+    read = λ text v rest it at. (let here = ends_gap whole Between text v.place at.after_gap it in (ends_same at.rest_is (ends_drop (punctuation_len v.kind) here), here));
     stop = λ text cause place it stops. ends_open whole Between text place stops.1 tt it;
   }

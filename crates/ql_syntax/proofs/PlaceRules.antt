@@ -1,17 +1,17 @@
 -- The rules of queries read and stop within the text.
-use Rattle.std.proofs.Common.{ℕ, zero, suc, List, [], ◌∷◌, Bool, true, false, Option, None, Some, refl, sym, append-nil}
+use Rattle.std.proofs.Common.{ℕ, zero, suc, List, [], ◌∷◌, Bool, true, false, Option, None, Some, sym, append-nil}
 use Rattle.std.specs.List.{flat_map}
 use Rattle.osm_model.specs.Degrees.{Decimal, sign, spelling}
 use Rattle.ql_syntax.specs.Areas.{Corners, area}
-use Rattle.ql_syntax.specs.Numbers.{IsNoNumber, NoDigit, NoFraction}
+use Rattle.ql_syntax.specs.Numbers.{IsNoNumber}
 use Rattle.ql_syntax.specs.Outs.{once, out_word_at, with_word, with_number, out_round, out_options}
-use Rattle.ql_syntax.specs.Points.{Next, Word, Number, pass, run_here, word_at, a_word, number_here, number_at, a_number, name_behind, a_name, into, text_here}
+use Rattle.ql_syntax.specs.TokenRules.{Next, Word, Number, pass, run_here, word_at, a_word, number_here, number_at, a_number, name_after, a_name, into, text_here}
 use Rattle.ql_syntax.specs.Queries.{query}
 use Rattle.ql_syntax.specs.QuotedTexts.{IsQuoted, IsNotQuoted, StopsInside, AtEnd, InEscape, AtEscape, AtNul}
 use Rattle.ql_syntax.specs.QuotedTexts as quoted
 use Rattle.ql_syntax.specs.Rules.{Rule}
 use Rattle.ql_syntax.specs.Selections.{a_filter, selection}
-use Rattle.ql_syntax.specs.Selectors.{an_id, id_behind, id_list, path_close, path_from, selector_named, word_selector, corner, box_behind, number_selector, selector}
+use Rattle.ql_syntax.specs.Selectors.{an_id, id_after, id_list, path_close, path_from, selector_named, word_selector, corner, box_after, number_selector, selector}
 use Rattle.ql_syntax.specs.Settings.{format_named, format, count, setting_named, setting_value, setting, setting_round, settings}
 use Rattle.ql_syntax.specs.StatementRules.{recursion, item, out_of, print_at, print, statement_named, word_statement, set_statement_named, set_word_statement, recursion_or_item, set_statement, recursion_at, plain_statement, part, union, difference, block, statement, top_statement}
 use Rattle.ql_syntax.specs.Statements.{Statement}
@@ -33,10 +33,10 @@ use Rattle.ql_syntax.specs.declared.setting_word.FormatWord.{FormatWord}
 use Rattle.ql_syntax.specs.declared.setting_word.FormatWord.TheVariants as formats
 use Rattle.ql_syntax.specs.declared.setting_word.SettingWord.{SettingWord}
 use Rattle.ql_syntax.specs.declared.setting_word.SettingWord.TheVariants as setting_words
-use Rattle.ql_syntax.specs.declared.sign.Sign.{Sign}
+use Rattle.ql_syntax.specs.declared.token_kind.TokenKind.{TokenKind}
 use Rattle.ql_syntax.specs.declared.statement_word.StatementWord.{StatementWord}
 use Rattle.ql_syntax.specs.declared.statement_word.StatementWord.TheVariants as words
-use Rattle.ql_syntax.proofs.PlaceLemmas.{Ends, ends_whole, ends_same, ends_behind, ends_tail, ends_drop, Inside, Anywhere, NextIn, inside_give, inside_refuse, inside_unexpected, inside_from, inside_then, inside_choose, inside_case, inside_repeat, inside_gather, inside_token}
+use Rattle.ql_syntax.proofs.PlaceLemmas.{Ends, ends_whole, ends_same, ends_after, ends_tail, ends_drop, Inside, Anywhere, NextIn, inside_give, inside_refuse, inside_unexpected, inside_from, inside_then, inside_choose, inside_case, inside_repeat, inside_gather, inside_token}
 
 abbrev WordIn : List ℕ → Word → Type 0
 WordIn whole word = Ends whole word.place
@@ -49,13 +49,13 @@ module _ {whole : List ℕ} where
   ends_empty = record { front = whole; parts = sym (append-nil whole) }
 
   -- tokens
-  in_pass : (sign : Sign) → Inside whole Anywhere (pass sign)
+  in_pass : (kind : TokenKind) → Inside whole Anywhere (pass kind)
   unfolding pass
-  in_pass sign = inside_then _ inside_token (λ next at. inside_choose (λ is. inside_give tt tt) (inside_unexpected next at))
+  in_pass kind = inside_then _ inside_token (λ next at. inside_choose (λ is. inside_give tt tt) (inside_unexpected next at))
 
   in_run : Inside whole Anywhere run_here
   unfolding run_here
-  in_run = record { read = λ text v rest it reads. (ends_behind v reads.parts it, tt); stop = λ text cause place it stops. absurd stops }
+  in_run = record { read = λ text v rest it reads. (ends_after v reads.parts it, tt); stop = λ text cause place it stops. absurd stops }
 
   in_word_at : (next : Next) → NextIn whole next → Inside whole (WordIn whole) (word_at next)
   unfolding word_at
@@ -66,12 +66,11 @@ module _ {whole : List ℕ} where
   in_a_word = inside_then _ inside_token (λ next at. inside_choose (λ is. in_word_at next at) (inside_unexpected next at))
 
   no_number : (text : List ℕ) (cause : QlCause) (place : List ℕ) → Ends whole text → IsNoNumber text cause place → Ends whole place
-  no_number text cause place it (NoDigit negative is other first misfit) = ends_behind (sign negative) is it
-  no_number text cause place it (NoFraction negative digits behind are is point other reason) = ends_behind digits refl (ends_behind (sign negative) is it)
+  no_number text cause place it stops = ends_after (sign stops.negative) stops.parts it
 
   in_number_here : Inside whole Anywhere number_here
   unfolding number_here
-  in_number_here = record { read = λ text v rest it reads. (ends_behind (spelling v) reads.parts it, tt); stop = no_number }
+  in_number_here = record { read = λ text v rest it reads. (ends_after (spelling v) reads.parts it, tt); stop = no_number }
 
   in_number_at : (next : Next) → NextIn whole next → Inside whole (NumberIn whole) (number_at next)
   unfolding number_at
@@ -81,17 +80,17 @@ module _ {whole : List ℕ} where
   unfolding a_number
   in_a_number = inside_then _ inside_token (λ next at. inside_choose (λ is. in_number_at next at) (inside_unexpected next at))
 
-  no_name : (dot behind : List ℕ) (cause : QlCause) (place : List ℕ) → Ends whole dot → IsNoName dot behind cause place → Ends whole place
+  no_name : (dot after : List ℕ) (cause : QlCause) (place : List ℕ) → Ends whole dot → IsNoName dot after cause place → Ends whole place
   no_name dot [] cause place at stops = ends_same stops.1.1 ends_empty
-  no_name dot (b ∷ behind) cause place at stops = ends_same stops.1.1 at
+  no_name dot (b ∷ after) cause place at stops = ends_same stops.1.1 at
 
-  in_name_behind : (next : Next) → NextIn whole next → Inside whole Anywhere (name_behind next)
-  unfolding name_behind
-  in_name_behind next at = record { read = λ text v rest it reads. (ends_behind v (reads.run).parts it, tt); stop = λ text cause place it stops. no_name next.place text cause place at stops }
+  in_name_after : (next : Next) → NextIn whole next → Inside whole Anywhere (name_after next)
+  unfolding name_after
+  in_name_after next at = record { read = λ text v rest it reads. (ends_after v (reads.run).parts it, tt); stop = λ text cause place it stops. no_name next.place text cause place at stops }
 
   in_a_name : Inside whole Anywhere a_name
   unfolding a_name
-  in_a_name = inside_then _ inside_token (λ next at. inside_choose (λ is. in_name_behind next at) (inside_unexpected next at))
+  in_a_name = inside_then _ inside_token (λ next at. inside_choose (λ is. in_name_after next at) (inside_unexpected next at))
 
   in_into : Inside whole Anywhere into
   unfolding into
@@ -100,15 +99,15 @@ module _ {whole : List ℕ} where
 
   no_text : (text place : List ℕ) (cause : QlCause) (at : List ℕ) → Ends whole text → Ends whole place → StopsInside text place cause at → Ends whole at
   no_text text place cause at it here (AtEnd is reason same) = ends_same same it
-  no_text text place cause at it here (InEscape behind is cut reason same) = ends_same same it
-  no_text text place cause at it here (AtEscape behind is bad reason same) = ends_same same here
-  no_text text place cause at it here (AtNul behind is reason same) = ends_same same here
+  no_text text place cause at it here (InEscape after is cut reason same) = ends_same same it
+  no_text text place cause at it here (AtEscape after is bad reason same) = ends_same same here
+  no_text text place cause at it here (AtNul after is reason same) = ends_same same here
 
   in_text_here : Inside whole Anywhere text_here
   unfolding text_here
   in_text_here = record {
-    read = λ text v rest it reads. (let p = reads.passes in (ends_tail (ends_behind (flat_map quoted.spelling p.pieces) p.parts (ends_behind (reads.quote ∷ []) reads.opens it)), tt));
-    stop = λ text cause place it stops. (let p = stops.passes in no_text text stops.place cause place it (ends_behind (flat_map quoted.spelling p.pieces) p.parts (ends_behind (stops.quote ∷ []) stops.opens it)) stops.stops);
+    read = λ text v rest it reads. (let p = reads.passes in (ends_tail (ends_after (flat_map quoted.spelling p.pieces) p.parts (ends_after (reads.quote ∷ []) reads.opens it)), tt));
+    stop = λ text cause place it stops. (let p = stops.passes in no_text text stops.place cause place it (ends_after (flat_map quoted.spelling p.pieces) p.parts (ends_after (stops.quote ∷ []) stops.opens it)) stops.stops);
   }
 
   in_id_of : (number : Decimal) (place : List ℕ) → Ends whole place → Inside whole Anywhere (id_of number place)
@@ -158,13 +157,13 @@ module _ {whole : List ℕ} where
   unfolding an_id
   in_an_id = inside_then _ in_a_number (λ number at. in_id_of _ _ at)
 
-  in_id_behind : Inside whole Anywhere id_behind
-  unfolding id_behind
-  in_id_behind = inside_then _ inside_token (λ next at. inside_choose (λ is. inside_then _ in_an_id (λ id is. inside_give _ tt)) (inside_choose (λ is. inside_give _ tt) (inside_unexpected next at)))
+  in_id_after : Inside whole Anywhere id_after
+  unfolding id_after
+  in_id_after = inside_then _ inside_token (λ next at. inside_choose (λ is. inside_then _ in_an_id (λ id is. inside_give _ tt)) (inside_choose (λ is. inside_give _ tt) (inside_unexpected next at)))
 
   in_id_list : Inside whole Anywhere id_list
   unfolding id_list
-  in_id_list = inside_then _ (in_pass _) (λ colon is. inside_then _ in_an_id (λ first is. inside_then _ (inside_gather in_id_behind _) (λ ids is. inside_give _ tt)))
+  in_id_list = inside_then _ (in_pass _) (λ colon is. inside_then _ in_an_id (λ first is. inside_then _ (inside_gather in_id_after _) (λ ids is. inside_give _ tt)))
 
   in_path_close : Inside whole Anywhere path_close
   unfolding path_close
@@ -172,13 +171,13 @@ module _ {whole : List ℕ} where
 
   in_path_from : (path : Path) → Inside whole Anywhere (path_from path)
   unfolding path_from
-  in_path_from path = inside_then _ inside_token (λ next at. inside_choose (λ is. inside_then _ (in_name_behind next at) (λ name is. inside_then _ in_path_close (λ close is. inside_give _ tt)))
+  in_path_from path = inside_then _ inside_token (λ next at. inside_choose (λ is. inside_then _ (in_name_after next at) (λ name is. inside_then _ in_path_close (λ close is. inside_give _ tt)))
       (inside_then _ (inside_from at in_path_close) (λ close is. inside_give _ tt)))
 
   in_selector_named : (place : List ℕ) (case : SelectorWord) → Ends whole place → Inside whole Anywhere (selector_named place case)
   in_selector_named place selectors.Ids at = in_id_list
   in_selector_named place (selectors.Along path) at = in_path_from path
-  in_selector_named place selectors.Outside at = inside_refuse _ at
+  in_selector_named place selectors.LeftOut at = inside_refuse _ at
   in_selector_named place selectors.Unknown at = inside_refuse _ at
 
   in_word_selector : (pick : Pick) (word : Word) → WordIn whole word → Inside whole Anywhere (word_selector pick word)
@@ -189,13 +188,13 @@ module _ {whole : List ℕ} where
   unfolding corner
   in_corner = inside_then _ (in_pass _) (λ comma is. in_a_number)
 
-  in_box_behind : (south : Number) → NumberIn whole south → Inside whole Anywhere (box_behind south)
-  unfolding box_behind
-  in_box_behind south at = inside_then _ in_a_number (λ west is. inside_then _ in_corner (λ north is. inside_then _ in_corner (λ east is. inside_then _ (in_pass _) (λ close is. inside_then _ (in_area _ _ at) (λ box is. inside_give _ tt)))))
+  in_box_after : (south : Number) → NumberIn whole south → Inside whole Anywhere (box_after south)
+  unfolding box_after
+  in_box_after south at = inside_then _ in_a_number (λ west is. inside_then _ in_corner (λ north is. inside_then _ in_corner (λ east is. inside_then _ (in_pass _) (λ close is. inside_then _ (in_area _ _ at) (λ box is. inside_give _ tt)))))
 
   in_number_selector : (pick : Pick) (number : Number) → NumberIn whole number → Inside whole Anywhere (number_selector pick number)
   unfolding number_selector
-  in_number_selector pick number at = inside_then _ inside_token (λ next here. inside_choose (λ is. inside_choose (λ is. in_box_behind number at) (inside_refuse _ at))
+  in_number_selector pick number at = inside_then _ inside_token (λ next here. inside_choose (λ is. inside_choose (λ is. in_box_after number at) (inside_refuse _ at))
       (inside_choose (λ is. inside_then _ (in_id_of _ _ at) (λ id is. inside_give _ tt)) (inside_unexpected next here)))
 
   in_selector : (pick : Pick) → Inside whole Anywhere (selector pick)
@@ -204,7 +203,7 @@ module _ {whole : List ℕ} where
 
   in_a_filter : (pick : Pick) → Inside whole Anywhere (a_filter pick)
   unfolding a_filter
-  in_a_filter pick = inside_then _ inside_token (λ next at. inside_choose (λ is. inside_then _ (in_name_behind next at) (λ name is. inside_give _ tt)) (inside_choose (λ is. inside_then _ in_tag_filter (λ filter is. inside_give _ tt))
+  in_a_filter pick = inside_then _ inside_token (λ next at. inside_choose (λ is. inside_then _ (in_name_after next at) (λ name is. inside_give _ tt)) (inside_choose (λ is. inside_then _ in_tag_filter (λ filter is. inside_give _ tt))
       (inside_choose (λ is. inside_then _ (in_selector pick) (λ filter is. inside_give _ tt)) (inside_from at (inside_give _ tt)))))
 
   in_selection : (pick : Pick) → Inside whole Anywhere (selection pick)
@@ -219,7 +218,7 @@ module _ {whole : List ℕ} where
   in_out_word_at : (seen : OutOptions) (place : List ℕ) (case : OutWord) → Ends whole place → Inside whole Anywhere (out_word_at seen place case)
   in_out_word_at seen place (out_words.Mode mode) at = in_once _ place _ at
   in_out_word_at seen place out_words.Order at = in_once _ place _ at
-  in_out_word_at seen place out_words.Outside at = inside_refuse _ at
+  in_out_word_at seen place out_words.LeftOut at = inside_refuse _ at
   in_out_word_at seen place out_words.Unknown at = inside_refuse _ at
 
   in_with_word : (seen : OutOptions) (word : Word) → WordIn whole word → Inside whole Anywhere (with_word seen word)
@@ -243,7 +242,7 @@ module _ {whole : List ℕ} where
   -- settings
   in_format_named : (place : List ℕ) (case : FormatWord) → Ends whole place → Inside whole Anywhere (format_named place case)
   in_format_named place formats.Known at = inside_give tt tt
-  in_format_named place formats.Outside at = inside_refuse _ at
+  in_format_named place formats.LeftOut at = inside_refuse _ at
   in_format_named place formats.Unknown at = inside_refuse _ at
 
   in_format : Inside whole Anywhere format
@@ -257,7 +256,7 @@ module _ {whole : List ℕ} where
   in_setting_named : (place : List ℕ) (case : SettingWord) → Ends whole place → Inside whole Anywhere (setting_named place case)
   in_setting_named place setting_words.Format at = inside_then _ (in_pass _) (λ colon is. in_format)
   in_setting_named place setting_words.Count at = inside_then _ (in_pass _) (λ colon is. in_count)
-  in_setting_named place setting_words.Outside at = inside_refuse _ at
+  in_setting_named place setting_words.LeftOut at = inside_refuse _ at
   in_setting_named place setting_words.Unknown at = inside_refuse _ at
 
   in_setting_value : (name : Word) → WordIn whole name → Inside whole Anywhere (setting_value name)
@@ -300,7 +299,7 @@ module _ {whole : List ℕ} where
   in_statement_named : (level : Level) (place : List ℕ) (case : StatementWord) → Ends whole place → Inside whole Anywhere (statement_named level place case)
   in_statement_named level place (words.Kind pick) at = in_selection pick
   in_statement_named level place words.Print at = in_print level _ place at
-  in_statement_named level place words.Outside at = inside_refuse _ at
+  in_statement_named level place words.LeftOut at = inside_refuse _ at
   in_statement_named level place words.Unknown at = inside_refuse _ at
 
   in_word_statement : (level : Level) (word : Word) → WordIn whole word → Inside whole Anywhere (word_statement level word)
@@ -310,7 +309,7 @@ module _ {whole : List ℕ} where
   in_set_statement_named : (level : Level) (start place : List ℕ) (case : StatementWord) → Ends whole place → Inside whole Anywhere (set_statement_named level start place case)
   in_set_statement_named level start place (words.Kind pick) at = inside_refuse _ at
   in_set_statement_named level start place words.Print at = in_print level start place at
-  in_set_statement_named level start place words.Outside at = inside_refuse _ at
+  in_set_statement_named level start place words.LeftOut at = inside_refuse _ at
   in_set_statement_named level start place words.Unknown at = inside_refuse _ at
 
   in_set_word : (level : Level) (start : List ℕ) (word : Word) → WordIn whole word → Inside whole Anywhere (set_word_statement level start word)
@@ -331,7 +330,7 @@ module _ {whole : List ℕ} where
 
   in_plain : (level : Level) (next : Next) → NextIn whole next → Inside whole Anywhere (plain_statement level next)
   unfolding plain_statement
-  in_plain level next at = inside_choose (λ is. inside_then _ (in_name_behind next at) (λ start is. in_set_statement level start))
+  in_plain level next at = inside_choose (λ is. inside_then _ (in_name_after next at) (λ start is. in_set_statement level start))
       (inside_choose (λ is. inside_then _ (in_word_at next at) (in_word_statement level)) (inside_case _ _ (λ case. in_recursion_at next case at)))
 
   module _ {inner : Rule Statement} (i : Inside whole Anywhere inner) where

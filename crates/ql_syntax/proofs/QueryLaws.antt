@@ -6,13 +6,12 @@ use Rattle.std.proofs.lemmas.Str.{IsUtf8-nil, IsUtf8-from_is_utf8, is_utf8-from_
 use Rattle.std.specs.Prelude.{IfOk, IfErr}
 use Rattle.std.specs.Str.{IsUtf8, IsValidUpTo, is_utf8}
 use Rattle.ql_syntax.specs.LawfulQueries.{IsQuery}
-use Rattle.ql_syntax.specs.Queries.{query, IsText, Reads, HasFault, Long, NoText, NoQuery}
+use Rattle.ql_syntax.specs.Queries.{query, IsText, Reads, HasFault, memory_fault, Long, NoText, NoQuery}
 use Rattle.ql_syntax.specs.Statements.{Statement}
-use Rattle.ql_syntax.specs.declared.cause.QlCause.{QlCause}
 use Rattle.ql_syntax.specs.declared.cause.QlCause.TheVariants as causes
 use Rattle.ql_syntax.specs.declared.fault.QlFault.{QlFault}
 use Rattle.ql_syntax.proofs.DefiniteRules.{query_is}
-use Rattle.ql_syntax.proofs.QueryLemmas.{reads_whole, fault_of}
+use Rattle.ql_syntax.proofs.QueryLemmas.{reads_whole, fault_of, same_fault}
 use Rattle.ql_syntax.proofs.QuerySpellings.{query_reads}
 use Rattle.ql_syntax.proofs.TotalLemmas.{Outcome, AsRead, AsStop}
 use Rattle.ql_syntax.proofs.TotalRules as total
@@ -28,9 +27,6 @@ pub reads_or_not : (bytes : List ℕ) (statements : List Statement) (fault : QlF
 reads_or_not bytes statements fault x (Long long cause byte) = let short = (x.text).short in omega arith
 reads_or_not bytes statements fault x (NoText short not cause byte) = not (x.text).utf8
 reads_or_not bytes statements fault x (NoQuery text within stops) = query_is.never bytes statements [] fault.cause _ (as_read x) stops
-
-same_fault : {f g : QlFault} → f.cause ≡ g.cause → f.byte ≡ g.byte → f ≡ g
-same_fault {f = f} {g = g} cause byte = ap (λ (c : QlCause). let x : QlFault = record { cause = c; byte = f.byte } in x) cause ∙ ap (λ (b : ℕ). let x : QlFault = record { cause = g.cause; byte = b } in x) byte
 
 -- of two longest fronts neither is longer
 one_valid : (bytes : List ℕ) (m n : ℕ) → IsValidUpTo bytes m → IsValidUpTo bytes n → m ≡ n
@@ -60,14 +56,14 @@ one_fault bytes f g (NoQuery text within stops) (NoQuery again below halts) =
 
 -- what a reader gives that reads as it is spelled, and refuses by the fault
 module _ {X : Type 0} (view : X → List Statement) {bytes : List ℕ} where
-  pub read_only : (r : Result X QlFault) → IfOk r (λ x. Reads bytes (view x)) → IfErr r (λ fault. (fault.cause ≡ causes.Memory) ⊎ HasFault bytes fault)
-      → (statements : List Statement) → Reads bytes statements → IfOk r (λ x. view x ≡ statements) × IfErr r (λ fault. fault.cause ≡ causes.Memory)
+  pub read_only : (r : Result X QlFault) → IfOk r (λ x. Reads bytes (view x)) → IfErr r (λ fault. (fault ≡ memory_fault) ⊎ HasFault bytes fault)
+      → (statements : List Statement) → Reads bytes statements → IfOk r (λ x. view x ≡ statements) × IfErr r (λ fault. fault ≡ memory_fault)
   read_only (Ok x) reads refused statements spelled = (one_query bytes (view x) statements reads spelled, tt)
   read_only (Err f) reads (inl memory) statements spelled = (tt, memory)
   read_only (Err f) reads (inr fault) statements spelled = absurd (reads_or_not bytes statements f spelled fault)
 
-  pub refused_only : (r : Result X QlFault) → IfOk r (λ x. Reads bytes (view x)) → IfErr r (λ fault. (fault.cause ≡ causes.Memory) ⊎ HasFault bytes fault)
-      → (fault : QlFault) → HasFault bytes fault → IfOk r (λ x. ⊥) × IfErr r (λ told. (told.cause ≡ causes.Memory) ⊎ (told ≡ fault))
+  pub refused_only : (r : Result X QlFault) → IfOk r (λ x. Reads bytes (view x)) → IfErr r (λ fault. (fault ≡ memory_fault) ⊎ HasFault bytes fault)
+      → (fault : QlFault) → HasFault bytes fault → IfOk r (λ x. ⊥) × IfErr r (λ told. (told ≡ memory_fault) ⊎ (told ≡ fault))
   refused_only (Ok x) reads refused fault has = absurd (reads_or_not bytes (view x) fault reads has)
   refused_only (Err f) reads (inl memory) fault has = (tt, inl memory)
   refused_only (Err f) reads (inr told) fault has = (tt, inr (one_fault bytes f fault told has))

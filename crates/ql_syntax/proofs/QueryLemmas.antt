@@ -1,15 +1,16 @@
 -- The end of a query.
 use Rattle.std.proofs.Common.{◌≡◌, ℕ, List, [], drop, arith, Option, None, Some, Ok, Err, refl, sym, ◌∙◌, ap, subst, inl, inr}
 use Rattle.std.specs.Prelude.{◌⊎◌, ◌-◌, length}
-use Rattle.ql_syntax.specs.Following.{Follows, Read, Stopped, NoMemory}
+use Rattle.ql_syntax.specs.internal.Following.{Follows, Read, Stopped, NoMemory}
 use Rattle.ql_syntax.specs.Grammar as grammar
-use Rattle.ql_syntax.specs.Queries.{query, IsText, Reads, HasFault, NoQuery}
+use Rattle.ql_syntax.specs.Queries.{query, IsText, Reads, HasFault, NoQuery, memory_fault}
 use Rattle.ql_syntax.specs.Rules.{◌>>=◌, give, from, choose, repeat, gather, gather_round, gathered, Done, RoundsRead, Last, Next}
 use Rattle.ql_syntax.specs.StatementRules.{top_statement}
 use Rattle.ql_syntax.specs.Statements.{Statement}
+use Rattle.ql_syntax.specs.declared.cause.QlCause.{QlCause}
 use Rattle.ql_syntax.specs.declared.cause.QlCause.TheVariants as causes
 use Rattle.ql_syntax.specs.declared.fault.QlFault.{QlFault}
-use Rattle.ql_syntax.specs.declared.stop.Stop.{Stop}
+use Rattle.ql_syntax.specs.declared.syntax_error.SyntaxError.{SyntaxError}
 use Rattle.ql_syntax.proofs.GivesRules.{query_gives}
 use Rattle.ql_syntax.proofs.PlaceLemmas.{ends_at}
 use Rattle.ql_syntax.proofs.PlaceRules.{query_stops_inside}
@@ -36,7 +37,7 @@ rounds_end : (value : List Statement) (rest : List ℕ) (state : List Statement)
 rounds_end value rest _ _ (Last state text reads) = last_left state text rest value reads
 rounds_end value rest _ _ (Next state next text middle reads more) = rounds_end value rest next middle more
 
--- behind a query nothing is left
+-- after a query nothing is left
 pub query_ends : (text rest : List ℕ) (value : List Statement) → query.reads text value rest → rest ≡ []
 unfolding query ◌>>=◌ gather repeat
 query_ends text rest value reads = rounds_end _ _ _ _ reads.back_reads
@@ -54,9 +55,21 @@ fault_of {text = text} place {fault = fault} is stops byte =
     let at : drop fault.byte text ≡ place = ap (λ (n : ℕ). drop n text) byte ∙ ends_at (query_stops_inside text fault.cause place stops) in
     NoQuery is (omega arith) (subst (λ (s : List ℕ). query.stops text fault.cause s) (sym at) stops)
 
-pub refused_at : {X : Type 0} {v : X → List Statement × List ℕ} {text : List ℕ} {stop : Stop} {fault : QlFault} → IsText text → Follows query v text (Err stop) → fault.cause ≡ stop.cause → fault.byte ≡ length text - length stop.rest.now → (fault.cause ≡ causes.Memory) ⊎ HasFault text fault
-refused_at is (Read x same reads) cause byte = absurd (cc)
-refused_at {text = text} {stop = stop} is (Stopped at same stops) cause byte =
-    let e : stop ≡ at = cc in
-    inr (fault_of stop.rest.now is (rw cause (subst (λ (s : Stop). query.stops text s.cause s.rest.now) (sym e) stops)) byte)
-refused_at {stop = stop} is (NoMemory scarce at same memory) cause byte = let e : stop ≡ at = cc in inl (cause ∙ ap (λ (s : Stop). s.cause) e ∙ memory)
+pub same_fault : {f g : QlFault} → f.cause ≡ g.cause → f.byte ≡ g.byte → f ≡ g
+same_fault {f = f} {g = g} cause byte = ap (λ (c : QlCause). let x : QlFault = record { cause = c; byte = f.byte } in x) cause ∙ ap (λ (b : ℕ). let x : QlFault = record { cause = g.cause; byte = b } in x) byte
+
+out_of_memory : {cause : QlCause} {fault : QlFault} → fault.cause ≡ cause → (cause ≡ causes.Memory → fault.byte ≡ 0) → cause ≡ causes.Memory → fault ≡ memory_fault
+out_of_memory cause_is at_start memory = same_fault (cause_is ∙ memory) (at_start memory)
+
+-- the fault of a text that a reader refuses
+module _ {text : List ℕ} {stop : SyntaxError} {fault : QlFault} (cause : fault.cause ≡ stop.cause) (at_start : stop.cause ≡ causes.Memory → fault.byte ≡ 0)
+    (byte : (stop.cause ≡ causes.Memory) ⊎ (fault.byte ≡ length text - length stop.rest.now)) where
+  pub refused_at : {X : Type 0} {v : X → List Statement × List ℕ} → IsText text → Follows query v text (Err stop) → (fault ≡ memory_fault) ⊎ HasFault text fault
+  refused_at is (Read x same reads) = absurd (cc)
+  refused_at is (Stopped at same stops) =
+      let e : stop ≡ at = cc in
+      elim byte [
+        | inl memory ↦ inl (out_of_memory cause at_start memory)
+        | inr place ↦ inr (fault_of stop.rest.now is (rw cause (subst (λ (s : SyntaxError). query.stops text s.cause s.rest.now) (sym e) stops)) place)
+      ]
+  refused_at is (NoMemory scarce at same memory) = let e : stop ≡ at = cc in inl (out_of_memory cause at_start (ap (λ (s : SyntaxError). s.cause) e ∙ memory))

@@ -4,16 +4,16 @@ use Rattle.ql_syntax.specs.Grammar as grammar
 use Rattle.ql_syntax.specs.LawfulQueries.{IsTop, IsQuery}
 use Rattle.ql_syntax.specs.Queries.{query}
 use Rattle.ql_syntax.specs.Rules.{◌>>=◌, gather}
-use Rattle.ql_syntax.specs.Spellings.{each, IsSign, IsEnd}
+use Rattle.ql_syntax.specs.Spellings.{each, IsPunctuation, IsEnd}
 use Rattle.ql_syntax.specs.StatementRules.{top_statement}
 use Rattle.ql_syntax.specs.Statements.{Statement, Select, Recurse, Item, Union, Minus, Print}
 use Rattle.ql_syntax.specs.declared.level.Level.TheVariants as levels
-use Rattle.ql_syntax.specs.declared.sign.Sign.{Sign}
-use Rattle.ql_syntax.specs.declared.sign.Sign.TheVariants as signs
+use Rattle.ql_syntax.specs.declared.token_kind.TokenKind.{TokenKind}
+use Rattle.ql_syntax.specs.declared.token_kind.TokenKind.TheVariants as kinds
 use Rattle.ql_syntax.proofs.GatherSpellings.{reads_gather}
 use Rattle.ql_syntax.proofs.GivesRules.{IsAt}
 use Rattle.ql_syntax.proofs.SettingSpellings.{settings_sound, reads_settings, reads_no_settings}
-use Rattle.ql_syntax.proofs.SpellingLemmas.{alike, from_token, both, other_sign, Reading, reads_then, reads_give, reads_yes, reads_no, reads_from, reads_token}
+use Rattle.ql_syntax.proofs.SpellingLemmas.{alike, from_token, both, other_kind, Reading, reads_then, reads_give, reads_yes, reads_no, reads_from, reads_token}
 use Rattle.ql_syntax.proofs.StatementReadings.{first_token, not_first, reads_statement, shift_reading}
 use Rattle.ql_syntax.proofs.StatementSpellings.{shifts_statement, shifts_gather, shifts_top, statements_sound}
 
@@ -35,7 +35,7 @@ top_kept (Minus left right set) is = is
 reads_top : (s : Statement) → IsTop s → (text rest : List ℕ) → grammar.statement s text rest → Reading top_statement text (Some s) rest
 unfolding top_statement
 reads_top s is text rest g = let f = first_token s text rest g in
-    reads_then _ (reads_token (alike text) f.at) (reads_no _ (not_first signs.End f.begins (λ e. cc) (λ e. cc) (λ e. cc) refl)
+    reads_then _ (reads_token (alike text) f.at) (reads_no _ (not_first kinds.End f.begins (λ e. cc) (λ e. cc) (λ e. cc) refl)
     (reads_then _ (reads_from _ (shift_reading (shifts_statement levels.Top 32) (from_token f.at) (reads_statement levels.Top 32 s (top_kept s is) text rest g))) reads_give))
 
 reads_end : {text rest : List ℕ} → IsEnd text rest → Reading top_statement text None []
@@ -47,18 +47,18 @@ reads_all all text middle rest such these end = reads_gather top_statement reads
 
 -- what comes next is no `[`
 record No_settings (text : List ℕ) : Type 0 where
-  sign : Sign
-  behind : List ℕ
-  is : IsSign sign text behind
-  other : sign ≡ signs.OpenBracket → ⊥
+  kind : TokenKind
+  after : List ℕ
+  is : IsPunctuation kind text after
+  other : kind ≡ kinds.OpenBracket → ⊥
 
 no_settings : (all : List Statement) (text middle rest : List ℕ) → each grammar.statement all text middle → IsEnd middle rest → No_settings text
 no_settings [] text middle rest these end =
     let e = subst (λ (t : List ℕ). IsEnd t rest) these end in
-    record { sign = (e.next).sign; behind = e.place; is = record { next = e.next; at = e.at; is = refl }; other = other_sign e.is (λ e. cc) }
+    record { kind = (e.next).kind; after = e.place; is = record { next = e.next; at = e.at; is = refl }; other = other_kind e.is (λ e. cc) }
 no_settings (s ∷ all) text middle rest these end =
     let f = first_token s text these.middle these.front in
-    record { sign = (f.next).sign; behind = f.behind; is = record { next = f.next; at = f.at; is = refl }; other = not_first signs.OpenBracket f.begins (λ e. cc) (λ e. cc) (λ e. cc) refl }
+    record { kind = (f.next).kind; after = f.after; is = record { next = f.next; at = f.at; is = refl }; other = not_first kinds.OpenBracket f.begins (λ e. cc) (λ e. cc) (λ e. cc) refl }
 
 reads_query : (text : List ℕ) (all : List Statement) → IsQuery all → grammar.query all text [] → Reading query text all []
 unfolding query
@@ -68,7 +68,7 @@ reads_query text all such g = from_settings g.front
     from_settings (inl some) = reads_then _ (reads_settings some) (reads_all all g.middle (g.back).middle [] such (g.back).front (g.back).back)
     from_settings (inr none) =
         let first = no_settings all g.middle (g.back).middle [] (g.back).front (g.back).back in
-        let here = subst (λ (t : List ℕ). IsSign first.sign t first.behind) none first.is in
+        let here = subst (λ (t : List ℕ). IsPunctuation first.kind t first.after) none first.is in
         let statements = subst (λ (t : List ℕ). Reading (gather top_statement []) t all []) none (reads_all all g.middle (g.back).middle [] such (g.back).front (g.back).back) in
         reads_then _ (reads_no_settings here first.other) (shift_reading (shifts_gather shifts_top []) (from_token here.at) statements)
 

@@ -93,17 +93,17 @@ end_halts quote place none (Literal b) more h e = let bad : b ∷ more ≡ [] = 
 end_halts quote place none (Escape l b) more h e = let bad : 92 ∷ l ∷ more ≡ [] = sym e ∙ none in cc
 end_halts quote place none (Code ds b) more h e = let bad : 92 ∷ 117 ∷ (ds ++ more) ≡ [] = sym e ∙ none in cc
 
-nul_halts : (quote : ℕ) (place behind : List ℕ) → place ≡ 0 ∷ behind → Halts quote place
-nul_halts quote place behind nul (Literal b) more h e = let same : 0 ∷ behind ≡ b ∷ more = sym nul ∙ e in h.2 (cc)
-nul_halts quote place behind nul (Escape l b) more h e = let bad : 0 ∷ behind ≡ 92 ∷ l ∷ more = sym nul ∙ e in cc
-nul_halts quote place behind nul (Code ds b) more h e = let bad : 0 ∷ behind ≡ 92 ∷ 117 ∷ (ds ++ more) = sym nul ∙ e in cc
+nul_halts : (quote : ℕ) (place after : List ℕ) → place ≡ 0 ∷ after → Halts quote place
+nul_halts quote place after nul (Literal b) more h e = let same : 0 ∷ after ≡ b ∷ more = sym nul ∙ e in h.2 (cc)
+nul_halts quote place after nul (Escape l b) more h e = let bad : 0 ∷ after ≡ 92 ∷ l ∷ more = sym nul ∙ e in cc
+nul_halts quote place after nul (Code ds b) more h e = let bad : 0 ∷ after ≡ 92 ∷ 117 ∷ (ds ++ more) = sym nul ∙ e in cc
 
 -- an escape that is cut short isn't whole
-cut_or_whole : (behind : List ℕ) (l b : ℕ) (more : List ℕ) → IsCutEscape behind → escaped l ≡ Some b → behind ≡ l ∷ more → ⊥
+cut_or_whole : (after : List ℕ) (l b : ℕ) (more : List ℕ) → IsCutEscape after → escaped l ≡ Some b → after ≡ l ∷ more → ⊥
 cut_or_whole [] l b more cut e is = cc
 cut_or_whole (letter ∷ digits) l b more cut e is = no_code_letter l b e (let same : letter ≡ l = cc in sym same ∙ cut.0)
 
-cut_or_code : (behind ds : List ℕ) (c : ℕ) (more : List ℕ) → IsCutEscape behind → IsCode ds c → behind ≡ 117 ∷ (ds ++ more) → ⊥
+cut_or_code : (after ds : List ℕ) (c : ℕ) (more : List ℕ) → IsCutEscape after → IsCode ds c → after ≡ 117 ∷ (ds ++ more) → ⊥
 cut_or_code [] ds c more cut code is = cc
 cut_or_code (letter ∷ digits) ds c more cut code is =
     let tail : digits ≡ ds ++ more = cc in
@@ -117,47 +117,47 @@ digit_among [] rest (d ∷ ds) more b e few all = let same : b ≡ d = cc in sub
 digit_among (x ∷ digits) rest [] more b e few all = absurd (omega arith)
 digit_among (x ∷ digits) rest (d ∷ ds) more b e few all = let tail : digits ++ b ∷ rest ≡ ds ++ more = cc in digit_among digits rest ds more b tail (omega arith) all.1
 
-bad_or_whole : (behind : List ℕ) (l b : ℕ) (more : List ℕ) → IsBadEscape behind → escaped l ≡ Some b → behind ≡ l ∷ more → ⊥
-bad_or_whole behind l b more (Letter letter rest is other none) e same =
+bad_or_whole : (after : List ℕ) (l b : ℕ) (more : List ℕ) → IsBadEscape after → escaped l ≡ Some b → after ≡ l ∷ more → ⊥
+bad_or_whole after l b more (Letter letter rest is other none) e same =
     let head : letter ≡ l = let f : letter ∷ rest ≡ l ∷ more = sym is ∙ same in cc in
     let bad : None ≡ Some b = sym none ∙ ap escaped head ∙ e in
     cc
-bad_or_whole behind l b more (NoDigit digits rest d is few all other) e same = no_code_letter l b e (let f : 117 ∷ (digits ++ d ∷ rest) ≡ l ∷ more = sym is ∙ same in cc)
-bad_or_whole behind l b more (NoCharacter digits rest is four all none) e same = no_code_letter l b e (let f : 117 ∷ (digits ++ rest) ≡ l ∷ more = sym is ∙ same in cc)
+bad_or_whole after l b more (NoDigit digits rest d is few all other) e same = no_code_letter l b e (let f : 117 ∷ (digits ++ d ∷ rest) ≡ l ∷ more = sym is ∙ same in cc)
+bad_or_whole after l b more (NoCharacter digits rest is four all none) e same = no_code_letter l b e (let f : 117 ∷ (digits ++ rest) ≡ l ∷ more = sym is ∙ same in cc)
 
-bad_or_code : (behind ds : List ℕ) (c : ℕ) (more : List ℕ) → IsBadEscape behind → IsCode ds c → behind ≡ 117 ∷ (ds ++ more) → ⊥
-bad_or_code behind ds c more (Letter letter rest is other none) code same = other (let f : letter ∷ rest ≡ 117 ∷ (ds ++ more) = sym is ∙ same in cc)
-bad_or_code behind ds c more (NoDigit digits rest d is few all other) code same =
+bad_or_code : (after ds : List ℕ) (c : ℕ) (more : List ℕ) → IsBadEscape after → IsCode ds c → after ≡ 117 ∷ (ds ++ more) → ⊥
+bad_or_code after ds c more (Letter letter rest is other none) code same = other (let f : letter ∷ rest ≡ 117 ∷ (ds ++ more) = sym is ∙ same in cc)
+bad_or_code after ds c more (NoDigit digits rest d is few all other) code same =
     let tail : digits ++ d ∷ rest ≡ ds ++ more = (let f : 117 ∷ (digits ++ d ∷ rest) ≡ 117 ∷ (ds ++ more) = sym is ∙ same in cc) in
     let four = code.four in
     let small = digit_among digits rest ds more d tail (omega arith) code.hexadecimal in
     omega arith
-bad_or_code behind ds c more (NoCharacter digits rest is four all none) code same =
+bad_or_code after ds c more (NoCharacter digits rest is four all none) code same =
     let tail : digits ++ rest ≡ ds ++ more = (let f : 117 ∷ (digits ++ rest) ≡ 117 ∷ (ds ++ more) = sym is ∙ same in cc) in
     let r = same_len digits ds rest more (four ∙ sym code.four) tail in
     none c (subst (λ (x : List ℕ). IsCode x c) (sym r.0) code)
 
-escape_halts : (quote : ℕ) (place behind : List ℕ) → place ≡ 92 ∷ behind
-    → ((l b : ℕ) (more : List ℕ) → escaped l ≡ Some b → behind ≡ l ∷ more → ⊥)
-    → ((ds : List ℕ) (c : ℕ) (more : List ℕ) → IsCode ds c → behind ≡ 117 ∷ (ds ++ more) → ⊥) → Halts quote place
-escape_halts quote place behind is letter code (Literal b) more h e = let same : 92 ∷ behind ≡ b ∷ more = sym is ∙ e in h.1 (cc)
-escape_halts quote place behind is letter code (Escape l b) more h e = let same : 92 ∷ behind ≡ 92 ∷ l ∷ more = sym is ∙ e in letter l b more h (cc)
-escape_halts quote place behind is letter code (Code ds c) more h e = let same : 92 ∷ behind ≡ 92 ∷ 117 ∷ (ds ++ more) = sym is ∙ e in code ds c more h (cc)
+escape_halts : (quote : ℕ) (place after : List ℕ) → place ≡ 92 ∷ after
+    → ((l b : ℕ) (more : List ℕ) → escaped l ≡ Some b → after ≡ l ∷ more → ⊥)
+    → ((ds : List ℕ) (c : ℕ) (more : List ℕ) → IsCode ds c → after ≡ 117 ∷ (ds ++ more) → ⊥) → Halts quote place
+escape_halts quote place after is letter code (Literal b) more h e = let same : 92 ∷ after ≡ b ∷ more = sym is ∙ e in h.1 (cc)
+escape_halts quote place after is letter code (Escape l b) more h e = let same : 92 ∷ after ≡ 92 ∷ l ∷ more = sym is ∙ e in letter l b more h (cc)
+escape_halts quote place after is letter code (Code ds c) more h e = let same : 92 ∷ after ≡ 92 ∷ 117 ∷ (ds ++ more) = sym is ∙ e in code ds c more h (cc)
 
 stop_halts : (quote : ℕ) (text place : List ℕ) (cause : QlCause) (at : List ℕ) → StopsInside text place cause at → Halts quote place
 stop_halts quote text place cause at (AtEnd none is at_is) = end_halts quote place none
-stop_halts quote text place cause at (InEscape behind opens cut is at_is) =
-    escape_halts quote place behind opens (λ l b more e same. cut_or_whole behind l b more cut e same) (λ ds c more code same. cut_or_code behind ds c more cut code same)
-stop_halts quote text place cause at (AtEscape behind opens bad is at_is) =
-    escape_halts quote place behind opens (λ l b more e same. bad_or_whole behind l b more bad e same) (λ ds c more code same. bad_or_code behind ds c more bad code same)
-stop_halts quote text place cause at (AtNul behind opens is at_is) = nul_halts quote place behind opens
+stop_halts quote text place cause at (InEscape after opens cut is at_is) =
+    escape_halts quote place after opens (λ l b more e same. cut_or_whole after l b more cut e same) (λ ds c more code same. cut_or_code after ds c more cut code same)
+stop_halts quote text place cause at (AtEscape after opens bad is at_is) =
+    escape_halts quote place after opens (λ l b more e same. bad_or_whole after l b more bad e same) (λ ds c more code same. bad_or_code after ds c more bad code same)
+stop_halts quote text place cause at (AtNul after opens is at_is) = nul_halts quote place after opens
 
 no_stop_at_quote : (quote : ℕ) (rest text place : List ℕ) (cause : QlCause) (at : List ℕ) → is_quote quote ≡ true → quote ∷ rest ≡ place → StopsInside text place cause at → ⊥
 no_stop_at_quote quote rest text place cause at is e (AtEnd none cause_is at_is) = let bad : quote ∷ rest ≡ [] = e ∙ none in cc
-no_stop_at_quote quote rest text place cause at is e (InEscape behind opens cut cause_is at_is) = quote_not_escape quote is (let same : quote ∷ rest ≡ 92 ∷ behind = e ∙ opens in cc)
-no_stop_at_quote quote rest text place cause at is e (AtEscape behind opens bad cause_is at_is) = quote_not_escape quote is (let same : quote ∷ rest ≡ 92 ∷ behind = e ∙ opens in cc)
-no_stop_at_quote quote rest text place cause at is e (AtNul behind opens cause_is at_is) =
-    let zero_is : quote ≡ 0 = (let same : quote ∷ rest ≡ 0 ∷ behind = e ∙ opens in cc) in
+no_stop_at_quote quote rest text place cause at is e (InEscape after opens cut cause_is at_is) = quote_not_escape quote is (let same : quote ∷ rest ≡ 92 ∷ after = e ∙ opens in cc)
+no_stop_at_quote quote rest text place cause at is e (AtEscape after opens bad cause_is at_is) = quote_not_escape quote is (let same : quote ∷ rest ≡ 92 ∷ after = e ∙ opens in cc)
+no_stop_at_quote quote rest text place cause at is e (AtNul after opens cause_is at_is) =
+    let zero_is : quote ≡ 0 = (let same : quote ∷ rest ≡ 0 ∷ after = e ∙ opens in cc) in
     let bad : true ≡ false = sym is ∙ ap is_quote zero_is in
     cc
 
@@ -168,7 +168,7 @@ text_or_not text v rest cause at h k =
     no_stop_at_quote h.quote rest text k.place cause at h.is_quote r.1 k.stops
 
 -- one fault at most
-cut_or_bad : (behind : List ℕ) → IsCutEscape behind → IsBadEscape behind → ⊥
+cut_or_bad : (after : List ℕ) → IsCutEscape after → IsBadEscape after → ⊥
 cut_or_bad [] cut (Letter letter rest is other none) = cc
 cut_or_bad [] cut (NoDigit digits rest b is few hexadecimal other) = cc
 cut_or_bad [] cut (NoCharacter digits rest is four hexadecimal none) = cc
@@ -186,21 +186,21 @@ cut_or_bad (l ∷ ds) cut (NoCharacter digits rest is four hexadecimal none) =
 
 one_stop : (text place : List ℕ) (c d : QlCause) (p q : List ℕ) → StopsInside text place c p → StopsInside text place d q → (c ≡ d) × (p ≡ q)
 one_stop text place c d p q (AtEnd none is at) (AtEnd nothing it spot) = (is ∙ sym it, at ∙ sym spot)
-one_stop text place c d p q (AtEnd none is at) (InEscape behind e cut it spot) = let bad : [] ≡ 92 ∷ behind = sym none ∙ e in absurd (cc)
-one_stop text place c d p q (AtEnd none is at) (AtEscape behind e bad it spot) = let no : [] ≡ 92 ∷ behind = sym none ∙ e in absurd (cc)
-one_stop text place c d p q (AtEnd none is at) (AtNul behind e it spot) = let bad : [] ≡ 0 ∷ behind = sym none ∙ e in absurd (cc)
-one_stop text place c d p q (InEscape behind e cut is at) (AtEnd nothing it spot) = let bad : [] ≡ 92 ∷ behind = sym nothing ∙ e in absurd (cc)
-one_stop text place c d p q (InEscape behind e cut is at) (InEscape more f short it spot) = (is ∙ sym it, at ∙ sym spot)
-one_stop text place c d p q (InEscape behind e cut is at) (AtEscape more f bad it spot) = let same : behind ≡ more = cc in absurd (cut_or_bad more (subst IsCutEscape same cut) bad)
-one_stop text place c d p q (InEscape behind e cut is at) (AtNul more f it spot) = let no : 92 ∷ behind ≡ 0 ∷ more = sym e ∙ f in absurd (cc)
-one_stop text place c d p q (AtEscape behind e bad is at) (AtEnd nothing it spot) = let no : [] ≡ 92 ∷ behind = sym nothing ∙ e in absurd (cc)
-one_stop text place c d p q (AtEscape behind e bad is at) (InEscape more f short it spot) = let same : more ≡ behind = cc in absurd (cut_or_bad behind (subst IsCutEscape same short) bad)
-one_stop text place c d p q (AtEscape behind e bad is at) (AtEscape more f wrong it spot) = (is ∙ sym it, at ∙ sym spot)
-one_stop text place c d p q (AtEscape behind e bad is at) (AtNul more f it spot) = let no : 92 ∷ behind ≡ 0 ∷ more = sym e ∙ f in absurd (cc)
-one_stop text place c d p q (AtNul behind e is at) (AtEnd nothing it spot) = let no : [] ≡ 0 ∷ behind = sym nothing ∙ e in absurd (cc)
-one_stop text place c d p q (AtNul behind e is at) (InEscape more f short it spot) = let no : 92 ∷ more ≡ 0 ∷ behind = sym f ∙ e in absurd (cc)
-one_stop text place c d p q (AtNul behind e is at) (AtEscape more f wrong it spot) = let no : 92 ∷ more ≡ 0 ∷ behind = sym f ∙ e in absurd (cc)
-one_stop text place c d p q (AtNul behind e is at) (AtNul more f it spot) = (is ∙ sym it, at ∙ sym spot)
+one_stop text place c d p q (AtEnd none is at) (InEscape after e cut it spot) = let bad : [] ≡ 92 ∷ after = sym none ∙ e in absurd (cc)
+one_stop text place c d p q (AtEnd none is at) (AtEscape after e bad it spot) = let no : [] ≡ 92 ∷ after = sym none ∙ e in absurd (cc)
+one_stop text place c d p q (AtEnd none is at) (AtNul after e it spot) = let bad : [] ≡ 0 ∷ after = sym none ∙ e in absurd (cc)
+one_stop text place c d p q (InEscape after e cut is at) (AtEnd nothing it spot) = let bad : [] ≡ 92 ∷ after = sym nothing ∙ e in absurd (cc)
+one_stop text place c d p q (InEscape after e cut is at) (InEscape more f short it spot) = (is ∙ sym it, at ∙ sym spot)
+one_stop text place c d p q (InEscape after e cut is at) (AtEscape more f bad it spot) = let same : after ≡ more = cc in absurd (cut_or_bad more (subst IsCutEscape same cut) bad)
+one_stop text place c d p q (InEscape after e cut is at) (AtNul more f it spot) = let no : 92 ∷ after ≡ 0 ∷ more = sym e ∙ f in absurd (cc)
+one_stop text place c d p q (AtEscape after e bad is at) (AtEnd nothing it spot) = let no : [] ≡ 92 ∷ after = sym nothing ∙ e in absurd (cc)
+one_stop text place c d p q (AtEscape after e bad is at) (InEscape more f short it spot) = let same : more ≡ after = cc in absurd (cut_or_bad after (subst IsCutEscape same short) bad)
+one_stop text place c d p q (AtEscape after e bad is at) (AtEscape more f wrong it spot) = (is ∙ sym it, at ∙ sym spot)
+one_stop text place c d p q (AtEscape after e bad is at) (AtNul more f it spot) = let no : 92 ∷ after ≡ 0 ∷ more = sym e ∙ f in absurd (cc)
+one_stop text place c d p q (AtNul after e is at) (AtEnd nothing it spot) = let no : [] ≡ 0 ∷ after = sym nothing ∙ e in absurd (cc)
+one_stop text place c d p q (AtNul after e is at) (InEscape more f short it spot) = let no : 92 ∷ more ≡ 0 ∷ after = sym f ∙ e in absurd (cc)
+one_stop text place c d p q (AtNul after e is at) (AtEscape more f wrong it spot) = let no : 92 ∷ more ≡ 0 ∷ after = sym f ∙ e in absurd (cc)
+one_stop text place c d p q (AtNul after e is at) (AtNul more f it spot) = (is ∙ sym it, at ∙ sym spot)
 
 pub one_no_text : (text : List ℕ) (c d : QlCause) (p q : List ℕ) → IsNotQuoted text c p → IsNotQuoted text d q → (c ≡ d) × (p ≡ q)
 one_no_text text c d p q h k =

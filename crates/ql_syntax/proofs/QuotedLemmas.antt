@@ -4,12 +4,12 @@ use Rattle.std.specs.List.{AllByRecursion, flat_map}
 use Rattle.std.proofs.lemmas.List.{take-append-drop}
 use Rattle.std.proofs.lemmas.List.Concat.{flat_map-append}
 use Rattle.opl_codec.proofs.shared.ReadLiterals.{all_append}
-use Rattle.ql_syntax.specs.EscapeParts.{IsEscape}
-use Rattle.ql_syntax.specs.Places.{IsMemoryOr}
+use Rattle.ql_syntax.specs.internal.EscapeParts.{IsEscape}
+use Rattle.ql_syntax.specs.internal.Places.{IsMemoryOr}
 use Rattle.ql_syntax.specs.Words.{begins_with}
-use Rattle.ql_syntax.specs.declared.stop.Stop.{Stop}
+use Rattle.ql_syntax.specs.declared.syntax_error.SyntaxError.{SyntaxError}
 use Rattle.ql_syntax.specs.QuotedTexts.{Piece, Literal, Escape, Code, IsPiece, Passes, IsQuoted, StopsInside, IsNotQuoted, is_quote, spelling, value}
-use Rattle.ql_syntax.specs.QuotedSteps.{IsLiteral, EndsLiterals, Takes, Closes}
+use Rattle.ql_syntax.specs.internal.QuotedSteps.{IsLiteral, EndsLiterals, Takes, Closes}
 
 -- a list that isn't empty begins with its first element
 pub first_is : (s : List ℕ) (b : ℕ) → 0 < length s → get_or s 0 0 ≡ b → s ≡ b ∷ drop 1 s
@@ -62,8 +62,8 @@ spelling_shorter (Escape l b) rest s e = omega (arith, ap (λ (x : List ℕ). le
 spelling_shorter (Code digits c) rest s e = omega (arith, ap (λ (x : List ℕ). length x) e, length-append digits rest)
 
 -- an escape was taken
-pub takes_escape : (quote : ℕ) (place behind rest bytes old new : List ℕ) → place ≡ 92 ∷ behind → IsEscape behind bytes rest → new ≡ old ++ bytes → Takes quote place rest old new
-takes_escape quote place behind rest bytes old new opens escape added = record {
+pub takes_escape : (quote : ℕ) (place after rest bytes old new : List ℕ) → place ≡ 92 ∷ after → IsEscape after bytes rest → new ≡ old ++ bytes → Takes quote place rest old new
+takes_escape quote place after rest bytes old new opens escape added = record {
   bytes = bytes;
   passes = passes_one quote place rest bytes escape.piece (escape.is_piece quote) (opens ∙ escape.spelled) escape.bytes_are;
   added = added;
@@ -88,7 +88,7 @@ pub quote_opens : (s : List ℕ) → begins_with is_quote s ≡ true → (s ≡ 
 quote_opens [] e = absurd (cc)
 quote_opens (b ∷ s) e = (refl, e)
 
-pub not_quoted : (text place bytes : List ℕ) (stop : Stop) → begins_with is_quote text ≡ true → Passes (get_or text 0 0) (drop 1 text) place bytes → IsMemoryOr (StopsInside text place) stop
+pub not_quoted : (text place bytes : List ℕ) (stop : SyntaxError) → begins_with is_quote text ≡ true → Passes (get_or text 0 0) (drop 1 text) place bytes → IsMemoryOr (StopsInside text place) stop
     → IsMemoryOr (IsNotQuoted text) stop
 not_quoted text place bytes stop quote passes (inl memory) = inl memory
 not_quoted text place bytes stop quote passes (inr stops) =
@@ -102,10 +102,10 @@ quoted_passes quote from place next old new passes takes =
 -- a text without escapes
 pub literal_quoted : (text place run rest left bytes : List ℕ) (n : ℕ) → begins_with is_quote text ≡ true → place ≡ drop 1 text → run ≡ take n place → rest ≡ drop n place → AllByRecursion (IsLiteral (get_or text 0 0)) (take n place)
     → 0 < length rest → get_or rest 0 0 ≡ get_or text 0 0 → left ≡ drop 1 rest → bytes ≡ run → IsQuoted text bytes left
-literal_quoted text place run rest left bytes n quote inside front back all some closes behind same =
+literal_quoted text place run rest left bytes n quote inside front back all some closes after same =
     let opens = quote_opens text quote in
     let parts : place ≡ run ++ rest = sym (ap (λ (x : List ℕ). x ++ rest) front ∙ ap (λ (x : List ℕ). take n place ++ x) back ∙ take-append-drop n place) in
-    let closed : rest ≡ get_or text 0 0 ∷ left = first_is rest (get_or text 0 0) some closes ∙ ap (λ (x : List ℕ). get_or text 0 0 ∷ x) (sym behind) in
+    let closed : rest ≡ get_or text 0 0 ∷ left = first_is rest (get_or text 0 0) some closes ∙ ap (λ (x : List ℕ). get_or text 0 0 ∷ x) (sym after) in
     let passes = passes_run (get_or text 0 0) run rest (subst (λ (x : List ℕ). AllByRecursion (IsLiteral (get_or text 0 0)) x) (sym front) all) in
     record {
       quote = get_or text 0 0;

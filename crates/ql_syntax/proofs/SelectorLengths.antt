@@ -1,37 +1,37 @@
 -- What filters in parentheses leave.
 use Rattle.std.proofs.Common.{List, ℕ, [], ◌∷◌, lit≤, length, ap, arith}
 use Rattle.ql_syntax.specs.Areas.{Corners, area}
-use Rattle.ql_syntax.specs.Points.{Number, Word, pass}
-use Rattle.ql_syntax.specs.Selectors.{an_id, id_behind, id_list, path_close, path_from, selector_named, word_selector, corner, box_behind, number_selector, selector}
+use Rattle.ql_syntax.specs.TokenRules.{Number, Word, pass}
+use Rattle.ql_syntax.specs.Selectors.{an_id, id_after, id_list, path_close, path_from, selector_named, word_selector, corner, box_after, number_selector, selector}
 use Rattle.ql_syntax.specs.declared.path.Path.{Path}
 use Rattle.ql_syntax.specs.declared.pick.Pick.{Pick}
 use Rattle.ql_syntax.specs.declared.selector_word.SelectorWord.{SelectorWord}
 use Rattle.ql_syntax.specs.declared.selector_word.SelectorWord.TheVariants as words
-use Rattle.ql_syntax.specs.declared.sign.Sign.TheVariants as signs
+use Rattle.ql_syntax.specs.declared.token_kind.TokenKind.TheVariants as kinds
 use Rattle.ql_syntax.proofs.GatherLemmas.{within_gather}
 use Rattle.ql_syntax.proofs.Lengths.{Within, Shorter, within_shorter, within_then, within_next, within_choose, within_case, within_give, within_refuse, within_unexpected, within_from, within_number, within_id, within_word_at, within_number_at, shorter_pass}
-use Rattle.ql_syntax.proofs.TokenLengths.{shorter_next, strict_sign, strict_unexpected, within_name}
+use Rattle.ql_syntax.proofs.TokenLengths.{shorter_next, strict_punctuation, strict_unexpected, within_name}
 
 within_an_id : {start : List ℕ} → Within start an_id
 unfolding an_id
 within_an_id = within_then _ within_number (λ number. within_id number.number number.place)
 
-pub id_behind_shorter : Shorter id_behind
-unfolding id_behind
-id_behind_shorter = shorter_next _ (λ next. strict_sign signs.Comma (lit≤ tt) (λ start. within_then _ within_an_id (λ id. within_give _)) (strict_sign signs.CloseParenthesis (lit≤ tt) (λ start. within_give _) (strict_unexpected next)))
+pub id_after_shorter : Shorter id_after
+unfolding id_after
+id_after_shorter = shorter_next _ (λ next. strict_punctuation kinds.Comma (lit≤ tt) (λ start. within_then _ within_an_id (λ id. within_give _)) (strict_punctuation kinds.CloseParenthesis (lit≤ tt) (λ start. within_give _) (strict_unexpected next)))
 
-colon_within : {start : List ℕ} → Within start (pass signs.Colon)
-colon_within = within_shorter (shorter_pass signs.Colon (lit≤ tt))
+colon_within : {start : List ℕ} → Within start (pass kinds.Colon)
+colon_within = within_shorter (shorter_pass kinds.Colon (lit≤ tt))
 
-comma_within : {start : List ℕ} → Within start (pass signs.Comma)
-comma_within = within_shorter (shorter_pass signs.Comma (lit≤ tt))
+comma_within : {start : List ℕ} → Within start (pass kinds.Comma)
+comma_within = within_shorter (shorter_pass kinds.Comma (lit≤ tt))
 
-close_within : {start : List ℕ} → Within start (pass signs.CloseParenthesis)
-close_within = within_shorter (shorter_pass signs.CloseParenthesis (lit≤ tt))
+close_within : {start : List ℕ} → Within start (pass kinds.CloseParenthesis)
+close_within = within_shorter (shorter_pass kinds.CloseParenthesis (lit≤ tt))
 
 id_list_within : {start : List ℕ} → Within start id_list
 unfolding id_list
-id_list_within = within_then _ colon_within (λ colon. within_then _ within_an_id (λ first. within_then _ (within_gather (within_shorter id_behind_shorter) (first ∷ [])) (λ ids. within_give _)))
+id_list_within = within_then _ colon_within (λ colon. within_then _ within_an_id (λ first. within_then _ (within_gather (within_shorter id_after_shorter) (first ∷ [])) (λ ids. within_give _)))
 
 path_close_within : {start : List ℕ} → Within start path_close
 unfolding path_close
@@ -44,7 +44,7 @@ path_from_within path = within_next _ (λ next. within_choose _ (within_then _ (
 named_within : {start : List ℕ} (place : List ℕ) (word : SelectorWord) → Within start (selector_named place word)
 named_within place words.Ids = id_list_within
 named_within place (words.Along path) = path_from_within path
-named_within place words.Outside = within_refuse _ place
+named_within place words.LeftOut = within_refuse _ place
 named_within place words.Unknown = within_refuse _ place
 
 word_selector_within : {start : List ℕ} (pick : Pick) (word : Word) → Within start (word_selector pick word)
@@ -59,8 +59,8 @@ area_within : {start : List ℕ} (corners : Corners) (place : List ℕ) → With
 unfolding area
 area_within corners place = record { at_most = λ text value rest le reads. let e = ap (λ (x : List ℕ). length x) reads.2 in omega arith }
 
-box_within : {start : List ℕ} (south : Number) → Within start (box_behind south)
-unfolding box_behind
+box_within : {start : List ℕ} (south : Number) → Within start (box_after south)
+unfolding box_after
 box_within south = within_then _ within_number (λ west. within_then _ corner_within (λ north. within_then _ corner_within (λ east. within_then _ close_within (λ close. within_then _ (area_within _ south.place) (λ box. within_give _)))))
 
 number_selector_within : {start : List ℕ} (pick : Pick) (number : Number) → Within start (number_selector pick number)

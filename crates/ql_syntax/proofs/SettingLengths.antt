@@ -5,12 +5,12 @@ use Rattle.ql_syntax.specs.declared.setting_word.SettingWord.{SettingWord}
 use Rattle.ql_syntax.specs.declared.setting_word.SettingWord.TheVariants as words
 use Rattle.ql_syntax.specs.declared.setting_word.FormatWord.{FormatWord}
 use Rattle.ql_syntax.specs.declared.setting_word.FormatWord.TheVariants as formats
-use Rattle.ql_syntax.specs.declared.sign.Sign.TheVariants as signs
+use Rattle.ql_syntax.specs.declared.token_kind.TokenKind.TheVariants as kinds
 use Rattle.ql_syntax.proofs.Lengths.{Within, Shorter, within_shorter, within_then, within_next, within_choose, within_case, within_give, within_refuse, within_unexpected, within_word, within_number, within_count, shorter_pass, shorter_first, shorter_second}
 
 format_named_within : {start : List ℕ} (place : List ℕ) (word : FormatWord) → Within start (format_named place word)
 format_named_within place formats.Known = within_give tt
-format_named_within place formats.Outside = within_refuse _ place
+format_named_within place formats.LeftOut = within_refuse _ place
 format_named_within place formats.Unknown = within_refuse _ place
 
 format_within : {start : List ℕ} → Within start format
@@ -22,14 +22,14 @@ unfolding count
 count_within = within_then _ within_number (λ number. within_then _ (within_count number.number number.place) (λ value. within_give tt))
 
 value_named_within : {start : List ℕ} (place : List ℕ) (word : SettingWord) → Within start (setting_named place word)
-value_named_within place words.Format = within_then _ (within_shorter (shorter_pass signs.Colon (lit≤ tt))) (λ colon. format_within)
-value_named_within place words.Count = within_then _ (within_shorter (shorter_pass signs.Colon (lit≤ tt))) (λ colon. count_within)
-value_named_within place words.Outside = within_refuse _ place
+value_named_within place words.Format = within_then _ (within_shorter (shorter_pass kinds.Colon (lit≤ tt))) (λ colon. format_within)
+value_named_within place words.Count = within_then _ (within_shorter (shorter_pass kinds.Colon (lit≤ tt))) (λ colon. count_within)
+value_named_within place words.LeftOut = within_refuse _ place
 value_named_within place words.Unknown = within_refuse _ place
 
 setting_shorter : Shorter setting
 unfolding setting setting_value
-setting_shorter = shorter_second _ (λ start. within_word) (λ word. shorter_second _ (λ start. within_case _ _ (value_named_within word.place)) (λ value. shorter_pass signs.CloseBracket (lit≤ tt)))
+setting_shorter = shorter_second _ (λ start. within_word) (λ word. shorter_second _ (λ start. within_case _ _ (value_named_within word.place)) (λ value. shorter_pass kinds.CloseBracket (lit≤ tt)))
 
 pub round_shorter : Shorter (setting_round tt)
 unfolding setting_round

@@ -3,22 +3,22 @@ use Rattle.std.proofs.Common.{◌≡◌, ℕ, zero, suc, List, refl, sym, ◌∙
 use Rattle.std.specs.Prelude.{◌⊎◌}
 use Rattle.osm_model.specs.Degrees.{Decimal}
 use Rattle.ql_syntax.specs.Grammar as grammar
-use Rattle.ql_syntax.specs.Points.{Word, next_token, unexpected, a_word}
+use Rattle.ql_syntax.specs.TokenRules.{Word, next_token, unexpected, a_word}
 use Rattle.ql_syntax.specs.Rules.{Rule, ◌>>=◌, give, refuse, from, choose, by_case, repeat, Round, More, Done, RoundsRead, Last}
 use Rattle.ql_syntax.specs.Rules as rounds
 use Rattle.ql_syntax.specs.SettingWords.{setting_of, format_of}
 use Rattle.ql_syntax.specs.Settings.{format_named, format, count, setting_named, setting_value, setting, setting_round, settings}
-use Rattle.ql_syntax.specs.Spellings.{Both, times, IsSign, IsWordOf, IsNumberOf}
+use Rattle.ql_syntax.specs.Spellings.{Both, times, IsPunctuation, IsWordOf, IsNumberOf}
 use Rattle.ql_syntax.specs.WholeNumbers.{IsCount, count_of}
 use Rattle.ql_syntax.specs.declared.setting_word.FormatWord.{FormatWord}
 use Rattle.ql_syntax.specs.declared.setting_word.FormatWord.TheVariants as formats
 use Rattle.ql_syntax.specs.declared.setting_word.SettingWord.{SettingWord}
 use Rattle.ql_syntax.specs.declared.setting_word.SettingWord.TheVariants as words
-use Rattle.ql_syntax.specs.declared.sign.Sign.{Sign}
-use Rattle.ql_syntax.specs.declared.sign.Sign.TheVariants as signs
+use Rattle.ql_syntax.specs.declared.token_kind.TokenKind.{TokenKind}
+use Rattle.ql_syntax.specs.declared.token_kind.TokenKind.TheVariants as kinds
 use Rattle.ql_syntax.proofs.FilterSpellings.{means, means_word, number_split, word_split, reads_word_at, reads_number}
 use Rattle.ql_syntax.proofs.OutSpellings.{reads_count}
-use Rattle.ql_syntax.proofs.SpellingLemmas.{Alike, alike, alike_by, alike_on, alike_back, from_token, at_rest, both, spelled_to, other_sign, Reading, reads_then, reads_give, reads_yes, reads_no, reads_from, reads_case, reads_token, pass_sound, reads_sign}
+use Rattle.ql_syntax.proofs.SpellingLemmas.{Alike, alike, alike_by, alike_on, alike_back, from_token, at_rest, both, spelled_to, other_kind, Reading, reads_then, reads_give, reads_yes, reads_no, reads_from, reads_case, reads_token, pass_sound, reads_punctuation}
 
 a_word_split : {text rest : List ℕ} (found : Word) → a_word.reads text found rest → IsWordOf (λ (w : List ℕ). w ≡ found.word) text rest
 unfolding a_word ◌>>=◌ choose next_token unexpected refuse
@@ -33,7 +33,7 @@ format_split text rest value r = named (format_of (r.front).word) refl r.back_re
   where
     named : (case : FormatWord) → format_of (r.front).word ≡ case → (format_named (r.front).place case).reads r.middle value rest → IsWordOf (λ (w : List ℕ). format_of w ≡ formats.Known) text rest
     named formats.Known is it = spelled_to (IsWordOf (λ (w : List ℕ). format_of w ≡ formats.Known)) it.1 (means_word (λ (w : List ℕ) e. ap format_of e ∙ is) (a_word_split r.front r.front_reads))
-    named formats.Outside is it = absurd it
+    named formats.LeftOut is it = absurd it
     named formats.Unknown is it = absurd it
 
 abbrev A_count : Decimal → Type 0
@@ -47,29 +47,29 @@ count_split {text = text} value r = let of = r.back_reads in
 body_split : (text middle rest : List ℕ) (value : Unit {0}) (place word : List ℕ) (case : SettingWord) → setting_of word ≡ case → IsWordOf (λ (w : List ℕ). w ≡ word) text middle → (setting_named place case).reads middle value rest → grammar.setting_body text rest
 unfolding ◌>>=◌ refuse
 body_split text middle rest value place word words.Format is spelled r =
-    inl (both middle (means_word (λ (w : List ℕ) e. ap setting_of e ∙ is) spelled) (both r.middle (pass_sound signs.Colon (alike middle) (record { reads = r.front_reads })) (format_split r.middle rest value r.back_reads)))
+    inl (both middle (means_word (λ (w : List ℕ) e. ap setting_of e ∙ is) spelled) (both r.middle (pass_sound kinds.Colon (alike middle) (record { reads = r.front_reads })) (format_split r.middle rest value r.back_reads)))
 body_split text middle rest value place word words.Count is spelled r =
-    inr (both middle (means_word (λ (w : List ℕ) e. ap setting_of e ∙ is) spelled) (both r.middle (pass_sound signs.Colon (alike middle) (record { reads = r.front_reads })) (count_split value r.back_reads)))
-body_split text middle rest value place word words.Outside is spelled r = absurd r
+    inr (both middle (means_word (λ (w : List ℕ) e. ap setting_of e ∙ is) spelled) (both r.middle (pass_sound kinds.Colon (alike middle) (record { reads = r.front_reads })) (count_split value r.back_reads)))
+body_split text middle rest value place word words.LeftOut is spelled r = absurd r
 body_split text middle rest value place word words.Unknown is spelled r = absurd r
 
-setting_split : (text rest : List ℕ) (value : Unit {0}) → setting.reads text value rest → Both grammar.setting_body (IsSign signs.CloseBracket) text rest
+setting_split : (text rest : List ℕ) (value : Unit {0}) → setting.reads text value rest → Both grammar.setting_body (IsPunctuation kinds.CloseBracket) text rest
 unfolding setting ◌>>=◌ setting_value by_case
 setting_split text rest value r = let body = r.back_reads in
     both body.middle (body_split text r.middle body.middle body.front (r.front).place (r.front).word (setting_of (r.front).word) refl (a_word_split r.front r.front_reads) body.front_reads)
-    (pass_sound signs.CloseBracket (alike body.middle) (record { reads = body.back_reads }))
+    (pass_sound kinds.CloseBracket (alike body.middle) (record { reads = body.back_reads }))
 
--- settings behind the first `[`, and the `;`
+-- settings after the first `[`, and the `;`
 record Spelled (before rest : List ℕ) : Type 0 where
   n : ℕ
   middle : List ℕ
   front : Both grammar.setting (times n grammar.setting) before middle
-  back : IsSign signs.Semicolon middle rest
+  back : IsPunctuation kinds.Semicolon middle rest
 
-one_setting : {before text middle : List ℕ} → IsSign signs.OpenBracket before text → Both grammar.setting_body (IsSign signs.CloseBracket) text middle → grammar.setting before middle
+one_setting : {before text middle : List ℕ} → IsPunctuation kinds.OpenBracket before text → Both grammar.setting_body (IsPunctuation kinds.CloseBracket) text middle → grammar.setting before middle
 one_setting {text = text} bracket body = both text bracket body
 
-rounds_split : (value : Unit {0}) (rest : List ℕ) (state : Unit {0}) (text before : List ℕ) → IsSign signs.OpenBracket before text → RoundsRead setting_round value rest state text → Spelled before rest
+rounds_split : (value : Unit {0}) (rest : List ℕ) (state : Unit {0}) (text before : List ℕ) → IsPunctuation kinds.OpenBracket before text → RoundsRead setting_round value rest state text → Spelled before rest
 unfolding setting_round ◌>>=◌ choose give next_token unexpected refuse
 rounds_split value rest _ _ before bracket (Last state text r) = let close = r.back_reads in elim close.back_reads [
   | inl it ↦ (let bad : Done value ≡ More tt = it.1.0 in absurd (cc))
@@ -88,7 +88,7 @@ rounds_split value rest _ _ before bracket (rounds.Next state next text middle r
 ]
 
 -- settings and their `;`, or none, and blanks and comments have been passed
-pub settings_sound : (text rest : List ℕ) (value : Unit {0}) → settings.reads text value rest → (Both (grammar.some_settings) (IsSign signs.Semicolon) text rest) ⊎ Alike text rest
+pub settings_sound : (text rest : List ℕ) (value : Unit {0}) → settings.reads text value rest → (Both (grammar.some_settings) (IsPunctuation kinds.Semicolon) text rest) ⊎ Alike text rest
 unfolding settings ◌>>=◌ choose give from next_token repeat
 settings_sound text rest value r = elim r.back_reads [
   | inl it ↦ (let s = rounds_split value rest tt r.middle text (record { next = r.front; at = r.front_reads; is = it.0 }) it.1 in inl (both s.middle (s.n, s.front) s.back))
@@ -108,32 +108,32 @@ reads_limit : {text rest : List ℕ} → IsNumberOf A_count text rest → Readin
 unfolding count
 reads_limit {text = text} n = reads_then _ (reads_number (alike text) n) (reads_then _ (reads_count _ (n.means).1) reads_give)
 
-reads_setting : {text middle rest : List ℕ} → grammar.setting_body text middle → IsSign signs.CloseBracket middle rest → Reading setting text tt rest
+reads_setting : {text middle rest : List ℕ} → grammar.setting_body text middle → IsPunctuation kinds.CloseBracket middle rest → Reading setting text tt rest
 unfolding setting setting_value
-reads_setting (inl b) close = reads_then _ (reads_a_word b.front) (reads_then _ (reads_case _ (b.front).means (reads_then _ (reads_sign (alike _) (b.back).front) (reads_format (b.back).back))) (reads_sign (alike _) close))
-reads_setting (inr b) close = reads_then _ (reads_a_word b.front) (reads_then _ (reads_case _ (b.front).means (reads_then _ (reads_sign (alike _) (b.back).front) (reads_limit (b.back).back))) (reads_sign (alike _) close))
+reads_setting (inl b) close = reads_then _ (reads_a_word b.front) (reads_then _ (reads_case _ (b.front).means (reads_then _ (reads_punctuation (alike _) (b.back).front) (reads_format (b.back).back))) (reads_punctuation (alike _) close))
+reads_setting (inr b) close = reads_then _ (reads_a_word b.front) (reads_then _ (reads_case _ (b.front).means (reads_then _ (reads_punctuation (alike _) (b.back).front) (reads_limit (b.back).back))) (reads_punctuation (alike _) close))
 
-reads_last : {text middle rest : List ℕ} → Both grammar.setting_body (IsSign signs.CloseBracket) text middle → IsSign signs.Semicolon middle rest → Reading (setting_round tt) text (Done tt) rest
+reads_last : {text middle rest : List ℕ} → Both grammar.setting_body (IsPunctuation kinds.CloseBracket) text middle → IsPunctuation kinds.Semicolon middle rest → Reading (setting_round tt) text (Done tt) rest
 unfolding setting_round
-reads_last {middle = middle} b end = reads_then _ (reads_setting b.front b.back) (reads_then _ (reads_token (alike middle) end.at) (reads_no _ (other_sign end.is (λ e. cc)) (reads_yes _ end.is reads_give)))
+reads_last {middle = middle} b end = reads_then _ (reads_setting b.front b.back) (reads_then _ (reads_token (alike middle) end.at) (reads_no _ (other_kind end.is (λ e. cc)) (reads_yes _ end.is reads_give)))
 
-reads_next : {text middle rest : List ℕ} → Both grammar.setting_body (IsSign signs.CloseBracket) text middle → IsSign signs.OpenBracket middle rest → Reading (setting_round tt) text (More tt) rest
+reads_next : {text middle rest : List ℕ} → Both grammar.setting_body (IsPunctuation kinds.CloseBracket) text middle → IsPunctuation kinds.OpenBracket middle rest → Reading (setting_round tt) text (More tt) rest
 unfolding setting_round
 reads_next {middle = middle} b more = reads_then _ (reads_setting b.front b.back) (reads_then _ (reads_token (alike middle) more.at) (reads_yes _ more.is reads_give))
 
-rounds_of : (n : ℕ) (text middle last rest : List ℕ) → Both grammar.setting_body (IsSign signs.CloseBracket) text middle → times n grammar.setting middle last → IsSign signs.Semicolon last rest → RoundsRead setting_round tt rest tt text
-rounds_of zero text middle last rest b more end = Last tt text (reads_last b (subst (λ (s : List ℕ). IsSign signs.Semicolon s rest) more end)).reads
+rounds_of : (n : ℕ) (text middle last rest : List ℕ) → Both grammar.setting_body (IsPunctuation kinds.CloseBracket) text middle → times n grammar.setting middle last → IsPunctuation kinds.Semicolon last rest → RoundsRead setting_round tt rest tt text
+rounds_of zero text middle last rest b more end = Last tt text (reads_last b (subst (λ (s : List ℕ). IsPunctuation kinds.Semicolon s rest) more end)).reads
 rounds_of (suc n) text middle last rest b more end =
     let next = more.front in
     rounds.Next tt tt text next.middle (reads_next b next.front).reads (rounds_of n next.middle more.middle last rest next.back more.back end)
 
-pub reads_settings : {text rest : List ℕ} → Both (grammar.some_settings) (IsSign signs.Semicolon) text rest → Reading settings text tt rest
+pub reads_settings : {text rest : List ℕ} → Both (grammar.some_settings) (IsPunctuation kinds.Semicolon) text rest → Reading settings text tt rest
 unfolding settings repeat
 reads_settings {text = text} {rest = rest} b =
     let some = b.front in
     let first = (some.1).front in
     reads_then _ (reads_token (alike text) (first.front).at) (reads_yes _ (first.front).is (record { reads = rounds_of some.0 first.middle (some.1).middle b.middle rest first.back (some.1).back b.back }))
 
-pub reads_no_settings : {text rest : List ℕ} {sign : Sign} → (s : IsSign sign text rest) → (sign ≡ signs.OpenBracket → ⊥) → Reading settings text tt (s.next).place
+pub reads_no_settings : {text rest : List ℕ} {kind : TokenKind} → (s : IsPunctuation kind text rest) → (kind ≡ kinds.OpenBracket → ⊥) → Reading settings text tt (s.next).place
 unfolding settings
-reads_no_settings {text = text} s other = reads_then _ (reads_token (alike text) s.at) (reads_no _ (other_sign s.is other) (reads_from _ reads_give))
+reads_no_settings {text = text} s other = reads_then _ (reads_token (alike text) s.at) (reads_no _ (other_kind s.is other) (reads_from _ reads_give))

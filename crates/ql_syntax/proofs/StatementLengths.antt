@@ -1,7 +1,7 @@
 -- A statement leaves less.
 use Rattle.std.proofs.Common.{ℕ, zero, suc, List, [], ◌∷◌, Option, None, Some, lit≤}
 use Rattle.ql_syntax.specs.Outs.{out_options}
-use Rattle.ql_syntax.specs.Points.{Next, Word, pass, a_name, into}
+use Rattle.ql_syntax.specs.TokenRules.{Next, Word, pass, a_name, into}
 use Rattle.ql_syntax.specs.Rules.{Rule, ◌>>=◌, give, refuse, by_case}
 use Rattle.ql_syntax.specs.Selections.{a_filter, selection}
 use Rattle.ql_syntax.specs.StatementRules.{recursion, item, out_of, print_at, print, statement_named, word_statement, set_statement_named, set_word_statement, recursion_or_item, set_statement, recursion_at, plain_statement, part, union, difference, block, statement, top_statement}
@@ -10,7 +10,7 @@ use Rattle.ql_syntax.specs.declared.level.Level.{Level}
 use Rattle.ql_syntax.specs.declared.level.Level.TheVariants as levels
 use Rattle.ql_syntax.specs.declared.pick.Pick.{Pick}
 use Rattle.ql_syntax.specs.declared.recursion.Recursion.{Recursion}
-use Rattle.ql_syntax.specs.declared.sign.Sign.TheVariants as signs
+use Rattle.ql_syntax.specs.declared.token_kind.TokenKind.TheVariants as kinds
 use Rattle.ql_syntax.specs.declared.statement_word.StatementWord.{StatementWord}
 use Rattle.ql_syntax.specs.declared.statement_word.StatementWord.TheVariants as words
 use Rattle.ql_syntax.proofs.GatherLemmas.{within_gather}
@@ -18,10 +18,10 @@ use Rattle.ql_syntax.proofs.Lengths.{Within, Shorter, within_shorter, within_the
 use Rattle.ql_syntax.proofs.OutLengths.{out_round_shorter}
 use Rattle.ql_syntax.proofs.SelectorLengths.{selector_within}
 use Rattle.ql_syntax.proofs.TagLengths.{tag_filter_within}
-use Rattle.ql_syntax.proofs.TokenLengths.{IsAny, Strictly, ShorterWhere, where_next, shorter_next, strict_sign, strict_choose, strict_case, strict_word, strict_from, strict_shorter, strict_refuse, strict_unexpected, within_name, within_dropped, repeat_shorter, strict_from_then, IsOne, strict_none_at, strict_none_from}
+use Rattle.ql_syntax.proofs.TokenLengths.{IsAny, Strictly, ShorterWhere, where_next, shorter_next, strict_punctuation, strict_choose, strict_case, strict_word, strict_from, strict_shorter, strict_refuse, strict_unexpected, within_name, within_dropped, repeat_shorter, strict_from_then, IsOne, strict_none_at, strict_none_from}
 
-semicolon_shorter : Shorter (pass signs.Semicolon)
-semicolon_shorter = shorter_pass signs.Semicolon (lit≤ tt)
+semicolon_shorter : Shorter (pass kinds.Semicolon)
+semicolon_shorter = shorter_pass kinds.Semicolon (lit≤ tt)
 
 a_name_within : {start : List ℕ} → Within start a_name
 unfolding a_name
@@ -29,8 +29,8 @@ a_name_within = within_next _ (λ next. within_choose _ (within_name next) (with
 
 pub into_shorter : Shorter into
 unfolding into
-into_shorter = shorter_next _ (λ next. strict_sign signs.Arrow (lit≤ tt) (λ start. within_then _ a_name_within (λ name. within_then _ (within_shorter semicolon_shorter) (λ end. within_give _)))
-    (strict_sign signs.Semicolon (lit≤ tt) (λ start. within_give _) (strict_unexpected next)))
+into_shorter = shorter_next _ (λ next. strict_punctuation kinds.Arrow (lit≤ tt) (λ start. within_then _ a_name_within (λ name. within_then _ (within_shorter semicolon_shorter) (λ end. within_give _)))
+    (strict_punctuation kinds.Semicolon (lit≤ tt) (λ start. within_give _) (strict_unexpected next)))
 
 -- what ends with `->` or `;`
 ends_shorter : {A B : Type 0} {first : Rule A} (second : A → List ℕ → B) → ((start : List ℕ) → Within start first) → Shorter (first >>= (λ x. into >>= (λ set. give (second x set))))
@@ -44,9 +44,9 @@ a_filter_within pick = within_next _ (λ next. within_choose _ (within_then _ (w
 
 pub a_filter_shorter : (pick : Pick) → ShorterWhere IsOne (a_filter pick)
 unfolding a_filter
-a_filter_shorter pick = where_next _ _ (λ next. strict_sign signs.Dot (lit≤ tt) (λ start. within_then _ (within_name next) (λ name. within_give _))
-    (strict_sign signs.OpenBracket (lit≤ tt) (λ start. within_then _ tag_filter_within (λ filter. within_give _))
-    (strict_sign signs.OpenParenthesis (lit≤ tt) (λ start. within_then _ (selector_within pick) (λ filter. within_give _)) (strict_none_from next))))
+a_filter_shorter pick = where_next _ _ (λ next. strict_punctuation kinds.Dot (lit≤ tt) (λ start. within_then _ (within_name next) (λ name. within_give _))
+    (strict_punctuation kinds.OpenBracket (lit≤ tt) (λ start. within_then _ tag_filter_within (λ filter. within_give _))
+    (strict_punctuation kinds.OpenParenthesis (lit≤ tt) (λ start. within_then _ (selector_within pick) (λ filter. within_give _)) (strict_none_from next))))
 
 selection_shorter : (pick : Pick) → Shorter (selection pick)
 unfolding selection
@@ -79,7 +79,7 @@ print_shorter level start place = print_at_shorter start place level
 named_shorter : (level : Level) (place : List ℕ) (word : StatementWord) → Shorter (statement_named level place word)
 named_shorter level place (words.Kind pick) = selection_shorter pick
 named_shorter level place words.Print = print_shorter level _ place
-named_shorter level place words.Outside = shorter_refuse _ place
+named_shorter level place words.LeftOut = shorter_refuse _ place
 named_shorter level place words.Unknown = shorter_refuse _ place
 
 word_statement_shorter : (level : Level) (word : Word) → Shorter (word_statement level word)
@@ -89,7 +89,7 @@ word_statement_shorter level word = named_shorter level word.place _
 set_named_shorter : (level : Level) (start place : List ℕ) (word : StatementWord) → Shorter (set_statement_named level start place word)
 set_named_shorter level start place (words.Kind pick) = shorter_refuse _ place
 set_named_shorter level start place words.Print = print_shorter level start place
-set_named_shorter level start place words.Outside = shorter_refuse _ place
+set_named_shorter level start place words.LeftOut = shorter_refuse _ place
 set_named_shorter level start place words.Unknown = shorter_refuse _ place
 
 set_word_shorter : (level : Level) (start : List ℕ) (word : Word) → Shorter (set_word_statement level start word)
@@ -110,16 +110,16 @@ recursion_at_strict next None = strict_unexpected next
 
 plain_strict : (level : Level) (next : Next) → Strictly IsAny next (plain_statement level next)
 unfolding plain_statement
-plain_strict level next = strict_sign signs.Dot (lit≤ tt) (λ start. within_then _ (within_name next) (λ set. within_shorter (set_statement_shorter level set)))
+plain_strict level next = strict_punctuation kinds.Dot (lit≤ tt) (λ start. within_then _ (within_name next) (λ set. within_shorter (set_statement_shorter level set)))
     (strict_word _ (λ word start. within_shorter (word_statement_shorter level word)) (strict_case _ _ (recursion_at_strict next)))
 
-close_within : {start : List ℕ} → Within start (pass signs.CloseParenthesis)
-close_within = within_shorter (shorter_pass signs.CloseParenthesis (lit≤ tt))
+close_within : {start : List ℕ} → Within start (pass kinds.CloseParenthesis)
+close_within = within_shorter (shorter_pass kinds.CloseParenthesis (lit≤ tt))
 
 module _ {inner : Rule Statement} (short : Shorter inner) where
   pub part_shorter : Shorter (part inner)
   unfolding part
-  part_shorter = shorter_next _ (λ next. strict_sign signs.CloseParenthesis (lit≤ tt) (λ start. within_give _) (strict_from_then _ short))
+  part_shorter = shorter_next _ (λ next. strict_punctuation kinds.CloseParenthesis (lit≤ tt) (λ start. within_give _) (strict_from_then _ short))
 
   union_shorter : (first : Statement) → Shorter (union inner first)
   unfolding union

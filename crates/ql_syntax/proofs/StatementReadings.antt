@@ -7,12 +7,12 @@ use Rattle.ql_syntax.specs.Filters.{Filter}
 use Rattle.ql_syntax.specs.Grammar as grammar
 use Rattle.ql_syntax.specs.Grammar.{IsRecursion, IsOut}
 use Rattle.ql_syntax.specs.LawfulQueries.{Allows, IsInner, AreInner}
-use Rattle.ql_syntax.specs.Points.{Next, At}
+use Rattle.ql_syntax.specs.TokenRules.{Next, At}
 use Rattle.ql_syntax.specs.Rules.{Rule, by_case}
 use Rattle.ql_syntax.specs.Selections.{selection, a_filter}
-use Rattle.ql_syntax.specs.Signs.{len_of}
+use Rattle.ql_syntax.specs.TokenKinds.{punctuation_len}
 use Rattle.ql_syntax.specs.Spellings as spelling
-use Rattle.ql_syntax.specs.Spellings.{Spelling, Both, each, IsSign, IsSet, IsWordOf, IsMinus, IsEnd}
+use Rattle.ql_syntax.specs.Spellings.{Spelling, Both, each, IsPunctuation, IsSet, IsWordOf, IsMinus, IsEnd}
 use Rattle.ql_syntax.specs.StatementRules.{recursion_of, recursion, item, out_of, print, statement_named, word_statement, set_word_statement, set_statement, plain_statement, part, union, difference, block, statement}
 use Rattle.ql_syntax.specs.StatementWords.{statement_word}
 use Rattle.ql_syntax.specs.Statements.{Statement, Statements, Select, Recurse, Item, Union, Minus, Print, End, Then, row_of}
@@ -20,45 +20,45 @@ use Rattle.ql_syntax.specs.declared.level.Level.{Level}
 use Rattle.ql_syntax.specs.declared.level.Level.TheVariants as levels
 use Rattle.ql_syntax.specs.declared.pick.Pick.{Pick}
 use Rattle.ql_syntax.specs.declared.recursion.Recursion.{Recursion}
-use Rattle.ql_syntax.specs.declared.sign.Sign.{Sign}
-use Rattle.ql_syntax.specs.declared.sign.Sign.TheVariants as signs
+use Rattle.ql_syntax.specs.declared.token_kind.TokenKind.{TokenKind}
+use Rattle.ql_syntax.specs.declared.token_kind.TokenKind.TheVariants as kinds
 use Rattle.ql_syntax.specs.declared.statement_word.StatementWord.{StatementWord}
 use Rattle.ql_syntax.specs.declared.statement_word.StatementWord.TheVariants as words
 use Rattle.ql_syntax.proofs.FilterSpellings.{reads_filter, reads_no_filter, reads_word_at}
 use Rattle.ql_syntax.proofs.GatherSpellings.{reads_gather}
 use Rattle.ql_syntax.proofs.GivesRules.{IsAt}
 use Rattle.ql_syntax.proofs.OutSpellings.{reads_out}
-use Rattle.ql_syntax.proofs.SpellingLemmas.{Alike, alike, from_token, both, other_sign, Reading, reads_then, reads_give, reads_as, reads_yes, reads_no, reads_from, reads_case, reads_token, reads_sign, reads_name_behind, reads_into, into_first, Shifts, shifts_then}
+use Rattle.ql_syntax.proofs.SpellingLemmas.{Alike, alike, from_token, both, other_kind, Reading, reads_then, reads_give, reads_as, reads_yes, reads_no, reads_from, reads_case, reads_token, reads_punctuation, reads_name_after, reads_into, into_first, Shifts, shifts_then}
 use Rattle.ql_syntax.proofs.StatementSpellings.{shifts_statement, shifts_gather, shifts_part}
 
 -- what a statement may begin with
-pub data Begins (sign : Sign) : Type 0 where
-  AWord : sign ≡ signs.Word → Begins sign
-  ASet : sign ≡ signs.Dot → Begins sign
-  ABlock : sign ≡ signs.OpenParenthesis → Begins sign
-  ARecursion : (how : Recursion) → recursion_of sign ≡ Some how → Begins sign
+pub data Begins (kind : TokenKind) : Type 0 where
+  AWord : kind ≡ kinds.Word → Begins kind
+  ASet : kind ≡ kinds.Dot → Begins kind
+  ABlock : kind ≡ kinds.OpenParenthesis → Begins kind
+  ARecursion : (how : Recursion) → recursion_of kind ≡ Some how → Begins kind
 
 -- the token that a statement begins with
 pub record First (text : List ℕ) : Type 0 where
   pub next : Next
-  pub behind : List ℕ
-  pub at : At text next behind
-  pub begins : Begins next.sign
+  pub after : List ℕ
+  pub at : At text next after
+  pub begins : Begins next.kind
 
-pub not_first : {sign : Sign} (that : Sign) → Begins sign → (signs.Word ≡ that → ⊥) → (signs.Dot ≡ that → ⊥) → (signs.OpenParenthesis ≡ that → ⊥) → recursion_of that ≡ None → sign ≡ that → ⊥
+pub not_first : {kind : TokenKind} (that : TokenKind) → Begins kind → (kinds.Word ≡ that → ⊥) → (kinds.Dot ≡ that → ⊥) → (kinds.OpenParenthesis ≡ that → ⊥) → recursion_of that ≡ None → kind ≡ that → ⊥
 not_first that (AWord is) w d o r e = w (sym is ∙ e)
 not_first that (ASet is) w d o r e = d (sym is ∙ e)
 not_first that (ABlock is) w d o r e = o (sym is ∙ e)
 not_first that (ARecursion how is) w d o r e = let bad : Some how ≡ None = sym is ∙ ap recursion_of e ∙ r in cc
 
-first_of : {sign : Sign} {text behind : List ℕ} → IsSign sign text behind → (Begins sign) → First text
-first_of s begins = record { next = s.next; behind = _; at = s.at; begins = subst Begins (sym s.is) begins }
+first_of : {kind : TokenKind} {text after : List ℕ} → IsPunctuation kind text after → (Begins kind) → First text
+first_of s begins = record { next = s.next; after = _; at = s.at; begins = subst Begins (sym s.is) begins }
 
-first_word : {Means : List ℕ → Type 0} {text behind : List ℕ} → IsWordOf Means text behind → First text
-first_word w = record { next = w.next; behind = w.place; at = w.at; begins = AWord w.is }
+first_word : {Means : List ℕ → Type 0} {text after : List ℕ} → IsWordOf Means text after → First text
+first_word w = record { next = w.next; after = w.place; at = w.at; begins = AWord w.is }
 
-first_set : {name text behind : List ℕ} → IsSet name text behind → First text
-first_set s = record { next = s.next; behind = s.place; at = s.at; begins = ASet s.is }
+first_set : {name text after : List ℕ} → IsSet name text after → First text
+first_set s = record { next = s.next; after = s.place; at = s.at; begins = ASet s.is }
 
 first_at : {start text : List ℕ} → start ≡ text → First start → First text
 first_at e f = subst First e f
@@ -78,44 +78,44 @@ first_token (Print start mode limit) text rest g = elim g.front [
 ]
 
 -- statements that don't begin with `(`
-reads_plain : (level : Level) (depth : ℕ) {text behind rest : List ℕ} {next : Next} {s : Statement} → At text next behind → (next.sign ≡ signs.OpenParenthesis → ⊥) → Reading (plain_statement level next) behind s rest → Reading (statement level depth) text s rest
+reads_plain : (level : Level) (depth : ℕ) {text after rest : List ℕ} {next : Next} {s : Statement} → At text next after → (next.kind ≡ kinds.OpenParenthesis → ⊥) → Reading (plain_statement level next) after s rest → Reading (statement level depth) text s rest
 unfolding statement
 reads_plain level zero {text = text} at other more = reads_then _ (reads_token (alike text) at) (reads_no _ other more)
 reads_plain level (suc depth) {text = text} at other more = reads_then _ (reads_token (alike text) at) (reads_no _ other more)
 
-reads_block : (level : Level) (depth : ℕ) {text opened rest : List ℕ} {s : Statement} → IsSign signs.OpenParenthesis text opened → Reading (block (statement levels.Inner depth)) opened s rest → Reading (statement level (suc depth)) text s rest
+reads_block : (level : Level) (depth : ℕ) {text opened rest : List ℕ} {s : Statement} → IsPunctuation kinds.OpenParenthesis text opened → Reading (block (statement levels.Inner depth)) opened s rest → Reading (statement level (suc depth)) text s rest
 unfolding statement
-reads_block level depth {text = text} sign more = reads_then _ (reads_token (alike text) sign.at) (reads_yes _ sign.is more)
+reads_block level depth {text = text} kind more = reads_then _ (reads_token (alike text) kind.at) (reads_yes _ kind.is more)
 
 module _ (level : Level) (depth : ℕ) where
   -- by the first word
-  reads_named : (case : StatementWord) {text behind rest : List ℕ} {s : Statement} → (w : IsWordOf (λ (word : List ℕ). statement_word word ≡ case) text behind) → Reading (statement_named level (w.next).place case) behind s rest → Reading (statement level depth) text s rest
+  reads_named : (case : StatementWord) {text after rest : List ℕ} {s : Statement} → (w : IsWordOf (λ (word : List ℕ). statement_word word ≡ case) text after) → Reading (statement_named level (w.next).place case) after s rest → Reading (statement level depth) text s rest
   unfolding plain_statement word_statement
-  reads_named case w more = reads_plain level depth w.at (other_sign w.is (λ e. cc)) (reads_no _ (other_sign w.is (λ e. cc)) (reads_yes _ w.is (reads_then _ (reads_word_at w.next w.run) (reads_case _ w.means more))))
+  reads_named case w more = reads_plain level depth w.at (other_kind w.is (λ e. cc)) (reads_no _ (other_kind w.is (λ e. cc)) (reads_yes _ w.is (reads_then _ (reads_word_at w.next w.run) (reads_case _ w.means more))))
 
   -- by a recursion's sign
-  reads_how : (how : Recursion) {text rest : List ℕ} {behind : List ℕ} {s : Statement} → (r : IsRecursion how text behind) → Reading (recursion (codes "_") how) behind s rest → Reading (statement level depth) text s rest
+  reads_how : (how : Recursion) {text rest : List ℕ} {after : List ℕ} {s : Statement} → (r : IsRecursion how text after) → Reading (recursion (codes "_") how) after s rest → Reading (statement level depth) text s rest
   unfolding plain_statement
   reads_how how r more =
-      let sign = r.spelled in
-      let means : recursion_of (sign.next).sign ≡ Some how = ap recursion_of sign.is ∙ r.means in
-      reads_plain level depth sign.at (no_such (sign.next).sign signs.OpenParenthesis means refl)
-      (reads_no _ (no_such (sign.next).sign signs.Dot means refl) (reads_no _ (no_such (sign.next).sign signs.Word means refl) (reads_case _ means more)))
+      let kind = r.spelled in
+      let means : recursion_of (kind.next).kind ≡ Some how = ap recursion_of kind.is ∙ r.means in
+      reads_plain level depth kind.at (no_such (kind.next).kind kinds.OpenParenthesis means refl)
+      (reads_no _ (no_such (kind.next).kind kinds.Dot means refl) (reads_no _ (no_such (kind.next).kind kinds.Word means refl) (reads_case _ means more)))
     where
-      no_such : (sign that : Sign) → recursion_of sign ≡ Some how → recursion_of that ≡ None → sign ≡ that → ⊥
-      no_such sign that means none e = let bad : Some how ≡ None = sym means ∙ ap recursion_of e ∙ none in cc
+      no_such : (kind that : TokenKind) → recursion_of kind ≡ Some how → recursion_of that ≡ None → kind ≡ that → ⊥
+      no_such kind that means none e = let bad : Some how ≡ None = sym means ∙ ap recursion_of e ∙ none in cc
 
   -- by the name of a set
   reads_set : {text place rest : List ℕ} (start : List ℕ) {s : Statement} → IsSet start text place → Reading (set_statement level start) place s rest → Reading (statement level depth) text s rest
   unfolding plain_statement
-  reads_set start named more = reads_plain level depth named.at (other_sign named.is (λ e. cc)) (reads_yes _ named.is (reads_then _ (reads_name_behind _ named.name_is) more))
+  reads_set start named more = reads_plain level depth named.at (other_kind named.is (λ e. cc)) (reads_yes _ named.is (reads_then _ (reads_name_after _ named.name_is) more))
 
--- what stands behind the first token of a statement
+-- what stands after the first token of a statement
 reads_selection : (pick : Pick) (filters : List Filter) (set : List ℕ) {place middle rest : List ℕ} → AllByRecursion (Allows pick) filters → each (grammar.filter pick) filters place middle → spelling.into set middle rest → Reading (selection pick) place (Select pick filters set) rest
 unfolding selection
 reads_selection pick filters set {middle = middle} such these ends = into_first ends
-    (λ behind s. reads_then _ (reads_gather (a_filter pick) (reads_filter pick) [] filters such these (reads_no_filter pick s (λ e. cc) (λ e. cc) (λ e. cc))) (reads_then _ (reads_into set (from_token s.at) ends) reads_give))
-    (λ behind s. reads_then _ (reads_gather (a_filter pick) (reads_filter pick) [] filters such these (reads_no_filter pick s (λ e. cc) (λ e. cc) (λ e. cc))) (reads_then _ (reads_into set (from_token s.at) ends) reads_give))
+    (λ after s. reads_then _ (reads_gather (a_filter pick) (reads_filter pick) [] filters such these (reads_no_filter pick s (λ e. cc) (λ e. cc) (λ e. cc))) (reads_then _ (reads_into set (from_token s.at) ends) reads_give))
+    (λ after s. reads_then _ (reads_gather (a_filter pick) (reads_filter pick) [] filters such these (reads_no_filter pick s (λ e. cc) (λ e. cc) (λ e. cc))) (reads_then _ (reads_into set (from_token s.at) ends) reads_give))
 
 reads_recursion : (start : List ℕ) (how : Recursion) (set : List ℕ) {place rest : List ℕ} → spelling.into set place rest → Reading (recursion start how) place (Recurse start how set) rest
 unfolding recursion
@@ -125,24 +125,24 @@ reads_item : (start set : List ℕ) {place text rest : List ℕ} → Alike place
 unfolding item
 reads_item start set like ends = reads_then _ (reads_into set like ends) reads_give
 
-reads_print : (start word : List ℕ) (mode : OutMode) (limit : Option ℕ) {place middle rest : List ℕ} → IsOut mode limit place middle → IsSign signs.Semicolon middle rest → Reading (print levels.Top start word) place (Print start mode limit) rest
+reads_print : (start word : List ℕ) (mode : OutMode) (limit : Option ℕ) {place middle rest : List ℕ} → IsOut mode limit place middle → IsPunctuation kinds.Semicolon middle rest → Reading (print levels.Top start word) place (Print start mode limit) rest
 unfolding print by_case out_of
 reads_print start word mode limit is ends = reads_then _ (reads_out mode limit is ends) (reads_as (ap (λ (m : OutMode). Print start m limit) is.mode_is))
 
--- behind the name of a set
+-- after the name of a set
 module _ (level : Level) (start : List ℕ) where
-  reads_set_how : (how : Recursion) {text behind rest : List ℕ} {s : Statement} → (r : IsRecursion how text behind) → Reading (recursion start how) behind s rest → Reading (set_statement level start) text s rest
+  reads_set_how : (how : Recursion) {text after rest : List ℕ} {s : Statement} → (r : IsRecursion how text after) → Reading (recursion start how) after s rest → Reading (set_statement level start) text s rest
   unfolding set_statement
   reads_set_how how {text = text} r more =
-      let sign = r.spelled in
-      let means : recursion_of (sign.next).sign ≡ Some how = ap recursion_of sign.is ∙ r.means in
-      reads_then _ (reads_token (alike text) sign.at) (reads_no _ (λ e. (let bad : Some how ≡ None = sym means ∙ ap recursion_of e in cc)) (reads_case _ means more))
+      let kind = r.spelled in
+      let means : recursion_of (kind.next).kind ≡ Some how = ap recursion_of kind.is ∙ r.means in
+      reads_then _ (reads_token (alike text) kind.at) (reads_no _ (λ e. (let bad : Some how ≡ None = sym means ∙ ap recursion_of e in cc)) (reads_case _ means more))
 
-  reads_set_alone : (sign : Sign) {text behind rest : List ℕ} {s : Statement} → (e : IsSign sign text behind) → (sign ≡ signs.Word → ⊥) → recursion_of sign ≡ None → Reading (item start) (e.next).place s rest → Reading (set_statement level start) text s rest
+  reads_set_alone : (kind : TokenKind) {text after rest : List ℕ} {s : Statement} → (e : IsPunctuation kind text after) → (kind ≡ kinds.Word → ⊥) → recursion_of kind ≡ None → Reading (item start) (e.next).place s rest → Reading (set_statement level start) text s rest
   unfolding set_statement
-  reads_set_alone sign {text = text} e other none more = reads_then _ (reads_token (alike text) e.at) (reads_no _ (other_sign e.is other) (reads_case _ (ap recursion_of e.is ∙ none) (reads_from _ more)))
+  reads_set_alone kind {text = text} e other none more = reads_then _ (reads_token (alike text) e.at) (reads_no _ (other_kind e.is other) (reads_case _ (ap recursion_of e.is ∙ none) (reads_from _ more)))
 
-  reads_set_word : {text behind rest : List ℕ} {s : Statement} → (w : IsWordOf (λ (word : List ℕ). statement_word word ≡ words.Print) text behind) → Reading (print level start (w.next).place) behind s rest → Reading (set_statement level start) text s rest
+  reads_set_word : {text after rest : List ℕ} {s : Statement} → (w : IsWordOf (λ (word : List ℕ). statement_word word ≡ words.Print) text after) → Reading (print level start (w.next).place) after s rest → Reading (set_statement level start) text s rest
   unfolding set_statement set_word_statement
   reads_set_word {text = text} w more = reads_then _ (reads_token (alike text) w.at) (reads_yes _ w.is (reads_then _ (reads_word_at w.next w.run) (reads_case _ w.means more)))
 
@@ -162,8 +162,8 @@ module _ (level : Level) (depth : ℕ) where
 
   reads_item_alone : (start set text rest : List ℕ) → grammar.statement (Item start set) text rest → Reading (statement level depth) text (Item start set) rest
   reads_item_alone start set text rest g = reads_set level depth start g.front (into_first g.back
-      (λ behind s. reads_set_alone level start signs.Arrow s (λ e. cc) refl (reads_item start set (from_token s.at) g.back))
-      (λ behind s. reads_set_alone level start signs.Semicolon s (λ e. cc) refl (reads_item start set (from_token s.at) g.back)))
+      (λ after s. reads_set_alone level start kinds.Arrow s (λ e. cc) refl (reads_item start set (from_token s.at) g.back))
+      (λ after s. reads_set_alone level start kinds.Semicolon s (λ e. cc) refl (reads_item start set (from_token s.at) g.back)))
 
 reads_out_statement : (depth : ℕ) (start : List ℕ) (mode : OutMode) (limit : Option ℕ) (text rest : List ℕ) → grammar.statement (Print start mode limit) text rest → Reading (statement levels.Top depth) text (Print start mode limit) rest
 reads_out_statement depth start mode limit text rest g = from_source g.front
@@ -192,19 +192,19 @@ each_inner : (depth : ℕ) (row : Statements) → AreInner depth row → AllByRe
 each_inner depth End all = tt
 each_inner depth (Then s more) all = (all.0, each_inner depth more all.1)
 
--- what stands behind the first statement of a union is no `-`
-record Behind_first (text : List ℕ) : Type 0 where
+-- what stands after the first statement of a union is no `-`
+record After_first (text : List ℕ) : Type 0 where
   next : Next
-  behind : List ℕ
-  at : At text next behind
-  no_minus : next.sign ≡ signs.Minus → ⊥
-  no_arrow : next.sign ≡ signs.Arrow → ⊥
+  after : List ℕ
+  at : At text next after
+  no_minus : next.kind ≡ kinds.Minus → ⊥
+  no_arrow : next.kind ≡ kinds.Arrow → ⊥
 
-behind_first : (row : Statements) (text middle rest : List ℕ) → grammar.row row text middle → IsSign signs.CloseParenthesis middle rest → Behind_first text
-behind_first End text middle rest g close = let s = subst (λ (t : List ℕ). IsSign signs.CloseParenthesis t rest) g close in
-    record { next = s.next; behind = rest; at = s.at; no_minus = other_sign s.is (λ e. cc); no_arrow = other_sign s.is (λ e. cc) }
-behind_first (Then s more) text middle rest g close = let f = first_token s text g.middle g.front in
-    record { next = f.next; behind = f.behind; at = f.at; no_minus = not_first signs.Minus f.begins (λ e. cc) (λ e. cc) (λ e. cc) refl; no_arrow = not_first signs.Arrow f.begins (λ e. cc) (λ e. cc) (λ e. cc) refl }
+after_first : (row : Statements) (text middle rest : List ℕ) → grammar.row row text middle → IsPunctuation kinds.CloseParenthesis middle rest → After_first text
+after_first End text middle rest g close = let s = subst (λ (t : List ℕ). IsPunctuation kinds.CloseParenthesis t rest) g close in
+    record { next = s.next; after = rest; at = s.at; no_minus = other_kind s.is (λ e. cc); no_arrow = other_kind s.is (λ e. cc) }
+after_first (Then s more) text middle rest g close = let f = first_token s text g.middle g.front in
+    record { next = f.next; after = f.after; at = f.at; no_minus = not_first kinds.Minus f.begins (λ e. cc) (λ e. cc) (λ e. cc) refl; no_arrow = not_first kinds.Arrow f.begins (λ e. cc) (λ e. cc) (λ e. cc) refl }
 
 pub shift_reading : {A : Type 0} {rule : Rule A} {start text rest : List ℕ} {value : A} → Shifts rule → Alike text start → Reading rule start value rest → Reading rule text value rest
 shift_reading s like reading = record { reads = s.shift _ _ _ _ like reading.reads }
@@ -218,39 +218,39 @@ module _ (depth : ℕ) (reads_inner : (s : Statement) → IsInner depth s → (t
   reads_part : (s : Statement) → IsInner depth s → (text rest : List ℕ) → grammar.statement s text rest → Reading (part (statement levels.Inner depth)) text (Some s) rest
   unfolding part
   reads_part s is text rest g = let f = first_token s text rest g in
-      reads_then _ (reads_token (alike text) f.at) (reads_no _ (not_first signs.CloseParenthesis f.begins (λ e. cc) (λ e. cc) (λ e. cc) refl)
+      reads_then _ (reads_token (alike text) f.at) (reads_no _ (not_first kinds.CloseParenthesis f.begins (λ e. cc) (λ e. cc) (λ e. cc) refl)
       (reads_then _ (reads_from _ (shift_reading (shifts_statement levels.Inner depth) (from_token f.at) (reads_inner s is text rest g))) reads_give))
 
-  reads_no_part : {text rest : List ℕ} → IsSign signs.CloseParenthesis text rest → Reading (part (statement levels.Inner depth)) text None rest
+  reads_no_part : {text rest : List ℕ} → IsPunctuation kinds.CloseParenthesis text rest → Reading (part (statement levels.Inner depth)) text None rest
   unfolding part
   reads_no_part {text = text} s = reads_then _ (reads_token (alike text) s.at) (reads_yes _ s.is reads_give)
 
-  reads_union : (first : Statement) (row : Statements) (set : List ℕ) {text middle closed rest : List ℕ} → AreInner depth row → grammar.row row text middle → IsSign signs.CloseParenthesis middle closed → spelling.into set closed rest → Reading (union (statement levels.Inner depth) first) text (Union (Then first row) set) rest
+  reads_union : (first : Statement) (row : Statements) (set : List ℕ) {text middle closed rest : List ℕ} → AreInner depth row → grammar.row row text middle → IsPunctuation kinds.CloseParenthesis middle closed → spelling.into set closed rest → Reading (union (statement levels.Inner depth) first) text (Union (Then first row) set) rest
   unfolding union
   reads_union first row set {text = text} {middle = middle} {closed = closed} all g close ends =
       reads_then _ (reads_gather (part (statement levels.Inner depth)) reads_part (first ∷ []) (list_of row) (each_inner depth row all) (each_spelled row text middle g) (reads_no_part close))
       (reads_then _ (reads_into set (alike closed) ends) (reads_as (ap (λ (r : Statements). Union (Then first r) set) (sym (row_again row)))))
 
-  reads_difference : (left right : Statement) (set : List ℕ) {text middle closed rest : List ℕ} → IsInner depth right → grammar.statement right text middle → IsSign signs.CloseParenthesis middle closed → spelling.into set closed rest → Reading (difference (statement levels.Inner depth) left) text (Minus left right set) rest
+  reads_difference : (left right : Statement) (set : List ℕ) {text middle closed rest : List ℕ} → IsInner depth right → grammar.statement right text middle → IsPunctuation kinds.CloseParenthesis middle closed → spelling.into set closed rest → Reading (difference (statement levels.Inner depth) left) text (Minus left right set) rest
   unfolding difference
   reads_difference left right set {text = text} {middle = middle} {closed = closed} is g close ends =
-      reads_then _ (reads_inner right is text middle g) (reads_then _ (reads_sign (alike middle) close) (reads_then _ (reads_into set (alike closed) ends) reads_give))
+      reads_then _ (reads_inner right is text middle g) (reads_then _ (reads_punctuation (alike middle) close) (reads_then _ (reads_into set (alike closed) ends) reads_give))
 
-  reads_union_block : (row : Statements) (set : List ℕ) {text middle closed rest : List ℕ} → AreInner depth row → grammar.row_of_some row text middle → IsSign signs.CloseParenthesis middle closed → spelling.into set closed rest → Reading (block (statement levels.Inner depth)) text (Union row set) rest
+  reads_union_block : (row : Statements) (set : List ℕ) {text middle closed rest : List ℕ} → AreInner depth row → grammar.row_of_some row text middle → IsPunctuation kinds.CloseParenthesis middle closed → spelling.into set closed rest → Reading (block (statement levels.Inner depth)) text (Union row set) rest
   unfolding block
   reads_union_block End set all g close ends = absurd g
   reads_union_block (Then first row) set {text = text} {middle = middle} {closed = closed} all g close ends =
-      let next = behind_first row g.middle middle closed g.back close in
+      let next = after_first row g.middle middle closed g.back close in
       reads_then _ (reads_inner first all.0 text g.middle g.front) (reads_then _ (reads_token (alike g.middle) next.at) (reads_no _ next.no_minus (reads_no _ next.no_arrow
       (reads_from _ (shift_reading (shifts_union _ first) (from_token next.at) (reads_union first row set all.1 g.back close ends))))))
 
-  reads_minus_block : (left right : Statement) (set : List ℕ) {text place behind middle closed rest : List ℕ} → IsInner depth left → IsInner depth right → grammar.statement left text place → IsMinus place behind → grammar.statement right behind middle → IsSign signs.CloseParenthesis middle closed → spelling.into set closed rest → Reading (block (statement levels.Inner depth)) text (Minus left right set) rest
+  reads_minus_block : (left right : Statement) (set : List ℕ) {text place after middle closed rest : List ℕ} → IsInner depth left → IsInner depth right → grammar.statement left text place → IsMinus place after → grammar.statement right after middle → IsPunctuation kinds.CloseParenthesis middle closed → spelling.into set closed rest → Reading (block (statement levels.Inner depth)) text (Minus left right set) rest
   unfolding block
-  reads_minus_block left right set {text = text} {place = place} {behind = behind} {middle = middle} {rest = rest} is also g minus more close ends = elim minus.is [
-    | inl sign ↦ reads_then _ (reads_inner left is text place g) (reads_then _ (reads_token (alike place) minus.at) (reads_yes _ sign
-        (subst (λ (t : List ℕ). Reading (difference (statement levels.Inner depth) left) t (Minus left right set) rest) (minus.rest_is ∙ sym (ap (λ (k : Sign). drop (len_of k) (minus.next).place) sign) ∙ sym (minus.at).rest_is)
+  reads_minus_block left right set {text = text} {place = place} {after = after} {middle = middle} {rest = rest} is also g minus more close ends = elim minus.is [
+    | inl kind ↦ reads_then _ (reads_inner left is text place g) (reads_then _ (reads_token (alike place) minus.at) (reads_yes _ kind
+        (subst (λ (t : List ℕ). Reading (difference (statement levels.Inner depth) left) t (Minus left right set) rest) (minus.rest_is ∙ sym (ap (λ (k : TokenKind). drop (punctuation_len k) (minus.next).place) kind) ∙ sym (minus.at).rest_is)
         (reads_difference left right set also more close ends))))
-    | inr sign ↦ reads_then _ (reads_inner left is text place g) (reads_then _ (reads_token (alike place) minus.at) (reads_no _ (other_sign sign (λ e. cc)) (reads_yes _ sign
+    | inr kind ↦ reads_then _ (reads_inner left is text place g) (reads_then _ (reads_token (alike place) minus.at) (reads_no _ (other_kind kind (λ e. cc)) (reads_yes _ kind
         (reads_from _ (subst (λ (t : List ℕ). Reading (difference (statement levels.Inner depth) left) t (Minus left right set) rest) minus.rest_is (reads_difference left right set also more close ends))))))
   ]
 

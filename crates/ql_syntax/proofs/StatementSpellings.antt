@@ -6,13 +6,13 @@ use Rattle.opl_codec.specs.declared.out_mode.OutMode.TheVariants as modes
 use Rattle.ql_syntax.specs.Filters.{Filter}
 use Rattle.ql_syntax.specs.Grammar as grammar
 use Rattle.ql_syntax.specs.Grammar.{IsRecursion, IsOut}
-use Rattle.ql_syntax.specs.Points.{Next, At, next_token, unexpected, name_behind}
+use Rattle.ql_syntax.specs.TokenRules.{Next, At, next_token, unexpected, name_after}
 use Rattle.ql_syntax.specs.Rules.{Rule, ◌>>=◌, give, refuse, from, choose, by_case, gather, gather_round, repeat, RoundsRead, Last}
 use Rattle.ql_syntax.specs.Rules as rounds
 use Rattle.ql_syntax.specs.Selections.{selection}
-use Rattle.ql_syntax.specs.Signs.{len_of}
+use Rattle.ql_syntax.specs.TokenKinds.{punctuation_len}
 use Rattle.ql_syntax.specs.Spellings as spelling
-use Rattle.ql_syntax.specs.Spellings.{Spelling, Both, each, IsSign, IsSet, IsWordOf, IsMinus, IsEnd}
+use Rattle.ql_syntax.specs.Spellings.{Spelling, Both, each, IsPunctuation, IsSet, IsWordOf, IsMinus, IsEnd}
 use Rattle.ql_syntax.specs.StatementRules.{recursion_of, recursion, item, out_of, print_at, print, statement_named, word_statement, set_statement_named, set_word_statement, recursion_or_item, set_statement, recursion_at, plain_statement, part, union, difference, block, statement, top_statement}
 use Rattle.ql_syntax.specs.StatementWords.{statement_word}
 use Rattle.ql_syntax.specs.Statements.{Statement, Select, Union, row_of}
@@ -20,8 +20,8 @@ use Rattle.ql_syntax.specs.declared.level.Level.{Level}
 use Rattle.ql_syntax.specs.declared.level.Level.TheVariants as levels
 use Rattle.ql_syntax.specs.declared.pick.Pick.{Pick}
 use Rattle.ql_syntax.specs.declared.recursion.Recursion.{Recursion}
-use Rattle.ql_syntax.specs.declared.sign.Sign.{Sign}
-use Rattle.ql_syntax.specs.declared.sign.Sign.TheVariants as signs
+use Rattle.ql_syntax.specs.declared.token_kind.TokenKind.{TokenKind}
+use Rattle.ql_syntax.specs.declared.token_kind.TokenKind.TheVariants as kinds
 use Rattle.ql_syntax.specs.declared.statement_word.StatementWord.{StatementWord}
 use Rattle.ql_syntax.specs.declared.statement_word.StatementWord.TheVariants as words
 use Rattle.ql_syntax.proofs.FilterSpellings.{filters_sound, word_split, means_word}
@@ -61,7 +61,7 @@ module _ (text rest : List ℕ) where
   as_statement : {s t : Statement} → s ≡ t → grammar.statement t text rest → grammar.statement s text rest
   as_statement is it = subst (λ (u : Statement). grammar.statement u text rest) (sym is) it
 
-  selection_split : {middle : List ℕ} (s : Statement) (pick : Pick) → grammar.kind pick text middle → (selection pick).reads middle s rest → grammar.statement s text rest
+  selection_split : {middle : List ℕ} (s : Statement) (pick : Pick) → grammar.pick_word pick text middle → (selection pick).reads middle s rest → grammar.statement s text rest
   unfolding selection ◌>>=◌ give
   selection_split {middle = middle} s pick word r =
       let set = r.back_reads in
@@ -71,10 +71,10 @@ module _ (text rest : List ℕ) where
       as_statement (is.0 ∙ ap (λ (l : List Filter). Select pick l set.front) all)
       (both middle word (both g.middle g.front (spelled_to (spelling.into set.front) is.1 (into_sound g.back (record { reads = set.front_reads })))))
 
-  recursion_split : {middle place : List ℕ} (s : Statement) (start : List ℕ) (sign : Sign) (how : Recursion) → recursion_of sign ≡ Some how → spelling.source start text middle → IsSign sign middle place → (recursion start how).reads place s rest → grammar.statement s text rest
+  recursion_split : {middle place : List ℕ} (s : Statement) (start : List ℕ) (kind : TokenKind) (how : Recursion) → recursion_of kind ≡ Some how → spelling.source start text middle → IsPunctuation kind middle place → (recursion start how).reads place s rest → grammar.statement s text rest
   unfolding recursion ◌>>=◌ give
-  recursion_split {middle = middle} {place = place} s start sign how means source is r = let e = r.back_reads in
-      as_statement e.0 (both middle source (both place (record { sign = sign; means = means; spelled = is }) (spelled_to (spelling.into r.front) e.1 (into_sound (alike place) (record { reads = r.front_reads })))))
+  recursion_split {middle = middle} {place = place} s start kind how means source is r = let e = r.back_reads in
+      as_statement e.0 (both middle source (both place (record { kind = kind; means = means; spelled = is }) (spelled_to (spelling.into r.front) e.1 (into_sound (alike place) (record { reads = r.front_reads })))))
 
   item_split : {middle place : List ℕ} (s : Statement) (start : List ℕ) → IsSet start text middle → Alike middle place → (item start).reads place s rest → grammar.statement s text rest
   unfolding item ◌>>=◌ give
@@ -84,29 +84,29 @@ module _ (text rest : List ℕ) where
   print_split : {middle place : List ℕ} (s : Statement) (start word : List ℕ) (level : Level) → spelling.source start text middle → grammar.out middle place → (print_at start word level).reads place s rest → grammar.statement s text rest
   unfolding out_of ◌>>=◌ give refuse
   print_split {middle = middle} {place = place} s start word levels.Top source out r = let e = r.back_reads in
-      as_statement e.0 (both middle source (both place out (spelled_to (λ begin end. Both (IsOut (unwrap_or (r.front).mode modes.Body) (r.front).limit) (IsSign signs.Semicolon) begin end) e.1 (out_sound r.front place r.middle r.front_reads))))
+      as_statement e.0 (both middle source (both place out (spelled_to (λ begin end. Both (IsOut (unwrap_or (r.front).mode modes.Body) (r.front).limit) (IsPunctuation kinds.Semicolon) begin end) e.1 (out_sound r.front place r.middle r.front_reads))))
   print_split s start word levels.Inner source out r = absurd r
 
   -- by the first word
-  named_split : (level : Level) (place word : List ℕ) {behind : List ℕ} (s : Statement) (case : StatementWord) → statement_word word ≡ case → IsWordOf (λ (w : List ℕ). w ≡ word) text behind → (statement_named level place case).reads behind s rest → grammar.statement s text rest
+  named_split : (level : Level) (place word : List ℕ) {after : List ℕ} (s : Statement) (case : StatementWord) → statement_word word ≡ case → IsWordOf (λ (w : List ℕ). w ≡ word) text after → (statement_named level place case).reads after s rest → grammar.statement s text rest
   unfolding refuse print by_case
   named_split level place word s (words.Kind pick) is spelled r = selection_split s pick (means_word (λ (w : List ℕ) e. ap statement_word e ∙ is) spelled) r
   named_split level place word s words.Print is spelled r = print_split s (codes "_") place level (inr (refl, refl)) (means_word (λ (w : List ℕ) e. ap statement_word e ∙ is) spelled) r
-  named_split level place word s words.Outside is spelled r = absurd r
+  named_split level place word s words.LeftOut is spelled r = absurd r
   named_split level place word s words.Unknown is spelled r = absurd r
 
-  set_named_split : (level : Level) (start place word : List ℕ) {middle behind : List ℕ} (s : Statement) (case : StatementWord) → statement_word word ≡ case → IsSet start text middle → IsWordOf (λ (w : List ℕ). w ≡ word) middle behind → (set_statement_named level start place case).reads behind s rest → grammar.statement s text rest
+  set_named_split : (level : Level) (start place word : List ℕ) {middle after : List ℕ} (s : Statement) (case : StatementWord) → statement_word word ≡ case → IsSet start text middle → IsWordOf (λ (w : List ℕ). w ≡ word) middle after → (set_statement_named level start place case).reads after s rest → grammar.statement s text rest
   unfolding refuse print by_case
   set_named_split level start place word s (words.Kind pick) is named spelled r = absurd r
   set_named_split level start place word s words.Print is named spelled r = print_split s start place level (inl named) (means_word (λ (w : List ℕ) e. ap statement_word e ∙ is) spelled) r
-  set_named_split level start place word s words.Outside is named spelled r = absurd r
+  set_named_split level start place word s words.LeftOut is named spelled r = absurd r
   set_named_split level start place word s words.Unknown is named spelled r = absurd r
 
   -- by what follows the name of a set
-  set_sign_split : (start : List ℕ) {middle behind : List ℕ} (next : Next) (s : Statement) (how : Option Recursion) → recursion_of next.sign ≡ how → IsSet start text middle → At middle next behind → (recursion_or_item start next.place how).reads behind s rest → grammar.statement s text rest
+  set_kind_split : (start : List ℕ) {middle after : List ℕ} (next : Next) (s : Statement) (how : Option Recursion) → recursion_of next.kind ≡ how → IsSet start text middle → At middle next after → (recursion_or_item start next.place how).reads after s rest → grammar.statement s text rest
   unfolding from
-  set_sign_split start next s (Some how) is named at r = recursion_split s start next.sign how is (inl named) (record { next = next; at = at; is = refl }) r
-  set_sign_split start next s None is named at r = item_split s start named (alike_back (from_token at)) r
+  set_kind_split start next s (Some how) is named at r = recursion_split s start next.kind how is (inl named) (record { next = next; at = at; is = refl }) r
+  set_kind_split start next s None is named at r = item_split s start named (alike_back (from_token at)) r
 
   set_split : (level : Level) (start : List ℕ) {middle : List ℕ} (s : Statement) → IsSet start text middle → (set_statement level start).reads middle s rest → grammar.statement s text rest
   unfolding set_statement ◌>>=◌ choose by_case next_token set_word_statement
@@ -114,24 +114,24 @@ module _ (text rest : List ℕ) where
     | inl it ↦ (let word = it.1 in
         set_named_split level start (word.front).place (word.front).word s (statement_word (word.front).word) refl named
         (record { next = r.front; place = r.middle; word = (word.front).word; at = r.front_reads; is = it.0; run = word_split r.front word.front word.front_reads; means = refl }) word.back_reads)
-    | inr it ↦ set_sign_split start r.front s (recursion_of (r.front).sign) refl named r.front_reads it.1
+    | inr it ↦ set_kind_split start r.front s (recursion_of (r.front).kind) refl named r.front_reads it.1
   ]
 
   -- by the first token
-  sign_split : {behind : List ℕ} (next : Next) (s : Statement) (how : Option Recursion) → recursion_of next.sign ≡ how → At text next behind → (recursion_at next how).reads behind s rest → grammar.statement s text rest
+  kind_split : {after : List ℕ} (next : Next) (s : Statement) (how : Option Recursion) → recursion_of next.kind ≡ how → At text next after → (recursion_at next how).reads after s rest → grammar.statement s text rest
   unfolding unexpected refuse
-  sign_split next s (Some how) is at r = recursion_split s (codes "_") next.sign how is (inr (refl, refl)) (record { next = next; at = at; is = refl }) r
-  sign_split next s None is at r = absurd r
+  kind_split next s (Some how) is at r = recursion_split s (codes "_") next.kind how is (inr (refl, refl)) (record { next = next; at = at; is = refl }) r
+  kind_split next s None is at r = absurd r
 
   plain_split : (level : Level) (next : Next) {middle : List ℕ} (s : Statement) → At text next middle → (plain_statement level next).reads middle s rest → grammar.statement s text rest
-  unfolding plain_statement ◌>>=◌ choose by_case name_behind word_statement
+  unfolding plain_statement ◌>>=◌ choose by_case name_after word_statement
   plain_split level next {middle = middle} s at r = elim r [
     | inl it ↦ (let named = it.1 in set_split level named.front s (record { next = next; place = middle; at = at; is = it.0; name_is = named.front_reads }) named.back_reads)
     | inr it ↦ elim it.1 [
       | inl it ↦ (let word = it.1 in
           named_split level (word.front).place (word.front).word s (statement_word (word.front).word) refl
           (record { next = next; place = middle; word = (word.front).word; at = at; is = it.0; run = word_split next word.front word.front_reads; means = refl }) word.back_reads)
-      | inr it ↦ sign_split next s (recursion_of next.sign) refl at it.1
+      | inr it ↦ kind_split next s (recursion_of next.kind) refl at it.1
     ]
   ]
 
@@ -150,14 +150,14 @@ module _ (inner : Rule Statement) (shifts : Shifts inner) (sound : (text rest : 
         (sound text found.middle found.front (shifts.shift (r.front).place text found.front found.middle (alike_back (from_token r.front_reads)) found.front_reads))))
   ]
 
-  no_part : (text rest : List ℕ) → (part inner).reads text None rest → IsSign signs.CloseParenthesis text rest
+  no_part : (text rest : List ℕ) → (part inner).reads text None rest → IsPunctuation kinds.CloseParenthesis text rest
   unfolding part ◌>>=◌ choose give next_token
   no_part text rest r = elim r.back_reads [
     | inl it ↦ record { next = r.front; at = at_rest it.1.1 r.front_reads; is = it.0 }
     | inr it ↦ (let found = it.1 in let bad : None ≡ Some found.front = found.back_reads.0 in absurd (cc))
   ]
 
-  module _ (text rest : List ℕ) {opened : List ℕ} (sign : IsSign signs.OpenParenthesis text opened) (middle : List ℕ) (first : Statement) (is_first : grammar.statement first opened middle) where
+  module _ (text rest : List ℕ) {opened : List ℕ} (kind : IsPunctuation kinds.OpenParenthesis text opened) (middle : List ℕ) (first : Statement) (is_first : grammar.statement first opened middle) where
     union_split : (s : Statement) → (union inner first).reads middle s rest → grammar.statement s text rest
     unfolding union ◌>>=◌ give
     union_split s r =
@@ -165,7 +165,7 @@ module _ (inner : Rule Statement) (shifts : Shifts inner) (sound : (text rest : 
         let is = set.back_reads in
         let g = gather_sound (part inner) one_part no_part (first ∷ []) r.front middle r.middle r.front_reads in
         as_statement text rest (is.0 ∙ ap (λ (l : List Statement). Union (row_of l) set.front) g.is)
-        (both r.middle (both opened sign (both g.middle (both middle is_first (row_spelled g.more middle g.middle g.front)) g.back)) (spelled_to (spelling.into set.front) is.1 (into_sound (alike r.middle) (record { reads = set.front_reads }))))
+        (both r.middle (both opened kind (both g.middle (both middle is_first (row_spelled g.more middle g.middle g.front)) g.back)) (spelled_to (spelling.into set.front) is.1 (into_sound (alike r.middle) (record { reads = set.front_reads }))))
 
     difference_split : {place : List ℕ} (s : Statement) → IsMinus middle place → (difference inner first).reads place s rest → grammar.statement s text rest
     unfolding difference ◌>>=◌ give
@@ -174,19 +174,19 @@ module _ (inner : Rule Statement) (shifts : Shifts inner) (sound : (text rest : 
         let set = close.back_reads in
         let is = set.back_reads in
         as_statement text rest is.0
-        (both close.middle (both opened sign (both r.middle (both middle is_first (both place minus (sound place r.middle r.front r.front_reads))) (pass_sound signs.CloseParenthesis (alike r.middle) (record { reads = close.front_reads }))))
+        (both close.middle (both opened kind (both r.middle (both middle is_first (both place minus (sound place r.middle r.front r.front_reads))) (pass_sound kinds.CloseParenthesis (alike r.middle) (record { reads = close.front_reads }))))
         (spelled_to (spelling.into set.front) is.1 (into_sound (alike close.middle) (record { reads = set.front_reads }))))
 
-  block_split : (text rest : List ℕ) {opened : List ℕ} → IsSign signs.OpenParenthesis text opened → (s : Statement) → (block inner).reads opened s rest → grammar.statement s text rest
+  block_split : (text rest : List ℕ) {opened : List ℕ} → IsPunctuation kinds.OpenParenthesis text opened → (s : Statement) → (block inner).reads opened s rest → grammar.statement s text rest
   unfolding block ◌>>=◌ choose from next_token union
-  block_split text rest {opened = opened} sign s r =
+  block_split text rest {opened = opened} kind s r =
       let first = sound opened r.middle r.front r.front_reads in
       let next = r.back_reads in
       elim next.back_reads [
-        | inl it ↦ difference_split text rest sign r.middle r.front first s (record { next = next.front; place = next.middle; at = next.front_reads; is = inl it.0; rest_is = (next.front_reads).rest_is ∙ ap (λ (k : Sign). drop (len_of k) (next.front).place) it.0 }) it.1
+        | inl it ↦ difference_split text rest kind r.middle r.front first s (record { next = next.front; place = next.middle; at = next.front_reads; is = inl it.0; rest_is = (next.front_reads).rest_is ∙ ap (λ (k : TokenKind). drop (punctuation_len k) (next.front).place) it.0 }) it.1
         | inr it ↦ elim it.1 [
-          | inl it ↦ difference_split text rest sign r.middle r.front first s (record { next = next.front; place = next.middle; at = next.front_reads; is = inr it.0; rest_is = refl }) it.1
-          | inr it ↦ union_split text rest sign r.middle r.front first s (record { front = (it.1).front; middle = (it.1).middle; front_reads = (shifts_gather (shifts_part inner) (r.front ∷ [])).shift (next.front).place r.middle _ _ (alike_back (from_token next.front_reads)) (it.1).front_reads; back_reads = (it.1).back_reads })
+          | inl it ↦ difference_split text rest kind r.middle r.front first s (record { next = next.front; place = next.middle; at = next.front_reads; is = inr it.0; rest_is = refl }) it.1
+          | inr it ↦ union_split text rest kind r.middle r.front first s (record { front = (it.1).front; middle = (it.1).middle; front_reads = (shifts_gather (shifts_part inner) (r.front ∷ [])).shift (next.front).place r.middle _ _ (alike_back (from_token next.front_reads)) (it.1).front_reads; back_reads = (it.1).back_reads })
         ]
       ]
 

@@ -2,7 +2,7 @@
 use Rattle.std.proofs.Common.{List, ℕ, ◌∷◌, length, arith, ap, length-append}
 use Rattle.std.specs.List.{flat_map}
 use Rattle.ql_syntax.specs.QuotedTexts.{spelling}
-use Rattle.ql_syntax.specs.Points.{Next, text_here}
+use Rattle.ql_syntax.specs.TokenRules.{Next, text_here}
 use Rattle.ql_syntax.specs.TagFilters.{tag_filter, tag_rest, tag_value, tag_text, tag_text_at, tag_close, not_in_tag}
 use Rattle.ql_syntax.proofs.Lengths.{Within, within_then, within_next, within_choose, within_give, within_refuse, within_from, within_run}
 

@@ -6,7 +6,7 @@ use Rattle.osm_model.specs.Degrees.{Decimal, IsDigits, IsFraction, BeginsOtherwi
 use Rattle.osm_model.proofs.shared.Digits.{same_front}
 use Rattle.ql_syntax.specs.declared.cause.QlCause.{QlCause}
 use Rattle.ql_syntax.specs.Words.{IsRun, IsWord, IsName, IsNoName, begins_with, is_run_byte, is_word_start}
-use Rattle.ql_syntax.specs.Numbers.{IsNumber, IsNoNumber, IsMisfit, NoDigit, NoFraction, is_minus, is_point}
+use Rattle.ql_syntax.specs.Numbers.{IsNumber, IsNoNumber, IsMisfit, is_minus}
 
 passes : (p q : Bool) → (p && q) ≡ true → p ≡ true
 passes true q e = refl
@@ -36,15 +36,15 @@ same_span test (x ∷ v) (y ∷ w) s t a b c d e =
 pub one_run : (text run other rest left : List ℕ) → IsRun text run rest → IsRun text other left → (run ≡ other) × (rest ≡ left)
 one_run text run other rest left h k = same_span is_run_byte run other rest left h.bytes k.bytes h.longest k.longest (sym h.parts ∙ k.parts)
 
-pub one_name : (behind name other rest left : List ℕ) → IsName behind name rest → IsName behind other left → (name ≡ other) × (rest ≡ left)
-one_name behind name other rest left h k = one_run behind name other rest left h.run k.run
+pub one_name : (after name other rest left : List ℕ) → IsName after name rest → IsName after other left → (name ≡ other) × (rest ≡ left)
+one_name after name other rest left h k = one_run after name other rest left h.run k.run
 
 word_starts : (text word rest : List ℕ) → IsWord text word rest → begins_with is_word_start text ≡ true
 word_starts text [] rest w = absurd (let e = w.start in cc)
 word_starts text (b ∷ word) rest w = ap (λ (s : List ℕ). begins_with is_word_start s) w.run.parts ∙ w.start
 
-pub name_or_not : (dot behind name rest : List ℕ) (cause : QlCause) (at : List ℕ) → IsName behind name rest → IsNoName dot behind cause at → ⊥
-name_or_not dot behind name rest cause at h k = let bad : true ≡ false = sym (word_starts behind name rest h) ∙ k.0 in cc
+pub name_or_not : (dot after name rest : List ℕ) (cause : QlCause) (at : List ℕ) → IsName after name rest → IsNoName dot after cause at → ⊥
+name_or_not dot after name rest cause at h k = let bad : true ≡ false = sym (word_starts after name rest h) ∙ k.0 in cc
 
 -- digits don't begin with a sign, nor with what begins otherwise
 no_minus : (digits rest more : List ℕ) → IsDigits digits → 45 ∷ rest ≡ digits ++ more → ⊥
@@ -62,18 +62,15 @@ same_signed true true v w x y dv dw ox oy e = let tail : v ++ x ≡ w ++ y = cc 
 same_signed true false v w x y dv dw ox oy e = absurd (no_minus w (v ++ x) y dw e)
 same_signed false true v w x y dv dw ox oy e = absurd (no_minus v (w ++ y) x dv (sym e))
 
-behind_whole : (f : Option (List ℕ)) (rest : List ℕ) → BeginsOtherwise rest → BeginsOtherwise (point f ++ rest)
-behind_whole None rest other = other
-behind_whole (Some digits) rest other = lit≤ tt
-
-point_first : (rest more : List ℕ) → begins_with is_point rest ≡ false → rest ≡ 46 ∷ more → ⊥
-point_first rest more none e = let bad : false ≡ true = sym none ∙ ap (λ (s : List ℕ). begins_with is_point s) e in cc
+after_whole : (f : Option (List ℕ)) (rest : List ℕ) → BeginsOtherwise rest → BeginsOtherwise (point f ++ rest)
+after_whole None rest other = other
+after_whole (Some digits) rest other = lit≤ tt
 
 same_point : (f g : Option (List ℕ)) (s t : List ℕ) → IsFraction f → IsFraction g → BeginsOtherwise s → BeginsOtherwise t
-    → (f ≡ None → begins_with is_point s ≡ false) → (g ≡ None → begins_with is_point t ≡ false) → point f ++ s ≡ point g ++ t → (f ≡ g) × (s ≡ t)
+    → (f ≡ None → (after : List ℕ) → s ≡ 46 ∷ after → BeginsOtherwise after) → (g ≡ None → (after : List ℕ) → t ≡ 46 ∷ after → BeginsOtherwise after) → point f ++ s ≡ point g ++ t → (f ≡ g) × (s ≡ t)
 same_point None None s t a b os ot ps pt e = (refl, e)
-same_point None (Some b) s t x y os ot ps pt e = absurd (point_first s (b ++ t) (ps refl) e)
-same_point (Some a) None s t x y os ot ps pt e = absurd (point_first t (a ++ s) (pt refl) (sym e))
+same_point None (Some b) s t x y os ot ps pt e = absurd (no_digit_first b t (b ++ t) y (ps refl (b ++ t) e) refl)
+same_point (Some a) None s t x y os ot ps pt e = absurd (no_digit_first a s (a ++ s) x (pt refl (a ++ s) (sym e)) refl)
 same_point (Some a) (Some b) s t x y os ot ps pt e =
     let tail : a ++ s ≡ b ++ t = cc in
     let r = same_front a b s t x.1 y.1 os ot tail in
@@ -85,16 +82,12 @@ parts_of text d rest h = h.parts ∙ append_assoc (sign d.negative) (d.whole ++ 
 pub one_number : (text : List ℕ) (d e : Decimal) (s t : List ℕ) → IsNumber text d s → IsNumber text e t → (d ≡ e) × (s ≡ t)
 one_number text d e s t h k =
     let r = same_signed d.negative e.negative d.whole e.whole (point d.fraction ++ s) (point e.fraction ++ t) h.decimal.whole k.decimal.whole
-    (behind_whole d.fraction s h.longest) (behind_whole e.fraction t k.longest) (sym (parts_of text d s h) ∙ parts_of text e t k) in
-    let q = same_point d.fraction e.fraction s t h.decimal.fraction k.decimal.fraction h.longest k.longest h.no_point k.no_point r.2 in
+    (after_whole d.fraction s h.longest) (after_whole e.fraction t k.longest) (sym (parts_of text d s h) ∙ parts_of text e t k) in
+    let q = same_point d.fraction e.fraction s t h.decimal.fraction k.decimal.fraction h.longest k.longest h.lone_point k.lone_point r.2 in
     let f : Bool → Decimal = λ x. record { negative = x; whole = d.whole; fraction = d.fraction } in
     let g : List ℕ → Decimal = λ x. record { negative = e.negative; whole = x; fraction = d.fraction } in
     let l : Option (List ℕ) → Decimal = λ x. record { negative = e.negative; whole = e.whole; fraction = x } in
     (ap f r.0 ∙ (ap g r.1 ∙ ap l q.0), q.1)
-
-lone_point : (f : Option (List ℕ)) (rest behind : List ℕ) → IsFraction f → (f ≡ None → begins_with is_point rest ≡ false) → BeginsOtherwise behind → point f ++ rest ≡ 46 ∷ behind → ⊥
-lone_point None rest behind form none other e = point_first rest behind (none refl) e
-lone_point (Some a) rest behind form none other e = let tail : a ++ rest ≡ behind = cc in no_digit_first a rest behind form other tail
 
 no_digit_here : (m n : Bool) (v x place : List ℕ) → IsDigits v → BeginsOtherwise place → (n ≡ false → begins_with is_minus place ≡ false) → sign m ++ (v ++ x) ≡ sign n ++ place → ⊥
 no_digit_here true true v x place d o none e = let tail : v ++ x ≡ place = cc in no_digit_first v x place d o tail
@@ -102,37 +95,26 @@ no_digit_here false false v x place d o none e = no_digit_first v x place d o e
 no_digit_here true false v x place d o none e = let bad : false ≡ true = sym (none refl) ∙ ap (λ (s : List ℕ). begins_with is_minus s) (sym e) in cc
 no_digit_here false true v x place d o none e = no_minus v place x d (sym e)
 
-other_place : (place behind : List ℕ) → place ≡ 46 ∷ behind → BeginsOtherwise place
-other_place place behind e = subst (λ (s : List ℕ). BeginsOtherwise s) (sym e) (lit≤ tt)
-
 pub number_or_not : (text : List ℕ) (d : Decimal) (rest : List ℕ) (cause : QlCause) (at : List ℕ) → IsNumber text d rest → IsNoNumber text cause at → ⊥
-number_or_not text d rest cause at h (NoDigit negative parts other plain misfit) =
-    no_digit_here d.negative negative d.whole (point d.fraction ++ rest) at h.decimal.whole other plain (sym (parts_of text d rest h) ∙ parts)
-number_or_not text d rest cause at h (NoFraction negative whole behind digits parts place other is) =
-    let r = same_signed d.negative negative d.whole whole (point d.fraction ++ rest) at h.decimal.whole digits (behind_whole d.fraction rest h.longest) (other_place at behind place) (sym (parts_of text d rest h) ∙ parts) in
-    lone_point d.fraction rest behind h.decimal.fraction h.no_point other (r.2 ∙ place)
+number_or_not text d rest cause at h k =
+    no_digit_here d.negative k.negative d.whole (point d.fraction ++ rest) at h.decimal.whole k.no_digit k.no_minus (sym (parts_of text d rest h) ∙ k.parts)
 
 -- one fault at most
-pub one_no_name : (dot behind : List ℕ) (c d : QlCause) (p q : List ℕ) → IsNoName dot behind c p → IsNoName dot behind d q → (c ≡ d) × (p ≡ q)
+pub one_no_name : (dot after : List ℕ) (c d : QlCause) (p q : List ℕ) → IsNoName dot after c p → IsNoName dot after d q → (c ≡ d) × (p ≡ q)
 one_no_name dot [] c d p q h k = (h.1.0 ∙ sym k.1.0, h.1.1 ∙ sym k.1.1)
-one_no_name dot (b ∷ behind) c d p q h k = (h.1.0 ∙ sym k.1.0, h.1.1 ∙ sym k.1.1)
+one_no_name dot (b ∷ after) c d p q h k = (h.1.0 ∙ sym k.1.0, h.1.1 ∙ sym k.1.1)
 
 same_misfit : (place : List ℕ) (c d : QlCause) → IsMisfit place c → IsMisfit place d → c ≡ d
 same_misfit [] c d h k = h ∙ sym k
 same_misfit (b ∷ place) c d h k = h ∙ sym k
 
-behind_sign : (m n : Bool) (p q : List ℕ) → (m ≡ false → begins_with is_minus p ≡ false) → (n ≡ false → begins_with is_minus q ≡ false) → sign m ++ p ≡ sign n ++ q → p ≡ q
-behind_sign true true p q mp nq e = cc
-behind_sign false false p q mp nq e = e
-behind_sign true false p q mp nq e = let bad : false ≡ true = sym (nq refl) ∙ ap (λ (s : List ℕ). begins_with is_minus s) (sym e) in cc
-behind_sign false true p q mp nq e = let bad : false ≡ true = sym (mp refl) ∙ ap (λ (s : List ℕ). begins_with is_minus s) e in cc
+after_sign : (m n : Bool) (p q : List ℕ) → (m ≡ false → begins_with is_minus p ≡ false) → (n ≡ false → begins_with is_minus q ≡ false) → sign m ++ p ≡ sign n ++ q → p ≡ q
+after_sign true true p q mp nq e = cc
+after_sign false false p q mp nq e = e
+after_sign true false p q mp nq e = let bad : false ≡ true = sym (nq refl) ∙ ap (λ (s : List ℕ). begins_with is_minus s) (sym e) in cc
+after_sign false true p q mp nq e = let bad : false ≡ true = sym (mp refl) ∙ ap (λ (s : List ℕ). begins_with is_minus s) e in cc
 
 pub one_no_number : (text : List ℕ) (c d : QlCause) (p q : List ℕ) → IsNoNumber text c p → IsNoNumber text d q → (c ≡ d) × (p ≡ q)
-one_no_number text c d p q (NoDigit m parts other plain misfit) (NoDigit n pieces else bare wrong) =
-    let same = behind_sign m n p q plain bare (sym parts ∙ pieces) in
-    (same_misfit p c d misfit (subst (λ (s : List ℕ). IsMisfit s d) (sym same) wrong), same)
-one_no_number text c d p q (NoDigit m parts other plain misfit) (NoFraction n whole behind digits pieces place else is) = absurd (no_digit_here n m whole q p digits other plain (sym pieces ∙ parts))
-one_no_number text c d p q (NoFraction m whole behind digits parts place other is) (NoDigit n pieces else bare wrong) = absurd (no_digit_here m n whole p q digits else bare (sym parts ∙ pieces))
-one_no_number text c d p q (NoFraction m whole behind digits parts place other is) (NoFraction n all more figures pieces spot else it) =
-    let r = same_signed m n whole all p q digits figures (other_place p behind place) (other_place q more spot) (sym parts ∙ pieces) in
-    (is ∙ sym it, r.2)
+one_no_number text c d p q h k =
+    let same = after_sign h.negative k.negative p q h.no_minus k.no_minus (sym h.parts ∙ k.parts) in
+    (same_misfit p c d h.misfit (subst (λ (s : List ℕ). IsMisfit s d) (sym same) k.misfit), same)

@@ -3,19 +3,19 @@ use Rattle.std.proofs.Common.{◌≡◌, Option, None, Some, subst, ℕ, ◌≤�
 use Rattle.osm_model.specs.Degrees.{Decimal, IsDigits, sign, point, spelling}
 use Rattle.ql_syntax.specs.Gaps.{Between}
 use Rattle.ql_syntax.specs.Numbers.{IsNumber}
-use Rattle.ql_syntax.specs.Points.{Next, Word, Number, next_token, unexpected, run_here, word_at, number_here, number_at, name_behind}
+use Rattle.ql_syntax.specs.TokenRules.{Next, Word, Number, next_token, unexpected, run_here, word_at, number_here, number_at, name_after}
 use Rattle.ql_syntax.specs.Rules.{Rule, ◌>>=◌, give, refuse, from, choose, by_case, repeat, Round, RoundsRead}
 use Rattle.ql_syntax.specs.Rules as rounds
-use Rattle.ql_syntax.specs.Signs.{sign_of, len_of}
+use Rattle.ql_syntax.specs.TokenKinds.{token_kind_at, punctuation_len}
 use Rattle.ql_syntax.specs.declared.cause.QlCause.{QlCause}
-use Rattle.ql_syntax.specs.declared.sign.Sign.{Sign}
-use Rattle.ql_syntax.specs.declared.sign.Sign.TheVariants as signs
-use Rattle.ql_syntax.proofs.Lengths.{Within, Shorter, gap_within, behind_sign}
+use Rattle.ql_syntax.specs.declared.token_kind.TokenKind.{TokenKind}
+use Rattle.ql_syntax.specs.declared.token_kind.TokenKind.TheVariants as kinds
+use Rattle.ql_syntax.proofs.Lengths.{Within, Shorter, gap_within, after_punctuation}
 use Rattle.ql_syntax.proofs.WordStarts.{word_shorter}
 
--- behind this token, the rule leaves less than the text from the token on, where it gives such a value
+-- after this token, the rule leaves less than the text from the token on, where it gives such a value
 pub record Strictly {A : Type 0} (IsSuch : A → Type 0) (next : Next) (rule : Rule A) : Type 0 where
-  pub below : (text : List ℕ) (value : A) (rest : List ℕ) → next.sign ≡ sign_of next.place → text ≡ drop (len_of next.sign) next.place → IsSuch value → rule.reads text value rest → length rest < length next.place
+  pub below : (text : List ℕ) (value : A) (rest : List ℕ) → next.kind ≡ token_kind_at next.place → text ≡ drop (punctuation_len next.kind) next.place → IsSuch value → rule.reads text value rest → length rest < length next.place
 
 -- from a text on, it leaves a shorter one where it gives such a value
 pub record ShorterWhere {A : Type 0} (IsSuch : A → Type 0) (rule : Rule A) : Type 0 where
@@ -27,7 +27,7 @@ module _ {A : Type 0} {IsSuch : A → Type 0} {next : Next} where
     below = λ text value rest is start such reads.
         let h = s.below text value rest reads in
         let n = ap (λ (x : List ℕ). length x) start in
-        omega (arith, length-drop (len_of next.sign) next.place);
+        omega (arith, length-drop (punctuation_len next.kind) next.place);
   }
 
   pub strict_refuse : (cause : QlCause) (place : List ℕ) → Strictly IsSuch next (refuse {A = A} cause place)
@@ -55,14 +55,14 @@ module _ {A : Type 0} {IsSuch : A → Type 0} {next : Next} where
   unfolding by_case
   strict_case k rule each = each k
 
-  -- behind punctuation
-  pub strict_sign : (sign : Sign) → 1 ≤ len_of sign → {first other : Rule A} → ((start : List ℕ) → Within start first) → Strictly IsSuch next other → Strictly IsSuch next (choose (next.sign ≡ sign) first other)
+  -- after punctuation
+  pub strict_punctuation : (kind : TokenKind) → 1 ≤ punctuation_len kind → {first other : Rule A} → ((start : List ℕ) → Within start first) → Strictly IsSuch next other → Strictly IsSuch next (choose (next.kind ≡ kind) first other)
   unfolding choose
-  strict_sign sign some f o = record {
+  strict_punctuation kind some f o = record {
     below = λ text value rest is start such reads. elim reads [
       | inl r ↦ (
-          let l = ap len_of r.0 in
-          let b = behind_sign next.sign next.place (omega arith) is in
+          let l = ap punctuation_len r.0 in
+          let b = after_punctuation next.kind next.place (omega arith) is in
           let n = ap (λ (x : List ℕ). length x) start in
           let h = (f text).at_most text value rest (omega arith) r.1 in
           omega arith)
@@ -70,17 +70,17 @@ module _ {A : Type 0} {IsSuch : A → Type 0} {next : Next} where
     ];
   }
 
-  -- behind a word
+  -- after a word
   pub strict_word : (second : Word → Rule A) {other : Rule A} → ((word : Word) (start : List ℕ) → Within start (second word)) → Strictly IsSuch next other
-      → Strictly IsSuch next (choose (next.sign ≡ signs.Word) (word_at next >>= second) other)
+      → Strictly IsSuch next (choose (next.kind ≡ kinds.Word) (word_at next >>= second) other)
   unfolding choose ◌>>=◌ word_at run_here give
   strict_word second w o = record {
     below = λ text value rest is start such reads. elim reads [
       | inl r ↦ (
-          let len : len_of next.sign ≡ 0 = ap len_of r.0 in
+          let len : punctuation_len next.kind ≡ 0 = ap punctuation_len r.0 in
           let here : text ≡ next.place = start ∙ ap (λ (n : ℕ). drop n next.place) len in
           let run = r.1.front_reads.front_reads in
-          let short = word_shorter text _ _ (sym r.0 ∙ is ∙ ap sign_of (sym here)) run in
+          let short = word_shorter text _ _ (sym r.0 ∙ is ∙ ap token_kind_at (sym here)) run in
           let left = ap (λ (x : List ℕ). length x) r.1.front_reads.back_reads.1 in
           let more = (w r.1.front r.1.middle).at_most r.1.middle value rest (omega arith) r.1.back_reads in
           let same = ap (λ (x : List ℕ). length x) here in
@@ -99,7 +99,7 @@ number_shorter place n rest is =
     let some = digits_some n.whole is.decimal.whole in
     omega (arith, length-append (spelling n) rest, length-append (sign n.negative) (n.whole ++ point n.fraction), length-append n.whole (point n.fraction))
 
--- behind a number
+-- after a number
 pub strict_number : {A : Type 0} {IsSuch : A → Type 0} {next : Next} (second : Number → Rule A) → ((number : Number) (start : List ℕ) → Within start (second number)) → Strictly IsSuch next (number_at next >>= second)
 unfolding ◌>>=◌ number_at number_here from give
 strict_number {next = next} second w = record {
@@ -116,8 +116,8 @@ unfolding ◌>>=◌ next_token
 where_next IsSuch second s = record {
   below = λ text value rest such reads.
       let at = reads.front_reads in
-      let g = gap_within Between text reads.front.place at.behind_gap in
-      let h = (s reads.front).below reads.middle value rest at.sign_is at.rest_is such reads.back_reads in
+      let g = gap_within Between text reads.front.place at.after_gap in
+      let h = (s reads.front).below reads.middle value rest at.kind_is at.rest_is such reads.back_reads in
       omega arith;
 }
 
@@ -127,8 +127,8 @@ IsAny value = Unit {0}
 pub shorter_next : {A : Type 0} (second : Next → Rule A) → ((next : Next) → Strictly IsAny next (second next)) → Shorter (next_token >>= second)
 shorter_next second s = record { below = λ text value rest reads. (where_next IsAny second s).below text value rest tt reads }
 
-pub within_name : {start : List ℕ} (dot : Next) → Within start (name_behind dot)
-unfolding name_behind
+pub within_name : {start : List ℕ} (dot : Next) → Within start (name_after dot)
+unfolding name_after
 within_name dot = record { at_most = λ text name rest le reads. let n = ap (λ (x : List ℕ). length x) reads.run.parts in omega (arith, length-append name rest) }
 
 -- rounds

@@ -1,6 +1,6 @@
 -- Rules that read each text or stop at it.
 use Rattle.std.proofs.Common.{ℕ, zero, suc, ◌<◌, List, Option, None, Some, length, arith, refl, ap, subst, inl, inr, ◌⊎◌}
-use Rattle.ql_syntax.specs.Points.{Next, unexpected}
+use Rattle.ql_syntax.specs.TokenRules.{Next, unexpected}
 use Rattle.ql_syntax.specs.Rules.{Rule, ◌>>=◌, First, Second, give, refuse, from, choose, by_case, repeat, Round, More, Done, RoundsRead, RoundsStop, Last, Here, Later, gather, gather_round, gathered}
 use Rattle.ql_syntax.specs.Rules as rounds
 use Rattle.ql_syntax.specs.declared.cause.QlCause.{QlCause}
@@ -35,14 +35,14 @@ pub total_from : {A : Type 0} {rule : Rule A} (start : List ℕ) → Outcome rul
 total_from start o = record { at = λ text. moved start text o }
 
 module _ {A B : Type 0} (first : Rule A) (second : A → Rule B) where
-  behind : (text : List ℕ) (a : A) (m : List ℕ) → first.reads text a m → Outcome (second a) m → Outcome (first >>= second) text
+  after : (text : List ℕ) (a : A) (m : List ℕ) → first.reads text a m → Outcome (second a) m → Outcome (first >>= second) text
   unfolding ◌>>=◌
-  behind text a m x (AsRead v r reads) = AsRead v r (record { front = a; middle = m; front_reads = x; back_reads = reads })
-  behind text a m x (AsStop c p stops) = AsStop c p (Second a m x stops)
+  after text a m x (AsRead v r reads) = AsRead v r (record { front = a; middle = m; front_reads = x; back_reads = reads })
+  after text a m x (AsStop c p stops) = AsStop c p (Second a m x stops)
 
   both : (text : List ℕ) → ((a : A) → Total (second a)) → Outcome first text → Outcome (first >>= second) text
   unfolding ◌>>=◌
-  both text s (AsRead a m x) = behind text a m x ((s a).at m)
+  both text s (AsRead a m x) = after text a m x ((s a).at m)
   both text s (AsStop c p stops) = AsStop c p (First stops)
 
 pub total_then : {A B : Type 0} {first : Rule A} (second : A → Rule B) → Total first → ((a : A) → Total (second a)) → Total (first >>= second)

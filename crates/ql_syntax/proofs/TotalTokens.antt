@@ -1,5 +1,5 @@
 -- Each text begins with a token, or stops.
-use Rattle.std.proofs.Common.{◌≡◌, ℕ, zero, suc, ◌==◌, ◌≤◌, ◌<◌, List, [], ◌∷◌, ◌++◌, drop, Bool, true, false, None, Some, arith, refl, sym, ◌∙◌, ap, subst, inl, inr, ◌⊎◌, ◌&&◌, append_assoc}
+use Rattle.std.proofs.Common.{◌≡◌, ℕ, zero, suc, ◌==◌, ◌≤◌, ◌<◌, List, [], ◌∷◌, ◌++◌, drop, Bool, true, false, None, Some, arith, refl, sym, ◌∙◌, ap, subst, inl, inr, ◌⊎◌, ◌&&◌, append_assoc, lit≤}
 use Rattle.std.proofs.lemmas.Bool.{cases_lt}
 use Rattle.std.proofs.lemmas.Bool.Decides.{nat_tests}
 use Rattle.std.proofs.lemmas.List.{append-nil}
@@ -9,81 +9,81 @@ use Rattle.ql_syntax.proofs.WordStarts.{a_word_byte}
 use Rattle.std.specs.Char.{digit_value}
 use Rattle.std.specs.List.{list_all}
 use Rattle.osm_model.specs.Degrees.{IsDigits, BeginsOtherwise, sign, point}
-use Rattle.ql_syntax.specs.Gaps.{GapEnd, Behind, Open, gap, Between}
-use Rattle.ql_syntax.specs.Numbers.{IsNoNumber, IsMisfit, NoDigit, NoFraction, is_minus, is_point}
-use Rattle.ql_syntax.specs.Points.{Next, next_token, pass, run_here, word_at, a_word, number_here, number_at, a_number, name_behind, a_name, into}
-use Rattle.ql_syntax.specs.Signs.{sign_of, len_of}
+use Rattle.ql_syntax.specs.Gaps.{GapEnd, After, Open, gap, Between}
+use Rattle.ql_syntax.specs.Numbers.{IsNoNumber, IsMisfit, is_minus}
+use Rattle.ql_syntax.specs.TokenRules.{Next, next_token, pass, run_here, word_at, a_word, number_here, number_at, a_number, name_after, a_name, into}
+use Rattle.ql_syntax.specs.TokenKinds.{token_kind_at, punctuation_len}
 use Rattle.ql_syntax.specs.Words.{IsRun, begins_with, is_run_byte, is_word_start}
 use Rattle.ql_syntax.specs.declared.cause.QlCause.TheVariants as causes
-use Rattle.ql_syntax.specs.declared.sign.Sign.{Sign}
-use Rattle.ql_syntax.specs.declared.sign.Sign.TheVariants as signs
+use Rattle.ql_syntax.specs.declared.token_kind.TokenKind.{TokenKind}
+use Rattle.ql_syntax.specs.declared.token_kind.TokenKind.TheVariants as kinds
 use Rattle.ql_syntax.proofs.TotalLemmas.{Outcome, AsRead, AsStop, Total, total_give, total_unexpected, total_from, total_then, total_choose}
 
 -- punctuation is one or another
-number_of : Sign → ℕ
-number_of signs.End = 0
-number_of signs.Word = 1
-number_of signs.Number = 2
-number_of signs.Quote = 3
-number_of signs.OpenBracket = 4
-number_of signs.CloseBracket = 5
-number_of signs.OpenParenthesis = 6
-number_of signs.CloseParenthesis = 7
-number_of signs.Semicolon = 8
-number_of signs.Comma = 9
-number_of signs.Colon = 10
-number_of signs.Equal = 11
-number_of signs.NotEqual = 12
-number_of signs.NotTilde = 13
-number_of signs.Not = 14
-number_of signs.Tilde = 15
-number_of signs.Dot = 16
-number_of signs.Minus = 17
-number_of signs.Arrow = 18
-number_of signs.Down = 19
-number_of signs.DownAll = 20
-number_of signs.Up = 21
-number_of signs.UpAll = 22
-number_of signs.Other = 23
+number_of : TokenKind → ℕ
+number_of kinds.End = 0
+number_of kinds.Word = 1
+number_of kinds.Number = 2
+number_of kinds.Quote = 3
+number_of kinds.OpenBracket = 4
+number_of kinds.CloseBracket = 5
+number_of kinds.OpenParenthesis = 6
+number_of kinds.CloseParenthesis = 7
+number_of kinds.Semicolon = 8
+number_of kinds.Comma = 9
+number_of kinds.Colon = 10
+number_of kinds.Equal = 11
+number_of kinds.NotEqual = 12
+number_of kinds.NotTilde = 13
+number_of kinds.Not = 14
+number_of kinds.Tilde = 15
+number_of kinds.Dot = 16
+number_of kinds.Minus = 17
+number_of kinds.Arrow = 18
+number_of kinds.Down = 19
+number_of kinds.DownAll = 20
+number_of kinds.Up = 21
+number_of kinds.UpAll = 22
+number_of kinds.Other = 23
 
-signs_in_order : List Sign
-signs_in_order = signs.End ∷ signs.Word ∷ signs.Number ∷ signs.Quote ∷ signs.OpenBracket ∷ signs.CloseBracket ∷ signs.OpenParenthesis ∷ signs.CloseParenthesis ∷ signs.Semicolon ∷ signs.Comma ∷ signs.Colon ∷ signs.Equal ∷ signs.NotEqual ∷ signs.NotTilde ∷ signs.Not ∷ signs.Tilde ∷ signs.Dot ∷ signs.Minus ∷ signs.Arrow ∷ signs.Down ∷ signs.DownAll ∷ signs.Up ∷ signs.UpAll ∷ signs.Other ∷ []
+kinds_in_order : List TokenKind
+kinds_in_order = kinds.End ∷ kinds.Word ∷ kinds.Number ∷ kinds.Quote ∷ kinds.OpenBracket ∷ kinds.CloseBracket ∷ kinds.OpenParenthesis ∷ kinds.CloseParenthesis ∷ kinds.Semicolon ∷ kinds.Comma ∷ kinds.Colon ∷ kinds.Equal ∷ kinds.NotEqual ∷ kinds.NotTilde ∷ kinds.Not ∷ kinds.Tilde ∷ kinds.Dot ∷ kinds.Minus ∷ kinds.Arrow ∷ kinds.Down ∷ kinds.DownAll ∷ kinds.Up ∷ kinds.UpAll ∷ kinds.Other ∷ []
 
-first_or_end : List Sign → Sign
-first_or_end [] = signs.End
+first_or_end : List TokenKind → TokenKind
+first_or_end [] = kinds.End
 first_or_end (s ∷ rest) = s
 
-sign_at : ℕ → List Sign → Sign
-sign_at n [] = signs.End
-sign_at zero (s ∷ rest) = s
-sign_at (suc n) (s ∷ rest) = sign_at n rest
+token_kind_from : ℕ → List TokenKind → TokenKind
+token_kind_from n [] = kinds.End
+token_kind_from zero (s ∷ rest) = s
+token_kind_from (suc n) (s ∷ rest) = token_kind_from n rest
 
-same_again : (s : Sign) → sign_at (number_of s) signs_in_order ≡ s
-unfolding number_of sign_at signs_in_order
-same_again signs.End = refl
-same_again signs.Word = refl
-same_again signs.Number = refl
-same_again signs.Quote = refl
-same_again signs.OpenBracket = refl
-same_again signs.CloseBracket = refl
-same_again signs.OpenParenthesis = refl
-same_again signs.CloseParenthesis = refl
-same_again signs.Semicolon = refl
-same_again signs.Comma = refl
-same_again signs.Colon = refl
-same_again signs.Equal = refl
-same_again signs.NotEqual = refl
-same_again signs.NotTilde = refl
-same_again signs.Not = refl
-same_again signs.Tilde = refl
-same_again signs.Dot = refl
-same_again signs.Minus = refl
-same_again signs.Arrow = refl
-same_again signs.Down = refl
-same_again signs.DownAll = refl
-same_again signs.Up = refl
-same_again signs.UpAll = refl
-same_again signs.Other = refl
+same_again : (s : TokenKind) → token_kind_from (number_of s) kinds_in_order ≡ s
+unfolding number_of token_kind_from kinds_in_order
+same_again kinds.End = refl
+same_again kinds.Word = refl
+same_again kinds.Number = refl
+same_again kinds.Quote = refl
+same_again kinds.OpenBracket = refl
+same_again kinds.CloseBracket = refl
+same_again kinds.OpenParenthesis = refl
+same_again kinds.CloseParenthesis = refl
+same_again kinds.Semicolon = refl
+same_again kinds.Comma = refl
+same_again kinds.Colon = refl
+same_again kinds.Equal = refl
+same_again kinds.NotEqual = refl
+same_again kinds.NotTilde = refl
+same_again kinds.Not = refl
+same_again kinds.Tilde = refl
+same_again kinds.Dot = refl
+same_again kinds.Minus = refl
+same_again kinds.Arrow = refl
+same_again kinds.Down = refl
+same_again kinds.DownAll = refl
+same_again kinds.Up = refl
+same_again kinds.UpAll = refl
+same_again kinds.Other = refl
 
 pub same_number : (a b : ℕ) → (a ≡ b) ⊎ (a ≡ b → ⊥)
 same_number a b = elim (cases_lt a b) [
@@ -91,9 +91,9 @@ same_number a b = elim (cases_lt a b) [
   | inr more ↦ elim (cases_lt b a) [ inl less ↦ inr (λ e. omega arith) | inr same ↦ inl (omega arith) ]
 ]
 
-pub is_sign : (a b : Sign) → (a ≡ b) ⊎ (a ≡ b → ⊥)
-is_sign a b = elim (same_number (number_of a) (number_of b)) [
-  | inl e ↦ inl (sym (same_again a) ∙ ap (λ (n : ℕ). sign_at n signs_in_order) e ∙ same_again b)
+pub is_kind : (a b : TokenKind) → (a ≡ b) ⊎ (a ≡ b → ⊥)
+is_kind a b = elim (same_number (number_of a) (number_of b)) [
+  | inl e ↦ inl (sym (same_again a) ∙ ap (λ (n : ℕ). token_kind_from n kinds_in_order) e ∙ same_again b)
   | inr not ↦ inr (λ e. not (ap number_of e))
 ]
 
@@ -107,7 +107,7 @@ is_true false = inr (λ e. let bad : false ≡ true = e in cc)
 -- what comes next
 token_at : (text : List ℕ) (end : GapEnd) → gap Between text ≡ end → Outcome next_token text
 unfolding next_token
-token_at text (Behind place) e = AsRead (record { sign = sign_of place; place = place }) (drop (len_of (sign_of place)) place) (record { behind_gap = e; sign_is = refl; rest_is = refl })
+token_at text (After place) e = AsRead (record { kind = token_kind_at place; place = place }) (drop (punctuation_len (token_kind_at place)) place) (record { after_gap = e; kind_is = refl; rest_is = refl })
 token_at text (Open at) e = AsStop causes.Unclosed at (refl, e)
 
 pub total_token : Total next_token
@@ -139,18 +139,18 @@ pub total_run : Total run_here
 unfolding run_here
 total_run = record { at = λ text. let found = run_at text in AsRead found.run found.rest found.is }
 
-name_from : (dot : Next) (b : ℕ) (s : List ℕ) (test : Bool) → is_word_start b ≡ test → Outcome (name_behind dot) (b ∷ s)
-unfolding name_behind
+name_from : (dot : Next) (b : ℕ) (s : List ℕ) (test : Bool) → is_word_start b ≡ test → Outcome (name_after dot) (b ∷ s)
+unfolding name_after
 name_from dot b s true e = let found = run_at s in AsRead (b ∷ found.run) found.rest (record { run = longer b s found.run found.rest (a_word_byte b e) found.is; start = e })
 name_from dot b s false e = AsStop causes.UnexpectedCharacter dot.place (e, (refl, refl))
 
-name_at : (dot : Next) (text : List ℕ) → Outcome (name_behind dot) text
-unfolding name_behind
+name_at : (dot : Next) (text : List ℕ) → Outcome (name_after dot) text
+unfolding name_after
 name_at dot [] = AsStop causes.UnexpectedEnd [] (refl, (refl, refl))
 name_at dot (b ∷ s) = name_from dot b s (is_word_start b) refl
 
-pub total_name_behind : (dot : Next) → Total (name_behind dot)
-total_name_behind dot = record { at = name_at dot }
+pub total_name_after : (dot : Next) → Total (name_after dot)
+total_name_after dot = record { at = name_at dot }
 
 -- digits, as many as there are
 pub record SomeDigits (radix : ℕ) (text : List ℕ) : Type 0 where
@@ -181,46 +181,52 @@ misfit_at [] text stops = AsStop causes.UnexpectedEnd [] (stops causes.Unexpecte
 misfit_at (b ∷ s) text stops = AsStop causes.UnexpectedCharacter (b ∷ s) (stops causes.UnexpectedCharacter refl)
 
 module _ (text unsigned : List ℕ) (negative : Bool) (parts : text ≡ sign negative ++ unsigned) (plain : negative ≡ false → begins_with is_minus unsigned ≡ false) where
-  with_fraction : (whole behind digits rest : List ℕ) → IsDigits whole → unsigned ≡ whole ++ (46 ∷ behind) → behind ≡ digits ++ rest → IsDigits digits → BeginsOtherwise rest → Outcome number_here text
+  with_fraction : (whole after digits rest : List ℕ) → IsDigits whole → unsigned ≡ whole ++ (46 ∷ after) → after ≡ digits ++ rest → IsDigits digits → BeginsOtherwise rest → Outcome number_here text
   unfolding number_here
-  with_fraction whole behind digits rest all is split some stop =
+  with_fraction whole after digits rest all is split some stop =
       AsRead (record { negative = negative; whole = whole; fraction = Some digits }) rest (record {
         decimal = record { whole = all; fraction = some };
         parts = parts ∙ ap (λ (x : List ℕ). sign negative ++ x) (is ∙ ap (λ (x : List ℕ). whole ++ 46 ∷ x) split ∙ sym (append_assoc whole (46 ∷ digits) rest)) ∙ sym (append_assoc (sign negative) (whole ++ 46 ∷ digits) rest);
         longest = stop;
-        no_point = λ e. (absurd (cc));
+        lone_point = λ e later f. (absurd (cc));
       })
 
-  behind_point : (whole behind : List ℕ) → IsDigits whole → unsigned ≡ whole ++ (46 ∷ behind) → (found : SomeDigits 10 behind) → (ds : List ℕ) → found.digits ≡ ds → Outcome number_here text
-  unfolding number_here
-  behind_point whole behind all is found [] none =
-      AsStop causes.UnexpectedCharacter (46 ∷ behind) (NoFraction negative whole behind all (parts ∙ ap (λ (x : List ℕ). sign negative ++ x) is) refl
-      (begins_otherwise behind (λ b s e. found.stop b s (sym (found.parts ∙ ap (λ (x : List ℕ). x ++ found.rest) none) ∙ e))) refl)
-  behind_point whole behind all is found (d ∷ ds) some =
-      with_fraction whole behind found.digits found.rest all is found.parts ((λ e. (let bad : d ∷ ds ≡ [] = sym some ∙ e in cc)), found.each) (begins_otherwise found.rest found.stop)
-
-  no_fraction : (whole rest : List ℕ) → IsDigits whole → unsigned ≡ whole ++ rest → BeginsOtherwise rest → begins_with is_point rest ≡ false → Outcome number_here text
+  no_fraction : (whole rest : List ℕ) → IsDigits whole → unsigned ≡ whole ++ rest → BeginsOtherwise rest → ((later : List ℕ) → rest ≡ 46 ∷ later → BeginsOtherwise later) → Outcome number_here text
   unfolding number_here
   no_fraction whole rest all is stop none =
       AsRead (record { negative = negative; whole = whole; fraction = None }) rest (record {
         decimal = record { whole = all; fraction = tt };
         parts = parts ∙ ap (λ (x : List ℕ). sign negative ++ x) (is ∙ ap (λ (x : List ℕ). x ++ rest) (sym (append-nil whole))) ∙ sym (append_assoc (sign negative) (whole ++ []) rest);
         longest = stop;
-        no_point = λ e. none;
+        lone_point = λ e. none;
       })
 
-  behind_whole : (whole rest : List ℕ) → IsDigits whole → unsigned ≡ whole ++ rest → BeginsOtherwise rest → Outcome number_here text
-  behind_whole whole [] all is stop = no_fraction whole [] all is stop refl
-  behind_whole whole (b ∷ s) all is stop = elim (same_number b 46) [
-    | inl point ↦ behind_point whole s all (is ∙ ap (λ (x : ℕ). whole ++ x ∷ s) point) (digits_at 10 s) (digits_at 10 s).digits refl
-    | inr other ↦ no_fraction whole (b ∷ s) all is stop (not_equal b 46 other)
+  after_point : (whole after : List ℕ) → IsDigits whole → unsigned ≡ whole ++ (46 ∷ after) → (found : SomeDigits 10 after) → (ds : List ℕ) → found.digits ≡ ds → Outcome number_here text
+  after_point whole after all is found [] none =
+      no_fraction whole (46 ∷ after) all is (lit≤ tt)
+      (λ later e. (let same : after ≡ later = cc in
+      subst (λ (x : List ℕ). BeginsOtherwise x) same (begins_otherwise after (λ b s f. found.stop b s (sym (found.parts ∙ ap (λ (x : List ℕ). x ++ found.rest) none) ∙ f)))))
+  after_point whole after all is found (d ∷ ds) some =
+      with_fraction whole after found.digits found.rest all is found.parts ((λ e. (let bad : d ∷ ds ≡ [] = sym some ∙ e in cc)), found.each) (begins_otherwise found.rest found.stop)
+
+  after_whole : (whole rest : List ℕ) → IsDigits whole → unsigned ≡ whole ++ rest → BeginsOtherwise rest → Outcome number_here text
+  after_whole whole [] all is stop = no_fraction whole [] all is stop (λ later e. absurd (cc))
+  after_whole whole (b ∷ s) all is stop = elim (same_number b 46) [
+    | inl point ↦ after_point whole s all (is ∙ ap (λ (x : ℕ). whole ++ x ∷ s) point) (digits_at 10 s) (digits_at 10 s).digits refl
+    | inr other ↦ no_fraction whole (b ∷ s) all is stop (λ later e. absurd (let same : b ≡ 46 = cc in other same))
   ]
 
   number_of_parts : (found : SomeDigits 10 unsigned) → (ds : List ℕ) → found.digits ≡ ds → Outcome number_here text
   number_of_parts found [] none =
-      misfit_at unsigned text (λ cause misfit. NoDigit negative parts (begins_otherwise unsigned (λ b s e. found.stop b s (sym (found.parts ∙ ap (λ (x : List ℕ). x ++ found.rest) none) ∙ e))) plain misfit)
+      misfit_at unsigned text (λ cause misfit. record {
+        negative = negative;
+        parts = parts;
+        no_digit = begins_otherwise unsigned (λ b s e. found.stop b s (sym (found.parts ∙ ap (λ (x : List ℕ). x ++ found.rest) none) ∙ e));
+        no_minus = plain;
+        misfit = misfit;
+      })
   number_of_parts found (d ∷ ds) some =
-      behind_whole found.digits found.rest ((λ e. (let bad : d ∷ ds ≡ [] = sym some ∙ e in cc)), found.each) found.parts (begins_otherwise found.rest found.stop)
+      after_whole found.digits found.rest ((λ e. (let bad : d ∷ ds ≡ [] = sym some ∙ e in cc)), found.each) found.parts (begins_otherwise found.rest found.stop)
 
 number_place : (text : List ℕ) → Outcome number_here text
 number_place [] = number_of_parts [] [] false refl (λ e. refl) (digits_at 10 []) (digits_at 10 []).digits refl
@@ -232,9 +238,9 @@ number_place (b ∷ s) = elim (same_number b 45) [
 pub total_number_here : Total number_here
 total_number_here = record { at = number_place }
 
-pub total_pass : (sign : Sign) → Total (pass sign)
+pub total_pass : (kind : TokenKind) → Total (pass kind)
 unfolding pass
-total_pass sign = total_then _ total_token (λ next. total_choose (is_sign _ _) (λ is. total_give tt) (total_unexpected next))
+total_pass kind = total_then _ total_token (λ next. total_choose (is_kind _ _) (λ is. total_give tt) (total_unexpected next))
 
 pub total_word_at : (next : Next) → Total (word_at next)
 unfolding word_at
@@ -242,7 +248,7 @@ total_word_at next = total_then _ total_run (λ word. total_give _)
 
 pub total_word : Total a_word
 unfolding a_word
-total_word = total_then _ total_token (λ next. total_choose (is_sign _ _) (λ is. total_word_at next) (total_unexpected next))
+total_word = total_then _ total_token (λ next. total_choose (is_kind _ _) (λ is. total_word_at next) (total_unexpected next))
 
 pub total_number_at : (next : Next) → Total (number_at next)
 unfolding number_at
@@ -254,9 +260,9 @@ total_number = total_then _ total_token (λ next. total_choose (is_true _) (λ i
 
 pub total_name : Total a_name
 unfolding a_name
-total_name = total_then _ total_token (λ next. total_choose (is_sign _ _) (λ is. total_name_behind next) (total_unexpected next))
+total_name = total_then _ total_token (λ next. total_choose (is_kind _ _) (λ is. total_name_after next) (total_unexpected next))
 
 pub total_into : Total into
 unfolding into
-total_into = total_then _ total_token (λ next. total_choose (is_sign _ _) (λ is. total_then _ total_name (λ name. total_then _ (total_pass signs.Semicolon) (λ end. total_give _)))
-    (total_choose (is_sign _ _) (λ is. total_give _) (total_unexpected next)))
+total_into = total_then _ total_token (λ next. total_choose (is_kind _ _) (λ is. total_then _ total_name (λ name. total_then _ (total_pass kinds.Semicolon) (λ end. total_give _)))
+    (total_choose (is_kind _ _) (λ is. total_give _) (total_unexpected next)))

@@ -4,45 +4,45 @@ use Rattle.std.proofs.Common.{◌≡◌, ℕ, ◌<◌, List, [], ◌∷◌, ◌=
 use Rattle.std.proofs.lemmas.Grind.{common_steps}
 use Rattle.std.specs.Char.{is_ascii_digit}
 use Rattle.ql_syntax.specs.QuotedTexts.{is_quote}
-use Rattle.ql_syntax.specs.Signs.{sign_of, single_sign, minus_sign, not_sign}
+use Rattle.ql_syntax.specs.TokenKinds.{token_kind_at, one_byte_kind, kind_after_minus, kind_after_not}
 use Rattle.ql_syntax.specs.Words.{IsRun, begins_with, is_word_start, is_run_byte}
-use Rattle.ql_syntax.specs.declared.sign.Sign.{Sign}
-use Rattle.ql_syntax.specs.declared.sign.Sign.TheVariants as signs
+use Rattle.ql_syntax.specs.declared.token_kind.TokenKind.{TokenKind}
+use Rattle.ql_syntax.specs.declared.token_kind.TokenKind.TheVariants as kinds
 
 -- of two tests the one that fails is not the sign of a word
-neither : (b : Bool) (x y : Sign) → (x ≡ signs.Word → ⊥) → (y ≡ signs.Word → ⊥) → cond b x y ≡ signs.Word → ⊥
+neither : (b : Bool) (x y : TokenKind) → (x ≡ kinds.Word → ⊥) → (y ≡ kinds.Word → ⊥) → cond b x y ≡ kinds.Word → ⊥
 neither true x y h k e = h e
 neither false x y h k e = k e
 
-no_single : (b : ℕ) → single_sign b ≡ signs.Word → ⊥
-no_single b = neither _ signs.OpenBracket _ (λ e. cc) (neither _ signs.CloseBracket _ (λ e. cc) (neither _ signs.OpenParenthesis _ (λ e. cc) (neither _ signs.CloseParenthesis _ (λ e. cc) (neither _ signs.Semicolon _ (λ e. cc) (neither _ signs.Comma _ (λ e. cc) (neither _ signs.Colon _ (λ e. cc) (neither _ signs.Equal _ (λ e. cc) (neither _ signs.Dot _ (λ e. cc) (neither _ signs.Tilde signs.Other (λ e. cc) (λ e. cc))))))))))
+no_single : (b : ℕ) → one_byte_kind b ≡ kinds.Word → ⊥
+no_single b = neither _ kinds.OpenBracket _ (λ e. cc) (neither _ kinds.CloseBracket _ (λ e. cc) (neither _ kinds.OpenParenthesis _ (λ e. cc) (neither _ kinds.CloseParenthesis _ (λ e. cc) (neither _ kinds.Semicolon _ (λ e. cc) (neither _ kinds.Comma _ (λ e. cc) (neither _ kinds.Colon _ (λ e. cc) (neither _ kinds.Equal _ (λ e. cc) (neither _ kinds.Dot _ (λ e. cc) (neither _ kinds.Tilde kinds.Other (λ e. cc) (λ e. cc))))))))))
 
-no_minus_sign : (s : List ℕ) → minus_sign s ≡ signs.Word → ⊥
-no_minus_sign s = neither _ signs.Arrow _ (λ e. cc) (neither _ signs.Number signs.Minus (λ e. cc) (λ e. cc))
+no_kind_after_minus : (s : List ℕ) → kind_after_minus s ≡ kinds.Word → ⊥
+no_kind_after_minus s = neither _ kinds.Arrow _ (λ e. cc) (neither _ kinds.Number kinds.Minus (λ e. cc) (λ e. cc))
 
-no_not_sign : (s : List ℕ) → not_sign s ≡ signs.Word → ⊥
-no_not_sign s = neither _ signs.NotEqual _ (λ e. cc) (neither _ signs.NotTilde signs.Not (λ e. cc) (λ e. cc))
+no_kind_after_not : (s : List ℕ) → kind_after_not s ≡ kinds.Word → ⊥
+no_kind_after_not s = neither _ kinds.NotEqual _ (λ e. cc) (neither _ kinds.NotTilde kinds.Not (λ e. cc) (λ e. cc))
 
 -- what begins where no word does
-abbrev other_sign : ℕ → List ℕ → Sign
-other_sign b behind =
-    if is_ascii_digit b then signs.Number
-    else if is_quote b then signs.Quote
-    else if b == 45 then minus_sign behind
-    else if b == 33 then not_sign behind
-    else if b == 62 then (if begins_with (λ b. b == 62) behind then signs.DownAll else signs.Down)
-    else if b == 60 then (if begins_with (λ b. b == 60) behind then signs.UpAll else signs.Up)
-    else single_sign b
+abbrev other_kind : ℕ → List ℕ → TokenKind
+other_kind b after =
+    if is_ascii_digit b then kinds.Number
+    else if is_quote b then kinds.Quote
+    else if b == 45 then kind_after_minus after
+    else if b == 33 then kind_after_not after
+    else if b == 62 then (if begins_with (λ b. b == 62) after then kinds.DownAll else kinds.Down)
+    else if b == 60 then (if begins_with (λ b. b == 60) after then kinds.UpAll else kinds.Up)
+    else one_byte_kind b
 
 -- what begins otherwise than a word is none
-no_word_at : (start : Bool) (b : ℕ) (s : List ℕ) → start ≡ false → cond start signs.Word (other_sign b s) ≡ signs.Word → ⊥
+no_word_at : (start : Bool) (b : ℕ) (s : List ℕ) → start ≡ false → cond start kinds.Word (other_kind b s) ≡ kinds.Word → ⊥
 no_word_at true b s none e = absurd (let bad : true ≡ false = none in cc)
 no_word_at false b s none e =
-    neither _ signs.Number _ (λ e. cc) (neither _ signs.Quote _ (λ e. cc) (neither _ (minus_sign s) _ (no_minus_sign s) (neither _ (not_sign s) _ (no_not_sign s)
-    (neither _ (cond (begins_with (λ b. b == 62) s) signs.DownAll signs.Down) _ (neither _ signs.DownAll signs.Down (λ e. cc) (λ e. cc))
-    (neither _ (cond (begins_with (λ b. b == 60) s) signs.UpAll signs.Up) (single_sign b) (neither _ signs.UpAll signs.Up (λ e. cc) (λ e. cc)) (no_single b)))))) e
+    neither _ kinds.Number _ (λ e. cc) (neither _ kinds.Quote _ (λ e. cc) (neither _ (kind_after_minus s) _ (no_kind_after_minus s) (neither _ (kind_after_not s) _ (no_kind_after_not s)
+    (neither _ (cond (begins_with (λ b. b == 62) s) kinds.DownAll kinds.Down) _ (neither _ kinds.DownAll kinds.Down (λ e. cc) (λ e. cc))
+    (neither _ (cond (begins_with (λ b. b == 60) s) kinds.UpAll kinds.Up) (one_byte_kind b) (neither _ kinds.UpAll kinds.Up (λ e. cc) (λ e. cc)) (no_single b)))))) e
 
-pub no_word : (place : List ℕ) → begins_with is_word_start place ≡ false → sign_of place ≡ signs.Word → ⊥
+pub no_word : (place : List ℕ) → begins_with is_word_start place ≡ false → token_kind_at place ≡ kinds.Word → ⊥
 no_word [] none e = absurd (cc)
 no_word (b ∷ s) none e = no_word_at (is_word_start b) b s none e
 
@@ -58,7 +58,7 @@ run_some (b ∷ s) [] rest starts is =
 run_some (b ∷ s) (x ∷ run) rest starts is = let n = ap (λ (x : List ℕ). length x) is.parts in omega (arith, length-append (x ∷ run) rest)
 
 -- a run at a token that is a word leaves less
-pub word_shorter : (place run rest : List ℕ) → signs.Word ≡ sign_of place → IsRun place run rest → length rest < length place
+pub word_shorter : (place run rest : List ℕ) → kinds.Word ≡ token_kind_at place → IsRun place run rest → length rest < length place
 word_shorter place run rest is runs = tested (begins_with is_word_start place) refl
   where
     tested : (b : Bool) → begins_with is_word_start place ≡ b → length rest < length place

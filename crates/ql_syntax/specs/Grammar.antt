@@ -11,7 +11,7 @@ use Rattle.ql_syntax.specs.Filters.{Filter, InSet, HasKey, KeyIs, LacksKey, KeyI
 use Rattle.ql_syntax.specs.OutWords.{out_word}
 use Rattle.ql_syntax.specs.SelectorWords.{selector_word}
 use Rattle.ql_syntax.specs.SettingWords.{setting_of, format_of}
-use Rattle.ql_syntax.specs.Spellings.{Spelling, ◌&◌, either, when, nothing, never, each, some, IsSign, IsEnd, IsWordOf, IsSet, IsNumberOf, IsTagText, IsMinus, source, into}
+use Rattle.ql_syntax.specs.Spellings.{Spelling, ◌&◌, either, when, nothing, never, each, some, IsPunctuation, IsEnd, IsWordOf, IsSet, IsNumberOf, IsTagText, IsMinus, source, into}
 use Rattle.ql_syntax.specs.StatementRules.{recursion_of}
 use Rattle.ql_syntax.specs.StatementWords.{statement_word}
 use Rattle.ql_syntax.specs.Statements.{Statement, Statements, Select, Recurse, Item, Union, Minus, Print, End, Then}
@@ -22,18 +22,18 @@ use Rattle.ql_syntax.specs.declared.recursion.Recursion.{Recursion}
 use Rattle.ql_syntax.specs.declared.selector_word.SelectorWord.TheVariants as selectors
 use Rattle.ql_syntax.specs.declared.setting_word.FormatWord.TheVariants as formats
 use Rattle.ql_syntax.specs.declared.setting_word.SettingWord.TheVariants as settings
-use Rattle.ql_syntax.specs.declared.sign.Sign.{Sign}
-use Rattle.ql_syntax.specs.declared.sign.Sign.TheVariants as signs
+use Rattle.ql_syntax.specs.declared.token_kind.TokenKind.{TokenKind}
+use Rattle.ql_syntax.specs.declared.token_kind.TokenKind.TheVariants as kinds
 use Rattle.ql_syntax.specs.declared.statement_word.StatementWord.TheVariants as words
 
 -- `[out:json]`, `[out:xml]`, `[timeout:N]`, `[maxsize:N]`
 abbrev pub setting_body : Spelling
 setting_body = either
-    (IsWordOf (λ word. setting_of word ≡ settings.Format) & IsSign signs.Colon & IsWordOf (λ word. format_of word ≡ formats.Known))
-    (IsWordOf (λ word. setting_of word ≡ settings.Count) & IsSign signs.Colon & IsNumberOf (λ number. (count : ℕ) × IsCount number count))
+    (IsWordOf (λ word. setting_of word ≡ settings.Format) & IsPunctuation kinds.Colon & IsWordOf (λ word. format_of word ≡ formats.Known))
+    (IsWordOf (λ word. setting_of word ≡ settings.Count) & IsPunctuation kinds.Colon & IsNumberOf (λ number. (count : ℕ) × IsCount number count))
 
 abbrev pub setting : Spelling
-setting = IsSign signs.OpenBracket & setting_body & IsSign signs.CloseBracket
+setting = IsPunctuation kinds.OpenBracket & setting_body & IsPunctuation kinds.CloseBracket
 
 -- one or more
 abbrev pub some_settings : Spelling
@@ -41,27 +41,27 @@ some_settings = some setting
 
 -- settings, or none
 abbrev pub query_settings : Spelling
-query_settings = either (some_settings & IsSign signs.Semicolon) nothing
+query_settings = either (some_settings & IsPunctuation kinds.Semicolon) nothing
 
 abbrev pub id : ℤ → Spelling
 id value = IsNumberOf (λ number. IsId number value)
 
 abbrev pub other_id : ℤ → Spelling
-other_id value = IsSign signs.Comma & id value
+other_id value = IsPunctuation kinds.Comma & id value
 
 -- `1`, or `id:1,2,3`
 abbrev pub ids : Pick → List ℤ → Spelling
 ids pick [] = never
 ids pick (first ∷ more) = either
     (when (more ≡ []) & id first)
-    (IsWordOf (λ word. selector_word pick word ≡ selectors.Ids) & IsSign signs.Colon & id first & each other_id more)
+    (IsWordOf (λ word. selector_word pick word ≡ selectors.Ids) & IsPunctuation kinds.Colon & id first & each other_id more)
 
 abbrev pub corner : Decimal → Spelling
 corner value = IsNumberOf (λ number. number ≡ value)
 
 -- `south,west,north,east`
 abbrev pub corners : Corners → Spelling
-corners all = corner all.south & IsSign signs.Comma & corner all.west & IsSign signs.Comma & corner all.north & IsSign signs.Comma & corner all.east
+corners all = corner all.south & IsPunctuation kinds.Comma & corner all.west & IsPunctuation kinds.Comma & corner all.north & IsPunctuation kinds.Comma & corner all.east
 
 -- the box with these corners
 abbrev pub box : ExactBox → Spelling
@@ -69,24 +69,24 @@ box area text rest = (all : Corners) × AreBox all × (area ≡ box_of all) × c
 
 -- `(..)`
 abbrev pub in_parentheses : Spelling → Spelling
-in_parentheses spelling = IsSign signs.OpenParenthesis & spelling & IsSign signs.CloseParenthesis
+in_parentheses spelling = IsPunctuation kinds.OpenParenthesis & spelling & IsPunctuation kinds.CloseParenthesis
 
 -- `[..]`
 abbrev pub in_brackets : Spelling → Spelling
-in_brackets spelling = IsSign signs.OpenBracket & spelling & IsSign signs.CloseBracket
+in_brackets spelling = IsPunctuation kinds.OpenBracket & spelling & IsPunctuation kinds.CloseBracket
 
 -- a filter on objects of this kind
 abbrev pub filter : Pick → Filter → Spelling
 filter pick (InSet name) = IsSet name
 filter pick (HasKey key) = in_brackets (IsTagText key)
-filter pick (KeyIs key value) = in_brackets (IsTagText key & IsSign signs.Equal & IsTagText value)
-filter pick (LacksKey key) = in_brackets (IsSign signs.Not & IsTagText key)
-filter pick (KeyIsNot key value) = in_brackets (IsTagText key & IsSign signs.NotEqual & IsTagText value)
+filter pick (KeyIs key value) = in_brackets (IsTagText key & IsPunctuation kinds.Equal & IsTagText value)
+filter pick (LacksKey key) = in_brackets (IsPunctuation kinds.Not & IsTagText key)
+filter pick (KeyIsNot key value) = in_brackets (IsTagText key & IsPunctuation kinds.NotEqual & IsTagText value)
 filter pick (Ids all) = in_parentheses (ids pick all)
 filter pick (Within area) = in_parentheses (box area)
 filter pick (Via path set) = in_parentheses (IsWordOf (λ word. selector_word pick word ≡ selectors.Along path) & source set)
 
--- what may stand behind `out`
+-- what may stand after `out`
 pub data OutOption : Type 0 where
   Mode : OutMode → OutOption
   Order : OutOption
@@ -133,27 +133,27 @@ pub record IsOut (mode : OutMode) (limit : Option ℕ) (text rest : List ℕ) : 
   pub spelled : each out_option options text rest
 
 -- `node`, `way`, `rel` or `relation`, `nwr`
-abbrev pub kind : Pick → Spelling
-kind pick = IsWordOf (λ word. statement_word word ≡ words.Kind pick)
+abbrev pub pick_word : Pick → Spelling
+pick_word pick = IsWordOf (λ word. statement_word word ≡ words.Kind pick)
 
 abbrev pub out : Spelling
 out = IsWordOf (λ word. statement_word word ≡ words.Print)
 
 -- `>`, `>>`, `<`, `<<`
 pub record IsRecursion (how : Recursion) (text rest : List ℕ) : Type 0 where
-  pub sign : Sign
-  pub means : recursion_of sign ≡ Some how
-  pub spelled : IsSign sign text rest
+  pub kind : TokenKind
+  pub means : recursion_of kind ≡ Some how
+  pub spelled : IsPunctuation kind text rest
 
 -- a statement, its `;` included
 abbrev mutual
   pub statement : Statement → Spelling
-  statement (Select pick filters set) = kind pick & each (filter pick) filters & into set
+  statement (Select pick filters set) = pick_word pick & each (filter pick) filters & into set
   statement (Recurse start how set) = source start & IsRecursion how & into set
   statement (Item start set) = IsSet start & into set
   statement (Union parts set) = in_parentheses (row_of_some parts) & into set
   statement (Minus left right set) = in_parentheses (statement left & IsMinus & statement right) & into set
-  statement (Print start mode limit) = source start & out & IsOut mode limit & IsSign signs.Semicolon
+  statement (Print start mode limit) = source start & out & IsOut mode limit & IsPunctuation kinds.Semicolon
 
   -- each of these
   pub row : Statements → Spelling

@@ -8,6 +8,7 @@ use Rattle.ql_syntax.specs.Filters.{Filter, InSet, HasKey, KeyIs, LacksKey, KeyI
 use Rattle.ql_syntax.specs.Picks.{allows, takes_boxes}
 use Rattle.ql_syntax.specs.Statements.{Statement, Statements, Select, Recurse, Item, Union, Minus, Print, End, Then}
 use Rattle.ql_syntax.specs.declared.pick.Pick.{Pick}
+use Rattle.ql_syntax.specs.declared.statements.TheConstants.{NESTING_LIMIT}
 
 -- the kind allows the filter, and a list of ids has one or more
 abbrev pub Allows : Pick → Filter → Type 0
@@ -37,11 +38,11 @@ abbrev mutual
 -- at the top level
 abbrev pub IsTop : Statement → Type 0
 IsTop (Print start mode limit) = ⊤
-IsTop (Select pick filters set) = IsInner 32 (Select pick filters set)
+IsTop (Select pick filters set) = IsInner NESTING_LIMIT (Select pick filters set)
 IsTop (Recurse start how set) = ⊤
 IsTop (Item start set) = ⊤
-IsTop (Union parts set) = IsInner 32 (Union parts set)
-IsTop (Minus left right set) = IsInner 32 (Minus left right set)
+IsTop (Union parts set) = IsInner NESTING_LIMIT (Union parts set)
+IsTop (Minus left right set) = IsInner NESTING_LIMIT (Minus left right set)
 
 -- the statements of a query
 abbrev pub IsQuery : List Statement → Type 0

@@ -2,18 +2,12 @@ pub mod Refusals
 pub mod Gaps
 pub mod Words
 pub mod Numbers
-pub mod NumberParts
 pub mod QuotedTexts
-pub mod EscapeParts
-pub mod Places
-pub mod QuotedSteps
-pub mod Signs
+pub mod TokenKinds
 pub mod WholeNumbers
 pub mod Tokens
-pub mod Points
+pub mod TokenRules
 pub mod Rules
-pub mod Following
-pub mod Views
 pub mod SettingWords
 pub mod Settings
 pub mod Filters
@@ -26,7 +20,6 @@ pub mod SelectorWords
 pub mod StatementWords
 pub mod Statements
 pub mod Selectors
-pub mod FilterViews
 pub mod Selections
 pub mod StatementViews
 pub mod StatementRules
@@ -34,3 +27,4 @@ pub mod Spellings
 pub mod Grammar
 pub mod Queries
 pub mod LawfulQueries
+pub mod internal

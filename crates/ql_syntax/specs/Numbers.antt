@@ -2,35 +2,33 @@
 -- Source: numbers of the Overpass QL page of the OpenStreetMap wiki, without a leading `+` and without
 -- exponents (this project).
 use Rattle.std.specs.Prelude.{◌≡◌, ℕ, ◌==◌, Bool, false, List, [], ◌∷◌, ◌++◌, None}
-use Rattle.osm_model.specs.Degrees.{Decimal, IsDecimal, IsDigits, BeginsOtherwise, sign, spelling}
+use Rattle.osm_model.specs.Bytes.{dot, hyphen}
+use Rattle.osm_model.specs.Degrees.{Decimal, IsDecimal, BeginsOtherwise, sign, spelling}
 use Rattle.ql_syntax.specs.declared.cause.QlCause.{QlCause}
 use Rattle.ql_syntax.specs.declared.cause.QlCause.TheVariants as causes
 use Rattle.ql_syntax.specs.Words.{begins_with}
 
-abbrev pub is_point : ℕ → Bool
-is_point b = b == 46
-
 abbrev pub is_minus : ℕ → Bool
-is_minus b = b == 45
+is_minus b = b == hyphen
 
--- the number is the longest one at the front of the text: no digit stands behind it, nor a point where
--- it has none
+-- the number is the longest one at the front of the text: no digit follows it, and where it has no
+-- fraction, no point with a digit after it; a point without one is no part of a number
 pub record IsNumber (text : List ℕ) (number : Decimal) (rest : List ℕ) : Type 0 where
   pub decimal : IsDecimal number
   pub parts : text ≡ spelling number ++ rest
   pub longest : BeginsOtherwise rest
-  pub no_point : number.fraction ≡ None → begins_with is_point rest ≡ false
+  pub lone_point : number.fraction ≡ None → (after : List ℕ) → rest ≡ dot ∷ after → BeginsOtherwise after
 
 -- the text ends here, or something stands here that fits nothing
 abbrev pub IsMisfit : List ℕ → QlCause → Type 0
 IsMisfit [] cause = cause ≡ causes.UnexpectedEnd
 IsMisfit (b ∷ s) cause = cause ≡ causes.UnexpectedCharacter
 
--- why no number stands at the front of the text, and the place where it breaks off
-pub data IsNoNumber (text : List ℕ) (cause : QlCause) (place : List ℕ) : Type 0 where
-  -- there is no digit, behind a sign or without one
-  NoDigit : (negative : Bool) → text ≡ sign negative ++ place → BeginsOtherwise place
-      → (negative ≡ false → begins_with is_minus place ≡ false) → IsMisfit place cause → IsNoNumber text cause place
-  -- a point that no digit follows
-  NoFraction : (negative : Bool) (whole behind : List ℕ) → IsDigits whole → text ≡ sign negative ++ (whole ++ place)
-      → place ≡ 46 ∷ behind → BeginsOtherwise behind → cause ≡ causes.UnexpectedCharacter → IsNoNumber text cause place
+-- why no number stands at the front of the text, and the place where it breaks off: there is no digit,
+-- after a sign or without one
+pub record IsNoNumber (text : List ℕ) (cause : QlCause) (place : List ℕ) : Type 0 where
+  pub negative : Bool
+  pub parts : text ≡ sign negative ++ place
+  pub no_digit : BeginsOtherwise place
+  pub no_minus : negative ≡ false → begins_with is_minus place ≡ false
+  pub misfit : IsMisfit place cause

@@ -1,4 +1,4 @@
--- The words behind `out`.
+-- The words after `out`.
 -- Source: the Overpass QL page of the OpenStreetMap wiki, "Output action"; which are left out is this
 -- project's.
 use Rattle.std.specs.Prelude.{ℕ, ◌||◌, if◌then◌else◌, List, codes, bytes_eq}
@@ -14,5 +14,5 @@ out_word word =
     else if bytes_eq word (codes "body") then words.Mode modes.Body
     else if bytes_eq word (codes "meta") then words.Mode modes.Meta
     else if bytes_eq word (codes "asc") || bytes_eq word (codes "qt") then words.Order
-    else if bytes_eq word (codes "count") || bytes_eq word (codes "geom") || bytes_eq word (codes "center") || bytes_eq word (codes "bb") || bytes_eq word (codes "noids") then words.Outside
+    else if bytes_eq word (codes "count") || bytes_eq word (codes "geom") || bytes_eq word (codes "center") || bytes_eq word (codes "bb") || bytes_eq word (codes "noids") then words.LeftOut
     else words.Unknown

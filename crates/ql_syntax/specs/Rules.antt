@@ -9,7 +9,7 @@ pub record Rule (A : Type 0) : Type 1 where
   pub reads : List ℕ → A → List ℕ → Type 0
   pub stops : List ℕ → QlCause → List ℕ → Type 0
 
--- one rule behind the other: the second goes on where the first has read
+-- one rule after the other: the second goes on where the first has read
 pub record BothRead {A B : Type 0} (first : Rule A) (second : A → Rule B) (text : List ℕ) (value : B) (rest : List ℕ) : Type 0 where
   pub front : A
   pub middle : List ℕ
@@ -74,6 +74,6 @@ gather_round item found = do
   next ← item
   give (gathered found next)
 
--- items one behind the other, after those found before, until there is none
+-- items one after the other, after those found before, until there is none
 unfoldable pub gather : {A : Type 0} → Rule (Option A) → List A → Rule (List A)
 gather item found = repeat (gather_round item) found

@@ -2,25 +2,25 @@
 -- Source: the Overpass QL page of the OpenStreetMap wiki, "The query statement".
 use Rattle.std.specs.Prelude.{◌≡◌, [], Option, None, Some}
 use Rattle.ql_syntax.specs.Filters.{Filter, InSet}
-use Rattle.ql_syntax.specs.Points.{next_token, name_behind, into}
+use Rattle.ql_syntax.specs.TokenRules.{next_token, name_after, into}
 use Rattle.ql_syntax.specs.Rules.{Rule, ◌>>=◌, give, from, choose, gather}
 use Rattle.ql_syntax.specs.Selectors.{selector}
 use Rattle.ql_syntax.specs.Statements.{Statement, Select}
 use Rattle.ql_syntax.specs.TagFilters.{tag_filter}
 use Rattle.ql_syntax.specs.declared.pick.Pick.{Pick}
-use Rattle.ql_syntax.specs.declared.sign.Sign.TheVariants as signs
+use Rattle.ql_syntax.specs.declared.token_kind.TokenKind.TheVariants as kinds
 
 -- a filter, or none where something else comes next
 unfoldable pub a_filter : Pick → Rule (Option Filter)
 a_filter pick = do
   next ← next_token
-  choose (next.sign ≡ signs.Dot) (do
-    name ← name_behind next
+  choose (next.kind ≡ kinds.Dot) (do
+    name ← name_after next
     give (Some (InSet name)))
-      (choose (next.sign ≡ signs.OpenBracket) (do
+      (choose (next.kind ≡ kinds.OpenBracket) (do
         filter ← tag_filter
         give (Some filter))
-      (choose (next.sign ≡ signs.OpenParenthesis) (do
+      (choose (next.kind ≡ kinds.OpenParenthesis) (do
         filter ← selector pick
         give (Some filter))
       (from next.place (give None))))

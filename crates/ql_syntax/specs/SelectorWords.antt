@@ -18,8 +18,8 @@ path_of word =
     else None
 
 -- the profile leaves out the filter that this word begins
-abbrev pub is_outside : List ℕ → Bool
-is_outside word =
+abbrev pub is_left_out : List ℕ → Bool
+is_left_out word =
     bytes_eq word (codes "around") || bytes_eq word (codes "poly") || bytes_eq word (codes "changed")
     || bytes_eq word (codes "newer") || bytes_eq word (codes "user") || bytes_eq word (codes "uid")
     || bytes_eq word (codes "area") || bytes_eq word (codes "pivot") || bytes_eq word (codes "if")
@@ -27,10 +27,10 @@ is_outside word =
 -- a path that the kind lacks is left out too
 abbrev pub path_word : Pick → Option Path → SelectorWord
 path_word pick None = words.Unknown
-path_word pick (Some path) = if allows pick path then words.Along path else words.Outside
+path_word pick (Some path) = if allows pick path then words.Along path else words.LeftOut
 
 abbrev pub selector_word : Pick → List ℕ → SelectorWord
 selector_word pick word =
     if bytes_eq word (codes "id") then words.Ids
-    else if is_outside word then words.Outside
+    else if is_left_out word then words.LeftOut
     else path_word pick (path_of word)

@@ -4,7 +4,7 @@ use Rattle.std.specs.Prelude.{◌≡◌, ℕ, ℤ, true, List, [], ◌∷◌, Op
 use Rattle.ql_syntax.specs.Areas.{area}
 use Rattle.ql_syntax.specs.Filters.{Filter, Ids, Within, Via}
 use Rattle.ql_syntax.specs.Picks.{takes_boxes}
-use Rattle.ql_syntax.specs.Points.{Word, Number, next_token, unexpected, pass, word_at, number_at, a_number, begins_number, name_behind}
+use Rattle.ql_syntax.specs.TokenRules.{Word, Number, next_token, unexpected, pass, word_at, number_at, a_number, begins_number, name_after}
 use Rattle.ql_syntax.specs.Rules.{Rule, ◌>>=◌, give, refuse, from, choose, by_case, gather}
 use Rattle.ql_syntax.specs.SelectorWords.{selector_word}
 use Rattle.ql_syntax.specs.WholeNumbers.{id_of}
@@ -13,7 +13,7 @@ use Rattle.ql_syntax.specs.declared.path.Path.{Path}
 use Rattle.ql_syntax.specs.declared.pick.Pick.{Pick}
 use Rattle.ql_syntax.specs.declared.selector_word.SelectorWord.{SelectorWord}
 use Rattle.ql_syntax.specs.declared.selector_word.SelectorWord.TheVariants as words
-use Rattle.ql_syntax.specs.declared.sign.Sign.TheVariants as signs
+use Rattle.ql_syntax.specs.declared.token_kind.TokenKind.TheVariants as kinds
 
 -- an id comes next
 unfoldable pub an_id : Rule ℤ
@@ -21,36 +21,36 @@ an_id = do
   number ← a_number
   id_of number.number number.place
 
--- another id, or the `)` behind the last
-unfoldable pub id_behind : Rule (Option ℤ)
-id_behind = do
+-- another id, or the `)` after the last
+unfoldable pub id_after : Rule (Option ℤ)
+id_after = do
   next ← next_token
-  choose (next.sign ≡ signs.Comma) (do
+  choose (next.kind ≡ kinds.Comma) (do
     id ← an_id
     give (Some id))
-      (choose (next.sign ≡ signs.CloseParenthesis) (give None) (unexpected next))
+      (choose (next.kind ≡ kinds.CloseParenthesis) (give None) (unexpected next))
 
 -- what follows `id`
 unfoldable pub id_list : Rule Filter
 id_list = do
-  colon ← pass signs.Colon
+  colon ← pass kinds.Colon
   first ← an_id
-  ids ← gather id_behind (first ∷ [])
+  ids ← gather id_after (first ∷ [])
   give (Ids ids)
 
--- the `)` behind a path; a `:` would ask for roles, which the profile leaves out
+-- the `)` after a path; a `:` would ask for roles, which the profile leaves out
 unfoldable pub path_close : Rule (Unit {0})
 path_close = do
   next ← next_token
-  choose (next.sign ≡ signs.CloseParenthesis) (give tt)
-      (choose (next.sign ≡ signs.Colon) (refuse causes.OutsideProfile next.place) (unexpected next))
+  choose (next.kind ≡ kinds.CloseParenthesis) (give tt)
+      (choose (next.kind ≡ kinds.Colon) (refuse causes.OutsideProfile next.place) (unexpected next))
 
 -- the set that a path leads from, and the `)`
 unfoldable pub path_from : Path → Rule Filter
 path_from path = do
   next ← next_token
-  choose (next.sign ≡ signs.Dot) (do
-    name ← name_behind next
+  choose (next.kind ≡ kinds.Dot) (do
+    name ← name_after next
     close ← path_close
     give (Via path name))
       (do
@@ -61,25 +61,25 @@ path_from path = do
 abbrev pub selector_named : List ℕ → SelectorWord → Rule Filter
 selector_named place words.Ids = id_list
 selector_named place (words.Along path) = path_from path
-selector_named place words.Outside = refuse causes.OutsideProfile place
+selector_named place words.LeftOut = refuse causes.OutsideProfile place
 selector_named place words.Unknown = refuse causes.UnexpectedWord place
 
 unfoldable pub word_selector : Pick → Word → Rule Filter
 word_selector pick word = by_case (selector_word pick word.word) (selector_named word.place)
 
--- the number behind a comma
+-- the number after a comma
 unfoldable pub corner : Rule Number
 corner = do
-  comma ← pass signs.Comma
+  comma ← pass kinds.Comma
   a_number
 
--- a box behind its first number and the comma
-unfoldable pub box_behind : Number → Rule Filter
-box_behind south = do
+-- a box after its first number and the comma
+unfoldable pub box_after : Number → Rule Filter
+box_after south = do
   west ← a_number
   north ← corner
   east ← corner
-  close ← pass signs.CloseParenthesis
+  close ← pass kinds.CloseParenthesis
   box ← area (record { south = south.number; west = west.number; north = north.number; east = east.number }) south.place
   give (Within box)
 
@@ -87,20 +87,20 @@ box_behind south = do
 unfoldable pub number_selector : Pick → Number → Rule Filter
 number_selector pick number = do
   next ← next_token
-  choose (next.sign ≡ signs.Comma) (choose (takes_boxes pick ≡ true) (box_behind number) (refuse causes.OutsideProfile number.place))
-      (choose (next.sign ≡ signs.CloseParenthesis) (do
+  choose (next.kind ≡ kinds.Comma) (choose (takes_boxes pick ≡ true) (box_after number) (refuse causes.OutsideProfile number.place))
+      (choose (next.kind ≡ kinds.CloseParenthesis) (do
         id ← id_of number.number number.place
         give (Ids (id ∷ [])))
       (unexpected next))
 
--- a filter behind its `(`, on objects of this kind
+-- a filter after its `(`, on objects of this kind
 unfoldable pub selector : Pick → Rule Filter
 selector pick = do
   next ← next_token
-  choose (next.sign ≡ signs.Word) (do
+  choose (next.kind ≡ kinds.Word) (do
     word ← word_at next
     word_selector pick word)
-      (choose (begins_number next.sign ≡ true) (do
+      (choose (begins_number next.kind ≡ true) (do
         number ← number_at next
         number_selector pick number)
       (unexpected next))

@@ -3,7 +3,7 @@
 -- Source: the Overpass QL page of the OpenStreetMap wiki, "Settings"; which are left out is this
 -- project's.
 use Rattle.std.specs.Prelude.{◌≡◌, ℕ, List}
-use Rattle.ql_syntax.specs.Points.{Word, next_token, pass, unexpected, a_word, a_number}
+use Rattle.ql_syntax.specs.TokenRules.{Word, next_token, pass, unexpected, a_word, a_number}
 use Rattle.ql_syntax.specs.Rules.{Rule, ◌>>=◌, give, refuse, from, choose, by_case, repeat, Round, More, Done}
 use Rattle.ql_syntax.specs.SettingWords.{setting_of, format_of}
 use Rattle.ql_syntax.specs.WholeNumbers.{count_of}
@@ -12,11 +12,11 @@ use Rattle.ql_syntax.specs.declared.setting_word.SettingWord.{SettingWord}
 use Rattle.ql_syntax.specs.declared.setting_word.SettingWord.TheVariants as words
 use Rattle.ql_syntax.specs.declared.setting_word.FormatWord.{FormatWord}
 use Rattle.ql_syntax.specs.declared.setting_word.FormatWord.TheVariants as formats
-use Rattle.ql_syntax.specs.declared.sign.Sign.TheVariants as signs
+use Rattle.ql_syntax.specs.declared.token_kind.TokenKind.TheVariants as kinds
 
 abbrev pub format_named : List ℕ → FormatWord → Rule (Unit {0})
 format_named place formats.Known = give tt
-format_named place formats.Outside = refuse causes.OutsideProfile place
+format_named place formats.LeftOut = refuse causes.OutsideProfile place
 format_named place formats.Unknown = refuse causes.UnexpectedWord place
 
 -- the word of a format
@@ -35,34 +35,34 @@ count = do
 -- what follows the first word of a setting
 abbrev pub setting_named : List ℕ → SettingWord → Rule (Unit {0})
 setting_named place words.Format = do
-  colon ← pass signs.Colon
+  colon ← pass kinds.Colon
   format
 setting_named place words.Count = do
-  colon ← pass signs.Colon
+  colon ← pass kinds.Colon
   count
-setting_named place words.Outside = refuse causes.OutsideProfile place
+setting_named place words.LeftOut = refuse causes.OutsideProfile place
 setting_named place words.Unknown = refuse causes.UnexpectedWord place
 
 unfoldable pub setting_value : Word → Rule (Unit {0})
 setting_value name = by_case (setting_of name.word) (setting_named name.place)
 
--- one setting behind its `[`, and its `]`
+-- one setting after its `[`, and its `]`
 unfoldable pub setting : Rule (Unit {0})
 setting = do
   name ← a_word
   value ← setting_value name
-  pass signs.CloseBracket
+  pass kinds.CloseBracket
 
--- one setting of several: another follows, or the `;` behind the last
+-- one setting of several: another follows, or the `;` after the last
 unfoldable pub setting_round : Unit {0} → Rule (Round (Unit {0}) (Unit {0}))
 setting_round state = do
   found ← setting
   next ← next_token
-  choose (next.sign ≡ signs.OpenBracket) (give (More tt))
-      (choose (next.sign ≡ signs.Semicolon) (give (Done tt)) (unexpected next))
+  choose (next.kind ≡ kinds.OpenBracket) (give (More tt))
+      (choose (next.kind ≡ kinds.Semicolon) (give (Done tt)) (unexpected next))
 
 -- the settings before the first statement, or none
 unfoldable pub settings : Rule (Unit {0})
 settings = do
   next ← next_token
-  choose (next.sign ≡ signs.OpenBracket) (repeat setting_round tt) (from next.place (give tt))
+  choose (next.kind ≡ kinds.OpenBracket) (repeat setting_round tt) (from next.place (give tt))

@@ -1,19 +1,19 @@
--- How text is spelled. A spelling is a relation between a text and what is left of it behind what is
+-- How text is spelled. A spelling is a relation between a text and what is left of it after what is
 -- spelled at its front; blanks and comments may stand before each token.
 -- Source: this project.
 use Rattle.std.specs.Prelude.{◌≡◌, ◌⊎◌, ℕ, zero, suc, true, List, [], ◌∷◌, drop, codes}
 use Rattle.osm_model.specs.Degrees.{Decimal}
 use Rattle.ql_syntax.specs.Numbers.{IsNumber}
-use Rattle.ql_syntax.specs.Points.{Next, At, begins_number}
+use Rattle.ql_syntax.specs.TokenRules.{Next, At, begins_number}
 use Rattle.ql_syntax.specs.QuotedTexts.{IsQuoted, is_quote}
 use Rattle.ql_syntax.specs.Words.{IsRun, IsName, begins_with, is_run_byte}
-use Rattle.ql_syntax.specs.declared.sign.Sign.{Sign}
-use Rattle.ql_syntax.specs.declared.sign.Sign.TheVariants as signs
+use Rattle.ql_syntax.specs.declared.token_kind.TokenKind.{TokenKind}
+use Rattle.ql_syntax.specs.declared.token_kind.TokenKind.TheVariants as kinds
 
 abbrev pub Spelling : Type 1
 Spelling = List ℕ → List ℕ → Type 0
 
--- one behind the other
+-- one after the other
 pub record Both (first second : Spelling) (text rest : List ℕ) : Type 0 where
   pub middle : List ℕ
   pub front : first text middle
@@ -51,17 +51,17 @@ abbrev pub some : Spelling → Spelling
 some spelling text rest = (n : ℕ) × (spelling & times n spelling) text rest
 
 -- this punctuation
-pub record IsSign (sign : Sign) (text rest : List ℕ) : Type 0 where
+pub record IsPunctuation (kind : TokenKind) (text rest : List ℕ) : Type 0 where
   pub next : Next
   pub at : At text next rest
-  pub is : next.sign ≡ sign
+  pub is : next.kind ≡ kind
 
--- the end of the text, behind which nothing is left
+-- the end of the text, after which nothing is left
 pub record IsEnd (text rest : List ℕ) : Type 0 where
   pub next : Next
   pub place : List ℕ
   pub at : At text next place
-  pub is : next.sign ≡ signs.End
+  pub is : next.kind ≡ kinds.End
   pub nothing_left : rest ≡ []
 
 -- a word of this meaning
@@ -70,16 +70,16 @@ pub record IsWordOf (Means : List ℕ → Type 0) (text rest : List ℕ) : Type 
   pub place : List ℕ
   pub word : List ℕ
   pub at : At text next place
-  pub is : next.sign ≡ signs.Word
+  pub is : next.kind ≡ kinds.Word
   pub run : IsRun place word rest
   pub means : Means word
 
--- the name of a set, behind its dot
+-- the name of a set, after its dot
 pub record IsSet (name text rest : List ℕ) : Type 0 where
   pub next : Next
   pub place : List ℕ
   pub at : At text next place
-  pub is : next.sign ≡ signs.Dot
+  pub is : next.kind ≡ kinds.Dot
   pub name_is : IsName place name rest
 
 -- a number
@@ -88,7 +88,7 @@ pub record IsNumberOf (Means : Decimal → Type 0) (text rest : List ℕ) : Type
   pub place : List ℕ
   pub number : Decimal
   pub at : At text next place
-  pub begins : begins_number next.sign ≡ true
+  pub begins : begins_number next.kind ≡ true
   pub spelled : IsNumber next.place number rest
   pub means : Means number
 
@@ -105,7 +105,7 @@ pub record IsMinus (text rest : List ℕ) : Type 0 where
   pub next : Next
   pub place : List ℕ
   pub at : At text next place
-  pub is : (next.sign ≡ signs.Minus) ⊎ (next.sign ≡ signs.Arrow)
+  pub is : (next.kind ≡ kinds.Minus) ⊎ (next.kind ≡ kinds.Arrow)
   pub rest_is : rest ≡ drop 1 next.place
 
 -- the set that a statement starts from: its name, or nothing for the default set
@@ -114,4 +114,4 @@ source set = either (IsSet set) (when (set ≡ codes "_"))
 
 -- the set that a statement writes to, and the `;`
 abbrev pub into : List ℕ → Spelling
-into set = either (IsSign signs.Arrow & IsSet set & IsSign signs.Semicolon) (when (set ≡ codes "_") & IsSign signs.Semicolon)
+into set = either (IsPunctuation kinds.Arrow & IsSet set & IsPunctuation kinds.Semicolon) (when (set ≡ codes "_") & IsPunctuation kinds.Semicolon)

@@ -1,11 +1,26 @@
--- What the readers of statements give, without where it lies in memory.
-use Rattle.std.specs.Borrow.{Bor}
-use Rattle.std.specs.Prelude.{ℕ, List, map, Option, None, Some}
-use Rattle.std.specs.declared.alloc.Global.{Global}
-use Rattle.std.specs.declared.vec.Vec.{Vec}
-use Rattle.ql_syntax.specs.FilterViews.{filters_of}
+-- What crates above see of a query: the trees of its statements and filters, without where they lie in
+-- memory.
+-- Source: this project.
+use Rattle.std.specs.Box.{box_value}
+use Rattle.std.specs.Prelude.{List, map}
+use Rattle.ql_syntax.specs.Filters as filter_tree
 use Rattle.ql_syntax.specs.Statements as tree
+use Rattle.ql_syntax.specs.declared.filter.Filter.{Filter}
+use Rattle.ql_syntax.specs.declared.filter.Filter.TheVariants as filters
 use Rattle.ql_syntax.specs.declared.statement.Stmt.{Stmt, Select, Recurse, Item, Union', Minus', Print, Row_of-Stmt, end_of-Stmt, more_of-Stmt}
+
+abbrev pub filter_of : Filter → filter_tree.Filter
+filter_of (filters.InSet name) = filter_tree.InSet name
+filter_of (filters.HasKey key) = filter_tree.HasKey key
+filter_of (filters.KeyIs key value) = filter_tree.KeyIs key value
+filter_of (filters.LacksKey key) = filter_tree.LacksKey key
+filter_of (filters.KeyIsNot key value) = filter_tree.KeyIsNot key value
+filter_of (filters.Ids ids) = filter_tree.Ids ids.items
+filter_of (filters.Within area) = filter_tree.Within (box_value area)
+filter_of (filters.Via path name) = filter_tree.Via path name
+
+abbrev pub filters_of : List Filter → List filter_tree.Filter
+filters_of = map filter_of
 
 abbrev mutual
   pub statement_of : Stmt → tree.Statement
@@ -20,19 +35,5 @@ abbrev mutual
   row_of end_of-Stmt = tree.End
   row_of (more_of-Stmt part rest) = tree.Then (statement_of part) (row_of rest)
 
-abbrev pub the_statement : (Stmt × Bor (List ℕ)) → tree.Statement × List ℕ
-the_statement found = (statement_of found.0, found.1.now)
-
--- no statement, or one
-abbrev pub other_statement : Option Stmt → Option tree.Statement
-other_statement None = None
-other_statement (Some statement) = Some (statement_of statement)
-
-abbrev pub the_other_statement : (Option Stmt × Bor (List ℕ)) → Option tree.Statement × List ℕ
-the_other_statement found = (other_statement found.0, found.1.now)
-
 abbrev pub statements_of : List Stmt → List tree.Statement
 statements_of = map statement_of
-
-abbrev pub the_statements : (Vec Stmt Global × Bor (List ℕ)) → List tree.Statement × List ℕ
-the_statements found = (statements_of found.0.items, found.1.now)

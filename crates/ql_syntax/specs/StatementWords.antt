@@ -7,8 +7,8 @@ use Rattle.ql_syntax.specs.declared.statement_word.StatementWord.{StatementWord}
 use Rattle.ql_syntax.specs.declared.statement_word.StatementWord.TheVariants as words
 
 -- the profile leaves out the statement that this word begins
-abbrev pub is_outside : List ℕ → Bool
-is_outside word =
+abbrev pub is_left_out : List ℕ → Bool
+is_left_out word =
     bytes_eq word (codes "foreach") || bytes_eq word (codes "for") || bytes_eq word (codes "if")
     || bytes_eq word (codes "complete") || bytes_eq word (codes "retro") || bytes_eq word (codes "compare")
     || bytes_eq word (codes "make") || bytes_eq word (codes "convert") || bytes_eq word (codes "map_to_area")
@@ -23,5 +23,5 @@ statement_word word =
     else if bytes_eq word (codes "rel") || bytes_eq word (codes "relation") then words.Kind picks.Rel
     else if bytes_eq word (codes "nwr") then words.Kind picks.Nwr
     else if bytes_eq word (codes "out") then words.Print
-    else if is_outside word then words.Outside
+    else if is_left_out word then words.LeftOut
     else words.Unknown

@@ -3,25 +3,25 @@
 -- a value may be an unquoted run of letters, digits and `_`, is this project's.
 use Rattle.std.specs.Prelude.{◌≡◌, ℕ, true, List}
 use Rattle.ql_syntax.specs.Filters.{Filter, HasKey, KeyIs, LacksKey, KeyIsNot}
-use Rattle.ql_syntax.specs.Points.{Next, next_token, run_here, text_here}
+use Rattle.ql_syntax.specs.TokenRules.{Next, next_token, run_here, text_here}
 use Rattle.ql_syntax.specs.QuotedTexts.{is_quote}
 use Rattle.ql_syntax.specs.Rules.{Rule, ◌>>=◌, give, refuse, from, choose}
 use Rattle.ql_syntax.specs.Tokens.{unexpected_cause}
 use Rattle.ql_syntax.specs.Words.{begins_with, is_run_byte}
 use Rattle.ql_syntax.specs.declared.cause.QlCause.{QlCause}
 use Rattle.ql_syntax.specs.declared.cause.QlCause.TheVariants as causes
-use Rattle.ql_syntax.specs.declared.sign.Sign.{Sign}
-use Rattle.ql_syntax.specs.declared.sign.Sign.TheVariants as signs
+use Rattle.ql_syntax.specs.declared.token_kind.TokenKind.{TokenKind}
+use Rattle.ql_syntax.specs.declared.token_kind.TokenKind.TheVariants as kinds
 
 -- why a token can't stand where it does inside the `[ ]`: `~` and `!~` ask for a pattern, which the profile
 -- leaves out
-abbrev pub cause_in_tag : Sign → QlCause
-cause_in_tag signs.Tilde = causes.OutsideProfile
-cause_in_tag signs.NotTilde = causes.OutsideProfile
-cause_in_tag sign = unexpected_cause sign
+abbrev pub cause_in_tag : TokenKind → QlCause
+cause_in_tag kinds.Tilde = causes.OutsideProfile
+cause_in_tag kinds.NotTilde = causes.OutsideProfile
+cause_in_tag kind = unexpected_cause kind
 
 unfoldable pub not_in_tag : {A : Type 0} → Next → Rule A
-not_in_tag next = refuse (cause_in_tag next.sign) next.place
+not_in_tag next = refuse (cause_in_tag next.kind) next.place
 
 -- the key or value that begins with this token
 unfoldable pub tag_text_at : Next → Rule (List ℕ)
@@ -39,7 +39,7 @@ tag_text = do
 unfoldable pub tag_close : Rule (Unit {0})
 tag_close = do
   next ← next_token
-  choose (next.sign ≡ signs.CloseBracket) (give tt) (not_in_tag next)
+  choose (next.kind ≡ kinds.CloseBracket) (give tt) (not_in_tag next)
 
 -- a value and the `]`
 unfoldable pub tag_value : Rule (List ℕ)
@@ -52,20 +52,20 @@ tag_value = do
 unfoldable pub tag_rest : List ℕ → Rule Filter
 tag_rest key = do
   next ← next_token
-  choose (next.sign ≡ signs.CloseBracket) (give (HasKey key))
-      (choose (next.sign ≡ signs.Equal) (do
+  choose (next.kind ≡ kinds.CloseBracket) (give (HasKey key))
+      (choose (next.kind ≡ kinds.Equal) (do
         value ← tag_value
         give (KeyIs key value))
-      (choose (next.sign ≡ signs.NotEqual) (do
+      (choose (next.kind ≡ kinds.NotEqual) (do
         value ← tag_value
         give (KeyIsNot key value))
       (not_in_tag next)))
 
--- a filter behind its `[`
+-- a filter after its `[`
 unfoldable pub tag_filter : Rule Filter
 tag_filter = do
   next ← next_token
-  choose (next.sign ≡ signs.Not) (do
+  choose (next.kind ≡ kinds.Not) (do
     key ← tag_value
     give (LacksKey key))
       (do

@@ -3,6 +3,7 @@
 -- letters, digits and `_`; that these are those of ASCII, and that words are spelled so too, is this
 -- project's.
 use Rattle.std.specs.Prelude.{◌≡◌, ℕ, Bool, true, false, ◌==◌, ◌||◌, List, [], ◌∷◌, ◌++◌}
+use Rattle.osm_model.specs.Bytes.{underscore}
 use Rattle.std.specs.Char.{is_ascii_alphabetic, is_ascii_alphanumeric}
 use Rattle.std.specs.List.{list_all}
 use Rattle.ql_syntax.specs.declared.cause.QlCause.{QlCause}
@@ -10,11 +11,11 @@ use Rattle.ql_syntax.specs.declared.cause.QlCause.TheVariants as causes
 
 -- a letter, a digit or `_`
 abbrev pub is_run_byte : ℕ → Bool
-is_run_byte b = is_ascii_alphanumeric b || b == 95
+is_run_byte b = is_ascii_alphanumeric b || b == underscore
 
 -- a letter or `_`
 abbrev pub is_word_start : ℕ → Bool
-is_word_start b = is_ascii_alphabetic b || b == 95
+is_word_start b = is_ascii_alphabetic b || b == underscore
 
 -- the first byte passes the test, where there is one
 abbrev pub begins_with : (ℕ → Bool) → List ℕ → Bool
@@ -32,16 +33,16 @@ pub record IsWord (text word rest : List ℕ) : Type 0 where
   pub run : IsRun text word rest
   pub start : begins_with is_word_start word ≡ true
 
--- the name of a set, behind its dot
+-- the name of a set, after its dot
 abbrev pub IsName : List ℕ → List ℕ → List ℕ → Type 0
-IsName behind name rest = IsWord behind name rest
+IsName after name rest = IsWord after name rest
 
--- the text from dot on begins a token that ends too early: behind its dot the text ends, or something else
+-- the text from dot on begins a token that ends too early: after its dot the text ends, or something else
 -- stands, and then it is the dot that fits nothing
 abbrev pub IsUnfinished : List ℕ → List ℕ → QlCause → List ℕ → Type 0
 IsUnfinished dot [] cause place = (cause ≡ causes.UnexpectedEnd) × (place ≡ [])
-IsUnfinished dot (b ∷ behind) cause place = (cause ≡ causes.UnexpectedCharacter) × (place ≡ dot)
+IsUnfinished dot (b ∷ after) cause place = (cause ≡ causes.UnexpectedCharacter) × (place ≡ dot)
 
--- no word behind a dot, from which on the text is dot
+-- no word after a dot, from which on the text is dot
 abbrev pub IsNoName : List ℕ → List ℕ → QlCause → List ℕ → Type 0
-IsNoName dot behind cause place = (begins_with is_word_start behind ≡ false) × IsUnfinished dot behind cause place
+IsNoName dot after cause place = (begins_with is_word_start after ≡ false) × IsUnfinished dot after cause place

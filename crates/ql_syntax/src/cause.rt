@@ -31,7 +31,7 @@ pub enum QlCause {
     BadBox,
     /// The text ends before the query does. At the text's length.
     UnexpectedEnd,
-    /// Want of memory, at no place: the byte says nothing.
+    /// Out of memory. At byte 0, whatever was read until then.
     Memory,
 }
 

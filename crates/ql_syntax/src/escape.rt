@@ -4,13 +4,13 @@ ghost use Rattle.std.specs.Prelude.{◌≡◌, ◌<◌, ◌≤◌, length, take,
 ghost use Rattle.std.specs.Char.{digit_value};
 ghost use Rattle.std.specs.Str.Parse.{AllDigits, digits_value};
 ghost use Rattle.ql_syntax.specs.QuotedTexts.{escaped};
-ghost use Rattle.ql_syntax.specs.EscapeParts.{Finds};
+ghost use Rattle.ql_syntax.specs.internal.EscapeParts.{Finds};
 ghost use Rattle.std.specs.Prelude.{◌∷◌};
 
-/// What stands behind a `\`.
+/// What stands after a `\`.
 #[derive(Clone, Copy, Debug)]
 pub enum Escape<'a> {
-    /// An escape that stands for this character, and what is left behind it.
+    /// An escape that stands for this character, and what is left after it.
     Character(char, &'a [u8]),
     /// No escape, however the text goes on.
     Bad,
@@ -25,12 +25,12 @@ struct Hexadecimal {
     len: usize,
 }
 
-/// Reads what stands behind a `\`: one of `\`, `"`, `'`, `n`, `t`, or `u` and four hexadecimal digits
+/// Reads what stands after a `\`: one of `\`, `"`, `'`, `n`, `t`, or `u` and four hexadecimal digits
 /// that name a character other than NUL and no surrogate.
-pub fn split_escape(behind: &[u8]) -> Escape<'_>
-    ensures { Finds behind.now result }
+pub fn split_escape(after: &[u8]) -> Escape<'_>
+    ensures { Finds after.now result }
 {
-    match behind {
+    match after {
         [] => Escape::Cut,
         [b'u', digits @ ..] => split_code(digits),
         [letter, rest @ ..] => match escaped(*letter) {
@@ -40,7 +40,7 @@ pub fn split_escape(behind: &[u8]) -> Escape<'_>
     }
 }
 
-/// What the letter behind a `\` stands for.
+/// What the letter after a `\` stands for.
 fn escaped(letter: u8) -> Option<char>
     ensures { result ≡ escaped letter }
 {
@@ -52,7 +52,7 @@ fn escaped(letter: u8) -> Option<char>
     }
 }
 
-/// Reads what stands behind `\u`.
+/// Reads what stands after `\u`.
 fn split_code(text: &[u8]) -> Escape<'_>
     ensures { Finds (117 ∷ text.now) result }
 {

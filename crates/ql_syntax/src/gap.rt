@@ -1,19 +1,19 @@
 //! Blanks and comments.
 
 ghost use Rattle.std.specs.Prelude.{◌≡◌, ◌<◌, ◌≤◌, ℕ, List, length, IfOk, IfErr, MatchOption};
-ghost use Rattle.ql_syntax.specs.Gaps.{gap, is_blank, Between, InLine, InBlock, Behind, Open};
+ghost use Rattle.ql_syntax.specs.Gaps.{gap, is_blank, Between, InLine, InBlock, After, Open};
 
 use crate::cause::QlCause;
-use crate::stop::Stop;
+use crate::syntax_error::SyntaxError;
 
-/// What stands behind the blanks and comments at the front of a text: the longest run of them.
+/// What stands after the blanks and comments at the front of a text: the longest run of them.
 ///
 /// A comment that isn't closed is `Unclosed` at its first byte. Linear in what it skips; it takes no
 /// memory.
 #[inline(always)]
-pub fn skip_gap(text: &[u8]) -> Result<&[u8], Stop<'_>>
-    ensures read { IfOk result (λ rest. gap Between text.now ≡ Behind rest.now) }
-    ensures refused { IfErr result (λ stop. (stop.cause ≡ QlCause.Unclosed) × (gap Between text.now ≡ Open stop.rest.now)) }
+pub fn skip_gap(text: &[u8]) -> Result<&[u8], SyntaxError<'_>>
+    ensures read { IfOk result (λ rest. gap Between text.now ≡ After rest.now) }
+    ensures refused { IfErr result (λ error. (error.cause ≡ QlCause.Unclosed) × (gap Between text.now ≡ Open error.rest.now)) }
     ensures within { IfOk result (λ rest. length rest.now ≤ length text.now) }
 {
     match text {
@@ -22,32 +22,32 @@ pub fn skip_gap(text: &[u8]) -> Result<&[u8], Stop<'_>>
     }
 }
 
-/// What stands behind the blanks and comments at the front of a text.
+/// What stands after the blanks and comments at the front of a text.
 #[inline(never)]
-fn skip_pieces(text: &[u8]) -> Result<&[u8], Stop<'_>>
-    ensures read { IfOk result (λ rest. gap Between text.now ≡ Behind rest.now) }
-    ensures refused { IfErr result (λ stop. (stop.cause ≡ QlCause.Unclosed) × (gap Between text.now ≡ Open stop.rest.now)) }
+fn skip_pieces(text: &[u8]) -> Result<&[u8], SyntaxError<'_>>
+    ensures read { IfOk result (λ rest. gap Between text.now ≡ After rest.now) }
+    ensures refused { IfErr result (λ error. (error.cause ≡ QlCause.Unclosed) × (gap Between text.now ≡ Open error.rest.now)) }
     ensures within { IfOk result (λ rest. length rest.now ≤ length text.now) }
 {
     let mut rest = text;
-    while let Some(behind) = behind_piece(rest)? {
-        rest = behind;
+    while let Some(after) = after_piece(rest)? {
+        rest = after;
     }
     Ok(rest)
 }
 
-/// What stands behind the blank or the comment that comes first, where one does.
-fn behind_piece(text: &[u8]) -> Result<Option<&[u8]>, Stop<'_>>
-    ensures read { IfOk result (λ behind. MatchOption behind (gap Between text.now ≡ Behind text.now)
+/// What stands after the blank or the comment that comes first, where one does.
+fn after_piece(text: &[u8]) -> Result<Option<&[u8]>, SyntaxError<'_>>
+    ensures read { IfOk result (λ after. MatchOption after (gap Between text.now ≡ After text.now)
         (λ rest. (gap Between text.now ≡ gap Between rest.now) × (length rest.now < length text.now))) }
-    ensures refused { IfErr result (λ stop. (stop.cause ≡ QlCause.Unclosed) × (gap Between text.now ≡ Open stop.rest.now)) }
+    ensures refused { IfErr result (λ error. (error.cause ≡ QlCause.Unclosed) × (gap Between text.now ≡ Open error.rest.now)) }
 {
     match text {
         [first, rest @ ..] if is_blank(*first) => Ok(Some(rest)),
         [b'/', b'/', rest @ ..] => Ok(Some(line_end(rest))),
-        [b'/', b'*', rest @ ..] => match behind_block(rest) {
-            Some(behind) => Ok(Some(behind)),
-            None => Err(Stop::at(QlCause::Unclosed, text)),
+        [b'/', b'*', rest @ ..] => match after_block(rest) {
+            Some(after) => Ok(Some(after)),
+            None => Err(SyntaxError::at(QlCause::Unclosed, text)),
         },
         _ => Ok(None),
     }
@@ -73,8 +73,8 @@ fn line_end(text: &[u8]) -> &[u8]
     &[]
 }
 
-/// What stands behind the `*/` that comes first, where one does.
-fn behind_block(text: &[u8]) -> Option<&[u8]>
+/// What stands after the `*/` that comes first, where one does.
+fn after_block(text: &[u8]) -> Option<&[u8]>
     ensures { MatchOption result ((comment : List ℕ) → gap (InBlock comment) text.now ≡ Open comment)
         (λ rest. ((comment : List ℕ) → gap (InBlock comment) text.now ≡ gap Between rest.now) × (length rest.now ≤ length text.now)) }
 {

@@ -1,35 +1,12 @@
-//! Laws: at a place stands one token at most, or one fault; and bytes are one query at most, or have one
-//! fault.
+//! Laws: bytes are one query at most, or have one fault.
 
 ghost use Rattle.std.specs.Prelude.{◌≡◌, ◌≤◌, ◌⊎◌, ◌-◌, ℕ, List, [], length, drop};
-ghost use Rattle.osm_model.specs.Degrees.{Decimal};
 ghost use Rattle.ql_syntax.specs.Grammar as grammar;
-ghost use Rattle.ql_syntax.specs.Words.{IsName, IsNoName};
-ghost use Rattle.ql_syntax.specs.Numbers.{IsNumber, IsNoNumber};
 ghost use Rattle.ql_syntax.specs.LawfulQueries.{IsQuery};
 ghost use Rattle.ql_syntax.specs.Queries.{HasFault, Reads, query};
-ghost use Rattle.ql_syntax.specs.QuotedTexts.{IsQuoted, IsNotQuoted};
 ghost use Rattle.ql_syntax.specs.Statements.{Statement};
 ghost use Rattle.ql_syntax.specs.declared.cause.QlCause.{QlCause};
 ghost use Rattle.ql_syntax.specs.declared.fault.QlFault.{QlFault};
-
-/// A law: behind a dot stands one name of a set at most, and then no fault of one.
-pub fn one_name()
-    ensures one { (behind name other rest left : List ℕ) → IsName behind name rest → IsName behind other left → (name ≡ other) × (rest ≡ left) }
-    ensures never_both { (dot behind name rest : List ℕ) (cause : QlCause) (at : List ℕ) → IsName behind name rest → IsNoName dot behind cause at → ⊥ }
-{}
-
-/// A law: at a place stands one number at most, and then no fault of one.
-pub fn one_number()
-    ensures one { (text : List ℕ) (number other : Decimal) (rest left : List ℕ) → IsNumber text number rest → IsNumber text other left → (number ≡ other) × (rest ≡ left) }
-    ensures never_both { (text : List ℕ) (number : Decimal) (rest : List ℕ) (cause : QlCause) (at : List ℕ) → IsNumber text number rest → IsNoNumber text cause at → ⊥ }
-{}
-
-/// A law: at a quote stands one text at most, and then no fault of one.
-pub fn one_text()
-    ensures one { (text bytes other rest left : List ℕ) → IsQuoted text bytes rest → IsQuoted text other left → (bytes ≡ other) × (rest ≡ left) }
-    ensures never_both { (text bytes rest : List ℕ) (cause : QlCause) (at : List ℕ) → IsQuoted text bytes rest → IsNotQuoted text cause at → ⊥ }
-{}
 
 /// A law: bytes read as one query at most.
 pub fn one_query()
@@ -62,13 +39,13 @@ pub fn fault_place()
 {}
 
 /// A law: what the rules read is spelled by the grammar and keeps what every query does, with nothing left
-/// behind it; and what is spelled so and keeps that, the rules read.
+/// after it; and what is spelled so and keeps that, the rules read.
 pub fn one_language()
     ensures spelled { (bytes : List ℕ) (statements : List Statement) (rest : List ℕ) → query.reads bytes statements rest → (rest ≡ []) × grammar.query statements bytes [] × IsQuery statements }
     ensures read { (bytes : List ℕ) (statements : List Statement) → grammar.query statements bytes [] → IsQuery statements → query.reads bytes statements [] }
 {}
 
-/// A law: where the rules stop is what is left of the text behind some of its bytes.
+/// A law: where the rules error is what is left of the text after some of its bytes.
 pub fn stops_within()
     ensures { (bytes : List ℕ) (cause : QlCause) (place : List ℕ) → query.stops bytes cause place → drop (length bytes - length place) bytes ≡ place }
 {}

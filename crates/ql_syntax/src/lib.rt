@@ -1,7 +1,7 @@
 //! Queries of the Overpass query language, as far as the profile goes, read from text.
 //!
 //! A place in a text is what is left of it from there on. Each reader of a token takes a text whose
-//! front is to be read, and gives what it found and what is left, or a stop: a cause, and the place.
+//! front is to be read, and gives what it found and what is left, or an error: a cause, and the place.
 #![tactic(auto)]
 
 mod area;
@@ -20,23 +20,24 @@ mod out_word;
 mod parser;
 mod path;
 mod pick;
-mod points;
 mod ql_text;
 mod query;
 mod quoted;
 mod recursion;
+mod round;
 mod selection;
 mod selector;
 mod selector_word;
 mod setting_word;
 mod settings;
-mod sign;
 mod statement;
 mod statement_word;
 mod statements;
-mod stop;
+mod syntax_error;
 mod tag_filter;
 mod token;
+mod token_kind;
+mod token_readers;
 mod whole;
 mod word;
 
@@ -44,8 +45,8 @@ pub use cause::QlCause;
 pub use fault::QlFault;
 pub use filter::Filter;
 pub use laws::{
-    fault_place, lawful_queries, never_both, one_fault, one_language, one_name, one_number,
-    one_of_both, one_query, one_text, stops_within,
+    fault_place, lawful_queries, never_both, one_fault, one_language, one_of_both, one_query,
+    stops_within,
 };
 pub use name::Name;
 pub use parser::parse;

@@ -16,7 +16,7 @@ where
     Ok(list)
 }
 
-/// The list with this item behind the others.
+/// The list with this item after the others.
 #[inline(always)]
 pub fn appended<T>(list: Vec<T>, item: T) -> Result<Vec<T>, AllocError>
 where

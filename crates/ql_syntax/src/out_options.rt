@@ -1,20 +1,21 @@
 //! What an out statement says of its answer.
 
 ghost use Rattle.std.specs.Prelude.{ℕ, List};
-ghost use Rattle.ql_syntax.specs.Following.{Keeps};
+ghost use Rattle.ql_syntax.specs.internal.Following.{Keeps};
 ghost use Rattle.ql_syntax.specs.Outs.{once, with_word, with_number, out_round, out_options};
-ghost use Rattle.ql_syntax.specs.Views.{number_of, the_options, the_option_round, word_of};
+ghost use Rattle.ql_syntax.specs.internal.Views.{number_of, the_options, the_option_round, word_of};
 ghost use Rattle.std.specs.Str.Parse.{AllDigits};
 
 use crate::cause::QlCause;
 use crate::out_word::{OutWord, out_word};
-use crate::points::{NumberSpot, WordSpot, begins_number, number_at, word_at};
-use crate::sign::Sign;
-use crate::stop::Stop;
+use crate::round::Round;
+use crate::syntax_error::SyntaxError;
 use crate::token::next_token;
+use crate::token_kind::TokenKind;
+use crate::token_readers::{NumberSpot, WordSpot, number_at, word_at};
 use opl_codec::OutMode;
 
-/// What the words and the number behind `out` say.
+/// What the words and the number after `out` say.
 #[derive(Clone, Copy, Debug)]
 pub struct OutOptions {
     /// The mode.
@@ -25,11 +26,11 @@ pub struct OutOptions {
     pub limit: Option<u64>,
 }
 
-/// The options behind `out`, and what is left behind their `;`.
+/// The options after `out`, and what is left after their `;`.
 ///
 /// `UnexpectedWord` at a second mode, order or number, and at a word that is none of them;
 /// `OutsideProfile` at a word that the profile leaves out, and at a `(`.
-pub fn read_out_options(text: &[u8]) -> Result<(OutOptions, &[u8]), Stop<'_>>
+pub fn read_out_options(text: &[u8]) -> Result<(OutOptions, &[u8]), SyntaxError<'_>>
     ensures { Keeps out_options the_options text.now result }
 {
     let mut options = OutOptions {
@@ -39,43 +40,45 @@ pub fn read_out_options(text: &[u8]) -> Result<(OutOptions, &[u8]), Stop<'_>>
     };
     let mut place = text;
     loop {
-        let (more, seen, rest) = read_round(options, place)?;
-        if !more {
-            return Ok((seen, rest));
+        let (round, seen, rest) = read_round(options, place)?;
+        match round {
+            Round::More => {
+                options = seen;
+                place = rest;
+            }
+            Round::Done => return Ok((seen, rest)),
         }
-        options = seen;
-        place = rest;
     }
 }
 
-/// The options with one more, whether another may follow, and what is left behind it.
+/// The options with one more, whether another may follow, and what is left after it.
 fn read_round<'a>(
     seen: OutOptions,
     text: &'a [u8],
-) -> Result<(bool, OutOptions, &'a [u8]), Stop<'a>>
+) -> Result<(Round, OutOptions, &'a [u8]), SyntaxError<'a>>
     ensures { Keeps (out_round seen) the_option_round text.now result }
 {
     let token = next_token(text)?;
-    if token.is(Sign::Word) {
-        let word = word_at(token);
-        let more = seen.with_word(word)?;
-        Ok((true, more, word.rest))
-    } else if begins_number(token.sign) {
-        let number = number_at(token)?;
-        let more = seen.with_number(number)?;
-        Ok((true, more, number.number.rest))
-    } else if token.is(Sign::OpenParenthesis) {
-        Err(Stop::at(QlCause::OutsideProfile, token.place))
-    } else if token.is(Sign::Semicolon) {
-        Ok((false, seen, token.rest))
-    } else {
-        Err(token.unexpected())
+    match token.kind {
+        TokenKind::Word => {
+            let word = word_at(token);
+            let more = seen.with_word(word)?;
+            Ok((Round::More, more, word.rest))
+        }
+        TokenKind::Number | TokenKind::Minus => {
+            let number = number_at(token)?;
+            let more = seen.with_number(number)?;
+            Ok((Round::More, more, number.number.rest))
+        }
+        TokenKind::OpenParenthesis => { Err(SyntaxError::at(QlCause::OutsideProfile, token.place)) }
+        TokenKind::Semicolon => Ok((Round::Done, seen, token.rest)),
+        _ => Err(token.unexpected()),
     }
 }
 
 impl OutOptions {
     /// The options with this word too.
-    fn with_word(self, word: WordSpot<'_>) -> Result<OutOptions, Stop<'_>>
+    fn with_word(self, word: WordSpot<'_>) -> Result<OutOptions, SyntaxError<'_>>
         ensures { (text : List ℕ) → Keeps (with_word self (word_of word.entry)) (λ options. (options, text)) text result }
     {
         match out_word(word.word) {
@@ -95,13 +98,13 @@ impl OutOptions {
                     ..self
                 },
             ),
-            OutWord::Outside => Err(Stop::at(QlCause::OutsideProfile, word.place)),
-            OutWord::Unknown => Err(Stop::at(QlCause::UnexpectedWord, word.place)),
+            OutWord::LeftOut => Err(SyntaxError::at(QlCause::OutsideProfile, word.place)),
+            OutWord::Unknown => Err(SyntaxError::at(QlCause::UnexpectedWord, word.place)),
         }
     }
 
     /// The options with this number too.
-    fn with_number(self, number: NumberSpot<'_>) -> Result<OutOptions, Stop<'_>>
+    fn with_number(self, number: NumberSpot<'_>) -> Result<OutOptions, SyntaxError<'_>>
         requires { AllDigits 10 number.number.whole.now }
         ensures { (text : List ℕ) → Keeps (with_number self (number_of number.entry)) (λ options. (options, text)) text result }
     {
@@ -115,11 +118,11 @@ impl OutOptions {
 }
 
 /// These options, where what they say stood not yet; else `UnexpectedWord` at its place.
-fn once(stood: bool, place: &[u8], options: OutOptions) -> Result<OutOptions, Stop<'_>>
+fn once(stood: bool, place: &[u8], options: OutOptions) -> Result<OutOptions, SyntaxError<'_>>
     ensures { (text : List ℕ) → Keeps (once stood place.now options) (λ o. (o, text)) text result }
 {
     if stood {
-        Err(Stop::at(QlCause::UnexpectedWord, place))
+        Err(SyntaxError::at(QlCause::UnexpectedWord, place))
     } else {
         Ok(options)
     }

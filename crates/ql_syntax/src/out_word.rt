@@ -1,4 +1,4 @@
-//! The words behind `out`.
+//! The words after `out`.
 
 ghost use Rattle.std.specs.Prelude.{◌≡◌, ◌||◌, bytes_eq, codes};
 ghost use Rattle.ql_syntax.specs.OutWords.{out_word};
@@ -6,7 +6,7 @@ ghost use Rattle.ql_syntax.specs.OutWords.{out_word};
 use crate::word::is;
 use opl_codec::OutMode;
 
-/// What a word behind `out` asks for.
+/// What a word after `out` asks for.
 #[derive(Clone, Copy, Debug, PartialEq, Eq)]
 pub enum OutWord {
     /// A mode: `ids`, `tags`, `skel`, `body` or `meta`.
@@ -14,7 +14,7 @@ pub enum OutWord {
     /// An order, which has no effect: `asc` or `qt`.
     Order,
     /// What the profile leaves out.
-    Outside,
+    LeftOut,
     /// Nothing.
     Unknown,
 }
@@ -35,15 +35,15 @@ pub fn out_word(word: &[u8]) -> OutWord
         OutWord::Mode(OutMode::Meta)
     } else if is(word, b"asc") || is(word, b"qt") {
         OutWord::Order
-    } else if is_outside(word) {
-        OutWord::Outside
+    } else if is_left_out(word) {
+        OutWord::LeftOut
     } else {
         OutWord::Unknown
     }
 }
 
 /// Whether the profile leaves out what this word asks for.
-fn is_outside(word: &[u8]) -> bool
+fn is_left_out(word: &[u8]) -> bool
     ensures { result ≡ (bytes_eq word.now (codes "count") || bytes_eq word.now (codes "geom") || bytes_eq word.now (codes "center") || bytes_eq word.now (codes "bb") || bytes_eq word.now (codes "noids")) }
 {
     is(word, b"count")

@@ -1,12 +1,13 @@
 //! Queries, read from text.
 
 ghost use Rattle.std.specs.Prelude.{◌≡◌, ◌⊎◌, ◌-◌, List, [], length, IfOk, IfErr};
-ghost use Rattle.ql_syntax.specs.Following.{Follows};
-ghost use Rattle.ql_syntax.specs.Queries.{HasFault, Reads, query};
+ghost use Rattle.ql_syntax.specs.internal.Following.{Follows};
+ghost use Rattle.ql_syntax.specs.Queries.{HasFault, Reads, memory_fault, query};
 ghost use Rattle.ql_syntax.specs.Rules.{gather};
 ghost use Rattle.ql_syntax.specs.Statements.{Statement};
 ghost use Rattle.ql_syntax.specs.StatementRules.{top_statement};
-ghost use Rattle.ql_syntax.specs.StatementViews.{statements_of, the_statements};
+ghost use Rattle.ql_syntax.specs.StatementViews.{statements_of};
+ghost use Rattle.ql_syntax.specs.internal.StatementReaders.{the_statements};
 ghost use Rattle.ql_syntax.specs.declared.fault.QlFault.{QlFault};
 
 use crate::cause::QlCause;
@@ -16,18 +17,18 @@ use crate::query::Query;
 use crate::settings::skip_settings;
 use crate::statement::Stmt;
 use crate::statements::read_top_statement;
-use crate::stop::Stop;
+use crate::syntax_error::SyntaxError;
 use simdutf8::compat::from_utf8;
 use std::alloc::Global;
 
 /// The most bytes that a query has.
-const MAX_LEN: usize = 65_536;
+pub(crate) const TEXT_LIMIT: usize = 65_536;
 
 /// Reads a query: settings and statements of the profile, at most 65,536 bytes.
 ///
 /// Refused by the first of these that holds: `TooLong` at byte 65,536; `NotUtf8` at the first byte that
 /// isn't; else the first cause from the left for which the text can't go on as a query, at its place.
-/// `Memory`, at no place, where memory runs out: then the same call may be made again. It goes over the
+/// `Memory` at byte 0 where memory runs out: the same call may then be made again. It goes over the
 /// text once. Its recursion is no deeper than unions and differences stand in one another, at most 32.
 ///
 /// Source: the Overpass QL page of the OpenStreetMap wiki; which part of it is read, limits, causes and
@@ -35,12 +36,12 @@ const MAX_LEN: usize = 65_536;
 pub fn parse(alloc: Global, text: &[u8]) -> Result<Query<'_>, QlFault>
     // What is read is spelled so.
     ensures read { IfOk result (λ query. Reads text.now (statements_of query)) }
-    // What is spelled so is read, memory aside.
-    ensures only { (statements : List Statement) → Reads text.now statements → IfOk result (λ query. statements_of query ≡ statements) × IfErr result (λ fault. fault.cause ≡ QlCause.Memory) }
-    // Which fault it is.
-    ensures refused { IfErr result (λ fault. (fault.cause ≡ QlCause.Memory) ⊎ HasFault text.now fault) }
-    // What has a fault is refused with it, memory aside.
-    ensures faults { (fault : QlFault) → HasFault text.now fault → IfOk result (λ _. ⊥) × IfErr result (λ told. (told.cause ≡ QlCause.Memory) ⊎ (told ≡ fault)) }
+    // What is spelled so is read, unless memory runs out.
+    ensures only { (statements : List Statement) → Reads text.now statements → IfOk result (λ query. statements_of query ≡ statements) × IfErr result (λ fault. fault ≡ memory_fault) }
+    // Which fault it is: out of memory, at byte 0, or the text's own.
+    ensures refused { IfErr result (λ fault. (fault ≡ memory_fault) ⊎ HasFault text.now fault) }
+    // What has a fault is refused with it, unless memory runs out.
+    ensures faults { (fault : QlFault) → HasFault text.now fault → IfOk result (λ _. ⊥) × IfErr result (λ told. (told ≡ memory_fault) ⊎ (told ≡ fault)) }
 {
     read_text(alloc, text)
 }
@@ -48,12 +49,12 @@ pub fn parse(alloc: Global, text: &[u8]) -> Result<Query<'_>, QlFault>
 /// The query that a text is, or its fault.
 fn read_text(alloc: Global, text: &[u8]) -> Result<Query<'_>, QlFault>
     ensures read { IfOk result (λ query. Reads text.now (statements_of query)) }
-    ensures refused { IfErr result (λ fault. (fault.cause ≡ QlCause.Memory) ⊎ HasFault text.now fault) }
+    ensures refused { IfErr result (λ fault. (fault ≡ memory_fault) ⊎ HasFault text.now fault) }
 {
-    if text.len() > MAX_LEN {
+    if text.len() > TEXT_LIMIT {
         return Err(QlFault {
             cause: QlCause::TooLong,
-            byte: MAX_LEN,
+            byte: TEXT_LIMIT,
         });
     }
     if let Err(error) = from_utf8(text) {
@@ -64,23 +65,28 @@ fn read_text(alloc: Global, text: &[u8]) -> Result<Query<'_>, QlFault>
     }
     match read_query(alloc, text) {
         Ok((stmts, _)) => Ok(Query::new(stmts)),
-        Err(stop) => Err(fault_at(text, stop)),
+        Err(error) => Err(fault_at(text, error)),
     }
 }
 
-/// The fault of a text that can't go on at this place.
-fn fault_at(text: &[u8], stop: Stop<'_>) -> QlFault
-    ensures cause { result.cause ≡ stop.entry.cause }
-    ensures byte { result.byte ≡ length text.now - length stop.entry.rest.now }
+/// The fault of a text that can't go on at this place. Out of memory has no place.
+fn fault_at(text: &[u8], error: SyntaxError<'_>) -> QlFault
+    ensures cause { result.cause ≡ error.entry.cause }
+    ensures memory { error.entry.cause ≡ QlCause.Memory → result.byte ≡ 0 }
+    ensures byte { (error.entry.cause ≡ QlCause.Memory) ⊎ (result.byte ≡ length text.now - length error.entry.rest.now) }
 {
+    let byte = match error.cause {
+        QlCause::Memory => 0,
+        _ => text.len().saturating_sub(error.rest.len()),
+    };
     QlFault {
-        cause: stop.cause,
-        byte: text.len().saturating_sub(stop.rest.len()),
+        cause: error.cause,
+        byte,
     }
 }
 
-/// The statements of a text, and what is left behind them: nothing.
-fn read_query(alloc: Global, text: &[u8]) -> Result<(Vec<Stmt<'_>>, &[u8]), Stop<'_>>
+/// The statements of a text, and what is left after them: nothing.
+fn read_query(alloc: Global, text: &[u8]) -> Result<(Vec<Stmt<'_>>, &[u8]), SyntaxError<'_>>
     ensures { Follows query the_statements text.now result }
 {
     let rest = skip_settings(text)?;
@@ -88,7 +94,7 @@ fn read_query(alloc: Global, text: &[u8]) -> Result<(Vec<Stmt<'_>>, &[u8]), Stop
 }
 
 /// The statements up to the end of the text, perhaps none.
-fn read_statements(alloc: Global, text: &[u8]) -> Result<(Vec<Stmt<'_>>, &[u8]), Stop<'_>>
+fn read_statements(alloc: Global, text: &[u8]) -> Result<(Vec<Stmt<'_>>, &[u8]), SyntaxError<'_>>
     ensures { Follows (gather top_statement []) the_statements text.now result }
 {
     let mut statements = Vec::new(alloc);

@@ -272,6 +272,7 @@ fn refuses_what_the_profile_leaves_out(rt: HostRuntime) {
 fn refuses_words(rt: HostRuntime) {
     for (text, byte) in [
         ("out ids ids;", 8),
+        ("out 1 2.;", 6),
         ("nodes;", 0),
         ("node out;", 5),
         ("(node out;);", 6),
@@ -300,6 +301,8 @@ fn refuses_characters(rt: HostRuntime) {
         ("node[\"a\";", 8),
         ("node(1.);", 6),
         ("node(1.", 6),
+        ("node(1.a);", 6),
+        ("node(99999999999999999999.);", 25),
         ("node(-;", 6),
         ("node[a=1.5];", 8),
         ("node[a 1];", 7),
@@ -342,6 +345,12 @@ fn refuses_numbers_boxes_and_texts(rt: HostRuntime) {
         ("node(id:1,1.5,x", QlCause::NumberOutOfRange, 10),
         ("node(id:9223372036854775808", QlCause::NumberOutOfRange, 8),
         ("out 18446744073709551616;", QlCause::NumberOutOfRange, 4),
+        ("out -1.;", QlCause::NumberOutOfRange, 4),
+        (
+            "node(id:99999999999999999999.);",
+            QlCause::NumberOutOfRange,
+            8,
+        ),
         ("node(1,2,0,3);out;", QlCause::BadBox, 5),
         ("node(-90.0000001,2,0,3);", QlCause::BadBox, 5),
         ("node(1,180.00000000001,2,3);", QlCause::BadBox, 5),
@@ -468,7 +477,7 @@ fn beginnings_of_queries_have_one_meaning(rt: HostRuntime) -> Result<(), Fail> {
 fn reads_again(rt: &impl Abort, alloc: Global, text: &[u8], wanted: &[u8]) -> Result<(), Fail> {
     let mut found = spelled(alloc, text);
     if let Err(fault) = &found {
-        assert_eq!(rt; fault.cause, QlCause::Memory);
+        assert_eq!(rt; (fault.cause, fault.byte), (QlCause::Memory, 0));
         found = spelled(alloc, text);
     }
     match found {

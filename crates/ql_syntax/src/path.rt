@@ -1,16 +1,16 @@
 //! Paths of filters.
 
-/// A way from the objects of a set to those that a filter keeps.
+/// How a filter leads from the objects of a set to those that it keeps.
 #[derive(Clone, Copy, Debug, PartialEq, Eq)]
 pub enum Path {
-    /// From ways to their nodes, or from relations to the ways in them.
+    /// From the ways of a set to the nodes that they hold.
     W,
-    /// From relations to what is a member of them.
+    /// From the relations of a set to their members.
     R,
-    /// From nodes to the ways and relations that hold them.
+    /// From the nodes of a set to the ways and relations that hold them.
     Bn,
-    /// From ways to the relations that hold them.
+    /// From the ways of a set to the relations that hold them.
     Bw,
-    /// From relations to the relations that hold them.
+    /// From the relations of a set to the relations that hold them.
     Br,
 }

@@ -3,17 +3,17 @@
 ghost use Rattle.std.specs.Prelude.{◌≡◌, ◌≤◌, ◌<◌, ℕ, true, length, take, drop, slice_index, IfOk, IfErr, IfSome, MatchOption};
 ghost use Rattle.std.specs.List.{AllByRecursion};
 ghost use Rattle.ql_syntax.specs.Words.{begins_with};
-ghost use Rattle.ql_syntax.specs.Places.{IsMemoryOr};
+ghost use Rattle.ql_syntax.specs.internal.Places.{IsMemoryOr};
 ghost use Rattle.ql_syntax.specs.QuotedTexts.{IsQuoted, IsNotQuoted, StopsInside, is_quote};
-ghost use Rattle.ql_syntax.specs.QuotedSteps.{EndsLiterals, Takes, Closes, IsLiteral};
+ghost use Rattle.ql_syntax.specs.internal.QuotedSteps.{EndsLiterals, Takes, Closes, IsLiteral};
 
 use crate::cause::QlCause;
 use crate::escape::{Escape, split_escape};
 use crate::ql_text::QlText;
-use crate::stop::Stop;
+use crate::syntax_error::SyntaxError;
 use std::alloc::{AllocError, Global};
 
-/// The text between quotes at the front of a text, and what is left behind it.
+/// The text between quotes at the front of a text, and what is left after it.
 #[derive(Debug, Drop)]
 pub struct Quoted<'a> {
     /// The text, with its escapes read.
@@ -34,10 +34,10 @@ pub fn begins_quoted(text: &[u8]) -> bool
 /// It is `Unclosed` at the quote where the text ends inside, also inside an escape, `BadEscape` at the
 /// `\` of what is no escape, and `UnexpectedCharacter` at a NUL: the first of these from the left.
 /// Linear; it takes memory for a text with escapes alone.
-pub fn read_quoted(alloc: Global, text: &[u8]) -> Result<Quoted<'_>, Stop<'_>>
+pub fn read_quoted(alloc: Global, text: &[u8]) -> Result<Quoted<'_>, SyntaxError<'_>>
     requires { begins_with is_quote text.now ≡ true }
     ensures read { IfOk result (λ quoted. IsQuoted text.now quoted.text quoted.rest.now) }
-    ensures refused { IfErr result (λ stop. IsMemoryOr (IsNotQuoted text.now) stop) }
+    ensures refused { IfErr result (λ error. IsMemoryOr (IsNotQuoted text.now) error) }
 {
     if let Some(quoted) = split_literal(text) {
         return Ok(quoted);
@@ -75,11 +75,11 @@ fn take_pieces<'a>(
     text: &'a [u8],
     place: &'a [u8],
     content: &mut Vec<u8>,
-) -> Result<Option<&'a [u8]>, Stop<'a>>
+) -> Result<Option<&'a [u8]>, SyntaxError<'a>>
     requires { 0 < length text.now }
     ensures read { IfOk result (λ next. MatchOption next (Closes (slice_index text.now 0) place.now content.old.items content.new.items)
         (λ rest. Takes (slice_index text.now 0) place.now rest.now content.old.items content.new.items)) }
-    ensures refused { IfErr result (λ stop. IsMemoryOr (StopsInside text.now place.now) stop) }
+    ensures refused { IfErr result (λ error. IsMemoryOr (StopsInside text.now place.now) error) }
 {
     let (literal, rest) = place.split_at(literal_len(text[0], place));
     if !literal.is_empty() {
@@ -87,9 +87,9 @@ fn take_pieces<'a>(
         return Ok(Some(rest));
     }
     match place {
-        [] => Err(Stop::at(QlCause::Unclosed, text)),
+        [] => Err(SyntaxError::at(QlCause::Unclosed, text)),
         [b'\\', ..] => Ok(Some(take_escape(text, place, content)?)),
-        [0, ..] => Err(Stop::at(QlCause::UnexpectedCharacter, place)),
+        [0, ..] => Err(SyntaxError::at(QlCause::UnexpectedCharacter, place)),
         _ => Ok(None),
     }
 }
@@ -99,11 +99,11 @@ fn take_escape<'a>(
     text: &'a [u8],
     place: &'a [u8],
     content: &mut Vec<u8>,
-) -> Result<&'a [u8], Stop<'a>>
+) -> Result<&'a [u8], SyntaxError<'a>>
     requires some { 0 < length place.now }
     requires escape { slice_index place.now 0 ≡ 92 }
     ensures read { IfOk result (λ rest. (quote : ℕ) → Takes quote place.now rest.now content.old.items content.new.items) }
-    ensures refused { IfErr result (λ stop. IsMemoryOr (StopsInside text.now place.now) stop) }
+    ensures refused { IfErr result (λ error. IsMemoryOr (StopsInside text.now place.now) error) }
 {
     match split_escape(&place[1..]) {
         Escape::Character(character, rest) => {
@@ -111,8 +111,8 @@ fn take_escape<'a>(
             content.extend_from_slice(character.encode_utf8(&mut buffer).as_bytes())?;
             Ok(rest)
         }
-        Escape::Bad => Err(Stop::at(QlCause::BadEscape, place)),
-        Escape::Cut => Err(Stop::at(QlCause::Unclosed, text)),
+        Escape::Bad => Err(SyntaxError::at(QlCause::BadEscape, place)),
+        Escape::Cut => Err(SyntaxError::at(QlCause::Unclosed, text)),
     }
 }
 

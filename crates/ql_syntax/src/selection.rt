@@ -1,26 +1,30 @@
 //! Query statements.
 
 ghost use Rattle.std.specs.Prelude.{◌≡◌, ◌++◌, ◌∷◌, [], IfOk};
-ghost use Rattle.ql_syntax.specs.FilterViews.{the_other_filter, the_filters};
-ghost use Rattle.ql_syntax.specs.Following.{Follows};
+ghost use Rattle.ql_syntax.specs.internal.FilterReaders.{the_other_filter, the_filters};
+ghost use Rattle.ql_syntax.specs.internal.Following.{Follows};
 ghost use Rattle.ql_syntax.specs.Rules.{gather};
 ghost use Rattle.ql_syntax.specs.Selections.{a_filter, selection};
-ghost use Rattle.ql_syntax.specs.StatementViews.{the_statement};
+ghost use Rattle.ql_syntax.specs.internal.StatementReaders.{the_statement};
 
 use crate::filter::Filter;
 use crate::list::{appended, list_of};
 use crate::pick::Pick;
-use crate::points::{name_behind, read_into};
 use crate::selector::read_selector;
-use crate::sign::Sign;
 use crate::statement::Stmt;
-use crate::stop::Stop;
+use crate::syntax_error::SyntaxError;
 use crate::tag_filter::read_tag_filter;
 use crate::token::next_token;
+use crate::token_kind::TokenKind;
+use crate::token_readers::{name_after, read_into};
 use std::alloc::{AllocError, Global};
 
-/// The query statement behind the word of its kind, and what is left behind its `;`.
-pub fn read_selection(alloc: Global, kind: Pick, text: &[u8]) -> Result<(Stmt<'_>, &[u8]), Stop<'_>>
+/// The query statement after the word of its kind, and what is left after its `;`.
+pub fn read_selection(
+    alloc: Global,
+    kind: Pick,
+    text: &[u8],
+) -> Result<(Stmt<'_>, &[u8]), SyntaxError<'_>>
     ensures { Follows (selection kind) the_statement text.now result }
 {
     let (filters, rest) = read_filters(alloc, kind, text)?;
@@ -35,12 +39,12 @@ pub fn read_selection(alloc: Global, kind: Pick, text: &[u8]) -> Result<(Stmt<'_
     ))
 }
 
-/// The filters on objects of this kind, perhaps none, and what is left behind them.
+/// The filters on objects of this kind, perhaps none, and what is left after them.
 fn read_filters(
     alloc: Global,
     kind: Pick,
     text: &[u8],
-) -> Result<(Vec<Filter<'_>>, &[u8]), Stop<'_>>
+) -> Result<(Vec<Filter<'_>>, &[u8]), SyntaxError<'_>>
     ensures { Follows (gather (a_filter kind) []) the_filters text.now result }
 {
     let mut filters = Vec::new(alloc);
@@ -55,7 +59,7 @@ fn read_filters(
     }
 }
 
-/// The filters with this one behind the others. Most statements have one filter, so that the first takes
+/// The filters with this one after the others. Most statements have one filter, so that the first takes
 /// memory for itself alone.
 #[inline(always)]
 fn with_filter<'a>(
@@ -77,20 +81,23 @@ fn read_filter(
     alloc: Global,
     kind: Pick,
     text: &[u8],
-) -> Result<(Option<Filter<'_>>, &[u8]), Stop<'_>>
+) -> Result<(Option<Filter<'_>>, &[u8]), SyntaxError<'_>>
     ensures { Follows (a_filter kind) the_other_filter text.now result }
 {
     let token = next_token(text)?;
-    if token.is(Sign::Dot) {
-        let (name, rest) = name_behind(token)?;
-        Ok((Some(Filter::InSet(name)), rest))
-    } else if token.is(Sign::OpenBracket) {
-        let (filter, rest) = read_tag_filter(alloc, token.rest)?;
-        Ok((Some(filter), rest))
-    } else if token.is(Sign::OpenParenthesis) {
-        let (filter, rest) = read_selector(alloc, kind, token.rest)?;
-        Ok((Some(filter), rest))
-    } else {
-        Ok((None, token.place))
+    match token.kind {
+        TokenKind::Dot => {
+            let (name, rest) = name_after(token)?;
+            Ok((Some(Filter::InSet(name)), rest))
+        }
+        TokenKind::OpenBracket => {
+            let (filter, rest) = read_tag_filter(alloc, token.rest)?;
+            Ok((Some(filter), rest))
+        }
+        TokenKind::OpenParenthesis => {
+            let (filter, rest) = read_selector(alloc, kind, token.rest)?;
+            Ok((Some(filter), rest))
+        }
+        _ => Ok((None, token.place)),
     }
 }

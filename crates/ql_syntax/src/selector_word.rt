@@ -1,7 +1,7 @@
 //! The words that may begin a filter in parentheses.
 
 ghost use Rattle.std.specs.Prelude.{◌≡◌};
-ghost use Rattle.ql_syntax.specs.SelectorWords.{path_of, is_outside, selector_word};
+ghost use Rattle.ql_syntax.specs.SelectorWords.{path_of, is_left_out, selector_word};
 
 use crate::path::Path;
 use crate::pick::Pick;
@@ -15,23 +15,23 @@ pub enum SelectorWord {
     /// A path that the kind allows.
     Along(Path),
     /// What the profile leaves out.
-    Outside,
+    LeftOut,
     /// No filter.
     Unknown,
 }
 
-/// What this word begins behind a kind.
+/// What this word begins after a kind.
 pub fn selector_word(pick: Pick, word: &[u8]) -> SelectorWord
     ensures { result ≡ selector_word pick word.now }
 {
     if is(word, b"id") {
         SelectorWord::Ids
-    } else if is_outside(word) {
-        SelectorWord::Outside
+    } else if is_left_out(word) {
+        SelectorWord::LeftOut
     } else {
         match path_of(word) {
             Some(path) if pick.allows(path) => SelectorWord::Along(path),
-            Some(_) => SelectorWord::Outside,
+            Some(_) => SelectorWord::LeftOut,
             None => SelectorWord::Unknown,
         }
     }
@@ -57,8 +57,8 @@ fn path_of(word: &[u8]) -> Option<Path>
 }
 
 /// Whether the profile leaves out the filter that this word begins.
-fn is_outside(word: &[u8]) -> bool
-    ensures { result ≡ is_outside word.now }
+fn is_left_out(word: &[u8]) -> bool
+    ensures { result ≡ is_left_out word.now }
 {
     is(word, b"around")
         || is(word, b"poly")

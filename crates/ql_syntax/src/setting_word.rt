@@ -13,7 +13,7 @@ pub enum SettingWord {
     /// A number: `timeout` or `maxsize`.
     Count,
     /// A setting that the profile leaves out.
-    Outside,
+    LeftOut,
     /// No setting.
     Unknown,
 }
@@ -24,7 +24,7 @@ pub enum FormatWord {
     /// A format that is read, and has no effect: `json` or `xml`.
     Known,
     /// A format that the profile leaves out.
-    Outside,
+    LeftOut,
     /// No format.
     Unknown,
 }
@@ -38,7 +38,7 @@ pub fn setting_of(word: &[u8]) -> SettingWord
     } else if is(word, b"timeout") || is(word, b"maxsize") {
         SettingWord::Count
     } else if is(word, b"bbox") || is(word, b"date") || is(word, b"diff") || is(word, b"adiff") {
-        SettingWord::Outside
+        SettingWord::LeftOut
     } else {
         SettingWord::Unknown
     }
@@ -51,7 +51,7 @@ pub fn format_of(word: &[u8]) -> FormatWord
     if is(word, b"json") || is(word, b"xml") {
         FormatWord::Known
     } else if is(word, b"csv") || is(word, b"custom") || is(word, b"popup") {
-        FormatWord::Outside
+        FormatWord::LeftOut
     } else {
         FormatWord::Unknown
     }

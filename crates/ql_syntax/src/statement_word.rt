@@ -1,7 +1,7 @@
 //! The words that may begin a statement.
 
 ghost use Rattle.std.specs.Prelude.{◌≡◌};
-ghost use Rattle.ql_syntax.specs.StatementWords.{statement_word, is_outside};
+ghost use Rattle.ql_syntax.specs.StatementWords.{statement_word, is_left_out};
 
 use crate::pick::Pick;
 use crate::word::is;
@@ -14,7 +14,7 @@ pub enum StatementWord {
     /// An out statement: `out`.
     Print,
     /// A statement that the profile leaves out.
-    Outside,
+    LeftOut,
     /// No statement.
     Unknown,
 }
@@ -33,16 +33,16 @@ pub fn statement_word(word: &[u8]) -> StatementWord
         StatementWord::Kind(Pick::Nwr)
     } else if is(word, b"out") {
         StatementWord::Print
-    } else if is_outside(word) {
-        StatementWord::Outside
+    } else if is_left_out(word) {
+        StatementWord::LeftOut
     } else {
         StatementWord::Unknown
     }
 }
 
 /// Whether the profile leaves out the statement that this word begins.
-fn is_outside(word: &[u8]) -> bool
-    ensures { result ≡ is_outside word.now }
+fn is_left_out(word: &[u8]) -> bool
+    ensures { result ≡ is_left_out word.now }
 {
     is(word, b"foreach")
         || is(word, b"for")

@@ -5,13 +5,13 @@ use crate::filter::Filter;
 use crate::gap::skip_gap;
 use crate::number::split_number;
 use crate::out_options::read_out_options;
-use crate::points::read_into;
 use crate::quoted::read_quoted;
 use crate::settings::skip_settings;
-use crate::sign::{Sign, sign_of};
-use crate::stop::Stop;
+use crate::syntax_error::SyntaxError;
 use crate::tag_filter::read_tag_filter;
 use crate::token::next_token;
+use crate::token_kind::{TokenKind, token_kind_at};
+use crate::token_readers::read_into;
 use crate::whole::{count_of, id_of};
 use crate::word::split_name;
 use opl_codec::OutMode;
@@ -19,14 +19,14 @@ use std::alloc::Global;
 use std::process::Abort;
 use std::test::Fail;
 
-/// What was found in a text: how many bytes it takes, or the cause and the place of the stop.
+/// What was found in a text: how many bytes it takes, or the cause and the place of the error.
 type Found = Result<usize, (QlCause, usize)>;
 
 /// What was found, with places counted from the text's first byte.
-fn found(text: &[u8], outcome: Result<&[u8], Stop<'_>>) -> Found {
+fn found(text: &[u8], outcome: Result<&[u8], SyntaxError<'_>>) -> Found {
     match outcome {
         Ok(rest) => Ok(text.len().saturating_sub(rest.len())),
-        Err(stop) => Err((stop.cause, text.len().saturating_sub(stop.rest.len()))),
+        Err(error) => Err((error.cause, text.len().saturating_sub(error.rest.len()))),
     }
 }
 
@@ -61,8 +61,8 @@ fn splits_numbers(rt: HostRuntime) {
         ("-;", Err((QlCause::UnexpectedCharacter, 1))),
         ("-", Err((QlCause::UnexpectedEnd, 1))),
         ("--1", Err((QlCause::UnexpectedCharacter, 1))),
-        ("1.", Err((QlCause::UnexpectedCharacter, 1))),
-        ("1.)", Err((QlCause::UnexpectedCharacter, 1))),
+        ("1.", Ok(1)),
+        ("1.)", Ok(1)),
         ("-.5", Err((QlCause::UnexpectedCharacter, 1))),
     ] {
         let text = text.as_bytes();
@@ -112,8 +112,8 @@ fn splits_names(rt: HostRuntime) {
         (".", Err((QlCause::UnexpectedEnd, 1))),
     ] {
         let text = text.as_bytes();
-        if let [_, behind @ ..] = text {
-            let outcome = split_name(text, behind).map(|name| name.rest);
+        if let [_, after @ ..] = text {
+            let outcome = split_name(text, after).map(|name| name.rest);
             assert_eq!(rt; found(text, outcome), wanted);
         }
     }
@@ -171,23 +171,23 @@ fn refuses_quoted_texts(rt: HostRuntime) {
 #[test]
 fn takes_the_longest_sign(rt: HostRuntime) {
     for (text, wanted) in [
-        ("", Sign::End),
-        ("_a", Sign::Word),
-        ("0", Sign::Number),
-        ("-1", Sign::Number),
-        ("-", Sign::Minus),
-        ("->>", Sign::Arrow),
-        (">>>", Sign::DownAll),
-        (">", Sign::Down),
-        ("<<", Sign::UpAll),
-        ("<>", Sign::Up),
-        ("!=", Sign::NotEqual),
-        ("!~", Sign::NotTilde),
-        ("!a", Sign::Not),
-        ("/", Sign::Other),
-        ("\u{e9}", Sign::Other),
+        ("", TokenKind::End),
+        ("_a", TokenKind::Word),
+        ("0", TokenKind::Number),
+        ("-1", TokenKind::Number),
+        ("-", TokenKind::Minus),
+        ("->>", TokenKind::Arrow),
+        (">>>", TokenKind::DownAll),
+        (">", TokenKind::Down),
+        ("<<", TokenKind::UpAll),
+        ("<>", TokenKind::Up),
+        ("!=", TokenKind::NotEqual),
+        ("!~", TokenKind::NotTilde),
+        ("!a", TokenKind::Not),
+        ("/", TokenKind::Other),
+        ("\u{e9}", TokenKind::Other),
     ] {
-        assert_eq!(rt; sign_of(text.as_bytes()), wanted);
+        assert_eq!(rt; token_kind_at(text.as_bytes()), wanted);
     }
 }
 
@@ -201,11 +201,11 @@ fn tells_where_a_token_is_unexpected(rt: HostRuntime) {
         ("/*", (QlCause::Unclosed, 0)),
     ] {
         let text = text.as_bytes();
-        let stop = match next_token(text) {
+        let error = match next_token(text) {
             Ok(token) => token.unexpected(),
-            Err(stop) => stop,
+            Err(error) => error,
         };
-        assert_eq!(rt; found(text, Err(stop)), Err(wanted));
+        assert_eq!(rt; found(text, Err(error)), Err(wanted));
     }
 }
 
@@ -288,7 +288,7 @@ fn reads_tag_filters(rt: HostRuntime) {
         let text = text.as_bytes();
         let outcome = match read_tag_filter(rt.alloc(), text) {
             Ok((_, rest)) => Ok(rest),
-            Err(stop) => Err(stop),
+            Err(error) => Err(error),
         };
         assert_eq!(rt; found(text, outcome), wanted);
     }
@@ -342,7 +342,8 @@ fn reads_out_options(rt: HostRuntime) {
         (" 1 1.5;", Err((QlCause::UnexpectedWord, 3))),
         (" 1.5;", Err((QlCause::NumberOutOfRange, 1))),
         (" -1;", Err((QlCause::NumberOutOfRange, 1))),
-        (" 1 5.;", Err((QlCause::UnexpectedCharacter, 4))),
+        (" 5.;", Err((QlCause::UnexpectedCharacter, 2))),
+        (" 1 5.;", Err((QlCause::UnexpectedWord, 3))),
         (" count;", Err((QlCause::OutsideProfile, 1))),
         (" noids;", Err((QlCause::OutsideProfile, 1))),
         (" ids (1,2,3,4);", Err((QlCause::OutsideProfile, 5))),
@@ -390,8 +391,8 @@ fn quoted_again(rt: &impl Abort, alloc: Global, text: &[u8]) -> Result<(), Fail>
     };
     let quoted = match read_quoted(alloc, text) {
         Ok(quoted) => quoted,
-        Err(stop) => {
-            assert_eq!(rt; stop.cause, QlCause::Memory);
+        Err(error) => {
+            assert_eq!(rt; error.cause, QlCause::Memory);
             match read_quoted(alloc, text) {
                 Ok(quoted) => quoted,
                 Err(_) => return Err(Fail::from("no text between quotes")),
@@ -419,7 +420,7 @@ fn assert_tag_filter(rt: &impl Abort, alloc: Global, text: &[u8]) -> Result<usiz
             assert_eq!(rt; value, b"v".as_slice());
             Ok(rest.len())
         }
-        Err(stop) => Err(stop.cause),
+        Err(error) => Err(error.cause),
     }
 }
 

@@ -1,24 +1,24 @@
 //! Tokens, where they begin.
 
 ghost use Rattle.std.specs.Prelude.{◌≡◌, true, false};
-ghost use Rattle.ql_syntax.specs.Following.{Keeps};
-ghost use Rattle.ql_syntax.specs.Points.{next_token};
-ghost use Rattle.ql_syntax.specs.Tokens.{IsUnexpected};
-ghost use Rattle.ql_syntax.specs.Views.{the_token};
+ghost use Rattle.ql_syntax.specs.internal.Following.{Keeps};
+ghost use Rattle.ql_syntax.specs.TokenRules.{next_token};
+ghost use Rattle.ql_syntax.specs.internal.TokenParts.{IsUnexpected};
+ghost use Rattle.ql_syntax.specs.internal.Views.{the_token};
 
 use crate::cause::QlCause;
 use crate::gap::skip_gap;
-use crate::sign::{Sign, sign_of};
-use crate::stop::Stop;
+use crate::syntax_error::SyntaxError;
+use crate::token_kind::{TokenKind, token_kind_at};
 
-/// The place of the next token, behind blanks and comments.
+/// The place of the next token, after blanks and comments.
 #[derive(Clone, Copy, Debug)]
 pub struct Token<'a> {
     /// What begins there.
-    pub sign: Sign,
+    pub kind: TokenKind,
     /// The text from there on.
     pub place: &'a [u8],
-    /// What is left behind it, where it is punctuation; else the same as the place.
+    /// What is left after it, where it is punctuation; else the same as the place.
     pub rest: &'a [u8],
 }
 
@@ -26,34 +26,34 @@ pub struct Token<'a> {
 ///
 /// A comment that isn't closed is `Unclosed` at its first byte. It takes no memory.
 #[inline(always)]
-pub fn next_token(text: &[u8]) -> Result<Token<'_>, Stop<'_>>
+pub fn next_token(text: &[u8]) -> Result<Token<'_>, SyntaxError<'_>>
     ensures { Keeps next_token the_token text.now result }
 {
     let place = skip_gap(text)?;
-    let sign = sign_of(place);
-    let rest = &place[sign.len().min(place.len())..];
-    Ok(Token { sign, place, rest })
+    let kind = token_kind_at(place);
+    let rest = &place[kind.len().min(place.len())..];
+    Ok(Token { kind, place, rest })
 }
 
 impl<'a> Token<'a> {
     /// Whether this begins here.
-    pub fn is(&self, sign: Sign) -> bool
-        ensures yes { result ≡ true → self.now.sign ≡ sign }
-        ensures no { result ≡ false → self.now.sign ≡ sign → ⊥ }
+    pub fn is(&self, kind: TokenKind) -> bool
+        ensures yes { result ≡ true → self.now.kind ≡ kind }
+        ensures no { result ≡ false → self.now.kind ≡ kind → ⊥ }
     {
-        self.sign == sign
+        self.kind == kind
     }
 
-    /// The stop at a token that can't stand where it does: `UnexpectedEnd` at the end,
+    /// The error at a token that can't stand where it does: `UnexpectedEnd` at the end,
     /// `UnexpectedWord` at a word, and else `UnexpectedCharacter`.
-    pub fn unexpected(self) -> Stop<'a>
-        ensures { IsUnexpected self.entry.sign self.entry.place.now result.cause result.rest.now }
+    pub fn unexpected(self) -> SyntaxError<'a>
+        ensures { IsUnexpected self.entry.kind self.entry.place.now result.cause result.rest.now }
     {
-        let cause = match self.sign {
-            Sign::End => QlCause::UnexpectedEnd,
-            Sign::Word => QlCause::UnexpectedWord,
+        let cause = match self.kind {
+            TokenKind::End => QlCause::UnexpectedEnd,
+            TokenKind::Word => QlCause::UnexpectedWord,
             _ => QlCause::UnexpectedCharacter,
         };
-        Stop::at(cause, self.place)
+        SyntaxError::at(cause, self.place)
     }
 }

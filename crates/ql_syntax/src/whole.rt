@@ -3,7 +3,7 @@
 ghost use Rattle.std.specs.Prelude.{◌≡◌, ◌≤◌, ◌^◌, ◌<◌, ℕ, ℤ, MatchOption, IfSome, IfNone};
 ghost use Rattle.std.specs.Str.Parse.{AllDigits, digits_value};
 ghost use Rattle.ql_syntax.specs.WholeNumbers.{IsId, IsCount};
-ghost use Rattle.ql_syntax.specs.NumberParts.{decimal_of};
+ghost use Rattle.ql_syntax.specs.internal.NumberParts.{decimal_of};
 
 use crate::number::Number;
 
@@ -13,7 +13,7 @@ pub fn id_of(number: Number<'_>) -> Option<i64>
     ensures some { IfSome result (λ id. IsId (decimal_of number.entry) id) }
     ensures none { IfNone result ((id : ℤ) → IsId (decimal_of number.entry) id → ⊥) }
 {
-    if number.has_point {
+    if number.fraction.is_some() {
         return None;
     }
     let size = size_of_digits(number.whole)?;
@@ -30,7 +30,7 @@ pub fn count_of(number: Number<'_>) -> Option<u64>
     ensures some { IfSome result (λ count. IsCount (decimal_of number.entry) count) }
     ensures none { IfNone result ((count : ℕ) → IsCount (decimal_of number.entry) count → ⊥) }
 {
-    if number.has_point {
+    if number.fraction.is_some() {
         return None;
     }
     size_of_digits(number.whole).filter(|size| !number.negative || *size == 0)

@@ -5,9 +5,9 @@ ghost use Rattle.std.specs.List.{list_all};
 ghost use Rattle.ql_syntax.specs.Words.{IsRun, IsWord, IsName, IsNoName, begins_with, is_run_byte, is_word_start};
 
 use crate::cause::QlCause;
-use crate::stop::Stop;
+use crate::syntax_error::SyntaxError;
 
-/// The letters, digits and `_` at the front of a text, and what is left behind them.
+/// The letters, digits and `_` at the front of a text, and what is left after them.
 #[derive(Clone, Copy, Debug)]
 pub struct Run<'a> {
     /// The longest such run, perhaps empty.
@@ -36,18 +36,18 @@ pub fn split_word(text: &[u8]) -> Option<Run<'_>>
     }
 }
 
-/// The name of a set behind its dot; `dot` is the text from the dot on.
+/// The name of a set after its dot; `dot` is the text from the dot on.
 ///
 /// Where no word follows the dot, it is `UnexpectedCharacter` at the dot, or `UnexpectedEnd` where the
 /// text ends there.
-pub fn split_name<'a>(dot: &'a [u8], behind: &'a [u8]) -> Result<Run<'a>, Stop<'a>>
-    ensures name { IfOk result (λ found. IsName behind.now found.run.now found.rest.now) }
-    ensures refused { IfErr result (λ stop. IsNoName dot.now behind.now stop.cause stop.rest.now) }
+pub fn split_name<'a>(dot: &'a [u8], after: &'a [u8]) -> Result<Run<'a>, SyntaxError<'a>>
+    ensures name { IfOk result (λ found. IsName after.now found.run.now found.rest.now) }
+    ensures refused { IfErr result (λ error. IsNoName dot.now after.now error.cause error.rest.now) }
 {
-    match split_word(behind) {
+    match split_word(after) {
         Some(found) => Ok(found),
-        None if behind.is_empty() => Err(Stop::at(QlCause::UnexpectedEnd, behind)),
-        None => Err(Stop::at(QlCause::UnexpectedCharacter, dot)),
+        None if after.is_empty() => Err(SyntaxError::at(QlCause::UnexpectedEnd, after)),
+        None => Err(SyntaxError::at(QlCause::UnexpectedCharacter, dot)),
     }
 }
 

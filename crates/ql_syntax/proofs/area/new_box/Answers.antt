@@ -1,4 +1,4 @@
-use Rattle.ql_syntax.specs.NumberParts.{decimal_of}
+use Rattle.ql_syntax.specs.internal.NumberParts.{decimal_of}
 use Rattle.ql_syntax.proofs.AreaLemmas.{edge_of, box_made, box_refused, no_edge, refused_by}
 use Rattle.ql_syntax.proofs.area.new_box.Goals as goal
 

@@ -1,6 +1,6 @@
 use Rattle.std.proofs.Common.{arith, ℕ, List, ◌∷◌, sym, subst}
 use Rattle.std.specs.Prelude.{encode_utf8}
-use Rattle.ql_syntax.specs.EscapeParts.{IsEscape}
+use Rattle.ql_syntax.specs.internal.EscapeParts.{IsEscape}
 use Rattle.ql_syntax.proofs.EscapeLemmas.{bad_digit, bad_code, code_escape}
 use Rattle.ql_syntax.proofs.GapLemmas.{tail_is}
 use Rattle.ql_syntax.proofs.escape.split_code.Goals.{in_default-via-in-Some+else-number-gt0, in_default-via-in_default}

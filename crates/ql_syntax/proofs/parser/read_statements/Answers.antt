@@ -1,5 +1,6 @@
 use Rattle.std.proofs.Common.{ap, refl}
-use Rattle.ql_syntax.specs.StatementViews.{statement_of, other_statement}
+use Rattle.ql_syntax.specs.StatementViews.{statement_of}
+use Rattle.ql_syntax.specs.internal.StatementReaders.{other_statement}
 use Rattle.ql_syntax.proofs.FilterLemmas.{follows_out}
 use Rattle.ql_syntax.proofs.GatherLemmas.{gather_next, gather_done, gather_stop, mapped, one_such}
 use Rattle.ql_syntax.proofs.RoundLemmas.{Start}

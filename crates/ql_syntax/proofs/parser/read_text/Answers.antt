@@ -6,8 +6,8 @@ use Rattle.ql_syntax.proofs.GivesRules.{query_gives}
 use Rattle.ql_syntax.proofs.RuleLemmas.{read_of}
 use Rattle.ql_syntax.proofs.parser.read_text.Goals as goal
 
-pub returns-then-text-gt-MAX_LEN-clause-refused : goal.returns-then-text-gt-MAX_LEN-clause-refused
-returns-then-text-gt-MAX_LEN-clause-refused c = inr (Long (omega arith) refl refl)
+pub returns-then-text-gt-TEXT_LIMIT-clause-refused : goal.returns-then-text-gt-TEXT_LIMIT-clause-refused
+returns-then-text-gt-TEXT_LIMIT-clause-refused c = inr (Long (omega arith) refl refl)
 
 pub returns-in-Ok-clause-read : goal.returns-in-Ok-clause-read
 returns-in-Ok-clause-read c =
@@ -21,7 +21,8 @@ returns-in-Err-read_query-clause-refused c =
     let utf8 : IsUtf8 c.args.text.now = search rules in
     let short : length c.args.text.now ≤ 65536 = omega arith in
     let text : IsText c.args.text.now = record { short = short; utf8 = utf8 } in
-    refused_at text c.in-Err-read_query.ensures c.fault_at.ensures.cause c.fault_at.ensures.byte
+    let told = c.fault_at.ensures in
+    refused_at told.cause told.memory told.byte text c.in-Err-read_query.ensures
 
 pub new-requires : goal.new-requires
 new-requires c = query_gives.gives _ _ _ (read_of c.in-Ok.ensures)

@@ -1,6 +1,6 @@
 use Rattle.std.proofs.Common.{take}
 use Rattle.std.specs.List.{AllByRecursion}
-use Rattle.ql_syntax.specs.QuotedSteps.{IsLiteral}
+use Rattle.ql_syntax.specs.internal.QuotedSteps.{IsLiteral}
 use Rattle.ql_syntax.proofs.quoted.literal_len.Given as goal
 
 abbrev pub invariant-loop-i : goal.invariant-loop-i

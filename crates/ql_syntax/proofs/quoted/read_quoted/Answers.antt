@@ -1,13 +1,13 @@
-use Rattle.ql_syntax.specs.Places.{IsMemoryOr}
+use Rattle.ql_syntax.specs.internal.Places.{IsMemoryOr}
 use Rattle.ql_syntax.specs.QuotedTexts.{IsNotQuoted}
-use Rattle.ql_syntax.specs.declared.stop.Stop.{Stop}
+use Rattle.ql_syntax.specs.declared.syntax_error.SyntaxError.{SyntaxError}
 use Rattle.ql_syntax.proofs.Exits.{handed_on}
 use Rattle.ql_syntax.proofs.QuotedLemmas.{not_quoted, quoted_passes}
 use Rattle.ql_syntax.proofs.quoted.read_quoted.Goals as goal
 
 pub returns-in_err-next-clause-refused : goal.returns-in_err-next-clause-refused
 returns-in_err-next-clause-refused c =
-    handed_on (λ (stop : Stop). IsMemoryOr (IsNotQuoted c.args.text.now) stop) c.from_residual.result c.in_err-next.field-0.0 c.from_residual.ensures.1
+    handed_on (λ (stop : SyntaxError). IsMemoryOr (IsNotQuoted c.args.text.now) stop) c.from_residual.result c.in_err-next.field-0.0 c.from_residual.ensures.1
     (not_quoted c.args.text.now c.loop-content.place.now c.loop-content.content.items c.in_err-next.field-0.0 c.requires c.loop-content.invariant c.in_err-next.ensures.refused)
 
 pub loop-content-preserved : goal.loop-content-preserved

@@ -1,7 +1,7 @@
 use Rattle.std.proofs.Common.{inr, ◌∙◌, ap, subst, List, ℕ, ◌++◌, drop}
 use Rattle.std.specs.Prelude.{encode_utf8}
 use Rattle.ql_syntax.specs.QuotedTexts.{AtEscape, InEscape, IsBadEscape, IsCutEscape}
-use Rattle.ql_syntax.specs.EscapeParts.{IsEscape}
+use Rattle.ql_syntax.specs.internal.EscapeParts.{IsEscape}
 use Rattle.ql_syntax.proofs.GapLemmas.{tail_is}
 use Rattle.ql_syntax.proofs.QuotedLemmas.{first_is, takes_escape}
 use Rattle.ql_syntax.proofs.quoted.take_escape.Goals as goal

@@ -1,5 +1,6 @@
 use Rattle.std.proofs.Common.{ap, refl}
-use Rattle.ql_syntax.specs.FilterViews.{filter_of, other_filter}
+use Rattle.ql_syntax.specs.StatementViews.{filter_of}
+use Rattle.ql_syntax.specs.internal.FilterReaders.{other_filter}
 use Rattle.ql_syntax.proofs.FilterLemmas.{follows_out}
 use Rattle.ql_syntax.proofs.GatherLemmas.{gather_next, gather_done, gather_stop, mapped, one_such}
 use Rattle.ql_syntax.proofs.RoundLemmas.{Start}

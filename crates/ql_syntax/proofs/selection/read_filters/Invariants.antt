@@ -1,5 +1,5 @@
 use Rattle.std.proofs.Common.{[], length}
-use Rattle.ql_syntax.specs.FilterViews.{filters_of}
+use Rattle.ql_syntax.specs.StatementViews.{filters_of}
 use Rattle.ql_syntax.specs.Rules.{gather_round}
 use Rattle.ql_syntax.specs.Selections.{a_filter}
 use Rattle.ql_syntax.proofs.RoundLemmas.{Reaches}

@@ -8,22 +8,22 @@ pub returns-in_err-token : goal.returns-in_err-token
 unfolding path_from
 returns-in_err-token c = keeps_stop _ c.in_err-token.ensures c.from_residual.ensures.1
 
-pub returns-in_err-name : goal.returns-in_err-name
+pub returns-in_err-name-in-Dot : goal.returns-in_err-name-in-Dot
 unfolding path_from
-returns-in_err-name c = follows_then _ c.in_ok-token.ensures (follows_yes _ (c.is.ensures.yes c.if-is.true) (keeps_stop _ c.in_err-name.ensures c.from_residual-in_err-name.ensures.1))
+returns-in_err-name-in-Dot c = follows_then _ c.in_ok-token.ensures (follows_yes _ c.in-Dot.is (keeps_stop _ c.in_err-name-in-Dot.ensures c.from_residual-in_err-name-in-Dot.ensures.1))
 
-pub returns-in_err-rest : goal.returns-in_err-rest
+pub returns-in_err-rest-in-Dot : goal.returns-in_err-rest-in-Dot
 unfolding path_from
-returns-in_err-rest c = follows_then _ c.in_ok-token.ensures (follows_yes _ (c.is.ensures.yes c.if-is.true) (follows_then _ c.in_ok-name.ensures (keeps_stop _ c.in_err-rest.ensures c.from_residual-in_err-rest.ensures.1)))
+returns-in_err-rest-in-Dot c = follows_then _ c.in_ok-token.ensures (follows_yes _ c.in-Dot.is (follows_then _ c.in_ok-name-in-Dot.ensures (keeps_stop _ c.in_err-rest-in-Dot.ensures c.from_residual-in_err-rest-in-Dot.ensures.1)))
 
-pub returns-in_err-rest-2 : goal.returns-in_err-rest-2
+pub returns-in_err-rest-in_default : goal.returns-in_err-rest-in_default
 unfolding path_from
-returns-in_err-rest-2 c = follows_then _ c.in_ok-token.ensures (follows_no _ (c.is.ensures.no c.if-is.false) (keeps_stop _ (follows_from c.in_err-rest-2.ensures) c.from_residual-in_err-rest-2.ensures.1))
+returns-in_err-rest-in_default c = follows_then _ c.in_ok-token.ensures (follows_no _ c.in_default.not-Dot (keeps_stop _ (follows_from c.in_err-rest-in_default.ensures) c.from_residual-in_err-rest-in_default.ensures.1))
 
-pub returns-in_ok-rest : goal.returns-in_ok-rest
+pub returns-in_ok-rest-in-Dot : goal.returns-in_ok-rest-in-Dot
 unfolding path_from
-returns-in_ok-rest c = follows_then _ c.in_ok-token.ensures (follows_yes _ (c.is.ensures.yes c.if-is.true) (follows_then _ c.in_ok-name.ensures (follows_then _ c.in_ok-rest.ensures (follows_give refl refl))))
+returns-in_ok-rest-in-Dot c = follows_then _ c.in_ok-token.ensures (follows_yes _ c.in-Dot.is (follows_then _ c.in_ok-name-in-Dot.ensures (follows_then _ c.in_ok-rest-in-Dot.ensures (follows_give refl refl))))
 
-pub returns-in_ok-rest-2 : goal.returns-in_ok-rest-2
+pub returns-in_ok-rest-in_default : goal.returns-in_ok-rest-in_default
 unfolding path_from
-returns-in_ok-rest-2 c = follows_then _ c.in_ok-token.ensures (follows_no _ (c.is.ensures.no c.if-is.false) (follows_then _ (follows_from c.in_ok-rest-2.ensures) (follows_give (ap (λ (name : List ℕ). Via c.args.path name) c.default_set.ensures) refl)))
+returns-in_ok-rest-in_default c = follows_then _ c.in_ok-token.ensures (follows_no _ c.in_default.not-Dot (follows_then _ (follows_from c.in_ok-rest-in_default.ensures) (follows_give (ap (λ (name : List ℕ). Via c.args.path name) c.default_set.ensures) refl)))

@@ -12,10 +12,10 @@ unfolding format
 returns-in-Known c =
     follows_then _ c.in_ok-found.ensures (follows_case _ c.in-Known.ensures (follows_give refl refl))
 
-pub returns-in-Outside : goal.returns-in-Outside
+pub returns-in-LeftOut : goal.returns-in-LeftOut
 unfolding format
-returns-in-Outside c =
-    follows_then _ c.in_ok-found.ensures (follows_case _ c.in-Outside.ensures (follows_refuse c.at.ensures.cause c.at.ensures.rest))
+returns-in-LeftOut c =
+    follows_then _ c.in_ok-found.ensures (follows_case _ c.in-LeftOut.ensures (follows_refuse c.at.ensures.cause c.at.ensures.rest))
 
 pub returns-in-Unknown : goal.returns-in-Unknown
 unfolding format

@@ -7,12 +7,12 @@ pub returns-in_err-first : goal.returns-in_err-first
 unfolding settings
 returns-in_err-first c = keeps_stop _ c.in_err-first.ensures c.from_residual.ensures.1
 
-pub returns-then-is : goal.returns-then-is
+pub returns-in-OpenBracket : goal.returns-in-OpenBracket
 unfolding settings
-returns-then-is c =
-    follows_then _ c.in_ok-first.ensures (follows_yes _ (c.is.ensures.yes c.if-is.true) c.skip_rounds.ensures)
+returns-in-OpenBracket c =
+    follows_then _ c.in_ok-first.ensures (follows_yes _ c.in-OpenBracket.is c.skip_rounds.ensures)
 
-pub returns-else-is : goal.returns-else-is
+pub returns-in_default : goal.returns-in_default
 unfolding settings
-returns-else-is c =
-    follows_then _ c.in_ok-first.ensures (follows_no _ (c.is.ensures.no c.if-is.false) (follows_from (follows_give refl refl)))
+returns-in_default c =
+    follows_then _ c.in_ok-first.ensures (follows_no _ c.in_default.not-OpenBracket (follows_from (follows_give refl refl)))

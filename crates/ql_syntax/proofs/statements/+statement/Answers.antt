@@ -1,6 +1,8 @@
+use Rattle.ql_syntax.proofs.SpellingLemmas.{other_kind}
 use Rattle.std.proofs.Common.{ap, refl, rules}
 use Rattle.ql_syntax.specs.StatementRules.{block, difference, part, union}
-use Rattle.ql_syntax.specs.StatementViews.{other_statement, statement_of, statements_of}
+use Rattle.ql_syntax.specs.StatementViews.{statement_of, statements_of}
+use Rattle.ql_syntax.specs.internal.StatementReaders.{other_statement}
 use Rattle.ql_syntax.specs.declared.level.Level.TheVariants as levels
 use Rattle.ql_syntax.proofs.FilterLemmas.{follows_out}
 use Rattle.ql_syntax.proofs.GatherLemmas.{alone, gather_done, gather_from, gather_next, gather_stop, mapped}
@@ -13,14 +15,14 @@ use Rattle.ql_syntax.proofs.statements.+statement.Goals as goal
 pub read_statement-returns-in_err-token : goal.read_statement-returns-in_err-token
 read_statement-returns-in_err-token n c = at_no_token c.args.level c.args.depth c.in_err-token.ensures c.from_residual.ensures.1
 
-pub read_statement-returns-then-depth-eq0 : goal.read_statement-returns-then-depth-eq0
-read_statement-returns-then-depth-eq0 n c = at_last_depth c.args.level c.if-depth-eq0.true c.in_ok-token.ensures (c.is.ensures.yes c.if-is.true) (follows_refuse c.at.ensures.cause c.at.ensures.rest)
+pub read_statement-returns-in-OpenParenthesis : goal.read_statement-returns-in-OpenParenthesis
+read_statement-returns-in-OpenParenthesis n c = at_last_depth c.args.level c.if-depth-eq0.true c.in_ok-token.ensures c.in-OpenParenthesis.is (follows_refuse c.at.ensures.cause c.at.ensures.rest)
 
-pub read_statement-returns-else-depth-eq0 : goal.read_statement-returns-else-depth-eq0
-read_statement-returns-else-depth-eq0 n c = at_block c.args.level _ (one_less c.args.depth c.if-depth-eq0.false) c.in_ok-token.ensures (c.is.ensures.yes c.if-is.true) c.read_block.ensures
+pub read_statement-returns-in-OpenParenthesis-2 : goal.read_statement-returns-in-OpenParenthesis-2
+read_statement-returns-in-OpenParenthesis-2 n c = at_block c.args.level _ (one_less c.args.depth c.if-depth-eq0.false) c.in_ok-token.ensures c.in-OpenParenthesis-2.is c.read_block.ensures
 
-pub read_statement-returns-else-is : goal.read_statement-returns-else-is
-read_statement-returns-else-is n c = at_plain c.args.level c.args.depth c.in_ok-token.ensures (c.is.ensures.no c.if-is.false) c.read_plain_statement.ensures
+pub read_statement-returns-in_default : goal.read_statement-returns-in_default
+read_statement-returns-in_default n c = at_plain c.args.level c.args.depth c.in_ok-token.ensures c.in_default.not-OpenParenthesis c.read_plain_statement.ensures
 
 pub read_block-returns-in_err-first : goal.read_block-returns-in_err-first
 unfolding block
@@ -30,22 +32,22 @@ pub read_block-returns-in_err-token : goal.read_block-returns-in_err-token
 unfolding block
 read_block-returns-in_err-token n c = follows_then _ c.in_ok-first.ensures (follows_stop _ c.in_err-token.ensures c.from_residual-in_err-token.ensures.1)
 
-pub read_block-returns-then-is : goal.read_block-returns-then-is
+pub read_block-returns-in-Minus : goal.read_block-returns-in-Minus
 unfolding block
-read_block-returns-then-is n c =
-    follows_then _ c.in_ok-first.ensures (follows_then _ c.in_ok-token.ensures (follows_yes _ (c.is.ensures.yes c.if-is.true) c.read_difference.ensures))
+read_block-returns-in-Minus n c =
+    follows_then _ c.in_ok-first.ensures (follows_then _ c.in_ok-token.ensures (follows_yes _ c.in-Minus.is c.read_difference.ensures))
 
-pub read_block-returns-then-is-2 : goal.read_block-returns-then-is-2
+pub read_block-returns-in-Arrow : goal.read_block-returns-in-Arrow
 unfolding block
-read_block-returns-then-is-2 n c =
-    follows_then _ c.in_ok-first.ensures (follows_then _ c.in_ok-token.ensures (follows_no _ (c.is.ensures.no c.if-is.false)
-    (follows_yes _ (c.is-else-is.ensures.yes c.if-is-2.true) (follows_from_at _ _ c.behind_byte.ensures c.read_difference-then-is-2.ensures))))
+read_block-returns-in-Arrow n c =
+    follows_then _ c.in_ok-first.ensures (follows_then _ c.in_ok-token.ensures (follows_no _ (other_kind c.in-Arrow.is (λ e. cc))
+    (follows_yes _ c.in-Arrow.is (follows_from_at _ _ c.after_byte.ensures c.read_difference-in-Arrow.ensures))))
 
-pub read_block-returns-else-is-2 : goal.read_block-returns-else-is-2
+pub read_block-returns-in_default : goal.read_block-returns-in_default
 unfolding block
-read_block-returns-else-is-2 n c =
-    follows_then _ c.in_ok-first.ensures (follows_then _ c.in_ok-token.ensures (follows_no _ (c.is.ensures.no c.if-is.false)
-    (follows_no _ (c.is-else-is.ensures.no c.if-is-2.false) (follows_from c.read_union.ensures))))
+read_block-returns-in_default n c =
+    follows_then _ c.in_ok-first.ensures (follows_then _ c.in_ok-token.ensures (follows_no _ c.in_default.not-Minus
+    (follows_no _ c.in_default.not-Arrow (follows_from c.read_union.ensures))))
 
 pub read_difference-returns-in_err-right : goal.read_difference-returns-in_err-right
 unfolding difference
@@ -91,19 +93,19 @@ pub read_part-returns-in_err-token : goal.read_part-returns-in_err-token
 unfolding part
 read_part-returns-in_err-token n c = follows_stop _ c.in_err-token.ensures c.from_residual.ensures.1
 
-pub read_part-returns-in_err-statement : goal.read_part-returns-in_err-statement
+pub read_part-returns-in_err-statement-in_default : goal.read_part-returns-in_err-statement-in_default
 unfolding part
-read_part-returns-in_err-statement n c =
-    follows_then _ c.in_ok-token.ensures (follows_no _ (c.is.ensures.no c.if-is.false) (follows_stop _ (follows_from c.in_err-statement.ensures) c.from_residual-in_err-statement.ensures.1))
+read_part-returns-in_err-statement-in_default n c =
+    follows_then _ c.in_ok-token.ensures (follows_no _ c.in_default.not-CloseParenthesis (follows_stop _ (follows_from c.in_err-statement-in_default.ensures) c.from_residual-in_err-statement-in_default.ensures.1))
 
-pub read_part-returns-then-is : goal.read_part-returns-then-is
+pub read_part-returns-in-CloseParenthesis : goal.read_part-returns-in-CloseParenthesis
 unfolding part
-read_part-returns-then-is n c = follows_then _ c.in_ok-token.ensures (follows_yes _ (c.is.ensures.yes c.if-is.true) (follows_give refl refl))
+read_part-returns-in-CloseParenthesis n c = follows_then _ c.in_ok-token.ensures (follows_yes _ c.in-CloseParenthesis.is (follows_give refl refl))
 
-pub read_part-returns-in_ok-statement : goal.read_part-returns-in_ok-statement
+pub read_part-returns-in_ok-statement-in_default : goal.read_part-returns-in_ok-statement-in_default
 unfolding part
-read_part-returns-in_ok-statement n c =
-    follows_then _ c.in_ok-token.ensures (follows_no _ (c.is.ensures.no c.if-is.false) (follows_then _ (follows_from c.in_ok-statement.ensures) (follows_give refl refl)))
+read_part-returns-in_ok-statement-in_default n c =
+    follows_then _ c.in_ok-token.ensures (follows_no _ c.in_default.not-CloseParenthesis (follows_then _ (follows_from c.in_ok-statement-in_default.ensures) (follows_give refl refl)))
 
 pub read_parts-loop-other-init : goal.read_parts-loop-other-init
 read_parts-loop-other-init n c = Start

@@ -10,9 +10,9 @@ pub returns-in-Print : goal.returns-in-Print
 unfolding set_word_statement
 returns-in-Print c = follows_case _ c.in-Print.ensures c.read_print.ensures
 
-pub returns-in-Outside : goal.returns-in-Outside
+pub returns-in-LeftOut : goal.returns-in-LeftOut
 unfolding set_word_statement
-returns-in-Outside c = follows_case _ c.in-Outside.ensures (follows_refuse c.at-in-Outside.ensures.cause c.at-in-Outside.ensures.rest)
+returns-in-LeftOut c = follows_case _ c.in-LeftOut.ensures (follows_refuse c.at-in-LeftOut.ensures.cause c.at-in-LeftOut.ensures.rest)
 
 pub returns-in-Unknown : goal.returns-in-Unknown
 unfolding set_word_statement

@@ -7,14 +7,14 @@ pub returns-in_err-token : goal.returns-in_err-token
 unfolding top_statement
 returns-in_err-token c = follows_stop _ c.in_err-token.ensures c.from_residual.ensures.1
 
-pub returns-in_err-statement : goal.returns-in_err-statement
+pub returns-in_err-statement-in_default : goal.returns-in_err-statement-in_default
 unfolding top_statement
-returns-in_err-statement c = follows_then _ c.in_ok-token.ensures (follows_no _ (c.is.ensures.no c.if-is.false) (follows_stop _ (follows_from c.in_err-statement.ensures) c.from_residual-in_err-statement.ensures.1))
+returns-in_err-statement-in_default c = follows_then _ c.in_ok-token.ensures (follows_no _ c.in_default.not-End (follows_stop _ (follows_from c.in_err-statement-in_default.ensures) c.from_residual-in_err-statement-in_default.ensures.1))
 
-pub returns-then-is : goal.returns-then-is
+pub returns-in-End : goal.returns-in-End
 unfolding top_statement
-returns-then-is c = follows_then _ c.in_ok-token.ensures (follows_yes _ (c.is.ensures.yes c.if-is.true) (follows_from (follows_give refl refl)))
+returns-in-End c = follows_then _ c.in_ok-token.ensures (follows_yes _ c.in-End.is (follows_from (follows_give refl refl)))
 
-pub returns-in_ok-statement : goal.returns-in_ok-statement
+pub returns-in_ok-statement-in_default : goal.returns-in_ok-statement-in_default
 unfolding top_statement
-returns-in_ok-statement c = follows_then _ c.in_ok-token.ensures (follows_no _ (c.is.ensures.no c.if-is.false) (follows_then _ (follows_from c.in_ok-statement.ensures) (follows_give refl refl)))
+returns-in_ok-statement-in_default c = follows_then _ c.in_ok-token.ensures (follows_no _ c.in_default.not-End (follows_then _ (follows_from c.in_ok-statement-in_default.ensures) (follows_give refl refl)))

@@ -11,9 +11,9 @@ pub returns-in-Print : goal.returns-in-Print
 unfolding word_statement
 returns-in-Print c = follows_case _ c.in-Print.ensures (follows_at (λ (name : List ℕ). print c.args.level name c.args.word.place.now) c.default_set.ensures (follows_of c.read_print.ensures))
 
-pub returns-in-Outside : goal.returns-in-Outside
+pub returns-in-LeftOut : goal.returns-in-LeftOut
 unfolding word_statement
-returns-in-Outside c = follows_case _ c.in-Outside.ensures (follows_refuse c.at.ensures.cause c.at.ensures.rest)
+returns-in-LeftOut c = follows_case _ c.in-LeftOut.ensures (follows_refuse c.at.ensures.cause c.at.ensures.rest)
 
 pub returns-in-Unknown : goal.returns-in-Unknown
 unfolding word_statement

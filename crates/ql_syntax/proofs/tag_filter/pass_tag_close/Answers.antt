@@ -8,12 +8,12 @@ pub returns-in_err-token : goal.returns-in_err-token
 unfolding tag_close
 returns-in_err-token c = keeps_stop _ c.in_err-token.ensures c.from_residual.ensures.1
 
-pub returns-then-is : goal.returns-then-is
+pub returns-in-CloseBracket : goal.returns-in-CloseBracket
 unfolding tag_close
-returns-then-is c =
-    follows_then _ c.in_ok-token.ensures (follows_yes _ (c.is.ensures.yes c.if-is.true) (follows_give refl refl))
+returns-in-CloseBracket c =
+    follows_then _ c.in_ok-token.ensures (follows_yes _ c.in-CloseBracket.is (follows_give refl refl))
 
-pub returns-else-is : goal.returns-else-is
+pub returns-in_default : goal.returns-in_default
 unfolding tag_close
-returns-else-is c =
-    follows_then _ c.in_ok-token.ensures (follows_no _ (c.is.ensures.no c.if-is.false) (follows_not_in_tag _ c.not_in_tag.ensures.cause c.not_in_tag.ensures.rest))
+returns-in_default c =
+    follows_then _ c.in_ok-token.ensures (follows_no _ c.in_default.not-CloseBracket (follows_not_in_tag _ c.not_in_tag.ensures.cause c.not_in_tag.ensures.rest))

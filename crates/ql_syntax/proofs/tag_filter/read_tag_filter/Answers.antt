@@ -7,22 +7,22 @@ pub returns-in_err-token : goal.returns-in_err-token
 unfolding tag_filter
 returns-in_err-token c = follows_stop _ c.in_err-token.ensures c.from_residual.ensures.1
 
-pub returns-in_err-key : goal.returns-in_err-key
+pub returns-in_err-key-in-Not : goal.returns-in_err-key-in-Not
 unfolding tag_filter
-returns-in_err-key c =
-    follows_then _ c.in_ok-token.ensures (follows_yes _ (c.is.ensures.yes c.if-is.true) (follows_stop _ c.in_err-key.ensures c.from_residual-in_err-key.ensures.1))
+returns-in_err-key-in-Not c =
+    follows_then _ c.in_ok-token.ensures (follows_yes _ c.in-Not.is (follows_stop _ c.in_err-key-in-Not.ensures c.from_residual-in_err-key-in-Not.ensures.1))
 
-pub returns-then-is : goal.returns-then-is
+pub returns-in_ok-key-in-Not : goal.returns-in_ok-key-in-Not
 unfolding tag_filter
-returns-then-is c =
-    follows_then _ c.in_ok-token.ensures (follows_yes _ (c.is.ensures.yes c.if-is.true) (follows_then _ c.in_ok-key.ensures (follows_give refl refl)))
+returns-in_ok-key-in-Not c =
+    follows_then _ c.in_ok-token.ensures (follows_yes _ c.in-Not.is (follows_then _ c.in_ok-key-in-Not.ensures (follows_give refl refl)))
 
-pub returns-in_err-key-2 : goal.returns-in_err-key-2
+pub returns-in_err-key-in_default : goal.returns-in_err-key-in_default
 unfolding tag_filter
-returns-in_err-key-2 c =
-    follows_then _ c.in_ok-token.ensures (follows_no _ (c.is.ensures.no c.if-is.false) (follows_stop _ c.in_err-key-2.ensures c.from_residual-in_err-key-2.ensures.1))
+returns-in_err-key-in_default c =
+    follows_then _ c.in_ok-token.ensures (follows_no _ c.in_default.not-Not (follows_stop _ c.in_err-key-in_default.ensures c.from_residual-in_err-key-in_default.ensures.1))
 
-pub returns : goal.returns
+pub returns-in_ok-key-in_default : goal.returns-in_ok-key-in_default
 unfolding tag_filter
-returns c =
-    follows_then _ c.in_ok-token.ensures (follows_no _ (c.is.ensures.no c.if-is.false) (follows_then _ c.in_ok-key-2.ensures c.read_tag_rest.ensures))
+returns-in_ok-key-in_default c =
+    follows_then _ c.in_ok-token.ensures (follows_no _ c.in_default.not-Not (follows_then _ c.in_ok-key-in_default.ensures c.read_tag_rest.ensures))

@@ -12,9 +12,9 @@ pub returns-in-Order : goal.returns-in-Order
 unfolding with_word
 returns-in-Order c = λ text. follows_case _ c.in-Order.ensures (c.once-in-Order.ensures text)
 
-pub returns-in-Outside : goal.returns-in-Outside
+pub returns-in-LeftOut : goal.returns-in-LeftOut
 unfolding with_word
-returns-in-Outside c = λ text. follows_case _ c.in-Outside.ensures (follows_refuse c.at.ensures.cause c.at.ensures.rest)
+returns-in-LeftOut c = λ text. follows_case _ c.in-LeftOut.ensures (follows_refuse c.at.ensures.cause c.at.ensures.rest)
 
 pub returns-in-Unknown : goal.returns-in-Unknown
 unfolding with_word

@@ -1,6 +1,6 @@
 use Rattle.std.proofs.Common.{◌∙◌, sym, rules}
 use denote.Enum.Bare.{same_true, same_false}
-use Rattle.ql_syntax.specs.contracts.sign.Sign.{the_type}
+use Rattle.ql_syntax.specs.contracts.token_kind.TokenKind.{the_type}
 use Rattle.ql_syntax.proofs.token.Token.is.Goals as goal
 
 pub returns-clause-yes : goal.returns-clause-yes

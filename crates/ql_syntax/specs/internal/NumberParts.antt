@@ -1,0 +1,28 @@
+-- The parts of a number in its text, as a decimal.
+use Rattle.std.specs.Borrow.{Bor}
+use Rattle.std.specs.Prelude.{◌≡◌, ℕ, List, ◌∷◌, ◌++◌, Option, None, Some}
+use Rattle.osm_model.specs.Bytes.{dot}
+use Rattle.osm_model.specs.Degrees.{Decimal, IsFraction, BeginsOtherwise, point, spelling}
+use Rattle.ql_syntax.specs.declared.number.Number.{Number}
+use Rattle.ql_syntax.specs.declared.number.Fraction.{Fraction}
+use Rattle.ql_syntax.specs.Numbers.{IsNumber}
+
+-- the digits after a point, where there is one
+abbrev pub fraction_of : Option (Bor (List ℕ)) → Option (List ℕ)
+fraction_of None = None
+fraction_of (Some digits) = Some digits.now
+
+abbrev pub decimal_of : Number → Decimal
+decimal_of n = record { negative = n.negative; whole = n.whole.now; fraction = fraction_of n.fraction }
+
+-- the number at the front of the text, and its spelling
+pub record IsNumberOf (text : List ℕ) (n : Number) : Type 0 where
+  pub number : IsNumber text (decimal_of n) n.rest.now
+  pub spelled : n.text.now ≡ spelling (decimal_of n)
+
+-- the point and the digits after it at the front of the text, or none
+pub record IsFractionOf (text : List ℕ) (f : Fraction) : Type 0 where
+  pub form : IsFraction (fraction_of f.digits)
+  pub parts : text ≡ point (fraction_of f.digits) ++ f.rest.now
+  pub longest : BeginsOtherwise f.rest.now
+  pub lone_point : fraction_of f.digits ≡ None → (after : List ℕ) → f.rest.now ≡ dot ∷ after → BeginsOtherwise after

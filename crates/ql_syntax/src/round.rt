@@ -1,0 +1,10 @@
+//! Rounds of readers that repeat.
+
+/// Whether another round follows.
+#[derive(Clone, Copy, Debug, PartialEq, Eq)]
+pub enum Round {
+    /// Another one follows.
+    More,
+    /// This was the last one.
+    Done,
+}
