@@ -95,11 +95,6 @@ rest_all P f zero xs h = h
 rest_all P f (suc n) [] h = tt
 rest_all P f (suc n) (x ∷ xs) h = rest_all P f n xs h.1
 
--- what is refused for this fault
-pub err_is : {A F : Type 0} (r : Result A F) (fault : F) → IsErrAnd r (λ f. f ≡ fault) → r ≡ Err fault
-err_is (Ok x) fault is = absurd is
-err_is (Err f) fault is = ap (λ g. Err g) is
-
 -- what an inner node says of one more child
 pub links_more : (before after : List Child) (child : Child) (link : Link) → after ≡ before ++ child ∷ [] → link_of child ≡ link → links_of after ≡ links_of before ++ link ∷ []
 links_more before after child link is says = ap (λ (cs : List Child). links_of cs) is ∙ map-append link_of before (child ∷ []) ∙ ap (λ (l : Link). links_of before ++ l ∷ []) says
