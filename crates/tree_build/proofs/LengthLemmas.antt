@@ -1,5 +1,5 @@
 -- How many bytes nodes have.
-use Rattle.std.proofs.Common.{◌≡◌, ℕ, ◌+◌, ◌<◌, List, [], ◌∷◌, ◌++◌, length, get_or, take, map, sum_by, refl, ap, ◌∙◌, length-append, arith}
+use Rattle.std.proofs.Common.{◌≡◌, ℕ, ◌+◌, ◌<◌, List, [], ◌∷◌, ◌++◌, length, get_or, take, sum_by, refl, ap, ◌∙◌, length-append, arith}
 use Rattle.std.specs.List.{flat_map}
 use Rattle.std.specs.Int.{w16, w32, to_be_bytes}
 use Rattle.std.proofs.lemmas.Grind.{flat_map-append}

@@ -44,7 +44,7 @@ pub(crate) fn put_leaves<'a>(
 }
 
 /// Puts the leaf with these entries into the stock. What is said of a leaf without entries has the
-/// number 0 and no key, and stands in no node: such a leaf is the top.
+/// number 0 and no key, and is in no node: such a leaf is the top.
 fn put_leaf<'a>(
     alloc: Global,
     tree: Tree,
