@@ -1,5 +1,5 @@
 -- The nodes of a level, where the first piece of what is left was cut.
-use Rattle.std.proofs.Common.{◌≡◌, ◌≢◌, ℕ, zero, suc, ◌+◌, ◌-◌, ◌≤◌, List, [], ◌∷◌, ◌++◌, length, take, drop, map, Bool, Result, Ok, Err, IsErrAnd, sym, ap, subst, ◌∙◌, append_assoc, arith}
+use Rattle.std.proofs.Common.{◌≡◌, ◌≢◌, ℕ, zero, suc, ◌+◌, ◌-◌, ◌≤◌, List, [], ◌∷◌, ◌++◌, length, take, drop, map, Bool, Result, Err, sym, ap, subst, ◌∙◌, append_assoc, arith}
 use Rattle.std.specs.List.{AllByRecursion}
 use Rattle.std.proofs.lemmas.List.{length-drop, map-append, drop-drop}
 use Rattle.std.proofs.Math.Seq.{take-length, drop-length}
@@ -94,11 +94,6 @@ pub rest_all : {X Y : Type 0} (P : Y → Type 0) (f : X → Y) (n : ℕ) (xs : L
 rest_all P f zero xs h = h
 rest_all P f (suc n) [] h = tt
 rest_all P f (suc n) (x ∷ xs) h = rest_all P f n xs h.1
-
--- what is refused for this fault
-pub err_is : {A F : Type 0} (r : Result A F) (fault : F) → IsErrAnd r (λ f. f ≡ fault) → r ≡ Err fault
-err_is (Ok x) fault is = absurd is
-err_is (Err f) fault is = ap (λ g. Err g) is
 
 -- what an inner node says of one more child
 pub links_more : (before after : List Child) (child : Child) (link : Link) → after ≡ before ++ child ∷ [] → link_of child ≡ link → links_of after ≡ links_of before ++ link ∷ []

@@ -1,6 +1,6 @@
 //! The inner nodes of a tree.
 
-ghost use Rattle.std.specs.Prelude.{◌≡◌, ◌≤◌, ◌<◌, ◌^◌, [], ◌∷◌, IfOk, length, map, sum_by};
+ghost use Rattle.std.specs.Prelude.{◌≡◌, ◌+◌, ◌≤◌, ◌<◌, ◌^◌, [], ◌∷◌, IfOk, length, map, sum_by};
 ghost use Rattle.tree_build.specs.internal.Building.{AreWithin, PutAll};
 ghost use Rattle.tree_build.specs.Shapes.{shape_of};
 ghost use Rattle.tree_node.specs.declared.limits.TheConstants.{ITEM_LIMIT};
@@ -95,6 +95,7 @@ fn entries_below(children: &[Child<'_>]) -> u64
 fn inner_len(children: &[Child<'_>]) -> usize
     requires few { length children.now ≤ ITEM_LIMIT }
     requires within { AreWithin (links_of children.now) }
+    ensures { result ≡ 4 + sum_by (λ (link : Link). 42 + length link.greatest) (links_of children.now) }
 {
     let mut len = 4;
     for child in children {

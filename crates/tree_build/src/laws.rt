@@ -11,7 +11,7 @@ ghost use Rattle.tree_node.specs.Trees.{level_at, levels, link_to, links_in, nod
 
 /// The law of what a tree is of: the list can be read off its leaves, and off each of its levels.
 pub fn entries_law()
-    // The entries of the leaves, one behind the other, are the list.
+    // The entries of the leaves, one after the other, are the list.
     ensures leaves { (shape : Shape) (tree : ℕ) (entries : List Binding)
         → flat_map entries_in (level_at (levels shape tree entries) 0) ≡ entries }
     // At each level so are the entries below its nodes.
@@ -78,7 +78,7 @@ pub fn nodes_law()
         → level < length (levels shape tree entries)
         → place < length (level_at (levels shape tree entries) level)
         → tree_of (node_in (levels shape tree entries) level place) ≡ tree }
-    // What it counts is how many entries stand below it,
+    // What it counts is how many entries are below it,
     ensures count { (shape : Shape) (tree : ℕ) (entries : List Binding) (level place : ℕ)
         → level < length (levels shape tree entries)
         → place < length (level_at (levels shape tree entries) level)
@@ -90,7 +90,7 @@ pub fn nodes_law()
         → place < length (level_at (levels shape tree entries) level)
         → greatest_of (node_in (levels shape tree entries) level place)
         ≡ last_key (keys_of (entries_below (levels shape tree entries) level place)) }
-    // The items of a level state how many entries stand below the nodes that they stand for.
+    // The items of a level state how many entries are below the nodes that they stand for.
     ensures stated { (shape : Shape) (tree : ℕ) (entries : List Binding) (level : ℕ)
         → level + 1 < length (levels shape tree entries)
         → map (λ (link : Link). link.number) (flat_map links_in (level_at (levels shape tree entries) (level + 1)))

@@ -1,12 +1,12 @@
 //! The leaves of a tree.
 
 ghost use Rattle.std.specs.List.{AllByRecursion};
-ghost use Rattle.std.specs.Prelude.{◌≡◌, ◌≤◌, [], ◌∷◌, IfOk, length, map};
+ghost use Rattle.std.specs.Prelude.{◌≡◌, ◌≤◌, ℕ, [], ◌∷◌, IfOk, length, map};
 ghost use Rattle.tree_build.specs.internal.Building.{PutAll};
 ghost use Rattle.tree_build.specs.Shapes.{shape_of};
 ghost use Rattle.tree_node.specs.declared.limits.TheConstants.{ITEM_LIMIT};
 ghost use Rattle.tree_node.specs.NodeRefs.{bindings_of, leaf_of, link_of, links_of, number_of};
-ghost use Rattle.tree_node.specs.Nodes.{keys_of};
+ghost use Rattle.tree_node.specs.Nodes.{Leaf, keys_of, spelling};
 ghost use Rattle.tree_node.specs.Stocks.{HasNode};
 ghost use Rattle.tree_node.specs.Trees.{FitsTree, last_key as key_at_end, leaves, link_to};
 
@@ -44,7 +44,7 @@ pub(crate) fn put_leaves<'a>(
 }
 
 /// Puts the leaf with these entries into the stock. What is said of a leaf without entries has the
-/// number 0 and no key, and stands in no node: such a leaf is the top.
+/// number 0 and no key, and is in no node: such a leaf is the top.
 fn put_leaf<'a>(
     alloc: Global,
     tree: Tree,
@@ -80,6 +80,7 @@ fn last_key<'a>(entries: &[Entry<'a>]) -> &'a [u8]
 fn leaf_len(entries: &[Entry<'_>]) -> usize
     requires few { length entries.now ≤ ITEM_LIMIT }
     requires fit { AllByRecursion FitsTree (bindings_of entries.now) }
+    ensures { (tree : ℕ) → result ≡ length (spelling (Leaf tree (bindings_of entries.now))) }
 {
     let mut len = 4;
     for entry in entries {

@@ -5,7 +5,7 @@
 #[derive(Clone, Copy, Debug, PartialEq, Eq)]
 pub enum Shape {
     /// Pieces of 64 items, the last with the rest. An entry put in or taken out moves the ends of all
-    /// pieces behind it.
+    /// pieces after it.
     One,
     /// A piece ends after an item that is at least its second and is marked, too. Marks depend on the
     /// item alone, so an entry put in or taken out moves few ends of pieces.

@@ -3,6 +3,7 @@ pub mod FieldLemmas
 pub mod NodeLaws
 pub mod PieceLaws
 pub mod PieceLemmas
+pub mod Results
 pub mod TreeKeys
 pub mod TreeLaws
 pub mod TreeLemmas

@@ -1,7 +1,7 @@
 -- The entries and the links that stand at the front of bytes: what the entries of a leaf and the children of an inner
 -- node that are still to come stand for. An item is read field by field, from the left.
 -- Source: this project's form of nodes, docs/FORMATS.md.
-use Rattle.std.specs.Prelude.{◌≡◌, ℕ, zero, suc, List, [], ◌∷◌, length, take, drop, Result, Ok, Err, nat_lt, ◌||◌, if◌then◌else◌}
+use Rattle.std.specs.Prelude.{ℕ, zero, suc, List, [], ◌∷◌, length, take, drop, Result, Ok, Err, nat_lt, ◌||◌, if◌then◌else◌}
 use Rattle.std.specs.Int.{Width, w16, w32, w64, byte_len, from_be_bytes}
 use Rattle.tree_node.specs.declared.fault.NodeFault.{NodeFault}
 use Rattle.tree_node.specs.declared.fault.NodeFault.TheVariants.{CutShort, BadCount}

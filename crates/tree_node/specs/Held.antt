@@ -16,7 +16,7 @@ pub record HoldsEntries (count : ℕ) (bytes greatest : List ℕ) : Type 0 where
   pub whole : length (entries_at_front count bytes) ≡ count
   pub last : IsLastOf (keys_of (entries_at_front count bytes)) greatest
 
--- so many links stand at the front of the bytes, the last has this key, and so many entries stand below them
+-- so many links stand at the front of the bytes, the last has this key, and so many entries are below them
 pub record HoldsLinks (count : ℕ) (bytes greatest : List ℕ) (number : ℕ) : Type 0 where
   pub whole : length (links_at_front count bytes) ≡ count
   pub last : IsLastOf (greatests_of (links_at_front count bytes)) greatest

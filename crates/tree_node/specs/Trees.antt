@@ -1,7 +1,7 @@
 -- The tree of a list of entries: its levels of nodes, the leaves first, up to the one node at the top. The list is cut
 -- into pieces, a leaf each; the nodes of a level are cut into pieces, a node of the next level each.
 -- Source: this project's trees, docs/FORMATS.md.
-use Rattle.std.specs.Prelude.{◌≡◌, ◌≢◌, ℕ, zero, suc, ◌+◌, ◌-◌, ◌<◌, ◌≤◌, ◌^◌, List, [], ◌∷◌, ◌++◌, ◌⊎◌, ◌↔◌, length, map, take, drop, sum_by, Option, Some, None, Bool, nat_lt, ◌==◌, ◌&&◌, ◌||◌, slice_index, slice_index_or, if◌then◌else◌}
+use Rattle.std.specs.Prelude.{◌≡◌, ℕ, zero, suc, ◌+◌, ◌-◌, ◌<◌, ◌≤◌, List, [], ◌∷◌, ◌++◌, length, map, take, drop, sum_by, Option, Some, None, Bool, nat_lt, ◌==◌, ◌&&◌, ◌||◌, slice_index, slice_index_or, if◌then◌else◌}
 use Rattle.std.specs.List.{AllByRecursion, flat_map}
 use Rattle.tree_node.specs.declared.limits.TheConstants.{ENTRY_LIMIT, ITEM_LIMIT, KEY_LIMIT, VALUE_LIMIT}
 use Rattle.tree_node.specs.Digests.{digest}

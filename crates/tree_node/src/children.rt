@@ -75,7 +75,7 @@ impl<'a> Children<'a> {
         }
     }
 
-    /// How many entries stand below the children that are still to come, all together.
+    /// How many entries are below the children that are still to come, all together.
     pub fn number(&self) -> u64
         ensures { result ≡ sum_by (λ (link : Link). link.number) self.now }
     {
@@ -114,7 +114,7 @@ impl<'a> Children<'a> {
         (before, found)
     }
 
-    /// This many children at the front of the bytes, and what stands behind them. Their keys have to
+    /// This many children at the front of the bytes, and what follows them. Their keys have to
     /// rise: N1 where a child is cut short, N3 where its number of entries is out of range, N4 where its
     /// greatest key isn't above the one before it.
     pub(crate) fn read(count: u16, bytes: &'a [u8]) -> Result<(Children<'a>, &'a [u8]), NodeFault>
@@ -133,7 +133,7 @@ impl<'a> Children<'a> {
 }
 
 /// The last greatest key of this many children at the front of the bytes, the number of entries below
-/// them, and what stands behind them.
+/// them, and what follows them.
 #[inline(never)]
 fn skip_children(count: u16, bytes: &[u8]) -> Result<(&[u8], u64, &[u8]), NodeFault>
     ensures behind { Gives (λ x. x.2.now) result (links_behind count None bytes.now) }

@@ -104,7 +104,7 @@ impl<'a> Entries<'a> {
         found
     }
 
-    /// This many entries at the front of the bytes, and what stands behind them. Their keys have to
+    /// This many entries at the front of the bytes, and what follows them. Their keys have to
     /// rise: N1 where an entry is cut short, N4 where its key isn't above the one before it.
     pub(crate) fn read(count: u16, bytes: &'a [u8]) -> Result<(Entries<'a>, &'a [u8]), NodeFault>
         ensures behind { Gives (λ x. x.1.now) result (entries_behind count None bytes.now) }
@@ -120,7 +120,7 @@ impl<'a> Entries<'a> {
     }
 }
 
-/// The last key of this many entries at the front of the bytes, and what stands behind them.
+/// The last key of this many entries at the front of the bytes, and what follows them.
 #[inline(never)]
 fn skip_entries(count: u16, bytes: &[u8]) -> Result<(&[u8], &[u8]), NodeFault>
     ensures behind { Gives (λ x. x.1.now) result (entries_behind count None bytes.now) }

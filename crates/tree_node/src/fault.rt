@@ -6,13 +6,13 @@ use thiserror::Error;
 ///
 /// Shown as the code alone, as in `N3`. Of several faults the first that is met is told: the tree
 /// number and the level, then the number of items, then item by item in their order what is cut
-/// short, a number of entries, the order of the keys, and last what stands behind.
+/// short, a number of entries, the order of the keys, and last what follows the items.
 #[derive(Clone, Copy, Debug, PartialEq, Eq, Error)]
 pub enum NodeFault {
     /// N1: the bytes end before the node does, in its first four bytes or within an item.
     #[error("N1")]
     CutShort,
-    /// N2: bytes stand behind the last item.
+    /// N2: bytes follow the last item.
     #[error("N2")]
     BytesAfter,
     /// N3: more than 64 items, no item in an inner node, or a child's number of entries that isn't

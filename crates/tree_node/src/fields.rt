@@ -1,4 +1,4 @@
-//! Fields at the front of bytes that are long enough, each with the bytes behind it.
+//! Fields at the front of bytes that are long enough, each with the bytes after it.
 
 ghost use Rattle.std.specs.Int.{from_be_bytes, w16, w32, w64};
 ghost use Rattle.std.specs.Prelude.{◌≡◌, ◌≤◌, drop, length, take};

@@ -30,9 +30,9 @@ pub(crate) fn is_above(low: Option<&[u8]>, key: &[u8]) -> bool
 /// below. It takes no memory and is linear in the bytes of the shorter.
 ///
 /// The first eight bytes of each are compared as one number, since the keys of a tree mostly differ
-/// behind some equal bytes: std's order of slices, which ends byte by byte, took more than four times the
+/// after some equal bytes: std's order of slices, which ends byte by byte, took more than four times the
 /// instructions at keys of nine bytes. Two keys of objects go the same way, without a look at what their
-/// lengths leave behind the front.
+/// lengths leave after the front.
 #[inline(always)]
 pub fn is_below(low: &[u8], high: &[u8]) -> bool
     ensures { IsTrue result ↔ IsBelow low.now high.now }

@@ -122,7 +122,7 @@ fn reads_and_writes_the_leaf_of_one_object(rt: HostRuntime) -> Result<(), Fail> 
     let item = entries.next().ok_or("an entry was expected")?;
     assert_eq!(rt; (item.key, item.value), (KEY, LINE));
     assert!(rt; is_below(b"\x01\x80", item.key));
-    // What stands in the vector stays in front.
+    // What was in the vector stays in front.
     let mut out = b"before".to_vec(rt.alloc())?;
     write_leaf(Tree::Objects, &[], &mut out)?;
     write_leaf(Tree::Objects, &[item], &mut out)?;

@@ -1,21 +1,14 @@
 -- The pending children of a level, one after the other.
-use Rattle.std.proofs.Common.{◌≡◌, ℕ, ◌+◌, ◌<◌, List, ◌∷◌, drop, get_or, length, Option, Result, Ok, Err, ap}
-use Rattle.std.specs.Result.{IsErrAnd}
+use Rattle.std.proofs.Common.{◌≡◌, ℕ, ◌+◌, ◌<◌, List, ◌∷◌, drop, get_or, length, Option, ap}
 use Rattle.std.proofs.lemmas.List.{drop_more}
 use Rattle.tree_node.specs.Nodes.{AreRisingFrom, Inner, Link, greatests_of}
 use Rattle.tree_walk.specs.internal.Pendings.{FetchedNode, StartAbove, spot_of, spots_of}
-use Rattle.tree_walk.specs.declared.fault.WalkFault.{WalkFault}
 use Rattle.tree_walk.specs.declared.pending.Pending.{Pending}
 use Rattle.tree_walk.proofs.SpotOrder.{rises_above}
 
 -- one more is left to fetch
 pub rest_is : (nodes : List Pending) (i : ℕ) (default : Pending) → i < length nodes → spots_of (drop i nodes) ≡ spot_of (get_or nodes i default) ∷ spots_of (drop (i + 1) nodes)
 rest_is nodes i default lt = ap spots_of (drop_more nodes i default lt)
-
--- a result that is known to be an error
-pub err_is : {A : Type 0} (result : Result A WalkFault) (fault : WalkFault) → IsErrAnd result (λ f. f ≡ fault) → result ≡ Err fault
-err_is (Ok x) fault is = absurd is
-err_is (Err f) fault is = ap (λ g. Err g) is
 
 -- the keys of an inner node that was fetched, and agrees with its parent, rise from its left bound
 pub fetched_rises : (tree level from to : ℕ) (links : List Link) (held old new : List ℕ → Type 0) (left : Option (List ℕ)) → FetchedNode (Inner tree level links) (record { held = held; before = old; after = new }) from to → StartAbove left (greatests_of links)

@@ -23,24 +23,24 @@ IsAtMost low high = IsBelow low high ⊎ (low ≡ high)
 abbrev pub Begins : List ℕ → List ℕ → Type 0
 Begins front whole = (rest : List ℕ) × (whole ≡ front ++ rest)
 
--- the key stands in the range: it isn't below lo, and it isn't above hi or hi begins it and under holds
+-- the key is in the range: it isn't below lo, and it isn't above hi or hi begins it and under holds
 abbrev pub IsIn : Range → List ℕ → Type 0
 IsIn range key = IsAtMost range.lo key × (IsAtMost key range.hi ⊎ ((range.under ≡ true) × Begins range.hi key))
 
--- ---- Spans: what may stand below a node. The keys of a span are above its left bound, where it has one, and not
+-- ---- Spans: what may be below a node. The keys of a span are above its left bound, where it has one, and not
 -- ---- above its greatest key.
 
 -- the key is above the left bound, where there is one
 abbrev pub IsAboveLeft : Option (List ℕ) → List ℕ → Type 0
 IsAboveLeft left key = IfSome left (λ bound. IsBelow bound key)
 
--- the span meets the range: some byte string of the span stands in the range
+-- the span meets the range: some byte string of the span is in the range
 abbrev pub Meets : Range → Option (List ℕ) → List ℕ → Type 0
 Meets range left greatest =
     (key : List ℕ) × AreBytes key × IsAboveLeft left key × IsAtMost key greatest × IsIn range key
 
 -- the range covers the span, so that a walk that counts leaves its node closed: the span has a left bound that isn't
--- below lo, and its greatest key stands in the range
+-- below lo, and its greatest key is in the range
 abbrev pub IsCovered : Range → Option (List ℕ) → List ℕ → Type 0
 IsCovered range None greatest = ⊥
 IsCovered range (Some bound) greatest = IsAtMost range.lo bound × IsIn range greatest

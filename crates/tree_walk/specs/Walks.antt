@@ -28,6 +28,6 @@ pub record IsTopOf (shape : Shape) (tree : ℕ) (entries : List Binding) (top : 
   pub bytes : AllByRecursion (λ (entry : Binding). AreBytes entry.key) entries
   pub is_top : top ≡ digest (top_of (levels shape tree entries))
 
--- the entry's key stands in the range
+-- the entry's key is in the range
 abbrev pub IsEntryIn : Range → Binding → Type 0
 IsEntryIn range entry = IsIn range entry.key

@@ -23,7 +23,7 @@ use crate::visit::{open, open_inner, open_leaf};
 use std::alloc::{AllocError, Global};
 use tree_node::{Children, Digest, Entries, NodeRef, Shelf, Tree};
 
-/// The number of entries of a tree in a range of keys: what stands under the node with the digest `top`.
+/// The number of entries of a tree in a range of keys: what is below the node with the digest `top`.
 ///
 /// It goes as `range` does, but that a child that the range covers stays closed: of it the number is
 /// counted that its parent states. Over a tree as a publisher builds it the number is at most 2^29; over
@@ -182,8 +182,8 @@ fn harvest_count<'a, S: Shelf<'a>>(
     Ok(counted)
 }
 
-/// Puts the children that have to be opened behind those of the nodes to the left, and gives the number
-/// of entries below those that the range covers. It leaves off at the first child that begins where the
+/// Puts the children that have to be opened after those of the nodes to the left, and gives the number
+/// of entries below those that the range covers. It stops at the first child that begins where the
 /// range has ended.
 fn pick_open<'a>(
     children: Children<'a>,
@@ -216,7 +216,7 @@ fn pick_open<'a>(
     Ok(counted)
 }
 
-/// The number of these entries that stand in the range. It leaves off at the first key that the range
+/// The number of these entries that are in the range. It stops at the first key that the range
 /// doesn't reach.
 fn count_in(entries: Entries<'_>, range: &KeyRange<'_>) -> u64
     requires { AreRisingFrom None (keys_of entries) }

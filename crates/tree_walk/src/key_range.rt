@@ -14,19 +14,19 @@ use tree_node::is_below;
 /// decides their order, else the shorter is below.
 ///
 /// The ends are borrowed and no method takes memory. Each is linear in the bytes of the keys that it
-/// compares. A range may be empty: it is exactly where `lo` itself doesn't stand in it.
+/// compares. A range may be empty: it is exactly where `lo` itself isn't in it.
 #[derive(Clone, Copy, Debug)]
 pub struct KeyRange<'a> {
-    /// No key below this one stands in the range.
+    /// No key below this one is in the range.
     pub lo: &'a [u8],
-    /// No key above this one stands in the range, but for those that it begins.
+    /// No key above this one is in the range, but for those that it begins.
     pub hi: &'a [u8],
-    /// Whether the keys that `hi` begins stand in the range.
+    /// Whether the keys that `hi` begins are in the range.
     pub under: bool,
 }
 
 impl<'a> KeyRange<'a> {
-    /// Whether the key stands in the range: it isn't below `lo`, and it isn't above `hi`, or `hi` begins
+    /// Whether the key is in the range: it isn't below `lo`, and it isn't above `hi`, or `hi` begins
     /// it and `under` holds (this project's trees, docs/FORMATS.md).
     pub fn contains(&self, key: &[u8]) -> bool
         ensures { IsTrue result ↔ IsIn (range_of self.now) key.now }
@@ -35,11 +35,11 @@ impl<'a> KeyRange<'a> {
     }
 
     /// Whether a node meets the range: exactly where some byte string that is above `left` (any is, where
-    /// there is none) and not above `greatest` stands in the range. `left` is the greatest key of the
+    /// there is none) and not above `greatest` is in the range. `left` is the greatest key of the
     /// node's left neighbour, or for a first child its parent's own left bound; `greatest` is the
     /// greatest key below the node (this project's trees, docs/FORMATS.md).
     ///
-    /// The answer is by four comparisons, which two conditions make right. `lo` stands in the range, as
+    /// The answer is by four comparisons, which two conditions make right. `lo` is in the range, as
     /// `contains` tells: else nothing does. `left` is below `greatest`: else no string lies between them.
     pub fn meets(&self, left: Option<&[u8]>, greatest: &[u8]) -> bool
         requires some { IsIn (range_of self.now) self.now.lo.now }
@@ -51,9 +51,9 @@ impl<'a> KeyRange<'a> {
     }
 
     /// Whether a node is one that a count leaves closed: exactly where it has a left bound that isn't
-    /// below `lo`, and its greatest key stands in the range (this project's trees, docs/FORMATS.md). Then
-    /// whatever stands below the node stands in the range, as `covered_law` says. A node without a left
-    /// bound is opened, since a key below `lo` could stand there.
+    /// below `lo`, and its greatest key is in the range (this project's trees, docs/FORMATS.md). Then
+    /// whatever is below the node is in the range, as `covered_law` says. A node without a left
+    /// bound is opened, since a key below `lo` could be there.
     pub fn covers(&self, left: Option<&[u8]>, greatest: &[u8]) -> bool
         ensures { IsTrue result
             ↔ IsCovered (range_of self.now) (option_copied left.entry) greatest.now }
@@ -65,7 +65,7 @@ impl<'a> KeyRange<'a> {
     }
 
     /// Whether the range starts at this key or below it: the key isn't below `lo`. Where it doesn't,
-    /// nothing up to the key stands in the range.
+    /// nothing up to the key is in the range.
     pub(crate) fn starts_by(&self, key: &[u8]) -> bool
         ensures told { IsTrue result ↔ IsAtMost self.now.lo.now key.now }
         // As its type says.
@@ -75,7 +75,7 @@ impl<'a> KeyRange<'a> {
     }
 
     /// Whether the range reaches this key: it isn't above `hi`, or `hi` begins it and `under` holds. Where
-    /// it doesn't, no key above this one stands in the range.
+    /// it doesn't, no key above this one is in the range.
     pub(crate) fn reaches(&self, key: &[u8]) -> bool
         ensures { IsTrue result ↔ Reaches (range_of self.now) key.now }
     {
@@ -114,7 +114,7 @@ fn is_at_most(low: &[u8], high: &[u8]) -> bool
     !is_below(high, low)
 }
 
-/// Whether the whole is the front and some bytes behind it.
+/// Whether the whole is the front and some bytes after it.
 fn begins(front: &[u8], whole: &[u8]) -> bool
     ensures { IsTrue result ↔ Begins front.now whole.now }
 {

@@ -20,8 +20,8 @@ pub fn left_edge_law()
         → (Meets range None greatest ↔ IsAtMost range.lo greatest) }
 {}
 
-/// The law of covered nodes: where a node is one that a count leaves closed, each key that can stand
-/// below it, above its left bound and not above its greatest key, stands in the range. So the number
+/// The law of covered nodes: where a node is one that a count leaves closed, each key that can be
+/// below it, above its left bound and not above its greatest key, is in the range. So the number
 /// of entries below it is the number of those in the range.
 pub fn covered_law()
     ensures { (range : Range) (left : Option (List ℕ)) (greatest key : List ℕ)
@@ -30,7 +30,7 @@ pub fn covered_law()
 {}
 
 /// The law of what is inside: where a node is one that a count leaves closed, so is each whose left bound
-/// isn't lower and whose greatest key isn't higher. A child's bounds are such, so whatever stands below a
+/// isn't lower and whose greatest key isn't higher. A child's bounds are such, so whatever is below a
 /// node that a count leaves closed isn't needed either.
 pub fn inside_law()
     ensures { (range : Range) (left outer : Option (List ℕ)) (greatest last : List ℕ)

@@ -58,7 +58,7 @@ fn is_above(left: Option<&[u8]>, key: &[u8]) -> bool
     }
 }
 
-/// Puts the children that meet the range behind those of the nodes to the left. It leaves off at the
+/// Puts the children that meet the range after those of the nodes to the left. It stops at the
 /// first child that begins where the range has ended.
 pub(crate) fn pick<'a>(
     children: Children<'a>,

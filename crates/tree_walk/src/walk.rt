@@ -23,7 +23,7 @@ use crate::visit::{open, open_inner, open_leaf};
 use std::alloc::{AllocError, Global};
 use tree_node::{Children, Digest, Entries, Item, NodeRef, Shelf, Tree};
 
-/// The entries of a tree in a range of keys, in the order of their keys: what stands under the node with
+/// The entries of a tree in a range of keys, in the order of their keys: what is below the node with
 /// the digest `top`. Keys and values are slices of the nodes that the shelf gave, and outlive it.
 ///
 /// It fetches the top, and of each inner node that it fetched the children that meet the range, level by
@@ -33,7 +33,7 @@ use tree_node::{Children, Digest, Entries, Item, NodeRef, Shelf, Tree};
 ///
 /// Refused with `Missing` (V1) where the shelf doesn't hold a node that the walk needs, `Malformed` (V2)
 /// where what it gave is no node, `WrongTreeOrLevel` (V3) and `Disagrees` (V4) where a child isn't as its
-/// parent states, and for want of memory. Then shelf and tally stand as far as nodes were fetched. Linear
+/// parent states, and where memory is refused. Then shelf and tally tell what was fetched until then. Linear
 /// in the bytes of the fetched nodes.
 ///
 /// Source: this project's trees, docs/FORMATS.md.
@@ -146,7 +146,7 @@ fn descend<'a, S: Shelf<'a>>(
     Ok(pending)
 }
 
-/// Fetches leaves, and gives those of their entries that stand in the range.
+/// Fetches leaves, and gives those of their entries that are in the range.
 fn harvest<'a, S: Shelf<'a>>(
     alloc: Global,
     shelf: &mut S,
@@ -175,7 +175,7 @@ fn harvest<'a, S: Shelf<'a>>(
     Ok(found)
 }
 
-/// Puts the entries that stand in the range behind those found so far. It leaves off at the first key
+/// Puts the entries that are in the range after those found so far. It stops at the first key
 /// that the range doesn't reach.
 fn take<'a>(
     entries: Entries<'a>,

@@ -28,7 +28,7 @@ pub record IsFirstPiece {X : Type 0} (ends : ℕ → X → Bool) (xs piece : Lis
   pub some : 1 ≤ length xs → 1 ≤ length piece
   pub cut : one_at_least (pieces ends xs) ≡ piece ∷ pieces ends (drop (length piece) xs)
 
--- the greatest keys are within the limit, and few enough entries stand below the links
+-- the greatest keys are within the limit, and few enough entries are below the links
 pub record AreWithin (links : List Link) : Type 0 where
   pub greatest : AllByRecursion (λ (link : Link). length link.greatest ≤ KEY_LIMIT) links
   pub few : sum_by (λ (link : Link). link.number) links ≤ ENTRY_LIMIT

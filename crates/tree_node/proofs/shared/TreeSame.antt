@@ -16,7 +16,7 @@ use Rattle.tree_node.proofs.shared.TreeLaws.{whole, above, last_has_one, leaves_
 use Rattle.tree_node.proofs.shared.TreeParts.{kind_at}
 
 -- byte strings are equal or not
-same_or_not : (a b : List ℕ) → (a ≡ b) ⊎ (a ≢ b)
+pub same_or_not : (a b : List ℕ) → (a ≡ b) ⊎ (a ≢ b)
 same_or_not a b =
     let decides = bytes_eq-Decides a b in
     elim (cases_Bool (bytes_eq a b)) [ inl passed ↦ inl (decides.0 passed) | inr failed ↦ inr (λ e. not_both (bytes_eq a b) (decides.1 e) failed) ]

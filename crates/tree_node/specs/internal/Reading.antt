@@ -7,7 +7,7 @@ use Rattle.tree_node.specs.declared.fault.NodeFault.TheVariants.{CutShort, Bytes
 use Rattle.tree_node.specs.declared.limits.TheConstants.{ITEM_LIMIT, LEVEL_LIMIT}
 use Rattle.tree_node.specs.Fronts.{◌>>=◌, entries_at_front, entry_at, link_at, links_at_front}
 use Rattle.tree_node.specs.Order.{order}
-use Rattle.tree_node.specs.Nodes.{Binding, Link, Node, Leaf, Inner}
+use Rattle.tree_node.specs.Nodes.{Link, Node, Leaf, Inner}
 
 -- the link whose key has this length, at the front of bytes that are long enough, and what follows it
 abbrev pub link_by : ℕ → List ℕ → Link × List ℕ

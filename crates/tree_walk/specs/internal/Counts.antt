@@ -1,4 +1,4 @@
--- A walk that counts the entries in a range: which nodes it opens, and how many entries stand below them.
+-- A walk that counts the entries in a range: which nodes it opens, and how many entries are below them.
 use Rattle.std.specs.Prelude.{◌≡◌, ℕ, suc, ◌+◌, ◌-◌, ◌^◌, ◌<◌, ◌≤◌, min, sum_by, List, [], ◌∷◌, ◌⊎◌, length, map, Option, Some, None}
 use Rattle.std.specs.List.{AllByRecursion}
 use Rattle.tree_node.specs.Nodes.{AreBytes, Binding, IsTree, Link, Node}
@@ -45,7 +45,7 @@ pub record IsOpened (shape : Shape) (tree : ℕ) (entries : List Binding) (range
   pub within : suc level < length (levels shape tree entries)
   pub those : AreThose (IsOpenChild range) (children_placed None (map link_to (level_at (levels shape tree entries) level))) pending
 
--- So many entries in the range stand below those of the children that a count opens, where the parts are the entries
+-- So many entries in the range are below those of the children that a count opens, where the parts are the entries
 -- below each child.
 abbrev pub IsCountBelow : Range → Option (List ℕ) → List Link → List (List Binding) → ℕ → Type 0
 IsCountBelow range left [] parts n = n ≡ 0
@@ -54,6 +54,6 @@ IsCountBelow range left (link ∷ links) (part ∷ parts) n =
     (IsOpen range left link.greatest × ((m others : ℕ) × (n ≡ m + others) × IsCount (IsEntryIn range) part m × IsCountBelow range (Some link.greatest) links parts others))
     ⊎ ((¬ IsOpen range left link.greatest) × IsCountBelow range (Some link.greatest) links parts n)
 
--- so many entries in the range stand below the nodes of this level that a count opens
+-- so many entries in the range are below the nodes of this level that a count opens
 abbrev pub IsCountAt : Range → List (List Node) → ℕ → ℕ → Type 0
 IsCountAt range tree level n = IsCountBelow range None (map link_to (level_at tree level)) (entries_at tree level) n

@@ -9,7 +9,7 @@ use Rattle.tree_node.specs.declared.child.Child.{Child}
 use Rattle.tree_node.proofs.shared.PieceLemmas.{join}
 use Rattle.tree_build.specs.Shapes.{shape_of}
 use Rattle.tree_build.specs.internal.Building.{IsOneOf, PutAll}
-use Rattle.tree_build.proofs.LevelLemmas.{err_is}
+use Rattle.tree_node.proofs.shared.Results.{err_is}
 use Rattle.tree_build.proofs.StockLemmas.{put_whole}
 use Rattle.tree_build.proofs.BuildLemmas.{only_nodes, clashing_nodes, gained_nodes, rising_first, rising_none, rising_stopped, rising_next, rising_fewer, rising_gained, rising_top}
 use Rattle.tree_build.proofs.builder.build.Goals as goal

@@ -8,7 +8,8 @@ use Rattle.tree_node.specs.declared.item.Item.{Item}
 use Rattle.tree_build.specs.declared.fault.BuildFault.TheVariants.{Memory}
 use Rattle.tree_build.specs.Shapes.{shape_of}
 use Rattle.tree_build.proofs.StockLemmas.{Underway, put_whole, underway_links, underway_gained}
-use Rattle.tree_build.proofs.LevelLemmas.{step_stopped, step_no_memory, step_next, step_last, first_of_rest, links_more, drop_end, drop_some, piece_all, rest_all, err_is}
+use Rattle.tree_node.proofs.shared.Results.{err_is}
+use Rattle.tree_build.proofs.LevelLemmas.{step_stopped, step_no_memory, step_next, step_last, first_of_rest, links_more, drop_end, drop_some, piece_all, rest_all}
 use Rattle.tree_build.proofs.leaf.put_leaves.Goals as goal
 
 pub put_leaf-requires-clause-fit : goal.put_leaf-requires-clause-fit

@@ -16,7 +16,7 @@ use Rattle.tree_walk.proofs.CountLemmas.{count_is, count_those}
 use Rattle.tree_walk.proofs.CountTops.{count_inner, count_leaf, count_refused, count_then, count_then_refused, number_of_all, of_top}
 use Rattle.tree_walk.proofs.LevelLemmas.{top_is}
 use Rattle.tree_walk.proofs.OutcomeLemmas.{clash_more}
-use Rattle.tree_walk.proofs.Pendings.{err_is}
+use Rattle.tree_node.proofs.shared.Results.{err_is}
 use Rattle.tree_walk.proofs.SpotOrder.{order_of_top}
 use Rattle.tree_walk.proofs.TopLemmas.{is_tree, top_fetched, top_refused, top_then_down, top_then_refused}
 use Rattle.tree_walk.proofs.counting.count.Goals as goal

@@ -12,7 +12,7 @@ use Rattle.tree_walk.specs.declared.pending.Pending.{Pending}
 use Rattle.tree_walk.proofs.CountDescents.{HonestCount, honest_count_end, honest_count_start, honest_count_step, honest_count_stop}
 use Rattle.tree_walk.proofs.DescentFetches.{FetchingDown, down_end, down_start, down_step, down_stop}
 use Rattle.tree_walk.proofs.FetchLemmas.{same_then}
-use Rattle.tree_walk.proofs.Pendings.{err_is}
+use Rattle.tree_node.proofs.shared.Results.{err_is}
 use Rattle.tree_walk.proofs.counting.count_down.Goals as goal
 
 pub returns-in_err-children-clause-fetches : goal.returns-in_err-children-clause-fetches

@@ -18,7 +18,8 @@ use Rattle.tree_walk.proofs.CountLemmas.{capped_stated}
 use Rattle.tree_walk.proofs.FetchLemmas.{same_then}
 use Rattle.tree_walk.proofs.HonestLemmas.{HonestSoFar, honest_end, honest_start, honest_step, honest_stop}
 use Rattle.tree_walk.proofs.LevelFetches.{FetchingLevel, level_end, level_refused, level_start, level_step, level_stopped}
-use Rattle.tree_walk.proofs.Pendings.{err_is, fetched_rises, rest_is}
+use Rattle.tree_node.proofs.shared.Results.{err_is}
+use Rattle.tree_walk.proofs.Pendings.{fetched_rises, rest_is}
 use Rattle.tree_walk.proofs.SpotOrder.{order_step}
 use Rattle.tree_walk.proofs.counting.descend_open.Goals as goal
 

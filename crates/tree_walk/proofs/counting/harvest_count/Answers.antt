@@ -16,7 +16,8 @@ use Rattle.tree_walk.proofs.CountLemmas.{capped_lengths}
 use Rattle.tree_walk.proofs.FetchLemmas.{same_then}
 use Rattle.tree_walk.proofs.HonestLemmas.{HonestSoFar, honest_end, honest_step, honest_stop}
 use Rattle.tree_walk.proofs.LevelFetches.{FetchingLevel, level_end, level_step, level_stopped}
-use Rattle.tree_walk.proofs.Pendings.{err_is, rest_is}
+use Rattle.tree_node.proofs.shared.Results.{err_is}
+use Rattle.tree_walk.proofs.Pendings.{rest_is}
 use Rattle.tree_walk.proofs.counting.harvest_count.Goals as goal
 
 pub count_in-requires : goal.count_in-requires

@@ -17,7 +17,8 @@ use Rattle.tree_walk.specs.declared.pending.Pending.{Pending}
 use Rattle.tree_walk.proofs.FetchLemmas.{same_then}
 use Rattle.tree_walk.proofs.HonestLemmas.{HonestSoFar, honest_end, honest_step, honest_stop}
 use Rattle.tree_walk.proofs.LevelFetches.{FetchingLevel, level_end, level_refused, level_step, level_stopped}
-use Rattle.tree_walk.proofs.Pendings.{err_is, rest_is}
+use Rattle.tree_node.proofs.shared.Results.{err_is}
+use Rattle.tree_walk.proofs.Pendings.{rest_is}
 use Rattle.tree_walk.proofs.walk.harvest.Goals as goal
 
 pub returns-in_err-entries-clause-fetches : goal.returns-in_err-entries-clause-fetches

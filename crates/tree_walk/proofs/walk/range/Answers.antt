@@ -16,7 +16,7 @@ use Rattle.tree_walk.specs.declared.pending.Pending.{Pending}
 use Rattle.tree_walk.specs.declared.fault.WalkFault.TheVariants.{Memory}
 use Rattle.tree_walk.proofs.LevelLemmas.{top_is}
 use Rattle.tree_walk.proofs.OutcomeLemmas.{clash_more}
-use Rattle.tree_walk.proofs.Pendings.{err_is}
+use Rattle.tree_node.proofs.shared.Results.{err_is}
 use Rattle.tree_walk.proofs.SpotOrder.{order_of_top}
 use Rattle.tree_walk.proofs.TopLemmas.{honest_inner, honest_leaf, honest_refused, honest_then, is_tree, of_top, top_fetched, top_refused, top_then_down, top_then_refused}
 use Rattle.tree_walk.proofs.walk.range.Goals as goal

@@ -15,7 +15,7 @@ use Rattle.tree_walk.specs.declared.pending.Pending.{Pending}
 use Rattle.tree_walk.proofs.DescentFetches.{FetchingDown, down_last, down_step, down_stop}
 use Rattle.tree_walk.proofs.DescentLemmas.{HonestDown, honest_down_end, honest_down_step, honest_down_stop}
 use Rattle.tree_walk.proofs.FetchLemmas.{same_then}
-use Rattle.tree_walk.proofs.Pendings.{err_is}
+use Rattle.tree_node.proofs.shared.Results.{err_is}
 use Rattle.tree_walk.proofs.walk.walk_down.Goals as goal
 
 pub returns-in_err-pending-clause-fetches : goal.returns-in_err-pending-clause-fetches
