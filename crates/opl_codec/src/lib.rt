@@ -38,3 +38,6 @@ pub use out_mode::OutMode;
 pub use piece_reader::{PieceFault, PieceReader};
 pub use separator::cut;
 pub use write_line::write_object;
+
+#[cfg(test)]
+mod tests;

@@ -172,6 +172,3 @@ fn object_of(alloc: Global, id: i64, seen: FieldsSeen, line: &[u8]) -> Result<Ob
         }),
     }
 }
-
-#[cfg(test)]
-mod tests;

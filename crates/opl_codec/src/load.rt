@@ -69,6 +69,3 @@ fn cause_of(fault: PieceFault) -> OplCause
 pub fn one_set()
     ensures { (file : List ℕ) (a b : List Element) → HoldsSet file a → HoldsSet file b → a ≡ b }
 {}
-
-#[cfg(test)]
-mod tests;

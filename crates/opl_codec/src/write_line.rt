@@ -62,6 +62,3 @@ fn append_fields(object: &Object, mode: OutMode, out: &mut Vec<u8>) -> Result<()
         }
     }
 }
-
-#[cfg(test)]
-mod tests;

@@ -51,6 +51,4 @@ pub use tag_order::{keys_rise, sort_tags};
 pub use text::Text;
 
 #[cfg(test)]
-mod box_tests;
-#[cfg(test)]
 mod tests;

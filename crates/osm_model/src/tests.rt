@@ -1,8 +1,9 @@
-//! Rows of degrees, stamps, objects and sets.
+//! Rows of degrees, edges, boxes, moments, objects and sets.
 
 use crate::{
-    Axis, Body, Coord, Kind, Meta, ModelFault, Object, ObjectSet, Ref, Stamp, Tag, TagList, Text,
-    read_degrees, write_degrees,
+    Axis, Body, BoxArea, Coord, Edge, Kind, Meta, ModelFault, Object, ObjectSet, Ref, Stamp, Tag,
+    TagList, Text, digits_len, hex_places, is_literal, keys_rise, read_degrees, sort_tags,
+    write_degrees,
 };
 use std::alloc::Global;
 use std::test::Fail;
@@ -29,8 +30,9 @@ fn tag(alloc: Global, key: &str, value: &str) -> Result<Tag, Fail> {
 }
 
 fn node(alloc: Global, id: i64) -> Result<Object, Fail> {
+    let tags = vec![in alloc; tag(alloc, "b", "1")?, tag(alloc, "a", "2")?]?;
     let body = Body::Node(Coord::new(134_000_000, 525_000_000));
-    Ok(Object::new(id, no_meta(alloc), Vec::new(alloc), body)?)
+    Ok(Object::new(id, no_meta(alloc), tags, body)?)
 }
 
 #[test]
@@ -54,104 +56,218 @@ fn faults_print_their_codes(rt: HostRuntime) -> Result<(), Fail> {
 
 #[test]
 fn degrees_are_read(rt: HostRuntime) {
-    assert_eq!(rt; read_degrees(b"13.4", Axis::Lon), Ok(134_000_000));
-    assert_eq!(rt; read_degrees(b"-0.0000001", Axis::Lon), Ok(-1));
-    assert_eq!(rt; read_degrees(b"-90", Axis::Lat), Ok(-900_000_000));
-    assert_eq!(rt;
-        read_degrees(b"0000000000000000000000180", Axis::Lon),
-        Ok(1_800_000_000)
-    );
-    assert_eq!(rt; read_degrees(b"-0", Axis::Lat), Ok(0));
-    assert_eq!(rt; read_degrees(b"52.5000000", Axis::Lat), Ok(525_000_000));
-}
-
-#[test]
-fn degrees_are_refused(rt: HostRuntime) {
-    assert_eq!(rt; read_degrees(b"", Axis::Lon), Err(ModelFault::EmptyNumber));
-    assert_eq!(rt; read_degrees(b"-", Axis::Lon), Err(ModelFault::NotDecimal));
-    assert_eq!(rt; read_degrees(b"1.", Axis::Lon), Err(ModelFault::NotDecimal));
-    assert_eq!(rt; read_degrees(b".5", Axis::Lon), Err(ModelFault::NotDecimal));
-    assert_eq!(rt;
-        read_degrees(b"1e2", Axis::Lon),
-        Err(ModelFault::NotDecimal)
-    );
-    assert_eq!(rt; read_degrees(b"+1", Axis::Lon), Err(ModelFault::NotDecimal));
-    assert_eq!(rt;
-        read_degrees(b"1.12345678", Axis::Lon),
-        Err(ModelFault::TooManyDecimals)
-    );
-    assert_eq!(rt;
-        read_degrees(b"999.12345678", Axis::Lon),
-        Err(ModelFault::TooManyDecimals)
-    );
-    assert_eq!(rt;
-        read_degrees(b"180.0000001", Axis::Lon),
-        Err(ModelFault::OutOfRange)
-    );
-    assert_eq!(rt;
-        read_degrees(b"-90.0000001", Axis::Lat),
-        Err(ModelFault::OutOfRange)
-    );
+    let rows = [
+        ("13.4", Axis::Lon, Ok(134_000_000)),
+        ("-0.0000001", Axis::Lon, Ok(-1)),
+        ("-90", Axis::Lat, Ok(-900_000_000)),
+        ("0000000000000000000000180", Axis::Lon, Ok(1_800_000_000)),
+        ("-0", Axis::Lat, Ok(0)),
+        ("52.5000000", Axis::Lat, Ok(525_000_000)),
+        ("", Axis::Lon, Err(ModelFault::EmptyNumber)),
+        ("-", Axis::Lon, Err(ModelFault::NotDecimal)),
+        ("1.", Axis::Lon, Err(ModelFault::NotDecimal)),
+        (".5", Axis::Lon, Err(ModelFault::NotDecimal)),
+        ("1e2", Axis::Lon, Err(ModelFault::NotDecimal)),
+        ("+1", Axis::Lon, Err(ModelFault::NotDecimal)),
+        ("1.12345678", Axis::Lon, Err(ModelFault::TooManyDecimals)),
+        ("999.12345678", Axis::Lon, Err(ModelFault::TooManyDecimals)),
+        ("180.0000001", Axis::Lon, Err(ModelFault::OutOfRange)),
+        ("-90.0000001", Axis::Lat, Err(ModelFault::OutOfRange)),
+    ];
+    for (text, axis, wanted) in rows {
+        assert_eq!(rt; read_degrees(text.as_bytes(), axis), wanted, "at {text}");
+    }
 }
 
 #[test]
 fn degrees_are_written(rt: HostRuntime) {
-    assert_eq!(rt; write_degrees(134_000_000).as_bytes(), b"13.4".as_slice());
-    assert_eq!(rt;
-        write_degrees(134_000_001).as_bytes(),
-        b"13.4000001".as_slice()
-    );
-    assert_eq!(rt; write_degrees(-1).as_bytes(), b"-0.0000001".as_slice());
-    assert_eq!(rt; write_degrees(-900_000_000).as_bytes(), b"-90".as_slice());
-    assert_eq!(rt; write_degrees(0).as_bytes(), b"0".as_slice());
-    assert_eq!(rt;
-        write_degrees(i32::MIN).as_bytes(),
-        b"-214.7483648".as_slice()
-    );
-}
-
-#[test]
-fn stamps_have_ranges(rt: HostRuntime) {
-    assert!(rt; Stamp::new(2020, 1, 2, 3, 4, 5).is_some());
-    assert!(rt; Stamp::new(2020, 2, 31, 23, 59, 60).is_some());
-    assert!(rt; Stamp::new(2020, 13, 1, 0, 0, 0).is_none());
-    assert!(rt; Stamp::new(2020, 0, 1, 0, 0, 0).is_none());
-    assert!(rt; Stamp::new(10_000, 1, 1, 0, 0, 0).is_none());
-}
-
-#[test]
-fn tags_are_sorted(rt: HostRuntime) -> Result<(), Fail> {
-    let alloc = rt.alloc();
-    let tags = vec![in alloc; tag(alloc, "b", "1")?, tag(alloc, "a", "2")?]?;
-    let object = Object::new(1, no_meta(alloc), tags, Body::Node(Coord::new(0, 0)))?;
-    assert_eq!(rt; object.tags().len(), 2);
-    assert_eq!(rt; object.tags()[0].key.as_bytes(), b"a".as_slice());
-    assert_eq!(rt; object.tags()[1].value.as_bytes(), b"1".as_slice());
-    Ok(())
-}
-
-#[test]
-fn keys_stand_once(rt: HostRuntime) -> Result<(), Fail> {
-    let alloc = rt.alloc();
-    let tags = vec![in alloc; tag(alloc, "a", "1")?, tag(alloc, "a", "2")?]?;
-    let made = Object::new(1, no_meta(alloc), tags, Body::Node(Coord::new(0, 0)));
-    assert_eq!(rt; made.err(), Some(ModelFault::KeyTwice));
-    Ok(())
-}
-
-#[test]
-fn a_limit_comes_before_a_nul(rt: HostRuntime) -> Result<(), Fail> {
-    let alloc = rt.alloc();
-    let mut long = String::new(alloc);
-    for _ in 0..4097 {
-        long.push('x')?;
+    let rows = [
+        (134_000_000, "13.4"),
+        (134_000_001, "13.4000001"),
+        (-1, "-0.0000001"),
+        (-900_000_000, "-90"),
+        (0, "0"),
+        (i32::MIN, "-214.7483648"),
+    ];
+    for (value, text) in rows {
+        assert_eq!(rt; write_degrees(value).as_bytes(), text.as_bytes());
     }
-    let tags = vec![in alloc; tag(alloc, "a\0", "1")?, tag(alloc, long.as_str(), "2")?]?;
-    let made = Object::new(1, no_meta(alloc), tags, Body::Node(Coord::new(0, 0)));
-    assert_eq!(rt; made.err(), Some(ModelFault::LimitPassed));
-    let tags = vec![in alloc; tag(alloc, "a\0", "1")?, tag(alloc, "a\0", "2")?]?;
-    let made = Object::new(1, no_meta(alloc), tags, Body::Node(Coord::new(0, 0)));
-    assert_eq!(rt; made.err(), Some(ModelFault::NulInText));
+}
+
+/// The whole units next below and next above each edge.
+#[test]
+fn edges_are_exact(rt: HostRuntime) -> Result<(), Fail> {
+    let rows = [
+        ("13.40000004", Axis::Lon, 134_000_000, 134_000_001),
+        ("52.49999999999", Axis::Lat, 524_999_999, 525_000_000),
+        ("13.4", Axis::Lon, 134_000_000, 134_000_000),
+        ("-0.00000001", Axis::Lon, -1, 0),
+        ("-0", Axis::Lat, 0, 0),
+        ("-13.40", Axis::Lon, -134_000_000, -134_000_000),
+        (
+            "0000000000000000000000000000000.0000000000000000000000000000000000000000000000001",
+            Axis::Lon,
+            0,
+            1,
+        ),
+        (
+            "180.000000000000000000000000000000000",
+            Axis::Lon,
+            1_800_000_000,
+            1_800_000_000,
+        ),
+    ];
+    for (text, axis, below, above) in rows {
+        let edge = Edge::read(text.as_bytes(), axis)?;
+        assert!(rt;
+            edge.at_least(above) && !edge.at_least(above.saturating_sub(1)),
+            "{text}"
+        );
+        assert!(rt;
+            edge.at_most(below) && !edge.at_most(below.saturating_add(1)),
+            "{text}"
+        );
+    }
+    Ok(())
+}
+
+#[test]
+fn edges_are_refused(rt: HostRuntime) {
+    let rows = [
+        ("", Axis::Lon, ModelFault::EmptyNumber),
+        ("-", Axis::Lon, ModelFault::NotDecimal),
+        ("1.", Axis::Lon, ModelFault::NotDecimal),
+        (".5", Axis::Lon, ModelFault::NotDecimal),
+        ("1e2", Axis::Lon, ModelFault::NotDecimal),
+        ("1.2.3", Axis::Lon, ModelFault::NotDecimal),
+        ("90.0000001", Axis::Lat, ModelFault::OutOfRange),
+        (
+            "180.00000000000000000001",
+            Axis::Lon,
+            ModelFault::OutOfRange,
+        ),
+        (
+            "-180.00000000000000000001",
+            Axis::Lon,
+            ModelFault::OutOfRange,
+        ),
+        (
+            "99999999999999999999999999999999999999999",
+            Axis::Lon,
+            ModelFault::OutOfRange,
+        ),
+    ];
+    for (text, axis, fault) in rows {
+        assert_eq!(rt;
+            Edge::read(text.as_bytes(), axis).err(),
+            Some(fault),
+            "at {text}"
+        );
+    }
+}
+
+/// The box of these edges: south, west, north, east.
+fn box_of<'a>(
+    south: &'a str,
+    west: &'a str,
+    north: &'a str,
+    east: &'a str,
+) -> Result<BoxArea<'a>, ModelFault> {
+    let south = Edge::read(south.as_bytes(), Axis::Lat)?;
+    let west = Edge::read(west.as_bytes(), Axis::Lon)?;
+    let north = Edge::read(north.as_bytes(), Axis::Lat)?;
+    let east = Edge::read(east.as_bytes(), Axis::Lon)?;
+    BoxArea::new(south, west, north, east)
+}
+
+#[test]
+fn boxes_hold_by_exact_edges(rt: HostRuntime) -> Result<(), Fail> {
+    let area = box_of("52.49999999999", "13.40000004", "52.6", "13.5")?;
+    let rows = [
+        (Coord::new(134_000_001, 525_000_000), true),
+        (Coord::new(134_000_000, 525_000_000), false),
+        (Coord::new(134_000_001, 524_999_999), false),
+        (Coord::new(135_000_000, 526_000_000), true),
+        (Coord::new(135_000_001, 526_000_000), false),
+        (Coord::new(135_000_000, 526_000_001), false),
+    ];
+    for (place, holds) in rows {
+        assert_eq!(rt; area.holds(place), holds, "at {place:?}");
+    }
+    Ok(())
+}
+
+#[test]
+fn boxes_cross_the_180th_meridian(rt: HostRuntime) -> Result<(), Fail> {
+    let area = box_of("-1", "179", "1", "-179")?;
+    let rows = [
+        (Coord::new(1_800_000_000, 0), true),
+        (Coord::new(-1_800_000_000, 0), true),
+        (Coord::new(1_790_000_000, 0), true),
+        (Coord::new(-1_790_000_000, 0), true),
+        (Coord::new(0, 0), false),
+        (Coord::new(1_800_000_000, 10_000_001), false),
+    ];
+    for (place, holds) in rows {
+        assert_eq!(rt; area.holds(place), holds, "at {place:?}");
+    }
+    Ok(())
+}
+
+#[test]
+fn south_is_never_above_north(rt: HostRuntime) {
+    let rows = [
+        ("52.6", "52.49999999999", false),
+        ("1.00000000000000000001", "1", false),
+        ("-1", "-1.00000000000000000001", false),
+        ("0.00000000001", "-0", false),
+        ("0", "-0.00000000001", false),
+        ("1", "1.00000000000000000001", true),
+        ("-1.00000000000000000001", "-1", true),
+        ("0", "-0", true),
+        ("01.50", "1.5", true),
+        ("-90", "90", true),
+    ];
+    for (south, north, is_box) in rows {
+        let fault = box_of(south, "0", north, "1").err();
+        let wanted = if is_box {
+            None
+        } else {
+            Some(ModelFault::SouthAboveNorth)
+        };
+        assert_eq!(rt; fault, wanted, "from {south} to {north}");
+    }
+}
+
+#[test]
+fn moments_keep_their_ranges(rt: HostRuntime) {
+    let moment = Stamp::new(2020, 2, 31, 23, 59, 60);
+    let numbers = moment.map(|s| (
+        s.year(),
+        s.month(),
+        s.day(),
+        s.hour(),
+        s.minute(),
+        s.second(),
+    ));
+    assert_eq!(rt; numbers, Some((2020, 2, 31, 23, 59, 60)));
+    assert_eq!(rt; Stamp::new(2020, 13, 1, 0, 0, 0), None);
+    assert_eq!(rt; moment, Stamp::new(2020, 2, 31, 23, 59, 60));
+}
+
+#[test]
+fn an_object_gives_its_parts(rt: HostRuntime) -> Result<(), Fail> {
+    let alloc = rt.alloc();
+    let object = node(alloc, -5)?;
+    assert_eq!(rt; object.id(), -5);
+    assert_eq!(rt; object.reference().kind, Kind::Node);
+    assert_eq!(rt; object.meta().changeset, 0);
+    let Body::Node(place) = object.body();
+    assert_eq!(rt; (place.lon(), place.lat()), (134_000_000, 525_000_000));
+    assert_eq!(rt; object.tags().len(), 2);
+    assert_eq!(rt; object.tags()[0].key.as_str(), "a");
+    assert!(rt; object == node(alloc, -5)?);
+    assert!(rt; object != node(alloc, 5)?);
     Ok(())
 }
 
@@ -160,96 +276,44 @@ fn sets_are_sorted_and_searched(rt: HostRuntime) -> Result<(), Fail> {
     let alloc = rt.alloc();
     let objects = vec![in alloc; node(alloc, 3)?, node(alloc, -1)?, node(alloc, 2)?]?;
     let set = ObjectSet::from_objects(objects)?;
-    let named = |id| Ref {
-        kind: Kind::Node,
-        id,
-    };
     assert_eq!(rt; set.as_slice().len(), 3);
     assert_eq!(rt; set.as_slice()[0].id(), -1);
-    assert!(rt; set.get(named(2)).is_some_and(|found| found.id() == 2));
-    assert!(rt; set.get(named(4)).is_none());
-    let way = Ref {
-        kind: Kind::Way,
-        id: 2,
-    };
-    assert!(rt; set.get(way).is_none());
-    Ok(())
-}
-
-#[test]
-fn references_stand_once(rt: HostRuntime) -> Result<(), Fail> {
-    let alloc = rt.alloc();
-    let objects = vec![in alloc; node(alloc, 3)?, node(alloc, 1)?, node(alloc, 3)?]?;
+    let rows = [
+        (Kind::Node, 2, true),
+        (Kind::Node, 4, false),
+        (Kind::Way, 2, false),
+    ];
+    for (kind, id, is_there) in rows {
+        assert_eq!(rt; set.get(Ref { kind, id }).is_some(), is_there);
+    }
+    let twice = vec![in alloc; node(alloc, 3)?, node(alloc, 1)?, node(alloc, 3)?]?;
     assert_eq!(rt;
-        ObjectSet::from_objects(objects).err(),
+        ObjectSet::from_objects(twice).err(),
         Some(ModelFault::ObjectTwice)
     );
     Ok(())
 }
 
 #[test]
-fn stamps_and_places_give_their_numbers(rt: HostRuntime) {
-    let numbers = Stamp::new(2020, 1, 2, 3, 4, 5).map(|s| (
-        s.year(),
-        s.month(),
-        s.day(),
-        s.hour(),
-        s.minute(),
-        s.second(),
-    ));
-    assert_eq!(rt; numbers, Some((2020, 1, 2, 3, 4, 5)));
-    assert_eq!(rt;
-        Stamp::new(2020, 1, 2, 3, 4, 5),
-        Stamp::new(2020, 1, 2, 3, 4, 5)
-    );
-    assert_ne!(rt;
-        Stamp::new(2020, 1, 2, 3, 4, 5),
-        Stamp::new(2020, 1, 2, 3, 4, 6)
-    );
-    let place = Coord::new(134_000_000, 525_000_000);
-    assert_eq!(rt; (place.lon(), place.lat()), (134_000_000, 525_000_000));
-    assert_ne!(rt; place, Coord::new(525_000_000, 134_000_000));
-}
-
-#[test]
-fn texts_are_ordered_by_bytes(rt: HostRuntime) -> Result<(), Fail> {
+fn texts_and_tags_are_ordered_by_bytes(rt: HostRuntime) -> Result<(), Fail> {
     let alloc = rt.alloc();
     let short = text(alloc, "Zug")?;
-    assert_eq!(rt; short.as_str(), "Zug");
-    assert_eq!(rt; short.len(), 3);
+    assert_eq!(rt; (short.as_str(), short.len()), ("Zug", 3));
     assert!(rt; short == text(alloc, "Zug")?);
     assert!(rt; short < text(alloc, "a")?);
-    assert!(rt; short < text(alloc, "Zugang")?);
-    assert!(rt; tag(alloc, "a", "1")? == tag(alloc, "a", "1")?);
-    assert!(rt; tag(alloc, "a", "1")? != tag(alloc, "a", "2")?);
-    assert!(rt; no_meta(alloc) == no_meta(alloc));
+    let mut tags = vec![in alloc; tag(alloc, "b", "1")?, tag(alloc, "a", "2")?]?;
+    assert!(rt; !keys_rise(&tags));
+    sort_tags(&mut tags);
+    assert!(rt; keys_rise(&tags));
+    let list = TagList::new(tags);
+    assert_eq!(rt; list.as_slice().len(), 2);
+    assert!(rt; list == list);
     Ok(())
 }
 
 #[test]
-fn an_object_gives_its_parts(rt: HostRuntime) -> Result<(), Fail> {
-    let alloc = rt.alloc();
-    let object = node(alloc, -5)?;
-    let named = Ref {
-        kind: Kind::Node,
-        id: -5,
-    };
-    assert_eq!(rt; object.id(), -5);
-    assert_eq!(rt; object.reference(), named);
-    assert_eq!(rt; object.meta().changeset, 0);
-    assert!(rt; object.tags().is_empty());
-    assert!(rt; object == node(alloc, -5)?);
-    assert!(rt; object != node(alloc, 5)?);
-    let Body::Node(place) = object.body();
-    assert_eq!(rt; *place, Coord::new(134_000_000, 525_000_000));
-    Ok(())
-}
-
-#[test]
-fn tag_lists_keep_their_order(rt: HostRuntime) -> Result<(), Fail> {
-    let alloc = rt.alloc();
-    let tags = TagList::new(vec![in alloc; tag(alloc, "b", "1")?, tag(alloc, "a", "2")?]?);
-    assert_eq!(rt; tags.as_slice().len(), 2);
-    assert_eq!(rt; tags.as_slice()[0].key.as_bytes(), b"b".as_slice());
-    Ok(())
+fn characters_are_told_apart(rt: HostRuntime) {
+    assert_eq!(rt; digits_len(b"0129.5"), 4);
+    assert!(rt; is_literal(0x7e) && !is_literal(0x25) && !is_literal(0xe9));
+    assert_eq!(rt; (hex_places(0xe9), hex_places(0x1f600)), (2, 5));
 }

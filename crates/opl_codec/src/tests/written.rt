@@ -1,5 +1,6 @@
-use super::write_object;
-use crate::OutMode;
+//! Rows of lines that are written.
+
+use crate::{OutMode, write_object};
 use osm_model::{Body, Coord, Meta, Object, Stamp, Tag, Text};
 use std::alloc::{AllocError, Global};
 use std::process::Abort;
@@ -55,29 +56,20 @@ fn assert_line(
 fn modes_keep_their_fields(rt: HostRuntime) -> Result<(), Fail> {
     let place = Coord::new(134_000_000, 525_000_000);
     let object = node(rt.alloc(), 1, &[("highway", "crossing")], place)?.ok_or("over a limit")?;
-    assert_line(&rt, &object, OutMode::Ids, b"n1\n")?;
-    assert_line(&rt, &object, OutMode::Tags, b"n1 Thighway=crossing\n")?;
-    assert_line(&rt, &object, OutMode::Skel, b"n1 x13.4 y52.5\n")?;
-    assert_line(
-        &rt,
-        &object,
-        OutMode::Body,
-        b"n1 Thighway=crossing x13.4 y52.5\n",
-    )?;
+    let rows = [
+        (OutMode::Ids, "n1\n"),
+        (OutMode::Tags, "n1 Thighway=crossing\n"),
+        (OutMode::Skel, "n1 x13.4 y52.5\n"),
+        (OutMode::Body, "n1 Thighway=crossing x13.4 y52.5\n"),
+    ];
+    for (mode, line) in rows {
+        assert_line(&rt, &object, mode, line.as_bytes())?;
+    }
     Ok(())
 }
 
 #[test]
-fn numbers_have_one_spelling(rt: HostRuntime) -> Result<(), Fail> {
-    let low = node(rt.alloc(), -3, &[], Coord::new(-1, -900_000_000))?.ok_or("over a limit")?;
-    assert_line(&rt, &low, OutMode::Body, b"n-3 T x-0.0000001 y-90\n")?;
-    let zero = node(rt.alloc(), 1, &[], Coord::new(0, 0))?.ok_or("over a limit")?;
-    assert_line(&rt, &zero, OutMode::Meta, b"n1 v0 dV c0 t i0 u T x0 y0\n")?;
-    Ok(())
-}
-
-#[test]
-fn metadata_stand_behind_the_id(rt: HostRuntime) -> Result<(), Fail> {
+fn metadata_come_after_the_id(rt: HostRuntime) -> Result<(), Fail> {
     let meta = Meta {
         version: 1,
         changeset: 5,
@@ -95,20 +87,18 @@ fn metadata_stand_behind_the_id(rt: HostRuntime) -> Result<(), Fail> {
 
 #[test]
 fn other_characters_are_escaped(rt: HostRuntime) -> Result<(), Fail> {
-    let tags = [("name", "Caf\u{e9}"), ("a@b", "")];
-    let place = Coord::new(-1, -900_000_000);
-    let object = node(rt.alloc(), -3, &tags, place)?.ok_or("over a limit")?;
-    let line = b"n-3 v0 dV c0 t i0 u Ta%40%b=,name=Caf%e9% x-0.0000001 y-90\n";
-    assert_line(&rt, &object, OutMode::Meta, line)?;
-    Ok(())
-}
-
-#[test]
-fn escapes_have_two_digits_or_more(rt: HostRuntime) -> Result<(), Fail> {
-    let value = "\t %~\u{7f}\u{100}\u{20ac}\u{1f600}\u{10ffff}";
-    let object = node(rt.alloc(), 1, &[("k", value)], Coord::new(0, 0))?.ok_or("over a limit")?;
-    let line = b"n1 Tk=%09%%20%%25%~%7f%%100%%20ac%%1f600%%10ffff%\n";
-    assert_line(&rt, &object, OutMode::Tags, line)?;
+    let rows = [
+        ("Caf\u{e9}", "n1 Tk=Caf%e9%\n"),
+        ("a@b,c=d", "n1 Tk=a%40%b%2c%c%3d%d\n"),
+        (
+            "\t %~\u{7f}\u{100}\u{20ac}\u{1f600}\u{10ffff}",
+            "n1 Tk=%09%%20%%25%~%7f%%100%%20ac%%1f600%%10ffff%\n",
+        ),
+    ];
+    for (value, line) in rows {
+        let object = node(rt.alloc(), 1, &[("k", value)], Coord::new(0, 0))?.ok_or("over a limit")?;
+        assert_line(&rt, &object, OutMode::Tags, line.as_bytes())?;
+    }
     Ok(())
 }
 
@@ -132,7 +122,7 @@ fn is_written(rt: &(impl Abort + AllocGlobal), object: &Object, line: &[u8]) -> 
 
 // One allocation of this test may be refused.
 #[test]
-fn want_of_memory_leaves_the_old_bytes(rt: HostRuntime) -> Result<(), Fail> {
+fn refused_memory_leaves_the_old_bytes(rt: HostRuntime) -> Result<(), Fail> {
     let object = match long_node(rt.alloc()) {
         Ok(object) => object,
         Err(AllocError) => long_node(rt.alloc())?,

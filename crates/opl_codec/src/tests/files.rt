@@ -1,6 +1,6 @@
 //! Files as sets: lines in any order, pieces of any size, repeated objects, failing readers.
 
-use crate::{LoadFault, OplCause, OplFault, read_set};
+use crate::{LoadFault, OplCause, OplFault, PieceReader, cut, read_set};
 use osm_model::{Kind, Ref};
 use std::alloc::{AllocError, Global};
 use std::io;
@@ -74,18 +74,15 @@ fn holds_three(
 #[test]
 fn lines_may_stand_in_any_order(rt: HostRuntime) -> Result<(), LoadFault> {
     let alloc = rt.alloc();
-    assert!(rt; holds_three(&rt, alloc, "n1 x1 y1\nn2 x2 y2\nn3 x3 y3\n", 4096)?);
-    assert!(rt; holds_three(&rt, alloc, "n3 x3 y3\nn1 x1 y1\n\nn2 x2 y2", 4096)?);
-    assert!(rt; holds_three(&rt, alloc, "\n\nn2 x2 y2\nn3 x3 y3\nn1 x1 y1\n\n", 1)?);
-    assert!(rt; holds_three(&rt, alloc, "n2 x2 y2\nn3 x3 y3\nn1 x1 y1", 7)?);
-    Ok(())
-}
-
-#[test]
-fn an_empty_file_holds_the_empty_set(rt: HostRuntime) -> Result<(), LoadFault> {
-    let mut reader = b"".as_slice();
-    let set = read_set(rt.alloc(), &mut reader)?;
-    assert_eq!(rt; set.as_slice().len(), 0);
+    let rows = [
+        ("n1 x1 y1\nn2 x2 y2\nn3 x3 y3\n", 4096),
+        ("n3 x3 y3\nn1 x1 y1\n\nn2 x2 y2", 4096),
+        ("\n\nn2 x2 y2\nn3 x3 y3\nn1 x1 y1\n\n", 1),
+        ("n2 x2 y2\nn3 x3 y3\nn1 x1 y1", 7),
+    ];
+    for (file, at_once) in rows {
+        assert!(rt; holds_three(&rt, alloc, file, at_once)?, "at {file:?}");
+    }
     Ok(())
 }
 
@@ -187,15 +184,8 @@ fn a_line_is_refused_as_soon_as_it_is_too_long(rt: HostRuntime) -> Result<(), Fa
     ];
     for (first, wanted, left) in rows {
         let told = refusal_of_long(rt.alloc(), first.as_bytes(), longest + 70_000)?;
-        assert_eq!(rt; told, (wanted, left), "behind {first}");
+        assert_eq!(rt; told, (wanted, left), "after {first}");
     }
-    Ok(())
-}
-
-#[test]
-fn the_longest_line_is_looked_at(rt: HostRuntime) -> Result<(), Fail> {
-    let told = refusal_of_long(rt.alloc(), b"n1 x1 y1\n", 33_554_432)?;
-    assert_eq!(rt; told, (fault(2, OplCause::NotUtf8, 0), 0));
     Ok(())
 }
 
@@ -226,4 +216,16 @@ fn memory_changes_no_set(rt: HostRuntime) -> Result<(), LoadFault> {
     }
     assert!(rt; holds_three(&rt, alloc, file, 5)?);
     Ok(())
+}
+
+#[test]
+fn pieces_end_where_the_reader_does(rt: HostRuntime) {
+    let mut reader = b"ab\nc".as_slice();
+    let mut pieces = PieceReader::new();
+    assert_eq!(rt; pieces.read_next(&mut reader), Ok(true));
+    assert_eq!(rt;
+        cut(pieces.last(), b'\n'),
+        Some((b"ab".as_slice(), b"c".as_slice()))
+    );
+    assert_eq!(rt; pieces.read_next(&mut reader), Ok(false));
 }

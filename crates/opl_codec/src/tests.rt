@@ -1,0 +1,5 @@
+//! Rows: lines that are read, files, and lines that are written.
+
+mod files;
+mod lines;
+mod written;
