@@ -1,5 +1,5 @@
 -- Readers of statements that follow rules.
-use Rattle.std.proofs.Common.{◌≡◌, ℕ, zero, suc, ◌-◌, arith, List, Result, Ok, Err, refl, sym, ◌∙◌, ap, subst}
+use Rattle.std.proofs.Common.{◌≡◌, ℕ, zero, suc, ◌-◌, arith, List, Result, Ok, Err, refl, sym, subst}
 use Rattle.std.specs.Prelude.{IsErrAnd}
 use Rattle.ql_syntax.specs.internal.Following.{Outcome, Follows}
 use Rattle.ql_syntax.specs.TokenRules.{Next, next_token}
