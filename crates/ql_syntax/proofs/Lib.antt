@@ -46,3 +46,4 @@ pub mod TotalNumbers
 pub mod TotalRules
 pub mod GivesLemmas
 pub mod GivesRules
+pub mod shared

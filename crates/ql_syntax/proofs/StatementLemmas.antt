@@ -1,23 +1,15 @@
 -- Readers of statements that follow rules.
-use Rattle.std.proofs.Common.{◌≡◌, ℕ, zero, suc, ◌-◌, arith, List, Result, Ok, Err, refl, sym, ◌∙◌, ap, subst}
-use Rattle.std.proofs.Common.{rules}
+use Rattle.std.proofs.Common.{◌≡◌, ℕ, zero, suc, ◌-◌, arith, List, Result, Ok, Err, refl, sym, subst}
 use Rattle.std.specs.Prelude.{IsErrAnd}
-use Rattle.std.specs.declared.alloc.Global.{Global}
-use Rattle.std.specs.declared.vec.Vec.{Vec}
 use Rattle.ql_syntax.specs.internal.Following.{Outcome, Follows}
 use Rattle.ql_syntax.specs.TokenRules.{Next, next_token}
 use Rattle.ql_syntax.specs.Rules.{refuse}
 use Rattle.ql_syntax.specs.StatementRules.{block, plain_statement, statement}
-use Rattle.ql_syntax.specs.StatementViews as views
-use Rattle.ql_syntax.specs.StatementViews.{statement_of, statements_of}
 use Rattle.ql_syntax.specs.Statements.{Statement}
-use Rattle.ql_syntax.specs.Statements as tree
 use Rattle.ql_syntax.specs.declared.cause.QlCause.TheVariants as causes
 use Rattle.ql_syntax.specs.declared.level.Level.{Level}
 use Rattle.ql_syntax.specs.declared.level.Level.TheVariants as levels
 use Rattle.ql_syntax.specs.declared.token_kind.TokenKind.TheVariants as kinds
-use Rattle.ql_syntax.specs.declared.statement.Stmt.{Stmt, Row_of-Stmt, end_of-Stmt, more_of-Stmt, items-the_row-Stmt}
-use Rattle.ql_syntax.specs.declared.statement.Stmt.TheViews.{Union, the_lemmas}
 use Rattle.ql_syntax.specs.declared.syntax_error.SyntaxError.{SyntaxError}
 use Rattle.ql_syntax.proofs.RuleLemmas.{follows_then, follows_stop, follows_yes, follows_no}
 
@@ -43,18 +35,6 @@ module _ {M X Y : Type 0} {v : Y → Next × List ℕ} {view : X → Statement �
   pub at_block : {depth : ℕ} (below : ℕ) {y : Y} {r : Result X SyntaxError} → depth ≡ suc below → Outcome M next_token v text (Ok y) → (v y).0.kind ≡ kinds.OpenParenthesis → Follows (block (statement levels.Inner below)) view (v y).1 r → Follows (statement level depth) view text r
   unfolding statement
   at_block below {r = r} is token opens follows = subst (λ (d : ℕ). Follows (statement level d) view text r) (sym is) (follows_then _ token (follows_yes _ opens follows))
-
--- the statements of a union
-row_is : (n : _) (parts : Row_of-Stmt n) → views.row_of parts ≡ tree.row_of (statements_of (items-the_row-Stmt n parts))
-row_is n end_of-Stmt = refl
-row_is n (more_of-Stmt part rest) = ap (λ (more : tree.Statements). tree.Then (statement_of part) more) (row_is _ rest)
-
-pub union_is : (parts : Vec Stmt Global) (into : List ℕ) → statement_of (Union parts into) ≡ tree.Union (tree.row_of (statements_of parts.items)) into
-union_is parts into = search (rules, the_lemmas, row_is)
-
-pub minus_is : {left first right second : Stmt} → left ≡ first → right ≡ second → (into : List ℕ) → tree.Minus (statement_of left) (statement_of right) into ≡ tree.Minus (statement_of first) (statement_of second) into
-minus_is {first = first} {right = right} l r into =
-    ap (λ (x : Stmt). tree.Minus (statement_of x) (statement_of right) into) l ∙ ap (λ (x : Stmt). tree.Minus (statement_of first) (statement_of x) into) r
 
 pub one_less : (n : ℕ) → (n ≡ 0 → ⊥) → n ≡ suc (n - 1)
 one_less zero some = absurd (some refl)

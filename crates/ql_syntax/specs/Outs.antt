@@ -13,7 +13,7 @@ use Rattle.ql_syntax.specs.declared.out_word.OutWord.{OutWord}
 use Rattle.ql_syntax.specs.declared.out_word.OutWord.TheVariants as words
 use Rattle.ql_syntax.specs.declared.token_kind.TokenKind.TheVariants as kinds
 
--- what may stand once: it stood already, or this is the first
+-- what may be said once: it was said before, or this is the first time
 abbrev pub once : {A : Type 0} → Bool → List ℕ → A → Rule A
 once true place value = refuse causes.UnexpectedWord place
 once false place value = give value

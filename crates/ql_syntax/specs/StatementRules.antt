@@ -30,7 +30,7 @@ recursion_of kinds.Up = Some recursions.Up
 recursion_of kinds.UpAll = Some recursions.UpAll
 recursion_of kind = None
 
--- what follows a recursion's sign
+-- what follows the `>`, `>>`, `<` or `<<` of a recursion
 unfoldable pub recursion : List ℕ → Recursion → Rule Statement
 recursion start how = do
   set ← into

@@ -38,7 +38,7 @@ abbrev pub IsName : List ℕ → List ℕ → List ℕ → Type 0
 IsName after name rest = IsWord after name rest
 
 -- the text from dot on begins a token that ends too early: after its dot the text ends, or something else
--- stands, and then it is the dot that fits nothing
+-- follows, and then it is the dot that fits nothing
 abbrev pub IsUnfinished : List ℕ → List ℕ → QlCause → List ℕ → Type 0
 IsUnfinished dot [] cause place = (cause ≡ causes.UnexpectedEnd) × (place ≡ [])
 IsUnfinished dot (b ∷ after) cause place = (cause ≡ causes.UnexpectedCharacter) × (place ≡ dot)

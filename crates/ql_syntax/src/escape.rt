@@ -7,7 +7,7 @@ ghost use Rattle.ql_syntax.specs.QuotedTexts.{escaped};
 ghost use Rattle.ql_syntax.specs.internal.EscapeParts.{Finds};
 ghost use Rattle.std.specs.Prelude.{◌∷◌};
 
-/// What stands after a `\`.
+/// What follows a `\`.
 #[derive(Clone, Copy, Debug)]
 pub enum Escape<'a> {
     /// An escape that stands for this character, and what is left after it.
@@ -25,7 +25,7 @@ struct Hexadecimal {
     len: usize,
 }
 
-/// Reads what stands after a `\`: one of `\`, `"`, `'`, `n`, `t`, or `u` and four hexadecimal digits
+/// Reads what follows a `\`: one of `\`, `"`, `'`, `n`, `t`, or `u` and four hexadecimal digits
 /// that name a character other than NUL and no surrogate.
 pub fn split_escape(after: &[u8]) -> Escape<'_>
     ensures { Finds after.now result }
@@ -52,7 +52,7 @@ fn escaped(letter: u8) -> Option<char>
     }
 }
 
-/// Reads what stands after `\u`.
+/// Reads what follows `\u`.
 fn split_code(text: &[u8]) -> Escape<'_>
     ensures { Finds (117 ∷ text.now) result }
 {

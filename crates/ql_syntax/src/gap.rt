@@ -6,7 +6,7 @@ ghost use Rattle.ql_syntax.specs.Gaps.{gap, is_blank, Between, InLine, InBlock, 
 use crate::cause::QlCause;
 use crate::syntax_error::SyntaxError;
 
-/// What stands after the blanks and comments at the front of a text: the longest run of them.
+/// What follows the blanks and comments at the front of a text: the longest run of them.
 ///
 /// A comment that isn't closed is `Unclosed` at its first byte. Linear in what it skips; it takes no
 /// memory.
@@ -22,7 +22,7 @@ pub fn skip_gap(text: &[u8]) -> Result<&[u8], SyntaxError<'_>>
     }
 }
 
-/// What stands after the blanks and comments at the front of a text.
+/// What follows the blanks and comments at the front of a text.
 #[inline(never)]
 fn skip_pieces(text: &[u8]) -> Result<&[u8], SyntaxError<'_>>
     ensures read { IfOk result (λ rest. gap Between text.now ≡ After rest.now) }
@@ -36,7 +36,7 @@ fn skip_pieces(text: &[u8]) -> Result<&[u8], SyntaxError<'_>>
     Ok(rest)
 }
 
-/// What stands after the blank or the comment that comes first, where one does.
+/// What follows the blank or the comment that comes first, where one does.
 fn after_piece(text: &[u8]) -> Result<Option<&[u8]>, SyntaxError<'_>>
     ensures read { IfOk result (λ after. MatchOption after (gap Between text.now ≡ After text.now)
         (λ rest. (gap Between text.now ≡ gap Between rest.now) × (length rest.now < length text.now))) }
@@ -73,7 +73,7 @@ fn line_end(text: &[u8]) -> &[u8]
     &[]
 }
 
-/// What stands after the `*/` that comes first, where one does.
+/// What follows the `*/` that comes first, where one does.
 fn after_block(text: &[u8]) -> Option<&[u8]>
     ensures { MatchOption result ((comment : List ℕ) → gap (InBlock comment) text.now ≡ Open comment)
         (λ rest. ((comment : List ℕ) → gap (InBlock comment) text.now ≡ gap Between rest.now) × (length rest.now ≤ length text.now)) }

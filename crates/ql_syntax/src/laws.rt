@@ -45,7 +45,7 @@ pub fn one_language()
     ensures read { (bytes : List ℕ) (statements : List Statement) → grammar.query statements bytes [] → IsQuery statements → query.reads bytes statements [] }
 {}
 
-/// A law: where the rules error is what is left of the text after some of its bytes.
+/// A law: the place at which the rules stop is what is left of the text after some of its bytes.
 pub fn stops_within()
     ensures { (bytes : List ℕ) (cause : QlCause) (place : List ℕ) → query.stops bytes cause place → drop (length bytes - length place) bytes ≡ place }
 {}

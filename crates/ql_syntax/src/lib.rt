@@ -58,6 +58,4 @@ pub use recursion::Recursion;
 pub use statement::{Out, Stmt};
 
 #[cfg(test)]
-mod parser_tests;
-#[cfg(test)]
 mod tests;

@@ -42,8 +42,8 @@ struct Fraction<'a> {
 /// Takes the longest number off the front of a text: an optional `-`, digits, and optionally `.` and
 /// digits, any number of them. A point that no digit follows isn't part of it.
 ///
-/// Where there is no digit, after a `-` or without one, it is `UnexpectedCharacter` at what stands
-/// there, or `UnexpectedEnd` where the text ends. Linear; it takes no memory.
+/// Where there is no digit, after a `-` or without one, it is `UnexpectedCharacter` at what
+/// comes instead, or `UnexpectedEnd` where the text ends. Linear; it takes no memory.
 pub fn split_number(text: &[u8]) -> Result<Number<'_>, SyntaxError<'_>>
     ensures read { IfOk result (λ number. IsNumberOf text.now number) }
     ensures refused { IfErr result (λ error. IsNoNumber text.now error.cause error.rest.now) }
@@ -100,7 +100,7 @@ fn split_fraction(text: &[u8]) -> Fraction<'_>
     }
 }
 
-/// The error at a place where nothing fits that stands there.
+/// The error at a place where a digit is missing.
 pub fn misfit(place: &[u8]) -> SyntaxError<'_>
     ensures cause { IsMisfit place.now result.cause }
     ensures place { result.rest.now ≡ place.now }

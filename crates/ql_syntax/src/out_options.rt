@@ -117,7 +117,7 @@ impl OutOptions {
     }
 }
 
-/// These options, where what they say stood not yet; else `UnexpectedWord` at its place.
+/// These options, where what they say wasn't said before; else `UnexpectedWord` at its place.
 fn once(stood: bool, place: &[u8], options: OutOptions) -> Result<OutOptions, SyntaxError<'_>>
     ensures { (text : List ℕ) → Keeps (once stood place.now options) (λ o. (o, text)) text result }
 {

@@ -1,7 +1,7 @@
 //! The words after `out`.
 
-ghost use Rattle.std.specs.Prelude.{◌≡◌, ◌||◌, bytes_eq, codes};
-ghost use Rattle.ql_syntax.specs.OutWords.{out_word};
+ghost use Rattle.std.specs.Prelude.{◌≡◌};
+ghost use Rattle.ql_syntax.specs.OutWords.{is_left_out, out_word};
 
 use crate::word::is;
 use opl_codec::OutMode;
@@ -44,7 +44,7 @@ pub fn out_word(word: &[u8]) -> OutWord
 
 /// Whether the profile leaves out what this word asks for.
 fn is_left_out(word: &[u8]) -> bool
-    ensures { result ≡ (bytes_eq word.now (codes "count") || bytes_eq word.now (codes "geom") || bytes_eq word.now (codes "center") || bytes_eq word.now (codes "bb") || bytes_eq word.now (codes "noids")) }
+    ensures { result ≡ is_left_out word.now }
 {
     is(word, b"count")
         || is(word, b"geom")

@@ -41,18 +41,13 @@ pub fn selector_word(pick: Pick, word: &[u8]) -> SelectorWord
 fn path_of(word: &[u8]) -> Option<Path>
     ensures { result ≡ path_of word.now }
 {
-    if is(word, b"w") {
-        Some(Path::W)
-    } else if is(word, b"r") {
-        Some(Path::R)
-    } else if is(word, b"bn") {
-        Some(Path::Bn)
-    } else if is(word, b"bw") {
-        Some(Path::Bw)
-    } else if is(word, b"br") {
-        Some(Path::Br)
-    } else {
-        None
+    match word {
+        b"w" => Some(Path::W),
+        b"r" => Some(Path::R),
+        b"bn" => Some(Path::Bn),
+        b"bw" => Some(Path::Bw),
+        b"br" => Some(Path::Br),
+        _ => None,
     }
 }
 

@@ -55,7 +55,7 @@ fn skip_round(text: &[u8]) -> Result<(Round, &[u8]), SyntaxError<'_>>
     }
 }
 
-/// What is left after one setting and its `]`; its `[` stands before the text.
+/// What is left after one setting, whose `[` has been read, and its `]`.
 fn skip_setting(text: &[u8]) -> Result<&[u8], SyntaxError<'_>>
     ensures { Keeps setting the_rest text.now result }
 {

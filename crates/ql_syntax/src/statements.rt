@@ -250,7 +250,7 @@ fn read_out<'a>(from: Name<'a>, text: &'a [u8]) -> Result<(Stmt<'a>, &'a [u8]), 
     Ok((Stmt::Print(Out { from, mode, limit }), rest))
 }
 
-/// The recursion from a set, whose sign has been read, and what is left after its `;`.
+/// The recursion from a set, whose `>`, `>>`, `<` or `<<` has been read, and what is left after its `;`.
 fn read_recursion<'a>(
     from: Name<'a>,
     how: Recursion,

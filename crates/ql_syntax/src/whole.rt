@@ -7,7 +7,7 @@ ghost use Rattle.ql_syntax.specs.internal.NumberParts.{decimal_of};
 
 use crate::number::Number;
 
-/// The id that a number is, where it has no point and 64 bits with a sign hold it.
+/// The id that a number is, where it has no point and fits 64 bits with a sign.
 pub fn id_of(number: Number<'_>) -> Option<i64>
     requires { AllDigits 10 number.whole.now }
     ensures some { IfSome result (λ id. IsId (decimal_of number.entry) id) }
@@ -24,7 +24,7 @@ pub fn id_of(number: Number<'_>) -> Option<i64>
     }
 }
 
-/// The count that a number is, where it has no point and 64 bits without a sign hold it.
+/// The count that a number is, where it has no point and fits 64 bits without a sign.
 pub fn count_of(number: Number<'_>) -> Option<u64>
     requires { AllDigits 10 number.whole.now }
     ensures some { IfSome result (λ count. IsCount (decimal_of number.entry) count) }
@@ -36,7 +36,7 @@ pub fn count_of(number: Number<'_>) -> Option<u64>
     size_of_digits(number.whole).filter(|size| !number.negative || *size == 0)
 }
 
-/// The number that digits make, where 64 bits hold it.
+/// The number that digits make, where it fits 64 bits.
 fn size_of_digits(digits: &[u8]) -> Option<u64>
     requires { AllDigits 10 digits.now }
     ensures { MatchOption result (2 ^ 64 ≤ digits_value 10 digits.now) (λ size. (size ≡ digits_value 10 digits.now) × (size < 2 ^ 64)) }

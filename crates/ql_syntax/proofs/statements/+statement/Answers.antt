@@ -8,7 +8,8 @@ use Rattle.ql_syntax.proofs.FilterLemmas.{follows_out}
 use Rattle.ql_syntax.proofs.GatherLemmas.{alone, gather_done, gather_from, gather_next, gather_stop, mapped}
 use Rattle.ql_syntax.proofs.RoundLemmas.{Start}
 use Rattle.ql_syntax.proofs.RuleLemmas.{follows_from, follows_from_at, follows_give, follows_no, follows_refuse, follows_stop, follows_then, follows_yes, read_of}
-use Rattle.ql_syntax.proofs.StatementLemmas.{at_block, at_last_depth, at_no_token, at_plain, minus_is, one_less, union_is}
+use Rattle.ql_syntax.proofs.StatementLemmas.{at_block, at_last_depth, at_no_token, at_plain, one_less}
+use Rattle.ql_syntax.proofs.shared.StatementTrees.{minus_is, union_is}
 use Rattle.ql_syntax.proofs.StatementLengths.{part_shorter, statement_shorter}
 use Rattle.ql_syntax.proofs.statements.+statement.Goals as goal
 
