@@ -4,7 +4,7 @@ ghost use Rattle.std.specs.Option.{option_copied};
 ghost use Rattle.std.specs.Prelude.{IsTrue};
 ghost use Rattle.tree_walk.specs.Ranges.{IsAboveLeft};
 
-use super::nodes::range_of;
+use super::nodes::{at, range_of};
 use crate::KeyRange;
 use std::cmp::Ordering;
 use std::test::Fail;
@@ -116,6 +116,44 @@ fn tells_what_lies_between_two_keys(rt: HostRuntime) -> Result<(), Fail> {
             );
         }
     }
+    Ok(())
+}
+
+/// How many nodes, side by side, that have these greatest keys meet the range, and how many of them it
+/// covers.
+fn count_told(range: &KeyRange<'_>, greatest: &[&[u8]]) -> Result<(usize, usize), Fail> {
+    let mut left = None;
+    let mut met = 0usize;
+    let mut covered = 0usize;
+    for key in greatest {
+        let (_, meets, covers) = told(range, left, key)?;
+        if meets {
+            met = met.saturating_add(1);
+        }
+        if covers {
+            covered = covered.saturating_add(1);
+        }
+        left = Some(*key);
+    }
+    Ok((met, covered))
+}
+
+/// The two leaves of the 65 keys from 00 to 40, and the three of the 130 keys from 610000 to 610081.
+#[test]
+fn tells_which_leaves_a_walk_opens(rt: HostRuntime) -> Result<(), Fail> {
+    let leaves: [&[u8]; 2] = [b"\x3f", b"\x40"];
+    for (range, met, covered) in [
+        (at(b"\x3f", false), 1, 0),
+        (at(b"\x40", false), 1, 0),
+        (at(b"\x41", false), 0, 0),
+        (at(b"\x3f\x00", false), 1, 0),
+        (range_of(b"\x3f", b"\x40", false), 2, 1),
+        (at(b"", true), 2, 1),
+    ] {
+        assert_eq!(rt; count_told(&range, &leaves)?, (met, covered), "{range:?}");
+    }
+    let leaves: [&[u8]; 3] = [b"\x61\x00\x3f", b"\x61\x00\x7f", b"\x61\x00\x81"];
+    assert_eq!(rt; count_told(&at(b"\x61\x00", true), &leaves)?, (3, 2));
     Ok(())
 }
 
