@@ -10,7 +10,7 @@ use std::alloc::{AllocError, Global};
 /// The canonical text of a set, which is the proof of every answer over it: the line of each object with all
 /// its fields, by rising reference, each with its LF. Linear in its length.
 ///
-/// Refused for want of memory alone.
+/// Refused only where memory runs out.
 #[tactic(auto, unfolding(crate::specs::Roots::proof_text))]
 pub fn proof_text(alloc: Global, set: &ObjectSet) -> Result<Vec<u8>, AllocError>
     ensures { IfOk result (λ text. text.items ≡ proof_text set.now) }

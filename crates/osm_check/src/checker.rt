@@ -26,7 +26,7 @@ use tree_node::{Digest, digest_of};
 /// `AnswerDiffers` where the answer isn't the query's meaning over that set. The proof is read once, line by
 /// line, and no second copy of it is held. Linear in the bytes.
 ///
-/// Refused for want of memory alone.
+/// Refused only where memory runs out.
 pub fn check(
     alloc: Global,
     query: &[u8],

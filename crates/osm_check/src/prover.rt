@@ -18,7 +18,7 @@ use tree_node::digest_of;
 /// The answer to a query over a set, the set's root, and the proof by which [`check`](crate::check) says yes
 /// to them. The query is these bytes as they stand.
 ///
-/// Refused with `Query` exactly where the query doesn't read, and else for want of memory alone.
+/// Refused with `Query` exactly where the query doesn't read, and else only where memory runs out.
 pub fn prove(alloc: Global, set: &ObjectSet, query: &[u8]) -> Result<Proved, ProveFault>
     // What is given is the root, the query's meaning and the one proof.
     ensures proved { IfOk result (λ proved. (proved.root.0 ≡ root_of set.now)

@@ -12,10 +12,11 @@ use tree_node::Digest;
 /// The root of a set: the SHA-256 digest of its canonical text, which is made and digested line by line, so
 /// that it is never held whole. Linear in its length.
 ///
-/// Refused for want of memory alone.
+/// Refused only where memory runs out.
 pub fn root_of(alloc: Global, set: &ObjectSet) -> Result<Digest, AllocError>
     ensures { IfOk result (λ root. root.0 ≡ root_of set.now) }
 {
+    // `digest_of` takes a whole text; this one is only ever held a line at a time.
     let mut hasher = Sha256::new();
     let mut line = Vec::new(alloc);
     for object in set.as_slice() {

@@ -1,3 +1,5 @@
+//! Rows of roots, verdicts, and spoiled answers and proofs.
+
 use crate::{Digest, ProveFault, Proved, Report, Verdict, Why, check, digest_of, prove, root_of};
 use opl_codec::read_set;
 use osm_model::ObjectSet;
@@ -93,14 +95,10 @@ fn refuses_what_is_no_query(rt: HostRuntime) -> Result<(), Fail> {
         cause: QlCause::UnexpectedEnd,
         byte: 7,
     });
-    match prove(alloc, &set, b"node(1)") {
-        Ok(_) => panic!(rt; "proved"),
-        Err(fault) => {
-            assert_eq!(rt; fault, want);
-            let told = format!(in alloc; "{fault}")?;
-            assert_eq!(rt; told.as_str(), "Q11 byte 7");
-        }
-    }
+    let fault = prove(alloc, &set, b"node(1)").err();
+    assert_eq!(rt; fault, Some(want));
+    let told = format!(in alloc; "{want}")?;
+    assert_eq!(rt; told.as_str(), "Q11 byte 7");
     Ok(())
 }
 
@@ -173,30 +171,28 @@ fn spoiled_answers(rt: HostRuntime) -> Result<(), Fail> {
 #[test]
 fn spoiled_proofs(rt: HostRuntime) -> Result<(), Fail> {
     let alloc = rt.alloc();
-    let first = "n1 v0 dV c0 t i0 u T x1 y1\n";
-    let second = "n2 v0 dV c0 t i0 u T x1 y1\n";
-    let whole = format!(in alloc; "{first}{second}")?;
+    let whole = "n1 v0 dV c0 t i0 u T x1 y1\nn2 v0 dV c0 t i0 u T x1 y1\n";
     let right = digest_of(whole.as_bytes());
     assert_eq!(rt;
         check(alloc, b"node(3);out;", &right, b"", whole.as_bytes())?,
         YES
     );
     let spoiled = [
-        format!(in alloc; "{second}{first}")?,
-        format!(in alloc; "{first}{first}")?,
-        format!(in alloc; "{first}\n{second}")?,
-        format!(in alloc; "{first}{second}\n")?,
-        format!(in alloc; "{whole}n")?,
-        String::from_str(alloc, &whole[..whole.len() - 1])?,
-        String::from_str(alloc, "n1 x1 y1\n")?,
-        String::from_str(alloc, "n01 v0 dV c0 t i0 u T x1 y1\n")?,
-        String::from_str(alloc, "n1 v0 dV c0 t i0 u T y1 x1\n")?,
-        String::from_str(alloc, "n1 v0 dV c0 t i0 u T x1.0 y1\n")?,
-        String::from_str(alloc, "n1 v0 dV c0 t i0 u Tb=,a= x1 y1\n")?,
-        String::from_str(alloc, "\n")?,
-        String::from_str(alloc, "n1 v0 dV c0 t i0 u T x181 y1\n")?,
+        "n2 v0 dV c0 t i0 u T x1 y1\nn1 v0 dV c0 t i0 u T x1 y1\n",
+        "n1 v0 dV c0 t i0 u T x1 y1\nn1 v0 dV c0 t i0 u T x1 y1\n",
+        "n1 v0 dV c0 t i0 u T x1 y1\n\nn2 v0 dV c0 t i0 u T x1 y1\n",
+        "n1 v0 dV c0 t i0 u T x1 y1\nn2 v0 dV c0 t i0 u T x1 y1\n\n",
+        "n1 v0 dV c0 t i0 u T x1 y1\nn2 v0 dV c0 t i0 u T x1 y1\nn",
+        "n1 v0 dV c0 t i0 u T x1 y1\nn2 v0 dV c0 t i0 u T x1 y1",
+        "n1 x1 y1\n",
+        "n01 v0 dV c0 t i0 u T x1 y1\n",
+        "n1 v0 dV c0 t i0 u T y1 x1\n",
+        "n1 v0 dV c0 t i0 u T x1.0 y1\n",
+        "n1 v0 dV c0 t i0 u Tb=,a= x1 y1\n",
+        "\n",
+        "n1 v0 dV c0 t i0 u T x181 y1\n",
     ];
-    for text in &spoiled {
+    for text in spoiled {
         let root = digest_of(text.as_bytes());
         let verdict = check(alloc, b"node(3);out;", &root, b"", text.as_bytes())?;
         assert_eq!(rt; verdict, Verdict::No(Why::ProofMalformed), "{text}");
@@ -207,7 +203,7 @@ fn spoiled_proofs(rt: HostRuntime) -> Result<(), Fail> {
     Ok(())
 }
 
-/// Want of memory, or the whole result: also where an allocation is refused (tests/system).
+/// Out of memory, or the whole result: also where an allocation is refused (tests/system).
 #[test]
 fn proves_and_checks_within_memory(rt: HostRuntime) -> Result<(), Fail> {
     let alloc = rt.alloc();

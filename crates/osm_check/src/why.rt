@@ -6,7 +6,7 @@ ghost use Rattle.osm_check.specs.VerdictTexts.{why_text};
 use ql_plain::QlFault;
 use std::fmt;
 
-/// Why an answer is refused. Its text is the code, and behind it the place where there is one: `C1 Q11 7`,
+/// Why an answer is refused. Its text is the code, and after it the place where there is one: `C1 Q11 7`,
 /// `C4`, `C9 0`.
 #[derive(Clone, Copy, Debug, PartialEq, Eq)]
 pub enum Why {

@@ -14,7 +14,7 @@ use Rattle.ql_plain.specs.declared.fault.QlCause.TheVariants.{NotUtf8, Unexpecte
 abbrev pub opening : List ℕ
 opening = codes "node("
 
--- what stands behind the id
+-- what comes after the id
 abbrev pub closing : List ℕ
 closing = codes ");out;"
 

@@ -11,7 +11,7 @@ use std::alloc::{AllocError, Global};
 /// The answer to a query over a set of objects: OPL, a line an object, in the mode `Body`. It is empty
 /// where no object is asked for. A binary search, and one line written.
 ///
-/// Refused for want of memory alone.
+/// Refused only where memory runs out.
 pub fn answer_plain(alloc: Global, query: &Query, set: &ObjectSet) -> Result<Vec<u8>, AllocError>
     ensures { IfOk result (λ text. text.items ≡ meaning query.now set.now) }
 {
@@ -25,6 +25,3 @@ pub fn answer_plain(alloc: Global, query: &Query, set: &ObjectSet) -> Result<Vec
     }
     Ok(text)
 }
-
-#[cfg(test)]
-mod tests;

@@ -15,3 +15,6 @@ pub use common_front::common_len;
 pub use fault::{QlCause, QlFault};
 pub use parser::{fault_place, never_both, one_fault, one_reading, parse};
 pub use query::Query;
+
+#[cfg(test)]
+mod tests;

@@ -16,17 +16,17 @@ use simdutf8::compat::from_utf8;
 /// The most bytes that a query has.
 const MAX_LEN: usize = 65_536;
 
-/// What stands before the id.
+/// What comes before the id.
 const OPENING: &[u8] = b"node(";
 
-/// What stands behind the id.
+/// What comes after the id.
 const CLOSING: &[u8] = b");out;";
 
 /// Reads a query: `node(`, an id, `);out;`, without blanks, at most 65,536 bytes. An id is an optional
 /// `-` and one or more digits in the range of 64 bits with a sign; leading zeros are allowed.
 ///
 /// Refused by the first of these that holds: `TooLong` at byte 65,536; `NotUtf8` at the first byte that
-/// isn't; `NumberOutOfRange` at the id's first byte, where its `)` stands; `UnexpectedEnd` at the
+/// isn't; `NumberOutOfRange` at the id's first byte, where its `)` is there; `UnexpectedEnd` at the
 /// text's length, where the text is the beginning of a query with an id of any size;
 /// `UnexpectedCharacter` at the first byte with which no such query goes on. One pass over the bytes;
 /// it takes no memory.
@@ -136,12 +136,12 @@ fn stop(text: &str, byte: usize) -> QlFault
     QlFault { cause, byte }
 }
 
-/// A text's first sign and digits, and what is behind them.
+/// A text's first sign and digits, and what comes after them.
 #[derive(Clone, Copy)]
 struct Number<'a> {
     /// Whether a `-` comes first.
     negative: bool,
-    /// The digits behind it, perhaps none.
+    /// The digits after it, perhaps none.
     digits: &'a [u8],
     /// What follows, which doesn't begin with a digit.
     rest: &'a [u8],
@@ -174,6 +174,3 @@ fn id_of(text: &str) -> Option<i64>
 {
     text.parse::<i64>().ok()
 }
-
-#[cfg(test)]
-mod tests;

@@ -26,7 +26,7 @@ pub record HasRead (query : Query) (objects : List Element) (last : Option Ref) 
   pub last_is : last ≡ last_reference objects
   pub answer_is : answer ≡ meaning query objects
 
--- the line is that of this object, which may stand behind these
+-- the line is that of this object, which may come after these
 pub record IsNext (objects : List Element) (line : List ℕ) (o : Element) : Type 0 where
   pub set : IsPlainSet (objects ++ o ∷ [])
   pub line_is : line ≡ canonical_line o
