@@ -1,9 +1,8 @@
 //! The words after `out`.
 
 ghost use Rattle.std.specs.Prelude.{◌≡◌};
-ghost use Rattle.ql_syntax.specs.OutWords.{is_left_out, out_word};
+ghost use Rattle.ql_syntax.specs.OutWords.{out_word};
 
-use crate::word::is;
 use opl_codec::OutMode;
 
 /// What a word after `out` asks for.
@@ -23,32 +22,14 @@ pub enum OutWord {
 pub fn out_word(word: &[u8]) -> OutWord
     ensures { result ≡ out_word word.now }
 {
-    if is(word, b"ids") {
-        OutWord::Mode(OutMode::Ids)
-    } else if is(word, b"tags") {
-        OutWord::Mode(OutMode::Tags)
-    } else if is(word, b"skel") {
-        OutWord::Mode(OutMode::Skel)
-    } else if is(word, b"body") {
-        OutWord::Mode(OutMode::Body)
-    } else if is(word, b"meta") {
-        OutWord::Mode(OutMode::Meta)
-    } else if is(word, b"asc") || is(word, b"qt") {
-        OutWord::Order
-    } else if is_left_out(word) {
-        OutWord::LeftOut
-    } else {
-        OutWord::Unknown
+    match word {
+        b"ids" => OutWord::Mode(OutMode::Ids),
+        b"tags" => OutWord::Mode(OutMode::Tags),
+        b"skel" => OutWord::Mode(OutMode::Skel),
+        b"body" => OutWord::Mode(OutMode::Body),
+        b"meta" => OutWord::Mode(OutMode::Meta),
+        b"asc" | b"qt" => OutWord::Order,
+        b"count" | b"geom" | b"center" | b"bb" | b"noids" => OutWord::LeftOut,
+        _ => OutWord::Unknown,
     }
-}
-
-/// Whether the profile leaves out what this word asks for.
-fn is_left_out(word: &[u8]) -> bool
-    ensures { result ≡ is_left_out word.now }
-{
-    is(word, b"count")
-        || is(word, b"geom")
-        || is(word, b"center")
-        || is(word, b"bb")
-        || is(word, b"noids")
 }

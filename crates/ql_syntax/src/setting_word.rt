@@ -3,8 +3,6 @@
 ghost use Rattle.std.specs.Prelude.{◌≡◌};
 ghost use Rattle.ql_syntax.specs.SettingWords.{setting_of, format_of};
 
-use crate::word::is;
-
 /// What the first word of a setting begins.
 #[derive(Clone, Copy, Debug, PartialEq, Eq)]
 pub enum SettingWord {
@@ -33,14 +31,11 @@ pub enum FormatWord {
 pub fn setting_of(word: &[u8]) -> SettingWord
     ensures { result ≡ setting_of word.now }
 {
-    if is(word, b"out") {
-        SettingWord::Format
-    } else if is(word, b"timeout") || is(word, b"maxsize") {
-        SettingWord::Count
-    } else if is(word, b"bbox") || is(word, b"date") || is(word, b"diff") || is(word, b"adiff") {
-        SettingWord::LeftOut
-    } else {
-        SettingWord::Unknown
+    match word {
+        b"out" => SettingWord::Format,
+        b"timeout" | b"maxsize" => SettingWord::Count,
+        b"bbox" | b"date" | b"diff" | b"adiff" => SettingWord::LeftOut,
+        _ => SettingWord::Unknown,
     }
 }
 
@@ -48,11 +43,9 @@ pub fn setting_of(word: &[u8]) -> SettingWord
 pub fn format_of(word: &[u8]) -> FormatWord
     ensures { result ≡ format_of word.now }
 {
-    if is(word, b"json") || is(word, b"xml") {
-        FormatWord::Known
-    } else if is(word, b"csv") || is(word, b"custom") || is(word, b"popup") {
-        FormatWord::LeftOut
-    } else {
-        FormatWord::Unknown
+    match word {
+        b"json" | b"xml" => FormatWord::Known,
+        b"csv" | b"custom" | b"popup" => FormatWord::LeftOut,
+        _ => FormatWord::Unknown,
     }
 }

@@ -280,24 +280,11 @@ const QUERIES: [&str; 20] = [
     "node(1)(2)(id:3)(id:4,5)(w)(r)[a][b](1,2,3,4).s;",
 ];
 
-/// Each beginning of a query is a query or has one fault, and a second reading tells the same.
 #[test]
-fn beginnings_of_queries_have_one_meaning(rt: HostRuntime) -> Result<(), Fail> {
+fn refuses_no_production(rt: HostRuntime) {
     for query in QUERIES {
-        let bytes = query.as_bytes();
-        for len in 0..=bytes.len() {
-            let Some(text) = bytes.get(..len) else {
-                return Err(Fail::from("no beginning of this length"));
-            };
-            let first = fault(rt.alloc(), text);
-            assert_eq!(rt; first, fault(rt.alloc(), text));
-            if let Some((cause, byte)) = first {
-                assert!(rt; cause != QlCause::Memory && byte <= len);
-            }
-        }
-        assert_eq!(rt; fault(rt.alloc(), bytes), None);
+        assert_eq!(rt; fault(rt.alloc(), query.as_bytes()), None);
     }
-    Ok(())
 }
 
 /// The text of a fault is its code and its place.

@@ -1,0 +1,19 @@
+use Rattle.std.proofs.Common.{arith, refl, rules}
+use Rattle.std.specs.Prelude.{codes}
+use Rattle.std.proofs.lemmas.Slice.Eq.{text_from_reads}
+use Rattle.ql_syntax.proofs.setting_word.format_of.Goals as goal
+
+pub returns-in-json : goal.returns-in-json
+returns-in-json c = rw (text_from_reads c.args.word.now (codes "xml") (omega arith) (search rules)) refl
+
+pub returns-in-json-2 : goal.returns-in-json-2
+returns-in-json-2 c = rw (text_from_reads c.args.word.now (codes "json") (omega arith) (search rules)) refl
+
+pub returns-in-csv : goal.returns-in-csv
+returns-in-csv c = rw (text_from_reads c.args.word.now (codes "csv") (omega arith) (search rules)) refl
+
+pub returns-in-csv-2 : goal.returns-in-csv-2
+returns-in-csv-2 c = rw (text_from_reads c.args.word.now (codes "popup") (omega arith) (search rules)) refl
+
+pub returns-in-csv-3 : goal.returns-in-csv-3
+returns-in-csv-3 c = rw (text_from_reads c.args.word.now (codes "custom") (omega arith) (search rules)) refl
