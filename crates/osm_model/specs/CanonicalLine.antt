@@ -6,7 +6,9 @@ use Rattle.std.specs.Fmt.{decimal, signed_decimal}
 use Rattle.std.specs.Str.{chars}
 use Rattle.std.specs.Char.{digit_char}
 use Rattle.std.specs.List.{join_with_byte}
+use Rattle.osm_model.specs.Bytes.{at_sign, colon, comma, digit_zero, equals_sign, exclamation_mark, hyphen, percent, space, tilde}
 use Rattle.osm_model.specs.CanonicalDegrees.{degrees}
+use Rattle.osm_model.specs.Letters.{changeset_letter, latitude_letter, longitude_letter, node_letter, relation_letter, stamp_letter, tags_letter, time_mark, uid_letter, user_letter, version_letter, visible_letter, visible_mark, way_letter, zone_mark}
 use Rattle.osm_model.specs.Moments.{Moment}
 use Rattle.osm_model.specs.Elements.{Element, kind_of}
 use Rattle.osm_model.specs.declared.tag.Tag.{Tag}
@@ -18,11 +20,11 @@ use Rattle.osm_model.specs.declared.body.Body.TheVariants as bodies
 
 -- `%`, `,`, `=` and `@`
 abbrev pub is_special : ℕ → Bool
-is_special c = (c == 37) || (c == 44) || (c == 61) || (c == 64)
+is_special c = (c == percent) || (c == comma) || (c == equals_sign) || (c == at_sign)
 
 -- from `!` to `~`, and not special: such a character stands for itself
 abbrev pub is_literal : ℕ → Bool
-is_literal c = nat_le 33 c && nat_le c 126 && not (is_special c)
+is_literal c = nat_le exclamation_mark c && nat_le c tilde && not (is_special c)
 
 -- how many hexadecimal digits a code point has, two at least
 abbrev pub hex_places : ℕ → ℕ
@@ -39,7 +41,7 @@ hex c = hex_digits (hex_places c) c
 
 -- a character as itself, or its code point between two `%`
 abbrev pub escaped_char : ℕ → List ℕ
-escaped_char c = if is_literal c then c ∷ [] else (37 ∷ hex c) ++ 37 ∷ []
+escaped_char c = if is_literal c then c ∷ [] else (percent ∷ hex c) ++ percent ∷ []
 
 -- a text, character by character
 unfoldable pub escaped : List ℕ → List ℕ
@@ -47,13 +49,13 @@ escaped text = flat_map escaped_char (chars text)
 
 -- `n`, `w` or `r`
 abbrev pub kind_letter : Kind → ℕ
-kind_letter kinds.Node = 110
-kind_letter kinds.Way = 119
-kind_letter kinds.Rel = 114
+kind_letter kinds.Node = node_letter
+kind_letter kinds.Way = way_letter
+kind_letter kinds.Rel = relation_letter
 
 -- numbers below 100 and below 10,000, with leading zeros
 abbrev pub two_digits : ℕ → List ℕ
-two_digits n = (48 + n / 10) ∷ (48 + n % 10) ∷ []
+two_digits n = (digit_zero + n / 10) ∷ (digit_zero + n % 10) ∷ []
 
 abbrev pub four_digits : ℕ → List ℕ
 four_digits n = two_digits (n / 100) ++ two_digits (n % 100)
@@ -61,24 +63,31 @@ four_digits n = two_digits (n / 100) ++ two_digits (n % 100)
 -- `YYYY-MM-DDThh:mm:ssZ`, or nothing
 unfoldable pub moment : Option Moment → List ℕ
 moment None = []
-moment (Some m) = four_digits m.year ++ (45 ∷ two_digits m.month) ++ (45 ∷ two_digits m.day) ++ (84 ∷ two_digits m.hour) ++ (58 ∷ two_digits m.minute) ++ (58 ∷ two_digits m.second) ++ (90 ∷ [])
+moment (Some m) = four_digits m.year ++ (hyphen ∷ two_digits m.month) ++ (hyphen ∷ two_digits m.day) ++ (time_mark ∷ two_digits m.hour) ++ (colon ∷ two_digits m.minute) ++ (colon ∷ two_digits m.second) ++ (zone_mark ∷ [])
 
 abbrev pub tag_text : Tag → List ℕ
-tag_text tag = escaped tag.key ++ 61 ∷ escaped tag.value
+tag_text tag = escaped tag.key ++ equals_sign ∷ escaped tag.value
 
 -- the fields of a line, each with its letter
 abbrev pub name_field : Element → List ℕ
 name_field o = kind_letter (kind_of o.body) ∷ signed_decimal o.id
 
 abbrev pub meta_fields : Meta → List (List ℕ)
-meta_fields m = (118 ∷ decimal m.version) ∷ (100 ∷ 86 ∷ []) ∷ (99 ∷ signed_decimal m.changeset) ∷ (116 ∷ moment m.stamp) ∷ (105 ∷ signed_decimal m.uid) ∷ (117 ∷ escaped m.user) ∷ []
+meta_fields m =
+    (version_letter ∷ decimal m.version)
+    ∷ (visible_letter ∷ visible_mark ∷ [])
+    ∷ (changeset_letter ∷ signed_decimal m.changeset)
+    ∷ (stamp_letter ∷ moment m.stamp)
+    ∷ (uid_letter ∷ signed_decimal m.uid)
+    ∷ (user_letter ∷ escaped m.user)
+    ∷ []
 
 abbrev pub tags_field : List Tag → List ℕ
-tags_field tags = 84 ∷ join_with_byte 44 (map tag_text tags)
+tags_field tags = tags_letter ∷ join_with_byte comma (map tag_text tags)
 
 abbrev pub body_fields : Body → List (List ℕ)
-body_fields (bodies.Node place) = (120 ∷ degrees place.lon) ∷ (121 ∷ degrees place.lat) ∷ []
+body_fields (bodies.Node place) = (longitude_letter ∷ degrees place.lon) ∷ (latitude_letter ∷ degrees place.lat) ∷ []
 
 -- the object's line with all its fields, without its end
 unfoldable pub canonical_line : Element → List ℕ
-canonical_line o = join_with_byte 32 ((name_field o ∷ meta_fields o.meta) ++ (tags_field o.tags ∷ body_fields o.body))
+canonical_line o = join_with_byte space ((name_field o ∷ meta_fields o.meta) ++ (tags_field o.tags ∷ body_fields o.body))

@@ -1,4 +1,5 @@
 pub mod Bytes
+pub mod Letters
 pub mod Moments
 pub mod Places
 pub mod Degrees

@@ -10,6 +10,7 @@ use Rattle.std.specs.List.Sorted.{IsStrictlySortedBy, IsPermutation}
 use Rattle.osm_model.specs.Places.{IsPlace}
 use Rattle.osm_model.specs.Elements.{Element, keys}
 use Rattle.osm_model.specs.CanonicalLine.{canonical_line}
+use Rattle.osm_model.specs.declared.limits.TheConstants.{LINE_LIMIT, LIST_LIMIT, TEXT_LIMIT}
 use Rattle.osm_model.specs.declared.tag.Tag.{Tag}
 use Rattle.osm_model.specs.declared.meta.Meta.{Meta}
 use Rattle.osm_model.specs.declared.body.Body.{Body}
@@ -17,9 +18,9 @@ use Rattle.osm_model.specs.declared.body.Body.TheVariants as bodies
 use Rattle.osm_model.specs.declared.fault.ModelFault.{ModelFault}
 use Rattle.osm_model.specs.declared.fault.ModelFault.TheVariants.{EmptyNumber, NotDecimal, TooManyDecimals, OutOfRange, SouthAboveNorth, ObjectTwice, KeyTwice, LimitPassed, NulInText}
 
--- a text has at most 4,096 bytes
+-- a text is within its limit
 abbrev pub IsShort : List ℕ → Type 0
-IsShort text = length text ≤ 4096
+IsShort text = length text ≤ TEXT_LIMIT
 
 unfoldable pub HasNoNul : List ℕ → Type 0
 HasNoNul text = All (λ byte. byte ≢ 0) text
@@ -37,7 +38,7 @@ pub record MetaInRange (meta : Meta) : Type 0 where
 -- no text and no list is over its limit
 pub record Fits (meta : Meta) (tags : List Tag) : Type 0 where
   pub short_user : IsShort meta.user
-  pub few_tags : length tags ≤ 65535
+  pub few_tags : length tags ≤ LIST_LIMIT
   pub short_tags : All (λ tag. IsShort tag.key × IsShort tag.value) tags
 
 -- no text has a NUL
@@ -61,7 +62,7 @@ pub record IsElement (o : Element) : Type 0 where
   pub fits : Fits o.meta o.tags
   pub clean : IsClean o.meta o.tags
   pub rising : HasRisingKeys o.tags
-  pub short_line : length (canonical_line o) ≤ 2 ^ 24
+  pub short_line : length (canonical_line o) ≤ LINE_LIMIT
 
 -- the object has just these parts, its tags by rising key
 pub record IsMadeOf (o : Element) (id : ℤ) (meta : Meta) (tags : List Tag) (body : Body) : Type 0 where
@@ -73,7 +74,7 @@ pub record IsMadeOf (o : Element) (id : ℤ) (meta : Meta) (tags : List Tag) (bo
 
 -- the object of these parts has a line over the limit
 abbrev pub HasLongLine : ℤ → Meta → List Tag → Body → Type 0
-HasLongLine id meta tags body = (o : Element) × IsMadeOf o id meta tags body × (2 ^ 24 < length (canonical_line o))
+HasLongLine id meta tags body = (o : Element) × IsMadeOf o id meta tags body × (LINE_LIMIT < length (canonical_line o))
 
 -- the first fault of these parts
 abbrev pub Refuses : ℤ → Meta → List Tag → Body → ModelFault → Type 0

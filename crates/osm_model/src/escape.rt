@@ -10,7 +10,11 @@ ghost use Rattle.osm_model.specs.CanonicalLine.{is_literal, hex_places};
 pub fn is_literal(code: u32) -> bool
     ensures { result ≡ is_literal code }
 {
-    0x21 <= code && code <= 0x7e && !(code == 0x25 || code == 0x2c || code == 0x3d || code == 0x40)
+    let is_special = code == u32::from(b'%')
+        || code == u32::from(b',')
+        || code == u32::from(b'=')
+        || code == u32::from(b'@');
+    u32::from(b'!') <= code && code <= u32::from(b'~') && !is_special
 }
 
 /// How many hexadecimal digits the escape of a code point has, two at least.

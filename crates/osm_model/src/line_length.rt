@@ -9,17 +9,15 @@ ghost use Rattle.osm_model.specs.internal.LineLength.{number_len, body_len, text
 use crate::body::{Body, note_place};
 use crate::degrees_text::write_degrees;
 use crate::escape::{hex_places, is_literal};
+use crate::limits::LINE_LIMIT;
 use crate::meta::{Meta, note_numbers};
 use crate::tag::Tag;
 use itoa::Buffer;
 
-/// The longest canonical line, in bytes, without its end.
-const LONGEST: u64 = 16_777_216;
-
 /// Whether the canonical line of an object of these parts keeps its limit. Few bytes of text make a
 /// short line, so most lines are not measured.
 pub fn has_short_line(id: i64, meta: &Meta, tags: &[Tag], body: &Body) -> bool
-    ensures { IsTrue result ↔ (length (canonical_line (record { id = id; meta = meta.now; tags = tags.now; body = body.now })) ≤ 2 ^ 24) }
+    ensures { IsTrue result ↔ (length (canonical_line (record { id = id; meta = meta.now; tags = tags.now; body = body.now })) ≤ LINE_LIMIT) }
 {
     if meta.user.len() <= FEW && has_few_bytes(tags) {
         // For the proof alone: numbers in range have few digits.
@@ -50,11 +48,11 @@ fn has_few_bytes(tags: &[Tag]) -> bool
 /// Whether the canonical line keeps its limit, measured field by field. Sums stay at their greatest,
 /// which is far above the limit.
 fn is_short(id: i64, meta: &Meta, tags: &[Tag], body: &Body) -> bool
-    ensures { IsTrue result ↔ (length (canonical_line (record { id = id; meta = meta.now; tags = tags.now; body = body.now })) ≤ 2 ^ 24) }
+    ensures { IsTrue result ↔ (length (canonical_line (record { id = id; meta = meta.now; tags = tags.now; body = body.now })) ≤ LINE_LIMIT) }
 {
     let numbers = numbers_len(id, meta, body);
     let texts = escaped_len(meta.user.as_str()).saturating_add(tags_len(tags));
-    texts.saturating_add(numbers) <= LONGEST
+    texts.saturating_add(numbers) <= LINE_LIMIT
 }
 
 /// The bytes of all fields but the user and the tags, with the letters of all and the blanks between

@@ -7,6 +7,7 @@ ghost use Rattle.osm_model.specs.Limits.{IsShort, HasNoNul, Fits, IsClean, IsMad
 use crate::body::{Body, note_place};
 use crate::fault::ModelFault;
 use crate::kind::Kind;
+use crate::limits::{LIST_LIMIT, TEXT_LIMIT};
 use crate::line_length::has_short_line;
 use crate::meta::Meta;
 use crate::reference::Ref;
@@ -126,11 +127,9 @@ impl Object {
 fn parts_fit(meta: &Meta, tags: &[Tag]) -> bool
     ensures { IsTrue result ↔ Fits meta.now tags.now }
 {
-    meta.user.len() <= 4096
-        && tags.len() <= 65535
-        && tags
-            .iter()
-            .all(|tag| tag.key.len() <= 4096 && tag.value.len() <= 4096)
+    meta.user.len() <= TEXT_LIMIT
+        && tags.len() <= LIST_LIMIT
+        && tags.iter().all(|tag| tag.key.len() <= TEXT_LIMIT && tag.value.len() <= TEXT_LIMIT)
 }
 
 fn parts_are_clean(meta: &Meta, tags: &[Tag]) -> bool
