@@ -29,7 +29,7 @@ pub fn compare_sizes(first: Parts<'_>, second: Parts<'_>) -> Ordering
     compare_fractions(first.fraction, second.fraction)
 }
 
-/// How the digits behind two points compare. The shorter text goes on with zeros.
+/// How the digits after two points compare. The shorter text goes on with zeros.
 fn compare_fractions(first: &[u8], second: &[u8]) -> Ordering
     requires first { AllDigits 10 first.now }
     requires second { AllDigits 10 second.now }
@@ -44,7 +44,7 @@ fn compare_fractions(first: &[u8], second: &[u8]) -> Ordering
     Ordering::Equal
 }
 
-/// The value of a digit, or 0 behind the last.
+/// The value of a digit, or 0 after the last.
 fn digit_at(digits: &[u8], place: usize) -> u64
     requires { AllDigits 10 digits.now }
     ensures { result ≡ digit_value (get_or digits.now place 48) }

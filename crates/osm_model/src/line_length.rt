@@ -56,7 +56,7 @@ fn is_short(id: i64, meta: &Meta, tags: &[Tag], body: &Body) -> bool
 }
 
 /// The bytes of all fields but the user and the tags, with the letters of all and the blanks between
-/// them, but for the one behind the tags.
+/// them, but for the one after the tags.
 fn numbers_len(id: i64, meta: &Meta, body: &Body) -> u64
     ensures value { result ≡ number_len id meta.now body.now }
     ensures small { result ≤ 300 }
@@ -93,7 +93,7 @@ fn place_len(body: &Body) -> u64
     len as u64
 }
 
-/// The bytes of the tags' field behind its letter, with one byte more behind them.
+/// The bytes of the tags' field after its letter, with one byte more after them.
 fn tags_len(tags: &[Tag]) -> u64
     ensures { result ≡ min (length (join_with_byte 44 (map tag_text tags.now)) + 1) (2 ^ 64 - 1) }
 {
