@@ -1,4 +1,5 @@
 -- The parts of a decimal in its text, as a decimal.
+-- Source: this project.
 use Rattle.std.specs.Prelude.{◌≡◌}
 use Rattle.osm_model.specs.Degrees.{Decimal, decimals, fraction_of}
 use Rattle.osm_model.specs.declared.decimal.Parts.{Parts}
