@@ -40,11 +40,7 @@ pub record IsDecimal (d : Decimal) : Type 0 where
   pub whole : IsDigits d.whole
   pub fraction : IsFraction d.fraction
 
--- digits, where there is a point before them
-abbrev pub fraction_of : Bool → List ℕ → Option (List ℕ)
-fraction_of true digits = Some digits
-fraction_of false digits = None
-
+-- the digits after the point: none where there is none
 abbrev pub decimals : Option (List ℕ) → List ℕ
 decimals None = []
 decimals (Some digits) = digits

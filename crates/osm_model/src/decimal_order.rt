@@ -5,7 +5,7 @@ ghost use Rattle.std.specs.Char.{digit_value};
 ghost use Rattle.std.specs.Str.Parse.{AllDigits, digits_value};
 ghost use Rattle.std.specs.Ordering.{nat_cmp};
 ghost use Rattle.osm_model.specs.Degrees.{IsDecimal};
-ghost use Rattle.osm_model.specs.internal.DecimalParts.{decimal_of, HasPlainFraction};
+ghost use Rattle.osm_model.specs.internal.DecimalParts.{decimal_of};
 ghost use Rattle.osm_model.specs.Edges.{size, scale};
 
 use crate::decimal::Parts;
@@ -16,8 +16,6 @@ use std::cmp::Ordering;
 pub fn compare_sizes(first: Parts<'_>, second: Parts<'_>) -> Ordering
     requires first { IsDecimal (decimal_of first) }
     requires second { IsDecimal (decimal_of second) }
-    requires plain_first { HasPlainFraction first }
-    requires plain_second { HasPlainFraction second }
     requires few_first { digits_value 10 first.whole.now ≤ 10000000000 }
     requires few_second { digits_value 10 second.whole.now ≤ 10000000000 }
     ensures { result ≡ nat_cmp (size (decimal_of first.entry) * scale (decimal_of second.entry)) (size (decimal_of second.entry) * scale (decimal_of first.entry)) }
@@ -26,10 +24,10 @@ pub fn compare_sizes(first: Parts<'_>, second: Parts<'_>) -> Ordering
     if order.is_ne() {
         return order;
     }
-    compare_fractions(first.fraction, second.fraction)
+    compare_fractions(first.decimals(), second.decimals())
 }
 
-/// How the digits behind two points compare. The shorter text goes on with zeros.
+/// How the digits after two points compare. The shorter text goes on with zeros.
 fn compare_fractions(first: &[u8], second: &[u8]) -> Ordering
     requires first { AllDigits 10 first.now }
     requires second { AllDigits 10 second.now }
@@ -44,7 +42,7 @@ fn compare_fractions(first: &[u8], second: &[u8]) -> Ordering
     Ordering::Equal
 }
 
-/// The value of a digit, or 0 behind the last.
+/// The value of a digit, or 0 after the last.
 fn digit_at(digits: &[u8], place: usize) -> u64
     requires { AllDigits 10 digits.now }
     ensures { result ≡ digit_value (get_or digits.now place 48) }
