@@ -1,5 +1,5 @@
 -- The whole units around a decimal, from its digits.
-use Rattle.std.proofs.Common.{◌≡◌, ◌⊎◌, inl, inr, ℕ, ◌+◌, ◌-◌, ◌*◌, ◌^◌, ◌<◌, ◌≤◌, Bool, List, [], ◌∷◌, ◌++◌, length, refl, sym, ◌∙◌, ap, arith, append_assoc, length-append, All}
+use Rattle.std.proofs.Common.{◌≡◌, ◌⊎◌, inl, inr, ℕ, ◌+◌, ◌-◌, ◌*◌, ◌^◌, ◌<◌, ◌≤◌, Bool, Option, List, [], ◌∷◌, ◌++◌, length, refl, sym, ◌∙◌, ap, arith, append_assoc, length-append, All}
 use Rattle.std.proofs.Math.Nat.{mul-le-mul_left, mul-le-mul_right, pow-suc}
 use Rattle.std.proofs.lemmas.Nat.{pow-add}
 use Rattle.std.proofs.lemmas.Bool.{cases_lt}
@@ -10,7 +10,7 @@ use Rattle.std.specs.Char.{digit_value}
 use Rattle.std.specs.Str.Parse.{AllDigits, digits_value, digits_value_after}
 use Rattle.osm_model.specs.declared.axis.Axis.{Axis}
 use Rattle.osm_model.specs.declared.axis.Axis.TheVariants.{Lon, Lat}
-use Rattle.osm_model.specs.Degrees.{Decimal, IsDecimal, decimals, fraction_of, limit}
+use Rattle.osm_model.specs.Degrees.{Decimal, IsDecimal, decimals, limit}
 use Rattle.osm_model.specs.Edges.{ExactEdge, IsEdge, IsWithin, size, scale}
 use Rattle.osm_model.specs.internal.EdgeUnits.{IsAround, IsBetween, signed_floor, signed_ceiling}
 use Rattle.osm_model.proofs.shared.Digits.{after_append, over}
@@ -91,12 +91,12 @@ limits Lon = omega arith
 limits Lat = omega arith
 
 -- an edge in range, with its next whole units
-pub edge_of : (axis : Axis) (negative has_point : Bool) (whole fraction : List ℕ) (f c : ℕ) → IsDecimal (record { negative = negative; whole = whole; fraction = fraction_of has_point fraction }) → decimals (fraction_of has_point fraction) ≡ fraction
-    → IsAround (digits_value 10 (whole ++ fraction) * 10 ^ 7) (10 ^ length fraction) f c → c ≤ limit axis
-    → IsEdge (record { axis = axis; value = record { negative = negative; whole = whole; fraction = fraction_of has_point fraction } }) × IsBetween (record { negative = negative; whole = whole; fraction = fraction_of has_point fraction }) (signed_floor negative f c) (signed_ceiling negative f c)
-edge_of axis negative has_point whole fraction f c decimal same a fits =
-    let d : Decimal = record { negative = negative; whole = whole; fraction = fraction_of has_point fraction } in
-    let b : IsAround (size d * 10 ^ 7) (scale d) f c = rw same a in
+pub edge_of : (axis : Axis) (negative : Bool) (whole digits : List ℕ) (fraction : Option (List ℕ)) (f c : ℕ) → IsDecimal (record { negative = negative; whole = whole; fraction = fraction }) → digits ≡ decimals fraction
+    → IsAround (digits_value 10 (whole ++ digits) * 10 ^ 7) (10 ^ length digits) f c → c ≤ limit axis
+    → IsEdge (record { axis = axis; value = record { negative = negative; whole = whole; fraction = fraction } }) × IsBetween (record { negative = negative; whole = whole; fraction = fraction }) (signed_floor negative f c) (signed_ceiling negative f c)
+edge_of axis negative whole digits fraction f c decimal same a fits =
+    let d : Decimal = record { negative = negative; whole = whole; fraction = fraction } in
+    let b : IsAround (size d * 10 ^ 7) (scale d) f c = rw (sym same) a in
     let some : 0 < scale d = power_some (length (decimals d.fraction)) in
     let low = mul-le-mul_right (scale d) fits in (
       record { decimal = decimal; within = omega (arith, low, b.above) },
@@ -107,18 +107,18 @@ edge_of axis negative has_point whole fraction f c decimal same a fits =
     )
 
 -- a decimal is out of range where the units above are
-pub out_of_range : (axis : Axis) (negative has_point : Bool) (whole fraction : List ℕ) (f c : ℕ) → decimals (fraction_of has_point fraction) ≡ fraction
-    → (f ≤ 1800000000 → IsAround (digits_value 10 (whole ++ fraction) * 10 ^ 7) (10 ^ length fraction) f c) → (1800000000 < f → 1800000000 * 10 ^ length fraction < digits_value 10 (whole ++ fraction) * 10 ^ 7)
-    → limit axis < c → ¬ (IsWithin axis (record { negative = negative; whole = whole; fraction = fraction_of has_point fraction }))
-out_of_range axis negative has_point whole fraction f c same near over more within =
-    let here : digits_value 10 (whole ++ fraction) * 10 ^ 7 ≤ limit axis * 10 ^ length fraction = rw same at within in
+pub out_of_range : (axis : Axis) (negative : Bool) (whole digits : List ℕ) (fraction : Option (List ℕ)) (f c : ℕ) → digits ≡ decimals fraction
+    → (f ≤ 1800000000 → IsAround (digits_value 10 (whole ++ digits) * 10 ^ 7) (10 ^ length digits) f c) → (1800000000 < f → 1800000000 * 10 ^ length digits < digits_value 10 (whole ++ digits) * 10 ^ 7)
+    → limit axis < c → ¬ (IsWithin axis (record { negative = negative; whole = whole; fraction = fraction }))
+out_of_range axis negative whole digits fraction f c same near over more within =
+    let here : digits_value 10 (whole ++ digits) * 10 ^ 7 ≤ limit axis * 10 ^ length digits = rw (sym same) at within in
     let least = limits axis in
     elim (cases_lt 1800000000 f) [
-      | inl large ↦ let low = mul-le-mul_right (10 ^ length fraction) least in let far = over large in omega (arith, here, low, far)
+      | inl large ↦ let low = mul-le-mul_right (10 ^ length digits) least in let far = over large in omega (arith, here, low, far)
       | inr small ↦
           let a = near small in
           let next : limit axis + 1 ≤ c = omega arith in
-          let big = mul-le-mul_right (10 ^ length fraction) next in
+          let big = mul-le-mul_right (10 ^ length digits) next in
           omega (arith, here, big, a.near_above)
     ]
 

@@ -3,6 +3,7 @@
 use Rattle.std.specs.Prelude.{◌≡◌, ◌≢◌, ℕ, ◌-◌, ◌*◌, ◌^◌, ◌<◌, ◌≤◌, ℤ, pos, neg_ℤ, unsigned_abs, Bool, true, false, List, [], ◌∷◌, ◌++◌, length, Option, Some, None, ⊤}
 use Rattle.std.specs.Char.{digit_value}
 use Rattle.std.specs.Str.Parse.{AllDigits, digits_value}
+use Rattle.osm_model.specs.Bytes.{hyphen, dot}
 use Rattle.osm_model.specs.declared.axis.Axis.{Axis}
 use Rattle.osm_model.specs.declared.axis.Axis.TheVariants.{Lon, Lat}
 use Rattle.osm_model.specs.declared.fault.ModelFault.{ModelFault}
@@ -16,13 +17,13 @@ pub record Decimal : Type 0 where
 
 -- a minus, or nothing
 abbrev pub sign : Bool → List ℕ
-sign true = 45 ∷ []
+sign true = hyphen ∷ []
 sign false = []
 
 -- a point and digits, or nothing
 abbrev pub point : Option (List ℕ) → List ℕ
 point None = []
-point (Some digits) = 46 ∷ digits
+point (Some digits) = dot ∷ digits
 
 abbrev pub spelling : Decimal → List ℕ
 spelling d = sign d.negative ++ (d.whole ++ point d.fraction)
@@ -34,16 +35,12 @@ abbrev pub IsFraction : Option (List ℕ) → Type 0
 IsFraction None = ⊤
 IsFraction (Some digits) = IsDigits digits
 
--- one or more digits, and where there is a point one or more behind it
+-- one or more digits, and where there is a point one or more after it
 pub record IsDecimal (d : Decimal) : Type 0 where
   pub whole : IsDigits d.whole
   pub fraction : IsFraction d.fraction
 
--- digits, where there is a point before them
-abbrev pub fraction_of : Bool → List ℕ → Option (List ℕ)
-fraction_of true digits = Some digits
-fraction_of false digits = None
-
+-- the digits after the point: none where there is none
 abbrev pub decimals : Option (List ℕ) → List ℕ
 decimals None = []
 decimals (Some digits) = digits

@@ -1,4 +1,5 @@
--- Moments as the timestamps of the OpenStreetMap API 0.6 tell them.
+-- Moments as timestamps tell them.
+-- Source: the OpenStreetMap API 0.6; the ranges are this project's.
 use Rattle.std.specs.Prelude.{ℕ, ◌≤◌}
 
 pub record Moment : Type 0 where
@@ -9,7 +10,7 @@ pub record Moment : Type 0 where
   pub minute : ℕ
   pub second : ℕ
 
--- each number is in its range; there is no calendar check (this project)
+-- each number is in its range; there is no calendar check
 pub record IsMoment (m : Moment) : Type 0 where
   pub year : m.year ≤ 9999
   pub month_from : 1 ≤ m.month

@@ -1,4 +1,5 @@
--- Locations, in 1e-7 degree (OpenStreetMap API 0.6).
+-- Locations, in 1e-7 degree.
+-- Source: the OpenStreetMap API 0.6; the ranges are this project's.
 use Rattle.std.specs.Prelude.{◌≤◌, ℤ, unsigned_abs}
 
 pub record Place : Type 0 where

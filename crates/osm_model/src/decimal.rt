@@ -2,7 +2,8 @@
 
 ghost use Rattle.std.specs.Prelude.{◌≡◌, ◌≤◌, ℕ, IsTrue, ◌↔◌, length, take, drop, Option, IfSome, IfNone, List, ◌++◌};
 ghost use Rattle.std.specs.Str.Parse.{AllDigits};
-ghost use Rattle.osm_model.specs.Degrees.{Decimal, Spells, BeginsOtherwise, decimals, IsDigits, IsFraction, point, fraction_of};
+ghost use Rattle.osm_model.specs.Degrees.{Decimal, Spells, BeginsOtherwise, decimals, IsDigits, IsFraction, point};
+ghost use Rattle.osm_model.specs.internal.DecimalParts.{decimal_of, fraction_of};
 
 /// The parts of a decimal, in its text.
 #[derive(Clone, Copy, Debug)]
@@ -11,16 +12,22 @@ pub struct Parts<'a> {
     pub negative: bool,
     /// The digits before the point, one or more.
     pub whole: &'a [u8],
-    /// Whether there is a point.
-    pub has_point: bool,
-    /// The digits behind the point: one or more where there is one, else none.
-    pub fraction: &'a [u8],
+    /// The digits after the point, one or more; `None` where there is no point.
+    pub fraction: Option<&'a [u8]>,
+}
+
+impl<'a> Parts<'a> {
+    /// The digits after the point: none where there is no point.
+    pub fn decimals(self) -> &'a [u8]
+        ensures { result.now ≡ decimals (fraction_of self.entry.fraction) }
+    {
+        self.fraction.unwrap_or(&[])
+    }
 }
 
 /// The parts of a decimal, or `None` where the text is none.
 pub fn split(text: &[u8]) -> Option<Parts<'_>>
-    ensures found { IfSome result (λ p. Spells text.now (record { negative = p.negative; whole = p.whole.now; fraction = fraction_of p.has_point p.fraction.now })) }
-    ensures decimals { IfSome result (λ p. decimals (fraction_of p.has_point p.fraction.now) ≡ p.fraction.now) }
+    ensures found { IfSome result (λ p. Spells text.now (decimal_of p)) }
     ensures none { IfNone result ((d : Decimal) → Spells text.now d → ⊥) }
 {
     match text {
@@ -29,10 +36,9 @@ pub fn split(text: &[u8]) -> Option<Parts<'_>>
     }
 }
 
-/// The parts of a decimal behind its sign.
+/// The parts of a decimal after its sign.
 fn split_unsigned(negative: bool, text: &[u8]) -> Option<Parts<'_>>
-    ensures found { IfSome result (λ p. (p.negative ≡ negative) × IsDigits p.whole.now × IsFraction (fraction_of p.has_point p.fraction.now)
-        × (text.now ≡ p.whole.now ++ point (fraction_of p.has_point p.fraction.now)) × (decimals (fraction_of p.has_point p.fraction.now) ≡ p.fraction.now)) }
+    ensures found { IfSome result (λ p. (p.negative ≡ negative) × IsDigits p.whole.now × IsFraction (fraction_of p.fraction) × (text.now ≡ p.whole.now ++ point (fraction_of p.fraction))) }
     ensures none { IfNone result ((whole : List ℕ) (f : Option (List ℕ)) → IsDigits whole → IsFraction f → text.now ≡ whole ++ point f → ⊥) }
 {
     let len = digits_len(text);
@@ -42,33 +48,22 @@ fn split_unsigned(negative: bool, text: &[u8]) -> Option<Parts<'_>>
     after_whole(negative, &text[..len], &text[len..])
 }
 
-/// What stands behind the whole digits.
+/// What comes after the whole digits.
 fn after_whole<'a>(negative: bool, whole: &'a [u8], tail: &'a [u8]) -> Option<Parts<'a>>
     requires { IsDigits whole.now }
-    ensures found { IfSome result (λ p. (p.negative ≡ negative) × (p.whole.now ≡ whole.now) × IsFraction (fraction_of p.has_point p.fraction.now) × (tail.now ≡ point (fraction_of p.has_point p.fraction.now)) × (decimals (fraction_of p.has_point p.fraction.now) ≡ p.fraction.now)) }
+    ensures found { IfSome result (λ p. (p.negative ≡ negative) × (p.whole.now ≡ whole.now) × IsFraction (fraction_of p.fraction) × (tail.now ≡ point (fraction_of p.fraction))) }
     ensures none { IfNone result ((f : Option (List ℕ)) → IsFraction f → tail.now ≡ point f → ⊥) }
 {
-    match tail {
-        [] => Some(Parts {
-            negative,
-            whole,
-            has_point: false,
-            fraction: tail,
-        }),
-        [b'.', fraction @ ..] => {
-            if are_digits(fraction) {
-                Some(Parts {
-                    negative,
-                    whole,
-                    has_point: true,
-                    fraction,
-                })
-            } else {
-                None
-            }
-        }
-        _ => None,
-    }
+    let fraction = match tail {
+        [] => None,
+        [b'.', digits @ ..] if are_digits(digits) => Some(digits),
+        _ => return None,
+    };
+    Some(Parts {
+        negative,
+        whole,
+        fraction,
+    })
 }
 
 /// Whether this is one or more digits, and nothing else.

@@ -5,7 +5,7 @@ ghost use Rattle.std.specs.Char.{digit_value};
 ghost use Rattle.std.specs.Str.Parse.{AllDigits, digits_value};
 ghost use Rattle.std.specs.Ordering.{nat_cmp};
 ghost use Rattle.osm_model.specs.Degrees.{IsDecimal};
-ghost use Rattle.osm_model.specs.internal.DecimalParts.{decimal_of, HasPlainFraction};
+ghost use Rattle.osm_model.specs.internal.DecimalParts.{decimal_of};
 ghost use Rattle.osm_model.specs.Edges.{size, scale};
 
 use crate::decimal::Parts;
@@ -16,8 +16,6 @@ use std::cmp::Ordering;
 pub fn compare_sizes(first: Parts<'_>, second: Parts<'_>) -> Ordering
     requires first { IsDecimal (decimal_of first) }
     requires second { IsDecimal (decimal_of second) }
-    requires plain_first { HasPlainFraction first }
-    requires plain_second { HasPlainFraction second }
     requires few_first { digits_value 10 first.whole.now ≤ 10000000000 }
     requires few_second { digits_value 10 second.whole.now ≤ 10000000000 }
     ensures { result ≡ nat_cmp (size (decimal_of first.entry) * scale (decimal_of second.entry)) (size (decimal_of second.entry) * scale (decimal_of first.entry)) }
@@ -26,7 +24,7 @@ pub fn compare_sizes(first: Parts<'_>, second: Parts<'_>) -> Ordering
     if order.is_ne() {
         return order;
     }
-    compare_fractions(first.fraction, second.fraction)
+    compare_fractions(first.decimals(), second.decimals())
 }
 
 /// How the digits after two points compare. The shorter text goes on with zeros.

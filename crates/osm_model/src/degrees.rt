@@ -17,7 +17,7 @@ const CAP: u64 = 10_000_000_000;
 /// and one to seven digits. Leading zeros are allowed, any number of them.
 ///
 /// Refused by the first of these that holds: `EmptyNumber` for no text at all, `NotDecimal`,
-/// `TooManyDecimals` for more than seven digits behind the point, `OutOfRange` for a value outside
+/// `TooManyDecimals` for more than seven digits after the point, `OutOfRange` for a value outside
 /// the axis's range. It takes no memory.
 ///
 /// Source: degrees as Osmium's OPL manual spells them, without exponents (this project).
@@ -48,10 +48,11 @@ fn value_of(text: &[u8], axis: Axis) -> Result<i32, ModelFault>
     let Some(parts) = split(text) else {
         return Err(ModelFault::NotDecimal);
     };
-    if parts.fraction.len() > 7 {
+    let decimals = parts.decimals();
+    if decimals.len() > 7 {
         return Err(ModelFault::TooManyDecimals);
     }
-    let units = units_of(parts.whole, parts.fraction);
+    let units = units_of(parts.whole, decimals);
     if units > axis.limit() {
         return Err(ModelFault::OutOfRange);
     }
@@ -71,7 +72,7 @@ pub(crate) fn units_of(whole: &[u8], fraction: &[u8]) -> u64
     digits * power_of_ten(7 - fraction.len())
 }
 
-/// The number that these digits make behind those before, up to a cap.
+/// The number that these digits make after those before them, up to a cap.
 pub(crate) fn capped(start: u64, digits: &[u8]) -> u64
     requires digits { AllDigits 10 digits.now }
     requires start { start ≤ 10000000000 }

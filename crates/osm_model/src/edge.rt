@@ -34,11 +34,11 @@ impl<'a> Model for Edge<'a> {
 
     ghost Value = { ExactEdge };
 
-    ghost use Rattle.osm_model.specs.internal.DecimalParts.{decimal_of, HasPlainFraction};
+    ghost use Rattle.osm_model.specs.internal.DecimalParts.{decimal_of};
 
     ghost view = { λ a. record { axis = a.axis; value = decimal_of a.parts } };
 
-    ghost invariant = { λ a. IsEdge (record { axis = a.axis; value = decimal_of a.parts }) × IsBetween (decimal_of a.parts) a.floor a.ceiling × HasPlainFraction a.parts };
+    ghost invariant = { λ a. IsEdge (record { axis = a.axis; value = decimal_of a.parts }) × IsBetween (decimal_of a.parts) a.floor a.ceiling };
 }
 
 impl<'a> Edge<'a> {
@@ -116,7 +116,7 @@ fn read_edge(text: &[u8], axis: Axis) -> Result<Edge<'_>, ModelFault>
     let Some(parts) = split(text) else {
         return Err(ModelFault::NotDecimal);
     };
-    let sizes = sizes_of(parts.whole, parts.fraction);
+    let sizes = sizes_of(parts.whole, parts.decimals());
     if sizes.ceiling > axis.limit() {
         return Err(ModelFault::OutOfRange);
     }

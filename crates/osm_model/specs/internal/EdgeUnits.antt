@@ -1,4 +1,5 @@
 -- Whole units around an edge: what its private functions count with.
+-- Source: this project.
 use Rattle.std.specs.Prelude.{◌↔◌, ℕ, ◌+◌, ◌*◌, ◌<◌, ◌≤◌, ℤ, ◌≤ℤ◌, Bool, true, false}
 use Rattle.osm_model.specs.Degrees.{Decimal, with_sign}
 use Rattle.osm_model.specs.Edges.{IsAtMost, IsAtLeast}

@@ -1,4 +1,5 @@
 -- How long a canonical line is, field by field.
+-- Source: this project.
 use Rattle.std.specs.Prelude.{ℕ, ◌+◌, ℤ, List, [], ◌∷◌, length}
 use Rattle.std.specs.Fmt.{decimal, signed_decimal}
 use Rattle.osm_model.specs.CanonicalDegrees.{degrees}

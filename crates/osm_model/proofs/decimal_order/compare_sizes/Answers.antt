@@ -12,13 +12,13 @@ returns-then-is_ne c =
     (λ greater. by_wholes (decimal_of c.args.second) (decimal_of c.args.first) c.requires.second (omega (arith, greater, c.capped.ensures, c.capped-2.ensures, c.requires.few_first, c.requires.few_second)))
 
 pub compare_fractions-requires-clause-first : goal.compare_fractions-requires-clause-first
-compare_fractions-requires-clause-first c = rw c.requires.plain_first at (all_digits _ c.requires.first.fraction)
+compare_fractions-requires-clause-first c = rw c.decimals.ensures (all_digits _ c.requires.first.fraction)
 
 pub compare_fractions-requires-clause-second : goal.compare_fractions-requires-clause-second
-compare_fractions-requires-clause-second c = rw c.requires.plain_second at (all_digits _ c.requires.second.fraction)
+compare_fractions-requires-clause-second c = rw c.decimals-2.ensures (all_digits _ c.requires.second.fraction)
 
 pub returns : goal.returns
 returns c =
     let same : c.capped.result ≡ c.capped-2.result = equal_of _ _ c.cmp-order.result c.cmp-order.ensures (sym c.is_ne.ensures ∙ c.if-is_ne.false) in
     by_fractions (decimal_of c.args.first) (decimal_of c.args.second) c.compare_fractions.result (omega (arith, same, c.capped.ensures, c.capped-2.ensures, c.requires.few_first, c.requires.few_second))
-    (rw (c.requires.plain_first, c.requires.plain_second) c.compare_fractions.ensures)
+    (rw (c.decimals.ensures, c.decimals-2.ensures) at c.compare_fractions.ensures)
