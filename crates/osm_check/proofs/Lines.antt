@@ -1,5 +1,5 @@
 -- Which line may come next in a canonical text.
-use Rattle.std.proofs.Common.{◌≡◌, ◌≢◌, ℕ, ◌-◌, List, [], ◌∷◌, ◌++◌, length, take, Option, Some, None, refl, sym, ◌∙◌, ap, subst, arith, length-append}
+use Rattle.std.proofs.Common.{◌≡◌, ◌≢◌, ℕ, ◌-◌, List, [], ◌∷◌, ◌++◌, length, take, Option, sym, ◌∙◌, ap, subst, arith, length-append}
 use Rattle.std.proofs.Math.Seq.{take-append_seam}
 use Rattle.osm_model.specs.CanonicalLine.{canonical_line}
 use Rattle.osm_model.specs.Elements.{Element, reference}
@@ -10,7 +10,6 @@ use Rattle.opl_codec.proofs.shared.SayLemmas.{one_object}
 use Rattle.opl_codec.proofs.shared.TextFields.{line_spells}
 use Rattle.ql_plain.specs.declared.query.Query.{Query}
 use Rattle.osm_check.specs.internal.Replays.{HasRead, IsNext, last_reference}
-use Rattle.osm_check.specs.Roots.{IsPlainSet}
 use Rattle.osm_check.proofs.Sets.{IsAbove, set_more, element_last, plain_last, above_last}
 
 -- all but the last byte

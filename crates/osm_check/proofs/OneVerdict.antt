@@ -1,5 +1,5 @@
 -- What verdicts determine.
-use Rattle.std.proofs.Common.{◌≡◌, ◌≢◌, ◌⊎◌, inl, inr, ℕ, zero, suc, ◌<◌, List, [], ◌∷◌, Bool, true, false, take, length, Result, Ok, Err, IfOk, refl, sym, ◌∙◌, ap, subst, arith}
+use Rattle.std.proofs.Common.{◌≡◌, ◌≢◌, ◌⊎◌, inl, inr, ℕ, zero, suc, ◌<◌, List, [], ◌∷◌, take, Result, Ok, Err, IfOk, refl, sym, ◌∙◌, ap, subst, arith}
 use Rattle.std.specs.List.{slice_get}
 use Rattle.std.specs.declared.alloc.AllocError.{AllocError}
 use Rattle.std.specs.Str.{bytes_eq}
@@ -7,14 +7,14 @@ use Rattle.std.proofs.lemmas.Slice.Eq.{bytes_eq-Decides}
 use Rattle.std.proofs.lemmas.Bool.{cases_Bool, cases_lt}
 use Rattle.std.proofs.lemmas.Bool.Decides.{not_from_Decides}
 use Rattle.osm_model.specs.Elements.{Element}
-use Rattle.ql_plain.specs.Queries.{Reads, FaultOf}
+use Rattle.ql_plain.specs.Queries.{FaultOf}
 use Rattle.ql_plain.specs.Meaning.{meaning}
 use Rattle.ql_plain.specs.declared.query.Query.{Query}
 use Rattle.ql_plain.specs.declared.fault.QlFault.{QlFault}
 use Rattle.ql_plain.proofs.shared.Laws.{one_reading, never_both, one_fault}
 use Rattle.tree_node.specs.Digests.{digest}
-use Rattle.osm_check.specs.Roots.{Clash, IsPlainSet, IsProofOf, IsCanonical, proof_text, root_of}
-use Rattle.osm_check.specs.Verdicts.{IsReadable, IsAnswer, IsFirstDifference, IsAnswerWrongAt, IsUnderRoot, IsReason, IsVerdict, Tells, no_walks}
+use Rattle.osm_check.specs.Roots.{Clash, IsPlainSet, IsProofOf, proof_text, root_of}
+use Rattle.osm_check.specs.Verdicts.{IsReadable, IsAnswer, IsFirstDifference, IsAnswerWrongAt, IsReason, IsVerdict, Tells, no_walks}
 use Rattle.osm_check.specs.declared.report.Report.{Report}
 use Rattle.osm_check.specs.declared.verdict.Verdict.{Verdict}
 use Rattle.osm_check.specs.declared.verdict.Verdict.TheVariants.{Yes, No}

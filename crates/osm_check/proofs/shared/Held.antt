@@ -1,5 +1,5 @@
 -- The set that a file holds is plain.
-use Rattle.std.proofs.Common.{List, [], ◌∷◌, ℕ, All}
+use Rattle.std.proofs.Common.{List, [], ◌∷◌, ℕ}
 use Rattle.std.specs.List.{AllByRecursion}
 use Rattle.std.proofs.lemmas.List.Elements.{All-from_recursion}
 use Rattle.std.proofs.lemmas.List.Sorted.{All-permutation}

@@ -1,9 +1,6 @@
 use Rattle.std.proofs.Common.{rules, ◌≡◌, ◌∙◌, ap₂}
 use Rattle.std.proofs.lemmas.Result.{IfOk-weaker}
 use Rattle.clap.specs.Words.{App, app_of, with_subcommand}
-use Rattle.command_line.specs.AskCommand.{ask_app}
-use Rattle.command_line.specs.PublishCommand.{publish_app}
-use Rattle.command_line.specs.ProveCommand.{prove_app}
 use Rattle.command_line.specs.CommandLine.{bare_app}
 use Rattle.command_line.proofs.program_command.program_command.Goals as goal
 

@@ -1,10 +1,8 @@
-use Rattle.std.proofs.Common.{rules, ◌≡◌, ◌∙◌, ◌⊎◌, inl, inr, ap, ap₂, sym, subst, map, List, IfOk, IfErr}
-use Rattle.std.specs.Prelude.{Option}
+use Rattle.std.proofs.Common.{rules, ◌≡◌, ◌∙◌, inl, inr, ap, ap₂, sym, map}
 use Rattle.std.specs.String.{string_bytes}
 use Rattle.std.proofs.lemmas.Result.{IfErr-weaker}
-use Rattle.clap.specs.Words.{Row, Text, fault_of, found_of, is_simple_and_free, rows_of, takes}
+use Rattle.clap.specs.Words.{fault_of, found_of, is_simple_and_free, rows_of, takes}
 use Rattle.clap.proofs.OnLiterals.{clap_on_literals}
-use Rattle.command_line.specs.Jobs.{GivesMatch, HasBadRoot}
 use Rattle.command_line.proofs.Commands.{entered_match, named, on_ok, of_match, bad_match}
 use Rattle.command_line.proofs.words.read_words.Goals as goal
 

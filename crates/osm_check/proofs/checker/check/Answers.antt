@@ -1,5 +1,4 @@
-use Rattle.std.proofs.Common.{refl}
-use Rattle.osm_check.proofs.OneVerdict.{one_verdict, under_root, only_verdict, headline, honest}
+use Rattle.osm_check.proofs.OneVerdict.{only_verdict, headline, honest}
 use Rattle.osm_check.proofs.checker.check.Goals as goal
 
 pub returns : goal.returns

@@ -1,9 +1,8 @@
 use Rattle.std.proofs.Common.{[], ◌∷◌, ◌++◌, ap, sym, subst, ◌∙◌}
 use Rattle.ql_plain.specs.declared.query.Query.{Query}
 use Rattle.osm_check.specs.internal.Replays.{HasRead}
-use Rattle.osm_check.specs.Roots.{proof_text}
 use Rattle.osm_check.proofs.Texts.{proof_text-nil}
-use Rattle.osm_check.proofs.TextsRead.{text_more, next_line, no_part, whole_text}
+use Rattle.osm_check.proofs.TextsRead.{text_more, next_line, no_part}
 use Rattle.osm_check.proofs.proof_reader.read_answer.Goals as goal
 
 pub loop-line-init : goal.loop-line-init

@@ -1,4 +1,4 @@
-use Rattle.std.proofs.Common.{rules, IsTrue, false, sym, ◌∙◌}
+use Rattle.std.proofs.Common.{rules, IsTrue}
 use Rattle.osm_check.proofs.Lines.{says_none, not_here, other_line, this_line}
 use Rattle.osm_check.proofs.Sets.{IsAbove}
 use Rattle.osm_check.proofs.proof_reader.ProofReader.next_object.Goals as goal

@@ -1,4 +1,4 @@
-use Rattle.std.proofs.Common.{◌≡◌, ◌++◌, ◌∷◌, [], Some, List, ℕ, sym, ◌∙◌, ap}
+use Rattle.std.proofs.Common.{◌≡◌, ◌++◌, ◌∷◌, [], Some, sym, ◌∙◌, ap}
 use Rattle.ql_plain.specs.Meaning.{meaning}
 use Rattle.osm_check.specs.declared.proof_reader.ProofReader.{ProofReader}
 use Rattle.osm_check.specs.internal.Replays.{IsNext, last_reference}
