@@ -3,6 +3,7 @@
 use Rattle.std.specs.Prelude.{◌≡◌, ◌≢◌, ℕ, ◌+◌, ◌<◌, ◌≤◌, ◌^◌, ◌⊎◌, ℤ, FitsSigned, unsigned_abs, false, List, [], ◌∷◌, ◌++◌, length, drop, slice_index, Some, None}
 use Rattle.std.specs.Int.{w64}
 use Rattle.std.specs.Str.{IsUtf8, IsValidUpTo}
+use Rattle.osm_model.specs.Bytes.{digit_zero, percent, space}
 use Rattle.osm_model.specs.Degrees.{IsDegrees, limit}
 use Rattle.osm_model.specs.Elements.{Element}
 use Rattle.osm_model.specs.CanonicalLine.{canonical_line}
@@ -10,6 +11,7 @@ use Rattle.osm_model.specs.Limits.{IsShort, HasDistinctKeys, HasRisingKeys}
 use Rattle.osm_model.specs.declared.axis.Axis.TheVariants as axes
 use Rattle.osm_model.specs.declared.tag.Tag.{Tag}
 use Rattle.std.specs.Prelude.{All}
+use Rattle.opl_codec.specs.Letters.{node_letter, version_letter, visible_letter, visible_mark, changeset_letter, stamp_letter, uid_letter, user_letter, tags_letter, longitude_letter, latitude_letter}
 use Rattle.opl_codec.specs.Fields.{pieces, field, letter_of, IsInteger, Each}
 use Rattle.opl_codec.specs.Lines.{SpellsTag, SpellsFields, is_node_letter, items}
 use Rattle.opl_codec.specs.declared.cause.OplCause.{OplCause}
@@ -24,7 +26,7 @@ behind (f ∷ fields) = length f + 1 + behind fields
 pub record FieldAt (line f : List ℕ) (byte : ℕ) : Type 0 where
   pub before : List (List ℕ)
   pub after : List (List ℕ)
-  pub fields : pieces 32 line ≡ before ++ f ∷ after
+  pub fields : pieces space line ≡ before ++ f ∷ after
   pub further : before ≢ []
   pub place : behind before ≡ byte
 
@@ -35,19 +37,19 @@ id_text_of (f ∷ fields) = drop 1 f
 
 -- narrow: the values that a field of this letter may have, whatever their range
 abbrev pub HasForm : ℕ → List ℕ → Type 0
-HasForm letter text = ((letter ≡ 118) × (text ≡ 48 ∷ []))
-    ⊎ (((letter ≡ 100) × (text ≡ 86 ∷ []))
-    ⊎ (((letter ≡ 99) × (text ≡ 48 ∷ []))
-    ⊎ (((letter ≡ 116) × (text ≡ []))
-    ⊎ (((letter ≡ 105) × (text ≡ 48 ∷ []))
-    ⊎ (((letter ≡ 117) × (text ≡ []))
-    ⊎ (((letter ≡ 84) × ((tags : List Tag) × Each SpellsTag (items text) tags))
-    ⊎ ((((letter ≡ 120) ⊎ (letter ≡ 121)) × ((text ≡ []) ⊎ ((z : ℤ) × IsDegrees text z))))))))))
+HasForm letter text = ((letter ≡ version_letter) × (text ≡ digit_zero ∷ []))
+    ⊎ (((letter ≡ visible_letter) × (text ≡ visible_mark ∷ []))
+    ⊎ (((letter ≡ changeset_letter) × (text ≡ digit_zero ∷ []))
+    ⊎ (((letter ≡ stamp_letter) × (text ≡ []))
+    ⊎ (((letter ≡ uid_letter) × (text ≡ digit_zero ∷ []))
+    ⊎ (((letter ≡ user_letter) × (text ≡ []))
+    ⊎ (((letter ≡ tags_letter) × ((tags : List Tag) × Each SpellsTag (items text) tags))
+    ⊎ ((((letter ≡ longitude_letter) ⊎ (letter ≡ latitude_letter)) × ((text ≡ []) ⊎ ((z : ℤ) × IsDegrees text z))))))))))
 
 -- the location is out of its axis's range
 abbrev pub IsBeyond : ℕ → List ℕ → Type 0
-IsBeyond letter text = ((letter ≡ 120) × ((z : ℤ) × IsDegrees text z × (limit axes.Lon < unsigned_abs z)))
-    ⊎ ((letter ≡ 121) × ((z : ℤ) × IsDegrees text z × (limit axes.Lat < unsigned_abs z)))
+IsBeyond letter text = ((letter ≡ longitude_letter) × ((z : ℤ) × IsDegrees text z × (limit axes.Lon < unsigned_abs z)))
+    ⊎ ((letter ≡ latitude_letter) × ((z : ℤ) × IsDegrees text z × (limit axes.Lat < unsigned_abs z)))
 
 -- the tags are too many or too long, or a key stands twice
 abbrev pub HasBadTags : List ℕ → Type 0
@@ -56,13 +58,13 @@ HasBadTags text = (tags : List Tag) × Each SpellsTag (items text) tags
 
 -- the line has tags, which alone take memory
 abbrev pub HasTagField : List ℕ → Type 0
-HasTagField line = (f : List ℕ) × (at : ℕ) × FieldAt line f at × (letter_of f ≡ 84) × (drop 1 f ≢ [])
+HasTagField line = (f : List ℕ) × (at : ℕ) × FieldAt line f at × (letter_of f ≡ tags_letter) × (drop 1 f ≢ [])
 
 -- the first field is the letter and an id
 pub record HasId (line : List ℕ) : Type 0 where
-  pub letter : letter_of line ≡ 110
+  pub letter : letter_of line ≡ node_letter
   pub id : ℤ
-  pub id_is : IsInteger (id_text_of (pieces 32 line)) id
+  pub id_is : IsInteger (id_text_of (pieces space line)) id
   pub in_range : FitsSigned w64 id
 
 -- the line has none of the first four faults: too long, not UTF-8, no letter, no id
@@ -77,16 +79,16 @@ IsMissing letter fields = (field letter fields ≡ None) ⊎ (field letter field
 
 -- the cause stands at this byte of the line
 abbrev pub StandsAt : List ℕ → OplCause → ℕ → Type 0
-StandsAt line causes.UnknownObject byte = (byte ≡ 0) × (letter_of line ≢ 110)
-StandsAt line causes.BadId byte = (byte ≡ 1) × (letter_of line ≡ 110) × ((z : ℤ) → IsInteger (id_text_of (pieces 32 line)) z → FitsSigned w64 z → ⊥)
+StandsAt line causes.UnknownObject byte = (byte ≡ 0) × (letter_of line ≢ node_letter)
+StandsAt line causes.BadId byte = (byte ≡ 1) × (letter_of line ≡ node_letter) × ((z : ℤ) → IsInteger (id_text_of (pieces space line)) z → FitsSigned w64 z → ⊥)
 StandsAt line causes.UnknownField byte = (f : List ℕ) × FieldAt line f byte × (is_node_letter (letter_of f) ≡ false)
 StandsAt line causes.FieldTwice byte = (f : List ℕ) × (at : FieldAt line f byte) × (field (letter_of f) (drop 1 at.before) ≢ None)
 StandsAt line causes.BadValue byte = (f : List ℕ) × FieldAt line f byte × (¬ (HasForm (letter_of f) (drop 1 f)))
-StandsAt line causes.BadEscape byte = (f : List ℕ) × (at : ℕ) × FieldAt line f at × (letter_of f ≡ 84) × (at < byte) × (byte < at + length f) × (slice_index line byte ≡ 37)
+StandsAt line causes.BadEscape byte = (f : List ℕ) × (at : ℕ) × FieldAt line f at × (letter_of f ≡ tags_letter) × (at < byte) × (byte < at + length f) × (slice_index line byte ≡ percent)
 StandsAt line causes.NotUtf8 byte = (¬ (IsUtf8 line)) × IsValidUpTo line byte
-StandsAt line causes.NoLocation byte = (byte ≡ length line) × (IsMissing 120 (drop 1 (pieces 32 line)) ⊎ IsMissing 121 (drop 1 (pieces 32 line)))
+StandsAt line causes.NoLocation byte = (byte ≡ length line) × (IsMissing longitude_letter (drop 1 (pieces space line)) ⊎ IsMissing latitude_letter (drop 1 (pieces space line)))
 StandsAt line causes.LineTooLong byte = (byte ≡ 2 ^ 25) × (2 ^ 25 < length line)
-StandsAt line causes.OutsideModel byte = ((f : List ℕ) × FieldAt line f byte × (IsBeyond (letter_of f) (drop 1 f) ⊎ ((letter_of f ≡ 84) × HasBadTags (drop 1 f))))
+StandsAt line causes.OutsideModel byte = ((f : List ℕ) × FieldAt line f byte × (IsBeyond (letter_of f) (drop 1 f) ⊎ ((letter_of f ≡ tags_letter) × HasBadTags (drop 1 f))))
     ⊎ ((byte ≡ 0) × ((o : Element) × SpellsFields line o × HasRisingKeys o.tags × (2 ^ 24 < length (canonical_line o))))
 StandsAt line causes.ReaderFailed byte = ⊥
 StandsAt line causes.Endless byte = ⊥

@@ -2,12 +2,14 @@
 -- Source: this project.
 use Rattle.std.specs.Prelude.{◌≡◌, ◌≢◌, ℕ, ◌+◌, ◌<◌, ◌≤◌, ◌⊎◌, ℤ, unsigned_abs, true, false, List, [], ◌∷◌, ◌++◌, length, All, slice_index, slice_index_or, Option, Some, None, is_some, MatchOption, ⊤}
 use Rattle.std.specs.List.{AllByRecursion}
+use Rattle.osm_model.specs.Bytes.{digit_zero, percent, space}
 use Rattle.osm_model.specs.Degrees.{IsDegrees, limit}
 use Rattle.osm_model.specs.Limits.{IsShort, HasDistinctKeys}
 use Rattle.osm_model.specs.CanonicalLine.{is_literal}
 use Rattle.osm_model.specs.declared.axis.Axis.{Axis}
 use Rattle.osm_model.specs.declared.axis.Axis.TheVariants as axes
 use Rattle.osm_model.specs.declared.tag.Tag.{Tag}
+use Rattle.opl_codec.specs.Letters.{node_letter, version_letter, visible_letter, visible_mark, changeset_letter, stamp_letter, uid_letter, user_letter, tags_letter, longitude_letter, latitude_letter}
 use Rattle.opl_codec.specs.Fields.{pieces, field, letter_of, IsOnce, IsInteger, Each}
 use Rattle.opl_codec.specs.Lines.{SpellsTag, SpellsTags, is_node_letter}
 use Rattle.opl_codec.specs.Faults.{HasForm, IsBeyond, HasBadTags}
@@ -21,15 +23,15 @@ use Rattle.opl_codec.specs.declared.fields_seen.FieldsSeen.{FieldsSeen}
 
 -- the bytes of the letters
 abbrev pub code : Letter → ℕ
-code letters.Version = 118
-code letters.Visible = 100
-code letters.Changeset = 99
-code letters.Stamp = 116
-code letters.Uid = 105
-code letters.User = 117
-code letters.Tags = 84
-code letters.Lon = 120
-code letters.Lat = 121
+code letters.Version = version_letter
+code letters.Visible = visible_letter
+code letters.Changeset = changeset_letter
+code letters.Stamp = stamp_letter
+code letters.Uid = uid_letter
+code letters.User = user_letter
+code letters.Tags = tags_letter
+code letters.Lon = longitude_letter
+code letters.Lat = latitude_letter
 
 -- their places among what was seen
 abbrev pub place_of : Letter → ℕ
@@ -45,11 +47,11 @@ place_of letters.Lat = 8
 
 -- narrow: the one text that a field of this letter may have, where it has but one
 abbrev pub only_text : Letter → Option (List ℕ)
-only_text letters.Version = Some (48 ∷ [])
-only_text letters.Visible = Some (86 ∷ [])
-only_text letters.Changeset = Some (48 ∷ [])
+only_text letters.Version = Some (digit_zero ∷ [])
+only_text letters.Visible = Some (visible_mark ∷ [])
+only_text letters.Changeset = Some (digit_zero ∷ [])
 only_text letters.Stamp = Some []
-only_text letters.Uid = Some (48 ∷ [])
+only_text letters.Uid = Some (digit_zero ∷ [])
 only_text letters.User = Some []
 only_text letters.Tags = None
 only_text letters.Lon = None
@@ -73,10 +75,10 @@ pub record Reads (done : List (List ℕ)) (seen : FieldsSeen) : Type 0 where
   pub places : length seen.given ≡ 9
   pub given : (letter : Letter) → slice_index_or seen.given (place_of letter) false ≡ is_some (field (code letter) done)
   pub fixed : (letter : Letter) (text : List ℕ) → only_text letter ≡ Some text → MatchOption (field (code letter) done) ⊤ (λ spelled. spelled ≡ text)
-  pub tags_are : MatchOption (field 84 done) (seen.tags.items ≡ []) (λ spelled. SpellsTags spelled seen.tags.items)
+  pub tags_are : MatchOption (field tags_letter done) (seen.tags.items ≡ []) (λ spelled. SpellsTags spelled seen.tags.items)
   pub limits : KeepsLimits seen.tags.items
-  pub lon_is : MatchOption (field 120 done) (seen.lon ≡ None) (λ spelled. IsCoordinate axes.Lon spelled seen.lon)
-  pub lat_is : MatchOption (field 121 done) (seen.lat ≡ None) (λ spelled. IsCoordinate axes.Lat spelled seen.lat)
+  pub lon_is : MatchOption (field longitude_letter done) (seen.lon ≡ None) (λ spelled. IsCoordinate axes.Lon spelled seen.lon)
+  pub lat_is : MatchOption (field latitude_letter done) (seen.lat ≡ None) (λ spelled. IsCoordinate axes.Lat spelled seen.lat)
 
 -- nothing changed but the tags, the longitude, the latitude
 abbrev pub Says : Letter → List ℕ → FieldsSeen → FieldsSeen → Type 0
@@ -88,9 +90,9 @@ Says letter text old new = (only_text letter ≡ Some text) × (new.given ≡ ol
 -- the text behind the letter is no value, for this reason
 abbrev pub IsFieldFault : Letter → List ℕ → FieldFault → Type 0
 IsFieldFault letter text field_faults.Value = ¬ (HasForm (code letter) text)
-IsFieldFault letter text (field_faults.Escape at) = (code letter ≡ 84) × (at < length text) × (slice_index text at ≡ 37)
-IsFieldFault letter text field_faults.Model = IsBeyond (code letter) text ⊎ ((code letter ≡ 84) × HasBadTags text)
-IsFieldFault letter text field_faults.Memory = (code letter ≡ 84) × (text ≢ [])
+IsFieldFault letter text (field_faults.Escape at) = (code letter ≡ tags_letter) × (at < length text) × (slice_index text at ≡ percent)
+IsFieldFault letter text field_faults.Model = IsBeyond (code letter) text ⊎ ((code letter ≡ tags_letter) × HasBadTags text)
+IsFieldFault letter text field_faults.Memory = (code letter ≡ tags_letter) × (text ≢ [])
 
 -- the text is no coordinate
 abbrev pub IsBadCoordinate : Axis → List ℕ → FieldFault → Type 0
@@ -110,14 +112,14 @@ pub record AreFirstTags (parts : List (List ℕ)) (tags : List Tag) : Type 0 whe
 -- these items are no tags, or tags that no object may have
 abbrev pub IsBadTags : List ℕ → List (List ℕ) → FieldFault → Type 0
 IsBadTags text parts field_faults.Value = (tags : List Tag) → Each SpellsTag parts tags → ⊥
-IsBadTags text parts (field_faults.Escape at) = (at < length text) × (slice_index text at ≡ 37)
+IsBadTags text parts (field_faults.Escape at) = (at < length text) × (slice_index text at ≡ percent)
 IsBadTags text parts field_faults.Model = HasBadTags text
 IsBadTags text parts field_faults.Memory = text ≢ []
 
 -- the same without limits
 abbrev pub IsUnspelled : List ℕ → List (List ℕ) → FieldFault → Type 0
 IsUnspelled text parts field_faults.Value = (tags : List Tag) → Each SpellsTag parts tags → ⊥
-IsUnspelled text parts (field_faults.Escape at) = (at < length text) × (slice_index text at ≡ 37)
+IsUnspelled text parts (field_faults.Escape at) = (at < length text) × (slice_index text at ≡ percent)
 IsUnspelled text parts field_faults.Model = ⊥
 IsUnspelled text parts field_faults.Memory = text ≢ []
 
@@ -159,6 +161,6 @@ place_in field_faults.Memory = 0
 pub record IsRead (line : List ℕ) (id : ℤ) (seen : FieldsSeen) : Type 0 where
   pub id_text : List ℕ
   pub rest : List (List ℕ)
-  pub fields : pieces 32 line ≡ (110 ∷ id_text) ∷ rest
+  pub fields : pieces space line ≡ (node_letter ∷ id_text) ∷ rest
   pub id_is : IsInteger id_text id
   pub reads : Reads rest seen
