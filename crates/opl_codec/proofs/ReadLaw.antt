@@ -28,7 +28,8 @@ use Rattle.osm_model.proofs.shared.OneDecimal.{one_value}
 use Rattle.opl_codec.specs.Fields.{pieces, field, letter_of, IsOnce, IsInteger, Each}
 use Rattle.opl_codec.specs.Lines.{SpellsTag, SpellsTags, SpellsMeta, SpellsBody, SpellsFields, SpellsObject, Spells, IsSkipped, items, is_node_letter}
 use Rattle.opl_codec.specs.Faults.{behind, id_text_of, FieldAt, StandsAt, HasBadTags, HasForm, IsMissing}
-use Rattle.opl_codec.specs.internal.Reading.{code, AreLiteral}
+use Rattle.opl_codec.specs.Letters.{code}
+use Rattle.opl_codec.specs.internal.Reading.{AreLiteral}
 use Rattle.opl_codec.specs.declared.change.Change.{Change}
 use Rattle.opl_codec.specs.declared.change.Change.TheVariants as changes
 use Rattle.opl_codec.specs.declared.cause.OplCause.{OplCause}

@@ -14,7 +14,8 @@ use Rattle.osm_model.specs.declared.tag.Tag.{Tag}
 use Rattle.opl_codec.specs.Fields.{pieces, field, letter_of}
 use Rattle.opl_codec.specs.Lines.{SpellsTags, is_node_letter}
 use Rattle.opl_codec.specs.Faults.{behind, FieldAt, StandsAt}
-use Rattle.opl_codec.specs.internal.Reading.{code, place_of, only_text, IsCoordinate, KeepsLimits, Reads, Says, IsFieldFault, fault_of, place_in}
+use Rattle.opl_codec.specs.Letters.{code}
+use Rattle.opl_codec.specs.internal.Reading.{place_of, only_text, IsCoordinate, KeepsLimits, Reads, Says, IsFieldFault, fault_of, place_in}
 use Rattle.opl_codec.specs.declared.cause.OplCause.TheVariants as causes
 use Rattle.opl_codec.specs.declared.fields_seen.FieldsSeen.{FieldsSeen}
 use Rattle.opl_codec.specs.declared.letter.Letter.{Letter}

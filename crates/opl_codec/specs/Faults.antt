@@ -8,14 +8,17 @@ use Rattle.osm_model.specs.Degrees.{IsDegrees, limit}
 use Rattle.osm_model.specs.Elements.{Element}
 use Rattle.osm_model.specs.CanonicalLine.{canonical_line}
 use Rattle.osm_model.specs.Limits.{IsShort, HasDistinctKeys, HasRisingKeys}
+use Rattle.osm_model.specs.declared.axis.Axis.{Axis}
 use Rattle.osm_model.specs.declared.axis.Axis.TheVariants as axes
 use Rattle.osm_model.specs.declared.tag.Tag.{Tag}
 use Rattle.std.specs.Prelude.{All}
-use Rattle.opl_codec.specs.Letters.{node_letter, version_letter, visible_letter, visible_mark, changeset_letter, stamp_letter, uid_letter, user_letter, tags_letter, longitude_letter, latitude_letter}
+use Rattle.opl_codec.specs.Letters.{node_letter, visible_mark, tags_letter, longitude_letter, latitude_letter, code}
 use Rattle.opl_codec.specs.Fields.{pieces, field, letter_of, IsInteger, Each}
 use Rattle.opl_codec.specs.Lines.{SpellsTag, SpellsFields, is_node_letter, items}
 use Rattle.opl_codec.specs.declared.cause.OplCause.{OplCause}
 use Rattle.opl_codec.specs.declared.cause.OplCause.TheVariants as causes
+use Rattle.opl_codec.specs.declared.letter.Letter.{Letter}
+use Rattle.opl_codec.specs.declared.letter.Letter.TheVariants as letters
 
 -- the byte at which a field begins, behind these and a blank each
 abbrev pub behind : List (List ℕ) → ℕ
@@ -35,21 +38,29 @@ abbrev pub id_text_of : List (List ℕ) → List ℕ
 id_text_of [] = []
 id_text_of (f ∷ fields) = drop 1 f
 
--- narrow: the values that a field of this letter may have, whatever their range
+-- narrow: the texts that a field of this letter may have, whatever the range of their values
+abbrev pub IsOfForm : Letter → List ℕ → Type 0
+IsOfForm letters.Version text = text ≡ digit_zero ∷ []
+IsOfForm letters.Visible text = text ≡ visible_mark ∷ []
+IsOfForm letters.Changeset text = text ≡ digit_zero ∷ []
+IsOfForm letters.Stamp text = text ≡ []
+IsOfForm letters.Uid text = text ≡ digit_zero ∷ []
+IsOfForm letters.User text = text ≡ []
+IsOfForm letters.Tags text = (tags : List Tag) × Each SpellsTag (items text) tags
+IsOfForm letters.Lon text = (text ≡ []) ⊎ ((z : ℤ) × IsDegrees text z)
+IsOfForm letters.Lat text = (text ≡ []) ⊎ ((z : ℤ) × IsDegrees text z)
+
+-- the byte is a letter, and the text is of its form
 abbrev pub HasForm : ℕ → List ℕ → Type 0
-HasForm letter text = ((letter ≡ version_letter) × (text ≡ digit_zero ∷ []))
-    ⊎ (((letter ≡ visible_letter) × (text ≡ visible_mark ∷ []))
-    ⊎ (((letter ≡ changeset_letter) × (text ≡ digit_zero ∷ []))
-    ⊎ (((letter ≡ stamp_letter) × (text ≡ []))
-    ⊎ (((letter ≡ uid_letter) × (text ≡ digit_zero ∷ []))
-    ⊎ (((letter ≡ user_letter) × (text ≡ []))
-    ⊎ (((letter ≡ tags_letter) × ((tags : List Tag) × Each SpellsTag (items text) tags))
-    ⊎ ((((letter ≡ longitude_letter) ⊎ (letter ≡ latitude_letter)) × ((text ≡ []) ⊎ ((z : ℤ) × IsDegrees text z))))))))))
+HasForm byte text = (letter : Letter) × (byte ≡ code letter) × IsOfForm letter text
+
+-- the text is degrees beyond the end of this axis
+abbrev pub IsBeyondAxis : Axis → List ℕ → Type 0
+IsBeyondAxis axis text = (z : ℤ) × IsDegrees text z × (limit axis < unsigned_abs z)
 
 -- the location is out of its axis's range
 abbrev pub IsBeyond : ℕ → List ℕ → Type 0
-IsBeyond letter text = ((letter ≡ longitude_letter) × ((z : ℤ) × IsDegrees text z × (limit axes.Lon < unsigned_abs z)))
-    ⊎ ((letter ≡ latitude_letter) × ((z : ℤ) × IsDegrees text z × (limit axes.Lat < unsigned_abs z)))
+IsBeyond letter text = ((letter ≡ longitude_letter) × IsBeyondAxis axes.Lon text) ⊎ ((letter ≡ latitude_letter) × IsBeyondAxis axes.Lat text)
 
 -- the tags are too many or too long, or a key stands twice
 abbrev pub HasBadTags : List ℕ → Type 0

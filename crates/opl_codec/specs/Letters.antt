@@ -1,6 +1,8 @@
 -- The letters of fields.
 -- Source: Osmium's OPL manual.
 use Rattle.std.specs.Prelude.{ℕ}
+use Rattle.opl_codec.specs.declared.letter.Letter.{Letter}
+use Rattle.opl_codec.specs.declared.letter.Letter.TheVariants as letters
 
 -- `n`: the first field of a node
 abbrev pub node_letter : ℕ
@@ -45,3 +47,15 @@ longitude_letter = 120
 -- `y`: the latitude
 abbrev pub latitude_letter : ℕ
 latitude_letter = 121
+
+-- the byte of each letter
+abbrev pub code : Letter → ℕ
+code letters.Version = version_letter
+code letters.Visible = visible_letter
+code letters.Changeset = changeset_letter
+code letters.Stamp = stamp_letter
+code letters.Uid = uid_letter
+code letters.User = user_letter
+code letters.Tags = tags_letter
+code letters.Lon = longitude_letter
+code letters.Lat = latitude_letter

@@ -9,10 +9,10 @@ use Rattle.osm_model.specs.CanonicalLine.{is_literal}
 use Rattle.osm_model.specs.declared.axis.Axis.{Axis}
 use Rattle.osm_model.specs.declared.axis.Axis.TheVariants as axes
 use Rattle.osm_model.specs.declared.tag.Tag.{Tag}
-use Rattle.opl_codec.specs.Letters.{node_letter, version_letter, visible_letter, visible_mark, changeset_letter, stamp_letter, uid_letter, user_letter, tags_letter, longitude_letter, latitude_letter}
+use Rattle.opl_codec.specs.Letters.{node_letter, visible_mark, tags_letter, longitude_letter, latitude_letter, code}
 use Rattle.opl_codec.specs.Fields.{pieces, field, letter_of, IsOnce, IsInteger, Each}
 use Rattle.opl_codec.specs.Lines.{SpellsTag, SpellsTags, is_node_letter}
-use Rattle.opl_codec.specs.Faults.{HasForm, IsBeyond, HasBadTags}
+use Rattle.opl_codec.specs.Faults.{HasForm, IsBeyond, IsBeyondAxis, HasBadTags}
 use Rattle.opl_codec.specs.declared.cause.OplCause.TheVariants as causes
 use Rattle.opl_codec.specs.declared.fault.OplFault.{OplFault}
 use Rattle.opl_codec.specs.declared.letter.Letter.{Letter}
@@ -21,19 +21,7 @@ use Rattle.opl_codec.specs.declared.field_fault.FieldFault.{FieldFault}
 use Rattle.opl_codec.specs.declared.field_fault.FieldFault.TheVariants as field_faults
 use Rattle.opl_codec.specs.declared.fields_seen.FieldsSeen.{FieldsSeen}
 
--- the bytes of the letters
-abbrev pub code : Letter → ℕ
-code letters.Version = version_letter
-code letters.Visible = visible_letter
-code letters.Changeset = changeset_letter
-code letters.Stamp = stamp_letter
-code letters.Uid = uid_letter
-code letters.User = user_letter
-code letters.Tags = tags_letter
-code letters.Lon = longitude_letter
-code letters.Lat = latitude_letter
-
--- their places among what was seen
+-- the places of the letters among what was seen
 abbrev pub place_of : Letter → ℕ
 place_of letters.Version = 0
 place_of letters.Visible = 1
@@ -98,7 +86,7 @@ IsFieldFault letter text field_faults.Memory = (code letter ≡ tags_letter) × 
 abbrev pub IsBadCoordinate : Axis → List ℕ → FieldFault → Type 0
 IsBadCoordinate axis text field_faults.Value = (text ≢ []) × ((z : ℤ) → IsDegrees text z → ⊥)
 IsBadCoordinate axis text (field_faults.Escape at) = ⊥
-IsBadCoordinate axis text field_faults.Model = (z : ℤ) × IsDegrees text z × (limit axis < unsigned_abs z)
+IsBadCoordinate axis text field_faults.Model = IsBeyondAxis axis text
 IsBadCoordinate axis text field_faults.Memory = ⊥
 
 -- these tags are spelled, each by its item; where there are more than 65,536 items, the first 65,536
