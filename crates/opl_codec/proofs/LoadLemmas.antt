@@ -15,6 +15,7 @@ use Rattle.opl_codec.specs.Fields.{pieces}
 use Rattle.opl_codec.specs.Lines.{SpellsObject}
 use Rattle.opl_codec.specs.Faults.{StandsAt}
 use Rattle.opl_codec.specs.Files.{HoldsSet, spoken_of, IsReaderOrMemory}
+use Rattle.opl_codec.specs.declared.line.TheConstants.{LONGEST_LINE}
 use Rattle.opl_codec.specs.declared.cause.OplCause.{OplCause}
 use Rattle.opl_codec.specs.declared.cause.OplCause.TheVariants as causes
 use Rattle.opl_codec.specs.declared.fault.LoadFault.{LoadFault}
@@ -45,7 +46,7 @@ pub none_said_so : (lines : List (List ℕ)) (line : List ℕ) → BeginsNoSet l
 none_said_so lines line h = subst (λ l. SayNoSet (lines ++ l ∷ [])) (append-nil line) (h [])
 
 -- a line that is too long says no object, however it goes on
-too_long : (lines : List (List ℕ)) (line : List ℕ) (objects : List Element) → 2 ^ 25 < length line → Say lines objects → BeginsNoSet lines line
+too_long : (lines : List (List ℕ)) (line : List ℕ) (objects : List Element) → LONGEST_LINE < length line → Say lines objects → BeginsNoSet lines line
 too_long lines line objects long say more =
     no_object lines (line ++ more) objects
     (λ none. omega (arith, ap length none, length-append line more))
@@ -53,7 +54,7 @@ too_long lines line objects long say more =
     say
 
 -- what the loader tells of a line that is too long before it ends
-pub told_too_long : (cause told : OplCause) (line : List ℕ) (objects : List Element) → 2 ^ 25 < length line → (told ≡ cause) ⊎ (IsReaderOrMemory told ⊎ (HasDistinctReferences objects → ⊥))
+pub told_too_long : (cause told : OplCause) (line : List ℕ) (objects : List Element) → LONGEST_LINE < length line → (told ≡ cause) ⊎ (IsReaderOrMemory told ⊎ (HasDistinctReferences objects → ⊥))
     → IsReaderOrMemory told ⊎ ((lines : List (List ℕ)) → Say lines objects → BeginsNoSet lines line)
 told_too_long cause told line objects long (inl same) = inr (λ lines say. too_long lines line objects long say)
 told_too_long cause told line objects long (inr (inl outside)) = inl outside

@@ -17,6 +17,7 @@ use Rattle.opl_codec.specs.Fields.{pieces, field, letter_of, IsInteger, Each}
 use Rattle.opl_codec.specs.Lines.{SpellsTag, SpellsFields, is_node_letter, items}
 use Rattle.opl_codec.specs.declared.cause.OplCause.{OplCause}
 use Rattle.opl_codec.specs.declared.cause.OplCause.TheVariants as causes
+use Rattle.opl_codec.specs.declared.line.TheConstants.{LONGEST_LINE}
 use Rattle.opl_codec.specs.declared.letter.Letter.{Letter}
 use Rattle.opl_codec.specs.declared.letter.Letter.TheVariants as letters
 
@@ -80,7 +81,7 @@ pub record HasId (line : List ℕ) : Type 0 where
 
 -- the line has none of the first four faults: too long, not UTF-8, no letter, no id
 pub record BeginsRight (line : List ℕ) : Type 0 where
-  pub short : length line ≤ 2 ^ 25
+  pub short : length line ≤ LONGEST_LINE
   pub utf8 : IsUtf8 line
   pub named : HasId line
 
@@ -98,7 +99,7 @@ StandsAt line causes.BadValue byte = (f : List ℕ) × FieldAt line f byte × (�
 StandsAt line causes.BadEscape byte = (f : List ℕ) × (at : ℕ) × FieldAt line f at × (letter_of f ≡ tags_letter) × (at < byte) × (byte < at + length f) × (slice_index line byte ≡ percent)
 StandsAt line causes.NotUtf8 byte = (¬ (IsUtf8 line)) × IsValidUpTo line byte
 StandsAt line causes.NoLocation byte = (byte ≡ length line) × (IsMissing longitude_letter (drop 1 (pieces space line)) ⊎ IsMissing latitude_letter (drop 1 (pieces space line)))
-StandsAt line causes.LineTooLong byte = (byte ≡ 2 ^ 25) × (2 ^ 25 < length line)
+StandsAt line causes.LineTooLong byte = (byte ≡ LONGEST_LINE) × (LONGEST_LINE < length line)
 StandsAt line causes.OutsideModel byte = ((f : List ℕ) × FieldAt line f byte × (IsBeyond (letter_of f) (drop 1 f) ⊎ ((letter_of f ≡ tags_letter) × HasBadTags (drop 1 f))))
     ⊎ ((byte ≡ 0) × ((o : Element) × SpellsFields line o × HasRisingKeys o.tags × (2 ^ 24 < length (canonical_line o))))
 StandsAt line causes.ReaderFailed byte = ⊥

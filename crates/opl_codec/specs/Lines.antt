@@ -1,6 +1,6 @@
 -- What a line says. The parts marked narrow are those that a reader of all of OPL replaces.
 -- Source: Osmium's OPL manual; the narrow forms and the limits are this project's.
-use Rattle.std.specs.Prelude.{◌≡◌, ℕ, ◌≤◌, ◌^◌, pos, Bool, true, ◌==◌, List, [], ◌∷◌, ◌++◌, length, None, ⊤}
+use Rattle.std.specs.Prelude.{◌≡◌, ℕ, ◌≤◌, pos, Bool, true, ◌==◌, List, [], ◌∷◌, ◌++◌, length, None, ⊤}
 use Rattle.std.specs.List.{AllByRecursion, list_any}
 use Rattle.std.specs.List.Sorted.{IsPermutation}
 use Rattle.osm_model.specs.Bytes.{comma, digit_zero, equals_sign, space}
@@ -14,6 +14,7 @@ use Rattle.osm_model.specs.declared.body.Body.{Body}
 use Rattle.osm_model.specs.declared.body.Body.TheVariants as bodies
 use Rattle.opl_codec.specs.declared.change.Change.{Change}
 use Rattle.opl_codec.specs.declared.change.Change.TheVariants as changes
+use Rattle.opl_codec.specs.declared.line.TheConstants.{LONGEST_LINE}
 use Rattle.opl_codec.specs.Letters.{node_letter, version_letter, visible_letter, visible_mark, changeset_letter, stamp_letter, uid_letter, user_letter, tags_letter, longitude_letter, latitude_letter}
 use Rattle.opl_codec.specs.Fields.{pieces, field, letter_of, IsOnce, Given, IsInteger, Each}
 
@@ -77,7 +78,7 @@ pub record SpellsFields (line : List ℕ) (o : Element) : Type 0 where
 -- the line is this object, and the line and the object keep their limits
 pub record SpellsObject (line : List ℕ) (o : Element) : Type 0 where
   pub fields : SpellsFields line o
-  pub short : length line ≤ 2 ^ 25
+  pub short : length line ≤ LONGEST_LINE
   pub element : IsElement o
 
 -- the line says this change; narrow: a line deletes nothing

@@ -1,12 +1,13 @@
 //! One line to a change.
 
-ghost use Rattle.std.specs.Prelude.{◌≡◌, ◌≢◌, ◌+◌, ◌<◌, ◌≤◌, ◌^◌, ℕ, ℤ, List, [], ◌∷◌, ◌++◌, length, IfOk, OnOk, IfErr, MatchOption, MatchResult, Some, None, Ok};
+ghost use Rattle.std.specs.Prelude.{◌≡◌, ◌≢◌, ◌+◌, ◌<◌, ◌≤◌, ℕ, ℤ, List, [], ◌∷◌, ◌++◌, length, IfOk, OnOk, IfErr, MatchOption, MatchResult, Some, None, Ok};
 ghost use Rattle.std.specs.Str.{IsUtf8};
 ghost use Rattle.osm_model.specs.Limits.{IsElement};
 ghost use Rattle.opl_codec.specs.Fields.{pieces, IsInteger};
 ghost use Rattle.opl_codec.specs.Lines.{IsSkipped, Spells, SpellsObject, SpellsFields};
 ghost use Rattle.opl_codec.specs.Faults.{StandsAt, HasId, BeginsRight};
 ghost use Rattle.opl_codec.specs.internal.Reading.{IsRead};
+ghost use Rattle.opl_codec.specs.declared.line.TheConstants.{LONGEST_LINE};
 ghost use Rattle.opl_codec.specs.declared.change.Change.{Change};
 ghost use Rattle.opl_codec.specs.declared.cause.OplCause.TheVariants as OplCause;
 
@@ -20,7 +21,7 @@ use osm_model::{Body, Coord, Meta, Object, Text};
 use simdutf8::compat::from_utf8;
 use std::alloc::Global;
 
-/// The most bytes of a line, its end aside.
+/// The greatest length of a line, in bytes, without its end.
 pub const LONGEST_LINE: usize = 1 << 25;
 
 /// Reads a line, given without its end: what it says, or `None` where it is skipped. The empty line
@@ -78,7 +79,7 @@ pub fn one_change()
 
 /// Looks at the length and the encoding of a line.
 fn check_bytes(line: &[u8]) -> Result<(), OplFault>
-    ensures short { OnOk result (length line.now ≤ 2 ^ 25) }
+    ensures short { OnOk result (length line.now ≤ LONGEST_LINE) }
     ensures utf8 { OnOk result (IsUtf8 line.now) }
     ensures real { IfErr result (λ fault. fault.cause ≢ OplCause.Memory) }
     ensures refused { IfErr result (λ fault. StandsAt line.now fault.cause fault.byte) }

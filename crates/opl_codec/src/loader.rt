@@ -5,6 +5,7 @@ ghost use Rattle.osm_model.specs.Elements.{Element};
 ghost use Rattle.osm_model.specs.Sets.{HasDistinctReferences};
 ghost use Rattle.opl_codec.specs.Files.{HoldsSet, IsReaderOrMemory};
 ghost use Rattle.opl_codec.specs.internal.Loading.{Say, Loads, LoadsNoSet, SayNoSet, BeginsNoSet};
+ghost use Rattle.opl_codec.specs.declared.line.TheConstants.{LONGEST_LINE};
 
 use crate::cause::OplCause;
 use crate::change::Change;
@@ -57,7 +58,7 @@ impl Loader {
         ensures read { (front : List ℕ) → Loads [] front self.old.objects.items self.old.pending.items
             → MatchResult result (λ _. Loads [] (front ++ piece.now) self.new.objects.items self.new.pending.items)
             (λ fault. IsReaderOrMemory fault.fault.cause ⊎ LoadsNoSet [] (front ++ piece.now)) }
-        ensures short { OnOk result (length self.new.pending.items ≤ 2 ^ 25) }
+        ensures short { OnOk result (length self.new.pending.items ≤ LONGEST_LINE) }
         ensures finite { IfErr result (λ fault. fault.fault.cause ≢ OplCause.Endless) }
     {
         match cut(piece, b'\n') {
@@ -110,7 +111,7 @@ impl Loader {
         ensures read { (lines : List (List ℕ)) → Say lines self.old.objects.items
             → MatchResult result (λ _. Loads lines text.now self.new.objects.items self.new.pending.items)
             (λ fault. IsReaderOrMemory fault.fault.cause ⊎ LoadsNoSet lines text.now) }
-        ensures short { OnOk result (length self.new.pending.items ≤ 2 ^ 25) }
+        ensures short { OnOk result (length self.new.pending.items ≤ LONGEST_LINE) }
         ensures finite { IfErr result (λ fault. fault.fault.cause ≢ OplCause.Endless) }
     {
         let mut left = text;
@@ -192,7 +193,7 @@ impl Loader {
     fn keep(&mut self, part: &[u8]) -> Result<(), LoadFault>
         ensures kept { MatchResult result (λ _. self.new.pending.items ≡ self.old.pending.items ++ part.now)
             (λ fault. IsReaderOrMemory fault.fault.cause ⊎ ((lines : List (List ℕ)) → Say lines self.old.objects.items → BeginsNoSet lines (self.old.pending.items ++ part.now))) }
-        ensures short { OnOk result (length self.new.pending.items ≤ 2 ^ 25) }
+        ensures short { OnOk result (length self.new.pending.items ≤ LONGEST_LINE) }
         ensures same { self.new.objects.items ≡ self.old.objects.items }
         ensures finite { IfErr result (λ fault. fault.fault.cause ≢ OplCause.Endless) }
     {
