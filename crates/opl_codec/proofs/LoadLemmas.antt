@@ -103,11 +103,11 @@ holds_no_set front r more objects h = split (pieces 10 more) refl (some_piece 10
         let again : (r.ended ++ (r.pending ++ q) ∷ []) ++ qs ≡ r.ended ++ (r.pending ++ q) ∷ qs = append_assoc r.ended ((r.pending ++ q) ∷ []) qs in
         no_set (front ++ more) (r.ended ++ (r.pending ++ q) ∷ qs) whole (subst SayNoSet again (none_said_more (r.ended ++ (r.pending ++ q) ∷ []) qs (r.none_said q))) objects h
 
--- objects that were loaded and repeat a reference none the file
+-- where the loaded objects repeat a reference, the text says no set
 pub repeats_hold_no_set : (front : List ℕ) (objects : List Element) (pending : List ℕ) → Loads [] front objects pending → (HasDistinctReferences objects → ⊥) → LoadsNoSet [] front
 repeats_hold_no_set front objects pending l twice = record { ended = l.ended; pending = pending; cut = l.cut; none_said = λ more. none_said_more l.ended ((pending ++ more) ∷ []) (repeated l.ended objects twice l.say) }
 
--- a loaded file, and lines behind it
+-- a loaded file, and lines after it
 pub loads_more : (front piece line rest : List ℕ) (objects more : List Element) (pending left : List ℕ) (l : Loads [] front objects pending) → pieces 10 piece ≡ line ∷ pieces 10 rest
     → Loads (l.ended ++ (pending ++ line) ∷ []) rest more left → Loads [] (front ++ piece) more left
 loads_more front piece line rest objects more pending left l cut next = record {

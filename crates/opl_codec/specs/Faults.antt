@@ -1,4 +1,4 @@
--- At which byte of a line each cause of a refusal stands, apart from how the line is read.
+-- Why a line is refused, and at which byte: each cause with its place, apart from how the line is read.
 -- Source: this project.
 use Rattle.std.specs.Prelude.{◌≡◌, ◌≢◌, ℕ, ◌+◌, ◌<◌, ◌≤◌, ◌^◌, ◌⊎◌, ℤ, FitsSigned, unsigned_abs, false, List, [], ◌∷◌, ◌++◌, length, drop, slice_index, Some, None}
 use Rattle.std.specs.Int.{w64}
@@ -21,20 +21,20 @@ use Rattle.opl_codec.specs.declared.line.TheConstants.{LONGEST_LINE}
 use Rattle.opl_codec.specs.declared.letter.Letter.{Letter}
 use Rattle.opl_codec.specs.declared.letter.Letter.TheVariants as letters
 
--- the byte at which a field begins, behind these and a blank each
-abbrev pub behind : List (List ℕ) → ℕ
-behind [] = 0
-behind (f ∷ fields) = length f + 1 + behind fields
+-- the byte at which a field begins after these fields, each with a space after it
+abbrev pub start_after : List (List ℕ) → ℕ
+start_after [] = 0
+start_after (f ∷ fields) = length f + 1 + start_after fields
 
--- the line has this field behind its first, at this byte; before are the fields from the first on
+-- the line has this field, not its first, at this byte; `before` are all fields before it
 pub record FieldAt (line f : List ℕ) (byte : ℕ) : Type 0 where
   pub before : List (List ℕ)
   pub after : List (List ℕ)
   pub fields : pieces space line ≡ before ++ f ∷ after
   pub further : before ≢ []
-  pub place : behind before ≡ byte
+  pub place : start_after before ≡ byte
 
--- what stands behind the letter of the first field
+-- the text after the letter of the first field
 abbrev pub id_text_of : List (List ℕ) → List ℕ
 id_text_of [] = []
 id_text_of (f ∷ fields) = drop 1 f
@@ -63,12 +63,12 @@ IsBeyondAxis axis text = (z : ℤ) × IsDegrees text z × (limit axis < unsigned
 abbrev pub IsBeyond : ℕ → List ℕ → Type 0
 IsBeyond letter text = ((letter ≡ longitude_letter) × IsBeyondAxis axes.Lon text) ⊎ ((letter ≡ latitude_letter) × IsBeyondAxis axes.Lat text)
 
--- the tags are too many or too long, or a key stands twice
+-- the tags are too many or too long, or a key comes twice
 abbrev pub HasBadTags : List ℕ → Type 0
 HasBadTags text = (tags : List Tag) × Each SpellsTag (items text) tags
     × ((65535 < length tags) ⊎ ((¬ (All (λ tag. IsShort tag.key × IsShort tag.value) tags)) ⊎ (¬ (HasDistinctKeys tags))))
 
--- the line has tags, which alone take memory
+-- the line has tags; nothing else takes memory
 abbrev pub HasTagField : List ℕ → Type 0
 HasTagField line = (f : List ℕ) × (at : ℕ) × FieldAt line f at × (letter_of f ≡ tags_letter) × (drop 1 f ≢ [])
 
@@ -85,11 +85,11 @@ pub record BeginsRight (line : List ℕ) : Type 0 where
   pub utf8 : IsUtf8 line
   pub named : HasId line
 
--- there is no such field, or nothing behind its letter
+-- there is no such field, or nothing after its letter
 abbrev pub IsMissing : ℕ → List (List ℕ) → Type 0
 IsMissing letter fields = (field letter fields ≡ None) ⊎ (field letter fields ≡ Some [])
 
--- the cause stands at this byte of the line
+-- the cause is there, at this byte of the line
 abbrev pub StandsAt : List ℕ → OplCause → ℕ → Type 0
 StandsAt line causes.UnknownObject byte = (byte ≡ 0) × (letter_of line ≢ node_letter)
 StandsAt line causes.BadId byte = (byte ≡ 1) × (letter_of line ≡ node_letter) × ((z : ℤ) → IsInteger (id_text_of (pieces space line)) z → FitsSigned w64 z → ⊥)

@@ -19,7 +19,7 @@ is_skipped (byte ∷ bytes) = false
 abbrev pub spoken_of : List (List ℕ) → List (List ℕ)
 spoken_of lines = filter (λ line. not (is_skipped line)) lines
 
--- the same of a file; its last line may lack its end
+-- the lines of a file that say something; its last line may lack its LF
 abbrev pub spoken : List ℕ → List (List ℕ)
 spoken file = spoken_of (pieces line_feed file)
 

@@ -1,4 +1,4 @@
--- What a line says. The parts marked narrow are those that a reader of all of OPL replaces.
+-- What a line says. A part marked narrow accepts less than OPL does; a reader of all of OPL replaces it.
 -- Source: Osmium's OPL manual; the narrow forms and the limits are this project's.
 use Rattle.std.specs.Prelude.{◌≡◌, ℕ, ◌≤◌, pos, Bool, true, ◌==◌, List, [], ◌∷◌, ◌++◌, length, None, ⊤}
 use Rattle.std.specs.List.{AllByRecursion, list_any}
@@ -30,7 +30,7 @@ pub record SpellsTag (spelled : List ℕ) (tag : Tag) : Type 0 where
   pub key_is : SpellsText key tag.key
   pub value_is : SpellsText value tag.value
 
--- what commas part, and nothing where there is nothing
+-- the parts that commas separate; an empty text has none
 abbrev pub items : List ℕ → List (List ℕ)
 items [] = []
 items (byte ∷ bytes) = pieces comma (byte ∷ bytes)
@@ -41,7 +41,7 @@ pub record SpellsTags (spelled : List ℕ) (tags : List Tag) : Type 0 where
   pub each : Each SpellsTag (items spelled) written
   pub order : IsPermutation written tags
 
--- narrow: just this text, for the default
+-- narrow: just this text, which gives the default
 abbrev pub IsDefaultText : List ℕ → Type 0 → List ℕ → Type 0
 IsDefaultText only default spelled = (spelled ≡ only) × default
 

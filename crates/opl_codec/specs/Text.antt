@@ -17,6 +17,6 @@ fields_of o modes.Skel = name_field o ∷ body_fields o.body
 fields_of o modes.Body = name_field o ∷ tags_field o.tags ∷ body_fields o.body
 fields_of o modes.Meta = (name_field o ∷ meta_fields o.meta) ++ (tags_field o.tags ∷ body_fields o.body)
 
--- the line with its end
+-- the line with its LF
 unfoldable pub text_of : Element → OutMode → List ℕ
 text_of o mode = join_with_byte space (fields_of o mode) ++ line_feed ∷ []

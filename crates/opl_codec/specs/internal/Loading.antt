@@ -43,7 +43,7 @@ pub record LoadsNoSet (lines : List (List ℕ)) (text : List ℕ) : Type 0 where
 abbrev pub HoldsNoSet : List ℕ → Type 0
 HoldsNoSet front = (more : List ℕ) (objects : List Element) → HoldsSet (front ++ more) objects → ⊥
 
--- the cause that a reader without a next piece is told as
+-- the cause that is reported where a reader has no next piece
 abbrev pub cause_of : PieceFault → OplCause
 cause_of faults.Failed = causes.ReaderFailed
 cause_of faults.Endless = causes.Endless

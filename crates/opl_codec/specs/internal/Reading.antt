@@ -75,7 +75,7 @@ Says letters.Lon text old new = IsCoordinate axes.Lon text new.lon × (new.given
 Says letters.Lat text old new = IsCoordinate axes.Lat text new.lat × (new.given ≡ old.given) × (new.tags.items ≡ old.tags.items) × (new.lon ≡ old.lon)
 Says letter text old new = (only_text letter ≡ Some text) × (new.given ≡ old.given) × (new.tags.items ≡ old.tags.items) × (new.lon ≡ old.lon) × (new.lat ≡ old.lat)
 
--- the text behind the letter is no value, for this reason
+-- the text after the letter is no value, for this reason
 abbrev pub IsFieldFault : Letter → List ℕ → FieldFault → Type 0
 IsFieldFault letter text field_faults.Value = ¬ (HasForm (code letter) text)
 IsFieldFault letter text (field_faults.Escape at) = (code letter ≡ tags_letter) × (at < length text) × (slice_index text at ≡ percent)
@@ -131,14 +131,14 @@ fault_of (field_faults.Escape at) byte = record { cause = causes.BadEscape; byte
 fault_of field_faults.Model byte = record { cause = causes.OutsideModel; byte = byte }
 fault_of field_faults.Memory byte = record { cause = causes.Memory; byte = 0 }
 
--- the same, so many bytes further behind the letter
+-- the same, so many bytes further after the letter
 abbrev pub moved_by : FieldFault → ℕ → FieldFault
 moved_by field_faults.Value by = field_faults.Value
 moved_by (field_faults.Escape at) by = field_faults.Escape (by + at)
 moved_by field_faults.Model by = field_faults.Model
 moved_by field_faults.Memory by = field_faults.Memory
 
--- where a field_fault stands behind the letter
+-- the place of a fault after the letter
 abbrev pub place_in : FieldFault → ℕ
 place_in field_faults.Value = 0
 place_in (field_faults.Escape at) = at
