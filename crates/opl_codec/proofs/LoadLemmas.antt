@@ -15,6 +15,7 @@ use Rattle.opl_codec.specs.Fields.{pieces}
 use Rattle.opl_codec.specs.Lines.{SpellsObject}
 use Rattle.opl_codec.specs.Faults.{StandsAt}
 use Rattle.opl_codec.specs.Files.{HoldsSet, spoken_of, IsReaderOrMemory}
+use Rattle.opl_codec.specs.declared.line.TheConstants.{LONGEST_LINE}
 use Rattle.opl_codec.specs.declared.cause.OplCause.{OplCause}
 use Rattle.opl_codec.specs.declared.cause.OplCause.TheVariants as causes
 use Rattle.opl_codec.specs.declared.fault.LoadFault.{LoadFault}
@@ -45,7 +46,7 @@ pub none_said_so : (lines : List (List ℕ)) (line : List ℕ) → BeginsNoSet l
 none_said_so lines line h = subst (λ l. SayNoSet (lines ++ l ∷ [])) (append-nil line) (h [])
 
 -- a line that is too long says no object, however it goes on
-too_long : (lines : List (List ℕ)) (line : List ℕ) (objects : List Element) → 2 ^ 25 < length line → Say lines objects → BeginsNoSet lines line
+too_long : (lines : List (List ℕ)) (line : List ℕ) (objects : List Element) → LONGEST_LINE < length line → Say lines objects → BeginsNoSet lines line
 too_long lines line objects long say more =
     no_object lines (line ++ more) objects
     (λ none. omega (arith, ap length none, length-append line more))
@@ -53,7 +54,7 @@ too_long lines line objects long say more =
     say
 
 -- what the loader tells of a line that is too long before it ends
-pub told_too_long : (cause told : OplCause) (line : List ℕ) (objects : List Element) → 2 ^ 25 < length line → (told ≡ cause) ⊎ (IsReaderOrMemory told ⊎ (HasDistinctReferences objects → ⊥))
+pub told_too_long : (cause told : OplCause) (line : List ℕ) (objects : List Element) → LONGEST_LINE < length line → (told ≡ cause) ⊎ (IsReaderOrMemory told ⊎ (HasDistinctReferences objects → ⊥))
     → IsReaderOrMemory told ⊎ ((lines : List (List ℕ)) → Say lines objects → BeginsNoSet lines line)
 told_too_long cause told line objects long (inl same) = inr (λ lines say. too_long lines line objects long say)
 told_too_long cause told line objects long (inr (inl outside)) = inl outside
@@ -102,11 +103,11 @@ holds_no_set front r more objects h = split (pieces 10 more) refl (some_piece 10
         let again : (r.ended ++ (r.pending ++ q) ∷ []) ++ qs ≡ r.ended ++ (r.pending ++ q) ∷ qs = append_assoc r.ended ((r.pending ++ q) ∷ []) qs in
         no_set (front ++ more) (r.ended ++ (r.pending ++ q) ∷ qs) whole (subst SayNoSet again (none_said_more (r.ended ++ (r.pending ++ q) ∷ []) qs (r.none_said q))) objects h
 
--- objects that were loaded and repeat a reference none the file
+-- where the loaded objects repeat a reference, the text says no set
 pub repeats_hold_no_set : (front : List ℕ) (objects : List Element) (pending : List ℕ) → Loads [] front objects pending → (HasDistinctReferences objects → ⊥) → LoadsNoSet [] front
 repeats_hold_no_set front objects pending l twice = record { ended = l.ended; pending = pending; cut = l.cut; none_said = λ more. none_said_more l.ended ((pending ++ more) ∷ []) (repeated l.ended objects twice l.say) }
 
--- a loaded file, and lines behind it
+-- a loaded file, and lines after it
 pub loads_more : (front piece line rest : List ℕ) (objects more : List Element) (pending left : List ℕ) (l : Loads [] front objects pending) → pieces 10 piece ≡ line ∷ pieces 10 rest
     → Loads (l.ended ++ (pending ++ line) ∷ []) rest more left → Loads [] (front ++ piece) more left
 loads_more front piece line rest objects more pending left l cut next = record {

@@ -13,7 +13,7 @@ pub known_push : (done more : List (List ℕ)) → Known done → Known more →
 known_push [] more h k = k
 known_push (f ∷ done) more h k = (h.0, known_push done more h.1 k)
 
--- a field that isn't in front is found behind
+-- a field that isn't among the first is found among the others
 pub field_behind : (c : ℕ) (done more : List (List ℕ)) → field c done ≡ None → field c (done ++ more) ≡ field c more
 field_behind c [] more none = refl
 field_behind c ([] ∷ done) more none = field_behind c done more none

@@ -27,8 +27,9 @@ use Rattle.osm_model.specs.declared.body.Body.TheVariants.{Node}
 use Rattle.osm_model.proofs.shared.OneDecimal.{one_value}
 use Rattle.opl_codec.specs.Fields.{pieces, field, letter_of, IsOnce, IsInteger, Each}
 use Rattle.opl_codec.specs.Lines.{SpellsTag, SpellsTags, SpellsMeta, SpellsBody, SpellsFields, SpellsObject, Spells, IsSkipped, items, is_node_letter}
-use Rattle.opl_codec.specs.Faults.{behind, id_text_of, FieldAt, StandsAt, HasBadTags, HasForm, IsMissing}
-use Rattle.opl_codec.specs.internal.Reading.{code, AreLiteral}
+use Rattle.opl_codec.specs.Faults.{start_after, id_text_of, FieldAt, StandsAt, HasBadTags, HasForm, IsMissing}
+use Rattle.opl_codec.specs.Letters.{code}
+use Rattle.opl_codec.specs.internal.Reading.{AreLiteral}
 use Rattle.opl_codec.specs.declared.change.Change.{Change}
 use Rattle.opl_codec.specs.declared.change.Change.TheVariants as changes
 use Rattle.opl_codec.specs.declared.cause.OplCause.{OplCause}
@@ -68,7 +69,7 @@ one_tag spelled a b h k =
     let h_key : AreLiteral h.key = subst AreLiteral (sym h.key_is.0) h.key_is.1 in
     let k_key : AreLiteral k.key = subst AreLiteral (sym k.key_is.0) k.key_is.1 in
     let parts = same_literals h.key k.key (61 ∷ h.value) (61 ∷ k.value) h_key k_key refl refl (sym h.parts ∙ k.parts) in
-    let behind : 61 ∷ h.value ≡ 61 ∷ k.value = parts.1 in
+    let after : 61 ∷ h.value ≡ 61 ∷ k.value = parts.1 in
     let values : h.value ≡ k.value = cc in
     let f : List ℕ → Tag = λ x. record { key = x; value = a.value } in
     let g : List ℕ → Tag = λ x. record { key = b.key; value = x } in
@@ -323,7 +324,7 @@ excludes line causes.BadEscape byte o real s h =
     let tags = tags_formed h.fields.rest s.0 g s.3 in
     let low = s.4 in
     let high = s.5 in
-    let place : byte ≡ behind s.2.before + (byte - s.1) = omega (arith, s.2.place) in
+    let place : byte ≡ start_after s.2.before + (byte - s.1) = omega (arith, s.2.place) in
     let there : get_or s.0 (byte - s.1) 0 ≡ 37 = sym (piece_at 32 line s.2.before s.0 s.2.after (byte - s.1) s.2.fields (omega arith)) ∙ (ap (λ n. get_or line n 0) (sym place) ∙ s.6) in
     no_escape s.0 (byte - s.1) s.3 tags.0 tags.1 (omega arith) (omega arith) there
 excludes line causes.NotUtf8 byte o real s h = s.0 (spelled_utf8 line o h.fields)

@@ -6,8 +6,9 @@ use Rattle.osm_model.specs.declared.axis.Axis.TheVariants as axes
 use Rattle.osm_model.specs.declared.tag.Tag.{Tag}
 use Rattle.opl_codec.specs.Fields.{Each}
 use Rattle.opl_codec.specs.Lines.{SpellsTag, items, is_node_letter}
-use Rattle.opl_codec.specs.Faults.{HasForm}
-use Rattle.opl_codec.specs.internal.Reading.{code, place_of, only_text, IsFieldFault, IsBadCoordinate, IsBadTags}
+use Rattle.opl_codec.specs.Faults.{HasForm, IsOfForm}
+use Rattle.opl_codec.specs.Letters.{code}
+use Rattle.opl_codec.specs.internal.Reading.{place_of, only_text, IsFieldFault, IsBadCoordinate, IsBadTags}
 use Rattle.opl_codec.specs.declared.letter.Letter.{Letter}
 use Rattle.opl_codec.specs.declared.letter.Letter.TheVariants.{Version, Visible, Changeset, Stamp, Uid, User, Tags, Lon, Lat}
 use Rattle.opl_codec.specs.declared.field_fault.FieldFault.{FieldFault}
@@ -88,49 +89,36 @@ FormOf Lon text = (text ≡ []) ⊎ ((z : ℤ) × IsDegrees text z)
 FormOf Lat text = (text ≡ []) ⊎ ((z : ℤ) × IsDegrees text z)
 FormOf letter text = only_text letter ≡ Some text
 
-only : (letter known : Letter) (text t : List ℕ) → code letter ≡ code known → FormOf known text → FormOf letter text
-only letter known text t e form = subst (λ l. FormOf l text) (sym (same_code letter known e)) form
-
-pub form_from : (letter : Letter) (text : List ℕ) → HasForm (code letter) text → FormOf letter text
-form_from letter text h = elim h [
-  | inl v ↦ only letter Version text text v.0 (ap Some (sym v.1))
-  | inr h1 ↦ elim h1 [
-    | inl d ↦ only letter Visible text text d.0 (ap Some (sym d.1))
-    | inr h2 ↦ elim h2 [
-      | inl c ↦ only letter Changeset text text c.0 (ap Some (sym c.1))
-      | inr h3 ↦ elim h3 [
-        | inl t ↦ only letter Stamp text text t.0 (ap Some (sym t.1))
-        | inr h4 ↦ elim h4 [
-          | inl i ↦ only letter Uid text text i.0 (ap Some (sym i.1))
-          | inr h5 ↦ elim h5 [
-            | inl u ↦ only letter User text text u.0 (ap Some (sym u.1))
-            | inr h6 ↦ elim h6 [
-              | inl g ↦ only letter Tags text text g.0 g.1
-              | inr p ↦ elim p.0 [
-                | inl x ↦ only letter Lon text text x p.1
-                | inr y ↦ only letter Lat text text y p.1
-              ]
-            ]
-          ]
-        ]
-      ]
-    ]
-  ]
-]
-
 same_text : (a b : List ℕ) → Some a ≡ Some b → b ≡ a
 same_text a b e = cc
 
+form_is : (letter : Letter) (text : List ℕ) → IsOfForm letter text → FormOf letter text
+form_is Version text h = ap Some (sym h)
+form_is Visible text h = ap Some (sym h)
+form_is Changeset text h = ap Some (sym h)
+form_is Stamp text h = ap Some (sym h)
+form_is Uid text h = ap Some (sym h)
+form_is User text h = ap Some (sym h)
+form_is Tags text h = h
+form_is Lon text h = h
+form_is Lat text h = h
+
+is_form : (letter : Letter) (text : List ℕ) → FormOf letter text → IsOfForm letter text
+is_form Version text h = same_text (48 ∷ []) text h
+is_form Visible text h = same_text (86 ∷ []) text h
+is_form Changeset text h = same_text (48 ∷ []) text h
+is_form Stamp text h = same_text [] text h
+is_form Uid text h = same_text (48 ∷ []) text h
+is_form User text h = same_text [] text h
+is_form Tags text h = h
+is_form Lon text h = h
+is_form Lat text h = h
+
+pub form_from : (letter : Letter) (text : List ℕ) → HasForm (code letter) text → FormOf letter text
+form_from letter text h = subst (λ l. FormOf l text) (sym (same_code letter h.0 h.1)) (form_is h.0 text h.2)
+
 pub form_to : (letter : Letter) (text : List ℕ) → FormOf letter text → HasForm (code letter) text
-form_to Version text h = inl (refl, same_text (48 ∷ []) text h)
-form_to Visible text h = inr (inl (refl, same_text (86 ∷ []) text h))
-form_to Changeset text h = inr (inr (inl (refl, same_text (48 ∷ []) text h)))
-form_to Stamp text h = inr (inr (inr (inl (refl, same_text [] text h))))
-form_to Uid text h = inr (inr (inr (inr (inl (refl, same_text (48 ∷ []) text h)))))
-form_to User text h = inr (inr (inr (inr (inr (inl (refl, same_text [] text h))))))
-form_to Tags text h = inr (inr (inr (inr (inr (inr (inl (refl, h)))))))
-form_to Lon text h = inr (inr (inr (inr (inr (inr (inr (inl refl, h)))))))
-form_to Lat text h = inr (inr (inr (inr (inr (inr (inr (inr refl, h)))))))
+form_to letter text h = (letter, refl, is_form letter text h)
 
 -- ---- misfits
 no_location : (text : List ℕ) → text ≢ [] → ((z : ℤ) → IsDegrees text z → ⊥) → (text ≡ []) ⊎ ((z : ℤ) × IsDegrees text z) → ⊥

@@ -6,7 +6,7 @@ use Rattle.std.proofs.lemmas.List.{get_or_append_left, get_or-append-add, length
 use Rattle.std.proofs.lemmas.Bool.Decides.{nat_tests}
 use Rattle.memchr.specs.Find.{Passes, is_byte, NoneBefore}
 use Rattle.opl_codec.specs.Fields.{pieces, onto_first, letter_of}
-use Rattle.opl_codec.specs.Faults.{behind}
+use Rattle.opl_codec.specs.Faults.{start_after}
 
 -- no separator: one piece
 pub one_piece : (separator : ℕ) (text : List ℕ) → ((k : ℕ) → k < length text → get_or text k 0 ≢ separator) → pieces separator text ≡ text ∷ []
@@ -83,16 +83,16 @@ join_pieces separator (x ∷ text) = elim (x == separator) as (λ b. (x == separ
 skip : (b rest : List ℕ) (c n j : ℕ) → get_or (b ++ c ∷ rest) (length b + 1 + n + j) 0 ≡ get_or rest (n + j) 0
 skip b rest c n j = let place : length b + 1 + n + j ≡ length b + suc (n + j) = omega arith in rw (place, get_or-append-add b (c ∷ rest) (suc (n + j)) 0) refl
 
-at_join : (separator : ℕ) (before : List (List ℕ)) (f : List ℕ) (after : List (List ℕ)) (j : ℕ) → j < length f → get_or (join_with_byte separator (before ++ f ∷ after)) (behind before + j) 0 ≡ get_or f j 0
+at_join : (separator : ℕ) (before : List (List ℕ)) (f : List ℕ) (after : List (List ℕ)) (j : ℕ) → j < length f → get_or (join_with_byte separator (before ++ f ∷ after)) (start_after before + j) 0 ≡ get_or f j 0
 at_join separator [] f [] j lt = rw zero-add refl
 at_join separator [] f (a ∷ after) j lt = rw zero-add (get_or_append_left f (separator ∷ join_with_byte separator (a ∷ after)) 0 j lt)
 at_join separator (b ∷ []) f after j lt = skip b (join_with_byte separator (f ∷ after)) separator 0 j ∙ at_join separator [] f after j lt
-at_join separator (b ∷ c ∷ before) f after j lt = skip b (join_with_byte separator (c ∷ (before ++ f ∷ after))) separator (behind (c ∷ before)) j ∙ at_join separator (c ∷ before) f after j lt
+at_join separator (b ∷ c ∷ before) f after j lt = skip b (join_with_byte separator (c ∷ (before ++ f ∷ after))) separator (start_after (c ∷ before)) j ∙ at_join separator (c ∷ before) f after j lt
 
 -- a byte of a piece, in the text
-pub piece_at : (separator : ℕ) (text : List ℕ) (before : List (List ℕ)) (f : List ℕ) (after : List (List ℕ)) (j : ℕ) → pieces separator text ≡ before ++ f ∷ after → j < length f → get_or text (behind before + j) 0 ≡ get_or f j 0
+pub piece_at : (separator : ℕ) (text : List ℕ) (before : List (List ℕ)) (f : List ℕ) (after : List (List ℕ)) (j : ℕ) → pieces separator text ≡ before ++ f ∷ after → j < length f → get_or text (start_after before + j) 0 ≡ get_or f j 0
 piece_at separator text before f after j e lt =
-    ap (λ t. get_or t (behind before + j) 0) (sym (join_pieces separator text) ∙ ap (join_with_byte separator) e) ∙ at_join separator before f after j lt
+    ap (λ t. get_or t (start_after before + j) 0) (sym (join_pieces separator text) ∙ ap (join_with_byte separator) e) ∙ at_join separator before f after j lt
 
 -- what holds of the separator and of each byte of each piece holds of each byte
 pub pieces_all : (P : ℕ → Type 0) (separator : ℕ) (text : List ℕ) → P separator → AllByRecursion (AllByRecursion P) (pieces separator text) → AllByRecursion P text

@@ -13,8 +13,9 @@ use Rattle.osm_model.specs.declared.axis.Axis.TheVariants as axes
 use Rattle.osm_model.specs.declared.tag.Tag.{Tag}
 use Rattle.opl_codec.specs.Fields.{pieces, field, letter_of}
 use Rattle.opl_codec.specs.Lines.{SpellsTags, is_node_letter}
-use Rattle.opl_codec.specs.Faults.{behind, FieldAt, StandsAt}
-use Rattle.opl_codec.specs.internal.Reading.{code, place_of, only_text, IsCoordinate, KeepsLimits, Reads, Says, IsFieldFault, fault_of, place_in}
+use Rattle.opl_codec.specs.Faults.{start_after, FieldAt, StandsAt}
+use Rattle.opl_codec.specs.Letters.{code}
+use Rattle.opl_codec.specs.internal.Reading.{place_of, only_text, IsCoordinate, KeepsLimits, Reads, Says, IsFieldFault, fault_of, place_in}
 use Rattle.opl_codec.specs.declared.cause.OplCause.TheVariants as causes
 use Rattle.opl_codec.specs.declared.fields_seen.FieldsSeen.{FieldsSeen}
 use Rattle.opl_codec.specs.declared.letter.Letter.{Letter}
@@ -193,25 +194,25 @@ reads_more done letter text old mid new given tags lon lat h fresh says =
     }
 
 -- ---- refusals at their places
-field_at : (line first f : List ℕ) (done rest : List (List ℕ)) (byte : ℕ) → pieces 32 line ≡ first ∷ (done ++ f ∷ rest) → behind (first ∷ done) ≡ byte → FieldAt line f byte
+field_at : (line first f : List ℕ) (done rest : List (List ℕ)) (byte : ℕ) → pieces 32 line ≡ first ∷ (done ++ f ∷ rest) → start_after (first ∷ done) ≡ byte → FieldAt line f byte
 field_at line first f done rest byte e place = record { before = first ∷ done; after = rest; fields = e; further = (λ none. absurd (let n = none in cc)); place = place }
 
-pub unknown_stands : (line first f : List ℕ) (done rest : List (List ℕ)) (byte : ℕ) → pieces 32 line ≡ first ∷ (done ++ f ∷ rest) → behind (first ∷ done) ≡ byte → is_node_letter (letter_of f) ≡ false → StandsAt line causes.UnknownField byte
+pub unknown_stands : (line first f : List ℕ) (done rest : List (List ℕ)) (byte : ℕ) → pieces 32 line ≡ first ∷ (done ++ f ∷ rest) → start_after (first ∷ done) ≡ byte → is_node_letter (letter_of f) ≡ false → StandsAt line causes.UnknownField byte
 unknown_stands line first f done rest byte e place other = (f, field_at line first f done rest byte e place, other)
 
-pub twice_stands : (line first text : List ℕ) (letter : Letter) (done rest : List (List ℕ)) (byte : ℕ) (seen : FieldsSeen) → pieces 32 line ≡ first ∷ (done ++ (code letter ∷ text) ∷ rest) → behind (first ∷ done) ≡ byte
+pub twice_stands : (line first text : List ℕ) (letter : Letter) (done rest : List (List ℕ)) (byte : ℕ) (seen : FieldsSeen) → pieces 32 line ≡ first ∷ (done ++ (code letter ∷ text) ∷ rest) → start_after (first ∷ done) ≡ byte
     → Reads done seen → get_or seen.given (place_of letter) false ≡ true → StandsAt line causes.FieldTwice byte
 unfolding field_at
 twice_stands line first text letter done rest byte seen e place h there =
     (code letter ∷ text, field_at line first (code letter ∷ text) done rest byte e place, was_given (field (code letter) done) (get_or seen.given (place_of letter) false) (h.given letter) there)
 
-pub misfit_stands : (line first text : List ℕ) (letter : Letter) (done rest : List (List ℕ)) (byte : ℕ) (field_fault : FieldFault) → pieces 32 line ≡ first ∷ (done ++ (code letter ∷ text) ∷ rest) → behind (first ∷ done) ≡ byte
+pub misfit_stands : (line first text : List ℕ) (letter : Letter) (done rest : List (List ℕ)) (byte : ℕ) (field_fault : FieldFault) → pieces 32 line ≡ first ∷ (done ++ (code letter ∷ text) ∷ rest) → start_after (first ∷ done) ≡ byte
     → IsFieldFault letter text field_fault → StandsAt line (fault_of field_fault byte).cause (fault_of field_fault byte).byte
 misfit_stands line first text letter done rest byte field_faults.Value e place h = (code letter ∷ text, field_at line first (code letter ∷ text) done rest byte e place, h)
 misfit_stands line first text letter done rest byte (field_faults.Escape at) e place h =
     let inside = h.1 in
-    let there : get_or line (behind (first ∷ done) + suc at) 0 ≡ get_or text at 0 = piece_at 32 line (first ∷ done) (code letter ∷ text) rest (suc at) e (omega arith) in
-    let same : byte + 1 + at ≡ behind (first ∷ done) + suc at = omega (arith, place) in
+    let there : get_or line (start_after (first ∷ done) + suc at) 0 ≡ get_or text at 0 = piece_at 32 line (first ∷ done) (code letter ∷ text) rest (suc at) e (omega arith) in
+    let same : byte + 1 + at ≡ start_after (first ∷ done) + suc at = omega (arith, place) in
     (code letter ∷ text, byte, field_at line first (code letter ∷ text) done rest byte e place, h.0, omega arith, omega arith, ap (λ n. get_or line n 0) same ∙ (there ∙ h.2))
 misfit_stands line first text letter done rest byte field_faults.Model e place h = inl (code letter ∷ text, field_at line first (code letter ∷ text) done rest byte e place, h)
 misfit_stands line first text letter done rest byte field_faults.Memory e place h = (refl, (code letter ∷ text, byte, field_at line first (code letter ∷ text) done rest byte e place, h.0, h.1))
@@ -222,7 +223,7 @@ misfit_small letter text (field_faults.Escape at) h = let lt = h.1 in omega arit
 misfit_small letter text field_faults.Model h = omega arith
 misfit_small letter text field_faults.Memory h = omega arith
 
--- ---- a field's first byte and what stands behind it
+-- ---- a field's first byte and what comes after it
 pub letter_first : (f : List ℕ) → letter_of f ≡ get_or f 0 0
 letter_first [] = refl
 letter_first (x ∷ f) = refl

@@ -29,11 +29,11 @@ point_lacks : (separator : ℕ) → separator < 33 → (fraction : Option (List 
 point_lacks separator low None h = tt
 point_lacks separator low (Some digits) h = (grind (arith, nat_tests), digits_lack separator low digits h.1)
 
--- a whole number has no blank and no line end
+-- a whole number has no space and no line end
 pub integer_lacks : (separator : ℕ) → separator < 33 → (text : List ℕ) (z : ℤ) → IsInteger text z → Lacks separator text
 integer_lacks separator low text z h = rw h.text_is (lacks_append separator (sign h.negative) h.digits (sign_lacks separator low h.negative) (digits_lack separator low h.digits h.digits_are.1))
 
--- degrees have no blank and no line end
+-- degrees have no space and no line end
 pub degrees_lack : (separator : ℕ) → separator < 33 → (text : List ℕ) (z : ℤ) → IsDegrees text z → Lacks separator text
 degrees_lack separator low text z h =
     let d = h.parts in

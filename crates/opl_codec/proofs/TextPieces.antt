@@ -38,7 +38,7 @@ lacks_joined absent separator other (part ∷ more ∷ parts) h = lacks_append a
 digit_differs : (separator byte : ℕ) → separator < 33 → digit_value byte < 10 → (byte == separator) ≡ false
 digit_differs separator byte low h = let range = digit_from_value byte h in grind (arith, nat_tests)
 
--- digits have no blank and no line end
+-- digits have no space and no line end
 pub digits_lack : (separator : ℕ) → separator < 33 → (digits : List ℕ) → AllDigits 10 digits → Lacks separator digits
 digits_lack separator low [] h = tt
 digits_lack separator low (d ∷ digits) h = (digit_differs separator d low h.0, digits_lack separator low digits h.1)

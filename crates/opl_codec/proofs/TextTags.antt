@@ -43,7 +43,7 @@ tags_lack : (separator : ℕ) → ((b : ℕ) → is_literal b ≡ true → (b ==
 tags_lack separator other equals [] h = tt
 tags_lack separator other equals (tag ∷ tags) h = (tag_lacks separator other equals tag h.0, tags_lack separator other equals tags h.1)
 
--- the text of plain tags has no blank
+-- the text of plain tags has no space
 pub tags_lack_blank : (tags : List Tag) → AllByRecursion IsPlainTag tags → Lacks 32 (join_with_byte 44 (map tag_text tags))
 tags_lack_blank tags h = lacks_joined 32 44 refl (map tag_text tags) (tags_lack 32 no_blank refl tags h)
 

@@ -19,7 +19,7 @@ pub refused_later : {T E : Type 0} (r : Result T E) (old mid new xs : List ℕ) 
 refused_later (Ok x) old mid new xs e kept = tt
 refused_later (Err x) old mid new xs e kept = front_kept old mid new xs e kept
 
--- pieces with a separator between two are the first piece, and the others behind separators
+-- pieces with a separator between two are the first piece, and the others after separators
 pub join_with_byte-map : {X : Type 0} (c : ℕ) (f : X → List ℕ) (x : X) (xs : List X) → join_with_byte c (map f (x ∷ xs)) ≡ f x ++ flat_map (λ y. c ∷ f y) xs
 join_with_byte-map c f x [] = sym (append-nil (f x))
 join_with_byte-map c f x (y ∷ xs) = ap (λ rest. f x ++ (c ∷ rest)) (join_with_byte-map c f y xs)

@@ -6,7 +6,7 @@ use Rattle.osm_model.specs.CanonicalLine.{tag_text, tags_field}
 use Rattle.osm_model.specs.declared.tag.Tag.{Tag}
 use Rattle.opl_codec.proofs.WriteSteps.{join_with_byte-map}
 
--- the first tag, and each other behind a comma
+-- the first tag, and each other after a comma
 pub tags_written : (tags others : List Tag) (first : Tag) (old mid out : List ℕ) (n : ℕ) → tags ≡ first ∷ others → mid ≡ old ++ (32 ∷ 84 ∷ tag_text first) → out ≡ mid ++ flat_map (λ tag. 44 ∷ tag_text tag) (take n others) → length others ≤ n → out ≡ old ++ 32 ∷ tags_field tags
 tags_written tags others first old mid out n split begun written all =
     let behind = flat_map (λ tag. 44 ∷ tag_text tag) others in

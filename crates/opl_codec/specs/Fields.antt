@@ -1,17 +1,17 @@
--- How a line falls into fields, apart from how it is read.
--- Source: Osmium's OPL manual: fields parted by blanks, in any order, each with a letter; the narrow
--- separators are this project's.
+-- How a line is cut into fields, apart from how it is read.
+-- Source: Osmium's OPL manual: fields separated by spaces, in any order, each with a letter. That just
+-- one space separates two fields is this project's.
 use Rattle.std.specs.Prelude.{◌≡◌, ℕ, ℤ, Bool, false, ◌==◌, if◌then◌else◌, List, [], ◌∷◌, ◌++◌, Option, Some, None, MatchOption, ⊤}
 use Rattle.std.specs.List.{AllByRecursion}
 use Rattle.std.specs.Str.Parse.{digits_value}
 use Rattle.osm_model.specs.Degrees.{sign, with_sign, IsDigits}
 
--- a byte in front of the first piece
+-- a byte put in front of the first piece
 abbrev pub onto_first : ℕ → List (List ℕ) → List (List ℕ)
 onto_first byte [] = (byte ∷ []) ∷ []
 onto_first byte (piece ∷ pieces) = (byte ∷ piece) ∷ pieces
 
--- what stands before, between and behind the separators
+-- what comes before, between and after the separators
 abbrev pub pieces : ℕ → List ℕ → List (List ℕ)
 pieces separator [] = [] ∷ []
 pieces separator (byte ∷ bytes) = if byte == separator then [] ∷ pieces separator bytes else onto_first byte (pieces separator bytes)
@@ -31,7 +31,7 @@ field letter [] = None
 field letter ([] ∷ fields) = field letter fields
 field letter ((first ∷ text) ∷ fields) = if first == letter then Some text else field letter fields
 
--- each letter stands at most once: no field's letter comes again behind it
+-- each letter comes at most once: no later field has the same letter
 abbrev pub IsOnce : List (List ℕ) → Type 0
 IsOnce [] = ⊤
 IsOnce (f ∷ fields) = (field (letter_of f) fields ≡ None) × IsOnce fields
@@ -48,7 +48,7 @@ pub record IsInteger (text : List ℕ) (z : ℤ) : Type 0 where
   pub digits_are : IsDigits digits
   pub value_is : with_sign negative (digits_value 10 digits) ≡ z
 
--- each of the first list stands in the relation to the one in its place
+-- the lists have one length, and the relation holds of each two in one place
 abbrev pub Each : {A B : Type 0} → (A → B → Type 0) → List A → List B → Type 0
 Each R [] [] = ⊤
 Each R (x ∷ xs) (y ∷ ys) = R x y × Each R xs ys

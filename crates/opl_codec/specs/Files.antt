@@ -2,6 +2,7 @@
 -- Source: Osmium's OPL manual: one object a line; lines end with LF.
 use Rattle.std.specs.Prelude.{◌≡◌, ◌⊎◌, ℕ, Bool, true, false, not, List, [], ◌∷◌, filter}
 use Rattle.std.specs.List.Sorted.{IsPermutation}
+use Rattle.osm_model.specs.Bytes.{line_feed}
 use Rattle.osm_model.specs.Elements.{Element}
 use Rattle.osm_model.specs.Sets.{IsObjectSet}
 use Rattle.opl_codec.specs.Fields.{pieces, Each}
@@ -18,9 +19,9 @@ is_skipped (byte ∷ bytes) = false
 abbrev pub spoken_of : List (List ℕ) → List (List ℕ)
 spoken_of lines = filter (λ line. not (is_skipped line)) lines
 
--- the same of a file; its last line may lack its end
+-- the lines of a file that say something; its last line may lack its LF
 abbrev pub spoken : List ℕ → List (List ℕ)
-spoken file = spoken_of (pieces 10 file)
+spoken file = spoken_of (pieces line_feed file)
 
 -- the file's lines are the objects of the set, each once, in any order
 pub record HoldsSet (file : List ℕ) (objects : List Element) : Type 0 where

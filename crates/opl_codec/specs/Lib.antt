@@ -1,3 +1,4 @@
+pub mod Letters
 pub mod Fields
 pub mod Lines
 pub mod Files

@@ -1,4 +1,4 @@
--- The objects that a narrow line spells: what a reader of all of OPL makes of every object.
+-- The objects that a narrow line can spell. For a reader of all of OPL every object would be one.
 -- Source: this project.
 use Rattle.std.specs.Prelude.{◌≡◌, ℕ, pos, true, List, [], None}
 use Rattle.std.specs.List.{AllByRecursion}

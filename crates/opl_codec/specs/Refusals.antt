@@ -26,7 +26,7 @@ code_text causes.Memory = codes "no memory"
 abbrev pub place_text : LoadFault → List ℕ
 place_text fault = code_text fault.fault.cause ++ (codes " line " ++ (decimal fault.line ++ (codes " byte " ++ decimal fault.fault.byte)))
 
--- want of memory has no place
+-- out of memory has no place
 abbrev pub told_text : LoadFault → OplCause → List ℕ
 told_text fault causes.Memory = codes "no memory"
 told_text fault _ = place_text fault

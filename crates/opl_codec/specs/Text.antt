@@ -3,6 +3,7 @@
 -- their spelling are this project's.
 use Rattle.std.specs.Prelude.{ℕ, List, [], ◌∷◌, ◌++◌}
 use Rattle.std.specs.List.{join_with_byte}
+use Rattle.osm_model.specs.Bytes.{line_feed, space}
 use Rattle.osm_model.specs.Elements.{Element}
 use Rattle.osm_model.specs.CanonicalLine.{name_field, meta_fields, tags_field, body_fields}
 use Rattle.opl_codec.specs.declared.out_mode.OutMode.{OutMode}
@@ -16,6 +17,6 @@ fields_of o modes.Skel = name_field o ∷ body_fields o.body
 fields_of o modes.Body = name_field o ∷ tags_field o.tags ∷ body_fields o.body
 fields_of o modes.Meta = (name_field o ∷ meta_fields o.meta) ++ (tags_field o.tags ∷ body_fields o.body)
 
--- the line with its end
+-- the line with its LF
 unfoldable pub text_of : Element → OutMode → List ℕ
-text_of o mode = join_with_byte 32 (fields_of o mode) ++ 10 ∷ []
+text_of o mode = join_with_byte space (fields_of o mode) ++ line_feed ∷ []

@@ -14,7 +14,7 @@ pub enum OplCause {
     BadId,
     /// A field without a letter, or with an unknown one. At the field's first byte.
     UnknownField,
-    /// A field whose letter has come before. At the second field's first byte.
+    /// A field whose letter an earlier field has. At the second field's first byte.
     FieldTwice,
     /// A value that isn't of its field's form. At the field's first byte.
     BadValue,
@@ -27,14 +27,14 @@ pub enum OplCause {
     /// The line has more than 2^25 bytes. At byte 2^25.
     LineTooLong,
     /// The model refuses the value: at the field's first byte a location out of range, tags over a
-    /// limit or a key twice; at byte 0 an object that stands twice, or one whose canonical line is over
-    /// its limit.
+    /// limit or a key twice; at byte 0 an object that an earlier line has, or one whose canonical line
+    /// is over its limit.
     OutsideModel,
     /// The reader failed. At byte 0 of the line that was being read.
     ReaderFailed,
     /// 2^32 reads were made without an end. At byte 0 of the line that was being read.
     Endless,
-    /// Want of memory. At byte 0.
+    /// Out of memory. At byte 0.
     Memory,
 }
 

@@ -7,6 +7,6 @@ use osm_model::{Object, Ref};
 pub enum Change {
     /// The object is as the line says.
     Put(Object),
-    /// There is no such object any more. No line says so yet.
+    /// The object is deleted. No line says so yet.
     Delete(Ref),
 }

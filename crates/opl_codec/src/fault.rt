@@ -9,9 +9,9 @@ use std::alloc::AllocError;
 use std::fmt;
 use thiserror::Error;
 
-/// A line that isn't read: the cause, and the place in the line.
+/// Why a line isn't read: the cause, and the place in the line.
 ///
-/// Its text is the code and the place, as `O9 byte 8`. Want of memory stands at byte 0.
+/// Its text is the code and the place, as `O9 byte 8`. Out of memory is at byte 0.
 #[derive(Clone, Copy, Debug, PartialEq, Eq, Error)]
 #[error("{cause} byte {byte}")]
 pub struct OplFault {
@@ -21,15 +21,15 @@ pub struct OplFault {
     pub byte: usize,
 }
 
-/// A file that isn't read: the line, and what stands there.
+/// Why a file isn't read: the line, and the fault there.
 ///
-/// Its text is the code, the line and the place, as `O9 line 1 byte 8`; want of memory is `no memory`,
-/// at line 0 and byte 0.
+/// Its text is the code, the line and the place, as `O9 line 1 byte 8`. Out of memory is at line 0
+/// and byte 0, and its text is `no memory`.
 #[derive(Clone, Copy, Debug, PartialEq, Eq)]
 pub struct LoadFault {
     /// The line, from 1.
     pub line: u64,
-    /// What stands there.
+    /// The fault of that line.
     pub fault: OplFault,
 }
 
@@ -44,7 +44,7 @@ impl LoadFault {
         }
     }
 
-    /// Want of memory, at line 0 and byte 0.
+    /// Out of memory, at line 0 and byte 0.
     pub(crate) fn memory() -> LoadFault
         ensures { result ≡ record { line = 0; fault = record { cause = OplCause.Memory; byte = 0 } } }
     {
@@ -52,7 +52,7 @@ impl LoadFault {
     }
 
     /// The same at another byte.
-    pub(crate) fn behind(self, byte: usize) -> LoadFault
+    pub(crate) fn at_byte(self, byte: usize) -> LoadFault
         ensures { result ≡ record { line = self.line; fault = record { cause = self.fault.cause; byte = byte } } }
     {
         LoadFault {

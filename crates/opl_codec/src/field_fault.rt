@@ -7,16 +7,16 @@ use crate::cause::OplCause;
 use crate::fault::OplFault;
 use std::alloc::{AllocError, AllocFailed};
 
-/// Why what stands behind a field's letter isn't its value.
+/// Why the text after a field's letter isn't its value.
 #[derive(Clone, Copy)]
 pub enum FieldFault {
     /// It isn't of the field's form.
     Value,
-    /// A bad escape, so many bytes behind the letter.
+    /// A bad escape, so many bytes after the letter.
     Escape(usize),
     /// The model refuses it.
     Model,
-    /// Want of memory.
+    /// Out of memory.
     Memory,
 }
 
@@ -35,7 +35,7 @@ impl FieldFault {
         OplFault { cause, byte }
     }
 
-    /// The same, so many bytes further behind the letter.
+    /// The same, so many bytes further after the letter.
     pub fn moved(self, by: usize) -> FieldFault
         requires { by + place_in self < 2 ^ 64 }
         ensures { result ≡ moved_by self by }

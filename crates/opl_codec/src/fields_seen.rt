@@ -2,7 +2,7 @@
 
 ghost use Rattle.std.specs.Prelude.{◌≡◌, ◌+◌, ◌<◌, ◌≤◌, ◌^◌, ℕ, ℤ, List, [], ◌∷◌, ◌++◌, length, IfOk, OnOk, IfErr, IsTrue, ◌↔◌, Some, MatchOption};
 ghost use Rattle.opl_codec.specs.Fields.{pieces};
-ghost use Rattle.opl_codec.specs.Faults.{behind, StandsAt};
+ghost use Rattle.opl_codec.specs.Faults.{start_after, StandsAt};
 ghost use Rattle.opl_codec.specs.internal.Reading.{Reads, Says, IsFieldFault, only_text};
 
 use crate::cause::OplCause;
@@ -14,7 +14,7 @@ use crate::tags::read_tags;
 use osm_model::{Axis, Tag};
 use std::alloc::Global;
 
-/// What was read of the fields behind the first, so far. What no field says is as it is by default.
+/// What was read so far of the fields after the first. What no field says has its default.
 #[derive(Drop)]
 pub struct FieldsSeen {
     /// Which letters came, by their places.
@@ -45,7 +45,7 @@ impl FieldsSeen {
         requires { byte + length field.now < 2 ^ 64 }
         ensures ok { (done : List (List ℕ)) → Reads done self.old → OnOk result (Reads (done ++ field.now ∷ []) self.new) }
         ensures refused { (line first : List ℕ) (done rest : List (List ℕ)) → Reads done self.old
-            → pieces 32 line ≡ first ∷ (done ++ field.now ∷ rest) → behind (first ∷ done) ≡ byte → IfErr result (λ fault. StandsAt line fault.cause fault.byte) }
+            → pieces 32 line ≡ first ∷ (done ++ field.now ∷ rest) → start_after (first ∷ done) ≡ byte → IfErr result (λ fault. StandsAt line fault.cause fault.byte) }
     {
         let unknown = OplFault {
             cause: OplCause::UnknownField,
@@ -71,7 +71,7 @@ impl FieldsSeen {
         }
     }
 
-    /// Reads what stands behind a letter.
+    /// Reads the text after a letter.
     fn read(&mut self, alloc: Global, letter: Letter, text: &[u8]) -> Result<(), FieldFault>
         ensures ok { OnOk result (Says letter text.now self.old self.new) }
         ensures refused { IfErr result (λ field_fault. IsFieldFault letter text.now field_fault) }
@@ -90,7 +90,8 @@ impl FieldsSeen {
     }
 }
 
-/// Whether this is the one text that a field of this letter may have. None of a field with values.
+/// Whether this is the one text that a field of this letter may have. Tags and coordinates have no
+/// such text.
 fn is_only_text(letter: Letter, text: &[u8]) -> bool
     ensures { IsTrue result ↔ (only_text letter ≡ Some text.now) }
 {

@@ -13,9 +13,9 @@ use crate::change::Change;
 use crate::out_mode::OutMode;
 
 /// A law: the text of an object with all its fields (mode `Meta` of `write_object`) is its canonical
-/// line and an LF. A plain object is one of which nothing is known but its id, tags and location, and
-/// whose tags have no character to escape: its canonical line has no LF within, and `read_line` reads
-/// that line, as putting the object and as nothing else. What any line says is plain.
+/// line and an LF. A plain object is one of which only id, tags and location are known, and whose tags
+/// have no character to escape. Its canonical line has no LF within. `read_line` reads that line: it
+/// puts the object, and says nothing else. What any line says is plain.
 pub fn text_is_read()
     ensures line { (o : Element) → text_of o OutMode.Meta ≡ canonical_line o ++ 10 ∷ [] }
     ensures read { (o : Element) → IsElement o → IsPlain o → Spells (canonical_line o) (Change.Put o) }

@@ -1,8 +1,9 @@
 //! The letters of a node's fields.
 
 ghost use Rattle.std.specs.Prelude.{◌≡◌, ◌<◌, MatchOption, false};
+ghost use Rattle.opl_codec.specs.Letters.{code};
 ghost use Rattle.opl_codec.specs.Lines.{is_node_letter};
-ghost use Rattle.opl_codec.specs.internal.Reading.{code, place_of};
+ghost use Rattle.opl_codec.specs.internal.Reading.{place_of};
 
 /// What a field of a node says, by its letter (Osmium's OPL manual).
 #[derive(Clone, Copy)]

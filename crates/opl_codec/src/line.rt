@@ -1,12 +1,13 @@
 //! One line to a change.
 
-ghost use Rattle.std.specs.Prelude.{◌≡◌, ◌≢◌, ◌+◌, ◌<◌, ◌≤◌, ◌^◌, ℕ, ℤ, List, [], ◌∷◌, ◌++◌, length, IfOk, OnOk, IfErr, MatchOption, MatchResult, Some, None, Ok};
+ghost use Rattle.std.specs.Prelude.{◌≡◌, ◌≢◌, ◌+◌, ◌<◌, ◌≤◌, ℕ, ℤ, List, [], ◌∷◌, ◌++◌, length, IfOk, OnOk, IfErr, MatchOption, MatchResult, Some, None, Ok};
 ghost use Rattle.std.specs.Str.{IsUtf8};
 ghost use Rattle.osm_model.specs.Limits.{IsElement};
 ghost use Rattle.opl_codec.specs.Fields.{pieces, IsInteger};
 ghost use Rattle.opl_codec.specs.Lines.{IsSkipped, Spells, SpellsObject, SpellsFields};
 ghost use Rattle.opl_codec.specs.Faults.{StandsAt, HasId, BeginsRight};
 ghost use Rattle.opl_codec.specs.internal.Reading.{IsRead};
+ghost use Rattle.opl_codec.specs.declared.line.TheConstants.{LONGEST_LINE};
 ghost use Rattle.opl_codec.specs.declared.change.Change.{Change};
 ghost use Rattle.opl_codec.specs.declared.cause.OplCause.TheVariants as OplCause;
 
@@ -20,20 +21,20 @@ use osm_model::{Body, Coord, Meta, Object, Text};
 use simdutf8::compat::from_utf8;
 use std::alloc::Global;
 
-/// The most bytes of a line, its end aside.
+/// The greatest length of a line, in bytes, without its end.
 pub const LONGEST_LINE: usize = 1 << 25;
 
 /// Reads a line, given without its end: what it says, or `None` where it is skipped. The empty line
 /// is skipped, and nothing else.
 ///
-/// A line is fields with one blank between two. The first is `n` and the id. The others stand in any
-/// order, each letter at most once: `T` and the tags, a comma between two, each a key, `=` and a value;
-/// `x` and `y` and the degrees of longitude and latitude, which a node must have; and the metadata,
-/// each in its default alone: `v0`, `dV`, `c0`, `t`, `i0`, `u`. A field that is missing has its
-/// default; an `x` or `y` with nothing behind it counts as missing, and still as given once.
+/// A line is fields with one space between two. The first is `n` and the id. The others come in any
+/// order, each letter at most once: `T` and the tags, a comma between two, each a key, `=`, a value;
+/// `x` and the longitude, `y` and the latitude, both in degrees, which a node must have; and the
+/// metadata, with default values only: `v0`, `dV`, `c0`, `t`, `i0`, `u`. A field that is missing has
+/// its default. An `x` or `y` with nothing after it is a missing one, but no second may follow it.
 ///
 /// Limits: 2^25 bytes a line; an id of 64 bits with a sign; -180 to 180 and -90 to 90 degrees, with at
-/// most 7 places behind the point; 65,535 tags, no key twice, 4,096 bytes a key or a value, made of
+/// most 7 places after the point; 65,535 tags, no key twice, 4,096 bytes a key or a value, made of
 /// the bytes `!` to `~` but `%`, `,`, `=` and `@`; 2^24 bytes of the object's canonical line. Leading
 /// zeros are allowed.
 ///
@@ -43,23 +44,23 @@ pub const LONGEST_LINE: usize = 1 << 25;
 /// `FieldTwice`, `BadValue` where its text has another form, or `BadEscape` at its `%` where the first
 /// byte of the tags that doesn't fit is one, and `OutsideModel` where its value is over a limit or a
 /// key stands twice; `NoLocation` at the line's length; `OutsideModel` at 0 where the canonical line is
-/// too long. Memory is taken for tags alone: the want of it, `Memory` at 0, may come of a line with a
-/// text behind `T`, and in place of none of the first four.
+/// too long. Memory is taken for tags only: `Memory` at 0, out of memory, may be the answer to a line
+/// with text after `T`, but never in place of one of the first four.
 ///
-/// The bytes are gone over a fixed number of times, and tags whose keys don't rise are sorted.
+/// It goes over the bytes a fixed number of times, and sorts tags whose keys don't rise.
 ///
-/// Source: fields and letters of Osmium's OPL manual; that values have one form here and escapes none,
-/// the limits, the causes and their places are this project's.
+/// Source: fields and letters of Osmium's OPL manual. This project adds that values have one form and
+/// that there are no escapes, the limits, and the causes with their places.
 pub fn read_line(alloc: Global, line: &[u8]) -> Result<Option<Change>, OplFault>
     // What is read is what the line says.
     ensures read { IfOk result (λ found. MatchOption found (IsSkipped line.now) (Spells line.now)) }
-    // What the line says is read, want of memory aside.
+    // What the line says is read, unless memory runs out.
     ensures only { (change : Change) → Spells line.now change → MatchResult result (λ found. found ≡ Some change) (λ fault. fault.cause ≡ OplCause.Memory) }
     // A skipped line is read as none.
     ensures skipped { IsSkipped line.now → result ≡ Ok None }
     // A refusal's cause stands at its place.
     ensures refused { IfErr result (λ fault. StandsAt line.now fault.cause fault.byte) }
-    // Want of memory is told in place of none of the first four faults.
+    // Out of memory is never reported in place of one of the first four faults.
     ensures memory { IfErr result (λ fault. fault.cause ≡ OplCause.Memory → BeginsRight line.now) }
 {
     if line.is_empty() {
@@ -78,7 +79,7 @@ pub fn one_change()
 
 /// Looks at the length and the encoding of a line.
 fn check_bytes(line: &[u8]) -> Result<(), OplFault>
-    ensures short { OnOk result (length line.now ≤ 2 ^ 25) }
+    ensures short { OnOk result (length line.now ≤ LONGEST_LINE) }
     ensures utf8 { OnOk result (IsUtf8 line.now) }
     ensures real { IfErr result (λ fault. fault.cause ≢ OplCause.Memory) }
     ensures refused { IfErr result (λ fault. StandsAt line.now fault.cause fault.byte) }
@@ -115,7 +116,7 @@ fn read_fields(alloc: Global, line: &[u8]) -> Result<(i64, FieldsSeen), OplFault
     Ok((id, seen))
 }
 
-/// The first of the fields that blanks part, and what stands after its blank.
+/// The first of the fields that spaces separate, and what comes after its space.
 fn first_field(text: &[u8]) -> (&[u8], Option<&[u8]>)
     ensures { MatchOption result.1 (pieces 32 text.now ≡ result.0.now ∷ [])
         (λ rest. (pieces 32 text.now ≡ result.0.now ∷ pieces 32 rest.now) × (length result.0.now + 1 + length rest.now ≡ length text.now)) }

@@ -18,21 +18,21 @@ use std::io::Read;
 /// where it gives no bytes.
 ///
 /// It reads pieces of at most 65,536 bytes, in time linear in the bytes where the objects come by
-/// rising reference, as extracts do, and sorts them otherwise. Beside the objects it keeps the
+/// rising reference, as extracts do, and sorts them otherwise. Besides the objects it keeps the
 /// beginning of one line, at most 2^25 bytes.
 ///
 /// Refused by the first line with a fault, lines from 1: the line's own (see `read_line`), where
-/// `LineTooLong` is told as soon as the bytes read of a line are too many, whether it ends or not; or
+/// `LineTooLong` is reported as soon as too many bytes of a line were read, whether it ends or not; or
 /// `OutsideModel` at byte 0 where an earlier line holds the same object. `ReaderFailed` and `Endless`
-/// (2^32 reads without an end) are told at byte 0 of the line that was being read, where no line
-/// before it repeats an object. Want of memory, at line 0 and byte 0, may come in place of any answer.
-/// Nothing is read behind the piece in which the refusal is found.
+/// (2^32 reads without an end) are reported at byte 0 of the line that was being read, where no line
+/// before it repeats an object. `Memory`, at line 0 and byte 0, may come in place of any answer.
+/// Nothing is read after the piece in which the refusal is found.
 ///
 /// Source: Osmium's OPL manual; the limits, the causes and their places are this project's.
 pub fn read_set<R: Read>(alloc: Global, reader: &mut R) -> Result<ObjectSet, LoadFault>
     // What is read is what the file holds.
     ensures read { IfSome (R.remaining reader.old) (λ file. IfOk result (HoldsSet file)) }
-    // Whatever the reader tells of its bytes, what is read is a set that a file holds.
+    // Whatever the reader declares of its bytes, what is read is a set that a file holds.
     ensures held { IfOk result (λ set. (file : List ℕ) × HoldsSet file set) }
     // What the file holds is read, unless the reader failed, never ended, or memory ran out.
     ensures only { IfSome (R.remaining reader.old) (λ file. (objects : List Element) → HoldsSet file objects
@@ -55,7 +55,7 @@ pub fn read_set<R: Read>(alloc: Global, reader: &mut R) -> Result<ObjectSet, Loa
     }
 }
 
-/// The cause that a reader without a next piece is told as.
+/// The cause that is reported where a reader has no next piece.
 fn cause_of(fault: PieceFault) -> OplCause
     ensures { result ≡ cause_of fault }
 {

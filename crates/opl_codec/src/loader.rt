@@ -5,6 +5,7 @@ ghost use Rattle.osm_model.specs.Elements.{Element};
 ghost use Rattle.osm_model.specs.Sets.{HasDistinctReferences};
 ghost use Rattle.opl_codec.specs.Files.{HoldsSet, IsReaderOrMemory};
 ghost use Rattle.opl_codec.specs.internal.Loading.{Say, Loads, LoadsNoSet, SayNoSet, BeginsNoSet};
+ghost use Rattle.opl_codec.specs.declared.line.TheConstants.{LONGEST_LINE};
 
 use crate::cause::OplCause;
 use crate::change::Change;
@@ -24,10 +25,9 @@ pub struct Loader {
     pub objects: Vec<Object>,
     /// The line of each object, from 1.
     lines: Vec<u64>,
-    /// The reference of the last object, as long as each was above the one before it; so none has come
-    /// twice then.
+    /// The reference of the last object.
     last: Option<Ref>,
-    /// Whether some object's reference wasn't above the one before it.
+    /// Whether some object's reference wasn't above the one before it. If not, no object came twice.
     is_mixed: bool,
     /// The line that is being read, from 1.
     line: u64,
@@ -51,13 +51,13 @@ impl Loader {
         }
     }
 
-    /// Reads the lines that end in this piece, and keeps what stands behind them. A line is refused as
+    /// Reads the lines that end in this piece, and keeps what comes after them. A line is refused as
     /// soon as it is too long, before its end.
     pub fn feed(&mut self, piece: &[u8]) -> Result<(), LoadFault>
         ensures read { (front : List ℕ) → Loads [] front self.old.objects.items self.old.pending.items
             → MatchResult result (λ _. Loads [] (front ++ piece.now) self.new.objects.items self.new.pending.items)
             (λ fault. IsReaderOrMemory fault.fault.cause ⊎ LoadsNoSet [] (front ++ piece.now)) }
-        ensures short { OnOk result (length self.new.pending.items ≤ 2 ^ 25) }
+        ensures short { OnOk result (length self.new.pending.items ≤ LONGEST_LINE) }
         ensures finite { IfErr result (λ fault. fault.fault.cause ≢ OplCause.Endless) }
     {
         match cut(piece, b'\n') {
@@ -99,18 +99,18 @@ impl Loader {
         }
         match self.repeat() {
             Ok(Some(line)) => LoadFault::at(line, OplCause::OutsideModel),
-            Ok(None) => LoadFault::at(self.line, cause).behind(byte),
+            Ok(None) => LoadFault::at(self.line, cause).at_byte(byte),
             Err(AllocError) => LoadFault::memory(),
         }
     }
 
-    /// Reads the lines that end in this text, which begins with a line, and keeps what stands behind.
+    /// Reads the lines that end in this text, which begins with a line, and keeps what comes after.
     fn take_lines(&mut self, text: &[u8]) -> Result<(), LoadFault>
         requires { self.old.pending.items ≡ [] }
         ensures read { (lines : List (List ℕ)) → Say lines self.old.objects.items
             → MatchResult result (λ _. Loads lines text.now self.new.objects.items self.new.pending.items)
             (λ fault. IsReaderOrMemory fault.fault.cause ⊎ LoadsNoSet lines text.now) }
-        ensures short { OnOk result (length self.new.pending.items ≤ 2 ^ 25) }
+        ensures short { OnOk result (length self.new.pending.items ≤ LONGEST_LINE) }
         ensures finite { IfErr result (λ fault. fault.fault.cause ≢ OplCause.Endless) }
     {
         let mut left = text;
@@ -121,7 +121,7 @@ impl Loader {
         self.keep(left)
     }
 
-    /// Reads the line that ends with this, behind its beginning.
+    /// Reads the line that ends with this; its beginning was kept.
     fn end_line(&mut self, end: &[u8]) -> Result<(), LoadFault>
         ensures taken { (lines : List (List ℕ)) → Say lines self.old.objects.items
             → MatchResult result (λ _. Say (lines ++ (self.old.pending.items ++ end.now) ∷ []) self.new.objects.items)
@@ -192,7 +192,7 @@ impl Loader {
     fn keep(&mut self, part: &[u8]) -> Result<(), LoadFault>
         ensures kept { MatchResult result (λ _. self.new.pending.items ≡ self.old.pending.items ++ part.now)
             (λ fault. IsReaderOrMemory fault.fault.cause ⊎ ((lines : List (List ℕ)) → Say lines self.old.objects.items → BeginsNoSet lines (self.old.pending.items ++ part.now))) }
-        ensures short { OnOk result (length self.new.pending.items ≤ 2 ^ 25) }
+        ensures short { OnOk result (length self.new.pending.items ≤ LONGEST_LINE) }
         ensures same { self.new.objects.items ≡ self.old.objects.items }
         ensures finite { IfErr result (λ fault. fault.fault.cause ≢ OplCause.Endless) }
     {

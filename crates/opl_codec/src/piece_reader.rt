@@ -6,10 +6,10 @@ ghost use Rattle.std.specs.Io.KnownBytes.{Consumes, IsAtEnd};
 use std::io::Read;
 use std::marker::Model;
 
-/// How many bytes a read asks for at most.
+/// The greatest number of bytes that one read asks for.
 const PIECE: usize = 65_536;
 
-/// How many reads are made of one reader.
+/// The greatest number of reads of one reader.
 const READS: u64 = 4_294_967_296;
 
 /// Why there is no next piece.
@@ -55,10 +55,10 @@ impl PieceReader {
     }
 
     /// Reads the next piece, with one read of at most 65,536 bytes, and says whether there was one: the
-    /// reader ends where it gives no bytes. All calls are to have one reader.
+    /// reader ends where it gives no bytes. Give the same reader to each call.
     ///
-    /// Refused with `Failed` where the read fails, and with `Endless` where 2^32 reads were made before;
-    /// then none is made.
+    /// Refused with `Failed` where the read fails. After 2^32 reads it makes no further one, and is
+    /// refused with `Endless`.
     pub fn read_next<R: Read>(&mut self, reader: &mut R) -> Result<bool, PieceFault>
         // The piece is what the reader has next.
         ensures read { OnOk result (Consumes (R.remaining reader.old) (R.remaining reader.new) self.new.last) }
@@ -66,7 +66,7 @@ impl PieceReader {
         ensures more { IfOk result (λ more. MatchBool more (0 < length self.new.last) ((self.new.last ≡ []) × IsAtEnd (R.remaining reader.new))) }
         ensures counted { OnOk result (self.new.reads ≡ self.old.reads + 1) }
         ensures few { self.new.reads ≤ 2 ^ 32 }
-        // Only after 2^32 reads it is refused as endless.
+        // It is refused as endless only after 2^32 reads.
         ensures endless { IfErr result (λ fault. fault ≡ PieceFault.Endless → self.old.reads ≡ 2 ^ 32) }
     {
         if self.reads >= READS {

@@ -1,4 +1,4 @@
-//! Objects that stand twice in a file.
+//! Objects that come twice in a file.
 
 ghost use Rattle.std.specs.Prelude.{◌≡◌, IfOk, OnSome, IsTrue, MatchOption};
 ghost use Rattle.std.specs.Ordering.{eq_by_cmp};

@@ -16,11 +16,11 @@ pub struct TagSpelling<'a> {
     pub key: &'a [u8],
     /// The bytes of the value.
     pub value: &'a [u8],
-    /// What stands behind the comma, where there is one.
+    /// What comes after the comma, where there is one.
     pub more: Option<&'a [u8]>,
 }
 
-/// The first of the tags that commas part.
+/// The first of the tags that commas separate.
 pub fn first_tag(text: &[u8]) -> Result<TagSpelling<'_>, FieldFault>
     ensures literal { IfOk result (λ tag. AreLiteral tag.key.now × AreLiteral tag.value.now) }
     ensures parts { IfOk result (λ tag. MatchOption tag.more
@@ -33,20 +33,20 @@ pub fn first_tag(text: &[u8]) -> Result<TagSpelling<'_>, FieldFault>
     if !is_at(text, key_len, b'=') {
         return Err(field_fault_at(text, key_len));
     }
-    let behind = &text[key_len + 1..];
-    let value_len = literal_len(behind);
-    let (key, value) = (&text[..key_len], &behind[..value_len]);
-    if value_len == behind.len() {
+    let after = &text[key_len + 1..];
+    let value_len = literal_len(after);
+    let (key, value) = (&text[..key_len], &after[..value_len]);
+    if value_len == after.len() {
         return Ok(TagSpelling {
             key,
             value,
             more: None,
         });
     }
-    if behind[value_len] != b',' {
+    if after[value_len] != b',' {
         return Err(field_fault_at(text, key_len + 1 + value_len));
     }
-    let more = Some(&behind[value_len + 1..]);
+    let more = Some(&after[value_len + 1..]);
     Ok(TagSpelling { key, value, more })
 }
 
@@ -71,7 +71,7 @@ fn is_at(text: &[u8], place: usize, byte: u8) -> bool
     place < text.len() && text[place] == byte
 }
 
-/// How many bytes stand for themselves before the first that doesn't.
+/// The number of bytes before the first that doesn't stand for itself.
 fn literal_len(text: &[u8]) -> usize
     ensures within { result ≤ length text.now }
     ensures literal { AreLiteral (take result text.now) }

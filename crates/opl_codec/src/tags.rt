@@ -12,7 +12,7 @@ use memchr::memchr_iter;
 use osm_model::{Tag, Text};
 use std::alloc::{AllocError, Global};
 
-/// The most tags that an object may have.
+/// The greatest number of tags of an object.
 const MOST_TAGS: usize = 65_535;
 
 /// The tags of this text, in an order of their own.
@@ -27,7 +27,8 @@ pub fn read_tags(alloc: Global, text: &[u8]) -> Result<Vec<Tag>, FieldFault>
     with_distinct_keys(tags).ok_or(FieldFault::Model)
 }
 
-/// The tags of this text, in its order: of too many, one more than an object may have.
+/// The tags of this text, in its order. Where there are too many, only the first are kept, one more
+/// than an object may have.
 fn split_tags(alloc: Global, text: &[u8]) -> Result<Vec<Tag>, FieldFault>
     ensures read { IfOk result (λ tags. AreFirstTags (items text.now) tags.items) }
     ensures refused { IfErr result (λ field_fault. IsUnspelled text.now (items text.now) field_fault) }
@@ -48,15 +49,15 @@ fn split_tags(alloc: Global, text: &[u8]) -> Result<Vec<Tag>, FieldFault>
     Ok(tags)
 }
 
-/// How many tags commas part, up to one more than an object may have.
+/// How many tags commas separate, up to one more than an object may have.
 fn room(text: &[u8]) -> usize
     ensures { result ≤ 65536 }
 {
     memchr_iter(b',', text).count().min(MOST_TAGS) + 1
 }
 
-/// Adds the tag that is spelled so. Behind one more than an object may have none is kept: they are
-/// refused already, unless one behind them has no spelling.
+/// Adds the tag that is spelled so, unless there is already one more than an object may have. So many
+/// are refused anyway; further ones are read only because one of them may be no tag.
 fn keep_tag(alloc: Global, spelling: TagSpelling<'_>, tags: &mut Vec<Tag>) -> Result<(), AllocError>
     requires key { AreLiteral spelling.key.now }
     requires value { AreLiteral spelling.value.now }

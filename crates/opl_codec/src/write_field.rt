@@ -26,7 +26,7 @@ pub fn append_name(object: &Object, out: &mut Vec<u8>) -> Result<(), AllocError>
     append_number(reference.id, out)
 }
 
-/// Appends a blank and the fields of the metadata, a blank between two.
+/// Appends a space and the fields of the metadata, a space between two.
 pub fn append_meta(meta: &Meta, out: &mut Vec<u8>) -> Result<(), AllocError>
     ensures ok { OnOk result (out.new.items ≡ out.old.items ++ flat_map (λ f. 32 ∷ f) (meta_fields meta.now)) }
     ensures err { OnErr result (take (length out.old.items) out.new.items ≡ out.old.items) }
@@ -59,7 +59,7 @@ fn append_author(meta: &Meta, out: &mut Vec<u8>) -> Result<(), AllocError>
     append_text(&meta.user, out)
 }
 
-/// Appends a blank and the field of these tags.
+/// Appends a space and the field of these tags.
 pub fn append_tags(tags: &[Tag], out: &mut Vec<u8>) -> Result<(), AllocError>
     ensures ok { OnOk result (out.new.items ≡ out.old.items ++ 32 ∷ tags_field tags.now) }
     ensures err { OnErr result (take (length out.old.items) out.new.items ≡ out.old.items) }
@@ -76,7 +76,7 @@ pub fn append_tags(tags: &[Tag], out: &mut Vec<u8>) -> Result<(), AllocError>
     Ok(())
 }
 
-/// Appends a blank and the fields of a body, a blank between two.
+/// Appends a space and the fields of a body, a space between two.
 pub fn append_body(body: &Body, out: &mut Vec<u8>) -> Result<(), AllocError>
     ensures ok { OnOk result (out.new.items ≡ out.old.items ++ flat_map (λ f. 32 ∷ f) (body_fields body.now)) }
     ensures err { OnErr result (take (length out.old.items) out.new.items ≡ out.old.items) }

@@ -11,12 +11,12 @@ use std::alloc::AllocError;
 
 /// Appends the line of an object in a mode to `out`, with its LF.
 ///
-/// The line holds the fields that the mode keeps, a blank between two: the letter of the kind and the
+/// The line holds the fields that the mode keeps, a space between two: the letter of the kind and the
 /// id; `v` version, `dV`, `c` changeset, `t` timestamp, `i` user id, `u` user; `T` tags by rising key;
 /// `x` and `y` in degrees. In mode `Meta` it is the object's one canonical line, at most 2^24 bytes
-/// and its LF. It takes no memory but what `out` grows by.
+/// and its LF. Only `out` takes memory, as it grows.
 ///
-/// Refused for want of memory alone; `out` then has its old bytes.
+/// Refused only when out of memory; `out` then has its old bytes.
 ///
 /// Source: fields and letters of Osmium's OPL manual; which fields a mode keeps, their order and their
 /// one spelling are this project's.

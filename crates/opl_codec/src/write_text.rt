@@ -46,7 +46,7 @@ fn append_character(character: char, out: &mut Vec<u8>) -> Result<(), AllocError
     Ok(())
 }
 
-/// Appends the digits of a code point and the `%` behind it.
+/// Appends the digits of a code point and the `%` after them.
 fn append_hexadecimal(code: u32, out: &mut Vec<u8>) -> Result<(), AllocError>
     ensures ok { OnOk result (out.new.items ≡ out.old.items ++ (hex code ++ 37 ∷ [])) }
     ensures err { OnErr result (out.new.items ≡ out.old.items) }

@@ -29,7 +29,7 @@ pub other_sign : (digits rest : List ℕ) → IsDigits digits → 45 ∷ rest �
 other_sign [] rest d e = d.0 refl
 other_sign (x ∷ xs) rest d e = let same : 45 ≡ x = cc in let small : digit_value x < 10 = d.1.0 in let big : digit_value 45 ≡ digit_value x = ap digit_value same in let it : digit_value 45 ≡ 36 = refl in omega arith
 
--- behind a sign, or without one, there are the digits
+-- after a sign, or without one, there are the digits
 pub negative_digits : (digits : List ℕ) (z : ℤ) → (h : IsInteger (45 ∷ digits) z) → IsDigits digits × (z ≡ neg_ℤ (pos (digits_value 10 digits)))
 negative_digits digits z h = from h.negative h.digits h.text_is h.digits_are h.value_is
   where

@@ -134,7 +134,7 @@ begins_with_tag text tags each = from (pieces 44 text) tags refl each
           tail_is = cut.2;
         }
 
--- what stands behind the literal bytes at the front of such a text
+-- what comes after the literal bytes at the front of such a text
 pub behind_key : (text : List ℕ) (n : ℕ) → AreLiteral (take n text) → BeginsNonliteral (drop n text) → (tag : FirstTag text) → drop n text ≡ 61 ∷ (tag.value ++ tag.tail)
 behind_key text n front stop tag = (same_literals (take n text) tag.key (drop n text) (61 ∷ (tag.value ++ tag.tail)) front tag.key_is stop refl (take-append-drop n text ∙ tag.text_is)).1
 
@@ -185,7 +185,7 @@ pub tags_fit : (text : List ℕ) (tags : List Tag) → Each SpellsTag (items tex
 tags_fit [] tags each = tt
 tags_fit (x ∷ text) tags each = pieces_all FitsTags 44 (x ∷ text) (λ e. absurd (omega arith), lit< tt) (each_fits (pieces 44 (x ∷ text)) tags each)
 
--- behind the literal bytes at the front of a text whose items are tags stands the `=`
+-- after the literal bytes at the front of a text whose items are tags comes the `=`
 pub sign_there : (text : List ℕ) (n : ℕ) (tags : List Tag) → n ≤ length text → AreLiteral (take n text) → BeginsNonliteral (drop n text) → Each SpellsTag (pieces 44 text) tags → (n < length text) × (get_or text n 0 ≡ 61)
 sign_there text n tags within front stop each = from text n (behind_key text n front stop (begins_with_tag text tags each))
   where
@@ -199,7 +199,7 @@ sign_there text n tags within front stop each = from text n (behind_key text n f
 pub split_there : (text rest : List ℕ) (n : ℕ) → n < length text → rest ≡ drop (n + 1) text → drop n text ≡ get_or text n 0 ∷ rest
 split_there text rest n lt is = drop-cons text n 0 lt ∙ ap (λ r. get_or text n 0 ∷ r) (rw add-one at (sym is))
 
--- and behind the literal bytes after it a comma, or nothing
+-- and after the literal bytes that follow it a comma, or nothing
 pub comma_there : (text rest : List ℕ) (n m : ℕ) (tags : List Tag) → rest ≡ drop (n + 1) text → AreLiteral (take n text) → BeginsNonliteral (drop n text) → n < length text
     → AreLiteral (take m rest) → BeginsNonliteral (drop m rest) → m < length rest → Each SpellsTag (pieces 44 text) tags → get_or rest m 0 ≡ 44
 comma_there text rest n m tags is front stop lt literal ends inside each =

@@ -27,7 +27,7 @@ use Rattle.opl_codec.proofs.TextTags.{tags_lack_blank, tags_lack_end, tags_spell
 abbrev plain_meta : List (List ℕ)
 plain_meta = (118 ∷ 48 ∷ []) ∷ (100 ∷ 86 ∷ []) ∷ (99 ∷ 48 ∷ []) ∷ (116 ∷ []) ∷ (105 ∷ 48 ∷ []) ∷ (117 ∷ []) ∷ []
 
--- the fields behind the first
+-- the fields after the first
 abbrev plain_fields : List ℕ → List ℕ → List ℕ → List (List ℕ)
 plain_fields tags x y = plain_meta ++ ((84 ∷ tags) ∷ (120 ∷ x) ∷ (121 ∷ y) ∷ [])
 

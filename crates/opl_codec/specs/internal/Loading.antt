@@ -1,6 +1,7 @@
 -- A file of which a front was read, line by line.
 -- Source: this project.
 use Rattle.std.specs.Prelude.{◌≡◌, ℕ, List, [], ◌∷◌, ◌++◌}
+use Rattle.osm_model.specs.Bytes.{line_feed}
 use Rattle.osm_model.specs.Elements.{Element}
 use Rattle.osm_model.specs.Sets.{HasDistinctReferences}
 use Rattle.opl_codec.specs.Fields.{pieces, Each}
@@ -19,7 +20,7 @@ Say lines objects = Each SpellsObject (spoken_of lines) objects
 -- the beginning of a line
 pub record Loads (lines : List (List ℕ)) (text : List ℕ) (objects : List Element) (pending : List ℕ) : Type 0 where
   pub ended : List (List ℕ)
-  pub cut : pieces 10 text ≡ ended ++ pending ∷ []
+  pub cut : pieces line_feed text ≡ ended ++ pending ∷ []
   pub say : Say (lines ++ ended) objects
 
 -- whatever lines follow, they say no objects of which no two have one reference
@@ -35,14 +36,14 @@ BeginsNoSet lines pending = (more : List ℕ) → SayNoSet (lines ++ (pending ++
 pub record LoadsNoSet (lines : List (List ℕ)) (text : List ℕ) : Type 0 where
   pub ended : List (List ℕ)
   pub pending : List ℕ
-  pub cut : pieces 10 text ≡ ended ++ pending ∷ []
+  pub cut : pieces line_feed text ≡ ended ++ pending ∷ []
   pub none_said : BeginsNoSet (lines ++ ended) pending
 
 -- no file that begins so holds a set
 abbrev pub HoldsNoSet : List ℕ → Type 0
 HoldsNoSet front = (more : List ℕ) (objects : List Element) → HoldsSet (front ++ more) objects → ⊥
 
--- the cause that a reader without a next piece is told as
+-- the cause that is reported where a reader has no next piece
 abbrev pub cause_of : PieceFault → OplCause
 cause_of faults.Failed = causes.ReaderFailed
 cause_of faults.Endless = causes.Endless

@@ -1,6 +1,6 @@
 use Rattle.std.proofs.Common.{◌≡◌, ◌∷◌, ◌++◌, ◌+◌, [], length}
 use Rattle.opl_codec.specs.Fields.{pieces}
-use Rattle.opl_codec.specs.Faults.{behind}
+use Rattle.opl_codec.specs.Faults.{start_after}
 use Rattle.opl_codec.proofs.ReadLines.{left_further, fields_further}
 use Rattle.opl_codec.proofs.line.read_fields.Goals as goal
 
@@ -11,7 +11,7 @@ loop-left-preserved c =
     let rest = c.in-Some.rest.now in
     let field = c.first_field-in-Some.result.0.now in
     let fields : pieces 32 line ≡ ((110 ∷ before.0) ∷ before.2) ++ pieces 32 rest = rw c.in-Some.is at before.3 in
-    let place : behind ((110 ∷ before.0) ∷ before.2) + length rest ≡ length line = rw c.in-Some.is at before.5 in (
+    let place : start_after ((110 ∷ before.0) ∷ before.2) + length rest ≡ length line = rw c.in-Some.is at before.5 in (
       before.0,
       before.1,
       before.2 ++ field ∷ [],

@@ -9,25 +9,25 @@ field_fault_at-requires c tags each =
     let there = sign_there _ _ tags c.literal_len-key_len.ensures.within c.literal_len-key_len.ensures.literal c.literal_len-key_len.ensures.stop each in
     let yes = c.if-not-is_at.ensures.1 there in cc
 
-pub field_fault_at-requires-then-behind-value_len-ne44 : goal.field_fault_at-requires-then-behind-value_len-ne44
-field_fault_at-requires-then-behind-value_len-ne44 c tags each =
+pub field_fault_at-requires-then-after-value_len-ne44 : goal.field_fault_at-requires-then-after-value_len-ne44
+field_fault_at-requires-then-after-value_len-ne44 c tags each =
     let text = c.args.text.now in
     let n = c.literal_len-key_len.result in
     let m = c.literal_len-value_len.result in
     let rest = take (length text - (n + 1)) (drop (n + 1) text) in
     let sign = c.if-not-is_at.ensures.0 refl in
     let inside : m < length rest = omega arith in
-    c.if-behind-value_len-ne44.true (comma_there text rest n m tags (rest_is text n) c.literal_len-key_len.ensures.literal c.literal_len-key_len.ensures.stop
+    c.if-after-value_len-ne44.true (comma_there text rest n m tags (rest_is text n) c.literal_len-key_len.ensures.literal c.literal_len-key_len.ensures.stop
     sign.0 c.literal_len-value_len.ensures.literal c.literal_len-value_len.ensures.stop inside each)
 
-pub returns-then-value_len-behind-clause-parts : goal.returns-then-value_len-behind-clause-parts
-returns-then-value_len-behind-clause-parts c =
+pub returns-then-value_len-after-clause-parts : goal.returns-then-value_len-after-clause-parts
+returns-then-value_len-after-clause-parts c =
     let text = c.args.text.now in
     let n = c.literal_len-key_len.result in
     let m = c.literal_len-value_len.result in
     let rest = take (length text - (n + 1)) (drop (n + 1) text) in
     let sign = c.if-not-is_at.ensures.0 refl in
-    tag_first text rest n m [] (rest_is text n) sign.0 sign.1 c.literal_len-key_len.ensures.literal c.literal_len-value_len.ensures.literal (ends_there rest m c.if-value_len-behind.true)
+    tag_first text rest n m [] (rest_is text n) sign.0 sign.1 c.literal_len-key_len.ensures.literal c.literal_len-value_len.ensures.literal (ends_there rest m c.if-value_len-after.true)
 
 pub returns-clause-parts : goal.returns-clause-parts
 returns-clause-parts c =
@@ -39,7 +39,7 @@ returns-clause-parts c =
     let more = take (length rest - (m + 1)) (drop (m + 1) rest) in
     let inside : m < length rest = omega arith in (
       tag_first text rest n m (pieces 44 more) (rest_is text n) sign.0 sign.1 c.literal_len-key_len.ensures.literal c.literal_len-value_len.ensures.literal
-          (goes_on rest more m (rest_is rest m) inside c.if-behind-value_len-ne44.false),
+          (goes_on rest more m (rest_is rest m) inside c.if-after-value_len-ne44.false),
       shorter text rest more n m (rest_is text n) (rest_is rest m) sign.0,
     )
 

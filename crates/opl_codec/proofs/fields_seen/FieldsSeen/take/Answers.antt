@@ -1,6 +1,6 @@
 use Rattle.std.proofs.Common.{length, take, drop, ◌-◌, refl, ap, arith, length-drop, set, true}
 use Rattle.std.proofs.lemmas.List.{take_all}
-use Rattle.opl_codec.specs.internal.Reading.{code}
+use Rattle.opl_codec.specs.Letters.{code}
 use Rattle.opl_codec.specs.declared.fields_seen.FieldsSeen.{FieldsSeen}
 use Rattle.opl_codec.proofs.ReadSeen.{letter_first, no_letter, split_field, unknown_stands, twice_stands, misfit_stands, reads_more}
 use Rattle.opl_codec.proofs.fields_seen.FieldsSeen.take.Goals as goal

@@ -5,7 +5,7 @@ use Rattle.opl_codec.proofs.shared.SayLemmas.{repeated}
 use Rattle.opl_codec.proofs.LoadLemmas.{sum_map, no_set}
 use Rattle.opl_codec.proofs.loader.Loader.finish.Goals as goal
 
--- the last line, with nothing more behind it
+-- the last line, with nothing more after it
 whole : (file : List ℕ) (ended : List (List ℕ)) (pending : List ℕ) → pieces 10 file ≡ ended ++ pending ∷ [] → pieces 10 file ≡ ended ++ (pending ++ []) ∷ []
 whole file ended pending cut = cut ∙ ap (λ p. ended ++ p ∷ []) (sym (append-nil pending))
 
