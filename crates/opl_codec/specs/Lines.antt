@@ -15,7 +15,7 @@ use Rattle.osm_model.specs.declared.body.Body.TheVariants as bodies
 use Rattle.opl_codec.specs.declared.change.Change.{Change}
 use Rattle.opl_codec.specs.declared.change.Change.TheVariants as changes
 use Rattle.opl_codec.specs.declared.line.TheConstants.{LONGEST_LINE}
-use Rattle.opl_codec.specs.Letters.{node_letter, version_letter, visible_letter, visible_mark, changeset_letter, stamp_letter, uid_letter, user_letter, tags_letter, longitude_letter, latitude_letter}
+use Rattle.osm_model.specs.Letters.{node_letter, version_letter, visible_letter, visible_mark, changeset_letter, stamp_letter, uid_letter, user_letter, tags_letter, longitude_letter, latitude_letter}
 use Rattle.opl_codec.specs.Fields.{pieces, field, letter_of, IsOnce, Given, IsInteger, Each}
 
 -- narrow: each byte stands for itself

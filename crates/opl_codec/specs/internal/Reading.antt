@@ -9,7 +9,8 @@ use Rattle.osm_model.specs.CanonicalLine.{is_literal}
 use Rattle.osm_model.specs.declared.axis.Axis.{Axis}
 use Rattle.osm_model.specs.declared.axis.Axis.TheVariants as axes
 use Rattle.osm_model.specs.declared.tag.Tag.{Tag}
-use Rattle.opl_codec.specs.Letters.{node_letter, visible_mark, tags_letter, longitude_letter, latitude_letter, code}
+use Rattle.osm_model.specs.Letters.{node_letter, visible_mark, tags_letter, longitude_letter, latitude_letter}
+use Rattle.opl_codec.specs.Letters.{code}
 use Rattle.opl_codec.specs.Fields.{pieces, field, letter_of, IsOnce, IsInteger, Each}
 use Rattle.opl_codec.specs.Lines.{SpellsTag, SpellsTags, is_node_letter}
 use Rattle.opl_codec.specs.Faults.{HasForm, IsBeyond, IsBeyondAxis, HasBadTags}
