@@ -29,8 +29,8 @@ pub trait Shelf<'a> {
     /// The nodes that were used: those that it gave.
     ghost used: { Self → List ℕ → Type 0 };
 
-    /// The node with this digest. Refused with `Missing` (N7) exactly where the shelf holds none,
-    /// and else for memory alone; after a refusal nothing has changed.
+    /// The node with this digest. Refused with `Missing` (N7) only where the shelf holds none, or
+    /// out of memory; after a refusal nothing has changed.
     fn fetch(&mut self, key: &Digest) -> Result<&'a [u8], ShelfFault>
         // What it gives is held, and has the digest asked.
         ensures given { IfOk result (λ node.
