@@ -26,6 +26,8 @@ pub mod QueryLemmas
 pub mod DefiniteLemmas
 pub mod DefiniteTokens
 pub mod DefiniteRules
+pub mod TokenSpellings
+pub mod WordSpellings
 pub mod SpellingLemmas
 pub mod GatherSpellings
 pub mod KeyStarts

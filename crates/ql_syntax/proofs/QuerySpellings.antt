@@ -4,7 +4,7 @@ use Rattle.ql_syntax.specs.Grammar as grammar
 use Rattle.ql_syntax.specs.LawfulQueries.{IsTop, IsQuery}
 use Rattle.ql_syntax.specs.Queries.{query}
 use Rattle.ql_syntax.specs.Rules.{◌>>=◌, gather}
-use Rattle.ql_syntax.specs.Spellings.{each, IsPunctuation, IsEnd}
+use Rattle.ql_syntax.specs.Spellings.{each, the_end}
 use Rattle.ql_syntax.specs.StatementRules.{top_statement}
 use Rattle.ql_syntax.specs.Statements.{Statement, Select, Recurse, Item, Union, Minus, Print}
 use Rattle.ql_syntax.specs.declared.level.Level.TheVariants as levels
@@ -16,6 +16,7 @@ use Rattle.ql_syntax.proofs.SettingSpellings.{settings_sound, reads_settings, re
 use Rattle.ql_syntax.proofs.SpellingLemmas.{alike, from_token, both, other_kind, Reading, reads_then, reads_give, reads_yes, reads_no, reads_from, reads_token}
 use Rattle.ql_syntax.proofs.StatementReadings.{first_token, not_first, reads_statement, shift_reading}
 use Rattle.ql_syntax.proofs.StatementSpellings.{shifts_statement, shifts_gather, shifts_top, statements_sound}
+use Rattle.ql_syntax.proofs.TokenSpellings.{IsPunctuation, end_token}
 
 pub query_sound : (text rest : List ℕ) (all : List Statement) → query.reads text all rest → grammar.query all text rest
 unfolding query ◌>>=◌
@@ -38,11 +39,11 @@ reads_top s is text rest g = let f = first_token s text rest g in
     reads_then _ (reads_token (alike text) f.at) (reads_no _ (not_first kinds.End f.begins (λ e. cc) (λ e. cc) (λ e. cc) refl)
     (reads_then _ (reads_from _ (shift_reading (shifts_statement levels.Top 32) (from_token f.at) (reads_statement levels.Top 32 s (top_kept s is) text rest g))) reads_give))
 
-reads_end : {text rest : List ℕ} → IsEnd text rest → Reading top_statement text None []
+reads_end : {text rest : List ℕ} → the_end text rest → Reading top_statement text None []
 unfolding top_statement
-reads_end {text = text} e = reads_then _ (reads_token (alike text) e.at) (reads_yes _ e.is (reads_from _ reads_give))
+reads_end {text = text} ends = let e = end_token ends in reads_then _ (reads_token (alike text) e.at) (reads_yes _ e.is (reads_from _ reads_give))
 
-reads_all : (all : List Statement) (text middle rest : List ℕ) → IsQuery all → each grammar.statement all text middle → IsEnd middle rest → Reading (gather top_statement []) text all []
+reads_all : (all : List Statement) (text middle rest : List ℕ) → IsQuery all → each grammar.statement all text middle → the_end middle rest → Reading (gather top_statement []) text all []
 reads_all all text middle rest such these end = reads_gather top_statement reads_top [] all such these (reads_end end)
 
 -- what comes next is no `[`
@@ -52,9 +53,9 @@ record No_settings (text : List ℕ) : Type 0 where
   is : IsPunctuation kind text after
   other : kind ≡ kinds.OpenBracket → ⊥
 
-no_settings : (all : List Statement) (text middle rest : List ℕ) → each grammar.statement all text middle → IsEnd middle rest → No_settings text
+no_settings : (all : List Statement) (text middle rest : List ℕ) → each grammar.statement all text middle → the_end middle rest → No_settings text
 no_settings [] text middle rest these end =
-    let e = subst (λ (t : List ℕ). IsEnd t rest) these end in
+    let e = end_token (subst (λ (t : List ℕ). the_end t rest) these end) in
     record { kind = (e.next).kind; after = e.place; is = record { next = e.next; at = e.at; is = refl }; other = other_kind e.is (λ e. cc) }
 no_settings (s ∷ all) text middle rest these end =
     let f = first_token s text these.middle these.front in
@@ -64,7 +65,7 @@ reads_query : (text : List ℕ) (all : List Statement) → IsQuery all → gramm
 unfolding query
 reads_query text all such g = from_settings g.front
   where
-    from_settings : grammar.query_settings text g.middle → Reading query text all []
+    from_settings : grammar.settings text g.middle → Reading query text all []
     from_settings (inl some) = reads_then _ (reads_settings some) (reads_all all g.middle (g.back).middle [] such (g.back).front (g.back).back)
     from_settings (inr none) =
         let first = no_settings all g.middle (g.back).middle [] (g.back).front (g.back).back in
