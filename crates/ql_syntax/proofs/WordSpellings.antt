@@ -2,6 +2,7 @@
 use Rattle.std.proofs.Common.{◌≡◌, ℕ, List, Bool, true, false, cond, ◌||◌, refl, sym, ◌∙◌, ap, subst, inl, inr, ◌⊎◌}
 use Rattle.std.proofs.lemmas.Slice.Eq.{bytes_eq-Decides}
 use Rattle.std.specs.Bool.{⊤}
+use Rattle.std.specs.Option.{unwrap_or}
 use Rattle.std.specs.Prelude.{codes, bytes_eq, Option, None, Some}
 use Rattle.opl_codec.specs.declared.out_mode.OutMode.{OutMode}
 use Rattle.opl_codec.specs.declared.out_mode.OutMode.TheVariants as modes
@@ -14,7 +15,7 @@ use Rattle.ql_syntax.specs.SelectorWords.{selector_word, path_of, path_word}
 use Rattle.ql_syntax.specs.SettingWords.{setting_of, format_of}
 use Rattle.ql_syntax.specs.Spellings.{Spelling, AfterGap, word, ◌or◌}
 use Rattle.ql_syntax.specs.StatementWords as statement_words
-use Rattle.ql_syntax.specs.StatementWords.{statement_word}
+use Rattle.ql_syntax.specs.StatementWords.{statement_word, known_word}
 use Rattle.ql_syntax.specs.Words.{IsRun}
 use Rattle.ql_syntax.specs.declared.out_word.OutWord.{OutWord}
 use Rattle.ql_syntax.specs.declared.out_word.OutWord.TheVariants as outs
@@ -82,14 +83,24 @@ module _ {text rest : List ℕ} (w : List ℕ) (spelled : IsWordOf (λ (v : List
   abbrev At_statement : StatementWord → Type 0
   At_statement case = statement_spelled case text rest
 
+  abbrev At_known : Option StatementWord → Type 0
+  At_known None = ⊤
+  At_known (Some case) = At_statement case
+
+  known_said : At_known (known_word w)
+  known_said =
+      by_test At_known (bytes_eq w (codes "node")) (Some (statements.Kind picks.Node)) _ (is_said (codes "node"))
+      (by_test At_known (bytes_eq w (codes "way")) (Some (statements.Kind picks.Way)) _ (is_said (codes "way"))
+      (by_test At_known (bytes_eq w (codes "rel") || bytes_eq w (codes "relation")) (Some (statements.Kind picks.Rel)) _ (is_either _ _ (λ t. inl (is_said (codes "rel") t)) (λ t. inr (is_said (codes "relation") t)))
+      (by_test At_known (bytes_eq w (codes "nwr")) (Some (statements.Kind picks.Nwr)) _ (is_said (codes "nwr"))
+      (by_test At_known (bytes_eq w (codes "out")) (Some statements.Print) None (is_said (codes "out")) tt))))
+
+  or_other : (found : Option StatementWord) → At_known found → At_statement (unwrap_or found (cond (statement_words.is_left_out w) statements.LeftOut statements.Unknown))
+  or_other (Some case) is = is
+  or_other None is = by_test At_statement (statement_words.is_left_out w) statements.LeftOut statements.Unknown (λ t. tt) tt
+
   statement_said : At_statement (statement_word w)
-  statement_said =
-      by_test At_statement (bytes_eq w (codes "node")) (statements.Kind picks.Node) _ (is_said (codes "node"))
-      (by_test At_statement (bytes_eq w (codes "way")) (statements.Kind picks.Way) _ (is_said (codes "way"))
-      (by_test At_statement (bytes_eq w (codes "rel") || bytes_eq w (codes "relation")) (statements.Kind picks.Rel) _ (is_either _ _ (λ t. inl (is_said (codes "rel") t)) (λ t. inr (is_said (codes "relation") t)))
-      (by_test At_statement (bytes_eq w (codes "nwr")) (statements.Kind picks.Nwr) _ (is_said (codes "nwr"))
-      (by_test At_statement (bytes_eq w (codes "out")) statements.Print _ (is_said (codes "out"))
-      (by_test At_statement (statement_words.is_left_out w) statements.LeftOut statements.Unknown (λ t. tt) tt)))))
+  statement_said = or_other (known_word w) known_said
 
   pub statement_is : (case : StatementWord) → statement_word w ≡ case → statement_spelled case text rest
   statement_is case is = subst At_statement is statement_said
