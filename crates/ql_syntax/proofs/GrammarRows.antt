@@ -15,7 +15,7 @@ use Rattle.ql_syntax.specs.Settings.{settings}
 use Rattle.ql_syntax.specs.Spellings as spelling
 use Rattle.ql_syntax.specs.Spellings.{AfterGap, BeginsWith, the_end}
 use Rattle.ql_syntax.specs.StatementRules.{top_statement, statement, plain_statement}
-use Rattle.ql_syntax.specs.Statements.{Statements, Recurse, Item, Union, Minus, Print}
+use Rattle.ql_syntax.specs.Statements.{Statements, Recurse, Item, Union, Minus, Print, End, Then}
 use Rattle.ql_syntax.specs.Words.{IsRun, begins_with, is_run_byte}
 use Rattle.ql_syntax.specs.declared.cause.QlCause.TheVariants as causes
 use Rattle.ql_syntax.specs.declared.pick.Pick.TheVariants as picks
@@ -40,11 +40,11 @@ stop : the_end [] []
 stop = record { place = []; passed = refl; spelled = (refl, refl) }
 
 -- the empty text reads
-pub nothing_row : grammar.query [] [] []
+pub nothing_row : grammar.query End [] []
 nothing_row = both [] (inr refl) (both [] refl stop)
 
 -- `->` after the first statement of a parenthesis is the `-` of a difference, and `>`
-difference_row : grammar.query (Minus (Item (codes "a") (codes "_")) (Recurse (codes "_") recursions.Down (codes "_")) (codes "_") ∷ []) (codes "(.a;->;);") []
+difference_row : grammar.query (Then (Minus (Item (codes "a") (codes "_")) (Recurse (codes "_") recursions.Down (codes "_")) (codes "_")) End) (codes "(.a;->;);") []
 difference_row =
     both (codes "(.a;->;);") (inr refl)
     (both [] (both []
@@ -58,11 +58,11 @@ difference_row =
     (here (codes ")") (codes ";") refl)))
     (end [] refl)) refl) stop)
 
-difference_is_lawful : IsQuery (Minus (Item (codes "a") (codes "_")) (Recurse (codes "_") recursions.Down (codes "_")) (codes "_") ∷ [])
+difference_is_lawful : IsQuery (Then (Minus (Item (codes "a") (codes "_")) (Recurse (codes "_") recursions.Down (codes "_")) (codes "_")) End)
 difference_is_lawful = ((31, refl, tt, tt), tt)
 
 -- what stands after `out` stands in any order
-out_row : grammar.query (Print (codes "_") modes.Ids None ∷ []) (codes " out qt ids;") []
+out_row : grammar.query (Then (Print (codes "_") modes.Ids None) End) (codes " out qt ids;") []
 out_row =
     both (codes " out qt ids;") (inr refl)
     (both [] (both []
@@ -88,5 +88,5 @@ unfolding query settings gather repeat gather_round top_statement statement plai
 semicolon_row =
     let found : Next = record { kind = kinds.Semicolon; place = codes ";" } in
     Second tt (codes ";") (record { front = found; middle = []; front_reads = record { after_gap = refl; kind_is = refl; rest_is = refl }; back_reads = inr (λ e. cc, (refl, refl)) })
-    (Here [] (codes ";") (First (Second found [] (record { after_gap = refl; kind_is = refl; rest_is = refl })
-    (inr (λ e. cc, First (Second found [] (record { after_gap = refl; kind_is = refl; rest_is = refl }) (inr (λ e. cc, inr (λ e. cc, inr (λ e. cc, (refl, refl)))))))))))
+    (First (Here [] (codes ";") (First (Second found [] (record { after_gap = refl; kind_is = refl; rest_is = refl })
+    (inr (λ e. cc, First (Second found [] (record { after_gap = refl; kind_is = refl; rest_is = refl }) (inr (λ e. cc, inr (λ e. cc, inr (λ e. cc, (refl, refl))))))))))))

@@ -22,6 +22,7 @@ pub mod AreaLemmas
 pub mod TagLengths
 pub mod StatementLengths
 pub mod StatementLemmas
+pub mod StatementLists
 pub mod QueryLemmas
 pub mod DefiniteLemmas
 pub mod DefiniteTokens

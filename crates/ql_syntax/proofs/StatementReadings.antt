@@ -213,15 +213,15 @@ reads_out_statement depth start mode limit text rest g = from_source g.front
         (reads_named levels.Top depth words.Print out (reads_print (codes "_") _ mode limit ((g.back).back).front ((g.back).back).back))
 
 -- rows as lists
-abbrev list_of : Statements → List Statement
+abbrev pub list_of : Statements → List Statement
 list_of End = []
 list_of (Then s more) = s ∷ list_of more
 
-row_again : (row : Statements) → row_of (list_of row) ≡ row
+pub row_again : (row : Statements) → row_of (list_of row) ≡ row
 row_again End = refl
 row_again (Then s more) = ap (λ (r : Statements). Then s r) (row_again more)
 
-each_spelled : (row : Statements) (text rest : List ℕ) → grammar.row row text rest → each grammar.statement (list_of row) text rest
+pub each_spelled : (row : Statements) (text rest : List ℕ) → grammar.row row text rest → each grammar.statement (list_of row) text rest
 each_spelled End text rest g = g
 each_spelled (Then s more) text rest g = both g.middle g.front (each_spelled more g.middle rest g.back)
 

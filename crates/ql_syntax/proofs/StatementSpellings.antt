@@ -259,7 +259,7 @@ no_statement text rest r = elim r.back_reads [
   | inr it ↦ (let found = it.1 in let bad : None ≡ Some found.front = found.back_reads.0 in absurd (cc))
 ]
 
-pub statements_sound : (text rest : List ℕ) (all : List Statement) → (gather top_statement []).reads text all rest → Both (each grammar.statement all) the_end text rest
+pub statements_sound : (text rest : List ℕ) (all : List Statement) → (gather top_statement []).reads text all rest → Both (grammar.row (row_of all)) the_end text rest
 statements_sound text rest all reads =
     let g = gather_sound top_statement one_statement no_statement [] all text rest reads in
-    subst (λ (l : List Statement). Both (each grammar.statement l) the_end text rest) (sym g.is) (both g.middle g.front g.back)
+    subst (λ (l : List Statement). Both (grammar.row (row_of l)) the_end text rest) (sym g.is) (both g.middle (row_spelled g.more text g.middle g.front) g.back)

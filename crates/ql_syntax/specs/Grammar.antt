@@ -131,5 +131,5 @@ abbrev mutual
   row_of_some (Then first more) = statement first & row more
 
 -- a query: settings, statements, and the end
-abbrev pub query : List Statement → Spelling
-query statements = settings & each statement statements & the_end
+abbrev pub query : Statements → Spelling
+query statements = settings & row statements & the_end
