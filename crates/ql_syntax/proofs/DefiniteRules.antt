@@ -267,4 +267,4 @@ top_statement_is = definite_then _ definite_token (λ next. definite_choose _ (d
 -- queries
 pub query_is : Definite query
 unfolding query
-query_is = definite_then _ settings_is (λ set. definite_gather top_statement_is [])
+query_is = definite_then _ settings_is (λ set. definite_then _ (definite_gather top_statement_is []) (λ all. definite_give _))

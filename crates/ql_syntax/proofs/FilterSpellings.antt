@@ -16,9 +16,10 @@ use Rattle.ql_syntax.specs.Selections.{a_filter}
 use Rattle.ql_syntax.specs.SelectorWords.{selector_word}
 use Rattle.ql_syntax.specs.Selectors.{an_id, id_after, id_list, path_close, path_from, selector_named, word_selector, corner, box_after, number_selector, selector}
 use Rattle.ql_syntax.specs.TokenKinds.{token_kind_at}
-use Rattle.ql_syntax.specs.Spellings.{Spelling, Both, either, each, when, IsPunctuation, IsSet, IsWordOf, IsNumberOf, IsTagText}
+use Rattle.ql_syntax.specs.Spellings.{Both, each, says, word, tag_text, named_set}
 use Rattle.ql_syntax.specs.Spellings as spelling
-use Rattle.ql_syntax.specs.TagFilters.{not_in_tag, tag_text_at, tag_text, tag_close, tag_value, tag_rest, tag_filter}
+use Rattle.ql_syntax.specs.TagFilters as tags
+use Rattle.ql_syntax.specs.TagFilters.{not_in_tag, tag_text_at, tag_close, tag_value, tag_rest, tag_filter}
 use Rattle.ql_syntax.specs.WholeNumbers.{IsId, id_of}
 use Rattle.ql_syntax.specs.Words.{IsRun}
 use Rattle.ql_syntax.specs.declared.path.Path.{Path}
@@ -28,6 +29,8 @@ use Rattle.ql_syntax.specs.declared.selector_word.SelectorWord.TheVariants as wo
 use Rattle.ql_syntax.specs.declared.token_kind.TokenKind.{TokenKind}
 use Rattle.ql_syntax.specs.declared.token_kind.TokenKind.TheVariants as kinds
 use Rattle.ql_syntax.proofs.GatherSpellings.{Gathered, gather_sound, reads_gather}
+use Rattle.ql_syntax.proofs.TokenSpellings.{IsPunctuation, said_at, token, IsWordOf, IsSet, set_said, set_token, IsNumberOf, number_said, number_token, IsTagText, tag_said, tag_token, not_token}
+use Rattle.ql_syntax.proofs.WordSpellings.{selector_is, ids_token, path_token}
 use Rattle.ql_syntax.proofs.KeyStarts.{no_quote, no_run, quote_or_run}
 use Rattle.ql_syntax.proofs.SpellingLemmas.{Alike, alike, alike_by, alike_at, alike_back, alike_on, from_token, at_rest, both, spelled_to, other_kind, Reading, reads_then, reads_give, reads_as, reads_yes, reads_no, reads_from, reads_case, reads_token, pass_sound, reads_punctuation, reads_name_after}
 
@@ -70,7 +73,7 @@ reads_number like n = reads_then _ (reads_token like n.at) (reads_yes _ n.begins
 -- ids
 id_split : {text rest : List ℕ} (value : ℤ) → an_id.reads text value rest → grammar.id value text rest
 unfolding an_id ◌>>=◌ id_of
-id_split {text = text} value r = spelled_to (grammar.id value) r.back_reads.1 (means (λ (d : Decimal) e. subst (λ (n : Decimal). IsId n value) (sym e) r.back_reads.0) (number_split r.front (alike text) r.front_reads))
+id_split {text = text} value r = spelled_to (grammar.id value) r.back_reads.1 (number_said (means (λ (d : Decimal) e. subst (λ (n : Decimal). IsId n value) (sym e) r.back_reads.0) (number_split r.front (alike text) r.front_reads)))
 
 reads_value : (place : List ℕ) {text : List ℕ} {number : Decimal} {value : ℤ} → IsId number value → Reading (id_of number place) text value text
 unfolding id_of
@@ -78,27 +81,27 @@ reads_value place is = record { reads = (is, refl) }
 
 reads_id : {text rest : List ℕ} (value : ℤ) → grammar.id value text rest → Reading an_id text value rest
 unfolding an_id
-reads_id {text = text} value n = reads_then _ (reads_number (alike text) n) (reads_value _ n.means)
+reads_id {text = text} value n = let found = number_token n in reads_then _ (reads_number (alike text) found) (reads_value _ found.means)
 
 one_id : (value : ℤ) (text rest : List ℕ) → id_after.reads text (Some value) rest → grammar.other_id value text rest
 unfolding id_after ◌>>=◌ choose give next_token unexpected refuse
 one_id value text rest r = elim r.back_reads [
   | inl it ↦ (let found = it.1 in let is : value ≡ found.front = (let e = found.back_reads.0 in cc) in
-      both r.middle (record { next = r.front; at = r.front_reads; is = it.0 })
+      both r.middle (said_at r.front_reads it.0)
       (spelled_to (grammar.id value) found.back_reads.1 (subst (λ (v : ℤ). grammar.id v r.middle found.middle) (sym is) (id_split found.front found.front_reads))))
   | inr it ↦ elim it.1 [ inl end ↦ (let bad : Some value ≡ None = end.1.0 in absurd (cc)) | inr other ↦ absurd other.1 ]
 ]
 
-no_id : (text rest : List ℕ) → id_after.reads text None rest → IsPunctuation kinds.CloseParenthesis text rest
+no_id : (text rest : List ℕ) → id_after.reads text None rest → says ")" text rest
 unfolding id_after ◌>>=◌ choose give next_token unexpected refuse
 no_id text rest r = elim r.back_reads [
   | inl it ↦ (let found = it.1 in let bad : None ≡ Some found.front = found.back_reads.0 in absurd (cc))
-  | inr it ↦ elim it.1 [ inl end ↦ record { next = r.front; at = at_rest end.1.1 r.front_reads; is = end.0 } | inr other ↦ absurd other.1 ]
+  | inr it ↦ elim it.1 [ inl end ↦ said_at (at_rest end.1.1 r.front_reads) end.0 | inr other ↦ absurd other.1 ]
 ]
 
 reads_one_id : (value : ℤ) → ⊤ → (text rest : List ℕ) → grammar.other_id value text rest → Reading id_after text (Some value) rest
 unfolding id_after
-reads_one_id value is text rest b = reads_then _ (reads_token (alike text) (b.front).at) (reads_yes _ (b.front).is (reads_then _ (reads_id value b.back) reads_give))
+reads_one_id value is text rest b = let comma = token kinds.Comma b.front refl refl in reads_then _ (reads_token (alike text) comma.at) (reads_yes _ comma.is (reads_then _ (reads_id value b.back) reads_give))
 
 reads_no_id : (text rest : List ℕ) → IsPunctuation kinds.CloseParenthesis text rest → Reading id_after text None rest
 unfolding id_after
@@ -109,12 +112,12 @@ all_such [] = tt
 all_such (a ∷ list) = (tt, all_such list)
 
 -- keys and values
-text_at_split : {text rest : List ℕ} (next : Next) (middle value : List ℕ) → At text next middle → (tag_text_at next).reads middle value rest → IsTagText value text rest
+text_at_split : {text rest : List ℕ} (next : Next) (middle value : List ℕ) → At text next middle → (tag_text_at next).reads middle value rest → tag_text value text rest
 unfolding tag_text_at choose from text_here run_here not_in_tag refuse
-text_at_split next middle value at reads = elim reads [
+text_at_split next middle value at reads = tag_said (elim reads [
   | inl quote ↦ record { next = next; place = middle; at = at; spelled = inl quote }
   | inr it ↦ elim it.1 [ inl run ↦ record { next = next; place = middle; at = at; spelled = inr run } | inr other ↦ absurd other.1 ]
-]
+])
 
 reads_text_at : {value text rest : List ℕ} → (t : IsTagText value text rest) → Reading (tag_text_at t.next) t.place value rest
 unfolding tag_text_at text_here run_here
@@ -123,24 +126,24 @@ reads_text_at t = elim t.spelled [
   | inr run ↦ reads_no _ (quote_or_run (t.next).place run.0) (reads_yes _ run.0 (reads_from _ (record { reads = run.1 })))
 ]
 
-tag_text_split : {text rest : List ℕ} (value : List ℕ) → tag_text.reads text value rest → IsTagText value text rest
-unfolding tag_text ◌>>=◌ next_token
+tag_text_split : {text rest : List ℕ} (value : List ℕ) → tags.tag_text.reads text value rest → tag_text value text rest
+unfolding tags.tag_text ◌>>=◌ next_token
 tag_text_split value r = text_at_split r.front r.middle value r.front_reads r.back_reads
 
-close_split : {text rest : List ℕ} (value : Unit {0}) → tag_close.reads text value rest → IsPunctuation kinds.CloseBracket text rest
+close_split : {text rest : List ℕ} (value : Unit {0}) → tag_close.reads text value rest → says "]" text rest
 unfolding tag_close ◌>>=◌ choose give next_token not_in_tag refuse
 close_split value r = elim r.back_reads [
-  | inl it ↦ record { next = r.front; at = at_rest it.1.1 r.front_reads; is = it.0 }
+  | inl it ↦ said_at (at_rest it.1.1 r.front_reads) it.0
   | inr other ↦ absurd other.1
 ]
 
-value_split : {text rest : List ℕ} (value : List ℕ) → tag_value.reads text value rest → Both (IsTagText value) (IsPunctuation kinds.CloseBracket) text rest
+value_split : {text rest : List ℕ} (value : List ℕ) → tag_value.reads text value rest → Both (tag_text value) (says "]") text rest
 unfolding tag_value ◌>>=◌ give
 value_split {text = text} value r = let close = r.back_reads in let is = close.back_reads in
-    both r.middle (subst (λ (v : List ℕ). IsTagText v text r.middle) (sym is.0) (tag_text_split r.front r.front_reads)) (spelled_to (IsPunctuation kinds.CloseBracket) is.1 (close_split close.front close.front_reads))
+    both r.middle (subst (λ (v : List ℕ). tag_text v text r.middle) (sym is.0) (tag_text_split r.front r.front_reads)) (spelled_to (says "]") is.1 (close_split close.front close.front_reads))
 
-reads_tag_text : {text rest : List ℕ} (value : List ℕ) → IsTagText value text rest → Reading tag_text text value rest
-unfolding tag_text
+reads_tag_text : {text rest : List ℕ} (value : List ℕ) → IsTagText value text rest → Reading tags.tag_text text value rest
+unfolding tags.tag_text
 reads_tag_text {text = text} value t = reads_then _ (reads_token (alike text) t.at) (reads_text_at t)
 
 reads_close : {text rest : List ℕ} → IsPunctuation kinds.CloseBracket text rest → Reading tag_close text tt rest
@@ -152,31 +155,31 @@ unfolding tag_value
 reads_tag_value value t s = reads_then _ (reads_tag_text value t) (reads_then _ (reads_close s) reads_give)
 
 -- filters by tags
-module _ (pick : Pick) (text rest : List ℕ) where
+module _ (text rest : List ℕ) where
   -- a filter, where this is the same one
-  as_filter : {f g : Filter} → f ≡ g → grammar.filter pick g text rest → grammar.filter pick f text rest
-  as_filter is it = subst (λ (h : Filter). grammar.filter pick h text rest) (sym is) it
+  as_filter : {f g : Filter} → f ≡ g → grammar.filter g text rest → grammar.filter f text rest
+  as_filter is it = subst (λ (h : Filter). grammar.filter h text rest) (sym is) it
 
-  tag_rest_split : {middle place : List ℕ} (key : List ℕ) (f : Filter) → IsPunctuation kinds.OpenBracket text middle → IsTagText key middle place → (tag_rest key).reads place f rest → grammar.filter pick f text rest
+  tag_rest_split : {middle place : List ℕ} (key : List ℕ) (f : Filter) → says "[" text middle → tag_text key middle place → (tag_rest key).reads place f rest → grammar.filter f text rest
   unfolding tag_rest ◌>>=◌ choose give next_token not_in_tag refuse
   tag_rest_split {middle = middle} {place = place} key f opened key_is r = elim r.back_reads [
-    | inl it ↦ as_filter it.1.0 (both middle opened (both place key_is (record { next = r.front; at = at_rest it.1.1 r.front_reads; is = it.0 })))
+    | inl it ↦ as_filter it.1.0 (both middle opened (both place key_is (said_at (at_rest it.1.1 r.front_reads) it.0)))
     | inr it ↦ elim it.1 [
       | inl it ↦ (let found = it.1 in let is = found.back_reads in let b = value_split found.front found.front_reads in
-          as_filter is.0 (both middle opened (both b.middle (both place key_is (both r.middle (record { next = r.front; at = r.front_reads; is = it.0 }) b.front)) (spelled_to (IsPunctuation kinds.CloseBracket) is.1 b.back))))
+          as_filter is.0 (both middle opened (both b.middle (both place key_is (both r.middle (said_at r.front_reads it.0) b.front)) (spelled_to (says "]") is.1 b.back))))
       | inr it ↦ elim it.1 [
         | inl it ↦ (let found = it.1 in let is = found.back_reads in let b = value_split found.front found.front_reads in
-            as_filter is.0 (both middle opened (both b.middle (both place key_is (both r.middle (record { next = r.front; at = r.front_reads; is = it.0 }) b.front)) (spelled_to (IsPunctuation kinds.CloseBracket) is.1 b.back))))
+            as_filter is.0 (both middle opened (both b.middle (both place key_is (both r.middle (said_at r.front_reads it.0) b.front)) (spelled_to (says "]") is.1 b.back))))
         | inr other ↦ absurd other.1
       ]
     ]
   ]
 
-  tag_filter_split : {middle : List ℕ} (f : Filter) → IsPunctuation kinds.OpenBracket text middle → tag_filter.reads middle f rest → grammar.filter pick f text rest
+  tag_filter_split : {middle : List ℕ} (f : Filter) → says "[" text middle → tag_filter.reads middle f rest → grammar.filter f text rest
   unfolding tag_filter ◌>>=◌ choose give next_token
   tag_filter_split {middle = middle} f opened r = elim r.back_reads [
     | inl it ↦ (let found = it.1 in let is = found.back_reads in let b = value_split found.front found.front_reads in
-        as_filter is.0 (both middle opened (both b.middle (both r.middle (record { next = r.front; at = r.front_reads; is = it.0 }) b.front) (spelled_to (IsPunctuation kinds.CloseBracket) is.1 b.back))))
+        as_filter is.0 (both middle opened (both b.middle (both r.middle (said_at r.front_reads it.0) b.front) (spelled_to (says "]") is.1 b.back))))
     | inr it ↦ (let key = it.1 in tag_rest_split key.front f opened (text_at_split r.front r.middle key.front r.front_reads key.front_reads) key.back_reads)
   ]
 
@@ -209,44 +212,44 @@ unfolding tag_filter
 reads_lacks_key {middle = middle} key s k c = reads_then _ (reads_token (alike middle) s.at) (reads_yes _ s.is (reads_then _ (reads_tag_value key k c) reads_give))
 
 -- the `)` after a path
-close_to : {start place rest : List ℕ} → Alike place start → (value : Unit {0}) → path_close.reads start value rest → IsPunctuation kinds.CloseParenthesis place rest
+close_to : {start place rest : List ℕ} → Alike place start → (value : Unit {0}) → path_close.reads start value rest → says ")" place rest
 unfolding path_close ◌>>=◌ choose give next_token unexpected refuse
 close_to like value r = elim r.back_reads [
-  | inl it ↦ record { next = r.front; at = at_rest it.1.1 (alike_at like r.front_reads); is = it.0 }
+  | inl it ↦ said_at (at_rest it.1.1 (alike_at like r.front_reads)) it.0
   | inr it ↦ elim it.1 [ inl other ↦ absurd other.1 | inr other ↦ absurd other.1 ]
 ]
 
 -- what stands in parentheses
-module _ (pick : Pick) (text rest : List ℕ) {opened : List ℕ} (kind : IsPunctuation kinds.OpenParenthesis text opened) where
-  id_list_split : {after : List ℕ} (f : Filter) → IsWordOf (λ (w : List ℕ). selector_word pick w ≡ words.Ids) opened after → id_list.reads after f rest → grammar.filter pick f text rest
+module _ (text rest : List ℕ) {opened : List ℕ} (kind : says "(" text opened) where
+  id_list_split : {after : List ℕ} (f : Filter) → word "id" opened after → id_list.reads after f rest → grammar.filter f text rest
   unfolding id_list ◌>>=◌ give
-  id_list_split {after = after} f word r =
+  id_list_split {after = after} f named r =
       let first = r.back_reads in
       let list = first.back_reads in
       let g = gather_sound id_after one_id no_id ((first.front) ∷ []) list.front first.middle list.middle list.front_reads in
-      as_filter pick text rest (list.back_reads.0 ∙ ap (λ (l : List ℤ). Ids l) g.is) (both opened kind
-      (both g.middle (inr (both after word (both r.middle (pass_sound kinds.Colon (alike _) (record { reads = r.front_reads })) (both first.middle (id_split first.front first.front_reads) g.front))))
-      (spelled_to (IsPunctuation kinds.CloseParenthesis) list.back_reads.1 g.back)))
+      as_filter text rest (list.back_reads.0 ∙ ap (λ (l : List ℤ). Ids l) g.is) (both opened kind
+      (both g.middle (inr (both after named (both r.middle (pass_sound kinds.Colon (alike _) (record { reads = r.front_reads })) (both first.middle (id_split first.front first.front_reads) g.front))))
+      (spelled_to (says ")") list.back_reads.1 g.back)))
 
-  path_split : {after : List ℕ} (f : Filter) (path : Path) → IsWordOf (λ (w : List ℕ). selector_word pick w ≡ words.Along path) opened after → (path_from path).reads after f rest → grammar.filter pick f text rest
+  path_split : (after : List ℕ) (f : Filter) (path : Path) → grammar.path path opened after → (path_from path).reads after f rest → grammar.filter f text rest
   unfolding path_from ◌>>=◌ choose give from next_token name_after
-  path_split {after = after} f path word r = elim r.back_reads [
+  path_split after f path along r = elim r.back_reads [
     | inl it ↦ (let named = it.1 in let close = named.back_reads in let is = close.back_reads in
-        as_filter pick text rest is.0 (both opened kind (both named.middle
-        (both after word (inl (record { next = r.front; place = r.middle; at = r.front_reads; is = it.0; name_is = named.front_reads })))
-        (spelled_to (IsPunctuation kinds.CloseParenthesis) is.1 (close_to (alike named.middle) close.front close.front_reads)))))
+        as_filter text rest is.0 (both opened kind (both named.middle
+        (both after along (inl (set_said (record { next = r.front; place = r.middle; at = r.front_reads; is = it.0; name_is = named.front_reads }))))
+        (spelled_to (says ")") is.1 (close_to (alike named.middle) close.front close.front_reads)))))
     | inr it ↦ (let close = it.1 in let is = close.back_reads in
-        as_filter pick text rest is.0 (both opened kind (both after
-        (both after word (inr (refl, refl)))
-        (spelled_to (IsPunctuation kinds.CloseParenthesis) is.1 (close_to (alike_back (from_token r.front_reads)) close.front close.front_reads)))))
+        as_filter text rest is.0 (both opened kind (both after
+        (both after along (inr (refl, refl)))
+        (spelled_to (says ")") is.1 (close_to (alike_back (from_token r.front_reads)) close.front close.front_reads)))))
   ]
 
-corner_split : {text rest : List ℕ} (found : Number) → corner.reads text found rest → Both (IsPunctuation kinds.Comma) (grammar.corner found.number) text rest
+corner_split : {text rest : List ℕ} (found : Number) → corner.reads text found rest → Both (says ",") (grammar.corner found.number) text rest
 unfolding corner ◌>>=◌
-corner_split found r = both r.middle (pass_sound kinds.Comma (alike _) (record { reads = r.front_reads })) (number_split found (alike _) r.back_reads)
+corner_split found r = both r.middle (pass_sound kinds.Comma (alike _) (record { reads = r.front_reads })) (number_said (number_split found (alike _) r.back_reads))
 
-module _ (pick : Pick) (text rest : List ℕ) {opened : List ℕ} (kind : IsPunctuation kinds.OpenParenthesis text opened) where
-  box_split : {after place : List ℕ} (f : Filter) (south : Number) → grammar.corner south.number opened after → IsPunctuation kinds.Comma after place → (box_after south).reads place f rest → grammar.filter pick f text rest
+module _ (text rest : List ℕ) {opened : List ℕ} (kind : says "(" text opened) where
+  box_split : {after place : List ℕ} (f : Filter) (south : Number) → grammar.corner south.number opened after → says "," after place → (box_after south).reads place f rest → grammar.filter f text rest
   unfolding box_after ◌>>=◌ give area
   box_split {after = after} {place = place} f south first comma west =
       let north = west.back_reads in
@@ -257,46 +260,46 @@ module _ (pick : Pick) (text rest : List ℕ) {opened : List ℕ} (kind : IsPunc
       let all : Corners = record { south = south.number; west = (west.front).number; north = (north.front).number; east = (east.front).number } in
       let n = corner_split north.front north.front_reads in
       let e = corner_split east.front east.front_reads in
-      as_filter pick text rest made.back_reads.0 (both opened kind (both east.middle (
+      as_filter text rest made.back_reads.0 (both opened kind (both east.middle (
         all,
         box.0,
         box.1,
-        both after first (both place comma (both west.middle (number_split west.front (alike place) west.front_reads)
+        both after first (both place comma (both west.middle (number_said (number_split west.front (alike place) west.front_reads))
             (both n.middle n.front (both north.middle n.back (both e.middle e.front e.back))))),
       )
-      (spelled_to (IsPunctuation kinds.CloseParenthesis) (made.back_reads.1 ∙ box.2) (pass_sound kinds.CloseParenthesis (alike east.middle) (record { reads = close.front_reads })))))
+      (spelled_to (says ")") (made.back_reads.1 ∙ box.2) (pass_sound kinds.CloseParenthesis (alike east.middle) (record { reads = close.front_reads })))))
 
-  number_selector_split : {after : List ℕ} (f : Filter) (number : Number) → grammar.corner number.number opened after → (number_selector pick number).reads after f rest → grammar.filter pick f text rest
+  number_selector_split : {after : List ℕ} (pick : Pick) (f : Filter) (number : Number) → IsNumberOf (λ (d : Decimal). d ≡ number.number) opened after → (number_selector pick number).reads after f rest → grammar.filter f text rest
   unfolding number_selector ◌>>=◌ choose give next_token unexpected refuse id_of
-  number_selector_split {after = after} f number first r = elim r.back_reads [
+  number_selector_split {after = after} pick f number first r = elim r.back_reads [
     | inl comma ↦ elim comma.1 [
-      | inl it ↦ box_split f number first (record { next = r.front; at = r.front_reads; is = comma.0 }) it.1
+      | inl it ↦ box_split f number (number_said first) (said_at r.front_reads comma.0) it.1
       | inr other ↦ absurd other.1
     ]
     | inr it ↦ elim it.1 [
       | inl it ↦ (let id = it.1 in
-          as_filter pick text rest id.back_reads.0 (both opened kind (both after
-          (inl (both opened (refl, refl) (means (λ (d : Decimal) e. subst (λ (n : Decimal). IsId n id.front) (sym e) id.front_reads.0) first)))
-          (record { next = r.front; at = at_rest (id.back_reads.1 ∙ id.front_reads.1) r.front_reads; is = it.0 }))))
+          as_filter text rest id.back_reads.0 (both opened kind (both after
+          (inl (both opened (refl, refl) (number_said (means (λ (d : Decimal) e. subst (λ (n : Decimal). IsId n id.front) (sym e) id.front_reads.0) first))))
+          (said_at (at_rest (id.back_reads.1 ∙ id.front_reads.1) r.front_reads) it.0))))
       | inr other ↦ absurd other.1
     ]
   ]
 
-  named_split : {after : List ℕ} (f : Filter) (place word : List ℕ) (case : SelectorWord) → selector_word pick word ≡ case → IsWordOf (λ (w : List ℕ). w ≡ word) opened after → (selector_named place case).reads after f rest → grammar.filter pick f text rest
+  named_split : {after : List ℕ} (pick : Pick) (f : Filter) (place word : List ℕ) (case : SelectorWord) → selector_word pick word ≡ case → IsWordOf (λ (w : List ℕ). w ≡ word) opened after → (selector_named place case).reads after f rest → grammar.filter f text rest
   unfolding refuse
-  named_split f place word words.Ids is spelled r = id_list_split pick text rest kind f (means_word (λ (w : List ℕ) e. ap (selector_word pick) e ∙ is) spelled) r
-  named_split f place word (words.Along path) is spelled r = path_split pick text rest kind f path (means_word (λ (w : List ℕ) e. ap (selector_word pick) e ∙ is) spelled) r
-  named_split f place word words.LeftOut is spelled r = absurd r
-  named_split f place word words.Unknown is spelled r = absurd r
+  named_split pick f place word words.Ids is spelled r = id_list_split text rest kind f (selector_is word spelled pick words.Ids is) r
+  named_split pick f place word (words.Along path) is spelled r = path_split text rest kind _ f path (selector_is word spelled pick (words.Along path) is) r
+  named_split pick f place word words.LeftOut is spelled r = absurd r
+  named_split pick f place word words.Unknown is spelled r = absurd r
 
-  selector_split : (f : Filter) → (selector pick).reads opened f rest → grammar.filter pick f text rest
+  selector_split : (pick : Pick) (f : Filter) → (selector pick).reads opened f rest → grammar.filter f text rest
   unfolding selector ◌>>=◌ choose next_token unexpected refuse word_selector by_case
-  selector_split f r = elim r.back_reads [
+  selector_split pick f r = elim r.back_reads [
     | inl it ↦ (let word = it.1 in let found = word_split r.front word.front word.front_reads in
-        named_split f (word.front).place (word.front).word (selector_word pick (word.front).word) refl
+        named_split pick f (word.front).place (word.front).word (selector_word pick (word.front).word) refl
         (record { next = r.front; place = r.middle; word = (word.front).word; at = r.front_reads; is = it.0; run = found; means = refl }) word.back_reads)
     | inr it ↦ elim it.1 [
-      | inl it ↦ (let number = it.1 in number_selector_split f number.front (number_at_split r.front number.front r.front_reads it.0 number.front_reads) number.back_reads)
+      | inl it ↦ (let number = it.1 in number_selector_split pick f number.front (number_at_split r.front number.front r.front_reads it.0 number.front_reads) number.back_reads)
       | inr other ↦ absurd other.1
     ]
   ]
@@ -324,10 +327,10 @@ unfolding number_selector
 reads_one pick place id number {after = after} is close =
     reads_then _ (reads_token (alike after) close.at) (reads_no _ (other_kind close.is (λ e. cc)) (reads_yes _ close.is (reads_then _ (reads_value place is) reads_give)))
 
-reads_id_list : (id : ℤ) (more : List ℤ) {after rest : List ℕ} → Both (IsPunctuation kinds.Colon) (Both (grammar.id id) (each grammar.other_id more)) after rest → {end : List ℕ} → IsPunctuation kinds.CloseParenthesis rest end → Reading id_list after (Ids (id ∷ more)) end
+reads_id_list : (id : ℤ) (more : List ℤ) {after rest : List ℕ} → Both (says ":") (Both (grammar.id id) (each grammar.other_id more)) after rest → {end : List ℕ} → IsPunctuation kinds.CloseParenthesis rest end → Reading id_list after (Ids (id ∷ more)) end
 unfolding id_list
 reads_id_list id more {after = after} b close =
-    reads_then _ (reads_punctuation (alike after) b.front) (reads_then _ (reads_id id (b.back).front) (reads_then _ (reads_gather id_after reads_one_id (id ∷ []) more (all_such more) (b.back).back (reads_no_id _ _ close)) reads_give))
+    reads_then _ (reads_punctuation (alike after) (token kinds.Colon b.front refl refl)) (reads_then _ (reads_id id (b.back).front) (reads_then _ (reads_gather id_after reads_one_id (id ∷ []) more (all_such more) (b.back).back (reads_no_id _ _ close)) reads_give))
 
 reads_path_close : {start place rest : List ℕ} → Alike start place → IsPunctuation kinds.CloseParenthesis place rest → Reading path_close start tt rest
 unfolding path_close
@@ -335,13 +338,13 @@ reads_path_close like close = reads_then _ (reads_token like close.at) (reads_ye
 
 reads_path : (path : Path) (set : List ℕ) {after middle rest : List ℕ} → spelling.source set after middle → IsPunctuation kinds.CloseParenthesis middle rest → Reading (path_from path) after (Via path set) rest
 unfolding path_from
-reads_path path set {after = after} (inl named) close = reads_then _ (reads_token (alike after) named.at) (reads_yes _ named.is (reads_then _ (reads_name_after _ named.name_is) (reads_then _ (reads_path_close (alike _) close) reads_give)))
+reads_path path set {after = after} (inl dotted) close = let named = set_token dotted in reads_then _ (reads_token (alike after) named.at) (reads_yes _ named.is (reads_then _ (reads_name_after _ named.name_is) (reads_then _ (reads_path_close (alike _) close) reads_give)))
 reads_path path set {after = after} {middle = middle} (inr default) close =
     let like : Alike after middle = alike_back (alike_by default.1) in
     reads_then _ (reads_token like close.at) (reads_no _ (other_kind close.is (λ e. cc))
     (reads_then _ (reads_from _ (reads_path_close (alike_on (from_token close.at) (alike middle)) close)) (reads_as (ap (λ (s : List ℕ). Via path s) default.0))))
 
-reads_corner : {text middle rest : List ℕ} {value : Decimal} → IsPunctuation kinds.Comma text middle → (n : grammar.corner value middle rest) → Reading corner text (record { number = n.number; place = (n.next).place }) rest
+reads_corner : {text middle rest : List ℕ} {value : Decimal} → IsPunctuation kinds.Comma text middle → (n : IsNumberOf (λ (d : Decimal). d ≡ value) middle rest) → Reading corner text (record { number = n.number; place = (n.next).place }) rest
 unfolding corner
 reads_corner {text = text} comma n = reads_then _ (reads_punctuation (alike text) comma) (reads_number (alike _) n)
 
@@ -356,38 +359,40 @@ reads_area place e is = record { reads = (subst AreBox (sym e) is, ap box_of (sy
 reads_within : (pick : Pick) (box : ExactBox) {opened middle rest : List ℕ} → takes_boxes pick ≡ true → grammar.box box opened middle → IsPunctuation kinds.CloseParenthesis middle rest → Reading (selector pick) opened (Within box) rest
 unfolding number_selector box_after
 reads_within pick box takes spelled close =
-    let south = spelled.3 in
-    let comma = south.back in
-    let west = comma.back in
-    let next = west.back in
-    let north = next.back in
-    let east = north.back in
-    reads_number_selector pick south.front (reads_then _ (reads_token (alike _) (comma.front).at) (reads_yes _ (comma.front).is (reads_yes _ takes
-    (reads_then _ (reads_number (alike _) west.front) (reads_then _ (reads_corner next.front north.front) (reads_then _ (reads_corner east.front east.back)
+    let west = (spelled.3).back in
+    let north = (west.back).back in
+    let east = (north.back).back in
+    let s = number_token (spelled.3).front in
+    let w = number_token (west.back).front in
+    let n = number_token (north.back).front in
+    let e = number_token east.back in
+    let comma = token kinds.Comma west.front refl refl in
+    reads_number_selector pick s (reads_then _ (reads_token (alike _) comma.at) (reads_yes _ comma.is (reads_yes _ takes
+    (reads_then _ (reads_number (alike _) w) (reads_then _ (reads_corner (token kinds.Comma north.front refl refl) n) (reads_then _ (reads_corner (token kinds.Comma east.front refl refl) e)
     (reads_then _ (reads_punctuation (alike _) close)
-    (reads_then _ (reads_area _ (same_corners (south.front).means (west.front).means (north.front).means ((east.back).means)) spelled.1) (reads_as (ap (λ (b : ExactBox). Within b) spelled.2))))))))))
+    (reads_then _ (reads_area _ (same_corners s.means w.means n.means e.means) spelled.1) (reads_as (ap (λ (b : ExactBox). Within b) spelled.2))))))))))
 
 -- a filter in parentheses
-reads_ids : (pick : Pick) (ids : List ℤ) {opened middle rest : List ℕ} → grammar.ids pick ids opened middle → IsPunctuation kinds.CloseParenthesis middle rest → Reading (selector pick) opened (Ids ids) rest
+reads_ids : (pick : Pick) (ids : List ℤ) {opened middle rest : List ℕ} → grammar.ids ids opened middle → IsPunctuation kinds.CloseParenthesis middle rest → Reading (selector pick) opened (Ids ids) rest
 reads_ids pick [] spelled close = absurd spelled
 reads_ids pick (id ∷ more) {opened = opened} {middle = middle} {rest = rest} (inl one) close =
     let e = (one.front).0 in
-    let n = subst (λ (s : List ℕ). grammar.id id s middle) (one.front).1 one.back in
+    let n = number_token (subst (λ (s : List ℕ). grammar.id id s middle) (one.front).1 one.back) in
     subst (λ (l : List ℤ). Reading (selector pick) opened (Ids (id ∷ l)) rest) (sym e) (reads_number_selector pick n (reads_one pick _ id n.number n.means close))
-reads_ids pick (id ∷ more) (inr list) close = reads_word_selector pick words.Ids list.front (reads_id_list id more list.back close)
+reads_ids pick (id ∷ more) (inr list) close = reads_word_selector pick words.Ids (ids_token pick list.front) (reads_id_list id more list.back close)
 
 -- filters
-one_filter : (pick : Pick) (f : Filter) (text rest : List ℕ) → (a_filter pick).reads text (Some f) rest → grammar.filter pick f text rest
+one_filter : (pick : Pick) (f : Filter) (text rest : List ℕ) → (a_filter pick).reads text (Some f) rest → grammar.filter f text rest
 unfolding a_filter ◌>>=◌ choose from give next_token name_after
 one_filter pick f text rest r = elim r.back_reads [
   | inl it ↦ (let named = it.1 in let is : f ≡ InSet named.front = (let e = named.back_reads.0 in cc) in
-      as_filter pick text rest is (spelled_to (IsSet named.front) named.back_reads.1 (record { next = r.front; place = r.middle; at = r.front_reads; is = it.0; name_is = named.front_reads })))
+      as_filter text rest is (spelled_to (named_set named.front) named.back_reads.1 (set_said (record { next = r.front; place = r.middle; at = r.front_reads; is = it.0; name_is = named.front_reads }))))
   | inr it ↦ elim it.1 [
     | inl it ↦ (let found = it.1 in let is : f ≡ found.front = (let e = found.back_reads.0 in cc) in
-        as_filter pick text rest is (spelled_to (grammar.filter pick found.front) found.back_reads.1 (tag_filter_split pick text found.middle found.front (record { next = r.front; at = r.front_reads; is = it.0 }) found.front_reads)))
+        as_filter text rest is (spelled_to (grammar.filter found.front) found.back_reads.1 (tag_filter_split text found.middle found.front (said_at r.front_reads it.0) found.front_reads)))
     | inr it ↦ elim it.1 [
       | inl it ↦ (let found = it.1 in let is : f ≡ found.front = (let e = found.back_reads.0 in cc) in
-          as_filter pick text rest is (spelled_to (grammar.filter pick found.front) found.back_reads.1 (selector_split pick text found.middle (record { next = r.front; at = r.front_reads; is = it.0 }) found.front found.front_reads)))
+          as_filter text rest is (spelled_to (grammar.filter found.front) found.back_reads.1 (selector_split text found.middle (said_at r.front_reads it.0) pick found.front found.front_reads)))
       | inr it ↦ (let bad : Some f ≡ None = it.1.0 in absurd (cc))
     ]
   ]
@@ -407,7 +412,7 @@ no_filter pick text rest r = elim r.back_reads [
   ]
 ]
 
-pub filters_sound : (pick : Pick) (all : List Filter) (text rest : List ℕ) → (gather (a_filter pick) []).reads text all rest → Gathered (grammar.filter pick) Alike [] all text rest
+pub filters_sound : (pick : Pick) (all : List Filter) (text rest : List ℕ) → (gather (a_filter pick) []).reads text all rest → Gathered grammar.filter Alike [] all text rest
 filters_sound pick all text rest r = gather_sound (a_filter pick) (one_filter pick) (no_filter pick) [] all text rest r
 
 -- what stands in brackets
@@ -424,18 +429,22 @@ reads_in_set : (pick : Pick) (name : List ℕ) {text rest : List ℕ} → IsSet 
 unfolding a_filter
 reads_in_set pick name {text = text} s = reads_then _ (reads_token (alike text) s.at) (reads_yes _ s.is (reads_then _ (reads_name_after _ s.name_is) reads_give))
 
-pub reads_filter : (pick : Pick) (f : Filter) → Allows pick f → (text rest : List ℕ) → grammar.filter pick f text rest → Reading (a_filter pick) text (Some f) rest
-reads_filter pick (InSet name) such text rest s = reads_in_set pick name s
-reads_filter pick (HasKey key) such text rest s = reads_bracket pick (HasKey key) s.front (reads_keyed key (HasKey key) (s.back).front (reads_has_key key (s.back).back))
+pub reads_filter : (pick : Pick) (f : Filter) → Allows pick f → (text rest : List ℕ) → grammar.filter f text rest → Reading (a_filter pick) text (Some f) rest
+reads_filter pick (InSet name) such text rest s = reads_in_set pick name (set_token s)
+reads_filter pick (HasKey key) such text rest s = reads_bracket pick (HasKey key) (token kinds.OpenBracket s.front refl refl) (reads_keyed key (HasKey key) (tag_token (s.back).front) (reads_has_key key (token kinds.CloseBracket (s.back).back refl refl)))
 reads_filter pick (KeyIs key value) such text rest s = let body = (s.back).front in
-    reads_bracket pick (KeyIs key value) s.front (reads_keyed key (KeyIs key value) body.front (reads_key_is key value (body.back).front (body.back).back (s.back).back))
-reads_filter pick (LacksKey key) such text rest s = reads_bracket pick (LacksKey key) s.front (reads_lacks_key key ((s.back).front).front ((s.back).front).back (s.back).back)
+    reads_bracket pick (KeyIs key value) (token kinds.OpenBracket s.front refl refl)
+    (reads_keyed key (KeyIs key value) (tag_token body.front) (reads_key_is key value (token kinds.Equal (body.back).front refl refl) (tag_token (body.back).back) (token kinds.CloseBracket (s.back).back refl refl)))
+reads_filter pick (LacksKey key) such text rest s = let body = (s.back).front in
+    reads_bracket pick (LacksKey key) (token kinds.OpenBracket s.front refl refl) (reads_lacks_key key (not_token body.front body.back) (tag_token body.back) (token kinds.CloseBracket (s.back).back refl refl))
 reads_filter pick (KeyIsNot key value) such text rest s = let body = (s.back).front in
-    reads_bracket pick (KeyIsNot key value) s.front (reads_keyed key (KeyIsNot key value) body.front (reads_key_is_not key value (body.back).front (body.back).back (s.back).back))
-reads_filter pick (Ids ids) such text rest s = reads_parenthesis pick (Ids ids) s.front (reads_ids pick ids (s.back).front (s.back).back)
-reads_filter pick (Within box) such text rest s = reads_parenthesis pick (Within box) s.front (reads_within pick box such (s.back).front (s.back).back)
+    reads_bracket pick (KeyIsNot key value) (token kinds.OpenBracket s.front refl refl)
+    (reads_keyed key (KeyIsNot key value) (tag_token body.front) (reads_key_is_not key value (token kinds.NotEqual (body.back).front refl refl) (tag_token (body.back).back) (token kinds.CloseBracket (s.back).back refl refl)))
+reads_filter pick (Ids ids) such text rest s = reads_parenthesis pick (Ids ids) (token kinds.OpenParenthesis s.front refl refl) (reads_ids pick ids (s.back).front (token kinds.CloseParenthesis (s.back).back refl refl))
+reads_filter pick (Within box) such text rest s = reads_parenthesis pick (Within box) (token kinds.OpenParenthesis s.front refl refl) (reads_within pick box such (s.back).front (token kinds.CloseParenthesis (s.back).back refl refl))
 reads_filter pick (Via path set) such text rest s = let body = (s.back).front in
-    reads_parenthesis pick (Via path set) s.front (reads_word_selector pick (words.Along path) body.front (reads_path path set body.back (s.back).back))
+    reads_parenthesis pick (Via path set) (token kinds.OpenParenthesis s.front refl refl)
+    (reads_word_selector pick (words.Along path) (path_token pick path such body.front) (reads_path path set body.back (token kinds.CloseParenthesis (s.back).back refl refl)))
 
 pub reads_no_filter : (pick : Pick) {kind : TokenKind} {text rest : List ℕ} → (s : IsPunctuation kind text rest) → (kind ≡ kinds.Dot → ⊥) → (kind ≡ kinds.OpenBracket → ⊥) → (kind ≡ kinds.OpenParenthesis → ⊥) → Reading (a_filter pick) text None (s.next).place
 unfolding a_filter

@@ -212,7 +212,11 @@ top_statement_gives : Gives (IfOne IsTop) top_statement
 unfolding top_statement
 top_statement_gives = gives_after _ _ (λ next. gives_choose _ (λ is. gives_from [] (gives_give _ tt)) (gives_then _ (gives_from next.place (statement_gives levels.Top 32)) (λ s is. gives_give _ (top_is s is))))
 
+query_row : (all : List Statement) → AllByRecursion IsTop all → IsQuery (row_of all)
+query_row [] such = tt
+query_row (s ∷ all) such = (such.0, query_row all such.1)
+
 -- what is read keeps what every query does
 pub query_gives : Gives IsQuery query
 unfolding query
-query_gives = gives_after _ _ (λ set. gives_gather IsTop top_statement_gives [] tt)
+query_gives = gives_after _ _ (λ set. gives_then _ (gives_gather IsTop top_statement_gives [] tt) (λ all such. gives_give _ (query_row all such)))

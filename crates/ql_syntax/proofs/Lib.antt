@@ -22,10 +22,13 @@ pub mod AreaLemmas
 pub mod TagLengths
 pub mod StatementLengths
 pub mod StatementLemmas
+pub mod StatementLists
 pub mod QueryLemmas
 pub mod DefiniteLemmas
 pub mod DefiniteTokens
 pub mod DefiniteRules
+pub mod TokenSpellings
+pub mod WordSpellings
 pub mod SpellingLemmas
 pub mod GatherSpellings
 pub mod KeyStarts

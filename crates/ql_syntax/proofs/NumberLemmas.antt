@@ -5,11 +5,12 @@ use Rattle.std.specs.Str.Parse.{AllDigits}
 use Rattle.std.proofs.Math.Seq.{take-append_seam}
 use Rattle.std.proofs.lemmas.List.{take-append-drop}
 use Rattle.osm_model.specs.Degrees.{IsDigits, IsFraction, BeginsOtherwise, sign, point, spelling}
+use Rattle.osm_model.specs.internal.DecimalParts.{fraction_of}
 use Rattle.ql_syntax.specs.declared.cause.QlCause.{QlCause}
 use Rattle.ql_syntax.specs.declared.number.Fraction.{Fraction}
 use Rattle.ql_syntax.specs.declared.number.Number.{Number}
 use Rattle.ql_syntax.specs.Numbers.{IsNoNumber, IsMisfit, is_minus}
-use Rattle.ql_syntax.specs.internal.NumberParts.{IsNumberOf, IsFractionOf, decimal_of, fraction_of}
+use Rattle.ql_syntax.specs.internal.NumberParts.{IsNumberOf, IsFractionOf, decimal_of}
 use Rattle.ql_syntax.specs.Words.{begins_with}
 
 -- after the sign stands no digit

@@ -1,51 +1,98 @@
 -- What stands after `out` is spelled as rules read it.
-use Rattle.std.proofs.Common.{◌≡◌, ℕ, List, [], ◌∷◌, ◌++◌, Option, None, Some, Bool, true, false, refl, sym, ◌∙◌, ap, subst, inl, inr, append-nil}
+use Rattle.std.proofs.Common.{◌≡◌, ℕ, List, Option, None, Some, Bool, true, false, refl, sym, ◌∙◌, ap, subst, inl, inr}
 use Rattle.std.specs.Option.{is_some, unwrap_or}
 use Rattle.opl_codec.specs.declared.out_mode.OutMode.{OutMode}
 use Rattle.opl_codec.specs.declared.out_mode.OutMode.TheVariants as modes
 use Rattle.osm_model.specs.Degrees.{Decimal}
 use Rattle.ql_syntax.specs.Grammar as grammar
-use Rattle.ql_syntax.specs.Grammar.{OutOption, Mode, Order, Limit, modes_of, orders_of, limits_of, at_most_one}
 use Rattle.ql_syntax.specs.OutWords.{out_word}
 use Rattle.ql_syntax.specs.Outs.{once, out_word_at, with_word, with_number, out_round, out_options}
 use Rattle.ql_syntax.specs.TokenRules.{Number, next_token, unexpected, begins_number}
-use Rattle.ql_syntax.specs.Rules.{Rule, ◌>>=◌, give, refuse, from, choose, by_case, repeat, Round, More, Done, RoundsRead, Last}
+use Rattle.ql_syntax.specs.Rules.{Rule, ◌>>=◌, give, refuse, choose, by_case, repeat, Round, More, Done, RoundsRead, Last}
 use Rattle.ql_syntax.specs.Rules as rounds
-use Rattle.ql_syntax.specs.Spellings.{Both, each, IsPunctuation, IsWordOf, IsNumberOf}
+use Rattle.ql_syntax.specs.Spellings.{Spelling, Both, ◌&◌, when, nothing, in_any_order, says}
 use Rattle.ql_syntax.specs.WholeNumbers.{IsCount, count_of}
 use Rattle.ql_syntax.specs.declared.out_options.OutOptions.{OutOptions}
 use Rattle.ql_syntax.specs.declared.out_word.OutWord.{OutWord}
 use Rattle.ql_syntax.specs.declared.out_word.OutWord.TheVariants as words
 use Rattle.ql_syntax.specs.declared.token_kind.TokenKind.{TokenKind}
 use Rattle.ql_syntax.specs.declared.token_kind.TokenKind.TheVariants as kinds
-use Rattle.ql_syntax.proofs.FilterSpellings.{means, means_word, number_at_split, word_split, reads_word_at, reads_number_at, word_is_no_number}
+use Rattle.ql_syntax.proofs.FilterSpellings.{means, number_at_split, word_split, reads_word_at, reads_number_at, word_is_no_number}
 use Rattle.ql_syntax.proofs.SpellingLemmas.{alike, at_rest, both, spelled_to, other_kind, Reading, reads_then, reads_give, reads_yes, reads_no, reads_case, reads_token}
+use Rattle.ql_syntax.proofs.TokenSpellings.{IsPunctuation, said_at, token, IsWordOf, IsNumberOf, number_said, number_token}
+use Rattle.ql_syntax.proofs.WordSpellings.{out_spelled, out_is, mode_token, asc_token, qt_token}
 
-abbrev order_of : Bool → Option (Unit {0})
-order_of true = Some tt
-order_of false = None
+-- of three that stand in any order one comes first, and stands no more after that
+module _ {a none : Spelling} {text middle rest : List ℕ} (front : (here after : List ℕ) → none here after → a text middle) (gone : (here after : List ℕ) → none here after → after ≡ here) where
+  drop_front : {more : Spelling} → Both none more middle rest → Both a more text rest
+  drop_front {more = more} it = both middle (front middle it.middle it.front) (subst (λ (s : List ℕ). more s rest) (gone middle it.middle it.front) it.back)
 
--- these options lead from those seen to those found
-record Leads (seen : OutOptions) (options : List OutOption) (found : OutOptions) : Type 0 where
-  modes : at_most_one seen.mode ++ modes_of options ≡ at_most_one found.mode
-  orders : at_most_one (order_of seen.ordered) ++ orders_of options ≡ at_most_one (order_of found.ordered)
-  limits : at_most_one seen.limit ++ limits_of options ≡ at_most_one found.limit
+  drop_second : {first last : Spelling} → Both first (Both none last) middle rest → Both a (Both first last) text rest
+  drop_second {first = first} {last = last} it =
+      let more = it.back in
+      both middle (front it.middle more.middle more.front) (both it.middle it.front (subst (λ (s : List ℕ). last s rest) (gone it.middle more.middle more.front) more.back))
 
--- options, and the `;`
-record Spelled (seen found : OutOptions) (text rest : List ℕ) : Type 0 where
-  options : List OutOption
-  leads : Leads seen options found
-  spelled : Both (each grammar.out_option options) (IsPunctuation kinds.Semicolon) text rest
+  drop_last : {first second : Spelling} → Both first (Both second none) middle rest → Both a (Both first second) text rest
+  drop_last {first = first} {second = second} it =
+      let more = it.back in
+      both middle (front more.middle rest more.back) (both it.middle it.front (subst (λ (s : List ℕ). second it.middle s) (sym (gone more.middle rest more.back)) more.front))
 
-stays : {A : Type 0} (o : Option A) → at_most_one o ++ [] ≡ at_most_one o
-stays o = append-nil (at_most_one o)
+  module _ {b c : Spelling} where
+    first_of_three : in_any_order none b c middle rest → in_any_order a b c text rest
+    first_of_three (inl it) = inl (drop_front it)
+    first_of_three (inr (inl it)) = inr (inl (drop_front it))
+    first_of_three (inr (inr (inl it))) = inl (drop_second it)
+    first_of_three (inr (inr (inr (inl it)))) = inl (drop_last it)
+    first_of_three (inr (inr (inr (inr (inl it))))) = inr (inl (drop_second it))
+    first_of_three (inr (inr (inr (inr (inr it))))) = inr (inl (drop_last it))
 
-no_option : (options found : OutOptions) → found ≡ options → Leads options [] found
-no_option options found e = record {
-  modes = stays options.mode ∙ ap (λ (o : OutOptions). at_most_one o.mode) (sym e);
-  orders = stays (order_of options.ordered) ∙ ap (λ (o : OutOptions). at_most_one (order_of o.ordered)) (sym e);
-  limits = stays options.limit ∙ ap (λ (o : OutOptions). at_most_one o.limit) (sym e);
-}
+    second_of_three : in_any_order b none c middle rest → in_any_order b a c text rest
+    second_of_three (inl it) = inr (inr (inl (drop_second it)))
+    second_of_three (inr (inl it)) = inr (inr (inl (drop_last it)))
+    second_of_three (inr (inr (inl it))) = inr (inr (inl (drop_front it)))
+    second_of_three (inr (inr (inr (inl it)))) = inr (inr (inr (inl (drop_front it))))
+    second_of_three (inr (inr (inr (inr (inl it))))) = inr (inr (inr (inl (drop_last it))))
+    second_of_three (inr (inr (inr (inr (inr it))))) = inr (inr (inr (inl (drop_second it))))
+
+    third_of_three : in_any_order b c none middle rest → in_any_order b c a text rest
+    third_of_three (inl it) = inr (inr (inr (inr (inl (drop_last it)))))
+    third_of_three (inr (inl it)) = inr (inr (inr (inr (inl (drop_second it)))))
+    third_of_three (inr (inr (inl it))) = inr (inr (inr (inr (inr (drop_last it)))))
+    third_of_three (inr (inr (inr (inl it)))) = inr (inr (inr (inr (inr (drop_second it)))))
+    third_of_three (inr (inr (inr (inr (inl it))))) = inr (inr (inr (inr (inl (drop_front it)))))
+    third_of_three (inr (inr (inr (inr (inr it))))) = inr (inr (inr (inr (inr (drop_front it)))))
+
+-- what may still stand after what was seen
+abbrev Mode_left : Option OutMode → OutMode → Spelling
+Mode_left None mode = grammar.out_mode mode
+Mode_left (Some seen) mode = when (mode ≡ seen)
+
+abbrev Order_left : Bool → Spelling
+Order_left true = nothing
+Order_left false = grammar.out_order
+
+abbrev Limit_left : Option ℕ → Option ℕ → Spelling
+Limit_left None most = grammar.out_limit most
+Limit_left (Some seen) most = when (most ≡ Some seen)
+
+abbrev Left : Option OutMode → Bool → Option ℕ → OutOptions → Spelling
+Left mode ordered most found = in_any_order (Mode_left mode (unwrap_or found.mode modes.Body)) (Order_left ordered) (Limit_left most found.limit) & says ";"
+
+abbrev After : OutOptions → OutOptions → Spelling
+After seen found = Left seen.mode seen.ordered seen.limit found
+
+-- nothing more
+mode_done : (o : Option OutMode) (text : List ℕ) → Mode_left o (unwrap_or o modes.Body) text text
+mode_done None text = inr (refl, refl)
+mode_done (Some mode) text = (refl, refl)
+
+order_done : (b : Bool) (text : List ℕ) → Order_left b text text
+order_done true text = refl
+order_done false text = inr (inr refl)
+
+limit_done : (o : Option ℕ) (text : List ℕ) → Limit_left o o text text
+limit_done None text = refl
+limit_done (Some most) text = (refl, refl)
 
 -- of what may stand once none stood before
 once_is : {A B : Type 0} (o : Option A) (place text rest : List ℕ) (value found : B) → (once (is_some o) place value).reads text found rest → (o ≡ None) × (found ≡ value) × (rest ≡ text)
@@ -61,50 +108,42 @@ ordered_is true place text rest value found reads = absurd reads
 same_reads : {A : Type 0} (rule : Rule A) {text rest same : List ℕ} {value found : A} → found ≡ value → same ≡ rest → rule.reads text value rest → rule.reads text found same
 same_reads rule {text = text} {rest = rest} {found = found} is at reads = subst (λ (s : List ℕ). rule.reads text found s) (sym at) (subst (λ (v : _). rule.reads text v rest) (sym is) reads)
 
--- the first of a sort
-first_of : {A : Type 0} (a : A) (more : List A) (before later found : Option A) → before ≡ None → later ≡ Some a → at_most_one later ++ more ≡ at_most_one found → at_most_one before ++ a ∷ more ≡ at_most_one found
-first_of a more before later found none some leads = ap (λ (o : Option _). at_most_one o ++ a ∷ more) none ∙ ap (λ (o : Option _). at_most_one o ++ more) (sym some) ∙ leads
-
-as_before : {A : Type 0} (more : List A) (before later found : Option A) → later ≡ before → at_most_one later ++ more ≡ at_most_one found → at_most_one before ++ more ≡ at_most_one found
-as_before more before later found same leads = ap (λ (o : Option _). at_most_one o ++ more) (sym same) ∙ leads
-
 -- one option more in front
-module _ (seen next found : OutOptions) (text middle rest : List ℕ) (more : Spelled next found middle rest) where
-  spelled_more : (option : OutOption) → Leads seen (option ∷ more.options) found → grammar.out_option option text middle → Spelled seen found text rest
-  spelled_more option leads one = record { options = option ∷ more.options; leads = leads; spelled = both (more.spelled).middle (both middle one (more.spelled).front) (more.spelled).back }
-
-  word_leads : (place word begin : List ℕ) (case : OutWord) → out_word word ≡ case → IsWordOf (λ (w : List ℕ). w ≡ word) text begin → (out_word_at seen place case).reads begin next middle → Spelled seen found text rest
+module _ (seen next found : OutOptions) (text middle rest : List ℕ) (more : After next found middle rest) where
+  word_leads : (place w begin : List ℕ) (case : OutWord) → out_word w ≡ case → IsWordOf (λ (v : List ℕ). v ≡ w) text begin → (out_word_at seen place case).reads begin next middle → After seen found text rest
   unfolding refuse
-  word_leads place word begin (words.Mode mode) is spelled r = let o = once_is seen.mode place begin middle _ next r in let e = o.1 in
-      spelled_more (Mode mode) (record {
-        modes = first_of mode (modes_of more.options) seen.mode next.mode found.mode o.0 (ap (λ (x : OutOptions). x.mode) e) (more.leads).modes;
-        orders = as_before (orders_of more.options) (order_of seen.ordered) (order_of next.ordered) (order_of found.ordered) (ap (λ (x : OutOptions). order_of x.ordered) e) (more.leads).orders;
-        limits = as_before (limits_of more.options) seen.limit next.limit found.limit (ap (λ (x : OutOptions). x.limit) e) (more.leads).limits;
-      }) (spelled_to (grammar.out_option (Mode mode)) o.2 (means_word (λ (w : List ℕ) same. ap out_word same ∙ is) spelled))
-  word_leads place word begin words.Order is spelled r = let o = ordered_is seen.ordered place begin middle _ next r in let e = o.1 in
-      spelled_more Order (record {
-        modes = as_before (modes_of more.options) seen.mode next.mode found.mode (ap (λ (x : OutOptions). x.mode) e) (more.leads).modes;
-        orders = first_of tt (orders_of more.options) (order_of seen.ordered) (order_of next.ordered) (order_of found.ordered) (ap order_of o.0) (ap (λ (x : OutOptions). order_of x.ordered) e) (more.leads).orders;
-        limits = as_before (limits_of more.options) seen.limit next.limit found.limit (ap (λ (x : OutOptions). x.limit) e) (more.leads).limits;
-      }) (spelled_to (grammar.out_option Order) o.2 (means_word (λ (w : List ℕ) same. ap out_word same ∙ is) spelled))
-  word_leads place word begin words.LeftOut is spelled r = absurd r
-  word_leads place word begin words.Unknown is spelled r = absurd r
+  word_leads place w begin (words.Mode mode) is spelled r =
+      let o = once_is seen.mode place begin middle _ next r in
+      let said = spelled_to (grammar.mode_word mode) o.2 (out_is w spelled (words.Mode mode) is) in
+      let left : Left (Some mode) seen.ordered seen.limit found middle rest = subst (λ (x : OutOptions). After x found middle rest) o.1 more in
+      subst (λ (x : Option OutMode). Left x seen.ordered seen.limit found text rest) (sym o.0)
+      (both left.middle (first_of_three (λ here after none. inl (subst (λ (m : OutMode). grammar.mode_word m text middle) (sym none.0) said)) (λ here after none. none.1) left.front) left.back)
+  word_leads place w begin words.Order is spelled r =
+      let o = ordered_is seen.ordered place begin middle _ next r in
+      let said = spelled_to (out_spelled words.Order) o.2 (out_is w spelled words.Order is) in
+      let left : Left seen.mode true seen.limit found middle rest = subst (λ (x : OutOptions). After x found middle rest) o.1 more in
+      subst (λ (x : Bool). Left seen.mode x seen.limit found text rest) (sym o.0)
+      (both left.middle (second_of_three (λ here after none. an_order said) (λ here after none. none) left.front) left.back)
+    where
+      an_order : out_spelled words.Order text middle → grammar.out_order text middle
+      an_order (inl asc) = inl asc
+      an_order (inr qt) = inr (inl qt)
+  word_leads place w begin words.LeftOut is spelled r = absurd r
+  word_leads place w begin words.Unknown is spelled r = absurd r
 
-  number_leads : (number : Number) (begin : List ℕ) → IsNumberOf (λ (d : Decimal). d ≡ number.number) text begin → (with_number seen number).reads begin next middle → Spelled seen found text rest
+  number_leads : (number : Number) (begin : List ℕ) → IsNumberOf (λ (d : Decimal). d ≡ number.number) text begin → (with_number seen number).reads begin next middle → After seen found text rest
   unfolding with_number ◌>>=◌ give count_of
   number_leads number begin spelled r =
       let o = once_is seen.limit number.place begin r.middle seen r.front r.front_reads in
       let count = r.back_reads in
-      let e = count.back_reads.0 in
       let at : middle ≡ begin = count.back_reads.1 ∙ count.front_reads.1 ∙ o.2 in
-      spelled_more (Limit count.front) (record {
-        modes = as_before (modes_of more.options) seen.mode next.mode found.mode (ap (λ (x : OutOptions). x.mode) e) (more.leads).modes;
-        orders = as_before (orders_of more.options) (order_of seen.ordered) (order_of next.ordered) (order_of found.ordered) (ap (λ (x : OutOptions). order_of x.ordered) e) (more.leads).orders;
-        limits = first_of count.front (limits_of more.options) seen.limit next.limit found.limit o.0 (ap (λ (x : OutOptions). x.limit) e) (more.leads).limits;
-      }) (spelled_to (grammar.out_option (Limit count.front)) at (means (λ (d : Decimal) same. subst (λ (n : Decimal). IsCount n count.front) (sym same) count.front_reads.0) spelled))
+      let said = spelled_to (grammar.out_limit (Some count.front)) at (number_said (means (λ (d : Decimal) same. subst (λ (n : Decimal). IsCount n count.front) (sym same) count.front_reads.0) spelled)) in
+      let left : Left seen.mode seen.ordered (Some count.front) found middle rest = subst (λ (x : OutOptions). After x found middle rest) count.back_reads.0 more in
+      subst (λ (x : Option ℕ). Left seen.mode seen.ordered x found text rest) (sym o.0)
+      (both left.middle (third_of_three (λ here after none. subst (λ (n : Option ℕ). grammar.out_limit n text middle) (sym none.0) said) (λ here after none. none.1) left.front) left.back)
 
 -- a round that is followed by others, and the last
-next_round : (seen next found : OutOptions) (text middle rest : List ℕ) → (out_round seen).reads text (More next) middle → Spelled next found middle rest → Spelled seen found text rest
+next_round : (seen next found : OutOptions) (text middle rest : List ℕ) → (out_round seen).reads text (More next) middle → After next found middle rest → After seen found text rest
 unfolding out_round ◌>>=◌ choose give refuse next_token unexpected with_word by_case
 next_round seen next found text middle rest r more = elim r.back_reads [
   | inl it ↦ (let word = it.1 in let with = word.back_reads in let is : next ≡ with.front = (let e = with.back_reads.0 in cc) in
@@ -122,7 +161,7 @@ next_round seen next found text middle rest r more = elim r.back_reads [
   ]
 ]
 
-last_round : (seen found : OutOptions) (text rest : List ℕ) → (out_round seen).reads text (Done found) rest → Spelled seen found text rest
+last_round : (seen found : OutOptions) (text rest : List ℕ) → (out_round seen).reads text (Done found) rest → After seen found text rest
 unfolding out_round ◌>>=◌ choose give refuse next_token unexpected
 last_round seen found text rest r = elim r.back_reads [
   | inl it ↦ (let word = it.1 in let with = word.back_reads in let bad : Done found ≡ More with.front = with.back_reads.0 in absurd (cc))
@@ -132,59 +171,26 @@ last_round seen found text rest r = elim r.back_reads [
       | inl other ↦ absurd other.1
       | inr it ↦ elim it.1 [
         | inl end ↦ (let is : found ≡ seen = (let e = end.1.0 in cc) in
-            record { options = []; leads = no_option seen found is; spelled = both text refl (record { next = r.front; at = at_rest end.1.1 r.front_reads; is = end.0 }) })
+            subst (λ (x : OutOptions). After seen x text rest) (sym is)
+            (both text (inl (both text (mode_done seen.mode text) (both text (order_done seen.ordered text) (limit_done seen.limit text)))) (said_at (at_rest end.1.1 r.front_reads) end.0)))
         | inr other ↦ absurd other.1
       ]
     ]
   ]
 ]
 
-rounds_sound : (found : OutOptions) (rest : List ℕ) (seen : OutOptions) (text : List ℕ) → RoundsRead out_round found rest seen text → Spelled seen found text rest
+rounds_sound : (found : OutOptions) (rest : List ℕ) (seen : OutOptions) (text : List ℕ) → RoundsRead out_round found rest seen text → After seen found text rest
 rounds_sound found rest _ _ (Last seen text r) = last_round seen found text rest r
 rounds_sound found rest _ _ (rounds.Next seen next text middle r more) = next_round seen next found text middle rest r (rounds_sound found rest next middle more)
 
-abbrev no_options : OutOptions
-no_options = record { mode = None; ordered = false; limit = None }
+abbrev state : Option OutMode → Bool → Option ℕ → OutOptions
+state mode ordered most = record { mode = mode; ordered = ordered; limit = most }
 
-pub out_sound : (found : OutOptions) (text rest : List ℕ) → out_options.reads text found rest → Both (grammar.IsOut (unwrap_or found.mode modes.Body) found.limit) (IsPunctuation kinds.Semicolon) text rest
+pub out_sound : (found : OutOptions) (text rest : List ℕ) → out_options.reads text found rest → Both (grammar.out_options (unwrap_or found.mode modes.Body) found.limit) (says ";") text rest
 unfolding out_options repeat
-out_sound found text rest r =
-    let s = rounds_sound found rest no_options text r in
-    both (s.spelled).middle (record { options = s.options; given = found.mode; order = order_of found.ordered; one_mode = (s.leads).modes; one_order = (s.leads).orders; one_limit = (s.leads).limits; mode_is = refl; spelled = (s.spelled).front }) (s.spelled).back
+out_sound found text rest r = rounds_sound found rest (state None false None) text r
 
 -- how what is spelled is read
-none_before : {A : Type 0} (before found : Option A) (a : A) (more : List A) → at_most_one before ++ a ∷ more ≡ at_most_one found → before ≡ None
-none_before None found a more e = refl
-none_before (Some b) None a more e = absurd (cc)
-none_before (Some b) (Some c) a more e = absurd (cc)
-
-as_found : {A : Type 0} (before found : Option A) → at_most_one before ++ [] ≡ at_most_one found → found ≡ before
-as_found None None e = refl
-as_found None (Some c) e = absurd (cc)
-as_found (Some b) None e = absurd (cc)
-as_found (Some b) (Some c) e = let same : b ≡ c = cc in ap (λ (a : _). Some a) (sym same)
-
-not_ordered : (b : Bool) → order_of b ≡ None → b ≡ false
-not_ordered false e = refl
-not_ordered true e = absurd (cc)
-
-same_order : (b c : Bool) → order_of c ≡ order_of b → c ≡ b
-same_order false false e = refl
-same_order true true e = refl
-same_order false true e = absurd (cc)
-same_order true false e = absurd (cc)
-
-same_options : {m n : Option OutMode} {b c : Bool} {k l : Option ℕ} → m ≡ n → b ≡ c → k ≡ l → (let o : OutOptions = record { mode = m; ordered = b; limit = k } in let p : OutOptions = record { mode = n; ordered = c; limit = l } in o ≡ p)
-same_options a b c = cc
-
-reads_once : {A B : Type 0} {o : Option A} (place : List ℕ) {text : List ℕ} {value : B} → o ≡ None → Reading (once (is_some o) place value) text value text
-reads_once {o = None} place is = reads_give
-reads_once {o = Some a} place is = absurd (cc)
-
-reads_order : {B : Type 0} {b : Bool} (place : List ℕ) {text : List ℕ} {value : B} → b ≡ false → Reading (once b place value) text value text
-reads_order {b = false} place is = reads_give
-reads_order {b = true} place is = absurd (cc)
-
 pub reads_count : (place : List ℕ) {text : List ℕ} {number : Decimal} {value : ℕ} → IsCount number value → Reading (count_of number place) text value text
 unfolding count_of
 reads_count place is = record { reads = (is, refl) }
@@ -193,47 +199,56 @@ word_option : (seen next : OutOptions) (case : OutWord) {text rest : List ℕ} �
 unfolding out_round with_word
 word_option seen next case {text = text} w more = reads_then _ (reads_token (alike text) w.at) (reads_yes _ w.is (reads_then _ (reads_word_at w.next w.run) (reads_then _ (reads_case _ w.means more) reads_give)))
 
-number_option : (seen : OutOptions) (limit : ℕ) {text rest : List ℕ} → seen.limit ≡ None → IsNumberOf (λ (d : Decimal). IsCount d limit) text rest → Reading (out_round seen) text (More (record { mode = seen.mode; ordered = seen.ordered; limit = Some limit })) rest
+number_option : (mode : Option OutMode) (ordered : Bool) (most : ℕ) {text rest : List ℕ} → IsNumberOf (λ (d : Decimal). IsCount d most) text rest → Reading (out_round (state mode ordered None)) text (More (state mode ordered (Some most))) rest
 unfolding out_round with_number
-number_option seen limit {text = text} none n =
+number_option mode ordered most {text = text} n =
     reads_then _ (reads_token (alike text) n.at) (reads_no _ (word_is_no_number (n.next).kind n.begins) (reads_yes _ n.begins
-    (reads_then _ (reads_number_at n.next n.spelled) (reads_then _ (reads_then _ (reads_once _ none) (reads_then _ (reads_count _ n.means) reads_give)) reads_give))))
+    (reads_then _ (reads_number_at n.next n.spelled) (reads_then _ (reads_then _ reads_give (reads_then _ (reads_count _ n.means) reads_give)) reads_give))))
 
 end_option : (seen : OutOptions) {text rest : List ℕ} → IsPunctuation kinds.Semicolon text rest → Reading (out_round seen) text (Done seen) rest
 unfolding out_round
 end_option seen {text = text} s = reads_then _ (reads_token (alike text) s.at)
     (reads_no _ (other_kind s.is (λ e. cc)) (reads_no _ (λ begins. (let bad : begins_number kinds.Semicolon ≡ true = subst (λ (x : TokenKind). begins_number x ≡ true) s.is begins in cc)) (reads_no _ (other_kind s.is (λ e. cc)) (reads_yes _ s.is reads_give))))
 
-rounds_of : (options : List OutOption) (seen found : OutOptions) (text middle rest : List ℕ) → Leads seen options found → each grammar.out_option options text middle → IsPunctuation kinds.Semicolon middle rest → RoundsRead out_round found rest seen text
-rounds_of [] seen found text middle rest leads these end =
-    let same : found ≡ seen = same_options (as_found seen.mode found.mode leads.modes) (same_order seen.ordered found.ordered (as_found (order_of seen.ordered) (order_of found.ordered) leads.orders)) (as_found seen.limit found.limit leads.limits) in
-    Last seen text (subst (λ (o : OutOptions). (out_round seen).reads text (Done o) rest) (sym same) (end_option seen (subst (λ (s : List ℕ). IsPunctuation kinds.Semicolon s rest) these end)).reads)
-rounds_of (Mode mode ∷ options) seen found text middle rest leads these end =
-    let none = none_before seen.mode found.mode mode (modes_of options) leads.modes in
-    let next : OutOptions = record { mode = Some mode; ordered = seen.ordered; limit = seen.limit } in
-    rounds.Next seen next text these.middle (word_option seen next (words.Mode mode) these.front (reads_once _ none)).reads
-    (rounds_of options next found these.middle middle rest (record { modes = ap (λ (o : Option OutMode). at_most_one o ++ mode ∷ modes_of options) (sym none) ∙ leads.modes; orders = leads.orders; limits = leads.limits }) these.back end)
-rounds_of (Order ∷ options) seen found text middle rest leads these end =
-    let none = none_before (order_of seen.ordered) (order_of found.ordered) tt (orders_of options) leads.orders in
-    let next : OutOptions = record { mode = seen.mode; ordered = true; limit = seen.limit } in
-    rounds.Next seen next text these.middle (word_option seen next words.Order these.front (reads_order _ (not_ordered seen.ordered none))).reads
-    (rounds_of options next found these.middle middle rest (record { modes = leads.modes; orders = ap (λ (o : Option (Unit {0})). at_most_one o ++ tt ∷ orders_of options) (sym none) ∙ leads.orders; limits = leads.limits }) these.back end)
-rounds_of (Limit limit ∷ options) seen found text middle rest leads these end =
-    let none = none_before seen.limit found.limit limit (limits_of options) leads.limits in
-    let next : OutOptions = record { mode = seen.mode; ordered = seen.ordered; limit = Some limit } in
-    rounds.Next seen next text these.middle (number_option seen limit none these.front).reads
-    (rounds_of options next found these.middle middle rest (record { modes = leads.modes; orders = leads.orders; limits = ap (λ (o : Option ℕ). at_most_one o ++ limit ∷ limits_of options) (sym none) ∙ leads.limits }) these.back end)
+-- the options from a state on, and the `;`
+pub record Outs (mode : OutMode) (most : Option ℕ) (seen : OutOptions) (text rest : List ℕ) : Type 0 where
+  pub found : OutOptions
+  pub mode_is : unwrap_or found.mode modes.Body ≡ mode
+  pub most_is : found.limit ≡ most
+  pub rounds : RoundsRead out_round found rest seen text
 
--- the options as they are found
-abbrev pub options_of : {mode : OutMode} {limit : Option ℕ} {text rest : List ℕ} → grammar.IsOut mode limit text rest → OutOptions
-options_of {limit = limit} is = record { mode = is.given; ordered = is_some is.order; limit = limit }
+module _ (mode : OutMode) (most : Option ℕ) where
+  one_more : (seen next : OutOptions) {text middle rest : List ℕ} → Reading (out_round seen) text (More next) middle → Outs mode most next middle rest → Outs mode most seen text rest
+  one_more seen next {text = text} {middle = middle} round o = record { found = o.found; mode_is = o.mode_is; most_is = o.most_is; rounds = rounds.Next seen next text middle round.reads o.rounds }
 
-order_is : (o : Option (Unit {0})) → order_of (is_some o) ≡ o
-order_is None = refl
-order_is (Some tt) = refl
+  none_more : (seen : Option OutMode) (ordered : Bool) {text rest : List ℕ} → unwrap_or seen modes.Body ≡ mode → says ";" text rest → Outs mode most (state seen ordered most) text rest
+  none_more seen ordered {text = text} is end = record { found = state seen ordered most; mode_is = is; most_is = refl; rounds = Last (state seen ordered most) text (end_option (state seen ordered most) (token kinds.Semicolon end refl refl)).reads }
 
-pub reads_out : (mode : OutMode) (limit : Option ℕ) {text middle rest : List ℕ} → (is : grammar.IsOut mode limit text middle) → IsPunctuation kinds.Semicolon middle rest → Reading out_options text (options_of is) rest
+  then_mode : (ordered : Bool) (limit : Option ℕ) {text middle rest : List ℕ} → grammar.out_mode mode text middle → ((seen : Option OutMode) → unwrap_or seen modes.Body ≡ mode → Outs mode most (state seen ordered limit) middle rest) → Outs mode most (state None ordered limit) text rest
+  then_mode ordered limit (inl w) more = one_more (state None ordered limit) (state (Some mode) ordered limit) (word_option (state None ordered limit) (state (Some mode) ordered limit) (words.Mode mode) (mode_token mode w) reads_give) (more (Some mode) refl)
+  then_mode ordered limit {rest = rest} (inr default) more = subst (λ (t : List ℕ). Outs mode most (state None ordered limit) t rest) default.1 (more None (sym default.0))
+
+  then_order : (seen : Option OutMode) (limit : Option ℕ) {text middle rest : List ℕ} → grammar.out_order text middle → ((ordered : Bool) → Outs mode most (state seen ordered limit) middle rest) → Outs mode most (state seen false limit) text rest
+  then_order seen limit (inl asc) more = one_more (state seen false limit) (state seen true limit) (word_option (state seen false limit) (state seen true limit) words.Order (asc_token asc) reads_give) (more true)
+  then_order seen limit (inr (inl qt)) more = one_more (state seen false limit) (state seen true limit) (word_option (state seen false limit) (state seen true limit) words.Order (qt_token qt) reads_give) (more true)
+  then_order seen limit {rest = rest} (inr (inr none)) more = subst (λ (t : List ℕ). Outs mode most (state seen false limit) t rest) none (more false)
+
+then_limit : (mode : OutMode) (most : Option ℕ) (seen : Option OutMode) (ordered : Bool) {text middle rest : List ℕ} → grammar.out_limit most text middle → Outs mode most (state seen ordered most) middle rest → Outs mode most (state seen ordered None) text rest
+then_limit mode None seen ordered {rest = rest} none more = subst (λ (t : List ℕ). Outs mode None (state seen ordered None) t rest) none more
+then_limit mode (Some most) seen ordered n more = one_more mode (Some most) (state seen ordered None) (state seen ordered (Some most)) (number_option seen ordered most (number_token n)) more
+
+module _ (mode : OutMode) (most : Option ℕ) where
+  in_order : {text middle rest : List ℕ} → grammar.out_options mode most text middle → says ";" middle rest → Outs mode most (state None false None) text rest
+  in_order (inl it) end = then_mode mode most false None it.front (λ m is. then_order mode most m None (it.back).front (λ b. then_limit mode most m b (it.back).back (none_more mode most m b is end)))
+  in_order (inr (inl it)) end = then_mode mode most false None it.front (λ m is. then_limit mode most m false (it.back).front (then_order mode most m most (it.back).back (λ b. none_more mode most m b is end)))
+  in_order (inr (inr (inl it))) end = then_order mode most None None it.front (λ b. then_mode mode most b None (it.back).front (λ m is. then_limit mode most m b (it.back).back (none_more mode most m b is end)))
+  in_order (inr (inr (inr (inl it)))) end = then_order mode most None None it.front (λ b. then_limit mode most None b (it.back).front (then_mode mode most b most (it.back).back (λ m is. none_more mode most m b is end)))
+  in_order (inr (inr (inr (inr (inl it))))) end = then_limit mode most None false it.front (then_mode mode most false most (it.back).front (λ m is. then_order mode most m most (it.back).back (λ b. none_more mode most m b is end)))
+  in_order (inr (inr (inr (inr (inr it))))) end = then_limit mode most None false it.front (then_order mode most None most (it.back).front (λ b. then_mode mode most b most (it.back).back (λ m is. none_more mode most m b is end)))
+
+  pub reads_out : {text middle rest : List ℕ} → grammar.out_options mode most text middle → says ";" middle rest → Outs mode most (state None false None) text rest
+  reads_out spelled end = in_order spelled end
+
+pub out_reading : {mode : OutMode} {most : Option ℕ} {text rest : List ℕ} → (o : Outs mode most (state None false None) text rest) → Reading out_options text o.found rest
 unfolding out_options repeat
-reads_out mode limit {text = text} {middle = middle} {rest = rest} is end = record {
-  reads = rounds_of is.options no_options (options_of is) text middle rest (record { modes = is.one_mode; orders = is.one_order ∙ ap (λ (o : Option (Unit {0})). at_most_one o) (sym (order_is is.order)); limits = is.one_limit }) is.spelled end;
-}
+out_reading o = record { reads = o.rounds }

@@ -361,7 +361,7 @@ module _ {whole : List ℕ} where
 
   in_query : Inside whole Anywhere query
   unfolding query
-  in_query = inside_then _ in_settings (λ set is. inside_gather in_top_statement [])
+  in_query = inside_then _ in_settings (λ set is. inside_then _ (inside_gather in_top_statement []) (λ all is. inside_give _ tt))
 
 -- a query stops within its text
 pub query_stops_inside : (bytes : List ℕ) (cause : QlCause) (place : List ℕ) → query.stops bytes cause place → Ends bytes place

@@ -7,7 +7,7 @@ use Rattle.std.specs.Prelude.{IfOk, IfErr}
 use Rattle.std.specs.Str.{IsUtf8, IsValidUpTo, is_utf8}
 use Rattle.ql_syntax.specs.LawfulQueries.{IsQuery}
 use Rattle.ql_syntax.specs.Queries.{query, IsText, Reads, HasFault, memory_fault, Long, NoText, NoQuery}
-use Rattle.ql_syntax.specs.Statements.{Statement}
+use Rattle.ql_syntax.specs.Statements.{Statements}
 use Rattle.ql_syntax.specs.declared.cause.QlCause.TheVariants as causes
 use Rattle.ql_syntax.specs.declared.fault.QlFault.{QlFault}
 use Rattle.ql_syntax.proofs.DefiniteRules.{query_is}
@@ -17,13 +17,13 @@ use Rattle.ql_syntax.proofs.TotalLemmas.{Outcome, AsRead, AsStop}
 use Rattle.ql_syntax.proofs.TotalRules as total
 
 -- what is spelled so is read so
-as_read : {bytes : List ℕ} {statements : List Statement} → Reads bytes statements → query.reads bytes statements []
+as_read : {bytes : List ℕ} {statements : Statements} → Reads bytes statements → query.reads bytes statements []
 as_read {bytes = bytes} {statements = statements} x = query_reads bytes statements x.lawful x.spelled
 
-pub one_query : (bytes : List ℕ) (first second : List Statement) → Reads bytes first → Reads bytes second → first ≡ second
+pub one_query : (bytes : List ℕ) (first second : Statements) → Reads bytes first → Reads bytes second → first ≡ second
 one_query bytes first second x y = let e = query_is.one bytes first second [] [] (as_read x) (as_read y) in e.0
 
-pub reads_or_not : (bytes : List ℕ) (statements : List Statement) (fault : QlFault) → Reads bytes statements → HasFault bytes fault → ⊥
+pub reads_or_not : (bytes : List ℕ) (statements : Statements) (fault : QlFault) → Reads bytes statements → HasFault bytes fault → ⊥
 reads_or_not bytes statements fault x (Long long cause byte) = let short = (x.text).short in omega arith
 reads_or_not bytes statements fault x (NoText short not cause byte) = not (x.text).utf8
 reads_or_not bytes statements fault x (NoQuery text within stops) = query_is.never bytes statements [] fault.cause _ (as_read x) stops
@@ -55,9 +55,9 @@ one_fault bytes f g (NoQuery text within stops) (NoQuery again below halts) =
     same_fault e.0 (same_byte bytes f.byte g.byte within below e.1)
 
 -- what a reader gives that reads as it is spelled, and refuses by the fault
-module _ {X : Type 0} (view : X → List Statement) {bytes : List ℕ} where
+module _ {X : Type 0} (view : X → Statements) {bytes : List ℕ} where
   pub read_only : (r : Result X QlFault) → IfOk r (λ x. Reads bytes (view x)) → IfErr r (λ fault. (fault ≡ memory_fault) ⊎ HasFault bytes fault)
-      → (statements : List Statement) → Reads bytes statements → IfOk r (λ x. view x ≡ statements) × IfErr r (λ fault. fault ≡ memory_fault)
+      → (statements : Statements) → Reads bytes statements → IfOk r (λ x. view x ≡ statements) × IfErr r (λ fault. fault ≡ memory_fault)
   read_only (Ok x) reads refused statements spelled = (one_query bytes (view x) statements reads spelled, tt)
   read_only (Err f) reads (inl memory) statements spelled = (tt, memory)
   read_only (Err f) reads (inr fault) statements spelled = absurd (reads_or_not bytes statements f spelled fault)
@@ -97,21 +97,21 @@ some_length [] not = absurd (not IsUtf8-nil)
 some_length (b ∷ s) not = valid_at (b ∷ s) (length s) (omega arith) (λ m more is. not (subst IsUtf8 (take_all m (b ∷ s) (omega arith)) is))
 
 -- bytes are a query, or have a fault
-stopped_or_read : (bytes : List ℕ) → IsText bytes → Outcome query bytes → ((statements : List Statement) × Reads bytes statements) ⊎ ((fault : QlFault) × HasFault bytes fault)
+stopped_or_read : (bytes : List ℕ) → IsText bytes → Outcome query bytes → ((statements : Statements) × Reads bytes statements) ⊎ ((fault : QlFault) × HasFault bytes fault)
 stopped_or_read bytes text (AsRead v rest reads) = inl (v, reads_whole bytes v rest text reads)
 stopped_or_read bytes text (AsStop cause place stops) = inr (record { cause = cause; byte = length bytes - length place }, fault_of place text stops refl)
 
-short_bytes : (bytes : List ℕ) → length bytes ≤ 65536 → (test : Bool) → is_utf8 bytes ≡ test → ((statements : List Statement) × Reads bytes statements) ⊎ ((fault : QlFault) × HasFault bytes fault)
+short_bytes : (bytes : List ℕ) → length bytes ≤ 65536 → (test : Bool) → is_utf8 bytes ≡ test → ((statements : Statements) × Reads bytes statements) ⊎ ((fault : QlFault) × HasFault bytes fault)
 short_bytes bytes short true is = stopped_or_read bytes (record { short = short; utf8 = IsUtf8-from_is_utf8 bytes is }) (total.query_is.at bytes)
 short_bytes bytes short false fails = let front = some_length bytes (no_text bytes fails) in inr (record { cause = causes.NotUtf8; byte = front.n }, NoText short (no_text bytes fails) refl front.is)
 
-pub one_of_both : (bytes : List ℕ) → ((statements : List Statement) × Reads bytes statements) ⊎ ((fault : QlFault) × HasFault bytes fault)
+pub one_of_both : (bytes : List ℕ) → ((statements : Statements) × Reads bytes statements) ⊎ ((fault : QlFault) × HasFault bytes fault)
 one_of_both bytes = elim (cases_lt 65536 (length bytes)) [
   | inl long ↦ inr (record { cause = causes.TooLong; byte = 65536 }, Long long refl refl)
   | inr short ↦ short_bytes bytes short (is_utf8 bytes) refl
 ]
 
-pub lawful : (bytes : List ℕ) (statements : List Statement) → Reads bytes statements → IsQuery statements
+pub lawful : (bytes : List ℕ) (statements : Statements) → Reads bytes statements → IsQuery statements
 lawful bytes statements reads = reads.lawful
 
 pub fault_within : (bytes : List ℕ) (fault : QlFault) → HasFault bytes fault → fault.byte ≤ length bytes

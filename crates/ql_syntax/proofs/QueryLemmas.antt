@@ -6,7 +6,7 @@ use Rattle.ql_syntax.specs.Grammar as grammar
 use Rattle.ql_syntax.specs.Queries.{query, IsText, Reads, HasFault, NoQuery, memory_fault}
 use Rattle.ql_syntax.specs.Rules.{◌>>=◌, give, from, choose, repeat, gather, gather_round, gathered, Done, RoundsRead, Last, Next}
 use Rattle.ql_syntax.specs.StatementRules.{top_statement}
-use Rattle.ql_syntax.specs.Statements.{Statement}
+use Rattle.ql_syntax.specs.Statements.{Statement, Statements}
 use Rattle.ql_syntax.specs.declared.cause.QlCause.{QlCause}
 use Rattle.ql_syntax.specs.declared.cause.QlCause.TheVariants as causes
 use Rattle.ql_syntax.specs.declared.fault.QlFault.{QlFault}
@@ -38,15 +38,15 @@ rounds_end value rest _ _ (Last state text reads) = last_left state text rest va
 rounds_end value rest _ _ (Next state next text middle reads more) = rounds_end value rest next middle more
 
 -- after a query nothing is left
-pub query_ends : (text rest : List ℕ) (value : List Statement) → query.reads text value rest → rest ≡ []
-unfolding query ◌>>=◌ gather repeat
-query_ends text rest value reads = rounds_end _ _ _ _ reads.back_reads
+pub query_ends : (text rest : List ℕ) (value : Statements) → query.reads text value rest → rest ≡ []
+unfolding query ◌>>=◌ gather repeat give
+query_ends text rest value reads = let all = reads.back_reads in all.back_reads.1 ∙ rounds_end _ _ _ _ all.front_reads
 
 -- what rules read to the end is spelled so
-pub reads_whole : (text : List ℕ) (all : List Statement) (rest : List ℕ) → IsText text → query.reads text all rest → Reads text all
+pub reads_whole : (text : List ℕ) (all : Statements) (rest : List ℕ) → IsText text → query.reads text all rest → Reads text all
 reads_whole text all rest is reads = record { text = is; spelled = subst (λ (s : List ℕ). grammar.query all text s) (query_ends text rest all reads) (query_sound text rest all reads); lawful = query_gives.gives text all rest reads }
 
-pub read_whole : {X : Type 0} {v : X → List Statement × List ℕ} {text : List ℕ} {x : X} → IsText text → Follows query v text (Ok x) → Reads text (v x).0
+pub read_whole : {X : Type 0} {v : X → Statements × List ℕ} {text : List ℕ} {x : X} → IsText text → Follows query v text (Ok x) → Reads text (v x).0
 read_whole {v = v} {text = text} {x = x} is follows = reads_whole text (v x).0 (v x).1 is (read_of follows)
 
 -- a place at which a query can't go on, as the byte of a fault
@@ -64,7 +64,7 @@ out_of_memory cause_is at_start memory = same_fault (cause_is ∙ memory) (at_st
 -- the fault of a text that a reader refuses
 module _ {text : List ℕ} {stop : SyntaxError} {fault : QlFault} (cause : fault.cause ≡ stop.cause) (at_start : stop.cause ≡ causes.Memory → fault.byte ≡ 0)
     (byte : (stop.cause ≡ causes.Memory) ⊎ (fault.byte ≡ length text - length stop.rest.now)) where
-  pub refused_at : {X : Type 0} {v : X → List Statement × List ℕ} → IsText text → Follows query v text (Err stop) → (fault ≡ memory_fault) ⊎ HasFault text fault
+  pub refused_at : {X : Type 0} {v : X → Statements × List ℕ} → IsText text → Follows query v text (Err stop) → (fault ≡ memory_fault) ⊎ HasFault text fault
   refused_at is (Read x same reads) = absurd (cc)
   refused_at is (Stopped at same stops) =
       let e : stop ≡ at = cc in

@@ -4,7 +4,8 @@ use Rattle.ql_syntax.specs.Gaps.{gap, is_blank, Where, Between, InLine, InBlock,
 use Rattle.ql_syntax.specs.TokenRules.{Next, At, next_token, unexpected, pass, name_after, a_name, into}
 use Rattle.ql_syntax.specs.Rules.{Rule, ◌>>=◌, give, refuse, from, choose, by_case}
 use Rattle.ql_syntax.specs.Spellings as spelling
-use Rattle.ql_syntax.specs.Spellings.{Spelling, Both, IsPunctuation, IsWordOf, IsSet, IsNumberOf}
+use Rattle.ql_syntax.specs.Spellings.{Spelling, Both, AfterGap, BeginsWith, named_set, says}
+use Rattle.ql_syntax.proofs.TokenSpellings.{IsPunctuation, said_at, token, text_of, IsSet, set_said, set_token}
 use Rattle.ql_syntax.specs.Words.{IsName}
 use Rattle.ql_syntax.specs.declared.token_kind.TokenKind.{TokenKind}
 use Rattle.ql_syntax.specs.declared.token_kind.TokenKind.TheVariants as kinds
@@ -107,10 +108,10 @@ unfolding next_token
 reads_token like at = record { reads = alike_at like at }
 
 -- punctuation
-pub pass_sound : {start text rest : List ℕ} {value : Unit {0}} (kind : TokenKind) → Alike text start → Reading (pass kind) start value rest → IsPunctuation kind text rest
+pub pass_sound : {start text rest : List ℕ} {value : Unit {0}} (kind : TokenKind) → Alike text start → Reading (pass kind) start value rest → AfterGap (BeginsWith (text_of kind)) text rest
 unfolding pass ◌>>=◌ choose give next_token unexpected refuse
 pass_sound kind like reading = let r = reading.reads in elim r.back_reads [
-  | inl it ↦ record { next = r.front; at = at_rest it.1.1 (alike_at like r.front_reads); is = it.0 }
+  | inl it ↦ said_at (at_rest it.1.1 (alike_at like r.front_reads)) it.0
   | inr other ↦ absurd other.1
 ]
 
@@ -119,10 +120,10 @@ unfolding pass
 reads_punctuation like spelled = reads_then _ (reads_token like spelled.at) (reads_yes _ spelled.is reads_give)
 
 -- the name of a set
-pub name_sound : {start text name rest : List ℕ} → Alike text start → Reading a_name start name rest → IsSet name text rest
+pub name_sound : {start text name rest : List ℕ} → Alike text start → Reading a_name start name rest → named_set name text rest
 unfolding a_name ◌>>=◌ choose next_token name_after unexpected refuse
 name_sound like reading = let r = reading.reads in elim r.back_reads [
-  | inl it ↦ record { next = r.front; place = r.middle; at = alike_at like r.front_reads; is = it.0; name_is = it.1 }
+  | inl it ↦ set_said (record { next = r.front; place = r.middle; at = alike_at like r.front_reads; is = it.0; name_is = it.1 })
   | inr other ↦ absurd other.1
 ]
 
@@ -139,11 +140,11 @@ into_split : {start text set rest : List ℕ} → Alike text start → into.read
 unfolding into ◌>>=◌ choose give next_token unexpected refuse
 into_split {text = text} {set = set} {rest = rest} like r = elim r.back_reads [
   | inl it ↦ (let named = it.1 in let closed = named.back_reads in let is = closed.back_reads in
-      inl (both r.middle (record { next = r.front; at = alike_at like r.front_reads; is = it.0 })
-      (both named.middle (subst (λ (name : List ℕ). IsSet name r.middle named.middle) (sym is.0) (name_sound (alike _) (record { reads = named.front_reads })))
-      (spelled_to (IsPunctuation kinds.Semicolon) is.1 (pass_sound kinds.Semicolon (alike _) (record { reads = closed.front_reads }))))))
+      inl (both r.middle (said_at (alike_at like r.front_reads) it.0)
+      (both named.middle (subst (λ (name : List ℕ). named_set name r.middle named.middle) (sym is.0) (name_sound (alike _) (record { reads = named.front_reads })))
+      (spelled_to (says ";") is.1 (pass_sound kinds.Semicolon (alike _) (record { reads = closed.front_reads }))))))
   | inr it ↦ elim it.1 [
-    | inl end ↦ inr (both text (end.1.0, refl) (record { next = r.front; at = at_rest end.1.1 (alike_at like r.front_reads); is = end.0 }))
+    | inl end ↦ inr (both text (end.1.0, refl) (said_at (at_rest end.1.1 (alike_at like r.front_reads)) end.0))
     | inr other ↦ absurd other.1
   ]
 ]
@@ -154,11 +155,14 @@ into_sound like reading = into_split like reading.reads
 pub reads_into : {start text : List ℕ} (set : List ℕ) {rest : List ℕ} → Alike start text → spelling.into set text rest → Reading into start set rest
 unfolding into
 reads_into set like (inl named) =
-    reads_then _ (reads_token like (named.front).at) (reads_yes _ (named.front).is
-    (reads_then _ (reads_name (alike _) (named.back).front) (reads_then _ (reads_punctuation (alike _) (named.back).back) reads_give)))
+    let arrow = token kinds.Arrow named.front refl refl in
+    let rest = named.back in
+    reads_then _ (reads_token like arrow.at) (reads_yes _ arrow.is
+    (reads_then _ (reads_name (alike _) (set_token rest.front)) (reads_then _ (reads_punctuation (alike _) (token kinds.Semicolon rest.back refl refl)) reads_give)))
 reads_into set like (inr default) =
-    reads_then _ (reads_token (alike_on like (alike_back (alike_by (default.front).1))) (default.back).at)
-    (reads_no _ (other_kind (default.back).is (λ e. cc)) (reads_yes _ (default.back).is (reads_as (default.front).0)))
+    let end = token kinds.Semicolon default.back refl refl in
+    reads_then _ (reads_token (alike_on like (alike_back (alike_by (default.front).1))) end.at)
+    (reads_no _ (other_kind end.is (λ e. cc)) (reads_yes _ end.is (reads_as (default.front).0)))
 
 -- rules that begin with a token read alike texts alike
 pub record Shifts {A : Type 0} (rule : Rule A) : Type 0 where
@@ -174,5 +178,5 @@ shifts_then second f = record { shift = λ start text value rest like r. record 
 
 -- what the set begins with that a statement writes to
 pub into_first : {P : Type 0} {set text rest : List ℕ} → spelling.into set text rest → ((after : List ℕ) → IsPunctuation kinds.Arrow text after → P) → ((after : List ℕ) → IsPunctuation kinds.Semicolon text after → P) → P
-into_first {text = text} {rest = rest} (inl named) arrow semicolon = arrow named.middle named.front
-into_first {text = text} {rest = rest} (inr default) arrow semicolon = semicolon rest (subst (λ (s : List ℕ). IsPunctuation kinds.Semicolon s rest) (default.front).1 default.back)
+into_first {text = text} {rest = rest} (inl named) arrow semicolon = arrow named.middle (token kinds.Arrow named.front refl refl)
+into_first {text = text} {rest = rest} (inr default) arrow semicolon = semicolon rest (token kinds.Semicolon (subst (λ (s : List ℕ). says ";" s rest) (default.front).1 default.back) refl refl)

@@ -1,18 +1,21 @@
 -- What is spelled as a statement is read so.
-use Rattle.std.proofs.Common.{◌≡◌, ℕ, zero, suc, List, [], ◌∷◌, Option, None, Some, drop, refl, sym, ◌∙◌, ap, subst, inl, inr}
+use Rattle.std.proofs.Common.{◌≡◌, ℕ, zero, suc, Bool, true, false, ◌==◌, List, [], ◌∷◌, Option, None, Some, drop, refl, sym, ◌∙◌, ap, subst, inl, inr}
+use Rattle.std.specs.Char.{is_ascii_digit}
 use Rattle.std.specs.Prelude.{codes}
 use Rattle.std.specs.List.{AllByRecursion}
+use Rattle.std.specs.Option.{unwrap_or}
 use Rattle.opl_codec.specs.declared.out_mode.OutMode.{OutMode}
+use Rattle.opl_codec.specs.declared.out_mode.OutMode.TheVariants as modes
 use Rattle.ql_syntax.specs.Filters.{Filter}
 use Rattle.ql_syntax.specs.Grammar as grammar
-use Rattle.ql_syntax.specs.Grammar.{IsRecursion, IsOut}
 use Rattle.ql_syntax.specs.LawfulQueries.{Allows, IsInner, AreInner}
 use Rattle.ql_syntax.specs.TokenRules.{Next, At}
 use Rattle.ql_syntax.specs.Rules.{Rule, by_case}
 use Rattle.ql_syntax.specs.Selections.{selection, a_filter}
-use Rattle.ql_syntax.specs.TokenKinds.{punctuation_len}
+use Rattle.ql_syntax.specs.TokenKinds.{token_kind_at, punctuation_len}
 use Rattle.ql_syntax.specs.Spellings as spelling
-use Rattle.ql_syntax.specs.Spellings.{Spelling, Both, each, IsPunctuation, IsSet, IsWordOf, IsMinus, IsEnd}
+use Rattle.ql_syntax.specs.Spellings.{each, says, word}
+use Rattle.ql_syntax.specs.Words.{begins_with}
 use Rattle.ql_syntax.specs.StatementRules.{recursion_of, recursion, item, out_of, print, statement_named, word_statement, set_word_statement, set_statement, plain_statement, part, union, difference, block, statement}
 use Rattle.ql_syntax.specs.StatementWords.{statement_word}
 use Rattle.ql_syntax.specs.Statements.{Statement, Statements, Select, Recurse, Item, Union, Minus, Print, End, Then, row_of}
@@ -20,6 +23,7 @@ use Rattle.ql_syntax.specs.declared.level.Level.{Level}
 use Rattle.ql_syntax.specs.declared.level.Level.TheVariants as levels
 use Rattle.ql_syntax.specs.declared.pick.Pick.{Pick}
 use Rattle.ql_syntax.specs.declared.recursion.Recursion.{Recursion}
+use Rattle.ql_syntax.specs.declared.recursion.Recursion.TheVariants as recursions
 use Rattle.ql_syntax.specs.declared.token_kind.TokenKind.{TokenKind}
 use Rattle.ql_syntax.specs.declared.token_kind.TokenKind.TheVariants as kinds
 use Rattle.ql_syntax.specs.declared.statement_word.StatementWord.{StatementWord}
@@ -27,9 +31,30 @@ use Rattle.ql_syntax.specs.declared.statement_word.StatementWord.TheVariants as 
 use Rattle.ql_syntax.proofs.FilterSpellings.{reads_filter, reads_no_filter, reads_word_at}
 use Rattle.ql_syntax.proofs.GatherSpellings.{reads_gather}
 use Rattle.ql_syntax.proofs.GivesRules.{IsAt}
-use Rattle.ql_syntax.proofs.OutSpellings.{reads_out}
+use Rattle.ql_syntax.proofs.OutSpellings.{reads_out, out_reading}
 use Rattle.ql_syntax.proofs.SpellingLemmas.{Alike, alike, from_token, both, other_kind, Reading, reads_then, reads_give, reads_as, reads_yes, reads_no, reads_from, reads_case, reads_token, reads_punctuation, reads_name_after, reads_into, into_first, Shifts, shifts_then}
 use Rattle.ql_syntax.proofs.StatementSpellings.{shifts_statement, shifts_gather, shifts_part}
+use Rattle.ql_syntax.proofs.TokenSpellings.{IsPunctuation, token, IsWordOf, IsSet, set_token, IsMinus, minus_token, Solid, chosen, same_place, not_next, digit_solid, digit_kind}
+use Rattle.ql_syntax.proofs.WordSpellings.{kind_token, print_token}
+
+-- the sign of a recursion comes next
+record IsRecursion (how : Recursion) (text rest : List ℕ) : Type 0 where
+  kind : TokenKind
+  means : recursion_of kind ≡ Some how
+  spelled : IsPunctuation kind text rest
+
+-- what stands before the end of a statement begins with `->` or `;`
+into_other : (b : ℕ) → Solid b → (45 == b) ≡ false → (59 == b) ≡ false → {set text rest : List ℕ} → spelling.into set text rest → begins_with (λ (c : ℕ). c == b) text ≡ false
+into_other b solid no_minus no_end {text = text} (inl named) = let arrow = named.front in
+    not_next b solid text arrow.place arrow.passed (ap (λ (t : List ℕ). begins_with (λ (c : ℕ). c == b) t) (arrow.spelled).parts ∙ no_minus)
+into_other b solid no_minus no_end {text = text} (inr default) = let end = default.back in
+    ap (λ (t : List ℕ). begins_with (λ (c : ℕ). c == b) t) (sym (default.front).1) ∙ not_next b solid default.middle end.place end.passed (ap (λ (t : List ℕ). begins_with (λ (c : ℕ). c == b) t) (end.spelled).parts ∙ no_end)
+
+recursion_token : (how : Recursion) {set text middle rest : List ℕ} → grammar.recursion how text middle → spelling.into set middle rest → IsRecursion how text middle
+recursion_token recursions.Down s ends = record { kind = kinds.Down; means = refl; spelled = token kinds.Down s (chosen _ (into_other 62 (record { no_blank = refl; no_slash = refl }) refl refl ends)) refl }
+recursion_token recursions.DownAll s ends = record { kind = kinds.DownAll; means = refl; spelled = token kinds.DownAll s refl refl }
+recursion_token recursions.Up s ends = record { kind = kinds.Up; means = refl; spelled = token kinds.Up s (chosen _ (into_other 60 (record { no_blank = refl; no_slash = refl }) refl refl ends)) refl }
+recursion_token recursions.UpAll s ends = record { kind = kinds.UpAll; means = refl; spelled = token kinds.UpAll s refl refl }
 
 -- what a statement may begin with
 pub data Begins (kind : TokenKind) : Type 0 where
@@ -64,18 +89,29 @@ first_at : {start text : List ℕ} → start ≡ text → First start → First 
 first_at e f = subst First e f
 
 pub first_token : (s : Statement) (text rest : List ℕ) → grammar.statement s text rest → First text
-first_token (Select pick filters set) text rest g = first_word g.front
+first_token (Select pick filters set) text rest g = first_word (kind_token pick g.front)
 first_token (Recurse start how set) text rest g = elim g.front [
-  | inl named ↦ first_set named
-  | inr default ↦ (let r = (g.back).front in first_at default.1 (first_of r.spelled (ARecursion how r.means)))
+  | inl named ↦ first_set (set_token named)
+  | inr default ↦ (let r = recursion_token how (g.back).front (g.back).back in first_at default.1 (first_of r.spelled (ARecursion how r.means)))
 ]
-first_token (Item start set) text rest g = first_set g.front
-first_token (Union parts set) text rest g = first_of (g.front).front (ABlock refl)
-first_token (Minus left right set) text rest g = first_of (g.front).front (ABlock refl)
+first_token (Item start set) text rest g = first_set (set_token g.front)
+first_token (Union parts set) text rest g = first_of (token kinds.OpenParenthesis (g.front).front refl refl) (ABlock refl)
+first_token (Minus left right set) text rest g = first_of (token kinds.OpenParenthesis (g.front).front refl refl) (ABlock refl)
 first_token (Print start mode limit) text rest g = elim g.front [
-  | inl named ↦ first_set named
-  | inr default ↦ first_at default.1 (first_word (g.back).front)
+  | inl named ↦ first_set (set_token named)
+  | inr default ↦ first_at default.1 (first_word (print_token (g.back).front))
 ]
+
+-- a statement begins with no digit
+no_digit : (text : List ℕ) → First text → begins_with is_ascii_digit text ≡ false
+no_digit [] f = refl
+no_digit (b ∷ s) f = tested (is_ascii_digit b) refl
+  where
+    tested : (test : Bool) → is_ascii_digit b ≡ test → is_ascii_digit b ≡ false
+    tested false is = is
+    tested true is =
+        let place : (f.next).place ≡ b ∷ s = same_place b s (f.next).place (digit_solid b is) (f.at).after_gap in
+        absurd (not_first kinds.Number f.begins (λ e. cc) (λ e. cc) (λ e. cc) refl ((f.at).kind_is ∙ ap token_kind_at place ∙ digit_kind b s is))
 
 -- statements that don't begin with `(`
 reads_plain : (level : Level) (depth : ℕ) {text after rest : List ℕ} {next : Next} {s : Statement} → At text next after → (next.kind ≡ kinds.OpenParenthesis → ⊥) → Reading (plain_statement level next) after s rest → Reading (statement level depth) text s rest
@@ -111,7 +147,7 @@ module _ (level : Level) (depth : ℕ) where
   reads_set start named more = reads_plain level depth named.at (other_kind named.is (λ e. cc)) (reads_yes _ named.is (reads_then _ (reads_name_after _ named.name_is) more))
 
 -- what stands after the first token of a statement
-reads_selection : (pick : Pick) (filters : List Filter) (set : List ℕ) {place middle rest : List ℕ} → AllByRecursion (Allows pick) filters → each (grammar.filter pick) filters place middle → spelling.into set middle rest → Reading (selection pick) place (Select pick filters set) rest
+reads_selection : (pick : Pick) (filters : List Filter) (set : List ℕ) {place middle rest : List ℕ} → AllByRecursion (Allows pick) filters → each grammar.filter filters place middle → spelling.into set middle rest → Reading (selection pick) place (Select pick filters set) rest
 unfolding selection
 reads_selection pick filters set {middle = middle} such these ends = into_first ends
     (λ after s. reads_then _ (reads_gather (a_filter pick) (reads_filter pick) [] filters such these (reads_no_filter pick s (λ e. cc) (λ e. cc) (λ e. cc))) (reads_then _ (reads_into set (from_token s.at) ends) reads_give))
@@ -125,9 +161,10 @@ reads_item : (start set : List ℕ) {place text rest : List ℕ} → Alike place
 unfolding item
 reads_item start set like ends = reads_then _ (reads_into set like ends) reads_give
 
-reads_print : (start word : List ℕ) (mode : OutMode) (limit : Option ℕ) {place middle rest : List ℕ} → IsOut mode limit place middle → IsPunctuation kinds.Semicolon middle rest → Reading (print levels.Top start word) place (Print start mode limit) rest
+reads_print : (start at : List ℕ) (mode : OutMode) (limit : Option ℕ) {place middle rest : List ℕ} → grammar.out_options mode limit place middle → says ";" middle rest → Reading (print levels.Top start at) place (Print start mode limit) rest
 unfolding print by_case out_of
-reads_print start word mode limit is ends = reads_then _ (reads_out mode limit is ends) (reads_as (ap (λ (m : OutMode). Print start m limit) is.mode_is))
+reads_print start at mode limit spelled end = let o = reads_out mode limit spelled end in
+    reads_then _ (out_reading o) (reads_as (ap (λ (m : OutMode). Print start m limit) (sym o.mode_is) ∙ ap (λ (n : Option ℕ). Print start (unwrap_or (o.found).mode modes.Body) n) (sym o.most_is)))
 
 -- after the name of a set
 module _ (level : Level) (start : List ℕ) where
@@ -149,19 +186,19 @@ module _ (level : Level) (start : List ℕ) where
 -- statements without others in them
 module _ (level : Level) (depth : ℕ) where
   reads_select : (pick : Pick) (filters : List Filter) (set text rest : List ℕ) → AllByRecursion (Allows pick) filters → grammar.statement (Select pick filters set) text rest → Reading (statement level depth) text (Select pick filters set) rest
-  reads_select pick filters set text rest such g = reads_named level depth (words.Kind pick) g.front (reads_selection pick filters set such (g.back).front (g.back).back)
+  reads_select pick filters set text rest such g = reads_named level depth (words.Kind pick) (kind_token pick g.front) (reads_selection pick filters set such (g.back).front (g.back).back)
 
   reads_recurse : (start : List ℕ) (how : Recursion) (set text rest : List ℕ) → grammar.statement (Recurse start how set) text rest → Reading (statement level depth) text (Recurse start how set) rest
   reads_recurse start how set text rest g = from_source g.front
     where
       from_source : spelling.source start text g.middle → Reading (statement level depth) text (Recurse start how set) rest
-      from_source (inl named) = reads_set level depth start named (reads_set_how level start how (g.back).front (reads_recursion start how set (g.back).back))
+      from_source (inl named) = reads_set level depth start (set_token named) (reads_set_how level start how (recursion_token how (g.back).front (g.back).back) (reads_recursion start how set (g.back).back))
       from_source (inr default) =
           subst (λ (name : List ℕ). Reading (statement level depth) text (Recurse name how set) rest) (sym default.0)
-          (reads_how level depth how (subst (λ (t : List ℕ). IsRecursion how t (g.back).middle) default.1 (g.back).front) (reads_recursion (codes "_") how set (g.back).back))
+          (reads_how level depth how (subst (λ (t : List ℕ). IsRecursion how t (g.back).middle) default.1 (recursion_token how (g.back).front (g.back).back)) (reads_recursion (codes "_") how set (g.back).back))
 
   reads_item_alone : (start set text rest : List ℕ) → grammar.statement (Item start set) text rest → Reading (statement level depth) text (Item start set) rest
-  reads_item_alone start set text rest g = reads_set level depth start g.front (into_first g.back
+  reads_item_alone start set text rest g = reads_set level depth start (set_token g.front) (into_first g.back
       (λ after s. reads_set_alone level start kinds.Arrow s (λ e. cc) refl (reads_item start set (from_token s.at) g.back))
       (λ after s. reads_set_alone level start kinds.Semicolon s (λ e. cc) refl (reads_item start set (from_token s.at) g.back)))
 
@@ -169,22 +206,22 @@ reads_out_statement : (depth : ℕ) (start : List ℕ) (mode : OutMode) (limit :
 reads_out_statement depth start mode limit text rest g = from_source g.front
   where
     from_source : spelling.source start text g.middle → Reading (statement levels.Top depth) text (Print start mode limit) rest
-    from_source (inl named) = reads_set levels.Top depth start named (reads_set_word levels.Top start (g.back).front (reads_print start _ mode limit ((g.back).back).front ((g.back).back).back))
+    from_source (inl named) = reads_set levels.Top depth start (set_token named) (reads_set_word levels.Top start (print_token (g.back).front) (reads_print start _ mode limit ((g.back).back).front ((g.back).back).back))
     from_source (inr default) =
-        let word = subst (λ (t : List ℕ). grammar.out t (g.back).middle) default.1 (g.back).front in
+        let out = print_token (subst (λ (t : List ℕ). word "out" t (g.back).middle) default.1 (g.back).front) in
         subst (λ (name : List ℕ). Reading (statement levels.Top depth) text (Print name mode limit) rest) (sym default.0)
-        (reads_named levels.Top depth words.Print word (reads_print (codes "_") _ mode limit ((g.back).back).front ((g.back).back).back))
+        (reads_named levels.Top depth words.Print out (reads_print (codes "_") _ mode limit ((g.back).back).front ((g.back).back).back))
 
 -- rows as lists
-abbrev list_of : Statements → List Statement
+abbrev pub list_of : Statements → List Statement
 list_of End = []
 list_of (Then s more) = s ∷ list_of more
 
-row_again : (row : Statements) → row_of (list_of row) ≡ row
+pub row_again : (row : Statements) → row_of (list_of row) ≡ row
 row_again End = refl
 row_again (Then s more) = ap (λ (r : Statements). Then s r) (row_again more)
 
-each_spelled : (row : Statements) (text rest : List ℕ) → grammar.row row text rest → each grammar.statement (list_of row) text rest
+pub each_spelled : (row : Statements) (text rest : List ℕ) → grammar.row row text rest → each grammar.statement (list_of row) text rest
 each_spelled End text rest g = g
 each_spelled (Then s more) text rest g = both g.middle g.front (each_spelled more g.middle rest g.back)
 
@@ -200,8 +237,8 @@ record After_first (text : List ℕ) : Type 0 where
   no_minus : next.kind ≡ kinds.Minus → ⊥
   no_arrow : next.kind ≡ kinds.Arrow → ⊥
 
-after_first : (row : Statements) (text middle rest : List ℕ) → grammar.row row text middle → IsPunctuation kinds.CloseParenthesis middle rest → After_first text
-after_first End text middle rest g close = let s = subst (λ (t : List ℕ). IsPunctuation kinds.CloseParenthesis t rest) g close in
+after_first : (row : Statements) (text middle rest : List ℕ) → grammar.row row text middle → says ")" middle rest → After_first text
+after_first End text middle rest g close = let s = token kinds.CloseParenthesis (subst (λ (t : List ℕ). says ")" t rest) g close) refl refl in
     record { next = s.next; after = rest; at = s.at; no_minus = other_kind s.is (λ e. cc); no_arrow = other_kind s.is (λ e. cc) }
 after_first (Then s more) text middle rest g close = let f = first_token s text g.middle g.front in
     record { next = f.next; after = f.after; at = f.at; no_minus = not_first kinds.Minus f.begins (λ e. cc) (λ e. cc) (λ e. cc) refl; no_arrow = not_first kinds.Arrow f.begins (λ e. cc) (λ e. cc) (λ e. cc) refl }
@@ -225,18 +262,18 @@ module _ (depth : ℕ) (reads_inner : (s : Statement) → IsInner depth s → (t
   unfolding part
   reads_no_part {text = text} s = reads_then _ (reads_token (alike text) s.at) (reads_yes _ s.is reads_give)
 
-  reads_union : (first : Statement) (row : Statements) (set : List ℕ) {text middle closed rest : List ℕ} → AreInner depth row → grammar.row row text middle → IsPunctuation kinds.CloseParenthesis middle closed → spelling.into set closed rest → Reading (union (statement levels.Inner depth) first) text (Union (Then first row) set) rest
+  reads_union : (first : Statement) (row : Statements) (set : List ℕ) {text middle closed rest : List ℕ} → AreInner depth row → grammar.row row text middle → says ")" middle closed → spelling.into set closed rest → Reading (union (statement levels.Inner depth) first) text (Union (Then first row) set) rest
   unfolding union
   reads_union first row set {text = text} {middle = middle} {closed = closed} all g close ends =
-      reads_then _ (reads_gather (part (statement levels.Inner depth)) reads_part (first ∷ []) (list_of row) (each_inner depth row all) (each_spelled row text middle g) (reads_no_part close))
+      reads_then _ (reads_gather (part (statement levels.Inner depth)) reads_part (first ∷ []) (list_of row) (each_inner depth row all) (each_spelled row text middle g) (reads_no_part (token kinds.CloseParenthesis close refl refl)))
       (reads_then _ (reads_into set (alike closed) ends) (reads_as (ap (λ (r : Statements). Union (Then first r) set) (sym (row_again row)))))
 
-  reads_difference : (left right : Statement) (set : List ℕ) {text middle closed rest : List ℕ} → IsInner depth right → grammar.statement right text middle → IsPunctuation kinds.CloseParenthesis middle closed → spelling.into set closed rest → Reading (difference (statement levels.Inner depth) left) text (Minus left right set) rest
+  reads_difference : (left right : Statement) (set : List ℕ) {text middle closed rest : List ℕ} → IsInner depth right → grammar.statement right text middle → says ")" middle closed → spelling.into set closed rest → Reading (difference (statement levels.Inner depth) left) text (Minus left right set) rest
   unfolding difference
   reads_difference left right set {text = text} {middle = middle} {closed = closed} is g close ends =
-      reads_then _ (reads_inner right is text middle g) (reads_then _ (reads_punctuation (alike middle) close) (reads_then _ (reads_into set (alike closed) ends) reads_give))
+      reads_then _ (reads_inner right is text middle g) (reads_then _ (reads_punctuation (alike middle) (token kinds.CloseParenthesis close refl refl)) (reads_then _ (reads_into set (alike closed) ends) reads_give))
 
-  reads_union_block : (row : Statements) (set : List ℕ) {text middle closed rest : List ℕ} → AreInner depth row → grammar.row_of_some row text middle → IsPunctuation kinds.CloseParenthesis middle closed → spelling.into set closed rest → Reading (block (statement levels.Inner depth)) text (Union row set) rest
+  reads_union_block : (row : Statements) (set : List ℕ) {text middle closed rest : List ℕ} → AreInner depth row → grammar.row_of_some row text middle → says ")" middle closed → spelling.into set closed rest → Reading (block (statement levels.Inner depth)) text (Union row set) rest
   unfolding block
   reads_union_block End set all g close ends = absurd g
   reads_union_block (Then first row) set {text = text} {middle = middle} {closed = closed} all g close ends =
@@ -244,9 +281,9 @@ module _ (depth : ℕ) (reads_inner : (s : Statement) → IsInner depth s → (t
       reads_then _ (reads_inner first all.0 text g.middle g.front) (reads_then _ (reads_token (alike g.middle) next.at) (reads_no _ next.no_minus (reads_no _ next.no_arrow
       (reads_from _ (shift_reading (shifts_union _ first) (from_token next.at) (reads_union first row set all.1 g.back close ends))))))
 
-  reads_minus_block : (left right : Statement) (set : List ℕ) {text place after middle closed rest : List ℕ} → IsInner depth left → IsInner depth right → grammar.statement left text place → IsMinus place after → grammar.statement right after middle → IsPunctuation kinds.CloseParenthesis middle closed → spelling.into set closed rest → Reading (block (statement levels.Inner depth)) text (Minus left right set) rest
+  reads_minus_block : (left right : Statement) (set : List ℕ) {text place after middle closed rest : List ℕ} → IsInner depth left → IsInner depth right → grammar.statement left text place → says "-" place after → grammar.statement right after middle → says ")" middle closed → spelling.into set closed rest → Reading (block (statement levels.Inner depth)) text (Minus left right set) rest
   unfolding block
-  reads_minus_block left right set {text = text} {place = place} {after = after} {middle = middle} {rest = rest} is also g minus more close ends = elim minus.is [
+  reads_minus_block left right set {text = text} {place = place} {after = after} {middle = middle} {rest = rest} is also g sign more close ends = let minus = minus_token sign (no_digit after (first_token right after middle more)) in elim minus.is [
     | inl kind ↦ reads_then _ (reads_inner left is text place g) (reads_then _ (reads_token (alike place) minus.at) (reads_yes _ kind
         (subst (λ (t : List ℕ). Reading (difference (statement levels.Inner depth) left) t (Minus left right set) rest) (minus.rest_is ∙ sym (ap (λ (k : TokenKind). drop (punctuation_len k) (minus.next).place) kind) ∙ sym (minus.at).rest_is)
         (reads_difference left right set also more close ends))))
@@ -275,12 +312,12 @@ reads_statement level zero (Union row set) is text rest g = let kept = parts_kep
 reads_statement level (suc depth) (Union row set) is text rest g =
     let kept = parts_kept level (suc depth) row set is in
     let same : kept.0 ≡ depth = (let e : suc depth ≡ suc kept.0 = kept.1 in cc) in
-    reads_block level depth (g.front).front (reads_union_block depth (reads_statement levels.Inner depth) row set (subst (λ (d : ℕ). AreInner d row) same kept.2) ((g.front).back).front ((g.front).back).back g.back)
+    reads_block level depth (token kinds.OpenParenthesis (g.front).front refl refl) (reads_union_block depth (reads_statement levels.Inner depth) row set (subst (λ (d : ℕ). AreInner d row) same kept.2) ((g.front).back).front ((g.front).back).back g.back)
 reads_statement level zero (Minus left right set) is text rest g = let kept = sides_kept level zero left right set is in let bad : zero ≡ suc kept.0 = kept.1 in absurd (cc)
 reads_statement level (suc depth) (Minus left right set) is text rest g =
     let kept = sides_kept level (suc depth) left right set is in
     let same : kept.0 ≡ depth = (let e : suc depth ≡ suc kept.0 = kept.1 in cc) in
     let body = ((g.front).back).front in
-    reads_block level depth (g.front).front (reads_minus_block depth (reads_statement levels.Inner depth) left right set (subst (λ (d : ℕ). IsInner d left) same kept.2) (subst (λ (d : ℕ). IsInner d right) same kept.3) body.front (body.back).front (body.back).back ((g.front).back).back g.back)
+    reads_block level depth (token kinds.OpenParenthesis (g.front).front refl refl) (reads_minus_block depth (reads_statement levels.Inner depth) left right set (subst (λ (d : ℕ). IsInner d left) same kept.2) (subst (λ (d : ℕ). IsInner d right) same kept.3) body.front (body.back).front (body.back).back ((g.front).back).back g.back)
 reads_statement levels.Top depth (Print start mode limit) is text rest g = reads_out_statement depth start mode limit text rest g
 reads_statement levels.Inner depth (Print start mode limit) is text rest g = absurd is

@@ -274,4 +274,4 @@ top_statement_is = total_then _ total_token (λ next. total_choose (is_kind _ _)
 -- queries
 pub query_is : Total query
 unfolding query
-query_is = total_then _ settings_is (λ set. total_gather top_statement_is top_statement_shorter [])
+query_is = total_then _ settings_is (λ set. total_then _ (total_gather top_statement_is top_statement_shorter []) (λ all. total_give _))

@@ -45,5 +45,6 @@ IsTop (Union parts set) = IsInner NESTING_LIMIT (Union parts set)
 IsTop (Minus left right set) = IsInner NESTING_LIMIT (Minus left right set)
 
 -- the statements of a query
-abbrev pub IsQuery : List Statement → Type 0
-IsQuery = AllByRecursion IsTop
+abbrev pub IsQuery : Statements → Type 0
+IsQuery End = ⊤
+IsQuery (Then statement statements) = IsTop statement × IsQuery statements

@@ -5,20 +5,21 @@ use Rattle.std.specs.Prelude.{◌≡◌, ℕ, ◌<◌, ◌≤◌, List, [], leng
 use Rattle.std.specs.Str.{IsUtf8, IsValidUpTo}
 use Rattle.ql_syntax.specs.Grammar as grammar
 use Rattle.ql_syntax.specs.LawfulQueries.{IsQuery}
-use Rattle.ql_syntax.specs.Rules.{Rule, ◌>>=◌, gather}
+use Rattle.ql_syntax.specs.Rules.{Rule, ◌>>=◌, give, gather}
 use Rattle.ql_syntax.specs.Settings.{settings}
 use Rattle.ql_syntax.specs.StatementRules.{top_statement}
-use Rattle.ql_syntax.specs.Statements.{Statement}
+use Rattle.ql_syntax.specs.Statements.{Statements, row_of}
 use Rattle.ql_syntax.specs.declared.cause.QlCause.TheVariants as causes
 use Rattle.ql_syntax.specs.declared.fault.QlFault.{QlFault}
 use Rattle.ql_syntax.specs.declared.parser.TheConstants.{TEXT_LIMIT}
 
 -- settings, or none, and then statements to the end, or none: how they are read from the left, and where
 -- what comes next can't go on
-unfoldable pub query : Rule (List Statement)
+unfoldable pub query : Rule Statements
 query = do
   set ← settings
-  gather top_statement []
+  all ← gather top_statement []
+  give (row_of all)
 
 -- at most so many bytes of UTF-8
 pub record IsText (bytes : List ℕ) : Type 0 where
@@ -26,7 +27,7 @@ pub record IsText (bytes : List ℕ) : Type 0 where
   pub utf8 : IsUtf8 bytes
 
 -- the bytes read as these statements: they spell them, and nothing is left
-pub record Reads (bytes : List ℕ) (statements : List Statement) : Type 0 where
+pub record Reads (bytes : List ℕ) (statements : Statements) : Type 0 where
   pub text : IsText bytes
   pub spelled : grammar.query statements bytes []
   pub lawful : IsQuery statements

@@ -1,14 +1,13 @@
 -- How text is spelled. A spelling is a relation between a text and what is left of it after what is
--- spelled at its front; blanks and comments may stand before each token.
+-- spelled at its front.
 -- Source: this project.
-use Rattle.std.specs.Prelude.{◌≡◌, ◌⊎◌, ℕ, zero, suc, true, List, [], ◌∷◌, drop, codes}
+use Prim.Native.String.{String}
+use Rattle.std.specs.Prelude.{◌≡◌, ◌≢◌, ◌⊎◌, ℕ, zero, suc, List, [], ◌∷◌, ◌++◌, codes}
 use Rattle.osm_model.specs.Degrees.{Decimal}
+use Rattle.ql_syntax.specs.Gaps.{gap, Between, After}
 use Rattle.ql_syntax.specs.Numbers.{IsNumber}
-use Rattle.ql_syntax.specs.TokenRules.{Next, At, begins_number}
-use Rattle.ql_syntax.specs.QuotedTexts.{IsQuoted, is_quote}
-use Rattle.ql_syntax.specs.Words.{IsRun, IsName, begins_with, is_run_byte}
-use Rattle.ql_syntax.specs.declared.token_kind.TokenKind.{TokenKind}
-use Rattle.ql_syntax.specs.declared.token_kind.TokenKind.TheVariants as kinds
+use Rattle.ql_syntax.specs.QuotedTexts.{IsQuoted}
+use Rattle.ql_syntax.specs.Words.{IsRun, IsName}
 
 abbrev pub Spelling : Type 1
 Spelling = List ℕ → List ℕ → Type 0
@@ -23,15 +22,17 @@ infixr 10 ◌&◌
 abbrev pub ◌&◌ : Spelling → Spelling → Spelling
 first & second = Both first second
 
-abbrev pub either : Spelling → Spelling → Spelling
-either first second text rest = first text rest ⊎ second text rest
+-- one of two
+infixr 5 ◌or◌
+abbrev pub ◌or◌ : Spelling → Spelling → Spelling
+(first or second) text rest = first text rest ⊎ second text rest
+
+abbrev pub nothing : Spelling
+nothing text rest = rest ≡ text
 
 -- nothing, where this holds
 abbrev pub when : Type 0 → Spelling
 when holds text rest = holds × (rest ≡ text)
-
-abbrev pub nothing : Spelling
-nothing text rest = rest ≡ text
 
 abbrev pub never : Spelling
 never text rest = ⊥
@@ -50,68 +51,48 @@ times (suc n) spelling = spelling & times n spelling
 abbrev pub some : Spelling → Spelling
 some spelling text rest = (n : ℕ) × (spelling & times n spelling) text rest
 
--- this punctuation
-pub record IsPunctuation (kind : TokenKind) (text rest : List ℕ) : Type 0 where
-  pub next : Next
-  pub at : At text next rest
-  pub is : next.kind ≡ kind
+-- three in any order
+abbrev pub in_any_order : Spelling → Spelling → Spelling → Spelling
+in_any_order a b c = (a & b & c) or (a & c & b) or (b & a & c) or (b & c & a) or (c & a & b) or (c & b & a)
 
--- the end of the text, after which nothing is left
-pub record IsEnd (text rest : List ℕ) : Type 0 where
-  pub next : Next
+-- blanks and comments, as far as they go, and then what is spelled so
+pub record AfterGap (spelling : Spelling) (text rest : List ℕ) : Type 0 where
   pub place : List ℕ
-  pub at : At text next place
-  pub is : next.kind ≡ kinds.End
-  pub nothing_left : rest ≡ []
+  pub passed : gap Between text ≡ After place
+  pub spelled : spelling place rest
 
--- a word of this meaning
-pub record IsWordOf (Means : List ℕ → Type 0) (text rest : List ℕ) : Type 0 where
-  pub next : Next
-  pub place : List ℕ
-  pub word : List ℕ
-  pub at : At text next place
-  pub is : next.kind ≡ kinds.Word
-  pub run : IsRun place word rest
-  pub means : Means word
+-- the text begins with these bytes
+pub record BeginsWith (said text rest : List ℕ) : Type 0 where
+  pub parts : text ≡ said ++ rest
 
--- the name of a set, after its dot
-pub record IsSet (name text rest : List ℕ) : Type 0 where
-  pub next : Next
-  pub place : List ℕ
-  pub at : At text next place
-  pub is : next.kind ≡ kinds.Dot
-  pub name_is : IsName place name rest
+-- a gap, and then this text
+abbrev pub says : String → Spelling
+says said = AfterGap (BeginsWith (codes said))
 
--- a number
-pub record IsNumberOf (Means : Decimal → Type 0) (text rest : List ℕ) : Type 0 where
-  pub next : Next
-  pub place : List ℕ
-  pub number : Decimal
-  pub at : At text next place
-  pub begins : begins_number next.kind ≡ true
-  pub spelled : IsNumber next.place number rest
-  pub means : Means number
+-- a gap, and then this word, which goes no further
+abbrev pub word : String → Spelling
+word said = AfterGap (λ place rest. IsRun place (codes said) rest)
 
--- a key or a value: between quotes, or a run of letters, digits and `_`
-pub record IsTagText (value text rest : List ℕ) : Type 0 where
-  pub next : Next
-  pub place : List ℕ
-  pub at : At text next place
-  pub spelled : ((begins_with is_quote next.place ≡ true) × IsQuoted next.place value rest)
-      ⊎ ((begins_with is_run_byte next.place ≡ true) × IsRun next.place value rest)
+-- a gap, and then the end of the text
+abbrev pub the_end : Spelling
+the_end = AfterGap (λ place rest. (place ≡ []) × (rest ≡ []))
 
--- the `-` of a difference, be it the first byte of `->`
-pub record IsMinus (text rest : List ℕ) : Type 0 where
-  pub next : Next
-  pub place : List ℕ
-  pub at : At text next place
-  pub is : (next.kind ≡ kinds.Minus) ⊎ (next.kind ≡ kinds.Arrow)
-  pub rest_is : rest ≡ drop 1 next.place
+-- a gap, and then a number of this meaning
+abbrev pub number : (Decimal → Type 0) → Spelling
+number Means = AfterGap (λ place rest. (value : Decimal) × Means value × IsNumber place value rest)
+
+-- a gap, and then a key or a value: between quotes, or one or more letters, digits and `_`
+abbrev pub tag_text : List ℕ → Spelling
+tag_text value = AfterGap (λ place rest. IsQuoted place value rest ⊎ ((value ≢ []) × IsRun place value rest))
+
+-- a set: its name, right after a dot
+abbrev pub named_set : List ℕ → Spelling
+named_set name = says "." & (λ place rest. IsName place name rest)
 
 -- the set that a statement starts from: its name, or nothing for the default set
 abbrev pub source : List ℕ → Spelling
-source set = either (IsSet set) (when (set ≡ codes "_"))
+source set = named_set set or when (set ≡ codes "_")
 
--- the set that a statement writes to, and the `;`
+-- the set that a statement writes to, or nothing for the default set; and the `;`
 abbrev pub into : List ℕ → Spelling
-into set = either (IsPunctuation kinds.Arrow & IsSet set & IsPunctuation kinds.Semicolon) (when (set ≡ codes "_") & IsPunctuation kinds.Semicolon)
+into set = (says "->" & named_set set & says ";") or (when (set ≡ codes "_") & says ";")

@@ -2,7 +2,7 @@
 -- memory.
 -- Source: this project.
 use Rattle.std.specs.Box.{box_value}
-use Rattle.std.specs.Prelude.{List, map}
+use Rattle.std.specs.Prelude.{List, [], ◌∷◌, map}
 use Rattle.ql_syntax.specs.Filters as filter_tree
 use Rattle.ql_syntax.specs.Statements as tree
 use Rattle.ql_syntax.specs.declared.filter.Filter.{Filter}
@@ -35,5 +35,7 @@ abbrev mutual
   row_of end_of-Stmt = tree.End
   row_of (more_of-Stmt part rest) = tree.Then (statement_of part) (row_of rest)
 
-abbrev pub statements_of : List Stmt → List tree.Statement
-statements_of = map statement_of
+-- the statements of a query, or of a union
+abbrev pub statements_of : List Stmt → tree.Statements
+statements_of [] = tree.End
+statements_of (statement ∷ statements) = tree.Then (statement_of statement) (statements_of statements)

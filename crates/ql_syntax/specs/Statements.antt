@@ -23,7 +23,7 @@ mutual
     -- a set is printed in a mode, at most so many objects: `.a out ids 10;`
     Print : List ℕ → OutMode → Option ℕ → Statement
 
-  -- statements one after the other
+  -- statements one after the other, of a query or of a union
   pub data Statements : Type 0 where
     End : Statements
     Then : Statement → Statements → Statements

@@ -4,18 +4,18 @@ ghost use Rattle.std.specs.Prelude.{◌≡◌, ◌≤◌, ◌⊎◌, ◌-◌, �
 ghost use Rattle.ql_syntax.specs.Grammar as grammar;
 ghost use Rattle.ql_syntax.specs.LawfulQueries.{IsQuery};
 ghost use Rattle.ql_syntax.specs.Queries.{HasFault, Reads, query};
-ghost use Rattle.ql_syntax.specs.Statements.{Statement};
+ghost use Rattle.ql_syntax.specs.Statements.{Statements};
 ghost use Rattle.ql_syntax.specs.declared.cause.QlCause.{QlCause};
 ghost use Rattle.ql_syntax.specs.declared.fault.QlFault.{QlFault};
 
 /// A law: bytes read as one query at most.
 pub fn one_query()
-    ensures { (bytes : List ℕ) (first second : List Statement) → Reads bytes first → Reads bytes second → first ≡ second }
+    ensures { (bytes : List ℕ) (first second : Statements) → Reads bytes first → Reads bytes second → first ≡ second }
 {}
 
 /// A law: bytes that read as a query have no fault.
 pub fn never_both()
-    ensures { (bytes : List ℕ) (statements : List Statement) (fault : QlFault) → Reads bytes statements → HasFault bytes fault → ⊥ }
+    ensures { (bytes : List ℕ) (statements : Statements) (fault : QlFault) → Reads bytes statements → HasFault bytes fault → ⊥ }
 {}
 
 /// A law: bytes have one fault at most.
@@ -25,12 +25,12 @@ pub fn one_fault()
 
 /// A law: bytes read as a query or have a fault.
 pub fn one_of_both()
-    ensures { (bytes : List ℕ) → ((statements : List Statement) × Reads bytes statements) ⊎ ((fault : QlFault) × HasFault bytes fault) }
+    ensures { (bytes : List ℕ) → ((statements : Statements) × Reads bytes statements) ⊎ ((fault : QlFault) × HasFault bytes fault) }
 {}
 
 /// A law: what bytes read as keeps what every query does.
 pub fn lawful_queries()
-    ensures { (bytes : List ℕ) (statements : List Statement) → Reads bytes statements → IsQuery statements }
+    ensures { (bytes : List ℕ) (statements : Statements) → Reads bytes statements → IsQuery statements }
 {}
 
 /// A law: a fault's place is within the bytes, or at their end.
@@ -41,8 +41,8 @@ pub fn fault_place()
 /// A law: what the rules read is spelled by the grammar and keeps what every query does, with nothing left
 /// after it; and what is spelled so and keeps that, the rules read.
 pub fn one_language()
-    ensures spelled { (bytes : List ℕ) (statements : List Statement) (rest : List ℕ) → query.reads bytes statements rest → (rest ≡ []) × grammar.query statements bytes [] × IsQuery statements }
-    ensures read { (bytes : List ℕ) (statements : List Statement) → grammar.query statements bytes [] → IsQuery statements → query.reads bytes statements [] }
+    ensures spelled { (bytes : List ℕ) (statements : Statements) (rest : List ℕ) → query.reads bytes statements rest → (rest ≡ []) × grammar.query statements bytes [] × IsQuery statements }
+    ensures read { (bytes : List ℕ) (statements : Statements) → grammar.query statements bytes [] → IsQuery statements → query.reads bytes statements [] }
 {}
 
 /// A law: the place at which the rules stop is what is left of the text after some of its bytes.

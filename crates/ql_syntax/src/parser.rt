@@ -4,10 +4,10 @@ ghost use Rattle.std.specs.Prelude.{◌≡◌, ◌⊎◌, ◌-◌, List, [], len
 ghost use Rattle.ql_syntax.specs.internal.Following.{Follows};
 ghost use Rattle.ql_syntax.specs.Queries.{HasFault, Reads, memory_fault, query};
 ghost use Rattle.ql_syntax.specs.Rules.{gather};
-ghost use Rattle.ql_syntax.specs.Statements.{Statement};
+ghost use Rattle.ql_syntax.specs.Statements.{Statements};
 ghost use Rattle.ql_syntax.specs.StatementRules.{top_statement};
 ghost use Rattle.ql_syntax.specs.StatementViews.{statements_of};
-ghost use Rattle.ql_syntax.specs.internal.StatementReaders.{the_statements};
+ghost use Rattle.ql_syntax.specs.internal.StatementReaders.{the_query, the_statements};
 ghost use Rattle.ql_syntax.specs.declared.fault.QlFault.{QlFault};
 
 use crate::cause::QlCause;
@@ -37,7 +37,7 @@ pub fn parse(alloc: Global, text: &[u8]) -> Result<Query<'_>, QlFault>
     // What is read is spelled so.
     ensures read { IfOk result (λ query. Reads text.now (statements_of query)) }
     // What is spelled so is read, unless memory runs out.
-    ensures only { (statements : List Statement) → Reads text.now statements → IfOk result (λ query. statements_of query ≡ statements) × IfErr result (λ fault. fault ≡ memory_fault) }
+    ensures only { (statements : Statements) → Reads text.now statements → IfOk result (λ query. statements_of query ≡ statements) × IfErr result (λ fault. fault ≡ memory_fault) }
     // Which fault it is: out of memory, at byte 0, or the text's own.
     ensures refused { IfErr result (λ fault. (fault ≡ memory_fault) ⊎ HasFault text.now fault) }
     // What has a fault is refused with it, unless memory runs out.
@@ -87,7 +87,7 @@ fn fault_at(text: &[u8], error: SyntaxError<'_>) -> QlFault
 
 /// The statements of a text, and what is left after them: nothing.
 fn read_query(alloc: Global, text: &[u8]) -> Result<(Vec<Stmt<'_>>, &[u8]), SyntaxError<'_>>
-    ensures { Follows query the_statements text.now result }
+    ensures { Follows query the_query text.now result }
 {
     let rest = skip_settings(text)?;
     read_statements(alloc, rest)

@@ -5,7 +5,6 @@ ghost use Rattle.ql_syntax.specs.SelectorWords.{path_of, is_left_out, selector_w
 
 use crate::path::Path;
 use crate::pick::Pick;
-use crate::word::is;
 
 /// What the first word of a filter in parentheses begins.
 #[derive(Clone, Copy, Debug, PartialEq, Eq)]
@@ -24,16 +23,14 @@ pub enum SelectorWord {
 pub fn selector_word(pick: Pick, word: &[u8]) -> SelectorWord
     ensures { result ≡ selector_word pick word.now }
 {
-    if is(word, b"id") {
-        SelectorWord::Ids
-    } else if is_left_out(word) {
-        SelectorWord::LeftOut
-    } else {
-        match path_of(word) {
+    match word {
+        b"id" => SelectorWord::Ids,
+        _ if is_left_out(word) => SelectorWord::LeftOut,
+        _ => match path_of(word) {
             Some(path) if pick.allows(path) => SelectorWord::Along(path),
             Some(_) => SelectorWord::LeftOut,
             None => SelectorWord::Unknown,
-        }
+        },
     }
 }
 
@@ -55,13 +52,8 @@ fn path_of(word: &[u8]) -> Option<Path>
 fn is_left_out(word: &[u8]) -> bool
     ensures { result ≡ is_left_out word.now }
 {
-    is(word, b"around")
-        || is(word, b"poly")
-        || is(word, b"changed")
-        || is(word, b"newer")
-        || is(word, b"user")
-        || is(word, b"uid")
-        || is(word, b"area")
-        || is(word, b"pivot")
-        || is(word, b"if")
+    matches!(
+        word,
+        b"around" | b"poly" | b"changed" | b"newer" | b"user" | b"uid" | b"area" | b"pivot" | b"if"
+    )
 }

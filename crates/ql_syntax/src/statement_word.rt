@@ -1,7 +1,7 @@
 //! The words that may begin a statement.
 
 ghost use Rattle.std.specs.Prelude.{◌≡◌};
-ghost use Rattle.ql_syntax.specs.StatementWords.{statement_word};
+ghost use Rattle.ql_syntax.specs.StatementWords.{statement_word, known_word, is_left_out, is_left_out_block, is_left_out_query, is_left_out_kind};
 
 use crate::pick::Pick;
 
@@ -22,29 +22,57 @@ pub enum StatementWord {
 pub fn statement_word(word: &[u8]) -> StatementWord
     ensures { result ≡ statement_word word.now }
 {
-    match word {
-        b"node" => StatementWord::Kind(Pick::Node),
-        b"way" => StatementWord::Kind(Pick::Way),
-        b"rel" | b"relation" => StatementWord::Kind(Pick::Rel),
-        b"nwr" => StatementWord::Kind(Pick::Nwr),
-        b"out" => StatementWord::Print,
-        b"foreach"
-        | b"for"
-        | b"if"
-        | b"complete"
-        | b"retro"
-        | b"compare"
-        | b"make"
-        | b"convert"
-        | b"map_to_area"
-        | b"is_in"
-        | b"area"
-        | b"derived"
-        | b"timeline"
-        | b"local"
-        | b"nw"
-        | b"nr"
-        | b"wr" => StatementWord::LeftOut,
-        _ => StatementWord::Unknown,
+    match known_word(word) {
+        Some(known) => known,
+        None if is_left_out(word) => StatementWord::LeftOut,
+        None => StatementWord::Unknown,
     }
+}
+
+/// The statement of the profile that this word begins.
+fn known_word(word: &[u8]) -> Option<StatementWord>
+    ensures { result ≡ known_word word.now }
+{
+    match word {
+        b"node" => Some(StatementWord::Kind(Pick::Node)),
+        b"way" => Some(StatementWord::Kind(Pick::Way)),
+        b"rel" | b"relation" => Some(StatementWord::Kind(Pick::Rel)),
+        b"nwr" => Some(StatementWord::Kind(Pick::Nwr)),
+        b"out" => Some(StatementWord::Print),
+        _ => None,
+    }
+}
+
+/// Whether the profile leaves out the statement that this word begins.
+fn is_left_out(word: &[u8]) -> bool
+    ensures { result ≡ is_left_out word.now }
+{
+    is_left_out_block(word) || is_left_out_query(word) || is_left_out_kind(word)
+}
+
+/// Whether the word begins a block statement that the profile leaves out.
+fn is_left_out_block(word: &[u8]) -> bool
+    ensures { result ≡ is_left_out_block word.now }
+{
+    matches!(
+        word,
+        b"foreach" | b"for" | b"if" | b"complete" | b"retro" | b"compare"
+    )
+}
+
+/// Whether the word begins a standalone query that the profile leaves out.
+fn is_left_out_query(word: &[u8]) -> bool
+    ensures { result ≡ is_left_out_query word.now }
+{
+    matches!(
+        word,
+        b"make" | b"convert" | b"map_to_area" | b"is_in" | b"timeline" | b"local"
+    )
+}
+
+/// Whether the word is a kind of query statement that the profile leaves out.
+fn is_left_out_kind(word: &[u8]) -> bool
+    ensures { result ≡ is_left_out_kind word.now }
+{
+    matches!(word, b"area" | b"derived" | b"nw" | b"nr" | b"wr")
 }

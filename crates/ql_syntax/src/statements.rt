@@ -4,8 +4,8 @@ ghost use Rattle.std.specs.Prelude.{◌≡◌, drop};
 ghost use Rattle.ql_syntax.specs.internal.Following.{Follows, Keeps};
 ghost use Rattle.ql_syntax.specs.Rules.{gather};
 ghost use Rattle.ql_syntax.specs.StatementRules.{block, difference, item, out_of, part, plain_statement, print, recursion, recursion_of, set_statement, set_word_statement, statement, top_statement, union, word_statement};
-ghost use Rattle.ql_syntax.specs.StatementViews.{statement_of, statements_of};
-ghost use Rattle.ql_syntax.specs.internal.StatementReaders.{the_statement, the_other_statement, the_statements};
+ghost use Rattle.ql_syntax.specs.StatementViews.{statement_of};
+ghost use Rattle.ql_syntax.specs.internal.StatementReaders.{the_statement, the_other_statement, the_statements, trees_of};
 ghost use Rattle.ql_syntax.specs.internal.Views.{next_of, word_of};
 
 use crate::cause::QlCause;
@@ -121,7 +121,7 @@ fn read_parts<'a>(
     first: Vec<Stmt<'a>>,
     text: &'a [u8],
 ) -> Result<(Vec<Stmt<'a>>, &'a [u8]), SyntaxError<'a>>
-    ensures { Follows (gather (part (statement Level.Inner depth)) (statements_of first.entry.items)) the_statements text.now result }
+    ensures { Follows (gather (part (statement Level.Inner depth)) (trees_of first.entry.items)) the_statements text.now result }
 {
     let mut parts = first;
     let mut place = text;

@@ -1,6 +1,6 @@
 //! Words, and the names of sets.
 
-ghost use Rattle.std.specs.Prelude.{bytes_eq, ◌≡◌, ◌≤◌, length, take, drop, false, true, IfOk, IfErr, IfSome, IfNone};
+ghost use Rattle.std.specs.Prelude.{◌≡◌, ◌≤◌, length, take, drop, false, true, IfOk, IfErr, IfSome, IfNone};
 ghost use Rattle.std.specs.List.{list_all};
 ghost use Rattle.ql_syntax.specs.Words.{IsRun, IsWord, IsName, IsNoName, begins_with, is_run_byte, is_word_start};
 
@@ -87,11 +87,4 @@ pub fn is_word_start(byte: u8) -> bool
     ensures { result ≡ is_word_start byte }
 {
     byte.is_ascii_alphabetic() || byte == b'_'
-}
-
-/// Whether a word is this one.
-pub fn is(word: &[u8], other: &[u8]) -> bool
-    ensures { result ≡ bytes_eq word.now other.now }
-{
-    word == other
 }

@@ -1,16 +1,11 @@
 -- The parts of a number in its text, as a decimal.
-use Rattle.std.specs.Borrow.{Bor}
-use Rattle.std.specs.Prelude.{◌≡◌, ℕ, List, ◌∷◌, ◌++◌, Option, None, Some}
+use Rattle.std.specs.Prelude.{◌≡◌, ℕ, List, ◌∷◌, ◌++◌, None}
 use Rattle.osm_model.specs.Bytes.{dot}
 use Rattle.osm_model.specs.Degrees.{Decimal, IsFraction, BeginsOtherwise, point, spelling}
+use Rattle.osm_model.specs.internal.DecimalParts.{fraction_of}
 use Rattle.ql_syntax.specs.declared.number.Number.{Number}
 use Rattle.ql_syntax.specs.declared.number.Fraction.{Fraction}
 use Rattle.ql_syntax.specs.Numbers.{IsNumber}
-
--- the digits after a point, where there is one
-abbrev pub fraction_of : Option (Bor (List ℕ)) → Option (List ℕ)
-fraction_of None = None
-fraction_of (Some digits) = Some digits.now
 
 abbrev pub decimal_of : Number → Decimal
 decimal_of n = record { negative = n.negative; whole = n.whole.now; fraction = fraction_of n.fraction }

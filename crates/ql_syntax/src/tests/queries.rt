@@ -10,10 +10,101 @@ use crate::pick::Pick;
 use crate::recursion::Recursion;
 use crate::statement::{Out, Stmt};
 use opl_codec::OutMode;
-use osm_model::Coord;
 use std::alloc::{AllocError, Global};
-use std::process::Abort;
 use std::test::Fail;
+
+/// Queries, and their statements in the one spelling of `write_stmts`.
+const QUERIES: [(&str, &str); 58] = [
+    ("", ""),
+    (" // nothing\n", ""),
+    (
+        "[out:json][timeout:25];node(1);out body qt 10;",
+        "node(id,1)->._;._ out body 10;",
+    ),
+    ("[out:xml];", ""),
+    ("node;", "node->._;"),
+    ("relation->.a;", "rel->.a;"),
+    ("rel;way;nwr;", "rel->._;way->._;nwr->._;"),
+    ("node.a.b[k](1);", "node.a.b[k](id,1)->._;"),
+    (
+        "nwr['k']['a b'=\"c\"][k!=v][!k]->.x;",
+        "nwr[k][a b=c][k!=v][!k]->.x;",
+    ),
+    ("node(id:1,-2,3);", "node(id,1,-2,3)->._;"),
+    ("node(-0)(id:7);", "node(id,0)(id,7)->._;"),
+    ("node(w)(r.a);", "node(w._)(r.a)->._;"),
+    ("way(r)(bn.a);", "way(r._)(bn.a)->._;"),
+    ("rel(r)(bn)(bw.b)(br._);", "rel(r._)(bn._)(bw.b)(br._)->._;"),
+    ("node(50,7,51.5,8.25);", "node(box)->._;"),
+    (".a;", ".a->._;"),
+    (".a->.b;", ".a->.b;"),
+    (">;", "._>->._;"),
+    (".a>>->.b;", ".a>>->.b;"),
+    ("<;.a<<;", "._<->._;.a<<->._;"),
+    ("(node;way;);", "(node->._;way->._;)->._;"),
+    ("(node;);", "(node->._;)->._;"),
+    ("(node;-way;)->.d;", "(node->._;-way->._;)->.d;"),
+    ("(.a;->;);", "(.a->._;-._>->._;)->._;"),
+    ("(.a;->>;);", "(.a->._;-._>>->._;)->._;"),
+    (
+        "(((node;);->;);way;);",
+        "(((node->._;)->._;-._>->._;)->._;way->._;)->._;",
+    ),
+    ("out;", "._ out body;"),
+    (".a out 5 meta;out ids asc;", ".a out meta 5;._ out ids;"),
+    // blanks and comments
+    (" \t\r\nnode;", "node->._;"),
+    ("/* a */ node;", "node->._;"),
+    ("// a\nnode;", "node->._;"),
+    ("// a", ""),
+    ("//", ""),
+    (" ", ""),
+    // settings
+    ("[out:json];", ""),
+    ("[out:json][timeout:25];node;", "node->._;"),
+    (" [ out : xml ] ;", ""),
+    ("[maxsize:-0];", ""),
+    // numbers
+    ("node(id:-007,8);", "node(id,-7,8)->._;"),
+    ("node(52.50000000001,1,53,2);", "node(box)->._;"),
+    (
+        "node(id:25,9223372036854775807,-9223372036854775808);",
+        "node(id,25,9223372036854775807,-9223372036854775808)->._;",
+    ),
+    ("out 25;out 10ids;", "._ out body 25;._ out ids 10;"),
+    (
+        "out 9223372036854775807;out 9223372036854775808;",
+        "._ out body 9223372036854775807;._ out body 9223372036854775808;",
+    ),
+    (
+        "out 00018446744073709551615;",
+        "._ out body 18446744073709551615;",
+    ),
+    // names, and where a statement writes
+    ("._;.a_1 ;", "._->._;.a_1->._;"),
+    (".b -> .a ;.b->._;", ".b->.a;.b->._;"),
+    // filters by tags
+    ("node[a][ \"a b\" ] ;", "node[a][a b]->._;"),
+    ("node[3=4][name='x'];", "node[3=4][name=x]->._;"),
+    ("node[name!=\"x\"][!name];", "node[name!=x][!name]->._;"),
+    ("node[k]['k'!=\"v\\n\"];", "node[k][k!=v\n]->._;"),
+    // texts between quotes
+    ("node[\"\"][\"a\"];", "node[][a]->._;"),
+    ("node['it\"s'][\"it's\"];", "node[it\"s][it's]->._;"),
+    ("node[\"a\\nb\\t\\\\\\\"\\'\"];", "node[a\nb\t\\\"']->._;"),
+    (
+        "node[\"\\u0041\\u00e9\\u20AC\"][\"caf\u{e9}\"];",
+        "node[A\u{e9}\u{20ac}][caf\u{e9}]->._;",
+    ),
+    // out options
+    ("out body qt 10 ;", "._ out body 10;"),
+    ("out 5 asc ids;out -0;", "._ out ids 5;._ out body 0;"),
+    ("out skel;out meta asc;", "._ out skel;._ out meta;"),
+    (
+        "out qt 18446744073709551615 tags;",
+        "._ out tags 18446744073709551615;",
+    ),
+];
 
 /// Writes statements in one spelling each, with the set that they write to, so that a row tells their
 /// tree.
@@ -158,186 +249,47 @@ fn mode_word(mode: OutMode) -> &'static [u8] {
     }
 }
 
-/// The statements of a query, spelled by `write_stmts`.
+/// The statements of a query, spelled by `write_stmts`; or its fault.
 fn spelled(alloc: Global, text: &[u8]) -> Result<Vec<u8>, QlFault> {
     let query = parse(alloc, text)?;
     let mut spelled = Vec::new(alloc);
     match write_stmts(&mut spelled, query.stmts()) {
         Ok(()) => Ok(spelled),
-        Err(_) => Err(QlFault {
-            cause: QlCause::Memory,
-            byte: 0,
-        }),
+        Err(_) => Err(MEMORY),
     }
 }
 
-/// Asserts that a text is a query of these statements.
-fn assert_reads(rt: &impl Abort, alloc: Global, text: &str, wanted: &str) -> Result<(), Fail> {
-    match spelled(alloc, text.as_bytes()) {
-        Ok(found) => assert_eq!(rt; found.as_slice(), wanted.as_bytes()),
-        Err(_) => return Err(Fail::from("a query is refused")),
-    }
-    Ok(())
-}
+/// Out of memory.
+const MEMORY: QlFault = QlFault {
+    cause: QlCause::Memory,
+    byte: 0,
+};
 
 #[test]
 fn reads_queries(rt: HostRuntime) -> Result<(), Fail> {
-    for (text, wanted) in [
-        ("", ""),
-        (" // nothing\n", ""),
-        (
-            "[out:json][timeout:25];node(1);out body qt 10;",
-            "node(id,1)->._;._ out body 10;",
-        ),
-        ("[out:xml];", ""),
-        ("node;", "node->._;"),
-        ("relation->.a;", "rel->.a;"),
-        ("rel;way;nwr;", "rel->._;way->._;nwr->._;"),
-        ("node.a.b[k](1);", "node.a.b[k](id,1)->._;"),
-        (
-            "nwr['k']['a b'=\"c\"][k!=v][!k]->.x;",
-            "nwr[k][a b=c][k!=v][!k]->.x;",
-        ),
-        ("node(id:1,-2,3);", "node(id,1,-2,3)->._;"),
-        ("node(-0)(id:7);", "node(id,0)(id,7)->._;"),
-        ("node(w)(r.a);", "node(w._)(r.a)->._;"),
-        ("way(r)(bn.a);", "way(r._)(bn.a)->._;"),
-        ("rel(r)(bn)(bw.b)(br._);", "rel(r._)(bn._)(bw.b)(br._)->._;"),
-        ("node(50,7,51.5,8.25);", "node(box)->._;"),
-        (".a;", ".a->._;"),
-        (".a->.b;", ".a->.b;"),
-        (">;", "._>->._;"),
-        (".a>>->.b;", ".a>>->.b;"),
-        ("<;.a<<;", "._<->._;.a<<->._;"),
-        ("(node;way;);", "(node->._;way->._;)->._;"),
-        ("(node;);", "(node->._;)->._;"),
-        ("(node;-way;)->.d;", "(node->._;-way->._;)->.d;"),
-        ("(.a;->;);", "(.a->._;-._>->._;)->._;"),
-        ("(.a;->>;);", "(.a->._;-._>>->._;)->._;"),
-        (
-            "(((node;);->;);way;);",
-            "(((node->._;)->._;-._>->._;)->._;way->._;)->._;",
-        ),
-        ("out;", "._ out body;"),
-        (".a out 5 meta;out ids asc;", ".a out meta 5;._ out ids;"),
-    ] {
-        assert_reads(&rt, rt.alloc(), text, wanted)?;
+    for (text, wanted) in &QUERIES {
+        let found = spelled(rt.alloc(), text.as_bytes())?;
+        assert_eq!(rt; found.as_slice(), wanted.as_bytes());
     }
     Ok(())
 }
 
-#[test]
-fn reads_tokens(rt: HostRuntime) -> Result<(), Fail> {
-    for (text, wanted) in [
-        // blanks and comments
-        (" \t\r\nnode;", "node->._;"),
-        ("/* a */ node;", "node->._;"),
-        ("// a\nnode;", "node->._;"),
-        ("// a", ""),
-        ("//", ""),
-        (" ", ""),
-        // settings
-        ("[out:json];", ""),
-        ("[out:json][timeout:25];node;", "node->._;"),
-        (" [ out : xml ] ;", ""),
-        ("[maxsize:-0];", ""),
-        // numbers
-        ("node(id:-007,8);", "node(id,-7,8)->._;"),
-        ("node(52.50000000001,1,53,2);", "node(box)->._;"),
-        (
-            "node(id:25,9223372036854775807,-9223372036854775808);",
-            "node(id,25,9223372036854775807,-9223372036854775808)->._;",
-        ),
-        ("out 25;out 10ids;", "._ out body 25;._ out ids 10;"),
-        (
-            "out 9223372036854775807;out 9223372036854775808;",
-            "._ out body 9223372036854775807;._ out body 9223372036854775808;",
-        ),
-        (
-            "out 00018446744073709551615;",
-            "._ out body 18446744073709551615;",
-        ),
-        // names, and where a statement writes
-        ("._;.a_1 ;", "._->._;.a_1->._;"),
-        (".b -> .a ;.b->._;", ".b->.a;.b->._;"),
-        // filters by tags
-        ("node[a][ \"a b\" ] ;", "node[a][a b]->._;"),
-        ("node[3=4][name='x'];", "node[3=4][name=x]->._;"),
-        ("node[name!=\"x\"][!name];", "node[name!=x][!name]->._;"),
-        ("node[k]['k'!=\"v\\n\"];", "node[k][k!=v\n]->._;"),
-        // texts between quotes
-        ("node[\"\"][\"a\"];", "node[][a]->._;"),
-        ("node['it\"s'][\"it's\"];", "node[it\"s][it's]->._;"),
-        ("node[\"a\\nb\\t\\\\\\\"\\'\"];", "node[a\nb\t\\\"']->._;"),
-        (
-            "node[\"\\u0041\\u00e9\\u20AC\"][\"caf\u{e9}\"];",
-            "node[A\u{e9}\u{20ac}][caf\u{e9}]->._;",
-        ),
-        // out options
-        ("out body qt 10 ;", "._ out body 10;"),
-        ("out 5 asc ids;out -0;", "._ out ids 5;._ out body 0;"),
-        ("out skel;out meta asc;", "._ out skel;._ out meta;"),
-        (
-            "out qt 18446744073709551615 tags;",
-            "._ out tags 18446744073709551615;",
-        ),
-    ] {
-        assert_reads(&rt, rt.alloc(), text, wanted)?;
-    }
-    Ok(())
-}
+/// A query that takes memory for its lists, its boxes and a text with an escape.
+const TAKES_MEMORY: &str = "(node['k'=\"\\u0076\"](id:1,2);-way[!k](1););(.a;>;);out ids;";
 
-/// Whether a query's only filter is a box that holds the place, in 1e-7 degree.
-fn holds(alloc: Global, text: &[u8], lat: i32, lon: i32) -> Option<bool> {
-    let query = parse(alloc, text).ok()?;
-    let Some(Stmt::Select { filters, .. }) = query.stmts().first() else {
-        return None;
-    };
-    let Some(Filter::Within(area)) = filters.first() else {
-        return None;
-    };
-    if lat.unsigned_abs() > 900_000_000 || lon.unsigned_abs() > 1_800_000_000 {
-        return None;
-    }
-    Some(area.holds(Coord::new(lon, lat)))
-}
-
-#[test]
-fn keeps_the_edges_of_boxes(rt: HostRuntime) {
-    let text = b"node(10,20,30.00000005,40);".as_slice();
-    for (lat, lon, wanted) in [
-        (100_000_000, 200_000_000, true),
-        (99_999_999, 300_000_000, false),
-        (200_000_000, 199_999_999, false),
-        (300_000_000, 400_000_000, true),
-        (300_000_001, 300_000_000, false),
-        (200_000_000, 400_000_001, false),
-    ] {
-        assert_eq!(rt; holds(rt.alloc(), text, lat, lon), Some(wanted));
-    }
-}
-
-/// Reads a query, once more where memory is refused, and asserts its statements.
-fn reads_again(rt: &impl Abort, alloc: Global, text: &[u8], wanted: &[u8]) -> Result<(), Fail> {
-    let mut found = spelled(alloc, text);
-    if let Err(fault) = &found {
-        assert_eq!(rt; (fault.cause, fault.byte), (QlCause::Memory, 0));
-        found = spelled(alloc, text);
-    }
-    match found {
-        Ok(found) => assert_eq!(rt; found.as_slice(), wanted),
-        Err(_) => return Err(Fail::from("a query is refused")),
-    }
-    Ok(())
-}
+/// Its statements.
+const MEMORY_TREE: &str =
+    "(node[k=v](id,1,2)->._;-way[!k](id,1)->._;)->._;(.a->._;._>->._;)->._;._ out ids;";
 
 /// Where memory is refused the next call gives the full result. Run with each allocation refused in turn.
 #[test]
 fn reads_queries_after_refused_memory(rt: HostRuntime) -> Result<(), Fail> {
-    reads_again(
-        &rt,
-        rt.alloc(),
-        b"(node['k'=\"\\u0076\"](id:1,2);-way[!k](1););(.a;>;);out ids;",
-        b"(node[k=v](id,1,2)->._;-way[!k](id,1)->._;)->._;(.a->._;._>->._;)->._;._ out ids;",
-    )
+    let mut found = spelled(rt.alloc(), TAKES_MEMORY.as_bytes());
+    if let Err(fault) = &found {
+        assert_eq!(rt; (fault.cause, fault.byte), (QlCause::Memory, 0));
+        found = spelled(rt.alloc(), TAKES_MEMORY.as_bytes());
+    }
+    let found = found?;
+    assert_eq!(rt; found.as_slice(), MEMORY_TREE.as_bytes());
+    Ok(())
 }

@@ -1,15 +1,16 @@
 use Rattle.ql_syntax.proofs.SpellingLemmas.{other_kind}
 use Rattle.std.proofs.Common.{ap, refl, rules}
 use Rattle.ql_syntax.specs.StatementRules.{block, difference, part, union}
-use Rattle.ql_syntax.specs.StatementViews.{statement_of, statements_of}
-use Rattle.ql_syntax.specs.internal.StatementReaders.{other_statement}
+use Rattle.ql_syntax.specs.StatementViews.{statement_of}
+use Rattle.ql_syntax.specs.internal.StatementReaders.{other_statement, trees_of}
 use Rattle.ql_syntax.specs.declared.level.Level.TheVariants as levels
 use Rattle.ql_syntax.proofs.FilterLemmas.{follows_out}
 use Rattle.ql_syntax.proofs.GatherLemmas.{alone, gather_done, gather_from, gather_next, gather_stop, mapped}
 use Rattle.ql_syntax.proofs.RoundLemmas.{Start}
 use Rattle.ql_syntax.proofs.RuleLemmas.{follows_from, follows_from_at, follows_give, follows_no, follows_refuse, follows_stop, follows_then, follows_yes, read_of}
 use Rattle.ql_syntax.proofs.StatementLemmas.{at_block, at_last_depth, at_no_token, at_plain, one_less}
-use Rattle.ql_syntax.proofs.shared.StatementTrees.{minus_is, union_is}
+use Rattle.ql_syntax.proofs.StatementLists.{union_row}
+use Rattle.ql_syntax.proofs.shared.StatementTrees.{minus_is}
 use Rattle.ql_syntax.proofs.StatementLengths.{part_shorter, statement_shorter}
 use Rattle.ql_syntax.proofs.statements.+statement.Goals as goal
 
@@ -78,17 +79,17 @@ read_union-returns-in_err-appended n c = let h = c.from_residual.ensures in foll
 
 pub read_union-returns-in_err-parts : goal.read_union-returns-in_err-parts
 unfolding union
-read_union-returns-in_err-parts n c = follows_stop _ (gather_from _ (ap statements_of (alone c.new.ensures.items c.in_ok-appended.ensures)) c.in_err-parts.ensures) c.from_residual-in_err-parts.ensures.1
+read_union-returns-in_err-parts n c = follows_stop _ (gather_from _ (ap trees_of (alone c.new.ensures.items c.in_ok-appended.ensures)) c.in_err-parts.ensures) c.from_residual-in_err-parts.ensures.1
 
 pub read_union-returns-in_err-into : goal.read_union-returns-in_err-into
 unfolding union
 read_union-returns-in_err-into n c =
-    follows_then _ (gather_from _ (ap statements_of (alone c.new.ensures.items c.in_ok-appended.ensures)) c.in_ok-parts.ensures) (follows_stop _ c.in_err-into.ensures c.from_residual-in_err-into.ensures.1)
+    follows_then _ (gather_from _ (ap trees_of (alone c.new.ensures.items c.in_ok-appended.ensures)) c.in_ok-parts.ensures) (follows_stop _ c.in_err-into.ensures c.from_residual-in_err-into.ensures.1)
 
 pub read_union-returns : goal.read_union-returns
 unfolding union
 read_union-returns n c =
-    follows_then _ (gather_from _ (ap statements_of (alone c.new.ensures.items c.in_ok-appended.ensures)) c.in_ok-parts.ensures) (follows_then _ c.in_ok-into.ensures (follows_give (union_is c.in_ok-parts.parts c.in_ok-into.into) refl))
+    follows_then _ (gather_from _ (ap trees_of (alone c.new.ensures.items c.in_ok-appended.ensures)) c.in_ok-parts.ensures) (follows_then _ c.in_ok-into.ensures (follows_give (union_row c.in_ok-parts.parts c.in_ok-into.into) refl))
 
 pub read_part-returns-in_err-token : goal.read_part-returns-in_err-token
 unfolding part

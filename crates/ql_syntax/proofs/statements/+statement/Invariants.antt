@@ -1,7 +1,7 @@
 use Rattle.std.proofs.Common.{length, ◌+◌, ◌*◌}
 use Rattle.ql_syntax.specs.Rules.{gather_round}
 use Rattle.ql_syntax.specs.StatementRules.{part, statement}
-use Rattle.ql_syntax.specs.StatementViews.{statements_of}
+use Rattle.ql_syntax.specs.internal.StatementReaders.{trees_of}
 use Rattle.ql_syntax.specs.declared.level.Level.TheVariants as levels
 use Rattle.ql_syntax.proofs.RoundLemmas.{Reaches}
 use Rattle.ql_syntax.proofs.statements.+statement.Given as goal
@@ -26,7 +26,7 @@ abbrev pub decreases-read_block : goal.decreases-read_block
 decreases-read_block l = 8 * l.depth + 4
 
 abbrev pub invariant-read_parts-loop-other : goal.invariant-read_parts-loop-other
-invariant-read_parts-loop-other l = Reaches (gather_round (part (statement levels.Inner l.fn.depth))) (statements_of l.fn.first.items) l.fn.text (statements_of l.parts.items) l.place
+invariant-read_parts-loop-other l = Reaches (gather_round (part (statement levels.Inner l.fn.depth))) (trees_of l.fn.first.items) l.fn.text (trees_of l.parts.items) l.place
 
 abbrev pub decreases-read_parts-loop-other : goal.decreases-read_parts-loop-other
 decreases-read_parts-loop-other l = length l.place
