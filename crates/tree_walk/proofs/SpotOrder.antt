@@ -9,7 +9,7 @@ use Rattle.tree_walk.specs.Spans.{children_placed}
 use Rattle.tree_walk.specs.Ranges.{IsAboveLeft, IsAtMost, IsNoHigher}
 use Rattle.tree_walk.proofs.FetchLemmas.{all_append, all_weaker}
 use Rattle.tree_walk.proofs.KeyLemmas.{at_most_trans}
-use Rattle.tree_walk.proofs.LevelChoices.{first_at_most, no_higher_next}
+use Rattle.tree_walk.proofs.BoundLemmas.{first_at_most, no_higher_next}
 
 -- ---- bounds
 
