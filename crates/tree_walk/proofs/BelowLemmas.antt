@@ -42,12 +42,12 @@ fit_from left (l ∷ ls) ([] ∷ parts) sizes lasts some rise bytes = absurd (om
 fit_from left (l ∷ ls) ((e ∷ es) ∷ parts) sizes lasts some rise bytes =
     let size : length (e ∷ es) ≡ l.number = cc in
     let last : last_of (e ∷ es) ≡ l.greatest = cc in
-    let sizes_behind : map (length {A = Binding}) parts ≡ map number_in ls = cc in
-    let lasts_behind : map last_of parts ≡ map (λ (l : Link). l.greatest) ls = cc in
+    let sizes_after : map (length {A = Binding}) parts ≡ map number_in ls = cc in
+    let lasts_after : map last_of parts ≡ map (λ (l : Link). l.greatest) ls = cc in
     let keys : AreRisingFrom left (keys_of (e ∷ es) ++ keys_of (join parts)) = subst (λ (ks : List (List ℕ)). AreRisingFrom left ks) (map-append (λ (b : Binding). b.key) (e ∷ es) (join parts)) rise in
     let rising = split_rising left e.key (keys_of es) (keys_of (join parts)) keys in (
       (rising.0, last, size, bytes.0),
-      fit_from (Some l.greatest) ls parts sizes_behind lasts_behind some.1 (subst (λ (k : List ℕ). AreRisingFrom (Some k) (keys_of (join parts))) last rising.1) bytes.1,
+      fit_from (Some l.greatest) ls parts sizes_after lasts_after some.1 (subst (λ (k : List ℕ). AreRisingFrom (Some k) (keys_of (join parts))) last rising.1) bytes.1,
     )
 
 -- ---- accounts

@@ -71,7 +71,7 @@ no_entry_in range outer left most (e ∷ es) unmet no_higher rise below bytes =
       no_entry_in range outer (Some e.key) most es unmet (no_higher_next outer left e.key no_higher rise.0) rise.1 below.1 bytes.1,
     )
 
--- children behind others have the last one's greatest key as their left bound
+-- children after others have the last one's greatest key as their left bound
 pub children_append : (left : Option (List ℕ)) (l : Link) (ls more : List Link)
     → children_placed left ((l ∷ ls) ++ more) ≡ children_placed left (l ∷ ls) ++ children_placed (Some (last_key (greatests_of (l ∷ ls)))) more
 children_append left l [] more = refl
@@ -85,14 +85,14 @@ left_from left nodes zero = left
 left_from left [] (suc place) = left
 left_from left (node ∷ nodes) (suc place) = left_from (Some (greatest_of node)) nodes place
 
--- behind a node they are
-left_behind : (node : Node) (nodes : List Node) (place : ℕ) → place < length (node ∷ nodes) → left_from (Some (greatest_of node)) nodes place ≡ Some (greatest_of (get_or (node ∷ nodes) place no_node))
-left_behind node nodes zero lt = refl
-left_behind node [] (suc place) lt = absurd (omega arith)
-left_behind node (n ∷ nodes) (suc place) lt = left_behind n nodes place (omega arith)
+-- after a node they are
+left_after : (node : Node) (nodes : List Node) (place : ℕ) → place < length (node ∷ nodes) → left_from (Some (greatest_of node)) nodes place ≡ Some (greatest_of (get_or (node ∷ nodes) place no_node))
+left_after node nodes zero lt = refl
+left_after node [] (suc place) lt = absurd (omega arith)
+left_after node (n ∷ nodes) (suc place) lt = left_after n nodes place (omega arith)
 
 -- without one they are those of a level
 pub left_none : (nodes : List Node) (place : ℕ) → place < length nodes → left_from None nodes place ≡ left_at nodes place
 left_none nodes zero lt = refl
 left_none [] (suc place) lt = absurd (omega arith)
-left_none (n ∷ nodes) (suc place) lt = left_behind n nodes place (omega arith)
+left_none (n ∷ nodes) (suc place) lt = left_after n nodes place (omega arith)

@@ -45,7 +45,7 @@ none_above range key (e ∷ es) beyond rise =
 pub none_from : (range : Range) (low : Option (List ℕ)) (entry : Binding) (entries : List Binding) → ¬ Reaches range entry.key → AreRisingFrom low (keys_of (entry ∷ entries)) → AreThose (IsEntryIn range) (entry ∷ entries) []
 none_from range low entry entries beyond rise = inr ((λ is. beyond is.1), none_above range entry.key entries beyond rise.1)
 
--- No child behind a bound above which the range doesn't go on has a property that needs that it does.
+-- No child after a bound above which the range doesn't go on has a property that needs that it does.
 none_ended : (range : Range) (Has : Option (List ℕ) × Link → Type 0) → ((left : Option (List ℕ)) (link : Link) → IsAboveLeft left link.greatest → Has (left, link) → GoesOnAbove range left)
     → (bound : Option (List ℕ)) (links : List Link) → ¬ GoesOnAbove range bound → AreRisingFrom bound (greatests_of links) → AreThose Has (children_placed bound links) []
 none_ended range Has needs bound [] ended rise = refl

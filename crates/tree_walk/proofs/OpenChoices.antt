@@ -81,10 +81,10 @@ module _ (closing : Bool) where
       let parts = split_rising left l.greatest (greatests_of ls) (greatests_of (join ps)) keys in
       let joined : (first more : List (Option (List ℕ) × Link)) → pending ≡ first ++ more → AreThose (IsOpenChild closing range) (children_placed left (l ∷ ls)) first
       → AreThose (IsOpenChild closing range) (children_placed (Some last) (join ps)) more → AreThose (IsOpenChild closing range) (children_placed left ((l ∷ ls) ++ join ps)) pending =
-      λ first more e here behind.
+      λ first more e here after.
       subst (λ (cs : List (Option (List ℕ) × Link)). AreThose (IsOpenChild closing range) cs pending) (sym (children_append left l ls (join ps)))
       (subst (λ (fs : List (Option (List ℕ) × Link)). AreThose (IsOpenChild closing range) (children_placed left (l ∷ ls) ++ children_placed (Some last) (join ps)) fs) (sym e)
-      (those_append (IsOpenChild closing range) (children_placed left (l ∷ ls)) (children_placed (Some last) (join ps)) first more here behind)) in
+      (those_append (IsOpenChild closing range) (children_placed left (l ∷ ls)) (children_placed (Some last) (join ps)) first more here after)) in
       elim those [
         | inl met ↦
             let all : AreThose (IsOpenChild closing range) (children_placed left (l ∷ ls) ++ children_of_all met.1.0) pending =
@@ -111,7 +111,7 @@ module _ (closing : Bool) where
   open_place_of range left (n ∷ ns) spots bytes (inl met) one =
       elim (subst (λ (ss : List (Option (List ℕ) × Node)). IsOneOf ss bytes) met.1.1 one) [
         | inl here ↦ (0, (omega arith, here, met.0))
-        | inr behind ↦ let rest = open_place_of range (Some (greatest_of n)) ns met.1.0 bytes met.1.2 behind in (suc rest.0, (omega (arith, rest.1.0), rest.1.1, rest.1.2))
+        | inr after ↦ let rest = open_place_of range (Some (greatest_of n)) ns met.1.0 bytes met.1.2 after in (suc rest.0, (omega (arith, rest.1.0), rest.1.1, rest.1.2))
       ]
   open_place_of range left (n ∷ ns) spots bytes (inr unmet) one =
       let rest = open_place_of range (Some (greatest_of n)) ns spots bytes unmet.1 one in (suc rest.0, (omega (arith, rest.1.0), rest.1.1, rest.1.2))

@@ -9,12 +9,12 @@ ghost use Rattle.tree_walk.specs.internal.Accounts.{Gains};
 ghost use Rattle.tree_walk.specs.internal.Openings.{IsClosedChild, IsOpenChild};
 ghost use Rattle.tree_walk.specs.internal.Pendings.{Agrees, spot_of, spots_of};
 ghost use Rattle.tree_walk.specs.Spans.{children_placed};
-ghost use Rattle.tree_walk.specs.Ranges.{IsAboveLeft, IsIn, range_of};
+ghost use Rattle.tree_walk.specs.Ranges.{IsIn, range_of};
 
 use crate::gather::Gather;
 use crate::key_range::KeyRange;
 use std::alloc::AllocError;
-use tree_node::{Child, Children, Entries, is_below};
+use tree_node::{Child, Children, Entries, is_above};
 
 /// A child that is opened, as its parent states it.
 #[derive(Clone, Copy, Debug)]
@@ -48,16 +48,6 @@ impl<'a> Pending<'a> {
             None => true,
         };
         starts && entries.number() == self.child.number && entries.greatest() == self.child.greatest
-    }
-}
-
-/// Whether the key is above the left bound, where there is one.
-fn is_above(left: Option<&[u8]>, key: &[u8]) -> bool
-    ensures { IsTrue result ↔ IsAboveLeft (option_copied left.entry) key.now }
-{
-    match left {
-        Some(left) => is_below(left, key),
-        None => true,
     }
 }
 

@@ -12,7 +12,7 @@ use Rattle.tree_walk.specs.Spans.{children_placed}
 use Rattle.tree_walk.specs.internal.Pendings.{spot_of, spots_of}
 use Rattle.tree_walk.specs.Ranges.{IsAtMost, range_of}
 use Rattle.tree_walk.specs.internal.Reaching.{GoesOnAbove}
-use Rattle.tree_walk.proofs.ChoiceLemmas.{ArePicked, fails_not, one_behind, picked_all, picked_one, picked_other, picked_stop}
+use Rattle.tree_walk.proofs.ChoiceLemmas.{ArePicked, fails_not, one_after, picked_all, picked_one, picked_other, picked_stop}
 use Rattle.tree_walk.proofs.AccountLemmas.{gains_none, gains_then}
 use Rattle.tree_walk.proofs.EndLemmas.{closed_low, none_closed, none_open}
 use Rattle.tree_walk.proofs.MeetLemmas.{low_from_meets, meets_from_both}
@@ -63,7 +63,7 @@ loop-child-preserved g c =
           let meets = meets_from_both range spot.0 spot.1.greatest c.skip_below-children.ensures.bytes c.requires.some c.goes_on_above.ensures.bytes rising.0 from.0 (c.goes_on_above.ensures.told.0 c.if-not-goes_on_above.false) in (
             before.0 ++ spot ∷ [],
             before.1,
-            one_behind spot_of (spots_of c.args.pending.now.items) before.0 c.loop-child.pending.items pending (record { left = c.loop-child.bound; child = c.in-Some.child }) (ap (λ (v : Vec _). v.items) w.pending-is ∙ w.in_ok-push.ensures.items) before.2,
+            one_after spot_of (spots_of c.args.pending.now.items) before.0 c.loop-child.pending.items pending (record { left = c.loop-child.bound; child = c.in-Some.child }) (ap (λ (v : Vec _). v.items) w.pending-is ∙ w.in_ok-push.ensures.items) before.2,
             picked_one opens all rest before.0 spot (meets, shut) picking,
             picked_other closes all rest before.1 spot shut closing,
             subst (λ (cs : List (Option (List ℕ) × Link)). Gains g.G.Gather.gathers c.args.gathered.now c.closes.new.self cs []) (append-nil before.1)
