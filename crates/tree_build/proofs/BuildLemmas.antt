@@ -17,7 +17,7 @@ use Rattle.tree_build.specs.declared.fault.BuildFault.TheVariants.{Clash}
 use Rattle.tree_build.specs.internal.Building.{AreWithin, IsOneOf, PutAll}
 use Rattle.tree_build.proofs.StockLemmas.{one_of_first, one_of_last, one_of_parts, gained_none, gained_more, put_stopped}
 
--- ---- the nodes of a tree, by their places or one level behind the other
+-- ---- the nodes of a tree, by their places or one level after the other
 
 place_of : (nodes : List Node) (bytes : List ℕ) → IsOneOf nodes bytes → (i : ℕ) × (i < length nodes) × (bytes ≡ spelling (get_or nodes i no_node))
 place_of [] bytes none = absurd none

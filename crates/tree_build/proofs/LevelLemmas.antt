@@ -33,7 +33,7 @@ module _ {X Y : Type 0} (shape : Shape) (marked : Y → Bool) (f : X → Y) (mak
         ∙ ap (map make) (least_maps f (pieces (ends_by shape (λ x. marked (f x))) xs))
         ∙ ap (λ (ps : List (List X)). map make (map (map f) ps)) first.cut
 
-    -- behind it stand those over what is left, where something is
+    -- after it stand those over what is left, where something is
     pub next_nodes : 1 ≤ length (drop (length piece) xs) → nodes_over xs ≡ make (map f piece) ∷ nodes_over (drop (length piece) xs)
     next_nodes some =
         first_node
@@ -58,10 +58,10 @@ module _ {X Y : Type 0} (shape : Shape) (marked : Y → Bool) (f : X → Y) (mak
     -- memory to remember the node is refused
     pub step_no_memory : {B : Type 0} (whole : Result B BuildFault) → GrownByAll mid new (IsOneOf (make (map f piece) ∷ [])) → whole ≡ Err Memory → PutAll whole old new all
     step_no_memory whole grown stops =
-        let behind = map make (map (map f) (pieces (ends_by shape (λ x. marked (f x))) (drop (length piece) xs))) in
-        put_no_memory whole old new (so.done ++ make (map f piece) ∷ []) behind all
+        let after = map make (map (map f) (pieces (ends_by shape (λ x. marked (f x))) (drop (length piece) xs))) in
+        put_no_memory whole old new (so.done ++ make (map f piece) ∷ []) after all
         (gained_more old mid new so.done (make (map f piece) ∷ []) so.gained grown)
-        (so.whole ∙ ap (λ (ns : List Node). so.done ++ ns) (first_node xs piece first) ∙ sym (append_assoc so.done (make (map f piece) ∷ []) behind)) stops
+        (so.whole ∙ ap (λ (ns : List Node). so.done ++ ns) (first_node xs piece first) ∙ sym (append_assoc so.done (make (map f piece) ∷ []) after)) stops
 
     module _ (grown : GrownByAll mid new (IsOneOf (make (map f piece) ∷ []))) where
       -- more nodes are to come
@@ -99,11 +99,11 @@ rest_all P f (suc n) (x ∷ xs) h = rest_all P f n xs h.1
 pub links_more : (before after : List Child) (child : Child) (link : Link) → after ≡ before ++ child ∷ [] → link_of child ≡ link → links_of after ≡ links_of before ++ link ∷ []
 links_more before after child link is says = ap (λ (cs : List Child). links_of cs) is ∙ map-append link_of before (child ∷ []) ∙ ap (λ (l : Link). links_of before ++ l ∷ []) says
 
--- nothing stands behind the last piece
+-- nothing comes after the last piece
 pub drop_end : {X : Type 0} (xs : List X) (start n : ℕ) → start + n ≡ length xs → drop n (drop start xs) ≡ []
 drop_end {X} xs start n is = drop-drop n start xs ∙ ap (λ k. drop k xs) is ∙ drop-length xs
 
--- something stands behind another piece
+-- something comes after another piece
 pub drop_some : {X : Type 0} (xs : List X) (start n : ℕ) → start ≤ length xs → n ≤ length (drop start xs) → start + n ≢ length xs → 1 ≤ length (drop n (drop start xs))
 drop_some xs start n within fits isnt = omega (arith, length-drop n (drop start xs), length-drop start xs)
 

@@ -8,7 +8,7 @@ use Rattle.tree_build.specs.declared.fault.BuildFault.{BuildFault}
 use Rattle.tree_build.specs.declared.fault.BuildFault.TheVariants.{Clash, Memory}
 use Rattle.tree_build.specs.internal.Building.{IsOneOf, PutAll}
 
--- one of some nodes, or of others behind them
+-- one of some nodes, or of others after them
 pub one_of_first : (xs ys : List Node) (bytes : List ℕ) → IsOneOf xs bytes → IsOneOf (xs ++ ys) bytes
 one_of_first [] ys bytes none = absurd none
 one_of_first (x ∷ xs) ys bytes is = elim is [ inl here ↦ inl here | inr there ↦ inr (one_of_first xs ys bytes there) ]

@@ -7,7 +7,7 @@ use Rattle.tree_node.specs.declared.fault.NodeFault.TheVariants.{CutShort, BadCo
 use Rattle.tree_node.specs.Nodes.{AreBytes, Link, link}
 use Rattle.tree_node.specs.Faults.{entry_form, link_form, HasWidths, HasNoItem}
 use Rattle.tree_node.specs.Fronts.{◌>>=◌, number_at, bytes_at, entry_at, link_at}
-use Rattle.tree_node.specs.internal.Reading.{entries_behind, links_behind}
+use Rattle.tree_node.specs.internal.Reading.{entries_after, links_after}
 use Rattle.tree_node.proofs.shared.FieldLemmas.{Takes, entry_takes, entry_again, link_takes, link_again, link_wide, number_takes, piece_takes, wide16, wide64, Takes-then}
 use Rattle.tree_node.proofs.ItemFaults.{IsReader}
 
@@ -52,15 +52,15 @@ entry_err bytes e is =
     ]
 
 -- the reader of entries, by its laws
-pub entry_reader : IsReader entry_form entry_at entries_behind
-unfolding entries_behind
+pub entry_reader : IsReader entry_form entry_at entries_after
+unfolding entries_after
 entry_reader = record {
   takes = λ bytes x fits read. let took = entry_takes bytes x fits read in (took.0, took.1, tt);
   again = λ x rest shaped in_range. entry_again x rest shaped;
   far = λ x rest shaped not_in. absurd (not_in tt);
   fails = λ bytes e fits read. inl (
     entry_err bytes e read,
-    λ x behind shaped is. not_err (x, behind) e (entry_at bytes) (ap entry_at is ∙ entry_again x behind shaped) read,
+    λ x after shaped is. not_err (x, after) e (entry_at bytes) (ap entry_at is ∙ entry_again x after shaped) read,
   );
   none = λ low bytes. refl;
   some = λ n low bytes. refl;
@@ -137,15 +137,15 @@ link_err bytes e fits is =
 
 -- where a link is cut short, none stands there
 no_link : (bytes : List ℕ) → link_at bytes ≡ Err CutShort → HasNoItem link_form bytes
-no_link bytes read c behind fits is = by (ltb c.number 1 || ltb 1099511627776 c.number) (sym (ap link_at is ∙ link_wide c behind fits) ∙ read)
+no_link bytes read c after fits is = by (ltb c.number 1 || ltb 1099511627776 c.number) (sym (ap link_at is ∙ link_wide c after fits) ∙ read)
   where
-    by : (b : Bool) → cond {A = Result (Link × List ℕ) NodeFault} b (Err BadCount) (Ok (c, behind)) ≡ Err CutShort → ⊥
+    by : (b : Bool) → cond {A = Result (Link × List ℕ) NodeFault} b (Err BadCount) (Ok (c, after)) ≡ Err CutShort → ⊥
     by true p = absurd cc
     by false p = absurd cc
 
 -- the reader of links, by its laws
-pub link_reader : IsReader link_form link_at links_behind
-unfolding links_behind
+pub link_reader : IsReader link_form link_at links_after
+unfolding links_after
 link_reader = record {
   takes = λ bytes x fits read. let took = link_takes bytes x fits read in
       (took.0, record { greatest = took.1.greatest; number = omega (arith, took.1.number); child = took.1.child }, (took.1.some, took.1.number));

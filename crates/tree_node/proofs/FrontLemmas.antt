@@ -31,16 +31,16 @@ not_ok (Err d) e is = absurd cc
 abbrev pub key_len : List ℕ → ℕ
 key_len bytes = from_be_bytes w16 (take 2 bytes)
 
--- what stands behind the first key
-abbrev pub behind_key : List ℕ → List ℕ
-behind_key bytes = drop (key_len bytes) (drop 2 bytes)
+-- what comes after the first key
+abbrev pub after_key : List ℕ → List ℕ
+after_key bytes = drop (key_len bytes) (drop 2 bytes)
 
 -- the length of the first value
 abbrev pub value_len : List ℕ → ℕ
-value_len bytes = from_be_bytes w32 (take 4 (behind_key bytes))
+value_len bytes = from_be_bytes w32 (take 4 (after_key bytes))
 
-pub behind_long : (bytes : List ℕ) → length (behind_key bytes) ≡ length bytes - 2 - key_len bytes
-behind_long bytes = length-drop (key_len bytes) (drop 2 bytes) ∙ ap (λ n. n - key_len bytes) (length-drop 2 bytes)
+pub after_long : (bytes : List ℕ) → length (after_key bytes) ≡ length bytes - 2 - key_len bytes
+after_long bytes = length-drop (key_len bytes) (drop 2 bytes) ∙ ap (λ n. n - key_len bytes) (length-drop 2 bytes)
 
 module _ (bytes : List ℕ) where
   -- an entry whose key is cut short,
@@ -52,22 +52,22 @@ module _ (bytes : List ℕ) where
         | inr long ↦
             elim (cases_lt (length (drop 2 bytes)) (key_len bytes)) [
               | inl short ↦ rw (number_ok w16 bytes long, piece_cut (key_len bytes) (drop 2 bytes) short) refl
-              | inr some ↦ rw (number_ok w16 bytes long, piece_ok (key_len bytes) (drop 2 bytes) some, number_cut w32 (behind_key bytes) (omega (arith, behind_long bytes))) refl
+              | inr some ↦ rw (number_ok w16 bytes long, piece_ok (key_len bytes) (drop 2 bytes) some, number_cut w32 (after_key bytes) (omega (arith, after_long bytes))) refl
             ]
       ]
 
   -- or its value
-  pub value_cut : 6 + key_len bytes ≤ length bytes → length (drop 4 (behind_key bytes)) < value_len bytes → entry_at bytes ≡ Err CutShort
+  pub value_cut : 6 + key_len bytes ≤ length bytes → length (drop 4 (after_key bytes)) < value_len bytes → entry_at bytes ≡ Err CutShort
   unfolding entry_at
   value_cut long short =
-      rw (number_ok w16 bytes (omega arith), piece_ok (key_len bytes) (drop 2 bytes) (omega (arith, length-drop 2 bytes)), number_ok w32 (behind_key bytes) (omega (arith, behind_long bytes)), piece_cut (value_len bytes) (drop 4 (behind_key bytes)) short) refl
+      rw (number_ok w16 bytes (omega arith), piece_ok (key_len bytes) (drop 2 bytes) (omega (arith, length-drop 2 bytes)), number_ok w32 (after_key bytes) (omega (arith, after_long bytes)), piece_cut (value_len bytes) (drop 4 (after_key bytes)) short) refl
 
   -- an entry that is whole
-  pub entry_whole : 6 + key_len bytes ≤ length bytes → value_len bytes ≤ length (drop 4 (behind_key bytes))
-      → entry_at bytes ≡ Ok (record { key = take (key_len bytes) (drop 2 bytes); value = take (value_len bytes) (drop 4 (behind_key bytes)) }, drop (value_len bytes) (drop 4 (behind_key bytes)))
+  pub entry_whole : 6 + key_len bytes ≤ length bytes → value_len bytes ≤ length (drop 4 (after_key bytes))
+      → entry_at bytes ≡ Ok (record { key = take (key_len bytes) (drop 2 bytes); value = take (value_len bytes) (drop 4 (after_key bytes)) }, drop (value_len bytes) (drop 4 (after_key bytes)))
   unfolding entry_at
   entry_whole long some =
-      rw (number_ok w16 bytes (omega arith), piece_ok (key_len bytes) (drop 2 bytes) (omega (arith, length-drop 2 bytes)), number_ok w32 (behind_key bytes) (omega (arith, behind_long bytes)), piece_ok (value_len bytes) (drop 4 (behind_key bytes)) some) refl
+      rw (number_ok w16 bytes (omega arith), piece_ok (key_len bytes) (drop 2 bytes) (omega (arith, length-drop 2 bytes)), number_ok w32 (after_key bytes) (omega (arith, after_long bytes)), piece_ok (value_len bytes) (drop 4 (after_key bytes)) some) refl
 
   -- bytes that begin with an entry are long enough for its key,
   pub entry_long : IsOk (entry_at bytes) → 6 + key_len bytes ≤ length bytes
@@ -78,9 +78,9 @@ module _ (bytes : List ℕ) where
       ]
 
   -- and for its value
-  pub value_long : IsOk (entry_at bytes) → value_len bytes ≤ length (drop 4 (behind_key bytes))
+  pub value_long : IsOk (entry_at bytes) → value_len bytes ≤ length (drop 4 (after_key bytes))
   value_long is =
-      elim (cases_lt (length (drop 4 (behind_key bytes))) (value_len bytes)) [
+      elim (cases_lt (length (drop 4 (after_key bytes))) (value_len bytes)) [
         | inl short ↦ absurd (not_ok (entry_at bytes) (value_cut (entry_long is) short) is)
         | inr long ↦ long
       ]
@@ -95,9 +95,9 @@ module _ (bytes : List ℕ) where
             elim (cases_lt (length (drop 2 bytes)) (key_len bytes)) [
               | inl short ↦ rw (number_ok w16 bytes long, piece_cut (key_len bytes) (drop 2 bytes) short) refl
               | inr some ↦
-                  elim (cases_lt (length (behind_key bytes)) 8) [
-                    | inl short ↦ rw (number_ok w16 bytes long, piece_ok (key_len bytes) (drop 2 bytes) some, number_cut w64 (behind_key bytes) short) refl
-                    | inr eight ↦ rw (number_ok w16 bytes long, piece_ok (key_len bytes) (drop 2 bytes) some, number_ok w64 (behind_key bytes) eight, piece_cut 32 (drop 8 (behind_key bytes)) (omega (arith, behind_long bytes, length-drop 8 (behind_key bytes)))) refl
+                  elim (cases_lt (length (after_key bytes)) 8) [
+                    | inl short ↦ rw (number_ok w16 bytes long, piece_ok (key_len bytes) (drop 2 bytes) some, number_cut w64 (after_key bytes) short) refl
+                    | inr eight ↦ rw (number_ok w16 bytes long, piece_ok (key_len bytes) (drop 2 bytes) some, number_ok w64 (after_key bytes) eight, piece_cut 32 (drop 8 (after_key bytes)) (omega (arith, after_long bytes, length-drop 8 (after_key bytes)))) refl
                   ]
             ]
       ]
@@ -107,7 +107,7 @@ module _ (bytes : List ℕ) where
       → link_at bytes ≡ cond (ltb (link_by (key_len bytes) bytes).0.number 1 || ltb 1099511627776 (link_by (key_len bytes) bytes).0.number) (Err BadCount) (Ok (link_by (key_len bytes) bytes))
   unfolding link_at
   link_whole long =
-      rw (number_ok w16 bytes (omega arith), piece_ok (key_len bytes) (drop 2 bytes) (omega (arith, length-drop 2 bytes)), number_ok w64 (behind_key bytes) (omega (arith, behind_long bytes)), piece_ok 32 (drop 8 (behind_key bytes)) (omega (arith, behind_long bytes, length-drop 8 (behind_key bytes)))) refl
+      rw (number_ok w16 bytes (omega arith), piece_ok (key_len bytes) (drop 2 bytes) (omega (arith, length-drop 2 bytes)), number_ok w64 (after_key bytes) (omega (arith, after_long bytes)), piece_ok 32 (drop 8 (after_key bytes)) (omega (arith, after_long bytes, length-drop 8 (after_key bytes)))) refl
 
   -- bytes that begin with a link are long enough for it,
   pub link_long : IsOk (link_at bytes) → 42 + key_len bytes ≤ length bytes

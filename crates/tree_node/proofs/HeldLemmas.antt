@@ -6,7 +6,7 @@ use Rattle.tree_node.specs.declared.fault.NodeFault.{NodeFault}
 use Rattle.tree_node.specs.Held.{IsLastOf, HoldsEntries, HoldsLinks}
 use Rattle.tree_node.specs.Nodes.{AreBytes, Binding, Link, keys_of, greatests_of}
 use Rattle.tree_node.specs.Fronts.{entry_at, link_at, entries_at_front, links_at_front, and_more}
-use Rattle.tree_node.specs.internal.Reading.{entries_behind, links_behind}
+use Rattle.tree_node.specs.internal.Reading.{entries_after, links_after}
 use Rattle.tree_node.specs.Trees.{last_key}
 use Rattle.tree_node.proofs.shared.NodeLaws.{entries_taken, links_taken}
 
@@ -20,28 +20,28 @@ abbrev pub key_or_none : Option (List ℕ) → List ℕ
 key_or_none None = []
 key_or_none (Some key) = key
 
--- a key and others behind it
-last_behind : (key : List ℕ) (keys : List (List ℕ)) → last_key (key ∷ keys) ≡ last_from key keys
-last_behind key [] = refl
-last_behind key (next ∷ keys) = last_behind next keys
+-- a key and others after it
+last_after : (key : List ℕ) (keys : List (List ℕ)) → last_key (key ∷ keys) ≡ last_from key keys
+last_after key [] = refl
+last_after key (next ∷ keys) = last_after next keys
 
 -- the key that going through all of them from the empty one comes to is the last one
 last_is : (keys : List (List ℕ)) (last : List ℕ) → last_from [] keys ≡ last → IsLastOf keys last
 last_is [] last is = tt
-last_is (key ∷ keys) last is = last_behind key keys ∙ is
+last_is (key ∷ keys) last is = last_after key keys ∙ is
 
--- it is also that of the keys behind the first
+-- it is also that of the keys after the first
 last_of_rest : (key : List ℕ) (keys : List (List ℕ)) (last : List ℕ) → IsLastOf (key ∷ keys) last → IsLastOf keys last
 last_of_rest key [] last is = tt
 last_of_rest key (next ∷ keys) last is = is
 
 entries_one : (n : ℕ) (bytes rest : List ℕ) (x : Binding) → entry_at bytes ≡ Ok (x, rest) → entries_at_front (suc n) bytes ≡ x ∷ entries_at_front n rest
 unfolding entries_at_front
-entries_one n bytes rest x read = ap (λ r. and_more r (λ behind. entries_at_front n behind)) read
+entries_one n bytes rest x read = ap (λ r. and_more r (λ after. entries_at_front n after)) read
 
 links_one : (n : ℕ) (bytes rest : List ℕ) (x : Link) → link_at bytes ≡ Ok (x, rest) → links_at_front (suc n) bytes ≡ x ∷ links_at_front n rest
 unfolding links_at_front
-links_one n bytes rest x read = ap (λ r. and_more r (λ behind. links_at_front n behind)) read
+links_one n bytes rest x read = ap (λ r. and_more r (λ after. links_at_front n after)) read
 
 no_entries : (bytes : List ℕ) → entries_at_front 0 bytes ≡ []
 unfolding entries_at_front
@@ -63,7 +63,7 @@ module _ (count i : ℕ) (low : Option (List ℕ)) (bytes all : List ℕ) where
 
   -- and at the end all were
   pub entries_held : AreBytes all → count ≤ i → last_from (key_or_none low) (keys_of (entries_at_front (count - i) bytes)) ≡ last_from [] (keys_of (entries_at_front count all))
-      → entries_behind count None all ≡ Ok bytes → HoldsEntries count all (key_or_none low)
+      → entries_after count None all ≡ Ok bytes → HoldsEntries count all (key_or_none low)
   entries_held fits le so_far read =
       let k : count - i ≡ 0 = omega arith in
       let none : entries_at_front (count - i) bytes ≡ [] = rw k (no_entries bytes) in
@@ -92,7 +92,7 @@ module _ (count i : ℕ) (low : Option (List ℕ)) (bytes all : List ℕ) where
   -- and at the end all were
   pub links_held : (number : ℕ) → AreBytes all → count ≤ i → last_from (key_or_none low) (greatests_of (links_at_front (count - i) bytes)) ≡ last_from [] (greatests_of (links_at_front count all))
       → sum_by (λ (link : Link). link.number) (links_at_front (count - i) bytes) + number ≡ sum_by (λ (link : Link). link.number) (links_at_front count all)
-      → links_behind count None all ≡ Ok bytes → HoldsLinks count all (key_or_none low) number
+      → links_after count None all ≡ Ok bytes → HoldsLinks count all (key_or_none low) number
   links_held number fits le so_far sum read =
       let k : count - i ≡ 0 = omega arith in
       let none : links_at_front (count - i) bytes ≡ [] = rw k (no_links bytes) in
@@ -102,9 +102,9 @@ module _ (count i : ℕ) (low : Option (List ℕ)) (bytes all : List ℕ) where
         below = omega (arith, ap (λ (ls : List Link). sum_by (λ (link : Link). link.number) ls) none, sum);
       }
 
--- what is known of links is known of those behind the first
-pub links_behind_first : (n : ℕ) (bytes rest greatest : List ℕ) (number : ℕ) (x : Link) → link_at bytes ≡ Ok (x, rest) → HoldsLinks (suc n) bytes greatest number → HoldsLinks n rest greatest (number - x.number)
-links_behind_first n bytes rest greatest number x read held =
+-- what is known of links is known of those after the first
+pub links_after_first : (n : ℕ) (bytes rest greatest : List ℕ) (number : ℕ) (x : Link) → link_at bytes ≡ Ok (x, rest) → HoldsLinks (suc n) bytes greatest number → HoldsLinks n rest greatest (number - x.number)
+links_after_first n bytes rest greatest number x read held =
     let one = links_one n bytes rest x read in
     record {
       whole = omega (arith, ap (λ (ls : List Link). length ls) one, held.whole);

@@ -11,10 +11,10 @@ use Rattle.tree_node.specs.Nodes.{AreBytes, Link, Node, Leaf, Inner, FitsEntry, 
 use Rattle.tree_node.specs.NodeRefs.{node_read}
 use Rattle.tree_node.specs.Faults.{entry_form, link_form, HasWidths, ItemsFault, HasKind, HasCount, BodyFault, HeadFault, IsFault}
 use Rattle.tree_node.specs.Fronts.{◌>>=◌, entry_at, link_at, entries_at_front, links_at_front}
-use Rattle.tree_node.specs.internal.Reading.{Gives, entries_behind, links_behind, node_at, to_the_end, items_at, tree_at}
+use Rattle.tree_node.specs.internal.Reading.{Gives, entries_after, links_after, node_at, to_the_end, items_at, tree_at}
 use Rattle.tree_node.proofs.shared.FieldLemmas.{AreBytes-drop, wide16}
 use Rattle.tree_node.proofs.shared.NodeLaws.{entries_taken, links_taken, or_false, above_zero, two}
-use Rattle.tree_node.proofs.ItemFaults.{stops, stopped, went_on, AreBytes-behind}
+use Rattle.tree_node.proofs.ItemFaults.{stops, stopped, went_on, AreBytes-after}
 use Rattle.tree_node.proofs.FaultLemmas.{entry_reader, link_reader, or_true}
 
 -- a test that failed, or what comes after it
@@ -22,7 +22,7 @@ cond_err : {A : Type 0} (b : Bool) (d e : NodeFault) (r : Result A NodeFault) �
 cond_err true d e r p = inl (refl, cc)
 cond_err false d e r p = inr (refl, p)
 
--- the test for bytes behind the items failed
+-- the test for bytes after the items failed
 end_cond : (b : Bool) (node : Node) (f : NodeFault) → cond b (Ok node) (Err BytesAfter) ≡ Err f → (b ≡ false) × (f ≡ BytesAfter)
 end_cond true node f p = absurd cc
 end_cond false node f p = (refl, cc)
@@ -47,10 +47,10 @@ and_true false b p = absurd cc
 
 -- entries that are at fault
 entries_fault : (tree count : ℕ) (bytes : List ℕ) (f : NodeFault) → AreBytes bytes
-    → to_the_end (entries_behind count None bytes) (Leaf tree (entries_at_front count bytes)) ≡ Err f → ItemsFault entry_form None count bytes f
+    → to_the_end (entries_after count None bytes) (Leaf tree (entries_at_front count bytes)) ≡ Err f → ItemsFault entry_form None count bytes f
 entries_fault tree count bytes f fits p =
-    elim (end_err (entries_behind count None bytes) (Leaf tree (entries_at_front count bytes)) f p) [
-      | inl q ↦ stops entry_form entry_at entries_behind entry_reader count None bytes f fits q
+    elim (end_err (entries_after count None bytes) (Leaf tree (entries_at_front count bytes)) f p) [
+      | inl q ↦ stops entry_form entry_at entries_after entry_reader count None bytes f fits q
       | inr (rest, q, more, is) ↦
           let s = entries_taken count None bytes rest fits q in
           subst (λ (e : NodeFault). ItemsFault entry_form None count bytes e) (sym is)
@@ -63,10 +63,10 @@ link_is c fits = (record { greatest = fits.greatest; number = omega (arith, fits
 
 -- links that are at fault
 links_fault : (tree level count : ℕ) (bytes : List ℕ) (f : NodeFault) → AreBytes bytes
-    → to_the_end (links_behind count None bytes) (Inner tree level (links_at_front count bytes)) ≡ Err f → ItemsFault link_form None count bytes f
+    → to_the_end (links_after count None bytes) (Inner tree level (links_at_front count bytes)) ≡ Err f → ItemsFault link_form None count bytes f
 links_fault tree level count bytes f fits p =
-    elim (end_err (links_behind count None bytes) (Inner tree level (links_at_front count bytes)) f p) [
-      | inl q ↦ stops link_form link_at links_behind link_reader count None bytes f fits q
+    elim (end_err (links_after count None bytes) (Inner tree level (links_at_front count bytes)) f p) [
+      | inl q ↦ stops link_form link_at links_after link_reader count None bytes f fits q
       | inr (rest, q, more, is) ↦
           let s = links_taken count None bytes rest fits q in
           subst (λ (e : NodeFault). ItemsFault link_form None count bytes e) (sym is)
@@ -76,17 +76,17 @@ links_fault tree level count bytes f fits p =
 -- what the level and the number of items say
 abbrev body_of : ℕ → ℕ → ℕ → List ℕ → Result Node NodeFault
 body_of tree level count bytes =
-    cond (eqb level 0) (to_the_end (entries_behind count None bytes) (Leaf tree (entries_at_front count bytes))) (to_the_end (links_behind count None bytes) (Inner tree level (links_at_front count bytes)))
+    cond (eqb level 0) (to_the_end (entries_after count None bytes) (Leaf tree (entries_at_front count bytes))) (to_the_end (links_after count None bytes) (Inner tree level (links_at_front count bytes)))
 
 -- the branch that was taken
 choose : {A : Type 0} (b : Bool) (p q r : A) → cond b p q ≡ r → ((b ≡ true) × (p ≡ r)) ⊎ ((b ≡ false) × (q ≡ r))
 choose true p q r e = inl (refl, e)
 choose false p q r e = inr (refl, e)
 
--- what is refused behind the number of items
+-- what is refused after the number of items
 body_fault : (tree level count : ℕ) (bytes : List ℕ) (f : NodeFault) → AreBytes bytes → body_of tree level count bytes ≡ Err f → BodyFault level count bytes f
 body_fault tree level count bytes f fits p =
-    elim (choose (eqb level 0) (to_the_end (entries_behind count None bytes) (Leaf tree (entries_at_front count bytes))) (to_the_end (links_behind count None bytes) (Inner tree level (links_at_front count bytes))) (Err f) p) [
+    elim (choose (eqb level 0) (to_the_end (entries_after count None bytes) (Leaf tree (entries_at_front count bytes))) (to_the_end (links_after count None bytes) (Inner tree level (links_at_front count bytes))) (Err f) p) [
       | inl (zero_is, q) ↦ inl (eqb-true _ _ zero_is, entries_fault tree count bytes f fits q)
       | inr (not_zero, q) ↦ inr (up level not_zero, links_fault tree level count bytes f fits q)
     ]
@@ -118,7 +118,7 @@ takes_count level count t =
     let both = or_false (ltb 64 count) (ltb 0 level && eqb count 0) t in
     (ltb-false _ _ both.0, λ up. above_zero count (ltb 0 level) (lt-ltb 0 level (omega arith)) both.1)
 
--- what is refused behind the tree number
+-- what is refused after the tree number
 items_fault : (tree level count : ℕ) (bytes : List ℕ) (f : NodeFault) → AreBytes bytes → IsTree tree → items_at tree level count bytes ≡ Err f → HeadFault tree level count bytes f
 items_fault tree level count bytes f fits is_tree p =
     elim (cond_err (ltb 63 level) BadTreeOrLevel f (cond (bad_count level count) (Err BadCount) (body_of tree level count bytes)) p) [
@@ -135,7 +135,7 @@ items_fault tree level count bytes f fits is_tree p =
 abbrev node_err : NodeFault → Result Node NodeFault
 node_err f = Err f
 
--- what is refused behind the first byte
+-- what is refused after the first byte
 tree_fault : (tree level count : ℕ) (bytes : List ℕ) (f : NodeFault) → AreBytes bytes → (tree_at tree >>= λ t. items_at t level count bytes) ≡ Err f → HeadFault tree level count bytes f
 tree_fault tree level count bytes f fits p =
     elim (cases_Bool (ltb tree 1 || ltb 4 tree)) [
@@ -193,18 +193,18 @@ body_err r node BytesAfter failed on =
     no_length [] more e = more refl
     no_length (x ∷ xs) more e = omega arith
 
--- a fault behind the number of items is refused
+-- a fault after the number of items is refused
 body_met : (tree level count : ℕ) (bytes : List ℕ) (f : NodeFault) → AreBytes bytes → BodyFault level count bytes f → body_of tree level count bytes ≡ Err f
 body_met tree level count bytes f fits (inl (is, fault)) =
     let z : eqb level 0 ≡ true = rw is refl in
-    rw z (body_err (entries_behind count None bytes) (Leaf tree (entries_at_front count bytes)) f
-    (λ other. stopped entry_form entry_at entries_behind entry_reader count None bytes f fits fault other)
-    (λ after. went_on entry_form entry_at entries_behind entry_reader count None bytes (subst (λ (e : NodeFault). ItemsFault entry_form None count bytes e) after fault)))
+    rw z (body_err (entries_after count None bytes) (Leaf tree (entries_at_front count bytes)) f
+    (λ other. stopped entry_form entry_at entries_after entry_reader count None bytes f fits fault other)
+    (λ after. went_on entry_form entry_at entries_after entry_reader count None bytes (subst (λ (e : NodeFault). ItemsFault entry_form None count bytes e) after fault)))
 body_met tree level count bytes f fits (inr (up, fault)) =
     let z : eqb level 0 ≡ false = ne_eqb _ _ (λ h. absurd (omega arith)) in
-    rw z (body_err (links_behind count None bytes) (Inner tree level (links_at_front count bytes)) f
-    (λ other. stopped link_form link_at links_behind link_reader count None bytes f fits fault other)
-    (λ after. went_on link_form link_at links_behind link_reader count None bytes (subst (λ (e : NodeFault). ItemsFault link_form None count bytes e) after fault)))
+    rw z (body_err (links_after count None bytes) (Inner tree level (links_at_front count bytes)) f
+    (λ other. stopped link_form link_at links_after link_reader count None bytes f fits fault other)
+    (λ after. went_on link_form link_at links_after link_reader count None bytes (subst (λ (e : NodeFault). ItemsFault link_form None count bytes e) after fault)))
 
 -- the number of a tree passes its test
 tree_read : (tree : ℕ) → IsTree tree → (ltb tree 1 || ltb 4 tree) ≡ false
@@ -212,7 +212,7 @@ tree_read tree is =
     let low : ltb tree 1 ≡ false = le-ltb _ _ is.0 in
     let high : ltb 4 tree ≡ false = le-ltb _ _ is.1 in rw (low, high) refl
 
--- a fault of the first four bytes, or behind them, is refused
+-- a fault of the first four bytes, or after them, is refused
 head_met : (tree level count : ℕ) (bytes : List ℕ) (f : NodeFault) → AreBytes bytes → HeadFault tree level count bytes f → (tree_at tree >>= λ t. items_at t level count bytes) ≡ Err f
 head_met tree level count bytes f fits (inl (is, no_kind)) =
     elim (cases_Bool (ltb tree 1 || ltb 4 tree)) [
@@ -253,9 +253,9 @@ short_met bytes lt = rw (lt-ltb _ _ lt) refl
 -- the reader stops at a fault of the bytes
 pub fault_met : (bytes : List ℕ) (f : NodeFault) → AreBytes bytes → IsFault bytes f → node_at bytes ≡ Err f
 fault_met bytes f fits (inl (is, lt)) = short_met bytes lt ∙ ap (λ (e : NodeFault). Err e) (sym is)
-fault_met bytes f fits (inr (tree, level, count, behind, is, lt, fault)) =
-    ap node_at is ∙ head_open tree level count behind lt
-    ∙ head_met tree level count behind f (AreBytes-behind (tree ∷ level ∷ to_be_bytes w16 count) behind (subst (λ (t : List ℕ). AreBytes t) is fits)) fault
+fault_met bytes f fits (inr (tree, level, count, after, is, lt, fault)) =
+    ap node_at is ∙ head_open tree level count after lt
+    ∙ head_met tree level count after f (AreBytes-after (tree ∷ level ∷ to_be_bytes w16 count) after (subst (λ (t : List ℕ). AreBytes t) is fits)) fault
 
 -- ---- what a function returned
 

@@ -82,16 +82,16 @@ module _ (given : BTreeMap Digest (Bor (List ℕ))) (parts : List Part) (are : m
   parts_given x = (held_given x, some_given x (get digest_cmp given (key_of x)) refl)
 
 -- what holds of each element holds of one with others round it
-behind : {X : Type 0} (P : X → Type 0) (front : List X) (x : X) (back : List X) → All P (front ++ x ∷ back) → P x
-behind P [] x back all = all 0 x (omega arith)
-behind P (y ∷ front) x back all = behind P front x back (λ k d lt. all (suc k) d (omega arith))
+holds_after : {X : Type 0} (P : X → Type 0) (front : List X) (x : X) (back : List X) → All P (front ++ x ∷ back) → P x
+holds_after P [] x back all = all 0 x (omega arith)
+holds_after P (y ∷ front) x back all = holds_after P front x back (λ k d lt. all (suc k) d (omega arith))
 
 -- a key and a node that are still to come stand in the map so
 pub to_come : (given : BTreeMap Digest (Bor (List ℕ))) (front left back : List (Digest × Bor (List ℕ))) (key : Digest) (node : Bor (List ℕ))
     → All (λ e. get digest_cmp given e.0 ≡ Some e.1) given.entries → front ++ left ≡ given.entries → left ≡ (key, node) ∷ back
     → get digest_cmp given key ≡ Some node
 to_come given front left back key node found are is =
-    behind (λ (e : Digest × Bor (List ℕ)). get digest_cmp given e.0 ≡ Some e.1) front (key, node) back
+    holds_after (λ (e : Digest × Bor (List ℕ)). get digest_cmp given e.0 ≡ Some e.1) front (key, node) back
     (subst (λ (es : List (Digest × Bor (List ℕ))). All (λ e. get digest_cmp given e.0 ≡ Some e.1) es) (sym are ∙ ap (λ (l : List (Digest × Bor (List ℕ))). front ++ l) is) found)
 
 -- the last part as an entry stands before those still to come

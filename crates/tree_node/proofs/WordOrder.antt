@@ -11,7 +11,7 @@ use Rattle.tree_node.specs.Nodes.{AreBytes}
 use Rattle.tree_node.specs.Order.{order, IsBelow}
 use Rattle.tree_node.specs.internal.OrderLemmas.{not_itself, order_above, order_flip, order_trans}
 
--- ---- the first bytes decide, or else what stands behind them
+-- ---- the first bytes decide, or else what comes after them
 
 lower_head : (x y : ℕ) (xs ys : List ℕ) → x < y → IsBelow (x ∷ xs) (y ∷ ys)
 lower_head x y xs ys lt = ap (λ o. ordering_then o (order xs ys)) (sym (nat_cmp_is x y Less lt))
@@ -19,13 +19,13 @@ lower_head x y xs ys lt = ap (λ o. ordering_then o (order xs ys)) (sym (nat_cmp
 equal_heads : (x y : ℕ) (xs ys : List ℕ) → x ≡ y → order (x ∷ xs) (y ∷ ys) ≡ order xs ys
 equal_heads x y xs ys e = ap (λ o. ordering_then o (order xs ys)) (sym (nat_cmp_is x y Equal e))
 
-behind_front : (front xs ys : List ℕ) → order (front ++ xs) (front ++ ys) ≡ order xs ys
-behind_front [] xs ys = refl
-behind_front (b ∷ front) xs ys = equal_heads b b (front ++ xs) (front ++ ys) refl ∙ behind_front front xs ys
+after_front : (front xs ys : List ℕ) → order (front ++ xs) (front ++ ys) ≡ order xs ys
+after_front [] xs ys = refl
+after_front (b ∷ front) xs ys = equal_heads b b (front ++ xs) (front ++ ys) refl ∙ after_front front xs ys
 
 -- ---- bytes as numbers
 
--- the number that the first n bytes spell behind this one
+-- the number that the first n bytes spell after this one
 abbrev spelt : ℕ → ℕ → List ℕ → ℕ
 spelt zero before xs = before
 spelt (suc n) before [] = before
@@ -106,13 +106,13 @@ module _ (xs ys : List ℕ) (fits : AreBytes xs) (others : AreBytes ys) (long : 
             ((λ is. absurd (cc (is, fails))), (λ below. absurd (not_both_below xs ys below above)))
       ]
 
-  -- and behind equal ones what is left of the strings does
+  -- and after equal ones what is left of the strings does
   pub equal_words : (x y : ℕ) → x ≡ from_be_bytes w64 (take 8 xs) → y ≡ from_be_bytes w64 (take 8 ys) → x ≡ y → order xs ys ≡ order (drop 8 xs) (drop 8 ys)
   equal_words x y x_is y_is same =
       let fronts : take 8 xs ≡ take 8 ys = same_spelt 8 0 xs ys long others_long fits others (sym (word_is xs long) ∙ sym x_is ∙ same ∙ y_is ∙ word_is ys others_long) in
       sym (λ i. order (take-append-drop 8 xs i) (take-append-drop 8 ys i))
       ∙ ap (λ (front : List ℕ). order (take 8 xs ++ drop 8 xs) (front ++ drop 8 ys)) (sym fronts)
-      ∙ behind_front (take 8 xs) (drop 8 xs) (drop 8 ys)
+      ∙ after_front (take 8 xs) (drop 8 xs) (drop 8 ys)
 
 -- ---- the order of two, by which of them is below the other
 

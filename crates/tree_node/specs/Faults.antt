@@ -43,7 +43,7 @@ module _ {X : Type 0} (form : Form X) where
 
   -- no item stands at the front: the bytes end within it
   abbrev pub HasNoItem : List ℕ → Type 0
-  HasNoItem rest = (x : X) (behind : List ℕ) → form.Shaped x → rest ≢ form.spell x ++ behind
+  HasNoItem rest = (x : X) (after : List ℕ) → form.Shaped x → rest ≢ form.spell x ++ after
 
   -- the bytes aren't just this many items of a node: some items in front are, and what comes next is at fault
   abbrev pub ItemsFault : Option (List ℕ) → ℕ → List ℕ → NodeFault → Type 0
@@ -85,5 +85,5 @@ HeadFault tree level count bytes fault =
 abbrev pub IsFault : List ℕ → NodeFault → Type 0
 IsFault bytes fault =
     ((fault ≡ CutShort) × (length bytes < 4))
-    ⊎ ((tree level count : ℕ) × (behind : List ℕ) × (bytes ≡ (tree ∷ level ∷ to_be_bytes w16 count) ++ behind)
-    × (count < 2 ^ 16) × HeadFault tree level count behind fault)
+    ⊎ ((tree level count : ℕ) × (after : List ℕ) × (bytes ≡ (tree ∷ level ∷ to_be_bytes w16 count) ++ after)
+    × (count < 2 ^ 16) × HeadFault tree level count after fault)

@@ -6,7 +6,7 @@ ghost use Rattle.std.specs.Prelude.{◌≡◌, IfOk, None, sum_by};
 ghost use Rattle.tree_node.specs.Held.{HoldsLinks};
 ghost use Rattle.tree_node.specs.NodeRefs.{link_of};
 ghost use Rattle.tree_node.specs.Nodes.{AreBytes, Link, greatests_of};
-ghost use Rattle.tree_node.specs.internal.Reading.{Gives, links_behind};
+ghost use Rattle.tree_node.specs.internal.Reading.{Gives, links_after};
 ghost use Rattle.tree_node.specs.Fronts.{links_at_front};
 ghost use Rattle.tree_node.specs.Skips.{from_key, key_before};
 ghost use Rattle.tree_node.specs.Trees.{last_key};
@@ -118,17 +118,17 @@ impl<'a> Children<'a> {
     /// rise: N1 where a child is cut short, N3 where its number of entries is out of range, N4 where its
     /// greatest key isn't above the one before it.
     pub(crate) fn read(count: u16, bytes: &'a [u8]) -> Result<(Children<'a>, &'a [u8]), NodeFault>
-        ensures behind { Gives (λ x. x.1.now) result (links_behind count None bytes.now) }
+        ensures after { Gives (λ x. x.1.now) result (links_after count None bytes.now) }
         ensures children { IfOk result (λ x. x.0 ≡ links_at_front count bytes.now) }
     {
-        let (greatest, number, behind) = skip_children(count, bytes)?;
+        let (greatest, number, after) = skip_children(count, bytes)?;
         let children = Children {
             count,
             rest: bytes,
             greatest,
             number,
         };
-        Ok((children, behind))
+        Ok((children, after))
     }
 }
 
@@ -136,20 +136,20 @@ impl<'a> Children<'a> {
 /// them, and what follows them.
 #[inline(never)]
 fn skip_children(count: u16, bytes: &[u8]) -> Result<(&[u8], u64, &[u8]), NodeFault>
-    ensures behind { Gives (λ x. x.2.now) result (links_behind count None bytes.now) }
+    ensures after { Gives (λ x. x.2.now) result (links_after count None bytes.now) }
     ensures held { IfOk result (λ x. HoldsLinks count bytes.now x.0.now x.1) }
 {
     let mut rest = bytes;
     let mut low: Option<&[u8]> = None;
     let mut number: u64 = 0;
     for _ in 0..count {
-        let (child, behind) = Child::read_front(rest)?;
+        let (child, after) = Child::read_front(rest)?;
         if !is_above(low, child.greatest) {
             return Err(NodeFault::NotRising);
         }
         low = Some(child.greatest);
         number += child.number;
-        rest = behind;
+        rest = after;
     }
     match low {
         Some(greatest) => Ok((greatest, number, rest)),

@@ -5,7 +5,7 @@ ghost use Rattle.std.specs.Prelude.{◌≡◌, IfOk, None, length};
 ghost use Rattle.tree_node.specs.Held.{HoldsEntries};
 ghost use Rattle.tree_node.specs.NodeRefs.{binding_of};
 ghost use Rattle.tree_node.specs.Nodes.{Binding, keys_of};
-ghost use Rattle.tree_node.specs.internal.Reading.{Gives, entries_behind};
+ghost use Rattle.tree_node.specs.internal.Reading.{Gives, entries_after};
 ghost use Rattle.tree_node.specs.Fronts.{entries_at_front};
 ghost use Rattle.tree_node.specs.Skips.{from_key};
 ghost use Rattle.tree_node.specs.Trees.{last_key};
@@ -107,34 +107,34 @@ impl<'a> Entries<'a> {
     /// This many entries at the front of the bytes, and what follows them. Their keys have to
     /// rise: N1 where an entry is cut short, N4 where its key isn't above the one before it.
     pub(crate) fn read(count: u16, bytes: &'a [u8]) -> Result<(Entries<'a>, &'a [u8]), NodeFault>
-        ensures behind { Gives (λ x. x.1.now) result (entries_behind count None bytes.now) }
+        ensures after { Gives (λ x. x.1.now) result (entries_after count None bytes.now) }
         ensures entries { IfOk result (λ x. x.0 ≡ entries_at_front count bytes.now) }
     {
-        let (greatest, behind) = skip_entries(count, bytes)?;
+        let (greatest, after) = skip_entries(count, bytes)?;
         let entries = Entries {
             count,
             rest: bytes,
             greatest,
         };
-        Ok((entries, behind))
+        Ok((entries, after))
     }
 }
 
 /// The last key of this many entries at the front of the bytes, and what follows them.
 #[inline(never)]
 fn skip_entries(count: u16, bytes: &[u8]) -> Result<(&[u8], &[u8]), NodeFault>
-    ensures behind { Gives (λ x. x.1.now) result (entries_behind count None bytes.now) }
+    ensures after { Gives (λ x. x.1.now) result (entries_after count None bytes.now) }
     ensures greatest { IfOk result (λ x. HoldsEntries count bytes.now x.0.now) }
 {
     let mut rest = bytes;
     let mut low: Option<&[u8]> = None;
     for _ in 0..count {
-        let (item, behind) = Item::read_front(rest)?;
+        let (item, after) = Item::read_front(rest)?;
         if !is_above(low, item.key) {
             return Err(NodeFault::NotRising);
         }
         low = Some(item.key);
-        rest = behind;
+        rest = after;
     }
     match low {
         Some(greatest) => Ok((greatest, rest)),

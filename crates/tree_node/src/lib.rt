@@ -36,7 +36,7 @@ pub use fault::NodeFault;
 pub use item::Item;
 pub use limits::{ENTRY_LIMIT, ITEM_LIMIT, KEY_LIMIT, LEVEL_LIMIT, NUMBER_LIMIT, VALUE_LIMIT};
 pub use node::NodeRef;
-pub use order::is_below;
+pub use order::{is_above, is_below};
 pub use part::Part;
 pub use recorder::Recorder;
 pub use shelf::{Shelf, ShelfFault};

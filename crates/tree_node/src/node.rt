@@ -100,14 +100,14 @@ impl<'a> NodeRef<'a> {
             return Err(NodeFault::CutShort);
         }
         if level == 0 {
-            let (entries, behind) = Entries::read(count, rest)?;
-            if !behind.is_empty() {
+            let (entries, after) = Entries::read(count, rest)?;
+            if !after.is_empty() {
                 return Err(NodeFault::BytesAfter);
             }
             return Ok(NodeRef::Leaf { tree, entries });
         }
-        let (children, behind) = Children::read(count, rest)?;
-        if !behind.is_empty() {
+        let (children, after) = Children::read(count, rest)?;
+        if !after.is_empty() {
             return Err(NodeFault::BytesAfter);
         }
         Ok(NodeRef::Inner {

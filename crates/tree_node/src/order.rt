@@ -2,9 +2,8 @@
 
 ghost use Rattle.std.specs.Int.{from_be_bytes, w64};
 ghost use Rattle.std.specs.Option.{option_copied};
-ghost use Rattle.std.specs.Prelude.{◌≡◌, ◌↔◌, ◌≤◌, IsTrue, length};
+ghost use Rattle.std.specs.Prelude.{◌≡◌, ◌↔◌, ◌≤◌, IfSome, IsTrue, length};
 ghost use Rattle.tree_node.specs.Order.{IsBelow, order};
-ghost use Rattle.tree_node.specs.internal.Reading.{is_above as above};
 
 use crate::digest::Digest;
 use std::cmp::Ordering;
@@ -15,10 +14,10 @@ const FRONT: usize = 8;
 /// The length of the keys of objects.
 const OBJECT_KEY: usize = 9;
 
-/// Whether a key is above the one before it; the first key of all is.
+/// Whether a key is above this one, where there is one: above the key before it, or above a left bound.
 #[inline(always)]
-pub(crate) fn is_above(low: Option<&[u8]>, key: &[u8]) -> bool
-    ensures { result ≡ above (option_copied low.entry) key.now }
+pub fn is_above(low: Option<&[u8]>, key: &[u8]) -> bool
+    ensures { IsTrue result ↔ IfSome (option_copied low.entry) (λ bound. IsBelow bound key.now) }
 {
     match low {
         Some(low) => is_below(low, key),

@@ -3,14 +3,14 @@ use Rattle.std.proofs.Common.{◌≡◌, ◌↔◌, Bool, true, false, IsTrue, m
 use Rattle.std.proofs.lemmas.List.{append-nil, map-append}
 use Rattle.tree_walk.specs.Choices.{AreThose}
 
--- those of one list, and those of another behind it
+-- those of one list, and those of another after it
 pub those_append : {X : Type 0} (Has : X → Type 0) (xs ys found more : List X) → AreThose Has xs found → AreThose Has ys more → AreThose Has (xs ++ ys) (found ++ more)
 those_append Has [] ys found more are others = subst (λ (fs : List _). AreThose Has ys (fs ++ more)) (sym are) others
 those_append Has (x ∷ xs) ys found more (inl has) others =
     inl (has.0, (has.1.0 ++ more, ap (λ (fs : List _). fs ++ more) has.1.1, those_append Has xs ys has.1.0 more has.1.2 others))
 those_append Has (x ∷ xs) ys found more (inr has) others = inr (has.0, those_append Has xs ys found more has.1 others)
 
--- those of two lists are those of the first, and those of the second behind them
+-- those of two lists are those of the first, and those of the second after them
 pub those_split : {X : Type 0} (Has : X → Type 0) (xs ys found : List X) → AreThose Has (xs ++ ys) found
     → (first last : List X) × (found ≡ first ++ last) × AreThose Has xs first × AreThose Has ys last
 those_split Has [] ys found are = ([], found, refl, refl, are)
@@ -23,7 +23,7 @@ those_split Has (x ∷ xs) ys found (inr has) =
 
 -- ---- lists that are gone through, from the first item on
 
--- What was picked of the items so far: with those of the rest behind them they are those of all.
+-- What was picked of the items so far: with those of the rest after them they are those of all.
 abbrev pub ArePicked : {X : Type 0} → (X → Type 0) → List X → List X → List X → Type 0
 ArePicked {X} Has all rest picked = (more : List X) → AreThose Has rest more → AreThose Has all (picked ++ more)
 
@@ -49,8 +49,8 @@ pub picked_all : {X : Type 0} (Has : X → Type 0) (all picked : List X) → Are
 picked_all Has all picked are = picked_stop Has all [] picked refl are
 
 -- one more item at the end of a list whose views are known
-pub one_behind : {X Y : Type 0} (view : X → Y) (old picked : List Y) (items new : List X) (x : X) → new ≡ items ++ x ∷ [] → map view items ≡ old ++ picked → map view new ≡ old ++ (picked ++ view x ∷ [])
-one_behind view old picked items new x grown is =
+pub one_after : {X Y : Type 0} (view : X → Y) (old picked : List Y) (items new : List X) (x : X) → new ≡ items ++ x ∷ [] → map view items ≡ old ++ picked → map view new ≡ old ++ (picked ++ view x ∷ [])
+one_after view old picked items new x grown is =
     ap (map view) grown ∙ map-append view items (x ∷ []) ∙ ap (λ (ys : List _). ys ++ view x ∷ []) is ∙ append_assoc old picked (view x ∷ [])
 
 -- a test that failed, of what it decides

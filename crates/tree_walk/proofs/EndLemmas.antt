@@ -1,10 +1,10 @@
 -- Where a range ends: above a key that it doesn't reach nothing more stands in it.
-use Rattle.std.proofs.Common.{ℕ, List, [], ◌∷◌, Option, Some, None, inl, inr, refl, subst}
+use Rattle.std.proofs.Common.{Bool, true, false, ℕ, List, [], ◌∷◌, Option, Some, None, inl, inr, refl, subst}
 use Rattle.tree_node.specs.Nodes.{AreRisingFrom, Binding, Link, greatests_of, keys_of}
 use Rattle.tree_node.specs.Order.{IsBelow}
 use Rattle.tree_walk.specs.Choices.{AreThose}
-use Rattle.tree_walk.specs.internal.Counts.{IsCoveredChild, IsOpenChild}
-use Rattle.tree_walk.specs.Spans.{IsMetChild, children_placed}
+use Rattle.tree_walk.specs.internal.Openings.{IsClosed, IsClosedChild, IsOpenChild}
+use Rattle.tree_walk.specs.Spans.{children_placed}
 use Rattle.tree_walk.specs.Ranges.{IsAboveLeft, IsAtMost, IsCovered, Range}
 use Rattle.tree_walk.specs.internal.Reaching.{GoesOnAbove, Reaches, ReachesAbove}
 use Rattle.tree_walk.specs.Walks.{IsEntryIn}
@@ -45,7 +45,7 @@ none_above range key (e ∷ es) beyond rise =
 pub none_from : (range : Range) (low : Option (List ℕ)) (entry : Binding) (entries : List Binding) → ¬ Reaches range entry.key → AreRisingFrom low (keys_of (entry ∷ entries)) → AreThose (IsEntryIn range) (entry ∷ entries) []
 none_from range low entry entries beyond rise = inr ((λ is. beyond is.1), none_above range entry.key entries beyond rise.1)
 
--- No child behind a bound above which the range doesn't go on has a property that needs that it does.
+-- No child after a bound above which the range doesn't go on has a property that needs that it does.
 none_ended : (range : Range) (Has : Option (List ℕ) × Link → Type 0) → ((left : Option (List ℕ)) (link : Link) → IsAboveLeft left link.greatest → Has (left, link) → GoesOnAbove range left)
     → (bound : Option (List ℕ)) (links : List Link) → ¬ GoesOnAbove range bound → AreRisingFrom bound (greatests_of links) → AreThose Has (children_placed bound links) []
 none_ended range Has needs bound [] ended rise = refl
@@ -56,23 +56,28 @@ none_ended range Has needs bound (c ∷ cs) ended rise =
     ended_above None ended above = absurd (ended tt)
     ended_above (Some l) ended above = λ goes. ended (goes_on_lower range l c.greatest above (reaches_bound range c.greatest goes))
 
--- so none meets it,
-pub none_met : (range : Range) (bound : Option (List ℕ)) (links : List Link) → ¬ GoesOnAbove range bound → AreRisingFrom bound (greatests_of links) → AreThose (IsMetChild range) (children_placed bound links) []
-none_met range bound links ended rise = none_ended range (IsMetChild range) (λ left link above meets. goes_on_from_meets range left link.greatest meets) bound links ended rise
+-- what is covered has a bound above which the range goes on
+covered_goes_on : (range : Range) (left : Option (List ℕ)) (greatest : List ℕ) → IsAboveLeft left greatest → IsCovered range left greatest → GoesOnAbove range left
+covered_goes_on range None greatest above covers = tt
+covered_goes_on range (Some l) greatest above covers = goes_on_lower range l greatest above covers.1.1
 
--- none is opened,
-pub none_open : (range : Range) (bound : Option (List ℕ)) (links : List Link) → ¬ GoesOnAbove range bound → AreRisingFrom bound (greatests_of links) → AreThose (IsOpenChild range) (children_placed bound links) []
-none_open range bound links ended rise = none_ended range (IsOpenChild range) (λ left link above opens. goes_on_from_meets range left link.greatest opens.0) bound links ended rise
+closed_goes_on : (closing : Bool) (range : Range) (left : Option (List ℕ)) (greatest : List ℕ) → IsAboveLeft left greatest → IsClosed closing range left greatest → GoesOnAbove range left
+closed_goes_on true range left greatest above closed = covered_goes_on range left greatest above closed
+closed_goes_on false range left greatest above closed = absurd closed
 
--- and none is covered
-pub none_covered : (range : Range) (bound : Option (List ℕ)) (links : List Link) → ¬ GoesOnAbove range bound → AreRisingFrom bound (greatests_of links) → AreThose (IsCoveredChild range) (children_placed bound links) []
-none_covered range bound links ended rise = none_ended range (IsCoveredChild range) (λ left link above covers. covered_goes_on left link.greatest above covers) bound links ended rise
-  where
-    covered_goes_on : (left : Option (List ℕ)) (greatest : List ℕ) → IsAboveLeft left greatest → IsCovered range left greatest → GoesOnAbove range left
-    covered_goes_on None greatest above covers = tt
-    covered_goes_on (Some l) greatest above covers = goes_on_lower range l greatest above covers.1.1
+-- so none is opened,
+pub none_open : (closing : Bool) (range : Range) (bound : Option (List ℕ)) (links : List Link) → ¬ GoesOnAbove range bound → AreRisingFrom bound (greatests_of links) → AreThose (IsOpenChild closing range) (children_placed bound links) []
+none_open closing range bound links ended rise = none_ended range (IsOpenChild closing range) (λ left link above opens. goes_on_from_meets range left link.greatest opens.0) bound links ended rise
 
--- a covered child doesn't end below lo
-pub covered_low : (range : Range) (left : Option (List ℕ)) (greatest : List ℕ) → IsCovered range left greatest → IsAtMost range.lo greatest
+-- and none stays closed
+pub none_closed : (closing : Bool) (range : Range) (bound : Option (List ℕ)) (links : List Link) → ¬ GoesOnAbove range bound → AreRisingFrom bound (greatests_of links) → AreThose (IsClosedChild closing range) (children_placed bound links) []
+none_closed closing range bound links ended rise = none_ended range (IsClosedChild closing range) (λ left link above closed. closed_goes_on closing range left link.greatest above closed) bound links ended rise
+
+-- a child that stays closed doesn't end below lo
+covered_low : (range : Range) (left : Option (List ℕ)) (greatest : List ℕ) → IsCovered range left greatest → IsAtMost range.lo greatest
 covered_low range None greatest covers = absurd covers
 covered_low range (Some l) greatest covers = covers.1.0
+
+pub closed_low : (closing : Bool) (range : Range) (left : Option (List ℕ)) (greatest : List ℕ) → IsClosed closing range left greatest → IsAtMost range.lo greatest
+closed_low true range left greatest closed = covered_low range left greatest closed
+closed_low false range left greatest closed = absurd closed

@@ -54,9 +54,9 @@ module _ {X : Type 0} (items : Option (List ℕ) × Node → List X) (Has : X �
   -- of all these nodes some were fetched and are used, and what was found is those of their items
   pub record HonestFront (all : List (Option (List ℕ) × Node)) (rest : List (Option (List ℕ) × Link)) (found : List X) (old new : List ℕ → Type 0) : Type 0 where
     pub front : List (Option (List ℕ) × Node)
-    pub behind : List (Option (List ℕ) × Node)
-    pub whole : all ≡ front ++ behind
-    pub stated : AreStated tree level rest behind
+    pub after : List (Option (List ℕ) × Node)
+    pub whole : all ≡ front ++ after
+    pub stated : AreStated tree level rest after
     pub those : AreThose Has (flat_map items front) found
     pub gained : GrownByAll old new (IsOneOf front)
 
@@ -68,7 +68,7 @@ module _ {X : Type 0} (items : Option (List ℕ) × Node → List X) (Has : X �
   pub honest_start : (spots : List (Option (List ℕ) × Link)) (old : List ℕ → Type 0) → HonestSoFar spots spots [] old old
   honest_start spots old all stated = inr (record {
     front = [];
-    behind = all;
+    after = all;
     whole = refl;
     stated = stated;
     those = refl;
@@ -97,7 +97,7 @@ module _ {X : Type 0} (items : Option (List ℕ) × Node → List X) (Has : X �
                 (λ x is. subst (λ (ns : List (Option (List ℕ) × Node)). IsOneOf ns x) (sym whole) (one_of_first (has.front ++ here ∷ []) others x (one_of_last has.front (here ∷ []) x (inl is)))) (λ x is. is) clash)
             | inr read ↦ inr (record {
               front = has.front ++ here ∷ [];
-              behind = others;
+              after = others;
               whole = whole;
               stated = has.stated.4;
               those = subst (λ (xs : List X). AreThose Has xs (found ++ more)) (sym (flat_map-append items has.front (here ∷ []) ∙ ap (λ (xs : List X). flat_map items has.front ++ xs) (append-nil (items here))))

@@ -10,22 +10,22 @@ use Rattle.tree_node.specs.Order.{order, IsBelow}
 use Rattle.tree_node.specs.internal.OrderLemmas.{not_itself, order_same, order_above, order_trans}
 use Rattle.tree_walk.specs.Ranges.{Begins, IsAtMost}
 
--- ---- the first bytes decide, or else what stands behind them
+-- ---- the first bytes decide, or else what comes after them
 
-lesser : (x y : ℕ) (behind : Ordering) → x < y → ordering_then (nat_cmp x y) behind ≡ Less
-lesser x y behind lt = ap (λ o. ordering_then o behind) (sym (nat_cmp_is x y Less lt))
+lesser : (x y : ℕ) (after : Ordering) → x < y → ordering_then (nat_cmp x y) after ≡ Less
+lesser x y after lt = ap (λ o. ordering_then o after) (sym (nat_cmp_is x y Less lt))
 
-greater : (x y : ℕ) (behind : Ordering) → y < x → ordering_then (nat_cmp x y) behind ≡ Greater
-greater x y behind gt = ap (λ o. ordering_then o behind) (sym (nat_cmp_is x y Greater gt))
+greater : (x y : ℕ) (after : Ordering) → y < x → ordering_then (nat_cmp x y) after ≡ Greater
+greater x y after gt = ap (λ o. ordering_then o after) (sym (nat_cmp_is x y Greater gt))
 
-equal : (x y : ℕ) (behind : Ordering) → x ≡ y → ordering_then (nat_cmp x y) behind ≡ behind
-equal x y behind e = ap (λ o. ordering_then o behind) (sym (nat_cmp_is x y Equal e))
+equal : (x y : ℕ) (after : Ordering) → x ≡ y → ordering_then (nat_cmp x y) after ≡ after
+equal x y after e = ap (λ o. ordering_then o after) (sym (nat_cmp_is x y Equal e))
 
 -- an order isn't two
 not_both : (o : Ordering) → o ≡ Greater → o ≡ Less → ⊥
 not_both o p q = Prim.cc
 
--- equal strings have equal heads, and equal strings behind them
+-- equal strings have equal heads, and equal strings after them
 heads_of : (x y : ℕ) (xs ys : List ℕ) → x ∷ xs ≡ y ∷ ys → x ≡ y
 heads_of x y xs ys e = Prim.cc
 

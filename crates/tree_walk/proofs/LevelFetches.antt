@@ -35,15 +35,15 @@ pub record FetchingLevel (level : ℕ) (low : Option (List ℕ)) (shelf : ShelfU
 
 -- ---- different nodes
 
--- one behind different ones
-pub differ_behind : (nodes : List (List ℕ)) (bytes : List ℕ) → AreDifferent nodes → ¬ IsAmong nodes bytes → AreDifferent (nodes ++ bytes ∷ [])
-differ_behind [] bytes differ new = ((λ none. none), tt)
-differ_behind (n ∷ ns) bytes differ new = (
+-- one after different ones
+pub differ_after : (nodes : List (List ℕ)) (bytes : List ℕ) → AreDifferent nodes → ¬ IsAmong nodes bytes → AreDifferent (nodes ++ bytes ∷ [])
+differ_after [] bytes differ new = ((λ none. none), tt)
+differ_after (n ∷ ns) bytes differ new = (
   (λ is. elim (among_parts ns (bytes ∷ []) n is) [
     | inl among ↦ differ.0 among
     | inr one ↦ elim one [ inl here ↦ new (inl (sym here)) | inr none ↦ none ]
   ]),
-  differ_behind ns bytes differ.1 (λ is. new (inr is)),
+  differ_after ns bytes differ.1 (λ is. new (inr is)),
 )
 
 -- bytes are one node at most
@@ -96,7 +96,7 @@ module _ (level : ℕ) (old : List ℕ → Type 0) (from : ℕ) where
       record {
         done = so.done ++ is.bytes ∷ [];
         fetched = fetched_then held after old mid new from via to so.done (is.bytes ∷ []) stays so.fetched (rw is.counted (fetched_one after mid new via is.bytes is.is_held is.grown));
-        differ = differ_behind so.done is.bytes so.differ (new_one level low spot.0 so.done is.bytes node so.so_far so.order.0 above is.spells);
+        differ = differ_after so.done is.bytes so.differ (new_one level low spot.0 so.done is.bytes node so.so_far so.order.0 above is.spells);
         so_far = all_append (IsFetchedUpTo level (Some spot.1.greatest)) so.done (is.bytes ∷ [])
             (all_weaker (IsFetchedUpTo level low) (IsFetchedUpTo level (Some spot.1.greatest)) so.done (higher level low spot.0 spot.1.greatest so.order.0 so.order.1) so.so_far)
             ((node, is.spells, at_level, inr greatest), tt);

@@ -1,21 +1,18 @@
 -- The nodes of the levels of a tree that meet a range, and its top.
-use Rattle.std.proofs.Common.{◌≡◌, ℕ, zero, suc, ◌+◌, ◌-◌, ◌<◌, ◌≤◌, List, [], ◌∷◌, length, get_or, map, Option, None, ◌↔◌, inl, inr, refl, sym, ap, subst, ◌∙◌, arith}
-use Rattle.std.specs.List.{flat_map, AllByRecursion}
+use Rattle.std.proofs.Common.{◌≡◌, ℕ, zero, suc, ◌+◌, ◌-◌, ◌<◌, ◌≤◌, List, [], ◌∷◌, length, get_or, map, None, ◌↔◌, inl, refl, sym, ap, subst, ◌∙◌, arith}
+use Rattle.std.specs.List.{flat_map}
 use Rattle.std.proofs.lemmas.List.{append-nil}
 use Rattle.std.proofs.lemmas.List.Elements.{All-from_recursion}
-use Rattle.tree_node.specs.Nodes.{AreBytes, AreRisingFrom, Binding, IsNode, IsTree, Leaf, Link, Node, greatests_of, keys_of, level_of, spelling, tree_of}
-use Rattle.tree_node.specs.Trees.{HasTree, Shape, Stands, ends_by, entries_in, greatest_of, is_marked_entry, is_marked_link, leaves, level_at, levels, link_to, links_in, no_node, node_in, pieces, top_of}
+use Rattle.tree_node.specs.Nodes.{AreRisingFrom, Binding, IsNode, IsTree, Leaf, Link, Node, greatests_of, keys_of, level_of, spelling, tree_of}
+use Rattle.tree_node.specs.Trees.{HasTree, Shape, Stands, ends_by, entries_in, is_marked_entry, is_marked_link, leaves, level_at, levels, link_to, links_in, no_node, node_in, pieces, top_of}
 use Rattle.tree_node.proofs.shared.PieceLaws.{pieces_sized}
-use Rattle.tree_node.proofs.shared.PieceLemmas.{join, join_all, pieces_join, some_pieces}
+use Rattle.tree_node.proofs.shared.PieceLemmas.{join, pieces_join, some_pieces}
 use Rattle.tree_node.proofs.shared.TreeLemmas.{tree_levels}
 use Rattle.tree_node.proofs.shared.TreeLaws.{above, entries_some, last_has_one, leaves_joined, links_at, nodes_at, over_joined, pair_at, whole, whole_few}
 use Rattle.tree_node.proofs.shared.TreeParts.{kind_at}
-use Rattle.tree_walk.specs.Choices.{AreThose}
-use Rattle.tree_walk.specs.internal.Pendings.{AreStated, IsMetNode, IsOneOf, entries_of_all}
-use Rattle.tree_walk.specs.Spans.{IsMetChild, children_of_all, children_placed, placed}
 use Rattle.tree_walk.specs.Ranges.{Range}
-use Rattle.tree_walk.specs.Walks.{IsEntryIn, MeetsAt}
-use Rattle.tree_walk.proofs.LevelChoices.{StartEachAbove, children_from, entries_from, inner_start, leaves_start, one_where, stated_from}
+use Rattle.tree_walk.specs.Walks.{MeetsAt}
+use Rattle.tree_walk.proofs.BoundLemmas.{StartEachAbove, inner_start, leaves_start}
 
 -- ---- what each level is made of
 
@@ -44,63 +41,6 @@ start_at shape tree entries (suc level) has lt =
     let links = map link_to (level_at (whole shape tree entries) level) in
     subst (λ (ns : List Node). StartEachAbove None ns) (sym (pair_at shape tree entries level below).1)
     (inner_start tree (suc level) None (pieces (ends_by shape is_marked_link) links) (pieces_sized shape is_marked_link links) (inner_rising shape tree entries level has below))
-
--- ---- from one level to the next
-
--- The pending links that meet the range are those of the nodes of the level that meet it, and they state these nodes.
-pub level_stated : (shape : Shape) (tree : ℕ) (entries : List Binding) (range : Range) (level : ℕ) (pending : List (Option (List ℕ) × Link))
-    → IsTree tree → HasTree entries → suc level < length (levels shape tree entries)
-    → AreThose (IsMetChild range) (children_placed None (map link_to (level_at (levels shape tree entries) level))) pending
-    → (spots : List (Option (List ℕ) × Node)) × AreThose (IsMetNode range) (placed greatest_of None (level_at (levels shape tree entries) level)) spots × AreStated tree level pending spots
-unfolding levels
-level_stated shape tree entries range level pending is has lt those =
-    let here : level < length (whole shape tree entries) = omega (arith, lt) in
-    stated_from range tree level None (level_at (whole shape tree entries) level) pending
-    (nodes_at shape tree entries has is level here) (kind_at shape tree entries level here) (start_at shape tree entries level has lt) those
-
--- The children that meet the range of the nodes of a level that meet it are the pending links of the level below it.
-pub level_below : (shape : Shape) (tree : ℕ) (entries : List Binding) (range : Range) (level : ℕ) (spots : List (Option (List ℕ) × Node)) (pending : List (Option (List ℕ) × Link))
-    → HasTree entries → suc level < length (levels shape tree entries)
-    → AreThose (IsMetNode range) (placed greatest_of None (level_at (levels shape tree entries) (suc level))) spots → AreThose (IsMetChild range) (children_of_all spots) pending
-    → AreThose (IsMetChild range) (children_placed None (map link_to (level_at (levels shape tree entries) level))) pending
-unfolding levels
-level_below shape tree entries range level spots pending has lt those found =
-    let links = map link_to (level_at (whole shape tree entries) level) in
-    let ps = pieces (ends_by shape is_marked_link) links in
-    subst (λ (ls : List Link). AreThose (IsMetChild range) (children_placed None ls) pending) (pieces_join (ends_by shape is_marked_link) [] links)
-    (children_from range tree (suc level) None ps spots pending (pieces_sized shape is_marked_link links) (inner_rising shape tree entries level has lt)
-    (subst (λ (ns : List Node). AreThose (IsMetNode range) (placed greatest_of None ns) spots) (pair_at shape tree entries level lt).1 those) found)
-
--- The nodes of a level below the top that meet the range are those that meet it at a place.
-pub met_at : (shape : Shape) (tree : ℕ) (entries : List Binding) (range : Range) (level : ℕ) (spots : List (Option (List ℕ) × Node))
-    → suc level < length (levels shape tree entries)
-    → AreThose (IsMetNode range) (placed greatest_of None (level_at (levels shape tree entries) level)) spots
-    → (bytes : List ℕ) → IsOneOf spots bytes ↔ ((place : ℕ) × Stands (levels shape tree entries) level place bytes × MeetsAt range (levels shape tree entries) level place)
-unfolding levels
-met_at shape tree entries range level spots lt those bytes =
-    let where_met = one_where range (level_at (whole shape tree entries) level) spots bytes those in (
-      (λ one. let at = where_met.0 one in (at.0, ((omega (arith, lt)), at.1, at.2), inr at.3)),
-      (λ at. elim at.2 [
-        | inl top ↦ absurd (omega (arith, lt, top))
-        | inr meets ↦ where_met.1 (at.0, at.1.1, at.1.2, meets)
-      ]),
-    )
-
--- The entries in the range of the leaves that meet it are the entries in the range, where the leaves aren't the top.
-pub leaves_found : (shape : Shape) (tree : ℕ) (entries : List Binding) (range : Range) (spots : List (Option (List ℕ) × Node)) (found : List Binding)
-    → HasTree entries → AllByRecursion (λ (e : Binding). AreBytes e.key) entries → 1 < length (levels shape tree entries)
-    → AreThose (IsMetNode range) (placed greatest_of None (level_at (levels shape tree entries) 0)) spots → AreThose (IsEntryIn range) (entries_of_all spots) found
-    → AreThose (IsEntryIn range) entries found
-unfolding levels
-leaves_found shape tree entries range spots found has bytes lt those are =
-    let two : suc 0 < length (whole shape tree entries) = omega (arith, lt) in
-    let ps = pieces (ends_by shape is_marked_entry) entries in
-    let joined : join ps ≡ entries = pieces_join (ends_by shape is_marked_entry) [] entries in
-    let all : AllByRecursion (AllByRecursion (λ (e : Binding). AreBytes e.key)) ps =
-    join_all (λ (e : Binding). AreBytes e.key) ps (subst (λ (es : List Binding). AllByRecursion (λ (e : Binding). AreBytes e.key) es) (sym joined) bytes) in
-    subst (λ (es : List Binding). AreThose (IsEntryIn range) es found) joined
-    (entries_from range tree None ps spots found (pieces_sized shape is_marked_entry entries) all (leaf_rising shape entries has)
-    (subst (λ (ns : List Node). AreThose (IsMetNode range) (placed greatest_of None ns) spots) (leaf_cut shape tree entries (entries_some shape tree entries 0 two)) those) are)
 
 -- ---- the top
 

@@ -33,7 +33,7 @@ zero_bytes (b ∷ l) bytes (suc i) = zero_bytes l (λ k. bytes (suc k)) i
 pub meets_at_edge : (range : Range) (greatest : List ℕ) → AreBytes range.lo → IsIn range range.lo → IsAtMost range.lo greatest → Meets range None greatest
 meets_at_edge range greatest lo_bytes lo_in low = (range.lo, lo_bytes, tt, low, lo_in)
 
--- behind a left bound lo does, or the string after the bound
+-- after a left bound lo does, or the string after the bound
 meets_from_reaches : (range : Range) (l greatest : List ℕ) → AreBytes range.lo → IsIn range range.lo → AreBytes l → IsBelow l greatest
     → IsAtMost range.lo greatest → ReachesAbove range l → Meets range (Some l) greatest
 meets_from_reaches range l greatest lo_bytes lo_in bytes below low high =

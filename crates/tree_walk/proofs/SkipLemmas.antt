@@ -94,7 +94,7 @@ either None other = other
 either (Some key) other = Some key
 
 module _ {X : Type 0} (key_of : X → List ℕ) (low : List ℕ) where
-  -- behind a key there is one
+  -- after a key there is one
   before_some : (key : List ℕ) (xs : List X) (left : Option (List ℕ)) → either (key_before key_of low (Some key) xs) left ≡ key_before key_of low (Some key) xs
   before_some key [] left = refl
   before_some key (x ∷ xs) left = by (before_some (key_of x) xs left) (is_lt (order (key_of x) low)) refl

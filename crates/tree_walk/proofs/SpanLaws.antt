@@ -9,8 +9,8 @@ use Rattle.tree_node.proofs.shared.PieceLemmas.{join, pieces_join}
 use Rattle.tree_node.proofs.shared.TreeLaws.{pair_at, whole}
 use Rattle.tree_walk.specs.Spans.{children_of_all, children_placed, placed, HasChildrenWithin, IsWithin}
 use Rattle.tree_walk.specs.Ranges.{IsAtMost, IsNoHigher, Range}
-use Rattle.tree_walk.proofs.CountChoices.{covered_narrower}
-use Rattle.tree_walk.proofs.LevelChoices.{all_at_most, children_append, left_from, left_none, no_higher_itself, no_higher_next}
+use Rattle.tree_walk.proofs.OpenChoices.{covered_narrower}
+use Rattle.tree_walk.proofs.BoundLemmas.{all_at_most, children_append, left_from, left_none, no_higher_itself, no_higher_next}
 use Rattle.tree_walk.proofs.LevelLemmas.{inner_rising}
 use Rattle.tree_walk.proofs.MeetLemmas.{meets_wider}
 

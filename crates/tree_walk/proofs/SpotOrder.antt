@@ -9,7 +9,7 @@ use Rattle.tree_walk.specs.Spans.{children_placed}
 use Rattle.tree_walk.specs.Ranges.{IsAboveLeft, IsAtMost, IsNoHigher}
 use Rattle.tree_walk.proofs.FetchLemmas.{all_append, all_weaker}
 use Rattle.tree_walk.proofs.KeyLemmas.{at_most_trans}
-use Rattle.tree_walk.proofs.LevelChoices.{first_at_most, no_higher_next}
+use Rattle.tree_walk.proofs.BoundLemmas.{first_at_most, no_higher_next}
 
 -- ---- bounds
 
@@ -70,7 +70,7 @@ order_append low greatest [] more lower order up others = from_lower low (Some g
 order_append low greatest (spot ∷ spots) more lower order up others =
     (order.0, order.1, order_append (Some spot.1.greatest) greatest spots more up.0 order.2 up.1 others)
 
--- those of one more node behind them
+-- those of one more node after them
 pub order_step : (Has : Option (List ℕ) × Link → Type 0) (low left : Option (List ℕ)) (greatest : List ℕ) (links : List Link) (spots picked : List (Option (List ℕ) × Link))
     → IsNoHigher low left → IsAboveLeft left greatest → IsOrderedUpTo low spots → AreRisingFrom left (greatests_of links) → last_key (greatests_of links) ≡ greatest
     → AreThose Has (children_placed left links) picked → IsOrderedUpTo (Some greatest) (spots ++ picked)

@@ -1,5 +1,5 @@
 -- Words that only private clauses cite: nothing that a reader of the promises must believe.
-pub mod Counts
-pub mod Descents
+pub mod Accounts
+pub mod Openings
 pub mod Pendings
 pub mod Reaching

@@ -6,8 +6,9 @@
 //! closed: each by comparing a few keys, which stay where they lie. The crate's laws say why.
 #![tactic(auto)]
 
-mod counting;
+mod descent;
 mod fault;
+mod gather;
 mod key_range;
 mod laws;
 mod pending;
@@ -17,10 +18,9 @@ mod tests;
 mod visit;
 mod walk;
 
-pub use counting::count;
 pub use fault::WalkFault;
 pub use key_range::KeyRange;
 pub use laws::{covered_law, empty_law, inside_law, left_edge_law, spans_law, wider_law};
 pub use tally::Tally;
 pub use tree_node::Item;
-pub use walk::range;
+pub use walk::{count, range};

@@ -1,19 +1,22 @@
 //! Children that a walk will fetch.
 
 ghost use Rattle.std.specs.Option.{option_copied};
-ghost use Rattle.std.specs.Prelude.{◌≡◌, ◌++◌, ◌↔◌, IsTrue, List, OnOk, ℕ};
+ghost use Rattle.std.specs.Prelude.{[], ◌≡◌, ◌++◌, ◌↔◌, IsTrue, List, OnOk, Option, ℕ};
 ghost use Rattle.tree_node.specs.NodeRefs.{binding_of, bindings_of, link_of};
-ghost use Rattle.tree_node.specs.Nodes.{AreRisingFrom, Inner, Leaf, greatests_of};
+ghost use Rattle.tree_node.specs.Nodes.{AreRisingFrom, Inner, Leaf, Link, greatests_of};
 ghost use Rattle.tree_walk.specs.Choices.{AreThose};
+ghost use Rattle.tree_walk.specs.internal.Accounts.{Gains};
+ghost use Rattle.tree_walk.specs.internal.Openings.{IsClosedChild, IsOpenChild};
 ghost use Rattle.tree_walk.specs.internal.Pendings.{Agrees, spot_of, spots_of};
-ghost use Rattle.tree_walk.specs.Spans.{IsMetChild, children_placed};
-ghost use Rattle.tree_walk.specs.Ranges.{IsAboveLeft, IsIn, range_of};
+ghost use Rattle.tree_walk.specs.Spans.{children_placed};
+ghost use Rattle.tree_walk.specs.Ranges.{IsIn, range_of};
 
+use crate::gather::Gather;
 use crate::key_range::KeyRange;
 use std::alloc::AllocError;
-use tree_node::{Child, Children, Entries, is_below};
+use tree_node::{Child, Children, Entries, is_above};
 
-/// A child that meets the range, as its parent states it.
+/// A child that is opened, as its parent states it.
 #[derive(Clone, Copy, Debug)]
 pub(crate) struct Pending<'a> {
     /// The greatest key of its left neighbour; a first child has its parent's left bound.
@@ -48,29 +51,22 @@ impl<'a> Pending<'a> {
     }
 }
 
-/// Whether the key is above the left bound, where there is one.
-fn is_above(left: Option<&[u8]>, key: &[u8]) -> bool
-    ensures { IsTrue result ↔ IsAboveLeft (option_copied left.entry) key.now }
-{
-    match left {
-        Some(left) => is_below(left, key),
-        None => true,
-    }
-}
-
-/// Puts the children that meet the range after those of the nodes to the left. It stops at the
-/// first child that begins where the range has ended.
-pub(crate) fn pick<'a>(
+/// Puts the children that are opened after those of the nodes to the left, and gathers those that stay
+/// closed. It stops at the first child that begins where the range has ended.
+pub(crate) fn pick<'a, G: Gather<'a>>(
     children: Children<'a>,
     left: Option<&'a [u8]>,
     range: &KeyRange<'_>,
     pending: &mut Vec<Pending<'a>>,
+    gathered: &mut G,
 ) -> Result<(), AllocError>
     requires some { IsIn (range_of range.now) range.now.lo.now }
     requires rising { AreRisingFrom (option_copied left) (greatests_of children) }
-    ensures { OnOk result ((picked : List _)
+    ensures { OnOk result ((picked closed : List (Option (List ℕ) × Link))
         × (spots_of pending.new.items ≡ spots_of pending.old.items ++ picked)
-        × AreThose (IsMetChild (range_of range.now)) (children_placed (option_copied left.entry) children.entry) picked) }
+        × AreThose (IsOpenChild G.closing (range_of range.now)) (children_placed (option_copied left.entry) children.entry) picked
+        × AreThose (IsClosedChild G.closing (range_of range.now)) (children_placed (option_copied left.entry) children.entry) closed
+        × Gains G.gathers gathered.old gathered.new closed []) }
 {
     let (before, children) = children.skip_below(range.lo);
     let mut bound = before.or(left);
@@ -78,7 +74,9 @@ pub(crate) fn pick<'a>(
         if !range.goes_on_above(bound) {
             return Ok(());
         }
-        pending.push(Pending { left: bound, child })?;
+        if !gathered.closes(range, bound, &child) {
+            pending.push(Pending { left: bound, child })?;
+        }
         bound = Some(child.greatest);
     }
     Ok(())

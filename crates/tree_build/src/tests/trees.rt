@@ -1,19 +1,17 @@
 //! Trees of lists made by rule, and worked ones.
 
-ghost use Rattle.std.specs.Option.{option_copied};
-ghost use Rattle.std.specs.Prelude.{◌<◌, IfSome, IsTrue};
+ghost use Rattle.std.specs.Prelude.{◌<◌, IsTrue};
 ghost use Rattle.tree_node.specs.NodeRefs.{bindings_of};
-ghost use Rattle.tree_node.specs.Order.{IsBelow};
 ghost use Rattle.tree_node.specs.Trees.{HasTree};
 
 use super::rows::{BYTES, NUMBERS, Row, VALUES, row_of};
 use crate::{BuildFault, Entry, Shape, build};
 use std::alloc::{AllocError, Global};
-use std::cmp::Ordering;
 use std::process::Abort;
 use std::test::Fail;
 use tree_node::{
     Digest, ENTRY_LIMIT, KEY_LIMIT, NodeRef, Shelf, ShelfFault, Stock, Tree, VALUE_LIMIT, digest_of,
+    is_above,
 };
 
 /// The digest in lower-case hexadecimal.
@@ -40,16 +38,6 @@ fn has_tree(entries: &[Entry<'_>]) -> bool
         last = Some(entry.key);
     }
     entries.len() <= ENTRY_LIMIT
-}
-
-/// Whether a key is above the one before it; the first of all is.
-fn is_above(last: Option<&[u8]>, key: &[u8]) -> bool
-    ensures { IsTrue result → IfSome (option_copied last.entry) (λ low. IsBelow low key.now) }
-{
-    match last {
-        Some(last) => matches!(last.cmp(key), Ordering::Less),
-        None => true,
-    }
 }
 
 /// The tree of these entries, which have one.

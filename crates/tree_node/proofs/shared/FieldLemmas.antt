@@ -10,7 +10,7 @@ use Rattle.tree_node.specs.Nodes.{AreBytes, Binding, Link, entry, link, FitsEntr
 use Rattle.tree_node.specs.Faults.{HasWidths}
 use Rattle.tree_node.specs.Fronts.{◌>>=◌, number_at, bytes_at, entry_at, link_at}
 
--- what stands behind some bytes is of bytes
+-- what comes after some bytes is of bytes
 pub AreBytes-drop : (n : ℕ) (bytes : List ℕ) → AreBytes bytes → AreBytes (drop n bytes)
 AreBytes-drop n bytes h i = rw get_or-drop (h (n + i))
 

@@ -1,5 +1,5 @@
 -- What is read is spelled so, and what is spelled so is read.
-use Rattle.std.proofs.Common.{◌≡◌, ℕ, zero, suc, ◌^◌, ◌<◌, ◌≤◌, Bool, true, false, cond, ltb, eqb, ◌||◌, ◌&&◌, List, [], ◌∷◌, ◌++◌, length, Option, Some, None, Result, Ok, Err, refl, sym, ap, subst, ◌∙◌, append_assoc, arith}
+use Rattle.std.proofs.Common.{◌≡◌, ℕ, zero, suc, ◌^◌, ◌<◌, ◌≤◌, IsTrue, ◌↔◌, Bool, true, false, cond, ltb, eqb, ◌||◌, ◌&&◌, List, [], ◌∷◌, ◌++◌, length, Option, Some, None, Result, Ok, Err, refl, sym, ap, subst, ◌∙◌, append_assoc, arith}
 use Rattle.std.specs.Prelude.{IfSome, IfOk, IsOkAnd}
 use Rattle.std.specs.Ordering.{is_lt}
 use Rattle.std.specs.declared.cmp.Ordering.{Ordering}
@@ -14,7 +14,7 @@ use Rattle.tree_node.specs.declared.fault.NodeFault.TheVariants.{NotRising, BadT
 use Rattle.tree_node.specs.Order.{order, IsBelow}
 use Rattle.tree_node.specs.Nodes.{AreBytes, Binding, Link, Node, Leaf, Inner, entry, link, FitsEntry, FitsLink, keys_of, greatests_of, AreRisingFrom, Spells, spelling, IsNode, IsTree, tree_of, level_of}
 use Rattle.tree_node.specs.Fronts.{◌>>=◌, entry_at, link_at, entries_at_front, links_at_front, and_more}
-use Rattle.tree_node.specs.internal.Reading.{entries_behind, links_behind, is_above, node_at, to_the_end, items_at, tree_at, Gives}
+use Rattle.tree_node.specs.internal.Reading.{entries_after, links_after, is_above, node_at, to_the_end, items_at, tree_at, Gives}
 use Rattle.tree_node.specs.declared.node.NodeRef.{NodeRef}
 use Rattle.tree_node.specs.NodeRefs.{node_read}
 use Rattle.tree_node.proofs.shared.FieldLemmas.{AreBytes-drop, bind_ok, guard_ok, ok_is, wide16, Takes, Takes-then, entry_takes, entry_again, link_takes, link_again}
@@ -35,6 +35,15 @@ pub above_true : (low : Option (List ℕ)) (key : List ℕ) → IfSome low (λ l
 above_true None key h = refl
 above_true (Some l) key h = ap is_lt h
 
+-- so what tells that a key is above another is the comparison
+pub above_told : (low : Option (List ℕ)) (key : List ℕ) (told : Bool) → (IsTrue told ↔ IfSome low (λ l. IsBelow l key)) → told ≡ is_above low key
+above_told low key true is = sym (above_true low key (is.0 refl))
+above_told low key false is = by (is_above low key) refl
+  where
+    by : (b : Bool) → is_above low key ≡ b → false ≡ b
+    by true e = is.1 (above_is low key e)
+    by false e = refl
+
 -- a test that did not fail, and what came after it
 pub order_ok : {A : Type 0} (b : Bool) (d : NodeFault) (r : Result A NodeFault) (y : A) → cond b r (Err d) ≡ Ok y → (b ≡ true) × (r ≡ Ok y)
 order_ok true d r y e = (refl, e)
@@ -48,30 +57,30 @@ pub record Skipped (xs : List Binding) (n : ℕ) (low : Option (List ℕ)) (byte
   pub rise : AreRisingFrom low (keys_of xs)
 
 -- entries that were skipped are entries of a node
-pub entries_taken : (n : ℕ) (low : Option (List ℕ)) (bytes rest : List ℕ) → AreBytes bytes → entries_behind n low bytes ≡ Ok rest → Skipped (entries_at_front n bytes) n low bytes rest
-unfolding entries_behind entries_at_front
+pub entries_taken : (n : ℕ) (low : Option (List ℕ)) (bytes rest : List ℕ) → AreBytes bytes → entries_after n low bytes ≡ Ok rest → Skipped (entries_at_front n bytes) n low bytes rest
+unfolding entries_after entries_at_front
 entries_taken zero low bytes rest fits e =
     subst (λ (r : List ℕ). Skipped [] 0 low bytes r) (ok_is bytes rest e) (record { taken = record { parts = refl; rest_fits = fits }; long = refl; fit = tt; rise = tt })
 entries_taken (suc n) low bytes rest fits e =
-    let a = bind_ok (entry_at bytes) (λ first. cond (is_above low first.0.key) (entries_behind n (Some first.0.key) first.1) (Err NotRising)) rest e in
-    let g = order_ok (is_above low a.0.0.key) NotRising (entries_behind n (Some a.0.0.key) a.0.1) rest a.2 in
+    let a = bind_ok (entry_at bytes) (λ first. cond (is_above low first.0.key) (entries_after n (Some first.0.key) first.1) (Err NotRising)) rest e in
+    let g = order_ok (is_above low a.0.0.key) NotRising (entries_after n (Some a.0.0.key) a.0.1) rest a.2 in
     let first = entry_takes bytes a.0 fits a.1 in
     let others = entries_taken n (Some a.0.0.key) a.0.1 rest first.0.rest_fits g.1 in
-    let is : entries_at_front (suc n) bytes ≡ a.0.0 ∷ entries_at_front n a.0.1 = ap (λ r. and_more r (λ behind. entries_at_front n behind)) a.1 in
+    let is : entries_at_front (suc n) bytes ≡ a.0.0 ∷ entries_at_front n a.0.1 = ap (λ r. and_more r (λ after. entries_at_front n after)) a.1 in
     let both = Takes-then bytes (entry a.0.0) a.0.1 (flat_map entry (entries_at_front n a.0.1)) rest first.0 others.taken in
     subst (λ (xs : List Binding). Skipped xs (suc n) low bytes rest) (sym is)
     (record { taken = rw flat_map-cons both; long = ap suc others.long; fit = (first.1, others.fit); rise = (above_is low a.0.0.key g.0, others.rise) })
 
 -- entries that were written are skipped and read
 pub entries_again : (es : List Binding) (low : Option (List ℕ)) (rest : List ℕ) → AllByRecursion FitsEntry es → AreRisingFrom low (keys_of es)
-    → (entries_behind (length es) low (flat_map entry es ++ rest) ≡ Ok rest) × (entries_at_front (length es) (flat_map entry es ++ rest) ≡ es)
-unfolding entries_behind entries_at_front
+    → (entries_after (length es) low (flat_map entry es ++ rest) ≡ Ok rest) × (entries_at_front (length es) (flat_map entry es ++ rest) ≡ es)
+unfolding entries_after entries_at_front
 entries_again [] low rest fit rise = (refl, refl)
 entries_again (x ∷ es) low rest fit rise =
     let regrouped : flat_map entry (x ∷ es) ++ rest ≡ entry x ++ (flat_map entry es ++ rest) = ap (λ (t : List ℕ). t ++ rest) (flat_map-cons entry x es) ∙ append_assoc (entry x) (flat_map entry es) rest in
     let read = entry_again x (flat_map entry es ++ rest) fit.0 in
     let others = entries_again es (Some x.key) rest fit.1 rise.1 in (
-      ap (entries_behind (suc (length es)) low) regrouped ∙ rw (read, above_true low x.key rise.0, others.0) refl,
+      ap (entries_after (suc (length es)) low) regrouped ∙ rw (read, above_true low x.key rise.0, others.0) refl,
       ap (entries_at_front (suc (length es))) regrouped ∙ rw (read, others.1) refl,
     )
 
@@ -83,30 +92,30 @@ pub record SkippedLinks (xs : List Link) (n : ℕ) (low : Option (List ℕ)) (by
   pub rise : AreRisingFrom low (greatests_of xs)
 
 -- links that were skipped are links of a node
-pub links_taken : (n : ℕ) (low : Option (List ℕ)) (bytes rest : List ℕ) → AreBytes bytes → links_behind n low bytes ≡ Ok rest → SkippedLinks (links_at_front n bytes) n low bytes rest
-unfolding links_behind links_at_front
+pub links_taken : (n : ℕ) (low : Option (List ℕ)) (bytes rest : List ℕ) → AreBytes bytes → links_after n low bytes ≡ Ok rest → SkippedLinks (links_at_front n bytes) n low bytes rest
+unfolding links_after links_at_front
 links_taken zero low bytes rest fits e =
     subst (λ (r : List ℕ). SkippedLinks [] 0 low bytes r) (ok_is bytes rest e) (record { taken = record { parts = refl; rest_fits = fits }; long = refl; fit = tt; rise = tt })
 links_taken (suc n) low bytes rest fits e =
-    let a = bind_ok (link_at bytes) (λ first. cond (is_above low first.0.greatest) (links_behind n (Some first.0.greatest) first.1) (Err NotRising)) rest e in
-    let g = order_ok (is_above low a.0.0.greatest) NotRising (links_behind n (Some a.0.0.greatest) a.0.1) rest a.2 in
+    let a = bind_ok (link_at bytes) (λ first. cond (is_above low first.0.greatest) (links_after n (Some first.0.greatest) first.1) (Err NotRising)) rest e in
+    let g = order_ok (is_above low a.0.0.greatest) NotRising (links_after n (Some a.0.0.greatest) a.0.1) rest a.2 in
     let first = link_takes bytes a.0 fits a.1 in
     let others = links_taken n (Some a.0.0.greatest) a.0.1 rest first.0.rest_fits g.1 in
-    let is : links_at_front (suc n) bytes ≡ a.0.0 ∷ links_at_front n a.0.1 = ap (λ r. and_more r (λ behind. links_at_front n behind)) a.1 in
+    let is : links_at_front (suc n) bytes ≡ a.0.0 ∷ links_at_front n a.0.1 = ap (λ r. and_more r (λ after. links_at_front n after)) a.1 in
     let both = Takes-then bytes (link a.0.0) a.0.1 (flat_map link (links_at_front n a.0.1)) rest first.0 others.taken in
     subst (λ (xs : List Link). SkippedLinks xs (suc n) low bytes rest) (sym is)
     (record { taken = rw flat_map-cons both; long = ap suc others.long; fit = (first.1, others.fit); rise = (above_is low a.0.0.greatest g.0, others.rise) })
 
 -- links that were written are skipped and read
 pub links_again : (es : List Link) (low : Option (List ℕ)) (rest : List ℕ) → AllByRecursion FitsLink es → AreRisingFrom low (greatests_of es)
-    → (links_behind (length es) low (flat_map link es ++ rest) ≡ Ok rest) × (links_at_front (length es) (flat_map link es ++ rest) ≡ es)
-unfolding links_behind links_at_front
+    → (links_after (length es) low (flat_map link es ++ rest) ≡ Ok rest) × (links_at_front (length es) (flat_map link es ++ rest) ≡ es)
+unfolding links_after links_at_front
 links_again [] low rest fit rise = (refl, refl)
 links_again (x ∷ es) low rest fit rise =
     let regrouped : flat_map link (x ∷ es) ++ rest ≡ link x ++ (flat_map link es ++ rest) = ap (λ (t : List ℕ). t ++ rest) (flat_map-cons link x es) ∙ append_assoc (link x) (flat_map link es) rest in
     let read = link_again x (flat_map link es ++ rest) fit.0 in
     let others = links_again es (Some x.greatest) rest fit.1 rise.1 in (
-      ap (links_behind (suc (length es)) low) regrouped ∙ rw (read, above_true low x.greatest rise.0, others.0) refl,
+      ap (links_after (suc (length es)) low) regrouped ∙ rw (read, above_true low x.greatest rise.0, others.0) refl,
       ap (links_at_front (suc (length es))) regrouped ∙ rw (read, others.1) refl,
     )
 
@@ -115,7 +124,7 @@ abbrev count_of : Node → ℕ
 count_of (Leaf tree entries) = length entries
 count_of (Inner tree level links) = length links
 
--- the bytes behind the first four
+-- the bytes after the first four
 abbrev items_of : Node → List ℕ
 items_of (Leaf tree entries) = flat_map entry entries
 items_of (Inner tree level links) = flat_map link links
@@ -126,7 +135,7 @@ two p q zero = p
 two p q (suc zero) = q
 two p q (suc (suc i)) = omega arith
 
--- nothing stood behind the items
+-- nothing stood after the items
 not_err_end : (b : Bool) (made n : Node) → cond b (Ok made) (Err BytesAfter) ≡ Ok n → b ≡ true
 not_err_end true made n e = refl
 not_err_end false made n e = absurd cc
@@ -153,14 +162,14 @@ end_ok (Ok []) made n e = (refl, ok_is made n e)
 end_ok (Ok (x ∷ xs)) made n e = absurd (let g = not_err_end (eqb (length (x ∷ xs)) 0) made n e in let h : length (x ∷ xs) ≡ 0 = eqb-true _ _ g in omega arith)
 end_ok (Err d) made n e = absurd cc
 
--- what is read behind the tree number is a node's
+-- what is read after the tree number is a node's
 items_takes : (tree level count : ℕ) (bytes : List ℕ) (n : Node) → AreBytes bytes → IsTree tree → items_at tree level count bytes ≡ Ok n
     → IsNode n × ((tree ∷ level ∷ to_be_bytes w16 count) ++ bytes ≡ spelling n)
 items_takes tree zero count bytes n fits is_tree e =
-    let a = not_err (ltb 63 0) BadTreeOrLevel (cond (ltb 64 count || (ltb 0 0 && eqb count 0)) (Err BadCount) (to_the_end (entries_behind count None bytes) (Leaf tree (entries_at_front count bytes)))) n e in
-    let b = not_err (ltb 64 count || (ltb 0 0 && eqb count 0)) BadCount (to_the_end (entries_behind count None bytes) (Leaf tree (entries_at_front count bytes))) n a.1 in
+    let a = not_err (ltb 63 0) BadTreeOrLevel (cond (ltb 64 count || (ltb 0 0 && eqb count 0)) (Err BadCount) (to_the_end (entries_after count None bytes) (Leaf tree (entries_at_front count bytes)))) n e in
+    let b = not_err (ltb 64 count || (ltb 0 0 && eqb count 0)) BadCount (to_the_end (entries_after count None bytes) (Leaf tree (entries_at_front count bytes))) n a.1 in
     let few : count ≤ 64 = ltb-false _ _ (or_false (ltb 64 count) (ltb 0 0 && eqb count 0) b.0).0 in
-    let c = end_ok (entries_behind count None bytes) (Leaf tree (entries_at_front count bytes)) n b.1 in
+    let c = end_ok (entries_after count None bytes) (Leaf tree (entries_at_front count bytes)) n b.1 in
     let s = entries_taken count None bytes [] fits c.0 in
     let text : (tree ∷ 0 ∷ to_be_bytes w16 count) ++ bytes ≡ spelling (Leaf tree (entries_at_front count bytes)) =
     rw s.long (ap (λ (t : List ℕ). (tree ∷ 0 ∷ to_be_bytes w16 count) ++ t) (s.taken.parts ∙ append-nil (flat_map entry (entries_at_front count bytes)))) in
@@ -168,14 +177,14 @@ items_takes tree zero count bytes n fits is_tree e =
     subst (λ (m : Node). IsNode m × ((tree ∷ 0 ∷ to_be_bytes w16 count) ++ bytes ≡ spelling m)) c.1 ((is_tree, short, s.fit, s.rise), text)
 items_takes tree (suc l) count bytes n fits is_tree e =
     let z : eqb (suc l) 0 ≡ false = ne_eqb (suc l) 0 (λ h. absurd (omega arith)) in
-    let e2 : cond (ltb 63 (suc l)) (Err BadTreeOrLevel) (cond (ltb 64 count || (ltb 0 (suc l) && eqb count 0)) (Err BadCount) (to_the_end (links_behind count None bytes) (Inner tree (suc l) (links_at_front count bytes)))) ≡ Ok n = rw z at e in
-    let a = not_err (ltb 63 (suc l)) BadTreeOrLevel (cond (ltb 64 count || (ltb 0 (suc l) && eqb count 0)) (Err BadCount) (to_the_end (links_behind count None bytes) (Inner tree (suc l) (links_at_front count bytes)))) n e2 in
-    let b = not_err (ltb 64 count || (ltb 0 (suc l) && eqb count 0)) BadCount (to_the_end (links_behind count None bytes) (Inner tree (suc l) (links_at_front count bytes))) n a.1 in
+    let e2 : cond (ltb 63 (suc l)) (Err BadTreeOrLevel) (cond (ltb 64 count || (ltb 0 (suc l) && eqb count 0)) (Err BadCount) (to_the_end (links_after count None bytes) (Inner tree (suc l) (links_at_front count bytes)))) ≡ Ok n = rw z at e in
+    let a = not_err (ltb 63 (suc l)) BadTreeOrLevel (cond (ltb 64 count || (ltb 0 (suc l) && eqb count 0)) (Err BadCount) (to_the_end (links_after count None bytes) (Inner tree (suc l) (links_at_front count bytes)))) n e2 in
+    let b = not_err (ltb 64 count || (ltb 0 (suc l) && eqb count 0)) BadCount (to_the_end (links_after count None bytes) (Inner tree (suc l) (links_at_front count bytes))) n a.1 in
     let tests = or_false (ltb 64 count) (ltb 0 (suc l) && eqb count 0) b.0 in
     let few : count ≤ 64 = ltb-false _ _ tests.0 in
     let some : 1 ≤ count = above_zero count (ltb 0 (suc l)) (lt-ltb 0 (suc l) (omega arith)) tests.1 in
     let low : suc l ≤ 63 = ltb-false _ _ a.0 in
-    let c = end_ok (links_behind count None bytes) (Inner tree (suc l) (links_at_front count bytes)) n b.1 in
+    let c = end_ok (links_after count None bytes) (Inner tree (suc l) (links_at_front count bytes)) n b.1 in
     let s = links_taken count None bytes [] fits c.0 in
     let text : (tree ∷ suc l ∷ to_be_bytes w16 count) ++ bytes ≡ spelling (Inner tree (suc l) (links_at_front count bytes)) =
     rw s.long (ap (λ (t : List ℕ). (tree ∷ suc l ∷ to_be_bytes w16 count) ++ t) (s.taken.parts ∙ append-nil (flat_map link (links_at_front count bytes)))) in

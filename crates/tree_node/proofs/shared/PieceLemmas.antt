@@ -17,7 +17,7 @@ pub chosen : {X : Type 0} (P : X → Type 0) (b : Bool) (x y : X) → (b ≡ tru
 chosen P true x y p q = p refl
 chosen P false x y p q = q refl
 
--- a list of lists, one behind the other
+-- a list of lists, one after the other
 abbrev pub join : {X : Type 0} → List (List X) → List X
 join parts = flat_map (λ part. part) parts
 
@@ -26,7 +26,7 @@ last_joins : {X : Type 0} (ends : ℕ → X → Bool) (piece : List X) → join 
 last_joins ends [] = refl
 last_joins ends (y ∷ ys) = append-nil (y ∷ ys)
 
--- the pieces, one behind the other, are what was cut
+-- the pieces, one after the other, are what was cut
 pub pieces_join : {X : Type 0} (ends : ℕ → X → Bool) (piece xs : List X) → join (pieces_from ends piece xs) ≡ piece ++ xs
 pieces_join ends piece [] = last_joins ends piece ∙ sym (append-nil piece)
 pieces_join {X} ends piece (x ∷ xs) =

@@ -9,7 +9,7 @@ use Rattle.tree_node.proofs.shared.PieceLaws.{IsSized, pieces_sized}
 use Rattle.tree_node.proofs.shared.TreeLaws.{entries_some, links_at, pair_at, whole}
 use Rattle.tree_node.proofs.shared.TreeParts.{counts_at, number_in, numbers_linked, parts_at}
 
--- ---- last keys of lists, one behind the other
+-- ---- last keys of lists, one after the other
 
 -- it has an entry
 abbrev HasSome : List Binding → Type 0
@@ -19,14 +19,14 @@ HasSome part = 1 ≤ length part
 abbrev pub last_of : List Binding → List ℕ
 last_of part = last_key (keys_of part)
 
-last_behind : (keys : List (List ℕ)) (key : List ℕ) (others : List (List ℕ)) → last_key (keys ++ key ∷ others) ≡ last_key (key ∷ others)
-last_behind [] key others = refl
-last_behind (k ∷ []) key others = refl
-last_behind (k ∷ l ∷ keys) key others = last_behind (l ∷ keys) key others
+last_after : (keys : List (List ℕ)) (key : List ℕ) (others : List (List ℕ)) → last_key (keys ++ key ∷ others) ≡ last_key (key ∷ others)
+last_after [] key others = refl
+last_after (k ∷ []) key others = refl
+last_after (k ∷ l ∷ keys) key others = last_after (l ∷ keys) key others
 
 last_append : (xs ys : List Binding) → HasSome ys → last_of (xs ++ ys) ≡ last_of ys
 last_append xs [] some = absurd (omega arith)
-last_append xs (y ∷ ys) some = ap last_key (map-append (λ (e : Binding). e.key) xs (y ∷ ys)) ∙ last_behind (keys_of xs) y.key (keys_of ys)
+last_append xs (y ∷ ys) some = ap last_key (map-append (λ (e : Binding). e.key) xs (y ∷ ys)) ∙ last_after (keys_of xs) y.key (keys_of ys)
 
 last_joined : (part : List Binding) (parts : List (List Binding)) → AllByRecursion HasSome (part ∷ parts) → last_of (join (part ∷ parts)) ≡ last_key (map last_of (part ∷ parts))
 last_joined part [] some = ap last_of (append-nil part)

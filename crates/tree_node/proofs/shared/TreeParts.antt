@@ -76,7 +76,7 @@ module _ (shape : Shape) (tree : ℕ) (entries : List Binding) where
   pub parts_at : (level : ℕ) → level < length ls → length (entries_at ls level) ≡ length (level_at ls level)
   parts_at level lt = sym (length-map (entries_at ls level) (length {A = Binding})) ∙ ap (length {A = ℕ}) (counts_at level lt) ∙ length-map (level_at ls level) entry_count
 
-  -- the entries below the nodes of a level, one behind the other, are the list
+  -- the entries below the nodes of a level, one after the other, are the list
   pub joined_at : (level : ℕ) → level < length ls → join (entries_at ls level) ≡ entries
   unfolding entries_at
   joined_at zero lt = flat_map-map (λ (part : List Binding). part) entries_in (leaves shape tree entries) ∙ leaves_joined shape tree entries

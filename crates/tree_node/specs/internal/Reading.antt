@@ -20,18 +20,18 @@ is_above None key = true
 is_above (Some low) key = is_lt (order low key)
 
 -- what follows n entries whose keys rise from low
-unfoldable pub entries_behind : ℕ → Option (List ℕ) → List ℕ → Result (List ℕ) NodeFault
-entries_behind zero low bytes = Ok bytes
-entries_behind (suc n) low bytes = do
+unfoldable pub entries_after : ℕ → Option (List ℕ) → List ℕ → Result (List ℕ) NodeFault
+entries_after zero low bytes = Ok bytes
+entries_after (suc n) low bytes = do
   first ← entry_at bytes
-  if is_above low first.0.key then entries_behind n (Some first.0.key) first.1 else Err NotRising
+  if is_above low first.0.key then entries_after n (Some first.0.key) first.1 else Err NotRising
 
 -- what follows n links whose greatest keys rise from low
-unfoldable pub links_behind : ℕ → Option (List ℕ) → List ℕ → Result (List ℕ) NodeFault
-links_behind zero low bytes = Ok bytes
-links_behind (suc n) low bytes = do
+unfoldable pub links_after : ℕ → Option (List ℕ) → List ℕ → Result (List ℕ) NodeFault
+links_after zero low bytes = Ok bytes
+links_after (suc n) low bytes = do
   first ← link_at bytes
-  if is_above low first.0.greatest then links_behind n (Some first.0.greatest) first.1 else Err NotRising
+  if is_above low first.0.greatest then links_after n (Some first.0.greatest) first.1 else Err NotRising
 
 -- What a function returned, seen by view, is what reading gives.
 abbrev pub Gives : {X Y : Type 0} → (X → Y) → Result X NodeFault → Result Y NodeFault → Type 0
@@ -44,7 +44,7 @@ tree_at number = if nat_lt number 1 || nat_lt 4 number then Err BadTreeOrLevel e
 
 -- the node, where nothing follows its items
 abbrev pub to_the_end : Result (List ℕ) NodeFault → Node → Result Node NodeFault
-to_the_end (Ok behind) node = if length behind == 0 then Ok node else Err BytesAfter
+to_the_end (Ok after) node = if length after == 0 then Ok node else Err BytesAfter
 to_the_end (Err e) node = Err e
 
 -- what follows the tree number
@@ -52,8 +52,8 @@ abbrev pub items_at : ℕ → ℕ → ℕ → List ℕ → Result Node NodeFault
 items_at tree level count bytes =
     if nat_lt LEVEL_LIMIT level then Err BadTreeOrLevel
     else if nat_lt ITEM_LIMIT count || (nat_lt 0 level && count == 0) then Err BadCount
-    else if level == 0 then to_the_end (entries_behind count None bytes) (Leaf tree (entries_at_front count bytes))
-    else to_the_end (links_behind count None bytes) (Inner tree level (links_at_front count bytes))
+    else if level == 0 then to_the_end (entries_after count None bytes) (Leaf tree (entries_at_front count bytes))
+    else to_the_end (links_after count None bytes) (Inner tree level (links_at_front count bytes))
 
 -- all of the bytes
 unfoldable pub node_at : List ℕ → Result Node NodeFault

@@ -8,13 +8,9 @@ use Rattle.tree_node.specs.Outcomes.{ShelfUse}
 use Rattle.tree_node.specs.Shelves.{GrownBy}
 use Rattle.tree_node.specs.Trees.{entries_in, entry_count, greatest_of, link_to}
 use Rattle.tree_walk.specs.Fetches.{AreDifferent, HasFetched, counted_up}
-use Rattle.tree_walk.specs.Ranges.{IsAboveLeft, IsNoHigher, Meets, Range}
+use Rattle.tree_walk.specs.Ranges.{IsAboveLeft, IsNoHigher}
 use Rattle.tree_walk.specs.declared.fault.WalkFault.{WalkFault}
 use Rattle.tree_walk.specs.declared.pending.Pending.{Pending}
-
--- the node meets the range
-abbrev pub IsMetNode : Range → Option (List ℕ) × Node → Type 0
-IsMetNode range spot = Meets range spot.0 (greatest_of spot.1)
 
 -- ---- pending children
 

@@ -1,26 +1,12 @@
 //! Ends of ranges, told by hand.
 
-ghost use Rattle.std.specs.Option.{option_copied};
-ghost use Rattle.std.specs.Prelude.{IsTrue};
-ghost use Rattle.tree_walk.specs.Ranges.{IsAboveLeft};
-
 use super::nodes::{at, range_of};
 use crate::KeyRange;
-use std::cmp::Ordering;
 use std::test::Fail;
+use tree_node::is_above;
 
 /// What a range says of a node: whether it contains its greatest key, meets the node, and covers it.
 type Told = (bool, bool, bool);
-
-/// Whether the key is above the left bound, where there is one.
-fn is_above(left: Option<&[u8]>, key: &[u8]) -> bool
-    ensures { IsTrue result → IsAboveLeft (option_copied left.entry) key.now }
-{
-    match left {
-        Some(left) => matches!(left.cmp(key), Ordering::Less),
-        None => true,
-    }
-}
 
 /// What the range says of a node with these bounds.
 fn told(range: &KeyRange<'_>, left: Option<&[u8]>, greatest: &[u8]) -> Result<Told, Fail> {

@@ -1,4 +1,4 @@
-use Rattle.tree_walk.proofs.CountChoices.{covered_narrower}
+use Rattle.tree_walk.proofs.OpenChoices.{covered_narrower}
 use Rattle.tree_walk.proofs.laws.inside_law.Goals as goal
 
 pub returns : goal.returns

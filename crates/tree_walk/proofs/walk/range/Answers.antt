@@ -1,114 +1,29 @@
-use Rattle.std.proofs.Common.{◌≡◌, ◌++◌, suc, ◌-◌, List, Result, inl, inr, refl, sym, ap, subst, ◌∙◌, arith, length}
+use Rattle.std.proofs.Common.{false, [], ap}
 use Rattle.std.specs.Global.{Vec}
-use Rattle.tree_node.specs.NodeRefs.{bindings_of, node_read, number_of}
-use Rattle.tree_node.specs.Nodes.{Node, spelling}
-use Rattle.tree_node.specs.Trees.{levels, node_in}
+use Rattle.tree_node.specs.NodeRefs.{bindings_of, number_of}
+use Rattle.tree_node.specs.Trees.{levels}
 use Rattle.tree_node.specs.declared.item.Item.{Item}
 use Rattle.tree_walk.specs.Choices.{AreThose}
 use Rattle.tree_walk.specs.Fetches.{cause_of}
-use Rattle.tree_node.specs.Outcomes.{Outcome}
-use Rattle.tree_walk.specs.internal.Pendings.{FetchedNode, spots_of}
-use Rattle.tree_walk.specs.Spans.{IsMetChild}
 use Rattle.tree_walk.specs.Ranges.{range_of}
 use Rattle.tree_walk.specs.Walks.{IsEntryIn, IsMet}
-use Rattle.tree_walk.specs.declared.fault.WalkFault.{WalkFault}
-use Rattle.tree_walk.specs.declared.pending.Pending.{Pending}
-use Rattle.tree_walk.specs.declared.fault.WalkFault.TheVariants.{Memory}
-use Rattle.tree_walk.proofs.LevelLemmas.{top_is}
-use Rattle.tree_walk.proofs.OutcomeLemmas.{clash_more}
+use Rattle.tree_walk.specs.internal.Openings.{IsOpened}
+use Rattle.tree_walk.proofs.CallLemmas.{found_all, ends_as, met_is, stops_as}
 use Rattle.tree_node.proofs.shared.Results.{err_is}
-use Rattle.tree_walk.proofs.SpotOrder.{order_of_top}
-use Rattle.tree_walk.proofs.TopLemmas.{honest_inner, honest_leaf, honest_refused, honest_then, is_tree, of_top, top_fetched, top_refused, top_then_down, top_then_refused}
 use Rattle.tree_walk.proofs.walk.range.Goals as goal
 
-pub returns-in_err-entries-clause-fetches : goal.returns-in_err-entries-clause-fetches
-returns-in_err-entries-clause-fetches g c =
-    rw (sym c.count_call.ensures.fetches) (top_refused c.from_residual.result c.in_err-entries.field-0.0 (g.S.Shelf.holds c.open.new.shelf) (g.S.Shelf.used c.args.shelf.now) (g.S.Shelf.used c.open.new.shelf) c.count_call.new.self.fetches c.open.new.tally.fetches
-    (err_is c.from_residual.result c.in_err-entries.field-0.0 c.from_residual.ensures.1) c.in_err-entries.ensures.opens)
+pub returns-in_err-gather-clause-answer : goal.returns-in_err-gather-clause-answer
+returns-in_err-gather-clause-answer g c = λ shape entries is.
+    stops_as cause_of _ (λ (found : Vec Item). AreThose (IsEntryIn (range_of c.args.range.now)) entries (bindings_of found.items))
+    (IsOpened false (range_of c.args.range.now) (levels shape (number_of c.args.tree) entries)) (IsMet (range_of c.args.range.now) (levels shape (number_of c.args.tree) entries))
+    (g.S.Shelf.holds c.gather.new.shelf) (g.S.Shelf.used c.args.shelf.now) (g.S.Shelf.used c.gather.new.shelf) (met_is (range_of c.args.range.now) (levels shape (number_of c.args.tree) entries))
+    c.in_err-gather.field-0.0 c.from_residual.result (err_is c.from_residual.result c.in_err-gather.field-0.0 c.from_residual.ensures.1) (c.in_err-gather.ensures.answer shape entries is)
 
-pub returns-in_err-entries-clause-answer : goal.returns-in_err-entries-clause-answer
-returns-in_err-entries-clause-answer g c = λ shape entries is.
-    let tree_is = is_tree c.args.tree in
-    let top = top_is shape (number_of c.args.tree) entries tree_is is.has in
-    subst (λ (r : Result (Vec Item) WalkFault). Outcome cause_of (λ (found : Vec Item). AreThose (IsEntryIn (range_of c.args.range.now)) entries (bindings_of found.items)) (IsMet (range_of c.args.range.now) (levels shape (number_of c.args.tree) entries))
-    (record { held = g.S.Shelf.holds c.open.new.shelf; before = g.S.Shelf.used c.args.shelf.now; after = g.S.Shelf.used c.open.new.shelf }) r)
-    (sym (err_is c.from_residual.result c.in_err-entries.field-0.0 c.from_residual.ensures.1))
-    (record {
-      ends = honest_refused shape (number_of c.args.tree) entries (range_of c.args.range.now) (cause_of c.in_err-entries.field-0.0) (g.S.Shelf.holds c.open.new.shelf) (g.S.Shelf.used c.open.new.shelf)
-          ((c.in_err-entries.ensures.answer (node_in (levels shape (number_of c.args.tree) entries) (length (levels shape (number_of c.args.tree) entries) - 1) 0) top.0 top.1 is.is_top).ends);
-    })
-
-pub returns-in_err-take-in-Leaf-clause-fetches : goal.returns-in_err-take-in-Leaf-clause-fetches
-returns-in_err-take-in-Leaf-clause-fetches g c =
-    rw (sym c.count_call.ensures.fetches) (top_then_refused c.from_residual-in_err-take-in-Leaf.result Memory (node_read c.in_ok-entries.field-0) (g.S.Shelf.holds c.open.new.shelf) (g.S.Shelf.used c.args.shelf.now) (g.S.Shelf.used c.open.new.shelf)
-    c.count_call.new.self.fetches c.open.new.tally.fetches (err_is c.from_residual-in_err-take-in-Leaf.result Memory c.from_residual-in_err-take-in-Leaf.ensures.1) c.in_ok-entries.ensures.opens)
-
-pub returns-in_err-pick-in-Inner-clause-fetches : goal.returns-in_err-pick-in-Inner-clause-fetches
-returns-in_err-pick-in-Inner-clause-fetches g c =
-    rw (sym c.count_call.ensures.fetches) (top_then_refused c.from_residual-in_err-pick-in-Inner.result Memory (node_read c.in_ok-entries.field-0) (g.S.Shelf.holds c.open.new.shelf) (g.S.Shelf.used c.args.shelf.now) (g.S.Shelf.used c.open.new.shelf)
-    c.count_call.new.self.fetches c.open.new.tally.fetches (err_is c.from_residual-in_err-pick-in-Inner.result Memory c.from_residual-in_err-pick-in-Inner.ensures.1) c.in_ok-entries.ensures.opens)
-
-pub take-requires : goal.take-requires
-take-requires g c =
-    let top = subst (λ (n : Node). FetchedNode n (record { held = g.S.Shelf.holds c.open.new.shelf; before = g.S.Shelf.used c.args.shelf.now; after = g.S.Shelf.used c.open.new.shelf }) c.count_call.new.self.fetches c.open.new.tally.fetches) (ap node_read c.in-Leaf.is) c.in_ok-entries.ensures.opens in
-    top.spells.0.3
-
-pub walk_down-requires : goal.walk_down-requires
-walk_down-requires g c κs =
-    let picked = c.in_ok-pick-in-Inner.ensures in
-    let are : spots_of c.pick.new.pending.items ≡ picked.0 = picked.1 ∙ ap (λ (ps : List Pending). spots_of ps ++ picked.0) c.new-pending.ensures.items in
-    let top = subst (λ (n : Node). FetchedNode n (record { held = g.S.Shelf.holds c.open.new.shelf; before = g.S.Shelf.used c.args.shelf.now; after = g.S.Shelf.used c.open.new.shelf }) c.count_call.new.self.fetches c.open.new.tally.fetches) (ap node_read c.in-Inner.is) c.in_ok-entries.ensures.opens in
-    ((refl, tt), (c.requires, rw are (order_of_top (IsMetChild (range_of c.args.range.now)) c.in-Inner.children picked.0 top.spells.0.6 picked.2)))
-
-pub returns-in_ok-take-in-Leaf-clause-fetches : goal.returns-in_ok-take-in-Leaf-clause-fetches
-returns-in_ok-take-in-Leaf-clause-fetches g c =
-    rw (sym c.count_call.ensures.fetches) (top_fetched (node_read c.in_ok-entries.field-0) (g.S.Shelf.holds c.open.new.shelf) (g.S.Shelf.used c.args.shelf.now) (g.S.Shelf.used c.open.new.shelf)
-    c.count_call.new.self.fetches c.open.new.tally.fetches c.in_ok-entries.ensures.opens)
-
-pub returns-in_ok-take-in-Leaf-clause-answer : goal.returns-in_ok-take-in-Leaf-clause-answer
-returns-in_ok-take-in-Leaf-clause-answer g c = λ shape entries is.
-    let tree_is = is_tree c.args.tree in
-    let top = top_is shape (number_of c.args.tree) entries tree_is is.has in
-    let node = node_in (levels shape (number_of c.args.tree) entries) (length (levels shape (number_of c.args.tree) entries) - 1) 0 in
-    let taken = c.in_ok-take-in-Leaf.ensures in
-    let are : bindings_of c.take.new.found.items ≡ taken.0 = taken.1 ∙ ap (λ (xs : List Item). bindings_of xs ++ taken.0) c.new-found.ensures.items in
-    record {
-      ends = elim ((c.in_ok-entries.ensures.answer node top.0 top.1 is.is_top).ends) [
-        | inl clash ↦ inl (clash_more (λ bytes. bytes ≡ spelling node) (IsMet (range_of c.args.range.now) (levels shape (number_of c.args.tree) entries)) (g.S.Shelf.used c.open.new.shelf) (g.S.Shelf.used c.open.new.shelf)
-            (of_top shape (number_of c.args.tree) entries (range_of c.args.range.now)) (λ x was. was) clash)
-        | inr found ↦
-            let whole = honest_leaf shape (number_of c.args.tree) entries (range_of c.args.range.now) (number_of c.in-Leaf.tree) c.in-Leaf.entries taken.0 (g.S.Shelf.used c.args.shelf.now) (g.S.Shelf.used c.open.new.shelf) tree_is is.has
-            (sym (ap node_read c.in-Leaf.is) ∙ found.0) found.1 taken.2 in
-            inr (rw are whole.0, whole.1)
-      ];
-    }
-
-pub returns-in_ok-pick-in-Inner-clause-fetches : goal.returns-in_ok-pick-in-Inner-clause-fetches
-returns-in_ok-pick-in-Inner-clause-fetches g c =
-    let top = subst (λ (n : Node). FetchedNode n (record { held = g.S.Shelf.holds c.open.new.shelf; before = g.S.Shelf.used c.args.shelf.now; after = g.S.Shelf.used c.open.new.shelf }) c.count_call.new.self.fetches c.open.new.tally.fetches) (ap node_read c.in-Inner.is) c.in_ok-entries.ensures.opens in
-    let level : suc (c.in-Inner.level - 1) ≡ c.in-Inner.level = omega (arith, top.spells.0.1) in
-    rw (sym c.count_call.ensures.fetches) (top_then_down c.walk_down.result (number_of c.in-Inner.tree) (c.in-Inner.level - 1) c.in-Inner.children (g.S.Shelf.holds c.open.new.shelf) (g.S.Shelf.holds c.walk_down.new.shelf)
-    (g.S.Shelf.used c.args.shelf.now) (g.S.Shelf.used c.open.new.shelf) (g.S.Shelf.used c.walk_down.new.shelf) c.count_call.new.self.fetches c.open.new.tally.fetches c.walk_down.new.tally.fetches
-    (rw level top) c.walk_down.ensures.stays c.walk_down.ensures.fetches)
-
-pub returns-in_ok-pick-in-Inner-clause-answer : goal.returns-in_ok-pick-in-Inner-clause-answer
-returns-in_ok-pick-in-Inner-clause-answer g c = λ shape entries is.
-    let range = range_of c.args.range.now in
-    let tree_is = is_tree c.args.tree in
-    let top_at = top_is shape (number_of c.args.tree) entries tree_is is.has in
-    let node = node_in (levels shape (number_of c.args.tree) entries) (length (levels shape (number_of c.args.tree) entries) - 1) 0 in
-    let picked = c.in_ok-pick-in-Inner.ensures in
-    let are : spots_of c.pick.new.pending.items ≡ picked.0 = picked.1 ∙ ap (λ (ps : List Pending). spots_of ps ++ picked.0) c.new-pending.ensures.items in
-    let top = subst (λ (n : Node). FetchedNode n (record { held = g.S.Shelf.holds c.open.new.shelf; before = g.S.Shelf.used c.args.shelf.now; after = g.S.Shelf.used c.open.new.shelf }) c.count_call.new.self.fetches c.open.new.tally.fetches) (ap node_read c.in-Inner.is) c.in_ok-entries.ensures.opens in
-    let level : suc (c.in-Inner.level - 1) ≡ c.in-Inner.level = omega (arith, top.spells.0.1) in
-    record {
-      ends = elim ((c.in_ok-entries.ensures.answer node top_at.0 top_at.1 is.is_top).ends) [
-        | inl clash ↦ inl (clash_more (λ bytes. bytes ≡ spelling node) (IsMet range (levels shape (number_of c.args.tree) entries)) (g.S.Shelf.used c.open.new.shelf) (g.S.Shelf.used c.walk_down.new.shelf)
-            (of_top shape (number_of c.args.tree) entries range) c.walk_down.ensures.grows clash)
-        | inr found ↦
-            let below = honest_inner shape (number_of c.args.tree) entries range (number_of c.in-Inner.tree) (c.in-Inner.level - 1) c.in-Inner.children picked.0 tree_is is.has is.bytes (rw level (sym (ap node_read c.in-Inner.is) ∙ found.0)) picked.2 in
-            (honest_then shape (number_of c.args.tree) entries range cause_of (λ (found : Vec Item). AreThose (IsEntryIn range) entries (bindings_of found.items)) c.walk_down.result (c.in-Inner.level - 1)
-            (g.S.Shelf.holds c.walk_down.new.shelf) (g.S.Shelf.used c.args.shelf.now) (g.S.Shelf.used c.open.new.shelf) (g.S.Shelf.used c.walk_down.new.shelf) below.0 found.1
-            (c.walk_down.ensures.answer shape entries (rw are below.1))).ends
-      ];
-    }
+pub returns-clause-answer : goal.returns-clause-answer
+returns-clause-answer g c = λ shape entries is.
+    ends_as cause_of _ (λ (found : Vec Item). AreThose (IsEntryIn (range_of c.args.range.now)) entries (bindings_of found.items))
+    (IsOpened false (range_of c.args.range.now) (levels shape (number_of c.args.tree) entries)) (IsMet (range_of c.args.range.now) (levels shape (number_of c.args.tree) entries))
+    (g.S.Shelf.holds c.gather.new.shelf) (g.S.Shelf.used c.args.shelf.now) (g.S.Shelf.used c.gather.new.shelf) (met_is (range_of c.args.range.now) (levels shape (number_of c.args.tree) entries))
+    tt c.gather.new.gathered.items
+    (λ gathered. found_all (range_of c.args.range.now) entries gathered.1 gathered.2 gathered.0 c.gather.new.gathered.items.items (gathered.3 [] [] (ap bindings_of c.new.ensures.items)) gathered.4 gathered.5)
+    (c.in_ok-gather.ensures.answer shape entries is)

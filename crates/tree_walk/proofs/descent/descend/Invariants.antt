@@ -1,0 +1,23 @@
+use Rattle.std.proofs.Common.{◌≡◌, ℕ, suc, ◌≤◌, List, None}
+use Rattle.tree_node.specs.NodeRefs.{number_of}
+use Rattle.tree_node.specs.Shelves.{SameNodes}
+use Rattle.tree_walk.specs.internal.Pendings.{AreInOrder, spots_of}
+use Rattle.tree_walk.specs.Ranges.{range_of}
+use Rattle.tree_walk.proofs.DescentFetches.{FetchingDown}
+use Rattle.tree_walk.proofs.DescentLemmas.{HonestDown}
+use Rattle.tree_walk.proofs.descent.descend.Given as goal
+
+-- the nodes above this level were fetched, and its nodes that are opened are pending
+abbrev pub invariant-loop-level : goal.invariant-loop-level
+invariant-loop-level g l = record {
+  within : l.level ≤ l.fn.level;
+  calls : l.tally.calls ≡ l.fn.tally.calls;
+  stays : SameNodes (g.S.Shelf.holds l.fn.shelf) (g.S.Shelf.holds l.shelf);
+  grows : (bytes : List ℕ) → g.S.Shelf.used l.fn.shelf bytes → g.S.Shelf.used l.shelf bytes;
+  order : AreInOrder None (spots_of l.pending.items);
+  fetches : FetchingDown (suc l.level) (suc l.fn.level) (record { held = g.S.Shelf.holds l.shelf; before = g.S.Shelf.used l.fn.shelf; after = g.S.Shelf.used l.shelf }) l.fn.tally.fetches l.tally.fetches;
+  honest : HonestDown g.G.Gather.gathers g.G.Gather.closing (number_of l.tree) (range_of l.range) l.fn.level (spots_of l.fn.pending.items) l.fn.gathered l.level (spots_of l.pending.items) l.gathered (g.S.Shelf.used l.fn.shelf) (g.S.Shelf.used l.shelf);
+}
+
+abbrev pub decreases-loop-level : goal.decreases-loop-level
+decreases-loop-level g l = l.level

@@ -1,0 +1,24 @@
+use Rattle.std.proofs.Common.{◌≡◌, ℕ, List, Option, drop, []}
+use Rattle.tree_node.specs.NodeRefs.{number_of}
+use Rattle.tree_node.specs.Nodes.{Binding, Node}
+use Rattle.tree_node.specs.Shelves.{SameNodes}
+use Rattle.tree_node.specs.Trees.{entries_in}
+use Rattle.tree_walk.specs.internal.Accounts.{Gains}
+use Rattle.tree_walk.specs.internal.Pendings.{spots_of}
+use Rattle.tree_walk.specs.Ranges.{range_of}
+use Rattle.tree_walk.specs.Walks.{IsEntryIn}
+use Rattle.tree_walk.proofs.HonestLemmas.{HonestSoFar}
+use Rattle.tree_walk.proofs.LevelFetches.{FetchingLevel}
+use Rattle.tree_walk.proofs.descent.take_leaves.Given as goal
+
+-- the leaves so far were fetched, and those of their entries that are in the range were gathered
+abbrev pub invariant-loop-node : goal.invariant-loop-node
+invariant-loop-node g l = record {
+  calls : l.tally.calls ≡ l.fn.tally.calls;
+  stays : SameNodes (g.S.Shelf.holds l.fn.shelf) (g.S.Shelf.holds l.shelf);
+  grows : (bytes : List ℕ) → g.S.Shelf.used l.fn.shelf bytes → g.S.Shelf.used l.shelf bytes;
+  level : (low : Option (List ℕ)) × FetchingLevel 0 low (record { held = g.S.Shelf.holds l.shelf; before = g.S.Shelf.used l.fn.shelf; after = g.S.Shelf.used l.shelf }) l.fn.tally.fetches l.tally.fetches (spots_of (drop l.node-index l.nodes));
+  honest : (those : List Binding) × Gains g.G.Gather.gathers l.fn.gathered l.gathered [] those
+      × HonestSoFar (λ (spot : Option (List ℕ) × Node). entries_in spot.1) (IsEntryIn (range_of l.range)) (number_of l.tree) 0 (spots_of l.nodes) (spots_of (drop l.node-index l.nodes)) those
+      (g.S.Shelf.used l.fn.shelf) (g.S.Shelf.used l.shelf);
+}

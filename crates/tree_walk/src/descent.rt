@@ -1,0 +1,207 @@
+//! The way down a tree, level by level.
+
+ghost use Rattle.std.specs.Prelude.{[], ◌≡◌, ◌≤◌, ◌++◌, ℕ, suc, None, List, OnOk, IfOk, Option};
+ghost use Rattle.tree_node.specs.NodeRefs.{number_of};
+ghost use Rattle.tree_node.specs.Nodes.{AreRisingFrom, Binding, Link, Node, keys_of};
+ghost use Rattle.tree_node.specs.Outcomes.{Outcome};
+ghost use Rattle.tree_node.specs.Shelves.{SameNodes};
+ghost use Rattle.tree_node.specs.Trees.{Shape, levels};
+ghost use Rattle.tree_walk.specs.Choices.{AreThose};
+ghost use Rattle.tree_walk.specs.Fetches.{Fetches, cause_of, counted_up};
+ghost use Rattle.tree_walk.specs.internal.Accounts.{Account, AreBelowLevel, Gains, GathersAll};
+ghost use Rattle.tree_walk.specs.internal.Openings.{IsClosedChild, IsOpenChild, IsOpened, IsOpenedIn, IsReached};
+ghost use Rattle.tree_walk.specs.internal.Pendings.{AreInOrder, AreStated, FetchesBelow, FetchesLevel, IsOneOf, entries_of_all, spots_of};
+ghost use Rattle.tree_walk.specs.Spans.{children_of_all};
+ghost use Rattle.tree_walk.specs.Ranges.{IsIn, range_of};
+ghost use Rattle.tree_walk.specs.Walks.{IsEntryIn, IsTopOf};
+
+use crate::fault::WalkFault;
+use crate::gather::Gather;
+use crate::key_range::KeyRange;
+use crate::pending::{Pending, pick};
+use crate::tally::Tally;
+use crate::visit::{open, open_inner, open_leaf};
+use std::alloc::{AllocError, Global};
+use tree_node::{Digest, Entries, NodeRef, Shelf, Tree};
+
+/// Gathers the entries in the range, or what stays closed with them, below the node with the digest `top`.
+pub(crate) fn gather<'a, S: Shelf<'a>, G: Gather<'a>>(
+    alloc: Global,
+    shelf: &mut S,
+    top: &Digest,
+    tree: Tree,
+    range: &KeyRange<'_>,
+    tally: &mut Tally,
+    gathered: &mut G,
+) -> Result<(), WalkFault>
+    requires { IsIn (range_of range.now) range.now.lo.now }
+    ensures stays { SameNodes (S.holds shelf.old) (S.holds shelf.new) }
+    ensures grows { (bytes : List ℕ) → S.used shelf.old bytes → S.used shelf.new bytes }
+    ensures calls { tally.new.calls ≡ counted_up tally.old.calls 1 }
+    ensures fetches { Fetches result
+        (record { held = S.holds shelf.new; before = S.used shelf.old; after = S.used shelf.new })
+        tally.old.fetches tally.new.fetches }
+    ensures answer { (shape : Shape) (entries : List Binding)
+        → IsTopOf shape (number_of tree) entries top.now.0
+        → Outcome cause_of (λ _. GathersAll G.gathers G.closing (range_of range.now) entries gathered.old gathered.new)
+        (IsOpened G.closing (range_of range.now) (levels shape (number_of tree) entries))
+        (record { held = S.holds shelf.new; before = S.used shelf.old; after = S.used shelf.new }) result }
+{
+    tally.count_call();
+    match open(shelf, top, tree, tally)? {
+        NodeRef::Leaf { tree: _, entries } => {
+            take(entries, range, gathered)?;
+            Ok(())
+        }
+        NodeRef::Inner {
+            tree: _,
+            level,
+            children,
+        } => {
+            let mut pending: Vec<Pending<'a>> = Vec::new(alloc);
+            pick(children, None, range, &mut pending, gathered)?;
+            descend(
+                alloc,
+                shelf,
+                tree,
+                level - 1,
+                pending,
+                range,
+                tally,
+                gathered,
+            )
+        }
+    }
+}
+
+/// Fetches the pending nodes of this level and what is opened below them, level by level.
+fn descend<'a, S: Shelf<'a>, G: Gather<'a>>(
+    alloc: Global,
+    shelf: &mut S,
+    tree: Tree,
+    level: u8,
+    pending: Vec<Pending<'a>>,
+    range: &KeyRange<'_>,
+    tally: &mut Tally,
+    gathered: &mut G,
+) -> Result<(), WalkFault>
+    requires some { IsIn (range_of range.now) range.now.lo.now }
+    requires order { AreInOrder None (spots_of pending.items) }
+    ensures calls { tally.new.calls ≡ tally.old.calls }
+    ensures stays { SameNodes (S.holds shelf.old) (S.holds shelf.new) }
+    ensures grows { (bytes : List ℕ) → S.used shelf.old bytes → S.used shelf.new bytes }
+    ensures fetches { FetchesBelow (suc level) result
+        (record { held = S.holds shelf.new; before = S.used shelf.old; after = S.used shelf.new })
+        tally.old.fetches tally.new.fetches }
+    ensures answer { (shape : Shape) (entries : List Binding)
+        → IsReached G.closing shape (number_of tree) entries (range_of range.now) level (spots_of pending.entry.items)
+        → Outcome cause_of (λ _. (closed : List (Option (List ℕ) × Link)) × (found all : List Binding)
+        × Gains G.gathers gathered.old gathered.new closed found
+        × Account G.closing closed found all
+        × AreBelowLevel G.closing (range_of range.now) (levels shape (number_of tree) entries) level all)
+        (IsOpenedIn G.closing (range_of range.now) (levels shape (number_of tree) entries) 0 level)
+        (record { held = S.holds shelf.new; before = S.used shelf.old; after = S.used shelf.new }) result }
+{
+    let mut pending = pending;
+    let mut level = level;
+    while level > 0 {
+        pending = open_level(
+            alloc,
+            shelf,
+            tree,
+            level,
+            pending.as_slice(),
+            range,
+            tally,
+            gathered,
+        )?;
+        level -= 1;
+    }
+    take_leaves(shelf, tree, pending.as_slice(), range, tally, gathered)
+}
+
+/// Fetches inner nodes of this level, gives those of their children that are opened, and gathers those
+/// that stay closed.
+fn open_level<'a, S: Shelf<'a>, G: Gather<'a>>(
+    alloc: Global,
+    shelf: &mut S,
+    tree: Tree,
+    level: u8,
+    nodes: &[Pending<'a>],
+    range: &KeyRange<'_>,
+    tally: &mut Tally,
+    gathered: &mut G,
+) -> Result<Vec<Pending<'a>>, WalkFault>
+    requires inner { 1 ≤ level }
+    requires some { IsIn (range_of range.now) range.now.lo.now }
+    requires order { AreInOrder None (spots_of nodes.now) }
+    ensures calls { tally.new.calls ≡ tally.old.calls }
+    ensures stays { SameNodes (S.holds shelf.old) (S.holds shelf.new) }
+    ensures grows { (bytes : List ℕ) → S.used shelf.old bytes → S.used shelf.new bytes }
+    ensures fetches { FetchesLevel level result
+        (record { held = S.holds shelf.new; before = S.used shelf.old; after = S.used shelf.new })
+        tally.old.fetches tally.new.fetches }
+    ensures order { IfOk result (λ pending. AreInOrder None (spots_of pending.items)) }
+    ensures answer { (spots : List (Option (List ℕ) × Node)) → AreStated (number_of tree) level (spots_of nodes.now) spots
+        → Outcome cause_of (λ pending. AreThose (IsOpenChild G.closing (range_of range.now)) (children_of_all spots) (spots_of pending.items)
+        × ((closed : List (Option (List ℕ) × Link)) × AreThose (IsClosedChild G.closing (range_of range.now)) (children_of_all spots) closed
+        × Gains G.gathers gathered.old gathered.new closed []))
+        (IsOneOf spots)
+        (record { held = S.holds shelf.new; before = S.used shelf.old; after = S.used shelf.new }) result }
+{
+    let mut pending: Vec<Pending<'a>> = Vec::new(alloc);
+    for node in nodes {
+        let children = open_inner(shelf, node, tree, level, tally)?;
+        pick(children, node.left, range, &mut pending, gathered)?;
+    }
+    Ok(pending)
+}
+
+/// Fetches leaves, and gathers those of their entries that are in the range.
+fn take_leaves<'a, S: Shelf<'a>, G: Gather<'a>>(
+    shelf: &mut S,
+    tree: Tree,
+    nodes: &[Pending<'a>],
+    range: &KeyRange<'_>,
+    tally: &mut Tally,
+    gathered: &mut G,
+) -> Result<(), WalkFault>
+    requires order { AreInOrder None (spots_of nodes.now) }
+    ensures calls { tally.new.calls ≡ tally.old.calls }
+    ensures stays { SameNodes (S.holds shelf.old) (S.holds shelf.new) }
+    ensures grows { (bytes : List ℕ) → S.used shelf.old bytes → S.used shelf.new bytes }
+    ensures fetches { FetchesLevel 0 result
+        (record { held = S.holds shelf.new; before = S.used shelf.old; after = S.used shelf.new })
+        tally.old.fetches tally.new.fetches }
+    ensures answer { (spots : List (Option (List ℕ) × Node)) → AreStated (number_of tree) 0 (spots_of nodes.now) spots
+        → Outcome cause_of (λ _. (found : List Binding) × AreThose (IsEntryIn (range_of range.now)) (entries_of_all spots) found
+        × Gains G.gathers gathered.old gathered.new [] found)
+        (IsOneOf spots)
+        (record { held = S.holds shelf.new; before = S.used shelf.old; after = S.used shelf.new }) result }
+{
+    for node in nodes {
+        let entries = open_leaf(shelf, node, tree, tally)?;
+        take(entries, range, gathered)?;
+    }
+    Ok(())
+}
+
+/// Gathers the entries that are in the range. It stops at the first key that the range doesn't reach.
+fn take<'a, G: Gather<'a>>(
+    entries: Entries<'a>,
+    range: &KeyRange<'_>,
+    gathered: &mut G,
+) -> Result<(), AllocError>
+    requires { AreRisingFrom None (keys_of entries) }
+    ensures { OnOk result ((found : List Binding)
+        × AreThose (IsEntryIn (range_of range.now)) entries.entry found
+        × Gains G.gathers gathered.old gathered.new [] found) }
+{
+    for item in entries.skip_below(range.lo) {
+        if !range.reaches(item.key) {
+            return Ok(());
+        }
+        gathered.take(item)?;
+    }
+    Ok(())
+}
