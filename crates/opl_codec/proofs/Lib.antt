@@ -19,3 +19,4 @@ pub mod WriteText
 pub mod TextPieces
 pub mod TextNumbers
 pub mod TextTags
+pub mod Hexadecimal

@@ -8,3 +8,6 @@ pub mod Text
 pub mod Plain
 pub mod PieceReads
 pub mod internal
+pub mod Texts
+pub mod Values
+pub mod ValueFaults

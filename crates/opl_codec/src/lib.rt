@@ -7,6 +7,7 @@
 mod cause;
 mod change;
 mod coordinate;
+mod escape;
 mod fault;
 mod field_fault;
 mod fields_seen;
@@ -23,6 +24,7 @@ mod repeats;
 mod separator;
 mod tag_spelling;
 mod tags;
+mod value_fault;
 mod write_field;
 mod write_line;
 mod write_moment;

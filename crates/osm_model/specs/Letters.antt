@@ -42,6 +42,14 @@ user_letter = 117
 abbrev pub tags_letter : ℕ
 tags_letter = 84
 
+-- `N`
+abbrev pub nodes_letter : ℕ
+nodes_letter = 78
+
+-- `M`
+abbrev pub members_letter : ℕ
+members_letter = 77
+
 -- `x`
 abbrev pub longitude_letter : ℕ
 longitude_letter = 120
@@ -53,6 +61,10 @@ latitude_letter = 121
 -- `V` after `d`: the object is visible
 abbrev pub visible_mark : ℕ
 visible_mark = 86
+
+-- `D` after `d`: the object is deleted
+abbrev pub deleted_mark : ℕ
+deleted_mark = 68
 
 -- `T` between the day and the time of a moment, and `Z` at its end
 abbrev pub time_mark : ℕ
