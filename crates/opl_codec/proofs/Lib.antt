@@ -20,3 +20,4 @@ pub mod TextPieces
 pub mod TextNumbers
 pub mod TextTags
 pub mod Hexadecimal
+pub mod Blanks

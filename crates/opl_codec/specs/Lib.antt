@@ -11,3 +11,5 @@ pub mod internal
 pub mod Texts
 pub mod Values
 pub mod ValueFaults
+pub mod LineFields
+pub mod LineLetters

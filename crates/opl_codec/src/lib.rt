@@ -16,6 +16,8 @@ mod key_order;
 mod laws;
 mod letter;
 mod line;
+mod line_field;
+mod line_letter;
 mod load;
 mod loader;
 mod out_mode;
