@@ -9,3 +9,4 @@ pub mod Leading
 pub mod OneEdge
 pub mod EdgeOrder
 pub mod EdgeLaws
+pub mod FewBytes

@@ -1,24 +1,20 @@
--- How long escapes and texts with them are.
-use Rattle.std.proofs.Common.{◌≡◌, ◌↔◌, ℕ, ℤ, pos, negsuc, unsigned_abs, FitsSigned, nat_lt, zero, suc, ◌+◌, ◌-◌, ◌*◌, ◌/◌, ◌%◌, ◌^◌, ◌<◌, ◌≤◌, min, Option, Some, None, is_some, List, [], ◌∷◌, ◌++◌, length, get_or, drop, map, Bool, true, false, if◌then◌else◌, lit≤, refl, sym, ◌∙◌, ap, arith, length-append}
-use Rattle.std.proofs.lemmas.List.{at_drop_more}
+-- How long escapes, texts with them and fields are.
+use Rattle.std.proofs.Common.{◌≡◌, ◌↔◌, ℕ, ℤ, pos, negsuc, unsigned_abs, FitsSigned, nat_lt, zero, suc, ◌+◌, ◌-◌, ◌*◌, ◌/◌, ◌%◌, ◌^◌, ◌<◌, ◌≤◌, min, max, Option, Some, None, is_some, List, [], ◌∷◌, ◌++◌, length, get_or, drop, map, Bool, true, false, if◌then◌else◌, lit≤, refl, sym, ◌∙◌, ap, arith, length-append}
+use Rattle.std.proofs.lemmas.List.Sums.{sum_by-append, sum_by-cons, sum_by_push}
+use Rattle.std.proofs.lemmas.List.Concat.{length-flat_map}
 use Rattle.std.specs.Prelude.{flat_map}
-use Rattle.std.specs.List.{join_with_byte}
-use Rattle.std.specs.Str.{chars, chars_after, continuation_len, lead_bits}
-use Rattle.std.specs.Int.{w64}
-use Rattle.std.proofs.lemmas.Int.{ints}
-use Rattle.std.specs.Fmt.{decimal, signed_decimal}
-use Rattle.std.proofs.lemmas.Fmt.{length-decimal-le, length_signed_le}
-use Rattle.osm_model.specs.CanonicalDegrees.{degrees, decimals_of, with_point, is_negative}
-use Rattle.osm_model.specs.Degrees.{sign}
-use Rattle.osm_model.specs.Limits.{MetaInRange, BodyInRange}
-use Rattle.osm_model.proofs.Decimals.{short}
-use Rattle.osm_model.specs.internal.LineLength.{number_len, body_len, text_bytes}
+use Rattle.std.specs.List.{join_with_byte, sum_by}
+use Rattle.std.specs.Str.{chars}
+use Rattle.osm_model.specs.internal.LineLength.{spaced_len, spaced_one, tag_len, node_len, member_len}
+use Rattle.std.specs.Fmt.{signed_decimal}
+use Rattle.osm_model.specs.Bytes.{comma}
+use Rattle.osm_model.specs.Letters.{members_letter, nodes_letter, tags_letter}
 use Rattle.osm_model.specs.Moments.{Moment}
 use Rattle.osm_model.specs.declared.tag.Tag.{Tag}
-use Rattle.osm_model.specs.declared.meta.Meta.{Meta}
-use Rattle.osm_model.specs.declared.body.Body.{Body}
-use Rattle.osm_model.specs.declared.body.Body.TheVariants.{Node}
-use Rattle.osm_model.specs.CanonicalLine.{canonical_line, moment, tag_text, escaped, escaped_char, hex, hex_digits, hex_places, is_literal}
+use Rattle.osm_model.specs.declared.member.Member.{Member}
+use Rattle.osm_model.specs.declared.body.Body.TheVariants.{Way, Rel}
+use Rattle.osm_model.specs.Elements.{Element}
+use Rattle.osm_model.specs.CanonicalLine.{canonical_line, all_fields, name_field, meta_fields, tags_field, body_fields, tag_text, node_text, member_text, moment, escaped, escaped_char, hex, hex_digits, hex_places, is_literal}
 
 length_digits : (k n : ℕ) → length (hex_digits k n) ≡ k
 length_digits zero n = refl
@@ -36,155 +32,92 @@ by_case false c r e = omega (arith, e, length-append (37 ∷ hex c) (37 ∷ []),
 pub length_of_escape : (c r : ℕ) → r ≡ (if is_literal c then 1 else 2 + hex_places c) → r ≡ length (escaped_char c)
 length_of_escape c r e = by_case (is_literal c) c r e
 
--- how long characters are, each escaped
-abbrev pub total : List ℕ → ℕ
-total cs = length (flat_map escaped_char cs)
+-- how long a character is, escaped
+abbrev pub escape_len : ℕ → ℕ
+escape_len c = length (escaped_char c)
 
-pub total_is : (text : List ℕ) → length (escaped text) ≡ total (chars text)
+pub escaped_is : (text : List ℕ) → length (escaped text) ≡ sum_by escape_len (chars text)
 unfolding escaped
-total_is text = refl
+escaped_is text = length-flat_map escaped_char (chars text)
 
 -- one character more, in a sum that stays at its greatest
-pub total_step : (cs : List ℕ) (n c len more new m T : ℕ) → (n < length cs) × (c ≡ get_or cs n c) → m ≡ n + 1 → more ≡ length (escaped_char c) → new ≡ min (len + more) 18446744073709551615
-    → min (len + total (drop n cs)) 18446744073709551615 ≡ T → min (new + total (drop m cs)) 18446744073709551615 ≡ T
-total_step cs n c len more new m T at m_is more_is new_is was =
-    let split : total (drop n cs) ≡ length (escaped_char (get_or cs n c)) + total (drop (n + 1) cs) =
-    at_drop_more total cs n c at.0 ∙ length-append (escaped_char (get_or cs n c)) (flat_map escaped_char (drop (n + 1) cs)) in
-    let here : length (escaped_char (get_or cs n c)) ≡ more = sym (more_is ∙ ap (λ x. length (escaped_char x)) at.1) in
-    let rest : total (drop m cs) ≡ total (drop (n + 1) cs) = ap (λ k. total (drop k cs)) m_is in
+pub escape_step : (cs : List ℕ) (c len more new : ℕ) → more ≡ length (escaped_char c) → new ≡ min (len + more) 18446744073709551615
+    → len ≡ min (sum_by escape_len cs) 18446744073709551615 → new ≡ min (sum_by escape_len (cs ++ c ∷ [])) 18446744073709551615
+escape_step cs c len more new more_is new_is was = omega (arith, sum_by_push escape_len cs c)
+
+-- texts with a byte between each two have one byte less than they have with one after each
+pub joined_len : (b : ℕ) (text : List ℕ) (texts : List (List ℕ)) → length (join_with_byte b (text ∷ texts)) + 1 ≡ spaced_len (text ∷ texts)
+joined_len b text [] = omega arith
+joined_len b text (next ∷ texts) =
+    let rest = joined_len b next texts in
+    let joined = length-append text (b ∷ join_with_byte b (next ∷ texts)) in
+    omega (arith, rest, joined, sum_by-cons spaced_one text (next ∷ texts))
+
+mapped : {X : Type 0} (text : X → List ℕ) (xs : List X) → spaced_len (map text xs) ≡ sum_by (λ x. spaced_one (text x)) xs
+mapped text [] = refl
+mapped text (x ∷ xs) =
+    let rest = mapped text xs in
+    omega (arith, rest, sum_by-cons spaced_one (text x) (map text xs), sum_by-cons (λ y. spaced_one (text y)) x xs)
+
+-- a field that lists texts: its letter stands for the byte that the last text lacks
+pub list_field_len : {X : Type 0} (text : X → List ℕ) (xs : List X) (letter b : ℕ) → spaced_one (letter ∷ join_with_byte b (map text xs)) ≡ max (sum_by (λ x. spaced_one (text x)) xs) 1 + 1
+list_field_len text [] letter b = refl
+list_field_len text (x ∷ xs) letter b = omega (arith, joined_len b (text x) (map text xs), mapped text (x ∷ xs))
+
+-- the fields have one byte more than the line
+pub line_len : (o : Element) → length (canonical_line o) + 1 ≡ spaced_len (all_fields o)
+unfolding canonical_line
+line_len o = joined_len 32 (name_field o) (meta_fields o.meta ++ tags_field o.tags ∷ body_fields o.body)
+
+-- the field that lists a way's nodes
+pub way_field : (nodes : List ℤ) → spaced_len (body_fields (Way nodes)) ≡ max (sum_by node_len nodes) 1 + 1
+way_field nodes =
+    let field : spaced_one (nodes_letter ∷ join_with_byte comma (map node_text nodes)) ≡ max (sum_by node_len nodes) 1 + 1 = list_field_len node_text nodes nodes_letter comma in
+    sum_by-cons spaced_one (nodes_letter ∷ join_with_byte comma (map node_text nodes)) [] ∙ omega (arith, field)
+
+pub way_len : (nodes : List ℤ) (texts r : ℕ) → texts ≡ min (sum_by node_len nodes) 18446744073709551615 → r ≡ min (max texts 1 + 1) 18446744073709551615
+    → r ≡ min (spaced_len (body_fields (Way nodes))) 18446744073709551615
+way_len nodes texts r t e = omega (arith, way_field nodes)
+
+-- the field that lists a relation's members
+pub rel_field : (members : List Member) → spaced_len (body_fields (Rel members)) ≡ max (sum_by member_len members) 1 + 1
+rel_field members =
+    let field : spaced_one (members_letter ∷ join_with_byte comma (map member_text members)) ≡ max (sum_by member_len members) 1 + 1 = list_field_len member_text members members_letter comma in
+    sum_by-cons spaced_one (members_letter ∷ join_with_byte comma (map member_text members)) [] ∙ omega (arith, field)
+
+pub rel_len : (members : List Member) (texts r : ℕ) → texts ≡ min (sum_by member_len members) 18446744073709551615 → r ≡ min (max texts 1 + 1) 18446744073709551615
+    → r ≡ min (spaced_len (body_fields (Rel members))) 18446744073709551615
+rel_len members texts r t e = omega (arith, rel_field members)
+
+pub tags_field_len : (tags : List Tag) → spaced_one (tags_field tags) ≡ max (sum_by tag_len tags) 1 + 1
+tags_field_len tags = list_field_len tag_text tags tags_letter comma
+
+-- all fields, from their parts
+pub all_len : (o : Element) → spaced_len (all_fields o) ≡ spaced_one (name_field o) + spaced_len (meta_fields o.meta) + spaced_one (tags_field o.tags) + spaced_len (body_fields o.body)
+all_len o =
+    let split = sum_by-append spaced_one (name_field o ∷ meta_fields o.meta) (tags_field o.tags ∷ body_fields o.body) in
+    let name = sum_by-cons spaced_one (name_field o) (meta_fields o.meta) in
+    let tags = sum_by-cons spaced_one (tags_field o.tags) (body_fields o.body) in
+    split ∙ omega (arith, name, tags)
+
+-- the same in sums that stay at their greatest
+pub fields_len : (o : Element) (name meta texts tags body sum more r : ℕ) → name ≡ min (1 + length (signed_decimal o.id) + 1) 18446744073709551615
+    → meta ≡ min (spaced_len (meta_fields o.meta)) 18446744073709551615 → texts ≡ min (sum_by tag_len o.tags) 18446744073709551615 → tags ≡ min (max texts 1 + 1) 18446744073709551615
+    → body ≡ min (spaced_len (body_fields o.body)) 18446744073709551615
+    → sum ≡ min (name + meta) 18446744073709551615 → more ≡ min (sum + tags) 18446744073709551615 → r ≡ min (more + body) 18446744073709551615
+    → r ≡ min (spaced_len (all_fields o)) 18446744073709551615
+fields_len o name meta texts tags body sum more r n m t f b s u e =
+    let field = tags_field_len o.tags in
+    let letter : spaced_one (name_field o) ≡ 1 + length (signed_decimal o.id) + 1 = omega arith in
+    let all = all_len o in
     omega arith
 
--- tags, each with one byte more
-abbrev pub spaced : List Tag → ℕ
-spaced [] = 0
-spaced (tag ∷ tags) = 1 + length (tag_text tag) + spaced tags
-
-pub spaced_is : (tag : Tag) (tags : List Tag) → length (join_with_byte 44 (map tag_text (tag ∷ tags))) + 1 ≡ spaced (tag ∷ tags)
-spaced_is tag [] = omega arith
-spaced_is tag (next ∷ tags) =
-    let rest = spaced_is next tags in
-    omega (arith, rest, length-append (tag_text tag) (44 ∷ join_with_byte 44 (map tag_text (next ∷ tags))))
-
-pub spaced_of : (tags : List Tag) → 0 < length tags → length (join_with_byte 44 (map tag_text tags)) + 1 ≡ spaced tags
-spaced_of [] some = absurd (omega arith)
-spaced_of (tag ∷ tags) some = spaced_is tag tags
-
--- one tag more
-pub spaced_step : (tags : List Tag) (n : ℕ) (tag : Tag) (len more new T : ℕ) → n < length tags → tag ≡ get_or tags n tag → more ≡ min (length (tag_text tag)) 18446744073709551615
-    → new ≡ min (min (len + 1) 18446744073709551615 + more) 18446744073709551615
-    → min (len + spaced (drop n tags)) 18446744073709551615 ≡ T → min (new + spaced (drop (n + 1) tags)) 18446744073709551615 ≡ T
-spaced_step tags n tag len more new T lt at more_is new_is was =
-    let split : spaced (drop n tags) ≡ 1 + length (tag_text (get_or tags n tag)) + spaced (drop (n + 1) tags) = at_drop_more spaced tags n tag lt in
-    let here : length (tag_text tag) ≡ length (tag_text (get_or tags n tag)) = ap (λ (x : Tag). length (tag_text x)) at in
-    omega arith
+-- a line at its limit has one byte less than its fields
+pub at_limit : (line fields r : ℕ) → line + 1 ≡ fields → r ≡ min fields 18446744073709551615 → (r ≤ 16777217) ↔ (line ≤ 2 ^ 24)
+at_limit line fields r one sum = (λ h. omega arith, λ h. omega arith)
 
 -- a stamp has twenty bytes
-pub stamp_len : (stamp : Option Moment) → length (moment stamp) ≡ (if is_some stamp then 20 else 0)
+pub stamp_is : (stamp : Option Moment) → length (moment stamp) ≡ (if is_some stamp then 20 else 0)
 unfolding moment
-stamp_len None = refl
-stamp_len (Some m) = refl
-
-parts_len : (id : ℤ) (meta : Meta) (tags : List Tag) (body : Body) → length (canonical_line (record { id = id; meta = meta; tags = tags; body = body })) ≡ number_len id meta body + length (escaped meta.user) + (length (join_with_byte 44 (map tag_text tags)) + 1)
-unfolding canonical_line
-parts_len id meta tags (Node place) = simp length-append (omega arith)
-
--- the line, in parts
-pub line_is : (id : ℤ) (meta : Meta) (tags : List Tag) (body : Body) (numbers user tail texts : ℕ)
-    → numbers ≡ number_len id meta body → user ≡ min (length (escaped meta.user)) 18446744073709551615 → tail ≡ min (length (join_with_byte 44 (map tag_text tags)) + 1) 18446744073709551615
-    → texts ≡ min (user + tail) 18446744073709551615 → numbers ≤ 300
-    → (min (texts + numbers) 18446744073709551615 ≤ 16777216) ↔ (length (canonical_line (record { id = id; meta = meta; tags = tags; body = body })) ≤ 2 ^ 24)
-line_is id meta tags body numbers user tail texts n u t x small = let sum = parts_len id meta tags body in (λ h. omega arith, λ h. omega arith)
-
--- ---- few bytes make a short line
-
-after_le : (bs : List ℕ) (n c : ℕ) → length (chars_after n c bs) ≤ length bs + 1
-after_le [] zero c = omega arith
-after_le [] (suc n) c = omega arith
-after_le (b ∷ bs) zero c = let rest = after_le bs (continuation_len b) (lead_bits b) in omega arith
-after_le (b ∷ bs) (suc n) c = let rest = after_le bs n (c * 64 + (b - 128)) in omega arith
-
--- a text has no more characters than bytes
-chars_le : (bs : List ℕ) → length (chars bs) ≤ length bs
-unfolding chars
-chars_le [] = omega arith
-chars_le (b ∷ bs) = let rest = after_le bs (continuation_len b) (lead_bits b) in omega arith
-
-places_le : (a b c d : Bool) → (if a then 2 else if b then 3 else if c then 4 else if d then 5 else 6) ≤ 6
-places_le true b c d = lit≤ tt
-places_le false true c d = lit≤ tt
-places_le false false true d = lit≤ tt
-places_le false false false true = lit≤ tt
-places_le false false false false = lit≤ tt
-
-escape_le : (b : Bool) (c : ℕ) → length (if b then c ∷ [] else (37 ∷ hex c) ++ 37 ∷ []) ≤ 8
-escape_le true c = lit≤ tt
-escape_le false c =
-    let few = places_le (nat_lt c 256) (nat_lt c 4096) (nat_lt c 65536) (nat_lt c 1048576) in
-    omega (arith, few, length-append (37 ∷ hex c) (37 ∷ []), length_of_hex c)
-
-total_le : (cs : List ℕ) → total cs ≤ 8 * length cs
-total_le [] = omega arith
-total_le (c ∷ cs) =
-    let rest = total_le cs in
-    let here : length (escaped_char c) ≤ 8 = escape_le (is_literal c) c in
-    omega (arith, length-append (escaped_char c) (flat_map escaped_char cs))
-
--- escapes make a text at most eight times as long
-pub escaped_le : (text : List ℕ) → length (escaped text) ≤ 8 * length text
-escaped_le text = let all = total_le (chars text) in let few = chars_le text in omega (arith, total_is text)
-
-spaced_le : (tags : List Tag) → spaced tags ≤ 8 * text_bytes tags
-spaced_le [] = omega arith
-spaced_le (tag ∷ tags) =
-    let rest = spaced_le tags in
-    let key = escaped_le tag.key in
-    let value = escaped_le tag.value in
-    omega (arith, length-append (escaped tag.key) (61 ∷ escaped tag.value))
-
-tags_le : (tags : List Tag) → length (join_with_byte 44 (map tag_text tags)) ≤ 8 * text_bytes tags
-tags_le [] = omega arith
-tags_le (tag ∷ tags) = let all = spaced_le (tag ∷ tags) in omega (arith, spaced_is tag tags)
-
-signed_le : (z : ℤ) → FitsSigned w64 z → length (signed_decimal z) ≤ 20
-signed_le (pos n) fits = length_signed_le 19 (pos n) (omega (arith, ints, fits)) (omega (arith, ints, fits))
-signed_le (negsuc n) fits = length_signed_le 19 (negsuc n) (omega (arith, ints, fits)) (omega (arith, ints, fits))
-
-sign_le : (negative : Bool) → length (sign negative) ≤ 1
-sign_le true = lit≤ tt
-sign_le false = lit≤ tt
-
-point_le : (ds : List ℕ) (k : ℕ) → length ds ≤ k → length (with_point ds) ≤ k + 1
-point_le [] k h = omega arith
-point_le (d ∷ ds) k h = omega arith
-
-degrees_le : (z : ℤ) → unsigned_abs z ≤ 1800000000 → length (degrees z) ≤ 12
-unfolding degrees
-degrees_le z small =
-    let minus = sign_le (is_negative z) in
-    let whole = length-decimal-le 3 (unsigned_abs z / 10000000) (omega arith) (omega arith) (omega arith) in
-    let fraction = point_le (decimals_of 7 (unsigned_abs z % 10000000)) 7 (short 7 (unsigned_abs z % 10000000)) in
-    omega (arith, length-append (sign (is_negative z)) (decimal (unsigned_abs z / 10000000) ++ with_point (decimals_of 7 (unsigned_abs z % 10000000))), length-append (decimal (unsigned_abs z / 10000000)) (with_point (decimals_of 7 (unsigned_abs z % 10000000))))
-
-stamp_le : (stamp : Option Moment) → length (moment stamp) ≤ 20
-stamp_le None = omega (arith, stamp_len None)
-stamp_le (Some m) = omega (arith, stamp_len (Some m))
-
-body_le : (body : Body) → BodyInRange body → body_len body ≤ 24
-body_le (Node place) h = omega (arith, degrees_le place.lon h.lon, degrees_le place.lat (omega (arith, h.lat)))
-
--- few bytes of text make a short line
-pub few_make_short : (id : ℤ) (meta : Meta) (tags : List Tag) (body : Body) → FitsSigned w64 id → MetaInRange meta → BodyInRange body → length meta.user ≤ 1000000 → text_bytes tags ≤ 1000000
-    → length (canonical_line (record { id = id; meta = meta; tags = tags; body = body })) ≤ 2 ^ 24
-few_make_short id meta tags body fits ranges places user texts =
-    let version : length (decimal meta.version) ≤ 10 = length-decimal-le 10 meta.version (omega arith) (omega (arith, ranges.version)) (omega (arith, ranges.version)) in
-    omega (arith, parts_len id meta tags body, signed_le id fits, signed_le meta.changeset ranges.changeset, signed_le meta.uid ranges.uid, stamp_le meta.stamp, body_le body places, escaped_le meta.user, tags_le tags)
-
--- one tag more among the bytes
-pub bytes_step : (tags : List Tag) (n : ℕ) (tag : Tag) (bytes new T : ℕ) → n < length tags → tag ≡ get_or tags n tag
-    → new ≡ min (min (min (bytes + length tag.key) 18446744073709551615 + length tag.value) 18446744073709551615 + 2) 18446744073709551615
-    → min (bytes + text_bytes (drop n tags)) 18446744073709551615 ≡ T → min (new + text_bytes (drop (n + 1) tags)) 18446744073709551615 ≡ T
-bytes_step tags n tag bytes new T lt at new_is was =
-    let split : text_bytes (drop n tags) ≡ length (get_or tags n tag).key + length (get_or tags n tag).value + 2 + text_bytes (drop (n + 1) tags) = at_drop_more text_bytes tags n tag lt in
-    let key : length tag.key ≡ length (get_or tags n tag).key = ap (λ (x : Tag). length x.key) at in
-    let value : length tag.value ≡ length (get_or tags n tag).value = ap (λ (x : Tag). length x.value) at in
-    omega arith
+stamp_is None = refl
+stamp_is (Some m) = refl

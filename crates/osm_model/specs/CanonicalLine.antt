@@ -1,17 +1,19 @@
 -- The one canonical line of an object.
 -- Source: the fields and their letters are those of Osmium's OPL manual; their order and spelling are
 -- this project's.
-use Rattle.std.specs.Prelude.{ℕ, zero, suc, ◌+◌, ◌/◌, ◌%◌, ◌^◌, Bool, ◌==◌, ◌&&◌, ◌||◌, not, nat_le, nat_lt, if◌then◌else◌, List, [], ◌∷◌, ◌++◌, map, flat_map, Option, Some, None}
+use Rattle.std.specs.Prelude.{ℕ, ℤ, zero, suc, ◌+◌, ◌/◌, ◌%◌, ◌^◌, Bool, ◌==◌, ◌&&◌, ◌||◌, not, nat_le, nat_lt, if◌then◌else◌, List, [], ◌∷◌, ◌++◌, map, flat_map, Option, Some, None}
 use Rattle.std.specs.Fmt.{decimal, signed_decimal}
 use Rattle.std.specs.Str.{chars}
 use Rattle.std.specs.Char.{digit_char}
 use Rattle.std.specs.List.{join_with_byte}
 use Rattle.osm_model.specs.Bytes.{at_sign, colon, comma, digit_zero, equals_sign, exclamation_mark, hyphen, percent, space, tilde}
 use Rattle.osm_model.specs.CanonicalDegrees.{degrees}
-use Rattle.osm_model.specs.Letters.{changeset_letter, latitude_letter, longitude_letter, node_letter, relation_letter, stamp_letter, tags_letter, time_mark, uid_letter, user_letter, version_letter, visible_letter, visible_mark, way_letter, zone_mark}
+use Rattle.osm_model.specs.Letters.{changeset_letter, latitude_letter, longitude_letter, members_letter, node_letter, nodes_letter, relation_letter, stamp_letter, tags_letter, time_mark, uid_letter, user_letter, version_letter, visible_letter, visible_mark, way_letter, zone_mark}
 use Rattle.osm_model.specs.Moments.{Moment}
-use Rattle.osm_model.specs.Elements.{Element, kind_of}
+use Rattle.osm_model.specs.Elements.{Element, reference}
 use Rattle.osm_model.specs.declared.tag.Tag.{Tag}
+use Rattle.osm_model.specs.declared.member.Member.{Member}
+use Rattle.osm_model.specs.declared.reference.Ref.{Ref}
 use Rattle.osm_model.specs.declared.kind.Kind.{Kind}
 use Rattle.osm_model.specs.declared.kind.Kind.TheVariants as kinds
 use Rattle.osm_model.specs.declared.meta.Meta.{Meta}
@@ -68,9 +70,21 @@ moment (Some m) = four_digits m.year ++ (hyphen ∷ two_digits m.month) ++ (hyph
 abbrev pub tag_text : Tag → List ℕ
 tag_text tag = escaped tag.key ++ equals_sign ∷ escaped tag.value
 
+-- the letter of a kind, and an id
+abbrev pub reference_text : Ref → List ℕ
+reference_text r = kind_letter r.kind ∷ signed_decimal r.id
+
+-- a node in the list of a way
+abbrev pub node_text : ℤ → List ℕ
+node_text id = reference_text (record { kind = kinds.Node; id = id })
+
+-- a member: what it refers to, `@`, its role
+abbrev pub member_text : Member → List ℕ
+member_text member = reference_text member.target ++ at_sign ∷ escaped member.role
+
 -- the fields of a line, each with its letter
 abbrev pub name_field : Element → List ℕ
-name_field o = kind_letter (kind_of o.body) ∷ signed_decimal o.id
+name_field o = reference_text (reference o)
 
 abbrev pub meta_fields : Meta → List (List ℕ)
 meta_fields m =
@@ -87,7 +101,13 @@ tags_field tags = tags_letter ∷ join_with_byte comma (map tag_text tags)
 
 abbrev pub body_fields : Body → List (List ℕ)
 body_fields (bodies.Node place) = (longitude_letter ∷ degrees place.lon) ∷ (latitude_letter ∷ degrees place.lat) ∷ []
+body_fields (bodies.Way nodes) = (nodes_letter ∷ join_with_byte comma (map node_text nodes)) ∷ []
+body_fields (bodies.Rel members) = (members_letter ∷ join_with_byte comma (map member_text members)) ∷ []
+
+-- all fields of an object
+abbrev pub all_fields : Element → List (List ℕ)
+all_fields o = (name_field o ∷ meta_fields o.meta) ++ (tags_field o.tags ∷ body_fields o.body)
 
 -- the object's line with all its fields, without its end
 unfoldable pub canonical_line : Element → List ℕ
-canonical_line o = join_with_byte space ((name_field o ∷ meta_fields o.meta) ++ (tags_field o.tags ∷ body_fields o.body))
+canonical_line o = join_with_byte space (all_fields o)

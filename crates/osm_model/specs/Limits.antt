@@ -1,14 +1,16 @@
 -- What every object keeps, and what parts make no object.
 -- Source: the limits of numbers, texts and lists are this project's, within the OpenStreetMap API 0.6;
 -- the keys of an object's tags differ (API 0.6).
-use Rattle.std.specs.Prelude.{◌≡◌, ◌≢◌, ℕ, ◌<◌, ◌≤◌, ◌^◌, ◌⊎◌, ℤ, FitsSigned, List, length, All}
+use Rattle.std.specs.Prelude.{◌≡◌, ◌≢◌, ℕ, ◌<◌, ◌≤◌, ◌^◌, ◌⊎◌, ℤ, FitsSigned, List, length, All, MatchOption, ⊤}
 use Rattle.std.specs.Ordering.{eq_by_cmp, nat_cmp}
 use Rattle.std.specs.Int.{w64}
+use Rattle.std.specs.Str.{IsUtf8}
 use Rattle.std.specs.Cmp.Lexicographic.{slice_cmp}
 use Rattle.std.specs.List.{IsDistinct}
 use Rattle.std.specs.List.Sorted.{IsStrictlySortedBy, IsPermutation}
 use Rattle.osm_model.specs.Places.{IsPlace}
-use Rattle.osm_model.specs.Elements.{Element, keys}
+use Rattle.osm_model.specs.Moments.{IsMoment}
+use Rattle.osm_model.specs.Elements.{Element, keys, nodes_of, members_of}
 use Rattle.osm_model.specs.CanonicalLine.{canonical_line}
 use Rattle.osm_model.specs.declared.limits.TheConstants.{LINE_LIMIT, LIST_LIMIT, TEXT_LIMIT}
 use Rattle.osm_model.specs.declared.tag.Tag.{Tag}
@@ -28,23 +30,36 @@ HasNoNul text = All (λ byte. byte ≢ 0) text
 -- the numbers of a body are in their ranges
 abbrev pub BodyInRange : Body → Type 0
 BodyInRange (bodies.Node place) = IsPlace place
+BodyInRange (bodies.Way nodes) = All (λ id. FitsSigned w64 id) nodes
+BodyInRange (bodies.Rel members) = All (λ member. FitsSigned w64 member.target.id) members
 
--- the numbers of the metadata are in their types' ranges
+-- the numbers of the metadata are in their types' ranges, and the stamp is a moment
 pub record MetaInRange (meta : Meta) : Type 0 where
   pub version : meta.version < 2 ^ 32
   pub changeset : FitsSigned w64 meta.changeset
+  pub stamp : MatchOption meta.stamp ⊤ (λ moment. IsMoment moment)
   pub uid : FitsSigned w64 meta.uid
 
+-- this holds of each text of an object's parts: of the user, of keys and values, and of roles
+pub record EachText (holds : List ℕ → Type 0) (meta : Meta) (tags : List Tag) (body : Body) : Type 0 where
+  pub user : holds meta.user
+  pub in_tags : All (λ tag. holds tag.key × holds tag.value) tags
+  pub in_members : All (λ member. holds member.role) (members_of body)
+
 -- no text and no list is over its limit
-pub record Fits (meta : Meta) (tags : List Tag) : Type 0 where
-  pub short_user : IsShort meta.user
+pub record Fits (meta : Meta) (tags : List Tag) (body : Body) : Type 0 where
+  pub short : EachText IsShort meta tags body
   pub few_tags : length tags ≤ LIST_LIMIT
-  pub short_tags : All (λ tag. IsShort tag.key × IsShort tag.value) tags
+  pub few_nodes : length (nodes_of body) ≤ LIST_LIMIT
+  pub few_members : length (members_of body) ≤ LIST_LIMIT
 
 -- no text has a NUL
-pub record IsClean (meta : Meta) (tags : List Tag) : Type 0 where
-  pub clean_user : HasNoNul meta.user
-  pub clean_tags : All (λ tag. HasNoNul tag.key × HasNoNul tag.value) tags
+abbrev pub IsClean : Meta → List Tag → Body → Type 0
+IsClean meta tags body = EachText HasNoNul meta tags body
+
+-- each text is UTF-8
+abbrev pub AreUtf8 : Meta → List Tag → Body → Type 0
+AreUtf8 meta tags body = EachText IsUtf8 meta tags body
 
 -- no two tags have one key
 abbrev pub HasDistinctKeys : List Tag → Type 0
@@ -59,8 +74,9 @@ pub record IsElement (o : Element) : Type 0 where
   pub in_range : FitsSigned w64 o.id
   pub meta_in_range : MetaInRange o.meta
   pub body_in_range : BodyInRange o.body
-  pub fits : Fits o.meta o.tags
-  pub clean : IsClean o.meta o.tags
+  pub utf8 : AreUtf8 o.meta o.tags o.body
+  pub fits : Fits o.meta o.tags o.body
+  pub clean : IsClean o.meta o.tags o.body
   pub rising : HasRisingKeys o.tags
   pub short_line : length (canonical_line o) ≤ LINE_LIMIT
 
@@ -78,9 +94,9 @@ HasLongLine id meta tags body = (o : Element) × IsMadeOf o id meta tags body ×
 
 -- the first fault of these parts
 abbrev pub Refuses : ℤ → Meta → List Tag → Body → ModelFault → Type 0
-Refuses id meta tags body LimitPassed = (¬ (Fits meta tags)) ⊎ (IsClean meta tags × HasLongLine id meta tags body)
-Refuses id meta tags body NulInText = Fits meta tags × (¬ (IsClean meta tags))
-Refuses id meta tags body KeyTwice = Fits meta tags × IsClean meta tags × (¬ (HasDistinctKeys tags))
+Refuses id meta tags body LimitPassed = (¬ (Fits meta tags body)) ⊎ (IsClean meta tags body × HasLongLine id meta tags body)
+Refuses id meta tags body NulInText = Fits meta tags body × (¬ (IsClean meta tags body))
+Refuses id meta tags body KeyTwice = Fits meta tags body × IsClean meta tags body × (¬ (HasDistinctKeys tags))
 Refuses id meta tags body ObjectTwice = ⊥
 Refuses id meta tags body EmptyNumber = ⊥
 Refuses id meta tags body NotDecimal = ⊥

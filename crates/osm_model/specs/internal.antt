@@ -2,3 +2,4 @@
 pub mod EdgeUnits
 pub mod DecimalParts
 pub mod LineLength
+pub mod Comparisons

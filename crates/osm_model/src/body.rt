@@ -1,20 +1,54 @@
 //! What an object is made of, beside its tags.
 
+ghost use Rattle.std.specs.Prelude.{◌≡◌};
+ghost use Rattle.osm_model.specs.Elements.{nodes_of, members_of};
 ghost use Rattle.osm_model.specs.Limits.{BodyInRange};
 
 use crate::coord::Coord;
+use crate::member::{Member, note_targets};
+use crate::member_list::MemberList;
+use crate::node_list::{NodeList, note_ids};
 
-/// What is particular to an object's kind.
+/// What is particular to an object's kind (OpenStreetMap API 0.6).
 #[derive(Debug, Drop, PartialEq, Eq)]
 pub enum Body {
     /// Where a node lies.
     Node(Coord),
+    /// The nodes of a way, in its order.
+    Way(NodeList),
+    /// The members of a relation, in its order.
+    Rel(MemberList),
 }
 
-/// Brings to a proof that a body's location is in range. It does nothing else.
-pub fn note_place(body: &Body)
+/// The nodes that a body lists: none but a way's.
+pub fn nodes_of(body: &Body) -> &[i64]
+    ensures { result.now ≡ nodes_of body.now }
+{
+    match body {
+        Body::Way(nodes) => nodes.as_slice(),
+        _ => &[],
+    }
+}
+
+/// The members that a body lists: none but a relation's.
+pub fn members_of(body: &Body) -> &[Member]
+    ensures { result.now ≡ members_of body.now }
+{
+    match body {
+        Body::Rel(members) => members.as_slice(),
+        _ => &[],
+    }
+}
+
+/// Brings to a proof that the numbers of a body are in their ranges. It does nothing else.
+pub fn note_body(body: &Body)
     ensures { BodyInRange body.now }
 {
-    let Body::Node(place) = body;
-    let _ = place.lon();
+    match body {
+        Body::Node(place) => {
+            let _ = place.lon();
+        }
+        Body::Way(nodes) => note_ids(nodes.as_slice()),
+        Body::Rel(members) => note_targets(members.as_slice()),
+    }
 }

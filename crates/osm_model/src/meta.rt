@@ -22,11 +22,15 @@ pub struct Meta {
     pub user: Text,
 }
 
-/// Brings to a proof that the numbers of metadata are in the ranges of their types. It does nothing else.
+/// Brings to a proof that the numbers of metadata are in the ranges of their types, and that the stamp
+/// is a moment. It does nothing else.
 pub fn note_numbers(meta: &Meta)
     ensures { MetaInRange meta.now }
 {
     let _version = meta.version;
     let _changeset = meta.changeset;
     let _uid = meta.uid;
+    if let Some(stamp) = meta.stamp {
+        let _ = stamp.year();
+    }
 }

@@ -2,18 +2,20 @@
 
 ghost use Rattle.std.specs.Prelude.{◌≡◌, ◌≤◌, ◌↔◌, IsTrue, All, IfOk, IfErr};
 ghost use Rattle.osm_model.specs.Elements.{reference};
-ghost use Rattle.osm_model.specs.Limits.{IsShort, HasNoNul, Fits, IsClean, IsMadeOf, IsElement, Refuses};
+ghost use Rattle.osm_model.specs.Limits.{HasNoNul, Fits, IsClean, AreUtf8, IsMadeOf, IsElement, Refuses};
 
-use crate::body::{Body, note_place};
+use crate::body::{Body, members_of, nodes_of, note_body};
 use crate::fault::ModelFault;
 use crate::kind::Kind;
 use crate::limits::{LIST_LIMIT, TEXT_LIMIT};
 use crate::line_length::has_short_line;
-use crate::meta::Meta;
+use crate::member::{Member, note_roles};
+use crate::meta::{Meta, note_numbers};
 use crate::reference::Ref;
-use crate::tag::Tag;
+use crate::tag::{Tag, note_tags};
 use crate::tag_list::TagList;
 use crate::tag_order::{keys_rise, sort_tags};
+use crate::text::note_utf8;
 use std::marker::Model;
 
 /// An object: its id, metadata, tags by rising key, and what is particular to its kind.
@@ -57,10 +59,10 @@ impl Object {
         // Where there is a fault, nothing is made.
         ensures only { IfOk result (λ _. (fault : ModelFault) → Refuses id meta tags.items body fault → ⊥) }
     {
-        if !parts_fit(&meta, &tags) {
+        if !parts_fit(&meta, &tags, &body) {
             return Err(ModelFault::LimitPassed);
         }
-        if !parts_are_clean(&meta, &tags) {
+        if !parts_are_clean(&meta, &tags, &body) {
             return Err(ModelFault::NulInText);
         }
         let mut tags = tags;
@@ -71,7 +73,12 @@ impl Object {
         if !has_short_line(id, &meta, &tags, &body) {
             return Err(ModelFault::LimitPassed);
         }
-        note_place(&body);
+        // For the proof alone: the numbers of the metadata are in range, and the stamp is a moment.
+        note_numbers(&meta);
+        // For the proof alone: the numbers of the body are in range.
+        note_body(&body);
+        // For the proof alone: the texts are UTF-8.
+        note_texts(&meta, &tags, &body);
         Ok(Object {
             id,
             meta,
@@ -87,6 +94,8 @@ impl Object {
     {
         let kind = match &self.body {
             Body::Node(_) => Kind::Node,
+            Body::Way(_) => Kind::Way,
+            Body::Rel(_) => Kind::Rel,
         };
         Ref { kind, id: self.id }
     }
@@ -124,18 +133,25 @@ impl Object {
     }
 }
 
-fn parts_fit(meta: &Meta, tags: &[Tag]) -> bool
-    ensures { IsTrue result ↔ Fits meta.now tags.now }
+/// Whether each text and each list keeps its limit.
+fn parts_fit(meta: &Meta, tags: &[Tag], body: &Body) -> bool
+    ensures { IsTrue result ↔ Fits meta.now tags.now body.now }
 {
     meta.user.len() <= TEXT_LIMIT
         && tags.len() <= LIST_LIMIT
+        && nodes_of(body).len() <= LIST_LIMIT
+        && members_of(body).len() <= LIST_LIMIT
         && tags.iter().all(|tag| tag.key.len() <= TEXT_LIMIT && tag.value.len() <= TEXT_LIMIT)
+        && members_of(body)
+            .iter()
+            .all(|member| member.role.len() <= TEXT_LIMIT)
 }
 
-fn parts_are_clean(meta: &Meta, tags: &[Tag]) -> bool
-    ensures { IsTrue result ↔ IsClean meta.now tags.now }
+/// Whether no text has a NUL.
+fn parts_are_clean(meta: &Meta, tags: &[Tag], body: &Body) -> bool
+    ensures { IsTrue result ↔ IsClean meta.now tags.now body.now }
 {
-    has_no_nul(meta.user.as_bytes()) && tags_are_clean(tags)
+    has_no_nul(meta.user.as_bytes()) && tags_are_clean(tags) && roles_are_clean(members_of(body))
 }
 
 fn tags_are_clean(tags: &[Tag]) -> bool
@@ -144,9 +160,26 @@ fn tags_are_clean(tags: &[Tag]) -> bool
     tags.iter().all(|tag| has_no_nul(tag.key.as_bytes()) && has_no_nul(tag.value.as_bytes()))
 }
 
+fn roles_are_clean(members: &[Member]) -> bool
+    ensures { IsTrue result ↔ All (λ member. HasNoNul member.role) members.now }
+{
+    members
+        .iter()
+        .all(|member| has_no_nul(member.role.as_bytes()))
+}
+
 #[tactic(auto, unfolding(crate::specs::Limits::HasNoNul))]
 fn has_no_nul(text: &[u8]) -> bool
     ensures { IsTrue result ↔ HasNoNul text.now }
 {
     text.iter().all(|byte| *byte != 0)
+}
+
+/// Brings to a proof that each text is UTF-8. It does nothing else.
+fn note_texts(meta: &Meta, tags: &[Tag], body: &Body)
+    ensures { AreUtf8 meta.now tags.now body.now }
+{
+    note_utf8(&meta.user);
+    note_tags(tags);
+    note_roles(members_of(body));
 }

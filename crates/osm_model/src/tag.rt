@@ -1,6 +1,9 @@
 //! Tags.
 
-use crate::text::Text;
+ghost use Rattle.std.specs.Prelude.{All};
+ghost use Rattle.std.specs.Str.{IsUtf8};
+
+use crate::text::{Text, note_utf8};
 
 /// A tag: a key and its value. The keys of an object's tags differ (OpenStreetMap API 0.6).
 #[derive(Debug, Drop, PartialEq, Eq)]
@@ -9,4 +12,14 @@ pub struct Tag {
     pub key: Text,
     /// The value, which may be empty.
     pub value: Text,
+}
+
+/// Brings to a proof that the keys and values of tags are UTF-8. It does nothing else.
+pub fn note_tags(tags: &[Tag])
+    ensures { All (λ tag. IsUtf8 tag.key × IsUtf8 tag.value) tags.now }
+{
+    for tag in tags {
+        note_utf8(&tag.key);
+        note_utf8(&tag.value);
+    }
 }

@@ -3,6 +3,7 @@
 ghost use Rattle.std.specs.Prelude.{◌≡◌, Some, length, string_bytes, bytes_eq};
 ghost use Rattle.std.proofs.Common.{refl};
 ghost use Rattle.std.specs.Ordering.{nat_cmp};
+ghost use Rattle.std.specs.Str.{IsUtf8};
 ghost use Rattle.std.specs.Cmp.{partial_equiv_from_equiv};
 ghost use Rattle.std.specs.Cmp.Lexicographic.{slice_cmp, nat_list_eq_equiv, nat_list_cmp_total, texts_ties, texts_po};
 
@@ -92,4 +93,11 @@ impl Ord for Text {
     fn cmp(&self, other: &Text) -> Ordering {
         self.as_bytes().cmp(other.as_bytes())
     }
+}
+
+/// Brings to a proof that a text is UTF-8. It does nothing else.
+pub fn note_utf8(text: &Text)
+    ensures { IsUtf8 text.now }
+{
+    let _ = text.content.len();
 }

@@ -13,36 +13,39 @@ use Rattle.osm_model.specs.declared.meta.Meta.{Meta}
 use Rattle.osm_model.specs.declared.body.Body.{Body}
 use Rattle.osm_model.specs.Elements.{Element}
 use Rattle.osm_model.specs.CanonicalLine.{canonical_line}
-use Rattle.osm_model.specs.Limits.{IsElement, IsMadeOf, MetaInRange, BodyInRange, Fits, IsClean, HasDistinctKeys, Refuses, IsShort, HasNoNul}
+use Rattle.osm_model.specs.Limits.{IsElement, IsMadeOf, MetaInRange, BodyInRange, EachText, Fits, IsClean, AreUtf8, HasDistinctKeys, Refuses, IsShort, HasNoNul}
 use Rattle.osm_model.specs.declared.fault.ModelFault.{ModelFault}
 use Rattle.osm_model.specs.declared.fault.ModelFault.TheVariants.{EmptyNumber, NotDecimal, TooManyDecimals, OutOfRange, SouthAboveNorth, ObjectTwice, KeyTwice, LimitPassed, NulInText}
 use Rattle.osm_model.proofs.shared.UniqueTags.{same_order}
 use Rattle.osm_model.proofs.shared.RisingKeys.{Below, rising, rises_from_distinct}
 
-pub fits_sorted : (meta : Meta) (tags sorted : List Tag) → IsPermutation tags sorted → Fits meta tags → Fits meta sorted
-fits_sorted meta tags sorted p h = record {
-  short_user = h.short_user;
-  few_tags = omega (arith, h.few_tags, length_permutation tags sorted p);
-  short_tags = All-permutation (λ tag. IsShort tag.key × IsShort tag.value) tags sorted p h.short_tags;
+pub each_text_sorted : (holds : List ℕ → Type 0) (meta : Meta) (tags sorted : List Tag) (body : Body) → IsPermutation tags sorted → EachText holds meta tags body → EachText holds meta sorted body
+each_text_sorted holds meta tags sorted body p h = record {
+  user = h.user;
+  in_tags = All-permutation (λ (tag : Tag). holds tag.key × holds tag.value) tags sorted p h.in_tags;
+  in_members = h.in_members;
 }
 
-pub clean_sorted : (meta : Meta) (tags sorted : List Tag) → IsPermutation tags sorted → IsClean meta tags → IsClean meta sorted
-clean_sorted meta tags sorted p h = record {
-  clean_user = h.clean_user;
-  clean_tags = All-permutation (λ tag. HasNoNul tag.key × HasNoNul tag.value) tags sorted p h.clean_tags;
+pub fits_sorted : (meta : Meta) (tags sorted : List Tag) (body : Body) → IsPermutation tags sorted → Fits meta tags body → Fits meta sorted body
+fits_sorted meta tags sorted body p h = record {
+  short = each_text_sorted IsShort meta tags sorted body p h.short;
+  few_tags = omega (arith, h.few_tags, length_permutation tags sorted p);
+  few_nodes = h.few_nodes;
+  few_members = h.few_members;
 }
 
 -- tags whose neighbours rise make an object, within the limits
-pub element : (id : ℤ) (meta : Meta) (tags sorted : List Tag) (body : Body) → FitsSigned w64 id → MetaInRange meta → BodyInRange body → IsPermutation tags sorted → Fits meta tags → IsClean meta tags
+pub element : (id : ℤ) (meta : Meta) (tags sorted : List Tag) (body : Body) → FitsSigned w64 id → MetaInRange meta → BodyInRange body → IsPermutation tags sorted → AreUtf8 meta sorted body → Fits meta tags body → IsClean meta tags body
     → AllAdjacentBelow (Below (λ (tag : Tag). tag.key) (slice_cmp nat_cmp)) sorted (length sorted)
     → length (canonical_line (record { id = id; meta = meta; tags = sorted; body = body })) ≤ 2 ^ 24
     → IsElement (record { id = id; meta = meta; tags = sorted; body = body })
-element id meta tags sorted body in_range ranges places p fits clean up short = record {
+element id meta tags sorted body in_range ranges places p utf8 fits clean up short = record {
   in_range = in_range;
   meta_in_range = ranges;
   body_in_range = places;
-  fits = fits_sorted meta tags sorted p fits;
-  clean = clean_sorted meta tags sorted p clean;
+  utf8 = utf8;
+  fits = fits_sorted meta tags sorted body p fits;
+  clean = each_text_sorted HasNoNul meta tags sorted body p clean;
   rising = rising (λ (tag : Tag). tag.key) nat_list_cmp_total sorted up;
   short_line = short;
 }
@@ -55,32 +58,29 @@ twice tags sorted p up not differ =
     not (rises_from_distinct (λ (tag : Tag). tag.key) nat_list_cmp_total sorted up
     (IsDistinct-IsPermutation (eq_by_cmp (slice_cmp nat_cmp)) ((eq_by_cmp_equiv nat_list_cmp_total).symm) _ _ same differ))
 
+-- two objects with the same parts are one
+pub same_element : (a b : Element) → a.id ≡ b.id → a.meta ≡ b.meta → a.tags ≡ b.tags → a.body ≡ b.body → a ≡ b
+same_element a b p q r s =
+    let f : ℤ → Element = λ x. record { id = x; meta = a.meta; tags = a.tags; body = a.body } in
+    let g : Meta → Element = λ x. record { id = b.id; meta = x; tags = a.tags; body = a.body } in
+    let h : List Tag → Element = λ x. record { id = b.id; meta = b.meta; tags = x; body = a.body } in
+    let k : Body → Element = λ x. record { id = b.id; meta = b.meta; tags = b.tags; body = x } in
+    ap f p ∙ (ap g q ∙ (ap h r ∙ ap k s))
+
+subst2 : {X Y : Type 0} (P : X → Y → Type 0) {a b : X} {c d : Y} → a ≡ b → c ≡ d → P a c → P b d
+subst2 P {a} {b} {c} {d} p q h = subst (λ y. P b y) q (subst (λ x. P x c) p h)
+
 -- parts of which an object was made have no fault
 pub faultless : (o : Element) (id : ℤ) (meta : Meta) (tags : List Tag) (body : Body) → IsMadeOf o id meta tags body → IsElement o
     → (fault : ModelFault) → Refuses id meta tags body fault → ⊥
-faultless o id meta tags body made is LimitPassed (inl long) = long (record {
-  short_user = subst (λ (m : Meta). IsShort m.user) made.same_meta is.fits.short_user;
-  few_tags = omega (arith, is.fits.few_tags, length_permutation tags o.tags made.same_tags);
-  short_tags = All-permutation (λ tag. IsShort tag.key × IsShort tag.value) o.tags tags (IsPermutation-sym tags o.tags made.same_tags) is.fits.short_tags;
-})
+faultless o id meta tags body made is LimitPassed (inl long) = long (subst2 (λ m b. Fits m tags b) made.same_meta made.same_body (fits_sorted o.meta o.tags tags o.body (IsPermutation-sym tags o.tags made.same_tags) is.fits))
 faultless o id meta tags body made is LimitPassed (inr long) =
     let other = long.1.0 in
     let same : o.tags ≡ other.tags = same_order (λ (tag : Tag). tag.key) nat_list_cmp_total tags o.tags other.tags made.same_tags long.1.1.same_tags is.rising long.1.1.rising in
-    let line : canonical_line o ≡ canonical_line other = line_of o other (made.same_id ∙ sym long.1.1.same_id) (made.same_meta ∙ sym long.1.1.same_meta) same (made.same_body ∙ sym long.1.1.same_body) in
+    let line : canonical_line o ≡ canonical_line other = ap (λ x. canonical_line x) (same_element o other (made.same_id ∙ sym long.1.1.same_id) (made.same_meta ∙ sym long.1.1.same_meta) same (made.same_body ∙ sym long.1.1.same_body)) in
     omega (arith, is.short_line, long.1.2, ap (λ x. length x) line)
-  where
-    line_of : (a b : Element) → a.id ≡ b.id → a.meta ≡ b.meta → a.tags ≡ b.tags → a.body ≡ b.body → canonical_line a ≡ canonical_line b
-    line_of a b p q r s =
-        let f : ℤ → List ℕ = λ x. canonical_line (record { id = x; meta = a.meta; tags = a.tags; body = a.body }) in
-        let g : Meta → List ℕ = λ x. canonical_line (record { id = b.id; meta = x; tags = a.tags; body = a.body }) in
-        let h : List Tag → List ℕ = λ x. canonical_line (record { id = b.id; meta = b.meta; tags = x; body = a.body }) in
-        let k : Body → List ℕ = λ x. canonical_line (record { id = b.id; meta = b.meta; tags = b.tags; body = x }) in
-        ap f p ∙ (ap g q ∙ (ap h r ∙ ap k s))
-faultless o id meta tags body made is NulInText (fits, unclean) = unclean (record {
-  clean_user = subst (λ (m : Meta). HasNoNul m.user) made.same_meta is.clean.clean_user;
-  clean_tags = All-permutation (λ tag. HasNoNul tag.key × HasNoNul tag.value) o.tags tags (IsPermutation-sym tags o.tags made.same_tags) is.clean.clean_tags;
-})
-faultless o id meta tags body made is KeyTwice (fits, clean, twice) = twice
+faultless o id meta tags body made is NulInText (fits, unclean) = unclean (subst2 (λ m b. IsClean m tags b) made.same_meta made.same_body (each_text_sorted HasNoNul o.meta o.tags tags o.body (IsPermutation-sym tags o.tags made.same_tags) is.clean))
+faultless o id meta tags body made is KeyTwice (fits, clean, again) = again
     (IsDistinct-IsPermutation (eq_by_cmp (slice_cmp nat_cmp)) ((eq_by_cmp_equiv nat_list_cmp_total).symm) _ _
     (IsPermutation-map (λ (tag : Tag). tag.key) o.tags tags (IsPermutation-sym tags o.tags made.same_tags)) (IsDistinct-from_sorted (slice_cmp nat_cmp) (map (λ (tag : Tag). tag.key) o.tags) is.rising))
 faultless o id meta tags body made is SouthAboveNorth h = h

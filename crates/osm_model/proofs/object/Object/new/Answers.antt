@@ -6,7 +6,7 @@ use Rattle.std.proofs.lemmas.Cmp.{nat_list_cmp_total}
 use Rattle.osm_model.specs.declared.tag.Tag.{Tag}
 use Rattle.osm_model.specs.Elements.{Element}
 use Rattle.osm_model.specs.CanonicalLine.{canonical_line}
-use Rattle.osm_model.specs.Limits.{MetaInRange, IsMadeOf}
+use Rattle.osm_model.specs.Limits.{IsMadeOf}
 use Rattle.osm_model.proofs.shared.ObjectParts.{element, twice, faultless}
 use Rattle.osm_model.proofs.shared.RisingKeys.{rising}
 use Rattle.osm_model.proofs.object.Object.new.Goals as goal
@@ -37,8 +37,7 @@ returns-then-not-has_short_line-clause-refused c =
 
 pub invariant_of-result : goal.invariant_of-result
 invariant_of-result c =
-    let ranges : MetaInRange c.args.meta = record { version = search rules; changeset = search rules; uid = search rules } in
-    rw c.new.ensures (element _ _ _ _ _ (search rules) ranges c.note_place.ensures c.sort_tags.ensures.permutation
+    rw c.new.ensures (element _ _ _ _ _ (search rules) c.note_numbers.ensures c.note_body.ensures c.sort_tags.ensures.permutation (rw c.deref-5.ensures.value at c.note_texts.ensures)
     (rw c.deref.ensures.value at (c.if-not-parts_fit.ensures.0 refl)) (rw c.deref-2.ensures.value at (c.if-not-parts_are_clean.ensures.0 refl))
     (rw c.deref-3.ensures.value at (c.if-not-keys_rise.ensures.0 refl)) (rw c.deref-4.ensures.value at (c.if-not-has_short_line.ensures.0 refl)))
 

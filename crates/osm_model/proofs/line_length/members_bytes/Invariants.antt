@@ -1,0 +1,7 @@
+use Rattle.std.proofs.Common.{◌≡◌, min, take}
+use Rattle.std.specs.List.{sum_by}
+use Rattle.osm_model.specs.internal.LineLength.{member_bytes}
+use Rattle.osm_model.proofs.line_length.members_bytes.Given as goal
+
+abbrev pub invariant-loop-member : goal.invariant-loop-member
+invariant-loop-member l = l.bytes ≡ min (sum_by member_bytes (take l.member-index l.members)) 18446744073709551615
