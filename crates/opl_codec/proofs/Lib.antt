@@ -14,7 +14,7 @@ pub mod PieceLemmas
 pub mod EachLemmas
 pub mod LoadLemmas
 pub mod WriteSteps
-pub mod WriteTags
+pub mod WriteLists
 pub mod WriteText
 pub mod TextPieces
 pub mod TextNumbers

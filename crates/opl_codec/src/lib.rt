@@ -27,9 +27,11 @@ mod separator;
 mod tag_spelling;
 mod tags;
 mod value_fault;
+mod write_body;
 mod write_field;
 mod write_line;
 mod write_moment;
+mod write_reference;
 mod write_text;
 
 pub use cause::OplCause;
