@@ -20,3 +20,5 @@ pub mod TextPieces
 pub mod TextNumbers
 pub mod TextTags
 pub mod Hexadecimal
+pub mod TextsParts
+pub mod TextsJoined

@@ -24,6 +24,7 @@ mod repeats;
 mod separator;
 mod tag_spelling;
 mod tags;
+mod text_len;
 mod value_fault;
 mod write_field;
 mod write_line;
