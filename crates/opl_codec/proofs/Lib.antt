@@ -22,3 +22,4 @@ pub mod TextTags
 pub mod Hexadecimal
 pub mod TextsParts
 pub mod TextsJoined
+pub mod TextsMade
