@@ -21,3 +21,6 @@ pub mod TextNumbers
 pub mod TextTags
 pub mod Hexadecimal
 pub mod Blanks
+pub mod TextsParts
+pub mod TextsJoined
+pub mod TextsMade
