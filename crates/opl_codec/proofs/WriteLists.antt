@@ -1,5 +1,5 @@
 -- A field that is a list, written item by item.
-use Rattle.std.proofs.Common.{◌≡◌, ℕ, zero, suc, ◌+◌, ◌<◌, ◌≤◌, List, [], ◌∷◌, ◌++◌, length, take, get_or, map, flat_map, sym, ◌∙◌, ap, arith, append_assoc, append-nil}
+use Rattle.std.proofs.Common.{◌≡◌, ℕ, zero, suc, ◌+◌, ◌<◌, ◌≤◌, List, [], ◌∷◌, ◌++◌, length, take, get_or, map, flat_map, sym, ◌∙◌, ap, arith, append_assoc, append-nil, add-one}
 use Rattle.std.specs.List.{join_with_byte}
 use Rattle.std.proofs.lemmas.List.{take_all}
 use Rattle.osm_model.specs.Bytes.{comma, space}
@@ -15,16 +15,15 @@ list_written letter item all others first old mid out n split begun written end 
     ∙ (append_assoc old (space ∷ letter ∷ item first) after
     ∙ ap (λ text. old ++ (space ∷ letter ∷ text)) (sym (join_with_byte-map comma item first others) ∙ ap (λ xs. join_with_byte comma (map item xs)) (sym split)))))
 
--- one item more
-pub item_more : {X : Type 0} (item : X → List ℕ) (xs : List X) (n : ℕ) (d : X) → n < length xs → flat_map (λ x. comma ∷ item x) (take (n + 1) xs) ≡ flat_map (λ x. comma ∷ item x) (take n xs) ++ comma ∷ item (get_or xs n d)
+item_more : {X : Type 0} (item : X → List ℕ) (xs : List X) (n : ℕ) (d : X) → n < length xs → flat_map (λ x. comma ∷ item x) (take (suc n) xs) ≡ flat_map (λ x. comma ∷ item x) (take n xs) ++ comma ∷ item (get_or xs n d)
 item_more item [] n d lt = absurd (omega arith)
 item_more item (x ∷ xs) zero d lt = append-nil (comma ∷ item x)
 item_more item (x ∷ xs) (suc n) d lt = ap (λ rest. (comma ∷ item x) ++ rest) (item_more item xs n d (omega arith)) ∙ sym (append_assoc (comma ∷ item x) (flat_map (λ y. comma ∷ item y) (take n xs)) (comma ∷ item (get_or xs n d)))
 
--- and what was written before it
+-- one item more, and what was written before it
 pub written_more : {X : Type 0} (item : X → List ℕ) (xs : List X) (n : ℕ) (d : X) (old mid put new : List ℕ) → n < length xs → mid ≡ old ++ flat_map (λ x. comma ∷ item x) (take n xs) → put ≡ mid ++ comma ∷ [] → new ≡ put ++ item (get_or xs n d)
     → new ≡ old ++ flat_map (λ x. comma ∷ item x) (take (n + 1) xs)
 written_more item xs n d old mid put new lt before comma_put item_put =
     item_put ∙ (ap (λ bytes. bytes ++ item (get_or xs n d)) comma_put ∙ (append_assoc mid (comma ∷ []) (item (get_or xs n d))
     ∙ (ap (λ bytes. bytes ++ comma ∷ item (get_or xs n d)) before ∙ (append_assoc old (flat_map (λ x. comma ∷ item x) (take n xs)) (comma ∷ item (get_or xs n d))
-    ∙ ap (λ bytes. old ++ bytes) (sym (item_more item xs n d lt))))))
+    ∙ ap (λ bytes. old ++ bytes) (rw add-one (sym (item_more item xs n d lt)))))))

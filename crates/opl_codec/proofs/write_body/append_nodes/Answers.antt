@@ -1,4 +1,5 @@
-use Rattle.std.proofs.Common.{◌≡◌, ◌++◌, [], ◌∷◌, take, flat_map, rules, append_assoc}
+use Rattle.std.proofs.Common.{◌≡◌, ◌++◌, [], ◌∷◌, take, flat_map, pos, get_or, FitsSigned, to_z-of_z, rules, append_assoc}
+use Rattle.std.specs.Int.{w64}
 use Rattle.osm_model.specs.CanonicalLine.{node_text}
 use Rattle.osm_model.specs.Letters.{nodes_letter}
 use Rattle.opl_codec.proofs.WriteSteps.{front_kept}
@@ -17,4 +18,7 @@ returns-clause-ok c =
     list_written nodes_letter node_text _ _ c.in-Some.first.now _ _ _ c.loop-node.node-index c.in-Some.ensures.cases.0 begun c.loop-node.invariant c.loop-node-test.false
 
 pub loop-node-preserved : goal.loop-node-preserved
-loop-node-preserved c = written_more node_text c.in-Some.others.now c.loop-node.node-index _ _ c.loop-node.out.items c.push.new.self.items _ c.loop-node-test.true c.loop-node.invariant (search rules) c.in_ok-append_node-2.ensures.ok
+loop-node-preserved c =
+    let small : FitsSigned w64 (get_or c.in-Some.others.now c.loop-node.node-index (pos 0)) = search rules in
+    let put : c.append_node-in-loop-node.new.out.items ≡ c.push.new.self.items ++ node_text (get_or c.in-Some.others.now c.loop-node.node-index (pos 0)) = simp (to_z-of_z small) at c.in_ok-append_node-2.ensures.ok in
+    written_more node_text c.in-Some.others.now c.loop-node.node-index (pos 0) _ c.loop-node.out.items c.push.new.self.items _ c.loop-node-test.true c.loop-node.invariant (search rules) put
