@@ -1,5 +1,5 @@
 -- Few bytes of text make a short line.
-use Rattle.std.proofs.Common.{◌≡◌, ℕ, ℤ, pos, negsuc, unsigned_abs, FitsSigned, nat_lt, zero, suc, ◌+◌, ◌-◌, ◌*◌, ◌/◌, ◌%◌, ◌^◌, ◌<◌, ◌≤◌, Option, Some, None, All, List, [], ◌∷◌, ◌++◌, length, Bool, true, false, if◌then◌else◌, lit≤, arith, length-append}
+use Rattle.std.proofs.Common.{◌≡◌, ℕ, ℤ, pos, negsuc, unsigned_abs, FitsSigned, nat_lt, zero, suc, ◌+◌, ◌-◌, ◌*◌, ◌/◌, ◌%◌, ◌^◌, ◌≤◌, Option, Some, None, All, List, [], ◌∷◌, ◌++◌, length, Bool, true, false, if◌then◌else◌, lit≤, arith, length-append}
 use Rattle.std.specs.Bool.{⊤}
 use Rattle.std.specs.Int.{w64}
 use Rattle.std.specs.List.{sum_by}
@@ -14,7 +14,7 @@ use Rattle.osm_model.specs.Degrees.{sign}
 use Rattle.osm_model.specs.Limits.{MetaInRange, BodyInRange}
 use Rattle.osm_model.specs.Moments.{Moment}
 use Rattle.osm_model.specs.Elements.{Element, members_of, nodes_of}
-use Rattle.osm_model.specs.CanonicalLine.{canonical_line, moment, escaped, escaped_char, hex, is_literal, meta_fields, body_fields}
+use Rattle.osm_model.specs.CanonicalLine.{canonical_line, moment, escaped, hex, is_literal, meta_fields, body_fields}
 use Rattle.osm_model.specs.internal.LineLength.{spaced_len, text_bytes, tag_bytes, member_bytes, tag_len, node_len, member_len}
 use Rattle.osm_model.specs.declared.tag.Tag.{Tag}
 use Rattle.osm_model.specs.declared.member.Member.{Member}

@@ -4,6 +4,7 @@ ghost use Rattle.std.specs.Prelude.{◌≡◌, ◌≤◌, ◌<◌, ◌*◌, ◌^
 ghost use Rattle.std.specs.Char.{digit_value};
 ghost use Rattle.std.specs.Str.Parse.{AllDigits, digits_value};
 ghost use Rattle.std.specs.Ordering.{nat_cmp};
+ghost use Rattle.osm_model.specs.Bytes.{digit_zero};
 ghost use Rattle.osm_model.specs.Degrees.{IsDecimal};
 ghost use Rattle.osm_model.specs.internal.DecimalParts.{decimal_of};
 ghost use Rattle.osm_model.specs.Edges.{size, scale};
@@ -45,7 +46,7 @@ fn compare_fractions(first: &[u8], second: &[u8]) -> Ordering
 /// The value of a digit, or 0 after the last.
 fn digit_at(digits: &[u8], place: usize) -> u64
     requires { AllDigits 10 digits.now }
-    ensures { result ≡ digit_value (get_or digits.now place 48) }
+    ensures { result ≡ digit_value (get_or digits.now place digit_zero) }
 {
     match digits.get(place) {
         Some(byte) => digit(*byte),

@@ -1,9 +1,9 @@
 //! Rows of degrees, edges, boxes, moments, objects and sets.
 
 use crate::{
-    Axis, Body, BoxArea, Coord, Edge, Kind, Meta, ModelFault, Object, ObjectSet, Ref, Stamp, Tag,
-    TagList, Text, digits_len, hex_places, is_literal, keys_rise, read_degrees, sort_tags,
-    write_degrees,
+    Axis, Body, BoxArea, Coord, Edge, Kind, Member, MemberList, Meta, ModelFault, NodeList, Object,
+    ObjectSet, Ref, Stamp, Tag, TagList, Text, digits_len, hex_places, is_literal, keys_rise,
+    read_degrees, sort_tags, write_degrees,
 };
 use std::alloc::Global;
 use std::test::Fail;
@@ -12,9 +12,14 @@ fn text(alloc: Global, content: &str) -> Result<Text, Fail> {
     Ok(Text::new(String::from_str(alloc, content)?))
 }
 
-fn no_meta(alloc: Global) -> Meta {
+/// The same text so many times.
+fn long_text(alloc: Global, content: &str, times: usize) -> Result<Text, Fail> {
+    Ok(Text::new(content.repeat(alloc, times)?))
+}
+
+fn meta(alloc: Global, version: u32) -> Meta {
     Meta {
-        version: 0,
+        version,
         changeset: 0,
         stamp: None,
         uid: 0,
@@ -29,10 +34,61 @@ fn tag(alloc: Global, key: &str, value: &str) -> Result<Tag, Fail> {
     })
 }
 
+fn member(alloc: Global, node: i64, role: &str) -> Result<Member, Fail> {
+    let target = Ref {
+        kind: Kind::Node,
+        id: node,
+    };
+    Ok(Member {
+        target,
+        role: text(alloc, role)?,
+    })
+}
+
+/// A location, a way that comes to the node twice, or a relation with one member.
+fn body(alloc: Global, kind: Kind, node: i64, role: &str) -> Result<Body, Fail> {
+    Ok(match kind {
+        Kind::Node => Body::Node(Coord::new(134_000_000, 525_000_000)),
+        Kind::Way => Body::Way(NodeList::new(vec![in alloc; node, -1, node]?)),
+        Kind::Rel => Body::Rel(MemberList::new(vec![in alloc; member(alloc, node, role)?]?)),
+    })
+}
+
+/// What differs between the objects of these tests.
+#[derive(Clone, Copy)]
+struct Parts {
+    kind: Kind,
+    id: i64,
+    version: u32,
+    value: &'static str,
+    node: i64,
+    role: &'static str,
+}
+
+const RELATION: Parts = Parts {
+    kind: Kind::Rel,
+    id: 1,
+    version: 3,
+    value: "2",
+    node: 7,
+    role: "stop",
+};
+
+fn object(alloc: Global, parts: Parts) -> Result<Object, Fail> {
+    let tags = vec![in alloc; tag(alloc, "b", "1")?, tag(alloc, "a", parts.value)?]?;
+    let body = body(alloc, parts.kind, parts.node, parts.role)?;
+    Ok(Object::new(parts.id, meta(alloc, parts.version), tags, body)?)
+}
+
 fn node(alloc: Global, id: i64) -> Result<Object, Fail> {
-    let tags = vec![in alloc; tag(alloc, "b", "1")?, tag(alloc, "a", "2")?]?;
-    let body = Body::Node(Coord::new(134_000_000, 525_000_000));
-    Ok(Object::new(id, no_meta(alloc), tags, body)?)
+    object(
+        alloc,
+        Parts {
+            kind: Kind::Node,
+            id,
+            ..RELATION
+        },
+    )
 }
 
 #[test]
@@ -180,10 +236,10 @@ fn box_of<'a>(
     BoxArea::new(south, west, north, east)
 }
 
+/// Within exact edges, and across the 180th meridian.
 #[test]
-fn boxes_hold_by_exact_edges(rt: HostRuntime) -> Result<(), Fail> {
-    let area = box_of("52.49999999999", "13.40000004", "52.6", "13.5")?;
-    let rows = [
+fn boxes_hold_places(rt: HostRuntime) -> Result<(), Fail> {
+    let exact = [
         (Coord::new(134_000_001, 525_000_000), true),
         (Coord::new(134_000_000, 525_000_000), false),
         (Coord::new(134_000_001, 524_999_999), false),
@@ -191,16 +247,7 @@ fn boxes_hold_by_exact_edges(rt: HostRuntime) -> Result<(), Fail> {
         (Coord::new(135_000_001, 526_000_000), false),
         (Coord::new(135_000_000, 526_000_001), false),
     ];
-    for (place, holds) in rows {
-        assert_eq!(rt; area.holds(place), holds, "at {place:?}");
-    }
-    Ok(())
-}
-
-#[test]
-fn boxes_cross_the_180th_meridian(rt: HostRuntime) -> Result<(), Fail> {
-    let area = box_of("-1", "179", "1", "-179")?;
-    let rows = [
+    let crossing = [
         (Coord::new(1_800_000_000, 0), true),
         (Coord::new(-1_800_000_000, 0), true),
         (Coord::new(1_790_000_000, 0), true),
@@ -208,8 +255,17 @@ fn boxes_cross_the_180th_meridian(rt: HostRuntime) -> Result<(), Fail> {
         (Coord::new(0, 0), false),
         (Coord::new(1_800_000_000, 10_000_001), false),
     ];
-    for (place, holds) in rows {
-        assert_eq!(rt; area.holds(place), holds, "at {place:?}");
+    let boxes = [
+        (
+            box_of("52.49999999999", "13.40000004", "52.6", "13.5")?,
+            exact,
+        ),
+        (box_of("-1", "179", "1", "-179")?, crossing),
+    ];
+    for (area, rows) in boxes {
+        for (place, holds) in rows {
+            assert_eq!(rt; area.holds(place), holds, "at {place:?}");
+        }
     }
     Ok(())
 }
@@ -258,16 +314,184 @@ fn moments_keep_their_ranges(rt: HostRuntime) {
 #[test]
 fn an_object_gives_its_parts(rt: HostRuntime) -> Result<(), Fail> {
     let alloc = rt.alloc();
-    let object = node(alloc, -5)?;
-    assert_eq!(rt; object.id(), -5);
-    assert_eq!(rt; object.reference().kind, Kind::Node);
-    assert_eq!(rt; object.meta().changeset, 0);
-    let Body::Node(place) = object.body();
-    assert_eq!(rt; (place.lon(), place.lat()), (134_000_000, 525_000_000));
-    assert_eq!(rt; object.tags().len(), 2);
-    assert_eq!(rt; object.tags()[0].key.as_str(), "a");
-    assert!(rt; object == node(alloc, -5)?);
-    assert!(rt; object != node(alloc, 5)?);
+    for kind in [Kind::Node, Kind::Way, Kind::Rel] {
+        let object = object(alloc, Parts { kind, ..RELATION })?;
+        let reference = object.reference();
+        assert_eq!(rt; (reference.kind, reference.id), (kind, object.id()));
+        assert_eq!(rt; object.meta().version, 3);
+        let keys: [Option<&str>; 1] = [object.tags().first().map(|tag| tag.key.as_str())];
+        assert_eq!(rt; keys[0], Some("a"));
+        let listed = match object.body() {
+            Body::Node(place) => usize::from(place.lon() == 134_000_000),
+            Body::Way(nodes) => nodes.as_slice().len(),
+            Body::Rel(members) => members.as_slice().len(),
+        };
+        assert_eq!(rt; listed, if kind == Kind::Way { 3 } else { 1 });
+    }
+    Ok(())
+}
+
+#[test]
+fn objects_are_equal_part_by_part(rt: HostRuntime) -> Result<(), Fail> {
+    let alloc = rt.alloc();
+    let way = Parts {
+        kind: Kind::Way,
+        ..RELATION
+    };
+    let rows = [
+        (RELATION, RELATION, true),
+        (RELATION, Parts { id: 2, ..RELATION }, false),
+        (
+            RELATION,
+            Parts {
+                version: 4,
+                ..RELATION
+            },
+            false,
+        ),
+        (
+            RELATION,
+            Parts {
+                value: "3",
+                ..RELATION
+            },
+            false,
+        ),
+        (
+            RELATION,
+            Parts {
+                node: 8,
+                ..RELATION
+            },
+            false,
+        ),
+        (
+            RELATION,
+            Parts {
+                role: "gate",
+                ..RELATION
+            },
+            false,
+        ),
+        (RELATION, way, false),
+        (way, way, true),
+        (way, Parts { node: 8, ..way }, false),
+    ];
+    for (first, second, wanted) in rows {
+        assert_eq!(rt; object(alloc, first)? == object(alloc, second)?, wanted);
+    }
+    Ok(())
+}
+
+/// A way of so many nodes, or a relation of so many members with a role of so many letters.
+fn long_body(
+    alloc: Global,
+    kind: Kind,
+    items: usize,
+    letter: &str,
+    len: usize,
+) -> Result<Body, Fail> {
+    let mut nodes = Vec::new(alloc);
+    let mut members = Vec::new(alloc);
+    for _ in 0..items {
+        if kind == Kind::Way {
+            nodes.push(7)?;
+        } else {
+            let mut member = member(alloc, 7, "")?;
+            member.role = long_text(alloc, letter, len)?;
+            members.push(member)?;
+        }
+    }
+    if kind == Kind::Way {
+        return Ok(Body::Way(NodeList::new(nodes)));
+    }
+    Ok(Body::Rel(MemberList::new(members)))
+}
+
+/// The limits, and the order of the refusals. The line of 65,535 members `n7@` with a role of 63
+/// spaces, four bytes each, has 2^24 bytes with a value of 229.
+#[test]
+fn limits_are_kept(rt: HostRuntime) -> Result<(), Fail> {
+    let alloc = rt.alloc();
+    let rows = [
+        (Kind::Way, 65_535, "", 0, "b", 1, None),
+        (
+            Kind::Way,
+            65_536,
+            "",
+            0,
+            "b",
+            1,
+            Some(ModelFault::LimitPassed),
+        ),
+        (Kind::Rel, 65_535, "x", 1, "b", 1, None),
+        (
+            Kind::Rel,
+            65_536,
+            "x",
+            1,
+            "b",
+            1,
+            Some(ModelFault::LimitPassed),
+        ),
+        (Kind::Rel, 1, "x", 4_096, "b", 4_096, None),
+        (
+            Kind::Rel,
+            1,
+            "x",
+            4_097,
+            "b",
+            1,
+            Some(ModelFault::LimitPassed),
+        ),
+        (
+            Kind::Rel,
+            1,
+            "x",
+            1,
+            "b",
+            4_097,
+            Some(ModelFault::LimitPassed),
+        ),
+        (
+            Kind::Rel,
+            1,
+            "\0",
+            4_097,
+            "a",
+            1,
+            Some(ModelFault::LimitPassed),
+        ),
+        (Kind::Rel, 1, "\0", 1, "a", 1, Some(ModelFault::NulInText)),
+        (Kind::Rel, 1, "x", 1, "a", 1, Some(ModelFault::KeyTwice)),
+        (Kind::Rel, 65_535, " ", 63, "b", 229, None),
+        (
+            Kind::Rel,
+            65_535,
+            " ",
+            63,
+            "b",
+            230,
+            Some(ModelFault::LimitPassed),
+        ),
+        (
+            Kind::Rel,
+            65_535,
+            " ",
+            63,
+            "a",
+            230,
+            Some(ModelFault::KeyTwice),
+        ),
+    ];
+    for (kind, items, letter, len, key, value_len, wanted) in rows {
+        let mut second = tag(alloc, key, "")?;
+        second.value = long_text(alloc, "x", value_len)?;
+        let tags = vec![in alloc; tag(alloc, "a", "1")?, second]?;
+        let body = long_body(alloc, kind, items, letter, len)?;
+        let fault = Object::new(1, meta(alloc, 0), tags, body).err();
+        assert_eq!(rt; fault, wanted, "{kind:?} {items} {len} {value_len}");
+    }
     Ok(())
 }
 

@@ -1,5 +1,5 @@
 -- What makes an object of its parts.
-use Rattle.std.proofs.Common.{◌≡◌, ℕ, ◌≤◌, ℤ, ◌^◌, List, length, map, sym, ◌∙◌, ap, subst, inl, inr, arith, FitsSigned}
+use Rattle.std.proofs.Common.{◌≡◌, ℕ, ◌≤◌, ℤ, Option, ◌^◌, List, length, map, sym, ◌∙◌, ap, subst, inl, inr, arith, FitsSigned}
 use Rattle.std.specs.Int.{w64}
 use Rattle.std.specs.Ordering.{eq_by_cmp, nat_cmp}
 use Rattle.std.specs.Cmp.Lexicographic.{slice_cmp}
@@ -8,6 +8,7 @@ use Rattle.std.specs.List.Sorted.{IsPermutation, IsSortedByKey}
 use Rattle.std.proofs.lemmas.Cmp.{nat_list_cmp_total, eq_by_cmp_equiv}
 use Rattle.std.proofs.lemmas.List.Sorted.{IsPermutation-map, IsPermutation-sym, All-permutation, length_permutation}
 use Rattle.std.proofs.lemmas.Map.Keys.{IsDistinct-IsPermutation, IsDistinct-from_sorted}
+use Rattle.osm_model.specs.Moments.{Moment}
 use Rattle.osm_model.specs.declared.tag.Tag.{Tag}
 use Rattle.osm_model.specs.declared.meta.Meta.{Meta}
 use Rattle.osm_model.specs.declared.body.Body.{Body}
@@ -89,3 +90,13 @@ faultless o id meta tags body made is EmptyNumber h = h
 faultless o id meta tags body made is NotDecimal h = h
 faultless o id meta tags body made is TooManyDecimals h = h
 faultless o id meta tags body made is OutOfRange h = h
+
+-- metadata with the same parts is one
+pub same_meta : (a b : Meta) → a.version ≡ b.version → a.changeset ≡ b.changeset → a.stamp ≡ b.stamp → a.uid ≡ b.uid → a.user ≡ b.user → a ≡ b
+same_meta a b p q r s t =
+    let f : ℕ → Meta = λ x. record { version = x; changeset = a.changeset; stamp = a.stamp; uid = a.uid; user = a.user } in
+    let g : ℤ → Meta = λ x. record { version = b.version; changeset = x; stamp = a.stamp; uid = a.uid; user = a.user } in
+    let h : Option Moment → Meta = λ x. record { version = b.version; changeset = b.changeset; stamp = x; uid = a.uid; user = a.user } in
+    let k : ℤ → Meta = λ x. record { version = b.version; changeset = b.changeset; stamp = b.stamp; uid = x; user = a.user } in
+    let l : List ℕ → Meta = λ x. record { version = b.version; changeset = b.changeset; stamp = b.stamp; uid = b.uid; user = x } in
+    ap f p ∙ (ap g q ∙ (ap h r ∙ (ap k s ∙ ap l t)))
