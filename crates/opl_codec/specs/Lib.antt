@@ -13,3 +13,7 @@ pub mod Values
 pub mod ValueFaults
 pub mod LineFields
 pub mod LineLetters
+pub mod Members
+pub mod LineParts
+pub mod LineChanges
+pub mod LineFaults

@@ -18,6 +18,7 @@ mod letter;
 mod line;
 mod line_field;
 mod line_letter;
+mod line_parts;
 mod load;
 mod loader;
 mod make_text;
