@@ -23,3 +23,4 @@ pub mod Hexadecimal
 pub mod TextsParts
 pub mod TextsJoined
 pub mod TextsMade
+pub mod TextsEscaped
