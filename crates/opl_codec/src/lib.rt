@@ -24,6 +24,7 @@ mod loader;
 mod make_text;
 mod out_mode;
 mod piece_reader;
+mod read_text;
 mod repeats;
 mod separator;
 mod tag_spelling;
