@@ -14,8 +14,14 @@ pub mod PieceLemmas
 pub mod EachLemmas
 pub mod LoadLemmas
 pub mod WriteSteps
-pub mod WriteTags
+pub mod WriteLists
 pub mod WriteText
 pub mod TextPieces
 pub mod TextNumbers
 pub mod TextTags
+pub mod Hexadecimal
+pub mod Blanks
+pub mod TextsParts
+pub mod TextsJoined
+pub mod TextsMade
+pub mod TextsEscaped

@@ -23,7 +23,7 @@ use Rattle.osm_model.specs.declared.axis.Axis.TheVariants as axes
 use Rattle.osm_model.specs.declared.tag.Tag.{Tag}
 use Rattle.osm_model.specs.declared.meta.Meta.{Meta}
 use Rattle.osm_model.specs.declared.body.Body.{Body}
-use Rattle.osm_model.specs.declared.body.Body.TheVariants.{Node}
+use Rattle.osm_model.specs.declared.body.Body.TheVariants.{Node, Way, Rel}
 use Rattle.osm_model.proofs.shared.OneDecimal.{one_value}
 use Rattle.opl_codec.specs.Fields.{pieces, field, letter_of, IsOnce, IsInteger, Each}
 use Rattle.opl_codec.specs.Lines.{SpellsTag, SpellsTags, SpellsMeta, SpellsBody, SpellsFields, SpellsObject, Spells, IsSkipped, items, is_node_letter}
@@ -99,6 +99,10 @@ one_body rest (Node p) (Node q) h k =
     let f : ℤ → Place = λ x. record { lon = x; lat = p.lat } in
     let g : ℤ → Place = λ x. record { lon = q.lon; lat = x } in
     ap Node (ap f (one_coordinate (field 120 rest) p.lon q.lon h.0 k.0) ∙ ap g (one_coordinate (field 121 rest) p.lat q.lat h.1 k.1))
+one_body rest (Node p) (Way nodes) h k = absurd k
+one_body rest (Node p) (Rel members) h k = absurd k
+one_body rest (Way nodes) b h k = absurd h
+one_body rest (Rel members) b h k = absurd h
 
 -- the fields of a line make one object at most, its tags in their order
 pub one_object : (line : List ℕ) (a b : Element) → SpellsFields line a → SpellsFields line b → HasRisingKeys a.tags → HasRisingKeys b.tags → a ≡ b
@@ -153,9 +157,13 @@ location_form found text z e h = subst (λ o. MatchOption o ⊥ (λ spelled. IsD
 
 lon_form : (rest : List (List ℕ)) (text : List ℕ) (body : Body) → field 120 rest ≡ Some text → SpellsBody rest body → (z : ℤ) × IsDegrees text z
 lon_form rest text (Node p) e h = (p.lon, location_form (field 120 rest) text p.lon e h.0)
+lon_form rest text (Way nodes) e h = absurd h
+lon_form rest text (Rel members) e h = absurd h
 
 lat_form : (rest : List (List ℕ)) (text : List ℕ) (body : Body) → field 121 rest ≡ Some text → SpellsBody rest body → (z : ℤ) × IsDegrees text z
 lat_form rest text (Node p) e h = (p.lat, location_form (field 121 rest) text p.lat e h.1)
+lat_form rest text (Way nodes) e h = absurd h
+lat_form rest text (Rel members) e h = absurd h
 
 form_spelled : (letter : Letter) (text line : List ℕ) (o : Element) → (h : SpellsFields line o) → field (code letter) h.rest ≡ Some text → FormOf letter text
 form_spelled Version text line o h e = text_is _ (field 118 h.rest) text (48 ∷ []) e h.meta_is.version
@@ -259,18 +267,24 @@ no_missing rest c z missing h = elim missing [
 
 no_location : (line : List ℕ) (rest : List (List ℕ)) (body : Body) → SpellsBody rest body → IsMissing 120 rest ⊎ IsMissing 121 rest → ⊥
 no_location line rest (Node p) h missing = elim missing [ inl x ↦ no_missing rest 120 p.lon x h.0 | inr y ↦ no_missing rest 121 p.lat y h.1 ]
+no_location line rest (Way nodes) h missing = h
+no_location line rest (Rel members) h missing = h
 
 lon_in_range : (rest : List (List ℕ)) (text : List ℕ) (o : Element) (z : ℤ) → IsElement o → SpellsBody rest o.body → field 120 rest ≡ Some text → IsDegrees text z → limit axes.Lon < unsigned_abs z → ⊥
 lon_in_range rest text o z element body e d beyond = from o.body element.body_in_range body
   where
     from : (b : Body) → BodyInRange b → SpellsBody rest b → ⊥
     from (Node p) range h = let same = one_value text z p.lon d (location_form (field 120 rest) text p.lon e h.0) in let r = range.lon in omega (arith, ap unsigned_abs same, beyond)
+    from (Way nodes) range h = h
+    from (Rel members) range h = h
 
 lat_in_range : (rest : List (List ℕ)) (text : List ℕ) (o : Element) (z : ℤ) → IsElement o → SpellsBody rest o.body → field 121 rest ≡ Some text → IsDegrees text z → limit axes.Lat < unsigned_abs z → ⊥
 lat_in_range rest text o z element body e d beyond = from o.body element.body_in_range body
   where
     from : (b : Body) → BodyInRange b → SpellsBody rest b → ⊥
     from (Node p) range h = let same = one_value text z p.lat d (location_form (field 121 rest) text p.lat e h.1) in let r = range.lat in omega (arith, ap unsigned_abs same, beyond)
+    from (Way nodes) range h = h
+    from (Rel members) range h = h
 
 -- what is found for a letter by its byte
 found_for : (rest : List (List ℕ)) (f : List ℕ) (c : ℕ) → Formed rest f → letter_of f ≡ c → field c rest ≡ Some (drop 1 f)
@@ -340,7 +354,7 @@ excludes line causes.OutsideModel byte o real s h = elim s [
     ]
     | inr tags ↦ no_bad_tags (drop 1 inside.0) o.tags
         (tags_form (field 84 h.fields.rest) (drop 1 inside.0) o.tags (found_for h.fields.rest inside.0 84 (formed_at line o h.fields inside.0 byte inside.1) tags.0) h.fields.tags_are)
-        h.element.fits.few_tags h.element.fits.short_tags h.element.rising tags.1
+        h.element.fits.few_tags h.element.fits.short.in_tags h.element.rising tags.1
   ]
   | inr whole ↦ let p = whole.1 in let same = one_object line o p.0 h.fields p.1 h.element.rising p.2 in let short = h.element.short_line in let long = p.3 in omega (arith, ap (λ (e : Element). length (canonical_line e)) same)
 ]

@@ -109,14 +109,19 @@ tags_clean None tags h = λ k d lt. absurd (omega (arith, ap (λ (t : List Tag).
 tags_clean (Some t) tags h = All-permutation (λ (tag : Tag). HasNoNul tag.key × HasNoNul tag.value) h.written tags h.order
     (λ k d lt. all_places (λ (tag : Tag). HasNoNul tag.key × HasNoNul tag.value) h.written k d (each_clean (items t) h.written h.each) lt)
 
-pub clean_read : (rest : List (List ℕ)) (seen : FieldsSeen) (meta : Meta) → Reads rest seen → IsDefault meta → IsClean meta seen.tags.items
-clean_read rest seen meta h d = record { clean_user = empty_clean meta.user d.user; clean_tags = tags_clean (field 84 rest) seen.tags.items h.tags_are }
+pub clean_read : (rest : List (List ℕ)) (seen : FieldsSeen) (meta : Meta) (place : Place) → Reads rest seen → IsDefault meta → IsClean meta seen.tags.items (Node place)
+clean_read rest seen meta place h d = record { user = empty_clean meta.user d.user; in_tags = tags_clean (field 84 rest) seen.tags.items h.tags_are; in_members = λ k m lt. absurd (omega arith) }
 
-pub fits_read : (rest : List (List ℕ)) (seen : FieldsSeen) (meta : Meta) → Reads rest seen → IsDefault meta → Fits meta seen.tags.items
-fits_read rest seen meta h d = record { short_user = (omega (arith, ap (λ (t : List ℕ). length t) d.user)); few_tags = h.limits.few; short_tags = h.limits.short }
+pub fits_read : (rest : List (List ℕ)) (seen : FieldsSeen) (meta : Meta) (place : Place) → Reads rest seen → IsDefault meta → Fits meta seen.tags.items (Node place)
+fits_read rest seen meta place h d = record {
+  short = record { user = (omega (arith, ap (λ (t : List ℕ). length t) d.user)); in_tags = h.limits.short; in_members = λ k m lt. absurd (omega arith) };
+  few_tags = h.limits.few;
+  few_nodes = omega arith;
+  few_members = omega arith;
+}
 
 -- tags within their limits are refused for the length of the line alone
-pub long_line : (id : ℤ) (meta : Meta) (tags : List Tag) (body : Body) (fault : ModelFault) → Fits meta tags → IsClean meta tags → KeepsLimits tags → Refuses id meta tags body fault → HasLongLine id meta tags body
+pub long_line : (id : ℤ) (meta : Meta) (tags : List Tag) (body : Body) (fault : ModelFault) → Fits meta tags body → IsClean meta tags body → KeepsLimits tags → Refuses id meta tags body fault → HasLongLine id meta tags body
 long_line id meta tags body LimitPassed fits clean limits h = elim h [ inl f ↦ absurd (f fits) | inr l ↦ l.1 ]
 long_line id meta tags body NulInText fits clean limits h = absurd (h.1 clean)
 long_line id meta tags body KeyTwice fits clean limits h = absurd (h.2 limits.differ)

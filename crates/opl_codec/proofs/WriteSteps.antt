@@ -2,6 +2,7 @@
 use Rattle.std.proofs.Common.{◌≡◌, ℕ, ◌≤◌, List, [], ◌∷◌, ◌++◌, length, take, cond, refl, sym, ◌∙◌, ap, arith, Result, Ok, Err, OnOk, OnErr, is_ok, map, flat_map, length-append}
 use Rattle.std.specs.List.{join_with_byte}
 use Rattle.std.proofs.lemmas.List.{take-take, take_at, append-nil}
+use Rattle.osm_model.specs.Bytes.{space}
 
 -- what a step leaves in front of it, the next step's refusal leaves too
 pub front_kept : (old mid new xs : List ℕ) → mid ≡ old ++ xs → take (length mid) new ≡ mid → take (length old) new ≡ old
@@ -23,3 +24,7 @@ refused_later (Err x) old mid new xs e kept = front_kept old mid new xs e kept
 pub join_with_byte-map : {X : Type 0} (c : ℕ) (f : X → List ℕ) (x : X) (xs : List X) → join_with_byte c (map f (x ∷ xs)) ≡ f x ++ flat_map (λ y. c ∷ f y) xs
 join_with_byte-map c f x [] = sym (append-nil (f x))
 join_with_byte-map c f x (y ∷ xs) = ap (λ rest. f x ++ (c ∷ rest)) (join_with_byte-map c f y xs)
+
+-- one field after its space
+pub one_field : (f : List ℕ) → flat_map (λ g. space ∷ g) (f ∷ []) ≡ space ∷ f
+one_field f = append-nil (space ∷ f)

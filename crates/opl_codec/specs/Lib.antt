@@ -8,3 +8,12 @@ pub mod Text
 pub mod Plain
 pub mod PieceReads
 pub mod internal
+pub mod Texts
+pub mod Values
+pub mod ValueFaults
+pub mod LineFields
+pub mod LineLetters
+pub mod Members
+pub mod LineParts
+pub mod LineChanges
+pub mod LineFaults

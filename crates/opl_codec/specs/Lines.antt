@@ -54,9 +54,11 @@ pub record SpellsMeta (fields : List (List ℕ)) (meta : Meta) : Type 0 where
   pub uid : Given (field uid_letter fields) (meta.uid ≡ pos 0) (IsDefaultText (digit_zero ∷ []) (meta.uid ≡ pos 0))
   pub user : Given (field user_letter fields) (meta.user ≡ []) (IsDefaultText [] (meta.user ≡ []))
 
--- x and y: the location of a node, which must be there
+-- x and y: the location of a node, which must be there; narrow: no line is a way or a relation
 abbrev pub SpellsBody : List (List ℕ) → Body → Type 0
 SpellsBody fields (bodies.Node place) = Given (field longitude_letter fields) ⊥ (λ spelled. IsDegrees spelled place.lon) × Given (field latitude_letter fields) ⊥ (λ spelled. IsDegrees spelled place.lat)
+SpellsBody fields (bodies.Way nodes) = ⊥
+SpellsBody fields (bodies.Rel members) = ⊥
 
 -- v, d, c, t, i, u, T, x, y
 abbrev pub is_node_letter : ℕ → Bool

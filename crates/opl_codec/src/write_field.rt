@@ -2,13 +2,12 @@
 
 ghost use Rattle.std.specs.Prelude.{◌≡◌, ◌++◌, [], ◌∷◌, length, take, flat_map, OnOk, OnErr};
 ghost use Rattle.std.specs.Fmt.{decimal, signed_decimal};
-ghost use Rattle.osm_model.specs.CanonicalDegrees.{degrees};
-ghost use Rattle.osm_model.specs.CanonicalLine.{name_field, meta_fields, tags_field, tag_text, body_fields, moment, escaped};
+ghost use Rattle.osm_model.specs.CanonicalLine.{name_field, meta_fields, tags_field, tag_text, moment, escaped};
 
 use crate::write_moment::moment_text;
+use crate::write_reference::{append_number, append_reference};
 use crate::write_text::append_text;
-use itoa::Buffer;
-use osm_model::{Body, Coord, Kind, Meta, Object, Stamp, Tag, write_degrees};
+use osm_model::{Meta, Object, Stamp, Tag};
 use std::alloc::AllocError;
 
 /// Appends the letter of the object's kind and its id.
@@ -16,14 +15,7 @@ pub fn append_name(object: &Object, out: &mut Vec<u8>) -> Result<(), AllocError>
     ensures ok { OnOk result (out.new.items ≡ out.old.items ++ name_field object.now) }
     ensures err { OnErr result (take (length out.old.items) out.new.items ≡ out.old.items) }
 {
-    let reference = object.reference();
-    let letter = match reference.kind {
-        Kind::Node => b'n',
-        Kind::Way => b'w',
-        Kind::Rel => b'r',
-    };
-    out.push(letter)?;
-    append_number(reference.id, out)
+    append_reference(object.reference(), out)
 }
 
 /// Appends a space and the fields of the metadata, a space between two.
@@ -76,26 +68,6 @@ pub fn append_tags(tags: &[Tag], out: &mut Vec<u8>) -> Result<(), AllocError>
     Ok(())
 }
 
-/// Appends a space and the fields of a body, a space between two.
-pub fn append_body(body: &Body, out: &mut Vec<u8>) -> Result<(), AllocError>
-    ensures ok { OnOk result (out.new.items ≡ out.old.items ++ flat_map (λ f. 32 ∷ f) (body_fields body.now)) }
-    ensures err { OnErr result (take (length out.old.items) out.new.items ≡ out.old.items) }
-{
-    match body {
-        Body::Node(place) => append_place(*place, out),
-    }
-}
-
-fn append_place(place: Coord, out: &mut Vec<u8>) -> Result<(), AllocError>
-    ensures ok { OnOk result (out.new.items ≡ out.old.items ++ (32 ∷ 120 ∷ degrees place.lon) ++ (32 ∷ 121 ∷ degrees place.lat)) }
-    ensures err { OnErr result (take (length out.old.items) out.new.items ≡ out.old.items) }
-{
-    out.extend_from_slice(b" x")?;
-    out.extend_from_slice(write_degrees(place.lon()).as_bytes())?;
-    out.extend_from_slice(b" y")?;
-    out.extend_from_slice(write_degrees(place.lat()).as_bytes())
-}
-
 fn append_tag(tag: &Tag, out: &mut Vec<u8>) -> Result<(), AllocError>
     ensures ok { OnOk result (out.new.items ≡ out.old.items ++ tag_text tag.now) }
     ensures err { OnErr result (take (length out.old.items) out.new.items ≡ out.old.items) }
@@ -114,11 +86,4 @@ fn append_moment(stamp: Option<Stamp>, out: &mut Vec<u8>) -> Result<(), AllocErr
         None => Ok(()),
         Some(stamp) => out.extend_from_slice(&moment_text(stamp)),
     }
-}
-
-fn append_number(number: i64, out: &mut Vec<u8>) -> Result<(), AllocError>
-    ensures ok { OnOk result (out.new.items ≡ out.old.items ++ signed_decimal number) }
-    ensures err { OnErr result (out.new.items ≡ out.old.items) }
-{
-    out.extend_from_slice(Buffer::new().format(number).as_bytes())
 }

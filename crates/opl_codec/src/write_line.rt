@@ -5,7 +5,8 @@ ghost use Rattle.std.specs.List.{join_with_byte};
 ghost use Rattle.opl_codec.specs.Text.{fields_of, text_of};
 
 use crate::out_mode::OutMode;
-use crate::write_field::{append_body, append_meta, append_name, append_tags};
+use crate::write_body::append_body;
+use crate::write_field::{append_meta, append_name, append_tags};
 use osm_model::Object;
 use std::alloc::AllocError;
 
@@ -13,7 +14,7 @@ use std::alloc::AllocError;
 ///
 /// The line holds the fields that the mode keeps, a space between two: the letter of the kind and the
 /// id; `v` version, `dV`, `c` changeset, `t` timestamp, `i` user id, `u` user; `T` tags by rising key;
-/// `x` and `y` in degrees. In mode `Meta` it is the object's one canonical line, at most 2^24 bytes
+/// `x` and `y` in degrees, or `N` and the nodes of a way, or `M` and the members of a relation. In mode `Meta` it is the object's one canonical line, at most 2^24 bytes
 /// and its LF. Only `out` takes memory, as it grows.
 ///
 /// Refused only when out of memory; `out` then has its old bytes.

@@ -99,10 +99,16 @@ meta_fields m =
 abbrev pub tags_field : List Tag → List ℕ
 tags_field tags = tags_letter ∷ join_with_byte comma (map tag_text tags)
 
+abbrev pub nodes_field : List ℤ → List ℕ
+nodes_field nodes = nodes_letter ∷ join_with_byte comma (map node_text nodes)
+
+abbrev pub members_field : List Member → List ℕ
+members_field members = members_letter ∷ join_with_byte comma (map member_text members)
+
 abbrev pub body_fields : Body → List (List ℕ)
 body_fields (bodies.Node place) = (longitude_letter ∷ degrees place.lon) ∷ (latitude_letter ∷ degrees place.lat) ∷ []
-body_fields (bodies.Way nodes) = (nodes_letter ∷ join_with_byte comma (map node_text nodes)) ∷ []
-body_fields (bodies.Rel members) = (members_letter ∷ join_with_byte comma (map member_text members)) ∷ []
+body_fields (bodies.Way nodes) = nodes_field nodes ∷ []
+body_fields (bodies.Rel members) = members_field members ∷ []
 
 -- all fields of an object
 abbrev pub all_fields : Element → List (List ℕ)

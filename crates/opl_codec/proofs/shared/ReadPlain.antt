@@ -4,10 +4,12 @@ use Rattle.std.specs.List.{AllByRecursion}
 use Rattle.std.proofs.lemmas.List.Elements.{All-from_recursion, recursion_from_All}
 use Rattle.std.proofs.lemmas.List.Sorted.{All-permutation}
 use Rattle.osm_model.specs.Elements.{Element}
+use Rattle.osm_model.specs.declared.body.Body.{Body}
+use Rattle.osm_model.specs.declared.body.Body.TheVariants.{Node, Way, Rel}
 use Rattle.osm_model.specs.declared.tag.Tag.{Tag}
 use Rattle.opl_codec.specs.Fields.{field, Each}
-use Rattle.opl_codec.specs.Lines.{SpellsTag, SpellsTags, SpellsObject}
-use Rattle.opl_codec.specs.Plain.{IsLiteral, IsPlain}
+use Rattle.opl_codec.specs.Lines.{SpellsBody, SpellsTag, SpellsTags, SpellsObject}
+use Rattle.opl_codec.specs.Plain.{IsLiteral, IsNodeBody, IsPlain}
 use Rattle.opl_codec.proofs.ReadLaw.{given_is}
 
 -- a tag whose characters all stand for themselves
@@ -24,6 +26,11 @@ tags_plain : (found : Option (List ℕ)) (tags : List Tag) → MatchOption found
 tags_plain None tags none = subst (λ (ts : List Tag). AllByRecursion IsPlainTag ts) (sym none) tt
 tags_plain (Some text) tags h = recursion_from_All IsPlainTag tags (All-permutation IsPlainTag h.written tags h.order (All-from_recursion IsPlainTag h.written (written_plain _ h.written h.each)))
 
+node_body : (rest : List (List ℕ)) (body : Body) → SpellsBody rest body → IsNodeBody body
+node_body rest (Node place) h = tt
+node_body rest (Way nodes) h = h
+node_body rest (Rel members) h = h
+
 -- what a line says is plain
 pub spells_plain : (line : List ℕ) (o : Element) → SpellsObject line o → IsPlain o
 spells_plain line o h =
@@ -35,5 +42,6 @@ spells_plain line o h =
       stamp = given_is (field 116 rest) [] meta.stamp;
       uid = given_is (field 105 rest) (48 ∷ []) meta.uid;
       user = given_is (field 117 rest) [] meta.user;
+      node = node_body rest o.body h.fields.body_is;
       tags = tags_plain (field 84 rest) o.tags h.fields.tags_are;
     }

@@ -12,7 +12,7 @@ use Rattle.osm_model.specs.Places.{Place}
 use Rattle.osm_model.specs.declared.tag.Tag.{Tag}
 use Rattle.osm_model.specs.declared.meta.Meta.{Meta}
 use Rattle.osm_model.specs.declared.body.Body.{Body}
-use Rattle.osm_model.specs.declared.body.Body.TheVariants.{Node}
+use Rattle.osm_model.specs.declared.body.Body.TheVariants.{Node, Way, Rel}
 use Rattle.osm_model.proofs.shared.ReadBack.{reads_back}
 use Rattle.opl_codec.specs.Fields.{pieces, Lacks}
 use Rattle.opl_codec.specs.Lines.{SpellsFields, SpellsObject}
@@ -87,6 +87,8 @@ fields_said id meta tags place element plain =
 
 fields_spelled : (id : ℤ) (meta : Meta) (tags : List Tag) (body : Body) → (let o : Element = record { id = id; meta = meta; tags = tags; body = body } in IsElement o → IsPlain o → SpellsFields (canonical_line o) o)
 fields_spelled id meta tags (Node place) = fields_said id meta tags place
+fields_spelled id meta tags (Way nodes) = λ element plain. absurd plain.node
+fields_spelled id meta tags (Rel members) = λ element plain. absurd plain.node
 
 -- the canonical line of a plain object says that object
 pub line_spells : (o : Element) → IsElement o → IsPlain o → SpellsObject (canonical_line o) o
@@ -109,6 +111,8 @@ one_line id meta tags place element plain =
 
 line_of : (id : ℤ) (meta : Meta) (tags : List Tag) (body : Body) → (let o : Element = record { id = id; meta = meta; tags = tags; body = body } in IsElement o → IsPlain o → Lacks 10 (canonical_line o))
 line_of id meta tags (Node place) = one_line id meta tags place
+line_of id meta tags (Way nodes) = λ element plain. absurd plain.node
+line_of id meta tags (Rel members) = λ element plain. absurd plain.node
 
 -- the canonical line of a plain object has no line end
 pub line_lacks_end : (o : Element) → IsElement o → IsPlain o → Lacks 10 (canonical_line o)

@@ -37,4 +37,4 @@ returns-in-Err-clause-refused c =
     let reads = c.requires.reads in
     long_stands c.args.line.now c.args.id meta c.args.seen.tags.items (Node place)
     (fields_read c.args.line.now c.args.id c.args.seen meta place c.requires default (c.in-Some-Some.is-0 ∙ ap Some (sym lon)) (c.in-Some-Some.is-1 ∙ ap Some (sym lat)))
-    (long_line c.args.id meta c.args.seen.tags.items (Node place) c.in-Err.field-0 (fits_read c.requires.rest c.args.seen meta reads default) (clean_read c.requires.rest c.args.seen meta reads default) reads.limits refused)
+    (long_line c.args.id meta c.args.seen.tags.items (Node place) c.in-Err.field-0 (fits_read c.requires.rest c.args.seen meta place reads default) (clean_read c.requires.rest c.args.seen meta place reads default) reads.limits refused)

@@ -1,0 +1,89 @@
+//! What is particular to a kind, to text.
+
+ghost use Rattle.std.specs.Prelude.{◌≡◌, ◌++◌, ◌∷◌, length, take, flat_map, OnOk, OnErr};
+ghost use Rattle.osm_model.specs.Bytes.{space};
+ghost use Rattle.osm_model.specs.CanonicalDegrees.{degrees};
+ghost use Rattle.osm_model.specs.CanonicalLine.{body_fields, member_text, members_field, node_text, nodes_field};
+ghost use Rattle.osm_model.specs.Letters.{latitude_letter, longitude_letter};
+
+use crate::write_reference::append_reference;
+use crate::write_text::append_text;
+use osm_model::{Body, Coord, Kind, Member, Ref, write_degrees};
+use std::alloc::AllocError;
+
+/// Appends a space and the fields of a body, a space between two.
+#[tactic(auto, using(crate::proofs::WriteSteps::one_field))]
+pub fn append_body(body: &Body, out: &mut Vec<u8>) -> Result<(), AllocError>
+    ensures ok { OnOk result (out.new.items ≡ out.old.items ++ flat_map (λ f. space ∷ f) (body_fields body.now)) }
+    ensures err { OnErr result (take (length out.old.items) out.new.items ≡ out.old.items) }
+{
+    match body {
+        Body::Node(place) => append_place(*place, out),
+        Body::Way(nodes) => append_nodes(nodes.as_slice(), out),
+        Body::Rel(members) => append_members(members.as_slice(), out),
+    }
+}
+
+fn append_place(place: Coord, out: &mut Vec<u8>) -> Result<(), AllocError>
+    ensures ok { OnOk result (out.new.items ≡ out.old.items ++ (space ∷ longitude_letter ∷ degrees place.lon) ++ (space ∷ latitude_letter ∷ degrees place.lat)) }
+    ensures err { OnErr result (take (length out.old.items) out.new.items ≡ out.old.items) }
+{
+    out.extend_from_slice(b" x")?;
+    out.extend_from_slice(write_degrees(place.lon()).as_bytes())?;
+    out.extend_from_slice(b" y")?;
+    out.extend_from_slice(write_degrees(place.lat()).as_bytes())
+}
+
+fn append_nodes(nodes: &[i64], out: &mut Vec<u8>) -> Result<(), AllocError>
+    ensures ok { OnOk result (out.new.items ≡ out.old.items ++ space ∷ nodes_field nodes.now) }
+    ensures err { OnErr result (take (length out.old.items) out.new.items ≡ out.old.items) }
+{
+    out.extend_from_slice(b" N")?;
+    let Some((first, others)) = nodes.split_first() else {
+        return Ok(());
+    };
+    append_node(*first, out)?;
+    for node in others {
+        out.push(b',')?;
+        append_node(*node, out)?;
+    }
+    Ok(())
+}
+
+fn append_node(id: i64, out: &mut Vec<u8>) -> Result<(), AllocError>
+    ensures ok { OnOk result (out.new.items ≡ out.old.items ++ node_text id) }
+    ensures err { OnErr result (take (length out.old.items) out.new.items ≡ out.old.items) }
+{
+    append_reference(
+        Ref {
+            kind: Kind::Node,
+            id,
+        },
+        out,
+    )
+}
+
+fn append_members(members: &[Member], out: &mut Vec<u8>) -> Result<(), AllocError>
+    ensures ok { OnOk result (out.new.items ≡ out.old.items ++ space ∷ members_field members.now) }
+    ensures err { OnErr result (take (length out.old.items) out.new.items ≡ out.old.items) }
+{
+    out.extend_from_slice(b" M")?;
+    let Some((first, others)) = members.split_first() else {
+        return Ok(());
+    };
+    append_member(first, out)?;
+    for member in others {
+        out.push(b',')?;
+        append_member(member, out)?;
+    }
+    Ok(())
+}
+
+fn append_member(member: &Member, out: &mut Vec<u8>) -> Result<(), AllocError>
+    ensures ok { OnOk result (out.new.items ≡ out.old.items ++ member_text member.now) }
+    ensures err { OnErr result (take (length out.old.items) out.new.items ≡ out.old.items) }
+{
+    append_reference(member.target, out)?;
+    out.push(b'@')?;
+    append_text(&member.role, out)
+}
