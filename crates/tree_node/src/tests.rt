@@ -1,9 +1,5 @@
-//! Worked values from outside this crate: the bytes and codes of docs/FORMATS.md, FIPS 180-4's two
-//! messages, and the digest of a tree that an independent program computed.
-
-ghost use Rattle.std.specs.Prelude.{◌^◌, ◌<◌, length};
-ghost use Rattle.tree_node.specs.NodeRefs.{binding_of};
-ghost use Rattle.tree_node.specs.Nodes.{FitsEntry};
+//! Worked values from outside this crate: the bytes and codes of docs/FORMATS.md, and FIPS 180-4's two
+//! messages.
 
 use super::*;
 use std::alloc::{AllocError, Global};
@@ -146,82 +142,47 @@ fn entries_of(node: NodeRef<'_>) -> Option<Entries<'_>> {
     }
 }
 
-/// The entry of this key without a value.
-fn key_alone(key: &[u8]) -> Item<'_>
-    requires { length key.now < 2 ^ 16 }
-    ensures { FitsEntry (binding_of result) }
-{
-    Item { key, value: b"" }
-}
-
-/// The leaf of tree 2 with these keys of one byte each, without values.
-fn leaf_of(alloc: Global, keys: &[u8]) -> Result<Vec<u8>, AllocError> {
-    let mut items = Vec::new(alloc);
-    for at in 0..keys.len() {
-        items.push(key_alone(&keys[at..at + 1]))?;
+/// The children of an inner node; none of a leaf.
+fn children_of(node: NodeRef<'_>) -> Option<Children<'_>> {
+    match node {
+        NodeRef::Inner {
+            tree: _,
+            level: _,
+            children,
+        } => Some(children),
+        NodeRef::Leaf {
+            tree: _,
+            entries: _,
+        } => None,
     }
-    let mut out = Vec::new(alloc);
-    if items.len() <= ITEM_LIMIT {
-        write_leaf(Tree::Tags, items.as_slice(), &mut out)?;
-    }
-    Ok(out)
 }
 
 #[test]
-fn makes_the_tree_of_65_keys(rt: HostRuntime) -> Result<(), Fail> {
-    let alloc = rt.alloc();
-    let keys: Vec<u8> = (0..65u8).collect(alloc)?;
-    let keys = keys.as_slice();
-    assert_eq!(rt; keys.len(), 65);
-    let (front, back) = keys.split_at(64);
-    let first = leaf_of(alloc, front)?;
-    let second = leaf_of(alloc, back)?;
-    assert_eq!(rt; first.len(), 452);
-    assert_eq!(rt;
-        second.as_slice(),
-        b"\x02\x00\x00\x01\x00\x01\x40\x00\x00\x00\x00".as_slice()
-    );
-    let children = [
-        Child {
-            greatest: b"\x3f",
-            number: 64,
-            digest: digest_of(first.as_slice()),
-        },
-        Child {
-            greatest: b"\x40",
-            number: 1,
-            digest: digest_of(second.as_slice()),
-        },
-    ];
-    let mut top = Vec::new(alloc);
-    write_inner(Tree::Tags, 1, &children, &mut top)?;
-    assert_eq!(rt; top.len(), 90);
-    assert_eq!(rt;
-        top.as_slice().starts_with(b"\x02\x01\x00\x02\x00\x01\x3f\x00\x00\x00\x00\x00\x00\x00\x40"),
-        true
-    );
-    let digest = shown(alloc, &digest_of(top.as_slice()))?;
-    assert_eq!(rt;
-        digest.as_str(),
-        "862f81b59ecd60b2305c967b9a5478337c3887a8cef47f593830d4d446390bc2"
-    );
-    let NodeRef::Inner {
-        tree,
-        level,
-        mut children,
-    } = NodeRef::read(top.as_slice())?
-    else {
-        return Err(Fail::from("an inner node was expected"));
+fn reads_and_writes_an_inner_node(rt: HostRuntime) -> Result<(), Fail> {
+    let number = 1 << 40;
+    let digest = digest_of(b"abc");
+    let mut out = Vec::new(rt.alloc());
+    let child = Child {
+        greatest: b"\x3f",
+        number,
+        digest,
     };
-    assert_eq!(rt; (tree, level, children.number()), (Tree::Tags, 1, 65));
-    assert_eq!(rt; children.greatest(), b"\x40".as_slice());
-    let (before, found) = children.again().skip_below(b"\x3f\x00");
-    assert_eq!(rt; (before, found.number()), (Some(b"\x3f".as_slice()), 1));
-    let child = children.next().ok_or("a child was expected")?;
+    write_inner(Tree::Tags, 1, &[child], &mut out)?;
+    let (front, back) = out.as_slice().split_at(15);
     assert_eq!(rt;
-        (child.number, child.digest),
-        (64, digest_of(first.as_slice()))
+        front,
+        b"\x02\x01\x00\x01\x00\x01\x3f\x00\x00\x01\x00\x00\x00\x00\x00".as_slice()
     );
+    assert_eq!(rt; back, digest.0.as_slice());
+    let children = children_of(NodeRef::read(out.as_slice())?).ok_or("an inner node was expected")?;
+    assert_eq!(rt;
+        (children.number(), children.greatest()),
+        (number, b"\x3f".as_slice())
+    );
+    let (before, mut found) = children.skip_below(b"\x3f");
+    assert_eq!(rt; (before, found.number()), (None, number));
+    let child = found.next().ok_or("a child was expected")?;
+    assert_eq!(rt; (child.number, child.digest), (number, digest));
     Ok(())
 }
 

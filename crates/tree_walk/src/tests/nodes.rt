@@ -150,3 +150,21 @@ pub(super) fn put_65_keys(alloc: Global, stock: &mut Stock) -> Result<Digest, Fa
     let children = [child(b"\x3f", 64, first), child(b"\x40", 1, last)];
     put_inner(alloc, stock, Tree::Tags, 1, &children)
 }
+
+/// Puts the tree of the 130 keys 610000 to 610081, whose three leaves lie below one top.
+pub(super) fn put_130_keys(alloc: Global, stock: &mut Stock) -> Result<Digest, Fail> {
+    let mut leaves = Vec::new(alloc);
+    for (first, last) in [(0x00, 0x3f), (0x40, 0x7f), (0x80, 0x81)] {
+        let keys = keys(alloc, b"\x61\x00", first, last)?;
+        leaves.push(put_leaf(alloc, stock, Tree::Tags, keys.as_slice(), 3)?)?;
+    }
+    let [one, two, three] = leaves.as_slice() else {
+        return Err(Fail::from("three leaves were expected"));
+    };
+    let children = [
+        child(b"\x61\x00\x3f", 64, *one),
+        child(b"\x61\x00\x7f", 64, *two),
+        child(b"\x61\x00\x81", 2, *three),
+    ];
+    put_inner(alloc, stock, Tree::Tags, 1, &children)
+}

@@ -1,109 +1,9 @@
-//! Ends of ranges, told by hand.
+//! Ends of ranges, told by hand: the rows of docs/FORMATS.md.
 
 use super::nodes::{at, range_of};
 use crate::KeyRange;
 use std::test::Fail;
 use tree_node::is_above;
-
-/// What a range says of a node: whether it contains its greatest key, meets the node, and covers it.
-type Told = (bool, bool, bool);
-
-/// What the range says of a node with these bounds.
-fn told(range: &KeyRange<'_>, left: Option<&[u8]>, greatest: &[u8]) -> Result<Told, Fail> {
-    if !range.contains(range.lo) {
-        return Err(Fail::from("the range is empty"));
-    }
-    if !is_above(left, greatest) {
-        return Err(Fail::from("nothing lies between the bounds"));
-    }
-    Ok((
-        range.contains(greatest),
-        range.meets(left, greatest),
-        range.covers(left, greatest),
-    ))
-}
-
-/// The ranges from 3f to 40, without the keys that 40 begins and with them.
-#[test]
-fn tells_what_lies_between_two_keys(rt: HostRuntime) -> Result<(), Fail> {
-    let rows: [(Option<&[u8]>, &[u8], Told, Told); 13] = [
-        (
-            None,
-            b"\x3e\xff",
-            (false, false, false),
-            (false, false, false),
-        ),
-        (None, b"\x3f", (true, true, false), (true, true, false)),
-        (None, b"\x40", (true, true, false), (true, true, false)),
-        (None, b"\x41", (false, true, false), (false, true, false)),
-        (
-            Some(b"\x3e"),
-            b"\x3f",
-            (true, true, false),
-            (true, true, false),
-        ),
-        (
-            Some(b"\x3e\xff"),
-            b"\x40",
-            (true, true, false),
-            (true, true, false),
-        ),
-        (
-            Some(b"\x3f"),
-            b"\x40",
-            (true, true, true),
-            (true, true, true),
-        ),
-        (
-            Some(b"\x3f\x00"),
-            b"\x3f\x01",
-            (true, true, true),
-            (true, true, true),
-        ),
-        (
-            Some(b"\x3f"),
-            b"\x40\xff",
-            (false, true, false),
-            (true, true, true),
-        ),
-        (
-            Some(b"\x3f"),
-            b"\x41",
-            (false, true, false),
-            (false, true, false),
-        ),
-        (
-            Some(b"\x40"),
-            b"\x41",
-            (false, false, false),
-            (false, true, false),
-        ),
-        (
-            Some(b"\x40\xff"),
-            b"\x41",
-            (false, false, false),
-            (false, true, false),
-        ),
-        (
-            Some(b"\x41"),
-            b"\x42",
-            (false, false, false),
-            (false, false, false),
-        ),
-    ];
-    for (left, greatest, alone, begun) in rows {
-        let ranges = [(false, alone), (true, begun)];
-        for (under, expected) in ranges {
-            let range = range_of(b"\x3f", b"\x40", under);
-            assert_eq!(rt;
-                told(&range, left, greatest)?,
-                expected,
-                "{left:?} {greatest:?}"
-            );
-        }
-    }
-    Ok(())
-}
 
 /// How many nodes, side by side, that have these greatest keys meet the range, and how many of them it
 /// covers.
@@ -112,13 +12,11 @@ fn count_told(range: &KeyRange<'_>, greatest: &[&[u8]]) -> Result<(usize, usize)
     let mut met = 0usize;
     let mut covered = 0usize;
     for key in greatest {
-        let (_, meets, covers) = told(range, left, key)?;
-        if meets {
-            met = met.saturating_add(1);
+        if !range.contains(range.lo) || !is_above(left, key) {
+            return Err(Fail::from("the range is empty, or nothing lies between the bounds"));
         }
-        if covers {
-            covered = covered.saturating_add(1);
-        }
+        met = met.saturating_add(usize::from(range.meets(left, key)));
+        covered = covered.saturating_add(usize::from(range.covers(left, key)));
         left = Some(*key);
     }
     Ok((met, covered))

@@ -1,6 +1,6 @@
 //! Nodes that no builder made.
 
-use super::nodes::{all, child, counted, keys, put_inner, put_leaf, walked};
+use super::nodes::{all, child, keys, put_inner, put_leaf, walked};
 use crate::{Tally, WalkFault};
 use std::alloc::Global;
 use std::process::Abort;
@@ -23,20 +23,6 @@ fn is_refused(
     Ok(())
 }
 
-/// So is a count.
-fn is_refused_counted(
-    rt: &impl Abort,
-    alloc: Global,
-    stock: &Stock,
-    top: &Digest,
-    fault: WalkFault,
-) -> Result<(), Fail> {
-    let mut shelf = stock.shelf(alloc);
-    let (number, tally) = counted(alloc, &mut shelf, top, Tree::Tags, &all())?;
-    assert_eq!(rt; (number, tally.calls), (Err(fault), 1));
-    Ok(())
-}
-
 #[test]
 fn refuses_a_top(rt: HostRuntime) -> Result<(), Fail> {
     let alloc = rt.alloc();
@@ -50,7 +36,6 @@ fn refuses_a_top(rt: HostRuntime) -> Result<(), Fail> {
         (other, WalkFault::WrongTreeOrLevel, 1),
     ] {
         is_refused(&rt, alloc, &stock, &top, fault, fetches)?;
-        is_refused_counted(&rt, alloc, &stock, &top, fault)?;
     }
     Ok(())
 }
@@ -99,10 +84,6 @@ fn refuses_what_isnt_as_its_parent_states(rt: HostRuntime) -> Result<(), Fail> {
     for (level, children, fault, fetches) in rows {
         let top = put_inner(alloc, &mut stock, tree, level, children)?;
         is_refused(&rt, alloc, &stock, &top, fault, fetches)?;
-        // A count leaves a second child closed.
-        if children.len() == 1 {
-            is_refused_counted(&rt, alloc, &stock, &top, fault)?;
-        }
     }
     Ok(())
 }
@@ -128,18 +109,16 @@ fn refuses_one_child_named_64_times(rt: HostRuntime) -> Result<(), Fail> {
     let alloc = rt.alloc();
     let mut stock = Stock::new(alloc);
     let mut top = put_leaf(alloc, &mut stock, Tree::Tags, b"\x61", 1)?;
-    for (level, number, fetches) in [
-        // The leaf is right for the first of its names, and for no other.
-        (1, 1, 3),
-        // The first node of a level has the greatest key a0, and is stated to have 61.
-        (2, 64, 2),
-        (3, 4_096, 2),
-        (4, 262_144, 2),
-        (5, 16_777_216, 2),
-        (6, 1_073_741_824, 2),
+    for (level, number) in [
+        (1, 1),
+        (2, 64),
+        (3, 4_096),
+        (4, 262_144),
+        (5, 16_777_216),
+        (6, 1_073_741_824),
     ] {
         top = put_same_child(alloc, &mut stock, level, number, top)?;
-        is_refused(&rt, alloc, &stock, &top, WalkFault::Disagrees, fetches)?;
     }
-    Ok(())
+    // The first node of a level has the greatest key a0, and is stated to have 61.
+    is_refused(&rt, alloc, &stock, &top, WalkFault::Disagrees, 2)
 }
