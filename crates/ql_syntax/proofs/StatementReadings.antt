@@ -273,10 +273,10 @@ module _ (depth : ℕ) (reads_inner : (s : Statement) → IsInner depth s → (t
   reads_difference left right set {text = text} {middle = middle} {closed = closed} is g close ends =
       reads_then _ (reads_inner right is text middle g) (reads_then _ (reads_punctuation (alike middle) (token kinds.CloseParenthesis close refl refl)) (reads_then _ (reads_into set (alike closed) ends) reads_give))
 
-  reads_union_block : (row : Statements) (set : List ℕ) {text middle closed rest : List ℕ} → AreInner depth row → grammar.row_of_some row text middle → says ")" middle closed → spelling.into set closed rest → Reading (block (statement levels.Inner depth)) text (Union row set) rest
+  reads_union_block : (row : Statements) (set : List ℕ) {text middle closed rest : List ℕ} → AreInner depth row → ¬ (row ≡ End) → grammar.row row text middle → says ")" middle closed → spelling.into set closed rest → Reading (block (statement levels.Inner depth)) text (Union row set) rest
   unfolding block
-  reads_union_block End set all g close ends = absurd g
-  reads_union_block (Then first row) set {text = text} {middle = middle} {closed = closed} all g close ends =
+  reads_union_block End set all some g close ends = absurd (some refl)
+  reads_union_block (Then first row) set {text = text} {middle = middle} {closed = closed} all some g close ends =
       let next = after_first row g.middle middle closed g.back close in
       reads_then _ (reads_inner first all.0 text g.middle g.front) (reads_then _ (reads_token (alike g.middle) next.at) (reads_no _ next.no_minus (reads_no _ next.no_arrow
       (reads_from _ (shift_reading (shifts_union _ first) (from_token next.at) (reads_union first row set all.1 g.back close ends))))))
@@ -312,7 +312,7 @@ reads_statement level zero (Union row set) is text rest g = let kept = parts_kep
 reads_statement level (suc depth) (Union row set) is text rest g =
     let kept = parts_kept level (suc depth) row set is in
     let same : kept.0 ≡ depth = (let e : suc depth ≡ suc kept.0 = kept.1 in cc) in
-    reads_block level depth (token kinds.OpenParenthesis (g.front).front refl refl) (reads_union_block depth (reads_statement levels.Inner depth) row set (subst (λ (d : ℕ). AreInner d row) same kept.2) ((g.front).back).front ((g.front).back).back g.back)
+    reads_block level depth (token kinds.OpenParenthesis (g.front).front refl refl) (reads_union_block depth (reads_statement levels.Inner depth) row set (subst (λ (d : ℕ). AreInner d row) same kept.2) kept.3 ((g.front).back).front ((g.front).back).back g.back)
 reads_statement level zero (Minus left right set) is text rest g = let kept = sides_kept level zero left right set is in let bad : zero ≡ suc kept.0 = kept.1 in absurd (cc)
 reads_statement level (suc depth) (Minus left right set) is text rest g =
     let kept = sides_kept level (suc depth) left right set is in

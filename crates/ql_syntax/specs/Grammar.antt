@@ -116,7 +116,7 @@ abbrev mutual
   statement (Select pick filters set) = kind pick & each filter filters & into set
   statement (Recurse start how set) = source start & recursion how & into set
   statement (Item start set) = named_set start & into set
-  statement (Union parts set) = in_parentheses (row_of_some parts) & into set
+  statement (Union parts set) = in_parentheses (row parts) & into set
   statement (Minus left right set) = in_parentheses (statement left & says "-" & statement right) & into set
   statement (Print start mode most) = source start & word "out" & out_options mode most & says ";"
 
@@ -124,11 +124,6 @@ abbrev mutual
   pub row : Statements → Spelling
   row End = nothing
   row (Then first more) = statement first & row more
-
-  -- one or more
-  pub row_of_some : Statements → Spelling
-  row_of_some End = never
-  row_of_some (Then first more) = statement first & row more
 
 -- a query: settings, statements, and the end
 abbrev pub query : Statements → Spelling
