@@ -24,3 +24,4 @@ pub mod TextsParts
 pub mod TextsJoined
 pub mod TextsMade
 pub mod TextsEscaped
+pub mod TextsClean
