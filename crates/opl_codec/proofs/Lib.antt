@@ -25,3 +25,4 @@ pub mod TextsParts
 pub mod TextsJoined
 pub mod TextsMade
 pub mod TextsEscaped
+pub mod TextsClean
