@@ -20,3 +20,6 @@ pub mod TextPieces
 pub mod TextNumbers
 pub mod TextTags
 pub mod Hexadecimal
+pub mod ValueCoordinates
+pub mod ValueLists
+pub mod ValueMoments

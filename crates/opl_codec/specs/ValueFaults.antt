@@ -1,11 +1,12 @@
 -- Why the text of a field isn't its value, and where.
 -- Source: this project.
-use Rattle.std.specs.Prelude.{◌≡◌, ◌≢◌, ℕ, ◌+◌, ◌⊎◌, ℤ, List, [], ◌∷◌, ◌++◌, length, ⊥}
+use Rattle.std.specs.Prelude.{◌≡◌, ◌≢◌, ℕ, ◌+◌, ◌⊎◌, ℤ, List, [], ◌∷◌, ◌++◌, length, Option}
 use Rattle.std.specs.List.{AllByRecursion}
 use Rattle.osm_model.specs.Bytes.{equals_sign}
 use Rattle.osm_model.specs.Letters.{longitude_letter, node_letter}
+use Rattle.osm_model.specs.declared.axis.Axis.{Axis}
 use Rattle.opl_codec.specs.Texts.{IsText, TextMisfit, BadEscapeIn}
-use Rattle.opl_codec.specs.Values.{items, SpellsNode, SpellsNumber}
+use Rattle.opl_codec.specs.Values.{items, IsWithin, SpellsCoordinate, SpellsNode, SpellsNumber}
 use Rattle.opl_codec.specs.declared.value_fault.ValueFault.{ValueFault}
 use Rattle.opl_codec.specs.declared.value_fault.ValueFault.TheVariants as faults
 
@@ -16,6 +17,14 @@ TextFault spelled (faults.Escape at) = BadEscapeIn spelled at
 TextFault spelled faults.NodeLocation = ⊥
 TextFault spelled faults.Limit = ⊥
 TextFault spelled faults.Memory = spelled ≢ []
+
+-- the fault of a coordinate: no degrees, or degrees beyond the end of the axis
+abbrev pub CoordinateFault : Axis → List ℕ → ValueFault → Type 0
+CoordinateFault axis text faults.Form = (coordinate : Option ℤ) → SpellsCoordinate text coordinate → ⊥
+CoordinateFault axis text (faults.Escape at) = ⊥
+CoordinateFault axis text faults.NodeLocation = ⊥
+CoordinateFault axis text faults.Limit = (coordinate : Option ℤ) × SpellsCoordinate text coordinate × (¬ (IsWithin axis coordinate))
+CoordinateFault axis text faults.Memory = ⊥
 
 -- the key goes so far, and then no `=` comes: the tag ends, or a byte comes that no text has
 abbrev pub KeyMisfit : List ℕ → Type 0

@@ -2,3 +2,4 @@
 pub mod Loading
 pub mod Reading
 pub mod TextParts
+pub mod Stamps

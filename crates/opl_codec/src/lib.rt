@@ -18,6 +18,7 @@ mod letter;
 mod line;
 mod load;
 mod loader;
+mod moment;
 mod number;
 mod out_mode;
 mod piece_reader;
