@@ -1,10 +1,12 @@
 -- Why the text of a field isn't its value, and where.
 -- Source: this project.
-use Rattle.std.specs.Prelude.{◌≡◌, ◌≢◌, ℕ, ◌+◌, ◌⊎◌, ℤ, List, [], ◌∷◌, ◌++◌, length, Option}
+use Rattle.std.specs.Prelude.{◌≡◌, ◌≢◌, ℕ, ◌+◌, ◌<◌, ◌⊎◌, ℤ, List, [], ◌∷◌, ◌++◌, length, Option}
 use Rattle.std.specs.List.{AllByRecursion}
 use Rattle.osm_model.specs.Bytes.{equals_sign}
 use Rattle.osm_model.specs.Letters.{longitude_letter, node_letter}
 use Rattle.osm_model.specs.declared.axis.Axis.{Axis}
+use Rattle.osm_model.specs.declared.limits.TheConstants.{LIST_LIMIT}
+use Rattle.opl_codec.specs.Fields.{Each}
 use Rattle.opl_codec.specs.Texts.{IsText, TextMisfit, BadEscapeIn}
 use Rattle.opl_codec.specs.Values.{items, IsWithin, SpellsCoordinate, SpellsNode, SpellsNumber}
 use Rattle.opl_codec.specs.declared.value_fault.ValueFault.{ValueFault}
@@ -89,3 +91,11 @@ ListFault good bad over text faults.Memory = text ≢ []
 ListFault good bad over text faults.Form = FirstFault good bad text faults.Form
 ListFault good bad over text (faults.Escape at) = FirstFault good bad text (faults.Escape at)
 ListFault good bad over text faults.NodeLocation = FirstFault good bad text faults.NodeLocation
+
+-- some value is spelled so
+abbrev pub IsSpelled : {A : Type 0} → (List ℕ → A → Type 0) → List ℕ → Type 0
+IsSpelled {A = A} spells spelled = (value : A) × spells spelled value
+
+-- more values than a list may have are spelled so
+abbrev pub IsTooLong : {A : Type 0} → (List ℕ → A → Type 0) → List ℕ → Type 0
+IsTooLong {A = A} spells text = (values : List A) × Each spells (items text) values × (LIST_LIMIT < length values)

@@ -3,3 +3,4 @@ pub mod Loading
 pub mod Reading
 pub mod TextParts
 pub mod Stamps
+pub mod ListParts

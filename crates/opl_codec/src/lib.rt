@@ -7,6 +7,7 @@
 mod cause;
 mod change;
 mod coordinate;
+mod cut_text;
 mod escape;
 mod fault;
 mod field_fault;
@@ -16,6 +17,7 @@ mod key_order;
 mod laws;
 mod letter;
 mod line;
+mod list_item;
 mod load;
 mod loader;
 mod moment;
