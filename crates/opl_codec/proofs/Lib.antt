@@ -20,6 +20,9 @@ pub mod TextPieces
 pub mod TextNumbers
 pub mod TextTags
 pub mod Hexadecimal
+pub mod TextsJoined
+pub mod TextsMade
+pub mod TextsParts
 pub mod ValueCoordinates
 pub mod ValueLists
 pub mod ValueMoments

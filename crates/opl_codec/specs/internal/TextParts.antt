@@ -12,12 +12,12 @@ pub record IsHexadecimalFront (text : List ℕ) (len : ℕ) : Type 0 where
   pub digits : AllDigits 16 (take len text)
   pub ends : len < length text → 16 ≤ digit_value (slice_index text len)
 
--- no text goes on here, but for an escape
+-- no text goes on here
 abbrev pub EndsText : List ℕ → Type 0
 EndsText [] = ⊤
-EndsText (byte ∷ bytes) = is_free byte ≢ true
+EndsText (byte ∷ bytes) = (is_free byte ≢ true) × (byte ≢ percent)
 
--- just these bytes at the beginning are a text, and no escape follows them
+-- just these bytes at the beginning are a text
 pub record IsTextFront (bytes : List ℕ) (len : ℕ) : Type 0 where
   pub within : len ≤ length bytes
   pub text : IsText (take len bytes)
