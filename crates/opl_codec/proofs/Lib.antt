@@ -26,3 +26,4 @@ pub mod TextsParts
 pub mod ValueCoordinates
 pub mod ValueLists
 pub mod ValueMoments
+pub mod ValueTags

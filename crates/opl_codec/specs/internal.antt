@@ -4,3 +4,4 @@ pub mod Reading
 pub mod TextParts
 pub mod Stamps
 pub mod ListParts
+pub mod ItemPlaces

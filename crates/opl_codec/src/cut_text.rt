@@ -1,6 +1,6 @@
 //! Texts that are UTF-8, cut at the ASCII byte that separates their parts.
 
-ghost use Rattle.std.specs.Prelude.{◌≡◌, ◌+◌, ◌<◌, ◌∷◌, [], length, MatchOption};
+ghost use Rattle.std.specs.Prelude.{◌≡◌, ◌+◌, ◌<◌, ◌∷◌, [], length, MatchOption, slice_index, IsTrue, ◌↔◌};
 ghost use Rattle.opl_codec.specs.Fields.{pieces};
 
 use memchr::memchr;
@@ -16,4 +16,11 @@ pub fn first_piece(text: &str, byte: u8) -> (&str, Option<&str>)
         Some(at) => (&text[..at], Some(&text[at + 1..])),
         None => (text, None),
     }
+}
+
+/// Whether the byte stands at the place.
+pub fn is_at(text: &[u8], place: usize, byte: u8) -> bool
+    ensures { IsTrue result ↔ ((place < length text.now) × (slice_index text.now place ≡ byte)) }
+{
+    place < text.len() && text[place] == byte
 }

@@ -27,6 +27,7 @@ mod out_mode;
 mod piece_reader;
 mod repeats;
 mod separator;
+mod tag_item;
 mod tag_spelling;
 mod tags;
 mod text_len;
