@@ -26,4 +26,5 @@ pub mod TextsParts
 pub mod ValueCoordinates
 pub mod ValueLists
 pub mod ValueMoments
+pub mod ValueNodes
 pub mod ValueTags

@@ -79,13 +79,13 @@ module _ (good : List ℕ → Type 0) (bad : List ℕ → ValueFault → Type 0)
   bad_item before item after faults.Limit by some are front place unlimited is = absurd (unlimited item is)
   bad_item before item after faults.Memory by some are front place unlimited is = some
 
-  -- where no list is too long, none is refused for it
-  pub wider : (fault : ValueFault) → ListFault good bad ⊥ text fault → ListFault good bad over text fault
-  wider faults.Form h = h
-  wider (faults.Escape at) h = h
-  wider faults.NodeLocation h = h
-  wider faults.Limit h = absurd h
-  wider faults.Memory h = h
+  -- the same where the limit is told in other words
+  pub told_over : (other : Type 0) → (other → over) → (fault : ValueFault) → ListFault good bad other text fault → ListFault good bad over text fault
+  told_over other says faults.Form h = h
+  told_over other says (faults.Escape at) h = h
+  told_over other says faults.NodeLocation h = h
+  told_over other says faults.Limit h = says h
+  told_over other says faults.Memory h = h
 
 -- ---- what is left of a text after these items
 abbrev pub LeavesAfter : List ℕ → List (List ℕ) → Option (Bor (List ℕ)) → Type 0

@@ -6,9 +6,10 @@ use Rattle.osm_model.specs.Bytes.{equals_sign}
 use Rattle.osm_model.specs.Letters.{longitude_letter, node_letter}
 use Rattle.osm_model.specs.declared.axis.Axis.{Axis}
 use Rattle.osm_model.specs.declared.limits.TheConstants.{LIST_LIMIT}
+use Rattle.osm_model.specs.declared.tag.Tag.{Tag}
 use Rattle.opl_codec.specs.Fields.{Each}
 use Rattle.opl_codec.specs.Texts.{IsText, TextMisfit, BadEscapeIn}
-use Rattle.opl_codec.specs.Values.{items, IsWithin, SpellsCoordinate, SpellsNode, SpellsNumber}
+use Rattle.opl_codec.specs.Values.{items, IsWithin, SpellsCoordinate, SpellsNode, SpellsNumber, SpellsTag, SpellsTags, TagsFit}
 use Rattle.opl_codec.specs.declared.value_fault.ValueFault.{ValueFault}
 use Rattle.opl_codec.specs.declared.value_fault.ValueFault.TheVariants as faults
 
@@ -99,3 +100,11 @@ IsSpelled {A = A} spells spelled = (value : A) × spells spelled value
 -- more values than a list may have are spelled so
 abbrev pub IsTooLong : {A : Type 0} → (List ℕ → A → Type 0) → List ℕ → Type 0
 IsTooLong {A = A} spells text = (values : List A) × Each spells (items text) values × (LIST_LIMIT < length values)
+
+-- the fault of tags; over a limit are those that don't fit
+abbrev pub TagsFault : List ℕ → ValueFault → Type 0
+TagsFault text fault = ListFault (IsSpelled SpellsTag) TagFault ((tags : List Tag) × SpellsTags text tags × (¬ (TagsFit tags))) text fault
+
+-- the fault of nodes; over a limit are those that are too many
+abbrev pub NodesFault : List ℕ → ValueFault → Type 0
+NodesFault text fault = ListFault (IsSpelled SpellsNode) NodeFault (IsTooLong SpellsNode text) text fault

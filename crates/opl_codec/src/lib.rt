@@ -22,6 +22,7 @@ mod load;
 mod loader;
 mod make_text;
 mod moment;
+mod node_item;
 mod number;
 mod out_mode;
 mod piece_reader;

@@ -3,7 +3,7 @@
 use Rattle.std.specs.Prelude.{◌≡◌, ℕ, ◌+◌, ◌≤◌, List, ◌∷◌, ◌++◌, length}
 use Rattle.std.proofs.Common.{ap, arith, inl, inr, length-append}
 use Rattle.opl_codec.specs.Texts.{BadEscapeIn}
-use Rattle.opl_codec.specs.ValueFaults.{TagFault, HasKey}
+use Rattle.opl_codec.specs.ValueFaults.{TagFault, HasKey, NodeFault}
 use Rattle.opl_codec.specs.declared.value_fault.ValueFault.{ValueFault}
 use Rattle.opl_codec.specs.declared.value_fault.ValueFault.TheVariants as faults
 use Rattle.opl_codec.specs.internal.ListParts.{place_in}
@@ -23,3 +23,10 @@ tag_within spelled (faults.Escape at) h = elim h [
 tag_within spelled faults.NodeLocation h = omega arith
 tag_within spelled faults.Limit h = omega arith
 tag_within spelled faults.Memory h = omega arith
+
+pub node_within : (spelled : List ℕ) (fault : ValueFault) → NodeFault spelled fault → place_in fault ≤ length spelled
+node_within spelled faults.Form h = omega arith
+node_within spelled (faults.Escape at) h = absurd h
+node_within spelled faults.NodeLocation h = omega arith
+node_within spelled faults.Limit h = omega arith
+node_within spelled faults.Memory h = omega arith
