@@ -3,7 +3,9 @@ use Rattle.std.proofs.Common.{◌≡◌, ◌≢◌, ℕ, ◌+◌, ◌<◌, ◌�
 use Rattle.std.specs.Char.{digit_value}
 use Rattle.std.specs.Str.Parse.{AllDigits}
 use Rattle.std.specs.List.{AllByRecursion}
+use Rattle.std.specs.Prelude.{IsTrue, ◌↔◌, is_some}
 use Rattle.std.proofs.lemmas.Bool.{eqb-true}
+use Rattle.std.proofs.lemmas.Bool.Decides.{nat_tests}
 use Rattle.osm_model.specs.Degrees.{sign, IsDigits}
 use Rattle.osm_model.specs.Letters.{longitude_letter, node_letter}
 use Rattle.opl_codec.specs.Fields.{Lacks, IsInteger}
@@ -28,7 +30,7 @@ number_lacks c text z far other h = subst (Lacks c) (sym h.text_is) (after_sign 
     after_sign false digits is = digits_lack c digits far is.1
 
 no_itself : (c : ℕ) → (c == c) ≡ false → ⊥
-no_itself c e = let yes : (c == c) ≡ true = eqb-same c in cc
+no_itself c e = let yes : (c == c) ≡ true = grind (arith, nat_tests) in cc
 
 -- texts that are cut at their first such byte are cut alike
 pub same_cut : (c : ℕ) (p q r s : List ℕ) → Lacks c p → Lacks c q → p ++ c ∷ r ≡ q ++ c ∷ s → (p ≡ q) × (r ≡ s)
@@ -68,3 +70,9 @@ never_located text lack h = let tails : text ≡ h.0 ++ longitude_letter ∷ h.1
 -- what is no node
 pub no_node : (text : List ℕ) → ((z : ℤ) → SpellsNumber text z → ⊥) → (id : ℤ) → SpellsNode (node_letter ∷ text) id → ⊥
 no_node text none id h = let parts = h.parts in let same : text ≡ h.digits = cc in none id (subst (λ d. SpellsNumber d id) (sym same) h.id_is)
+
+-- whether an id stands before the first `x`
+pub located_test : (text digits rest : List ℕ) (r : Option ℤ) (b : Bool) → text ≡ digits ++ longitude_letter ∷ rest → Lacks longitude_letter digits → MatchOption r ((z : ℤ) → SpellsNumber digits z → ⊥) (λ z. SpellsNumber digits z)
+    → b ≡ is_some r → IsTrue b ↔ IsLocated (node_letter ∷ text)
+located_test text digits rest None b is lack none e = (λ yes. absurd (let no = e in cc), λ h. absurd (not_located text digits rest is lack none h))
+located_test text digits rest (Some id) b is lack spells e = (λ yes. located text digits rest id is spells, λ h. e)
