@@ -22,6 +22,8 @@ pub mod TextTags
 pub mod Hexadecimal
 pub mod TextsJoined
 pub mod TextsMade
+pub mod TextsClean
+pub mod TextsEscaped
 pub mod TextsParts
 pub mod ValueCoordinates
 pub mod ValueLists

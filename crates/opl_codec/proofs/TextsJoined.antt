@@ -1,13 +1,12 @@
 -- Texts one after another.
 use Rattle.std.proofs.Common.{◌≡◌, ◌≢◌, ℕ, zero, suc, ◌+◌, ◌<◌, ◌≤◌, true, List, [], ◌∷◌, ◌++◌, flat_map, length, take, drop, get_or, refl, sym, subst, ◌∙◌, ap, arith, append_assoc, append-nil, length-append}
-use Rattle.std.specs.Bool.{⊤}
 use Rattle.std.specs.Char.{encode_utf8}
 use Rattle.std.specs.List.{AllByRecursion}
 use Rattle.std.specs.Str.Parse.{digits_value}
 use Rattle.std.proofs.lemmas.Grind.{flat_map-append}
 use Rattle.std.proofs.lemmas.List.{take_more, take_at, take-append-drop, drop_more, drop_all, take_all, length-take-le}
-use Rattle.opl_codec.specs.Texts.{is_free, IsEscape, Character, Itself, Escape, IsCharacter, spelling, meaning, SpellsText, IsText, BeginsEscape, BadEscapeIn}
-use Rattle.opl_codec.specs.internal.TextParts.{EndsText}
+use Rattle.opl_codec.specs.Texts.{is_free, IsEscape, Character, Itself, Escape, IsCharacter, spelling, meaning, SpellsText, IsText, BeginsEscape, BadEscapeIn, TextMisfit}
+use Rattle.opl_codec.specs.internal.TextParts.{EndsText, IsTextFront}
 use Rattle.opl_codec.proofs.shared.ReadLiterals.{all_append}
 use Rattle.opl_codec.proofs.TextsParts.{free_not_percent, digits_apart}
 
@@ -152,8 +151,31 @@ one_step text after rest len n is lt here none after_is rest_is within ends esca
     let literal : SpellsText front front = (literal_front text len is none).0 in
     let value = encode_utf8 (digits_value 16 digits) in
     let means : (t : List ℕ) → SpellsText rest t → SpellsText text (front ++ (value ++ t))
-      = λ t h. subst (λ s. SpellsText s (front ++ (value ++ t))) (sym whole) (spells_append front (spelled ++ rest) front (value ++ t) literal (spells_append spelled rest value t (spells_escape digits escape) h)) in
+    = λ t h. subst (λ s. SpellsText s (front ++ (value ++ t))) (sym whole) (spells_append front (spelled ++ rest) front (value ++ t) literal (spells_append spelled rest value t (spells_escape digits escape) h)) in
     record {
       left = subst IsText (sym same.1) found.text;
       means = subst (λ (s : List ℕ). (t : List ℕ) → SpellsText rest t → SpellsText text (front ++ (encode_utf8 (digits_value 16 (take n s)) ++ t))) after_is means;
+    }
+
+-- ---- how far a text goes
+
+-- a text that goes to the end is the whole
+pub front_whole : (bytes : List ℕ) (len : ℕ) → IsTextFront bytes len → len ≡ length bytes → IsText bytes
+front_whole bytes len front whole = subst IsText (take_all len bytes (omega arith)) front.text
+
+-- one that doesn't has a byte after it that no text has
+pub front_misfit : (bytes : List ℕ) (len : ℕ) → IsTextFront bytes len → len ≢ length bytes → TextMisfit bytes
+front_misfit bytes len front other =
+    let within : len ≤ length bytes = front.within in
+    let lt : len < length bytes = omega (arith, within, other) in
+    let behind = drop_more bytes len 0 lt in
+    let stop : EndsText (get_or bytes len 0 ∷ drop (len + 1) bytes) = subst EndsText behind front.ends in
+    record {
+      front = take len bytes;
+      byte = get_or bytes len 0;
+      rest = drop (len + 1) bytes;
+      spelled_is = sym (take-append-drop len bytes) ∙ ap (λ r. take len bytes ++ r) behind;
+      text = front.text;
+      misfit = stop.0;
+      no_escape = stop.1;
     }

@@ -4,3 +4,4 @@ pub mod ReadLiterals
 pub mod ReadPlain
 pub mod SayLemmas
 pub mod TextFields
+pub mod TextLaws

@@ -26,6 +26,7 @@ mod node_item;
 mod number;
 mod out_mode;
 mod piece_reader;
+mod read_text;
 mod repeats;
 mod separator;
 mod tag_item;

@@ -2,4 +2,5 @@
 
 mod files;
 mod lines;
+mod texts;
 mod written;
