@@ -1,7 +1,6 @@
 -- Why the text of a field isn't its value, and where.
 -- Source: this project.
 use Rattle.std.specs.Prelude.{◌≡◌, ◌≢◌, ℕ, ◌+◌, ◌<◌, ◌⊎◌, ℤ, List, [], ◌∷◌, ◌++◌, length, Option}
-use Rattle.std.specs.Prelude.{◌≡◌, ◌≢◌, ℕ, ◌+◌, ◌⊎◌, ℤ, List, [], ◌∷◌, ◌++◌, length}
 use Rattle.std.specs.List.{AllByRecursion}
 use Rattle.osm_model.specs.Bytes.{equals_sign}
 use Rattle.osm_model.specs.Letters.{longitude_letter, node_letter}
