@@ -50,8 +50,13 @@ module _ (spelled : List ℕ) (len : ℕ) (front : IsTextFront spelled len) wher
 -- ---- all tags of a text
 pub tags_made : (text : List ℕ) (written tags : List Tag) → SpellsTags text written → length written ≤ LIST_LIMIT → All (λ tag. IsShort tag.key × IsShort tag.value) written → IsPermutation written tags → HasDistinctKeys tags
     → (w : List Tag) × SpellsTags text w × IsPermutation w tags × TagsFit tags
-tags_made text written tags spelled few short same differ = (written, spelled, same, record {
-  few = omega (arith, length_permutation written tags same);
-  short = All-permutation (λ tag. IsShort tag.key × IsShort tag.value) written tags same short;
-  differ = differ;
-})
+tags_made text written tags spelled few short same differ = (
+  written,
+  spelled,
+  same,
+  record {
+    few = omega (arith, length_permutation written tags same);
+    short = All-permutation (λ tag. IsShort tag.key × IsShort tag.value) written tags same short;
+    differ = differ;
+  },
+)

@@ -149,8 +149,8 @@ not_bad_key : (spelled : List ℕ) (tag : Tag) → KeyMisfit spelled → SpellsT
 not_bad_key spelled tag h t = let key : IsText t.key = (tag.key, t.key_is) in elim h [
   | inl whole ↦ text_whole t.key spelled t.value equals_sign key whole sign_misfit sign_no_escape (sym t.parts)
   | inr other ↦
-    let m = other.0 in
-    other.1 (text_before m.front t.key m.rest t.value m.byte equals_sign m.text key m.misfit m.no_escape sign_misfit sign_no_escape (sym m.spelled_is ∙ t.parts)).byte
+      let m = other.0 in
+      other.1 (text_before m.front t.key m.rest t.value m.byte equals_sign m.text key m.misfit m.no_escape sign_misfit sign_no_escape (sym m.spelled_is ∙ t.parts)).byte
 ]
 
 not_bad_key_escape : (spelled : List ℕ) (at : ℕ) (tag : Tag) → BadEscapeIn spelled at → SpellsTag spelled tag → ⊥
