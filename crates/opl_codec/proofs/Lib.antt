@@ -24,5 +24,10 @@ pub mod Blanks
 pub mod TextsParts
 pub mod TextsJoined
 pub mod TextsMade
-pub mod TextsEscaped
 pub mod TextsClean
+pub mod TextsEscaped
+pub mod ValueCoordinates
+pub mod ValueLists
+pub mod ValueMoments
+pub mod ValueNodes
+pub mod ValueTags
