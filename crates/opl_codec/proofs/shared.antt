@@ -1,4 +1,5 @@
 -- Lemmas for the crates above.
+pub mod CanonicalLists
 pub mod CanonicalValues
 pub mod ReadIds
 pub mod ReadLiterals
