@@ -1,4 +1,5 @@
 -- Lemmas for the crates above.
+pub mod CanonicalFields
 pub mod CanonicalLists
 pub mod CanonicalValues
 pub mod ReadIds
