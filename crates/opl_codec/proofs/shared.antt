@@ -1,5 +1,6 @@
 -- Lemmas for the crates above.
 pub mod CanonicalFields
+pub mod CanonicalLines
 pub mod CanonicalLists
 pub mod CanonicalValues
 pub mod ReadIds
