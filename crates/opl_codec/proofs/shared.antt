@@ -1,4 +1,8 @@
 -- Lemmas for the crates above.
+pub mod CanonicalFields
+pub mod CanonicalLines
+pub mod CanonicalLists
+pub mod CanonicalValues
 pub mod ReadIds
 pub mod ReadLiterals
 pub mod ReadPlain
