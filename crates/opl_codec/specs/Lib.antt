@@ -7,4 +7,5 @@ pub mod Refusals
 pub mod Text
 pub mod Plain
 pub mod PieceReads
+pub mod LineReads
 pub mod internal
