@@ -1,15 +1,13 @@
 -- Lines that are passed over, and what comes after them.
-use Rattle.std.proofs.Common.{◌≡◌, ℕ, ◌+◌, List, [], ◌∷◌, ◌++◌, length, length-append, arith, Option, None, Some, Result, Ok, Err, ◌⊎◌, inl, inr, true, refl, sym, ◌∙◌, ap, subst, append_assoc, append-nil}
+use Rattle.std.proofs.Common.{◌≡◌, ℕ, ◌+◌, List, [], ◌∷◌, ◌++◌, length, length-append, arith, Option, None, Some, Result, Ok, ◌⊎◌, inl, inr, true, refl, sym, ◌∙◌, subst, append_assoc, append-nil}
 use Rattle.std.specs.List.{AllByRecursion}
-use Rattle.std.specs.Io.KnownBytes.{IsAtEnd}
 use Rattle.std.proofs.KnownBytes.{Consumes-trans}
 use Rattle.opl_codec.specs.Fields.{pieces}
 use Rattle.opl_codec.specs.Lines.{IsSkipped}
-use Rattle.opl_codec.specs.LineReads.{AreEnded, Ends, IsNext, IsWholeLine, LinePlace, Says, Stops, Takes, no_memory}
-use Rattle.opl_codec.specs.internal.Buffering.{IsEnded, IsStep, SkippedTo, StopsNext, TakesLine}
+use Rattle.opl_codec.specs.LineReads.{AreEnded, Ends, IsEnd, IsWholeLine, LinePlace, Says, Stops, Takes, no_memory}
+use Rattle.opl_codec.specs.internal.Buffering.{SkippedTo, StopsNext, TakesLine}
 use Rattle.opl_codec.specs.declared.change.Change.{Change}
 use Rattle.opl_codec.specs.declared.fault.LoadFault.{LoadFault}
-use Rattle.opl_codec.specs.declared.line_buffer.LineBuffer.{LineBuffer}
 use Rattle.opl_codec.specs.declared.line_buffer.Step.{Step}
 use Rattle.opl_codec.specs.declared.line_buffer.Step.TheVariants as steps
 use Rattle.opl_codec.proofs.PieceLemmas.{pieces_join}
@@ -28,14 +26,18 @@ all_more (x ∷ xs) line h k = (h.0, all_more xs line h.1 k)
 pub line_after : (front text : List ℕ) (lines : List (List ℕ)) (line : List ℕ) (rest : List (List ℕ)) → AreEnded front lines → pieces 10 text ≡ line ∷ rest → pieces 10 (front ++ text) ≡ (lines ++ line ∷ []) ++ rest
 line_after front text lines line rest ended here = pieces_join 10 front text lines [] line rest ended here ∙ sym (append_assoc lines (line ∷ []) rest)
 
-pub skip_more : (old mid new : LinePlace) (b n : LineBuffer) (come : SkippedTo old mid b) → (b.is_ended ≡ true → ⊥) → TakesLine mid new n None → SkippedTo old new n
-skip_more old mid new b n come goes_on step = go come.lines step.whole
+-- a line isn't the end
+pub not_end : (r : Result Step LoadFault) (step : Step) (found : Option Change) → r ≡ Ok step → step ≡ steps.Line found → r ≡ Ok steps.End → ⊥
+not_end r step found e f g = cc
+
+pub skip_more : (old mid new : LinePlace) (come : SkippedTo old mid) → (mid.is_ended ≡ true → ⊥) → TakesLine mid new None → SkippedTo old new
+skip_more old mid new come goes_on step = go come.lines step.whole
   where
     counted : AreEnded come.text come.skipped → new.lines ≡ old.lines + length (come.skipped ++ step.line ∷ [])
     counted ended = omega (arith, step.counted, come.counted ended, length-append come.skipped (step.line ∷ []))
 
-    go : AreEnded come.text come.skipped ⊎ ((pieces 10 come.text ≡ come.skipped) × IsAtEnd mid.left × (b.is_ended ≡ true)) → IsEnded step.text step.line new.left n → SkippedTo old new n
-    go (inr over) whole = absurd (goes_on over.2)
+    go : AreEnded come.text come.skipped ⊎ ((pieces 10 come.text ≡ come.skipped) × IsEnd mid) → IsWholeLine step.text step.line new → SkippedTo old new
+    go (inr over) whole = absurd (goes_on over.1.found)
     go (inl ended) (inl whole) = record {
       text = come.text ++ step.text;
       skipped = come.skipped ++ step.line ∷ [];
@@ -48,20 +50,16 @@ skip_more old mid new b n come goes_on step = go come.lines step.whole
       text = come.text ++ step.text;
       skipped = come.skipped ++ step.line ∷ [];
       takes = takes_more old mid new come.text step.text come.takes step.takes;
-      lines = inr (line_after come.text step.text come.skipped step.line [] ended whole.0 ∙ append-nil (come.skipped ++ step.line ∷ []), whole.1, whole.2);
+      lines = inr (line_after come.text step.text come.skipped step.line [] ended whole.0 ∙ append-nil (come.skipped ++ step.line ∷ []), whole.1);
       none = all_more come.skipped step.line come.none step.says;
       counted = λ _. counted ended;
     }
 
-of_ended : (text line : List ℕ) (left : Option (List ℕ)) (n : LineBuffer) → IsEnded text line left n → IsWholeLine text line left
-of_ended text line left n (inl whole) = inl whole
-of_ended text line left n (inr whole) = inr (whole.0, whole.1)
-
-pub says_next : (old mid new : LinePlace) (b n : LineBuffer) (change : Change) (come : SkippedTo old mid b) → (b.is_ended ≡ true → ⊥) → TakesLine mid new n (Some change) → Says old new new.lines change
-says_next old mid new b n change come goes_on step = go come.lines
+pub says_next : (old mid new : LinePlace) (change : Change) (come : SkippedTo old mid) → (mid.is_ended ≡ true → ⊥) → TakesLine mid new (Some change) → Says old new new.lines change
+says_next old mid new change come goes_on step = go come.lines
   where
-    go : AreEnded come.text come.skipped ⊎ ((pieces 10 come.text ≡ come.skipped) × IsAtEnd mid.left × (b.is_ended ≡ true)) → Says old new new.lines change
-    go (inr over) = absurd (goes_on over.2)
+    go : AreEnded come.text come.skipped ⊎ ((pieces 10 come.text ≡ come.skipped) × IsEnd mid) → Says old new new.lines change
+    go (inr over) = absurd (goes_on over.1.found)
     go (inl ended) = record {
       front = come.text;
       skipped = come.skipped;
@@ -69,14 +67,14 @@ says_next old mid new b n change come goes_on step = go come.lines
       line = step.line;
       takes = takes_more old mid new come.text step.text come.takes step.takes;
       before = record { ended = ended; none = come.none };
-      whole = of_ended step.text step.line new.left n step.whole;
+      whole = step.whole;
       says = step.says;
       number_is = omega (arith, step.counted, come.counted ended);
       counted = refl;
     }
 
-pub ends_next : (old mid new : LinePlace) (b : LineBuffer) (come : SkippedTo old mid b) → Takes mid new [] → IsAtEnd new.left → Ends old new
-ends_next old mid new b come takes end = record {
+pub ends_next : (old mid new : LinePlace) (come : SkippedTo old mid) → Takes mid new [] → IsEnd new → Ends old new
+ends_next old mid new come takes end = record {
   text = come.text;
   skipped = come.skipped;
   takes = subst (λ (t : List ℕ). Takes old new t) (append-nil come.text) (takes_more old mid new come.text [] come.takes takes);
@@ -85,16 +83,16 @@ ends_next old mid new b come takes end = record {
   end = end;
 }
   where
-    go : AreEnded come.text come.skipped ⊎ ((pieces 10 come.text ≡ come.skipped) × IsAtEnd mid.left × (b.is_ended ≡ true)) → AreEnded come.text come.skipped ⊎ (pieces 10 come.text ≡ come.skipped)
+    go : AreEnded come.text come.skipped ⊎ ((pieces 10 come.text ≡ come.skipped) × IsEnd mid) → AreEnded come.text come.skipped ⊎ (pieces 10 come.text ≡ come.skipped)
     go (inl ended) = inl ended
     go (inr over) = inr over.0
 
-pub stops_next : (old mid new : LinePlace) (b : LineBuffer) (load : LoadFault) (come : SkippedTo old mid b) → (b.is_ended ≡ true → ⊥) → (load ≡ no_memory) ⊎ StopsNext mid new load → (load ≡ no_memory) ⊎ Stops old new load
-stops_next old mid new b load come goes_on (inl memory) = inl memory
-stops_next old mid new b load come goes_on (inr stop) = inr (go come.lines)
+pub stops_next : (old mid new : LinePlace) (load : LoadFault) (come : SkippedTo old mid) → (mid.is_ended ≡ true → ⊥) → (load ≡ no_memory) ⊎ StopsNext mid new load → (load ≡ no_memory) ⊎ Stops old new load
+stops_next old mid new load come goes_on (inl memory) = inl memory
+stops_next old mid new load come goes_on (inr stop) = inr (go come.lines)
   where
-    go : AreEnded come.text come.skipped ⊎ ((pieces 10 come.text ≡ come.skipped) × IsAtEnd mid.left × (b.is_ended ≡ true)) → Stops old new load
-    go (inr over) = absurd (goes_on over.2)
+    go : AreEnded come.text come.skipped ⊎ ((pieces 10 come.text ≡ come.skipped) × IsEnd mid) → Stops old new load
+    go (inr over) = absurd (goes_on over.1.found)
     go (inl ended) = record {
       front = come.text;
       skipped = come.skipped;

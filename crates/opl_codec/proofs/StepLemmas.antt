@@ -1,17 +1,17 @@
 -- One line more of a reader, or why there is none.
-use Rattle.std.proofs.Common.{◌≡◌, ◌≢◌, ℕ, suc, add-one, ◌+◌, ◌-◌, ◌<◌, ◌≤◌, ◌^◌, List, [], ◌∷◌, ◌++◌, length, length-append, take, drop, arith, Option, None, Some, Result, Ok, Err, IfOk, IfErr, ◌⊎◌, inl, inr, true, false, refl, sym, ◌∙◌, ap, subst, append_assoc, append-nil}
+use Rattle.std.proofs.Common.{◌≡◌, ℕ, suc, add-one, ◌+◌, ◌-◌, ◌≤◌, List, [], ◌∷◌, ◌++◌, length, length-append, take, drop, arith, Option, Result, Ok, Err, IfOk, IfErr, ◌⊎◌, inl, inr, true, refl, sym, ◌∙◌, ap, subst, append_assoc, append-nil}
 use Rattle.std.specs.Io.KnownBytes.{Consumes, IsAtEnd, Keeps, prepend_known}
 use Rattle.std.proofs.KnownBytes.{Consumes-trans}
 use Rattle.opl_codec.specs.Fields.{pieces}
-use Rattle.opl_codec.specs.LineReads.{IsRefused, IsTooLong, IsUnread, LinePlace, Takes, no_memory}
-use Rattle.opl_codec.specs.internal.Buffering.{IsSound, IsStep, SaysOrSkipped, StopsNext, TakesLine, place, unread}
+use Rattle.opl_codec.specs.LineReads.{IsRefused, IsTooLong, IsUnread, Takes, no_memory}
+use Rattle.opl_codec.specs.internal.Buffering.{IsStep, SaysOrSkipped, place, unread}
 use Rattle.opl_codec.specs.declared.change.Change.{Change}
 use Rattle.opl_codec.specs.declared.fault.LoadFault.{LoadFault}
 use Rattle.opl_codec.specs.declared.line_buffer.LineBuffer.{LineBuffer}
 use Rattle.opl_codec.specs.declared.line_buffer.Step.{Step}
 use Rattle.opl_codec.specs.declared.line_buffer.Step.TheVariants as steps
 use Rattle.opl_codec.proofs.PieceLemmas.{pieces_join}
-use Rattle.opl_codec.proofs.LineLemmas.{with_end, buffer_taken, buffer_filled, buffer_kept, buffer_ends}
+use Rattle.opl_codec.proofs.LineLemmas.{with_end, buffer_taken, buffer_kept, buffer_ends}
 
 drop_more : (line rest : List ℕ) (c : ℕ) → drop (suc (length line)) (line ++ c ∷ rest) ≡ rest
 drop_more [] rest c = refl
@@ -56,9 +56,9 @@ module _ (k0 k : Option (List ℕ)) (b0 b n : LineBuffer) (h : Comes k0 k b0 b) 
       → unread b ≡ line ++ 10 ∷ rest → len ≡ length line → pieces 10 line ≡ line ∷ [] → unread n ≡ drop (len + 1) (unread b) → n.total ≡ b.total → n.lines ≡ b.lines + 1
       → IfOk r (λ step. (found : Option Change) × (step ≡ steps.Line found) × SaysOrSkipped (b.pending.items ++ take len (unread b)) found)
       → IfErr r (λ load. (load ≡ no_memory) ⊎ ((load.line ≡ b.lines + 1) × IsRefused (b.pending.items ++ take len (unread b)) load.fault))
-      → IsStep (place k0 b0) (place k n) n r
+      → IsStep (place k0 b0) (place k n) r
   step_ended line rest len (Ok step) cut long one is same counted said fault =
-      subst (λ (s : Step). IsStep (place k0 b0) (place k n) n (Ok s)) (sym said.1) (record {
+      subst (λ (s : Step). IsStep (place k0 b0) (place k n) (Ok s)) (sym said.1) (record {
         text = b.pending.items ++ (line ++ 10 ∷ []);
         line = b.pending.items ++ line;
         takes = ended_takes line rest len cut long is same;
@@ -84,19 +84,19 @@ module _ (k0 k : Option (List ℕ)) (b0 b n : LineBuffer) (h : Comes k0 k b0 b) 
 
   last_step : (step : Step) → unread b ≡ [] → IsAtEnd k → unread n ≡ unread b → n.total ≡ b.total → n.is_ended ≡ true
       → ((step ≡ steps.End) × (b.pending.items ≡ []) × (n.lines ≡ b.lines)) ⊎ ((found : Option Change) × (step ≡ steps.Line found) × SaysOrSkipped b.pending.items found × (n.lines ≡ b.lines + 1))
-      → IsStep (place k0 b0) (place k n) n (Ok step)
+      → IsStep (place k0 b0) (place k n) (Ok step)
   last_step step none end is same stays (inl over) =
-      subst (λ (s : Step). IsStep (place k0 b0) (place k n) n (Ok s)) (sym over.0) (
+      subst (λ (s : Step). IsStep (place k0 b0) (place k n) (Ok s)) (sym over.0) (
         subst (λ (t : List ℕ). Takes (place k0 b0) (place k n) t) over.1 (last_takes none is same),
-        buffer_ends k (unread n) (is ∙ none) end,
+        record { found = stays; none = buffer_ends k (unread n) (is ∙ none) end },
         over.2 ∙ h.lines,
       )
   last_step step none end is same stays (inr said) =
-      subst (λ (s : Step). IsStep (place k0 b0) (place k n) n (Ok s)) (sym said.1) (record {
+      subst (λ (s : Step). IsStep (place k0 b0) (place k n) (Ok s)) (sym said.1) (record {
         text = b.pending.items;
         line = b.pending.items;
         takes = last_takes none is same;
-        whole = inr (h.line, buffer_ends k (unread n) (is ∙ none) end, stays);
+        whole = inr (h.line, record { found = stays; none = buffer_ends k (unread n) (is ∙ none) end });
         says = said.2;
         counted = omega (arith, said.3, h.lines);
       })
@@ -104,7 +104,7 @@ module _ (k0 k : Option (List ℕ)) (b0 b n : LineBuffer) (h : Comes k0 k b0 b) 
   pub step_last : (r : Result Step LoadFault) → unread b ≡ [] → IsAtEnd k → unread n ≡ unread b → n.total ≡ b.total → n.is_ended ≡ true
       → IfOk r (λ step. ((step ≡ steps.End) × (b.pending.items ≡ []) × (n.lines ≡ b.lines)) ⊎ ((found : Option Change) × (step ≡ steps.Line found) × SaysOrSkipped b.pending.items found × (n.lines ≡ b.lines + 1)))
       → IfErr r (λ load. (load ≡ no_memory) ⊎ ((load.line ≡ b.lines + 1) × IsRefused b.pending.items load.fault))
-      → IsStep (place k0 b0) (place k n) n r
+      → IsStep (place k0 b0) (place k n) r
   step_last (Ok step) none end is same stays said fault = last_step step none end is same stays said
   step_last (Err load) none end is same stays said (inl memory) = inl memory
   step_last (Err load) none end is same stays said (inr why) = inr (record {
@@ -112,7 +112,7 @@ module _ (k0 k : Option (List ℕ)) (b0 b n : LineBuffer) (h : Comes k0 k b0 b) 
     line = b.pending.items;
     takes = last_takes none is same;
     number_is = omega (arith, why.0, h.lines);
-    why = inl (inr (h.line, buffer_ends k (unread n) (is ∙ none) end), why.1);
+    why = inl (inr (h.line, record { found = stays; none = buffer_ends k (unread n) (is ∙ none) end }), why.1);
   })
 
   -- the unread bytes are kept as the beginning of the line
@@ -124,7 +124,7 @@ module _ (k0 k : Option (List ℕ)) (b0 b n : LineBuffer) (h : Comes k0 k b0 b) 
 
   pub step_long : (load : LoadFault) → pieces 10 (unread b) ≡ unread b ∷ [] → unread n ≡ [] → n.total ≡ b.total
       → (load ≡ no_memory) ⊎ ((load.line ≡ b.lines + 1) × IsTooLong (b.pending.items ++ unread b) load.fault)
-      → IsStep (place k0 b0) (place k n) n (Err load)
+      → IsStep (place k0 b0) (place k n) (Err load)
   step_long load one none same (inl memory) = inl memory
   step_long load one none same (inr why) = inr (record {
     text = b.pending.items ++ unread b;
@@ -137,7 +137,7 @@ module _ (k0 k : Option (List ℕ)) (b0 b n : LineBuffer) (h : Comes k0 k b0 b) 
 -- the reader gave no more
 pub step_unread : (k0 k m : Option (List ℕ)) (b0 b n : LineBuffer) (h : Comes k0 k b0 b) (load : LoadFault)
     → unread b ≡ [] → unread n ≡ [] → Keeps k m → n.total ≡ b.total → (load.line ≡ b.lines + 1) × IsUnread b.total load.fault
-    → IsStep (place k0 b0) (place m n) n (Err load)
+    → IsStep (place k0 b0) (place m n) (Err load)
 step_unread k0 k m b0 b n h load none still keeps same why = inr (record {
   text = b.pending.items;
   line = b.pending.items;

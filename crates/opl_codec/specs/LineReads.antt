@@ -1,6 +1,6 @@
 -- The lines of a reader, read one after the other.
 -- Source: this project.
-use Rattle.std.specs.Prelude.{◌≡◌, ℕ, ◌+◌, ◌<◌, ◌≤◌, ◌^◌, ◌⊎◌, List, [], ◌∷◌, ◌++◌, Option, Some, None, Result, Ok, Err, length}
+use Rattle.std.specs.Prelude.{◌≡◌, ℕ, Bool, true, ◌+◌, ◌<◌, ◌≤◌, ◌^◌, ◌⊎◌, List, [], ◌∷◌, ◌++◌, Option, Some, None, Result, Ok, Err, length}
 use Rattle.std.specs.List.{AllByRecursion}
 use Rattle.std.specs.Io.KnownBytes.{Consumes, IsAtEnd}
 use Rattle.osm_model.specs.Bytes.{line_feed}
@@ -13,12 +13,18 @@ use Rattle.opl_codec.specs.declared.fault.LoadFault.{LoadFault}
 use Rattle.opl_codec.specs.declared.fault.OplFault.{OplFault}
 use Rattle.opl_codec.specs.declared.line.TheConstants.{LONGEST_LINE}
 
--- a place between the lines of a reader: how many lines were read, how many bytes they have, and the
--- bytes after them, where the reader tells its bytes
+-- a place between the lines of a reader: how many lines were read, how many bytes they have, the bytes
+-- after them, where the reader tells its bytes, and whether the reader was found to be at its end
 pub record LinePlace : Type 0 where
   pub lines : ℕ
   pub taken : ℕ
   pub left : Option (List ℕ)
+  pub is_ended : Bool
+
+-- the end of the reader
+pub record IsEnd (at : LinePlace) : Type 0 where
+  pub found : at.is_ended ≡ true
+  pub none : IsAtEnd at.left
 
 -- the place that was reached, and the fault that is answered from now on
 pub record LineRead : Type 0 where
@@ -30,8 +36,8 @@ abbrev pub AreEnded : List ℕ → List (List ℕ) → Type 0
 AreEnded text lines = pieces line_feed text ≡ lines ++ [] ∷ []
 
 -- the text is this line with its LF, which the last line of a reader may lack
-abbrev pub IsWholeLine : List ℕ → List ℕ → Option (List ℕ) → Type 0
-IsWholeLine text line left = AreEnded text (line ∷ []) ⊎ ((pieces line_feed text ≡ line ∷ []) × IsAtEnd left)
+abbrev pub IsWholeLine : List ℕ → List ℕ → LinePlace → Type 0
+IsWholeLine text line new = AreEnded text (line ∷ []) ⊎ ((pieces line_feed text ≡ line ∷ []) × IsEnd new)
 
 -- from one place to the next these bytes were taken
 pub record Takes (old new : LinePlace) (bytes : List ℕ) : Type 0 where
@@ -51,7 +57,7 @@ pub record Says (old new : LinePlace) (number : ℕ) (change : Change) : Type 0 
   pub line : List ℕ
   pub takes : Takes old new (front ++ text)
   pub before : AreSkipped front skipped
-  pub whole : IsWholeLine text line new.left
+  pub whole : IsWholeLine text line new
   pub says : Spells line change
   pub number_is : number ≡ old.lines + length skipped + 1
   pub counted : new.lines ≡ number
@@ -63,7 +69,7 @@ pub record Ends (old new : LinePlace) : Type 0 where
   pub takes : Takes old new text
   pub lines : AreEnded text skipped ⊎ (pieces line_feed text ≡ skipped)
   pub none : AllByRecursion IsSkipped skipped
-  pub end : IsAtEnd new.left
+  pub end : IsEnd new
 
 -- the line says nothing, and yet isn't skipped; the cause stands at its byte
 pub record IsRefused (line : List ℕ) (fault : OplFault) : Type 0 where
@@ -84,7 +90,7 @@ IsUnread taken fault =
 -- the reader gave no more than this beginning
 abbrev pub StopsLine : List ℕ → List ℕ → LinePlace → OplFault → Type 0
 StopsLine text line new fault =
-    (IsWholeLine text line new.left × IsRefused line fault)
+    (IsWholeLine text line new × IsRefused line fault)
     ⊎ ((pieces line_feed text ≡ line ∷ []) × (IsTooLong line fault ⊎ IsUnread new.taken fault))
 
 -- skipped lines, and then the line with the fault

@@ -46,7 +46,7 @@ impl LineBuffer {
     /// Nothing was read yet. It takes no memory.
     pub fn new(alloc: Global) -> LineBuffer
         ensures sound { (known : Option (List ℕ)) → GoesOn known result }
-        ensures nothing { (result.lines ≡ 0) × (result.total ≡ 0) }
+        ensures nothing { (result.lines ≡ 0) × (result.total ≡ 0) × (result.is_ended ≡ false) }
         ensures unread { unread result ≡ [] }
     {
         LineBuffer {
@@ -64,8 +64,8 @@ impl LineBuffer {
     pub fn take_line<R: Read>(&mut self, reader: &mut R) -> Result<Step, LoadFault>
         requires { GoesOn (R.remaining reader.old) self.old }
         ensures goes_on { OnOk result (GoesOn (R.remaining reader.new) self.new) }
-        ensures step { IsStep (place (R.remaining reader.old) self.old) (place (R.remaining reader.new) self.new) self.new result }
-        ensures ended { self.old.is_ended ≡ true → result ≡ Ok Step.End }
+        ensures step { IsStep (place (R.remaining reader.old) self.old) (place (R.remaining reader.new) self.new) result }
+        ensures ended { self.old.is_ended ≡ true → (result ≡ Ok Step.End) × (self.new ≡ self.old) × (reader.new ≡ reader.old) }
     {
         loop {
             if let Some(len) = self.line_len() {
@@ -87,6 +87,7 @@ impl LineBuffer {
     ) -> Result<Option<(u64, Change)>, LoadFault>
         requires { GoesOn (R.remaining reader.old) self.old }
         ensures next { IsNext (place (R.remaining reader.old) self.old) (place (R.remaining reader.new) self.new) result }
+        ensures over { self.old.is_ended ≡ true → (result ≡ Ok None) × (self.new ≡ self.old) × (reader.new ≡ reader.old) }
         ensures goes_on { OnOk result (GoesOn (R.remaining reader.new) self.new) }
         ensures few { OnOk result (self.new.lines ≤ 2 ^ 48) }
     {
@@ -147,7 +148,7 @@ impl LineBuffer {
         ensures sound { OnOk result (IsSound self.new × (self.new.pending.items ≡ [])) }
         ensures refused { IfErr result (λ load. (load ≡ no_memory) ⊎ ((load.line ≡ self.old.lines + 1) × IsRefused self.old.pending.items load.fault)) }
         ensures same { (self.new.from ≡ self.old.from) × (self.new.pieces ≡ self.old.pieces) × (self.new.total ≡ self.old.total) × (self.new.is_ended ≡ self.old.is_ended) }
-        ensures empty { self.old.pending.items ≡ [] → result ≡ Ok Step.End }
+        ensures empty { self.old.pending.items ≡ [] → (result ≡ Ok Step.End) × (self.new ≡ self.old) }
     {
         if self.pending.is_empty() {
             return Ok(Step::End);

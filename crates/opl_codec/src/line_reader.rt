@@ -1,6 +1,6 @@
 //! The lines of a reader, one after the other.
 
-ghost use Rattle.std.specs.Prelude.{◌≡◌, ◌≤◌, ◌^◌, Err, IfErr, IfNone, IfSome, None, OnOk, Some};
+ghost use Rattle.std.specs.Prelude.{◌≡◌, ◌≤◌, ◌^◌, Err, Ok, false, true, IfErr, IfNone, IfSome, None, OnOk, Some};
 ghost use Rattle.opl_codec.specs.LineReads.{IsNext};
 
 use crate::change::Change;
@@ -39,7 +39,7 @@ impl<R: Read> Model for LineReader<R> {
 impl<R: Read> LineReader<R> {
     /// Nothing was read yet. It takes no memory.
     pub fn new(alloc: Global, reader: R) -> LineReader<R>
-        ensures { result ≡ record { at = record { lines = 0; taken = 0; left = R.remaining reader }; fault = None } }
+        ensures { result ≡ record { at = record { lines = 0; taken = 0; left = R.remaining reader; is_ended = false }; fault = None } }
     {
         LineReader {
             reader,
@@ -61,6 +61,8 @@ impl<R: Read> LineReader<R> {
         ensures again { IfSome self.old.fault (λ fault. (result ≡ Err fault) × (self.new ≡ self.old)) }
         // What is told is what comes next,
         ensures next { IfNone self.old.fault (IsNext self.old.at self.new.at result) }
+        // nothing more after the end,
+        ensures over { IfNone self.old.fault (self.old.at.is_ended ≡ true → (result ≡ Ok None) × (self.new ≡ self.old)) }
         // and a fault is kept.
         ensures kept { IfErr result (λ fault. self.new.fault ≡ Some fault) }
         ensures goes_on { OnOk result (self.new.fault ≡ None) }

@@ -1,12 +1,12 @@
 -- A reader's bytes that were read and not yet told.
 -- Source: this project.
-use Rattle.std.specs.Prelude.{◌≡◌, ℕ, ◌+◌, ◌-◌, ◌*◌, ◌≤◌, ◌^◌, ◌⊎◌, Bool, true, false, List, [], ◌∷◌, Option, Some, None, Result, ⊤, Ok, Err, MatchOption, drop, length}
+use Rattle.std.specs.Prelude.{◌≡◌, ℕ, ◌+◌, ◌-◌, ◌*◌, ◌≤◌, ◌^◌, ◌⊎◌, true, false, List, [], Option, Some, None, Result, ⊤, Ok, Err, MatchOption, drop, length}
 use Rattle.std.specs.List.{AllByRecursion}
 use Rattle.std.specs.Io.KnownBytes.{IsAtEnd, prepend_known}
 use Rattle.osm_model.specs.Bytes.{line_feed}
 use Rattle.opl_codec.specs.Fields.{pieces}
 use Rattle.opl_codec.specs.Lines.{IsSkipped, Spells}
-use Rattle.opl_codec.specs.LineReads.{AreEnded, IsRefused, LinePlace, StopsLine, Takes, no_memory}
+use Rattle.opl_codec.specs.LineReads.{AreEnded, IsEnd, IsRefused, IsWholeLine, LinePlace, StopsLine, Takes, no_memory}
 use Rattle.opl_codec.specs.declared.change.Change.{Change}
 use Rattle.opl_codec.specs.declared.fault.LoadFault.{LoadFault}
 use Rattle.opl_codec.specs.declared.fault.OplFault.{OplFault}
@@ -20,7 +20,7 @@ unread b = drop b.from b.pieces.last
 
 -- the place that the buffer has reached, where the reader has these bytes left
 abbrev pub place : Option (List ℕ) → LineBuffer → LinePlace
-place known b = record { lines = b.lines; taken = b.total - length (unread b); left = prepend_known (unread b) known }
+place known b = record { lines = b.lines; taken = b.total - length (unread b); left = prepend_known (unread b) known; is_ended = b.is_ended }
 
 -- what always holds of a buffer that goes on
 pub record IsSound (b : LineBuffer) : Type 0 where
@@ -40,16 +40,12 @@ SaysOrSkipped line found = MatchOption found (IsSkipped line) (Spells line)
 abbrev pub IsFaultOf : List ℕ → OplFault → Type 0
 IsFaultOf line fault = (fault ≡ no_memory.fault) ⊎ IsRefused line fault
 
--- the line has its LF, or the reader has ended
-abbrev pub IsEnded : List ℕ → List ℕ → Option (List ℕ) → LineBuffer → Type 0
-IsEnded text line left new = AreEnded text (line ∷ []) ⊎ ((pieces line_feed text ≡ line ∷ []) × IsAtEnd left × (new.is_ended ≡ true))
-
 -- one line more was read
-pub record TakesLine (old new : LinePlace) (b : LineBuffer) (found : Option Change) : Type 0 where
+pub record TakesLine (old new : LinePlace) (found : Option Change) : Type 0 where
   pub text : List ℕ
   pub line : List ℕ
   pub takes : Takes old new text
-  pub whole : IsEnded text line new.left b
+  pub whole : IsWholeLine text line new
   pub says : SaysOrSkipped line found
   pub counted : new.lines ≡ old.lines + 1
 
@@ -67,10 +63,10 @@ pub record GoesOn (known : Option (List ℕ)) (b : LineBuffer) : Type 0 where
   pub empty : b.pending.items ≡ []
   pub end : b.is_ended ≡ true → IsAtEnd known
 
-abbrev pub IsStep : LinePlace → LinePlace → LineBuffer → Result Step LoadFault → Type 0
-IsStep old new b (Ok (steps.Line found)) = TakesLine old new b found
-IsStep old new b (Ok steps.End) = Takes old new [] × IsAtEnd new.left × (new.lines ≡ old.lines)
-IsStep old new b (Err load) = (load ≡ no_memory) ⊎ StopsNext old new load
+abbrev pub IsStep : LinePlace → LinePlace → Result Step LoadFault → Type 0
+IsStep old new (Ok (steps.Line found)) = TakesLine old new found
+IsStep old new (Ok steps.End) = Takes old new [] × IsEnd new × (new.lines ≡ old.lines)
+IsStep old new (Err load) = (load ≡ no_memory) ⊎ StopsNext old new load
 
 -- a reader that told no fault yet goes on
 abbrev pub GoesOnUnless : Option LoadFault → Option (List ℕ) → LineBuffer → Type 0
@@ -78,10 +74,10 @@ GoesOnUnless None known b = GoesOn known b
 GoesOnUnless (Some load) known b = ⊤
 
 -- skipped lines alone were read
-pub record SkippedTo (old new : LinePlace) (b : LineBuffer) : Type 0 where
+pub record SkippedTo (old new : LinePlace) : Type 0 where
   pub text : List ℕ
   pub skipped : List (List ℕ)
   pub takes : Takes old new text
-  pub lines : AreEnded text skipped ⊎ ((pieces line_feed text ≡ skipped) × IsAtEnd new.left × (b.is_ended ≡ true))
+  pub lines : AreEnded text skipped ⊎ ((pieces line_feed text ≡ skipped) × IsEnd new)
   pub none : AllByRecursion IsSkipped skipped
   pub counted : AreEnded text skipped → new.lines ≡ old.lines + length skipped

@@ -1,8 +1,9 @@
-use Rattle.std.proofs.Common.{◌≡◌, ℕ, List, append-nil, ◌-◌, ◌++◌, ◌∷◌, [], ◌∙◌, ap, sym, subst, arith, length, length-append, drop}
+use Rattle.std.proofs.Common.{◌≡◌, ℕ, List, append-nil, ◌∷◌, [], ◌∙◌, ap, sym, subst, arith, length, length-append, drop}
 use Rattle.std.proofs.KnownBytes.{Consumes-trans}
 use Rattle.std.proofs.lemmas.Result.{err_from_is_err_and}
 use Rattle.opl_codec.specs.Fields.{pieces}
 use Rattle.std.specs.Io.KnownBytes.{Consumes, prepend_known}
+use Rattle.opl_codec.specs.declared.line_buffer.LineBuffer.{LineBuffer}
 use Rattle.opl_codec.specs.PieceReads.{PieceRead}
 use Rattle.opl_codec.specs.internal.Buffering.{unread}
 use Rattle.opl_codec.proofs.LineLemmas.{buffer_filled}
@@ -49,7 +50,7 @@ loop-len-preserved g c =
       sound = now.sound;
       taken = omega (arith, i.taken, k.same.1, now.counted.0, ap length pending, length-append c.loop-len.self.pending.items (unread c.loop-len.self));
       lines = same.1 ∙ (k.same.2 ∙ i.lines);
-      ended = λ was. let now_ended = (i.ended was).0 in let not = c.if-self.false in absurd cc;
+      ended = λ was. let now_ended = ap (λ (b : LineBuffer). b.is_ended) (i.ended was).0 ∙ was in let not = c.if-self.false in absurd cc;
       end = now.end;
     }
 

@@ -1,4 +1,4 @@
-use Rattle.std.proofs.Common.{◌≡◌, ◌+◌, ◌-◌, ◌^◌, ◌∷◌, [], List, ℕ, length, true}
+use Rattle.std.proofs.Common.{◌≡◌, ◌+◌, ◌-◌, ◌^◌, ◌∷◌, [], length, true}
 use Rattle.std.specs.Io.KnownBytes.{Consumes, IsAtEnd, prepend_known}
 use Rattle.opl_codec.specs.Fields.{pieces}
 use Rattle.opl_codec.specs.internal.Buffering.{IsSound, unread}
@@ -11,7 +11,7 @@ invariant-loop-len g l = record {
   sound : IsSound l.self;
   taken : l.self.total + length (unread l.initial.self) ≡ l.initial.self.total + length l.self.pending.items + length (unread l.self);
   lines : l.self.lines ≡ l.initial.self.lines;
-  ended : l.initial.self.is_ended ≡ true → (l.self.is_ended ≡ true) × (l.self.pending.items ≡ []);
+  ended : l.initial.self.is_ended ≡ true → (l.self ≡ l.initial.self) × (l.reader ≡ l.initial.reader);
   end : l.self.is_ended ≡ true → IsAtEnd (g.R.Read.remaining l.reader);
 }
 
