@@ -12,6 +12,9 @@ pub mod ReadOrder
 pub mod ReadLaw
 pub mod PieceLemmas
 pub mod EachLemmas
+pub mod LineLemmas
+pub mod StepLemmas
+pub mod NextLemmas
 pub mod LoadLemmas
 pub mod WriteSteps
 pub mod WriteLists

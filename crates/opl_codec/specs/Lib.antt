@@ -7,6 +7,7 @@ pub mod Refusals
 pub mod Text
 pub mod Plain
 pub mod PieceReads
+pub mod LineReads
 pub mod internal
 pub mod Texts
 pub mod Values

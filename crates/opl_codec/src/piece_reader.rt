@@ -1,7 +1,7 @@
 //! A reader's bytes, piece by piece.
 
-ghost use Rattle.std.specs.Prelude.{◌≡◌, ◌≤◌, ◌<◌, ◌+◌, ◌^◌, [], length, IfOk, IfErr, OnOk, MatchBool};
-ghost use Rattle.std.specs.Io.KnownBytes.{Consumes, IsAtEnd};
+ghost use Rattle.std.specs.Prelude.{◌≡◌, ◌≤◌, ◌<◌, ◌+◌, ◌^◌, [], length, IfOk, IfErr, OnOk, OnErr, MatchBool};
+ghost use Rattle.std.specs.Io.KnownBytes.{Consumes, IsAtEnd, Keeps};
 
 use std::io::Read;
 use std::marker::Model;
@@ -66,9 +66,14 @@ impl PieceReader {
         ensures more { IfOk result (λ more. MatchBool more (0 < length self.new.last) ((self.new.last ≡ []) × IsAtEnd (R.remaining reader.new))) }
         ensures counted { OnOk result (self.new.reads ≡ self.old.reads + 1) }
         ensures few { self.new.reads ≤ 2 ^ 32 }
+        // A refusal takes no byte of the reader, and leaves no piece.
+        ensures kept { OnErr result (Keeps (R.remaining reader.old) (R.remaining reader.new)) }
+        ensures none { OnErr result (self.new.last ≡ []) }
+        ensures short { length self.new.last ≤ 65536 }
         // It is refused as endless only after 2^32 reads.
         ensures endless { IfErr result (λ fault. fault ≡ PieceFault.Endless → self.old.reads ≡ 2 ^ 32) }
     {
+        self.len = 0;
         if self.reads >= READS {
             return Err(PieceFault::Endless);
         }

@@ -1,6 +1,6 @@
 //! Files as sets: lines in any order, pieces of any size, repeated objects, failing readers.
 
-use crate::{LoadFault, OplCause, OplFault, PieceReader, cut, read_set};
+use crate::{Change, LineReader, LoadFault, OplCause, OplFault, PieceReader, cut, read_set};
 use osm_model::{Kind, Ref};
 use std::alloc::{AllocError, Global};
 use std::io;
@@ -216,6 +216,41 @@ fn memory_changes_no_set(rt: HostRuntime) -> Result<(), LoadFault> {
     }
     assert!(rt; holds_three(&rt, alloc, file, 5)?);
     Ok(())
+}
+
+/// The id of the object that the next line puts, and the line's number; `None` at the end.
+fn next_id<R: Read>(reader: &mut LineReader<R>) -> Result<Option<(u64, i64)>, LoadFault> {
+    match reader.next_change()? {
+        Some((line, Change::Put(object))) => Ok(Some((line, object.id()))),
+        Some((line, Change::Delete(name))) => Ok(Some((line, name.id))),
+        None => Ok(None),
+    }
+}
+
+#[test]
+fn lines_are_told_one_after_the_other(rt: HostRuntime) {
+    for at_once in [1, 7, 4096] {
+        for (file, last) in [
+            (
+                "n1 x1 y1\n\nn2 x2 y2\nc5\nn3 x3 y3",
+                fault(4, OplCause::UnknownObject, 0),
+            ),
+            ("n1 x1 y1\n\nn2 x2 y2", None),
+            ("n1 x1 y1\n\nn2 x2 y2\n", None),
+        ] {
+            let slow = SlowReader {
+                left: file.as_bytes(),
+                at_once,
+                fails_at: 0,
+                calls: 0,
+            };
+            let mut reader = LineReader::new(rt.alloc(), slow);
+            assert_eq!(rt; next_id(&mut reader), Ok(Some((1, 1))));
+            assert_eq!(rt; next_id(&mut reader), Ok(Some((3, 2))));
+            assert_eq!(rt; next_id(&mut reader).err(), last, "of {file:?}");
+            assert_eq!(rt; next_id(&mut reader).err(), last, "again, of {file:?}");
+        }
+    }
 }
 
 #[test]

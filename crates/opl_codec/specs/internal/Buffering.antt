@@ -1,0 +1,83 @@
+-- A reader's bytes that were read and not yet told.
+-- Source: this project.
+use Rattle.std.specs.Prelude.{◌≡◌, ℕ, ◌+◌, ◌-◌, ◌*◌, ◌≤◌, ◌^◌, ◌⊎◌, true, false, List, [], Option, Some, None, Result, ⊤, Ok, Err, MatchOption, drop, length}
+use Rattle.std.specs.List.{AllByRecursion}
+use Rattle.std.specs.Io.KnownBytes.{IsAtEnd, prepend_known}
+use Rattle.osm_model.specs.Bytes.{line_feed}
+use Rattle.opl_codec.specs.Fields.{pieces}
+use Rattle.opl_codec.specs.Lines.{IsSkipped, Spells}
+use Rattle.opl_codec.specs.LineReads.{AreEnded, IsEnd, IsRefused, IsWholeLine, LinePlace, StopsLine, Takes, no_memory}
+use Rattle.opl_codec.specs.declared.change.Change.{Change}
+use Rattle.opl_codec.specs.declared.fault.LoadFault.{LoadFault}
+use Rattle.opl_codec.specs.declared.fault.OplFault.{OplFault}
+use Rattle.opl_codec.specs.declared.line_buffer.LineBuffer.{LineBuffer}
+use Rattle.opl_codec.specs.declared.line_buffer.Step.{Step}
+use Rattle.opl_codec.specs.declared.line_buffer.Step.TheVariants as steps
+
+-- the bytes of the last piece that no line has yet
+abbrev pub unread : LineBuffer → List ℕ
+unread b = drop b.from b.pieces.last
+
+-- the place that the buffer has reached, where the reader has these bytes left
+abbrev pub place : Option (List ℕ) → LineBuffer → LinePlace
+place known b = record { lines = b.lines; taken = b.total - length (unread b); left = prepend_known (unread b) known; is_ended = b.is_ended }
+
+-- what always holds of a buffer that goes on
+pub record IsSound (b : LineBuffer) : Type 0 where
+  pub within : b.from ≤ length b.pieces.last
+  pub short : length b.pieces.last ≤ 65536
+  pub counted : b.lines + length b.pending.items + length (unread b) ≤ b.total
+  pub few : b.total ≤ 65536 * b.pieces.reads
+  pub reads : b.pieces.reads ≤ 2 ^ 32
+  pub many : b.is_ended ≡ false → b.pieces.reads ≤ b.total
+  pub ended : b.is_ended ≡ true → unread b ≡ []
+
+-- what the line says: nothing where it is skipped
+abbrev pub SaysOrSkipped : List ℕ → Option Change → Type 0
+SaysOrSkipped line found = MatchOption found (IsSkipped line) (Spells line)
+
+-- what is told of a line that isn't read
+abbrev pub IsFaultOf : List ℕ → OplFault → Type 0
+IsFaultOf line fault = (fault ≡ no_memory.fault) ⊎ IsRefused line fault
+
+-- one line more was read
+pub record TakesLine (old new : LinePlace) (found : Option Change) : Type 0 where
+  pub text : List ℕ
+  pub line : List ℕ
+  pub takes : Takes old new text
+  pub whole : IsWholeLine text line new
+  pub says : SaysOrSkipped line found
+  pub counted : new.lines ≡ old.lines + 1
+
+-- the line after those that were read has this fault
+pub record StopsNext (old new : LinePlace) (load : LoadFault) : Type 0 where
+  pub text : List ℕ
+  pub line : List ℕ
+  pub takes : Takes old new text
+  pub number_is : load.line ≡ old.lines + 1
+  pub why : StopsLine text line new load.fault
+
+-- the buffer goes on with the next line of a reader that has these bytes left
+pub record GoesOn (known : Option (List ℕ)) (b : LineBuffer) : Type 0 where
+  pub sound : IsSound b
+  pub empty : b.pending.items ≡ []
+  pub end : b.is_ended ≡ true → IsAtEnd known
+
+abbrev pub IsStep : LinePlace → LinePlace → Result Step LoadFault → Type 0
+IsStep old new (Ok (steps.Line found)) = TakesLine old new found
+IsStep old new (Ok steps.End) = Takes old new [] × IsEnd new × (new.lines ≡ old.lines)
+IsStep old new (Err load) = (load ≡ no_memory) ⊎ StopsNext old new load
+
+-- a reader that told no fault yet goes on
+abbrev pub GoesOnUnless : Option LoadFault → Option (List ℕ) → LineBuffer → Type 0
+GoesOnUnless None known b = GoesOn known b
+GoesOnUnless (Some load) known b = ⊤
+
+-- skipped lines alone were read
+pub record SkippedTo (old new : LinePlace) : Type 0 where
+  pub text : List ℕ
+  pub skipped : List (List ℕ)
+  pub takes : Takes old new text
+  pub lines : AreEnded text skipped ⊎ ((pieces line_feed text ≡ skipped) × IsEnd new)
+  pub none : AllByRecursion IsSkipped skipped
+  pub counted : AreEnded text skipped → new.lines ≡ old.lines + length skipped

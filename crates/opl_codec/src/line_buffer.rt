@@ -1,0 +1,236 @@
+//! The bytes of a reader, cut into lines.
+
+ghost use Rattle.std.specs.Prelude.{◌≡◌, ◌≢◌, ◌+◌, ◌<◌, ◌≤◌, ◌++◌, ◌∷◌, ◌⊎◌, [], List, ℕ, None, length, drop, take, MatchOption, IfOk, IfErr, OnOk, Ok, ◌^◌, Option, false, true};
+ghost use Rattle.std.specs.Io.KnownBytes.{Consumes, IsAtEnd, Keeps};
+ghost use Rattle.opl_codec.specs.Fields.{pieces};
+ghost use Rattle.opl_codec.specs.LineReads.{IsNext, IsRefused, IsTooLong, IsUnread, no_memory};
+ghost use Rattle.opl_codec.specs.internal.Buffering.{GoesOn, IsFaultOf, IsSound, IsStep, SaysOrSkipped, place, unread};
+ghost use Rattle.opl_codec.specs.declared.line.TheConstants.{LONGEST_LINE};
+
+use crate::cause::OplCause;
+use crate::change::Change;
+use crate::fault::{LoadFault, OplFault};
+use crate::line::{LONGEST_LINE, read_line};
+use crate::piece_reader::{PieceFault, PieceReader};
+use crate::separator::cut;
+use std::alloc::{AllocError, Global};
+use std::io::Read;
+
+/// What comes next of a reader.
+#[derive(Drop)]
+pub enum Step {
+    /// A line, and what it says: nothing where it is skipped.
+    Line(Option<Change>),
+    /// The end.
+    End,
+}
+
+/// What was read of a reader and not yet told as lines.
+#[derive(Drop)]
+pub struct LineBuffer {
+    alloc: Global,
+    pub pieces: PieceReader,
+    /// Where in the last piece the bytes begin that no line has yet.
+    pub from: usize,
+    /// The beginning of a line that crosses pieces.
+    pub pending: Vec<u8>,
+    /// How many bytes the reader gave.
+    pub total: u64,
+    /// How many lines were read.
+    pub lines: u64,
+    /// Whether the reader has ended.
+    pub is_ended: bool,
+}
+
+impl LineBuffer {
+    /// Nothing was read yet. It takes no memory.
+    pub fn new(alloc: Global) -> LineBuffer
+        ensures sound { (known : Option (List ℕ)) → GoesOn known result }
+        ensures nothing { (result.lines ≡ 0) × (result.total ≡ 0) × (result.is_ended ≡ false) }
+        ensures unread { unread result ≡ [] }
+    {
+        LineBuffer {
+            alloc,
+            pieces: PieceReader::new(),
+            from: 0,
+            pending: Vec::new(alloc),
+            total: 0,
+            lines: 0,
+            is_ended: false,
+        }
+    }
+
+    /// Reads the next line of the reader. Give the same reader to each call.
+    pub fn take_line<R: Read>(&mut self, reader: &mut R) -> Result<Step, LoadFault>
+        requires { GoesOn (R.remaining reader.old) self.old }
+        ensures goes_on { OnOk result (GoesOn (R.remaining reader.new) self.new) }
+        ensures step { IsStep (place (R.remaining reader.old) self.old) (place (R.remaining reader.new) self.new) result }
+        ensures ended { self.old.is_ended ≡ true → (result ≡ Ok Step.End) × (self.new ≡ self.old) × (reader.new ≡ reader.old) }
+    {
+        loop {
+            if let Some(len) = self.line_len() {
+                return self.take_ended(len);
+            }
+            if self.is_ended {
+                return self.take_last();
+            }
+            self.keep_unread()?;
+            self.read_piece(reader)?;
+        }
+    }
+
+    /// What the next line says that says something, and its number from 1; `None` at the end. Give the
+    /// same reader to each call.
+    pub fn next_change<R: Read>(
+        &mut self,
+        reader: &mut R,
+    ) -> Result<Option<(u64, Change)>, LoadFault>
+        requires { GoesOn (R.remaining reader.old) self.old }
+        ensures next { IsNext (place (R.remaining reader.old) self.old) (place (R.remaining reader.new) self.new) result }
+        ensures over { self.old.is_ended ≡ true → (result ≡ Ok None) × (self.new ≡ self.old) × (reader.new ≡ reader.old) }
+        ensures goes_on { OnOk result (GoesOn (R.remaining reader.new) self.new) }
+        ensures few { OnOk result (self.new.lines ≤ 2 ^ 48) }
+    {
+        loop {
+            match self.take_line(reader)? {
+                Step::Line(None) => {}
+                Step::Line(Some(change)) => return Ok(Some((self.lines, change))),
+                Step::End => return Ok(None),
+            }
+        }
+    }
+
+    fn unread(&self) -> &[u8]
+        requires { self.now.from ≤ length self.now.pieces.last }
+        ensures { result.now ≡ unread self.now }
+    {
+        &self.pieces.last()[self.from..]
+    }
+
+    /// The length of the next line as far as it is unread, where its LF is.
+    fn line_len(&self) -> Option<usize>
+        requires { self.now.from ≤ length self.now.pieces.last }
+        ensures { MatchOption result (pieces 10 (unread self.now) ≡ unread self.now ∷ [])
+            (λ len. (line : List ℕ) × (rest : List ℕ) × (unread self.now ≡ line ++ 10 ∷ rest) × (len ≡ length line) × (pieces 10 line ≡ line ∷ [])) }
+    {
+        match cut(self.unread(), b'\n') {
+            Some((line, _)) => Some(line.len()),
+            None => None,
+        }
+    }
+
+    /// Reads the line that ends after so many unread bytes.
+    fn take_ended(&mut self, len: usize) -> Result<Step, LoadFault>
+        requires sound { IsSound self.old }
+        requires within { len < length (unread self.old) }
+        ensures read { IfOk result (λ step. (found : Option Change) × (step ≡ Step.Line found) × SaysOrSkipped (self.old.pending.items ++ take len (unread self.old)) found) }
+        ensures sound { OnOk result (IsSound self.new × (self.new.pending.items ≡ [])) }
+        ensures refused { IfErr result (λ load. (load ≡ no_memory) ⊎ ((load.line ≡ self.old.lines + 1) × IsRefused (self.old.pending.items ++ take len (unread self.old)) load.fault)) }
+        ensures counted { self.new.lines ≡ self.old.lines + 1 }
+        ensures rest { unread self.new ≡ drop (len + 1) (unread self.old) }
+        ensures same { (self.new.total ≡ self.old.total) × (self.new.is_ended ≡ self.old.is_ended) }
+    {
+        let start = self.from;
+        self.from = start + len + 1;
+        self.lines += 1;
+        let end = &self.pieces.last()[start..start + len];
+        match read_joined(self.alloc, &mut self.pending, end) {
+            Ok(found) => Ok(Step::Line(found)),
+            Err(fault) => Err(refusal(self.lines, fault)),
+        }
+    }
+
+    /// Reads the last line, which lacks its LF.
+    fn take_last(&mut self) -> Result<Step, LoadFault>
+        requires { IsSound self.old }
+        ensures read { IfOk result (λ step. ((step ≡ Step.End) × (self.old.pending.items ≡ []) × (self.new.lines ≡ self.old.lines))
+            ⊎ ((found : Option Change) × (step ≡ Step.Line found) × SaysOrSkipped self.old.pending.items found × (self.new.lines ≡ self.old.lines + 1))) }
+        ensures sound { OnOk result (IsSound self.new × (self.new.pending.items ≡ [])) }
+        ensures refused { IfErr result (λ load. (load ≡ no_memory) ⊎ ((load.line ≡ self.old.lines + 1) × IsRefused self.old.pending.items load.fault)) }
+        ensures same { (self.new.from ≡ self.old.from) × (self.new.pieces ≡ self.old.pieces) × (self.new.total ≡ self.old.total) × (self.new.is_ended ≡ self.old.is_ended) }
+        ensures empty { self.old.pending.items ≡ [] → (result ≡ Ok Step.End) × (self.new ≡ self.old) }
+    {
+        if self.pending.is_empty() {
+            return Ok(Step::End);
+        }
+        self.lines += 1;
+        match read_joined(self.alloc, &mut self.pending, &[]) {
+            Ok(found) => Ok(Step::Line(found)),
+            Err(fault) => Err(refusal(self.lines, fault)),
+        }
+    }
+
+    /// Keeps the unread bytes: they are the beginning of a line, or more of it.
+    fn keep_unread(&mut self) -> Result<(), LoadFault>
+        requires { IsSound self.old }
+        ensures kept { OnOk result (self.new.pending.items ≡ self.old.pending.items ++ unread self.old) }
+        ensures sound { OnOk result (IsSound self.new) }
+        ensures refused { IfErr result (λ load. (load ≡ no_memory) ⊎ ((load.line ≡ self.old.lines + 1) × IsTooLong (self.old.pending.items ++ unread self.old) load.fault)) }
+        ensures none { unread self.new ≡ [] }
+        ensures same { (self.new.pieces ≡ self.old.pieces) × (self.new.total ≡ self.old.total) × (self.new.lines ≡ self.old.lines) × (self.new.is_ended ≡ self.old.is_ended) }
+    {
+        let start = self.from;
+        let piece = self.pieces.last();
+        self.from = piece.len();
+        let unread = &piece[start..];
+        if self.pending.len() + unread.len() > LONGEST_LINE {
+            let fault = LoadFault::at(self.lines + 1, OplCause::LineTooLong);
+            return Err(fault.at_byte(LONGEST_LINE));
+        }
+        self.pending.extend_from_slice(unread)?;
+        Ok(())
+    }
+
+    /// Reads the next piece, all of which is unread.
+    fn read_piece<R: Read>(&mut self, reader: &mut R) -> Result<(), LoadFault>
+        requires sound { IsSound self.old }
+        requires goes_on { self.old.is_ended ≡ false }
+        requires none { unread self.old ≡ [] }
+        ensures sound { OnOk result (IsSound self.new) }
+        ensures read { OnOk result (Consumes (R.remaining reader.old) (R.remaining reader.new) (unread self.new)) }
+        ensures counted { OnOk result ((self.new.total ≡ self.old.total + length (unread self.new)) × (self.new.pieces.reads ≡ self.old.pieces.reads + 1)) }
+        ensures end { OnOk result (self.new.is_ended ≡ true → IsAtEnd (R.remaining reader.new)) }
+        ensures kept { IfErr result (λ _. Keeps (R.remaining reader.old) (R.remaining reader.new) × (unread self.new ≡ []) × (self.new.total ≡ self.old.total)) }
+        ensures refused { IfErr result (λ load. (load.line ≡ self.old.lines + 1) × IsUnread self.old.total load.fault) }
+        ensures same { (self.new.pending.items ≡ self.old.pending.items) × (self.new.lines ≡ self.old.lines) }
+    {
+        self.from = 0;
+        let line = self.lines + 1;
+        match self.pieces.read_next(reader) {
+            Ok(more) => {
+                self.total += self.pieces.last().len() as u64;
+                self.is_ended = !more;
+                Ok(())
+            }
+            Err(PieceFault::Failed) => Err(LoadFault::at(line, OplCause::ReaderFailed)),
+            Err(PieceFault::Endless) => Err(LoadFault::at(line, OplCause::Endless)),
+        }
+    }
+}
+
+/// Reads the line that ends with this; its beginning was kept, and isn't any longer.
+fn read_joined(alloc: Global, pending: &mut Vec<u8>, end: &[u8]) -> Result<Option<Change>, OplFault>
+    ensures read { IfOk result (λ found. SaysOrSkipped (pending.old.items ++ end.now) found) }
+    ensures refused { IfErr result (λ fault. IsFaultOf (pending.old.items ++ end.now) fault) }
+    ensures empty { OnOk result (pending.new.items ≡ []) }
+{
+    if pending.is_empty() {
+        return read_line(alloc, end);
+    }
+    if let Err(AllocError) = pending.extend_from_slice(end) {
+        return Err(LoadFault::memory().fault);
+    }
+    let found = read_line(alloc, pending);
+    pending.clear();
+    found
+}
+
+/// The refusal of this line; out of memory is told of none.
+fn refusal(line: u64, fault: OplFault) -> LoadFault
+    ensures { (result ≡ no_memory) ⊎ ((result ≡ record { line = line; fault = fault }) × (fault.cause ≢ OplCause.Memory)) }
+{
+    match fault.cause {
+        OplCause::Memory => LoadFault::memory(),
+        _ => LoadFault { line, fault },
+    }
+}
