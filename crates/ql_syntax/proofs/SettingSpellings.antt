@@ -1,5 +1,5 @@
 -- Settings are spelled as rules read them.
-use Rattle.std.proofs.Common.{◌≡◌, ℕ, zero, suc, List, refl, sym, ◌∙◌, ap, subst, inl, inr}
+use Rattle.std.proofs.Common.{◌≡◌, ℕ, zero, suc, List, refl, sym, ◌∙◌, subst, inl, inr}
 use Rattle.std.specs.Prelude.{◌⊎◌}
 use Rattle.osm_model.specs.Degrees.{Decimal}
 use Rattle.ql_syntax.specs.Grammar as grammar
@@ -16,10 +16,10 @@ use Rattle.ql_syntax.specs.declared.setting_word.SettingWord.{SettingWord}
 use Rattle.ql_syntax.specs.declared.setting_word.SettingWord.TheVariants as words
 use Rattle.ql_syntax.specs.declared.token_kind.TokenKind.{TokenKind}
 use Rattle.ql_syntax.specs.declared.token_kind.TokenKind.TheVariants as kinds
-use Rattle.ql_syntax.proofs.FilterSpellings.{means, means_word, number_split, word_split, reads_word_at, reads_number}
+use Rattle.ql_syntax.proofs.FilterSpellings.{means, number_split, word_split, reads_word_at, reads_number}
 use Rattle.ql_syntax.proofs.OutSpellings.{reads_count}
 use Rattle.ql_syntax.proofs.SpellingLemmas.{Alike, alike, alike_by, alike_on, alike_back, from_token, at_rest, both, spelled_to, other_kind, Reading, reads_then, reads_give, reads_yes, reads_no, reads_from, reads_case, reads_token, pass_sound, reads_punctuation}
-use Rattle.ql_syntax.proofs.TokenSpellings.{IsPunctuation, said_at, token, IsWordOf, IsNumberOf, number_said, number_token}
+use Rattle.ql_syntax.proofs.TokenSpellings.{IsPunctuation, said_at, token, IsWordOf, number_said, number_token}
 use Rattle.ql_syntax.proofs.WordSpellings.{setting_is, format_is, format_setting_token, count_setting_token, format_token}
 
 a_word_split : {text rest : List ℕ} (found : Word) → a_word.reads text found rest → IsWordOf (λ (w : List ℕ). w ≡ found.word) text rest

@@ -10,7 +10,7 @@ use Rattle.ql_syntax.specs.Statements.{Statement, row_of}
 use Rattle.ql_syntax.specs.declared.statement.Stmt.{Stmt}
 use Rattle.ql_syntax.specs.declared.statement.Stmt.TheViews.{Union}
 use Rattle.ql_syntax.specs.declared.syntax_error.SyntaxError.{SyntaxError}
-use Rattle.ql_syntax.specs.internal.Following.{Outcome, Follows, Read, Stopped, NoMemory}
+use Rattle.ql_syntax.specs.internal.Following.{Follows, Read, Stopped, NoMemory}
 use Rattle.ql_syntax.specs.internal.StatementReaders.{trees_of, the_query, the_statements}
 use Rattle.ql_syntax.proofs.shared.StatementTrees.{union_is}
 

@@ -34,7 +34,7 @@ use Rattle.ql_syntax.proofs.GivesRules.{IsAt}
 use Rattle.ql_syntax.proofs.OutSpellings.{reads_out, out_reading}
 use Rattle.ql_syntax.proofs.SpellingLemmas.{Alike, alike, from_token, both, other_kind, Reading, reads_then, reads_give, reads_as, reads_yes, reads_no, reads_from, reads_case, reads_token, reads_punctuation, reads_name_after, reads_into, into_first, Shifts, shifts_then}
 use Rattle.ql_syntax.proofs.StatementSpellings.{shifts_statement, shifts_gather, shifts_part}
-use Rattle.ql_syntax.proofs.TokenSpellings.{IsPunctuation, token, IsWordOf, IsSet, set_token, IsMinus, minus_token, Solid, chosen, same_place, not_next, digit_solid, digit_kind}
+use Rattle.ql_syntax.proofs.TokenSpellings.{IsPunctuation, token, IsWordOf, IsSet, set_token, minus_token, Solid, chosen, same_place, not_next, digit_solid, digit_kind}
 use Rattle.ql_syntax.proofs.WordSpellings.{kind_token, print_token}
 
 -- the sign of a recursion comes next

@@ -24,11 +24,11 @@ use Rattle.ql_syntax.specs.declared.token_kind.TokenKind.{TokenKind}
 use Rattle.ql_syntax.specs.declared.token_kind.TokenKind.TheVariants as kinds
 use Rattle.ql_syntax.specs.declared.statement_word.StatementWord.{StatementWord}
 use Rattle.ql_syntax.specs.declared.statement_word.StatementWord.TheVariants as words
-use Rattle.ql_syntax.proofs.FilterSpellings.{filters_sound, word_split, means_word}
+use Rattle.ql_syntax.proofs.FilterSpellings.{filters_sound, word_split}
 use Rattle.ql_syntax.proofs.GatherSpellings.{gather_sound}
 use Rattle.ql_syntax.proofs.OutSpellings.{out_sound}
 use Rattle.ql_syntax.proofs.SpellingLemmas.{Alike, alike, alike_back, from_token, at_rest, both, spelled_to, Shifts, shifts_then, shifts_token, pass_sound, into_sound}
-use Rattle.ql_syntax.proofs.TokenSpellings.{said_at, text_of, set_said, IsWordOf, IsMinus, minus_said, end_said}
+use Rattle.ql_syntax.proofs.TokenSpellings.{said_at, set_said, IsWordOf, minus_said, end_said}
 use Rattle.ql_syntax.proofs.WordSpellings.{statement_is}
 
 -- statements that begin with a token

@@ -1,16 +1,16 @@
 -- Tokens, and the text that spells them.
-use Rattle.std.proofs.Common.{◌≡◌, ◌≢◌, ℕ, List, [], ◌∷◌, ◌++◌, ◌==◌, ◌&&◌, ◌||◌, Bool, true, false, cond, drop, refl, sym, ◌∙◌, ap, subst, inl, inr, ◌⊎◌, arith, append_assoc, ◌<◌}
+use Rattle.std.proofs.Common.{◌≡◌, ◌≢◌, ℕ, List, [], ◌∷◌, ◌++◌, ◌==◌, ◌&&◌, Bool, true, false, cond, drop, refl, sym, ◌∙◌, ap, subst, inl, inr, ◌⊎◌, arith, append_assoc, ◌<◌}
 use Rattle.std.proofs.lemmas.Bool.{eqb-true}
 use Rattle.std.proofs.lemmas.Grind.{common_steps}
 use Rattle.std.proofs.lemmas.Str.Parse.{digit_from_value}
 use Rattle.std.specs.Char.{is_ascii_digit, digit_value}
 use Rattle.std.specs.Str.Parse.{AllDigits}
 use Rattle.std.specs.List.{list_all}
-use Rattle.osm_model.specs.Degrees.{Decimal, spelling, sign, point}
-use Rattle.ql_syntax.specs.Gaps.{gap, is_blank, Between, GapEnd, After}
+use Rattle.osm_model.specs.Degrees.{Decimal, sign, point}
+use Rattle.ql_syntax.specs.Gaps.{gap, is_blank, Between, After}
 use Rattle.ql_syntax.specs.Numbers.{IsNumber}
 use Rattle.ql_syntax.specs.QuotedTexts.{IsQuoted, is_quote}
-use Rattle.ql_syntax.specs.Spellings.{Both, AfterGap, BeginsWith, number, tag_text, named_set, the_end}
+use Rattle.ql_syntax.specs.Spellings.{AfterGap, BeginsWith, number, tag_text, named_set, the_end}
 use Rattle.ql_syntax.specs.TokenKinds.{token_kind_at, token_kind_from, one_byte_kind, kind_after_minus, kind_after_not, punctuation_len}
 use Rattle.ql_syntax.specs.TokenRules.{Next, At, begins_number}
 use Rattle.ql_syntax.specs.Words.{IsRun, IsName, begins_with, is_run_byte, is_word_start}

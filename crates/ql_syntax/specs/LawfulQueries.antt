@@ -2,7 +2,7 @@
 -- one part or more in a union, out statements at the top level alone, and unions and differences at most so
 -- deep in one another.
 -- Source: this project.
-use Rattle.std.specs.Prelude.{◌≡◌, ℕ, suc, true, List, [], ⊤}
+use Rattle.std.specs.Prelude.{◌≡◌, ℕ, suc, true, [], ⊤}
 use Rattle.std.specs.List.{AllByRecursion}
 use Rattle.ql_syntax.specs.Filters.{Filter, InSet, HasKey, KeyIs, LacksKey, KeyIsNot, Ids, Within, Via}
 use Rattle.ql_syntax.specs.Picks.{allows, takes_boxes}
