@@ -5,6 +5,7 @@ use Rattle.std.specs.List.{AllByRecursion}
 use Rattle.std.specs.Str.{IsUtf8}
 use Rattle.std.specs.Str.Parse.{AllDigits}
 use Rattle.std.proofs.lemmas.Bool.Decides.{nat_tests, eqb_tells}
+use Rattle.osm_model.specs.Bytes.{at_sign, carriage_return, comma, equals_sign, line_feed, percent, space, tab}
 use Rattle.osm_model.specs.CanonicalLine.{escaped}
 use Rattle.osm_model.specs.Limits.{HasNoNul}
 use Rattle.opl_codec.specs.Fields.{Lacks}
@@ -54,21 +55,21 @@ pub record SameBefore (a b x y : List ℕ) (m n : ℕ) : Type 0 where
   pub byte : m ≡ n
   pub rest : x ≡ y
 
-pub text_before : (a b x y : List ℕ) (m n : ℕ) → IsText a → IsText b → is_free m ≢ true → m ≢ 37 → is_free n ≢ true → n ≢ 37 → a ++ m ∷ x ≡ b ++ n ∷ y → SameBefore a b x y m n
+pub text_before : (a b x y : List ℕ) (m n : ℕ) → IsText a → IsText b → is_free m ≢ true → m ≢ percent → is_free n ≢ true → n ≢ percent → a ++ m ∷ x ≡ b ++ n ∷ y → SameBefore a b x y m n
 text_before a b x y m n h k m_misfit m_other n_misfit n_other e =
     let same = same_texts a b h.0 k.0 (m ∷ x) (n ∷ y) h.1 k.1 (m_misfit, λ is _. m_other is) (n_misfit, λ is _. n_other is) e in
     let tails : m ∷ x ≡ n ∷ y = same.rest in
     record { text = same.spelled; byte = cc; rest = cc }
 
--- a text that goes on with such a byte is no text, nor does a text end before and at that byte
-pub text_whole : (a b x : List ℕ) (m : ℕ) → IsText a → IsText b → is_free m ≢ true → m ≢ 37 → a ++ m ∷ x ≡ b → ⊥
+-- a text before such a byte isn't the front of a text
+pub text_whole : (a b x : List ℕ) (m : ℕ) → IsText a → IsText b → is_free m ≢ true → m ≢ percent → a ++ m ∷ x ≡ b → ⊥
 text_whole a b x m h k misfit other e = no_more m x (whole_or_stop b a (m ∷ x) (sym e) h (misfit, λ is _. other is) k)
 
 -- ---- bytes that no text has
 
 -- a byte of a spelled text
 abbrev pub IsTextByte : ℕ → Type 0
-IsTextByte byte = (is_free byte ≡ true) ⊎ (byte ≡ 37)
+IsTextByte byte = (is_free byte ≡ true) ⊎ (byte ≡ percent)
 
 digit_free : (byte : ℕ) → digit_value byte < 16 → is_free byte ≡ true
 digit_free byte h = grind (arith, nat_tests)
@@ -89,33 +90,33 @@ characters_bytes (c ∷ cs) are = all_append IsTextByte (spelling c) (flat_map s
 pub text_bytes : (s : List ℕ) → IsText s → AllByRecursion IsTextByte s
 text_bytes s is = subst (AllByRecursion IsTextByte) (sym is.1.spelled_is) (characters_bytes is.1.characters is.1.are)
 
-other_byte : (byte : ℕ) → is_free byte ≢ true → byte ≢ 37 → (other : ℕ) → IsTextByte other → (other == byte) ≡ false
+other_byte : (byte : ℕ) → is_free byte ≢ true → byte ≢ percent → (other : ℕ) → IsTextByte other → (other == byte) ≡ false
 other_byte byte misfit no_escape other is = elim (eqb_tells other byte) [
   | inl same ↦ absurd (elim is [ inl free ↦ misfit (subst (λ b. is_free b ≡ true) same.1 free) | inr mark ↦ no_escape (sym same.1 ∙ mark) ])
   | inr differs ↦ differs.0
 ]
 
-pub lacks : (byte : ℕ) → is_free byte ≢ true → byte ≢ 37 → (s : List ℕ) → IsText s → Lacks byte s
+pub lacks : (byte : ℕ) → is_free byte ≢ true → byte ≢ percent → (s : List ℕ) → IsText s → Lacks byte s
 lacks byte misfit no_escape s is = all_weaker IsTextByte (λ other. (other == byte) ≡ false) s (other_byte byte misfit no_escape) (text_bytes s is)
 
 -- no text has a comma, an `=`, a space, a tab, LF or CR
-pub lacks_comma : (s : List ℕ) → IsText s → Lacks 44 s
-lacks_comma = lacks 44 (λ e. cc) (λ e. absurd (omega (arith, e)))
+pub lacks_comma : (s : List ℕ) → IsText s → Lacks comma s
+lacks_comma = lacks comma (λ e. cc) (λ e. absurd (omega (arith, e)))
 
-pub lacks_equals : (s : List ℕ) → IsText s → Lacks 61 s
-lacks_equals = lacks 61 (λ e. cc) (λ e. absurd (omega (arith, e)))
+pub lacks_equals : (s : List ℕ) → IsText s → Lacks equals_sign s
+lacks_equals = lacks equals_sign (λ e. cc) (λ e. absurd (omega (arith, e)))
 
-pub lacks_space : (s : List ℕ) → IsText s → Lacks 32 s
-lacks_space = lacks 32 (λ e. cc) (λ e. absurd (omega (arith, e)))
+pub lacks_space : (s : List ℕ) → IsText s → Lacks space s
+lacks_space = lacks space (λ e. cc) (λ e. absurd (omega (arith, e)))
 
-pub lacks_tab : (s : List ℕ) → IsText s → Lacks 9 s
-lacks_tab = lacks 9 (λ e. cc) (λ e. absurd (omega (arith, e)))
+pub lacks_tab : (s : List ℕ) → IsText s → Lacks tab s
+lacks_tab = lacks tab (λ e. cc) (λ e. absurd (omega (arith, e)))
 
-pub lacks_line_feed : (s : List ℕ) → IsText s → Lacks 10 s
-lacks_line_feed = lacks 10 (λ e. cc) (λ e. absurd (omega (arith, e)))
+pub lacks_line_feed : (s : List ℕ) → IsText s → Lacks line_feed s
+lacks_line_feed = lacks line_feed (λ e. cc) (λ e. absurd (omega (arith, e)))
 
-pub lacks_carriage_return : (s : List ℕ) → IsText s → Lacks 13 s
-lacks_carriage_return = lacks 13 (λ e. cc) (λ e. absurd (omega (arith, e)))
+pub lacks_carriage_return : (s : List ℕ) → IsText s → Lacks carriage_return s
+lacks_carriage_return = lacks carriage_return (λ e. cc) (λ e. absurd (omega (arith, e)))
 
 -- ---- the canonical spelling
 
@@ -124,7 +125,7 @@ pub escaped_spells : (text : List ℕ) → IsUtf8 text → HasNoNul text → Spe
 escaped_spells = escaped_text
 
 -- and has no `@`
-pub escaped_lacks_at : (text : List ℕ) → Lacks 64 (escaped text)
+pub escaped_lacks_at : (text : List ℕ) → Lacks at_sign (escaped text)
 escaped_lacks_at = escaped_no_at
 
 -- a spelled text has no NUL
