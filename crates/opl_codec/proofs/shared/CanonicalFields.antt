@@ -128,7 +128,8 @@ line_printable o element = all_joined IsPrintable space (omega arith, omega arit
 other_byte : (absent : ℕ) → absent < space → (byte : ℕ) → IsPrintable byte → (byte == absent) ≡ false
 other_byte absent small byte h = let low = h.0 in grind (arith, nat_tests)
 
-line_lacks : (absent : ℕ) → absent < space → (o : Element) → IsElement o → Lacks absent (canonical_line o)
+-- no byte below a space comes in a canonical line
+pub line_lacks : (absent : ℕ) → absent < space → (o : Element) → IsElement o → Lacks absent (canonical_line o)
 line_lacks absent small o element = all_weaker IsPrintable (λ byte. (byte == absent) ≡ false) (canonical_line o) (other_byte absent small) (line_printable o element)
 
 -- a canonical line has no LF and no CR

@@ -12,6 +12,8 @@ use Rattle.osm_model.specs.Elements.{Element, keys, kind_of, nodes_of, reference
 use Rattle.osm_model.specs.Letters.{latitude_letter, longitude_letter, members_letter, nodes_letter}
 use Rattle.osm_model.specs.Limits.{IsElement, BodyInRange, AreUtf8, IsClean, Fits}
 use Rattle.osm_model.specs.declared.axis.Axis.TheVariants as axes
+use Rattle.osm_model.specs.declared.kind.Kind.{Kind}
+use Rattle.osm_model.specs.declared.kind.Kind.TheVariants as kinds
 use Rattle.osm_model.specs.declared.limits.TheConstants.{LIST_LIMIT}
 use Rattle.osm_model.specs.declared.member.Member.{Member}
 use Rattle.osm_model.specs.declared.body.Body.{Body}
@@ -25,11 +27,12 @@ use Rattle.opl_codec.specs.LineParts.{AreTags, Says, IsBodyOf}
 use Rattle.opl_codec.specs.LineChanges.{SpellsParts, SpellsObject}
 use Rattle.opl_codec.specs.Members.{SpellsMembers, MembersFit}
 use Rattle.opl_codec.specs.Values.{SpellsCoordinate, SpellsNodes, IsWithin}
-use Rattle.opl_codec.specs.declared.line_letter.LineLetter.TheVariants as letters
+use Rattle.opl_codec.specs.declared.line_letter.LineLetter.TheVariants.{Version, Visible, Changeset, Stamp, Uid, User, Tags, Lon, Lat, Nodes, Members}
 use Rattle.opl_codec.specs.declared.line_parts.LineParts.{LineParts}
 use Rattle.opl_codec.proofs.shared.CanonicalFields.{fields_are, content_is, line_utf8}
 use Rattle.opl_codec.proofs.shared.CanonicalLists.{kept_spells, tags_spell, nodes_spell, members_spell}
 use Rattle.opl_codec.proofs.shared.CanonicalValues.{version_spells, number_spells, stamp_spells, coordinate_spells}
+use Rattle.opl_codec.proofs.shared.ReadLiterals.{all_append}
 
 -- the fields after the first
 abbrev pub further_fields : Meta → List Tag → Body → List (List ℕ)
@@ -83,66 +86,23 @@ tags_said o element = record {
   };
 }
 
--- ---- each letter
+-- ---- the letters
 
-known : (meta : Meta) (tags : List Tag) (body : Body) → AllByRecursion (λ f. IsLetterOf (kind_of body) (letter_of f)) (further_fields meta tags body)
-known meta tags (Node place) = (
-  (letters.Version, refl, refl),
-  (
-    (letters.Visible, refl, refl),
-    (
-      (letters.Changeset, refl, refl),
-      (
-        (letters.Stamp, refl, refl),
-        (
-          (letters.Uid, refl, refl),
-          (
-            (letters.User, refl, refl),
-            ((letters.Tags, refl, refl), ((letters.Lon, refl, refl), ((letters.Lat, refl, refl), tt))),
-          ),
-        ),
-      ),
-    ),
-  ),
-)
-known meta tags (Way nodes) = (
-  (letters.Version, refl, refl),
-  (
-    (letters.Visible, refl, refl),
-    (
-      (letters.Changeset, refl, refl),
-      (
-        (letters.Stamp, refl, refl),
-        (
-          (letters.Uid, refl, refl),
-          (
-            (letters.User, refl, refl),
-            ((letters.Tags, refl, refl), ((letters.Nodes, refl, refl), tt)),
-          ),
-        ),
-      ),
-    ),
-  ),
-)
-known meta tags (Rel members) = (
-  (letters.Version, refl, refl),
-  (
-    (letters.Visible, refl, refl),
-    (
-      (letters.Changeset, refl, refl),
-      (
-        (letters.Stamp, refl, refl),
-        (
-          (letters.Uid, refl, refl),
-          (
-            (letters.User, refl, refl),
-            ((letters.Tags, refl, refl), ((letters.Members, refl, refl), tt)),
-          ),
-        ),
-      ),
-    ),
-  ),
-)
+abbrev HasKnownLetter : Kind → List ℕ → Type 0
+HasKnownLetter kind f = IsLetterOf kind (letter_of f)
+
+meta_known : (kind : Kind) (meta : Meta) → AllByRecursion (HasKnownLetter kind) (meta_fields meta)
+meta_known kinds.Node meta = ((Version, refl, refl), ((Visible, refl, refl), ((Changeset, refl, refl), ((Stamp, refl, refl), ((Uid, refl, refl), ((User, refl, refl), tt))))))
+meta_known kinds.Way meta = ((Version, refl, refl), ((Visible, refl, refl), ((Changeset, refl, refl), ((Stamp, refl, refl), ((Uid, refl, refl), ((User, refl, refl), tt))))))
+meta_known kinds.Rel meta = ((Version, refl, refl), ((Visible, refl, refl), ((Changeset, refl, refl), ((Stamp, refl, refl), ((Uid, refl, refl), ((User, refl, refl), tt))))))
+
+others_known : (tags : List Tag) (body : Body) → AllByRecursion (HasKnownLetter (kind_of body)) (tags_field tags ∷ body_fields body)
+others_known tags (Node place) = ((Tags, refl, refl), ((Lon, refl, refl), ((Lat, refl, refl), tt)))
+others_known tags (Way nodes) = ((Tags, refl, refl), ((Nodes, refl, refl), tt))
+others_known tags (Rel members) = ((Tags, refl, refl), ((Members, refl, refl), tt))
+
+known : (meta : Meta) (tags : List Tag) (body : Body) → AllByRecursion (HasKnownLetter (kind_of body)) (further_fields meta tags body)
+known meta tags body = all_append (HasKnownLetter (kind_of body)) (meta_fields meta) (tags_field tags ∷ body_fields body) (meta_known (kind_of body) meta) (others_known tags body)
 
 once : (meta : Meta) (tags : List Tag) (body : Body) → IsOnce (further_fields meta tags body)
 once meta tags (Node place) = (refl, (refl, (refl, (refl, (refl, (refl, (refl, (refl, (refl, tt)))))))))
@@ -176,17 +136,17 @@ members_said meta tags (Rel members) is utf8 clean fits = (members_spell members
 -- ---- all fields
 
 said : (o : Element) → IsElement o → Says (further_fields o.meta o.tags o.body) (parts_of o)
-said o element letters.Version = version_spells o.meta.version element.meta_in_range.version
-said o element letters.Visible = refl
-said o element letters.Changeset = number_spells o.meta.changeset element.meta_in_range.changeset
-said o element letters.Stamp = stamp_spells o.meta.stamp element.meta_in_range.stamp
-said o element letters.Uid = number_spells o.meta.uid element.meta_in_range.uid
-said o element letters.User = (kept_spells o.meta.user (element.utf8.user, element.clean.user), element.fits.short.user)
-said o element letters.Tags = tags_said o element
-said o element letters.Lon = lon_said o.body element.body_in_range
-said o element letters.Lat = lat_said o.body element.body_in_range
-said o element letters.Nodes = nodes_said o.body element.body_in_range element.fits.few_nodes
-said o element letters.Members = members_said o.meta o.tags o.body element.body_in_range element.utf8 element.clean element.fits
+said o element Version = version_spells o.meta.version element.meta_in_range.version
+said o element Visible = refl
+said o element Changeset = number_spells o.meta.changeset element.meta_in_range.changeset
+said o element Stamp = stamp_spells o.meta.stamp element.meta_in_range.stamp
+said o element Uid = number_spells o.meta.uid element.meta_in_range.uid
+said o element User = (kept_spells o.meta.user (element.utf8.user, element.clean.user), element.fits.short.user)
+said o element Tags = tags_said o element
+said o element Lon = lon_said o.body element.body_in_range
+said o element Lat = lat_said o.body element.body_in_range
+said o element Nodes = nodes_said o.body element.body_in_range element.fits.few_nodes
+said o element Members = members_said o.meta o.tags o.body element.body_in_range element.utf8 element.clean element.fits
 
 -- ---- the object
 
