@@ -1,5 +1,5 @@
--- Texts, tags, nodes and members in their canonical spelling: each spells its value, and has only printed bytes.
-use Rattle.std.proofs.Common.{◌≡◌, ◌≢◌, ℕ, zero, suc, ◌+◌, ◌/◌, ◌%◌, ◌^◌, ◌<◌, ◌≤◌, List, [], ◌∷◌, ◌++◌, Bool, true, false, ◌==◌, if◌then◌else◌, ℤ, FitsSigned, map, flat_map, refl, ◌∙◌, ap, subst, sym, arith}
+-- Texts, tags, nodes and members in their canonical spelling: each spells its value, and has only graphic bytes.
+use Rattle.std.proofs.Common.{◌≡◌, ◌≢◌, ℕ, zero, suc, ◌/◌, ◌%◌, ◌^◌, ◌<◌, List, [], ◌∷◌, ◌++◌, Bool, true, false, ◌==◌, if◌then◌else◌, ℤ, FitsSigned, map, flat_map, refl, ◌∙◌, subst, sym, arith}
 use Rattle.std.specs.Int.{w64}
 use Rattle.std.specs.Char.{digit_value, digit_char}
 use Rattle.std.specs.Fmt.{signed_decimal}
@@ -8,7 +8,9 @@ use Rattle.std.specs.Str.{IsUtf8, chars}
 use Rattle.std.proofs.lemmas.Bool.Decides.{nat_tests}
 use Rattle.std.proofs.lemmas.List.Elements.{recursion_from_All}
 use Rattle.std.proofs.lemmas.Str.{digit_value-digit_char}
+use Rattle.osm_model.specs.Bytes.{at_sign, comma, equals_sign, percent}
 use Rattle.osm_model.specs.CanonicalLine.{is_literal, hex, hex_digits, hex_places, escaped, escaped_char, kind_letter, tag_text, reference_text, node_text, member_text}
+use Rattle.osm_model.specs.Letters.{node_letter}
 use Rattle.osm_model.specs.Limits.{HasNoNul}
 use Rattle.osm_model.specs.declared.kind.Kind.{Kind}
 use Rattle.osm_model.specs.declared.kind.Kind.TheVariants as kinds
@@ -20,7 +22,7 @@ use Rattle.opl_codec.specs.Members.{SpellsReference, SpellsMember, SpellsMembers
 use Rattle.opl_codec.specs.Texts.{SpellsText}
 use Rattle.opl_codec.specs.Values.{items, SpellsTag, SpellsNode, SpellsTags, SpellsNodes}
 use Rattle.opl_codec.proofs.TextPieces.{pieces-join}
-use Rattle.opl_codec.proofs.shared.CanonicalValues.{IsGraphic, are_graphic, numeric_lacks_comma, number_spells, number_numeric}
+use Rattle.opl_codec.proofs.shared.CanonicalValues.{IsGraphic, are_graphic, numeric_lacks_at, numeric_lacks_comma, number_spells, number_numeric}
 use Rattle.opl_codec.proofs.shared.ReadLiterals.{all_append, all_weaker}
 use Rattle.opl_codec.proofs.shared.TextLaws.{escaped_spells, lacks_comma}
 
@@ -36,16 +38,16 @@ hex_graphic (suc k) n = (digit_graphic (digit_char (n / 16 ^ k % 16)) (omega (ar
 literal_graphic : (c : ℕ) → is_literal c ≡ true → IsGraphic c
 literal_graphic c h = (grind (arith, nat_tests), grind (arith, nat_tests))
 
-one_graphic : (c : ℕ) (b : Bool) → is_literal c ≡ b → AllByRecursion IsGraphic (if b then c ∷ [] else (37 ∷ hex c) ++ 37 ∷ [])
+one_graphic : (c : ℕ) (b : Bool) → is_literal c ≡ b → AllByRecursion IsGraphic (if b then c ∷ [] else (percent ∷ hex c) ++ percent ∷ [])
 unfolding hex
 one_graphic c true literal = (literal_graphic c literal, tt)
-one_graphic c false literal = ((omega arith, omega arith), all_append IsGraphic (hex_digits (hex_places c) c) (37 ∷ []) (hex_graphic (hex_places c) c) ((omega arith, omega arith), tt))
+one_graphic c false literal = ((omega arith, omega arith), all_append IsGraphic (hex_digits (hex_places c) c) (percent ∷ []) (hex_graphic (hex_places c) c) ((omega arith, omega arith), tt))
 
 all_graphic : (cs : List ℕ) → AllByRecursion IsGraphic (flat_map escaped_char cs)
 all_graphic [] = tt
 all_graphic (c ∷ cs) = all_append IsGraphic (escaped_char c) (flat_map escaped_char cs) (one_graphic c (is_literal c) refl) (all_graphic cs)
 
--- the canonical spelling of any text has only printed bytes
+-- the canonical spelling of any text has only graphic bytes
 pub escaped_graphic : (text : List ℕ) → AllByRecursion IsGraphic (escaped text)
 unfolding escaped
 escaped_graphic text = all_graphic (chars text)
@@ -57,7 +59,7 @@ IsKept text = IsUtf8 text × HasNoNul text
 pub kept_spells : (text : List ℕ) → IsKept text → SpellsText (escaped text) text
 kept_spells text kept = escaped_spells text kept.0 kept.1
 
-kept_lacks_comma : (text : List ℕ) → IsKept text → Lacks 44 (escaped text)
+kept_lacks_comma : (text : List ℕ) → IsKept text → Lacks comma (escaped text)
 kept_lacks_comma text kept = lacks_comma (escaped text) (text, kept_spells text kept)
 
 -- ---- lists
@@ -80,7 +82,7 @@ all_joined P separator here [] h = tt
 all_joined P separator here (part ∷ []) h = h.0
 all_joined P separator here (part ∷ more ∷ parts) h = all_append P part (separator ∷ join_with_byte separator (more ∷ parts)) h.0 (here, all_joined P separator here (more ∷ parts) h.1)
 
-items_of : (text : List ℕ) → text ≢ [] → items text ≡ pieces 44 text
+items_of : (text : List ℕ) → text ≢ [] → items text ≡ pieces comma text
 items_of [] some = absurd (some refl)
 items_of (byte ∷ text) some = refl
 
@@ -94,27 +96,27 @@ joined_some separator part (more ∷ parts) some = append_some part (join_with_b
 
 -- an item of a list
 abbrev IsItem : List ℕ → Type 0
-IsItem text = (text ≢ []) × Lacks 44 text
+IsItem text = (text ≢ []) × Lacks comma text
 
-lacks_from_items : (parts : List (List ℕ)) → AllByRecursion IsItem parts → AllByRecursion (λ part. Lacks 44 part) parts
-lacks_from_items parts h = all_weaker IsItem (λ part. Lacks 44 part) parts (λ part is. is.1) h
+lacks_from_items : (parts : List (List ℕ)) → AllByRecursion IsItem parts → AllByRecursion (λ part. Lacks comma part) parts
+lacks_from_items parts h = all_weaker IsItem (λ part. Lacks comma part) parts (λ part is. is.1) h
 
 -- items that are joined are cut where they were joined
-items_joined : (parts : List (List ℕ)) → AllByRecursion IsItem parts → items (join_with_byte 44 parts) ≡ parts
+items_joined : (parts : List (List ℕ)) → AllByRecursion IsItem parts → items (join_with_byte comma parts) ≡ parts
 items_joined [] h = refl
 items_joined (part ∷ parts) h =
-    items_of (join_with_byte 44 (part ∷ parts)) (joined_some 44 part parts h.0.0)
-    ∙ pieces-join 44 part parts h.0.1 (lacks_from_items parts h.1)
+    items_of (join_with_byte comma (part ∷ parts)) (joined_some comma part parts h.0.0)
+    ∙ pieces-join comma part parts h.0.1 (lacks_from_items parts h.1)
 
 -- a list whose items spell their values spells the values
 list_spells : {A : Type 0} (R : List ℕ → A → Type 0) (f : A → List ℕ) (P : A → Type 0) → ((x : A) → P x → R (f x) x) → ((x : A) → P x → IsItem (f x))
-    → (xs : List A) → AllByRecursion P xs → Each R (items (join_with_byte 44 (map f xs))) xs
+    → (xs : List A) → AllByRecursion P xs → Each R (items (join_with_byte comma (map f xs))) xs
 list_spells R f P spelled item xs h =
     let cut = items_joined (map f xs) (all_map IsItem f P item xs h) in
     subst (λ (parts : List (List ℕ)). Each R parts xs) (sym cut) (each_map R f P spelled xs h)
 
-graphic_list : {A : Type 0} (f : A → List ℕ) (P : A → Type 0) → ((x : A) → P x → AllByRecursion IsGraphic (f x)) → (xs : List A) → AllByRecursion P xs → AllByRecursion IsGraphic (join_with_byte 44 (map f xs))
-graphic_list f P step xs h = all_joined IsGraphic 44 (omega arith, omega arith) (map f xs) (all_map (AllByRecursion IsGraphic) f P step xs h)
+graphic_list : {A : Type 0} (f : A → List ℕ) (P : A → Type 0) → ((x : A) → P x → AllByRecursion IsGraphic (f x)) → (xs : List A) → AllByRecursion P xs → AllByRecursion IsGraphic (join_with_byte comma (map f xs))
+graphic_list f P step xs h = all_joined IsGraphic comma (omega arith, omega arith) (map f xs) (all_map (AllByRecursion IsGraphic) f P step xs h)
 
 -- ---- tags
 
@@ -135,16 +137,18 @@ tag_spells : (tag : Tag) → IsKeptTag tag → SpellsTag (tag_text tag) tag
 tag_spells tag kept = record { key = escaped tag.key; value = escaped tag.value; parts = refl; key_is = kept_spells tag.key kept.0; value_is = kept_spells tag.value kept.1 }
 
 tag_item : (tag : Tag) → IsKeptTag tag → IsItem (tag_text tag)
-tag_item tag kept = (append_some (escaped tag.key) (escaped tag.value) 61,
-    all_append (λ byte. (byte == 44) ≡ false) (escaped tag.key) (61 ∷ escaped tag.value) (kept_lacks_comma tag.key kept.0) (refl, kept_lacks_comma tag.value kept.1))
+tag_item tag kept = (
+  append_some (escaped tag.key) (escaped tag.value) equals_sign,
+  all_append (λ byte. (byte == comma) ≡ false) (escaped tag.key) (equals_sign ∷ escaped tag.value) (kept_lacks_comma tag.key kept.0) (refl, kept_lacks_comma tag.value kept.1),
+)
 
 tag_graphic : (tag : Tag) → IsKeptTag tag → AllByRecursion IsGraphic (tag_text tag)
-tag_graphic tag kept = all_append IsGraphic (escaped tag.key) (61 ∷ escaped tag.value) (escaped_graphic tag.key) ((omega arith, omega arith), escaped_graphic tag.value)
+tag_graphic tag kept = all_append IsGraphic (escaped tag.key) (equals_sign ∷ escaped tag.value) (escaped_graphic tag.key) ((omega arith, omega arith), escaped_graphic tag.value)
 
-pub tags_spell : (tags : List Tag) → All (λ tag. IsUtf8 tag.key × IsUtf8 tag.value) tags → All (λ tag. HasNoNul tag.key × HasNoNul tag.value) tags → SpellsTags (join_with_byte 44 (map tag_text tags)) tags
+pub tags_spell : (tags : List Tag) → All (λ tag. IsUtf8 tag.key × IsUtf8 tag.value) tags → All (λ tag. HasNoNul tag.key × HasNoNul tag.value) tags → SpellsTags (join_with_byte comma (map tag_text tags)) tags
 tags_spell tags utf8 clean = list_spells SpellsTag tag_text IsKeptTag tag_spells tag_item tags (kept_tags tags utf8 clean)
 
-pub tags_graphic : (tags : List Tag) → All (λ tag. IsUtf8 tag.key × IsUtf8 tag.value) tags → All (λ tag. HasNoNul tag.key × HasNoNul tag.value) tags → AllByRecursion IsGraphic (join_with_byte 44 (map tag_text tags))
+pub tags_graphic : (tags : List Tag) → All (λ tag. IsUtf8 tag.key × IsUtf8 tag.value) tags → All (λ tag. HasNoNul tag.key × HasNoNul tag.value) tags → AllByRecursion IsGraphic (join_with_byte comma (map tag_text tags))
 tags_graphic tags utf8 clean = graphic_list tag_text IsKeptTag tag_graphic tags (kept_tags tags utf8 clean)
 
 -- ---- references
@@ -154,7 +158,7 @@ letter_graphic kinds.Node = (omega arith, omega arith)
 letter_graphic kinds.Way = (omega arith, omega arith)
 letter_graphic kinds.Rel = (omega arith, omega arith)
 
-letter_no_comma : (kind : Kind) → (kind_letter kind == 44) ≡ false
+letter_no_comma : (kind : Kind) → (kind_letter kind == comma) ≡ false
 letter_no_comma kinds.Node = refl
 letter_no_comma kinds.Way = refl
 letter_no_comma kinds.Rel = refl
@@ -165,8 +169,17 @@ reference_spells r fits = record { digits = signed_decimal r.id; parts = refl; i
 pub reference_graphic : (r : Ref) → FitsSigned w64 r.id → AllByRecursion IsGraphic (reference_text r)
 reference_graphic r fits = (letter_graphic r.kind, are_graphic (signed_decimal r.id) (number_numeric r.id fits))
 
-reference_lacks_comma : (r : Ref) → FitsSigned w64 r.id → Lacks 44 (reference_text r)
+reference_lacks_comma : (r : Ref) → FitsSigned w64 r.id → Lacks comma (reference_text r)
 reference_lacks_comma r fits = (letter_no_comma r.kind, numeric_lacks_comma (signed_decimal r.id) (number_numeric r.id fits))
+
+letter_no_at : (kind : Kind) → (kind_letter kind == at_sign) ≡ false
+letter_no_at kinds.Node = refl
+letter_no_at kinds.Way = refl
+letter_no_at kinds.Rel = refl
+
+-- a reference has no `@`: the first one of a member ends what it refers to
+pub reference_lacks_at : (r : Ref) → FitsSigned w64 r.id → Lacks at_sign (reference_text r)
+reference_lacks_at r fits = (letter_no_at r.kind, numeric_lacks_at (signed_decimal r.id) (number_numeric r.id fits))
 
 -- ---- nodes
 
@@ -177,15 +190,15 @@ node_spells : (id : ℤ) → IsId id → SpellsNode (node_text id) id
 node_spells id fits = record { digits = signed_decimal id; parts = refl; id_is = number_spells id fits }
 
 node_item : (id : ℤ) → IsId id → IsItem (node_text id)
-node_item id fits = (append_some [] (signed_decimal id) 110, reference_lacks_comma (record { kind = kinds.Node; id = id }) fits)
+node_item id fits = (append_some [] (signed_decimal id) node_letter, reference_lacks_comma (record { kind = kinds.Node; id = id }) fits)
 
 node_graphic : (id : ℤ) → IsId id → AllByRecursion IsGraphic (node_text id)
 node_graphic id fits = reference_graphic (record { kind = kinds.Node; id = id }) fits
 
-pub nodes_spell : (nodes : List ℤ) → All (λ id. FitsSigned w64 id) nodes → SpellsNodes (join_with_byte 44 (map node_text nodes)) nodes
+pub nodes_spell : (nodes : List ℤ) → All (λ id. FitsSigned w64 id) nodes → SpellsNodes (join_with_byte comma (map node_text nodes)) nodes
 nodes_spell nodes fit = list_spells SpellsNode node_text IsId node_spells node_item nodes (recursion_from_All IsId nodes fit)
 
-pub nodes_graphic : (nodes : List ℤ) → All (λ id. FitsSigned w64 id) nodes → AllByRecursion IsGraphic (join_with_byte 44 (map node_text nodes))
+pub nodes_graphic : (nodes : List ℤ) → All (λ id. FitsSigned w64 id) nodes → AllByRecursion IsGraphic (join_with_byte comma (map node_text nodes))
 nodes_graphic nodes fit = graphic_list node_text IsId node_graphic nodes (recursion_from_All IsId nodes fit)
 
 -- ---- members
@@ -211,14 +224,16 @@ member_spells member kept = record {
 }
 
 member_item : (member : Member) → IsKeptMember member → IsItem (member_text member)
-member_item member kept = (append_some (reference_text member.target) (escaped member.role) 64,
-    all_append (λ byte. (byte == 44) ≡ false) (reference_text member.target) (64 ∷ escaped member.role) (reference_lacks_comma member.target kept.0) (refl, kept_lacks_comma member.role kept.1))
+member_item member kept = (
+  append_some (reference_text member.target) (escaped member.role) at_sign,
+  all_append (λ byte. (byte == comma) ≡ false) (reference_text member.target) (at_sign ∷ escaped member.role) (reference_lacks_comma member.target kept.0) (refl, kept_lacks_comma member.role kept.1),
+)
 
 member_graphic : (member : Member) → IsKeptMember member → AllByRecursion IsGraphic (member_text member)
-member_graphic member kept = all_append IsGraphic (reference_text member.target) (64 ∷ escaped member.role) (reference_graphic member.target kept.0) ((omega arith, omega arith), escaped_graphic member.role)
+member_graphic member kept = all_append IsGraphic (reference_text member.target) (at_sign ∷ escaped member.role) (reference_graphic member.target kept.0) ((omega arith, omega arith), escaped_graphic member.role)
 
-pub members_spell : (members : List Member) → All (λ member. FitsSigned w64 member.target.id) members → All (λ member. IsUtf8 member.role) members → All (λ member. HasNoNul member.role) members → SpellsMembers (join_with_byte 44 (map member_text members)) members
+pub members_spell : (members : List Member) → All (λ member. FitsSigned w64 member.target.id) members → All (λ member. IsUtf8 member.role) members → All (λ member. HasNoNul member.role) members → SpellsMembers (join_with_byte comma (map member_text members)) members
 members_spell members fit utf8 clean = list_spells SpellsMember member_text IsKeptMember member_spells member_item members (kept_members members fit utf8 clean)
 
-pub members_graphic : (members : List Member) → All (λ member. FitsSigned w64 member.target.id) members → All (λ member. IsUtf8 member.role) members → All (λ member. HasNoNul member.role) members → AllByRecursion IsGraphic (join_with_byte 44 (map member_text members))
+pub members_graphic : (members : List Member) → All (λ member. FitsSigned w64 member.target.id) members → All (λ member. IsUtf8 member.role) members → All (λ member. HasNoNul member.role) members → AllByRecursion IsGraphic (join_with_byte comma (map member_text members))
 members_graphic members fit utf8 clean = graphic_list member_text IsKeptMember member_graphic members (kept_members members fit utf8 clean)

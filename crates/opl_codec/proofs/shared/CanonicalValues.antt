@@ -1,5 +1,5 @@
--- Numbers, moments and degrees in their canonical spelling: each spells its value, and has only printed bytes.
-use Rattle.std.proofs.Common.{◌≡◌, ℕ, suc, ◌+◌, ◌/◌, ◌%◌, ◌^◌, ◌<◌, ◌≤◌, List, [], ◌∷◌, ◌++◌, length, Bool, true, false, ◌==◌, ℤ, unsigned_abs, FitsSigned, Option, Some, None, MatchOption, refl, ap, subst, sym, arith}
+-- Numbers, moments and degrees in their canonical spelling: each spells its value, and has only graphic bytes.
+use Rattle.std.proofs.Common.{◌≡◌, ℕ, ◌+◌, ◌/◌, ◌%◌, ◌^◌, ◌<◌, ◌≤◌, List, [], ◌∷◌, ◌++◌, length, Bool, true, false, ◌==◌, ℤ, unsigned_abs, FitsSigned, Option, Some, None, MatchOption, refl, ap, subst, sym, arith}
 use Rattle.std.specs.Bool.{⊤}
 use Rattle.std.specs.Int.{w64}
 use Rattle.std.specs.Char.{digit_value}
@@ -9,9 +9,11 @@ use Rattle.std.specs.Str.Parse.{AllDigits}
 use Rattle.std.proofs.lemmas.Bool.Decides.{nat_tests}
 use Rattle.std.proofs.lemmas.Fmt.{decimal_is_IsNumeral}
 use Rattle.std.proofs.lemmas.Str.Parse.{digit_from_value}
+use Rattle.osm_model.specs.Bytes.{at_sign, colon, comma, digit_zero, exclamation_mark, hyphen, tilde}
 use Rattle.osm_model.specs.CanonicalDegrees.{degrees}
 use Rattle.osm_model.specs.CanonicalLine.{moment, two_digits, four_digits}
 use Rattle.osm_model.specs.Degrees.{IsDegrees, IsDigits, IsFraction, sign, point}
+use Rattle.osm_model.specs.Letters.{time_mark, zone_mark}
 use Rattle.osm_model.specs.Moments.{Moment, IsMoment}
 use Rattle.osm_model.proofs.shared.ReadBack.{reads_back}
 use Rattle.opl_codec.specs.Fields.{IsInteger, Lacks}
@@ -21,11 +23,11 @@ use Rattle.opl_codec.proofs.shared.ReadLiterals.{all_append, all_weaker}
 
 -- from `!` to `~`: no blank, no line end, nothing outside ASCII
 abbrev pub IsGraphic : ℕ → Type 0
-IsGraphic byte = (33 ≤ byte) × (byte ≤ 126)
+IsGraphic byte = (exclamation_mark ≤ byte) × (byte ≤ tilde)
 
--- from `-` to `9`: no comma and no `@` either
+-- from `-` to `9`: a minus, a point and the digits are such bytes, a comma and `@` aren't
 abbrev pub IsNumeric : ℕ → Type 0
-IsNumeric byte = (45 ≤ byte) × (byte ≤ 57)
+IsNumeric byte = (hyphen ≤ byte) × (byte ≤ digit_zero + 9)
 
 numeric_graphic : (byte : ℕ) → IsNumeric byte → IsGraphic byte
 numeric_graphic byte h = (omega (arith, h.0), omega (arith, h.1))
@@ -33,17 +35,17 @@ numeric_graphic byte h = (omega (arith, h.0), omega (arith, h.1))
 pub are_graphic : (text : List ℕ) → AllByRecursion IsNumeric text → AllByRecursion IsGraphic text
 are_graphic text all = all_weaker IsNumeric IsGraphic text numeric_graphic all
 
-not_comma : (byte : ℕ) → IsNumeric byte → (byte == 44) ≡ false
+not_comma : (byte : ℕ) → IsNumeric byte → (byte == comma) ≡ false
 not_comma byte h = let low = h.0 in grind (arith, nat_tests)
 
-pub numeric_lacks_comma : (text : List ℕ) → AllByRecursion IsNumeric text → Lacks 44 text
-numeric_lacks_comma text all = all_weaker IsNumeric (λ byte. (byte == 44) ≡ false) text not_comma all
+pub numeric_lacks_comma : (text : List ℕ) → AllByRecursion IsNumeric text → Lacks comma text
+numeric_lacks_comma text all = all_weaker IsNumeric (λ byte. (byte == comma) ≡ false) text not_comma all
 
-not_at : (byte : ℕ) → IsNumeric byte → (byte == 64) ≡ false
+not_at : (byte : ℕ) → IsNumeric byte → (byte == at_sign) ≡ false
 not_at byte h = let high = h.1 in grind (arith, nat_tests)
 
-pub numeric_lacks_at : (text : List ℕ) → AllByRecursion IsNumeric text → Lacks 64 text
-numeric_lacks_at text all = all_weaker IsNumeric (λ byte. (byte == 64) ≡ false) text not_at all
+pub numeric_lacks_at : (text : List ℕ) → AllByRecursion IsNumeric text → Lacks at_sign text
+numeric_lacks_at text all = all_weaker IsNumeric (λ byte. (byte == at_sign) ≡ false) text not_at all
 
 -- ---- bytes of numbers
 
@@ -116,18 +118,18 @@ marked_graphic mark n rest is small after = (is, all_append IsGraphic (two_digit
 
 -- the time of day with the mark before it
 abbrev time_text : Moment → List ℕ
-time_text m = marked 84 m.hour (marked 58 m.minute (marked 58 m.second (90 ∷ [])))
+time_text m = marked time_mark m.hour (marked colon m.minute (marked colon m.second (zone_mark ∷ [])))
 
 time_graphic : (m : Moment) → IsMoment m → AllByRecursion IsGraphic (time_text m)
 time_graphic m is =
-    let second = marked_graphic 58 m.second (90 ∷ []) (omega arith, omega arith) (omega (arith, is.second)) ((omega arith, omega arith), tt) in
-    let minute = marked_graphic 58 m.minute (marked 58 m.second (90 ∷ [])) (omega arith, omega arith) (omega (arith, is.minute)) second in
-    marked_graphic 84 m.hour (marked 58 m.minute (marked 58 m.second (90 ∷ []))) (omega arith, omega arith) (omega (arith, is.hour)) minute
+    let second = marked_graphic colon m.second (zone_mark ∷ []) (omega arith, omega arith) (omega (arith, is.second)) ((omega arith, omega arith), tt) in
+    let minute = marked_graphic colon m.minute (marked colon m.second (zone_mark ∷ [])) (omega arith, omega arith) (omega (arith, is.minute)) second in
+    marked_graphic time_mark m.hour (marked colon m.minute (marked colon m.second (zone_mark ∷ []))) (omega arith, omega arith) (omega (arith, is.hour)) minute
 
 pub stamp_graphic : (stamp : Option Moment) → MatchOption stamp ⊤ (λ m. IsMoment m) → AllByRecursion IsGraphic (moment stamp)
 unfolding moment
 stamp_graphic None is = tt
 stamp_graphic (Some m) is =
-    let day = marked_graphic 45 m.day (time_text m) (omega arith, omega arith) (omega (arith, is.day)) (time_graphic m is) in
-    let month = marked_graphic 45 m.month (marked 45 m.day (time_text m)) (omega arith, omega arith) (omega (arith, is.month)) day in
-    all_append IsGraphic (four_digits m.year) (marked 45 m.month (marked 45 m.day (time_text m))) (four_graphic m.year (omega (arith, is.year))) month
+    let day = marked_graphic hyphen m.day (time_text m) (omega arith, omega arith) (omega (arith, is.day)) (time_graphic m is) in
+    let month = marked_graphic hyphen m.month (marked hyphen m.day (time_text m)) (omega arith, omega arith) (omega (arith, is.month)) day in
+    all_append IsGraphic (four_digits m.year) (marked hyphen m.month (marked hyphen m.day (time_text m))) (four_graphic m.year (omega (arith, is.year))) month
