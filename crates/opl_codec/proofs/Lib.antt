@@ -27,6 +27,7 @@ pub mod TextsEscaped
 pub mod TextsParts
 pub mod ValueCoordinates
 pub mod ValueLists
+pub mod ValueMembers
 pub mod ValueMoments
 pub mod ValueNodes
 pub mod ValueTags

@@ -11,3 +11,4 @@ pub mod internal
 pub mod Texts
 pub mod Values
 pub mod ValueFaults
+pub mod Members

@@ -5,3 +5,4 @@ pub mod TextParts
 pub mod Stamps
 pub mod ListParts
 pub mod ItemPlaces
+pub mod MemberPlaces

@@ -21,6 +21,8 @@ mod list_item;
 mod load;
 mod loader;
 mod make_text;
+mod member_item;
+mod member_stub;
 mod moment;
 mod node_item;
 mod number;
