@@ -1,5 +1,5 @@
 -- Laws of the values of fields: a text spells one value at most, and none where it has a fault.
-use Rattle.std.proofs.Common.{◌≡◌, ◌≢◌, ℕ, ◌+◌, ◌*◌, ◌/◌, ◌%◌, ◌<◌, ◌≤◌, ℤ, List, [], ◌∷◌, ◌++◌, length, Bool, true, false, Option, Some, None, refl, sym, ◌∙◌, ap, subst, arith, inl, inr}
+use Rattle.std.proofs.Common.{◌≡◌, ◌≢◌, ℕ, ◌+◌, ◌/◌, ◌%◌, ◌≤◌, ℤ, List, [], ◌∷◌, ◌++◌, length, Bool, true, false, Option, Some, None, refl, sym, ◌∙◌, ap, subst, arith, inl, inr}
 use Rattle.osm_model.specs.Bytes.{at_sign, colon, equals_sign, hyphen}
 use Rattle.osm_model.specs.Letters.{longitude_letter, time_mark, zone_mark}
 use Rattle.osm_model.specs.CanonicalLine.{kind_letter, moment}
