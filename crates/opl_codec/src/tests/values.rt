@@ -210,7 +210,7 @@ fn members_are_read(rt: HostRuntime) {
         ("n1@a=b", ValueFault::Form),
         ("n1@,", ValueFault::Form),
         ("n1@%", ValueFault::Escape(3)),
-        ("w1@,n22@a%0%", ValueFault::Escape(10)),
+        ("w1@,n22@a%0%", ValueFault::Escape(9)),
     ];
     for (text, wanted) in faults {
         let refused =
