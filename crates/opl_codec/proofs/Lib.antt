@@ -31,6 +31,7 @@ pub mod TextsClean
 pub mod TextsEscaped
 pub mod ValueCoordinates
 pub mod ValueLists
+pub mod ValueMembers
 pub mod ValueMoments
 pub mod ValueNodes
 pub mod ValueTags

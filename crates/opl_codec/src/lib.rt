@@ -26,6 +26,8 @@ mod line_reader;
 mod load;
 mod loader;
 mod make_text;
+mod member_item;
+mod member_stub;
 mod moment;
 mod node_item;
 mod number;

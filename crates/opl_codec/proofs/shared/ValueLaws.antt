@@ -1,25 +1,31 @@
 -- Laws of the values of fields: a text spells one value at most, and none where it has a fault.
-use Rattle.std.proofs.Common.{◌≡◌, ◌≢◌, ℕ, ◌/◌, ◌%◌, ◌≤◌, ℤ, List, [], ◌∷◌, ◌++◌, length, Bool, true, false, Option, Some, None, refl, sym, ◌∙◌, ap, subst, arith, inl, inr}
-use Rattle.osm_model.specs.Bytes.{colon, equals_sign, hyphen}
+use Rattle.std.proofs.Common.{◌≡◌, ◌≢◌, ℕ, ◌+◌, ◌/◌, ◌%◌, ◌≤◌, ℤ, List, [], ◌∷◌, ◌++◌, length, Bool, true, false, Option, Some, None, refl, sym, ◌∙◌, ap, subst, arith, inl, inr}
+use Rattle.osm_model.specs.Bytes.{at_sign, colon, equals_sign, hyphen}
 use Rattle.osm_model.specs.Letters.{longitude_letter, time_mark, zone_mark}
-use Rattle.osm_model.specs.CanonicalLine.{moment}
+use Rattle.osm_model.specs.CanonicalLine.{kind_letter, moment}
 use Rattle.osm_model.specs.Degrees.{Decimal, IsDegrees, point, sign, spelling}
 use Rattle.osm_model.specs.Moments.{Moment}
 use Rattle.osm_model.specs.declared.axis.Axis.{Axis}
 use Rattle.osm_model.specs.declared.limits.TheConstants.{LIST_LIMIT}
+use Rattle.osm_model.specs.declared.kind.Kind.{Kind}
+use Rattle.osm_model.specs.declared.kind.Kind.TheVariants as kinds
+use Rattle.osm_model.specs.declared.reference.Ref.{Ref}
 use Rattle.osm_model.specs.declared.tag.Tag.{Tag}
+use Rattle.opl_codec.specs.declared.member_stub.Member.{Member}
 use Rattle.osm_model.proofs.shared.OneDecimal.{one_value}
 use Rattle.opl_codec.specs.Fields.{Each}
 use Rattle.opl_codec.specs.Texts.{is_free, IsText, SpellsText, BadEscapeIn}
 use Rattle.opl_codec.specs.Values.{items, SpellsVersion, SpellsNumber, SpellsVisible, SpellsStamp, SpellsCoordinate, IsWithin, SpellsTag, SpellsNode, SpellsTags, SpellsNodes, TagsFit}
 use Rattle.opl_codec.specs.ValueFaults.{CoordinateFault, KeyMisfit, HasKey, TagFault, NodeFault, IsLocated, FirstFault, ListFault, IsSpelled, TagsFault, NodesFault, IsTooLong, further_by, items_len}
+use Rattle.opl_codec.specs.Members.{SpellsReference, SpellsMember, SpellsMembers, MembersFit, HasTarget, MemberFault, MembersFault}
 use Rattle.opl_codec.specs.declared.value_fault.ValueFault.{ValueFault}
 use Rattle.opl_codec.specs.declared.value_fault.ValueFault.TheVariants as faults
 use Rattle.opl_codec.specs.internal.Stamps.{BeginsWithTwo, BeginsWithPart}
 use Rattle.opl_codec.proofs.EachLemmas.{each_same}
 use Rattle.opl_codec.proofs.TextsParts.{same_texts}
 use Rattle.opl_codec.proofs.ValueMoments.{moment_is, no_moment, moment_of, from_century, from_year, from_month, from_day, from_hour, from_minute, from_second, after_century, after_year, after_month, after_day, after_hour, after_minute, after_second}
-use Rattle.opl_codec.proofs.ValueNodes.{no_cut, number_lacks}
+use Rattle.opl_codec.proofs.ValueMembers.{reference_lacks}
+use Rattle.opl_codec.proofs.ValueNodes.{no_cut, number_lacks, same_cut}
 use Rattle.opl_codec.proofs.shared.ReadIds.{one_integer}
 use Rattle.opl_codec.proofs.shared.TextLaws.{one_text, not_misfit, not_bad_escape, text_before, text_whole}
 
@@ -221,3 +227,67 @@ not_bad_tags text fault tags other h spelled fit =
 pub not_bad_nodes : (text : List ℕ) (fault : ValueFault) (ids : List ℤ) → fault ≢ faults.Memory → NodesFault text fault → SpellsNodes text ids → length ids ≤ LIST_LIMIT → ⊥
 not_bad_nodes text fault ids other h spelled few =
     not_bad_list SpellsNode NodeFault (IsTooLong SpellsNode text) not_bad_node text fault ids other (λ over. let many = over.2 in omega (arith, ap length (one_nodes text ids over.0 spelled over.1))) h spelled
+
+-- ---- members
+
+pub one_reference : (text : List ℕ) (a b : Ref) → SpellsReference text a → SpellsReference text b → a ≡ b
+one_reference text a b h k =
+    let whole = sym h.parts ∙ k.parts in
+    let letters : kind_letter a.kind ≡ kind_letter b.kind = cc in
+    let digits : h.digits ≡ k.digits = cc in
+    let id : a.id ≡ b.id = one_number k.digits a.id b.id (subst (λ d. SpellsNumber d a.id) digits h.id_is) k.id_is in
+    ap (λ x. made x a.id) (one_kind a.kind b.kind letters) ∙ ap (λ x. made b.kind x) id
+  where
+    made : Kind → ℤ → Ref
+    made kind id = record { kind = kind; id = id }
+
+    one_kind : (a b : Kind) → kind_letter a ≡ kind_letter b → a ≡ b
+    one_kind kinds.Node kinds.Node e = refl
+    one_kind kinds.Node kinds.Way e = absurd (omega (arith, e))
+    one_kind kinds.Node kinds.Rel e = absurd (omega (arith, e))
+    one_kind kinds.Way kinds.Node e = absurd (omega (arith, e))
+    one_kind kinds.Way kinds.Way e = refl
+    one_kind kinds.Way kinds.Rel e = absurd (omega (arith, e))
+    one_kind kinds.Rel kinds.Node e = absurd (omega (arith, e))
+    one_kind kinds.Rel kinds.Way e = absurd (omega (arith, e))
+    one_kind kinds.Rel kinds.Rel e = refl
+
+-- what stands before and after the `@` of a member
+module _ (a b x y : List ℕ) (s t : Ref) (a_is : SpellsReference a s) (b_is : SpellsReference b t) (e : a ++ at_sign ∷ x ≡ b ++ at_sign ∷ y) where
+  same_targets : a ≡ b
+  same_targets = (same_cut at_sign a b x y (reference_lacks a s a_is) (reference_lacks b t b_is) e).0
+
+  same_roles : x ≡ y
+  same_roles = (same_cut at_sign a b x y (reference_lacks a s a_is) (reference_lacks b t b_is) e).1
+
+pub one_member : (spelled : List ℕ) (s t : Member) → SpellsMember spelled s → SpellsMember spelled t → s ≡ t
+one_member spelled s t h k =
+    let whole = sym h.parts ∙ k.parts in
+    let targets = same_targets h.target k.target h.role k.role s.target t.target h.target_is k.target_is whole in
+    let roles = same_roles h.target k.target h.role k.role s.target t.target h.target_is k.target_is whole in
+    let target : s.target ≡ t.target = one_reference k.target s.target t.target (subst (λ l. SpellsReference l s.target) targets h.target_is) k.target_is in
+    let role : s.role ≡ t.role = one_text k.role s.role t.role (subst (λ l. SpellsText l s.role) roles h.role_is) k.role_is in
+    ap (λ x. made x s.role) target ∙ ap (λ x. made t.target x) role
+  where
+    made : Ref → List ℕ → Member
+    made target role = record { target = target; role = role }
+
+pub one_members : (text : List ℕ) (s t : List Member) → SpellsMembers text s → SpellsMembers text t → s ≡ t
+one_members text s t h k = each_same SpellsMember one_member (items text) s t h k
+
+role_of : (spelled role : List ℕ) (place : ℕ) (member : Member) → HasTarget spelled role place → (m : SpellsMember spelled member) → IsText role
+role_of spelled role place member h m = subst IsText (sym (same_roles h.target m.target role m.role h.reference member.target h.target_is m.target_is (sym h.parts ∙ m.parts))) (member.role, m.role_is)
+
+pub not_bad_member : (spelled : List ℕ) (fault : ValueFault) (member : Member) → fault ≢ faults.Memory → MemberFault spelled fault → SpellsMember spelled member → ⊥
+not_bad_member spelled faults.Form member other h m = elim h [
+  | inl none ↦ none m.role (length m.target + 1) (record { target = m.target; parts = m.parts; reference = member.target; target_is = m.target_is; at = refl })
+  | inr role ↦ not_misfit role.0 role.3 (role_of spelled role.0 role.1 member role.2 m)
+]
+not_bad_member spelled (faults.Escape at) member other h m = not_bad_escape h.0 h.2 h.4 (role_of spelled h.0 h.1 member h.3 m)
+not_bad_member spelled faults.NodeLocation member other h m = h
+not_bad_member spelled faults.Limit member other h m = h
+not_bad_member spelled faults.Memory member other h m = other refl
+
+pub not_bad_members : (text : List ℕ) (fault : ValueFault) (members : List Member) → fault ≢ faults.Memory → MembersFault text fault → SpellsMembers text members → MembersFit members → ⊥
+not_bad_members text fault members other h spelled fit =
+    not_bad_list SpellsMember MemberFault ((m : List Member) × SpellsMembers text m × (¬ (MembersFit m))) not_bad_member text fault members other (λ over. over.2 (subst MembersFit (one_members text members over.0 spelled over.1) fit)) h spelled

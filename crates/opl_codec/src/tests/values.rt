@@ -1,12 +1,13 @@
 //! Rows of the values of fields and of their faults.
 
 use crate::coordinate::read_degrees_field;
+use crate::member_item::read_members;
 use crate::moment::read_stamp;
 use crate::node_item::read_nodes;
 use crate::number::{read_number, read_version, read_visible};
 use crate::tag_item::read_tags;
 use crate::value_fault::ValueFault;
-use osm_model::{Axis, Stamp};
+use osm_model::{Axis, Kind, Stamp};
 
 /// Whether two faults are one.
 fn is_same(fault: ValueFault, other: ValueFault) -> bool {
@@ -173,6 +174,47 @@ fn tags_are_read(rt: HostRuntime) {
     ];
     for (text, wanted) in faults {
         let refused = matches!(read_tags(rt.alloc(), text), Err(fault) if is_same(fault, wanted));
+        assert!(rt; refused, "at {text}");
+    }
+}
+
+#[test]
+fn members_are_read(rt: HostRuntime) {
+    let rows: [(&str, &[(Kind, i64, &str)]); 4] = [
+        ("", &[]),
+        ("n1@", &[(Kind::Node, 1, "")]),
+        ("w-2@outer", &[(Kind::Way, -2, "outer")]),
+        (
+            "r3@a%40%@,n1@@",
+            &[(Kind::Rel, 3, "a@@"), (Kind::Node, 1, "@")],
+        ),
+    ];
+    for (text, members) in rows {
+        let same = match read_members(rt.alloc(), text) {
+            Ok(read) => {
+                read.len() == members.len()
+                    && read.iter().zip(members).all(|(member, (kind, id, role))| {
+                        member.target.kind == *kind
+                            && member.target.id == *id
+                            && member.role.as_str() == *role
+                    })
+            }
+            Err(_) => false,
+        };
+        assert!(rt; same, "at {text}");
+    }
+    let faults = [
+        ("n1", ValueFault::Form),
+        ("x1@", ValueFault::Form),
+        ("n@", ValueFault::Form),
+        ("n1@a=b", ValueFault::Form),
+        ("n1@,", ValueFault::Form),
+        ("n1@%", ValueFault::Escape(3)),
+        ("w1@,n22@a%0%", ValueFault::Escape(9)),
+    ];
+    for (text, wanted) in faults {
+        let refused =
+            matches!(read_members(rt.alloc(), text), Err(fault) if is_same(fault, wanted));
         assert!(rt; refused, "at {text}");
     }
 }
