@@ -11,12 +11,11 @@ ghost use Rattle.opl_codec.specs.Members.{SpellsReference, SpellsMembers, Member
 
 use crate::list_item::{ListItem, read_list};
 use crate::make_text::make_text;
-use crate::member_stub::Member;
 use crate::number::read_number;
 use crate::separator::cut;
 use crate::text_len::text_len;
 use crate::value_fault::ValueFault;
-use osm_model::{Kind, Ref, TEXT_LIMIT};
+use osm_model::{Kind, Member, Ref, TEXT_LIMIT};
 use std::alloc::Global;
 
 /// The members of a text, in their order.
