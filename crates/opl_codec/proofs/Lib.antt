@@ -25,3 +25,9 @@ pub mod TextsParts
 pub mod TextsJoined
 pub mod TextsMade
 pub mod TextsEscaped
+pub mod ValueCoordinates
+pub mod ValueLists
+pub mod ValueMoments
+pub mod ValueNodes
+pub mod ValueTags
+pub mod LineFields

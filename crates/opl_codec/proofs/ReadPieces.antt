@@ -27,7 +27,7 @@ first_piece separator (x ∷ text) (suc n) none lt at =
 passed : (separator x : ℕ) → x ≡ separator → is_byte separator x ≡ true
 passed separator x e = grind (arith, nat_tests, e)
 
-stood : (separator x : ℕ) → is_byte separator x ≡ true → x ≡ separator
+pub stood : (separator x : ℕ) → is_byte separator x ≡ true → x ≡ separator
 stood separator x e = grind (arith, nat_tests, e)
 
 -- what a search for the separator says

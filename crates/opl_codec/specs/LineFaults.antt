@@ -23,7 +23,7 @@ use Rattle.opl_codec.specs.LineParts.{IsBodyOf, meta_of, tags_of}
 use Rattle.opl_codec.specs.LineChanges.{SpellsParts}
 use Rattle.opl_codec.specs.Members.{SpellsMember, SpellsMembers, MembersFit, MemberFault}
 use Rattle.opl_codec.specs.Texts.{SpellsText}
-use Rattle.opl_codec.specs.ValueFaults.{ListFault, NodeFault, TagFault, TextFault}
+use Rattle.opl_codec.specs.ValueFaults.{CoordinateFault, ListFault, NodesFault, TagsFault, TextFault}
 use Rattle.opl_codec.specs.Values.{SpellsCoordinate, SpellsNode, SpellsNodes, SpellsNumber, SpellsStamp, SpellsTag, SpellsTags, SpellsVersion, SpellsVisible, TagsFit}
 use Rattle.opl_codec.specs.declared.cause.OplCause.{OplCause}
 use Rattle.opl_codec.specs.declared.cause.OplCause.TheVariants as causes
@@ -42,11 +42,6 @@ OnlyForm unspelled faults.NodeLocation = ⊥
 OnlyForm unspelled faults.Limit = ⊥
 OnlyForm unspelled faults.Memory = ⊥
 
--- the text is no coordinate, or one beyond the end of its axis
-abbrev pub CoordinateFault : Axis → List ℕ → ValueFault → Type 0
-CoordinateFault axis text faults.Limit = (z : ℤ) × SpellsCoordinate text (Some z) × (limit axis < unsigned_abs z)
-CoordinateFault axis text fault = OnlyForm ((coordinate : Option ℤ) → SpellsCoordinate text coordinate → ⊥) fault
-
 -- the text is no text of its form, or too long
 abbrev pub UserFault : List ℕ → ValueFault → Type 0
 UserFault text faults.Limit = (user : List ℕ) × SpellsText text user × (¬ (IsShort user))
@@ -60,10 +55,10 @@ FieldFault letters.Changeset text fault = OnlyForm ((changeset : ℤ) → Spells
 FieldFault letters.Stamp text fault = OnlyForm ((stamp : Option Moment) → SpellsStamp text stamp → ⊥) fault
 FieldFault letters.Uid text fault = OnlyForm ((uid : ℤ) → SpellsNumber text uid → ⊥) fault
 FieldFault letters.User text fault = UserFault text fault
-FieldFault letters.Tags text fault = ListFault (λ item. (tag : Tag) × SpellsTag item tag) TagFault ((tags : List Tag) × SpellsTags text tags × (¬ (TagsFit tags))) text fault
+FieldFault letters.Tags text fault = TagsFault text fault
 FieldFault letters.Lon text fault = CoordinateFault axes.Lon text fault
 FieldFault letters.Lat text fault = CoordinateFault axes.Lat text fault
-FieldFault letters.Nodes text fault = ListFault (λ item. (id : ℤ) × SpellsNode item id) NodeFault ((ids : List ℤ) × SpellsNodes text ids × (LIST_LIMIT < length ids)) text fault
+FieldFault letters.Nodes text fault = NodesFault text fault
 FieldFault letters.Members text fault = ListFault (λ item. (member : Member) × SpellsMember item member) MemberFault ((members : List Member) × SpellsMembers text members × (¬ (MembersFit members))) text fault
 
 -- a field that begins at this byte has this fault; its letter is one of this kind of object

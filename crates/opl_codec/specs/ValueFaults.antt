@@ -1,11 +1,15 @@
 -- Why the text of a field isn't its value, and where.
 -- Source: this project.
-use Rattle.std.specs.Prelude.{◌≡◌, ◌≢◌, ℕ, ◌+◌, ◌⊎◌, ℤ, List, [], ◌∷◌, ◌++◌, length}
+use Rattle.std.specs.Prelude.{◌≡◌, ◌≢◌, ℕ, ◌+◌, ◌<◌, ◌⊎◌, ℤ, List, [], ◌∷◌, ◌++◌, length, Option}
 use Rattle.std.specs.List.{AllByRecursion}
 use Rattle.osm_model.specs.Bytes.{equals_sign}
 use Rattle.osm_model.specs.Letters.{longitude_letter, node_letter}
+use Rattle.osm_model.specs.declared.axis.Axis.{Axis}
+use Rattle.osm_model.specs.declared.limits.TheConstants.{LIST_LIMIT}
+use Rattle.osm_model.specs.declared.tag.Tag.{Tag}
+use Rattle.opl_codec.specs.Fields.{Each}
 use Rattle.opl_codec.specs.Texts.{IsText, TextMisfit, BadEscapeIn}
-use Rattle.opl_codec.specs.Values.{items, SpellsNode, SpellsNumber}
+use Rattle.opl_codec.specs.Values.{items, IsWithin, SpellsCoordinate, SpellsNode, SpellsNumber, SpellsTag, SpellsTags, TagsFit}
 use Rattle.opl_codec.specs.declared.value_fault.ValueFault.{ValueFault}
 use Rattle.opl_codec.specs.declared.value_fault.ValueFault.TheVariants as faults
 
@@ -16,6 +20,14 @@ TextFault spelled (faults.Escape at) = BadEscapeIn spelled at
 TextFault spelled faults.NodeLocation = ⊥
 TextFault spelled faults.Limit = ⊥
 TextFault spelled faults.Memory = spelled ≢ []
+
+-- the fault of a coordinate: no degrees, or degrees beyond the end of the axis
+abbrev pub CoordinateFault : Axis → List ℕ → ValueFault → Type 0
+CoordinateFault axis text faults.Form = (coordinate : Option ℤ) → SpellsCoordinate text coordinate → ⊥
+CoordinateFault axis text (faults.Escape at) = ⊥
+CoordinateFault axis text faults.NodeLocation = ⊥
+CoordinateFault axis text faults.Limit = (coordinate : Option ℤ) × SpellsCoordinate text coordinate × (¬ (IsWithin axis coordinate))
+CoordinateFault axis text faults.Memory = ⊥
 
 -- the key goes so far, and then no `=` comes: the tag ends, or a byte comes that no text has
 abbrev pub KeyMisfit : List ℕ → Type 0
@@ -80,3 +92,19 @@ ListFault good bad over text faults.Memory = text ≢ []
 ListFault good bad over text faults.Form = FirstFault good bad text faults.Form
 ListFault good bad over text (faults.Escape at) = FirstFault good bad text (faults.Escape at)
 ListFault good bad over text faults.NodeLocation = FirstFault good bad text faults.NodeLocation
+
+-- some value is spelled so
+abbrev pub IsSpelled : {A : Type 0} → (List ℕ → A → Type 0) → List ℕ → Type 0
+IsSpelled {A = A} spells spelled = (value : A) × spells spelled value
+
+-- more values than a list may have are spelled so
+abbrev pub IsTooLong : {A : Type 0} → (List ℕ → A → Type 0) → List ℕ → Type 0
+IsTooLong {A = A} spells text = (values : List A) × Each spells (items text) values × (LIST_LIMIT < length values)
+
+-- the fault of tags; over a limit are those that don't fit
+abbrev pub TagsFault : List ℕ → ValueFault → Type 0
+TagsFault text fault = ListFault (IsSpelled SpellsTag) TagFault ((tags : List Tag) × SpellsTags text tags × (¬ (TagsFit tags))) text fault
+
+-- the fault of nodes; over a limit are those that are too many
+abbrev pub NodesFault : List ℕ → ValueFault → Type 0
+NodesFault text fault = ListFault (IsSpelled SpellsNode) NodeFault (IsTooLong SpellsNode text) text fault

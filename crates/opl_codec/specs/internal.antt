@@ -3,3 +3,6 @@ pub mod Loading
 pub mod Reading
 pub mod TextParts
 pub mod FieldCuts
+pub mod Stamps
+pub mod ListParts
+pub mod ItemPlaces

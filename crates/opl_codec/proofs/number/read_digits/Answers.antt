@@ -2,7 +2,7 @@ use Rattle.std.proofs.Common.{arith, ◌<◌, ◌-◌, ◌^◌, get_or, lit≤}
 use Rattle.std.specs.Char.{digit_value}
 use Rattle.std.proofs.lemmas.Int.Digits.{digits_more}
 use Rattle.opl_codec.proofs.shared.ReadIds.{digits_all, not_digit, digit_is, cap_more}
-use Rattle.opl_codec.proofs.id.read_digits.Goals as goal
+use Rattle.opl_codec.proofs.number.read_digits.Goals as goal
 
 pub returns-then-not-is_ascii_digit : goal.returns-then-not-is_ascii_digit
 returns-then-not-is_ascii_digit c digits = not_digit _ c.if-not-is_ascii_digit.ensures.cases (digits_all _ _ c.loop-byte-test.true digits.1)
