@@ -31,3 +31,4 @@ pub mod ValueMoments
 pub mod ValueNodes
 pub mod ValueTags
 pub mod LineFields
+pub mod LineSteps

@@ -9,6 +9,7 @@ use Rattle.osm_model.specs.declared.member.Member.{Member}
 use Rattle.osm_model.specs.declared.reference.Ref.{Ref}
 use Rattle.opl_codec.specs.Fields.{Each}
 use Rattle.opl_codec.specs.Texts.{SpellsText, TextMisfit, BadEscapeIn}
+use Rattle.opl_codec.specs.ValueFaults.{IsSpelled, ListFault}
 use Rattle.opl_codec.specs.Values.{items, SpellsNumber}
 use Rattle.opl_codec.specs.declared.value_fault.ValueFault.{ValueFault}
 use Rattle.opl_codec.specs.declared.value_fault.ValueFault.TheVariants as faults
@@ -51,3 +52,7 @@ MemberFault spelled (faults.Escape at) = (role : List ℕ) × (place further : �
 MemberFault spelled faults.NodeLocation = ⊥
 MemberFault spelled faults.Limit = ⊥
 MemberFault spelled faults.Memory = spelled ≢ []
+
+-- the fault of members; over a limit are those that don't fit
+abbrev pub MembersFault : List ℕ → ValueFault → Type 0
+MembersFault text fault = ListFault (IsSpelled SpellsMember) MemberFault ((members : List Member) × SpellsMembers text members × (¬ (MembersFit members))) text fault

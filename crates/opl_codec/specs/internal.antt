@@ -6,3 +6,4 @@ pub mod FieldCuts
 pub mod Stamps
 pub mod ListParts
 pub mod ItemPlaces
+pub mod PartSteps

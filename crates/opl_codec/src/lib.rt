@@ -24,6 +24,7 @@ mod list_item;
 mod load;
 mod loader;
 mod make_text;
+mod member_item;
 mod moment;
 mod node_item;
 mod number;
