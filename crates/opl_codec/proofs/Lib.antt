@@ -32,3 +32,4 @@ pub mod ValueNodes
 pub mod ValueTags
 pub mod LineFields
 pub mod LineSteps
+pub mod LineNames

@@ -1,10 +1,10 @@
 -- The fields of a text that is made of a front and a rest.
-use Rattle.std.proofs.Common.{◌≡◌, ◌≢◌, ℕ, ◌+◌, List, [], ◌∷◌, ◌++◌, length, true, false, if◌then◌else◌, refl, sym, ◌∙◌, ap, subst, arith, append-nil, append_assoc, length-append}
+use Rattle.std.proofs.Common.{◌≡◌, ◌≢◌, ℕ, ◌+◌, ◌-◌, ◌<◌, ◌≤◌, List, [], ◌∷◌, ◌++◌, length, true, false, if◌then◌else◌, refl, sym, ◌∙◌, ap, subst, arith, append-nil, append_assoc, length-append}
 use Rattle.std.specs.List.{filter}
 use Rattle.std.proofs.lemmas.List.Elements.{filter-append}
 use Rattle.opl_codec.specs.Fields.{onto_first}
 use Rattle.opl_codec.specs.LineFields.{is_blank, is_some_text, between_blanks, fields, FieldAt}
-use Rattle.opl_codec.specs.internal.FieldCuts.{AreBlanks, HasNoBlank, StartsBlank, IsNextField}
+use Rattle.opl_codec.specs.internal.FieldCuts.{AreBlanks, HasNoBlank, StartsBlank, IsNextField, HasRead}
 
 -- there is always a piece
 some_piece : (text : List ℕ) → between_blanks text ≢ []
@@ -71,25 +71,20 @@ front_starts [] [] rest are one some starts = absurd (some refl)
 front_starts [] (x ∷ f) rest are one some starts = absurd (let e : true ≡ false = sym starts ∙ one.0 in cc)
 front_starts (x ∷ blanks) f rest are one some starts = are.0
 
+some_len : (f : List ℕ) → f ≢ [] → 0 < length f
+some_len [] some = absurd (some refl)
+some_len (x ∷ f) some = omega arith
+
 -- a next field is the first of the text's fields
 pub first_is : (text : List ℕ) (gap : ℕ) (f rest : List ℕ) → IsNextField text gap f rest → fields text ≡ f ∷ fields rest
 first_is text gap f rest next =
     ap fields next.text_is ∙ (blanks_then next.blanks (f ++ rest) next.are_blanks ∙ (fields_apart f rest next.ends ∙ ap (λ ps. ps ++ fields rest) (one_field f next.one next.some)))
 
--- so much of a text was read: its first field, further ones, and what is left after them
-pub record HasRead (text : List ℕ) (at : ℕ) (first : List ℕ) (done : List (List ℕ)) (left : List ℕ) : Type 0 where
-  pub front : List ℕ
-  pub text_is : text ≡ front ++ left
-  pub at_is : length front ≡ at
-  pub fields_are : fields front ≡ first ∷ done
-  pub starts : StartsBlank left
-
 -- the first field
-pub read_first : (text first rest : List ℕ) → IsNextField text 0 first rest → HasRead text (length first) first [] rest
+pub read_first : (text first rest : List ℕ) → IsNextField text 0 first rest → HasRead text first [] rest
 read_first text first rest next = record {
   front = first;
   text_is = next.text_is ∙ ap (λ b. b ++ (first ++ rest)) (none next.blanks next.gap_is);
-  at_is = refl;
   fields_are = one_field first next.one next.some;
   starts = next.ends;
 }
@@ -98,7 +93,7 @@ read_first text first rest next = record {
     none [] e = refl
     none (x ∷ blanks) e = absurd (omega arith)
 
-module _ (text : List ℕ) (at : ℕ) (first : List ℕ) (done : List (List ℕ)) (left : List ℕ) (read : HasRead text at first done left) where
+module _ (text first : List ℕ) (done : List (List ℕ)) (left : List ℕ) (read : HasRead text first done left) where
   -- all fields, where only blanks are left
   pub read_all : AreBlanks left → fields text ≡ first ∷ done
   read_all blanks = ap fields read.text_is ∙ (fields_apart read.front left read.starts ∙ (ap (λ ps. fields read.front ++ ps) (no_fields left blanks) ∙ (append-nil (fields read.front) ∙ read.fields_are)))
@@ -109,25 +104,33 @@ module _ (text : List ℕ) (at : ℕ) (first : List ℕ) (done : List (List ℕ)
     front_fields = fields_apart read.front next.blanks (blanks_start next.blanks next.are_blanks) ∙ (ap (λ ps. fields read.front ++ ps) (no_fields next.blanks next.are_blanks) ∙ (append-nil (fields read.front) ∙ read.fields_are))
 
     -- the field that comes next
-    pub next_at : FieldAt text f (at + gap)
-    next_at = record {
+    pub next_at : (byte : ℕ) → byte ≡ length text - length left + gap → FieldAt text f byte
+    next_at byte place = record {
       front = read.front ++ next.blanks;
       rest = rest;
       text_is = read.text_is ∙ (ap (λ t. read.front ++ t) next.text_is ∙ sym (append_assoc read.front next.blanks (f ++ rest)));
       apart = ap fields read.text_is ∙ (fields_apart read.front left read.starts ∙ (ap (λ ps. fields read.front ++ ps) (first_is left gap f rest next) ∙ ap (λ ps. ps ++ f ∷ fields rest) (read.fields_are ∙ sym front_fields)));
       later = λ none. absurd (let e : first ∷ done ≡ [] = sym front_fields ∙ none in cc);
-      at_is = length-append read.front next.blanks ∙ omega (arith, read.at_is, next.gap_is);
+      at_is = omega (arith, place, next.gap_is, length-append read.front next.blanks, ap length read.text_is, length-append read.front left);
     }
 
-    pub before_next : fields (read.front ++ next.blanks) ≡ first ∷ done
-    before_next = front_fields
+    pub before_next : (byte : ℕ) (place : byte ≡ length text - length left + gap) → fields (next_at byte place).front ≡ first ∷ done
+    unfolding next_at
+    before_next byte place = front_fields
+
+    -- the rest is shorter, and the field is within the text
+    pub shorter : (length rest < length left) × (length text - length left + gap + length f ≤ length text)
+    shorter =
+        let some = some_len f next.some in
+        let parts : length left ≡ gap + (length f + length rest) = omega (arith, ap length next.text_is, length-append next.blanks (f ++ rest), length-append f rest, next.gap_is) in
+        let whole : length text ≡ length read.front + length left = ap length read.text_is ∙ length-append read.front left in
+        (omega arith, omega arith)
 
     -- one field more
-    pub read_more : HasRead text (at + gap + length f) first (done ++ f ∷ []) rest
+    pub read_more : HasRead text first (done ++ f ∷ []) rest
     read_more = record {
       front = read.front ++ (next.blanks ++ f);
       text_is = read.text_is ∙ (ap (λ t. read.front ++ t) (next.text_is ∙ sym (append_assoc next.blanks f rest)) ∙ sym (append_assoc read.front (next.blanks ++ f) rest));
-      at_is = length-append read.front (next.blanks ++ f) ∙ omega (arith, read.at_is, next.gap_is, length-append next.blanks f);
       fields_are = fields_apart read.front (next.blanks ++ f) (front_starts next.blanks f rest next.are_blanks next.one next.some (subst StartsBlank next.text_is read.starts))
           ∙ (ap (λ ps. fields read.front ++ ps) (blanks_then next.blanks f next.are_blanks ∙ one_field f next.one next.some) ∙ ap (λ ps. ps ++ f ∷ []) read.fields_are);
       starts = next.ends;

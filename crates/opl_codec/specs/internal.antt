@@ -7,3 +7,4 @@ pub mod Stamps
 pub mod ListParts
 pub mod ItemPlaces
 pub mod PartSteps
+pub mod LineReads

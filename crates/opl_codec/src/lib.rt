@@ -17,6 +17,8 @@ mod key_order;
 mod laws;
 mod letter;
 mod line;
+mod line_change;
+mod line_content;
 mod line_field;
 mod line_letter;
 mod line_parts;
