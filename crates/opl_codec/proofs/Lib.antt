@@ -33,3 +33,4 @@ pub mod ValueTags
 pub mod LineFields
 pub mod LineSteps
 pub mod LineNames
+pub mod LineContents

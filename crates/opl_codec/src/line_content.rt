@@ -5,16 +5,21 @@ ghost use Rattle.opl_codec.specs.LineChanges.{is_skipped};
 ghost use Rattle.opl_codec.specs.LineFields.{content};
 ghost use Rattle.opl_codec.specs.declared.line.TheConstants.{LONGEST_LINE};
 
+use crate::cut_text::is_at;
 use crate::line_field::blanks_len;
 
 /// A line without the CR at its end.
 pub fn content_of(line: &[u8]) -> &[u8]
     ensures { result.now ≡ content line.now }
 {
-    match line {
-        [front @ .., b'\r'] => front,
-        _ => line,
+    if line.is_empty() {
+        return line;
     }
+    let last = line.len() - 1;
+    if line[last] == b'\r' {
+        return &line[..last];
+    }
+    line
 }
 
 /// Whether a line that isn't too long is skipped: it has only blanks, or it is a comment.
@@ -22,7 +27,7 @@ pub fn is_skipped(line: &[u8]) -> bool
     requires { length line.now ≤ LONGEST_LINE }
     ensures { result ≡ is_skipped line.now }
 {
-    if matches!(line, [b'#', ..]) {
+    if is_at(line, 0, b'#') {
         return true;
     }
     let content = content_of(line);
