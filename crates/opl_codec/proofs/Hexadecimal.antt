@@ -1,6 +1,6 @@
 -- Hexadecimal digits at the beginning of a text.
-use Rattle.std.proofs.Common.{◌≡◌, ◌≢◌, ℕ, zero, suc, ◌<◌, ◌≤◌, ◌*◌, ◌+◌, ◌^◌, List, [], ◌∷◌, ◌++◌, length, take, get_or, slice_index, refl, sym, subst, ◌∙◌, ap, arith, lit<, length-append, inl, inr}
-use Rattle.std.specs.Char.{digit_value, IsScalar}
+use Rattle.std.proofs.Common.{◌≡◌, ℕ, zero, suc, ◌<◌, ◌≤◌, ◌+◌, ◌^◌, List, [], ◌∷◌, ◌++◌, length, take, get_or, refl, sym, subst, ◌∙◌, ap, arith, lit<, length-append, inl, inr}
+use Rattle.std.specs.Char.{digit_value}
 use Rattle.std.specs.Str.Parse.{AllDigits, digits_value}
 use Rattle.std.proofs.lemmas.Bool.{cases_lt}
 use Rattle.std.proofs.lemmas.List.{length-take-le, get_or_append_left, get_or_at, get_or-take, take_at}

@@ -25,8 +25,10 @@ pub mod TextsParts
 pub mod TextsJoined
 pub mod TextsMade
 pub mod TextsEscaped
+pub mod TextsClean
 pub mod ValueCoordinates
 pub mod ValueLists
+pub mod ValueMembers
 pub mod ValueMoments
 pub mod ValueNodes
 pub mod ValueTags

@@ -15,12 +15,13 @@ use Rattle.opl_codec.specs.LineFaults.{FieldFault}
 use Rattle.opl_codec.specs.LineFields.{content, fields, FieldAt}
 use Rattle.opl_codec.specs.LineLetters.{letter_byte, belongs}
 use Rattle.opl_codec.specs.LineParts.{AreTags, IsMissing, IsSpelled, Says}
-use Rattle.opl_codec.specs.Members.{MemberFault, SpellsMembers, MembersFit}
+use Rattle.opl_codec.specs.Members.{SpellsMembers, MembersFit}
 use Rattle.opl_codec.specs.Texts.{SpellsText}
 use Rattle.opl_codec.specs.ValueFaults.{FirstFault, further_by, items_len}
 use Rattle.opl_codec.specs.Values.{items, SpellsVersion, SpellsVisible, SpellsNumber, SpellsStamp, SpellsCoordinate, IsWithin, SpellsNodes}
 use Rattle.opl_codec.specs.internal.ItemPlaces.{escape_within, tag_within, node_within}
 use Rattle.opl_codec.specs.internal.ListParts.{place_in}
+use Rattle.opl_codec.specs.internal.MemberPlaces.{member_within}
 use Rattle.opl_codec.specs.internal.PartSteps.{is_said, IsKept, IsStep, IsTaken}
 use Rattle.opl_codec.specs.declared.line_letter.LineLetter.{LineLetter}
 use Rattle.opl_codec.specs.declared.line_letter.LineLetter.TheVariants as letters
@@ -215,15 +216,6 @@ moved_within by at faults.Memory e = absurd (let f = e in cc)
 
 list_within : (good : List ℕ → Type 0) (bad : List ℕ → ValueFault → Type 0) (text : List ℕ) (at : ℕ) → ((item : List ℕ) (inner : ValueFault) → bad item inner → place_in inner ≤ length item) → FirstFault good bad text (faults.Escape at) → at ≤ length text
 list_within good bad text at within h = omega (arith, moved_within (items_len h.before) at h.inner h.fault_is, within h.item h.inner h.is_bad, item_within text h.before h.item h.after h.items_are)
-
-member_within : (spelled : List ℕ) (fault : ValueFault) → MemberFault spelled fault → place_in fault ≤ length spelled
-member_within spelled faults.Form h = omega arith
-member_within spelled (faults.Escape at) h =
-    let target = h.3 in
-    omega (arith, h.5, target.at, ap length target.parts, length-append target.target (64 ∷ h.0), escape_within h.0 h.2 h.4)
-member_within spelled faults.NodeLocation h = omega arith
-member_within spelled faults.Limit h = omega arith
-member_within spelled faults.Memory h = omega arith
 
 -- a bad escape lies within the text
 text_within : (letter : LineLetter) (text : List ℕ) (at : ℕ) → FieldFault letter text (faults.Escape at) → at ≤ length text

@@ -1,7 +1,6 @@
 -- The canonical spelling of a text is one of its spellings.
 use Rattle.std.proofs.Common.{◌≡◌, ◌≢◌, ℕ, zero, suc, ◌+◌, ◌*◌, ◌/◌, ◌%◌, ◌^◌, ◌<◌, ◌≤◌, Bool, true, false, cond, ltb, ◌==◌, ◌&&◌, if◌then◌else◌, List, [], ◌∷◌, ◌++◌, flat_map, length, get_or, refl, sym, subst, ◌∙◌, ap, arith, lit<, length-append, inl, inr}
 use Rattle.std.specs.Char.{digit_value, digit_char, encode_utf8, IsScalar}
-use Rattle.std.specs.List.{AllByRecursion, All}
 use Rattle.std.specs.Str.{IsUtf8, chars}
 use Rattle.std.specs.Str.Parse.{AllDigits, digits_value, digits_value_after}
 use Rattle.std.proofs.lemmas.Bool.Decides.{nat_tests}

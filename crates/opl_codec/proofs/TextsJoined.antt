@@ -1,6 +1,5 @@
 -- Texts one after another.
 use Rattle.std.proofs.Common.{◌≡◌, ◌≢◌, ℕ, zero, suc, ◌+◌, ◌<◌, ◌≤◌, true, List, [], ◌∷◌, ◌++◌, flat_map, length, take, drop, get_or, refl, sym, subst, ◌∙◌, ap, arith, append_assoc, append-nil, length-append}
-use Rattle.std.specs.Bool.{⊤}
 use Rattle.std.specs.Char.{encode_utf8}
 use Rattle.std.specs.List.{AllByRecursion}
 use Rattle.std.specs.Str.Parse.{digits_value}
@@ -152,7 +151,7 @@ one_step text after rest len n is lt here none after_is rest_is within ends esca
     let literal : SpellsText front front = (literal_front text len is none).0 in
     let value = encode_utf8 (digits_value 16 digits) in
     let means : (t : List ℕ) → SpellsText rest t → SpellsText text (front ++ (value ++ t))
-      = λ t h. subst (λ s. SpellsText s (front ++ (value ++ t))) (sym whole) (spells_append front (spelled ++ rest) front (value ++ t) literal (spells_append spelled rest value t (spells_escape digits escape) h)) in
+    = λ t h. subst (λ s. SpellsText s (front ++ (value ++ t))) (sym whole) (spells_append front (spelled ++ rest) front (value ++ t) literal (spells_append spelled rest value t (spells_escape digits escape) h)) in
     record {
       left = subst IsText (sym same.1) found.text;
       means = subst (λ (s : List ℕ). (t : List ℕ) → SpellsText rest t → SpellsText text (front ++ (encode_utf8 (digits_value 16 (take n s)) ++ t))) after_is means;

@@ -1,5 +1,5 @@
 -- A text made piece by piece.
-use Rattle.std.proofs.Common.{◌≡◌, ◌≢◌, ℕ, ◌+◌, ◌-◌, ◌<◌, Bool, true, false, ◌==◌, Option, None, Some, List, ◌++◌, length, take, drop, get_or, refl, sym, subst, ◌∙◌, ap, arith, append_assoc}
+use Rattle.std.proofs.Common.{◌≡◌, ◌≢◌, ℕ, ◌+◌, ◌-◌, ◌<◌, true, false, ◌==◌, Option, None, Some, List, ◌++◌, length, take, drop, get_or, sym, subst, ◌∙◌, ap, arith, append_assoc}
 use Rattle.std.specs.Char.{encode_utf8}
 use Rattle.std.specs.Option.{is_some}
 use Rattle.std.specs.List.{slice_range}
@@ -46,7 +46,7 @@ means_more spelled text rest len n before middle after piece code means step mid
     let front = take len text in
     let said : SpellsText text (front ++ (value ++ t)) = subst (λ v. SpellsText text (front ++ (encode_utf8 v ++ t))) code_is (step.means t h) in
     let all : after ++ t ≡ before ++ (front ++ (value ++ t))
-      = ap (λ s. s ++ t) after_is ∙ (append_assoc middle value t ∙ (ap (λ s. s ++ (value ++ t)) (middle_is ∙ ap (λ p. before ++ p) piece_is) ∙ append_assoc before front (value ++ t))) in
+    = ap (λ s. s ++ t) after_is ∙ (append_assoc middle value t ∙ (ap (λ s. s ++ (value ++ t)) (middle_is ∙ ap (λ p. before ++ p) piece_is) ∙ append_assoc before front (value ++ t))) in
     subst (SpellsText spelled) (sym all) (means (front ++ (value ++ t)) said)
 
 pub no_mark_found : (bytes text : List ℕ) (found : Option ℕ) → bytes ≡ text → is_some found ≡ false → IsFirstByte (is_byte 37) bytes found → (k : ℕ) → k < length text → get_or text k 0 ≢ 37

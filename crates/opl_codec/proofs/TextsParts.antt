@@ -5,7 +5,7 @@ use Rattle.std.specs.Char.{digit_value}
 use Rattle.std.specs.List.{AllByRecursion}
 use Rattle.std.specs.Str.Parse.{AllDigits}
 use Rattle.std.proofs.lemmas.Bool.Decides.{nat_tests}
-use Rattle.opl_codec.specs.Texts.{is_free, IsEscape, Character, Itself, Escape, IsCharacter, spelling, meaning, SpellsText, IsText, BeginsEscape}
+use Rattle.opl_codec.specs.Texts.{is_free, Character, Itself, Escape, IsCharacter, spelling, meaning, SpellsText, BeginsEscape}
 
 -- no text goes on here
 abbrev pub StopsText : List ℕ → Type 0
@@ -52,7 +52,7 @@ same_characters [] (d ∷ ds) x y a b sx sy e = absurd (starts d (flat_map spell
 same_characters (c ∷ cs) [] x y a b sx sy e = absurd (starts c (flat_map spelling cs ++ x) a.0 (subst StopsText (sym e ∙ append_assoc (spelling c) (flat_map spelling cs) x) sy))
 same_characters (c ∷ cs) (d ∷ ds) x y a b sx sy e =
     let whole : spelling c ++ (flat_map spelling cs ++ x) ≡ spelling d ++ (flat_map spelling ds ++ y)
-        = sym (append_assoc (spelling c) (flat_map spelling cs) x) ∙ (e ∙ append_assoc (spelling d) (flat_map spelling ds) y) in
+    = sym (append_assoc (spelling c) (flat_map spelling cs) x) ∙ (e ∙ append_assoc (spelling d) (flat_map spelling ds) y) in
     let first = first_same c d (flat_map spelling cs ++ x) (flat_map spelling ds ++ y) a.0 b.0 whole in
     let rest = same_characters cs ds x y a.1 b.1 sx sy first.1 in
     let head : c ≡ d = first.0 in

@@ -1,7 +1,6 @@
 -- Coordinates of fields: their faults.
-use Rattle.std.proofs.Common.{◌≡◌, ◌≢◌, ℕ, ◌<◌, ℤ, List, [], Option, Some, None, arith}
-use Rattle.std.specs.Prelude.{unsigned_abs}
-use Rattle.osm_model.specs.Degrees.{IsDegrees, IsFault, limit}
+use Rattle.std.proofs.Common.{◌≡◌, ◌≢◌, ℕ, ℤ, List, [], Option, Some, None, arith}
+use Rattle.osm_model.specs.Degrees.{IsFault}
 use Rattle.osm_model.specs.declared.axis.Axis.{Axis}
 use Rattle.osm_model.specs.declared.fault.ModelFault.{ModelFault}
 use Rattle.osm_model.specs.declared.fault.ModelFault.TheVariants.{OutOfRange}

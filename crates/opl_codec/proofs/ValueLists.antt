@@ -1,5 +1,5 @@
 -- Lists of items between commas.
-use Rattle.std.proofs.Common.{◌≡◌, ◌≢◌, ℕ, ◌+◌, ◌<◌, ◌≤◌, List, [], ◌∷◌, ◌++◌, length, Bool, true, false, ◌==◌, Option, Some, None, Bor, MatchOption, refl, sym, ◌∙◌, ap, subst, arith, inl, inr, append_assoc, append-nil, length-append}
+use Rattle.std.proofs.Common.{◌≡◌, ◌≢◌, ℕ, ◌+◌, ◌<◌, ◌≤◌, List, [], ◌∷◌, ◌++◌, length, Bool, true, ◌==◌, Option, Some, None, Bor, MatchOption, refl, sym, ◌∙◌, ap, subst, arith, inl, inr, append_assoc, append-nil, length-append}
 use Rattle.std.specs.Bool.{⊤}
 use Rattle.std.specs.List.{AllByRecursion}
 use Rattle.std.proofs.lemmas.Bool.{eqb-true}
@@ -7,10 +7,10 @@ use Rattle.osm_model.specs.Bytes.{comma}
 use Rattle.osm_model.specs.declared.limits.TheConstants.{LIST_LIMIT}
 use Rattle.opl_codec.specs.Fields.{pieces, Each}
 use Rattle.opl_codec.specs.Values.{items}
-use Rattle.opl_codec.specs.ValueFaults.{FirstFault, ListFault, further_by, items_len, IsSpelled, IsTooLong}
+use Rattle.opl_codec.specs.ValueFaults.{ListFault, further_by, items_len, IsSpelled, IsTooLong}
 use Rattle.opl_codec.specs.declared.value_fault.ValueFault.{ValueFault}
 use Rattle.opl_codec.specs.declared.value_fault.ValueFault.TheVariants as faults
-use Rattle.opl_codec.specs.internal.ListParts.{AreFirst, place_in}
+use Rattle.opl_codec.specs.internal.ListParts.{AreFirst}
 use Rattle.opl_codec.proofs.EachLemmas.{each_append}
 use Rattle.opl_codec.proofs.ReadPieces.{pieces_left}
 

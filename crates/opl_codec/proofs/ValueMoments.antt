@@ -1,5 +1,5 @@
 -- The parts of a moment's text.
-use Rattle.std.proofs.Common.{◌≡◌, ◌≢◌, ℕ, ◌+◌, ◌*◌, ◌/◌, ◌%◌, ◌<◌, ◌≤◌, List, [], ◌∷◌, ◌++◌, Option, Some, None, MatchOption, refl, sym, ◌∙◌, ap, subst, arith}
+use Rattle.std.proofs.Common.{◌≡◌, ◌≢◌, ℕ, ◌+◌, ◌*◌, ◌/◌, ◌%◌, ◌<◌, List, [], ◌∷◌, ◌++◌, Option, Some, None, MatchOption, refl, sym, ◌∙◌, subst, arith}
 use Rattle.osm_model.specs.Bytes.{hyphen, colon, digit_zero}
 use Rattle.osm_model.specs.Letters.{time_mark, zone_mark}
 use Rattle.osm_model.specs.CanonicalLine.{moment, two_digits}

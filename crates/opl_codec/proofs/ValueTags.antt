@@ -1,5 +1,5 @@
 -- Tags: where their keys end, and what makes none.
-use Rattle.std.proofs.Common.{◌≡◌, ◌≢◌, ℕ, ◌+◌, ◌<◌, ◌≤◌, List, [], ◌∷◌, ◌++◌, length, get_or, take, drop, ◌⊎◌, All, refl, sym, ◌∙◌, ap, subst, arith, inl, inr}
+use Rattle.std.proofs.Common.{◌≡◌, ◌≢◌, ℕ, ◌+◌, ◌<◌, ◌≤◌, List, ◌∷◌, ◌++◌, length, get_or, take, drop, All, refl, sym, ◌∙◌, ap, subst, arith, inl, inr}
 use Rattle.std.proofs.lemmas.Bool.{cases_lt}
 use Rattle.std.proofs.lemmas.List.{take-append-drop, drop_more, take_all, length-take-le}
 use Rattle.osm_model.specs.Bytes.{equals_sign}
@@ -8,10 +8,9 @@ use Rattle.osm_model.specs.declared.limits.TheConstants.{LIST_LIMIT}
 use Rattle.std.specs.List.Sorted.{IsPermutation}
 use Rattle.std.proofs.lemmas.List.Sorted.{All-permutation, length_permutation}
 use Rattle.osm_model.specs.declared.tag.Tag.{Tag}
-use Rattle.opl_codec.specs.Texts.{IsText, TextMisfit, BadEscapeIn, SpellsText}
-use Rattle.opl_codec.specs.Values.{SpellsTag, SpellsTags, TagsFit}
-use Rattle.opl_codec.specs.ValueFaults.{KeyMisfit, HasKey, TagFault, IsTooLong}
-use Rattle.opl_codec.specs.declared.value_fault.ValueFault.TheVariants as faults
+use Rattle.opl_codec.specs.Texts.{IsText, TextMisfit}
+use Rattle.opl_codec.specs.Values.{SpellsTags, TagsFit}
+use Rattle.opl_codec.specs.ValueFaults.{KeyMisfit, HasKey}
 use Rattle.opl_codec.specs.internal.TextParts.{IsTextFront, EndsText}
 
 module _ (spelled : List ℕ) (len : ℕ) (front : IsTextFront spelled len) where
@@ -50,8 +49,13 @@ module _ (spelled : List ℕ) (len : ℕ) (front : IsTextFront spelled len) wher
 -- ---- all tags of a text
 pub tags_made : (text : List ℕ) (written tags : List Tag) → SpellsTags text written → length written ≤ LIST_LIMIT → All (λ tag. IsShort tag.key × IsShort tag.value) written → IsPermutation written tags → HasDistinctKeys tags
     → (w : List Tag) × SpellsTags text w × IsPermutation w tags × TagsFit tags
-tags_made text written tags spelled few short same differ = (written, spelled, same, record {
-  few = omega (arith, length_permutation written tags same);
-  short = All-permutation (λ tag. IsShort tag.key × IsShort tag.value) written tags same short;
-  differ = differ;
-})
+tags_made text written tags spelled few short same differ = (
+  written,
+  spelled,
+  same,
+  record {
+    few = omega (arith, length_permutation written tags same);
+    short = All-permutation (λ tag. IsShort tag.key × IsShort tag.value) written tags same short;
+    differ = differ;
+  },
+)

@@ -5,3 +5,4 @@ pub mod ReadPlain
 pub mod SayLemmas
 pub mod TextFields
 pub mod TextLaws
+pub mod ValueLaws

@@ -9,8 +9,8 @@ use Rattle.osm_model.specs.declared.member.Member.{Member}
 use Rattle.osm_model.specs.declared.reference.Ref.{Ref}
 use Rattle.opl_codec.specs.Fields.{Each}
 use Rattle.opl_codec.specs.Texts.{SpellsText, TextMisfit, BadEscapeIn}
-use Rattle.opl_codec.specs.ValueFaults.{IsSpelled, ListFault}
 use Rattle.opl_codec.specs.Values.{items, SpellsNumber}
+use Rattle.opl_codec.specs.ValueFaults.{ListFault, IsSpelled}
 use Rattle.opl_codec.specs.declared.value_fault.ValueFault.{ValueFault}
 use Rattle.opl_codec.specs.declared.value_fault.ValueFault.TheVariants as faults
 

@@ -1,8 +1,7 @@
 -- The values of fields, and how each is spelled after the letter of its field.
 -- Source: the forms are those of Osmium's OPL manual; ranges and limits are this project's.
-use Rattle.std.specs.Prelude.{◌≡◌, ℕ, ◌<◌, ◌≤◌, ◌^◌, ◌⊎◌, ℤ, FitsSigned, unsigned_abs, Bool, true, false, List, [], ◌∷◌, ◌++◌, length, All, Option, Some, None, MatchOption, ⊤}
+use Rattle.std.specs.Prelude.{◌≡◌, ℕ, ◌<◌, ◌≤◌, ◌^◌, ℤ, FitsSigned, unsigned_abs, Bool, true, false, List, [], ◌∷◌, ◌++◌, length, All, Option, Some, None, MatchOption, ⊤}
 use Rattle.std.specs.Int.{w64}
-use Rattle.std.specs.List.Sorted.{IsPermutation}
 use Rattle.std.specs.Str.Parse.{digits_value}
 use Rattle.osm_model.specs.Bytes.{comma, equals_sign}
 use Rattle.osm_model.specs.CanonicalLine.{moment}

@@ -8,3 +8,4 @@ pub mod ListParts
 pub mod ItemPlaces
 pub mod PartSteps
 pub mod LineReads
+pub mod MemberPlaces

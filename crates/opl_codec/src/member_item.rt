@@ -1,19 +1,107 @@
-//! Stub.
+//! Members of relations, as fields spell them.
 
-ghost use Rattle.std.specs.Prelude.{IfOk, IfErr, List};
-ghost use Rattle.osm_model.specs.declared.member.Member.{Member};
-ghost use Rattle.opl_codec.specs.Members.{SpellsMembers, MembersFit, MembersFault};
+ghost use Rattle.std.specs.Prelude.{◌≡◌, ◌++◌, ◌∷◌, ℕ, List, All, IfOk, IfErr, IsTrue, ◌↔◌, MatchOption};
+ghost use Rattle.osm_model.specs.Bytes.{at_sign};
+ghost use Rattle.osm_model.specs.CanonicalLine.{kind_letter};
+ghost use Rattle.osm_model.specs.Limits.{IsShort};
+ghost use Rattle.osm_model.specs.declared.kind.Kind.{Kind};
+ghost use Rattle.osm_model.specs.declared.reference.Ref.{Ref};
+ghost use Rattle.opl_codec.specs.Texts.{IsText};
+ghost use Rattle.opl_codec.specs.Members.{SpellsReference, SpellsMembers, MembersFit, MemberFault, MembersFault};
 
+use crate::list_item::{ListItem, read_list};
+use crate::make_text::make_text;
+use crate::number::read_number;
+use crate::separator::cut;
+use crate::text_len::text_len;
 use crate::value_fault::ValueFault;
-use osm_model::Member;
+use osm_model::{Kind, Member, Ref, TEXT_LIMIT};
 use std::alloc::Global;
 
+/// The members of a text, in their order.
+///
+/// Refused with `Limit` where they are more than [`osm_model::LIST_LIMIT`] or a role has more than
+/// [`TEXT_LIMIT`] bytes.
 pub fn read_members(alloc: Global, text: &str) -> Result<Vec<Member>, ValueFault>
     ensures read { IfOk result (λ members. SpellsMembers text.now members.items × MembersFit members.items) }
     ensures refused { IfErr result (λ fault. MembersFault text.now fault) }
 {
-    if text.is_empty() {
-        return Ok(Vec::new(alloc));
+    let members: Vec<Member> = read_list(alloc, text)?;
+    if !are_short(&members) {
+        return Err(ValueFault::Limit);
     }
-    Err(ValueFault::Memory)
+    Ok(members)
+}
+
+/// Whether no role is over its limit.
+fn are_short(members: &[Member]) -> bool
+    ensures { IsTrue result ↔ All (λ member. IsShort member.role) members.now }
+{
+    members.iter().all(|member| member.role.len() <= TEXT_LIMIT)
+}
+
+impl ListItem for Member {
+    ghost use Rattle.opl_codec.specs.Members.{SpellsMember, MemberFault};
+    ghost use Rattle.opl_codec.specs.internal.MemberPlaces.{member_within};
+
+    ghost spells = { SpellsMember };
+
+    ghost bad = { MemberFault };
+
+    ghost unlimited = { λ _ limit. limit };
+
+    ghost within = { member_within };
+
+    fn read(alloc: Global, spelled: &str) -> Result<Member, ValueFault> {
+        let (target, role) = cut_member(spelled)?;
+        let role = make_text(alloc, role)?;
+        Ok(Member { target, role })
+    }
+}
+
+/// What a member refers to, and its role as it is spelled.
+fn cut_member(spelled: &str) -> Result<(Ref, &str), ValueFault>
+    ensures parts { IfOk result (λ parts. (target : List ℕ) × (spelled.now ≡ target ++ at_sign ∷ parts.1.now) × SpellsReference target parts.0) }
+    ensures role { IfOk result (λ parts. IsText parts.1.now) }
+    ensures refused { IfErr result (λ fault. MemberFault spelled.now fault) }
+{
+    let Some((text, _)) = cut(spelled.as_bytes(), b'@') else {
+        return Err(ValueFault::Form);
+    };
+    let Some(target) = read_reference(text) else {
+        return Err(ValueFault::Form);
+    };
+    let role = &spelled[text.len() + 1..];
+    let role_len = match text_len(role.as_bytes()) {
+        Ok(len) => len,
+        Err(at) => return Err(ValueFault::Escape(text.len() + 1 + at)),
+    };
+    if role_len != role.len() {
+        return Err(ValueFault::Form);
+    }
+    Ok((target, role))
+}
+
+/// The reference that is spelled so: the letter of a kind and an id.
+fn read_reference(text: &[u8]) -> Option<Ref>
+    ensures { MatchOption result ((target : Ref) → SpellsReference text.now target → ⊥) (λ target. SpellsReference text.now target) }
+{
+    let [letter, digits @ ..] = text else {
+        return None;
+    };
+    let kind = kind_of(*letter)?;
+    let id = read_number(digits)?;
+    Some(Ref { kind, id })
+}
+
+/// The kind with this letter.
+fn kind_of(letter: u8) -> Option<Kind>
+    ensures { MatchOption result ((kind : Kind) → kind_letter kind ≡ letter → ⊥) (λ kind. kind_letter kind ≡ letter) }
+{
+    match letter {
+        b'n' => Some(Kind::Node),
+        b'w' => Some(Kind::Way),
+        b'r' => Some(Kind::Rel),
+        _ => None,
+    }
 }

@@ -40,8 +40,7 @@ pub fn read_tags(alloc: Global, text: &str) -> Result<TagList, ValueFault>
 fn are_short(tags: &[Tag]) -> bool
     ensures { IsTrue result ↔ All (λ tag. IsShort tag.key × IsShort tag.value) tags.now }
 {
-    tags.iter()
-        .all(|tag| tag.key.len() <= TEXT_LIMIT && tag.value.len() <= TEXT_LIMIT)
+    tags.iter().all(|tag| tag.key.len() <= TEXT_LIMIT && tag.value.len() <= TEXT_LIMIT)
 }
 
 impl ListItem for Tag {

@@ -3,4 +3,5 @@
 mod files;
 mod lines;
 mod texts;
+mod values;
 mod written;

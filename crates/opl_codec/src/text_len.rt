@@ -32,8 +32,5 @@ pub fn text_len(bytes: &[u8]) -> Result<usize, usize>
 fn is_free(byte: u8) -> bool
     ensures { result ≡ is_free byte }
 {
-    !matches!(
-        byte,
-        0 | b'\t' | b'\n' | b'\r' | b' ' | b'%' | b',' | b'='
-    )
+    !matches!(byte, 0 | b'\t' | b'\n' | b'\r' | b' ' | b'%' | b',' | b'=')
 }

@@ -1,5 +1,5 @@
 -- Laws of spelled texts.
-use Rattle.std.proofs.Common.{◌≡◌, ◌≢◌, ℕ, ◌+◌, ◌<◌, true, false, ◌==◌, List, [], ◌∷◌, ◌++◌, flat_map, length, refl, sym, subst, ◌∙◌, ap, arith, append-nil, ◌⊎◌, inl, inr}
+use Rattle.std.proofs.Common.{◌≡◌, ◌≢◌, ℕ, ◌<◌, true, false, ◌==◌, List, [], ◌∷◌, ◌++◌, flat_map, length, refl, sym, subst, ◌∙◌, ap, arith, append-nil, ◌⊎◌, inl, inr}
 use Rattle.std.specs.Char.{digit_value}
 use Rattle.std.specs.List.{AllByRecursion}
 use Rattle.std.specs.Str.{IsUtf8}
@@ -8,10 +8,11 @@ use Rattle.std.proofs.lemmas.Bool.Decides.{nat_tests, eqb_tells}
 use Rattle.osm_model.specs.CanonicalLine.{escaped}
 use Rattle.osm_model.specs.Limits.{HasNoNul}
 use Rattle.opl_codec.specs.Fields.{Lacks}
-use Rattle.opl_codec.specs.Texts.{is_free, IsEscape, Character, Itself, Escape, IsCharacter, spelling, SpellsText, IsText, BeginsEscape, TextMisfit, BadEscapeIn}
+use Rattle.opl_codec.specs.Texts.{is_free, Character, Itself, Escape, IsCharacter, spelling, SpellsText, IsText, TextMisfit, BadEscapeIn}
 use Rattle.opl_codec.proofs.shared.ReadLiterals.{all_append, all_weaker}
 use Rattle.opl_codec.proofs.TextsParts.{StopsText, same_texts}
 use Rattle.opl_codec.proofs.TextsEscaped.{escaped_text, escaped_no_at}
+use Rattle.opl_codec.proofs.TextsClean.{no_nul}
 
 -- a spelled text is one text
 pub one_text : (s a b : List ℕ) → SpellsText s a → SpellsText s b → a ≡ b
@@ -90,9 +91,9 @@ text_bytes s is = subst (AllByRecursion IsTextByte) (sym is.1.spelled_is) (chara
 
 other_byte : (byte : ℕ) → is_free byte ≢ true → byte ≢ 37 → (other : ℕ) → IsTextByte other → (other == byte) ≡ false
 other_byte byte misfit no_escape other is = elim (eqb_tells other byte) [
-    inl same ↦ absurd (elim is [ inl free ↦ misfit (subst (λ b. is_free b ≡ true) same.1 free) | inr mark ↦ no_escape (sym same.1 ∙ mark) ])
+  | inl same ↦ absurd (elim is [ inl free ↦ misfit (subst (λ b. is_free b ≡ true) same.1 free) | inr mark ↦ no_escape (sym same.1 ∙ mark) ])
   | inr differs ↦ differs.0
-  ]
+]
 
 pub lacks : (byte : ℕ) → is_free byte ≢ true → byte ≢ 37 → (s : List ℕ) → IsText s → Lacks byte s
 lacks byte misfit no_escape s is = all_weaker IsTextByte (λ other. (other == byte) ≡ false) s (other_byte byte misfit no_escape) (text_bytes s is)
@@ -125,3 +126,7 @@ escaped_spells = escaped_text
 -- and has no `@`
 pub escaped_lacks_at : (text : List ℕ) → Lacks 64 (escaped text)
 escaped_lacks_at = escaped_no_at
+
+-- a spelled text has no NUL
+pub text_clean : (spelled text : List ℕ) → SpellsText spelled text → HasNoNul text
+text_clean = no_nul

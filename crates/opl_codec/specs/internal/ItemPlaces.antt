@@ -1,6 +1,6 @@
 -- The faults of items are within them.
 -- Source: this project.
-use Rattle.std.specs.Prelude.{◌≡◌, ℕ, ◌+◌, ◌≤◌, List, ◌∷◌, ◌++◌, length}
+use Rattle.std.specs.Prelude.{ℕ, ◌+◌, ◌≤◌, List, ◌∷◌, length}
 use Rattle.std.proofs.Common.{ap, arith, inl, inr, length-append}
 use Rattle.opl_codec.specs.Texts.{BadEscapeIn}
 use Rattle.opl_codec.specs.ValueFaults.{TagFault, HasKey, NodeFault}

@@ -1,6 +1,6 @@
 -- How far a text goes: words of the reader's own clauses.
 -- Source: this project.
-use Rattle.std.specs.Prelude.{◌≡◌, ◌≢◌, ℕ, ◌<◌, ◌≤◌, true, List, length, take, drop, slice_index, [], ◌∷◌, ⊤}
+use Rattle.std.specs.Prelude.{◌≢◌, ℕ, ◌<◌, ◌≤◌, true, List, length, take, drop, slice_index, [], ◌∷◌, ⊤}
 use Rattle.std.specs.Char.{digit_value}
 use Rattle.std.specs.Str.Parse.{AllDigits}
 use Rattle.osm_model.specs.Bytes.{percent}

@@ -1,4 +1,4 @@
-use Rattle.std.proofs.Common.{arith, ◌<◌, ◌≡◌, ℕ, List, length, get_or, take, sym, ◌∙◌}
+use Rattle.std.proofs.Common.{arith, ◌<◌, ◌≡◌, ℕ, List, length, get_or, take}
 use Rattle.std.specs.List.{slice_range}
 use Rattle.std.proofs.lemmas.Grind.{common_steps}
 use Rattle.std.proofs.lemmas.Str.{IsCharBoundary-after_ascii}

@@ -1,7 +1,6 @@
-use Rattle.std.proofs.Common.{arith, refl, get_or, length, take, ◌≡◌, ◌<◌, ◌≤◌, ◌+◌, ◌∙◌, sym, ap, subst}
+use Rattle.std.proofs.Common.{arith, refl, get_or, length, take, ◌≡◌, ◌<◌, ◌+◌, ◌∙◌, ap, subst}
 use Rattle.std.specs.Char.{digit_value}
 use Rattle.std.specs.Str.Parse.{AllDigits, digits_value}
-use Rattle.std.proofs.lemmas.List.{take_all}
 use Rattle.std.proofs.lemmas.Int.Digits.{digits_more, digits_value_more}
 use Rattle.opl_codec.proofs.Hexadecimal.{below}
 use Rattle.opl_codec.proofs.escape.read_hexadecimal.Goals as goal
@@ -11,12 +10,15 @@ loop-place-init c = record { few = omega arith; digits = tt; value = refl }
 
 pub returns-in_default : goal.returns-in_default
 returns-in_default c =
-    let no : digit_value (get_or c.args.text.now c.loop-place.place 0) < 16 → ⊥ = rw c.from.ensures at c.in_default.ensures.value in
-    (record {
-      within = omega arith;
-      digits = c.loop-place.invariant.digits;
-      ends = λ _. omega (arith, no);
-    }, c.loop-place.invariant.few, c.loop-place.invariant.value)
+    let no : digit_value (get_or c.args.text.now c.loop-place.place 0) < 16 → ⊥ = rw c.from.ensures at c.in_default.ensures.value in (
+      record {
+        within = omega arith;
+        digits = c.loop-place.invariant.digits;
+        ends = λ _. omega (arith, no);
+      },
+      c.loop-place.invariant.few,
+      c.loop-place.invariant.value,
+    )
 
 pub returns-then-place-eq-MOST_DIGITS : goal.returns-then-place-eq-MOST_DIGITS
 returns-then-place-eq-MOST_DIGITS c =
@@ -51,9 +53,12 @@ loop-place-preserved c =
 
 pub returns : goal.returns
 returns c =
-    let place : c.loop-place.place ≡ length c.args.text.now = omega arith in
-    (record {
-      within = omega arith;
-      digits = subst (λ n. AllDigits 16 (take n c.args.text.now)) place c.loop-place.invariant.digits;
-      ends = λ lt. omega (arith, lt);
-    }, omega arith, subst (λ n. digits_value 16 (take n c.args.text.now) ≡ c.loop-place.code) place c.loop-place.invariant.value)
+    let place : c.loop-place.place ≡ length c.args.text.now = omega arith in (
+      record {
+        within = omega arith;
+        digits = subst (λ n. AllDigits 16 (take n c.args.text.now)) place c.loop-place.invariant.digits;
+        ends = λ lt. omega (arith, lt);
+      },
+      omega arith,
+      subst (λ n. digits_value 16 (take n c.args.text.now) ≡ c.loop-place.code) place c.loop-place.invariant.value,
+    )

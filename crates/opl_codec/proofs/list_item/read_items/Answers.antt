@@ -1,10 +1,10 @@
-use Rattle.std.proofs.Common.{◌≡◌, ◌++◌, ◌∷◌, ◌+◌, ◌-◌, [], length, arith}
+use Rattle.std.proofs.Common.{◌≡◌, ◌++◌, ◌∷◌, ◌+◌, [], length, arith}
 use Rattle.osm_model.specs.Bytes.{comma}
 use Rattle.opl_codec.specs.Fields.{pieces}
 use Rattle.opl_codec.specs.ValueFaults.{items_len, IsSpelled}
 use Rattle.opl_codec.proofs.ReadPieces.{pieces_left}
 use Rattle.opl_codec.proofs.shared.ReadLiterals.{not_empty}
-use Rattle.opl_codec.proofs.ValueLists.{bad_item, front_good, item_there, leaves_further, pieces_further, LeavesAfter}
+use Rattle.opl_codec.proofs.ValueLists.{bad_item, front_good, item_there, leaves_further, pieces_further}
 use Rattle.opl_codec.proofs.list_item.read_items.Goals as goal
 
 pub returns-in-Err-clause-refused : goal.returns-in-Err-clause-refused

@@ -1,10 +1,9 @@
-use Rattle.std.proofs.Common.{◌≡◌, ◌≢◌, ◌<◌, ◌≤◌, ◌+◌, ℕ, List, [], ◌++◌, length, take, drop, get_or, arith, lit<, refl, sym, ap, subst, ◌∙◌}
+use Rattle.std.proofs.Common.{◌≡◌, ◌<◌, ◌+◌, ℕ, List, [], length, take, drop, get_or, arith, sym, ap, subst, ◌∙◌}
 use Rattle.std.specs.Prelude.{string_bytes}
-use Rattle.std.specs.Str.{IsUtf8, IsCharBoundary}
 use Rattle.std.specs.Str.Parse.{digits_value}
 use Rattle.std.proofs.lemmas.Str.{IsCharBoundary-after_ascii}
-use Rattle.opl_codec.specs.Texts.{IsEscape, IsText, SpellsText, BeginsEscape}
-use Rattle.opl_codec.proofs.TextsJoined.{all_literal, first_escape, one_step, spells_none}
+use Rattle.opl_codec.specs.Texts.{IsEscape, SpellsText, BeginsEscape}
+use Rattle.opl_codec.proofs.TextsJoined.{all_literal, first_escape, one_step}
 use Rattle.opl_codec.proofs.TextsMade.{first_mark, no_mark, no_mark_found, means_more, means_all, front_is}
 use Rattle.opl_codec.proofs.make_text.make_text.Goals as goal
 
@@ -63,7 +62,7 @@ loop-len-preserved c =
       utf8 = c.range_from-rest.utf8;
       left = step.left;
       means = means_more c.args.spelled.now text rest len digits (string_bytes c.loop-len.text) (string_bytes c.push_str.new.self) (string_bytes c.push.new.self) c.range.result.now c.in-Some-read_escape.character
-        c.loop-len.invariant.means step c.in_ok-push_str.ensures.bytes piece_is c.in_ok-push.ensures.bytes code_is;
+          c.loop-len.invariant.means step c.in_ok-push_str.ensures.bytes piece_is c.in_ok-push.ensures.bytes code_is;
     }
 
 pub returns : goal.returns

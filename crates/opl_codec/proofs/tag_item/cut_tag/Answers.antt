@@ -1,7 +1,6 @@
-use Rattle.std.proofs.Common.{◌≡◌, ◌+◌, ◌<◌, length, get_or, drop, refl, sym, subst, arith, inl, inr}
+use Rattle.std.proofs.Common.{◌+◌, drop, refl, sym, subst, arith, inl, inr}
 use Rattle.std.proofs.lemmas.Str.{IsCharBoundary-after_ascii}
 use Rattle.opl_codec.specs.Texts.{TextMisfit}
-use Rattle.opl_codec.specs.ValueFaults.{HasKey}
 use Rattle.opl_codec.proofs.ValueTags.{has_key, key_misfit, text_misfit}
 use Rattle.opl_codec.proofs.tag_item.cut_tag.Goals as goal
 

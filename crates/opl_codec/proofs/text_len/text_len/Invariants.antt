@@ -1,4 +1,4 @@
-use Rattle.std.proofs.Common.{◌≡◌, ◌≤◌, ◌-◌, take, length}
+use Rattle.std.proofs.Common.{◌≤◌, ◌-◌, take, length}
 use Rattle.opl_codec.specs.Texts.{IsText}
 use Rattle.opl_codec.proofs.text_len.text_len.Given as goal
 
