@@ -27,11 +27,15 @@ pub mod Blanks
 pub mod TextsParts
 pub mod TextsJoined
 pub mod TextsMade
-pub mod TextsClean
 pub mod TextsEscaped
+pub mod TextsClean
 pub mod ValueCoordinates
 pub mod ValueLists
 pub mod ValueMembers
 pub mod ValueMoments
 pub mod ValueNodes
 pub mod ValueTags
+pub mod LineFields
+pub mod LineSteps
+pub mod LineNames
+pub mod LineContents

@@ -96,10 +96,12 @@ StandsAt line causes.UnknownObject byte = (byte ≡ 0) × (letter_of line ≢ no
 StandsAt line causes.BadId byte = (byte ≡ 1) × (letter_of line ≡ node_letter) × ((z : ℤ) → IsInteger (id_text_of (pieces space line)) z → FitsSigned w64 z → ⊥)
 StandsAt line causes.UnknownField byte = (f : List ℕ) × FieldAt line f byte × (is_node_letter (letter_of f) ≡ false)
 StandsAt line causes.FieldTwice byte = (f : List ℕ) × (at : FieldAt line f byte) × (field (letter_of f) (drop 1 at.before) ≢ None)
+StandsAt line causes.OtherKind byte = ⊥
 StandsAt line causes.BadValue byte = (f : List ℕ) × FieldAt line f byte × (¬ (HasForm (letter_of f) (drop 1 f)))
 StandsAt line causes.BadEscape byte = (f : List ℕ) × (at : ℕ) × FieldAt line f at × (letter_of f ≡ tags_letter) × (at < byte) × (byte < at + length f) × (slice_index line byte ≡ percent)
 StandsAt line causes.NotUtf8 byte = (¬ (IsUtf8 line)) × IsValidUpTo line byte
 StandsAt line causes.NoLocation byte = (byte ≡ length line) × (IsMissing longitude_letter (drop 1 (pieces space line)) ⊎ IsMissing latitude_letter (drop 1 (pieces space line)))
+StandsAt line causes.LocatedNode byte = ⊥
 StandsAt line causes.LineTooLong byte = (byte ≡ LONGEST_LINE) × (LONGEST_LINE < length line)
 StandsAt line causes.OutsideModel byte = ((f : List ℕ) × FieldAt line f byte × (IsBeyond (letter_of f) (drop 1 f) ⊎ ((letter_of f ≡ tags_letter) × HasBadTags (drop 1 f))))
     ⊎ ((byte ≡ 0) × ((o : Element) × SpellsFields line o × HasRisingKeys o.tags × (2 ^ 24 < length (canonical_line o))))

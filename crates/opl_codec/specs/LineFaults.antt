@@ -21,9 +21,9 @@ use Rattle.opl_codec.specs.LineFields.{content, fields, FieldAt}
 use Rattle.opl_codec.specs.LineLetters.{belongs, letter_byte}
 use Rattle.opl_codec.specs.LineParts.{IsBodyOf, meta_of, tags_of}
 use Rattle.opl_codec.specs.LineChanges.{SpellsParts}
-use Rattle.opl_codec.specs.Members.{SpellsMember, SpellsMembers, MembersFit, MemberFault}
+use Rattle.opl_codec.specs.Members.{MembersFault}
 use Rattle.opl_codec.specs.Texts.{SpellsText}
-use Rattle.opl_codec.specs.ValueFaults.{ListFault, NodeFault, TagFault, TextFault}
+use Rattle.opl_codec.specs.ValueFaults.{CoordinateFault, NodesFault, TagsFault, TextFault}
 use Rattle.opl_codec.specs.Values.{SpellsCoordinate, SpellsNode, SpellsNodes, SpellsNumber, SpellsStamp, SpellsTag, SpellsTags, SpellsVersion, SpellsVisible, TagsFit}
 use Rattle.opl_codec.specs.declared.cause.OplCause.{OplCause}
 use Rattle.opl_codec.specs.declared.cause.OplCause.TheVariants as causes
@@ -42,11 +42,6 @@ OnlyForm unspelled faults.NodeLocation = ⊥
 OnlyForm unspelled faults.Limit = ⊥
 OnlyForm unspelled faults.Memory = ⊥
 
--- the text is no coordinate, or one beyond the end of its axis
-abbrev pub CoordinateFault : Axis → List ℕ → ValueFault → Type 0
-CoordinateFault axis text faults.Limit = (z : ℤ) × SpellsCoordinate text (Some z) × (limit axis < unsigned_abs z)
-CoordinateFault axis text fault = OnlyForm ((coordinate : Option ℤ) → SpellsCoordinate text coordinate → ⊥) fault
-
 -- the text is no text of its form, or too long
 abbrev pub UserFault : List ℕ → ValueFault → Type 0
 UserFault text faults.Limit = (user : List ℕ) × SpellsText text user × (¬ (IsShort user))
@@ -60,11 +55,11 @@ FieldFault letters.Changeset text fault = OnlyForm ((changeset : ℤ) → Spells
 FieldFault letters.Stamp text fault = OnlyForm ((stamp : Option Moment) → SpellsStamp text stamp → ⊥) fault
 FieldFault letters.Uid text fault = OnlyForm ((uid : ℤ) → SpellsNumber text uid → ⊥) fault
 FieldFault letters.User text fault = UserFault text fault
-FieldFault letters.Tags text fault = ListFault (λ item. (tag : Tag) × SpellsTag item tag) TagFault ((tags : List Tag) × SpellsTags text tags × (¬ (TagsFit tags))) text fault
+FieldFault letters.Tags text fault = TagsFault text fault
 FieldFault letters.Lon text fault = CoordinateFault axes.Lon text fault
 FieldFault letters.Lat text fault = CoordinateFault axes.Lat text fault
-FieldFault letters.Nodes text fault = ListFault (λ item. (id : ℤ) × SpellsNode item id) NodeFault ((ids : List ℤ) × SpellsNodes text ids × (LIST_LIMIT < length ids)) text fault
-FieldFault letters.Members text fault = ListFault (λ item. (member : Member) × SpellsMember item member) MemberFault ((members : List Member) × SpellsMembers text members × (¬ (MembersFit members))) text fault
+FieldFault letters.Nodes text fault = NodesFault text fault
+FieldFault letters.Members text fault = MembersFault text fault
 
 -- a field that begins at this byte has this fault; its letter is one of this kind of object
 pub record HasFault (line : List ℕ) (at : ℕ) (fault : ValueFault) : Type 0 where
@@ -100,27 +95,24 @@ pub record HasNoLocation (line : List ℕ) : Type 0 where
   pub visible : parts.visible ≢ Some false
   pub missing : ((z : ℤ) → parts.lon ≡ Some (Some z) → ⊥) ⊎ ((z : ℤ) → parts.lat ≡ Some (Some z) → ⊥)
 
+-- a field that begins at this byte is one of another kind of object
+abbrev pub IsOfOtherKind : List ℕ → ℕ → Type 0
+IsOfOtherKind line byte = (f : List ℕ) × FieldAt (content line) f byte × (kind : Kind) × (letter : LineLetter) × (letter_of line ≡ kind_letter kind) × (letter_byte letter ≡ letter_of f) × (belongs kind letter ≡ false)
+
 -- the cause is there, at this byte of the line
 abbrev pub StandsAt : List ℕ → OplCause → ℕ → Type 0
 StandsAt line causes.UnknownObject byte = (byte ≡ 0) × ((kind : Kind) → letter_of line ≢ kind_letter kind)
 StandsAt line causes.BadId byte = (byte ≡ 1) × ((kind : Kind) × (letter_of line ≡ kind_letter kind)) × ((id : ℤ) → SpellsNumber (text_of_first (fields (content line))) id → ⊥)
 StandsAt line causes.UnknownField byte = (f : List ℕ) × FieldAt (content line) f byte × ((letter : LineLetter) → letter_byte letter ≢ letter_of f)
 StandsAt line causes.FieldTwice byte = (f : List ℕ) × (there : FieldAt (content line) f byte) × (field (letter_of f) (drop 1 (fields there.front)) ≢ None)
+StandsAt line causes.OtherKind byte = IsOfOtherKind line byte
 StandsAt line causes.BadValue byte = HasFault line byte faults.Form
 StandsAt line causes.BadEscape byte = (at place : ℕ) × HasFault line at (faults.Escape place) × (byte ≡ at + 1 + place)
 StandsAt line causes.NotUtf8 byte = (¬ (IsUtf8 line)) × IsValidUpTo line byte
 StandsAt line causes.NoLocation byte = (byte ≡ length (content line)) × HasNoLocation line
+StandsAt line causes.LocatedNode byte = HasFault line byte faults.NodeLocation
 StandsAt line causes.LineTooLong byte = (byte ≡ LONGEST_LINE) × (LONGEST_LINE < length line)
 StandsAt line causes.OutsideModel byte = HasFault line byte faults.Limit ⊎ ((byte ≡ 0) × HasLongLine line)
 StandsAt line causes.ReaderFailed byte = ⊥
 StandsAt line causes.Endless byte = ⊥
 StandsAt line causes.Memory byte = (byte ≡ 0) × ((at : ℕ) × HasFault line at faults.Memory)
-
--- two causes that today's reader has not
--- a field of another kind of object
-abbrev pub IsOfOtherKind : List ℕ → ℕ → Type 0
-IsOfOtherKind line byte = (f : List ℕ) × FieldAt (content line) f byte × (kind : Kind) × (letter : LineLetter) × (letter_of line ≡ kind_letter kind) × (letter_byte letter ≡ letter_of f) × (belongs kind letter ≡ false)
-
--- a node of a way that has a location
-abbrev pub IsLocatedNode : List ℕ → ℕ → Type 0
-IsLocatedNode line byte = HasFault line byte faults.NodeLocation

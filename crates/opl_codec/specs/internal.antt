@@ -7,4 +7,6 @@ pub mod Stamps
 pub mod ListParts
 pub mod ItemPlaces
 pub mod Buffering
+pub mod PartSteps
+pub mod LineReads
 pub mod MemberPlaces

@@ -16,6 +16,8 @@ pub enum OplCause {
     UnknownField,
     /// A field whose letter an earlier field has. At the second field's first byte.
     FieldTwice,
+    /// A field of another kind of object. At the field's first byte.
+    OtherKind,
     /// A value that isn't of its field's form. At the field's first byte.
     BadValue,
     /// A bad escape. At its `%`.
@@ -24,6 +26,8 @@ pub enum OplCause {
     NotUtf8,
     /// A node without a location. At the line's length.
     NoLocation,
+    /// A node of a way has a location. At the field's first byte.
+    LocatedNode,
     /// The line has more than 2^25 bytes. At byte 2^25.
     LineTooLong,
     /// The model refuses the value: at the field's first byte a location out of range, tags over a
@@ -47,10 +51,12 @@ impl fmt::Display for OplCause {
             OplCause::BadId => "O2",
             OplCause::UnknownField => "O3",
             OplCause::FieldTwice => "O4",
+            OplCause::OtherKind => "O5",
             OplCause::BadValue => "O6",
             OplCause::BadEscape => "O7",
             OplCause::NotUtf8 => "O8",
             OplCause::NoLocation => "O9",
+            OplCause::LocatedNode => "O11",
             OplCause::LineTooLong => "O12",
             OplCause::OutsideModel => "O13",
             OplCause::ReaderFailed => "O14",

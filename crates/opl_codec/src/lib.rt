@@ -22,6 +22,8 @@ mod line_field;
 mod line_letter;
 mod line_parts;
 mod line_reader;
+mod line_change;
+mod line_content;
 mod list_item;
 mod load;
 mod loader;

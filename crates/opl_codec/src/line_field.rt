@@ -33,7 +33,7 @@ pub fn next_field(text: &str) -> Option<NextField<'_>>
 }
 
 /// The number of bytes before the first that is no blank.
-fn blanks_len(bytes: &[u8]) -> usize
+pub fn blanks_len(bytes: &[u8]) -> usize
     ensures within { result ≤ length bytes.now }
     ensures blanks { AreBlanks (take result bytes.now) }
     ensures stop { StartsField (drop result bytes.now) }

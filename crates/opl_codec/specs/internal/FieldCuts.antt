@@ -2,7 +2,7 @@
 -- Source: this project.
 use Rattle.std.specs.Prelude.{◌≡◌, ◌≢◌, ℕ, true, false, List, [], ◌∷◌, ◌++◌, length, ⊤}
 use Rattle.std.specs.List.{AllByRecursion}
-use Rattle.opl_codec.specs.LineFields.{is_blank}
+use Rattle.opl_codec.specs.LineFields.{fields, is_blank}
 
 abbrev pub AreBlanks : List ℕ → Type 0
 AreBlanks text = AllByRecursion (λ byte. is_blank byte ≡ true) text
@@ -29,3 +29,10 @@ pub record IsNextField (text : List ℕ) (gap : ℕ) (f rest : List ℕ) : Type 
   pub some : f ≢ []
   pub one : HasNoBlank f
   pub ends : StartsBlank rest
+
+-- so much of a text was read: its first field, further ones, and what is left after them
+pub record HasRead (text first : List ℕ) (done : List (List ℕ)) (left : List ℕ) : Type 0 where
+  pub front : List ℕ
+  pub text_is : text ≡ front ++ left
+  pub fields_are : fields front ≡ first ∷ done
+  pub starts : StartsBlank left
