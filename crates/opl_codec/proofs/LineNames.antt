@@ -1,5 +1,5 @@
 -- The name with which a line begins, and the fields after it.
-use Rattle.std.proofs.Common.{◌≡◌, ◌≢◌, ℕ, ◌+◌, ◌-◌, ◌≤◌, List, [], ◌∷◌, ◌++◌, length, get_or, take, drop, Bool, true, false, cond, ◌==◌, if◌then◌else◌, Option, Some, None, refl, sym, ◌∙◌, ap, subst, arith, ℤ, eq-eqb}
+use Rattle.std.proofs.Common.{◌≡◌, ◌≢◌, ℕ, ◌-◌, ◌≤◌, List, [], ◌∷◌, ◌++◌, length, get_or, take, drop, true, false, cond, ◌==◌, if◌then◌else◌, Some, None, refl, sym, ◌∙◌, ap, subst, arith, ℤ}
 use Rattle.std.specs.List.{AllByRecursion}
 use Rattle.std.proofs.lemmas.Bool.{eqb-true}
 use Rattle.std.proofs.lemmas.List.{take_all}
@@ -166,5 +166,5 @@ all_read text name p left h blanks = record {
 -- the content is no longer than the line
 pub content_within : (line : List ℕ) → length (content line) ≤ length line
 content_within [] = omega arith
-content_within (b ∷ []) = elim (b == 13) as (λ t. length (if t then [] else b ∷ []) ≤ 1) [ | true ↦ omega arith | false ↦ omega arith ]
+content_within (b ∷ []) = elim (b == 13) as (λ t. length (if t then [] else b ∷ []) ≤ 1) [ true ↦ omega arith | false ↦ omega arith ]
 content_within (b ∷ n ∷ bytes) = omega (arith, content_within (n ∷ bytes))

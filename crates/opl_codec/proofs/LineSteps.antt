@@ -1,18 +1,13 @@
 -- One more field of a line.
-use Rattle.std.proofs.Common.{◌≡◌, ◌≢◌, ℕ, ◌+◌, ◌<◌, ◌≤◌, List, [], ◌∷◌, ◌++◌, length, get_or, drop, Bool, true, false, cond, ◌==◌, Option, Some, None, MatchOption, refl, sym, ◌∙◌, ap, subst, arith, inl, inr, length-append, eq-eqb}
+use Rattle.std.proofs.Common.{◌≡◌, ◌≢◌, ℕ, ◌+◌, ◌<◌, ◌≤◌, List, [], ◌∷◌, ◌++◌, length, get_or, drop, true, false, cond, ◌==◌, Option, Some, None, MatchOption, refl, sym, ◌∙◌, ap, subst, arith, inl, inr, eq-eqb}
 use Rattle.std.specs.Prelude.{◌⊎◌, is_some}
 use Rattle.std.proofs.lemmas.Bool.{eqb-true}
-use Rattle.osm_model.specs.declared.axis.Axis.{Axis}
 use Rattle.osm_model.specs.declared.axis.Axis.TheVariants as axes
 use Rattle.osm_model.specs.declared.kind.Kind.{Kind}
-use Rattle.osm_model.specs.declared.member.Member.{Member}
-use Rattle.osm_model.specs.declared.tag.Tag.{Tag}
 use Rattle.osm_model.specs.Limits.{IsShort}
-use Rattle.osm_model.specs.Moments.{Moment}
 use Rattle.osm_model.specs.declared.limits.TheConstants.{LIST_LIMIT}
 use Rattle.opl_codec.specs.Fields.{field, letter_of, onto_first, pieces}
 use Rattle.opl_codec.specs.LineFaults.{FieldFault}
-use Rattle.opl_codec.specs.LineFields.{content, fields, FieldAt}
 use Rattle.opl_codec.specs.LineLetters.{letter_byte, belongs}
 use Rattle.opl_codec.specs.LineParts.{AreTags, IsMissing, IsSpelled, Says}
 use Rattle.opl_codec.specs.Members.{SpellsMembers, MembersFit}

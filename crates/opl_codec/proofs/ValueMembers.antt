@@ -1,6 +1,5 @@
 -- Members: where what they refer to ends.
-use Rattle.std.proofs.Common.{◌≡◌, ◌≢◌, ℕ, suc, ◌+◌, ◌<◌, ◌≤◌, ℤ, List, [], ◌∷◌, ◌++◌, length, get_or, drop, false, ◌==◌, refl, sym, ◌∙◌, ap, subst, arith, add-one, length-append}
-use Rattle.std.proofs.lemmas.List.{get_or-append-add}
+use Rattle.std.proofs.Common.{◌≡◌, ℕ, suc, ◌+◌, ◌<◌, List, [], ◌∷◌, ◌++◌, length, get_or, drop, false, ◌==◌, refl, sym, ◌∙◌, ap, subst, arith, add-one, length-append}
 use Rattle.osm_model.specs.Bytes.{at_sign}
 use Rattle.osm_model.specs.CanonicalLine.{kind_letter}
 use Rattle.osm_model.specs.declared.kind.Kind.{Kind}

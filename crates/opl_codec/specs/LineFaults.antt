@@ -1,21 +1,15 @@
 -- Why a line is refused, and at which byte: each cause with its place, apart from how the line is read.
 -- Source: this project.
-use Rattle.std.specs.Prelude.{◌≡◌, ◌≢◌, ℕ, ◌+◌, ◌<◌, ◌⊎◌, ℤ, unsigned_abs, Bool, true, false, List, [], ◌∷◌, length, drop, All, Option, Some, None}
-use Rattle.std.specs.List.Sorted.{IsPermutation}
+use Rattle.std.specs.Prelude.{◌≡◌, ◌≢◌, ℕ, ◌+◌, ◌<◌, ◌⊎◌, ℤ, Bool, true, false, List, [], ◌∷◌, length, drop, Option, Some, None}
 use Rattle.std.specs.Str.{IsUtf8, IsValidUpTo}
 use Rattle.osm_model.specs.CanonicalLine.{canonical_line, kind_letter}
-use Rattle.osm_model.specs.Degrees.{limit}
 use Rattle.osm_model.specs.Elements.{Element, reference}
 use Rattle.osm_model.specs.Limits.{IsMadeOf, IsShort}
 use Rattle.osm_model.specs.Moments.{Moment}
-use Rattle.osm_model.specs.declared.axis.Axis.{Axis}
 use Rattle.osm_model.specs.declared.axis.Axis.TheVariants as axes
 use Rattle.osm_model.specs.declared.kind.Kind.{Kind}
 use Rattle.osm_model.specs.declared.kind.Kind.TheVariants as kinds
-use Rattle.osm_model.specs.declared.limits.TheConstants.{LINE_LIMIT, LIST_LIMIT}
-use Rattle.osm_model.specs.declared.member.Member.{Member}
-use Rattle.osm_model.specs.declared.reference.Ref.{Ref}
-use Rattle.osm_model.specs.declared.tag.Tag.{Tag}
+use Rattle.osm_model.specs.declared.limits.TheConstants.{LINE_LIMIT}
 use Rattle.opl_codec.specs.Fields.{field, letter_of}
 use Rattle.opl_codec.specs.LineFields.{content, fields, FieldAt}
 use Rattle.opl_codec.specs.LineLetters.{belongs, letter_byte}
@@ -24,7 +18,7 @@ use Rattle.opl_codec.specs.LineChanges.{SpellsParts}
 use Rattle.opl_codec.specs.Members.{MembersFault}
 use Rattle.opl_codec.specs.Texts.{SpellsText}
 use Rattle.opl_codec.specs.ValueFaults.{CoordinateFault, NodesFault, TagsFault, TextFault}
-use Rattle.opl_codec.specs.Values.{SpellsCoordinate, SpellsNode, SpellsNodes, SpellsNumber, SpellsStamp, SpellsTag, SpellsTags, SpellsVersion, SpellsVisible, TagsFit}
+use Rattle.opl_codec.specs.Values.{SpellsNumber, SpellsStamp, SpellsVersion, SpellsVisible}
 use Rattle.opl_codec.specs.declared.cause.OplCause.{OplCause}
 use Rattle.opl_codec.specs.declared.cause.OplCause.TheVariants as causes
 use Rattle.opl_codec.specs.declared.line.TheConstants.{LONGEST_LINE}

@@ -78,20 +78,35 @@ impl LineParts {
     ///
     /// Refused by the first of these that is met: an unknown letter, one of another kind of object, one
     /// that came before, then what is wrong after the letter.
-    pub fn take(&mut self, alloc: Global, kind: Kind, field: &str, byte: usize) -> Result<(), OplFault>
+    pub fn take(
+        &mut self,
+        alloc: Global,
+        kind: Kind,
+        field: &str,
+        byte: usize,
+    ) -> Result<(), OplFault>
         requires { byte + 1 + length field.now < 2 ^ 64 }
         ensures ok { (done : List (List ℕ)) → Says done self.old → OnOk result (IsTaken kind done field.now self.new) }
         ensures refused { (line : List ℕ) (there : FieldAt (content line) field.now byte) → letter_of line ≡ kind_letter kind
             → Says (drop 1 (fields there.front)) self.old → IfErr result (λ fault. StandsAt line fault.cause fault.byte) }
     {
         let Some(letter) = letter_of(field) else {
-            return Err(OplFault { cause: OplCause::UnknownField, byte });
+            return Err(OplFault {
+                cause: OplCause::UnknownField,
+                byte,
+            });
         };
         if !letter.belongs_to(kind) {
-            return Err(OplFault { cause: OplCause::OtherKind, byte });
+            return Err(OplFault {
+                cause: OplCause::OtherKind,
+                byte,
+            });
         }
         if self.is_said(letter) {
-            return Err(OplFault { cause: OplCause::FieldTwice, byte });
+            return Err(OplFault {
+                cause: OplCause::FieldTwice,
+                byte,
+            });
         }
         match self.read(alloc, letter, &field[1..]) {
             Ok(()) => Ok(()),
@@ -125,9 +140,15 @@ impl LineParts {
     {
         let bytes = text.as_bytes();
         match letter {
-            LineLetter::Version => self.version = Some(read_version(bytes).ok_or(ValueFault::Form)?),
-            LineLetter::Visible => self.visible = Some(read_visible(bytes).ok_or(ValueFault::Form)?),
-            LineLetter::Changeset => self.changeset = Some(read_number(bytes).ok_or(ValueFault::Form)?),
+            LineLetter::Version => self.version = Some(read_version(bytes).ok_or(
+                ValueFault::Form,
+            )?),
+            LineLetter::Visible => self.visible = Some(read_visible(bytes).ok_or(
+                ValueFault::Form,
+            )?),
+            LineLetter::Changeset => self.changeset = Some(read_number(bytes).ok_or(
+                ValueFault::Form,
+            )?),
             LineLetter::Stamp => self.stamp = Some(read_stamp(bytes).ok_or(ValueFault::Form)?),
             LineLetter::Uid => self.uid = Some(read_number(bytes).ok_or(ValueFault::Form)?),
             LineLetter::User => self.user = Some(read_user(alloc, text)?),

@@ -1,6 +1,6 @@
 -- The faults of members are within them.
 -- Source: this project.
-use Rattle.std.specs.Prelude.{ℕ, ◌+◌, ◌≤◌, List, ◌∷◌, ◌++◌, length}
+use Rattle.std.specs.Prelude.{ℕ, ◌+◌, ◌≤◌, List, ◌∷◌, length}
 use Rattle.std.proofs.Common.{ap, arith, length-append}
 use Rattle.osm_model.specs.Bytes.{at_sign}
 use Rattle.opl_codec.specs.Members.{HasTarget, MemberFault}

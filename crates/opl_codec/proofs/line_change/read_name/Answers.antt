@@ -1,5 +1,4 @@
-use Rattle.std.proofs.Common.{◌≡◌, ◌-◌, ◌∷◌, ◌∙◌, length, get_or, take, drop, refl, sym, arith, length-drop, to_z-of_z}
-use Rattle.std.proofs.lemmas.List.{take_all}
+use Rattle.std.proofs.Common.{◌≡◌, ◌-◌, ◌∷◌, length, get_or, take, drop, refl, arith, to_z-of_z}
 use Rattle.opl_codec.proofs.LineNames.{unnamed, gap_unnamed, begins, named, bad_id, cut_first}
 use Rattle.opl_codec.proofs.line_change.read_name.Goals as goal
 

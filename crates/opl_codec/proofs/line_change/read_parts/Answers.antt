@@ -1,4 +1,4 @@
-use Rattle.std.proofs.Common.{rules, ◌≡◌, ℕ, List, ◌-◌, ◌+◌, ◌∷◌, length, drop, sym, ap, subst, arith}
+use Rattle.std.proofs.Common.{rules, ◌≡◌, ℕ, List, ◌-◌, ◌+◌, ◌∷◌, length, drop, sym, ap, subst}
 use Rattle.std.proofs.lemmas.Result.{err_from_is_err_and}
 use Rattle.osm_model.specs.CanonicalLine.{kind_letter}
 use Rattle.opl_codec.specs.LineFields.{content}

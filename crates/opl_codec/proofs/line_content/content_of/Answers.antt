@@ -1,4 +1,4 @@
-use Rattle.std.proofs.Common.{◌≡◌, ◌-◌, ◌+◌, length, sym, arith}
+use Rattle.std.proofs.Common.{◌-◌, length, sym, arith}
 use Rattle.opl_codec.proofs.shared.ReadLiterals.{not_empty}
 use Rattle.opl_codec.proofs.LineContents.{content_cut, content_whole, some_len}
 use Rattle.opl_codec.proofs.line_content.content_of.Goals as goal

@@ -1,4 +1,4 @@
-use Rattle.std.proofs.Common.{◌++◌, arith, length, length-append}
+use Rattle.std.proofs.Common.{◌++◌, arith, length-append}
 use Rattle.std.proofs.KnownBytes.{Consumes-trans}
 use Rattle.std.proofs.lemmas.Result.{err_from_is_err_and}
 use Rattle.opl_codec.proofs.LoadLemmas.{all_read, told_of_no_set, told_outside, told_at_end, held_at_end, outside_piece, told_unread}
