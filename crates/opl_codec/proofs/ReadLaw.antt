@@ -359,6 +359,7 @@ excludes line causes.OutsideModel byte o real s h = elim s [
   | inr whole ↦ let p = whole.1 in let same = one_object line o p.0 h.fields p.1 h.element.rising p.2 in let short = h.element.short_line in let long = p.3 in omega (arith, ap (λ (e : Element). length (canonical_line e)) same)
 ]
 excludes line causes.OtherKind byte o real s h = s
+excludes line causes.Deleted byte o real s h = s
 excludes line causes.LocatedNode byte o real s h = s
 excludes line causes.ReaderFailed byte o real s h = s
 excludes line causes.Endless byte o real s h = s
@@ -385,6 +386,7 @@ only_read line (Err fault) read refused (changes.Put o) h = memory_only fault.ca
     memory_only causes.BadEscape h = absurd (h (λ e. cc))
     memory_only causes.NotUtf8 h = absurd (h (λ e. cc))
     memory_only causes.NoLocation h = absurd (h (λ e. cc))
+    memory_only causes.Deleted h = absurd (h (λ e. cc))
     memory_only causes.LocatedNode h = absurd (h (λ e. cc))
     memory_only causes.LineTooLong h = absurd (h (λ e. cc))
     memory_only causes.OutsideModel h = absurd (h (λ e. cc))

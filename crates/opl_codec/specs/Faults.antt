@@ -101,6 +101,7 @@ StandsAt line causes.BadValue byte = (f : List ℕ) × FieldAt line f byte × (�
 StandsAt line causes.BadEscape byte = (f : List ℕ) × (at : ℕ) × FieldAt line f at × (letter_of f ≡ tags_letter) × (at < byte) × (byte < at + length f) × (slice_index line byte ≡ percent)
 StandsAt line causes.NotUtf8 byte = (¬ (IsUtf8 line)) × IsValidUpTo line byte
 StandsAt line causes.NoLocation byte = (byte ≡ length line) × (IsMissing longitude_letter (drop 1 (pieces space line)) ⊎ IsMissing latitude_letter (drop 1 (pieces space line)))
+StandsAt line causes.Deleted byte = ⊥
 StandsAt line causes.LocatedNode byte = ⊥
 StandsAt line causes.LineTooLong byte = (byte ≡ LONGEST_LINE) × (LONGEST_LINE < length line)
 StandsAt line causes.OutsideModel byte = ((f : List ℕ) × FieldAt line f byte × (IsBeyond (letter_of f) (drop 1 f) ⊎ ((letter_of f ≡ tags_letter) × HasBadTags (drop 1 f))))

@@ -104,6 +104,7 @@ StandsAt line causes.BadValue byte = HasFault line byte faults.Form
 StandsAt line causes.BadEscape byte = (at place : ℕ) × HasFault line at (faults.Escape place) × (byte ≡ at + 1 + place)
 StandsAt line causes.NotUtf8 byte = (¬ (IsUtf8 line)) × IsValidUpTo line byte
 StandsAt line causes.NoLocation byte = (byte ≡ length (content line)) × HasNoLocation line
+StandsAt line causes.Deleted byte = ⊥
 StandsAt line causes.LocatedNode byte = HasFault line byte faults.NodeLocation
 StandsAt line causes.LineTooLong byte = (byte ≡ LONGEST_LINE) × (LONGEST_LINE < length line)
 StandsAt line causes.OutsideModel byte = HasFault line byte faults.Limit ⊎ ((byte ≡ 0) × HasLongLine line)

@@ -26,6 +26,8 @@ pub enum OplCause {
     NotUtf8,
     /// A node without a location. At the line's length.
     NoLocation,
+    /// A deleted object, in a file that is to hold a set. At byte 0.
+    Deleted,
     /// A node of a way has a location. At the field's first byte.
     LocatedNode,
     /// The line has more than 2^25 bytes. At byte 2^25.
@@ -56,6 +58,7 @@ impl fmt::Display for OplCause {
             OplCause::BadEscape => "O7",
             OplCause::NotUtf8 => "O8",
             OplCause::NoLocation => "O9",
+            OplCause::Deleted => "O10",
             OplCause::LocatedNode => "O11",
             OplCause::LineTooLong => "O12",
             OplCause::OutsideModel => "O13",

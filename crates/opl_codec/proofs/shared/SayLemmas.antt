@@ -10,7 +10,7 @@ use Rattle.osm_model.specs.Sets.{HasDistinctReferences}
 use Rattle.opl_codec.specs.Lines.{SpellsObject, IsSkipped}
 use Rattle.opl_codec.specs.Files.{is_skipped, spoken_of, IsReaderOrMemory}
 use Rattle.opl_codec.specs.declared.cause.OplCause.{OplCause}
-use Rattle.opl_codec.specs.declared.cause.OplCause.TheVariants.{UnknownObject, BadId, UnknownField, FieldTwice, OtherKind, BadValue, BadEscape, NotUtf8, NoLocation, LocatedNode, LineTooLong, OutsideModel, ReaderFailed, Endless, Memory}
+use Rattle.opl_codec.specs.declared.cause.OplCause.TheVariants.{UnknownObject, BadId, UnknownField, FieldTwice, OtherKind, BadValue, BadEscape, NotUtf8, NoLocation, Deleted, LocatedNode, LineTooLong, OutsideModel, ReaderFailed, Endless, Memory}
 use Rattle.opl_codec.specs.internal.Loading.{Say, SayNoSet}
 use Rattle.opl_codec.specs.Fields.{Each, pieces}
 use Rattle.opl_codec.proofs.EachLemmas.{each_append, each_front}
@@ -111,6 +111,7 @@ refused_line BadValue lines line objects some only say = inr (no_object lines li
 refused_line BadEscape lines line objects some only say = inr (no_object lines line objects some (λ o s. let e = only o s in cc) say)
 refused_line NotUtf8 lines line objects some only say = inr (no_object lines line objects some (λ o s. let e = only o s in cc) say)
 refused_line NoLocation lines line objects some only say = inr (no_object lines line objects some (λ o s. let e = only o s in cc) say)
+refused_line Deleted lines line objects some only say = inr (no_object lines line objects some (λ o s. let e = only o s in cc) say)
 refused_line LocatedNode lines line objects some only say = inr (no_object lines line objects some (λ o s. let e = only o s in cc) say)
 refused_line LineTooLong lines line objects some only say = inr (no_object lines line objects some (λ o s. let e = only o s in cc) say)
 refused_line OutsideModel lines line objects some only say = inr (no_object lines line objects some (λ o s. let e = only o s in cc) say)

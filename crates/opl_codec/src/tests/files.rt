@@ -130,6 +130,7 @@ fn refusals_have_their_texts(rt: HostRuntime) -> Result<(), AllocError> {
         (OplCause::BadEscape, "O7 line 3 byte 8", "O7 byte 8"),
         (OplCause::NotUtf8, "O8 line 3 byte 8", "O8 byte 8"),
         (OplCause::NoLocation, "O9 line 3 byte 8", "O9 byte 8"),
+        (OplCause::Deleted, "O10 line 3 byte 8", "O10 byte 8"),
         (OplCause::LocatedNode, "O11 line 3 byte 8", "O11 byte 8"),
         (OplCause::LineTooLong, "O12 line 3 byte 8", "O12 byte 8"),
         (OplCause::OutsideModel, "O13 line 3 byte 8", "O13 byte 8"),
