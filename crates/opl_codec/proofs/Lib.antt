@@ -15,7 +15,12 @@ pub mod EachLemmas
 pub mod LineLemmas
 pub mod StepLemmas
 pub mod NextLemmas
-pub mod LoadLemmas
+pub mod OneLine
+pub mod SpokenLines
+pub mod ToldFaults
+pub mod ReferenceLists
+pub mod ReadFiles
+pub mod StoppedFiles
 pub mod WriteSteps
 pub mod WriteLists
 pub mod WriteText

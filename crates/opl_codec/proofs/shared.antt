@@ -3,10 +3,10 @@ pub mod CanonicalFields
 pub mod CanonicalLines
 pub mod CanonicalLists
 pub mod CanonicalValues
+pub mod OneObject
 pub mod ReadIds
 pub mod ReadLiterals
 pub mod ReadPlain
-pub mod SayLemmas
 pub mod TextFields
 pub mod TextLaws
 pub mod ValueLaws

@@ -1,14 +1,20 @@
 -- What a file says: the set of the objects that its lines are.
 -- Source: Osmium's OPL manual: one object a line; lines end with LF.
-use Rattle.std.specs.Prelude.{◌≡◌, ◌⊎◌, ℕ, Bool, true, false, not, List, [], ◌∷◌, filter}
+use Rattle.std.specs.Prelude.{◌≡◌, ◌⊎◌, ℕ, ◌+◌, Bool, true, false, not, List, [], ◌∷◌, ◌++◌, length, filter, Option, Some}
 use Rattle.std.specs.List.Sorted.{IsPermutation}
+use Rattle.std.specs.Io.KnownBytes.{Consumes}
 use Rattle.osm_model.specs.Bytes.{line_feed}
 use Rattle.osm_model.specs.Elements.{Element}
-use Rattle.osm_model.specs.Sets.{IsObjectSet}
+use Rattle.osm_model.specs.Sets.{HasDistinctReferences, IsObjectSet}
+use Rattle.osm_model.specs.declared.reference.Ref.{Ref}
 use Rattle.opl_codec.specs.Fields.{pieces, Each}
-use Rattle.opl_codec.specs.Lines.{SpellsObject}
+use Rattle.opl_codec.specs.LineReads.{IsRefused, IsUnread}
+use Rattle.opl_codec.specs.Lines.{Spells, SpellsObject}
 use Rattle.opl_codec.specs.declared.cause.OplCause.{OplCause}
 use Rattle.opl_codec.specs.declared.cause.OplCause.TheVariants as causes
+use Rattle.opl_codec.specs.declared.change.Change.TheVariants as changes
+use Rattle.opl_codec.specs.declared.fault.LoadFault.{LoadFault}
+use Rattle.opl_codec.specs.declared.fault.OplFault.{OplFault}
 
 -- narrow: an empty line
 abbrev pub is_skipped : List ℕ → Bool
@@ -33,3 +39,36 @@ pub record HoldsSet (file : List ℕ) (objects : List Element) : Type 0 where
 -- the reader failed, it never ended, or memory ran out
 abbrev pub IsReaderOrMemory : OplCause → Type 0
 IsReaderOrMemory cause = (cause ≡ causes.ReaderFailed) ⊎ ((cause ≡ causes.Endless) ⊎ (cause ≡ causes.Memory))
+
+-- these lines put these objects, no two of one reference
+pub record PutSet (lines : List (List ℕ)) (objects : List Element) : Type 0 where
+  pub each : Each SpellsObject (spoken_of lines) objects
+  pub apart : HasDistinctReferences objects
+
+-- after lines that put these objects this line can't be read: it has a fault, it deletes an object, or
+-- it puts one that an earlier line puts
+abbrev pub IsAtFault : List Element → List ℕ → OplFault → Type 0
+IsAtFault objects line fault =
+    IsRefused line fault
+    ⊎ (((fault ≡ record { cause = causes.Deleted; byte = 0 }) × ((name : Ref) × Spells line (changes.Delete name)))
+    ⊎ ((fault ≡ record { cause = causes.OutsideModel; byte = 0 }) × ((o : Element) × SpellsObject line o × (¬ (HasDistinctReferences (objects ++ o ∷ []))))))
+
+-- the reader gave no more of the file than these lines and the beginning of the next
+pub record IsCutOff (file : List ℕ) (left : Option (List ℕ)) (before : List (List ℕ)) (fault : OplFault) : Type 0 where
+  pub given : List ℕ
+  pub begun : List ℕ
+  pub read : Consumes (Some file) left given
+  pub cut : pieces line_feed given ≡ before ++ begun ∷ []
+  pub why : IsUnread (length given) fault
+
+-- why no set is read of a file, of which this is left: the line after these has a fault, or the reader
+-- failed or didn't end in it
+pub record StopsFile (file : List ℕ) (left : Option (List ℕ)) (load : LoadFault) : Type 0 where
+  pub before : List (List ℕ)
+  pub line : List ℕ
+  pub after : List (List ℕ)
+  pub objects : List Element
+  pub lines_are : pieces line_feed file ≡ before ++ line ∷ after
+  pub number_is : load.line ≡ length before + 1
+  pub put : PutSet before objects
+  pub why : IsAtFault objects line load.fault ⊎ IsCutOff file left before load.fault

@@ -5,6 +5,7 @@ ghost use Rattle.std.specs.Io.KnownBytes.{Consumes, IsAtEnd, Keeps};
 ghost use Rattle.opl_codec.specs.Fields.{pieces};
 ghost use Rattle.opl_codec.specs.LineReads.{IsNext, IsRefused, IsTooLong, IsUnread, no_memory};
 ghost use Rattle.opl_codec.specs.internal.Buffering.{GoesOn, IsFaultOf, IsSound, IsStep, SaysOrSkipped, place, unread};
+ghost use Rattle.opl_codec.specs.internal.Loading.{IsTold};
 ghost use Rattle.opl_codec.specs.declared.line.TheConstants.{LONGEST_LINE};
 
 use crate::cause::OplCause;
@@ -65,6 +66,7 @@ impl LineBuffer {
         requires { GoesOn (R.remaining reader.old) self.old }
         ensures goes_on { OnOk result (GoesOn (R.remaining reader.new) self.new) }
         ensures step { IsStep (place (R.remaining reader.old) self.old) (place (R.remaining reader.new) self.new) result }
+        ensures told { IfErr result (IsTold self.new) }
         ensures ended { self.old.is_ended ≡ true → (result ≡ Ok Step.End) × (self.new ≡ self.old) × (reader.new ≡ reader.old) }
     {
         loop {
@@ -90,6 +92,7 @@ impl LineBuffer {
         ensures over { self.old.is_ended ≡ true → (result ≡ Ok None) × (self.new ≡ self.old) × (reader.new ≡ reader.old) }
         ensures goes_on { OnOk result (GoesOn (R.remaining reader.new) self.new) }
         ensures few { OnOk result (self.new.lines ≤ 2 ^ 48) }
+        ensures told { IfErr result (IsTold self.new) }
     {
         loop {
             match self.take_line(reader)? {
@@ -126,6 +129,7 @@ impl LineBuffer {
         ensures read { IfOk result (λ step. (found : Option Change) × (step ≡ Step.Line found) × SaysOrSkipped (self.old.pending.items ++ take len (unread self.old)) found) }
         ensures sound { OnOk result (IsSound self.new × (self.new.pending.items ≡ [])) }
         ensures refused { IfErr result (λ load. (load ≡ no_memory) ⊎ ((load.line ≡ self.old.lines + 1) × IsRefused (self.old.pending.items ++ take len (unread self.old)) load.fault)) }
+        ensures told { IfErr result (IsTold self.new) }
         ensures counted { self.new.lines ≡ self.old.lines + 1 }
         ensures rest { unread self.new ≡ drop (len + 1) (unread self.old) }
         ensures same { (self.new.total ≡ self.old.total) × (self.new.is_ended ≡ self.old.is_ended) }
@@ -147,6 +151,7 @@ impl LineBuffer {
             ⊎ ((found : Option Change) × (step ≡ Step.Line found) × SaysOrSkipped self.old.pending.items found × (self.new.lines ≡ self.old.lines + 1))) }
         ensures sound { OnOk result (IsSound self.new × (self.new.pending.items ≡ [])) }
         ensures refused { IfErr result (λ load. (load ≡ no_memory) ⊎ ((load.line ≡ self.old.lines + 1) × IsRefused self.old.pending.items load.fault)) }
+        ensures told { IfErr result (IsTold self.new) }
         ensures same { (self.new.from ≡ self.old.from) × (self.new.pieces ≡ self.old.pieces) × (self.new.total ≡ self.old.total) × (self.new.is_ended ≡ self.old.is_ended) }
         ensures empty { self.old.pending.items ≡ [] → (result ≡ Ok Step.End) × (self.new ≡ self.old) }
     {
@@ -166,6 +171,7 @@ impl LineBuffer {
         ensures kept { OnOk result (self.new.pending.items ≡ self.old.pending.items ++ unread self.old) }
         ensures sound { OnOk result (IsSound self.new) }
         ensures refused { IfErr result (λ load. (load ≡ no_memory) ⊎ ((load.line ≡ self.old.lines + 1) × IsTooLong (self.old.pending.items ++ unread self.old) load.fault)) }
+        ensures told { IfErr result (IsTold self.new) }
         ensures none { unread self.new ≡ [] }
         ensures same { (self.new.pieces ≡ self.old.pieces) × (self.new.total ≡ self.old.total) × (self.new.lines ≡ self.old.lines) × (self.new.is_ended ≡ self.old.is_ended) }
     {
@@ -192,6 +198,7 @@ impl LineBuffer {
         ensures end { OnOk result (self.new.is_ended ≡ true → IsAtEnd (R.remaining reader.new)) }
         ensures kept { IfErr result (λ _. Keeps (R.remaining reader.old) (R.remaining reader.new) × (unread self.new ≡ []) × (self.new.total ≡ self.old.total)) }
         ensures refused { IfErr result (λ load. (load.line ≡ self.old.lines + 1) × IsUnread self.old.total load.fault) }
+        ensures told { IfErr result (IsTold self.new) }
         ensures same { (self.new.pending.items ≡ self.old.pending.items) × (self.new.lines ≡ self.old.lines) }
     {
         self.from = 0;

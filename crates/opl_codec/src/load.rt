@@ -1,31 +1,35 @@
 //! Sets of objects, read from files.
 
-ghost use Rattle.std.specs.Prelude.{◌≡◌, ◌≤◌, ◌^◌, ℕ, IfErr, IfSome, IfOk, List, MatchResult, length};
-ghost use Rattle.osm_model.specs.Elements.{Element};
-ghost use Rattle.opl_codec.specs.Files.{HoldsSet, IsReaderOrMemory};
-ghost use Rattle.opl_codec.specs.internal.Loading.{cause_of};
+ghost use Rattle.std.specs.Prelude.{◌≡◌, ◌⊎◌, ◌≤◌, ◌^◌, ℕ, IfErr, IfSome, IfOk, List, MatchResult, OnOk, Option, length};
+ghost use Rattle.osm_model.specs.Elements.{Element, references};
+ghost use Rattle.opl_codec.specs.Files.{HoldsSet, IsReaderOrMemory, StopsFile};
+ghost use Rattle.opl_codec.specs.LineReads.{no_memory};
+ghost use Rattle.opl_codec.specs.declared.fault.LoadFault.{LoadFault};
+ghost use Rattle.opl_codec.specs.internal.Loading.{IsUnput, Knows, Puts, ReadsAll};
 
 use crate::cause::OplCause;
+use crate::change::Change;
 use crate::fault::LoadFault;
-use crate::loader::Loader;
-use crate::piece_reader::{PieceFault, PieceReader};
-use osm_model::ObjectSet;
-use std::alloc::Global;
+use crate::line_buffer::LineBuffer;
+use crate::references::References;
+use osm_model::{Object, ObjectSet};
+use std::alloc::{AllocError, Global};
 use std::io::Read;
 
 /// The set of the objects that a file holds, one a line (see `read_line`). Lines end with LF, which
-/// the last may lack; empty ones are skipped; objects come in any order, none twice. The reader ends
-/// where it gives no bytes.
+/// the last may lack; skipped ones are passed over; objects come in any order, none twice. The reader
+/// ends where it gives no bytes.
 ///
-/// It reads pieces of at most 65,536 bytes, in time linear in the bytes where the objects come by
-/// rising reference, as extracts do, and sorts them otherwise. Besides the objects it keeps the
-/// beginning of one line, at most 2^25 bytes.
+/// It reads pieces of at most 65,536 bytes. Where the objects come by rising reference, as in
+/// extracts, it takes time linear in the bytes, and keeps nothing but the objects and the beginning of
+/// one line, at most 2^25 bytes. From the first that doesn't rise on, it also keeps their references,
+/// and takes n log n.
 ///
 /// Refused by the first line with a fault, lines from 1: the line's own (see `read_line`), where
-/// `LineTooLong` is reported as soon as too many bytes of a line were read, whether it ends or not; or
-/// `OutsideModel` at byte 0 where an earlier line holds the same object. `ReaderFailed` and `Endless`
-/// (2^32 reads without an end) are reported at byte 0 of the line that was being read, where no line
-/// before it repeats an object. `Memory`, at line 0 and byte 0, may come in place of any answer.
+/// `LineTooLong` is reported as soon as too many bytes of a line were read, whether it ends or not;
+/// `Deleted` at byte 0 where it deletes an object; or `OutsideModel` at byte 0 where an earlier line
+/// has the same object. `ReaderFailed` and `Endless` (2^32 reads without an end) are reported at byte
+/// 0 of the line that was being read. `Memory`, at line 0 and byte 0, may come in place of any answer.
 /// Nothing is read after the piece in which the refusal is found.
 ///
 /// Source: Osmium's OPL manual; the limits, the causes and their places are this project's.
@@ -40,32 +44,64 @@ pub fn read_set<R: Read>(alloc: Global, reader: &mut R) -> Result<ObjectSet, Loa
     // A file that is refused as endless has 2^32 bytes at least.
     ensures endless { IfSome (R.remaining reader.old) (λ file. IfErr result (λ fault.
         fault.fault.cause ≡ OplCause.Endless → 2 ^ 32 ≤ length file)) }
+    // A refusal names the line that can't be read, and the byte in it.
+    ensures refused { IfSome (R.remaining reader.old) (λ file. IfErr result (λ load. (load ≡ no_memory) ⊎ StopsFile file (R.remaining reader.new) load)) }
+    // Out of memory is told of no line.
+    ensures memory { IfErr result (λ load. load.fault.cause ≡ OplCause.Memory → load ≡ no_memory) }
 {
-    let mut loader = Loader::new(alloc);
-    let mut pieces = PieceReader::new();
-    loop {
-        let more = match pieces.read_next(reader) {
-            Ok(more) => more,
-            Err(fault) => return Err(loader.refusal(cause_of(fault), 0)),
-        };
-        if !more {
-            return loader.finish();
-        }
-        loader.feed(pieces.last())?;
+    let objects = read_objects(alloc, reader)?;
+    match ObjectSet::from_objects(objects) {
+        Ok(set) => Ok(set),
+        Err(_) => unreachable!("no object comes twice"),
     }
 }
 
-/// The cause that is reported where a reader has no next piece.
-fn cause_of(fault: PieceFault) -> OplCause
-    ensures { result ≡ cause_of fault }
+/// The objects that the lines of a reader put, in their order.
+fn read_objects<R: Read>(alloc: Global, reader: &mut R) -> Result<Vec<Object>, LoadFault>
+    ensures read { IfOk result (λ objects. ReadsAll (R.remaining reader.old) objects.items) }
+    ensures refused { IfSome (R.remaining reader.old) (λ file. IfErr result (λ load. (load ≡ no_memory) ⊎ StopsFile file (R.remaining reader.new) load)) }
+    ensures memory { IfErr result (λ load. load.fault.cause ≡ OplCause.Memory → load ≡ no_memory) }
 {
-    match fault {
-        PieceFault::Failed => OplCause::ReaderFailed,
-        PieceFault::Endless => OplCause::Endless,
+    let mut buffer = LineBuffer::new(alloc);
+    let mut references = References::new(alloc);
+    let mut objects = Vec::new(alloc);
+    while let Some((line, change)) = buffer.next_change(reader)? {
+        put(&mut objects, &mut references, line, change)?;
+    }
+    Ok(objects)
+}
+
+/// Puts the change of this line after these objects, whose references are known.
+fn put(
+    objects: &mut Vec<Object>,
+    known: &mut References,
+    line: u64,
+    change: Change,
+) -> Result<(), LoadFault>
+    requires { Knows known.old (references objects.old.items) }
+    ensures put { OnOk result (Puts objects.old.items objects.new.items change) }
+    ensures known { OnOk result (Knows known.new (references objects.new.items)) }
+    ensures refused { IfErr result (λ load. (load ≡ no_memory) ⊎ ((load.line ≡ line) × IsUnput objects.old.items change load.fault)) }
+{
+    match change {
+        Change::Put(object) => {
+            if !known.add(objects, object.reference())? {
+                return Err(LoadFault::at(line, OplCause::OutsideModel));
+            }
+            objects.push(object).map_err(AllocError::from)?;
+            Ok(())
+        }
+        Change::Delete(_) => Err(LoadFault::at(line, OplCause::Deleted)),
     }
 }
 
 /// A law: a file holds one set at most (`HoldsSet` of `specs/Files.antt`).
 pub fn one_set()
     ensures { (file : List ℕ) (a b : List Element) → HoldsSet file a → HoldsSet file b → a ≡ b }
+{}
+
+/// A law: a file that has a line at which it stops (`StopsFile` of `specs/Files.antt`) holds no set,
+/// unless it is its reader that failed or never ended.
+pub fn stopped_holds_none()
+    ensures { (file : List ℕ) (left : Option (List ℕ)) (load : LoadFault) (objects : List Element) → StopsFile file left load → (¬ (IsReaderOrMemory load.fault.cause)) → HoldsSet file objects → ⊥ }
 {}

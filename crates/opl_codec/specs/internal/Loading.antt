@@ -1,49 +1,80 @@
--- A file of which a front was read, line by line.
+-- A file that is being read, line by line.
 -- Source: this project.
-use Rattle.std.specs.Prelude.{◌≡◌, ℕ, List, [], ◌∷◌, ◌++◌}
+use Rattle.std.specs.Prelude.{◌≡◌, ◌⊎◌, ℕ, ◌+◌, false, List, [], ◌∷◌, ◌++◌, length, Option, MatchOption}
+use Rattle.std.specs.BTreeSet.{BTreeSet, contains}
+use Rattle.std.specs.Io.KnownBytes.{Consumes, IsAtEnd}
+use Rattle.std.specs.List.{IsDistinct}
+use Rattle.std.specs.List.Sorted.{IsStrictlySortedBy}
+use Rattle.std.specs.Ordering.{eq_by_cmp}
+use Rattle.std.specs.Set.{is_member}
 use Rattle.osm_model.specs.Bytes.{line_feed}
-use Rattle.osm_model.specs.Elements.{Element}
+use Rattle.osm_model.specs.Elements.{Element, ref_cmp}
 use Rattle.osm_model.specs.Sets.{HasDistinctReferences}
-use Rattle.opl_codec.specs.Fields.{pieces, Each}
-use Rattle.opl_codec.specs.Lines.{SpellsObject}
-use Rattle.opl_codec.specs.Files.{HoldsSet, spoken_of}
+use Rattle.osm_model.specs.declared.reference.Ref.{Ref}
+use Rattle.opl_codec.specs.Fields.{pieces}
+use Rattle.opl_codec.specs.Files.{PutSet}
+use Rattle.opl_codec.specs.LineReads.{AreEnded, IsEnd, LinePlace, Takes, no_memory}
+use Rattle.opl_codec.specs.internal.Buffering.{unread}
 use Rattle.opl_codec.specs.declared.cause.OplCause.{OplCause}
 use Rattle.opl_codec.specs.declared.cause.OplCause.TheVariants as causes
-use Rattle.opl_codec.specs.declared.piece_reader.PieceFault.{PieceFault}
-use Rattle.opl_codec.specs.declared.piece_reader.PieceFault.TheVariants as faults
+use Rattle.opl_codec.specs.declared.change.Change.{Change}
+use Rattle.opl_codec.specs.declared.change.Change.TheVariants as changes
+use Rattle.opl_codec.specs.declared.fault.LoadFault.{LoadFault}
+use Rattle.opl_codec.specs.declared.fault.OplFault.{OplFault}
+use Rattle.opl_codec.specs.declared.line_buffer.LineBuffer.{LineBuffer}
+use Rattle.opl_codec.specs.declared.references.References.{References}
 
--- what these lines say is these objects, in their order
-abbrev pub Say : List (List ℕ) → List Element → Type 0
-Say lines objects = Each SpellsObject (spoken_of lines) objects
+-- no two of these references are one
+abbrev pub AreApart : List Ref → Type 0
+AreApart names = IsDistinct (eq_by_cmp ref_cmp) names
 
--- after these lines the text has further ones that end, which together say these objects, and then
--- the beginning of a line
-pub record Loads (lines : List (List ℕ)) (text : List ℕ) (objects : List Element) (pending : List ℕ) : Type 0 where
-  pub ended : List (List ℕ)
-  pub cut : pieces line_feed text ≡ ended ++ pending ∷ []
-  pub say : Say (lines ++ ended) objects
+-- the set has just these references
+abbrev pub HasJust : BTreeSet Ref → List Ref → Type 0
+HasJust set names = (name : Ref) → contains ref_cmp set name ≡ is_member (eq_by_cmp ref_cmp) names name
 
--- whatever lines follow, they say no objects of which no two have one reference
-abbrev pub SayNoSet : List (List ℕ) → Type 0
-SayNoSet lines = (more : List (List ℕ)) (objects : List Element) → Say (lines ++ more) objects → HasDistinctReferences objects → ⊥
+-- these are the references that were added, no two of them one: they rise, or all of them are kept
+pub record Knows (r : References) (names : List Ref) : Type 0 where
+  pub apart : AreApart names
+  pub kept : MatchOption r.kept (IsStrictlySortedBy ref_cmp names) (λ set. HasJust set names)
 
--- after these lines a line begins so; however it goes on, and whatever lines follow, they say no set
-abbrev pub BeginsNoSet : List (List ℕ) → List ℕ → Type 0
-BeginsNoSet lines pending = (more : List ℕ) → SayNoSet (lines ++ (pending ++ more) ∷ [])
+-- the reader failed, or it never ended
+abbrev pub IsReader : OplCause → Type 0
+IsReader cause = (cause ≡ causes.ReaderFailed) ⊎ (cause ≡ causes.Endless)
 
--- after these lines the text has further ones that end, and then the beginning of a line, and with
--- them all lines say no set
-pub record LoadsNoSet (lines : List (List ℕ)) (text : List ℕ) : Type 0 where
-  pub ended : List (List ℕ)
-  pub pending : List ℕ
-  pub cut : pieces line_feed text ≡ ended ++ pending ∷ []
-  pub none_said : BeginsNoSet (lines ++ ended) pending
+-- out of memory is told of no line, and where the reader gave no more, all its bytes were looked at
+pub record IsTold (b : LineBuffer) (load : LoadFault) : Type 0 where
+  pub memory : load.fault.cause ≡ causes.Memory → load ≡ no_memory
+  pub reader : IsReader load.fault.cause → unread b ≡ []
 
--- no file that begins so holds a set
-abbrev pub HoldsNoSet : List ℕ → Type 0
-HoldsNoSet front = (more : List ℕ) (objects : List Element) → HoldsSet (front ++ more) objects → ⊥
+-- the beginning of a reader that has these bytes
+abbrev pub start : Option (List ℕ) → LinePlace
+start known = record { lines = 0; taken = 0; left = known; is_ended = false }
 
--- the cause that is reported where a reader has no next piece
-abbrev pub cause_of : PieceFault → OplCause
-cause_of faults.Failed = causes.ReaderFailed
-cause_of faults.Endless = causes.Endless
+-- from the first place to the second, all lines were read, and they put these objects
+pub record ReadsTo (old new : LinePlace) (objects : List Element) : Type 0 where
+  pub text : List ℕ
+  pub lines : List (List ℕ)
+  pub takes : Takes old new text
+  pub lines_are : AreEnded text lines ⊎ ((pieces line_feed text ≡ lines) × IsEnd new)
+  pub counted : new.lines ≡ old.lines + length lines
+  pub put : PutSet lines objects
+
+-- the bytes of a reader are lines that put these objects
+pub record ReadsAll (known : Option (List ℕ)) (objects : List Element) : Type 0 where
+  pub left : Option (List ℕ)
+  pub text : List ℕ
+  pub read : Consumes known left text
+  pub end : IsAtEnd left
+  pub put : PutSet (pieces line_feed text) objects
+
+-- these objects, after which the change is put, are one more
+pub record Puts (old new : List Element) (change : Change) : Type 0 where
+  pub object : Element
+  pub change_is : change ≡ changes.Put object
+  pub more : new ≡ old ++ object ∷ []
+
+-- after these objects the change can't be put: it deletes an object, or it puts one of a known reference
+abbrev pub IsUnput : List Element → Change → OplFault → Type 0
+IsUnput objects change fault =
+    ((fault ≡ record { cause = causes.Deleted; byte = 0 }) × ((name : Ref) × (change ≡ changes.Delete name)))
+    ⊎ ((fault ≡ record { cause = causes.OutsideModel; byte = 0 }) × ((o : Element) × (change ≡ changes.Put o) × (¬ (HasDistinctReferences (objects ++ o ∷ [])))))
