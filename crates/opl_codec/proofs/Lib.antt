@@ -17,7 +17,6 @@ pub mod StepLemmas
 pub mod NextLemmas
 pub mod OneLine
 pub mod SpokenLines
-pub mod ToldFaults
 pub mod ReferenceLists
 pub mod ReadFiles
 pub mod StoppedFiles

@@ -1,4 +1,4 @@
-use Rattle.opl_codec.proofs.LoadLemmas.{one_set}
+use Rattle.opl_codec.proofs.StoppedFiles.{one_set}
 use Rattle.opl_codec.proofs.load.one_set.Goals as goal
 
 pub returns : goal.returns
