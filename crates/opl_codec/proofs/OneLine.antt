@@ -1,9 +1,9 @@
 -- What one line says: at most one change, and none where it is skipped.
-use Rattle.std.proofs.Common.{◌≡◌, ℕ, ◌<◌, ◌≤◌, List, [], ◌∷◌, length, true, refl, sym, ap, ◌∙◌, subst, arith}
+use Rattle.std.proofs.Common.{◌≡◌, ℕ, ◌<◌, ◌≤◌, List, [], ◌∷◌, length, true, refl, sym, ap, ◌∙◌, arith}
 use Rattle.opl_codec.specs.Fields.{pieces}
 use Rattle.opl_codec.specs.Files.{is_skipped}
 use Rattle.opl_codec.specs.LineReads.{IsRefused}
-use Rattle.opl_codec.specs.Lines.{IsSkipped, Spells, SpellsObject}
+use Rattle.opl_codec.specs.Lines.{IsSkipped, Spells}
 use Rattle.opl_codec.specs.declared.cause.OplCause.TheVariants as causes
 use Rattle.opl_codec.specs.declared.change.Change.{Change}
 use Rattle.opl_codec.specs.declared.change.Change.TheVariants as changes

@@ -1,8 +1,8 @@
 -- References of which no two are one, and one more.
-use Rattle.std.proofs.Common.{◌≡◌, ℕ, zero, suc, ◌+◌, ◌-◌, ◌≤◌, List, length, arith, Option, Some, None, option_map, Result, Ok, Err, IfOk, OnOk, Global, [], ◌∷◌, ◌++◌, Bool, true, false, not, ◌||◌, cond, refl, sym, ◌∙◌, ap, subst}
+use Rattle.std.proofs.Common.{◌≡◌, ℕ, zero, suc, ◌+◌, ◌-◌, ◌≤◌, List, length, arith, Some, option_map, Result, Ok, Err, IfOk, OnOk, Global, [], ◌∷◌, ◌++◌, Bool, true, false, not, ◌||◌, cond, refl, sym, ◌∙◌, ap}
 use Rattle.std.specs.BTreeSet.{BTreeSet, Updates, contains}
 use Rattle.std.specs.Bool.{MatchBool}
-use Rattle.std.specs.List.{AllByRecursion, IsDistinct, list_any, slice_get}
+use Rattle.std.specs.List.{AllByRecursion, IsDistinct, slice_get}
 use Rattle.std.specs.List.Sorted.{IsStrictlySortedBy}
 use Rattle.std.specs.Ordering.{eq_by_cmp, is_lt}
 use Rattle.std.specs.Set.{is_member}
@@ -46,11 +46,11 @@ member_repeats (x ∷ names) name there apart =
     member_repeats names name (sym (ap (λ b. b || is_member ref_is names name) differ) ∙ there) apart.1
 
 member-push : (names : List Ref) (name q : Ref) → is_member ref_is (names ++ name ∷ []) q ≡ cond (ref_is name q) true (is_member ref_is names q)
-member-push [] name q = rw (ref_is-sym q name) (elim (ref_is name q) as (λ b. (b || false) ≡ cond b true false) [ | true ↦ refl | false ↦ refl ])
+member-push [] name q = rw (ref_is-sym q name) (elim (ref_is name q) as (λ b. (b || false) ≡ cond b true false) [ true ↦ refl | false ↦ refl ])
 member-push (x ∷ names) name q =
     ap (λ b. ref_is q x || b) (member-push names name q)
     ∙ (elim (ref_is q x) as (λ a. (a || cond (ref_is name q) true (is_member ref_is names q)) ≡ cond (ref_is name q) true (a || is_member ref_is names q)) [
-      | true ↦ elim (ref_is name q) as (λ b. true ≡ cond b true true) [ | true ↦ refl | false ↦ refl ]
+      | true ↦ elim (ref_is name q) as (λ b. true ≡ cond b true true) [ true ↦ refl | false ↦ refl ]
       | false ↦ refl
     ])
 

@@ -1,8 +1,7 @@
 -- What a file holds, and that one at whose line reading stops holds no set.
-use Rattle.std.proofs.Common.{◌≡◌, ◌⊎◌, inl, inr, ℕ, ◌+◌, ◌≤◌, ◌^◌, List, [], ◌∷◌, ◌++◌, length, length-append, arith, Option, None, Some, IfSome, false, Result, Ok, Err, IfErr, refl, sym, ◌∙◌, ap, subst, append_assoc}
+use Rattle.std.proofs.Common.{◌≡◌, ◌⊎◌, inl, inr, ℕ, List, [], ◌∷◌, ◌++◌, Option, None, Some, IfSome, false, refl, sym, ◌∙◌, ap, subst, append_assoc}
 use Rattle.std.specs.List.{AllByRecursion, IsDistinct}
 use Rattle.std.specs.List.Sorted.{IsPermutation}
-use Rattle.std.specs.Io.KnownBytes.{Consumes}
 use Rattle.std.specs.Ordering.{eq_by_cmp}
 use Rattle.std.proofs.KnownBytes.{Consumes-whole}
 use Rattle.std.proofs.lemmas.Cmp.{eq_by_cmp_equiv}
@@ -18,7 +17,6 @@ use Rattle.opl_codec.specs.Files.{HoldsSet, IsAtFault, IsCutOff, IsReaderOrMemor
 use Rattle.opl_codec.specs.LineReads.{IsUnread, no_memory}
 use Rattle.opl_codec.specs.Lines.{IsSkipped, SpellsObject}
 use Rattle.opl_codec.specs.internal.Loading.{ReadsAll}
-use Rattle.opl_codec.specs.declared.cause.OplCause.TheVariants as causes
 use Rattle.opl_codec.specs.declared.change.Change.TheVariants as changes
 use Rattle.opl_codec.specs.declared.fault.LoadFault.{LoadFault}
 use Rattle.opl_codec.specs.declared.fault.OplFault.{OplFault}
@@ -60,7 +58,7 @@ module _ (file : List ℕ) (left : Option (List ℕ)) (load : LoadFault) (object
   next_object : (IsSkipped s.line → ⊥) → (o : Element) × (more : List Element) × (h.written ≡ s.objects ++ o ∷ more) × SpellsObject s.line o
   next_object some =
       let parts : spoken_of (pieces 10 file) ≡ spoken_of s.before ++ s.line ∷ spoken_of s.after =
-          ap spoken_of s.lines_are ∙ spoken-append s.before (s.line ∷ s.after) ∙ ap (λ ls. spoken_of s.before ++ ls) (spoken-unskipped s.line s.after some) in
+      ap spoken_of s.lines_are ∙ spoken-append s.before (s.line ∷ s.after) ∙ ap (λ ls. spoken_of s.before ++ ls) (spoken-unskipped s.line s.after some) in
       let front = each_front SpellsObject one_object (spoken_of s.before) (s.line ∷ spoken_of s.after) s.objects h.written s.put.each (subst (λ ls. Each SpellsObject ls h.written) parts h.each) in
       first front.0 front.1 front.2
     where

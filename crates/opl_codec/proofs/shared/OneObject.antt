@@ -2,7 +2,6 @@
 use Rattle.std.proofs.Common.{◌≡◌, ℕ, List}
 use Rattle.osm_model.specs.Elements.{Element}
 use Rattle.opl_codec.specs.Lines.{SpellsObject}
-use Rattle.opl_codec.specs.declared.change.Change.{Change}
 use Rattle.opl_codec.specs.declared.change.Change.TheVariants as changes
 use Rattle.opl_codec.proofs.OneLine.{one_change}
 

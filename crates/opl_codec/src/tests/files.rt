@@ -79,6 +79,7 @@ fn lines_may_stand_in_any_order(rt: HostRuntime) -> Result<(), LoadFault> {
         ("n3 x3 y3\nn1 x1 y1\n\nn2 x2 y2", 4096),
         ("\n\nn2 x2 y2\nn3 x3 y3\nn1 x1 y1\n\n", 1),
         ("n2 x2 y2\nn3 x3 y3\nn1 x1 y1", 7),
+        ("n3 x3 y3\nn2 x2 y2\nn1 x1 y1\n", 4096),
     ];
     for (file, at_once) in rows {
         assert!(rt; holds_three(&rt, alloc, file, at_once)?, "at {file:?}");
@@ -106,8 +107,16 @@ fn the_first_line_with_a_fault_is_told(rt: HostRuntime) {
             fault(3, OplCause::OutsideModel, 0),
         ),
         (
+            "n1 x1 y1\nn1 x1 y1\nc5\n",
+            fault(2, OplCause::OutsideModel, 0),
+        ),
+        (
             "n1 x1 y1\nc5\nn1 x1 y1\n",
             fault(2, OplCause::UnknownObject, 0),
+        ),
+        (
+            "n3 x1 y1\nn1 x2 y2\n\nn2 x3 y3\nn3 x4 y4\nc5\n",
+            fault(5, OplCause::OutsideModel, 0),
         ),
     ];
     for (file, wanted) in rows {
@@ -171,7 +180,8 @@ fn refusal_of_long(
 #[test]
 fn a_line_is_refused_as_soon_as_it_is_too_long(rt: HostRuntime) -> Result<(), Fail> {
     let longest = 33_554_432;
-    // 513 pieces are read: the last byte of the 512th is within the longest line.
+    // 513 pieces are read: the last byte of the 512th is within the longest line. A line before it that
+    // repeats an object is told after the first piece.
     let rows = [
         ("", fault(1, OplCause::LineTooLong, longest), 4_464),
         (
@@ -182,7 +192,7 @@ fn a_line_is_refused_as_soon_as_it_is_too_long(rt: HostRuntime) -> Result<(), Fa
         (
             "n2 x1 y1\nn1 x1 y1\nn1 x1 y1\n",
             fault(3, OplCause::OutsideModel, 0),
-            4_491,
+            33_558_923,
         ),
     ];
     for (first, wanted, left) in rows {
@@ -196,14 +206,18 @@ fn a_line_is_refused_as_soon_as_it_is_too_long(rt: HostRuntime) -> Result<(), Fa
 fn a_failing_reader_names_the_line(rt: HostRuntime) {
     let alloc = rt.alloc();
     let file = "n1 x1 y1\nn2 x2 y2\n";
-    for fails_at in 1..19 {
+    for fails_at in 1..20 {
         let mut reader = SlowReader {
             left: file.as_bytes(),
             at_once: 1,
             fails_at,
             calls: 0,
         };
-        let line = if fails_at <= 9 { 1 } else { 2 };
+        let line = match fails_at {
+            1..=9 => 1,
+            10..=18 => 2,
+            _ => 3,
+        };
         let told = read_set(alloc, &mut reader).err();
         assert_eq!(rt; told, fault(line, OplCause::ReaderFailed, 0));
     }

@@ -1,4 +1,3 @@
-use Rattle.std.proofs.Common.{◌≡◌, true, List, [], sym, rules}
 use Rattle.std.proofs.lemmas.Result.{err_from_is_err_and}
 use Rattle.opl_codec.proofs.ReadFiles.{next_refused, put_refused, reads_all, reads_put, starts}
 use Rattle.opl_codec.proofs.load.read_objects.Goals as goal

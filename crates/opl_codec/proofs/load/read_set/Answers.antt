@@ -1,5 +1,5 @@
 use Rattle.std.proofs.lemmas.Result.{err_from_is_err_and}
-use Rattle.opl_codec.proofs.StoppedFiles.{holds_known, holds_read, only_by_reader, only_set}
+use Rattle.opl_codec.proofs.StoppedFiles.{holds_known, only_by_reader, only_set}
 use Rattle.opl_codec.proofs.load.read_set.Goals as goal
 
 pub returns-in_err-objects-clause-only : goal.returns-in_err-objects-clause-only
