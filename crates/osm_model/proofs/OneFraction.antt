@@ -2,7 +2,7 @@
 use Rattle.std.proofs.Common.{◌≡◌, ◌≢◌, ℕ, zero, suc, ◌+◌, ◌-◌, ◌*◌, ◌/◌, ◌%◌, ◌^◌, ◌<◌, ◌≤◌, List, [], ◌∷◌, ◌++◌, length, false, ◌==◌, refl, sym, ◌∙◌, ap, arith}
 use Rattle.std.specs.Char.{digit_value}
 use Rattle.std.specs.Str.Parse.{AllDigits, digits_value, digits_value_after}
-use Rattle.std.proofs.Math.Nat.{mul-le-mul_right, pow-succ', mul_assoc}
+use Rattle.std.proofs.Math.Nat.{mul-le-mul_right}
 use Rattle.std.proofs.lemmas.Bool.Decides.{nat_tests}
 use Rattle.std.proofs.lemmas.Int.Digits.{digits_value-lt}
 use Rattle.std.proofs.lemmas.Nat.{div-mul-add, mod-mul-add, pow-add}
@@ -11,21 +11,11 @@ use Rattle.std.proofs.lemmas.Str.Parse.{digit_from_value}
 use Rattle.osm_model.specs.Canonical.{HasNoTrailingZero}
 use Rattle.osm_model.specs.CanonicalDegrees.{decimals_of}
 use Rattle.osm_model.proofs.Decimals.{power_some}
+use Rattle.osm_model.proofs.shared.OneNumeral.{digits_value_after-split}
 
 -- ---- digits and their values
 digit_is : (d : ℕ) → digit_value d < 10 → d ≡ 48 + digit_value d
 digit_is d h = omega (arith, digit_value_digit d (digit_from_value d h))
-
--- digits after others
-pub after_more : (m n : ℕ) (ds : List ℕ) → digits_value_after 10 (m + n) ds ≡ m * 10 ^ length ds + digits_value_after 10 n ds
-after_more m n [] = omega arith
-after_more m n (d ∷ ds) =
-    let regrouped : (m + n) * 10 + digit_value d ≡ m * 10 + (n * 10 + digit_value d) = omega arith in
-    let up : m * 10 ^ suc (length ds) ≡ m * 10 * 10 ^ length ds = ap (λ p. m * p) (pow-succ' 10 (length ds)) ∙ sym (mul_assoc m 10 (10 ^ length ds)) in
-    ap (λ v. digits_value_after 10 v ds) regrouped ∙ (after_more (m * 10) (n * 10 + digit_value d) ds ∙ ap (λ v. v + digits_value_after 10 (n * 10 + digit_value d) ds) (sym up))
-
-pub after : (m : ℕ) (ds : List ℕ) → digits_value_after 10 m ds ≡ m * 10 ^ length ds + digits_value 10 ds
-after m ds = ap (λ v. digits_value_after 10 v ds) (omega arith) ∙ after_more m 0 ds
 
 -- filled up with zeros, they are below the power of ten
 pub filled : (k : ℕ) (ds : List ℕ) → AllDigits 10 ds → length ds ≤ k → digits_value 10 ds * 10 ^ (k - length ds) < 10 ^ k
@@ -67,7 +57,7 @@ one_fraction (suc k) (d ∷ ds) n all few plain value =
     first_apart : digits_value 10 (d ∷ ds) * 10 ^ (suc k - length (d ∷ ds)) ≡ digit_value d * 10 ^ k + digits_value 10 ds * 10 ^ (k - length ds)
     first_apart =
         let less : suc k - length (d ∷ ds) ≡ k - length ds = omega arith in
-        let split : digits_value 10 (d ∷ ds) ≡ digit_value d * 10 ^ length ds + digits_value 10 ds = ap (λ v. digits_value_after 10 v ds) (omega arith) ∙ after (digit_value d) ds in
+        let split : digits_value 10 (d ∷ ds) ≡ digit_value d * 10 ^ length ds + digits_value 10 ds = ap (λ v. digits_value_after 10 v ds) (omega arith) ∙ digits_value_after-split 10 (digit_value d) ds in
         let whole : 10 ^ k ≡ 10 ^ length ds * 10 ^ (k - length ds) = ap (λ e. 10 ^ e) (omega arith) ∙ pow-add 10 (length ds) (k - length ds) in
         rw (less, split, whole) (omega arith)
 

@@ -7,10 +7,10 @@ use Rattle.osm_model.specs.Canonical.{HasNoLeadingZero, HasNoTrailingZero, IsCan
 use Rattle.osm_model.specs.CanonicalDegrees.{degrees, decimals_of, is_negative, with_point}
 use Rattle.osm_model.specs.Degrees.{Decimal, IsDegrees, IsDigits, IsFraction, Spells, decimals, point, sign, units}
 use Rattle.osm_model.proofs.Decimals.{are_digits}
-use Rattle.osm_model.proofs.OneFraction.{after, decimals_plain, filled, one_fraction}
+use Rattle.osm_model.proofs.OneFraction.{decimals_plain, filled, one_fraction}
 use Rattle.osm_model.proofs.shared.Digits.{after_append}
 use Rattle.osm_model.proofs.shared.OneDecimal.{one_decimal}
-use Rattle.osm_model.proofs.shared.OneNumeral.{decimal_digits, decimal_plain, one_numeral, sign_is, size_is}
+use Rattle.osm_model.proofs.shared.OneNumeral.{decimal_digits, decimal_plain, digits_value_after-split, one_numeral, sign_is, size_is}
 use Rattle.osm_model.proofs.shared.ReadBack.{reads_back}
 
 -- ---- the text of a value
@@ -94,7 +94,7 @@ module _ (whole ds : List ℕ) (u : ℕ) (within : u ≤ 1800000000) (whole_is :
   split =
       let places : 7 ≡ length ds + (7 - length ds) = omega arith in
       let power : 10 ^ 7 ≡ 10 ^ length ds * 10 ^ (7 - length ds) = ap (λ (e : ℕ). 10 ^ e) places ∙ pow-add 10 (length ds) (7 - length ds) in
-      let apart : digits_value 10 (whole ++ ds) ≡ digits_value 10 whole * 10 ^ length ds + digits_value 10 ds = after_append 0 whole ds ∙ after (digits_value 10 whole) ds in
+      let apart : digits_value 10 (whole ++ ds) ≡ digits_value 10 whole * 10 ^ length ds + digits_value 10 ds = after_append 0 whole ds ∙ digits_value_after-split 10 (digits_value 10 whole) ds in
       regrouped (digits_value 10 whole) (digits_value 10 ds) (10 ^ length ds) (10 ^ (7 - length ds)) (10 ^ 7) power (sym value ∙ ap (λ v. v * 10 ^ (7 - length ds)) apart)
     where
       regrouped : (w v p q r : ℕ) → r ≡ p * q → u ≡ (w * p + v) * q → u ≡ w * r + v * q

@@ -1,8 +1,10 @@
 -- Digits without needless zeros are the decimal text of their number; a sign that isn't needless is
 -- that of the number.
-use Rattle.std.proofs.Common.{◌≡◌, ◌≢◌, ℕ, zero, suc, ◌^◌, ◌<◌, List, [], ◌∷◌, length, get_or, Bool, true, false, ℤ, pos, negsuc, unsigned_abs, refl, sym, ◌∙◌, ap, arith}
+use Rattle.std.proofs.Common.{◌≡◌, ◌≢◌, ℕ, zero, suc, ◌+◌, ◌*◌, ◌^◌, ◌<◌, List, [], ◌∷◌, length, get_or, Bool, true, false, ℤ, pos, unsigned_abs, refl, sym, ◌∙◌, ap, arith}
+use Rattle.std.specs.Char.{digit_value}
 use Rattle.std.specs.Fmt.{decimal}
-use Rattle.std.specs.Str.Parse.{AllDigits, digits_value}
+use Rattle.std.specs.Str.Parse.{AllDigits, digits_value, digits_value_after}
+use Rattle.std.proofs.Math.Nat.{mul_assoc, pow-succ', pow-zero}
 use Rattle.std.proofs.lemmas.Fmt.{decimal_digit, decimal_is_IsNumeral, decimal-digits_value, first_decimal}
 use Rattle.std.proofs.lemmas.Str.Parse.{IsNumeralModel}
 use Rattle.osm_model.specs.Canonical.{HasNoLeadingZero}
@@ -38,6 +40,17 @@ decimal_plain (suc n) small rest e = absurd (let first : 48 < get_or (decimal (s
 pub decimal_digits : (n : ℕ) → n < 2 ^ 64 → IsDigits (decimal n)
 decimal_digits n small = let numeral = decimal_is_IsNumeral n small in ((λ none. let long = numeral.0.0 in omega (arith, long, ap (λ (ds : List ℕ). length ds) none)), numeral.0.1)
 
+-- ---- digits after others
+after_more : (radix m n : ℕ) (ds : List ℕ) → digits_value_after radix (m + n) ds ≡ m * radix ^ length ds + digits_value_after radix n ds
+after_more radix m n [] = let one : m * radix ^ 0 + n ≡ m * 1 + n = ap (λ p. m * p + n) (pow-zero radix) in omega (arith, one)
+after_more radix m n (d ∷ ds) =
+    let regrouped : (m + n) * radix + digit_value d ≡ m * radix + (n * radix + digit_value d) = omega arith in
+    let up : m * radix ^ suc (length ds) ≡ m * radix * radix ^ length ds = ap (λ p. m * p) (pow-succ' radix (length ds)) ∙ sym (mul_assoc m radix (radix ^ length ds)) in
+    ap (λ v. digits_value_after radix v ds) regrouped ∙ (after_more radix (m * radix) (n * radix + digit_value d) ds ∙ ap (λ v. v + digits_value_after radix (n * radix + digit_value d) ds) (sym up))
+
+pub digits_value_after-split : (radix m : ℕ) (ds : List ℕ) → digits_value_after radix m ds ≡ m * radix ^ length ds + digits_value radix ds
+digits_value_after-split radix m ds = ap (λ v. digits_value_after radix v ds) (omega arith) ∙ after_more radix m 0 ds
+
 -- ---- signs
 pub size_is : (negative : Bool) (n : ℕ) (z : ℤ) → with_sign negative n ≡ z → n ≡ unsigned_abs z
 size_is negative n z e = sym (size_with_sign negative n) ∙ ap unsigned_abs e
@@ -46,7 +59,3 @@ pub sign_is : (negative : Bool) (n : ℕ) (z : ℤ) → with_sign negative n ≡
 sign_is false n z e plain = ap is_negative e
 sign_is true zero z e plain = absurd (let f : true ≡ false = plain (sym e) in cc)
 sign_is true (suc n) z e plain = ap is_negative e
-
-pub signed : (z : ℤ) → with_sign (is_negative z) (unsigned_abs z) ≡ z
-signed (pos n) = refl
-signed (negsuc n) = refl
