@@ -39,6 +39,7 @@ pub mod LineFields
 pub mod LineSteps
 pub mod LineNames
 pub mod LineContents
+pub mod OneHex
 pub mod OneOrder
 pub mod OneParts
 pub mod OneObject
