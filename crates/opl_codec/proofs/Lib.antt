@@ -43,3 +43,9 @@ pub mod LineFields
 pub mod LineSteps
 pub mod LineNames
 pub mod LineContents
+pub mod OneHex
+pub mod OneOrder
+pub mod OneParts
+pub mod OneObject
+pub mod PartFaults
+pub mod SkippedLines

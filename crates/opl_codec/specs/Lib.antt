@@ -18,3 +18,4 @@ pub mod Members
 pub mod LineParts
 pub mod LineChanges
 pub mod LineFaults
+pub mod Canonical
