@@ -38,4 +38,5 @@ pub mod ValueTags
 pub mod LineFields
 pub mod LineSteps
 pub mod LineNames
+pub mod LineObjects
 pub mod LineContents

@@ -9,4 +9,5 @@ pub mod ItemPlaces
 pub mod Buffering
 pub mod PartSteps
 pub mod LineReads
+pub mod LineObjects
 pub mod MemberPlaces

@@ -22,6 +22,7 @@ mod line_change;
 mod line_content;
 mod line_field;
 mod line_letter;
+mod line_object;
 mod line_parts;
 mod line_reader;
 mod list_item;

@@ -5,7 +5,7 @@ use Rattle.opl_codec.specs.LineFields.{content}
 use Rattle.opl_codec.specs.LineParts.{Says}
 use Rattle.opl_codec.specs.internal.LineReads.{AreRead}
 use Rattle.opl_codec.proofs.LineFields.{next_at, before_next}
-use Rattle.opl_codec.proofs.LineNames.{further, all_read}
+use Rattle.opl_codec.proofs.LineNames.{further, all_read, has_name}
 use Rattle.opl_codec.proofs.line_change.read_parts.Goals as goal
 
 pub returns-in_err-take-clause-refused : goal.returns-in_err-take-clause-refused
@@ -21,6 +21,11 @@ returns-in_err-take-clause-refused c =
     let there = next_at (content line) (kind_letter name.kind ∷ h.id_text) h.done left h.read next.gap next.field.now next.rest.now c.in-Some.ensures byte place in
     let before = before_next (content line) (kind_letter name.kind ∷ h.id_text) h.done left h.read next.gap next.field.now next.rest.now c.in-Some.ensures byte place in
     rw (p.1, p.2) (c.in_err-take.ensures.refused line there c.in_ok-name.ensures.begins (subst (λ d. Says d c.loop-next.parts) (sym (ap (λ (fs : List (List ℕ)). drop 1 fs) before)) h.says))
+
+pub returns-in_err-take-clause-memory : goal.returns-in_err-take-clause-memory
+returns-in_err-take-clause-memory c =
+    let p = err_from_is_err_and c.from_residual-in_err-take.result c.from_residual-in_err-take.ensures.1 in
+    rw p.1 (λ is. has_name c.args.line.now c.in_ok-name.name c.loop-next.parts c.loop-next.left.now c.in_ok-name.ensures.begins c.loop-next.invariant.1)
 
 pub loop-next-preserved : goal.loop-next-preserved
 loop-next-preserved c =
