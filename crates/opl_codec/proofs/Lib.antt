@@ -40,3 +40,8 @@ pub mod LineSteps
 pub mod LineNames
 pub mod LineObjects
 pub mod LineContents
+pub mod OneOrder
+pub mod OneParts
+pub mod OneObject
+pub mod PartFaults
+pub mod SkippedLines
