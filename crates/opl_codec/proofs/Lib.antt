@@ -3,13 +3,7 @@ pub mod ReadPieces
 pub mod Cuts
 pub mod ReadFields
 pub mod ReadCoordinates
-pub mod ReadTags
-pub mod ReadLetters
-pub mod ReadSeen
-pub mod ReadLines
-pub mod ReadObject
-pub mod ReadOrder
-pub mod ReadLaw
+pub mod KeyOrder
 pub mod PieceLemmas
 pub mod EachLemmas
 pub mod LineLemmas
@@ -21,7 +15,6 @@ pub mod WriteLists
 pub mod WriteText
 pub mod TextPieces
 pub mod TextNumbers
-pub mod TextTags
 pub mod Hexadecimal
 pub mod Blanks
 pub mod TextsParts

@@ -6,7 +6,6 @@ pub mod CanonicalValues
 pub mod OneChange
 pub mod ReadIds
 pub mod ReadLiterals
-pub mod ReadPlain
 pub mod SayLemmas
 pub mod TextFields
 pub mod TextLaws

@@ -6,7 +6,7 @@ use Rattle.osm_model.specs.Bytes.{line_feed}
 use Rattle.osm_model.specs.Elements.{Element}
 use Rattle.osm_model.specs.Sets.{IsObjectSet}
 use Rattle.opl_codec.specs.Fields.{pieces, Each}
-use Rattle.opl_codec.specs.Lines.{SpellsObject}
+use Rattle.opl_codec.specs.LineChanges.{SpellsObject}
 use Rattle.opl_codec.specs.declared.cause.OplCause.{OplCause}
 use Rattle.opl_codec.specs.declared.cause.OplCause.TheVariants as causes
 

@@ -1,6 +1,5 @@
 -- Words that only private clauses cite: nothing that a reader of the promises must believe.
 pub mod Loading
-pub mod Reading
 pub mod TextParts
 pub mod FieldCuts
 pub mod Stamps

@@ -6,7 +6,7 @@ use Rattle.opl_codec.specs.LineParts.{Says}
 use Rattle.opl_codec.specs.internal.LineReads.{AreRead}
 use Rattle.opl_codec.proofs.LineFields.{next_at, before_next}
 use Rattle.opl_codec.proofs.LineNames.{further, all_read, has_name}
-use Rattle.opl_codec.proofs.line_change.read_parts.Goals as goal
+use Rattle.opl_codec.proofs.line_fields.read_parts.Goals as goal
 
 pub returns-in_err-take-clause-refused : goal.returns-in_err-take-clause-refused
 returns-in_err-take-clause-refused c =

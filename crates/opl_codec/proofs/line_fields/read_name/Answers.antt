@@ -1,6 +1,6 @@
 use Rattle.std.proofs.Common.{◌≡◌, ◌-◌, ◌∷◌, length, get_or, take, drop, refl, arith, to_z-of_z}
 use Rattle.opl_codec.proofs.LineNames.{unnamed, gap_unnamed, begins, named, bad_id, cut_first}
-use Rattle.opl_codec.proofs.line_change.read_name.Goals as goal
+use Rattle.opl_codec.proofs.line_fields.read_name.Goals as goal
 
 pub returns-then-first-ne0-clause-refused : goal.returns-then-first-ne0-clause-refused
 returns-then-first-ne0-clause-refused c = (refl, unnamed c.args.line.now c.args.text.now c.requires (gap_unnamed c.args.text.now c.in-Some.first.gap c.in-Some.first.field.now c.in-Some.first.rest.now c.in-Some.ensures c.if-first-ne0.true))

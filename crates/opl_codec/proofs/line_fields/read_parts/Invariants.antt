@@ -3,7 +3,7 @@ use denote.Text.{Utf8}
 use denote.Shadow.{shadow}
 use Rattle.opl_codec.specs.LineFields.{content}
 use Rattle.opl_codec.specs.internal.LineReads.{AreReadSoFar}
-use Rattle.opl_codec.proofs.line_change.read_parts.Given as goal
+use Rattle.opl_codec.proofs.line_fields.read_parts.Given as goal
 
 abbrev pub invariant-loop-next : goal.invariant-loop-next
 invariant-loop-next l = shadow (Utf8 l.left) × AreReadSoFar (content l.fn.line) l.name l.parts l.left
