@@ -3,19 +3,12 @@ pub mod ReadPieces
 pub mod Cuts
 pub mod ReadFields
 pub mod ReadCoordinates
-pub mod ReadTags
-pub mod ReadLetters
-pub mod ReadSeen
-pub mod ReadLines
-pub mod ReadObject
-pub mod ReadOrder
-pub mod ReadLaw
+pub mod KeyOrder
 pub mod PieceLemmas
 pub mod EachLemmas
 pub mod LineLemmas
 pub mod StepLemmas
 pub mod NextLemmas
-pub mod OneLine
 pub mod SpokenLines
 pub mod ReferenceLists
 pub mod ReadFiles
@@ -25,7 +18,6 @@ pub mod WriteLists
 pub mod WriteText
 pub mod TextPieces
 pub mod TextNumbers
-pub mod TextTags
 pub mod Hexadecimal
 pub mod Blanks
 pub mod TextsParts
@@ -42,6 +34,7 @@ pub mod ValueTags
 pub mod LineFields
 pub mod LineSteps
 pub mod LineNames
+pub mod LineObjects
 pub mod LineContents
 pub mod OneHex
 pub mod OneOrder
@@ -49,3 +42,4 @@ pub mod OneParts
 pub mod OneObject
 pub mod PartFaults
 pub mod SkippedLines
+pub mod LongLines

@@ -1,5 +1,5 @@
 -- The content of a line, and lines that say nothing.
-use Rattle.std.proofs.Common.{◌≡◌, ◌≢◌, ℕ, zero, suc, ◌+◌, ◌<◌, ◌≤◌, List, [], ◌∷◌, length, get_or, take, drop, true, false, ◌==◌, ◌&&◌, ◌||◌, refl, sym, ◌∙◌, ap, arith, eq-eqb}
+use Rattle.std.proofs.Common.{◌≡◌, ◌≢◌, ℕ, zero, suc, ◌+◌, ◌<◌, ◌≤◌, List, [], ◌∷◌, ◌++◌, length, get_or, take, drop, true, false, ◌==◌, ◌&&◌, ◌||◌, refl, sym, ◌∙◌, ap, arith, eq-eqb}
 use Rattle.std.specs.List.{list_all}
 use Rattle.std.proofs.lemmas.Bool.{eqb-true, le-leb}
 use Rattle.std.proofs.lemmas.Bool.Decides.{nat_tests}
@@ -34,6 +34,19 @@ pub content_none : (line : List ℕ) → length line < 1 → content line ≡ li
 content_none [] len = refl
 content_none (b ∷ line) len = absurd (omega arith)
 
+-- the same of a text that is made of a front and a CR
+pub content_front : (front : List ℕ) → content (front ++ 13 ∷ []) ≡ front
+content_front [] = refl
+content_front (x ∷ []) = refl
+content_front (x ∷ y ∷ front) = ap (λ t. x ∷ t) (content_front (y ∷ front))
+
+pub content_other : (text : List ℕ) → ((front : List ℕ) → text ≢ front ++ 13 ∷ []) → content text ≡ text
+content_other [] other = refl
+content_other (x ∷ []) other =
+    let differs : (x == 13) ≡ false = grind (arith, nat_tests, λ (e : x ≡ 13). other [] (ap (λ b. b ∷ []) e)) in
+    rw differs refl
+content_other (x ∷ y ∷ text) other = ap (λ t. x ∷ t) (content_other (y ∷ text) (λ front e. other (x ∷ front) (ap (λ t. x ∷ t) e)))
+
 -- all bytes are blanks, or one isn't
 pub all_blank : (text : List ℕ) (n : ℕ) → n ≡ length text → AreBlanks (take n text) → list_all is_blank text ≡ true
 all_blank [] n len are = refl
@@ -61,3 +74,7 @@ skipped_is line text n short comment text_is within are starts = elim (n == leng
 
     less : (n == length text) ≡ false → n < length text
     less e = let other : n ≢ length text = λ same. absurd (let f : true ≡ false = sym (eq-eqb n (length text) same) ∙ e in cc) in omega arith
+
+-- a line that is too long isn't skipped
+pub long_unskipped : (line : List ℕ) → LONGEST_LINE < length line → is_skipped line ≢ true
+long_unskipped line long e = grind (arith, nat_tests)

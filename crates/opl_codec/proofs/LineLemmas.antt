@@ -1,7 +1,15 @@
 -- Lines in the bytes that a reader gave.
-use Rattle.std.proofs.Common.{◌≡◌, ℕ, List, [], ◌∷◌, ◌++◌, Option, None, Some, refl, sym, ◌∙◌, ap, append_assoc, append-nil}
+use Rattle.std.proofs.Common.{◌≡◌, ℕ, List, [], ◌∷◌, ◌++◌, Option, None, Some, Result, Ok, Err, refl, sym, ◌∙◌, ap, inl, inr, append_assoc, append-nil}
+use Rattle.std.specs.Prelude.{IfErr, MatchResult}
 use Rattle.std.specs.Io.KnownBytes.{Consumes, IsAtEnd, Keeps, prepend_known}
 use Rattle.opl_codec.specs.Fields.{Lacks, pieces}
+use Rattle.opl_codec.specs.LineChanges.{IsSkipped, Spells}
+use Rattle.opl_codec.specs.LineFaults.{StandsAt}
+use Rattle.opl_codec.specs.internal.Buffering.{IsFaultOf}
+use Rattle.opl_codec.specs.declared.cause.OplCause.{OplCause}
+use Rattle.opl_codec.specs.declared.cause.OplCause.TheVariants as causes
+use Rattle.opl_codec.specs.declared.change.Change.{Change}
+use Rattle.opl_codec.specs.declared.fault.OplFault.{OplFault}
 use Rattle.opl_codec.proofs.PieceLemmas.{pieces_join}
 
 -- no separator: one piece
@@ -34,3 +42,15 @@ buffer_kept (Some x) (Some y) none still e f h = ap (λ l. l ++ x) e ∙ sym h �
 pub buffer_ends : (k : Option (List ℕ)) (none : List ℕ) → none ≡ [] → IsAtEnd k → IsAtEnd (prepend_known none k)
 buffer_ends None none e h = tt
 buffer_ends (Some x) none e h = ap (λ l. l ++ x) e ∙ h
+
+-- ---- what is told of a line that isn't read
+
+fault_of : (line : List ℕ) (cause : OplCause) (byte : ℕ) → (IsSkipped line → ⊥) → ((change : Change) → Spells line change → cause ≡ causes.Memory) → StandsAt line cause byte → IsFaultOf line (record { cause = cause; byte = byte })
+fault_of line causes.Memory byte unskipped only stands = inl (ap (λ (b : ℕ). record { cause = causes.Memory; byte = b }) stands.0)
+fault_of line cause byte unskipped only stands = inr (record { unskipped = unskipped; unspelled = λ change spells. absurd (let e = only change spells in cc); stands = stands })
+
+pub is_fault_of : (line : List ℕ) (r : Result (Option Change) OplFault) → (IsSkipped line → r ≡ Ok None)
+    → ((change : Change) → Spells line change → MatchResult r (λ found. found ≡ Some change) (λ fault. fault.cause ≡ causes.Memory))
+    → IfErr r (λ fault. StandsAt line fault.cause fault.byte) → IfErr r (λ fault. IsFaultOf line fault)
+is_fault_of line (Ok found) skipped only refused = tt
+is_fault_of line (Err fault) skipped only refused = fault_of line fault.cause fault.byte (λ is. absurd (let e : Err fault ≡ Ok None = skipped is in cc)) only refused

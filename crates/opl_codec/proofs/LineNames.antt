@@ -1,6 +1,7 @@
 -- The name with which a line begins, and the fields after it.
 use Rattle.std.proofs.Common.{◌≡◌, ◌≢◌, ℕ, ◌-◌, ◌≤◌, List, [], ◌∷◌, ◌++◌, length, get_or, take, drop, true, false, cond, ◌==◌, if◌then◌else◌, Some, None, refl, sym, ◌∙◌, ap, subst, arith, ℤ}
 use Rattle.std.specs.List.{AllByRecursion}
+use Rattle.std.specs.Str.{IsUtf8}
 use Rattle.std.proofs.lemmas.Bool.{eqb-true}
 use Rattle.std.proofs.lemmas.List.{take_all}
 use Rattle.std.proofs.lemmas.Bool.Decides.{nat_tests}
@@ -9,7 +10,8 @@ use Rattle.osm_model.specs.declared.kind.Kind.{Kind}
 use Rattle.osm_model.specs.declared.kind.Kind.TheVariants as kinds
 use Rattle.osm_model.specs.declared.reference.Ref.{Ref}
 use Rattle.opl_codec.specs.Fields.{field, letter_of, IsOnce}
-use Rattle.opl_codec.specs.LineFaults.{text_of_first}
+use Rattle.opl_codec.specs.LineChanges.{SpellsParts}
+use Rattle.opl_codec.specs.LineFaults.{HasName, text_of_first}
 use Rattle.opl_codec.specs.LineFields.{content, fields, is_blank}
 use Rattle.opl_codec.specs.LineLetters.{IsLetterOf, letter_byte}
 use Rattle.opl_codec.specs.LineParts.{Says}
@@ -17,8 +19,9 @@ use Rattle.opl_codec.specs.Values.{SpellsNumber}
 use Rattle.opl_codec.specs.internal.FieldCuts.{AreBlanks, HasRead, IsNextField}
 use Rattle.opl_codec.specs.internal.LineReads.{IsNamed, AreRead, AreReadSoFar}
 use Rattle.opl_codec.specs.internal.PartSteps.{IsTaken}
+use Rattle.opl_codec.specs.declared.line.TheConstants.{LONGEST_LINE}
 use Rattle.opl_codec.specs.declared.line_parts.LineParts.{LineParts}
-use Rattle.opl_codec.proofs.LineFields.{first_is, read_first, read_all, read_more}
+use Rattle.opl_codec.proofs.LineFields.{fields_apart, first_is, read_first, read_all, read_more}
 use Rattle.opl_codec.proofs.LineSteps.{byte_ascii, field_cut}
 use Rattle.opl_codec.proofs.ReadFields.{field_behind}
 
@@ -157,6 +160,33 @@ all_read text name p left h blanks = record {
   id_text = h.id_text;
   rest = h.done;
   fields_are = read_all text (kind_letter name.kind ∷ h.id_text) h.done left h.read blanks;
+  id_is = h.id_is;
+  known = h.known;
+  once = h.once;
+  says = h.says;
+}
+
+-- what was read so far has a name
+pub has_name : (line : List ℕ) (name : Ref) (p : LineParts) (left : List ℕ) → letter_of line ≡ kind_letter name.kind → AreReadSoFar (content line) name p left → HasName line
+has_name line name p left letter h = record {
+  kind = name.kind;
+  letter = letter;
+  id = name.id;
+  id_is = subst (λ t. SpellsNumber t name.id) (sym first) h.id_is;
+}
+  where
+    first : text_of_first (fields (content line)) ≡ h.id_text
+    first = ap text_of_first (ap fields h.read.text_is ∙ (fields_apart h.read.front left h.read.starts ∙ ap (λ fs. fs ++ fields left) h.read.fields_are))
+
+-- the parts of the content are those of the line
+pub line_parts : (line text : List ℕ) (name : Ref) (p : LineParts) → length line ≤ LONGEST_LINE → IsUtf8 line → text ≡ content line → letter_of line ≡ kind_letter name.kind → AreRead text name p → SpellsParts line name p
+line_parts line text name p short utf8 text_is begins h = record {
+  short = short;
+  utf8 = utf8;
+  begins = begins;
+  id_text = h.id_text;
+  rest = h.rest;
+  fields_are = ap fields (sym text_is) ∙ h.fields_are;
   id_is = h.id_is;
   known = h.known;
   once = h.once;

@@ -3,7 +3,7 @@ use Rattle.std.proofs.Common.{◌≡◌, ℕ, ◌+◌, List, [], ◌∷◌, ◌+
 use Rattle.std.specs.List.{AllByRecursion}
 use Rattle.std.proofs.KnownBytes.{Consumes-trans}
 use Rattle.opl_codec.specs.Fields.{pieces}
-use Rattle.opl_codec.specs.Lines.{IsSkipped}
+use Rattle.opl_codec.specs.LineChanges.{IsSkipped}
 use Rattle.opl_codec.specs.LineReads.{AreEnded, Ends, IsEnd, IsWholeLine, LinePlace, Says, Stops, Takes, no_memory}
 use Rattle.opl_codec.specs.internal.Buffering.{SkippedTo, StopsNext, TakesLine}
 use Rattle.opl_codec.specs.declared.change.Change.{Change}

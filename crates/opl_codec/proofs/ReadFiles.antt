@@ -8,7 +8,7 @@ use Rattle.osm_model.specs.Sets.{HasDistinctReferences}
 use Rattle.opl_codec.specs.Fields.{Each, pieces}
 use Rattle.opl_codec.specs.Files.{IsAtFault, PutSet, StopsFile, spoken_of}
 use Rattle.opl_codec.specs.LineReads.{AreEnded, AreSkipped, Ends, IsEnd, IsRefused, IsUnread, IsWholeLine, LinePlace, Says, Stops, StopsLine, Takes, no_memory}
-use Rattle.opl_codec.specs.Lines.{IsSkipped, Spells, SpellsObject}
+use Rattle.opl_codec.specs.LineChanges.{IsSkipped, Spells, SpellsObject}
 use Rattle.opl_codec.specs.internal.Buffering.{place, unread}
 use Rattle.opl_codec.specs.internal.Loading.{IsReader, IsTold, IsUnput, Puts, ReadsAll, ReadsTo, start}
 use Rattle.opl_codec.specs.declared.cause.OplCause.TheVariants as causes
@@ -20,7 +20,7 @@ use Rattle.opl_codec.specs.declared.line.TheConstants.{LONGEST_LINE}
 use Rattle.opl_codec.specs.declared.line_buffer.LineBuffer.{LineBuffer}
 use Rattle.opl_codec.proofs.EachLemmas.{each_append}
 use Rattle.opl_codec.proofs.NextLemmas.{takes_more}
-use Rattle.opl_codec.proofs.OneLine.{empty_is_skipped, long_is_refused}
+use Rattle.opl_codec.proofs.LongLines.{empty_is_skipped, long_is_refused}
 use Rattle.opl_codec.proofs.PieceLemmas.{pieces_join}
 use Rattle.opl_codec.proofs.ReadPieces.{some_piece}
 use Rattle.opl_codec.proofs.SpokenLines.{spoken-append, spoken-unskipped, spoken-with_skipped, unskipped}

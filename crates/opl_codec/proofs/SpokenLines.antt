@@ -2,10 +2,11 @@
 use Rattle.std.proofs.Common.{◌≡◌, ℕ, List, [], ◌∷◌, ◌++◌, true, false, not, if◌then◌else◌, refl, ◌∙◌, ap, append-nil}
 use Rattle.std.proofs.lemmas.List.Elements.{filter-append}
 use Rattle.std.specs.List.{AllByRecursion}
-use Rattle.opl_codec.specs.Files.{is_skipped, spoken_of}
-use Rattle.opl_codec.specs.Lines.{IsSkipped, Spells}
+use Rattle.opl_codec.specs.Files.{spoken_of}
+use Rattle.opl_codec.specs.LineChanges.{is_skipped, IsSkipped, Spells}
 use Rattle.opl_codec.specs.declared.change.Change.{Change}
-use Rattle.opl_codec.proofs.OneLine.{empty_is_skipped, is_skipped-true, skipped_from_true, skipped_says_nothing}
+use Rattle.opl_codec.proofs.LongLines.{empty_is_skipped}
+use Rattle.opl_codec.proofs.shared.OneChange.{skipped_says_nothing}
 
 pub spoken-append : (xs ys : List (List ℕ)) → spoken_of (xs ++ ys) ≡ spoken_of xs ++ spoken_of ys
 spoken-append xs ys = filter-append (λ line. not (is_skipped line)) xs ys
@@ -13,7 +14,7 @@ spoken-append xs ys = filter-append (λ line. not (is_skipped line)) xs ys
 -- a line that isn't skipped comes first
 pub spoken-unskipped : (line : List ℕ) (lines : List (List ℕ)) → (IsSkipped line → ⊥) → spoken_of (line ∷ lines) ≡ line ∷ spoken_of lines
 spoken-unskipped line lines some = elim (is_skipped line) as (λ b. is_skipped line ≡ b → (if not b then line ∷ spoken_of lines else spoken_of lines) ≡ line ∷ spoken_of lines) [
-  | true ↦ λ same. absurd (some (skipped_from_true line same))
+  | true ↦ λ same. absurd (some same)
   | false ↦ λ _. refl
 ] refl
 
@@ -22,7 +23,7 @@ pub unskipped : (line : List ℕ) (change : Change) → Spells line change → I
 unskipped line change says none = skipped_says_nothing line change none says
 
 spoken-skipped : (line : List ℕ) (lines : List (List ℕ)) → IsSkipped line → spoken_of (line ∷ lines) ≡ spoken_of lines
-spoken-skipped line lines none = ap (λ b. if not b then line ∷ spoken_of lines else spoken_of lines) (is_skipped-true line none)
+spoken-skipped line lines none = ap (λ b. if not b then line ∷ spoken_of lines else spoken_of lines) none
 
 -- skipped lines alone
 pub spoken-none : (lines : List (List ℕ)) → AllByRecursion IsSkipped lines → spoken_of lines ≡ []

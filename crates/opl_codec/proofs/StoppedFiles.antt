@@ -15,15 +15,15 @@ use Rattle.osm_model.proofs.shared.UniqueTags.{same_order}
 use Rattle.opl_codec.specs.Fields.{Each, pieces}
 use Rattle.opl_codec.specs.Files.{HoldsSet, IsAtFault, IsCutOff, IsReaderOrMemory, StopsFile, spoken_of}
 use Rattle.opl_codec.specs.LineReads.{IsUnread, no_memory}
-use Rattle.opl_codec.specs.Lines.{IsSkipped, SpellsObject}
+use Rattle.opl_codec.specs.LineChanges.{IsSkipped, SpellsObject}
 use Rattle.opl_codec.specs.internal.Loading.{ReadsAll}
 use Rattle.opl_codec.specs.declared.change.Change.TheVariants as changes
 use Rattle.opl_codec.specs.declared.fault.LoadFault.{LoadFault}
 use Rattle.opl_codec.specs.declared.fault.OplFault.{OplFault}
 use Rattle.opl_codec.proofs.EachLemmas.{each_front, each_same}
-use Rattle.opl_codec.proofs.OneLine.{one_change}
+use Rattle.opl_codec.proofs.shared.OneChange.{one_change}
 use Rattle.opl_codec.proofs.SpokenLines.{spoken-append, spoken-unskipped, unskipped}
-use Rattle.opl_codec.proofs.shared.OneObject.{one_object}
+use Rattle.opl_codec.proofs.shared.OnePut.{one_object}
 
 -- a file holds one set at most
 pub one_set : (file : List ℕ) (a b : List Element) → HoldsSet file a → HoldsSet file b → a ≡ b

@@ -1,6 +1,6 @@
 -- What a file says: the set of the objects that its lines are.
 -- Source: Osmium's OPL manual: one object a line; lines end with LF.
-use Rattle.std.specs.Prelude.{◌≡◌, ◌⊎◌, ℕ, ◌+◌, Bool, true, false, not, List, [], ◌∷◌, ◌++◌, length, filter, Option, Some}
+use Rattle.std.specs.Prelude.{◌≡◌, ◌⊎◌, ℕ, ◌+◌, not, List, [], ◌∷◌, ◌++◌, length, filter, Option, Some}
 use Rattle.std.specs.List.Sorted.{IsPermutation}
 use Rattle.std.specs.Io.KnownBytes.{Consumes}
 use Rattle.osm_model.specs.Bytes.{line_feed}
@@ -8,18 +8,13 @@ use Rattle.osm_model.specs.Elements.{Element}
 use Rattle.osm_model.specs.Sets.{HasDistinctReferences, IsObjectSet}
 use Rattle.osm_model.specs.declared.reference.Ref.{Ref}
 use Rattle.opl_codec.specs.Fields.{pieces, Each}
+use Rattle.opl_codec.specs.LineChanges.{is_skipped, Spells, SpellsObject}
 use Rattle.opl_codec.specs.LineReads.{IsRefused, IsUnread}
-use Rattle.opl_codec.specs.Lines.{Spells, SpellsObject}
 use Rattle.opl_codec.specs.declared.cause.OplCause.{OplCause}
 use Rattle.opl_codec.specs.declared.cause.OplCause.TheVariants as causes
 use Rattle.opl_codec.specs.declared.change.Change.TheVariants as changes
 use Rattle.opl_codec.specs.declared.fault.LoadFault.{LoadFault}
 use Rattle.opl_codec.specs.declared.fault.OplFault.{OplFault}
-
--- narrow: an empty line
-abbrev pub is_skipped : List ℕ → Bool
-is_skipped [] = true
-is_skipped (byte ∷ bytes) = false
 
 -- the lines that say something
 abbrev pub spoken_of : List (List ℕ) → List (List ℕ)

@@ -1,11 +1,7 @@
-pub mod Letters
 pub mod Fields
-pub mod Lines
 pub mod Files
-pub mod Faults
 pub mod Refusals
 pub mod Text
-pub mod Plain
 pub mod PieceReads
 pub mod LineReads
 pub mod internal

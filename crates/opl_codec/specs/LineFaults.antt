@@ -1,6 +1,6 @@
 -- Why a line is refused, and at which byte: each cause with its place, apart from how the line is read.
 -- Source: this project.
-use Rattle.std.specs.Prelude.{◌≡◌, ◌≢◌, ℕ, ◌+◌, ◌<◌, ◌⊎◌, ℤ, Bool, true, false, List, [], ◌∷◌, length, drop, Option, Some, None}
+use Rattle.std.specs.Prelude.{◌≡◌, ◌≢◌, ℕ, ◌+◌, ◌<◌, ◌≤◌, ◌⊎◌, ℤ, Bool, true, false, List, [], ◌∷◌, length, drop, Option, Some, None}
 use Rattle.std.specs.Str.{IsUtf8, IsValidUpTo}
 use Rattle.osm_model.specs.CanonicalLine.{canonical_line, kind_letter}
 use Rattle.osm_model.specs.Elements.{Element, reference}
@@ -70,6 +70,19 @@ pub record HasFault (line : List ℕ) (at : ℕ) (fault : ValueFault) : Type 0 w
 abbrev pub text_of_first : List (List ℕ) → List ℕ
 text_of_first [] = []
 text_of_first (first ∷ rest) = drop 1 first
+
+-- the first field is the letter of a kind and an id
+pub record HasName (line : List ℕ) : Type 0 where
+  pub kind : Kind
+  pub letter : letter_of line ≡ kind_letter kind
+  pub id : ℤ
+  pub id_is : SpellsNumber (text_of_first (fields (content line))) id
+
+-- the line has none of the first four faults: too long, not UTF-8, no letter, no id
+pub record BeginsRight (line : List ℕ) : Type 0 where
+  pub short : length line ≤ LONGEST_LINE
+  pub utf8 : IsUtf8 line
+  pub named : HasName line
 
 -- the canonical line of the object that the line says is over its limit
 pub record HasLongLine (line : List ℕ) : Type 0 where

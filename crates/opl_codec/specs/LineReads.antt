@@ -5,8 +5,8 @@ use Rattle.std.specs.List.{AllByRecursion}
 use Rattle.std.specs.Io.KnownBytes.{Consumes, IsAtEnd}
 use Rattle.osm_model.specs.Bytes.{line_feed}
 use Rattle.opl_codec.specs.Fields.{pieces}
-use Rattle.opl_codec.specs.Lines.{IsSkipped, Spells}
-use Rattle.opl_codec.specs.Faults.{StandsAt}
+use Rattle.opl_codec.specs.LineChanges.{IsSkipped, Spells}
+use Rattle.opl_codec.specs.LineFaults.{StandsAt}
 use Rattle.opl_codec.specs.declared.cause.OplCause.TheVariants as causes
 use Rattle.opl_codec.specs.declared.change.Change.{Change}
 use Rattle.opl_codec.specs.declared.fault.LoadFault.{LoadFault}

@@ -1,6 +1,5 @@
 -- Words that only private clauses cite: nothing that a reader of the promises must believe.
 pub mod Loading
-pub mod Reading
 pub mod TextParts
 pub mod FieldCuts
 pub mod Stamps
@@ -9,4 +8,5 @@ pub mod ItemPlaces
 pub mod Buffering
 pub mod PartSteps
 pub mod LineReads
+pub mod LineObjects
 pub mod MemberPlaces

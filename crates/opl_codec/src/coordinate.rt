@@ -5,25 +5,9 @@ ghost use Rattle.osm_model.specs.Degrees.{IsFault};
 ghost use Rattle.osm_model.specs.declared.axis.Axis.{Axis};
 ghost use Rattle.opl_codec.specs.Values.{SpellsCoordinate, IsWithin};
 ghost use Rattle.opl_codec.specs.ValueFaults.{CoordinateFault};
-ghost use Rattle.opl_codec.specs.internal.Reading.{IsCoordinate, IsBadCoordinate};
 
-use crate::field_fault::FieldFault;
 use crate::value_fault::ValueFault;
 use osm_model::{Axis, ModelFault, read_degrees};
-
-/// A coordinate, in 1e-7 degree, or `None` where there is no text.
-pub fn read_coordinate(text: &[u8], axis: Axis) -> Result<Option<i32>, FieldFault>
-    ensures read { IfOk result (λ found. IsCoordinate axis text.now found) }
-    ensures refused { IfErr result (λ field_fault. IsBadCoordinate axis text.now field_fault) }
-{
-    if text.is_empty() {
-        return Ok(None);
-    }
-    match read_degrees(text, axis) {
-        Ok(degrees) => Ok(Some(degrees)),
-        Err(fault) => Err(field_fault_of(fault)),
-    }
-}
 
 /// A coordinate, in 1e-7 degree, or `None` where there is no text.
 pub fn read_degrees_field(text: &[u8], axis: Axis) -> Result<Option<i32>, ValueFault>
@@ -46,15 +30,5 @@ fn value_fault_of(fault: ModelFault) -> ValueFault
     match fault {
         ModelFault::OutOfRange => ValueFault::Limit,
         _ => ValueFault::Form,
-    }
-}
-
-/// What the model's fault is in a line.
-fn field_fault_of(fault: ModelFault) -> FieldFault
-    ensures { (text : List ℕ) (axis : Axis) → text ≢ [] → IsFault text axis fault → IsBadCoordinate axis text result }
-{
-    match fault {
-        ModelFault::OutOfRange => FieldFault::Model,
-        _ => FieldFault::Value,
     }
 }

@@ -9,23 +9,20 @@ ghost use Rattle.osm_model.specs.Limits.{IsElement, HasNoNul};
 ghost use Rattle.osm_model.specs.CanonicalLine.{canonical_line, escaped};
 ghost use Rattle.opl_codec.specs.Canonical.{IsCanonicalNumber, IsCanonicalText, IsCanonicalVersion};
 ghost use Rattle.opl_codec.specs.Fields.{pieces};
-ghost use Rattle.opl_codec.specs.Lines.{Spells};
-ghost use Rattle.opl_codec.specs.Plain.{IsPlain};
+ghost use Rattle.opl_codec.specs.LineChanges.{Spells};
 ghost use Rattle.opl_codec.specs.Text.{text_of};
 
 use crate::change::Change;
 use crate::out_mode::OutMode;
 
 /// A law: the text of an object with all its fields (mode `Meta` of `write_object`) is its canonical
-/// line and an LF. A plain object is one of which only id, tags and location are known, and whose tags
-/// have no character to escape. Its canonical line has no LF within. `read_line` reads that line: it
-/// puts the object, and says nothing else. What any line says is plain.
+/// line and an LF. That line has no LF within. `read_line` reads it: it puts the object, and says
+/// nothing else.
 pub fn text_is_read()
     ensures line { (o : Element) → text_of o OutMode.Meta ≡ canonical_line o ++ 10 ∷ [] }
-    ensures read { (o : Element) → IsElement o → IsPlain o → Spells (canonical_line o) (Change.Put o) }
-    ensures only { (o : Element) (change : Change) → IsElement o → IsPlain o → Spells (canonical_line o) change → change ≡ Change.Put o }
-    ensures one { (o : Element) → IsElement o → IsPlain o → pieces 10 (canonical_line o) ≡ canonical_line o ∷ [] }
-    ensures plain { (line : List ℕ) (o : Element) → Spells line (Change.Put o) → IsPlain o }
+    ensures read { (o : Element) → IsElement o → Spells (canonical_line o) (Change.Put o) }
+    ensures only { (o : Element) (change : Change) → IsElement o → Spells (canonical_line o) change → change ≡ Change.Put o }
+    ensures one { (o : Element) → IsElement o → pieces 10 (canonical_line o) ≡ canonical_line o ∷ [] }
 {}
 
 /// A law: objects with one canonical line are one object.

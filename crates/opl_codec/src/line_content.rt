@@ -22,6 +22,16 @@ pub fn content_of(line: &[u8]) -> &[u8]
     line
 }
 
+/// A text without the CR at its end.
+pub fn text_content(text: &str) -> &str
+    ensures { result.now ≡ content text.now }
+{
+    match text.strip_suffix('\r') {
+        Some(content) => content,
+        None => text,
+    }
+}
+
 /// Whether a line that isn't too long is skipped: it has only blanks, or it is a comment.
 pub fn is_skipped(line: &[u8]) -> bool
     requires { length line.now ≤ LONGEST_LINE }

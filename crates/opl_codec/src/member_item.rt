@@ -2,20 +2,19 @@
 
 ghost use Rattle.std.specs.Prelude.{◌≡◌, ◌++◌, ◌∷◌, ℕ, List, All, IfOk, IfErr, IsTrue, ◌↔◌, MatchOption};
 ghost use Rattle.osm_model.specs.Bytes.{at_sign};
-ghost use Rattle.osm_model.specs.CanonicalLine.{kind_letter};
 ghost use Rattle.osm_model.specs.Limits.{IsShort};
-ghost use Rattle.osm_model.specs.declared.kind.Kind.{Kind};
 ghost use Rattle.osm_model.specs.declared.reference.Ref.{Ref};
 ghost use Rattle.opl_codec.specs.Texts.{IsText};
 ghost use Rattle.opl_codec.specs.Members.{SpellsReference, SpellsMembers, MembersFit, MemberFault, MembersFault};
 
+use crate::kind_letter::kind_of;
 use crate::list_item::{ListItem, read_list};
 use crate::make_text::make_text;
 use crate::number::read_number;
 use crate::separator::cut;
 use crate::text_len::text_len;
 use crate::value_fault::ValueFault;
-use osm_model::{Kind, Member, Ref, TEXT_LIMIT};
+use osm_model::{Member, Ref, TEXT_LIMIT};
 use std::alloc::Global;
 
 /// The members of a text, in their order.
@@ -92,16 +91,4 @@ fn read_reference(text: &[u8]) -> Option<Ref>
     let kind = kind_of(*letter)?;
     let id = read_number(digits)?;
     Some(Ref { kind, id })
-}
-
-/// The kind with this letter.
-fn kind_of(letter: u8) -> Option<Kind>
-    ensures { MatchOption result ((kind : Kind) → kind_letter kind ≡ letter → ⊥) (λ kind. kind_letter kind ≡ letter) }
-{
-    match letter {
-        b'n' => Some(Kind::Node),
-        b'w' => Some(Kind::Way),
-        b'r' => Some(Kind::Rel),
-        _ => None,
-    }
 }

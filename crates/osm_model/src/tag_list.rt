@@ -38,6 +38,13 @@ impl TagList {
     {
         &self.tags
     }
+
+    /// The tags, to be owned by the caller.
+    pub fn into_vec(self) -> Vec<Tag>
+        ensures { result.items ≡ self }
+    {
+        self.tags
+    }
 }
 
 impl PartialEq for TagList {

@@ -93,7 +93,7 @@ fn the_first_line_with_a_fault_is_told(rt: HostRuntime) {
         ("n1 x13.4", fault(1, OplCause::NoLocation, 8)),
         ("n1 x13.4\n", fault(1, OplCause::NoLocation, 8)),
         ("n1 x1 y1\n\nc5\nn2", fault(3, OplCause::UnknownObject, 0)),
-        ("n1 x1 y1\r\nc5", fault(1, OplCause::BadValue, 6)),
+        ("n1 x1 y1\r\nc5", fault(2, OplCause::UnknownObject, 0)),
         (
             "n1 x1 y1\nn1 x1 y1\nn2 x1 y1",
             fault(2, OplCause::OutsideModel, 0),

@@ -1,7 +1,7 @@
 use Rattle.std.proofs.Common.{refl}
 use Rattle.std.proofs.lemmas.List.Sorted.{IsPermutation-refl}
 use Rattle.osm_model.proofs.shared.ObjectParts.{twice}
-use Rattle.opl_codec.proofs.ReadTags.{distinct_from_rising}
+use Rattle.opl_codec.proofs.KeyOrder.{distinct_from_rising}
 use Rattle.opl_codec.proofs.key_order.with_distinct_keys.Goals as goal
 
 pub returns-then-keys_rise-clause-found : goal.returns-then-keys_rise-clause-found
