@@ -36,7 +36,7 @@ pub fn ask<R: Read, W: Write>(
     ensures only { IfSome (R.remaining input.old) (λ file. (text : List ℕ)
         → IsAnswer file query.now text → IfErr result IsOutside) }
     // Which fault it is.
-    ensures refused { IfSome (R.remaining input.old) (λ file. IfErr result (Explains file query.now)) }
+    ensures refused { IfSome (R.remaining input.old) (λ file. IfErr result (Explains file (R.remaining input.new) query.now)) }
     // Nothing is written but where a device fails,
     ensures nothing { IfErr result (λ fault. fault ≢ CommandFault.Device
         → Keeps (W.contents output.old) (W.contents output.new)) }

@@ -46,7 +46,7 @@ pub fn prove<R: Read, Q: Read, A: Write, P: Write, W: Write>(
     ensures only { IfBoth (R.remaining input.old) (Q.remaining query.old) (λ file bytes.
         (set : List Element) (text : List ℕ) → IsProved file bytes text set → IfErr result IsOutsideFiles) }
     // Which fault it is.
-    ensures refused { IfBoth (R.remaining input.old) (Q.remaining query.old) (λ file bytes. IfErr result (ExplainsFiles file bytes)) }
+    ensures refused { IfBoth (R.remaining input.old) (Q.remaining query.old) (λ file bytes. IfErr result (ExplainsFiles file (R.remaining input.new) bytes)) }
     // Nothing is written but where a device fails,
     ensures nothing { IfErr result (λ fault. fault ≢ CommandFault.Device
         → Keeps (A.contents answer.old) (A.contents answer.new)

@@ -37,7 +37,7 @@ pub fn publish<R: Read, W: Write>(
     // What holds a set is published, unless memory or a device fails.
     ensures only { IfSome (R.remaining input.old) (λ file. (set : List Element) → HoldsSet file set → IfErr result IsOutside) }
     // Which fault it is.
-    ensures refused { IfSome (R.remaining input.old) (λ file. IfErr result (ExplainsSet file)) }
+    ensures refused { IfSome (R.remaining input.old) (λ file. IfErr result (ExplainsSet file (R.remaining input.new))) }
     // Nothing is written but where a device fails,
     ensures nothing { IfErr result (λ fault. fault ≢ CommandFault.Device
         → Keeps (W.contents output.old) (W.contents output.new)) }
