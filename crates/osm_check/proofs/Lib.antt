@@ -1,4 +1,3 @@
-pub mod shared
 pub mod Texts
 pub mod Sets
 pub mod Fronts

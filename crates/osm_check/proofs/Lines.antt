@@ -4,13 +4,12 @@ use Rattle.std.proofs.Math.Seq.{take-append_seam}
 use Rattle.osm_model.specs.CanonicalLine.{canonical_line}
 use Rattle.osm_model.specs.Elements.{Element, reference}
 use Rattle.osm_model.specs.declared.reference.Ref.{Ref}
-use Rattle.opl_codec.specs.Lines.{SpellsObject}
-use Rattle.opl_codec.proofs.shared.ReadPlain.{spells_plain}
-use Rattle.opl_codec.proofs.shared.OneObject.{one_object}
-use Rattle.opl_codec.proofs.shared.TextFields.{line_spells}
+use Rattle.opl_codec.specs.LineChanges.{SpellsObject}
+use Rattle.opl_codec.proofs.shared.CanonicalLines.{canonical_line_spells}
+use Rattle.opl_codec.proofs.shared.OnePut.{one_object}
 use Rattle.ql_plain.specs.declared.query.Query.{Query}
 use Rattle.osm_check.specs.internal.Replays.{HasRead, IsNext, last_reference}
-use Rattle.osm_check.proofs.Sets.{IsAbove, set_more, element_last, plain_last, above_last}
+use Rattle.osm_check.proofs.Sets.{IsAbove, set_more, element_last, above_last}
 
 -- all but the last byte
 pub all_but_last : (line : List ℕ) (byte : ℕ) → take (length (line ++ byte ∷ []) - 1) (line ++ byte ∷ []) ≡ line
@@ -20,7 +19,7 @@ all_but_last line byte =
 
 -- the line says the object that it is the line of
 next_says : (objects : List Element) (line : List ℕ) (o : Element) → IsNext objects line o → SpellsObject line o
-next_says objects line o next = subst (λ (l : List ℕ). SpellsObject l o) (sym next.line_is) (line_spells o (element_last objects o next.set) (plain_last objects o next.set))
+next_says objects line o next = subst (λ (l : List ℕ). SpellsObject l o) (sym next.line_is) (canonical_line_spells o (element_last objects o next.set))
 
 -- a line that says no object
 pub says_none : (objects : List Element) (line : List ℕ) → ((o : Element) → SpellsObject line o → ⊥) → (o : Element) → IsNext objects line o → ⊥
@@ -41,4 +40,4 @@ other_line objects line said spells other o next =
 -- the line that comes next
 pub this_line : (query : Query) (objects : List Element) (last : Option Ref) (answer line : List ℕ) (o : Element) → HasRead query objects last answer → SpellsObject line o → IsAbove last (reference o) → line ≡ canonical_line o → IsNext objects line o
 this_line query objects last answer line o read spells above is =
-    record { set = set_more objects o read.set spells.element (spells_plain line o spells) (subst (λ (l : Option Ref). IsAbove l (reference o)) read.last_is above); line_is = is }
+    record { set = set_more objects o read.set spells.element (subst (λ (l : Option Ref). IsAbove l (reference o)) read.last_is above); line_is = is }

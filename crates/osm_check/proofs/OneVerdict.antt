@@ -7,13 +7,14 @@ use Rattle.std.proofs.lemmas.Slice.Eq.{bytes_eq-Decides}
 use Rattle.std.proofs.lemmas.Bool.{cases_Bool, cases_lt}
 use Rattle.std.proofs.lemmas.Bool.Decides.{not_from_Decides}
 use Rattle.osm_model.specs.Elements.{Element}
+use Rattle.osm_model.specs.Sets.{IsObjectSet}
 use Rattle.ql_plain.specs.Queries.{FaultOf}
 use Rattle.ql_plain.specs.Meaning.{meaning}
 use Rattle.ql_plain.specs.declared.query.Query.{Query}
 use Rattle.ql_plain.specs.declared.fault.QlFault.{QlFault}
 use Rattle.ql_plain.proofs.shared.Laws.{one_reading, never_both, one_fault}
 use Rattle.tree_node.specs.Digests.{digest}
-use Rattle.osm_check.specs.Roots.{Clash, IsPlainSet, IsProofOf, proof_text, root_of}
+use Rattle.osm_check.specs.Roots.{Clash, IsProofOf, proof_text, root_of}
 use Rattle.osm_check.specs.Verdicts.{IsReadable, IsAnswer, IsFirstDifference, IsAnswerWrongAt, IsReason, IsVerdict, Tells, no_walks}
 use Rattle.osm_check.specs.declared.report.Report.{Report}
 use Rattle.osm_check.specs.declared.verdict.Verdict.{Verdict}
@@ -109,7 +110,7 @@ by_text : {P Q : Type 0} (proof : List ℕ) (objects : List Element) → (proof 
 by_text proof objects (inl same) f = inl (f same)
 by_text proof objects (inr q) f = inr q
 
-told : (query answer proof : List ℕ) (objects : List Element) → IsPlainSet objects → (verdict : Verdict) → IsVerdict query (root_of objects) answer proof verdict → Tells query answer proof objects verdict ⊎ Clash proof (proof_text objects)
+told : (query answer proof : List ℕ) (objects : List Element) → IsObjectSet objects → (verdict : Verdict) → IsVerdict query (root_of objects) answer proof verdict → Tells query answer proof objects verdict ⊎ Clash proof (proof_text objects)
 told query answer proof objects set (Yes r) h = by_text proof objects (text_or_clash proof objects h.1) (λ same.
     (same, subst (λ os. IsAnswer query answer os) (one_text proof h.2 objects h.3 (record { set = set; text_is = same })) h.4))
 told query answer proof objects set (No (QueryRefused f)) h = inl h
@@ -118,7 +119,7 @@ told query answer proof objects set (No ProofMalformed) h = by_text proof object
 told query answer proof objects set (No (AnswerDiffers n)) h = by_text proof objects (text_or_clash proof objects h.0) (λ same.
     (same, subst (λ os. IsAnswerWrongAt query answer os n) (one_text proof h.1 objects h.2 (record { set = set; text_is = same })) h.3))
 
-pub under_root : (query answer proof : List ℕ) (objects : List Element) (verdict : Verdict) → IsPlainSet objects → IsVerdict query (root_of objects) answer proof verdict → Tells query answer proof objects verdict ⊎ Clash proof (proof_text objects)
+pub under_root : (query answer proof : List ℕ) (objects : List Element) (verdict : Verdict) → IsObjectSet objects → IsVerdict query (root_of objects) answer proof verdict → Tells query answer proof objects verdict ⊎ Clash proof (proof_text objects)
 under_root query answer proof objects verdict set h = told query answer proof objects set verdict h
 
 -- ---- what the checker answers
@@ -129,7 +130,7 @@ only_verdict query root answer proof (Ok v) owed is given = one_verdict query ro
 only_verdict query root answer proof (Err e) owed is given = tt
 
 -- a yes under the root of a set
-pub headline : (query root answer proof : List ℕ) (objects : List Element) (report : Report) (result : Result Verdict AllocError) → IsPlainSet objects → root ≡ root_of objects → result ≡ Ok (Yes report) → IfOk result (λ v. IsVerdict query root answer proof v)
+pub headline : (query root answer proof : List ℕ) (objects : List Element) (report : Report) (result : Result Verdict AllocError) → IsObjectSet objects → root ≡ root_of objects → result ≡ Ok (Yes report) → IfOk result (λ v. IsVerdict query root answer proof v)
     → (IsAnswer query answer objects × (proof ≡ proof_text objects)) ⊎ Clash proof (proof_text objects)
 headline query root answer proof objects report result set root_is is given =
     let verdict : IsVerdict query root answer proof (Yes report) = subst (λ (r : Result Verdict AllocError). IfOk r (λ v. IsVerdict query root answer proof v)) is given in

@@ -1,4 +1,4 @@
--- Sets of plain objects, and one object more behind them.
+-- Sets of objects, and one object more after them.
 use Rattle.std.proofs.Common.{◌≡◌, List, [], ◌∷◌, ◌++◌, Option, Some, IfSome, All, refl, sym, subst}
 use Rattle.std.specs.List.{AllByRecursion}
 use Rattle.std.specs.List.Sorted.{IsStrictlySortedBy}
@@ -7,11 +7,10 @@ use Rattle.std.proofs.lemmas.List.{map-append}
 use Rattle.std.proofs.lemmas.List.Elements.{All-from_recursion, recursion_from_All}
 use Rattle.osm_model.specs.Elements.{Element, reference, references, ref_cmp}
 use Rattle.osm_model.specs.Limits.{IsElement}
+use Rattle.osm_model.specs.Sets.{IsObjectSet}
 use Rattle.osm_model.specs.declared.reference.Ref.{Ref}
 use Rattle.osm_model.proofs.shared.References.{refs_total}
-use Rattle.opl_codec.specs.Plain.{IsPlain}
 use Rattle.osm_check.specs.internal.Replays.{last_reference}
-use Rattle.osm_check.specs.Roots.{IsPlainSet}
 
 -- a reference is below
 abbrev Below : Ref → Ref → Type 0
@@ -78,24 +77,18 @@ last_of P xs y h = all_last P xs y (recursion_from_All P (xs ++ y ∷ []) h)
 more_of : (P : Element → Type 0) (xs : List Element) (y : Element) → All P xs → P y → All P (xs ++ y ∷ [])
 more_of P xs y h p = All-from_recursion P (xs ++ y ∷ []) (all_more P xs y (recursion_from_All P xs h) p)
 
-pub no_objects : IsPlainSet []
+pub no_objects : IsObjectSet []
 unfolding IsStrictlySortedBy
-no_objects = record { set = record { rising = tt; elements = All-from_recursion IsElement [] tt }; plain = All-from_recursion IsPlain [] tt }
+no_objects = record { rising = tt; elements = All-from_recursion IsElement [] tt }
 
-pub set_front : (xs ys : List Element) → IsPlainSet (xs ++ ys) → IsPlainSet xs
-set_front xs ys h = record { set = record { rising = rise_front xs ys h.set.rising; elements = front_of IsElement xs ys h.set.elements }; plain = front_of IsPlain xs ys h.plain }
+pub set_front : (xs ys : List Element) → IsObjectSet (xs ++ ys) → IsObjectSet xs
+set_front xs ys h = record { rising = rise_front xs ys h.rising; elements = front_of IsElement xs ys h.elements }
 
-pub set_more : (objects : List Element) (o : Element) → IsPlainSet objects → IsElement o → IsPlain o → IsAbove (last_reference objects) (reference o) → IsPlainSet (objects ++ o ∷ [])
-set_more objects o h element plain above = record {
-  set = record { rising = rise_more objects o h.set.rising above; elements = more_of IsElement objects o h.set.elements element };
-  plain = more_of IsPlain objects o h.plain plain;
-}
+pub set_more : (objects : List Element) (o : Element) → IsObjectSet objects → IsElement o → IsAbove (last_reference objects) (reference o) → IsObjectSet (objects ++ o ∷ [])
+set_more objects o h element above = record { rising = rise_more objects o h.rising above; elements = more_of IsElement objects o h.elements element }
 
-pub element_last : (objects : List Element) (o : Element) → IsPlainSet (objects ++ o ∷ []) → IsElement o
-element_last objects o h = last_of IsElement objects o h.set.elements
+pub element_last : (objects : List Element) (o : Element) → IsObjectSet (objects ++ o ∷ []) → IsElement o
+element_last objects o h = last_of IsElement objects o h.elements
 
-pub plain_last : (objects : List Element) (o : Element) → IsPlainSet (objects ++ o ∷ []) → IsPlain o
-plain_last objects o h = last_of IsPlain objects o h.plain
-
-pub above_last : (objects : List Element) (o : Element) → IsPlainSet (objects ++ o ∷ []) → IsAbove (last_reference objects) (reference o)
-above_last objects o h = rise_last objects o h.set.rising
+pub above_last : (objects : List Element) (o : Element) → IsObjectSet (objects ++ o ∷ []) → IsAbove (last_reference objects) (reference o)
+above_last objects o h = rise_last objects o h.rising

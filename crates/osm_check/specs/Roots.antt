@@ -1,17 +1,11 @@
 -- The canonical text of a set, which is the proof of every answer over it, and its digest, which is the root.
 -- Source: this project.
-use Rattle.std.specs.Prelude.{◌≡◌, ◌≢◌, ℕ, List, All}
+use Rattle.std.specs.Prelude.{◌≡◌, ◌≢◌, ℕ, List}
 use Rattle.osm_model.specs.Elements.{Element}
 use Rattle.osm_model.specs.Sets.{IsObjectSet}
-use Rattle.opl_codec.specs.Plain.{IsPlain}
 use Rattle.opl_codec.specs.declared.out_mode.OutMode.TheVariants as modes
 use Rattle.ql_plain.specs.Meaning.{printed}
 use Rattle.tree_node.specs.Digests.{digest}
-
--- a set of objects that a file can hold; narrow: each is such that the reader of lines reads it
-pub record IsPlainSet (objects : List Element) : Type 0 where
-  pub set : IsObjectSet objects
-  pub plain : All IsPlain objects
 
 -- the canonical text of a set: the line of each object with all its fields, by rising reference
 unfoldable pub proof_text : List Element → List ℕ
@@ -23,7 +17,7 @@ root_of objects = digest (proof_text objects)
 
 -- the bytes are the canonical text of a set
 pub record IsProofOf (bytes : List ℕ) (objects : List Element) : Type 0 where
-  pub set : IsPlainSet objects
+  pub set : IsObjectSet objects
   pub text_is : bytes ≡ proof_text objects
 
 abbrev pub IsCanonical : List ℕ → Type 0

@@ -2,9 +2,10 @@
 
 ghost use Rattle.std.specs.Prelude.{◌≡◌, ◌⊎◌, IfOk, List};
 ghost use Rattle.osm_model.specs.Elements.{Element};
+ghost use Rattle.osm_model.specs.Sets.{IsObjectSet};
 ghost use Rattle.ql_plain.specs.Queries.{Reads};
 ghost use Rattle.tree_node.specs.Digests.{digest};
-ghost use Rattle.osm_check.specs.Roots.{Clash, IsPlainSet, IsProofOf, proof_text, root_of};
+ghost use Rattle.osm_check.specs.Roots.{Clash, IsProofOf, proof_text, root_of};
 ghost use Rattle.osm_check.specs.Verdicts.{IsAnswer, IsVerdict, no_walks};
 ghost use Rattle.osm_check.specs.declared.report.Report.{Report};
 ghost use Rattle.osm_check.specs.declared.verdict.Verdict.{Verdict};
@@ -36,7 +37,7 @@ pub fn check(
 ) -> Result<Verdict, AllocError>
     // The headline: under the root of any set, a yes says that the answer is the query's meaning over that
     // set, and the proof the one proof of it, unless the proof and that set's text are two with one digest.
-    ensures headline { (objects : List Element) (report : Report) → IsPlainSet objects → root.now.0 ≡ root_of objects
+    ensures headline { (objects : List Element) (report : Report) → IsObjectSet objects → root.now.0 ≡ root_of objects
         → result ≡ Ok (Verdict.Yes report)
         → (IsAnswer query.now answer.now objects × (proof.now ≡ proof_text objects)) ⊎ Clash proof.now (proof_text objects) }
     // An honest mirror is always accepted.

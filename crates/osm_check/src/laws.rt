@@ -2,19 +2,14 @@
 
 ghost use Rattle.std.specs.Prelude.{◌≡◌, ◌⊎◌, ℕ, List};
 ghost use Rattle.osm_model.specs.Elements.{Element};
-ghost use Rattle.opl_codec.specs.Files.{HoldsSet};
-ghost use Rattle.osm_check.specs.Roots.{Clash, IsPlainSet, IsProofOf, proof_text, root_of};
+ghost use Rattle.osm_model.specs.Sets.{IsObjectSet};
+ghost use Rattle.osm_check.specs.Roots.{Clash, IsProofOf, proof_text, root_of};
 ghost use Rattle.osm_check.specs.Verdicts.{IsVerdict, Tells};
 ghost use Rattle.osm_check.specs.declared.verdict.Verdict.{Verdict};
 
 /// A law: bytes are the canonical text of one set at most.
 pub fn one_text()
     ensures { (bytes : List ℕ) (first second : List Element) → IsProofOf bytes first → IsProofOf bytes second → first ≡ second }
-{}
-
-/// A law: the set that a file holds is one of those of which the others speak.
-pub fn held_set()
-    ensures { (file : List ℕ) (objects : List Element) → HoldsSet file objects → IsPlainSet objects }
 {}
 
 /// A law: one verdict at most is owed.
@@ -28,7 +23,7 @@ pub fn one_verdict()
 /// is, and where the answer differs from the meaning; `ProofMalformed` doesn't come. Unless the proof and the
 /// set's text are two with one digest.
 pub fn under_root()
-    ensures { (query answer proof : List ℕ) (objects : List Element) (verdict : Verdict) → IsPlainSet objects
+    ensures { (query answer proof : List ℕ) (objects : List Element) (verdict : Verdict) → IsObjectSet objects
         → IsVerdict query (root_of objects) answer proof verdict
         → Tells query answer proof objects verdict ⊎ Clash proof (proof_text objects) }
 {}

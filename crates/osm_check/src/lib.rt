@@ -22,7 +22,7 @@ mod why;
 
 pub use canonical_text::proof_text;
 pub use checker::check;
-pub use laws::{held_set, one_text, one_verdict, under_root};
+pub use laws::{one_text, one_verdict, under_root};
 pub use prove_fault::ProveFault;
 pub use proved::Proved;
 pub use prover::prove;

@@ -3,7 +3,7 @@
 ghost use Rattle.std.specs.Prelude.{◌≡◌, ◌↔◌, ◌++◌, ◌∷◌, [], IfOk, IfSome, IsTrue, List, MatchBool, MatchOption};
 ghost use Rattle.osm_model.specs.CanonicalLine.{canonical_line};
 ghost use Rattle.osm_model.specs.Elements.{Element, ref_cmp};
-ghost use Rattle.opl_codec.specs.Lines.{SpellsObject};
+ghost use Rattle.opl_codec.specs.LineChanges.{SpellsObject};
 ghost use Rattle.ql_plain.specs.Meaning.{meaning, passes};
 ghost use Rattle.osm_check.specs.internal.Replays.{HasRead, IsNext};
 ghost use Rattle.osm_check.specs.Roots.{IsCanonical, IsProofOf};

@@ -2,7 +2,8 @@
 use Rattle.std.proofs.Common.{◌≡◌, ℕ, List, [], ◌++◌, Option, None, Some, Result, Ok, Err, IfSome, IfErr, IsErrAnd, inl, inr, refl, sym, subst, ap, ◌∙◌, append-nil}
 use Rattle.std.specs.Io.KnownBytes.{Consumes, IsAtEnd}
 use Rattle.osm_model.specs.Elements.{Element}
-use Rattle.opl_codec.specs.Files.{HoldsSet, IsReaderOrMemory as IsOutsideFile}
+use Rattle.opl_codec.specs.Files.{HoldsSet, IsReaderOrMemory as IsOutsideFile, StopsFile}
+use Rattle.opl_codec.specs.LineReads.{no_memory}
 use Rattle.opl_codec.specs.declared.cause.OplCause.{OplCause}
 use Rattle.opl_codec.specs.declared.cause.OplCause.TheVariants as causes
 use Rattle.opl_codec.specs.declared.fault.LoadFault.{LoadFault}
@@ -15,7 +16,7 @@ use Rattle.osm_mirror.specs.Faults.{fault_of_cause, fault_of_load, fault_of_prov
 use Rattle.osm_mirror.specs.Files.{ExplainsFiles, ExplainsSet, IfBoth, IsOutsideFiles, IsProved, IsUnread}
 use Rattle.osm_mirror.specs.declared.command_fault.CommandFault.{CommandFault}
 use Rattle.osm_mirror.specs.declared.command_fault.CommandFault.TheVariants.{Opl, Query, Endless, Memory, Device}
-use Rattle.osm_mirror.proofs.AskLemmas.{outside_cause}
+use Rattle.osm_mirror.proofs.AskLemmas.{outside_cause, unheld}
 
 -- where no byte is left, all bytes were read
 pub whole : (old mid new : Option (List ℕ)) (front : List ℕ) → Consumes old mid front → Consumes mid new [] → IsAtEnd new → IfSome old (λ left. front ≡ left)
@@ -33,23 +34,20 @@ outside_unheld None load result told only = tt
 outside_unheld (Some file) load (Ok done) told only = λ set holds. tt
 outside_unheld (Some file) load (Err fault) told only = λ set holds. subst IsOutside (sym told) (outside_cause load load.fault.cause refl (only set holds))
 
-explained_cause : (file : List ℕ) (load : LoadFault) (cause : OplCause) → load.fault.cause ≡ cause
-    → ((objects : List Element) → HoldsSet file objects → IsOutsideFile cause) → (cause ≡ causes.Endless → IsEndless file) → ExplainsSet file (fault_of_cause load cause)
-explained_cause file load causes.ReaderFailed is only long = tt
-explained_cause file load causes.Memory is only long = tt
-explained_cause file load causes.Endless is only long = inl (is, long refl)
-explained_cause file load _ is only long =
-    inr (λ objects holds. elim (only objects holds) [ inl failed ↦ cc | inr other ↦ elim other [ inl endless ↦ cc | inr memory ↦ cc ] ])
+explained_cause : (file : List ℕ) (left : Option (List ℕ)) (load : LoadFault) (cause : OplCause) → load.fault.cause ≡ cause
+    → (load ≡ no_memory) ⊎ StopsFile file left load → ExplainsSet file left (fault_of_cause load cause)
+explained_cause file left load causes.ReaderFailed is why = tt
+explained_cause file left load causes.Memory is why = tt
+explained_cause file left load cause is why = unheld file left load cause is (λ e. cc) (λ e. cc) why
 
 -- and why it comes
-pub explained_unheld : (known : Option (List ℕ)) (load : LoadFault) (result : Result (Unit {0}) CommandFault)
+pub explained_unheld : (known left : Option (List ℕ)) (load : LoadFault) (result : Result (Unit {0}) CommandFault)
     → IsErrAnd result (λ fault. fault ≡ fault_of_load load)
-    → IfSome known (λ file. (objects : List Element) → HoldsSet file objects → IsOutsideFile load.fault.cause)
-    → IfSome known (λ file. load.fault.cause ≡ causes.Endless → IsEndless file)
-    → IfSome known (λ file. IfErr result (ExplainsSet file))
-explained_unheld None load result told only long = tt
-explained_unheld (Some file) load (Ok done) told only long = tt
-explained_unheld (Some file) load (Err fault) told only long = subst (ExplainsSet file) (sym told) (explained_cause file load load.fault.cause refl only long)
+    → IfSome known (λ file. (load ≡ no_memory) ⊎ StopsFile file left load)
+    → IfSome known (λ file. IfErr result (ExplainsSet file left))
+explained_unheld None left load result told why = tt
+explained_unheld (Some file) left load (Ok done) told why = tt
+explained_unheld (Some file) left load (Err fault) told why = subst (ExplainsSet file left) (sym told) (explained_cause file left load load.fault.cause refl why)
 
 -- ---- `prove`
 
@@ -65,43 +63,42 @@ outside_unheld_files (Some file) (Some bytes) load (Err fault) told only = λ se
     inl (subst IsOutside (sym told) (outside_cause load load.fault.cause refl (only set proved.holds)))
 
 -- what explains a fault of `publish` explains it for `prove`
-of_set : (file bytes : List ℕ) (fault : CommandFault) → ExplainsSet file fault → ExplainsFiles file bytes fault
-of_set file bytes (Opl load) why = why
-of_set file bytes (Query refused) why = absurd why
-of_set file bytes Endless why = absurd why
-of_set file bytes Memory why = tt
-of_set file bytes Device why = tt
+of_set : (file : List ℕ) (left : Option (List ℕ)) (bytes : List ℕ) (fault : CommandFault) → ExplainsSet file left fault → ExplainsFiles file left bytes fault
+of_set file left bytes (Opl load) why = why
+of_set file left bytes (Query refused) why = absurd why
+of_set file left bytes Endless why = absurd why
+of_set file left bytes Memory why = tt
+of_set file left bytes Device why = tt
 
-pub explained_unheld_files : (first second : Option (List ℕ)) (load : LoadFault) (result : Result (Unit {0}) CommandFault)
+pub explained_unheld_files : (first left second : Option (List ℕ)) (load : LoadFault) (result : Result (Unit {0}) CommandFault)
     → IsErrAnd result (λ fault. fault ≡ fault_of_load load)
-    → IfSome first (λ file. (objects : List Element) → HoldsSet file objects → IsOutsideFile load.fault.cause)
-    → IfSome first (λ file. load.fault.cause ≡ causes.Endless → IsEndless file)
-    → IfBoth first second (λ file bytes. IfErr result (ExplainsFiles file bytes))
-explained_unheld_files None second load result told only long = tt
-explained_unheld_files (Some file) None load result told only long = tt
-explained_unheld_files (Some file) (Some bytes) load (Ok done) told only long = tt
-explained_unheld_files (Some file) (Some bytes) load (Err fault) told only long =
-    of_set file bytes fault (subst (ExplainsSet file) (sym told) (explained_cause file load load.fault.cause refl only long))
+    → IfSome first (λ file. (load ≡ no_memory) ⊎ StopsFile file left load)
+    → IfBoth first second (λ file bytes. IfErr result (ExplainsFiles file left bytes))
+explained_unheld_files None left second load result told why = tt
+explained_unheld_files (Some file) left None load result told why = tt
+explained_unheld_files (Some file) left (Some bytes) load (Ok done) told why = tt
+explained_unheld_files (Some file) left (Some bytes) load (Err fault) told why =
+    of_set file left bytes fault (subst (ExplainsSet file left) (sym told) (explained_cause file left load load.fault.cause refl why))
 
 -- a query that isn't read
-explained_query : (file bytes : List ℕ) (fault : CommandFault) → IsUnread fault → (fault ≡ Endless → IsEndless bytes) → ExplainsFiles file bytes fault
-explained_query file bytes fault unread long =
+explained_query : (file : List ℕ) (left : Option (List ℕ)) (bytes : List ℕ) (fault : CommandFault) → IsUnread fault → (fault ≡ Endless → IsEndless bytes) → ExplainsFiles file left bytes fault
+explained_query file left bytes fault unread long =
     elim unread [
-      | inl endless ↦ subst (ExplainsFiles file bytes) (sym endless) (long endless)
+      | inl endless ↦ subst (ExplainsFiles file left bytes) (sym endless) (long endless)
       | inr other ↦ elim other [
-        | inl memory ↦ subst (ExplainsFiles file bytes) (sym memory) tt
-        | inr device ↦ subst (ExplainsFiles file bytes) (sym device) tt
+        | inl memory ↦ subst (ExplainsFiles file left bytes) (sym memory) tt
+        | inr device ↦ subst (ExplainsFiles file left bytes) (sym device) tt
       ]
     ]
 
-pub explained_unread_query : (first second : Option (List ℕ)) (told : CommandFault) (result : Result (Unit {0}) CommandFault)
+pub explained_unread_query : (first left second : Option (List ℕ)) (told : CommandFault) (result : Result (Unit {0}) CommandFault)
     → IsErrAnd result (λ fault. fault ≡ told) → IsUnread told → IfSome second (λ left. told ≡ Endless → IsEndless left)
-    → IfBoth first second (λ file bytes. IfErr result (ExplainsFiles file bytes))
-explained_unread_query None second told result is unread long = tt
-explained_unread_query (Some file) None told result is unread long = tt
-explained_unread_query (Some file) (Some bytes) told (Ok done) is unread long = tt
-explained_unread_query (Some file) (Some bytes) told (Err fault) is unread long =
-    subst (ExplainsFiles file bytes) (sym is) (explained_query file bytes told unread long)
+    → IfBoth first second (λ file bytes. IfErr result (ExplainsFiles file left bytes))
+explained_unread_query None left second told result is unread long = tt
+explained_unread_query (Some file) left None told result is unread long = tt
+explained_unread_query (Some file) left (Some bytes) told (Ok done) is unread long = tt
+explained_unread_query (Some file) left (Some bytes) told (Err fault) is unread long =
+    subst (ExplainsFiles file left bytes) (sym is) (explained_query file left bytes told unread long)
 
 -- an answer that isn't made: where the query reads, the fault lies outside
 pub outside_unproved_files : (first second : Option (List ℕ)) (read : List ℕ) (refusal : ProveFault) (result : Result (Unit {0}) CommandFault)

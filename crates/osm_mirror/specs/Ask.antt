@@ -1,9 +1,9 @@
 -- What the command `ask` answers, and when it answers nothing.
 -- Source: this project.
-use Rattle.std.specs.Prelude.{◌≡◌, ℕ, ◌≤◌, ◌^◌, ◌⊎◌, List, Option, length, ⊤}
+use Rattle.std.specs.Prelude.{◌≡◌, ◌≢◌, ℕ, ◌≤◌, ◌^◌, ◌⊎◌, List, Option, length, ⊤}
 use Rattle.std.specs.Io.KnownBytes.{Keeps}
 use Rattle.osm_model.specs.Elements.{Element}
-use Rattle.opl_codec.specs.Files.{HoldsSet}
+use Rattle.opl_codec.specs.Files.{HoldsSet, StopsFile}
 use Rattle.opl_codec.specs.declared.cause.OplCause.TheVariants as causes
 use Rattle.opl_codec.specs.declared.fault.LoadFault.{LoadFault}
 use Rattle.ql_plain.specs.Queries.{Reads, FaultOf}
@@ -25,17 +25,20 @@ pub record IsAnswer (file query text : List ℕ) : Type 0 where
 abbrev pub IsEndless : List ℕ → Type 0
 IsEndless bytes = 2 ^ 32 ≤ length bytes
 
--- the file holds no set, or it was read too often without an end
-abbrev pub IsUnheld : List ℕ → LoadFault → Type 0
-IsUnheld file load = ((load.fault.cause ≡ causes.Endless) × IsEndless file) ⊎ ((set : List Element) → HoldsSet file set → ⊥)
+-- no set was read of the file, of which this is left: its first line that can't be read is told with the byte
+-- in it, or the line within which the reader was found to have no end
+pub record IsUnheld (file : List ℕ) (left : Option (List ℕ)) (load : LoadFault) : Type 0 where
+  pub stops : StopsFile file left load
+  pub unfailed : load.fault.cause ≢ causes.ReaderFailed
+  pub real : load.fault.cause ≢ causes.Memory
 
--- why each fault comes: the input is looked at before the query
-abbrev pub Explains : List ℕ → List ℕ → CommandFault → Type 0
-Explains file query (Opl load) = IsUnheld file load
-Explains file query (Query refused) = ((set : List Element) × HoldsSet file set) × FaultOf query refused
-Explains file query Endless = ⊥
-Explains file query Memory = ⊤
-Explains file query Device = ⊤
+-- why each fault comes: the input, of which this is left, is looked at before the query
+abbrev pub Explains : (file : List ℕ) (left : Option (List ℕ)) (query : List ℕ) → CommandFault → Type 0
+Explains file left query (Opl load) = IsUnheld file left load
+Explains file left query (Query refused) = ((set : List Element) × HoldsSet file set) × FaultOf query refused
+Explains file left query Endless = ⊥
+Explains file left query Memory = ⊤
+Explains file left query Device = ⊤
 
 -- the fault lies outside file and query: the reader never ended, or memory or a device failed
 abbrev pub IsOutside : CommandFault → Type 0

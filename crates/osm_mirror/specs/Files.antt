@@ -26,13 +26,14 @@ IfThree (Some a) second third P = IfBoth second third (P a)
 
 -- ---- `publish`
 
--- why each fault of `publish` comes: the input holds no set, or the fault lies outside it
-abbrev pub ExplainsSet : List ℕ → CommandFault → Type 0
-ExplainsSet file (Opl load) = IsUnheld file load
-ExplainsSet file (Query refused) = ⊥
-ExplainsSet file Endless = ⊥
-ExplainsSet file Memory = ⊤
-ExplainsSet file Device = ⊤
+-- why each fault of `publish` comes: no set is read of the input, of which this is left, or the fault lies
+-- outside it
+abbrev pub ExplainsSet : (file : List ℕ) (left : Option (List ℕ)) → CommandFault → Type 0
+ExplainsSet file left (Opl load) = IsUnheld file left load
+ExplainsSet file left (Query refused) = ⊥
+ExplainsSet file left Endless = ⊥
+ExplainsSet file left Memory = ⊤
+ExplainsSet file left Device = ⊤
 
 -- the output has gained nothing, or a beginning of the root's line
 abbrev pub IsBegunRoot : (file : List ℕ) (old new : Option (List ℕ)) → Type 0
@@ -49,13 +50,13 @@ pub record IsProved (file query text : List ℕ) (set : List Element) : Type 0 w
 abbrev pub IsOutsideFiles : CommandFault → Type 0
 IsOutsideFiles fault = IsOutside fault ⊎ (fault ≡ Endless)
 
--- why each fault of `prove` comes
-abbrev pub ExplainsFiles : List ℕ → List ℕ → CommandFault → Type 0
-ExplainsFiles file query (Opl load) = IsUnheld file load
-ExplainsFiles file query (Query refused) = Explains file query (Query refused)
-ExplainsFiles file query Endless = IsEndless query
-ExplainsFiles file query Memory = ⊤
-ExplainsFiles file query Device = ⊤
+-- why each fault of `prove` comes, where this is left of the file
+abbrev pub ExplainsFiles : (file : List ℕ) (left : Option (List ℕ)) (query : List ℕ) → CommandFault → Type 0
+ExplainsFiles file left query (Opl load) = IsUnheld file left load
+ExplainsFiles file left query (Query refused) = Explains file left query (Query refused)
+ExplainsFiles file left query Endless = IsEndless query
+ExplainsFiles file left query Memory = ⊤
+ExplainsFiles file left query Device = ⊤
 
 -- the three writers have gained nothing, or, in this order, the answer, its proof and the root's line, as far as it went
 abbrev pub IsBegunProof : (file query : List ℕ) (answer proof root : Output) → Type 0

@@ -1,6 +1,8 @@
 -- What writers have gained.
 -- Source: this project; what a writer tells of its bytes is std's.
-use Rattle.std.specs.Prelude.{ℕ, ◌≤◌, List, Option, take, length}
+use Rattle.std.specs.Prelude.{◌≡◌, ℕ, ◌≤◌, List, Option, Result, Ok, Err, take, length}
+use Rattle.osm_mirror.specs.declared.command_fault.CommandFault.{CommandFault}
+use Rattle.osm_mirror.specs.declared.command_fault.CommandFault.TheVariants.{Device}
 use Rattle.std.specs.Io.KnownBytes.{Appends, Keeps}
 
 -- a beginning of the text, which may be nothing or all of it
@@ -35,3 +37,8 @@ pub data AppendInTurn (first second third : Writing) : Type 0 where
   UpToFirst : HasBegun first.output first.text → IsUntouched second.output → IsUntouched third.output → AppendInTurn first second third
   UpToSecond : HasGained first.output first.text → HasBegun second.output second.text → IsUntouched third.output → AppendInTurn first second third
   UpToThird : HasGained first.output first.text → HasGained second.output second.text → HasBegun third.output third.text → AppendInTurn first second third
+
+-- a call of a device that failed is told as a device that failed, and no other
+abbrev pub IsTold : {E : Type 0} → Result (Unit {0}) E → Result (Unit {0}) CommandFault → Type 0
+IsTold (Ok done) result = result ≡ Ok done
+IsTold (Err error) result = result ≡ Err Device

@@ -1,15 +1,16 @@
 //! The command `ask QUERY`.
 
-ghost use Rattle.std.specs.Prelude.{◌≡◌, ◌≢◌, ℕ, List, IfErr, IfSome, OnOk};
+ghost use Rattle.std.specs.Prelude.{◌≡◌, ◌≢◌, ℕ, List, IfErr, IfSome, OnOk, true};
 ghost use Rattle.std.specs.Io.KnownBytes.{Appends, Keeps};
 ghost use Rattle.osm_mirror.specs.Ask.{Explains, IsAnswer, IsBegun, IsOutside};
 
 use crate::command_fault::CommandFault;
+use crate::outlet::Outlet;
 use crate::write_whole::write_whole;
 use opl_codec::read_set;
 use osm_check::{Verdict, check, prove};
 use std::alloc::Global;
-use std::io::{Read, Write};
+use std::io::Read;
 
 /// Reads the input as the OPL text of a set of objects, and writes the query's answer over that set: the
 /// OPL text of its meaning. The query is these bytes as they stand. The answer is made with its proof, and
@@ -23,7 +24,7 @@ use std::io::{Read, Write};
 /// the output failed a beginning of the answer. The input is left where it stood.
 ///
 /// Clauses that speak of the input's bytes do so where the reader tells them.
-pub fn ask<R: Read, W: Write>(
+pub fn ask<R: Read, W: Outlet>(
     alloc: Global,
     query: &[u8],
     input: &mut R,
@@ -32,11 +33,13 @@ pub fn ask<R: Read, W: Write>(
     // The output has gained exactly the answer.
     ensures answered { OnOk result (IfSome (R.remaining input.old) (λ file. (text : List ℕ)
         × IsAnswer file query.now text × Appends (W.contents output.old) (W.contents output.new) text)) }
+    // Nothing is held back then.
+    ensures flushed { OnOk result (W.is_flushed output.new ≡ true) }
     // What has an answer is answered, unless memory or a device fails.
     ensures only { IfSome (R.remaining input.old) (λ file. (text : List ℕ)
         → IsAnswer file query.now text → IfErr result IsOutside) }
     // Which fault it is.
-    ensures refused { IfSome (R.remaining input.old) (λ file. IfErr result (Explains file query.now)) }
+    ensures refused { IfSome (R.remaining input.old) (λ file. IfErr result (Explains file (R.remaining input.new) query.now)) }
     // Nothing is written but where a device fails,
     ensures nothing { IfErr result (λ fault. fault ≢ CommandFault.Device
         → Keeps (W.contents output.old) (W.contents output.new)) }

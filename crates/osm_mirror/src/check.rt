@@ -1,18 +1,19 @@
 //! The command `check ROOT QUERYFILE ANSWERFILE PROOFFILE`.
 
-ghost use Rattle.std.specs.Prelude.{◌≡◌, ◌≢◌, IfErr, IfOk};
+ghost use Rattle.std.specs.Prelude.{◌≡◌, ◌≢◌, IfErr, IfOk, OnOk, true};
 ghost use Rattle.std.specs.Io.KnownBytes.{Appends, Keeps};
 ghost use Rattle.osm_check.specs.Verdicts.{IsVerdict};
 ghost use Rattle.osm_mirror.specs.Files.{ExplainsThree, IfThree, IsBegunVerdict, IsUnread};
 ghost use Rattle.osm_mirror.specs.RootLines.{verdict_line};
 
 use crate::command_fault::CommandFault;
+use crate::outlet::Outlet;
 use crate::read_whole::read_whole;
 use crate::verdict_line::verdict_line;
 use crate::write_whole::write_whole;
 use osm_check::{Digest, Verdict};
 use std::alloc::Global;
-use std::io::{Read, Write};
+use std::io::Read;
 
 /// Reads the query's bytes, then the answer's, then the proof's, decides by the root and them alone whether
 /// the answer is right, and writes the verdict: `yes`, or `no` and the reason, and LF.
@@ -24,7 +25,7 @@ use std::io::{Read, Write};
 /// output failed a beginning of the line. The readers are left where they stood.
 ///
 /// Clauses that speak of the readers' bytes do so where they tell them.
-pub fn check<Q: Read, A: Read, P: Read, W: Write>(
+pub fn check<Q: Read, A: Read, P: Read, W: Outlet>(
     alloc: Global,
     root: &Digest,
     query: &mut Q,
@@ -36,6 +37,8 @@ pub fn check<Q: Read, A: Read, P: Read, W: Write>(
     ensures told { IfOk result (λ verdict. IfThree (Q.remaining query.old) (A.remaining answer.old) (P.remaining proof.old)
         (λ query_bytes answer_bytes proof_bytes. IsVerdict query_bytes root.now.0 answer_bytes proof_bytes verdict)
         × Appends (W.contents output.old) (W.contents output.new) (verdict_line verdict)) }
+    // Nothing is held back then.
+    ensures flushed { OnOk result (W.is_flushed output.new ≡ true) }
     // It is refused only out of memory, for a device, or for a file without an end.
     ensures refused { IfErr result IsUnread }
     // Only a file of 2^32 bytes or more is told to have no end.

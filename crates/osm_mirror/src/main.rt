@@ -9,6 +9,7 @@ pub mod ask;
 pub mod check;
 pub mod command_fault;
 pub mod input_file;
+pub mod outlet;
 pub mod output_file;
 pub mod prove;
 pub mod publish;

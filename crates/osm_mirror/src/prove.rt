@@ -1,6 +1,6 @@
 //! The command `prove FILE QUERYFILE ANSWERFILE PROOFFILE`.
 
-ghost use Rattle.std.specs.Prelude.{◌≡◌, ◌≢◌, IfErr, List, ℕ, OnOk};
+ghost use Rattle.std.specs.Prelude.{◌≡◌, ◌≢◌, IfErr, List, ℕ, OnOk, true};
 ghost use Rattle.std.specs.Io.KnownBytes.{Appends, Keeps};
 ghost use Rattle.osm_model.specs.Elements.{Element};
 ghost use Rattle.osm_check.specs.Roots.{proof_text};
@@ -8,12 +8,13 @@ ghost use Rattle.osm_mirror.specs.Files.{ExplainsFiles, IfBoth, IsBegunProof, Is
 ghost use Rattle.osm_mirror.specs.RootLines.{root_line};
 
 use crate::command_fault::CommandFault;
+use crate::outlet::Outlet;
 use crate::read_whole::read_whole;
 use crate::root_line::root_line;
 use crate::write_whole::write_whole;
 use opl_codec::read_set;
 use std::alloc::Global;
-use std::io::{Read, Write};
+use std::io::Read;
 
 /// Reads the input as the OPL text of a set of objects, then the query's bytes, and writes the answer, its
 /// proof and, to the output, the set's root as `publish` does. Each is written once all of them are made, in
@@ -28,7 +29,7 @@ use std::io::{Read, Write};
 /// left where they stood.
 ///
 /// Clauses that speak of the readers' bytes do so where they tell them.
-pub fn prove<R: Read, Q: Read, A: Write, P: Write, W: Write>(
+pub fn prove<R: Read, Q: Read, A: Outlet, P: Outlet, W: Outlet>(
     alloc: Global,
     input: &mut R,
     query: &mut Q,
@@ -42,11 +43,13 @@ pub fn prove<R: Read, Q: Read, A: Write, P: Write, W: Write>(
         × Appends (A.contents answer.old) (A.contents answer.new) text
         × Appends (P.contents proof.old) (P.contents proof.new) (proof_text set)
         × Appends (W.contents output.old) (W.contents output.new) (root_line set))) }
+    // Nothing is held back then.
+    ensures flushed { OnOk result ((A.is_flushed answer.new ≡ true) × (P.is_flushed proof.new ≡ true) × (W.is_flushed output.new ≡ true)) }
     // What has an answer is answered, unless memory or a device fails, or the query never ends.
     ensures only { IfBoth (R.remaining input.old) (Q.remaining query.old) (λ file bytes.
         (set : List Element) (text : List ℕ) → IsProved file bytes text set → IfErr result IsOutsideFiles) }
     // Which fault it is.
-    ensures refused { IfBoth (R.remaining input.old) (Q.remaining query.old) (λ file bytes. IfErr result (ExplainsFiles file bytes)) }
+    ensures refused { IfBoth (R.remaining input.old) (Q.remaining query.old) (λ file bytes. IfErr result (ExplainsFiles file (R.remaining input.new) bytes)) }
     // Nothing is written but where a device fails,
     ensures nothing { IfErr result (λ fault. fault ≢ CommandFault.Device
         → Keeps (A.contents answer.old) (A.contents answer.new)

@@ -2,6 +2,7 @@ mod files;
 
 use crate::ask::ask;
 use crate::command_fault::CommandFault;
+use crate::outlet::{Outlet, told};
 use std::alloc::Global;
 use std::io;
 use std::io::{Read, Write};
@@ -69,6 +70,14 @@ impl Write for NarrowWriter {
 
     fn flush(&mut self) -> io::Result<()> {
         Ok(())
+    }
+}
+
+impl Outlet for NarrowWriter {
+    ghost is_flushed = { λ _. Rattle.std.specs.Prelude.true };
+
+    fn hand_on(&mut self) -> Result<(), CommandFault> {
+        told(self.flush())
     }
 }
 

@@ -1,21 +1,23 @@
 //! Writing a whole text.
 
-ghost use Rattle.std.specs.Prelude.{◌≡◌, IfErr, OnOk};
+ghost use Rattle.std.specs.Prelude.{◌≡◌, IfErr, OnOk, true};
 ghost use Rattle.std.specs.Io.KnownBytes.{Appends};
 ghost use Rattle.osm_mirror.specs.Written.{AppendsFront};
 
 use crate::command_fault::CommandFault;
-use std::io::Write;
+use crate::outlet::Outlet;
 
 /// Writes the text, in as few calls as the writer takes, and flushes the writer.
 ///
 /// Refused with `Device` where a call fails or takes nothing; a beginning of the text is written then. (A
 /// loop of our own, since the contract of std's `write_all` doesn't say what is written where it fails.)
-pub fn write_whole<W: Write>(writer: &mut W, text: &[u8]) -> Result<(), CommandFault>
+pub fn write_whole<W: Outlet>(writer: &mut W, text: &[u8]) -> Result<(), CommandFault>
     // The whole text is written.
     ensures whole { OnOk result (Appends (W.contents writer.old) (W.contents writer.new) text.now) }
     // Whatever happens, no more than a beginning of it.
     ensures begun { AppendsFront (W.contents writer.old) (W.contents writer.new) text.now }
+    // Nothing of it is held back: a flush that fails is a fault.
+    ensures flushed { OnOk result (W.is_flushed writer.new ≡ true) }
     ensures device { IfErr result (λ fault. fault ≡ CommandFault.Device) }
 {
     let mut done = 0;
@@ -25,8 +27,5 @@ pub fn write_whole<W: Write>(writer: &mut W, text: &[u8]) -> Result<(), CommandF
             Ok(taken) => done += taken,
         }
     }
-    match writer.flush() {
-        Ok(()) => Ok(()),
-        Err(_) => Err(CommandFault::Device),
-    }
+    writer.hand_on()
 }

@@ -4,11 +4,11 @@ use Rattle.std.specs.Prelude.{◌≡◌, ℕ, List, [], ◌∷◌, ◌++◌, Opt
 use Rattle.osm_model.specs.Bytes.{line_feed}
 use Rattle.osm_model.specs.CanonicalLine.{canonical_line}
 use Rattle.osm_model.specs.Elements.{Element, reference}
+use Rattle.osm_model.specs.Sets.{IsObjectSet}
 use Rattle.osm_model.specs.declared.reference.Ref.{Ref}
 use Rattle.opl_codec.specs.Fields.{Lacks}
 use Rattle.ql_plain.specs.Meaning.{meaning}
 use Rattle.ql_plain.specs.declared.query.Query.{Query}
-use Rattle.osm_check.specs.Roots.{IsPlainSet}
 
 -- the text has no LF
 abbrev pub HasNoEnd : List ℕ → Type 0
@@ -22,11 +22,11 @@ last_reference (o ∷ p ∷ os) = last_reference (p ∷ os)
 
 -- these objects were read: the last reference, and the query's answer over them
 pub record HasRead (query : Query) (objects : List Element) (last : Option Ref) (answer : List ℕ) : Type 0 where
-  pub set : IsPlainSet objects
+  pub set : IsObjectSet objects
   pub last_is : last ≡ last_reference objects
   pub answer_is : answer ≡ meaning query objects
 
 -- the line is that of this object, which may come after these
 pub record IsNext (objects : List Element) (line : List ℕ) (o : Element) : Type 0 where
-  pub set : IsPlainSet (objects ++ o ∷ [])
+  pub set : IsObjectSet (objects ++ o ∷ [])
   pub line_is : line ≡ canonical_line o

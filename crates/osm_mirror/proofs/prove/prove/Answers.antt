@@ -13,7 +13,7 @@ returns-in_err-set-clause-only g c =
 
 pub returns-in_err-set-clause-refused : goal.returns-in_err-set-clause-refused
 returns-in_err-set-clause-refused g c =
-    explained_unheld_files (g.R.Read.remaining c.args.input.now) (g.Q.Read.remaining c.args.query.now) c.in_err-set.field-0.0 c.from_residual.result c.from_residual.ensures.1 c.in_err-set.ensures.only c.in_err-set.ensures.endless
+    explained_unheld_files (g.R.Read.remaining c.args.input.now) _ (g.Q.Read.remaining c.args.query.now) c.in_err-set.field-0.0 c.from_residual.result c.from_residual.ensures.1 c.in_err-set.ensures.refused
 
 pub returns-in_err-set-clause-begun : goal.returns-in_err-set-clause-begun
 returns-in_err-set-clause-begun g c =

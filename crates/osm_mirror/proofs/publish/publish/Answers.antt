@@ -10,7 +10,7 @@ returns-in_err-set-clause-only g c =
 
 pub returns-in_err-set-clause-refused : goal.returns-in_err-set-clause-refused
 returns-in_err-set-clause-refused g c =
-    explained_unheld (g.R.Read.remaining c.args.input.now) c.in_err-set.field-0.0 c.from_residual.result c.from_residual.ensures.1 c.in_err-set.ensures.only c.in_err-set.ensures.endless
+    explained_unheld (g.R.Read.remaining c.args.input.now) _ c.in_err-set.field-0.0 c.from_residual.result c.from_residual.ensures.1 c.in_err-set.ensures.refused
 
 pub returns-clause-published : goal.returns-clause-published
 returns-clause-published g c =
