@@ -129,7 +129,8 @@ fn read_object(alloc: Global, line: &[u8]) -> Result<Option<Object>, AllocError>
 {
     match read_line(alloc, line) {
         Ok(Some(Change::Put(object))) => Ok(Some(object)),
-        Ok(_) => Ok(None),
+        Ok(Some(Change::Delete(_))) => Ok(None),
+        Ok(None) => Ok(None),
         Err(fault) => match fault.cause {
             OplCause::Memory => Err(AllocError),
             _ => Ok(None),
