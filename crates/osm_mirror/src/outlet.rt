@@ -17,7 +17,7 @@ pub trait Outlet: Write {
     /// Hands on what is held back. Refused with `Device` where the writer's flush fails.
     fn hand_on(&mut self) -> Result<(), CommandFault>
         ensures flushed { OnOk result (is_flushed self.new ≡ true) }
-        ensures kept { Keeps (contents self.old) (contents self.new) }
+        ensures kept { Keeps (Self.contents self.old) (Self.contents self.new) }
         ensures device { IfErr result (λ fault. fault ≡ CommandFault.Device) };
 }
 
