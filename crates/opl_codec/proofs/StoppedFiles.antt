@@ -23,7 +23,7 @@ use Rattle.opl_codec.specs.declared.fault.OplFault.{OplFault}
 use Rattle.opl_codec.proofs.EachLemmas.{each_front, each_same}
 use Rattle.opl_codec.proofs.OneLine.{one_change}
 use Rattle.opl_codec.proofs.SpokenLines.{spoken-append, spoken-unskipped, unskipped}
-use Rattle.opl_codec.proofs.shared.OneObject.{one_object}
+use Rattle.opl_codec.proofs.shared.OnePut.{one_object}
 
 -- a file holds one set at most
 pub one_set : (file : List ℕ) (a b : List Element) → HoldsSet file a → HoldsSet file b → a ≡ b

@@ -3,7 +3,7 @@ pub mod CanonicalFields
 pub mod CanonicalLines
 pub mod CanonicalLists
 pub mod CanonicalValues
-pub mod OneObject
+pub mod OnePut
 pub mod ReadIds
 pub mod ReadLiterals
 pub mod ReadPlain

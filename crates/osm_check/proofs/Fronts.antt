@@ -7,7 +7,7 @@ use Rattle.osm_model.specs.Elements.{Element}
 use Rattle.osm_model.specs.Limits.{IsElement}
 use Rattle.opl_codec.specs.Lines.{SpellsObject}
 use Rattle.opl_codec.specs.Plain.{IsPlain}
-use Rattle.opl_codec.proofs.shared.OneObject.{one_object}
+use Rattle.opl_codec.proofs.shared.OnePut.{one_object}
 use Rattle.opl_codec.proofs.shared.TextFields.{line_spells, line_lacks_end}
 use Rattle.osm_check.specs.Roots.{IsPlainSet, IsProofOf, proof_text}
 use Rattle.osm_check.proofs.Texts.{proof_text-nil, proof_text-cons, first_lines}

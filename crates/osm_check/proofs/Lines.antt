@@ -6,7 +6,7 @@ use Rattle.osm_model.specs.Elements.{Element, reference}
 use Rattle.osm_model.specs.declared.reference.Ref.{Ref}
 use Rattle.opl_codec.specs.Lines.{SpellsObject}
 use Rattle.opl_codec.proofs.shared.ReadPlain.{spells_plain}
-use Rattle.opl_codec.proofs.shared.OneObject.{one_object}
+use Rattle.opl_codec.proofs.shared.OnePut.{one_object}
 use Rattle.opl_codec.proofs.shared.TextFields.{line_spells}
 use Rattle.ql_plain.specs.declared.query.Query.{Query}
 use Rattle.osm_check.specs.internal.Replays.{HasRead, IsNext, last_reference}
