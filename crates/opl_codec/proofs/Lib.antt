@@ -33,6 +33,7 @@ pub mod LineSteps
 pub mod LineNames
 pub mod LineObjects
 pub mod LineContents
+pub mod OneHex
 pub mod OneOrder
 pub mod OneParts
 pub mod OneObject

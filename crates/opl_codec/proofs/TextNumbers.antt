@@ -1,25 +1,23 @@
 -- Numbers and degrees as they stand in a line.
-use Rattle.std.proofs.Common.{ℕ, suc, ◌^◌, ◌<◌, Bool, List, ◌++◌, length, true, false, ℤ, pos, negsuc, neg_ℤ, FitsSigned, Option, Some, None, refl, ap, arith}
+use Rattle.std.proofs.Common.{ℕ, suc, ◌^◌, ◌<◌, Bool, List, ◌++◌, true, false, ℤ, pos, negsuc, neg_ℤ, FitsSigned, Option, Some, None, refl, ap, arith}
 use Rattle.std.specs.Int.{w64}
 use Rattle.std.specs.Fmt.{decimal, signed_decimal}
 use Rattle.std.proofs.lemmas.Fmt.{decimal_is_IsNumeral}
 use Rattle.std.proofs.lemmas.Int.{ints}
 use Rattle.std.proofs.lemmas.Bool.Decides.{nat_tests}
-use Rattle.osm_model.specs.Degrees.{IsDegrees, IsDigits, IsFraction, sign, point}
+use Rattle.osm_model.specs.Degrees.{IsDegrees, IsFraction, sign, point}
+use Rattle.osm_model.proofs.shared.OneNumeral.{decimal_digits}
 use Rattle.opl_codec.specs.Fields.{IsInteger, Lacks}
 use Rattle.opl_codec.proofs.TextPieces.{lacks_append, digits_lack}
-
-are_digits : (n : ℕ) → n < 2 ^ 64 → IsDigits (decimal n)
-are_digits n fits = let numeral = decimal_is_IsNumeral n fits in ((λ none. let long : 0 < length (decimal n) = numeral.0.0 in omega (arith, ap (λ x. length x) none)), numeral.0.1)
 
 -- a whole number's text spells it
 pub signed_decimal_spells : (z : ℤ) → FitsSigned w64 z → IsInteger (signed_decimal z) z
 signed_decimal_spells (pos n) fits =
     let small : n < 2 ^ 64 = omega (arith, ints) in
-    record { negative = false; digits = decimal n; text_is = refl; digits_are = are_digits n small; value_is = ap (λ m. pos m) (decimal_is_IsNumeral n small).1 }
+    record { negative = false; digits = decimal n; text_is = refl; digits_are = decimal_digits n small; value_is = ap (λ m. pos m) (decimal_is_IsNumeral n small).1 }
 signed_decimal_spells (negsuc n) fits =
     let small : suc n < 2 ^ 64 = omega (arith, ints) in
-    record { negative = true; digits = decimal (suc n); text_is = refl; digits_are = are_digits (suc n) small; value_is = ap (λ m. neg_ℤ (pos m)) (decimal_is_IsNumeral (suc n) small).1 }
+    record { negative = true; digits = decimal (suc n); text_is = refl; digits_are = decimal_digits (suc n) small; value_is = ap (λ m. neg_ℤ (pos m)) (decimal_is_IsNumeral (suc n) small).1 }
 
 sign_lacks : (separator : ℕ) → separator < 33 → (negative : Bool) → Lacks separator (sign negative)
 sign_lacks separator low true = (grind (arith, nat_tests), tt)

@@ -18,7 +18,7 @@ use Rattle.opl_codec.proofs.TextsJoined.{spells_none, spells_byte, spells_escape
 
 -- ---- the digits of a code point
 
-length_digits : (k n : ℕ) → length (hex_digits k n) ≡ k
+pub length_digits : (k n : ℕ) → length (hex_digits k n) ≡ k
 length_digits zero n = refl
 length_digits (suc k) n = omega (arith, length_digits k n)
 
@@ -49,27 +49,27 @@ enough c false false true b5 e2 e3 e4 e5 small = grind (arith, nat_tests, e4)
 enough c false false false true e2 e3 e4 e5 small = grind (arith, nat_tests, e5)
 enough c false false false false e2 e3 e4 e5 small = omega arith
 
-few : (b2 b3 b4 b5 : Bool) → (cond b2 2 (cond b3 3 (cond b4 4 (cond b5 5 6))) ≤ 6) × (2 ≤ cond b2 2 (cond b3 3 (cond b4 4 (cond b5 5 6))))
+pub few : (b2 b3 b4 b5 : Bool) → (cond b2 2 (cond b3 3 (cond b4 4 (cond b5 5 6))) ≤ 6) × (2 ≤ cond b2 2 (cond b3 3 (cond b4 4 (cond b5 5 6))))
 few true b3 b4 b5 = (omega arith, omega arith)
 few false true b4 b5 = (omega arith, omega arith)
 few false false true b5 = (omega arith, omega arith)
 few false false false true = (omega arith, omega arith)
 few false false false false = (omega arith, omega arith)
 
-scalar_small : (c : ℕ) → IsScalar c → c < 0x100_0000
+pub scalar_small : (c : ℕ) → IsScalar c → c < 0x100_0000
 scalar_small c is = elim (scalar_cases c is) [ inl low ↦ omega (arith, low) | inr high ↦ omega (arith, high.1) ]
 
 nothing : (p r : ℕ) → 0 * p + r ≡ r
 nothing p r = omega arith
 
-value_is : (c : ℕ) → IsScalar c → digits_value 16 (hex c) ≡ c
+pub value_is : (c : ℕ) → IsScalar c → digits_value 16 (hex c) ≡ c
 unfolding hex
 value_is c is =
     let small : c < 16 ^ hex_places c = enough c (ltb c 0x100) (ltb c 0x1000) (ltb c 0x1_0000) (ltb c 0x10_0000) refl refl refl refl (scalar_small c is) in
     let value : digits_value 16 (hex_digits (hex_places c) c) ≡ c % 16 ^ hex_places c = value_of (hex_places c) c 0 ∙ nothing (16 ^ hex_places c) (c % 16 ^ hex_places c) in
     value ∙ mod-eq_of_lt small
 
-escape_of : (c : ℕ) → IsScalar c → c ≢ 0 → IsEscape (hex c)
+pub escape_of : (c : ℕ) → IsScalar c → c ≢ 0 → IsEscape (hex c)
 unfolding hex
 escape_of c is some =
     let places = few (ltb c 0x100) (ltb c 0x1000) (ltb c 0x1_0000) (ltb c 0x10_0000) in
@@ -84,33 +84,33 @@ escape_of c is some =
 
 -- ---- one character, and all
 
-literal_ascii : (c : ℕ) → is_literal c ≡ true → c < 128
+pub literal_ascii : (c : ℕ) → is_literal c ≡ true → c < 128
 literal_ascii c e = grind (arith, nat_tests)
 
-literal_free : (c : ℕ) → is_literal c ≡ true → is_free c ≡ true
+pub literal_free : (c : ℕ) → is_literal c ≡ true → is_free c ≡ true
 literal_free c e = grind (arith, nat_tests)
 
 one_spelled : (c : ℕ) (b : Bool) → is_literal c ≡ b → IsScalar c → c ≢ 0 → SpellsText (if b then c ∷ [] else (37 ∷ hex c) ++ 37 ∷ []) (encode_utf8 c)
 one_spelled c true literal is some = subst (SpellsText (c ∷ [])) (sym (encode_ascii c (literal_ascii c literal))) (spells_byte c (literal_free c literal))
 one_spelled c false literal is some = subst (λ v. SpellsText (37 ∷ (hex c ++ 37 ∷ [])) (encode_utf8 v)) (value_is c is) (spells_escape (hex c) (escape_of c is some))
 
-both_first : (a b : Bool) → (a && b) ≡ true → a ≡ true
+pub both_first : (a b : Bool) → (a && b) ≡ true → a ≡ true
 both_first true b e = refl
 both_first false b e = cc
 
-both_second : (a b : Bool) → (a && b) ≡ true → b ≡ true
+pub both_second : (a b : Bool) → (a && b) ≡ true → b ≡ true
 both_second true b e = e
 both_second false b e = cc
 
-abbrev NoNul : List ℕ → Type 0
+abbrev pub NoNul : List ℕ → Type 0
 NoNul bytes = (k d : ℕ) → k < length bytes → get_or bytes k d ≢ 0
 
-first_some : (c : ℕ) (rest : List ℕ) → NoNul (encode_utf8 c ++ rest) → c ≢ 0
+pub first_some : (c : ℕ) (rest : List ℕ) → NoNul (encode_utf8 c ++ rest) → c ≢ 0
 first_some c rest none e =
     let long : 1 ≤ length (encode_utf8 c) = omega (arith, length-encode c, len_utf8_bounds c) in
     none 0 0 (omega (arith, long, length-append (encode_utf8 c) rest)) (byte_from_char (encode_utf8 c ++ rest) rest c refl (omega arith) ∙ e)
 
-rest_some : (front rest : List ℕ) → NoNul (front ++ rest) → NoNul rest
+pub rest_some : (front rest : List ℕ) → NoNul (front ++ rest) → NoNul rest
 rest_some front rest none k d lt e = none (length front + k) d (omega (arith, lt, length-append front rest)) (get_or-append-add front rest k d ∙ e)
 
 all_spelled : (cs : List ℕ) → scalars cs ≡ true → NoNul (encodes cs) → SpellsText (flat_map escaped_char cs) (encodes cs)

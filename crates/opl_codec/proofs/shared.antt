@@ -4,6 +4,9 @@ pub mod CanonicalLines
 pub mod CanonicalLists
 pub mod CanonicalValues
 pub mod OneChange
+pub mod OneEscapedText
+pub mod OneLine
+pub mod OneNumberText
 pub mod ReadIds
 pub mod ReadLiterals
 pub mod SayLemmas

@@ -14,3 +14,4 @@ pub mod Members
 pub mod LineParts
 pub mod LineChanges
 pub mod LineFaults
+pub mod Canonical

@@ -3,6 +3,7 @@ pub mod Around
 pub mod DecimalValues
 pub mod LineLengths
 pub mod Decimals
+pub mod OneFraction
 pub mod DegreesLemmas
 pub mod EdgeSizes
 pub mod Leading

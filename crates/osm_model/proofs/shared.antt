@@ -2,6 +2,8 @@
 pub mod Digits
 pub mod ObjectParts
 pub mod OneDecimal
+pub mod OneDegrees
+pub mod OneNumeral
 pub mod ReadBack
 pub mod References
 pub mod RisingKeys

@@ -4,6 +4,7 @@ pub mod Moments
 pub mod Places
 pub mod Degrees
 pub mod CanonicalDegrees
+pub mod Canonical
 pub mod Elements
 pub mod CanonicalLine
 pub mod Limits

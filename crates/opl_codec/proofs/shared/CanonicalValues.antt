@@ -1,5 +1,5 @@
 -- Numbers, moments and degrees in their canonical spelling: each spells its value, and has only graphic bytes.
-use Rattle.std.proofs.Common.{◌≡◌, ℕ, ◌+◌, ◌/◌, ◌%◌, ◌^◌, ◌<◌, ◌≤◌, List, [], ◌∷◌, ◌++◌, length, Bool, true, false, ◌==◌, ℤ, unsigned_abs, FitsSigned, Option, Some, None, MatchOption, refl, ap, subst, sym, arith}
+use Rattle.std.proofs.Common.{◌≡◌, ℕ, ◌+◌, ◌/◌, ◌%◌, ◌^◌, ◌<◌, ◌≤◌, List, [], ◌∷◌, ◌++◌, Bool, true, false, ◌==◌, ℤ, unsigned_abs, FitsSigned, Option, Some, None, MatchOption, refl, subst, sym, arith}
 use Rattle.std.specs.Bool.{⊤}
 use Rattle.std.specs.Int.{w64}
 use Rattle.std.specs.Char.{digit_value}
@@ -12,9 +12,10 @@ use Rattle.std.proofs.lemmas.Str.Parse.{digit_from_value}
 use Rattle.osm_model.specs.Bytes.{at_sign, colon, comma, digit_zero, exclamation_mark, hyphen, tilde}
 use Rattle.osm_model.specs.CanonicalDegrees.{degrees}
 use Rattle.osm_model.specs.CanonicalLine.{moment, two_digits, four_digits}
-use Rattle.osm_model.specs.Degrees.{IsDegrees, IsDigits, IsFraction, sign, point}
+use Rattle.osm_model.specs.Degrees.{IsDegrees, IsFraction, sign, point}
 use Rattle.osm_model.specs.Letters.{time_mark, zone_mark}
 use Rattle.osm_model.specs.Moments.{Moment, IsMoment}
+use Rattle.osm_model.proofs.shared.OneNumeral.{decimal_digits}
 use Rattle.osm_model.proofs.shared.ReadBack.{reads_back}
 use Rattle.opl_codec.specs.Fields.{IsInteger, Lacks}
 use Rattle.opl_codec.specs.Values.{SpellsVersion, SpellsNumber, SpellsStamp, SpellsCoordinate}
@@ -74,9 +75,6 @@ degrees_numeric text z h =
     subst (AllByRecursion IsNumeric) (sym h.spells.text_is) (all_append IsNumeric (sign d.negative) (d.whole ++ point d.fraction) (sign_numeric d.negative) after)
 
 -- ---- whole numbers
-
-decimal_digits : (n : ℕ) → n < 2 ^ 64 → IsDigits (decimal n)
-decimal_digits n fits = let numeral = decimal_is_IsNumeral n fits in ((λ none. let long : 0 < length (decimal n) = numeral.0.0 in omega (arith, ap (λ x. length x) none)), numeral.0.1)
 
 pub version_spells : (n : ℕ) → n < 2 ^ 32 → SpellsVersion (decimal n) n
 version_spells n fits = let small : n < 2 ^ 64 = omega arith in (decimal_digits n small, (decimal_is_IsNumeral n small).1, fits)

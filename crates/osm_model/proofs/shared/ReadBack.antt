@@ -3,13 +3,11 @@ use Rattle.std.proofs.Common.{◌≡◌, ℕ, ◌+◌, ◌-◌, ◌*◌, ◌/◌
 use Rattle.std.specs.Str.Parse.{AllDigits, digits_value, digits_value_after}
 use Rattle.std.specs.Fmt.{decimal}
 use Rattle.std.proofs.lemmas.Fmt.{decimal_is_IsNumeral}
-use Rattle.osm_model.specs.Degrees.{IsDegrees, IsDigits, sign, with_sign}
+use Rattle.osm_model.specs.Degrees.{IsDegrees, sign, with_sign}
 use Rattle.osm_model.specs.CanonicalDegrees.{degrees, decimals_of, with_point, is_negative}
 use Rattle.osm_model.proofs.shared.Digits.{after_append}
 use Rattle.osm_model.proofs.Decimals.{says, short, are_digits}
-
-are_whole : (w : ℕ) → w < 2 ^ 64 → IsDigits (decimal w)
-are_whole w fits = let whole = decimal_is_IsNumeral w fits in ((λ none. let long : 0 < length (decimal w) = whole.0.0 in omega (arith, ap (λ x. length x) none)), whole.0.1)
+use Rattle.osm_model.proofs.shared.OneNumeral.{decimal_digits}
 
 -- a whole number and decimals spell the value that they say
 spelled : (negative : Bool) (w n : ℕ) (ds : List ℕ) (z : ℤ) → w < 2 ^ 64 → AllDigits 10 ds → length ds ≤ 7
@@ -19,7 +17,7 @@ spelled negative w n [] z fits digits few value is =
     let all : digits_value 10 (decimal w ++ []) ≡ w = ap (digits_value 10) (append-nil (decimal w)) ∙ whole.1 in
     record {
       parts = record { negative = negative; whole = decimal w; fraction = None };
-      spells = record { decimal = record { whole = are_whole w fits; fraction = tt }; text_is = refl };
+      spells = record { decimal = record { whole = decimal_digits w fits; fraction = tt }; text_is = refl };
       fine = few;
       value_is = ap (λ m. with_sign negative (m * 10 ^ 7)) all ∙ ap (with_sign negative) value ∙ is;
     }
@@ -29,7 +27,7 @@ spelled negative w n (d ∷ ds) z fits digits few value is =
     after_append 0 (decimal w) (d ∷ ds) ∙ ap (λ m. digits_value_after 10 m (d ∷ ds)) whole.1 in
     record {
       parts = record { negative = negative; whole = decimal w; fraction = Some (d ∷ ds) };
-      spells = record { decimal = record { whole = are_whole w fits; fraction = ((λ none. let clash : d ∷ ds ≡ [] = none in cc), digits) }; text_is = refl };
+      spells = record { decimal = record { whole = decimal_digits w fits; fraction = ((λ none. let clash : d ∷ ds ≡ [] = none in cc), digits) }; text_is = refl };
       fine = few;
       value_is = ap (λ m. with_sign negative (m * 10 ^ (7 - length (d ∷ ds)))) all ∙ ap (with_sign negative) value ∙ is;
     }
