@@ -1,7 +1,6 @@
 -- How a line is cut into fields, apart from how it is read.
--- Source: Osmium's OPL manual: fields separated by spaces, in any order, each with a letter. That just
--- one space separates two fields is this project's.
-use Rattle.std.specs.Prelude.{◌≡◌, ℕ, ℤ, Bool, false, ◌==◌, if◌then◌else◌, List, [], ◌∷◌, ◌++◌, Option, Some, None, MatchOption, ⊤}
+-- Source: Osmium's OPL manual: fields in any order, each with a letter.
+use Rattle.std.specs.Prelude.{◌≡◌, ℕ, ℤ, Bool, false, ◌==◌, if◌then◌else◌, List, [], ◌∷◌, ◌++◌, Option, Some, None, ⊤}
 use Rattle.std.specs.List.{AllByRecursion}
 use Rattle.std.specs.Str.Parse.{digits_value}
 use Rattle.osm_model.specs.Degrees.{sign, with_sign, IsDigits}
@@ -35,10 +34,6 @@ field letter ((first ∷ text) ∷ fields) = if first == letter then Some text e
 abbrev pub IsOnce : List (List ℕ) → Type 0
 IsOnce [] = ⊤
 IsOnce (f ∷ fields) = (field (letter_of f) fields ≡ None) × IsOnce fields
-
--- a field that is missing has its default, and one that is there spells its value
-abbrev pub Given : Option (List ℕ) → Type 0 → (List ℕ → Type 0) → Type 0
-Given found missing spelled = MatchOption found missing spelled
 
 -- a whole number: an optional minus and digits, leading zeros allowed
 pub record IsInteger (text : List ℕ) (z : ℤ) : Type 0 where

@@ -10,7 +10,7 @@ use std::fmt;
 pub enum OplCause {
     /// The line begins with no letter of an object. At byte 0.
     UnknownObject,
-    /// The id isn't a whole number of 64 bits. At byte 1.
+    /// The id isn't a whole number of 64 bits with a sign. At byte 1.
     BadId,
     /// A field without a letter, or with an unknown one. At the field's first byte.
     UnknownField,
@@ -24,7 +24,7 @@ pub enum OplCause {
     BadEscape,
     /// The line isn't UTF-8. At the first byte that isn't.
     NotUtf8,
-    /// A node without a location. At the line's length.
+    /// A node without a location. At the length of the line without its CR.
     NoLocation,
     /// A deleted object, in a file that is to hold a set. At byte 0.
     Deleted,
@@ -32,9 +32,9 @@ pub enum OplCause {
     LocatedNode,
     /// The line has more than 2^25 bytes. At byte 2^25.
     LineTooLong,
-    /// The model refuses the value: at the field's first byte a location out of range, tags over a
-    /// limit or a key twice; at byte 0 an object that an earlier line has, or one whose canonical line
-    /// is over its limit.
+    /// The model refuses the value: at the field's first byte degrees out of range, a text or a list over
+    /// its limit, or a key twice; at byte 0 an object that an earlier line has, or one whose canonical
+    /// line is over its limit.
     OutsideModel,
     /// The reader failed. At byte 0 of the line that was being read.
     ReaderFailed,

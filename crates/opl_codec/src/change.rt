@@ -7,6 +7,6 @@ use osm_model::{Object, Ref};
 pub enum Change {
     /// The object is as the line says.
     Put(Object),
-    /// The object is deleted. No line says so yet.
+    /// The object of this name is deleted.
     Delete(Ref),
 }
