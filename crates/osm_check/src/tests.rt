@@ -9,6 +9,14 @@ use std::test::Fail;
 
 const TWO_NODES: &str = "n1 Thighway=crossing x13.4 y52.5\nn2 x13.4000001 y52.5\n";
 
+/// A node with all of its metadata, one with none, a way and a relation.
+const ALL_KINDS: &str = "\
+n1 v1 dV c5 t2020-01-02T03:04:05Z i7 uAnn Thighway=crossing x13.4 y52.5
+n2 x13.4000001 y52.5
+w10 Thighway=primary,name=A%20%B Nn1,n2,n1
+r100 Ttype=route Mw10@outer,n99@stop,r100@
+";
+
 const FIRST: &[u8] = b"node(1);out;";
 
 const FIRST_ANSWER: &[u8] = b"n1 Thighway=crossing x13.4 y52.5\n";
@@ -29,7 +37,7 @@ fn root_from(alloc: Global, digits: &str) -> Result<Digest, Fail> {
 }
 
 /// Files and their roots, which an independent program computed.
-const ROOTS: [(&str, &str); 4] = [
+const ROOTS: [(&str, &str); 5] = [
     (
         "",
         "e3b0c44298fc1c149afbf4c8996fb92427ae41e4649b934ca495991b7852b855",
@@ -45,6 +53,10 @@ const ROOTS: [(&str, &str); 4] = [
     (
         "n9223372036854775807 x-180 y-90\nn-9223372036854775808 x180 y90\n",
         "99fcd66c4683b05e8edf0090c67d41a9b2314845c3a18c015803fb6fbf13de69",
+    ),
+    (
+        ALL_KINDS,
+        "06baa8759c8bc621b8b4b948b7d1b636d16d99996cd175fd976931c6fbf80075",
     ),
 ];
 
@@ -68,9 +80,11 @@ fn one_root_for_a_set(rt: HostRuntime) -> Result<(), Fail> {
     let alloc = rt.alloc();
     let set = set_of(
         alloc,
-        "n2 y52.5 x13.4000001\n\nn1 y52.50 Thighway=crossing x013.4",
+        "r100 Mw10@outer,n99@stop,r100@ Ttype=route\r\n# x\r\n\
+            w10 Nn1,n2,n1 Tname=A%0020%B,highway=primary\r\nn2 y52.50 x013.4000001\r\n\
+            n1 y52.5 x13.4 Thighway=crossing uAnn i7 t2020-01-02T03:04:05Z c5 dV v1",
     )?;
-    assert_eq!(rt; root_of(alloc, &set)?, root_from(alloc, ROOTS[1].1)?);
+    assert_eq!(rt; root_of(alloc, &set)?, root_from(alloc, ROOTS[4].1)?);
     Ok(())
 }
 
@@ -189,6 +203,14 @@ fn spoiled_proofs(rt: HostRuntime) -> Result<(), Fail> {
         "n1 v0 dV c0 t i0 u T y1 x1\n",
         "n1 v0 dV c0 t i0 u T x1.0 y1\n",
         "n1 v0 dV c0 t i0 u Tb=,a= x1 y1\n",
+        "n1 v0 dV c0 t i0 u T x1 y1\r\n",
+        "# x\n",
+        "n1 v0 dD c0 t i0 u T x1 y1\n",
+        "w1 dD\n",
+        "w1 v0 dV c0 t i0 u T\n",
+        "w1 v0 dV c0 t i0 u T Nn01\n",
+        "w1 v0 dV c0 t i0 u Ta=%E9% N\n",
+        "r1 v0 dV c0 t i0 u T Mn1@%41%\n",
         "\n",
         "n1 v0 dV c0 t i0 u T x181 y1\n",
     ];

@@ -42,6 +42,8 @@ impl Read for SlowReader<'_> {
 enum Stop {
     Fails,
     TakesNothing,
+    /// It takes all, and its flush fails.
+    HoldsBack,
 }
 
 /// A writer that takes some bytes a call, and stops at one call (0: at none).
@@ -60,7 +62,7 @@ impl Write for NarrowWriter {
         if self.calls == self.stops_at {
             return match self.stop {
                 Stop::Fails => Err(io::Error::from(io::ErrorKind::Other)),
-                Stop::TakesNothing => Ok(0),
+                Stop::TakesNothing | Stop::HoldsBack => Ok(0),
             };
         }
         let len = self.at_once.min(buf.len());
@@ -69,6 +71,9 @@ impl Write for NarrowWriter {
     }
 
     fn flush(&mut self) -> io::Result<()> {
+        if self.stop == Stop::HoldsBack {
+            return Err(io::Error::from(io::ErrorKind::Other));
+        }
         Ok(())
     }
 }
@@ -178,6 +183,23 @@ fn writers_stop(rt: HostRuntime) -> Result<(), Fail> {
         }
     }
     Ok(())
+}
+
+/// A flush that fails is a device's fault, though all was written.
+#[test]
+fn flushes_fail(rt: HostRuntime) {
+    let alloc = rt.alloc();
+    let mut output = NarrowWriter {
+        taken: Vec::new(alloc),
+        at_once: 64,
+        stops_at: 0,
+        stop: Stop::HoldsBack,
+        calls: 0,
+    };
+    let input = &mut TWO_NODES.as_bytes();
+    let outcome = ask(alloc, FIRST.as_bytes(), input, &mut output);
+    assert_eq!(rt; outcome, Err(CommandFault::Device));
+    assert_eq!(rt; output.taken.as_slice(), FIRST_ANSWER.as_bytes());
 }
 
 /// Out of memory, or the whole result: also where an allocation is refused (tests/system).

@@ -1,6 +1,9 @@
 //! Files as sets: lines in any order, pieces of any size, repeated objects, failing readers.
 
-use crate::{Change, LineReader, LoadFault, OplCause, OplFault, PieceReader, cut, read_set};
+use crate::{
+    Change, LineReader, LoadFault, OplCause, OplFault, OutMode, PieceReader, cut, read_set,
+    write_object,
+};
 use osm_model::{Kind, Ref};
 use std::alloc::{AllocError, Global};
 use std::io;
@@ -268,6 +271,60 @@ fn lines_are_told_one_after_the_other(rt: HostRuntime) {
             assert_eq!(rt; next_id(&mut reader).err(), last, "again, of {file:?}");
         }
     }
+}
+
+/// All kinds of objects, and comments, a byte at a time.
+#[test]
+fn all_kinds_are_read_a_byte_at_a_time(rt: HostRuntime) -> Result<(), Fail> {
+    let file = "r100 Mw10@outer,n99@stop,r100@ Ttype=route\r\n# x\r\nw10 Nn1,n2,n1 \
+        Tname=A%0020%B,highway=primary\r\nn2 y52.5 x13.4000001\r\nn1 y52.5 x13.4 \
+        Thighway=crossing uAnn i7 t2020-01-02T03:04:05Z c5 dV v1";
+    let canonical = "n1 v1 dV c5 t2020-01-02T03:04:05Z i7 uAnn Thighway=crossing x13.4 y52.5\n\
+        n2 v0 dV c0 t i0 u T x13.4000001 y52.5\n\
+        w10 v0 dV c0 t i0 u Thighway=primary,name=A%20%B Nn1,n2,n1\n\
+        r100 v0 dV c0 t i0 u Ttype=route Mw10@outer,n99@stop,r100@\n";
+    let mut reader = SlowReader {
+        left: file.as_bytes(),
+        at_once: 1,
+        fails_at: 0,
+        calls: 0,
+    };
+    let set = read_set(rt.alloc(), &mut reader)?;
+    let mut text = Vec::new(rt.alloc());
+    for object in set.as_slice() {
+        write_object(object, OutMode::Meta, &mut text)?;
+    }
+    assert_eq!(rt; text.as_slice(), canonical.as_bytes());
+    Ok(())
+}
+
+/// What a reader of two lines tells: both, and the end, or out of memory, which is told again.
+fn two_lines(rt: &impl Abort, alloc: Global) -> Result<(), LoadFault> {
+    let slow = SlowReader {
+        left: b"n1 Ta=1 x1 y1\nw2 Nn1,n2",
+        at_once: 7,
+        fails_at: 0,
+        calls: 0,
+    };
+    let mut reader = LineReader::new(alloc, slow);
+    for wanted in [Some((1, 1)), Some((2, 2)), None] {
+        match next_id(&mut reader) {
+            Ok(told) => assert_eq!(rt; told, wanted),
+            Err(told) => {
+                assert_eq!(rt; Some(told), fault(0, OplCause::Memory, 0));
+                assert_eq!(rt; next_id(&mut reader), Err(told));
+                return Err(told);
+            }
+        }
+    }
+    Ok(())
+}
+
+#[test]
+fn memory_changes_no_line(rt: HostRuntime) -> Result<(), LoadFault> {
+    let alloc = rt.alloc();
+    let _ = two_lines(&rt, alloc);
+    two_lines(&rt, alloc)
 }
 
 #[test]
