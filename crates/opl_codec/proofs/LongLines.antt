@@ -1,5 +1,5 @@
 -- A line of too many bytes is refused for them.
-use Rattle.std.proofs.Common.{◌≡◌, ℕ, ◌<◌, ◌≤◌, List, [], length, refl, arith}
+use Rattle.std.proofs.Common.{ℕ, ◌<◌, ◌≤◌, List, [], length, refl, arith}
 use Rattle.opl_codec.specs.LineChanges.{IsSkipped, Spells}
 use Rattle.opl_codec.specs.LineReads.{IsRefused}
 use Rattle.opl_codec.specs.declared.cause.OplCause.TheVariants as causes

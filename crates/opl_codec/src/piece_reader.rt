@@ -1,16 +1,17 @@
 //! A reader's bytes, piece by piece.
 
-ghost use Rattle.std.specs.Prelude.{◌≡◌, ◌≤◌, ◌<◌, ◌+◌, ◌^◌, [], length, IfOk, IfErr, OnOk, OnErr, MatchBool};
+ghost use Rattle.std.specs.Prelude.{◌≡◌, ◌≤◌, ◌<◌, ◌+◌, [], length, IfOk, IfErr, OnOk, OnErr, MatchBool};
 ghost use Rattle.std.specs.Io.KnownBytes.{Consumes, IsAtEnd, Keeps};
+ghost use Rattle.opl_codec.specs.declared.piece_reader.TheConstants.{PIECE_LIMIT, READ_LIMIT};
 
 use std::io::Read;
 use std::marker::Model;
 
 /// The greatest number of bytes that one read asks for.
-const PIECE: usize = 65_536;
+const PIECE_LIMIT: usize = 65_536;
 
 /// The greatest number of reads of one reader.
-const READS: u64 = 4_294_967_296;
+const READ_LIMIT: u64 = 4_294_967_296;
 
 /// Why there is no next piece.
 #[derive(Clone, Copy, Debug, PartialEq, Eq)]
@@ -25,21 +26,22 @@ pub enum PieceFault {
 /// see how many reads were made, and the bytes of the last one.
 #[derive(Drop)]
 pub struct PieceReader {
-    buffer: [u8; PIECE],
+    buffer: [u8; PIECE_LIMIT],
     /// How many bytes of the buffer are the last piece.
     len: usize,
     reads: u64,
 }
 
 impl Model for PieceReader {
-    ghost use Rattle.std.specs.Prelude.{◌≤◌, ◌^◌, take};
+    ghost use Rattle.std.specs.Prelude.{◌≤◌, take};
     ghost use Rattle.opl_codec.specs.PieceReads.{PieceRead};
+    ghost use Rattle.opl_codec.specs.declared.piece_reader.TheConstants.{PIECE_LIMIT, READ_LIMIT};
 
     ghost Value = { PieceRead };
 
     ghost view = { λ p. record { reads = p.reads; last = take p.len p.buffer } };
 
-    ghost invariant = { λ p. (p.len ≤ 65536) × (p.reads ≤ 2 ^ 32) };
+    ghost invariant = { λ p. (p.len ≤ PIECE_LIMIT) × (p.reads ≤ READ_LIMIT) };
 }
 
 impl PieceReader {
@@ -48,7 +50,7 @@ impl PieceReader {
         ensures { result ≡ record { reads = 0; last = [] } }
     {
         PieceReader {
-            buffer: [0; PIECE],
+            buffer: [0; PIECE_LIMIT],
             len: 0,
             reads: 0,
         }
@@ -65,16 +67,16 @@ impl PieceReader {
         // There is one, or the reader is at its end.
         ensures more { IfOk result (λ more. MatchBool more (0 < length self.new.last) ((self.new.last ≡ []) × IsAtEnd (R.remaining reader.new))) }
         ensures counted { OnOk result (self.new.reads ≡ self.old.reads + 1) }
-        ensures few { self.new.reads ≤ 2 ^ 32 }
+        ensures few { self.new.reads ≤ READ_LIMIT }
         // A refusal takes no byte of the reader, and leaves no piece.
         ensures kept { OnErr result (Keeps (R.remaining reader.old) (R.remaining reader.new)) }
         ensures none { OnErr result (self.new.last ≡ []) }
-        ensures short { length self.new.last ≤ 65536 }
+        ensures short { length self.new.last ≤ PIECE_LIMIT }
         // It is refused as endless only after 2^32 reads.
-        ensures endless { IfErr result (λ fault. fault ≡ PieceFault.Endless → self.old.reads ≡ 2 ^ 32) }
+        ensures endless { IfErr result (λ fault. fault ≡ PieceFault.Endless → self.old.reads ≡ READ_LIMIT) }
     {
         self.len = 0;
-        if self.reads >= READS {
+        if self.reads >= READ_LIMIT {
             return Err(PieceFault::Endless);
         }
         let Ok(len) = reader.read(&mut self.buffer) else {

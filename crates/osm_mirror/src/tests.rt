@@ -1,8 +1,11 @@
 mod files;
 
+ghost use Rattle.std.specs.Prelude.{true};
+
 use crate::ask::ask;
 use crate::command_fault::CommandFault;
 use crate::outlet::{Outlet, told};
+use crate::status::Status;
 use std::alloc::Global;
 use std::io;
 use std::io::{Read, Write};
@@ -79,7 +82,7 @@ impl Write for NarrowWriter {
 }
 
 impl Outlet for NarrowWriter {
-    ghost is_flushed = { λ _. Rattle.std.specs.Prelude.true };
+    ghost is_flushed = { λ _. true };
 
     fn hand_on(&mut self) -> Result<(), CommandFault> {
         told(self.flush())
@@ -200,6 +203,21 @@ fn flushes_fail(rt: HostRuntime) {
     let outcome = ask(alloc, FIRST.as_bytes(), input, &mut output);
     assert_eq!(rt; outcome, Err(CommandFault::Device));
     assert_eq!(rt; output.taken.as_slice(), FIRST_ANSWER.as_bytes());
+}
+
+/// The lines on standard error of faults that no row of tests/system meets, and the others without a place.
+#[test]
+fn faults_have_their_texts(rt: HostRuntime) -> Result<(), Fail> {
+    for (fault, text, status) in [
+        (CommandFault::Endless, "O15", Status::Refused),
+        (CommandFault::Memory, "no memory", Status::Failed),
+        (CommandFault::Device, "device", Status::Failed),
+    ] {
+        let told = format!(in rt.alloc(); "{fault}")?;
+        assert_eq!(rt; told.as_str(), text);
+        assert_eq!(rt; fault.status(), status);
+    }
+    Ok(())
 }
 
 /// Out of memory, or the whole result: also where an allocation is refused (tests/system).

@@ -1,6 +1,6 @@
 -- A reader's bytes that were read and not yet told.
 -- Source: this project.
-use Rattle.std.specs.Prelude.{◌≡◌, ℕ, ◌+◌, ◌-◌, ◌*◌, ◌≤◌, ◌^◌, ◌⊎◌, true, false, List, [], Option, Some, None, Result, ⊤, Ok, Err, MatchOption, drop, length}
+use Rattle.std.specs.Prelude.{◌≡◌, ℕ, ◌+◌, ◌-◌, ◌*◌, ◌≤◌, ◌⊎◌, true, false, List, [], Option, Some, None, Result, ⊤, Ok, Err, MatchOption, drop, length}
 use Rattle.std.specs.List.{AllByRecursion}
 use Rattle.std.specs.Io.KnownBytes.{IsAtEnd, prepend_known}
 use Rattle.osm_model.specs.Bytes.{line_feed}
@@ -12,6 +12,7 @@ use Rattle.opl_codec.specs.declared.fault.LoadFault.{LoadFault}
 use Rattle.opl_codec.specs.declared.fault.OplFault.{OplFault}
 use Rattle.opl_codec.specs.declared.line_buffer.LineBuffer.{LineBuffer}
 use Rattle.opl_codec.specs.declared.line_buffer.Step.{Step}
+use Rattle.opl_codec.specs.declared.piece_reader.TheConstants.{PIECE_LIMIT, READ_LIMIT}
 use Rattle.opl_codec.specs.declared.line_buffer.Step.TheVariants as steps
 
 -- the bytes of the last piece that no line has yet
@@ -25,10 +26,10 @@ place known b = record { lines = b.lines; taken = b.total - length (unread b); l
 -- what always holds of a buffer that goes on
 pub record IsSound (b : LineBuffer) : Type 0 where
   pub within : b.from ≤ length b.pieces.last
-  pub short : length b.pieces.last ≤ 65536
+  pub short : length b.pieces.last ≤ PIECE_LIMIT
   pub counted : b.lines + length b.pending.items + length (unread b) ≤ b.total
-  pub few : b.total ≤ 65536 * b.pieces.reads
-  pub reads : b.pieces.reads ≤ 2 ^ 32
+  pub few : b.total ≤ PIECE_LIMIT * b.pieces.reads
+  pub reads : b.pieces.reads ≤ READ_LIMIT
   pub many : b.is_ended ≡ false → b.pieces.reads ≤ b.total
   pub ended : b.is_ended ≡ true → unread b ≡ []
 
