@@ -1,3 +1,5 @@
 pub mod Queries
 pub mod Meaning
 pub mod Refusals
+pub mod Values
+pub mod Meanings
