@@ -4,3 +4,8 @@ pub mod Stops
 pub mod Opened
 pub mod OneObject
 pub mod Meanings
+pub mod References
+pub mod Adding
+pub mod ObjectLists
+pub mod Mapped
+pub mod Linking

@@ -3,3 +3,4 @@ pub mod Meaning
 pub mod Refusals
 pub mod Values
 pub mod Meanings
+pub mod internal

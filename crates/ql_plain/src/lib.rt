@@ -7,8 +7,11 @@
 mod answer;
 mod common_front;
 mod fault;
+mod links;
+mod object_test;
 mod parser;
 mod query;
+mod sets;
 
 pub use answer::answer_plain;
 pub use common_front::common_len;
