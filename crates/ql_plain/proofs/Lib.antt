@@ -9,3 +9,5 @@ pub mod Adding
 pub mod ObjectLists
 pub mod Mapped
 pub mod Linking
+pub mod Kept
+pub mod NamedLists

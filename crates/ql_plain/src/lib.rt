@@ -8,9 +8,11 @@ mod answer;
 mod common_front;
 mod fault;
 mod links;
+mod named_set;
 mod object_test;
 mod parser;
 mod query;
+mod ref_sets;
 mod sets;
 
 pub use answer::answer_plain;
