@@ -11,3 +11,6 @@ pub mod Mapped
 pub mod Linking
 pub mod Kept
 pub mod NamedLists
+pub mod Leading
+pub mod Listing
+pub mod FilterSets

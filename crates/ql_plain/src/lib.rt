@@ -9,10 +9,13 @@ mod common_front;
 mod fault;
 mod links;
 mod named_set;
+mod neighbours;
 mod object_test;
 mod parser;
+mod passing;
 mod query;
 mod ref_sets;
+mod select;
 mod sets;
 
 pub use answer::answer_plain;

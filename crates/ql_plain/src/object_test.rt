@@ -8,6 +8,7 @@ use osm_model::{Body, BoxArea, Kind, Object};
 use ql_syntax::Pick;
 
 /// A test that looks at an object alone, and at no set.
+#[derive(Clone, Copy)]
 pub enum ObjectTest<'f> {
     /// Of the kind of a query statement.
     Picked(Pick),

@@ -30,3 +30,19 @@ IsLinkOf objects parent link = (link.parent ≡ reference parent) × BodyLists p
 -- the links are all those between objects of the list
 abbrev pub AreLinks : List Element → List Link → Type 0
 AreLinks objects links = (link : Link) → Contains links link ↔ ((parent child : Element) × IsParent objects parent child × (link ≡ record { parent = reference parent; child = reference child }))
+
+-- the link leads down from an object of this kind in the set to this one
+abbrev pub LeadsDown : List Ref → Kind → Link → Ref → Type 0
+LeadsDown from kind link r = (link.parent.kind ≡ kind) × Contains from link.parent × (link.child ≡ r)
+
+-- the link leads up from an object of this kind in the set to this one
+abbrev pub LeadsUp : List Ref → Kind → Link → Ref → Type 0
+LeadsUp from kind link r = (link.child.kind ≡ kind) × Contains from link.child × (link.parent ≡ r)
+
+-- the reference is this one, of an object of the list
+abbrev pub IsThereAs : List Element → Ref → Ref → Type 0
+IsThereAs objects name r = (r ≡ name) × IsThere objects name
+
+-- the reference has this id, and is of an object of the list
+abbrev pub IsThereWith : List Element → ℤ → Ref → Type 0
+IsThereWith objects id r = (r.id ≡ id) × IsThere objects r
