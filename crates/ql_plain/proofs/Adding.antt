@@ -23,7 +23,7 @@ pub item_is_in : {X : Type 0} (xs : List X) (k : ℕ) (x : X) → k < length xs 
 item_is_in xs k x lt is = (k, lt, sym is)
 
 module _ {X : Type 0} (xs : List X) (k : ℕ) (x : X) (lt : k < length xs) (is : x ≡ get_or xs k x) where
-  one_more : take (k + 1) xs ≡ take k xs ++ x ∷ []
+  pub one_more : take (k + 1) xs ≡ take k xs ++ x ∷ []
   one_more = take_more xs k x lt ∙ ap (λ (z : X). take k xs ++ z ∷ []) (sym is)
 
   pub was_in_more : (y : X) → Contains (take k xs) y → Contains (take (k + 1) xs) y

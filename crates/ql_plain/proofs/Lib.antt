@@ -14,3 +14,4 @@ pub mod NamedLists
 pub mod Leading
 pub mod Listing
 pub mod FilterSets
+pub mod Selecting

@@ -4,6 +4,7 @@ ghost use Rattle.std.specs.Prelude.{IfOk, OnOk};
 ghost use Rattle.std.specs.List.{Contains};
 ghost use Rattle.std.specs.List.Sorted.{IsStrictlySortedBy};
 ghost use Rattle.osm_model.specs.Elements.{ref_cmp};
+ghost use Rattle.osm_model.specs.Sets.{IsObjectSet};
 ghost use Rattle.ql_syntax.specs.StatementViews.{filter_of};
 ghost use Rattle.ql_plain.specs.Meanings.{IsSetOf};
 ghost use Rattle.ql_plain.specs.Values.{IsIn, IsOnPath, IsRefOf, Passes};
@@ -52,7 +53,9 @@ pub fn those(
     test: &ObjectTest<'_>,
     set: &ObjectSet,
 ) -> Result<Vec<Ref>, AllocError>
-    ensures { IfOk result (λ refs. IsSetOf refs.items (IsRefOf set.now (Takes test.now))) }
+    ensures taken { IfOk result (λ refs. IsSetOf refs.items (IsRefOf set.now (Takes test.now))) }
+    // As its type says.
+    ensures set { IsObjectSet set.now }
 {
     let objects = set.as_slice();
     let mut refs = Vec::new(alloc);

@@ -18,22 +18,22 @@ returns-in-InSet c =
 pub returns-in-HasKey : goal.returns-in-HasKey
 returns-in-HasKey c =
     of_filter c.args.set.now c.those.result (lists_of c.args.sets.now.named.items) _ _ c.in-HasKey.is
-    (with_key c.args.set.now c.those.result _ c.in-HasKey.key c.as_bytes-in-HasKey.ensures c.those.ensures)
+    (with_key c.args.set.now c.those.result _ c.in-HasKey.key c.as_bytes-in-HasKey.ensures c.those.ensures.taken)
 
 pub returns-in-KeyIs : goal.returns-in-KeyIs
 returns-in-KeyIs c =
     of_filter c.args.set.now c.those-in-KeyIs.result (lists_of c.args.sets.now.named.items) _ _ c.in-KeyIs.is
-    (with_tag c.args.set.now c.those-in-KeyIs.result _ c.in-KeyIs.key _ c.in-KeyIs.value c.as_bytes-in-KeyIs.ensures c.as_bytes-in-KeyIs-2.ensures c.those-in-KeyIs.ensures)
+    (with_tag c.args.set.now c.those-in-KeyIs.result _ c.in-KeyIs.key _ c.in-KeyIs.value c.as_bytes-in-KeyIs.ensures c.as_bytes-in-KeyIs-2.ensures c.those-in-KeyIs.ensures.taken)
 
 pub returns-in-LacksKey : goal.returns-in-LacksKey
 returns-in-LacksKey c =
     of_filter c.args.set.now c.those-in-LacksKey.result (lists_of c.args.sets.now.named.items) _ _ c.in-LacksKey.is
-    (without_key c.args.set.now c.those-in-LacksKey.result _ c.in-LacksKey.key c.as_bytes-in-LacksKey.ensures c.those-in-LacksKey.ensures)
+    (without_key c.args.set.now c.those-in-LacksKey.result _ c.in-LacksKey.key c.as_bytes-in-LacksKey.ensures c.those-in-LacksKey.ensures.taken)
 
 pub returns-in-KeyIsNot : goal.returns-in-KeyIsNot
 returns-in-KeyIsNot c =
     of_filter c.args.set.now c.those-in-KeyIsNot.result (lists_of c.args.sets.now.named.items) _ _ c.in-KeyIsNot.is
-    (without_tag c.args.set.now c.those-in-KeyIsNot.result _ c.in-KeyIsNot.key _ c.in-KeyIsNot.value c.as_bytes-in-KeyIsNot.ensures c.as_bytes-in-KeyIsNot-2.ensures c.those-in-KeyIsNot.ensures)
+    (without_tag c.args.set.now c.those-in-KeyIsNot.result _ c.in-KeyIsNot.key _ c.in-KeyIsNot.value c.as_bytes-in-KeyIsNot.ensures c.as_bytes-in-KeyIsNot-2.ensures c.those-in-KeyIsNot.ensures.taken)
 
 pub returns-in-Ids : goal.returns-in-Ids
 returns-in-Ids c =
@@ -43,7 +43,7 @@ returns-in-Ids c =
 pub returns-in-Within : goal.returns-in-Within
 returns-in-Within c =
     of_filter c.args.set.now c.those-in-Within.result (lists_of c.args.sets.now.named.items) _ _ c.in-Within.is
-    (subst (λ (area : ExactBox). IfOk c.those-in-Within.result (λ refs. IsSetOf refs.items (IsRefOf c.args.set.now (λ o. (place : Place) × (o.body ≡ bodies.Node place) × Holds area place)))) c.deref.ensures c.those-in-Within.ensures)
+    (subst (λ (area : ExactBox). IfOk c.those-in-Within.result (λ refs. IsSetOf refs.items (IsRefOf c.args.set.now (λ o. (place : Place) × (o.body ≡ bodies.Node place) × Holds area place)))) c.deref.ensures c.those-in-Within.ensures.taken)
 
 pub returns-in-Via : goal.returns-in-Via
 returns-in-Via c =

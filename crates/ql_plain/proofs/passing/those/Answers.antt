@@ -29,8 +29,8 @@ loop-object-preserved c =
           (ap (λ (v : Vec Ref Global). v.items) w.refs-is) (λ takes. let yes_takes = c.takes.ensures.1 takes in let not = w.if-takes.false in cc)
     ]
 
-pub returns : goal.returns
-returns c =
+pub returns-clause-taken : goal.returns-clause-taken
+returns-clause-taken c =
     let rising = subst (λ (objects : List Element). IsStrictlySortedBy ref_cmp (map (λ (o : Element). reference o) objects)) (sym c.as_slice-objects.ensures.value) c.as_slice-objects.ensures.set.rising in
     subst (λ (objects : List Element). IsSetOf c.loop-object.refs.items (IsRefOf objects (Takes c.args.test.now))) c.as_slice-objects.ensures.value
     (kept_all (λ (o : Element). reference o) c.as_slice-objects.result.now rising (Takes c.args.test.now) c.loop-object.object-index c.loop-object-test.false _ c.loop-object.invariant)
