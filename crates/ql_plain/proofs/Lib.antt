@@ -15,3 +15,4 @@ pub mod Leading
 pub mod Listing
 pub mod FilterSets
 pub mod Selecting
+pub mod OneLink

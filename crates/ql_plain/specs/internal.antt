@@ -3,3 +3,4 @@ pub mod NamedSets
 pub mod Adding
 pub mod Linked
 pub mod Tests
+pub mod Steps

@@ -11,12 +11,14 @@ mod links;
 mod named_set;
 mod neighbours;
 mod object_test;
+mod one_step;
 mod parser;
 mod passing;
 mod query;
 mod ref_sets;
 mod select;
 mod sets;
+mod step;
 
 pub use answer::answer_plain;
 pub use common_front::common_len;

@@ -1,12 +1,12 @@
 //! What a link of membership leads to from the references of a set.
 
-ghost use Rattle.std.specs.Prelude.{◌≡◌, ◌↔◌, List, IfOk, IsTrue};
+ghost use Rattle.std.specs.Prelude.{◌≡◌, ◌↔◌, IfOk, IsTrue};
 ghost use Rattle.std.specs.List.{Contains};
 ghost use Rattle.std.specs.List.Sorted.{IsStrictlySortedBy};
-ghost use Rattle.osm_model.specs.Elements.{Element, ref_cmp};
+ghost use Rattle.osm_model.specs.Elements.{ref_cmp};
 ghost use Rattle.ql_plain.specs.Meanings.{IsSetOf};
-ghost use Rattle.ql_plain.specs.Values.{IsAbove, IsBelow, IsRefOf};
-ghost use Rattle.ql_plain.specs.internal.Linked.{AreLinks};
+ghost use Rattle.ql_plain.specs.internal.Adding.{From};
+ghost use Rattle.ql_plain.specs.internal.Linked.{LeadsDown, LeadsUp};
 
 use crate::links::Link;
 use crate::ref_sets::{is_in, tidy};
@@ -21,7 +21,7 @@ pub fn below(
     kind: Kind,
 ) -> Result<Vec<Ref>, AllocError>
     requires { IsStrictlySortedBy ref_cmp from.now }
-    ensures { (objects : List Element) → AreLinks objects links.now → IfOk result (λ refs. IsSetOf refs.items (IsRefOf objects (IsBelow objects from.now kind))) }
+    ensures { IfOk result (λ refs. IsSetOf refs.items (From links.now (LeadsDown from.now kind))) }
 {
     let mut refs = Vec::new(alloc);
     for link in links {
@@ -41,7 +41,7 @@ pub fn above(
     kind: Kind,
 ) -> Result<Vec<Ref>, AllocError>
     requires { IsStrictlySortedBy ref_cmp from.now }
-    ensures { (objects : List Element) → AreLinks objects links.now → IfOk result (λ refs. IsSetOf refs.items (IsRefOf objects (IsAbove objects from.now kind))) }
+    ensures { IfOk result (λ refs. IsSetOf refs.items (From links.now (LeadsUp from.now kind))) }
 {
     let mut refs = Vec::new(alloc);
     for link in links {

@@ -1,5 +1,5 @@
 -- Links of membership between the references of objects of a list.
-use Rattle.std.specs.Prelude.{◌≡◌, List, ℤ, ◌↔◌}
+use Rattle.std.specs.Prelude.{◌≡◌, ◌≢◌, List, ℤ, ◌↔◌}
 use Rattle.std.specs.List.{Contains}
 use Rattle.osm_model.specs.Elements.{Element, reference}
 use Rattle.osm_model.specs.declared.kind.Kind.{Kind}
@@ -46,3 +46,7 @@ IsThereAs objects name r = (r ≡ name) × IsThere objects name
 -- the reference has this id, and is of an object of the list
 abbrev pub IsThereWith : List Element → ℤ → Ref → Type 0
 IsThereWith objects id r = (r.id ≡ id) × IsThere objects r
+
+-- the reference is this one, of no relation
+abbrev pub IsNoRelation : Ref → Ref → Type 0
+IsNoRelation name r = (name.kind ≢ kinds.Rel) × (name ≡ r)

@@ -3,7 +3,7 @@ use Rattle.std.proofs.lemmas.List.{get_or_default}
 use Rattle.osm_model.specs.declared.kind.Kind.TheVariants.{Node}
 use Rattle.osm_model.specs.declared.reference.Ref.{Ref}
 use Rattle.ql_plain.proofs.Adding.{adds_all, adds_more, adds_nothing, adds_one, adds_start}
-use Rattle.ql_plain.proofs.Leading.{above_is, set_from_added}
+use Rattle.ql_plain.proofs.Leading.{set_from_added}
 use Rattle.ql_plain.specs.declared.links.Link.{Link}
 use Rattle.ql_plain.specs.internal.Adding.{Adds, From}
 use Rattle.ql_plain.specs.internal.Linked.{LeadsUp}
@@ -32,6 +32,4 @@ loop-link-preserved c =
     ])
 
 pub returns : goal.returns
-returns c = λ objects are.
-    let whole = adds_all c.args.links.now (LeadsUp c.args.from.now c.args.kind) c.loop-link.link-index c.loop-link-test.false c.loop-link.invariant in
-    above_is objects c.args.links.now are c.args.from.now c.args.kind (set_from_added whole c.tidy.ensures)
+returns c = set_from_added (adds_all c.args.links.now (LeadsUp c.args.from.now c.args.kind) c.loop-link.link-index c.loop-link-test.false c.loop-link.invariant) c.tidy.ensures
