@@ -16,3 +16,4 @@ pub mod Listing
 pub mod FilterSets
 pub mod Selecting
 pub mod OneLink
+pub mod Stepping
