@@ -17,3 +17,4 @@ pub mod FilterSets
 pub mod Selecting
 pub mod OneLink
 pub mod Stepping
+pub mod Founding

@@ -4,3 +4,4 @@ pub mod Adding
 pub mod Linked
 pub mod Tests
 pub mod Steps
+pub mod Founds

@@ -7,6 +7,7 @@
 mod answer;
 mod common_front;
 mod fault;
+mod found;
 mod links;
 mod named_set;
 mod neighbours;
