@@ -18,3 +18,4 @@ pub mod Selecting
 pub mod OneLink
 pub mod Stepping
 pub mod Founding
+pub mod Paths

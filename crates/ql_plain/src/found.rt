@@ -3,7 +3,7 @@
 ghost use Rattle.std.specs.Prelude.{◌≡◌, [], OnOk};
 ghost use Rattle.std.specs.List.Sorted.{IsSortedByKey};
 ghost use Rattle.osm_model.specs.Elements.{ref_cmp};
-ghost use Rattle.ql_plain.specs.internal.Founds.{AddsName, Follows, IsTold};
+ghost use Rattle.ql_plain.specs.internal.Founds.{AddsName, Follows, IsClosure, IsTold};
 
 use crate::step::{Step, steps_from};
 use osm_model::Ref;
@@ -41,6 +41,22 @@ impl Found {
         let onward = steps_from(steps, name);
         for step in onward {
             self.add(step.to)?;
+        }
+        Ok(())
+    }
+
+    /// Adds what further steps lead to from what was found, until nothing is added. Each reference is
+    /// followed once.
+    pub fn follow_found(&mut self, steps: &[Step]) -> Result<(), AllocError>
+        requires told { IsTold self.old }
+        requires sorted { IsSortedByKey (λ step. step.from) ref_cmp steps.now }
+        ensures { OnOk result (IsClosure steps.now self.old.refs.items self.new.refs.items) }
+    {
+        let mut at = 0;
+        while at < self.refs.len() {
+            let name = self.refs[at];
+            self.follow(steps, name)?;
+            at += 1;
         }
         Ok(())
     }

@@ -5,6 +5,7 @@
 #![tactic(auto)]
 
 mod answer;
+
 mod common_front;
 mod fault;
 mod found;
@@ -15,13 +16,19 @@ mod object_test;
 mod one_step;
 mod parser;
 mod passing;
+mod print;
 mod query;
+mod query_answer;
+mod recurse;
 mod ref_sets;
+mod run;
 mod select;
 mod sets;
 mod step;
+mod written_by;
 
 pub use answer::answer_plain;
+pub use query_answer::answer_query;
 pub use common_front::common_len;
 pub use fault::{QlCause, QlFault};
 pub use parser::{fault_place, never_both, one_fault, one_reading, parse};

@@ -8,7 +8,7 @@ use Rattle.osm_model.specs.declared.reference.Ref.{Ref}
 use Rattle.ql_plain.specs.declared.found.Found.{Found}
 use Rattle.ql_plain.specs.declared.step.Step.{Step}
 use Rattle.ql_plain.specs.internal.Adding.{Adds}
-use Rattle.ql_plain.specs.internal.Steps.{IsStep}
+use Rattle.ql_plain.specs.internal.Steps.{IsPath, IsStep}
 
 -- what is seen is what is listed
 abbrev pub IsTold : Found → Type 0
@@ -41,3 +41,9 @@ pub record Follows (steps : List Step) (name : Ref) (earlier later : List Ref) :
   pub goes : Goes earlier later
   pub adds : Adds earlier later (IsStep steps name)
   pub fewer : missing steps later + length later ≤ missing steps earlier + length earlier
+
+-- what one or more further steps lead to was added, and nothing else
+pub record IsClosure (steps : List Step) (earlier later : List Ref) : Type 0 where
+  pub kept : (r : Ref) → Contains earlier r → Contains later r
+  pub sound : (r : Ref) → Contains later r → Contains earlier r ⊎ ((s : Ref) × Contains earlier s × IsPath steps s r)
+  pub closed : (s r : Ref) → Contains later s → IsStep steps s r → Contains later r
