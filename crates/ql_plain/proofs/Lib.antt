@@ -19,3 +19,4 @@ pub mod OneLink
 pub mod Stepping
 pub mod Founding
 pub mod Paths
+pub mod Running
