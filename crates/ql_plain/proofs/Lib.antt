@@ -20,3 +20,5 @@ pub mod Stepping
 pub mod Founding
 pub mod Paths
 pub mod Running
+pub mod Printing
+pub mod Answering

@@ -5,3 +5,4 @@ pub mod Linked
 pub mod Tests
 pub mod Steps
 pub mod Founds
+pub mod Runs

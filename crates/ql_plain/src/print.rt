@@ -1,6 +1,7 @@
 //! What an out prints.
 
-ghost use Rattle.std.specs.Prelude.{◌≡◌, ◌++◌, OnOk};
+ghost use Rattle.std.specs.Prelude.{◌≡◌, ◌<◌, ◌↔◌, ◌++◌, IsTrue, OnOk};
+ghost use Rattle.std.specs.List.{Contains};
 ghost use Rattle.std.specs.List.Sorted.{IsStrictlySortedBy};
 ghost use Rattle.osm_model.specs.Elements.{ref_cmp};
 ghost use Rattle.ql_plain.specs.Meanings.{printed_of};
@@ -24,10 +25,18 @@ pub fn print(
     let objects = set.as_slice();
     let mut left = limit.unwrap_or(objects.len() as u64);
     for object in objects {
-        if left > 0 && is_in(refs, object.reference()) {
+        if is_next(left, refs, object.reference()) {
             write_object(object, mode, text)?;
             left -= 1;
         }
     }
     Ok(())
+}
+
+/// Whether one more may be printed, and this one is in the set.
+fn is_next(left: u64, refs: &[Ref], name: Ref) -> bool
+    requires { IsStrictlySortedBy ref_cmp refs.now }
+    ensures { IsTrue result ↔ ((0 < left) × Contains refs.now name) }
+{
+    left > 0 && is_in(refs, name)
 }
