@@ -22,3 +22,4 @@ pub mod Paths
 pub mod Running
 pub mod Printing
 pub mod Answering
+pub mod MeaningLaws
