@@ -12,22 +12,20 @@ use Rattle.ql_plain.specs.internal.Runs.{PrintsTo}
 
 prints_more : (objects : List Element) (xs : List Stmt) (x : Stmt) (env mid later : Env) (text : List ℕ)
     → PrintsTo objects (statements_of xs) env mid text → After objects (statement_of x) mid later → PrintsTo objects (statements_of (xs ++ x ∷ [])) env later (text ++ told objects (statement_of x) mid)
-prints_more objects [] x env mid later text so one =
-    (
-      later,
-      [],
-      subst (λ (m : Env). After objects (statement_of x) m later) so.0 one,
-      (refl, refl),
-      ap (λ (bytes : List ℕ). bytes ++ told objects (statement_of x) mid) so.1 ∙ ap (λ (m : Env). told objects (statement_of x) m) so.0 ∙ sym (append-nil (told objects (statement_of x) env)),
-    )
-prints_more objects (y ∷ ys) x env mid later text so one =
-    (
-      so.0,
-      so.1 ++ told objects (statement_of x) mid,
-      so.2,
-      prints_more objects ys x so.0 mid later so.1 so.3 one,
-      ap (λ (bytes : List ℕ). bytes ++ told objects (statement_of x) mid) so.4 ∙ append_assoc (told objects (statement_of y) env) so.1 (told objects (statement_of x) mid),
-    )
+prints_more objects [] x env mid later text so one = (
+  later,
+  [],
+  subst (λ (m : Env). After objects (statement_of x) m later) so.0 one,
+  (refl, refl),
+  ap (λ (bytes : List ℕ). bytes ++ told objects (statement_of x) mid) so.1 ∙ ap (λ (m : Env). told objects (statement_of x) m) so.0 ∙ sym (append-nil (told objects (statement_of x) env)),
+)
+prints_more objects (y ∷ ys) x env mid later text so one = (
+  so.0,
+  so.1 ++ told objects (statement_of x) mid,
+  so.2,
+  prints_more objects ys x so.0 mid later so.1 so.3 one,
+  ap (λ (bytes : List ℕ). bytes ++ told objects (statement_of x) mid) so.4 ∙ append_assoc (told objects (statement_of y) env) so.1 (told objects (statement_of x) mid),
+)
 
 -- one statement more of a list
 pub prints_next : (objects : List Element) (statements : List Stmt) (k : ℕ) (x : Stmt) → k < length statements → x ≡ get_or statements k x → (env mid later : Env) (text all : List ℕ)

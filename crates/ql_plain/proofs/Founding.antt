@@ -119,9 +119,9 @@ module _ (name : Ref) (refs later : List Ref) (added : later ≡ refs ++ name �
     adds = adds_one name added refl (λ r same. same);
     fewer = λ steps step is to.
         let falls : missing steps later < missing steps refs = count_falls (λ (s : Step). not (has refs s.to)) (λ (s : Step). not (has later s.to))
-            (λ s is_new. still_new (has refs s.to) (has later s.to) (λ had. has_it later s.to (in_later s.to (it_is_had refs s.to had))) is_new) steps step is
-            (ap not (false_where_not (has refs step.to) (λ had. new (subst (λ (r : Ref). Contains refs r) to (it_is_had refs step.to had)))))
-            (ap not (has_it later step.to (subst (λ (r : Ref). Contains later r) (sym to) name_in_later))) in
+        (λ s is_new. still_new (has refs s.to) (has later s.to) (λ had. has_it later s.to (in_later s.to (it_is_had refs s.to had))) is_new) steps step is
+        (ap not (false_where_not (has refs step.to) (λ had. new (subst (λ (r : Ref). Contains refs r) to (it_is_had refs step.to had)))))
+        (ap not (has_it later step.to (subst (λ (r : Ref). Contains later r) (sym to) name_in_later))) in
         omega (arith, falls, ap length added, length_push refs name);
   }
     where

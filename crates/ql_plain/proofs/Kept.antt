@@ -113,12 +113,12 @@ found_or_not refs r (Ok at) up bound e = ((λ found. (at, bound, same_reference 
 found_or_not refs r (Err at) up bound parts = (
   (λ found. cc),
   (λ has. absurd (
-    let sides = parts (searchable_from_sorted refs_total (λ (y : Ref). y) refs r (sorted_neighbours refs up)) in
-    let here : ref_cmp (get_or refs has.0 r) r ≡ Equal = ap (λ (y : Ref). ref_cmp y r) has.2 ∙ tied_itself refs_total r in
-    elim (cases_lt has.0 at) [
-      | inl before ↦ (let less = sides.0 has.0 r (omega arith) before in cc)
-      | inr after ↦ (let greater = sides.1 has.0 r after has.1 in cc)
-    ])),
+      let sides = parts (searchable_from_sorted refs_total (λ (y : Ref). y) refs r (sorted_neighbours refs up)) in
+      let here : ref_cmp (get_or refs has.0 r) r ≡ Equal = ap (λ (y : Ref). ref_cmp y r) has.2 ∙ tied_itself refs_total r in
+      elim (cases_lt has.0 at) [
+        | inl before ↦ (let less = sides.0 has.0 r (omega arith) before in cc)
+        | inr after ↦ (let greater = sides.1 has.0 r after has.1 in cc)
+      ])),
 )
 
 -- ---- what is wanted

@@ -21,42 +21,38 @@ module _ (objects : List Element) (links : List Link) (are : AreLinks objects li
   below_is =
       set_as
       (λ r of.
-        let one = (are of.0).0 of.1 in
-        let parent_is : of.0.parent ≡ reference one.0 = ap (λ (l : Link). l.parent) one.3 in
-        let child_is : of.0.child ≡ reference one.1 = ap (λ (l : Link). l.child) one.3 in
-        (
-          one.1,
-          one.2.child_there,
-          sym child_is ∙ of.2.2,
-          (one.0, one.2, ap (λ (s : Ref). s.kind) (sym parent_is) ∙ of.2.0, subst (λ (s : Ref). Contains from s) parent_is of.2.1),
-        ))
+      let one = (are of.0).0 of.1 in
+      let parent_is : of.0.parent ≡ reference one.0 = ap (λ (l : Link). l.parent) one.3 in
+      let child_is : of.0.child ≡ reference one.1 = ap (λ (l : Link). l.child) one.3 in (
+        one.1,
+        one.2.child_there,
+        sym child_is ∙ of.2.2,
+        (one.0, one.2, ap (λ (s : Ref). s.kind) (sym parent_is) ∙ of.2.0, subst (λ (s : Ref). Contains from s) parent_is of.2.1),
+      ))
       (λ r of.
-        let child = of.0 in
-        let above = of.3 in
-        (
-          record { parent = reference above.0; child = reference child },
-          (are _).1 (above.0, child, above.1, refl),
-          (above.2, above.3, of.2),
-        ))
+      let child = of.0 in
+      let above = of.3 in (
+        record { parent = reference above.0; child = reference child },
+        (are _).1 (above.0, child, above.1, refl),
+        (above.2, above.3, of.2),
+      ))
 
   pub above_is : {refs : List Ref} → IsSetOf refs (From links (LeadsUp from kind)) → IsSetOf refs (IsRefOf objects (IsAbove objects from kind))
   above_is =
       set_as
       (λ r of.
-        let one = (are of.0).0 of.1 in
-        let parent_is : of.0.parent ≡ reference one.0 = ap (λ (l : Link). l.parent) one.3 in
-        let child_is : of.0.child ≡ reference one.1 = ap (λ (l : Link). l.child) one.3 in
-        (
-          one.0,
-          one.2.there,
-          sym parent_is ∙ of.2.2,
-          (one.1, one.2, ap (λ (s : Ref). s.kind) (sym child_is) ∙ of.2.0, subst (λ (s : Ref). Contains from s) child_is of.2.1),
-        ))
+      let one = (are of.0).0 of.1 in
+      let parent_is : of.0.parent ≡ reference one.0 = ap (λ (l : Link). l.parent) one.3 in
+      let child_is : of.0.child ≡ reference one.1 = ap (λ (l : Link). l.child) one.3 in (
+        one.0,
+        one.2.there,
+        sym parent_is ∙ of.2.2,
+        (one.1, one.2, ap (λ (s : Ref). s.kind) (sym child_is) ∙ of.2.0, subst (λ (s : Ref). Contains from s) child_is of.2.1),
+      ))
       (λ r of.
-        let parent = of.0 in
-        let below = of.3 in
-        (
-          record { parent = reference parent; child = reference below.0 },
-          (are _).1 (parent, below.0, below.1, refl),
-          (below.2, below.3, of.2),
-        ))
+      let parent = of.0 in
+      let below = of.3 in (
+        record { parent = reference parent; child = reference below.0 },
+        (are _).1 (parent, below.0, below.1, refl),
+        (below.2, below.3, of.2),
+      ))

@@ -46,12 +46,11 @@ module _ (objects : List Element) (o : Element) (parent : Ref) (parent_is : pare
         subst (λ (r : Ref). IsThere objects r) (sym (ap (λ (l : Link). l.child) from.2.0)) from.2.1,
       ))
       (λ link of.
-        let lists : (link.child.kind ≡ kinds.Node) × Contains nodes link.child.id = subst (λ (b : Body). BodyLists b link.child) is of.1 in
-        (
-          link.child.id,
-          subst (λ (ids : List ℤ). Contains ids link.child.id) (sym same) lists.1,
-          (same_link link parent _ (of.0 ∙ sym parent_is) (same_node link.child lists.0), subst (λ (r : Ref). IsThere objects r) (same_node link.child lists.0) of.2),
-        ))
+      let lists : (link.child.kind ≡ kinds.Node) × Contains nodes link.child.id = subst (λ (b : Body). BodyLists b link.child) is of.1 in (
+        link.child.id,
+        subst (λ (ids : List ℤ). Contains ids link.child.id) (sym same) lists.1,
+        (same_link link parent _ (of.0 ∙ sym parent_is) (same_node link.child lists.0), subst (λ (r : Ref). IsThere objects r) (same_node link.child lists.0) of.2),
+      ))
 
   -- the members of a relation
   pub relation_links : (members listed : List Member) → o.body ≡ bodies.Rel members → listed ≡ members → {old new : List Link} → Adds old new (From listed (IsLinkToMember objects parent)) → Adds old new (IsLinkOf objects o)
@@ -60,18 +59,17 @@ module _ (objects : List Element) (o : Element) (parent : Ref) (parent_is : pare
       (λ link from. (
         ap (λ (l : Link). l.parent) from.2.0 ∙ parent_is,
         subst (λ (b : Body). BodyLists b link.child) (sym is)
-        (subst (λ (r : Ref). Contains (map (λ (m : Member). m.target) members) r) (sym (ap (λ (l : Link). l.child) from.2.0))
-        (contains_mapped (λ (m : Member). m.target) members from.0 (subst (λ (ms : List Member). Contains ms from.0) same from.1))),
+            (subst (λ (r : Ref). Contains (map (λ (m : Member). m.target) members) r) (sym (ap (λ (l : Link). l.child) from.2.0))
+            (contains_mapped (λ (m : Member). m.target) members from.0 (subst (λ (ms : List Member). Contains ms from.0) same from.1))),
         subst (λ (r : Ref). IsThere objects r) (sym (ap (λ (l : Link). l.child) from.2.0)) from.2.1,
       ))
       (λ link of.
-        let lists : Contains (map (λ (m : Member). m.target) members) link.child = subst (λ (b : Body). BodyLists b link.child) is of.1 in
-        let one = from_mapped (λ (m : Member). m.target) members link.child lists in
-        (
-          one.0,
-          subst (λ (ms : List Member). Contains ms one.0) (sym same) one.1,
-          (same_link link parent _ (of.0 ∙ sym parent_is) (sym one.2), subst (λ (r : Ref). IsThere objects r) (sym one.2) of.2),
-        ))
+      let lists : Contains (map (λ (m : Member). m.target) members) link.child = subst (λ (b : Body). BodyLists b link.child) is of.1 in
+      let one = from_mapped (λ (m : Member). m.target) members link.child lists in (
+        one.0,
+        subst (λ (ms : List Member). Contains ms one.0) (sym same) one.1,
+        (same_link link parent _ (of.0 ∙ sym parent_is) (sym one.2), subst (λ (r : Ref). IsThere objects r) (sym one.2) of.2),
+      ))
 
 -- a node has none
 pub node_links : (objects : List Element) (o : Element) → {place : _} → o.body ≡ bodies.Node place → {links : List Link} → Adds links links (IsLinkOf objects o)
@@ -81,14 +79,20 @@ node_links objects o is = adds_nothing (λ link of. subst (λ (b : Body). BodyLi
 pub all_links : (objects : List Element) (links : List Link) → Adds [] links (From objects (IsLinkOf objects)) → AreLinks objects links
 all_links objects links so link = (
   (λ has.
-    let from = (adds_to_nothing refl so link).0 has in
-    let child = from.2.2 in
-    (from.0, child.0,
-      record { there = from.1; child_there = child.1; lists = subst (λ (r : Ref). BodyLists from.0.body r) (sym child.2) from.2.1 },
-      same_link link _ _ from.2.0 (sym child.2))),
-  (λ is. (adds_to_nothing refl so link).1
-    (is.0, is.2.there, (
+      let from = (adds_to_nothing refl so link).0 has in
+      let child = from.2.2 in (
+        from.0,
+        child.0,
+        record { there = from.1; child_there = child.1; lists = subst (λ (r : Ref). BodyLists from.0.body r) (sym child.2) from.2.1 },
+        same_link link _ _ from.2.0 (sym child.2),
+      )),
+  (λ is. (adds_to_nothing refl so link).1 (
+    is.0,
+    is.2.there,
+    (
       ap (λ (l : Link). l.parent) is.3,
       subst (λ (r : Ref). BodyLists is.0.body r) (sym (ap (λ (l : Link). l.child) is.3)) is.2.lists,
-      (is.1, is.2.child_there, sym (ap (λ (l : Link). l.child) is.3))))),
+      (is.1, is.2.child_there, sym (ap (λ (l : Link). l.child) is.3)),
+    ),
+  )),
 )

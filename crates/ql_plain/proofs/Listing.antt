@@ -49,14 +49,14 @@ pub there_is : (objects : List Element) (names : List Ref) {refs : List Ref} →
 there_is objects names =
     set_as
     (λ r of.
-      let there = of.2.1 in
-      (there.0, there.1, there.2 ∙ sym of.2.0, subst (λ (s : Ref). Contains names s) (sym there.2) of.1))
+    let there = of.2.1 in
+    (there.0, there.1, there.2 ∙ sym of.2.0, subst (λ (s : Ref). Contains names s) (sym there.2) of.1))
     (λ r of. (reference of.0, of.3, (sym of.2, (of.0, of.1, refl))))
 
 pub with_ids_is : (objects : List Element) (ids : List ℤ) {refs : List Ref} → IsSetOf refs (From ids (IsThereWith objects)) → IsSetOf refs (IsRefOf objects (λ o. Contains ids o.id))
 with_ids_is objects ids =
     set_as
     (λ r of.
-      let there = of.2.1 in
-      (there.0, there.1, there.2, subst (λ (id : ℤ). Contains ids id) (sym (ap (λ (s : Ref). s.id) there.2 ∙ of.2.0)) of.1))
+    let there = of.2.1 in
+    (there.0, there.1, there.2, subst (λ (id : ℤ). Contains ids id) (sym (ap (λ (s : Ref). s.id) there.2 ∙ of.2.0)) of.1))
     (λ r of. (of.0.id, of.3, (ap (λ (s : Ref). s.id) (sym of.2), (of.0, of.1, of.2))))

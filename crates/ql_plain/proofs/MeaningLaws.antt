@@ -49,8 +49,8 @@ same_lists (x ∷ xs) [] rx ry to back = absurd (none x (to x (here x xs)))
 same_lists (x ∷ xs) (y ∷ ys) rx ry to back =
     let same : x ≡ y = heads (first_or_behind y ys x (to x (here x xs))) (first_or_behind x xs y (back y (here y ys))) in
     let rest = same_lists xs ys (tail_rises x xs rx) (tail_rises y ys ry)
-        (λ r is. elim (first_or_behind y ys r (to r (behind x xs r is))) [ inl e ↦ absurd (not_above_itself x r (same ∙ e) (above_head x xs rx r is)) | inr in_ys ↦ in_ys ])
-        (λ r is. elim (first_or_behind x xs r (back r (behind y ys r is))) [ inl e ↦ absurd (not_above_itself y r (sym same ∙ e) (above_head y ys ry r is)) | inr in_xs ↦ in_xs ]) in
+    (λ r is. elim (first_or_behind y ys r (to r (behind x xs r is))) [ inl e ↦ absurd (not_above_itself x r (same ∙ e) (above_head x xs rx r is)) | inr in_ys ↦ in_ys ])
+    (λ r is. elim (first_or_behind x xs r (back r (behind y ys r is))) [ inl e ↦ absurd (not_above_itself y r (sym same ∙ e) (above_head y ys ry r is)) | inr in_xs ↦ in_xs ]) in
     ap (λ (z : Ref). z ∷ xs) same ∙ ap (λ (zs : List Ref). y ∷ zs) rest
   where
     heads : (y ≡ x) ⊎ Contains ys x → (x ≡ y) ⊎ Contains xs y → x ≡ y
@@ -79,8 +79,8 @@ mutual
       let first : p.0 ≡ q.0 = after_once objects left env p.0 q.0 p.2 q.2 in
       let second : p.1 ≡ q.1 = after_once objects right q.0 p.1 q.1 (subst (λ (m : Env). After objects right m p.1) first p.3) q.3 in
       let so : IsSetOf q.4.0 (λ r. Contains (given_by left p.0) r × ¬ (Contains (given_by right p.1) r)) =
-          subst (λ (m : Env). IsSetOf q.4.0 (λ r. Contains (given_by left m) r × ¬ (Contains (given_by right p.1) r))) (sym first)
-          (subst (λ (m : Env). IsSetOf q.4.0 (λ r. Contains (given_by left q.0) r × ¬ (Contains (given_by right m) r))) (sym second) q.4.1) in
+      subst (λ (m : Env). IsSetOf q.4.0 (λ r. Contains (given_by left m) r × ¬ (Contains (given_by right p.1) r))) (sym first)
+      (subst (λ (m : Env). IsSetOf q.4.0 (λ r. Contains (given_by left q.0) r × ¬ (Contains (given_by right m) r))) (sym second) q.4.1) in
       let refs : p.4.0 ≡ q.4.0 = one_set p.4.0 q.4.0 p.4.1 so in
       p.4.2 ∙ ap (λ (zs : List Ref). put into zs p.1) refs ∙ ap (λ (m : Env). put into q.4.0 m) second ∙ sym q.4.2
   after_once objects (Print start mode limit) env a b p q = p ∙ sym q

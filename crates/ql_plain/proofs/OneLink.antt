@@ -40,15 +40,15 @@ module _ (objects : List Element) (set : IsObjectSet objects) (links : List Link
         | inl in_ways ↦ (let o = (ways_are.members r).0 in_ways in (o.0, o.1, o.2, inl o.3))
         | inr more ↦ elim more [
           | inl member ↦ (
-            let o = (members_are.members r).0 (subst (λ (s : Ref). Contains members s) member.2.1 member.1) in
-            let same : reference o.0 ≡ member.0 = o.2 ∙ sym member.2.1 in
-            (o.0, o.1, o.2, inr (inl ((λ is. member.2.0 (sym (ap (λ (s : Ref). s.kind) same) ∙ is)), o.3))))
+              let o = (members_are.members r).0 (subst (λ (s : Ref). Contains members s) member.2.1 member.1) in
+              let same : reference o.0 ≡ member.0 = o.2 ∙ sym member.2.1 in
+              (o.0, o.1, o.2, inr (inl ((λ is. member.2.0 (sym (ap (λ (s : Ref). s.kind) same) ∙ is)), o.3))))
           | inr in_inner ↦ (
-            let o = (inner_are.members r).0 in_inner in
-            let parent = o.3 in
-            let above = (members_are.members (reference parent.0)).0 parent.3 in
-            let same : above.0 ≡ parent.0 = one_object objects set above.0 parent.0 above.1 parent.1.there above.2 in
-            (o.0, o.1, o.2, inr (inr (parent.0, parent.1, parent.2, subst (λ (q : Element). IsBelow objects from kinds.Rel q) same above.3))))
+              let o = (inner_are.members r).0 in_inner in
+              let parent = o.3 in
+              let above = (members_are.members (reference parent.0)).0 parent.3 in
+              let same : above.0 ≡ parent.0 = one_object objects set above.0 parent.0 above.1 parent.1.there above.2 in
+              (o.0, o.1, o.2, inr (inr (parent.0, parent.1, parent.2, subst (λ (q : Element). IsBelow objects from kinds.Rel q) same above.3))))
         ]
       ])
       (λ r of. (in_three one two r).1 (elim of.3 [
@@ -72,11 +72,11 @@ module _ (objects : List Element) (set : IsObjectSet objects) (links : List Link
         | inr more ↦ elim more [
           | inl in_nodes ↦ (let o = (nodes_are.members r).0 in_nodes in (o.0, o.1, o.2, inl o.3))
           | inr in_outer ↦ (
-            let o = (outer_are.members r).0 in_outer in
-            let child = o.3 in
-            let below = (nodes_are.members (reference child.0)).0 child.3 in
-            let same : below.0 ≡ child.0 = one_object objects set below.0 child.0 below.1 child.1.child_there below.2 in
-            (o.0, o.1, o.2, inr (inr (child.0, child.1, child.2, subst (λ (q : Element). IsAbove objects from kinds.Node q) same below.3))))
+              let o = (outer_are.members r).0 in_outer in
+              let child = o.3 in
+              let below = (nodes_are.members (reference child.0)).0 child.3 in
+              let same : below.0 ≡ child.0 = one_object objects set below.0 child.0 below.1 child.1.child_there below.2 in
+              (o.0, o.1, o.2, inr (inr (child.0, child.1, child.2, subst (λ (q : Element). IsAbove objects from kinds.Node q) same below.3))))
         ]
       ])
       (λ r of. (in_three one two r).1 (elim of.3 [

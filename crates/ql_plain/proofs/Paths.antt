@@ -65,8 +65,7 @@ module _ (objects : List Element) (set : IsObjectSet objects) (links : List Link
     step_down : (a b : Ref) → IsStep steps a b → Linked a b
     step_down a b is =
         let of = (down is.0).0 is.1 in
-        let one = (are of.0).0 of.1 in
-        (
+        let one = (are of.0).0 of.1 in (
           one.0,
           one.1,
           one.2,
@@ -94,8 +93,8 @@ module _ (objects : List Element) (set : IsObjectSet objects) (links : List Link
     down_all from =
         set_as
         (λ r of.
-          let one = chain_from_path of.0 r of.2 in
-          (one.1, last_is_there objects one.0 one.1 one.4, one.3, (one.0, subst (λ (s : Ref). Contains from s) (sym one.2) of.1, one.4)))
+        let one = chain_from_path of.0 r of.2 in
+        (one.1, last_is_there objects one.0 one.1 one.4, one.3, (one.0, subst (λ (s : Ref). Contains from s) (sym one.2) of.1, one.4)))
         (λ r of. (reference of.3.0, of.3.1, subst (λ (s : Ref). IsPath steps (reference of.3.0) s) of.2 (path_from_chain of.3.0 of.0 of.3.2)))
 
   -- ---- up
@@ -104,8 +103,7 @@ module _ (objects : List Element) (set : IsObjectSet objects) (links : List Link
     step_up : (a b : Ref) → IsStep steps a b → Linked b a
     step_up a b is =
         let of = (up is.0).0 is.1 in
-        let one = (are of.0).0 of.1 in
-        (
+        let one = (are of.0).0 of.1 in (
           one.0,
           one.1,
           one.2,
@@ -133,6 +131,6 @@ module _ (objects : List Element) (set : IsObjectSet objects) (links : List Link
     up_all from =
         set_as
         (λ r of.
-          let one = chain_from_path_up of.0 r of.2 in
-          (one.0, first_is_there objects one.0 one.1 one.4, one.3, (one.1, subst (λ (s : Ref). Contains from s) (sym one.2) of.1, one.4)))
+        let one = chain_from_path_up of.0 r of.2 in
+        (one.0, first_is_there objects one.0 one.1 one.4, one.3, (one.1, subst (λ (s : Ref). Contains from s) (sym one.2) of.1, one.4)))
         (λ r of. (reference of.3.0, of.3.1, subst (λ (s : Ref). IsPath steps (reference of.3.0) s) of.2 (path_up_from_chain of.0 of.3.0 of.3.2)))

@@ -25,8 +25,8 @@ one_object objects set o p has has_too same = elim (cases_lt has.0 has_too.0) [
   | inr after ↦ elim (cases_lt has_too.0 has.0) [
     | inl behind ↦ absurd (apart has_too.0 has.0 p o behind has.1 has_too.2 has.2 (sym same))
     | inr equal ↦ (
-      let at : has.0 ≡ has_too.0 = omega arith in
-      sym has.2 ∙ get_or_default objects has.0 o p has.1 ∙ ap (λ (k : ℕ). get_or objects k p) at ∙ has_too.2)
+        let at : has.0 ≡ has_too.0 = omega arith in
+        sym has.2 ∙ get_or_default objects has.0 o p has.1 ∙ ap (λ (k : ℕ). get_or objects k p) at ∙ has_too.2)
   ]
 ]
   where
@@ -57,10 +57,10 @@ module _ (objects : List Element) (env : Env) (pick : Pick) where
   selected_then set filters f before passes both =
       set_as
       (λ r of.
-        let was = (before.members r).0 of.0 in
-        let passing = (passes.members r).0 of.1 in
-        let same : passing.0 ≡ was.0 = one_object objects set passing.0 was.0 passing.1 was.1 (passing.2 ∙ sym was.2) in
-        (was.0, was.1, was.2, (was.3.0, all_push (Passes objects env was.0) filters f was.3.1 (subst (λ (o : Element). Passes objects env o f) same passing.3))))
+      let was = (before.members r).0 of.0 in
+      let passing = (passes.members r).0 of.1 in
+      let same : passing.0 ≡ was.0 = one_object objects set passing.0 was.0 passing.1 was.1 (passing.2 ∙ sym was.2) in
+      (was.0, was.1, was.2, (was.3.0, all_push (Passes objects env was.0) filters f was.3.1 (subst (λ (o : Element). Passes objects env o f) same passing.3))))
       (λ r of. (
         (before.members r).1 (of.0, of.1, of.2, (of.3.0, all_front (Passes objects env of.0) filters f of.3.1)),
         (passes.members r).1 (of.0, of.1, of.2, all_last (Passes objects env of.0) filters f of.3.1),

@@ -64,8 +64,5 @@ fn has_key(object: &Object, key: &[u8]) -> bool
 fn has_tag(object: &Object, key: &[u8], value: &[u8]) -> bool
     ensures { IsTrue result ↔ HasTag object.now key.now value.now }
 {
-    object
-        .tags()
-        .iter()
-        .any(|tag| tag.key.as_bytes() == key && tag.value.as_bytes() == value)
+    object.tags().iter().any(|tag| tag.key.as_bytes() == key && tag.value.as_bytes() == value)
 }

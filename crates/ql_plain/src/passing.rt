@@ -35,11 +35,19 @@ pub fn passing(
         Filter::InSet(name) => those_there(alloc, sets.get(name.as_bytes()), set),
         Filter::HasKey(key) => those(alloc, &ObjectTest::HasKey(key.as_bytes()), set),
         Filter::KeyIs(key, value) => {
-            those(alloc, &ObjectTest::HasTag(key.as_bytes(), value.as_bytes()), set)
+            those(
+                alloc,
+                &ObjectTest::HasTag(key.as_bytes(), value.as_bytes()),
+                set,
+            )
         }
         Filter::LacksKey(key) => those(alloc, &ObjectTest::LacksKey(key.as_bytes()), set),
         Filter::KeyIsNot(key, value) => {
-            those(alloc, &ObjectTest::LacksTag(key.as_bytes(), value.as_bytes()), set)
+            those(
+                alloc,
+                &ObjectTest::LacksTag(key.as_bytes(), value.as_bytes()),
+                set,
+            )
         }
         Filter::Ids(ids) => with_ids(alloc, ids.as_slice(), set),
         Filter::Within(area) => those(alloc, &ObjectTest::Within(area), set),
@@ -48,11 +56,7 @@ pub fn passing(
 }
 
 /// The objects that a test takes.
-pub fn those(
-    alloc: Global,
-    test: &ObjectTest<'_>,
-    set: &ObjectSet,
-) -> Result<Vec<Ref>, AllocError>
+pub fn those(alloc: Global, test: &ObjectTest<'_>, set: &ObjectSet) -> Result<Vec<Ref>, AllocError>
     ensures taken { IfOk result (λ refs. IsSetOf refs.items (IsRefOf set.now (Takes test.now))) }
     // As its type says.
     ensures set { IsObjectSet set.now }
@@ -123,12 +127,7 @@ fn add_there(name: Ref, set: &ObjectSet, refs: &mut Vec<Ref>) -> Result<(), Allo
 }
 
 /// The objects to which a path leads from a set.
-fn along(
-    alloc: Global,
-    path: Path,
-    from: &[Ref],
-    set: &ObjectSet,
-) -> Result<Vec<Ref>, AllocError>
+fn along(alloc: Global, path: Path, from: &[Ref], set: &ObjectSet) -> Result<Vec<Ref>, AllocError>
     requires { IsStrictlySortedBy ref_cmp from.now }
     ensures { IfOk result (λ refs. IsSetOf refs.items (IsRefOf set.now (IsOnPath set.now from.now path))) }
 {

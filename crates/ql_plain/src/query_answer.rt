@@ -45,7 +45,13 @@ fn answer_statement<'q>(
     ensures told { OnOk result (text.new.items ≡ text.old.items ++ told set.now (statement_of statement.now) (lists_of sets.old.named.items)) }
 {
     match statement {
-        Stmt::Print(out) => print(set, sets.get(out.from.as_bytes()), out.mode, out.limit, text),
+        Stmt::Print(out) => print(
+            set,
+            sets.get(out.from.as_bytes()),
+            out.mode,
+            out.limit,
+            text,
+        ),
         _ => run(alloc, statement, sets, set),
     }
 }

@@ -20,10 +20,10 @@ run-returns-in_ok-refs-in-Select t c =
     let env = lists_of c.args.sets.now.named.items in
     let refs = c.in_ok-refs-in-Select.refs.items in
     let so : IsSetOf refs (IsRefOf c.args.set.now (IsSelected c.args.set.now env c.in-Select.kind (filters_of c.in-Select.filters.items))) =
-        subst (λ (filters : List Filter). IsSetOf refs (IsRefOf c.args.set.now (IsSelected c.args.set.now env c.in-Select.kind (filters_of filters)))) c.deref.ensures.value c.in_ok-refs-in-Select.ensures in
+    subst (λ (filters : List Filter). IsSetOf refs (IsRefOf c.args.set.now (IsSelected c.args.set.now env c.in-Select.kind (filters_of filters)))) c.deref.ensures.value c.in_ok-refs-in-Select.ensures in
     on_ok_as c.write.result
     (λ written. subst (λ (s : Stmt). After c.args.set.now (statement_of s) env (lists_of c.write.new.self.named.items)) (sym c.in-Select.is)
-      (refs, so, written ∙ ap (λ (name : List ℕ). put name refs env) c.as_bytes.ensures))
+    (refs, so, written ∙ ap (λ (name : List ℕ). put name refs env) c.as_bytes.ensures))
     c.write.ensures
 
 pub run-returns-in_ok-refs-in-Recurse : goal.run-returns-in_ok-refs-in-Recurse
@@ -31,10 +31,10 @@ run-returns-in_ok-refs-in-Recurse t c =
     let env = lists_of c.args.sets.now.named.items in
     let refs = c.in_ok-refs-in-Recurse.refs.items in
     let so : IsSetOf refs (IsRefOf c.args.set.now (IsReached c.args.set.now c.in-Recurse.how (env c.in-Recurse.from))) =
-        subst (λ (names : List Ref). IsSetOf refs (IsRefOf c.args.set.now (IsReached c.args.set.now c.in-Recurse.how names))) (c.get.ensures.value ∙ ap env c.as_bytes-in-Recurse.ensures) c.in_ok-refs-in-Recurse.ensures in
+    subst (λ (names : List Ref). IsSetOf refs (IsRefOf c.args.set.now (IsReached c.args.set.now c.in-Recurse.how names))) (c.get.ensures.value ∙ ap env c.as_bytes-in-Recurse.ensures) c.in_ok-refs-in-Recurse.ensures in
     on_ok_as c.write-in-Recurse.result
     (λ written. subst (λ (s : Stmt). After c.args.set.now (statement_of s) env (lists_of c.write-in-Recurse.new.self.named.items)) (sym c.in-Recurse.is)
-      (refs, so, written ∙ ap (λ (name : List ℕ). put name refs env) c.as_bytes-in-Recurse-2.ensures))
+    (refs, so, written ∙ ap (λ (name : List ℕ). put name refs env) c.as_bytes-in-Recurse-2.ensures))
     c.write-in-Recurse.ensures
 
 pub run-returns-in_ok-refs-in-Union : goal.run-returns-in_ok-refs-in-Union
@@ -47,7 +47,7 @@ run-returns-in_ok-refs-in-Union t c =
     let all : AfterAll c.args.set.now (statements_of parts.items) env mid given = subst (λ (ps : List Stmt). AfterAll c.args.set.now (statements_of ps) env mid given) c.deref-in-Union.ensures.value c.in_ok-refs-in-Union.ensures in
     on_ok_as c.write-in-Union.result
     (λ written. subst (λ (s : tree.Statement). After c.args.set.now s env (lists_of c.write-in-Union.new.self.named.items)) (sym (ap statement_of c.in-Union.is ∙ union_is parts c.in-Union.into))
-      (mid, given, all, (refs, c.tidy.ensures, written ∙ ap (λ (name : List ℕ). put name refs mid) c.as_bytes-in-Union.ensures)))
+    (mid, given, all, (refs, c.tidy.ensures, written ∙ ap (λ (name : List ℕ). put name refs mid) c.as_bytes-in-Union.ensures)))
     c.write-in-Union.ensures
 
 pub run-returns-in_ok-refs-in-Minus : goal.run-returns-in_ok-refs-in-Minus
@@ -61,14 +61,14 @@ run-returns-in_ok-refs-in-Minus t c =
     let right = c.in-Minus.right.value in
     let firsts = c.deref-in-Minus-4.result.now in
     let first_is : firsts ≡ given_by (statement_of left) mid =
-        c.deref-in-Minus-4.ensures.value ∙ c.in_ok-first-in-Minus.ensures.items ∙ c.written_by.ensures.value ∙ ap (λ (s : Stmt). given_by (statement_of s) mid) c.deref-in-Minus-2.ensures in
+    c.deref-in-Minus-4.ensures.value ∙ c.in_ok-first-in-Minus.ensures.items ∙ c.written_by.ensures.value ∙ ap (λ (s : Stmt). given_by (statement_of s) mid) c.deref-in-Minus-2.ensures in
     let second_is = c.written_by-in-Minus.ensures.value ∙ ap (λ (s : Stmt). given_by (statement_of s) end) c.deref-in-Minus-5.ensures in
     let one = subst (λ (s : Stmt). After c.args.set.now (statement_of s) env mid) c.deref-in-Minus.ensures c.in_ok-run-in-Minus.ensures in
     let other = subst (λ (s : Stmt). After c.args.set.now (statement_of s) mid end) c.deref-in-Minus-3.ensures c.in_ok-run-in-Minus-2.ensures in
     on_ok_as c.write-in-Minus.result
     (λ written. subst (λ (s : Stmt). After c.args.set.now (statement_of s) env later) (sym c.in-Minus.is)
-      (minus_after c.args.set.now left right c.in-Minus.into env mid end later firsts _ refs one first_is other second_is c.in_ok-refs-in-Minus.ensures
-        (written ∙ ap (λ (name : List ℕ). put name refs end) c.as_bytes-in-Minus.ensures)))
+    (minus_after c.args.set.now left right c.in-Minus.into env mid end later firsts _ refs one first_is other second_is c.in_ok-refs-in-Minus.ensures
+    (written ∙ ap (λ (name : List ℕ). put name refs end) c.as_bytes-in-Minus.ensures)))
     c.write-in-Minus.ensures
 
 pub run_all-loop-part-preserved : goal.run_all-loop-part-preserved

@@ -28,8 +28,7 @@ loop-link-preserved c =
 pub returns-clause-steps : goal.returns-clause-steps
 returns-clause-steps c = λ step.
     let whole = adds_to_nothing refl (adds_all c.args.links.now (IsOriented c.args.is_up) c.loop-link.link-index c.loop-link-test.false c.loop-link.invariant) step in
-    let moved = c.sort_unstable_by.ensures.permutation in
-    (
+    let moved = c.sort_unstable_by.ensures.permutation in (
       (λ has. whole.0 (Contains-permutation _ _ step (IsPermutation-sym _ _ moved) has)),
       (λ is. Contains-permutation _ _ step moved (whole.1 is)),
     )

@@ -16,9 +16,9 @@ returns c = λ step.
     let count = c.partition_point-count.result in
     let slice : take (length steps - first) (drop first steps) ≡ drop first steps = slice_is_rest steps first in
     let low : IsPartitionPoint (λ (s : Step). is_lt (ref_cmp s.from name) ≡ true) (λ (s : Step). is_lt (ref_cmp s.from name) ≡ false) steps first =
-        IsPartitionPoint-from_clause (λ (s : Step). is_lt (ref_cmp s.from name)) steps first c.partition_point-first.ensures.partitioned (below_are_first steps c.requires name) (λ a r f called. search rules) in
+    IsPartitionPoint-from_clause (λ (s : Step). is_lt (ref_cmp s.from name)) steps first c.partition_point-first.ensures.partitioned (below_are_first steps c.requires name) (λ a r f called. search rules) in
     let high_slice : IsPartitionPoint (λ (s : Step). is_le (ref_cmp s.from name) ≡ true) (λ (s : Step). is_le (ref_cmp s.from name) ≡ false) (take (length steps - first) (drop first steps)) count =
-        IsPartitionPoint-from_clause (λ (s : Step). is_le (ref_cmp s.from name)) (take (length steps - first) (drop first steps)) count c.partition_point-count.ensures.partitioned
-        (subst (λ (rest : List Step). IsPartitionedBy (λ (s : Step). is_le (ref_cmp s.from name)) rest) (sym slice) (at_most_are_first steps c.requires name first)) (λ a r f called. search rules) in
+    IsPartitionPoint-from_clause (λ (s : Step). is_le (ref_cmp s.from name)) (take (length steps - first) (drop first steps)) count c.partition_point-count.ensures.partitioned
+    (subst (λ (rest : List Step). IsPartitionedBy (λ (s : Step). is_le (ref_cmp s.from name)) rest) (sym slice) (at_most_are_first steps c.requires name first)) (λ a r f called. search rules) in
     let high = subst (λ (rest : List Step). IsPartitionPoint (λ (s : Step). is_le (ref_cmp s.from name) ≡ true) (λ (s : Step). is_le (ref_cmp s.from name) ≡ false) rest count) slice high_slice in
     subst (λ (rest : List Step). Contains (take count rest) step ↔ (Contains steps step × (step.from ≡ name))) (sym slice) (between_points steps c.requires name first count low high step)

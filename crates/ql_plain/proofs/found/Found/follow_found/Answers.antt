@@ -29,12 +29,12 @@ loop-at-preserved c =
       ];
       done = λ k d lt short r step. elim (cases_lt k at) [
         | inl before ↦ (
-          let in_refs : k < length refs = omega (arith, within) in
-          (one.adds.is r).1 (inl (so.done k d before in_refs r (subst (λ (s : Ref). IsStep steps s r) ((one.goes k d in_refs).1) step))))
+            let in_refs : k < length refs = omega (arith, within) in
+            (one.adds.is r).1 (inl (so.done k d before in_refs r (subst (λ (s : Ref). IsStep steps s r) ((one.goes k d in_refs).1) step))))
         | inr after ↦ (
-          let here : k ≡ at = omega (arith, lt, after) in
-          let same : get_or later k d ≡ name = ap (λ (j : ℕ). get_or later j d) here ∙ (one.goes at d within).1 ∙ get_or_default refs at d name within ∙ sym c.index-name.ensures in
-          (one.adds.is r).1 (inr (subst (λ (s : Ref). IsStep steps s r) same step)))
+            let here : k ≡ at = omega (arith, lt, after) in
+            let same : get_or later k d ≡ name = ap (λ (j : ℕ). get_or later j d) here ∙ (one.goes at d within).1 ∙ get_or_default refs at d name within ∙ sym c.index-name.ensures in
+            (one.adds.is r).1 (inr (subst (λ (s : Ref). IsStep steps s r) same step)))
       ];
     }
 
