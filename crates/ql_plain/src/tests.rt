@@ -1,5 +1,7 @@
 //! Rows of queries, refusals and answers.
 
+mod meanings;
+
 use crate::{Query, answer_plain, common_len, parse};
 use osm_model::{Body, Coord, Meta, Object, ObjectSet, Tag, Text};
 use std::alloc::AllocError;

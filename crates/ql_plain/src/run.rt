@@ -1,0 +1,76 @@
+//! Statements that write sets.
+
+ghost use Rattle.std.specs.Prelude.{◌≡◌, ◌++◌, IfOk, OnOk};
+ghost use Rattle.ql_syntax.specs.StatementViews.{statement_of, statements_of};
+ghost use Rattle.ql_plain.specs.Meanings.{After, AfterAll};
+ghost use Rattle.ql_plain.specs.internal.NamedSets.{lists_of};
+
+use crate::recurse::recurse;
+use crate::ref_sets::{kept, tidy};
+use crate::select::select;
+use crate::sets::Sets;
+use crate::written_by::written_by;
+use osm_model::{ObjectSet, Ref};
+use ql_syntax::Stmt;
+use std::alloc::{AllocError, Global};
+
+/// Runs a statement: the set that it writes is written. An out writes none.
+#[cycle(run)]
+pub fn run<'q>(
+    alloc: Global,
+    statement: &Stmt<'q>,
+    sets: &mut Sets<'q>,
+    set: &ObjectSet,
+) -> Result<(), AllocError>
+    ensures { OnOk result (After set.now (statement_of statement.now) (lists_of sets.old.named.items) (lists_of sets.new.named.items)) }
+{
+    match statement {
+        Stmt::Select {
+            kind,
+            filters,
+            into,
+        } => {
+            let refs = select(alloc, *kind, filters, sets, set)?;
+            sets.write(into.as_bytes(), refs)
+        }
+        Stmt::Recurse { from, how, into } => {
+            let refs = recurse(alloc, *how, sets.get(from.as_bytes()), set)?;
+            sets.write(into.as_bytes(), refs)
+        }
+        Stmt::Item { from, into } => {
+            let refs = Vec::from_slice(alloc, sets.get(from.as_bytes()))?;
+            sets.write(into.as_bytes(), refs)
+        }
+        Stmt::Union { parts, into } => {
+            let mut refs = run_all(alloc, parts, sets, set)?;
+            tidy(&mut refs);
+            sets.write(into.as_bytes(), refs)
+        }
+        Stmt::Minus { left, right, into } => {
+            run(alloc, left, sets, set)?;
+            let first = Vec::from_slice(alloc, written_by(left, sets))?;
+            run(alloc, right, sets, set)?;
+            let refs = kept(alloc, &first, written_by(right, sets), false)?;
+            sets.write(into.as_bytes(), refs)
+        }
+        Stmt::Print(_) => Ok(()),
+    }
+}
+
+/// Runs statements in order, and gives what they wrote, one after the other.
+#[cycle(run)]
+fn run_all<'q>(
+    alloc: Global,
+    parts: &[Stmt<'q>],
+    sets: &mut Sets<'q>,
+    set: &ObjectSet,
+) -> Result<Vec<Ref>, AllocError>
+    ensures { IfOk result (λ given. AfterAll set.now (statements_of parts.now) (lists_of sets.old.named.items) (lists_of sets.new.named.items) given.items) }
+{
+    let mut given = Vec::new(alloc);
+    for part in parts {
+        run(alloc, part, sets, set)?;
+        given.extend_from_slice(written_by(part, sets))?;
+    }
+    Ok(given)
+}
