@@ -1,6 +1,8 @@
 //! Rows of queries, refusals and answers.
 
 mod meanings;
+mod rows;
+mod texts_of_sets;
 
 use crate::{Query, answer_plain, common_len, parse};
 use osm_model::{Body, Coord, Meta, Object, ObjectSet, Tag, Text};
