@@ -3,7 +3,7 @@ use Rattle.std.proofs.Common.{◌≡◌, ℕ, ◌+◌, ◌<◌, List, [], ◌∷
 use Rattle.std.proofs.lemmas.List.{append-nil}
 use Rattle.osm_model.specs.Elements.{Element}
 use Rattle.ql_syntax.specs.StatementViews.{statement_of, statements_of}
-use Rattle.ql_syntax.specs.Statements.{Statement, Statements, End, Then}
+use Rattle.ql_syntax.specs.Statements.{Statements, End, Then}
 use Rattle.ql_syntax.specs.declared.statement.Stmt.{Stmt}
 use Rattle.ql_plain.proofs.Adding.{one_more}
 use Rattle.ql_plain.specs.Meanings.{After, Prints, told}

@@ -1,5 +1,5 @@
 -- The sets that functions give, where they give one.
-use Rattle.std.proofs.Common.{◌≡◌, ℕ, ℤ, List, Result, Ok, Err, Vec, Global, IfOk, sym, subst}
+use Rattle.std.proofs.Common.{◌≡◌, ℕ, List, Result, Ok, Err, Vec, Global, IfOk, sym, subst}
 use Rattle.osm_model.specs.Elements.{Element}
 use Rattle.osm_model.specs.declared.reference.Ref.{Ref}
 use Rattle.ql_syntax.specs.StatementViews.{filter_of}

@@ -1,5 +1,5 @@
 -- What a recursion has found so far.
-use Rattle.std.proofs.Common.{◌≡◌, ℕ, zero, suc, ◌+◌, ◌<◌, ◌≤◌, List, [], ◌∷◌, ◌++◌, ◌||◌, length, get_or, not, ◌⊎◌, inl, inr, ◌↔◌, Bool, true, false, refl, sym, ap, subst, ◌∙◌, arith, if◌then◌else◌}
+use Rattle.std.proofs.Common.{◌≡◌, ℕ, suc, ◌<◌, ◌≤◌, List, [], ◌∷◌, ◌++◌, ◌||◌, length, get_or, not, ◌⊎◌, inl, inr, ◌↔◌, Bool, true, false, refl, sym, ap, subst, ◌∙◌, arith, if◌then◌else◌}
 use Rattle.std.proofs.lemmas.List.{get_or_append_left, length_push}
 use Rattle.std.proofs.lemmas.List.Elements.{Contains-append_left, Contains-push, Contains-push_cases}
 use Rattle.std.specs.BTreeSet.{BTreeSet, contains}
@@ -10,8 +10,7 @@ use Rattle.osm_model.specs.declared.reference.Ref.{Ref}
 use Rattle.ql_plain.proofs.Adding.{adds_one, behind, first_or_behind, here, none}
 use Rattle.ql_plain.proofs.ObjectLists.{equal_is_same, equal_itself}
 use Rattle.ql_plain.specs.declared.step.Step.{Step}
-use Rattle.ql_plain.specs.internal.Adding.{Adds}
-use Rattle.ql_plain.specs.internal.Founds.{AddsName, Goes, has, how_many, missing}
+use Rattle.ql_plain.specs.internal.Founds.{AddsName, has, how_many, missing}
 
 -- ---- tests of some element
 

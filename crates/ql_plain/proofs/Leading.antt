@@ -1,5 +1,5 @@
 -- What links lead to, and what it is in the words of objects.
-use Rattle.std.proofs.Common.{◌≡◌, List, [], ◌↔◌, refl, sym, ap, subst, ◌∙◌}
+use Rattle.std.proofs.Common.{◌≡◌, List, [], refl, sym, ap, subst, ◌∙◌}
 use Rattle.std.specs.List.{Contains}
 use Rattle.osm_model.specs.Elements.{Element, reference}
 use Rattle.osm_model.specs.declared.kind.Kind.{Kind}

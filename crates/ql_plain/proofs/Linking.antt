@@ -1,5 +1,5 @@
 -- The links of objects, and those of their bodies.
-use Rattle.std.proofs.Common.{◌≡◌, ℕ, ℤ, List, [], Result, Ok, Err, ◌↔◌, refl, sym, ap, subst, ◌∙◌, map}
+use Rattle.std.proofs.Common.{◌≡◌, ℤ, List, [], Result, Ok, Err, refl, sym, ap, subst, ◌∙◌, map}
 use Rattle.std.specs.Prelude.{OnOk}
 use Rattle.std.specs.List.{Contains}
 use Rattle.osm_model.specs.Elements.{Element, reference}
@@ -11,10 +11,10 @@ use Rattle.osm_model.specs.declared.member.Member.{Member}
 use Rattle.osm_model.specs.declared.reference.Ref.{Ref}
 use Rattle.ql_plain.proofs.Adding.{adds_as, adds_nothing, adds_to_nothing}
 use Rattle.ql_plain.proofs.Mapped.{contains_mapped, from_mapped}
-use Rattle.ql_plain.specs.Values.{BodyLists, IsParent}
+use Rattle.ql_plain.specs.Values.{BodyLists}
 use Rattle.ql_plain.specs.declared.links.Link.{Link}
 use Rattle.ql_plain.specs.internal.Adding.{Adds, From}
-use Rattle.ql_plain.specs.internal.Linked.{AreLinks, IsLinkOf, IsLinkTo, IsLinkToMember, IsLinkToNode, IsThere}
+use Rattle.ql_plain.specs.internal.Linked.{AreLinks, IsLinkOf, IsLinkToMember, IsLinkToNode, IsThere}
 
 pub on_ok_as : {T E : Type 0} (r : Result T E) {P Q : Type 0} → (P → Q) → OnOk r P → OnOk r Q
 on_ok_as (Ok x) to p = to p

@@ -1,5 +1,5 @@
 -- References of objects that are there.
-use Rattle.std.proofs.Common.{◌≡◌, ℤ, List, [], ◌⊎◌, inl, inr, ◌↔◌, refl, sym, ap, subst, ◌∙◌}
+use Rattle.std.proofs.Common.{◌≡◌, ℤ, List, ◌⊎◌, inl, inr, refl, sym, ap, subst, ◌∙◌}
 use Rattle.std.specs.List.{Contains}
 use Rattle.osm_model.specs.Elements.{Element, reference}
 use Rattle.osm_model.specs.declared.kind.Kind.{Kind}

@@ -1,5 +1,5 @@
 -- Elements of a mapped list.
-use Rattle.std.proofs.Common.{◌≡◌, ℕ, List, [], ◌∷◌, map, inl, inr, refl, sym, ap, subst, ◌∙◌}
+use Rattle.std.proofs.Common.{◌≡◌, List, [], ◌∷◌, map, inl, inr, ap, subst}
 use Rattle.std.specs.List.{Contains}
 use Rattle.ql_plain.proofs.Adding.{behind, first_or_behind, here, none}
 

@@ -1,5 +1,5 @@
 -- Laws of the meaning of queries.
-use Rattle.std.proofs.Common.{◌≡◌, ℕ, zero, suc, ◌+◌, ◌<◌, ◌≤◌, List, [], ◌∷◌, ◌++◌, map, take, drop, ◌⊎◌, inl, inr, ◌↔◌, Bool, true, false, Option, Some, None, refl, sym, ap, subst, ◌∙◌, arith, if◌then◌else◌}
+use Rattle.std.proofs.Common.{◌≡◌, ℕ, zero, suc, List, [], ◌∷◌, ◌++◌, take, drop, ◌⊎◌, inl, inr, ◌↔◌, Bool, true, false, Option, Some, None, refl, sym, ap, subst, ◌∙◌, if◌then◌else◌}
 use Rattle.std.proofs.lemmas.Cmp.{tied_itself}
 use Rattle.std.proofs.lemmas.Grind.{flat_map-append}
 use Rattle.std.proofs.lemmas.List.{take-append-drop}
@@ -7,14 +7,12 @@ use Rattle.std.proofs.lemmas.List.Elements.{All-contains, All-from_recursion}
 use Rattle.std.proofs.lemmas.List.Kept.{IsStrictlySortedBy-filter}
 use Rattle.std.specs.List.{AllByRecursion, Contains, filter, flat_map}
 use Rattle.std.specs.List.Sorted.{IsStrictlySortedBy}
-use Rattle.std.specs.declared.cmp.Ordering.TheVariants.{Less, Equal, Greater}
+use Rattle.std.specs.declared.cmp.Ordering.TheVariants.{Less, Equal}
 use Rattle.opl_codec.specs.Text.{text_of}
 use Rattle.opl_codec.specs.declared.out_mode.OutMode.{OutMode}
 use Rattle.osm_model.proofs.shared.References.{refs_total}
 use Rattle.osm_model.specs.Elements.{Element, kind_of, ref_cmp, reference, references}
 use Rattle.osm_model.specs.Sets.{IsObjectSet}
-use Rattle.osm_model.specs.declared.body.Body.{Body}
-use Rattle.osm_model.specs.declared.body.Body.TheVariants as bodies
 use Rattle.osm_model.specs.declared.kind.Kind.{Kind}
 use Rattle.osm_model.specs.declared.kind.Kind.TheVariants as kinds
 use Rattle.osm_model.specs.declared.reference.Ref.{Ref}
@@ -22,7 +20,7 @@ use Rattle.ql_syntax.specs.Filters.{Filter}
 use Rattle.ql_syntax.specs.Statements.{Statement, Statements, Select, Recurse, Item, Union, Minus, Print, End, Then}
 use Rattle.ql_syntax.specs.declared.pick.Pick.TheVariants as picks
 use Rattle.ql_plain.proofs.Adding.{behind, first_or_behind, here, none}
-use Rattle.ql_plain.specs.Meanings.{After, AfterAll, IsSetOf, Means, Prints, Writes, cut, given_by, is_in, nothing_named, printed_of, put, told}
+use Rattle.ql_plain.specs.Meanings.{After, AfterAll, IsSetOf, Means, Prints, cut, given_by, is_in, nothing_named, printed_of, put, told}
 use Rattle.ql_plain.specs.Values.{Env, IsSelected, Passes}
 use Rattle.ql_plain.specs.internal.Founds.{has}
 

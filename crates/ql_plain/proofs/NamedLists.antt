@@ -1,10 +1,8 @@
 -- The named sets after a set was written.
 use Rattle.std.proofs.Common.{◌≡◌, ℕ, zero, suc, ◌<◌, List, [], ◌∷◌, ◌++◌, length, get_or, set, Bool, true, false, refl, sym, ap, subst, ◌∙◌, arith, if◌then◌else◌}
-use Rattle.std.proofs.Math.Path.{fun_ext}
 use Rattle.std.proofs.lemmas.Slice.Eq.{bytes_eq-Decides}
 use Rattle.std.specs.Str.{bytes_eq}
 use Rattle.ql_plain.specs.Meanings.{put}
-use Rattle.ql_plain.specs.Values.{Env}
 use Rattle.ql_plain.specs.declared.named_set.NamedSet.{NamedSet}
 use Rattle.ql_plain.specs.internal.NamedSets.{IsPlaceOf, lists_of}
 

@@ -1,9 +1,8 @@
 -- The recursions that go one link, and one more from ways.
-use Rattle.std.proofs.Common.{◌≡◌, ◌≢◌, List, ◌⊎◌, inl, inr, ◌↔◌, refl, sym, ap, subst, ◌∙◌}
+use Rattle.std.proofs.Common.{◌≡◌, List, ◌⊎◌, inl, inr, ◌↔◌, refl, sym, ap, subst, ◌∙◌}
 use Rattle.std.specs.List.{Contains}
 use Rattle.osm_model.specs.Elements.{Element, reference}
 use Rattle.osm_model.specs.Sets.{IsObjectSet}
-use Rattle.osm_model.specs.declared.kind.Kind.{Kind}
 use Rattle.osm_model.specs.declared.kind.Kind.TheVariants as kinds
 use Rattle.osm_model.specs.declared.reference.Ref.{Ref}
 use Rattle.ql_plain.proofs.Kept.{set_as}

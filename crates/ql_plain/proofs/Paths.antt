@@ -1,6 +1,5 @@
 -- Paths of steps, and the chains of membership that they are.
-use Rattle.std.proofs.Common.{◌≡◌, ℕ, ◌+◌, ◌<◌, ◌≤◌, List, [], length, get_or, Bool, true, false, ◌⊎◌, inl, inr, ◌↔◌, refl, sym, ap, subst, ◌∙◌, arith}
-use Rattle.std.proofs.lemmas.Bool.{cases_lt}
+use Rattle.std.proofs.Common.{◌≡◌, List, [], true, false, inl, inr, refl, sym, ap, subst, ◌∙◌}
 use Rattle.std.specs.List.{Contains}
 use Rattle.osm_model.specs.Elements.{Element, reference}
 use Rattle.osm_model.specs.Sets.{IsObjectSet}
@@ -9,14 +8,14 @@ use Rattle.ql_plain.proofs.Adding.{adds_to_nothing}
 use Rattle.ql_plain.proofs.Kept.{set_as}
 use Rattle.ql_plain.proofs.Selecting.{one_object}
 use Rattle.ql_plain.specs.Meanings.{IsSetOf}
-use Rattle.ql_plain.specs.Values.{IsChain, IsIn, IsParent, IsReached, IsRefOf, Link as Last, Longer}
+use Rattle.ql_plain.specs.Values.{IsChain, IsParent, IsReached, IsRefOf, Link as Last, Longer}
 use Rattle.ql_syntax.specs.declared.recursion.Recursion.TheVariants as recursions
 use Rattle.ql_plain.specs.declared.links.Link.{Link}
 use Rattle.ql_plain.specs.declared.step.Step.{Step}
 use Rattle.ql_plain.specs.internal.Adding.{Adds, From}
 use Rattle.ql_plain.specs.internal.Founds.{IsClosure}
 use Rattle.ql_plain.specs.internal.Linked.{AreLinks}
-use Rattle.ql_plain.specs.internal.Steps.{AreSteps, IsPath, IsStep, More, One, oriented}
+use Rattle.ql_plain.specs.internal.Steps.{AreSteps, IsPath, IsStep, More, One}
 
 -- ---- paths
 

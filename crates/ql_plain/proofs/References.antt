@@ -1,13 +1,12 @@
 -- The order of references, as the code compares them.
-use Rattle.std.proofs.Common.{◌≡◌, Bool, true, false, ℤ, rules, refl, sym, ap, subst, ◌∙◌, arith, List}
+use Rattle.std.proofs.Common.{◌≡◌, Bool, true, ℤ, refl, ap, subst, ◌∙◌, List}
 use Rattle.std.proofs.Math.Path.{fun_ext}
 use Rattle.std.proofs.lemmas.Cmp.{eq_by_cmp_equiv, int_ranked}
 use Rattle.std.specs.Prelude.{◌<ℤ◌}
 use Rattle.std.proofs.lemmas.List.Kept.{Contains-dedup, Contains-from_dedup, IsStrictlySortedBy-dedup}
 use Rattle.std.proofs.lemmas.List.Sorted.{Contains-permutation, IsPermutation-sym}
-use Rattle.std.specs.Cmp.{IsTotalOrder, IsEquivalence}
 use Rattle.std.specs.List.{Contains, dedup}
-use Rattle.std.specs.List.Sorted.{IsPermutation, IsSorted, IsStrictlySortedBy}
+use Rattle.std.specs.List.Sorted.{IsPermutation, IsSorted}
 use Rattle.std.specs.Ordering.{MatchOrdering, eq_by_cmp, int_cmp, is_eq}
 use Rattle.std.specs.declared.cmp.Ordering.{Ordering}
 use Rattle.std.specs.declared.cmp.Ordering.TheVariants.{Less, Equal, Greater}

@@ -2,13 +2,12 @@
 use Rattle.std.proofs.Common.{◌≡◌, ℕ, ◌+◌, ◌<◌, List, [], ◌∷◌, ◌++◌, get_or, length, take, refl, sym, ap, subst, ◌∙◌, append_assoc}
 use Rattle.std.proofs.lemmas.List.{append-nil}
 use Rattle.std.specs.List.{Contains}
-use Rattle.std.specs.Prelude.{codes}
 use Rattle.osm_model.specs.Elements.{Element}
 use Rattle.osm_model.specs.declared.reference.Ref.{Ref}
 use Rattle.ql_syntax.specs.StatementViews.{statement_of, statements_of}
 use Rattle.ql_syntax.specs.declared.statement.Stmt.{Stmt}
 use Rattle.ql_plain.proofs.Adding.{one_more}
-use Rattle.std.proofs.Common.{Bool, false}
+use Rattle.std.proofs.Common.{false}
 use Rattle.ql_syntax.specs.Statements as tree
 use Rattle.ql_plain.specs.internal.Adding.{IsWanted}
 use Rattle.ql_plain.specs.Meanings.{After, AfterAll, IsSetOf, given_by, put}

@@ -1,7 +1,7 @@
 -- Statements one after the other, with the sets that they leave.
 use Rattle.std.specs.Prelude.{◌≡◌, ℕ, List, [], ◌++◌}
 use Rattle.osm_model.specs.Elements.{Element}
-use Rattle.ql_syntax.specs.Statements.{Statement, Statements, End, Then}
+use Rattle.ql_syntax.specs.Statements.{Statements, End, Then}
 use Rattle.ql_plain.specs.Meanings.{After, told}
 use Rattle.ql_plain.specs.Values.{Env}
 

@@ -4,7 +4,6 @@ use Rattle.osm_model.specs.Boxes.{Holds}
 use Rattle.osm_model.specs.Elements.{Element}
 use Rattle.osm_model.specs.Places.{Place}
 use Rattle.osm_model.specs.declared.body.Body.TheVariants as bodies
-use Rattle.std.specs.Box.{box_value}
 use Rattle.ql_plain.specs.Values.{HasKeyOf, HasTag, IsPicked}
 use Rattle.ql_plain.specs.declared.object_test.ObjectTest.{ObjectTest}
 use Rattle.ql_plain.specs.declared.object_test.ObjectTest.TheVariants as tests

@@ -1,4 +1,4 @@
-use Rattle.std.proofs.Common.{sym, ◌∙◌, refl}
+use Rattle.std.proofs.Common.{sym, ◌∙◌}
 use Rattle.ql_plain.proofs.Linking.{on_ok_as, relation_links, way_links}
 use Rattle.ql_plain.proofs.links.add_links.Goals as goal
 

@@ -1,11 +1,11 @@
-use Rattle.std.proofs.Common.{[], List, Vec, Global, get_or, pos, refl, sym, subst, ◌∙◌, ap}
+use Rattle.std.proofs.Common.{Vec, Global, get_or, pos, refl, sym, subst, ◌∙◌, ap}
 use Rattle.std.proofs.lemmas.List.{get_or_default}
 use Rattle.osm_model.specs.declared.kind.Kind.TheVariants.{Node}
 use Rattle.osm_model.specs.declared.reference.Ref.{Ref}
 use Rattle.ql_plain.proofs.Adding.{adds_all, adds_more, adds_nothing, adds_one, adds_start}
 use Rattle.ql_plain.proofs.Leading.{set_from_added}
 use Rattle.ql_plain.specs.declared.links.Link.{Link}
-use Rattle.ql_plain.specs.internal.Adding.{Adds, From}
+use Rattle.ql_plain.specs.internal.Adding.{Adds}
 use Rattle.ql_plain.specs.internal.Linked.{LeadsUp}
 use Rattle.ql_plain.proofs.neighbours.above.Goals as goal
 use Rattle.ql_plain.proofs.neighbours.above.Goals.{then-is_of_kind_in+in_ok-push, else-is_of_kind_in}

@@ -1,4 +1,4 @@
-use Rattle.std.proofs.Common.{◌≡◌, ◌≢◌, List, Vec, Global, get_or, pos, refl, sym, subst, ◌∙◌, ap, rules}
+use Rattle.std.proofs.Common.{◌≡◌, ◌≢◌, Vec, Global, get_or, pos, refl, sym, subst, ◌∙◌, ap, rules}
 use Rattle.std.proofs.lemmas.List.{get_or_default}
 use Rattle.osm_model.specs.declared.kind.Kind.TheVariants.{Node, Rel}
 use Rattle.osm_model.specs.declared.reference.Ref.{Ref}

@@ -1,5 +1,4 @@
 use Rattle.std.proofs.Common.{sym, subst, List, IfOk}
-use Rattle.osm_model.specs.declared.reference.Ref.{Ref}
 use Rattle.ql_syntax.specs.declared.path.Path.{Path}
 use Rattle.osm_model.specs.declared.kind.Kind.TheVariants as kinds
 use Rattle.ql_plain.proofs.FilterSets.{if_ok_as}

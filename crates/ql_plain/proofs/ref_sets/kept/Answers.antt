@@ -1,4 +1,4 @@
-use Rattle.std.proofs.Common.{List, Vec, Global, map, get_or, pos, subst, ◌∙◌, ap, refl}
+use Rattle.std.proofs.Common.{Vec, Global, map, get_or, pos, subst, ◌∙◌, ap, refl}
 use Rattle.std.proofs.lemmas.List.{get_or_default}
 use Rattle.osm_model.specs.declared.kind.Kind.TheVariants.{Node}
 use Rattle.osm_model.specs.Elements.{ref_cmp}

@@ -1,4 +1,4 @@
-use Rattle.std.proofs.Common.{refl, get_or, pos, sym, ◌∙◌, ap, rules, List, ◌++◌, ◌∷◌, []}
+use Rattle.std.proofs.Common.{refl, get_or, pos, sym, ◌∙◌, rules}
 use Rattle.std.proofs.lemmas.List.{get_or_default}
 use Rattle.std.proofs.lemmas.List.Sorted.{answers_always, Contains-permutation, IsPermutation-sym, ranks_by}
 use Rattle.std.specs.Ordering.{is_lt}

@@ -1,9 +1,9 @@
-use Rattle.std.proofs.Common.{◌≡◌, true, false, not, Bool, refl, sym, ◌∙◌, ap, subst}
+use Rattle.std.proofs.Common.{◌≡◌, true, false, not, Bool, refl, subst}
 use Rattle.std.specs.BTreeSet.{Updates, contains}
 use Rattle.std.specs.declared.cmp.Ordering.{Ordering}
 use Rattle.osm_model.specs.Elements.{ref_cmp}
 use Rattle.osm_model.specs.declared.reference.Ref.{Ref}
-use Rattle.ql_plain.proofs.Founding.{false_where_not, name_added, name_there, told_more}
+use Rattle.ql_plain.proofs.Founding.{name_added, name_there, told_more}
 use Rattle.ql_plain.proofs.References.{same_order}
 use Rattle.ql_plain.proofs.found.Found.add.Goals as goal
 

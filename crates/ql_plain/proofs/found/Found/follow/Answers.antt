@@ -1,5 +1,5 @@
-use Rattle.std.proofs.Common.{◌≡◌, List, get_or, pos, length, refl, subst, sym, ◌∙◌, arith}
-use Rattle.std.proofs.lemmas.List.{get_or_default, take_all}
+use Rattle.std.proofs.Common.{◌≡◌, get_or, pos, refl, ◌∙◌, arith}
+use Rattle.std.proofs.lemmas.List.{get_or_default}
 use Rattle.osm_model.specs.declared.kind.Kind.TheVariants.{Node}
 use Rattle.osm_model.specs.declared.reference.Ref.{Ref}
 use Rattle.ql_plain.proofs.Adding.{adds_all, adds_as, adds_more, item_is_in}

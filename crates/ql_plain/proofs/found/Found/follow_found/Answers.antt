@@ -1,10 +1,8 @@
-use Rattle.std.proofs.Common.{◌≡◌, ℕ, ◌+◌, ◌<◌, ◌≤◌, List, get_or, pos, length, ◌⊎◌, inl, inr, refl, subst, sym, ◌∙◌, ap, arith}
+use Rattle.std.proofs.Common.{◌≡◌, ℕ, ◌<◌, get_or, length, inl, inr, subst, sym, ◌∙◌, ap, arith}
 use Rattle.std.proofs.lemmas.Bool.{cases_lt}
 use Rattle.std.proofs.lemmas.List.{get_or_default}
-use Rattle.std.specs.List.{Contains}
-use Rattle.osm_model.specs.declared.kind.Kind.TheVariants.{Node}
 use Rattle.osm_model.specs.declared.reference.Ref.{Ref}
-use Rattle.ql_plain.specs.internal.Steps.{IsPath, IsStep, More, One}
+use Rattle.ql_plain.specs.internal.Steps.{IsStep, More, One}
 use Rattle.ql_plain.proofs.found.Found.follow_found.Goals as goal
 
 pub loop-at-preserved : goal.loop-at-preserved

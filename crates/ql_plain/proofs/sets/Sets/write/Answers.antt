@@ -1,7 +1,6 @@
-use Rattle.std.proofs.Common.{refl, ◌∙◌, ap, List}
+use Rattle.std.proofs.Common.{refl, ◌∙◌, ap}
 use Rattle.std.proofs.Math.Path.{fun_ext}
 use Rattle.ql_plain.proofs.NamedLists.{put_in_place, put_last}
-use Rattle.ql_plain.specs.declared.named_set.NamedSet.{NamedSet}
 use Rattle.ql_plain.specs.internal.NamedSets.{lists_of}
 use Rattle.ql_plain.proofs.sets.Sets.write.Goals as goal
 
