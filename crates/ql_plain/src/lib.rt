@@ -1,7 +1,7 @@
-//! The small query of one node by its id, and its plain answer.
+//! The plain answers to queries over a set of objects: the reference of faster ones.
 //!
-//! [`parse`] reads a query, or tells the one fault of a text that is none; [`answer_plain`] gives the
-//! meaning of a query over a set of objects.
+//! [`answer_query`] answers every query of `ql_syntax`. [`parse`] reads the small query of one node by its
+//! id, or tells the one fault of a text that is none, and [`answer_plain`] answers it.
 #![tactic(auto)]
 
 mod answer;
