@@ -205,24 +205,40 @@ fn a_line_is_refused_as_soon_as_it_is_too_long(rt: HostRuntime) -> Result<(), Fa
     Ok(())
 }
 
+/// Two lines, a byte a call, of which one fails.
+fn failing(fails_at: usize) -> SlowReader<'static> {
+    SlowReader {
+        left: b"n1 x1 y1\nn2 x2 y2\n",
+        at_once: 1,
+        fails_at,
+        calls: 0,
+    }
+}
+
+/// The fault at which a reader of two lines stops.
+fn stop_of<R: Read>(reader: &mut LineReader<R>) -> Option<LoadFault> {
+    for _ in 0..3 {
+        if let Err(told) = next_id(reader) {
+            return Some(told);
+        }
+    }
+    None
+}
+
 #[test]
 fn a_failing_reader_names_the_line(rt: HostRuntime) {
     let alloc = rt.alloc();
-    let file = "n1 x1 y1\nn2 x2 y2\n";
     for fails_at in 1..20 {
-        let mut reader = SlowReader {
-            left: file.as_bytes(),
-            at_once: 1,
-            fails_at,
-            calls: 0,
-        };
         let line = match fails_at {
             1..=9 => 1,
             10..=18 => 2,
             _ => 3,
         };
-        let told = read_set(alloc, &mut reader).err();
-        assert_eq!(rt; told, fault(line, OplCause::ReaderFailed, 0));
+        let wanted = fault(line, OplCause::ReaderFailed, 0);
+        let told = read_set(alloc, &mut failing(fails_at)).err();
+        assert_eq!(rt; told, wanted);
+        let mut lines = LineReader::new(alloc, failing(fails_at));
+        assert_eq!(rt; stop_of(&mut lines), wanted);
     }
 }
 
