@@ -11,12 +11,12 @@ none x is = absurd (omega (arith, is.1))
 pub here : {X : Type 0} (x : X) (xs : List X) → Contains (x ∷ xs) x
 here x xs = (zero, omega arith, refl)
 
-pub behind : {X : Type 0} (x : X) (xs : List X) (y : X) → Contains xs y → Contains (x ∷ xs) y
-behind x xs y is = (suc is.0, omega (arith, is.1), is.2)
+pub in_rest : {X : Type 0} (x : X) (xs : List X) (y : X) → Contains xs y → Contains (x ∷ xs) y
+in_rest x xs y is = (suc is.0, omega (arith, is.1), is.2)
 
-pub first_or_behind : {X : Type 0} (x : X) (xs : List X) (y : X) → Contains (x ∷ xs) y → (x ≡ y) ⊎ Contains xs y
-first_or_behind x xs y (zero, lt, is) = inl is
-first_or_behind x xs y (suc k, lt, is) = inr (k, omega (arith, lt), is)
+pub first_or_in_rest : {X : Type 0} (x : X) (xs : List X) (y : X) → Contains (x ∷ xs) y → (x ≡ y) ⊎ Contains xs y
+first_or_in_rest x xs y (zero, lt, is) = inl is
+first_or_in_rest x xs y (suc k, lt, is) = inr (k, omega (arith, lt), is)
 
 -- the item of a loop is in the list
 pub item_is_in : {X : Type 0} (xs : List X) (k : ℕ) (x : X) → k < length xs → x ≡ get_or xs k x → Contains xs x

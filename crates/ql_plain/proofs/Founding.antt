@@ -7,7 +7,7 @@ use Rattle.std.specs.List.{Contains, list_any}
 use Rattle.std.specs.Ordering.{eq_by_cmp}
 use Rattle.osm_model.specs.Elements.{ref_cmp}
 use Rattle.osm_model.specs.declared.reference.Ref.{Ref}
-use Rattle.ql_plain.proofs.Adding.{adds_one, behind, first_or_behind, here, none}
+use Rattle.ql_plain.proofs.Adding.{adds_one, in_rest, first_or_in_rest, here, none}
 use Rattle.ql_plain.proofs.ObjectLists.{equal_is_same, equal_itself}
 use Rattle.ql_plain.specs.declared.step.Step.{Step}
 use Rattle.ql_plain.specs.internal.Founds.{AddsName, has, how_many, missing}
@@ -24,14 +24,14 @@ any_later false b is = is
 
 pub any_from_one : {X : Type 0} (p : X → Bool) (xs : List X) (x : X) → Contains xs x → p x ≡ true → list_any p xs ≡ true
 any_from_one p [] x is so = absurd (none x is)
-any_from_one p (y ∷ xs) x is so = elim (first_or_behind y xs x is) [
+any_from_one p (y ∷ xs) x is so = elim (first_or_in_rest y xs x is) [
   | inl same ↦ any_at (p y) (list_any p xs) (ap p same ∙ so)
   | inr later ↦ any_later (p y) (list_any p xs) (any_from_one p xs x later so)
 ]
 
 one_case : {X : Type 0} (p : X → Bool) (y : X) (xs : List X) (b : Bool) → p y ≡ b → ((list_any p xs ≡ true) → (x : X) × Contains xs x × (p x ≡ true)) → (b || list_any p xs) ≡ true → (x : X) × Contains (y ∷ xs) x × (p x ≡ true)
 one_case p y xs true e later is = (y, here y xs, e)
-one_case p y xs false e later is = let one = later is in (one.0, behind y xs one.0 one.1, one.2)
+one_case p y xs false e later is = let one = later is in (one.0, in_rest y xs one.0 one.1, one.2)
 
 pub one_from_any : {X : Type 0} (p : X → Bool) (xs : List X) → list_any p xs ≡ true → (x : X) × Contains xs x × (p x ≡ true)
 one_from_any p [] is = cc
@@ -73,7 +73,7 @@ module _ {X : Type 0} (p q : X → Bool) (so : (x : X) → q x ≡ true → p x 
 
   pub count_falls : (xs : List X) (x : X) → Contains xs x → p x ≡ true → q x ≡ false → how_many q xs < how_many p xs
   count_falls [] x is yes_p no_q = absurd (none x is)
-  count_falls (y ∷ xs) x is yes_p no_q = elim (first_or_behind y xs x is) [
+  count_falls (y ∷ xs) x is yes_p no_q = elim (first_or_in_rest y xs x is) [
     | inl same ↦ new_count (q y) (p y) (how_many q xs) (how_many p xs) (ap q same ∙ no_q) (ap p same ∙ yes_p) (counts_less xs)
     | inr later ↦ less_count (q y) (p y) (how_many q xs) (how_many p xs) (so y) (count_falls xs x later yes_p no_q)
   ]

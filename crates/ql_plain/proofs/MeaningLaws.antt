@@ -19,7 +19,7 @@ use Rattle.osm_model.specs.declared.reference.Ref.{Ref}
 use Rattle.ql_syntax.specs.Filters.{Filter}
 use Rattle.ql_syntax.specs.Statements.{Statement, Statements, Select, Recurse, Item, Union, Minus, Print, End, Then}
 use Rattle.ql_syntax.specs.declared.pick.Pick.TheVariants as picks
-use Rattle.ql_plain.proofs.Adding.{behind, first_or_behind, here, none}
+use Rattle.ql_plain.proofs.Adding.{in_rest, first_or_in_rest, here, none}
 use Rattle.ql_plain.specs.Meanings.{After, AfterAll, IsSetOf, Means, Prints, cut, given_by, is_in, nothing_named, printed_of, put, told}
 use Rattle.ql_plain.specs.Values.{Env, IsSelected, Passes}
 use Rattle.ql_plain.specs.internal.Founds.{has}
@@ -45,10 +45,10 @@ same_lists [] [] rx ry to back = refl
 same_lists [] (y ∷ ys) rx ry to back = absurd (none y (back y (here y ys)))
 same_lists (x ∷ xs) [] rx ry to back = absurd (none x (to x (here x xs)))
 same_lists (x ∷ xs) (y ∷ ys) rx ry to back =
-    let same : x ≡ y = heads (first_or_behind y ys x (to x (here x xs))) (first_or_behind x xs y (back y (here y ys))) in
+    let same : x ≡ y = heads (first_or_in_rest y ys x (to x (here x xs))) (first_or_in_rest x xs y (back y (here y ys))) in
     let rest = same_lists xs ys (tail_rises x xs rx) (tail_rises y ys ry)
-    (λ r is. elim (first_or_behind y ys r (to r (behind x xs r is))) [ inl e ↦ absurd (not_above_itself x r (same ∙ e) (above_head x xs rx r is)) | inr in_ys ↦ in_ys ])
-    (λ r is. elim (first_or_behind x xs r (back r (behind y ys r is))) [ inl e ↦ absurd (not_above_itself y r (sym same ∙ e) (above_head y ys ry r is)) | inr in_xs ↦ in_xs ]) in
+    (λ r is. elim (first_or_in_rest y ys r (to r (in_rest x xs r is))) [ inl e ↦ absurd (not_above_itself x r (same ∙ e) (above_head x xs rx r is)) | inr in_ys ↦ in_ys ])
+    (λ r is. elim (first_or_in_rest x xs r (back r (in_rest y ys r is))) [ inl e ↦ absurd (not_above_itself y r (sym same ∙ e) (above_head y ys ry r is)) | inr in_xs ↦ in_xs ]) in
     ap (λ (z : Ref). z ∷ xs) same ∙ ap (λ (zs : List Ref). y ∷ zs) rest
   where
     heads : (y ≡ x) ⊎ Contains ys x → (x ≡ y) ⊎ Contains xs y → x ≡ y

@@ -8,7 +8,7 @@ use Rattle.osm_model.proofs.shared.References.{refs_total}
 use Rattle.osm_model.specs.Elements.{Element, ref_cmp, reference}
 use Rattle.osm_model.specs.Sets.{object_at}
 use Rattle.osm_model.specs.declared.reference.Ref.{Ref}
-use Rattle.ql_plain.proofs.Adding.{behind, first_or_behind, here, none}
+use Rattle.ql_plain.proofs.Adding.{in_rest, first_or_in_rest, here, none}
 use Rattle.ql_plain.proofs.References.{is_equal, same_reference}
 use Rattle.ql_plain.specs.internal.Linked.{IsThere}
 
@@ -25,7 +25,7 @@ found_case : (r : Ref) (o : Element) (objects : List Element) (b : Bool) → eq_
 found_case r o objects true e later p is =
     let same : o ≡ p = cc in
     (subst (λ (q : Element). Contains (o ∷ objects) q) same (here o objects), subst (λ (q : Element). reference q ≡ r) same (equal_is_same (reference o) r e))
-found_case r o objects false e later p is = let found = later p is in (behind o objects p found.0, found.1)
+found_case r o objects false e later p is = let found = later p is in (in_rest o objects p found.0, found.1)
 
 pub object_is_there : (objects : List Element) (r : Ref) (p : Element) → object_at objects r ≡ Some p → Contains objects p × (reference p ≡ r)
 object_is_there [] r p is = cc
@@ -35,7 +35,7 @@ object_is_there (o ∷ objects) r p is = found_case r o objects (eq_by_cmp ref_c
 absent_case : (r : Ref) (o : Element) (objects : List Element) (b : Bool) → eq_by_cmp ref_cmp (reference o) r ≡ b
     → (object_at objects r ≡ None → IsThere objects r → ⊥) → (if b then Some o else object_at objects r) ≡ None → IsThere (o ∷ objects) r → ⊥
 absent_case r o objects true e later is there = cc
-absent_case r o objects false e later is there = elim (first_or_behind o objects there.0 there.1) [
+absent_case r o objects false e later is there = elim (first_or_in_rest o objects there.0 there.1) [
   | inl same ↦ (let true_is = equal_itself (reference o) r (ap reference same ∙ there.2) in cc)
   | inr has ↦ later is (there.0, has, there.2)
 ]

@@ -23,7 +23,7 @@ pub one_object : (objects : List Element) → IsObjectSet objects → (o p : Ele
 one_object objects set o p has has_too same = elim (cases_lt has.0 has_too.0) [
   | inl before ↦ absurd (apart has.0 has_too.0 o p before has_too.1 has.2 has_too.2 same)
   | inr after ↦ elim (cases_lt has_too.0 has.0) [
-    | inl behind ↦ absurd (apart has_too.0 has.0 p o behind has.1 has_too.2 has.2 (sym same))
+    | inl in_rest ↦ absurd (apart has_too.0 has.0 p o in_rest has.1 has_too.2 has.2 (sym same))
     | inr equal ↦ (
         let at : has.0 ≡ has_too.0 = omega arith in
         sym has.2 ∙ get_or_default objects has.0 o p has.1 ∙ ap (λ (k : ℕ). get_or objects k p) at ∙ has_too.2)

@@ -62,18 +62,18 @@ module _ (steps : List Step) (sorted : IsSortedByKey (λ (step : Step). step.fro
       → (step : Step) → Contains (take count (drop first steps)) step ↔ (Contains steps step × (step.from ≡ name))
   between_points first count low high step = (
     (λ has.
-        let behind : Contains (drop first steps) step = subst (λ (zs : List Step). Contains zs step) (take-append-drop count (drop first steps)) (Contains-append_left (take count (drop first steps)) (drop count (drop first steps)) step has) in
-        let whole : Contains steps step = subst (λ (zs : List Step). Contains zs step) (take-append-drop first steps) (Contains-append_right (take first steps) (drop first steps) step behind) in (
+        let in_rest : Contains (drop first steps) step = subst (λ (zs : List Step). Contains zs step) (take-append-drop count (drop first steps)) (Contains-append_left (take count (drop first steps)) (drop count (drop first steps)) step has) in
+        let whole : Contains steps step = subst (λ (zs : List Step). Contains zs step) (take-append-drop first steps) (Contains-append_right (take first steps) (drop first steps) step in_rest) in (
           whole,
           same_reference step.from name (neither (ref_cmp step.from name)
-              (in_back (λ (s : Step). is_lt (ref_cmp s.from name) ≡ false) steps first step low.1 behind)
+              (in_back (λ (s : Step). is_lt (ref_cmp s.from name) ≡ false) steps first step low.1 in_rest)
               (in_front (λ (s : Step). is_le (ref_cmp s.from name) ≡ true) (drop first steps) count step high.0 has)),
         )),
     (λ of.
         let equal : ref_cmp step.from name ≡ Equal = ap (λ (r : Ref). ref_cmp r name) of.1 ∙ tied_itself refs_total name in
         elim (Contains-append_cases (take first steps) (drop first steps) step (subst (λ (zs : List Step). Contains zs step) (sym (take-append-drop first steps)) of.0)) [
           | inl before ↦ absurd (let lt = in_front (λ (s : Step). is_lt (ref_cmp s.from name) ≡ true) steps first step low.0 before in let not : is_lt (ref_cmp step.from name) ≡ false = ap is_lt equal in cc)
-          | inr behind ↦ elim (Contains-append_cases (take count (drop first steps)) (drop count (drop first steps)) step (subst (λ (zs : List Step). Contains zs step) (sym (take-append-drop count (drop first steps))) behind)) [
+          | inr in_rest ↦ elim (Contains-append_cases (take count (drop first steps)) (drop count (drop first steps)) step (subst (λ (zs : List Step). Contains zs step) (sym (take-append-drop count (drop first steps))) in_rest)) [
             | inl has ↦ has
             | inr after ↦ absurd (let above = in_back (λ (s : Step). is_le (ref_cmp s.from name) ≡ false) (drop first steps) count step high.1 after in let not : is_le (ref_cmp step.from name) ≡ true = ap is_le equal in cc)
           ]

@@ -10,7 +10,7 @@ use crate::named_set::NamedSet;
 use osm_model::Ref;
 use std::alloc::{AllocError, Global};
 
-/// The sets that statements wrote. Names are few: a search goes over all of them.
+/// The sets that statements wrote. A search goes over all names: a query has some thousands at most.
 #[derive(Drop)]
 pub struct Sets<'q> {
     /// Each name once.
