@@ -14,11 +14,19 @@ ANSWERED = [
     (SOUTH_POLE, "node(-3);out;", b"n-3 T x-0.0000001 y-90\n"),
     (b"n1 x180 y0\n", "node(1);out;", b"n1 T x180 y0\n"),
     (b"", "node(1);out;", b""),
+    # Blanks and comments stand between tokens, and no statement at all prints nothing.
+    (TWO_NODES, " node ( 2 ) ; out ; // the second", b"n2 T x13.4000001 y52.5\n"),
+    (TWO_NODES, "", b""),
 ]
 
 REFUSED = [
     (TWO_NODES, "node(1)", b"Q11 byte 7\n"),
     (TWO_NODES, "node(-;", b"Q2 byte 6\n"),
+    (TWO_NODES, 'node["a', b"Q3 byte 5\n"),
+    (TWO_NODES, "out ids ids;", b"Q5 byte 8\n"),
+    (TWO_NODES, "way(1,2,3,4);out;", b"Q7 byte 4\n"),
+    (TWO_NODES, 33 * "(", b"Q8 byte 32\n"),
+    (TWO_NODES, "node(1,2,0,3);out;", b"Q10 byte 5\n"),
     (b"n1 x13.4\n", "node(1);out;", b"O9 line 1 byte 8\n"),
     (b"n1 x13.4 y52.5 x1\n", "node(1);out;", b"O4 line 1 byte 15\n"),
     (b"n1 Ta=%2 x1 y1\n", "node(1);out;", b"O7 line 1 byte 6\n"),

@@ -13,12 +13,13 @@ def main():
         names = ("set.opl", "query", "bad", "answer", "proof")
         file, query, bad, answer, proof = (str(Path(room) / name) for name in names)
         Path(file).write_bytes(NODES)
-        Path(query).write_bytes(b"node(77);out;")
-        Path(bad).write_bytes(b"node(77)")
+        Path(query).write_bytes(b"(node(77)->.a;.a<<;);out;")
+        Path(bad).write_bytes(b"(node(77)->.a;.a<<;)")
         root = run([PROGRAM, "prove", file, query, answer, proof]).stdout.decode().strip()
         tally.check("prove", len(root) == 64, root)
         for words in [
             ["publish", file],
+            ["publish", file, "--edition", "2"],
             ["prove", file, query, "/dev/null", "/dev/null"],
             ["prove", file, bad, "/dev/null", "/dev/null"],
             ["check", root, query, answer, proof],

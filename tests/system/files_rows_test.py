@@ -75,8 +75,8 @@ def check_prove(tally, room):
     # A refused command leaves the files that were there: the set is looked at first, then the query.
     for content, query, stderr in [
         (TWO_NODES, b"node(1)", b"Q11 byte 7\n"),
-        (TWO_NODES, b"", b"Q11 byte 0\n"),
-        (TWO_NODES, b"node(1);out;\n", b"Q2 byte 12\n"),
+        (TWO_NODES, b"node", b"Q11 byte 4\n"),
+        (TWO_NODES, b"node(1);out;\n]", b"Q2 byte 13\n"),
         (TWO_NODES, b"node(\xff);out;", b"Q1 byte 5\n"),
         (b"c5\n", b"node(1)", b"O1 line 1 byte 0\n"),
     ]:

@@ -65,13 +65,6 @@ def check_lines(tally, room):
         list(workers.map(lambda item: check_line(tally, room, *item), numbered))
 
 
-def check_sets(tally):
-    """Each set of the vectors has its root, and is its proof's."""
-    for name, _, _, root, *_ in rows("roots.tsv"):
-        ended = run([PROGRAM, "publish", VECTORS / f"set-{name.decode()}.opl"])
-        tally.check(f"set {name}", ended == Outcome(root + b"\n", b"", 0), ended)
-
-
 F = b"""\
 n1 v1 dV c5 t2020-01-02T03:04:05Z i7 uAnn Thighway=crossing x13.4 y52.5
 n2 v0 dV c0 t i0 u T x13.4000001 y52.5
@@ -113,7 +106,6 @@ def main():
     tally = Tally()
     with tempfile.TemporaryDirectory() as room:
         check_lines(tally, room)
-        check_sets(tally)
         check_spellings(tally, room)
     tally.end()
 

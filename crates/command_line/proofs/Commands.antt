@@ -15,11 +15,11 @@ use Rattle.clap.specs.declared.parser.matches.ArgMatches.TheViews.{out-ArgMatche
 use Rattle.clap.specs.declared.parser.matches.SubCommand.{SubCommand}
 use Rattle.clap.proofs.OnLiterals.{clap_on_literals}
 use Rattle.command_line.specs.CommandLine.{program_app}
-use Rattle.command_line.specs.Jobs.{Gives, GivesMatch, HasBadRoot}
+use Rattle.command_line.specs.Jobs.{Gives, GivesMatch, HasBadEdition, HasBadRoot}
 use Rattle.command_line.specs.internal.Commands.{IsCommandName}
 use Rattle.command_line.specs.declared.job.Job.{Job}
 use Rattle.command_line.specs.declared.words_fault.WordsFault.{WordsFault}
-use Rattle.command_line.specs.declared.words_fault.WordsFault.TheVariants.{BadRoot, Memory}
+use Rattle.command_line.specs.declared.words_fault.WordsFault.TheVariants.{BadEdition, BadRoot, Memory}
 
 -- a name and a list of rows make the pair that they came from
 pair_of : (o : Option (Text × List Row)) (name : Text) (rows : List Row)
@@ -134,12 +134,29 @@ pub of_match : (matched : Option (Text × List Row)) (r : Result Job WordsFault)
 of_match matched (Ok job) same given = subst (λ (o : Option (Text × List Row)). GivesMatch job o) same given
 of_match matched (Err e) same given = tt
 
+-- why there is no job of the command of this name
+abbrev Refusal : Text → List Row → WordsFault → Type 0
+Refusal name rows e = (e ≡ Memory)
+    ⊎ (((e ≡ BadRoot) × HasBadRoot (Some (name, rows))) ⊎ ((e ≡ BadEdition) × HasBadEdition (Some (name, rows))))
+
 -- its bad root
-pub bad_match : (matched : Option (Text × List Row)) (r : Result Job WordsFault) (name : Text) (rows : List Row) → Some (name, rows) ≡ matched → r ≡ Err BadRoot
-    → IfErr r (λ e. (e ≡ Memory) ⊎ ((e ≡ BadRoot) × HasBadRoot (Some (name, rows)))) → HasBadRoot matched
-bad_match matched (Ok job) name rows same is told = cc
-bad_match matched (Err e) name rows same is told = by told
+pub bad_root_match : (matched : Option (Text × List Row)) (r : Result Job WordsFault) (name : Text) (rows : List Row) → Some (name, rows) ≡ matched → r ≡ Err BadRoot
+    → IfErr r (Refusal name rows) → HasBadRoot matched
+bad_root_match matched (Ok job) name rows same is told = cc
+bad_root_match matched (Err e) name rows same is told = by told
   where
-    by : (e ≡ Memory) ⊎ ((e ≡ BadRoot) × HasBadRoot (Some (name, rows))) → HasBadRoot matched
+    by : Refusal name rows e → HasBadRoot matched
     by (inl memory) = let bad : e ≡ BadRoot = cc in cc
-    by (inr bad) = subst HasBadRoot same bad.1
+    by (inr (inl root)) = subst HasBadRoot same root.1
+    by (inr (inr edition)) = let bad : e ≡ BadRoot = cc in cc (edition.0)
+
+-- its bad edition
+pub bad_edition_match : (matched : Option (Text × List Row)) (r : Result Job WordsFault) (name : Text) (rows : List Row) → Some (name, rows) ≡ matched → r ≡ Err BadEdition
+    → IfErr r (Refusal name rows) → HasBadEdition matched
+bad_edition_match matched (Ok job) name rows same is told = cc
+bad_edition_match matched (Err e) name rows same is told = by told
+  where
+    by : Refusal name rows e → HasBadEdition matched
+    by (inl memory) = let bad : e ≡ BadEdition = cc in cc
+    by (inr (inl root)) = let bad : e ≡ BadEdition = cc in cc (root.0)
+    by (inr (inr edition)) = subst HasBadEdition same edition.1

@@ -2,11 +2,11 @@
 -- Source: this project; the digits of a root are decoded as `hex` decodes them.
 use Rattle.std.specs.Prelude.{◌≡◌, List, Ok, Option, Some, None, codes}
 use Rattle.std.specs.String.{string_bytes}
-use Rattle.clap.specs.Words.{Row, Text}
+use Rattle.clap.specs.Words.{Row, Text, first_of, one_of}
 use Rattle.hex.specs.Hex.{decode_of}
 use Rattle.command_line.specs.Arguments.{text_of}
 use Rattle.command_line.specs.AskCommand.{ask_name}
-use Rattle.command_line.specs.PublishCommand.{publish_name}
+use Rattle.command_line.specs.PublishCommand.{AsksForEdition, IsBadEdition, publish_name}
 use Rattle.command_line.specs.ProveCommand.{prove_name}
 use Rattle.command_line.specs.CheckCommand.{IsRootText, check_name}
 use Rattle.command_line.specs.declared.job.Job.{Job}
@@ -15,7 +15,9 @@ use Rattle.command_line.specs.declared.job.Job.TheVariants.{Ask, Publish, Prove,
 -- the job is that of the command of this name with these matches
 abbrev pub Gives : Job → Text → List Row → Type 0
 Gives (Ask query) name rows = (name ≡ ask_name) × (string_bytes query ≡ text_of (codes "QUERY") rows)
-Gives (Publish file) name rows = (name ≡ publish_name) × (string_bytes file ≡ text_of (codes "FILE") rows)
+Gives (Publish file edition) name rows = (name ≡ publish_name)
+    × (string_bytes file ≡ text_of (codes "FILE") rows)
+    × AsksForEdition (first_of (codes "edition") rows) (one_of (codes "sequence") rows) edition
 Gives (Prove file query answer proof) name rows = (name ≡ prove_name)
     × (string_bytes file ≡ text_of (codes "FILE") rows)
     × (string_bytes query ≡ text_of (codes "QUERYFILE") rows)
@@ -36,3 +38,8 @@ GivesMatch job (Some matched) = Gives job matched.0 matched.1
 abbrev pub HasBadRoot : Option (Text × List Row) → Type 0
 HasBadRoot None = ⊥
 HasBadRoot (Some matched) = (matched.0 ≡ check_name) × ¬ (IsRootText (text_of (codes "ROOT") matched.1))
+
+-- the command `publish` was matched, with a word for the edition that is neither `1` nor `2`
+abbrev pub HasBadEdition : Option (Text × List Row) → Type 0
+HasBadEdition None = ⊥
+HasBadEdition (Some matched) = (matched.0 ≡ publish_name) × IsBadEdition (first_of (codes "edition") matched.1)

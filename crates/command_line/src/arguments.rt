@@ -3,7 +3,7 @@
 ghost use Rattle.std.specs.Prelude.{◌≡◌, IfOk, false};
 ghost use Rattle.std.specs.String.{string_bytes};
 ghost use Rattle.clap.specs.declared.builder.command.Command.TheViews.{out-Command as fields_of};
-ghost use Rattle.clap.specs.Words.{app_of, found_of, rows_of, with_rule};
+ghost use Rattle.clap.specs.Words.{app_of, found_of, rows_of, rule_of, with_rule};
 ghost use Rattle.command_line.specs.Arguments.{text_of, wanted};
 ghost use Rattle.command_line.specs.internal.Commands.{IsCommand};
 
@@ -45,6 +45,15 @@ pub fn and_wanted<'a>(
             .help(argument.help)
             .required(true),
     )
+}
+
+/// The command with one more option.
+pub fn and_option<'a>(command: Command<'a>, option: Arg<'a>) -> Result<Command<'a>, AllocError>
+    requires command { (fields_of command).has_globals ≡ false }
+    requires option { option.global ≡ false }
+    ensures { IfOk result (IsCommand (with_rule (app_of command.entry) (rule_of option.entry))) }
+{
+    command.arg(option)
 }
 
 /// A copy of the text that the matches have for the argument, empty where they have none.

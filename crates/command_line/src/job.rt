@@ -1,5 +1,6 @@
 //! What the words ask for.
 
+use crate::edition::Edition;
 use tree_node::Digest;
 
 /// What the words ask for: a variant a command, with the texts of its arguments. A file is named by the bytes
@@ -11,10 +12,12 @@ pub enum Job {
         /// The bytes of the word QUERY as they stand.
         query: String,
     },
-    /// `publish FILE`: tell the root of a set.
+    /// `publish FILE [--edition 1|2] [--sequence N]`: tell a root of a set.
     Publish {
         /// The OPL file with the set's objects.
         file: String,
+        /// The edition of the root over the set's trees; `None` for the root over its plain text.
+        edition: Option<Edition>,
     },
     /// `prove FILE QUERYFILE ANSWERFILE PROOFFILE`: write an answer and its proof, and tell the root.
     Prove {

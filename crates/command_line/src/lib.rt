@@ -7,6 +7,7 @@
 mod arguments;
 mod ask_command;
 mod check_command;
+mod edition;
 mod job;
 mod program_command;
 mod prove_command;
@@ -16,6 +17,7 @@ mod tests;
 mod words;
 mod words_fault;
 
+pub use edition::Edition;
 pub use job::Job;
 pub use words::read_words;
 pub use words_fault::WordsFault;

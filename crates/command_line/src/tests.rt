@@ -1,4 +1,4 @@
-use crate::{Job, WordsFault, read_words};
+use crate::{Edition, Job, WordsFault, read_words};
 use std::alloc::{AllocError, Global};
 use std::test::Fail;
 
@@ -41,15 +41,69 @@ fn reads_ask(rt: HostRuntime) -> Result<(), Fail> {
 fn reads_the_commands_over_files(rt: HostRuntime) -> Result<(), Fail> {
     let alloc = rt.alloc();
     for (line, want) in [
-        ("m publish a.opl", "Publish { file: \"a.opl\" }"),
         (
             "m prove a.opl b c d",
             "Prove { file: \"a.opl\", query_file: \"b\", answer_file: \"c\", proof_file: \"d\" }",
         ),
-        ("m publish -- -", "Publish { file: \"-\" }"),
+        ("m publish -- -", "Publish { file: \"-\", edition: None }"),
     ] {
         assert_eq!(rt; shown(alloc, line)?.as_str(), want, "{line}");
     }
+    Ok(())
+}
+
+#[test]
+fn reads_editions(rt: HostRuntime) -> Result<(), Fail> {
+    let alloc = rt.alloc();
+    for (line, want) in [
+        ("m publish a.opl", None),
+        ("m publish a.opl --edition 1", Some(Edition::One)),
+        (
+            "m publish --edition 2 a.opl",
+            Some(Edition::Two { sequence: 0 }),
+        ),
+        (
+            "m publish a.opl --edition=2 --sequence=7",
+            Some(Edition::Two { sequence: 7 }),
+        ),
+        (
+            "m publish --sequence 18446744073709551615 --edition 2 a.opl",
+            Some(Edition::Two { sequence: u64::MAX }),
+        ),
+        (
+            "m publish a.opl --edition 2 --sequence +7",
+            Some(Edition::Two { sequence: 7 }),
+        ),
+        (
+            "m publish a.opl --edition 1 --sequence 7",
+            Some(Edition::One),
+        ),
+        ("m publish a.opl --sequence 7", None),
+    ] {
+        match read_words(alloc, words_of(alloc, line)?)? {
+            Job::Publish { file, edition } => {
+                assert_eq!(rt; file.as_str(), "a.opl", "{line}");
+                assert_eq!(rt; edition, want, "{line}");
+            }
+            job => panic!(rt; "{line}: {job:?}"),
+        }
+    }
+    Ok(())
+}
+
+#[test]
+fn refuses_bad_editions(rt: HostRuntime) -> Result<(), Fail> {
+    let alloc = rt.alloc();
+    for word in ["3", "", "two", "0", "01", "+1", "12", "1.0"] {
+        let line = format!(in alloc; "m publish a.opl --edition {word}")?;
+        match read_words(alloc, words_of(alloc, &line)?) {
+            Ok(job) => panic!(rt; "{line}: {job:?}"),
+            Err(WordsFault::BadEdition) => {}
+            Err(fault) => panic!(rt; "{line}: {fault}"),
+        }
+    }
+    let told = format!(in alloc; "{}", WordsFault::BadEdition)?;
+    assert_eq!(rt; told.as_str(), "bad edition");
     Ok(())
 }
 
@@ -122,6 +176,30 @@ fn refuses_with_the_text_of_clap(rt: HostRuntime) -> Result<(), Fail> {
             "osm_mirror ask -x",
             "error: unexpected argument '-x' found\n",
         ),
+        (
+            "osm_mirror publish a --edition",
+            "error: a value is required for '--edition <EDITION>' but none was supplied\n",
+        ),
+        (
+            "osm_mirror publish a --edition 1 --edition 2",
+            "error: the argument '--edition <EDITION>' cannot be used multiple times\n",
+        ),
+        (
+            "osm_mirror publish a --edition 2 --sequence x",
+            "error: invalid value 'x' for '--sequence <N>': invalid digit found in string\n",
+        ),
+        (
+            "osm_mirror publish a --edition 2 --sequence 18446744073709551616",
+            "error: invalid value '18446744073709551616' for '--sequence <N>': number too large to fit in target type\n",
+        ),
+        (
+            "osm_mirror publish a --edition 2 --sequence -1",
+            "error: unexpected argument '-1' found\n",
+        ),
+        (
+            "osm_mirror publish a --edition 2 --sequence=-1",
+            "error: invalid value '-1' for '--sequence <N>': invalid digit found in string\n",
+        ),
         ("osm_mirror help", "error: unrecognized subcommand 'help'\n"),
         (
             "osm_mirror --help",
@@ -133,7 +211,7 @@ fn refuses_with_the_text_of_clap(rt: HostRuntime) -> Result<(), Fail> {
         ),
         (
             "osm_mirror publish -h",
-            "Prints the root of a set, by which clients check answers\n\nUsage: osm_mirror publish <FILE>\n\nArguments:\n  <FILE>  OPL file with the objects of the set\n",
+            "Prints the root of a set, by which clients check answers\n\nUsage: osm_mirror publish [OPTIONS] <FILE>\n\nArguments:\n  <FILE>  OPL file with the objects of the set\n\nOptions:\n      --edition <EDITION>  Edition of the root over trees: 1, or 2 with a sequence number; without it the root over the plain text\n      --sequence <N>       Sequence number of an edition 2 root, 0 if it isn't given; has no effect without '--edition 2'\n  -h, --help               Print help\n",
         ),
         (
             "osm_mirror prove -h",
@@ -168,7 +246,10 @@ fn reads_within_memory(rt: HostRuntime) -> Result<(), Fail> {
         Err(fault) => panic!(rt; "{fault}"),
     }
     let again = shown(alloc, "osm_mirror publish a.opl")?;
-    assert_eq!(rt; again.as_str(), "Publish { file: \"a.opl\" }");
+    assert_eq!(rt;
+        again.as_str(),
+        "Publish { file: \"a.opl\", edition: None }"
+    );
     Ok(())
 }
 

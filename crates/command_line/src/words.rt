@@ -4,7 +4,7 @@ ghost use Rattle.std.specs.Prelude.{◌≡◌, ◌≢◌, ◌⊎◌, [], Err, If
 ghost use Rattle.std.specs.String.{string_bytes};
 ghost use Rattle.clap.specs.Words.{fault_of, found_of, kind_of, rows_of, subcommand_of, takes};
 ghost use Rattle.command_line.specs.CommandLine.{program_app};
-ghost use Rattle.command_line.specs.Jobs.{Gives, GivesMatch, HasBadRoot};
+ghost use Rattle.command_line.specs.Jobs.{Gives, GivesMatch, HasBadEdition, HasBadRoot};
 ghost use Rattle.command_line.specs.internal.Commands.{IsCommandName};
 
 use crate::ask_command::{ASK, ask_job};
@@ -26,13 +26,15 @@ use std::alloc::{AllocError, Global};
 /// # Errors
 ///
 /// `Usage` with `clap`'s text, where the words are none of this command line, or ask for help. `BadRoot`
-/// where the word ROOT of `check` isn't 64 hexadecimal digits. `Memory` where an allocation was refused.
+/// where the word ROOT of `check` isn't 64 hexadecimal digits. `BadEdition` where the word after `--edition` of
+/// `publish` is neither `1` nor `2`. `Memory` where an allocation was refused.
 pub fn read_words(alloc: Global, words: Vec<String>) -> Result<Job, WordsFault>
     ensures read { IfOk result (λ job. GivesMatch job (subcommand_of program_app (map string_bytes words.items))) }
     ensures accepted { OnOk result (fault_of program_app (map string_bytes words.items) ≡ []) }
     ensures refused { takes program_app (map string_bytes words.items) ≡ true
-        → IfErr result (λ e. (e ≡ WordsFault.Memory) ⊎ (e ≡ WordsFault.BadRoot)) }
+        → IfErr result (λ e. (e ≡ WordsFault.Memory) ⊎ ((e ≡ WordsFault.BadRoot) ⊎ (e ≡ WordsFault.BadEdition))) }
     ensures bad_root { result ≡ Err WordsFault.BadRoot → HasBadRoot (subcommand_of program_app (map string_bytes words.items)) }
+    ensures bad_edition { result ≡ Err WordsFault.BadEdition → HasBadEdition (subcommand_of program_app (map string_bytes words.items)) }
 {
     let program = program_command(alloc)?;
     match program.try_get_matches_from(words.as_slice()) {
@@ -49,11 +51,12 @@ fn job_of(alloc: Global, name: &str, matches: &ArgMatches<'_>) -> Result<Job, Wo
     requires { IsCommandName name.now }
     ensures given { IfOk result (λ job. Gives job name.now (rows_of (found_of matches.now))) }
     ensures refused { IfErr result (λ e. (e ≡ WordsFault.Memory)
-        ⊎ ((e ≡ WordsFault.BadRoot) × HasBadRoot (Some (name.now, rows_of (found_of matches.now))))) }
+        ⊎ (((e ≡ WordsFault.BadRoot) × HasBadRoot (Some (name.now, rows_of (found_of matches.now))))
+        ⊎ ((e ≡ WordsFault.BadEdition) × HasBadEdition (Some (name.now, rows_of (found_of matches.now)))))) }
 {
     match name {
         ASK => Ok(ask_job(alloc, matches)?),
-        PUBLISH => Ok(publish_job(alloc, matches)?),
+        PUBLISH => publish_job(alloc, matches),
         PROVE => Ok(prove_job(alloc, matches)?),
         CHECK => check_job(alloc, matches),
         _ => unreachable!("each command has its arm"),
@@ -62,7 +65,8 @@ fn job_of(alloc: Global, name: &str, matches: &ArgMatches<'_>) -> Result<Job, Wo
 
 /// The refusal of `clap`, with its text.
 fn fault_from(alloc: Global, error: &clap::Error) -> WordsFault
-    ensures own { result ≢ WordsFault.BadRoot }
+    ensures no_bad_root { result ≢ WordsFault.BadRoot }
+    ensures no_bad_edition { result ≢ WordsFault.BadEdition }
     ensures memory { kind_of error.now ≡ ErrorKind.OutOfMemory → result ≡ WordsFault.Memory }
 {
     if error.kind() == ErrorKind::OutOfMemory {

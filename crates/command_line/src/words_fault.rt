@@ -16,6 +16,9 @@ pub enum WordsFault {
     /// The word ROOT isn't 64 hexadecimal digits.
     #[error("bad root")]
     BadRoot,
+    /// The word after `--edition` is neither `1` nor `2`.
+    #[error("bad edition")]
+    BadEdition,
     /// An allocation was refused.
     #[error("no memory")]
     Memory,

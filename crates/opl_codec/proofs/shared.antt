@@ -13,3 +13,4 @@ pub mod ReadLiterals
 pub mod TextFields
 pub mod TextLaws
 pub mod ValueLaws
+pub mod EncodedCharacters

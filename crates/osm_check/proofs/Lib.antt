@@ -1,7 +1,7 @@
 pub mod Texts
 pub mod Sets
 pub mod Fronts
-pub mod Answers
 pub mod Lines
 pub mod TextsRead
 pub mod OneVerdict
+pub mod Refusals

@@ -1,14 +1,13 @@
 -- Which line may come next in a canonical text.
-use Rattle.std.proofs.Common.{◌≡◌, ◌≢◌, ℕ, ◌-◌, List, [], ◌∷◌, ◌++◌, length, take, Option, sym, ◌∙◌, ap, subst, arith, length-append}
+use Rattle.std.proofs.Common.{◌≡◌, ◌≢◌, ℕ, ◌-◌, List, [], ◌∷◌, ◌++◌, length, take, sym, ◌∙◌, ap, subst, arith, length-append}
 use Rattle.std.proofs.Math.Seq.{take-append_seam}
 use Rattle.osm_model.specs.CanonicalLine.{canonical_line}
 use Rattle.osm_model.specs.Elements.{Element, reference}
-use Rattle.osm_model.specs.declared.reference.Ref.{Ref}
+use Rattle.osm_model.specs.Sets.{IsObjectSet}
 use Rattle.opl_codec.specs.LineChanges.{SpellsObject}
 use Rattle.opl_codec.proofs.shared.CanonicalLines.{canonical_line_spells}
 use Rattle.opl_codec.proofs.shared.OnePut.{one_object}
-use Rattle.ql_plain.specs.declared.query.Query.{Query}
-use Rattle.osm_check.specs.internal.Replays.{HasRead, IsNext, last_reference}
+use Rattle.osm_check.specs.internal.Replays.{IsNext, last_reference}
 use Rattle.osm_check.proofs.Sets.{IsAbove, set_more, element_last, above_last}
 
 -- all but the last byte
@@ -26,10 +25,10 @@ pub says_none : (objects : List Element) (line : List ℕ) → ((o : Element) �
 says_none objects line none o next = none o (next_says objects line o next)
 
 -- a line whose object may not come here
-pub not_here : (objects : List Element) (line : List ℕ) (said : Element) (last : Option Ref) → SpellsObject line said → last ≡ last_reference objects → (IsAbove last (reference said) → ⊥) → (o : Element) → IsNext objects line o → ⊥
-not_here objects line said last spells last_is below o next =
+pub not_here : (objects : List Element) (line : List ℕ) (said : Element) → SpellsObject line said → (IsAbove (last_reference objects) (reference said) → ⊥) → (o : Element) → IsNext objects line o → ⊥
+not_here objects line said spells below o next =
     let same : said ≡ o = one_object line said o spells (next_says objects line o next) in
-    below (subst (λ (e : Element). IsAbove last (reference e)) (sym same) (subst (λ (l : Option Ref). IsAbove l (reference o)) (sym last_is) (above_last objects o next.set)))
+    below (subst (λ (e : Element). IsAbove (last_reference objects) (reference e)) (sym same) (above_last objects o next.set))
 
 -- a line that isn't spelled as its object's is
 pub other_line : (objects : List Element) (line : List ℕ) (said : Element) → SpellsObject line said → line ≢ canonical_line said → (o : Element) → IsNext objects line o → ⊥
@@ -38,6 +37,5 @@ other_line objects line said spells other o next =
     other (next.line_is ∙ ap canonical_line (sym same))
 
 -- the line that comes next
-pub this_line : (query : Query) (objects : List Element) (last : Option Ref) (answer line : List ℕ) (o : Element) → HasRead query objects last answer → SpellsObject line o → IsAbove last (reference o) → line ≡ canonical_line o → IsNext objects line o
-this_line query objects last answer line o read spells above is =
-    record { set = set_more objects o read.set spells.element (subst (λ (l : Option Ref). IsAbove l (reference o)) read.last_is above); line_is = is }
+pub this_line : (objects : List Element) (line : List ℕ) (o : Element) → IsObjectSet objects → SpellsObject line o → IsAbove (last_reference objects) (reference o) → line ≡ canonical_line o → IsNext objects line o
+this_line objects line o set spells above is = record { set = set_more objects o set spells.element above; line_is = is }

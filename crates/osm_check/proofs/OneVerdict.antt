@@ -8,11 +8,13 @@ use Rattle.std.proofs.lemmas.Bool.{cases_Bool, cases_lt}
 use Rattle.std.proofs.lemmas.Bool.Decides.{not_from_Decides}
 use Rattle.osm_model.specs.Elements.{Element}
 use Rattle.osm_model.specs.Sets.{IsObjectSet}
-use Rattle.ql_plain.specs.Queries.{FaultOf}
-use Rattle.ql_plain.specs.Meaning.{meaning}
-use Rattle.ql_plain.specs.declared.query.Query.{Query}
-use Rattle.ql_plain.specs.declared.fault.QlFault.{QlFault}
-use Rattle.ql_plain.proofs.shared.Laws.{one_reading, never_both, one_fault}
+use Rattle.ql_syntax.specs.Queries.{HasFault, Reads, memory_fault}
+use Rattle.ql_syntax.specs.Statements.{Statements}
+use Rattle.ql_syntax.specs.declared.cause.QlCause.TheVariants as causes
+use Rattle.ql_syntax.specs.declared.fault.QlFault.{QlFault}
+use Rattle.ql_syntax.proofs.shared.QueryLaws.{one_query, reads_or_not, one_fault}
+use Rattle.ql_plain.specs.Meanings.{Means}
+use Rattle.ql_plain.proofs.shared.Laws.{one_meaning}
 use Rattle.tree_node.specs.Digests.{digest}
 use Rattle.osm_check.specs.Roots.{Clash, IsProofOf, proof_text, root_of}
 use Rattle.osm_check.specs.Verdicts.{IsReadable, IsAnswer, IsFirstDifference, IsAnswerWrongAt, IsReason, IsVerdict, Tells, no_walks}
@@ -47,27 +49,31 @@ no_difference text n h = h.differ refl
 -- ---- one verdict
 
 -- a query with a fault doesn't read
-refuses : (query : List ℕ) (fault : QlFault) → FaultOf query fault → IsReadable query → ⊥
-refuses query fault f readable = never_both query fault readable.0 f readable.1
+refuses : (query : List ℕ) (fault : QlFault) → HasFault query fault → IsReadable query → ⊥
+refuses query fault f readable = reads_or_not query readable.0 fault readable.1 f
+
+-- a query over a set means one text, whatever it is read as
+same_meaning : (query : List ℕ) (a b : List Element) (s t : Statements) (first second : List ℕ) → IsObjectSet b → a ≡ b → Reads query s → Reads query t → Means a s first → Means b t second → first ≡ second
+same_meaning query a b s t first second set same reads again means other =
+    let one : s ≡ t = one_query query s t reads again in
+    one_meaning b t first second set (subst (λ (os : List Element). Means os t first) same (subst (λ (q : Statements). Means a q first) one means)) other
 
 -- the answer to a query over objects is one
-one_answer : (query answer : List ℕ) (a b : List Element) (byte : ℕ) → a ≡ b → IsAnswer query answer a → IsAnswerWrongAt query answer b byte → ⊥
-one_answer query answer a b byte same h k =
-    let tree : h.tree ≡ k.tree = one_reading query h.tree k.tree h.reads k.reads in
-    let is : answer ≡ meaning k.tree b = h.answer_is ∙ ap (λ (q : Query). meaning q a) tree ∙ ap (λ (os : List Element). meaning k.tree os) same in
-    no_difference (meaning k.tree b) byte (subst (λ (t : List ℕ). IsFirstDifference t (meaning k.tree b) byte) is k.place)
+one_answer : (query answer : List ℕ) (a b : List Element) (byte : ℕ) → IsObjectSet b → a ≡ b → IsAnswer query answer a → IsAnswerWrongAt query answer b byte → ⊥
+one_answer query answer a b byte set same h k =
+    let is : answer ≡ k.meaning = same_meaning query a b h.statements k.statements answer k.meaning set same h.reads k.reads h.means k.means in
+    no_difference k.meaning byte (subst (λ (t : List ℕ). IsFirstDifference t k.meaning byte) is k.place)
 
-one_place : (query answer : List ℕ) (a b : List Element) (m n : ℕ) → a ≡ b → IsAnswerWrongAt query answer a m → IsAnswerWrongAt query answer b n → m ≡ n
-one_place query answer a b m n same h k =
-    let tree : h.tree ≡ k.tree = one_reading query h.tree k.tree h.reads k.reads in
-    let is : meaning h.tree a ≡ meaning k.tree b = ap (λ (q : Query). meaning q a) tree ∙ ap (λ (os : List Element). meaning k.tree os) same in
-    one_difference answer (meaning k.tree b) m n (subst (λ (t : List ℕ). IsFirstDifference answer t m) is h.place) k.place
+one_place : (query answer : List ℕ) (a b : List Element) (m n : ℕ) → IsObjectSet b → a ≡ b → IsAnswerWrongAt query answer a m → IsAnswerWrongAt query answer b n → m ≡ n
+one_place query answer a b m n set same h k =
+    let is : h.meaning ≡ k.meaning = same_meaning query a b h.statements k.statements h.meaning k.meaning set same h.reads k.reads h.means k.means in
+    one_difference answer k.meaning m n (subst (λ (t : List ℕ). IsFirstDifference answer t m) is h.place) k.place
 
 one_reason : (query root answer proof : List ℕ) (a b : Why) → IsReason query root answer proof a → IsReason query root answer proof b → a ≡ b
 one_reason query root answer proof (QueryRefused f) (QueryRefused g) h k = ap QueryRefused (one_fault query f g h k)
 one_reason query root answer proof (QueryRefused f) ProofMalformed h k = absurd (refuses query f h k.0.readable)
 one_reason query root answer proof (QueryRefused f) NodeMissing h k = absurd (refuses query f h k.0)
-one_reason query root answer proof (QueryRefused f) (AnswerDiffers n) h k = absurd (refuses query f h (k.3.tree, k.3.reads))
+one_reason query root answer proof (QueryRefused f) (AnswerDiffers n) h k = absurd (refuses query f h (k.3.statements, k.3.reads))
 one_reason query root answer proof ProofMalformed (QueryRefused g) h k = absurd (refuses query g k h.0.readable)
 one_reason query root answer proof ProofMalformed ProofMalformed h k = refl
 one_reason query root answer proof ProofMalformed NodeMissing h k = absurd (k.1 h.0.digest_is)
@@ -76,17 +82,17 @@ one_reason query root answer proof NodeMissing (QueryRefused g) h k = absurd (re
 one_reason query root answer proof NodeMissing ProofMalformed h k = absurd (h.1 k.0.digest_is)
 one_reason query root answer proof NodeMissing NodeMissing h k = refl
 one_reason query root answer proof NodeMissing (AnswerDiffers n) h k = absurd (h.1 k.0)
-one_reason query root answer proof (AnswerDiffers m) (QueryRefused g) h k = absurd (refuses query g k (h.3.tree, h.3.reads))
+one_reason query root answer proof (AnswerDiffers m) (QueryRefused g) h k = absurd (refuses query g k (h.3.statements, h.3.reads))
 one_reason query root answer proof (AnswerDiffers m) ProofMalformed h k = absurd (k.1 (h.1, h.2))
 one_reason query root answer proof (AnswerDiffers m) NodeMissing h k = absurd (k.1 h.0)
-one_reason query root answer proof (AnswerDiffers m) (AnswerDiffers n) h k = ap AnswerDiffers (one_place query answer h.1 k.1 m n (one_text proof h.1 k.1 h.2 k.2) h.3 k.3)
+one_reason query root answer proof (AnswerDiffers m) (AnswerDiffers n) h k = ap AnswerDiffers (one_place query answer h.1 k.1 m n k.2.set (one_text proof h.1 k.1 h.2 k.2) h.3 k.3)
 
 -- a yes leaves no reason for a no
 no_reason : (query root answer proof : List ℕ) (report : Report) (why : Why) → IsVerdict query root answer proof (Yes report) → IsReason query root answer proof why → ⊥
-no_reason query root answer proof report (QueryRefused f) h k = refuses query f k (h.4.tree, h.4.reads)
+no_reason query root answer proof report (QueryRefused f) h k = refuses query f k (h.4.statements, h.4.reads)
 no_reason query root answer proof report ProofMalformed h k = k.1 (h.2, h.3)
 no_reason query root answer proof report NodeMissing h k = k.1 h.1
-no_reason query root answer proof report (AnswerDiffers n) h k = one_answer query answer h.2 k.1 n (one_text proof h.2 k.1 h.3 k.2) h.4 k.3
+no_reason query root answer proof report (AnswerDiffers n) h k = one_answer query answer h.2 k.1 n k.2.set (one_text proof h.2 k.1 h.3 k.2) h.4 k.3
 
 pub one_verdict : (query root answer proof : List ℕ) (a b : Verdict) → IsVerdict query root answer proof a → IsVerdict query root answer proof b → a ≡ b
 one_verdict query root answer proof (Yes r) (Yes s) h k = ap Yes (h.0 ∙ sym k.0)
@@ -123,6 +129,13 @@ pub under_root : (query answer proof : List ℕ) (objects : List Element) (verdi
 under_root query answer proof objects verdict set h = told query answer proof objects set verdict h
 
 -- ---- what the checker answers
+
+-- a query that isn't read
+pub refused_owed : (query root answer proof : List ℕ) (fault : QlFault) (result : Result Verdict AllocError) → (fault ≡ memory_fault) ⊎ HasFault query fault
+    → IfOk result (λ v. (v ≡ No (QueryRefused fault)) × (fault.cause ≢ causes.Memory)) → IfOk result (λ v. IsVerdict query root answer proof v)
+refused_owed query root answer proof fault (Ok v) (inl memory) given = absurd (given.1 (ap (λ (f : QlFault). f.cause) memory))
+refused_owed query root answer proof fault (Ok v) (inr has) given = subst (λ (w : Verdict). IsVerdict query root answer proof w) (sym given.0) has
+refused_owed query root answer proof fault (Err e) why given = tt
 
 -- the verdict that is owed is the one that is given
 pub only_verdict : (query root answer proof : List ℕ) (result : Result Verdict AllocError) (owed : Verdict) → IsVerdict query root answer proof owed → IfOk result (λ v. IsVerdict query root answer proof v) → IfOk result (λ v. v ≡ owed)

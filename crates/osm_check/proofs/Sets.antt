@@ -1,16 +1,25 @@
 -- Sets of objects, and one object more after them.
-use Rattle.std.proofs.Common.{◌≡◌, List, [], ◌∷◌, ◌++◌, Option, Some, IfSome, All, refl, sym, subst}
-use Rattle.std.specs.List.{AllByRecursion}
-use Rattle.std.specs.List.Sorted.{IsStrictlySortedBy}
+use Rattle.std.proofs.Common.{◌≡◌, suc, ◌-◌, List, [], ◌∷◌, ◌++◌, length, Option, Some, option_map, IfSome, All, refl, sym, subst, arith}
+use Rattle.std.specs.List.{AllByRecursion, slice_get}
+use Rattle.std.specs.List.Sorted.{IsPermutation, IsStrictlySortedBy}
 use Rattle.std.specs.declared.cmp.Ordering.TheVariants.{Less}
 use Rattle.std.proofs.lemmas.List.{map-append}
 use Rattle.std.proofs.lemmas.List.Elements.{All-from_recursion, recursion_from_All}
+use Rattle.std.proofs.lemmas.List.Sorted.{IsPermutation-refl}
+use Rattle.std.proofs.lemmas.Map.Keys.{IsDistinct-from_sorted}
 use Rattle.osm_model.specs.Elements.{Element, reference, references, ref_cmp}
 use Rattle.osm_model.specs.Limits.{IsElement}
-use Rattle.osm_model.specs.Sets.{IsObjectSet}
+use Rattle.osm_model.specs.Sets.{HasDistinctReferences, IsObjectSet}
 use Rattle.osm_model.specs.declared.reference.Ref.{Ref}
 use Rattle.osm_model.proofs.shared.References.{refs_total}
+use Rattle.osm_model.proofs.shared.UniqueTags.{same_order}
 use Rattle.osm_check.specs.internal.Replays.{last_reference}
+
+-- the last object's reference
+pub last_at : (objects : List Element) → option_map (λ (o : Element). reference o) (slice_get objects (length objects - 1)) ≡ last_reference objects
+last_at [] = refl
+last_at (x ∷ []) = refl
+last_at (x ∷ y ∷ objects) = let next : length (x ∷ y ∷ objects) - 1 ≡ suc (length (y ∷ objects) - 1) = omega arith in rw next (last_at (y ∷ objects))
 
 -- a reference is below
 abbrev Below : Ref → Ref → Type 0
@@ -92,3 +101,11 @@ element_last objects o h = last_of IsElement objects o h.elements
 
 pub above_last : (objects : List Element) (o : Element) → IsObjectSet (objects ++ o ∷ []) → IsAbove (last_reference objects) (reference o)
 above_last objects o h = rise_last objects o h.rising
+
+-- no two objects of a set have one reference
+pub all_differ : (objects : List Element) → IsObjectSet objects → HasDistinctReferences objects
+all_differ objects h = IsDistinct-from_sorted ref_cmp (references objects) h.rising
+
+-- a set's objects in another order that rises are the set
+pub in_order : (objects sorted : List Element) → IsObjectSet objects → IsPermutation objects sorted → IsObjectSet sorted → sorted ≡ objects
+in_order objects sorted h same k = same_order (λ (o : Element). reference o) refs_total objects sorted objects same (IsPermutation-refl objects) k.rising h.rising

@@ -1,3 +1,4 @@
+pub mod Refusals
 pub mod Roots
 pub mod Verdicts
 pub mod VerdictTexts

@@ -4,7 +4,7 @@ use Rattle.std.specs.Prelude.{◌≡◌, ◌≢◌, ℕ, List}
 use Rattle.osm_model.specs.Elements.{Element}
 use Rattle.osm_model.specs.Sets.{IsObjectSet}
 use Rattle.opl_codec.specs.declared.out_mode.OutMode.TheVariants as modes
-use Rattle.ql_plain.specs.Meaning.{printed}
+use Rattle.ql_plain.specs.Meanings.{printed}
 use Rattle.tree_node.specs.Digests.{digest}
 
 -- the canonical text of a set: the line of each object with all its fields, by rising reference

@@ -2,7 +2,7 @@
 -- Source: this project.
 use Rattle.std.specs.Prelude.{ℕ, List, ◌∷◌, ◌++◌, codes}
 use Rattle.std.specs.Fmt.{decimal}
-use Rattle.ql_plain.specs.Refusals.{code_text}
+use Rattle.ql_syntax.specs.Refusals.{code_text}
 use Rattle.osm_check.specs.declared.verdict.Verdict.{Verdict}
 use Rattle.osm_check.specs.declared.verdict.Verdict.TheVariants.{Yes, No}
 use Rattle.osm_check.specs.declared.why.Why.{Why}

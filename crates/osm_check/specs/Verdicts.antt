@@ -2,9 +2,9 @@
 -- Source: this project.
 use Rattle.std.specs.Prelude.{◌≡◌, ◌≢◌, ℕ, List, take, slice_get}
 use Rattle.osm_model.specs.Elements.{Element}
-use Rattle.ql_plain.specs.Queries.{Reads, FaultOf}
-use Rattle.ql_plain.specs.Meaning.{meaning}
-use Rattle.ql_plain.specs.declared.query.Query.{Query}
+use Rattle.ql_syntax.specs.Queries.{Reads, HasFault}
+use Rattle.ql_syntax.specs.Statements.{Statements}
+use Rattle.ql_plain.specs.Meanings.{Means}
 use Rattle.tree_node.specs.Digests.{digest}
 use Rattle.osm_check.specs.Roots.{IsProofOf, IsCanonical, proof_text}
 use Rattle.osm_check.specs.declared.verdict.Verdict.{Verdict}
@@ -15,13 +15,13 @@ use Rattle.osm_check.specs.declared.why.Why.TheVariants as whys
 
 -- the bytes read as a query
 abbrev pub IsReadable : List ℕ → Type 0
-IsReadable query = (tree : Query) × Reads query tree
+IsReadable query = (statements : Statements) × Reads query statements
 
 -- the query reads, and the answer is its meaning over these objects
 pub record IsAnswer (query answer : List ℕ) (objects : List Element) : Type 0 where
-  pub tree : Query
-  pub reads : Reads query tree
-  pub answer_is : answer ≡ meaning tree objects
+  pub statements : Statements
+  pub reads : Reads query statements
+  pub means : Means objects statements answer
 
 -- the texts are alike up to this place, and there they differ, or one of them ends
 pub record IsFirstDifference (first second : List ℕ) (byte : ℕ) : Type 0 where
@@ -30,9 +30,11 @@ pub record IsFirstDifference (first second : List ℕ) (byte : ℕ) : Type 0 whe
 
 -- the query reads, and the answer differs from its meaning over these objects, first at this place
 pub record IsAnswerWrongAt (query answer : List ℕ) (objects : List Element) (byte : ℕ) : Type 0 where
-  pub tree : Query
-  pub reads : Reads query tree
-  pub place : IsFirstDifference answer (meaning tree objects) byte
+  pub statements : Statements
+  pub reads : Reads query statements
+  pub meaning : List ℕ
+  pub means : Means objects statements meaning
+  pub place : IsFirstDifference answer meaning byte
 
 -- over the plain text nothing is walked
 abbrev pub no_walks : Report
@@ -48,7 +50,7 @@ pub record IsUnderRoot (query root proof : List ℕ) : Type 0 where
 -- the reason for a no; each denies those that are looked at before it, which are in this order: the query, the
 -- proof's digest, its form, the answer
 abbrev pub IsReason : (query root answer proof : List ℕ) → Why → Type 0
-IsReason query root answer proof (whys.QueryRefused fault) = FaultOf query fault
+IsReason query root answer proof (whys.QueryRefused fault) = HasFault query fault
 IsReason query root answer proof whys.NodeMissing = IsReadable query × (digest proof ≢ root)
 IsReason query root answer proof whys.ProofMalformed = IsUnderRoot query root proof × ¬ (IsCanonical proof)
 IsReason query root answer proof (whys.AnswerDiffers byte) =
@@ -65,7 +67,7 @@ IsVerdict query root answer proof (No why) = IsReason query root answer proof wh
 -- what a verdict says of that set
 abbrev pub Tells : (query answer proof : List ℕ) → List Element → Verdict → Type 0
 Tells query answer proof objects (Yes report) = (proof ≡ proof_text objects) × IsAnswer query answer objects
-Tells query answer proof objects (No (whys.QueryRefused fault)) = FaultOf query fault
+Tells query answer proof objects (No (whys.QueryRefused fault)) = HasFault query fault
 Tells query answer proof objects (No whys.NodeMissing) = IsReadable query × (proof ≢ proof_text objects)
 Tells query answer proof objects (No whys.ProofMalformed) = ⊥
 Tells query answer proof objects (No (whys.AnswerDiffers byte)) = (proof ≡ proof_text objects) × IsAnswerWrongAt query answer objects byte

@@ -1,30 +1,24 @@
 //! A proof that is being read.
 
-ghost use Rattle.std.specs.Prelude.{◌≡◌, ◌↔◌, ◌++◌, ◌∷◌, [], IfOk, IfSome, IsTrue, List, MatchBool, MatchOption};
+ghost use Rattle.std.specs.Prelude.{◌≡◌, ◌↔◌, ◌++◌, ◌∷◌, [], IfOk, IfSome, IsTrue, MatchBool, MatchOption};
 ghost use Rattle.osm_model.specs.CanonicalLine.{canonical_line};
-ghost use Rattle.osm_model.specs.Elements.{Element, ref_cmp};
+ghost use Rattle.osm_model.specs.Elements.{Element, ref_cmp, reference};
+ghost use Rattle.osm_model.specs.Sets.{IsObjectSet};
 ghost use Rattle.opl_codec.specs.LineChanges.{SpellsObject};
-ghost use Rattle.ql_plain.specs.Meaning.{meaning, passes};
-ghost use Rattle.osm_check.specs.internal.Replays.{HasRead, IsNext};
+ghost use Rattle.osm_check.specs.internal.Replays.{IsNext, last_reference};
 ghost use Rattle.osm_check.specs.Roots.{IsCanonical, IsProofOf};
 
 use opl_codec::{Change, OplCause, OutMode, cut, read_line, write_object};
-use osm_model::{Kind, Object, Ref};
-use ql_plain::Query;
+use osm_model::{Object, ObjectSet, Ref};
 use std::alloc::{AllocError, Global};
 use std::cmp::Ordering;
 
-/// The answer to a query over the set whose canonical text the proof is; none where it is the text of no set.
-/// One pass over the proof, of which one line is held at a time.
-pub fn read_answer(
-    alloc: Global,
-    query: &Query,
-    proof: &[u8],
-) -> Result<Option<Vec<u8>>, AllocError>
-    ensures { IfOk result (λ found. MatchOption found (¬ (IsCanonical proof.now))
-        (λ answer. (objects : List Element) × IsProofOf proof.now objects × (answer.items ≡ meaning query.now objects))) }
+/// The set whose canonical text the proof is; none where it is the text of no set. One pass over the proof:
+/// beside the objects, one line is held at a time.
+pub fn read_proof(alloc: Global, proof: &[u8]) -> Result<Option<ObjectSet>, AllocError>
+    ensures { IfOk result (λ found. MatchOption found (¬ (IsCanonical proof.now)) (IsProofOf proof.now)) }
 {
-    let mut reader = ProofReader::new(alloc, *query);
+    let mut reader = ProofReader::new(alloc);
     let mut left = proof;
     while let Some((line, rest)) = cut(left, b'\n') {
         if !reader.take_line(line)? {
@@ -33,7 +27,7 @@ pub fn read_answer(
         left = rest;
     }
     if left.is_empty() {
-        Ok(Some(reader.answer))
+        Ok(Some(set_of(reader.objects)))
     } else {
         Ok(None)
     }
@@ -43,62 +37,50 @@ pub fn read_answer(
 #[derive(Drop)]
 struct ProofReader {
     alloc: Global,
-    /// What is asked of the objects.
-    query: Query,
-    /// The reference of the last object.
-    last: Option<Ref>,
+    /// The objects so far, by rising reference.
+    objects: Vec<Object>,
     /// The canonical line of the last object: its memory serves for the next one.
     line: Vec<u8>,
-    /// The query's answer over the objects so far.
-    answer: Vec<u8>,
 }
 
 impl ProofReader {
     /// Nothing was read yet.
-    fn new(alloc: Global, query: Query) -> ProofReader
-        ensures read { HasRead query [] result.last result.answer.items }
-        ensures query { result.query ≡ query }
+    fn new(alloc: Global) -> ProofReader
+        ensures { result.objects.items ≡ [] }
     {
         ProofReader {
             alloc,
-            query,
-            last: None,
+            objects: Vec::new(alloc),
             line: Vec::new(alloc),
-            answer: Vec::new(alloc),
         }
     }
 
     /// Reads a line without its LF. It says whether the line is the canonical line of an object whose
-    /// reference is above the last one's.
+    /// reference is above the last one's, and keeps that object.
     fn take_line(&mut self, line: &[u8]) -> Result<bool, AllocError>
-        ensures taken { (objects : List Element) → HasRead self.old.query objects self.old.last self.old.answer.items
-            → IfOk result (λ taken. MatchBool taken
-            ((o : Element) × IsNext objects line.now o × HasRead self.old.query (objects ++ o ∷ []) self.new.last self.new.answer.items)
-            ((o : Element) → IsNext objects line.now o → ⊥)) }
-        ensures query { self.new.query ≡ self.old.query }
+        requires { IsObjectSet self.old.objects.items }
+        ensures { IfOk result (λ taken. MatchBool taken
+            ((o : Element) × IsNext self.old.objects.items line.now o × (self.new.objects.items ≡ self.old.objects.items ++ o ∷ []))
+            ((o : Element) → IsNext self.old.objects.items line.now o → ⊥)) }
     {
         let Some(object) = self.next_object(line)? else {
             return Ok(false);
         };
-        if is_asked(&self.query, &object) {
-            write_object(&object, OutMode::Body, &mut self.answer)?;
-        }
-        self.last = Some(object.reference());
+        self.objects.push(object)?;
         Ok(true)
     }
 
     /// The object whose canonical line this is, where its reference is above the last one's.
     fn next_object(&mut self, line: &[u8]) -> Result<Option<Object>, AllocError>
-        ensures found { (objects : List Element) → HasRead self.old.query objects self.old.last self.old.answer.items
-            → IfOk result (λ found. MatchOption found ((o : Element) → IsNext objects line.now o → ⊥) (IsNext objects line.now)) }
-        ensures query { self.new.query ≡ self.old.query }
-        ensures last { self.new.last ≡ self.old.last }
-        ensures answer { self.new.answer.items ≡ self.old.answer.items }
+        requires { IsObjectSet self.old.objects.items }
+        ensures found { IfOk result (λ found. MatchOption found
+            ((o : Element) → IsNext self.old.objects.items line.now o → ⊥) (IsNext self.old.objects.items line.now)) }
+        ensures objects { self.new.objects.items ≡ self.old.objects.items }
     {
         let Some(object) = read_object(self.alloc, line)? else {
             return Ok(None);
         };
-        if !is_above(self.last, object.reference()) {
+        if !is_above(last_of(&self.objects), object.reference()) {
             return Ok(None);
         }
         if self.is_canonical(&object, line)? {
@@ -111,9 +93,7 @@ impl ProofReader {
     /// Whether this is the object's canonical line.
     fn is_canonical(&mut self, object: &Object, line: &[u8]) -> Result<bool, AllocError>
         ensures same { IfOk result (λ same. IsTrue same ↔ (line.now ≡ canonical_line object.now)) }
-        ensures query { self.new.query ≡ self.old.query }
-        ensures last { self.new.last ≡ self.old.last }
-        ensures answer { self.new.answer.items ≡ self.old.answer.items }
+        ensures objects { self.new.objects.items ≡ self.old.objects.items }
     {
         self.line.clear();
         write_object(object, OutMode::Meta, &mut self.line)?;
@@ -138,6 +118,16 @@ fn read_object(alloc: Global, line: &[u8]) -> Result<Option<Object>, AllocError>
     }
 }
 
+/// The reference of the last object.
+fn last_of(objects: &[Object]) -> Option<Ref>
+    ensures { result ≡ last_reference objects.now }
+{
+    match objects.last() {
+        Some(object) => Some(object.reference()),
+        None => None,
+    }
+}
+
 /// Whether a reference is above the last one, where there is one.
 #[tactic(auto, unfolding(osm_model::specs::Elements::ref_cmp))]
 fn is_above(last: Option<Ref>, name: Ref) -> bool
@@ -149,10 +139,13 @@ fn is_above(last: Option<Ref>, name: Ref) -> bool
     }
 }
 
-/// Whether the query takes the object.
-fn is_asked(query: &Query, object: &Object) -> bool
-    ensures { result ≡ passes query.now object.now }
+/// The set of objects that come by rising reference.
+fn set_of(objects: Vec<Object>) -> ObjectSet
+    requires { IsObjectSet objects.items }
+    ensures { result ≡ objects.items }
 {
-    let name = object.reference();
-    name.kind == Kind::Node && name.id == query.id
+    match ObjectSet::from_objects(objects) {
+        Ok(set) => set,
+        Err(_) => unreachable!("no object comes twice"),
+    }
 }

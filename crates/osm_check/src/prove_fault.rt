@@ -1,9 +1,10 @@
 //! Why there is no answer.
 
 ghost use Rattle.std.specs.Prelude.{◌≡◌};
-ghost use Rattle.osm_check.specs.declared.prove_fault.ProveFault.TheVariants.{Memory, Query};
+ghost use Rattle.osm_check.specs.Refusals.{refusal_of};
+ghost use Rattle.osm_check.specs.declared.prove_fault.ProveFault.TheVariants.{Memory};
 
-use ql_plain::QlFault;
+use ql_syntax::{QlCause, QlFault};
 use std::alloc::AllocError;
 use thiserror::Error;
 
@@ -27,9 +28,13 @@ impl From<AllocError> for ProveFault {
 }
 
 impl From<QlFault> for ProveFault {
-    ghost from_gives = { λ refused fault. fault ≡ Query refused };
+    ghost from_gives = { λ refused fault. fault ≡ refusal_of refused };
 
+    /// Out of memory stays out of memory; else the query is refused.
     fn from(refused: QlFault) -> ProveFault {
-        ProveFault::Query(refused)
+        match refused.cause {
+            QlCause::Memory => ProveFault::Memory,
+            _ => ProveFault::Query(refused),
+        }
     }
 }

@@ -1,9 +1,9 @@
 //! An answer and its proof, as a mirror makes them.
 
-ghost use Rattle.std.specs.Prelude.{◌≡◌, IfErr, IfOk};
-ghost use Rattle.ql_plain.specs.Queries.{FaultOf, Reads};
-ghost use Rattle.ql_plain.specs.declared.fault.QlFault.{QlFault};
-ghost use Rattle.ql_plain.specs.declared.query.Query.{Query};
+ghost use Rattle.std.specs.Prelude.{◌≡◌, ◌⊎◌, IfErr, IfOk};
+ghost use Rattle.ql_syntax.specs.Queries.{HasFault, Reads};
+ghost use Rattle.ql_syntax.specs.Statements.{Statements};
+ghost use Rattle.ql_syntax.specs.declared.fault.QlFault.{QlFault};
 ghost use Rattle.osm_check.specs.Roots.{proof_text, root_of};
 ghost use Rattle.osm_check.specs.Verdicts.{IsAnswer};
 
@@ -11,7 +11,8 @@ use crate::canonical_text::proof_text;
 use crate::prove_fault::ProveFault;
 use crate::proved::Proved;
 use osm_model::ObjectSet;
-use ql_plain::{answer_plain, parse};
+use ql_plain::answer_plain;
+use ql_syntax::parse;
 use std::alloc::Global;
 use tree_node::digest_of;
 
@@ -23,14 +24,14 @@ pub fn prove(alloc: Global, set: &ObjectSet, query: &[u8]) -> Result<Proved, Pro
     // What is given is the root, the query's meaning and the one proof.
     ensures proved { IfOk result (λ proved. (proved.root.0 ≡ root_of set.now)
         × IsAnswer query.now proved.answer.items set.now × (proved.proof.items ≡ proof_text set.now)) }
-    // A query with a fault is refused with it,
-    ensures refused { (fault : QlFault) → FaultOf query.now fault → result ≡ Err (ProveFault.Query fault) }
+    // A query with a fault is refused with it, unless memory runs out,
+    ensures refused { (fault : QlFault) → HasFault query.now fault → (result ≡ Err (ProveFault.Query fault)) ⊎ (result ≡ Err ProveFault.Memory) }
     // and no other is told;
-    ensures told { (fault : QlFault) → result ≡ Err (ProveFault.Query fault) → FaultOf query.now fault }
+    ensures told { (fault : QlFault) → result ≡ Err (ProveFault.Query fault) → HasFault query.now fault }
     // one that reads is refused for memory alone.
-    ensures only { (tree : Query) → Reads query.now tree → IfErr result (λ fault. fault ≡ ProveFault.Memory) }
+    ensures only { (statements : Statements) → Reads query.now statements → IfErr result (λ fault. fault ≡ ProveFault.Memory) }
 {
-    let parsed = parse(query)?;
+    let parsed = parse(alloc, query)?;
     let answer = answer_plain(alloc, &parsed, set)?;
     let proof = proof_text(alloc, set)?;
     Ok(Proved {

@@ -3,7 +3,7 @@
 use crate::{Digest, ProveFault, Proved, Report, Verdict, Why, check, digest_of, prove, root_of};
 use opl_codec::read_set;
 use osm_model::ObjectSet;
-use ql_plain::{QlCause, QlFault};
+use ql_syntax::{QlCause, QlFault};
 use std::alloc::Global;
 use std::test::Fail;
 
@@ -181,6 +181,51 @@ fn spoiled_answers(rt: HostRuntime) -> Result<(), Fail> {
     Ok(())
 }
 
+/// Queries of each kind over all kinds of objects, and what they print.
+const ANSWERS: [(&str, &str); 5] = [
+    ("rel(100)->.a;(way(r.a);node(w););out ids;", "n1\nn2\nw10\n"),
+    ("(node(1);node(2););out ids 1;", "n1\n"),
+    (
+        "nwr[\"name\"];out tags;",
+        "w10 Thighway=primary,name=A%20%B\n",
+    ),
+    ("rel(100);rel(br);out ids;", "r100\n"),
+    (".b out;", ""),
+];
+
+/// The verdict on the query's answer, in which the byte at this place is changed, if there is one.
+fn verdict_on(
+    alloc: Global,
+    set: &ObjectSet,
+    query: &[u8],
+    changed: usize,
+) -> Result<Verdict, Fail> {
+    let Proved {
+        root,
+        mut answer,
+        proof,
+    } = prove(alloc, set, query)?;
+    flip(&mut answer, changed);
+    Ok(check(alloc, query, &root, &answer, &proof)?)
+}
+
+#[test]
+fn answers_of_each_kind(rt: HostRuntime) -> Result<(), Fail> {
+    let alloc = rt.alloc();
+    let set = set_of(alloc, ALL_KINDS)?;
+    for (query, want) in ANSWERS {
+        let query = query.as_bytes();
+        let proved = prove(alloc, &set, query)?;
+        assert_eq!(rt; proved.answer.as_slice(), want.as_bytes());
+        assert_eq!(rt; verdict_on(alloc, &set, query, want.len())?, YES);
+        if let Some(last) = want.len().checked_sub(1) {
+            let no = Verdict::No(Why::AnswerDiffers(last));
+            assert_eq!(rt; verdict_on(alloc, &set, query, last)?, no);
+        }
+    }
+    Ok(())
+}
+
 /// Texts that say a set, and aren't its canonical text: each under the root that it would have.
 #[test]
 fn spoiled_proofs(rt: HostRuntime) -> Result<(), Fail> {
@@ -235,16 +280,18 @@ fn proves_and_checks_within_memory(rt: HostRuntime) -> Result<(), Fail> {
         Ok(root) => assert_eq!(rt; root, want),
         Err(_) => assert_eq!(rt; root_of(alloc, &set)?, want),
     }
-    match prove(alloc, &set, FIRST) {
+    // Its list of statements, that of the union, and the sets that it writes take memory.
+    let query = b"(node(1);<;);out;".as_slice();
+    match prove(alloc, &set, query) {
         Ok(proved) => assert_eq!(rt; proved.answer.as_slice(), FIRST_ANSWER),
         Err(fault) => assert_eq!(rt; fault, ProveFault::Memory),
     }
-    let proved = prove(alloc, &set, FIRST)?;
-    if let Ok(verdict) = check(alloc, FIRST, &want, &proved.answer, &proved.proof) {
+    let proved = prove(alloc, &set, query)?;
+    if let Ok(verdict) = check(alloc, query, &want, &proved.answer, &proved.proof) {
         assert_eq!(rt; verdict, YES);
     }
     assert_eq!(rt;
-        check(alloc, FIRST, &want, &proved.answer, &proved.proof)?,
+        check(alloc, query, &want, &proved.answer, &proved.proof)?,
         YES
     );
     Ok(())

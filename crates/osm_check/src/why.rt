@@ -3,7 +3,7 @@
 ghost use Rattle.std.specs.Prelude.{Some};
 ghost use Rattle.osm_check.specs.VerdictTexts.{why_text};
 
-use ql_plain::QlFault;
+use ql_syntax::QlFault;
 use std::fmt;
 
 /// Why an answer is refused. Its text is the code, and after it the place where there is one: `C1 Q11 7`,

@@ -6,8 +6,8 @@ use Rattle.opl_codec.specs.LineReads.{no_memory}
 use Rattle.opl_codec.specs.declared.cause.OplCause.{OplCause}
 use Rattle.opl_codec.specs.declared.cause.OplCause.TheVariants as causes
 use Rattle.opl_codec.specs.declared.fault.LoadFault.{LoadFault}
-use Rattle.ql_plain.specs.Queries.{Reads}
-use Rattle.ql_plain.specs.declared.query.Query.{Query as QueryTree}
+use Rattle.ql_syntax.specs.Queries.{Reads}
+use Rattle.ql_syntax.specs.Statements.{Statements}
 use Rattle.osm_check.specs.declared.prove_fault.ProveFault.{ProveFault}
 use Rattle.osm_check.specs.declared.prove_fault.ProveFault.TheVariants as refusals
 use Rattle.osm_mirror.specs.Ask.{Explains, IsAnswer, IsOutside, IsUnheld}
@@ -56,9 +56,9 @@ outside_unread (Some file) query load (Err fault) told only = λ text answer.
 
 -- an answer that isn't made: where the query reads, the fault lies outside
 pub outside_unproved : (known : Option (List ℕ)) (query : List ℕ) (refusal : ProveFault) (result : Result (Unit {0}) CommandFault)
-    → IsErrAnd result (λ fault. fault ≡ fault_of_prove refusal) → ((tree : QueryTree) → Reads query tree → refusal ≡ refusals.Memory)
+    → IsErrAnd result (λ fault. fault ≡ fault_of_prove refusal) → ((statements : Statements) → Reads query statements → refusal ≡ refusals.Memory)
     → IfSome known (λ file. (text : List ℕ) → IsAnswer file query text → IfErr result IsOutside)
 outside_unproved None query refusal result told only = tt
 outside_unproved (Some file) query refusal (Ok done) told only = λ text answer. tt
 outside_unproved (Some file) query refusal (Err fault) told only = λ text answer.
-    subst IsOutside (sym (told ∙ ap fault_of_prove (only answer.tree answer.reads))) tt
+    subst IsOutside (sym (told ∙ ap fault_of_prove (only answer.answer.statements answer.answer.reads))) tt

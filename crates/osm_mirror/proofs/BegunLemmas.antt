@@ -101,7 +101,7 @@ pub answer_is : (known : Option (List ℕ)) (set : List Element) (query text : L
     → IfSome known (λ file. HoldsSet file set) → IsRightAnswer query text set → IfSome known (λ file. IsAnswer file query text)
 answer_is None set query text holds right = tt
 answer_is (Some file) set query text holds right =
-    record { set = set; tree = right.tree; holds = holds; reads = right.reads; text_is = right.answer_is }
+    record { set = set; holds = holds; answer = right }
 
 -- a beginning of it is written
 pub begun_answer : (known : Option (List ℕ)) (query written text : List ℕ) (old new : Option (List ℕ))

@@ -7,15 +7,15 @@ use Rattle.opl_codec.specs.LineReads.{no_memory}
 use Rattle.opl_codec.specs.declared.cause.OplCause.{OplCause}
 use Rattle.opl_codec.specs.declared.cause.OplCause.TheVariants as causes
 use Rattle.opl_codec.specs.declared.fault.LoadFault.{LoadFault}
-use Rattle.ql_plain.specs.Queries.{Reads}
-use Rattle.ql_plain.specs.declared.query.Query.{Query as QueryTree}
+use Rattle.ql_syntax.specs.Queries.{Reads}
+use Rattle.ql_syntax.specs.Statements.{Statements}
 use Rattle.osm_check.specs.declared.prove_fault.ProveFault.{ProveFault}
 use Rattle.osm_check.specs.declared.prove_fault.ProveFault.TheVariants as refusals
-use Rattle.osm_mirror.specs.Ask.{IsEndless, IsOutside}
+use Rattle.osm_mirror.specs.Ask.{IsOutside}
 use Rattle.osm_mirror.specs.Faults.{fault_of_cause, fault_of_load, fault_of_prove}
-use Rattle.osm_mirror.specs.Files.{ExplainsFiles, ExplainsSet, IfBoth, IsOutsideFiles, IsProved, IsUnread}
+use Rattle.osm_mirror.specs.Files.{ExplainsFiles, ExplainsSet, IfBoth, IsOutsideFiles, IsProved}
 use Rattle.osm_mirror.specs.declared.command_fault.CommandFault.{CommandFault}
-use Rattle.osm_mirror.specs.declared.command_fault.CommandFault.TheVariants.{Opl, Query, Endless, Memory, Device}
+use Rattle.osm_mirror.specs.declared.command_fault.CommandFault.TheVariants.{Opl, Query, Endless, Clash, TooMany, Memory, Device}
 use Rattle.osm_mirror.proofs.AskLemmas.{outside_cause, unheld}
 
 -- where no byte is left, all bytes were read
@@ -67,6 +67,8 @@ of_set : (file : List ℕ) (left : Option (List ℕ)) (bytes : List ℕ) (fault 
 of_set file left bytes (Opl load) why = why
 of_set file left bytes (Query refused) why = absurd why
 of_set file left bytes Endless why = absurd why
+of_set file left bytes Clash why = absurd why
+of_set file left bytes TooMany why = absurd why
 of_set file left bytes Memory why = tt
 of_set file left bytes Device why = tt
 
@@ -80,33 +82,43 @@ explained_unheld_files (Some file) left (Some bytes) load (Ok done) told why = t
 explained_unheld_files (Some file) left (Some bytes) load (Err fault) told why =
     of_set file left bytes fault (subst (ExplainsSet file left) (sym told) (explained_cause file left load load.fault.cause refl why))
 
--- a query that isn't read
-explained_query : (file : List ℕ) (left : Option (List ℕ)) (bytes : List ℕ) (fault : CommandFault) → IsUnread fault → (fault ≡ Endless → IsEndless bytes) → ExplainsFiles file left bytes fault
-explained_query file left bytes fault unread long =
-    elim unread [
-      | inl endless ↦ subst (ExplainsFiles file left bytes) (sym endless) (long endless)
-      | inr other ↦ elim other [
-        | inl memory ↦ subst (ExplainsFiles file left bytes) (sym memory) tt
-        | inr device ↦ subst (ExplainsFiles file left bytes) (sym device) tt
-      ]
-    ]
-
-pub explained_unread_query : (first left second : Option (List ℕ)) (told : CommandFault) (result : Result (Unit {0}) CommandFault)
-    → IsErrAnd result (λ fault. fault ≡ told) → IsUnread told → IfSome second (λ left. told ≡ Endless → IsEndless left)
-    → IfBoth first second (λ file bytes. IfErr result (ExplainsFiles file left bytes))
-explained_unread_query None left second told result is unread long = tt
-explained_unread_query (Some file) left None told result is unread long = tt
-explained_unread_query (Some file) left (Some bytes) told (Ok done) is unread long = tt
-explained_unread_query (Some file) left (Some bytes) told (Err fault) is unread long =
-    subst (ExplainsFiles file left bytes) (sym is) (explained_query file left bytes told unread long)
-
 -- an answer that isn't made: where the query reads, the fault lies outside
 pub outside_unproved_files : (first second : Option (List ℕ)) (read : List ℕ) (refusal : ProveFault) (result : Result (Unit {0}) CommandFault)
     → IfSome second (λ left. read ≡ left) → IsErrAnd result (λ fault. fault ≡ fault_of_prove refusal)
-    → ((tree : QueryTree) → Reads read tree → refusal ≡ refusals.Memory)
+    → ((statements : Statements) → Reads read statements → refusal ≡ refusals.Memory)
     → IfBoth first second (λ file bytes. (set : List Element) (text : List ℕ) → IsProved file bytes text set → IfErr result IsOutsideFiles)
 outside_unproved_files None second read refusal result same told only = tt
 outside_unproved_files (Some file) None read refusal result same told only = tt
 outside_unproved_files (Some file) (Some bytes) read refusal (Ok done) same told only = λ set text proved. tt
 outside_unproved_files (Some file) (Some bytes) read refusal (Err fault) same told only = λ set text proved.
-    inl (subst IsOutside (sym (told ∙ ap fault_of_prove (only proved.answer.tree (subst (λ (b : List ℕ). Reads b proved.answer.tree) (sym same) proved.answer.reads)))) tt)
+    inl (subst IsOutside (sym (told ∙ ap fault_of_prove (only proved.answer.statements (subst (λ (b : List ℕ). Reads b proved.answer.statements) (sym same) proved.answer.reads)))) tt)
+
+-- an end for want of memory, or for a device
+abbrev pub IsFailed : CommandFault → Type 0
+IsFailed fault = (fault ≡ Memory) ⊎ (fault ≡ Device)
+
+pub failed : (result : Result (Unit {0}) CommandFault) (told : CommandFault) → IsErrAnd result (λ fault. fault ≡ told) → IsFailed told → IfErr result IsFailed
+failed (Ok done) told is why = tt
+failed (Err fault) told is why = subst IsFailed (sym is) why
+
+pub device_failed : (result : Result (Unit {0}) CommandFault) → IfErr result (λ fault. fault ≡ Device) → IfErr result IsFailed
+device_failed (Ok done) is = tt
+device_failed (Err fault) is = inr is
+
+-- such a fault lies outside the files, whatever they are
+pub outside_failed : (first second : Option (List ℕ)) (result : Result (Unit {0}) CommandFault) → IfErr result IsFailed
+    → IfBoth first second (λ file bytes. (set : List Element) (text : List ℕ) → IsProved file bytes text set → IfErr result IsOutsideFiles)
+outside_failed None second result why = tt
+outside_failed (Some file) None result why = tt
+outside_failed (Some file) (Some bytes) (Ok done) why = λ set text proved. tt
+outside_failed (Some file) (Some bytes) (Err fault) why = λ set text proved.
+    inl (elim why [ inl memory ↦ subst IsOutside (sym memory) tt | inr device ↦ subst IsOutside (sym device) tt ])
+
+-- and it is explained
+pub explained_failed : (first left second : Option (List ℕ)) (result : Result (Unit {0}) CommandFault) → IfErr result IsFailed
+    → IfBoth first second (λ file bytes. IfErr result (ExplainsFiles file left bytes))
+explained_failed None left second result why = tt
+explained_failed (Some file) left None result why = tt
+explained_failed (Some file) left (Some bytes) (Ok done) why = tt
+explained_failed (Some file) left (Some bytes) (Err fault) why =
+    elim why [ inl memory ↦ subst (ExplainsFiles file left bytes) (sym memory) tt | inr device ↦ subst (ExplainsFiles file left bytes) (sym device) tt ]

@@ -1,3 +1,4 @@
 pub mod AskLemmas
 pub mod BegunLemmas
 pub mod FileLemmas
+pub mod TreeLemmas

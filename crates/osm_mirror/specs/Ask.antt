@@ -6,20 +6,17 @@ use Rattle.osm_model.specs.Elements.{Element}
 use Rattle.opl_codec.specs.Files.{HoldsSet, StopsFile}
 use Rattle.opl_codec.specs.declared.cause.OplCause.TheVariants as causes
 use Rattle.opl_codec.specs.declared.fault.LoadFault.{LoadFault}
-use Rattle.ql_plain.specs.Queries.{Reads, FaultOf}
-use Rattle.ql_plain.specs.Meaning.{meaning}
-use Rattle.ql_plain.specs.declared.query.Query.{Query as QueryTree}
+use Rattle.ql_syntax.specs.Queries.{HasFault}
+use Rattle.osm_check.specs.Verdicts.{IsAnswer as IsRightAnswer}
 use Rattle.osm_mirror.specs.declared.command_fault.CommandFault.{CommandFault}
-use Rattle.osm_mirror.specs.declared.command_fault.CommandFault.TheVariants.{Opl, Query, Endless, Memory, Device}
+use Rattle.osm_mirror.specs.declared.command_fault.CommandFault.TheVariants.{Opl, Query, Endless, Clash, TooMany, Memory, Device}
 use Rattle.osm_mirror.specs.Written.{AppendsFront}
 
 -- the file holds a set, the bytes read as a query, and this text is its meaning over the set
 pub record IsAnswer (file query text : List ℕ) : Type 0 where
   pub set : List Element
-  pub tree : QueryTree
   pub holds : HoldsSet file set
-  pub reads : Reads query tree
-  pub text_is : text ≡ meaning tree set
+  pub answer : IsRightAnswer query text set
 
 -- the bytes are so many that a reader of them may be told to have no end
 abbrev pub IsEndless : List ℕ → Type 0
@@ -35,8 +32,10 @@ pub record IsUnheld (file : List ℕ) (left : Option (List ℕ)) (load : LoadFau
 -- why each fault comes: the input, of which this is left, is looked at before the query
 abbrev pub Explains : (file : List ℕ) (left : Option (List ℕ)) (query : List ℕ) → CommandFault → Type 0
 Explains file left query (Opl load) = IsUnheld file left load
-Explains file left query (Query refused) = ((set : List Element) × HoldsSet file set) × FaultOf query refused
+Explains file left query (Query refused) = ((set : List Element) × HoldsSet file set) × HasFault query refused
 Explains file left query Endless = ⊥
+Explains file left query Clash = ⊥
+Explains file left query TooMany = ⊥
 Explains file left query Memory = ⊤
 Explains file left query Device = ⊤
 
@@ -45,6 +44,8 @@ abbrev pub IsOutside : CommandFault → Type 0
 IsOutside (Opl load) = load.fault.cause ≡ causes.Endless
 IsOutside (Query refused) = ⊥
 IsOutside Endless = ⊥
+IsOutside Clash = ⊥
+IsOutside TooMany = ⊥
 IsOutside Memory = ⊤
 IsOutside Device = ⊤
 

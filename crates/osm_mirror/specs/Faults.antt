@@ -5,8 +5,10 @@ use Rattle.opl_codec.specs.declared.cause.OplCause.TheVariants as causes
 use Rattle.opl_codec.specs.declared.fault.LoadFault.{LoadFault}
 use Rattle.osm_check.specs.declared.prove_fault.ProveFault.{ProveFault}
 use Rattle.osm_check.specs.declared.prove_fault.ProveFault.TheVariants as refusals
+use Rattle.osm_index.specs.declared.fault.IndexFault.{IndexFault}
+use Rattle.osm_index.specs.declared.fault.IndexFault.TheVariants as indexes
 use Rattle.osm_mirror.specs.declared.command_fault.CommandFault.{CommandFault}
-use Rattle.osm_mirror.specs.declared.command_fault.CommandFault.TheVariants.{Opl, Query, Endless, Memory, Device}
+use Rattle.osm_mirror.specs.declared.command_fault.CommandFault.TheVariants.{Opl, Query, Endless, Clash, TooMany, Memory, Device}
 use Rattle.osm_mirror.specs.declared.status.Status.{Status}
 use Rattle.osm_mirror.specs.declared.status.Status.TheVariants.{Refused, Failed}
 
@@ -15,6 +17,8 @@ abbrev pub status_of : CommandFault → Status
 status_of (Opl load) = Refused
 status_of (Query refused) = Refused
 status_of Endless = Refused
+status_of Clash = Refused
+status_of TooMany = Refused
 status_of Memory = Failed
 status_of Device = Failed
 
@@ -31,3 +35,9 @@ fault_of_load load = fault_of_cause load load.fault.cause
 abbrev pub fault_of_prove : ProveFault → CommandFault
 fault_of_prove (refusals.Query refused) = Query refused
 fault_of_prove refusals.Memory = Memory
+
+-- what a set without trees is to a command
+abbrev pub fault_of_index : IndexFault → CommandFault
+fault_of_index indexes.Clash = Clash
+fault_of_index indexes.TooMany = TooMany
+fault_of_index indexes.Memory = Memory

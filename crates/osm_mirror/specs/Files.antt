@@ -9,7 +9,7 @@ use Rattle.osm_check.specs.Verdicts.{IsAnswer as IsRightAnswer, IsVerdict}
 use Rattle.osm_check.specs.declared.verdict.Verdict.{Verdict}
 use Rattle.osm_mirror.specs.Ask.{Explains, IsEndless, IsOutside, IsUnheld}
 use Rattle.osm_mirror.specs.declared.command_fault.CommandFault.{CommandFault}
-use Rattle.osm_mirror.specs.declared.command_fault.CommandFault.TheVariants.{Opl, Query, Endless, Memory, Device}
+use Rattle.osm_mirror.specs.declared.command_fault.CommandFault.TheVariants.{Opl, Query, Endless, Clash, TooMany, Memory, Device}
 use Rattle.osm_mirror.specs.RootLines.{root_line, verdict_line}
 use Rattle.osm_mirror.specs.Written.{AppendInTurn, AppendsFront, IsUntouched, Output}
 
@@ -32,6 +32,8 @@ abbrev pub ExplainsSet : (file : List ℕ) (left : Option (List ℕ)) → Comman
 ExplainsSet file left (Opl load) = IsUnheld file left load
 ExplainsSet file left (Query refused) = ⊥
 ExplainsSet file left Endless = ⊥
+ExplainsSet file left Clash = ⊥
+ExplainsSet file left TooMany = ⊥
 ExplainsSet file left Memory = ⊤
 ExplainsSet file left Device = ⊤
 
@@ -55,6 +57,8 @@ abbrev pub ExplainsFiles : (file : List ℕ) (left : Option (List ℕ)) (query :
 ExplainsFiles file left query (Opl load) = IsUnheld file left load
 ExplainsFiles file left query (Query refused) = Explains file left query (Query refused)
 ExplainsFiles file left query Endless = IsEndless query
+ExplainsFiles file left query Clash = ⊥
+ExplainsFiles file left query TooMany = ⊥
 ExplainsFiles file left query Memory = ⊤
 ExplainsFiles file left query Device = ⊤
 

@@ -4,3 +4,5 @@ pub mod Faults
 pub mod Ask
 pub mod Files
 pub mod RootLines
+pub mod Editions
+pub mod TreeRoots

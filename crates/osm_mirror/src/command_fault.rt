@@ -1,13 +1,14 @@
 //! Why a command isn't carried out.
 
 ghost use Rattle.std.specs.Prelude.{◌≡◌};
-ghost use Rattle.osm_mirror.specs.Faults.{fault_of_load, fault_of_prove, status_of};
+ghost use Rattle.osm_mirror.specs.Faults.{fault_of_index, fault_of_load, fault_of_prove, status_of};
 ghost use Rattle.osm_mirror.specs.declared.command_fault.CommandFault.TheVariants.{Memory};
 
 use crate::status::Status;
 use opl_codec::{LoadFault, OplCause};
 use osm_check::ProveFault;
-use ql_plain::QlFault;
+use osm_index::IndexFault;
+use ql_syntax::QlFault;
 use std::alloc::AllocError;
 use thiserror::Error;
 
@@ -23,6 +24,12 @@ pub enum CommandFault {
     /// The file of a query, an answer or a proof was read 2^32 times without an end.
     #[error("O15")]
     Endless,
+    /// Two different nodes of the set's trees have one digest.
+    #[error("I1")]
+    Clash,
+    /// A tree of the set would have more than 2^29 entries.
+    #[error("I4")]
+    TooMany,
     /// An allocation was refused.
     #[error("no memory")]
     Memory,
@@ -37,8 +44,11 @@ impl CommandFault {
         ensures { result ≡ status_of self }
     {
         match self {
-            CommandFault::Opl(_) | CommandFault::Query(_) | CommandFault::Endless =>
-                Status::Refused,
+            CommandFault::Opl(_)
+            | CommandFault::Query(_)
+            | CommandFault::Endless
+            | CommandFault::Clash
+            | CommandFault::TooMany => Status::Refused,
             CommandFault::Memory | CommandFault::Device => Status::Failed,
         }
     }
@@ -64,6 +74,18 @@ impl From<ProveFault> for CommandFault {
         match refused {
             ProveFault::Query(fault) => CommandFault::Query(fault),
             ProveFault::Memory => CommandFault::Memory,
+        }
+    }
+}
+
+impl From<IndexFault> for CommandFault {
+    ghost from_gives = { λ refused fault. fault ≡ fault_of_index refused };
+
+    fn from(refused: IndexFault) -> CommandFault {
+        match refused {
+            IndexFault::Clash => CommandFault::Clash,
+            IndexFault::TooMany => CommandFault::TooMany,
+            IndexFault::Memory => CommandFault::Memory,
         }
     }
 }

@@ -1,8 +1,9 @@
 //! The program `osm_mirror`: an Overpass query server whose answers can be checked.
 //!
 //! Each command is a function over readers and writers that it is lent: [`ask`](ask::ask),
-//! [`publish`](publish::publish), [`prove`](prove::prove), [`check`](check::check). What stands here fetches
-//! the words, lends the command that they ask for its files, tells of a fault and ends with the status.
+//! [`publish`](publish::publish), [`publish_trees`](publish_trees::publish_trees), [`prove`](prove::prove),
+//! [`check`](check::check). What stands here fetches the words, lends the command that they ask for its
+//! files, tells of a fault and ends with the status.
 #![tactic(auto)]
 
 pub mod ask;
@@ -13,11 +14,13 @@ pub mod outlet;
 pub mod output_file;
 pub mod prove;
 pub mod publish;
+pub mod publish_trees;
 pub mod read_whole;
 pub mod root_line;
 pub mod status;
 #[cfg(test)]
 mod tests;
+pub mod tree_edition;
 pub mod verdict_line;
 pub mod write_whole;
 
@@ -28,7 +31,9 @@ use crate::input_file::InputFile;
 use crate::output_file::OutputFile;
 use crate::prove::prove;
 use crate::publish::publish;
+use crate::publish_trees::publish_trees;
 use crate::status::Status;
+use crate::tree_edition::tree_edition;
 use command_line::{Job, WordsFault, read_words};
 use std::env;
 use std::io::{ErrorKind, Write};
@@ -50,7 +55,7 @@ fn run(rt: &HostRuntime) -> Status {
             let _ = write!(rt.stderr(), "{text}");
             Status::Refused
         }
-        Err(fault @ WordsFault::BadRoot) => {
+        Err(fault @ (WordsFault::BadRoot | WordsFault::BadEdition)) => {
             let _ = writeln!(rt.stderr(), "{fault}");
             Status::Refused
         }
@@ -64,9 +69,15 @@ fn done(rt: &HostRuntime, job: Job) -> Status {
     let output = &mut rt.stdout();
     match job {
         Job::Ask { query } => ended(rt, ask(alloc, query.as_bytes(), &mut rt.stdin(), output)),
-        Job::Publish { file } => {
+        Job::Publish { file, edition } => {
             let input = &mut InputFile::new(rt, &file);
-            ended(rt, publish(alloc, input, output))
+            match edition {
+                None => ended(rt, publish(alloc, input, output)),
+                Some(words) => {
+                    let edition = tree_edition(words);
+                    ended(rt, publish_trees(alloc, input, edition, output))
+                }
+            }
         }
         Job::Prove {
             file,

@@ -13,6 +13,14 @@ use std::test::Fail;
 
 const TWO_NODES: &str = "n1 Thighway=crossing x13.4 y52.5\nn2 x13.4000001 y52.5\n";
 
+/// A node with all of its metadata, one with none, a way and a relation.
+const ALL_KINDS: &str = "\
+n1 v1 dV c5 t2020-01-02T03:04:05Z i7 uAnn Thighway=crossing x13.4 y52.5
+n2 x13.4000001 y52.5
+w10 Thighway=primary,name=A%20%B Nn1,n2,n1
+r100 Ttype=route Mw10@outer,n99@stop,r100@
+";
+
 const FIRST: &str = "node(1);out;";
 
 const FIRST_ANSWER: &str = "n1 Thighway=crossing x13.4 y52.5\n";
@@ -109,6 +117,19 @@ fn answers(rt: HostRuntime) -> Result<(), Fail> {
         ),
         ("n1 x180 y0\n", FIRST, "n1 T x180 y0\n"),
         ("", FIRST, ""),
+        (
+            ALL_KINDS,
+            "rel(100)->.a;(way(r.a);node(w););out ids;",
+            "n1\nn2\nw10\n",
+        ),
+        (ALL_KINDS, "(node(1);node(2););out ids 1;", "n1\n"),
+        (
+            ALL_KINDS,
+            "nwr[\"name\"];out tags;",
+            "w10 Thighway=primary,name=A%20%B\n",
+        ),
+        (ALL_KINDS, "rel(100);rel(br);out ids;", "r100\n"),
+        (ALL_KINDS, ".b out;", ""),
     ] {
         let got = answer(rt.alloc(), file, query)?;
         assert_eq!(rt; got.as_slice(), want.as_bytes(), "{query} of {file}");
@@ -210,6 +231,8 @@ fn flushes_fail(rt: HostRuntime) {
 fn faults_have_their_texts(rt: HostRuntime) -> Result<(), Fail> {
     for (fault, text, status) in [
         (CommandFault::Endless, "O15", Status::Refused),
+        (CommandFault::Clash, "I1", Status::Refused),
+        (CommandFault::TooMany, "I4", Status::Refused),
         (CommandFault::Memory, "no memory", Status::Failed),
         (CommandFault::Device, "device", Status::Failed),
     ] {

@@ -86,7 +86,7 @@ module _ (whole fraction first rest : List ℕ) (is : fraction ≡ first ++ rest
           let positive : 1 * q ≤ p * q = mul-le-mul_right q some_p in
           rw (sym whole_is) (omega (arith, big, positive, some_q))
 
-limits : (axis : Axis) → limit axis ≤ 1800000000
+pub limits : (axis : Axis) → limit axis ≤ 1800000000
 limits Lon = omega arith
 limits Lat = omega arith
 

@@ -6,6 +6,7 @@ pub mod Decimals
 pub mod OneFraction
 pub mod DegreesLemmas
 pub mod EdgeSizes
+pub mod EdgeUnits
 pub mod Leading
 pub mod OneEdge
 pub mod EdgeOrder

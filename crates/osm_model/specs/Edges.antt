@@ -1,7 +1,7 @@
 -- The edges of bounding boxes: exact decimals of any length, and how they compare with units of 1e-7
 -- degree and with one another.
 -- Source: bounding boxes of the Overpass query language; exact comparison is this project's.
-use Rattle.std.specs.Prelude.{◌≡◌, ◌≢◌, ℕ, ◌*◌, ◌^◌, ◌≤◌, ℤ, pos, ◌*ℤ◌, ◌≤ℤ◌, ◌<ℤ◌, List, [], ◌++◌, length}
+use Rattle.std.specs.Prelude.{◌≡◌, ◌≢◌, ◌↔◌, ℕ, ◌*◌, ◌^◌, ◌≤◌, ℤ, pos, ◌*ℤ◌, ◌≤ℤ◌, ◌<ℤ◌, List, [], ◌++◌, length}
 use Rattle.std.specs.Str.Parse.{digits_value}
 use Rattle.osm_model.specs.Degrees.{Decimal, Spells, IsDecimal, decimals, with_sign, limit}
 use Rattle.osm_model.specs.declared.axis.Axis.{Axis}
@@ -25,6 +25,14 @@ IsAtMost u d = (u *ℤ pos (scale d)) ≤ℤ (numerator d *ℤ pos (10 ^ 7))
 -- u units of 1e-7 degree are at least the decimal
 abbrev pub IsAtLeast : ℤ → Decimal → Type 0
 IsAtLeast u d = (numerator d *ℤ pos (10 ^ 7)) ≤ℤ (u *ℤ pos (scale d))
+
+-- the greatest whole number of units that is at most the decimal: just those up to it are
+abbrev pub IsFloor : Decimal → ℤ → Type 0
+IsFloor d floor = (u : ℤ) → (IsAtMost u d ↔ (u ≤ℤ floor))
+
+-- the least whole number of units that is at least the decimal: just those from it on are
+abbrev pub IsCeiling : Decimal → ℤ → Type 0
+IsCeiling d ceiling = (u : ℤ) → (IsAtLeast u d ↔ (ceiling ≤ℤ u))
 
 -- the first decimal is greater than the second
 abbrev pub IsAbove : Decimal → Decimal → Type 0

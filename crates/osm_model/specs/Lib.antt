@@ -9,6 +9,8 @@ pub mod Elements
 pub mod CanonicalLine
 pub mod Limits
 pub mod Sets
+pub mod Membership
+pub mod Tagged
 pub mod Edges
 pub mod Boxes
 pub mod internal

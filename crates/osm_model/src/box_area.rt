@@ -69,6 +69,46 @@ impl<'a> BoxArea<'a> {
         })
     }
 
+    /// The southern edge, a latitude.
+    pub fn south(&self) -> &Edge<'a>
+        ensures value { result.now ≡ self.now.south }
+        ensures shape { IsBox self.now }
+    {
+        &self.south
+    }
+
+    /// The western edge, a longitude.
+    pub fn west(&self) -> &Edge<'a>
+        ensures value { result.now ≡ self.now.west }
+        ensures shape { IsBox self.now }
+    {
+        &self.west
+    }
+
+    /// The northern edge, a latitude.
+    pub fn north(&self) -> &Edge<'a>
+        ensures value { result.now ≡ self.now.north }
+        ensures shape { IsBox self.now }
+    {
+        &self.north
+    }
+
+    /// The eastern edge, a longitude.
+    pub fn east(&self) -> &Edge<'a>
+        ensures value { result.now ≡ self.now.east }
+        ensures shape { IsBox self.now }
+    {
+        &self.east
+    }
+
+    /// Whether the box crosses the 180th meridian: its western edge is above its eastern one, by their
+    /// exact values.
+    pub fn crosses_meridian(&self) -> bool
+        ensures { IsTrue result ↔ IsAbove self.now.west.value self.now.east.value }
+    {
+        self.wraps
+    }
+
     /// Whether a location is in the box or on its edge, by the exact edges: from south to north, and
     /// from west to east. Where west is above east, that is from west on or up to east.
     pub fn holds(&self, place: Coord) -> bool

@@ -2,9 +2,9 @@
 
 ghost use Rattle.std.specs.Prelude.{◌≡◌, ◌≤◌, ◌<◌, ◌*◌, ◌^◌, ◌++◌, ◌↔◌, ◌≤ℤ◌, ℕ, ℤ, unsigned_abs, List, IsTrue, IfOk, IfErr, length, Ok};
 ghost use Rattle.std.specs.Str.Parse.{AllDigits, digits_value};
-ghost use Rattle.osm_model.specs.Degrees.{Decimal, Spells, IsDegrees};
+ghost use Rattle.osm_model.specs.Degrees.{Decimal, Spells, IsDegrees, limit};
 ghost use Rattle.osm_model.specs.CanonicalDegrees.{degrees};
-ghost use Rattle.osm_model.specs.Edges.{IsEdge, IsEdgeFault, IsWithin, IsAtMost, IsAtLeast, IsAbove};
+ghost use Rattle.osm_model.specs.Edges.{IsEdge, IsEdgeFault, IsWithin, IsAtMost, IsAtLeast, IsAbove, IsFloor, IsCeiling};
 ghost use Rattle.osm_model.specs.internal.EdgeUnits.{IsAround, signed_floor, signed_ceiling};
 
 use crate::axis::Axis;
@@ -75,6 +75,24 @@ impl<'a> Edge<'a> {
         ensures edge { IsEdge self.now }
     {
         units <= self.floor
+    }
+
+    /// The greatest whole number of units of 1e-7 degree that isn't above the edge. It is in the range
+    /// of the edge's axis.
+    pub fn floor_units(&self) -> i32
+        ensures floor { IsFloor self.now.value result }
+        ensures within { unsigned_abs result ≤ limit self.now.axis }
+    {
+        self.floor
+    }
+
+    /// The least whole number of units of 1e-7 degree that isn't below the edge. It is in the range of
+    /// the edge's axis.
+    pub fn ceiling_units(&self) -> i32
+        ensures ceiling { IsCeiling self.now.value result }
+        ensures within { unsigned_abs result ≤ limit self.now.axis }
+    {
+        self.ceiling
     }
 
     /// Whether it is above another edge, by their exact values.

@@ -1,9 +1,3 @@
-pub mod shared
-pub mod Ids
-pub mod Stops
-pub mod Opened
-pub mod OneObject
-pub mod Meanings
 pub mod References
 pub mod Adding
 pub mod ObjectLists
@@ -23,3 +17,4 @@ pub mod Running
 pub mod Printing
 pub mod Answering
 pub mod MeaningLaws
+pub mod shared

@@ -41,9 +41,13 @@ abbrev pub cut : {A : Type 0} → Option ℕ → List A → List A
 cut None xs = xs
 cut (Some most) xs = take most xs
 
+-- the texts of these objects, one after the other
+abbrev pub printed : OutMode → List Element → List ℕ
+printed mode objects = flat_map (λ o. text_of o mode) objects
+
 -- the objects of a set, in the order of the list, at most so many, each in this mode
 abbrev pub printed_of : List Element → List Ref → OutMode → Option ℕ → List ℕ
-printed_of objects refs mode limit = flat_map (λ o. text_of o mode) (cut limit (filter (λ o. is_in refs o) objects))
+printed_of objects refs mode limit = printed mode (cut limit (filter (λ o. is_in refs o) objects))
 
 -- what a statement prints: nothing but where it is an out
 abbrev pub told : List Element → Statement → Env → List ℕ

@@ -1,27 +1,57 @@
-//! The answer to a query.
+//! The answer to every query.
 
-ghost use Rattle.std.specs.Prelude.{◌≡◌, IfOk};
-ghost use Rattle.ql_plain.specs.Meaning.{meaning};
+ghost use Rattle.std.specs.Prelude.{◌≡◌, ◌++◌, IfOk, OnOk};
+ghost use Rattle.ql_syntax.specs.StatementViews.{statement_of, statements_of};
+ghost use Rattle.ql_plain.specs.Meanings.{After, Means, told};
+ghost use Rattle.ql_plain.specs.internal.NamedSets.{lists_of};
 
-use crate::query::Query;
-use opl_codec::{OutMode, write_object};
-use osm_model::{Kind, ObjectSet, Ref};
+use crate::print::print;
+use crate::run::run;
+use crate::sets::Sets;
+use osm_model::ObjectSet;
+use ql_syntax::{Query, Stmt};
 use std::alloc::{AllocError, Global};
 
-/// The answer to a query over a set of objects: OPL, a line an object, in the mode `Body`. It is empty
-/// where no object is asked for. A binary search, and one line written.
+/// The answer to a query over a set of objects: what its outs print, one after the other, as OPL, a line an
+/// object. It is the reference of faster answers: a statement goes over all objects.
 ///
-/// Refused only where memory runs out.
-pub fn answer_plain(alloc: Global, query: &Query, set: &ObjectSet) -> Result<Vec<u8>, AllocError>
-    ensures { IfOk result (λ text. text.items ≡ meaning query.now set.now) }
+/// A statement costs at most a filter's pass over the objects and their lists for each filter, times a
+/// logarithm; chains of any length and cycles too. Refused only where memory runs out.
+pub fn answer_plain(
+    alloc: Global,
+    query: &Query<'_>,
+    set: &ObjectSet,
+) -> Result<Vec<u8>, AllocError>
+    ensures { IfOk result (λ text. Means set.now (statements_of query.now) text.items) }
 {
+    let mut sets = Sets::new(alloc);
     let mut text = Vec::new(alloc);
-    let name = Ref {
-        kind: Kind::Node,
-        id: query.id,
-    };
-    if let Some(object) = set.get(name) {
-        write_object(object, OutMode::Body, &mut text)?;
+    let statements = query.stmts();
+    for statement in statements {
+        answer_statement(alloc, statement, &mut sets, set, &mut text)?;
     }
     Ok(text)
+}
+
+/// Runs a statement, and appends what it prints.
+fn answer_statement<'q>(
+    alloc: Global,
+    statement: &Stmt<'q>,
+    sets: &mut Sets<'q>,
+    set: &ObjectSet,
+    text: &mut Vec<u8>,
+) -> Result<(), AllocError>
+    ensures after { OnOk result (After set.now (statement_of statement.now) (lists_of sets.old.named.items) (lists_of sets.new.named.items)) }
+    ensures told { OnOk result (text.new.items ≡ text.old.items ++ told set.now (statement_of statement.now) (lists_of sets.old.named.items)) }
+{
+    match statement {
+        Stmt::Print(out) => print(
+            set,
+            sets.get(out.from.as_bytes()),
+            out.mode,
+            out.limit,
+            text,
+        ),
+        _ => run(alloc, statement, sets, set),
+    }
 }

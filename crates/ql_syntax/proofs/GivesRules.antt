@@ -2,9 +2,11 @@
 use Rattle.std.proofs.Common.{◌≡◌, ℕ, zero, suc, List, [], ◌∷◌, Option, None, Some, Bool, true, false, cond, drop, refl, subst}
 use Rattle.std.specs.Bool.{⊤}
 use Rattle.std.specs.List.{AllByRecursion}
+use Rattle.osm_model.specs.Limits.{HasNoNul}
 use Rattle.ql_syntax.specs.LawfulQueries.{Allows, IsInner, AreInner, IsTop, IsQuery}
 use Rattle.ql_syntax.specs.Picks.{allows, takes_boxes}
-use Rattle.ql_syntax.specs.TokenRules.{Next, Word, Number}
+use Rattle.ql_syntax.specs.TokenRules.{Next, Word, Number, run_here, text_here}
+use Rattle.ql_syntax.proofs.CleanTexts.{quoted_has_no_nul, run_has_no_nul}
 use Rattle.ql_syntax.specs.Queries.{query}
 use Rattle.ql_syntax.specs.Rules.{Rule, by_case}
 use Rattle.ql_syntax.specs.Selections.{a_filter, selection}
@@ -12,7 +14,7 @@ use Rattle.ql_syntax.specs.SelectorWords.{path_word, selector_word, path_of}
 use Rattle.ql_syntax.specs.Selectors.{id_after, id_list, path_from, selector_named, word_selector, box_after, number_selector, selector}
 use Rattle.ql_syntax.specs.StatementRules.{recursion, item, out_of, print_at, print, statement_named, word_statement, set_statement_named, set_word_statement, recursion_or_item, set_statement, recursion_at, plain_statement, part, union, difference, block, statement, top_statement}
 use Rattle.ql_syntax.specs.Statements.{Statement, End, Select, Recurse, Item, Union, Minus, Print, row_of}
-use Rattle.ql_syntax.specs.TagFilters.{tag_filter, tag_rest, not_in_tag}
+use Rattle.ql_syntax.specs.TagFilters.{tag_filter, tag_rest, tag_text, tag_text_at, tag_value, not_in_tag}
 use Rattle.ql_syntax.specs.declared.level.Level.{Level}
 use Rattle.ql_syntax.specs.declared.level.Level.TheVariants as levels
 use Rattle.ql_syntax.specs.declared.path.Path.{Path}
@@ -39,14 +41,25 @@ along pick path false true o e = absurd (cc)
 along pick path false false None e = absurd (cc)
 along pick path false false (Some p) e = allowed pick p path (allows pick p) refl e
 
+tag_text_at_gives : (next : Next) → Gives HasNoNul (tag_text_at next)
+unfolding tag_text_at text_here run_here
+tag_text_at_gives next = gives_choose _ (λ is. gives_from next.place (record { gives = λ text v rest reads. quoted_has_no_nul text v rest reads }))
+    (gives_choose _ (λ is. gives_from next.place (record { gives = λ text v rest reads. run_has_no_nul text v rest reads })) (gives_in_tag next))
+
+tag_value_gives : Gives HasNoNul tag_value
+unfolding tag_value tag_text
+tag_value_gives = gives_then _ (gives_after _ _ tag_text_at_gives) (λ value clean. gives_after _ _ (λ close. gives_give _ clean))
+
 module _ (pick : Pick) where
-  tag_rest_gives : (key : List ℕ) → Gives (Allows pick) (tag_rest key)
+  tag_rest_gives : (key : List ℕ) → HasNoNul key → Gives (Allows pick) (tag_rest key)
   unfolding tag_rest
-  tag_rest_gives key = gives_after _ _ (λ next. gives_choose _ (λ is. gives_give _ tt) (gives_choose _ (λ is. gives_after _ _ (λ value. gives_give _ tt)) (gives_choose _ (λ is. gives_after _ _ (λ value. gives_give _ tt)) (gives_in_tag next))))
+  tag_rest_gives key clean = gives_after _ _ (λ next. gives_choose _ (λ is. gives_give _ clean)
+      (gives_choose _ (λ is. gives_then _ tag_value_gives (λ value also. gives_give _ (clean, also)))
+      (gives_choose _ (λ is. gives_then _ tag_value_gives (λ value also. gives_give _ (clean, also))) (gives_in_tag next))))
 
   tag_filter_gives : Gives (Allows pick) tag_filter
   unfolding tag_filter
-  tag_filter_gives = gives_after _ _ (λ next. gives_choose _ (λ is. gives_after _ _ (λ key. gives_give _ tt)) (gives_after _ _ tag_rest_gives))
+  tag_filter_gives = gives_after _ _ (λ next. gives_choose _ (λ is. gives_then _ tag_value_gives (λ key clean. gives_give _ clean)) (gives_then _ (tag_text_at_gives next) tag_rest_gives))
 
   path_from_gives : (path : Path) → allows pick path ≡ true → Gives (Allows pick) (path_from path)
   unfolding path_from

@@ -41,12 +41,12 @@ pub mod QuerySpellings
 pub mod PlaceLemmas
 pub mod PlaceRules
 pub mod GrammarRows
-pub mod QueryLaws
 pub mod TotalLemmas
 pub mod TotalTokens
 pub mod TotalTexts
 pub mod TotalNumbers
 pub mod TotalRules
 pub mod GivesLemmas
+pub mod CleanTexts
 pub mod GivesRules
 pub mod shared

@@ -1,11 +1,15 @@
--- Rules read and stop within the text.
+-- Rules read and stop within the text, and not for want of memory.
 use Rattle.std.proofs.Common.{◌≡◌, ℕ, zero, suc, ◌-◌, ◌+◌, List, [], ◌∷◌, ◌++◌, Bool, true, false, cond, ◌==◌, ◌&&◌, Option, length, drop, refl, sym, ◌∙◌, ap, subst, inl, inr, arith, append_assoc, length-append}
 use Rattle.ql_syntax.specs.Gaps.{gap, is_blank, Where, Between, InLine, InBlock, GapEnd, After, Open}
 use Rattle.ql_syntax.specs.TokenRules.{Next, unexpected, next_token}
 use Rattle.ql_syntax.specs.Rules.{Rule, ◌>>=◌, give, refuse, from, choose, by_case, repeat, gather, gather_round, gathered, Round, More, Done, RoundsRead, RoundsStop, Last, Here, Later, First, Second}
 use Rattle.ql_syntax.specs.Rules as rounds
 use Rattle.ql_syntax.specs.TokenKinds.{punctuation_len}
+use Rattle.ql_syntax.specs.Tokens.{unexpected_cause}
 use Rattle.ql_syntax.specs.declared.cause.QlCause.{QlCause}
+use Rattle.ql_syntax.specs.declared.cause.QlCause.TheVariants as causes
+use Rattle.ql_syntax.specs.declared.token_kind.TokenKind.{TokenKind}
+use Rattle.ql_syntax.specs.declared.token_kind.TokenKind.TheVariants as kinds
 
 -- the whole ends with this
 pub record Ends (whole place : List ℕ) : Type 0 where
@@ -86,10 +90,23 @@ ends_open whole (InBlock c) [] at e began it = same_open e began
 ends_open whole (InBlock c) (a ∷ []) at e began it = same_open e began
 ends_open whole (InBlock c) (a ∷ b ∷ s) at e began it = of_two _ (a == 42 && b == 47) (gap Between s) (gap (InBlock c) (b ∷ s)) _ (λ h. ends_open whole Between s at h tt (ends_tail (ends_tail it))) (λ h. ends_open whole (InBlock c) (b ∷ s) at h began (ends_tail it)) e
 
--- the rule reads and stops within the whole, and so are the places of what it gives
+-- a cause that rules tell
+abbrev pub IsTold : QlCause → Type 0
+IsTold causes.Memory = ⊥
+IsTold cause = Unit {0}
+
+pub told_as : {cause why : QlCause} → cause ≡ why → IsTold why → IsTold cause
+told_as is told = subst IsTold (sym is) told
+
+told_unexpected : (kind : TokenKind) → IsTold (unexpected_cause kind)
+told_unexpected kinds.End = tt
+told_unexpected kinds.Word = tt
+told_unexpected _ = tt
+
+-- the rule reads and stops within the whole, for a cause that rules tell, and so are the places of what it gives
 pub record Inside (whole : List ℕ) {A : Type 0} (IsIn : A → Type 0) (rule : Rule A) : Type 0 where
   pub read : (text : List ℕ) (value : A) (rest : List ℕ) → Ends whole text → rule.reads text value rest → Ends whole rest × IsIn value
-  pub stop : (text : List ℕ) (cause : QlCause) (place : List ℕ) → Ends whole text → rule.stops text cause place → Ends whole place
+  pub stop : (text : List ℕ) (cause : QlCause) (place : List ℕ) → Ends whole text → rule.stops text cause place → Ends whole place × IsTold cause
 
 -- a value without a place
 abbrev pub Anywhere : {A : Type 0} → A → Type 0
@@ -103,13 +120,13 @@ module _ {whole : List ℕ} where
   unfolding give
   inside_give {IsIn = IsIn} value is = record { read = λ text v rest it reads. (ends_same reads.1 it, subst IsIn (sym reads.0) is); stop = λ text cause place it stops. absurd stops }
 
-  pub inside_refuse : {A : Type 0} {IsIn : A → Type 0} (cause : QlCause) {place : List ℕ} → Ends whole place → Inside whole IsIn (refuse {A = A} cause place)
+  pub inside_refuse : {A : Type 0} {IsIn : A → Type 0} (cause : QlCause) {place : List ℕ} → IsTold cause → Ends whole place → Inside whole IsIn (refuse {A = A} cause place)
   unfolding refuse
-  inside_refuse cause at = record { read = λ text v rest it reads. absurd reads; stop = λ text cause place it stops. ends_same stops.1 at }
+  inside_refuse cause told at = record { read = λ text v rest it reads. absurd reads; stop = λ text cause place it stops. (ends_same stops.1 at, told_as stops.0 told) }
 
   pub inside_unexpected : {A : Type 0} {IsIn : A → Type 0} (next : Next) → Ends whole next.place → Inside whole IsIn (unexpected {A = A} next)
   unfolding unexpected
-  inside_unexpected next at = inside_refuse _ at
+  inside_unexpected next at = inside_refuse _ (told_unexpected next.kind) at
 
   pub inside_from : {A : Type 0} {IsIn : A → Type 0} {rule : Rule A} {start : List ℕ} → Ends whole start → Inside whole IsIn rule → Inside whole IsIn (from start rule)
   unfolding from
@@ -140,7 +157,7 @@ module _ {whole : List ℕ} where
   rounds_read i value rest _ _ it (Last state text reads) = let a = (i state).read text (Done value) rest it reads in a.0
   rounds_read i value rest _ _ it (rounds.Next state next text middle reads more) = let a = (i state).read text (More next) middle it reads in rounds_read i value rest next middle a.0 more
 
-  rounds_stop : {S A : Type 0} {round : S → Rule (Round S A)} → ((s : S) → Inside whole Anywhere (round s)) → (cause : QlCause) (place : List ℕ) (state : S) (text : List ℕ) → Ends whole text → RoundsStop round cause place state text → Ends whole place
+  rounds_stop : {S A : Type 0} {round : S → Rule (Round S A)} → ((s : S) → Inside whole Anywhere (round s)) → (cause : QlCause) (place : List ℕ) (state : S) (text : List ℕ) → Ends whole text → RoundsStop round cause place state text → Ends whole place × IsTold cause
   rounds_stop i cause place _ _ it (Here state text stops) = (i state).stop text cause place it stops
   rounds_stop i cause place _ _ it (Later state next text middle reads more) = let a = (i state).read text (More next) middle it reads in rounds_stop i cause place next middle a.0 more
 
@@ -156,5 +173,5 @@ module _ {whole : List ℕ} where
   unfolding next_token
   inside_token = record {
     read = λ text v rest it at. (let here = ends_gap whole Between text v.place at.after_gap it in (ends_same at.rest_is (ends_drop (punctuation_len v.kind) here), here));
-    stop = λ text cause place it stops. ends_open whole Between text place stops.1 tt it;
+    stop = λ text cause place it stops. (ends_open whole Between text place stops.1 tt it, told_as stops.0 tt);
   }

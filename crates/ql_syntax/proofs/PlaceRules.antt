@@ -1,9 +1,9 @@
--- The rules of queries read and stop within the text.
-use Rattle.std.proofs.Common.{ℕ, zero, suc, List, [], ◌∷◌, Bool, true, false, Option, None, Some, sym, append-nil}
+-- The rules of queries read and stop within the text, and not for want of memory.
+use Rattle.std.proofs.Common.{◌≢◌, ℕ, zero, suc, List, [], ◌∷◌, Bool, true, false, Option, None, Some, sym, subst, append-nil}
 use Rattle.std.specs.List.{flat_map}
 use Rattle.osm_model.specs.Degrees.{Decimal, sign, spelling}
 use Rattle.ql_syntax.specs.Areas.{Corners, area}
-use Rattle.ql_syntax.specs.Numbers.{IsNoNumber}
+use Rattle.ql_syntax.specs.Numbers.{IsMisfit, IsNoNumber}
 use Rattle.ql_syntax.specs.Outs.{once, out_word_at, with_word, with_number, out_round, out_options}
 use Rattle.ql_syntax.specs.TokenRules.{Next, Word, Number, pass, run_here, word_at, a_word, number_here, number_at, a_number, name_after, a_name, into, text_here}
 use Rattle.ql_syntax.specs.Queries.{query}
@@ -15,10 +15,11 @@ use Rattle.ql_syntax.specs.Selectors.{an_id, id_after, id_list, path_close, path
 use Rattle.ql_syntax.specs.Settings.{format_named, format, count, setting_named, setting_value, setting, setting_round, settings}
 use Rattle.ql_syntax.specs.StatementRules.{recursion, item, out_of, print_at, print, statement_named, word_statement, set_statement_named, set_word_statement, recursion_or_item, set_statement, recursion_at, plain_statement, part, union, difference, block, statement, top_statement}
 use Rattle.ql_syntax.specs.Statements.{Statement}
-use Rattle.ql_syntax.specs.TagFilters.{not_in_tag, tag_text_at, tag_text, tag_close, tag_value, tag_rest, tag_filter}
+use Rattle.ql_syntax.specs.TagFilters.{cause_in_tag, not_in_tag, tag_text_at, tag_text, tag_close, tag_value, tag_rest, tag_filter}
 use Rattle.ql_syntax.specs.WholeNumbers.{id_of, count_of}
 use Rattle.ql_syntax.specs.Words.{IsNoName}
 use Rattle.ql_syntax.specs.declared.cause.QlCause.{QlCause}
+use Rattle.ql_syntax.specs.declared.cause.QlCause.TheVariants as causes
 use Rattle.ql_syntax.specs.declared.level.Level.{Level}
 use Rattle.ql_syntax.specs.declared.level.Level.TheVariants as levels
 use Rattle.ql_syntax.specs.declared.out_options.OutOptions.{OutOptions}
@@ -34,15 +35,27 @@ use Rattle.ql_syntax.specs.declared.setting_word.FormatWord.TheVariants as forma
 use Rattle.ql_syntax.specs.declared.setting_word.SettingWord.{SettingWord}
 use Rattle.ql_syntax.specs.declared.setting_word.SettingWord.TheVariants as setting_words
 use Rattle.ql_syntax.specs.declared.token_kind.TokenKind.{TokenKind}
+use Rattle.ql_syntax.specs.declared.token_kind.TokenKind.TheVariants as kinds
 use Rattle.ql_syntax.specs.declared.statement_word.StatementWord.{StatementWord}
 use Rattle.ql_syntax.specs.declared.statement_word.StatementWord.TheVariants as words
-use Rattle.ql_syntax.proofs.PlaceLemmas.{Ends, ends_whole, ends_same, ends_after, ends_tail, ends_drop, Inside, Anywhere, NextIn, inside_give, inside_refuse, inside_unexpected, inside_from, inside_then, inside_choose, inside_case, inside_repeat, inside_gather, inside_token}
+use Rattle.ql_syntax.proofs.PlaceLemmas.{Ends, ends_whole, ends_same, ends_after, ends_tail, ends_drop, Inside, IsTold, told_as, Anywhere, NextIn, inside_give, inside_refuse, inside_unexpected, inside_from, inside_then, inside_choose, inside_case, inside_repeat, inside_gather, inside_token}
 
 abbrev WordIn : List ℕ → Word → Type 0
 WordIn whole word = Ends whole word.place
 
 abbrev NumberIn : List ℕ → Number → Type 0
 NumberIn whole number = Ends whole number.place
+
+told_misfit : (place : List ℕ) (cause : QlCause) → IsMisfit place cause → IsTold cause
+told_misfit [] cause is = told_as is tt
+told_misfit (b ∷ place) cause is = told_as is tt
+
+told_in_tag : (kind : TokenKind) → IsTold (cause_in_tag kind)
+told_in_tag kinds.Tilde = tt
+told_in_tag kinds.NotTilde = tt
+told_in_tag kinds.End = tt
+told_in_tag kinds.Word = tt
+told_in_tag _ = tt
 
 module _ {whole : List ℕ} where
   ends_empty : Ends whole []
@@ -65,8 +78,8 @@ module _ {whole : List ℕ} where
   unfolding a_word
   in_a_word = inside_then _ inside_token (λ next at. inside_choose (λ is. in_word_at next at) (inside_unexpected next at))
 
-  no_number : (text : List ℕ) (cause : QlCause) (place : List ℕ) → Ends whole text → IsNoNumber text cause place → Ends whole place
-  no_number text cause place it stops = ends_after (sign stops.negative) stops.parts it
+  no_number : (text : List ℕ) (cause : QlCause) (place : List ℕ) → Ends whole text → IsNoNumber text cause place → Ends whole place × IsTold cause
+  no_number text cause place it stops = (ends_after (sign stops.negative) stops.parts it, told_misfit place cause stops.misfit)
 
   in_number_here : Inside whole Anywhere number_here
   unfolding number_here
@@ -80,9 +93,9 @@ module _ {whole : List ℕ} where
   unfolding a_number
   in_a_number = inside_then _ inside_token (λ next at. inside_choose (λ is. in_number_at next at) (inside_unexpected next at))
 
-  no_name : (dot after : List ℕ) (cause : QlCause) (place : List ℕ) → Ends whole dot → IsNoName dot after cause place → Ends whole place
-  no_name dot [] cause place at stops = ends_same stops.1.1 ends_empty
-  no_name dot (b ∷ after) cause place at stops = ends_same stops.1.1 at
+  no_name : (dot after : List ℕ) (cause : QlCause) (place : List ℕ) → Ends whole dot → IsNoName dot after cause place → Ends whole place × IsTold cause
+  no_name dot [] cause place at stops = (ends_same stops.1.1 ends_empty, told_as stops.1.0 tt)
+  no_name dot (b ∷ after) cause place at stops = (ends_same stops.1.1 at, told_as stops.1.0 tt)
 
   in_name_after : (next : Next) → NextIn whole next → Inside whole Anywhere (name_after next)
   unfolding name_after
@@ -97,11 +110,11 @@ module _ {whole : List ℕ} where
   in_into = inside_then _ inside_token (λ next at. inside_choose (λ is. inside_then _ in_a_name (λ name is. inside_then _ (in_pass _) (λ end is. inside_give name tt)))
       (inside_choose (λ is. inside_give _ tt) (inside_unexpected next at)))
 
-  no_text : (text place : List ℕ) (cause : QlCause) (at : List ℕ) → Ends whole text → Ends whole place → StopsInside text place cause at → Ends whole at
-  no_text text place cause at it here (AtEnd is reason same) = ends_same same it
-  no_text text place cause at it here (InEscape after is cut reason same) = ends_same same it
-  no_text text place cause at it here (AtEscape after is bad reason same) = ends_same same here
-  no_text text place cause at it here (AtNul after is reason same) = ends_same same here
+  no_text : (text place : List ℕ) (cause : QlCause) (at : List ℕ) → Ends whole text → Ends whole place → StopsInside text place cause at → Ends whole at × IsTold cause
+  no_text text place cause at it here (AtEnd is reason same) = (ends_same same it, told_as reason tt)
+  no_text text place cause at it here (InEscape after is cut reason same) = (ends_same same it, told_as reason tt)
+  no_text text place cause at it here (AtEscape after is bad reason same) = (ends_same same here, told_as reason tt)
+  no_text text place cause at it here (AtNul after is reason same) = (ends_same same here, told_as reason tt)
 
   in_text_here : Inside whole Anywhere text_here
   unfolding text_here
@@ -112,20 +125,20 @@ module _ {whole : List ℕ} where
 
   in_id_of : (number : Decimal) (place : List ℕ) → Ends whole place → Inside whole Anywhere (id_of number place)
   unfolding id_of
-  in_id_of number place at = record { read = λ text v rest it reads. (ends_same reads.1 it, tt); stop = λ text cause p it stops. ends_same stops.2 at }
+  in_id_of number place at = record { read = λ text v rest it reads. (ends_same reads.1 it, tt); stop = λ text cause p it stops. (ends_same stops.2 at, told_as stops.1 tt) }
 
   in_count_of : (number : Decimal) (place : List ℕ) → Ends whole place → Inside whole Anywhere (count_of number place)
   unfolding count_of
-  in_count_of number place at = record { read = λ text v rest it reads. (ends_same reads.1 it, tt); stop = λ text cause p it stops. ends_same stops.2 at }
+  in_count_of number place at = record { read = λ text v rest it reads. (ends_same reads.1 it, tt); stop = λ text cause p it stops. (ends_same stops.2 at, told_as stops.1 tt) }
 
   in_area : (corners : Corners) (place : List ℕ) → Ends whole place → Inside whole Anywhere (area corners place)
   unfolding area
-  in_area corners place at = record { read = λ text v rest it reads. (ends_same reads.2 it, tt); stop = λ text cause p it stops. ends_same stops.2 at }
+  in_area corners place at = record { read = λ text v rest it reads. (ends_same reads.2 it, tt); stop = λ text cause p it stops. (ends_same stops.2 at, told_as stops.1 tt) }
 
   -- filters by tags
   in_not_in_tag : {A : Type 0} (next : Next) → NextIn whole next → Inside whole Anywhere (not_in_tag {A = A} next)
   unfolding not_in_tag
-  in_not_in_tag next at = inside_refuse _ at
+  in_not_in_tag next at = inside_refuse _ (told_in_tag next.kind) at
 
   in_text_at : (next : Next) → NextIn whole next → Inside whole Anywhere (tag_text_at next)
   unfolding tag_text_at
@@ -167,7 +180,7 @@ module _ {whole : List ℕ} where
 
   in_path_close : Inside whole Anywhere path_close
   unfolding path_close
-  in_path_close = inside_then _ inside_token (λ next at. inside_choose (λ is. inside_give tt tt) (inside_choose (λ is. inside_refuse _ at) (inside_unexpected next at)))
+  in_path_close = inside_then _ inside_token (λ next at. inside_choose (λ is. inside_give tt tt) (inside_choose (λ is. inside_refuse _ tt at) (inside_unexpected next at)))
 
   in_path_from : (path : Path) → Inside whole Anywhere (path_from path)
   unfolding path_from
@@ -177,8 +190,8 @@ module _ {whole : List ℕ} where
   in_selector_named : (place : List ℕ) (case : SelectorWord) → Ends whole place → Inside whole Anywhere (selector_named place case)
   in_selector_named place selectors.Ids at = in_id_list
   in_selector_named place (selectors.Along path) at = in_path_from path
-  in_selector_named place selectors.LeftOut at = inside_refuse _ at
-  in_selector_named place selectors.Unknown at = inside_refuse _ at
+  in_selector_named place selectors.LeftOut at = inside_refuse _ tt at
+  in_selector_named place selectors.Unknown at = inside_refuse _ tt at
 
   in_word_selector : (pick : Pick) (word : Word) → WordIn whole word → Inside whole Anywhere (word_selector pick word)
   unfolding word_selector
@@ -194,7 +207,7 @@ module _ {whole : List ℕ} where
 
   in_number_selector : (pick : Pick) (number : Number) → NumberIn whole number → Inside whole Anywhere (number_selector pick number)
   unfolding number_selector
-  in_number_selector pick number at = inside_then _ inside_token (λ next here. inside_choose (λ is. inside_choose (λ is. in_box_after number at) (inside_refuse _ at))
+  in_number_selector pick number at = inside_then _ inside_token (λ next here. inside_choose (λ is. inside_choose (λ is. in_box_after number at) (inside_refuse _ tt at))
       (inside_choose (λ is. inside_then _ (in_id_of _ _ at) (λ id is. inside_give _ tt)) (inside_unexpected next here)))
 
   in_selector : (pick : Pick) → Inside whole Anywhere (selector pick)
@@ -212,14 +225,14 @@ module _ {whole : List ℕ} where
 
   -- out statements
   in_once : {A : Type 0} (stood : Bool) (place : List ℕ) (value : A) → Ends whole place → Inside whole Anywhere (once stood place value)
-  in_once true place value at = inside_refuse _ at
+  in_once true place value at = inside_refuse _ tt at
   in_once false place value at = inside_give value tt
 
   in_out_word_at : (seen : OutOptions) (place : List ℕ) (case : OutWord) → Ends whole place → Inside whole Anywhere (out_word_at seen place case)
   in_out_word_at seen place (out_words.Mode mode) at = in_once _ place _ at
   in_out_word_at seen place out_words.Order at = in_once _ place _ at
-  in_out_word_at seen place out_words.LeftOut at = inside_refuse _ at
-  in_out_word_at seen place out_words.Unknown at = inside_refuse _ at
+  in_out_word_at seen place out_words.LeftOut at = inside_refuse _ tt at
+  in_out_word_at seen place out_words.Unknown at = inside_refuse _ tt at
 
   in_with_word : (seen : OutOptions) (word : Word) → WordIn whole word → Inside whole Anywhere (with_word seen word)
   unfolding with_word
@@ -233,7 +246,7 @@ module _ {whole : List ℕ} where
   unfolding out_round
   in_out_round seen = inside_then _ inside_token (λ next at. inside_choose (λ is. inside_then _ (in_word_at next at) (λ word is. inside_then _ (in_with_word seen word is) (λ more is. inside_give _ tt)))
       (inside_choose (λ is. inside_then _ (in_number_at next at) (λ number is. inside_then _ (in_with_number seen number is) (λ more is. inside_give _ tt)))
-      (inside_choose (λ is. inside_refuse _ at) (inside_choose (λ is. inside_give _ tt) (inside_unexpected next at)))))
+      (inside_choose (λ is. inside_refuse _ tt at) (inside_choose (λ is. inside_give _ tt) (inside_unexpected next at)))))
 
   in_out_options : Inside whole Anywhere out_options
   unfolding out_options
@@ -242,8 +255,8 @@ module _ {whole : List ℕ} where
   -- settings
   in_format_named : (place : List ℕ) (case : FormatWord) → Ends whole place → Inside whole Anywhere (format_named place case)
   in_format_named place formats.Known at = inside_give tt tt
-  in_format_named place formats.LeftOut at = inside_refuse _ at
-  in_format_named place formats.Unknown at = inside_refuse _ at
+  in_format_named place formats.LeftOut at = inside_refuse _ tt at
+  in_format_named place formats.Unknown at = inside_refuse _ tt at
 
   in_format : Inside whole Anywhere format
   unfolding format
@@ -256,8 +269,8 @@ module _ {whole : List ℕ} where
   in_setting_named : (place : List ℕ) (case : SettingWord) → Ends whole place → Inside whole Anywhere (setting_named place case)
   in_setting_named place setting_words.Format at = inside_then _ (in_pass _) (λ colon is. in_format)
   in_setting_named place setting_words.Count at = inside_then _ (in_pass _) (λ colon is. in_count)
-  in_setting_named place setting_words.LeftOut at = inside_refuse _ at
-  in_setting_named place setting_words.Unknown at = inside_refuse _ at
+  in_setting_named place setting_words.LeftOut at = inside_refuse _ tt at
+  in_setting_named place setting_words.Unknown at = inside_refuse _ tt at
 
   in_setting_value : (name : Word) → WordIn whole name → Inside whole Anywhere (setting_value name)
   unfolding setting_value
@@ -290,7 +303,7 @@ module _ {whole : List ℕ} where
 
   in_print_at : (start place : List ℕ) (level : Level) → Ends whole place → Inside whole Anywhere (print_at start place level)
   in_print_at start place levels.Top at = in_out_of start
-  in_print_at start place levels.Inner at = inside_refuse _ at
+  in_print_at start place levels.Inner at = inside_refuse _ tt at
 
   in_print : (level : Level) (start place : List ℕ) → Ends whole place → Inside whole Anywhere (print level start place)
   unfolding print
@@ -299,18 +312,18 @@ module _ {whole : List ℕ} where
   in_statement_named : (level : Level) (place : List ℕ) (case : StatementWord) → Ends whole place → Inside whole Anywhere (statement_named level place case)
   in_statement_named level place (words.Kind pick) at = in_selection pick
   in_statement_named level place words.Print at = in_print level _ place at
-  in_statement_named level place words.LeftOut at = inside_refuse _ at
-  in_statement_named level place words.Unknown at = inside_refuse _ at
+  in_statement_named level place words.LeftOut at = inside_refuse _ tt at
+  in_statement_named level place words.Unknown at = inside_refuse _ tt at
 
   in_word_statement : (level : Level) (word : Word) → WordIn whole word → Inside whole Anywhere (word_statement level word)
   unfolding word_statement
   in_word_statement level word at = inside_case _ _ (λ case. in_statement_named level word.place case at)
 
   in_set_statement_named : (level : Level) (start place : List ℕ) (case : StatementWord) → Ends whole place → Inside whole Anywhere (set_statement_named level start place case)
-  in_set_statement_named level start place (words.Kind pick) at = inside_refuse _ at
+  in_set_statement_named level start place (words.Kind pick) at = inside_refuse _ tt at
   in_set_statement_named level start place words.Print at = in_print level start place at
-  in_set_statement_named level start place words.LeftOut at = inside_refuse _ at
-  in_set_statement_named level start place words.Unknown at = inside_refuse _ at
+  in_set_statement_named level start place words.LeftOut at = inside_refuse _ tt at
+  in_set_statement_named level start place words.Unknown at = inside_refuse _ tt at
 
   in_set_word : (level : Level) (start : List ℕ) (word : Word) → WordIn whole word → Inside whole Anywhere (set_word_statement level start word)
   unfolding set_word_statement
@@ -352,7 +365,7 @@ module _ {whole : List ℕ} where
 
   in_statement : (level : Level) (depth : ℕ) → Inside whole Anywhere (statement level depth)
   unfolding statement
-  in_statement level zero = inside_then _ inside_token (λ next at. inside_choose (λ is. inside_refuse _ at) (in_plain level next at))
+  in_statement level zero = inside_then _ inside_token (λ next at. inside_choose (λ is. inside_refuse _ tt at) (in_plain level next at))
   in_statement level (suc depth) = inside_then _ inside_token (λ next at. inside_choose (λ is. in_block (in_statement levels.Inner depth)) (in_plain level next at))
 
   in_top_statement : Inside whole Anywhere top_statement
@@ -365,4 +378,8 @@ module _ {whole : List ℕ} where
 
 -- a query stops within its text
 pub query_stops_inside : (bytes : List ℕ) (cause : QlCause) (place : List ℕ) → query.stops bytes cause place → Ends bytes place
-query_stops_inside bytes cause place stops = in_query.stop bytes cause place (ends_whole bytes) stops
+query_stops_inside bytes cause place stops = let inside = in_query.stop bytes cause place (ends_whole bytes) stops in inside.0
+
+-- and not for want of memory
+pub query_stops_told : (bytes : List ℕ) (cause : QlCause) (place : List ℕ) → query.stops bytes cause place → cause ≢ causes.Memory
+query_stops_told bytes cause place stops memory = let inside = in_query.stop bytes cause place (ends_whole bytes) stops in subst IsTold memory inside.1

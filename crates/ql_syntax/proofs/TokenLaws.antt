@@ -8,11 +8,11 @@ use Rattle.ql_syntax.specs.declared.cause.QlCause.{QlCause}
 use Rattle.ql_syntax.specs.Words.{IsRun, IsWord, IsName, IsNoName, begins_with, is_run_byte, is_word_start}
 use Rattle.ql_syntax.specs.Numbers.{IsNumber, IsNoNumber, IsMisfit, is_minus}
 
-passes : (p q : Bool) → (p && q) ≡ true → p ≡ true
+pub passes : (p q : Bool) → (p && q) ≡ true → p ≡ true
 passes true q e = refl
 passes false q e = cc
 
-further : (p q : Bool) → (p && q) ≡ true → q ≡ true
+pub further : (p q : Bool) → (p && q) ≡ true → q ≡ true
 further true q e = e
 further false q e = cc
 

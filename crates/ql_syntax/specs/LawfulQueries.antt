@@ -1,22 +1,23 @@
 -- What every query keeps: boxes and paths on the kinds that allow them, one id or more in a list of ids and
--- one part or more in a union, out statements at the top level alone, and unions and differences at most so
--- deep in one another.
+-- one part or more in a union, no NUL in keys and values, out statements at the top level alone, and unions and
+-- differences at most so deep in one another.
 -- Source: this project.
 use Rattle.std.specs.Prelude.{◌≡◌, ℕ, suc, true, [], ⊤}
 use Rattle.std.specs.List.{AllByRecursion}
+use Rattle.osm_model.specs.Limits.{HasNoNul}
 use Rattle.ql_syntax.specs.Filters.{Filter, InSet, HasKey, KeyIs, LacksKey, KeyIsNot, Ids, Within, Via}
 use Rattle.ql_syntax.specs.Picks.{allows, takes_boxes}
 use Rattle.ql_syntax.specs.Statements.{Statement, Statements, Select, Recurse, Item, Union, Minus, Print, End, Then}
 use Rattle.ql_syntax.specs.declared.pick.Pick.{Pick}
 use Rattle.ql_syntax.specs.declared.statements.TheConstants.{NESTING_LIMIT}
 
--- the kind allows the filter, and a list of ids has one or more
+-- the kind allows the filter, a list of ids has one or more, and no key or value has a NUL
 abbrev pub Allows : Pick → Filter → Type 0
 Allows pick (InSet name) = ⊤
-Allows pick (HasKey key) = ⊤
-Allows pick (KeyIs key value) = ⊤
-Allows pick (LacksKey key) = ⊤
-Allows pick (KeyIsNot key value) = ⊤
+Allows pick (HasKey key) = HasNoNul key
+Allows pick (KeyIs key value) = HasNoNul key × HasNoNul value
+Allows pick (LacksKey key) = HasNoNul key
+Allows pick (KeyIsNot key value) = HasNoNul key × HasNoNul value
 Allows pick (Ids ids) = ¬ (ids ≡ [])
 Allows pick (Within area) = takes_boxes pick ≡ true
 Allows pick (Via path name) = allows pick path ≡ true

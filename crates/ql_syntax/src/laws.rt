@@ -1,11 +1,12 @@
 //! Laws: bytes are one query at most, or have one fault.
 
-ghost use Rattle.std.specs.Prelude.{◌≡◌, ◌≤◌, ◌⊎◌, ◌-◌, ℕ, List, [], length, drop};
+ghost use Rattle.std.specs.Prelude.{◌≡◌, ◌≢◌, ◌≤◌, ◌⊎◌, ◌-◌, ℕ, List, [], length, drop};
 ghost use Rattle.ql_syntax.specs.Grammar as grammar;
 ghost use Rattle.ql_syntax.specs.LawfulQueries.{IsQuery};
 ghost use Rattle.ql_syntax.specs.Queries.{HasFault, Reads, query};
 ghost use Rattle.ql_syntax.specs.Statements.{Statements};
 ghost use Rattle.ql_syntax.specs.declared.cause.QlCause.{QlCause};
+ghost use Rattle.ql_syntax.specs.declared.cause.QlCause.TheVariants as causes;
 ghost use Rattle.ql_syntax.specs.declared.fault.QlFault.{QlFault};
 
 /// A law: bytes read as one query at most.
@@ -36,6 +37,11 @@ pub fn lawful_queries()
 /// A law: a fault's place is within the bytes, or at their end.
 pub fn fault_place()
     ensures { (bytes : List ℕ) (fault : QlFault) → HasFault bytes fault → fault.byte ≤ length bytes }
+{}
+
+/// A law: no fault of bytes is that of a reader out of memory.
+pub fn faults_are_not_memory()
+    ensures { (bytes : List ℕ) (fault : QlFault) → HasFault bytes fault → fault.cause ≢ causes.Memory }
 {}
 
 /// A law: what the rules read is spelled by the grammar and keeps what every query does, with nothing left

@@ -11,8 +11,8 @@ use std::marker::Model;
 /// with escapes. Contracts see the list of its statements, and by `statements_of` their trees.
 ///
 /// It keeps that unions and differences stand at most 32 deep in one another, out statements at the top
-/// level alone, and boxes and paths on the kinds that allow them, and that a list of ids and a union have
-/// one or more (`IsQuery`).
+/// level alone, and boxes and paths on the kinds that allow them, that a list of ids and a union have one
+/// or more, and that no key or value has a NUL (`IsQuery`).
 #[derive(Debug, Drop)]
 pub struct Query<'a> {
     stmts: Vec<Stmt<'a>>,

@@ -9,6 +9,7 @@ use Rattle.tree_node.specs.Nodes.{Binding, Link, Node, Inner, spelling}
 use Rattle.tree_node.specs.NodeRefs.{link_of, links_of}
 use Rattle.tree_node.specs.Trees.{Shape, pieces, one_at_least, ends_by, is_marked_link, link_to, leaves, level_over, levels_over, levels, level_at, no_node, top_of, Stands, IsNodeOf, HasTree}
 use Rattle.tree_node.specs.Outcomes.{Clash as Clashes, GrownByAll}
+use Rattle.tree_node.specs.Shelves.{IsClashFree}
 use Rattle.tree_node.specs.declared.child.Child.{Child}
 use Rattle.tree_node.proofs.shared.PieceLemmas.{join}
 use Rattle.tree_node.proofs.shared.TreeLemmas.{tree_is, leaves_some, leaves_few, level_some, level_half, levels_step, levels_end, over_some, level_numbers, leaf_numbers, level_short, leaf_short, numbers_of, HasShort}
@@ -60,6 +61,10 @@ gained_nodes old new tree gained bytes = (
   (λ has. elim ((gained bytes).0 has) [ inl was ↦ inl was | inr one ↦ inr (place_in tree bytes one) ]),
   (λ is. elim is [ inl was ↦ (gained bytes).1 (inl was) | inr at ↦ (gained bytes).1 (inr (one_in tree at.0 at.1 bytes at.2)) ]),
 )
+
+-- where all nodes of the tree were put into a set without a clash, none of them clashes
+pub none_clash : (old new : List ℕ → Type 0) (tree : List (List Node)) → GrownByAll old new (IsNodeOf tree) → IsClashFree new → Clashes (λ bytes. old bytes ⊎ IsNodeOf tree bytes) (IsNodeOf tree) → ⊥
+none_clash old new tree gained free (a, b, is_a, is_b, differ, same) = differ (free a b ((gained a).1 is_a) ((gained b).1 (inr is_b)) same)
 
 -- ---- from level to level
 

@@ -4,3 +4,4 @@ pub mod FitLemmas
 pub mod LengthLemmas
 pub mod LevelLemmas
 pub mod StockLemmas
+pub mod shared

@@ -1,3 +1,4 @@
+pub mod Cuts
 pub mod Refusals
 pub mod Shapes
 pub mod internal

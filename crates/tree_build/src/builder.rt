@@ -1,6 +1,6 @@
 //! Building the tree of a list.
 
-ghost use Rattle.std.specs.Prelude.{◌≡◌, ◌⊎◌, ℕ, List, Err, IfOk, OnOk};
+ghost use Rattle.std.specs.Prelude.{◌≡◌, ◌⊎◌, ℕ, List, Err, IfOk, IsErr, OnOk};
 ghost use Rattle.tree_build.specs.Shapes.{shape_of};
 ghost use Rattle.tree_node.specs.Digests.{digest as digest_word};
 ghost use Rattle.tree_node.specs.NodeRefs.{bindings_of, number_of};
@@ -25,7 +25,8 @@ use tree_node::{Digest, Stock, Tree};
 /// levels in hand. In the second shape it digests each key at most once.
 ///
 /// Refused with `Clash` (N6) only where a node of the tree has the digest of a different node, of the
-/// tree or of the stock, and else with `Memory` alone. After a refusal the stock holds what it held and
+/// tree or of the stock, and else with `Memory` alone; where there is such a clash it is never built.
+/// After a refusal the stock holds what it held and
 /// perhaps some nodes of the tree, each under its own digest; a later call with these entries builds
 /// the rest.
 pub fn build(
@@ -52,6 +53,9 @@ pub fn build(
     ensures clash { let built = levels (shape_of shape) (number_of tree) (bindings_of entries.now) in
         result ≡ Err BuildFault.Clash
         → Clash (λ bytes. HasNode stock.old bytes ⊎ IsNodeOf built bytes) (IsNodeOf built) }
+    // Where there is such a clash, the tree isn't built.
+    ensures decided { let built = levels (shape_of shape) (number_of tree) (bindings_of entries.now) in
+        Clash (λ bytes. HasNode stock.old bytes ⊎ IsNodeOf built bytes) (IsNodeOf built) → IsErr result }
 {
     let mut children = put_leaves(alloc, entries, tree, shape, stock)?;
     let mut level = 1;

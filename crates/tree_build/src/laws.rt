@@ -2,11 +2,13 @@
 
 ghost use Rattle.std.specs.List.{flat_map};
 ghost use Rattle.std.specs.Prelude.{◌≡◌, ◌≢◌, ◌+◌, ◌-◌, ◌*◌, ◌<◌, ◌≤◌, ◌⊎◌, [], ◌∷◌, ℕ, List, length, map};
+ghost use Rattle.tree_build.specs.Cuts.{IsCut};
 ghost use Rattle.tree_node.specs.Digests.{digest};
 ghost use Rattle.tree_node.specs.Nodes.{Binding, IsNode, IsTree, Leaf, Link, keys_of, level_of, tree_of};
 ghost use Rattle.tree_node.specs.Outcomes.{Clash};
 ghost use Rattle.tree_node.specs.Trees.{HasTree, IsNodeOf, Shape};
-ghost use Rattle.tree_node.specs.Trees.{entries_at, entries_below, entries_in, entry_count, greatest_of, item_count, last_key};
+ghost use Rattle.tree_node.specs.Trees.{entries_at, entries_below, entries_in, entry_count, greatest_of};
+ghost use Rattle.tree_node.specs.Trees.{is_marked_entry, is_marked_link, item_count, last_key};
 ghost use Rattle.tree_node.specs.Trees.{level_at, levels, link_to, links_in, node_in, top_of};
 
 /// The law of what a tree is of: the list can be read off its leaves, and off each of its levels.
@@ -59,6 +61,28 @@ pub fn pieces_law()
         → level < length (levels shape tree entries)
         → place < length (level_at (levels shape tree entries) level)
         → item_count (node_in (levels shape tree entries) level place) ≤ 64 }
+{}
+
+/// The law of where lists are cut, told of the pieces as they stand. Each piece but the last ends at its
+/// 64th item, or in the second shape at a marked item that isn't its first; none goes on after one; and
+/// a list is cut in one way alone.
+pub fn cuts_law()
+    // The entries are cut into the leaves,
+    ensures leaves { (shape : Shape) (tree : ℕ) (entries : List Binding) → entries ≢ []
+        → IsCut shape is_marked_entry entries (map entries_in (level_at (levels shape tree entries) 0)) }
+    // and the items that stand for the nodes of a level are cut into the nodes of the next one.
+    ensures above { (shape : Shape) (tree : ℕ) (entries : List Binding) (level : ℕ)
+        → level + 1 < length (levels shape tree entries)
+        → IsCut shape is_marked_link (map link_to (level_at (levels shape tree entries) level))
+        (map links_in (level_at (levels shape tree entries) (level + 1))) }
+    // A list of entries is cut in one way,
+    ensures one_way { (shape : Shape) (entries : List Binding) (pieces others : List (List Binding))
+        → IsCut shape is_marked_entry entries pieces → IsCut shape is_marked_entry entries others
+        → pieces ≡ others }
+    // and so is a list of the items of inner nodes.
+    ensures one_way_above { (shape : Shape) (links : List Link) (pieces others : List (List Link))
+        → IsCut shape is_marked_link links pieces → IsCut shape is_marked_link links others
+        → pieces ≡ others }
 {}
 
 /// The law of a tree's nodes: what a reader of one of them may rely on.

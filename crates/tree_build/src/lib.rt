@@ -17,6 +17,6 @@ mod tests;
 
 pub use builder::build;
 pub use fault::BuildFault;
-pub use laws::{determines_law, entries_law, levels_law, nodes_law, pieces_law};
+pub use laws::{cuts_law, determines_law, entries_law, levels_law, nodes_law, pieces_law};
 pub use shape::Shape;
 pub use tree_node::Item as Entry;

@@ -102,11 +102,16 @@ all_marked parts marks len set x (k, p, lt, is, e) = (k, p, lt, is, e, set k (om
 
 -- a part without its mark was not used
 pub some_unmarked : (parts : List Part) (marks : List Bool) (i : ℕ) → HaveRisingDigests parts → length marks ≡ length parts → i < length marks → get_or marks i false ≡ false
-    → ((x : List ℕ) → HaveNode parts x → HaveMarkedNode parts marks x) → ⊥
-some_unmarked parts marks i rising len lt unset used =
+    → (x : List ℕ) × HaveNode parts x × ¬ HaveMarkedNode parts marks x
+some_unmarked parts marks i rising len lt unset =
     let lti : i < length parts = omega (arith, len) in
-    let found = element_at parts i lti in
-    let (j, q, ltj, isq, e, set) = used (node_of found.0) (i, found.0, lti, found.1, refl) in
-    let same = same_place parts rising j i q found.0 ltj lti isq found.1 e in
-    let both : false ≡ true = sym unset ∙ ap (λ k. get_or marks k false) (sym same) ∙ set in
-    cc
+    let found = element_at parts i lti in (
+      node_of found.0,
+      (i, found.0, lti, found.1, refl),
+      λ (j, q, ltj, isq, e, set).
+          let same = same_place parts rising j i q found.0 ltj lti isq found.1 e in
+          differ (sym set ∙ ap (λ k. get_or marks k false) same ∙ unset),
+    )
+  where
+    differ : true ≡ false → ⊥
+    differ e = cc

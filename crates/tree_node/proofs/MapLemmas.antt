@@ -127,3 +127,16 @@ given_after nodes m n k v (Ok a) up same at before = λ key w e.
 pub own_digest : (d : List ℕ) (o : Option (Vec ℕ)) (v : List ℕ) → option_map (λ (w : Vec ℕ). w.items) o ≡ Some v → ForSome o (λ w. digest w.items ≡ d) → d ≡ digest v
 own_digest d None v e h = absurd Prim.cc
 own_digest d (Some w) v e h = sym (h w refl) ∙ ap digest (some_is w.items v e)
+
+-- what is found under a digest is held, and has it
+pub found_held : (nodes : BTreeMap Digest (Vec ℕ)) (key : Digest) (v : List ℕ) → option_map (λ (w : Vec ℕ). w.items) (get digest_cmp nodes key) ≡ Some v
+    → ForSome (get digest_cmp nodes key) (λ w. digest w.items ≡ key.0) → StandsIn (λ (w : Vec ℕ). w.items) nodes v × (digest v ≡ key.0)
+found_held nodes key v is own =
+    let same = own_digest key.0 (get digest_cmp nodes key) v is own in
+    (ap (λ (d : List ℕ). option_map (λ (w : Vec ℕ). w.items) (get digest_cmp nodes (record { 0 = d }))) (sym same) ∙ is, sym same)
+
+-- where nothing stands under a digest, no held node has it
+pub none_held : (nodes : BTreeMap Digest (Vec ℕ)) (key : Digest) (x : List ℕ) → get digest_cmp nodes key ≡ None → key.0 ≡ digest x → StandsIn (λ (w : Vec ℕ). w.items) nodes x → ⊥
+none_held nodes key x none same is =
+    let here : option_map (λ (w : Vec ℕ). w.items) None ≡ Some x = ap (option_map (λ (w : Vec ℕ). w.items)) (sym none) ∙ ap (λ (d : List ℕ). option_map (λ (w : Vec ℕ). w.items) (get digest_cmp nodes (record { 0 = d }))) same ∙ is in
+    Prim.cc

@@ -1,9 +1,12 @@
 -- Lemmas for the crates above.
 pub mod FieldLemmas
 pub mod NodeLaws
+pub mod OutcomeLaws
+pub mod PartOrder
 pub mod PieceLaws
 pub mod PieceLemmas
 pub mod Results
+pub mod StockLaws
 pub mod TreeKeys
 pub mod TreeLaws
 pub mod TreeLemmas

@@ -3,6 +3,8 @@
 -- Source: this project.
 use Rattle.std.specs.Prelude.{◌≡◌, ◌≢◌, ℕ, List, ◌⊎◌, ◌↔◌, Result, Ok, Err, ⊤}
 use Rattle.tree_node.specs.Digests.{digest}
+use Rattle.tree_node.specs.declared.shelf.ShelfFault.{ShelfFault}
+use Rattle.tree_node.specs.declared.shelf.ShelfFault.TheVariants as shelves
 
 -- a clash, which is a SHA-256 collision: two different byte strings with one digest, one of each set
 abbrev pub Clash : (List ℕ → Type 0) → (List ℕ → Type 0) → Type 0
@@ -25,6 +27,11 @@ pub data Cause : Type 0 where
   NodeMissing : Cause
   OtherCause : Cause
 
+-- what a refused fetch says of the shelf
+abbrev pub cause_of_fetch : ShelfFault → Cause
+cause_of_fetch shelves.Missing = NodeMissing
+cause_of_fetch shelves.Memory = NoMemory
+
 -- A refusal over honest nodes: memory, or a node that is needed isn't held.
 abbrev pub RefusedFor : (List ℕ → Type 0) → (List ℕ → Type 0) → Cause → Type 0
 RefusedFor needed held NoMemory = ⊤
@@ -40,3 +47,8 @@ EndsBy cause_of Is needed shelf (Err fault) = RefusedFor needed shelf.held (caus
 -- it ends so, unless a needed node and a different used one have one digest
 pub record Outcome {A F : Type 0} (cause_of : F → Cause) (Is : A → Type 0) (needed : List ℕ → Type 0) (shelf : ShelfUse) (result : Result A F) : Type 0 where
   pub ends : Clash needed shelf.after ⊎ EndsBy cause_of Is needed shelf result
+
+-- how a call ends on a shelf that holds all that it needs, and no two nodes with one digest: as it should, or out of memory
+abbrev pub EndsWell : {A F : Type 0} → (F → Cause) → (A → Type 0) → (List ℕ → Type 0) → ShelfUse → Result A F → Type 0
+EndsWell cause_of Is needed shelf (Ok value) = Is value × GrownByAll shelf.before shelf.after needed
+EndsWell cause_of Is needed shelf (Err fault) = cause_of fault ≡ NoMemory

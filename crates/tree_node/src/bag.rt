@@ -2,7 +2,7 @@
 
 ghost use Rattle.std.specs.List.{All, HoldsAt};
 ghost use Rattle.std.specs.Prelude.{◌≡◌, ◌≢◌, ◌<◌, ◌↔◌, ℕ, List};
-ghost use Rattle.std.specs.Prelude.{IfNone, IfOk, IfSome, IsTrue, length};
+ghost use Rattle.std.specs.Prelude.{IfNone, IfOk, IfSome, IsTrue, false, length};
 ghost use Rattle.tree_node.specs.Digests.{digest as digest_word};
 ghost use Rattle.tree_node.specs.Parts.{HaveNode, HaveRisingDigests, node_of};
 ghost use Rattle.tree_node.specs.Shelves.{IsEmptySet, SameNodes};
@@ -40,7 +40,9 @@ impl<'a> Bag<'a> {
 
     /// Whether each part was used. It takes no memory and is linear in the number of parts.
     pub fn all_used(&self) -> bool
-        ensures { IsTrue result ↔ ((x : List ℕ) → BagHolds self.now x → BagUsed self.now x) }
+        ensures used { IsTrue result ↔ ((x : List ℕ) → BagHolds self.now x → BagUsed self.now x) }
+        // Where it says no, there is a part that was not used.
+        ensures unused { result ≡ false → (x : List ℕ) × BagHolds self.now x × ¬ BagUsed self.now x }
     {
         for mark in self.marks.as_slice() {
             if !*mark {
@@ -77,6 +79,8 @@ impl<'a> Shelf<'a> for Bag<'a> {
     ghost holds = { BagHolds };
 
     ghost used = { BagUsed };
+
+    ghost takes_memory = { false };
 
     ghost use Rattle.tree_node.specs.internal.BagLaws.{no_clash, marked_held};
 

@@ -2,7 +2,7 @@
 
 ghost use Rattle.std.specs.BTreeMap.{get};
 ghost use Rattle.std.specs.Option.{ForSome, option_map};
-ghost use Rattle.std.specs.Prelude.{◌≡◌, Some, IfOk};
+ghost use Rattle.std.specs.Prelude.{◌≡◌, Some, IfOk, true};
 ghost use Rattle.tree_node.specs.Keys.{digest_cmp};
 ghost use Rattle.tree_node.specs.Parts.{HaveNode, HaveRisingDigests};
 ghost use Rattle.tree_node.specs.Shelves.{IsEmptySet, SameNodes};
@@ -63,6 +63,8 @@ impl<'a> Shelf<'a> for Recorder<'a> {
     ghost holds = { RecorderHolds };
 
     ghost used = { RecorderUsed };
+
+    ghost takes_memory = { true };
 
     ghost use Rattle.tree_node.specs.internal.RecorderLaws.{stands_once, given_held};
 

@@ -1,6 +1,6 @@
 //! Where a walk gets the nodes of a tree.
 
-ghost use Rattle.std.specs.Prelude.{◌≡◌, ℕ, List, IfOk, OnErr};
+ghost use Rattle.std.specs.Prelude.{◌≡◌, ℕ, List, Bool, true, IfOk, OnErr};
 ghost use Rattle.tree_node.specs.Digests.{digest};
 ghost use Rattle.tree_node.specs.Shelves.{GrownBy, HasNone, IsClashFree, SameNodes};
 
@@ -29,8 +29,11 @@ pub trait Shelf<'a> {
     /// The nodes that were used: those that it gave.
     ghost used: { Self → List ℕ → Type 0 };
 
-    /// The node with this digest. Refused with `Missing` (N7) only where the shelf holds none, or
-    /// out of memory; after a refusal nothing has changed.
+    /// Whether the shelf takes memory to remember the nodes that it gave, which may be refused.
+    ghost takes_memory: { Bool };
+
+    /// The node with this digest. Refused with `Missing` (N7) exactly where the shelf holds none, and
+    /// out of memory only on a shelf that takes memory; after a refusal nothing has changed.
     fn fetch(&mut self, key: &Digest) -> Result<&'a [u8], ShelfFault>
         // What it gives is held, and has the digest asked.
         ensures given { IfOk result (λ node.
@@ -42,7 +45,9 @@ pub trait Shelf<'a> {
         ensures unchanged { OnErr result (SameNodes (used self.old) (used self.new)) }
         // The held nodes never change.
         ensures stays { SameNodes (holds self.old) (holds self.new) }
-        ensures missing { result ≡ Err ShelfFault.Missing → HasNone (holds self.new) key.now.0 };
+        ensures missing { result ≡ Err ShelfFault.Missing → HasNone (holds self.new) key.now.0 }
+        ensures none { HasNone (holds self.new) key.now.0 → result ≡ Err ShelfFault.Missing }
+        ensures memory { result ≡ Err ShelfFault.Memory → takes_memory ≡ true };
 
     /// A shelf holds no two nodes with one digest.
     ghost clash_free: { (s : Self) → IsClashFree (holds s) };

@@ -2,7 +2,7 @@
 
 ghost use Rattle.std.specs.BTreeMap.{get};
 ghost use Rattle.std.specs.Option.{ForSome, option_map};
-ghost use Rattle.std.specs.Prelude.{◌≡◌, ◌≢◌, ℕ, List, IfOk, OnOk, OnErr};
+ghost use Rattle.std.specs.Prelude.{◌≡◌, ◌≢◌, ℕ, List, IfOk, IsOk, OnOk, OnErr};
 ghost use Rattle.tree_node.specs.Digests.{digest as digest_word};
 ghost use Rattle.tree_node.specs.Keys.{digest_cmp};
 ghost use Rattle.tree_node.specs.Shelves.{GrownBy, IsEmptySet, SameNodes};
@@ -45,9 +45,9 @@ impl Stock {
         }
     }
 
-    /// Adds this node, and gives its digest. A node that is there already stays, once. After a
-    /// refusal the stock is as before, and the bytes are dropped: `Clash` (N6) comes only where
-    /// another node has the digest.
+    /// Adds this node, and gives its digest. A node that is there already stays, once, and isn't
+    /// refused. After a refusal the stock is as before, and the bytes are dropped: `Clash` (N6)
+    /// comes exactly where another node has the digest, and `Memory` only for a new node.
     pub fn put(&mut self, bytes: Vec<u8>) -> Result<Digest, PutFault>
         ensures key { IfOk result (λ key. key.0 ≡ digest_word bytes.items) }
         ensures added { OnOk result (GrownBy (HasNode self.old) (HasNode self.new) bytes.items) }
@@ -55,6 +55,9 @@ impl Stock {
         ensures clash { result ≡ Err PutFault.Clash
             → (x : List ℕ) × HasNode self.old x × (x ≢ bytes.items)
             × (digest_word x ≡ digest_word bytes.items) }
+        ensures there { HasNode self.old bytes.items → IsOk result }
+        ensures clashes { (x : List ℕ) → HasNode self.old x → x ≢ bytes.items
+            → digest_word x ≡ digest_word bytes.items → result ≡ Err PutFault.Clash }
     {
         let key = digest_of(bytes.as_slice());
         if let Some(node) = self.nodes.get(&key) {

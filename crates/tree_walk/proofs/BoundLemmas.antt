@@ -7,11 +7,11 @@ use Rattle.tree_node.specs.Trees.{greatest_of, last_key, left_at, no_node}
 use Rattle.tree_node.proofs.shared.PieceLaws.{IsSized, split_rising}
 use Rattle.tree_node.proofs.shared.PieceLemmas.{join}
 use Rattle.tree_walk.specs.Choices.{AreThose}
-use Rattle.tree_walk.specs.internal.Pendings.{StartAbove, node_keys}
+use Rattle.tree_walk.specs.Reasons.{StartAbove, node_keys}
 use Rattle.tree_walk.specs.Spans.{children_placed}
 use Rattle.tree_walk.specs.Ranges.{IsAboveLeft, IsAtMost, IsNoHigher, Meets, Range}
 use Rattle.tree_walk.specs.Walks.{IsEntryIn}
-use Rattle.tree_walk.proofs.KeyLemmas.{at_most_below, below_at_most}
+use Rattle.tree_walk.proofs.shared.KeyLemmas.{at_most_below, below_at_most}
 use Rattle.tree_walk.proofs.MeetLemmas.{meets_wider}
 
 -- ---- where the keys of a node start

@@ -16,9 +16,8 @@ use Rattle.tree_walk.specs.Walks.{IsEntryIn}
 use Rattle.tree_walk.specs.declared.fault.WalkFault.{WalkFault}
 use Rattle.tree_walk.proofs.AccountLemmas.{gains_none, gains_then}
 use Rattle.tree_walk.proofs.BelowLemmas.{account_then}
-use Rattle.tree_walk.proofs.HonestLemmas.{refused_more}
 use Rattle.tree_walk.proofs.OpenLevels.{last_below, level_account, open_below, open_met, open_stated}
-use Rattle.tree_walk.proofs.OutcomeLemmas.{clash_more}
+use Rattle.tree_node.proofs.shared.OutcomeLaws.{clash_more, refused_more}
 
 module _ {G : Type 0} (gathers : G → List (Option (List ℕ) × Link) → List Binding → Type 0) (closing : Bool) (tree : ℕ) (range : Range) (high : ℕ) (spots : List (Option (List ℕ) × Link)) (first : G) where
   -- what was gathered so far, with what is found below the nodes of a level, accounts for what is below those where the

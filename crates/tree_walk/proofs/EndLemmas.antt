@@ -8,7 +8,7 @@ use Rattle.tree_walk.specs.Spans.{children_placed}
 use Rattle.tree_walk.specs.Ranges.{IsAboveLeft, IsAtMost, IsCovered, Range}
 use Rattle.tree_walk.specs.internal.Reaching.{GoesOnAbove, Reaches, ReachesAbove}
 use Rattle.tree_walk.specs.Walks.{IsEntryIn}
-use Rattle.tree_walk.proofs.KeyLemmas.{below_at_most, below_or, between_begins}
+use Rattle.tree_walk.proofs.shared.KeyLemmas.{below_at_most, below_or, between_begins}
 use Rattle.tree_walk.proofs.MeetLemmas.{goes_on_from_meets}
 
 -- what reaches a key goes on above those below it,

@@ -4,11 +4,11 @@ use Rattle.std.specs.List.{flat_map}
 use Rattle.std.proofs.lemmas.Grind.{flat_map-append}
 use Rattle.std.proofs.lemmas.List.{append-nil}
 use Rattle.tree_node.specs.Nodes.{Link, Node, spelling}
-use Rattle.tree_node.specs.Outcomes.{Clash, GrownByAll, Cause, NoMemory, NodeMissing, OtherCause, RefusedFor}
+use Rattle.tree_node.specs.Outcomes.{Clash, GrownByAll, Cause, RefusedFor}
 use Rattle.tree_walk.specs.Choices.{AreThose}
 use Rattle.tree_walk.specs.internal.Pendings.{AreStated, IsOneOf, IsStated}
 use Rattle.tree_walk.proofs.ChoiceLemmas.{those_append}
-use Rattle.tree_walk.proofs.OutcomeLemmas.{clash_more}
+use Rattle.tree_node.proofs.shared.OutcomeLaws.{clash_more, refused_more}
 
 -- ---- one of some nodes
 
@@ -41,12 +41,6 @@ gained_one old mid new front spot first last bytes = (
     ]
   ]),
 )
-
--- a node that is needed and missing is one of more that are
-pub refused_more : (needed all held : List ℕ → Type 0) (cause : Cause) → ((x : List ℕ) → needed x → all x) → RefusedFor needed held cause → RefusedFor all held cause
-refused_more needed all held NoMemory more is = tt
-refused_more needed all held NodeMissing more is = (is.0, more is.0 is.1, is.2)
-refused_more needed all held OtherCause more is = is
 
 -- ---- the level so far
 

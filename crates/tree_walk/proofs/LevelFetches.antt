@@ -14,7 +14,7 @@ use Rattle.tree_walk.specs.internal.Pendings.{AreInOrder, FetchedFew, FetchedNod
 use Rattle.tree_walk.specs.Ranges.{IsAboveLeft, IsAtMost, IsNoHigher}
 use Rattle.tree_walk.specs.declared.fault.WalkFault.{WalkFault}
 use Rattle.tree_walk.proofs.FetchLemmas.{all_append, all_weaker, among_parts, fetched_none, fetched_one, fetched_then}
-use Rattle.tree_walk.proofs.KeyLemmas.{at_most_below, at_most_trans, below_at_most}
+use Rattle.tree_walk.proofs.shared.KeyLemmas.{at_most_below, at_most_trans, below_at_most}
 
 -- the key isn't above the bound; above no bound there is none
 abbrev pub IsUpTo : Option (List ℕ) → List ℕ → Type 0

@@ -12,7 +12,7 @@ use Rattle.tree_walk.specs.internal.Pendings.{AreStated, IsOneOf, IsStated}
 use Rattle.tree_walk.specs.Spans.{children_of_all, children_placed, placed}
 use Rattle.tree_walk.specs.Ranges.{IsAboveLeft, IsAtMost, IsCovered, IsNoHigher, Range}
 use Rattle.tree_walk.proofs.ChoiceLemmas.{those_append, those_split}
-use Rattle.tree_walk.proofs.KeyLemmas.{at_most_trans}
+use Rattle.tree_walk.proofs.shared.KeyLemmas.{at_most_trans}
 use Rattle.tree_walk.proofs.BoundLemmas.{StartEachAbove, all_at_most, children_append, left_from, left_none, no_higher_itself, no_higher_next}
 use Rattle.tree_walk.proofs.MeetLemmas.{above_outer, covered_is_in, meets_wider}
 

@@ -2,7 +2,8 @@
 use Rattle.std.proofs.Common.{◌≡◌, ℕ, ◌+◌, ◌<◌, List, ◌∷◌, drop, get_or, length, Option, ap}
 use Rattle.std.proofs.lemmas.List.{drop_more}
 use Rattle.tree_node.specs.Nodes.{AreRisingFrom, Inner, Link, greatests_of}
-use Rattle.tree_walk.specs.internal.Pendings.{FetchedNode, StartAbove, spot_of, spots_of}
+use Rattle.tree_walk.specs.internal.Pendings.{FetchedNode, spot_of, spots_of}
+use Rattle.tree_walk.specs.Reasons.{StartAbove}
 use Rattle.tree_walk.specs.declared.pending.Pending.{Pending}
 use Rattle.tree_walk.proofs.SpotOrder.{rises_above}
 

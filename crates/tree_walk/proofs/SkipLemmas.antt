@@ -14,7 +14,7 @@ use Rattle.tree_walk.specs.Spans.{children_placed}
 use Rattle.tree_walk.specs.Ranges.{IsAtMost, Range}
 use Rattle.tree_walk.specs.Walks.{IsEntryIn}
 use Rattle.tree_walk.proofs.ChoiceLemmas.{ArePicked}
-use Rattle.tree_walk.proofs.KeyLemmas.{at_most_below}
+use Rattle.tree_walk.proofs.shared.KeyLemmas.{at_most_below}
 
 -- a key that a test finds below another is
 below_is : (o : Ordering) → is_lt o ≡ true → o ≡ Less

@@ -4,11 +4,12 @@ use Rattle.std.specs.List.{AllByRecursion}
 use Rattle.tree_node.specs.Nodes.{AreRisingFrom, Link, greatests_of}
 use Rattle.tree_node.specs.Trees.{last_key}
 use Rattle.tree_walk.specs.Choices.{AreThose}
-use Rattle.tree_walk.specs.internal.Pendings.{AreInOrder, StartAbove}
+use Rattle.tree_walk.specs.internal.Pendings.{AreInOrder}
+use Rattle.tree_walk.specs.Reasons.{StartAbove}
 use Rattle.tree_walk.specs.Spans.{children_placed}
 use Rattle.tree_walk.specs.Ranges.{IsAboveLeft, IsAtMost, IsNoHigher}
 use Rattle.tree_walk.proofs.FetchLemmas.{all_append, all_weaker}
-use Rattle.tree_walk.proofs.KeyLemmas.{at_most_trans}
+use Rattle.tree_walk.proofs.shared.KeyLemmas.{at_most_trans}
 use Rattle.tree_walk.proofs.BoundLemmas.{first_at_most, no_higher_next}
 
 -- ---- bounds

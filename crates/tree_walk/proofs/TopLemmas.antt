@@ -24,10 +24,9 @@ use Rattle.tree_walk.proofs.AccountLemmas.{gains_then}
 use Rattle.tree_walk.proofs.BelowLemmas.{account_then}
 use Rattle.tree_walk.proofs.DescentFetches.{differ_append, levels_apart}
 use Rattle.tree_walk.proofs.FetchLemmas.{all_weaker, fetched_one, fetched_then}
-use Rattle.tree_walk.proofs.HonestLemmas.{refused_more}
 use Rattle.tree_walk.proofs.LevelLemmas.{few_levels_here, top_children, top_entries, top_is, top_met}
 use Rattle.tree_walk.proofs.OpenLevels.{top_account}
-use Rattle.tree_walk.proofs.OutcomeLemmas.{clash_more}
+use Rattle.tree_node.proofs.shared.OutcomeLaws.{clash_more, refused_more}
 
 -- the number of a tree is one
 pub is_tree : (tree : Tree) → IsTree (number_of tree)

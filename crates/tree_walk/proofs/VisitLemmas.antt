@@ -1,7 +1,8 @@
 -- One node that was fetched.
 use Rattle.std.proofs.Common.{ℕ, List, [], ◌∷◌, Option, ap, arith}
 use Rattle.tree_node.specs.Nodes.{Link, Node}
-use Rattle.tree_walk.specs.internal.Pendings.{Agrees, FetchedFew, FetchedNode, IsStated}
+use Rattle.tree_walk.specs.internal.Pendings.{FetchedFew, FetchedNode, IsStated}
+use Rattle.tree_walk.specs.Reasons.{Agrees}
 use Rattle.tree_walk.proofs.FetchLemmas.{fetched_one}
 
 -- one node is at most one

@@ -1,7 +1,9 @@
 pub mod Choices
 pub mod Fetches
 pub mod Ranges
+pub mod Reasons
 pub mod Refusals
 pub mod Spans
+pub mod Walked
 pub mod Walks
 pub mod internal

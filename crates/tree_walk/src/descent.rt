@@ -1,16 +1,17 @@
 //! The way down a tree, level by level.
 
-ghost use Rattle.std.specs.Prelude.{[], ◌≡◌, ◌≤◌, ◌++◌, ℕ, suc, None, List, OnOk, IfOk, Option};
+ghost use Rattle.std.specs.Prelude.{[], ◌≡◌, ◌≤◌, ◌++◌, ◌-◌, ℕ, suc, None, List, OnOk, IfErr, IfOk, Option};
 ghost use Rattle.tree_node.specs.NodeRefs.{number_of};
 ghost use Rattle.tree_node.specs.Nodes.{AreRisingFrom, Binding, Link, Node, keys_of};
 ghost use Rattle.tree_node.specs.Outcomes.{Outcome};
-ghost use Rattle.tree_node.specs.Shelves.{SameNodes};
+ghost use Rattle.tree_node.specs.Shelves.{HasNone, SameNodes};
 ghost use Rattle.tree_node.specs.Trees.{Shape, levels};
 ghost use Rattle.tree_walk.specs.Choices.{AreThose};
 ghost use Rattle.tree_walk.specs.Fetches.{Fetches, cause_of, counted_up};
 ghost use Rattle.tree_walk.specs.internal.Accounts.{Account, AreBelowLevel, Gains, GathersAll};
 ghost use Rattle.tree_walk.specs.internal.Openings.{IsClosedChild, IsOpenChild, IsOpened, IsOpenedIn, IsReached};
-ghost use Rattle.tree_walk.specs.internal.Pendings.{AreInOrder, AreStated, FetchesBelow, FetchesLevel, IsOneOf, entries_of_all, spots_of};
+ghost use Rattle.tree_walk.specs.internal.Pendings.{AreInOrder, AreStated, AreWanted, FetchesBelow, FetchesLevel, IsOneOf, entries_of_all, spots_of};
+ghost use Rattle.tree_walk.specs.Reasons.{HasReason};
 ghost use Rattle.tree_walk.specs.Spans.{children_of_all};
 ghost use Rattle.tree_walk.specs.Ranges.{IsIn, range_of};
 ghost use Rattle.tree_walk.specs.Walks.{IsEntryIn, IsTopOf};
@@ -23,6 +24,14 @@ use crate::tally::Tally;
 use crate::visit::{open, open_inner, open_leaf};
 use std::alloc::{AllocError, Global};
 use tree_node::{Digest, Entries, NodeRef, Shelf, Tree};
+
+/// What stays the same on the way down.
+#[derive(Clone, Copy)]
+struct Way<'r> {
+    alloc: Global,
+    tree: Tree,
+    range: &'r KeyRange<'r>,
+}
 
 /// Gathers the entries in the range, or what stays closed with them, below the node with the digest `top`.
 pub(crate) fn gather<'a, S: Shelf<'a>, G: Gather<'a>>(
@@ -41,6 +50,8 @@ pub(crate) fn gather<'a, S: Shelf<'a>, G: Gather<'a>>(
     ensures fetches { Fetches result
         (record { held = S.holds shelf.new; before = S.used shelf.old; after = S.used shelf.new })
         tally.old.fetches tally.new.fetches }
+    ensures told { IfErr result (HasReason (number_of tree) top.now.0 (S.holds shelf.new) (S.used shelf.new)) }
+    ensures none { HasNone (S.holds shelf.new) top.now.0 → result ≡ Err WalkFault.Missing }
     ensures answer { (shape : Shape) (entries : List Binding)
         → IsTopOf shape (number_of tree) entries top.now.0
         → Outcome cause_of (λ _. GathersAll G.gathers G.closing (range_of range.now) entries gathered.old gathered.new)
@@ -60,32 +71,22 @@ pub(crate) fn gather<'a, S: Shelf<'a>, G: Gather<'a>>(
         } => {
             let mut pending: Vec<Pending<'a>> = Vec::new(alloc);
             pick(children, None, range, &mut pending, gathered)?;
-            descend(
-                alloc,
-                shelf,
-                tree,
-                level - 1,
-                pending,
-                range,
-                tally,
-                gathered,
-            )
+            let way = Way { alloc, tree, range };
+            descend(&way, shelf, level - 1, pending, tally, gathered)
         }
     }
 }
 
 /// Fetches the pending nodes of this level and what is opened below them, level by level.
 fn descend<'a, S: Shelf<'a>, G: Gather<'a>>(
-    alloc: Global,
+    way: &Way<'_>,
     shelf: &mut S,
-    tree: Tree,
     level: u8,
     pending: Vec<Pending<'a>>,
-    range: &KeyRange<'_>,
     tally: &mut Tally,
     gathered: &mut G,
 ) -> Result<(), WalkFault>
-    requires some { IsIn (range_of range.now) range.now.lo.now }
+    requires some { IsIn (range_of way.now.range.now) way.now.range.now.lo.now }
     requires order { AreInOrder None (spots_of pending.items) }
     ensures calls { tally.new.calls ≡ tally.old.calls }
     ensures stays { SameNodes (S.holds shelf.old) (S.holds shelf.new) }
@@ -93,47 +94,39 @@ fn descend<'a, S: Shelf<'a>, G: Gather<'a>>(
     ensures fetches { FetchesBelow (suc level) result
         (record { held = S.holds shelf.new; before = S.used shelf.old; after = S.used shelf.new })
         tally.old.fetches tally.new.fetches }
+    ensures told { (top : List ℕ)
+        → AreWanted (S.used shelf.old) (number_of way.now.tree) top level (spots_of pending.entry.items)
+        → IfErr result (HasReason (number_of way.now.tree) top (S.holds shelf.new) (S.used shelf.new)) }
     ensures answer { (shape : Shape) (entries : List Binding)
-        → IsReached G.closing shape (number_of tree) entries (range_of range.now) level (spots_of pending.entry.items)
+        → IsReached G.closing shape (number_of way.now.tree) entries (range_of way.now.range.now) level (spots_of pending.entry.items)
         → Outcome cause_of (λ _. (closed : List (Option (List ℕ) × Link)) × (found all : List Binding)
         × Gains G.gathers gathered.old gathered.new closed found
         × Account G.closing closed found all
-        × AreBelowLevel G.closing (range_of range.now) (levels shape (number_of tree) entries) level all)
-        (IsOpenedIn G.closing (range_of range.now) (levels shape (number_of tree) entries) 0 level)
+        × AreBelowLevel G.closing (range_of way.now.range.now) (levels shape (number_of way.now.tree) entries) level all)
+        (IsOpenedIn G.closing (range_of way.now.range.now) (levels shape (number_of way.now.tree) entries) 0 level)
         (record { held = S.holds shelf.new; before = S.used shelf.old; after = S.used shelf.new }) result }
 {
     let mut pending = pending;
     let mut level = level;
     while level > 0 {
-        pending = open_level(
-            alloc,
-            shelf,
-            tree,
-            level,
-            pending.as_slice(),
-            range,
-            tally,
-            gathered,
-        )?;
+        pending = open_level(way, shelf, level, pending.as_slice(), tally, gathered)?;
         level -= 1;
     }
-    take_leaves(shelf, tree, pending.as_slice(), range, tally, gathered)
+    take_leaves(way, shelf, pending.as_slice(), tally, gathered)
 }
 
 /// Fetches inner nodes of this level, gives those of their children that are opened, and gathers those
 /// that stay closed.
 fn open_level<'a, S: Shelf<'a>, G: Gather<'a>>(
-    alloc: Global,
+    way: &Way<'_>,
     shelf: &mut S,
-    tree: Tree,
     level: u8,
     nodes: &[Pending<'a>],
-    range: &KeyRange<'_>,
     tally: &mut Tally,
     gathered: &mut G,
 ) -> Result<Vec<Pending<'a>>, WalkFault>
     requires inner { 1 ≤ level }
-    requires some { IsIn (range_of range.now) range.now.lo.now }
+    requires some { IsIn (range_of way.now.range.now) way.now.range.now.lo.now }
     requires order { AreInOrder None (spots_of nodes.now) }
     ensures calls { tally.new.calls ≡ tally.old.calls }
     ensures stays { SameNodes (S.holds shelf.old) (S.holds shelf.new) }
@@ -142,27 +135,30 @@ fn open_level<'a, S: Shelf<'a>, G: Gather<'a>>(
         (record { held = S.holds shelf.new; before = S.used shelf.old; after = S.used shelf.new })
         tally.old.fetches tally.new.fetches }
     ensures order { IfOk result (λ pending. AreInOrder None (spots_of pending.items)) }
-    ensures answer { (spots : List (Option (List ℕ) × Node)) → AreStated (number_of tree) level (spots_of nodes.now) spots
-        → Outcome cause_of (λ pending. AreThose (IsOpenChild G.closing (range_of range.now)) (children_of_all spots) (spots_of pending.items)
-        × ((closed : List (Option (List ℕ) × Link)) × AreThose (IsClosedChild G.closing (range_of range.now)) (children_of_all spots) closed
+    ensures told { (top : List ℕ) → AreWanted (S.used shelf.old) (number_of way.now.tree) top level (spots_of nodes.now)
+        → IfErr result (HasReason (number_of way.now.tree) top (S.holds shelf.new) (S.used shelf.new)) }
+    ensures wanted { (top : List ℕ) → AreWanted (S.used shelf.old) (number_of way.now.tree) top level (spots_of nodes.now)
+        → IfOk result (λ pending. AreWanted (S.used shelf.new) (number_of way.now.tree) top (level - 1) (spots_of pending.items)) }
+    ensures answer { (spots : List (Option (List ℕ) × Node)) → AreStated (number_of way.now.tree) level (spots_of nodes.now) spots
+        → Outcome cause_of (λ pending. AreThose (IsOpenChild G.closing (range_of way.now.range.now)) (children_of_all spots) (spots_of pending.items)
+        × ((closed : List (Option (List ℕ) × Link)) × AreThose (IsClosedChild G.closing (range_of way.now.range.now)) (children_of_all spots) closed
         × Gains G.gathers gathered.old gathered.new closed []))
         (IsOneOf spots)
         (record { held = S.holds shelf.new; before = S.used shelf.old; after = S.used shelf.new }) result }
 {
-    let mut pending: Vec<Pending<'a>> = Vec::new(alloc);
+    let mut pending: Vec<Pending<'a>> = Vec::new(way.alloc);
     for node in nodes {
-        let children = open_inner(shelf, node, tree, level, tally)?;
-        pick(children, node.left, range, &mut pending, gathered)?;
+        let children = open_inner(shelf, node, way.tree, level, tally)?;
+        pick(children, node.left, way.range, &mut pending, gathered)?;
     }
     Ok(pending)
 }
 
 /// Fetches leaves, and gathers those of their entries that are in the range.
 fn take_leaves<'a, S: Shelf<'a>, G: Gather<'a>>(
+    way: &Way<'_>,
     shelf: &mut S,
-    tree: Tree,
     nodes: &[Pending<'a>],
-    range: &KeyRange<'_>,
     tally: &mut Tally,
     gathered: &mut G,
 ) -> Result<(), WalkFault>
@@ -173,15 +169,17 @@ fn take_leaves<'a, S: Shelf<'a>, G: Gather<'a>>(
     ensures fetches { FetchesLevel 0 result
         (record { held = S.holds shelf.new; before = S.used shelf.old; after = S.used shelf.new })
         tally.old.fetches tally.new.fetches }
-    ensures answer { (spots : List (Option (List ℕ) × Node)) → AreStated (number_of tree) 0 (spots_of nodes.now) spots
-        → Outcome cause_of (λ _. (found : List Binding) × AreThose (IsEntryIn (range_of range.now)) (entries_of_all spots) found
+    ensures told { (top : List ℕ) → AreWanted (S.used shelf.old) (number_of way.now.tree) top 0 (spots_of nodes.now)
+        → IfErr result (HasReason (number_of way.now.tree) top (S.holds shelf.new) (S.used shelf.new)) }
+    ensures answer { (spots : List (Option (List ℕ) × Node)) → AreStated (number_of way.now.tree) 0 (spots_of nodes.now) spots
+        → Outcome cause_of (λ _. (found : List Binding) × AreThose (IsEntryIn (range_of way.now.range.now)) (entries_of_all spots) found
         × Gains G.gathers gathered.old gathered.new [] found)
         (IsOneOf spots)
         (record { held = S.holds shelf.new; before = S.used shelf.old; after = S.used shelf.new }) result }
 {
     for node in nodes {
-        let entries = open_leaf(shelf, node, tree, tally)?;
-        take(entries, range, gathered)?;
+        let entries = open_leaf(shelf, node, way.tree, tally)?;
+        take(entries, way.range, gathered)?;
     }
     Ok(())
 }

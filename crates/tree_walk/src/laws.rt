@@ -1,16 +1,42 @@
 //! Laws of ranges, over their definitions alone. There is nothing to do when they run.
 
-ghost use Rattle.std.specs.List.{AllByRecursion};
-ghost use Rattle.std.specs.Prelude.{◌≡◌, ◌<◌, ◌↔◌, None, ℕ, suc, List, Option, length, map, slice_index_or};
-ghost use Rattle.tree_node.specs.Nodes.{AreBytes, Binding, Node};
+ghost use Rattle.std.specs.List.{AllByRecursion, Contains};
+ghost use Rattle.std.specs.Prelude.{◌≡◌, ◌<◌, ◌↔◌, None, false, true, ℕ, suc, List, Option, length, map, slice_index_or};
+ghost use Rattle.tree_node.specs.Nodes.{AreBytes, AreRisingFrom, Binding, Node, keys_of};
 ghost use Rattle.tree_node.specs.Trees.{HasTree, Shape, greatest_of, left_at, level_at, levels, link_to, no_node};
+ghost use Rattle.tree_walk.specs.Choices.{AreThose};
 ghost use Rattle.tree_walk.specs.Spans.{children_of_all, children_placed, placed, HasChildrenWithin};
-ghost use Rattle.tree_walk.specs.Ranges.{IsAboveLeft, IsAtMost, IsCovered, IsIn, IsNoHigher, Meets, Range};
+ghost use Rattle.tree_walk.specs.Ranges.{Begins, IsAboveLeft, IsAtMost, IsCovered, IsIn, IsNoHigher, Meets, Range};
+ghost use Rattle.tree_walk.specs.Walks.{IsEntryIn};
 
 /// The law of empty ranges: where any key stands in a range, its `lo` does. So a range that doesn't
 /// contain its `lo` is empty.
 pub fn empty_law()
     ensures { (range : Range) (key : List ℕ) → IsIn range key → IsIn range range.lo }
+{}
+
+/// The law of one key: in the range from a key to itself that key stands alone.
+pub fn point_law()
+    ensures { (key other : List ℕ) → IsIn (record { lo = key; hi = key; under = false }) other ↔ (other ≡ key) }
+{}
+
+/// The law of prefixes: in the range of a key and those that it begins stand exactly the keys that it
+/// begins, itself too.
+pub fn prefix_law()
+    ensures { (front key : List ℕ) → IsIn (record { lo = front; hi = front; under = true }) key ↔ Begins front key }
+{}
+
+/// The law of what a walk finds: it is known from the list and the range.
+pub fn found_law()
+    // An entry is found exactly where it is one of the list and its key is in the range.
+    ensures among { (range : Range) (entries found : List Binding) → AreThose (IsEntryIn range) entries found
+        → (entry : Binding) → Contains found entry ↔ (Contains entries entry × IsEntryIn range entry) }
+    // The keys that are found rise as those of the list do.
+    ensures rising { (range : Range) (entries found : List Binding) → AreThose (IsEntryIn range) entries found
+        → AreRisingFrom None (keys_of entries) → AreRisingFrom None (keys_of found) }
+    // Nothing else is found.
+    ensures unique { (range : Range) (entries found others : List Binding)
+        → AreThose (IsEntryIn range) entries found → AreThose (IsEntryIn range) entries others → found ≡ others }
 {}
 
 /// The law of the left edge: a node without a left bound meets a range that contains its `lo` exactly

@@ -7,7 +7,8 @@ ghost use Rattle.tree_node.specs.Nodes.{AreRisingFrom, Inner, Leaf, Link, greate
 ghost use Rattle.tree_walk.specs.Choices.{AreThose};
 ghost use Rattle.tree_walk.specs.internal.Accounts.{Gains};
 ghost use Rattle.tree_walk.specs.internal.Openings.{IsClosedChild, IsOpenChild};
-ghost use Rattle.tree_walk.specs.internal.Pendings.{Agrees, spot_of, spots_of};
+ghost use Rattle.tree_walk.specs.internal.Pendings.{spot_of, spots_of};
+ghost use Rattle.tree_walk.specs.Reasons.{Agrees};
 ghost use Rattle.tree_walk.specs.Spans.{children_placed};
 ghost use Rattle.tree_walk.specs.Ranges.{IsIn, range_of};
 

@@ -1,13 +1,14 @@
 //! Fetching one node.
 
-ghost use Rattle.std.specs.Prelude.{◌≡◌, ◌≤◌, ℕ, List, IfOk};
+ghost use Rattle.std.specs.Prelude.{◌≡◌, ◌≤◌, ℕ, List, IfErr, IfOk, true};
 ghost use Rattle.tree_node.specs.Digests.{digest};
 ghost use Rattle.tree_node.specs.NodeRefs.{node_read, number_of};
 ghost use Rattle.tree_node.specs.Nodes.{IsNode, Inner, Leaf, Node, spelling, tree_of};
-ghost use Rattle.tree_node.specs.Shelves.{SameNodes};
+ghost use Rattle.tree_node.specs.Shelves.{HasNone, SameNodes};
 ghost use Rattle.tree_walk.specs.Fetches.{cause_of};
 ghost use Rattle.tree_node.specs.Outcomes.{Outcome};
-ghost use Rattle.tree_walk.specs.internal.Pendings.{Agrees, IsStated, Opens, spot_of};
+ghost use Rattle.tree_walk.specs.internal.Pendings.{IsStated, Opens, spot_of, wanted_of};
+ghost use Rattle.tree_walk.specs.Reasons.{Agrees, IsAccepted, IsReason, Top};
 
 use crate::fault::WalkFault;
 use crate::pending::Pending;
@@ -28,6 +29,10 @@ pub(crate) fn open<'a, S: Shelf<'a>>(
         (record { held = S.holds shelf.new; before = S.used shelf.old; after = S.used shelf.new })
         tally.old.fetches tally.new.fetches }
     ensures tree { IfOk result (λ node. tree_of (node_read node) ≡ number_of tree) }
+    ensures accepted { IfOk result (λ node. IsAccepted (S.used shelf.new) (number_of tree) (Top key.now.0) (node_read node)) }
+    ensures told { IfErr result (IsReason (number_of tree) (S.holds shelf.new) (S.used shelf.new) (Top key.now.0)) }
+    ensures none { HasNone (S.holds shelf.new) key.now.0 → result ≡ Err WalkFault.Missing }
+    ensures memory { result ≡ Err WalkFault.Memory → S.takes_memory ≡ true }
     ensures answer { (node : Node) → IsNode node → tree_of node ≡ number_of tree → key.now.0 ≡ digest (spelling node)
         → Outcome cause_of (λ found. node_read found ≡ node) (λ bytes. bytes ≡ spelling node)
         (record { held = S.holds shelf.new; before = S.used shelf.old; after = S.used shelf.new }) result }
@@ -57,6 +62,10 @@ pub(crate) fn open_inner<'a, S: Shelf<'a>>(
         (record { held = S.holds shelf.new; before = S.used shelf.old; after = S.used shelf.new })
         tally.old.fetches tally.new.fetches }
     ensures agrees { IfOk result (λ children. Agrees (spot_of pending.now) (Inner (number_of tree) level children)) }
+    ensures accepted { IfOk result (λ children. IsAccepted (S.used shelf.new) (number_of tree)
+        (wanted_of level (spot_of pending.now)) (Inner (number_of tree) level children)) }
+    ensures told { IfErr result (IsReason (number_of tree) (S.holds shelf.new) (S.used shelf.new) (wanted_of level (spot_of pending.now))) }
+    ensures memory { result ≡ Err WalkFault.Memory → S.takes_memory ≡ true }
     ensures answer { (node : Node) → IsStated (number_of tree) level (spot_of pending.now) node
         → Outcome cause_of (λ children. Inner (number_of tree) level children ≡ node) (λ bytes. bytes ≡ spelling node)
         (record { held = S.holds shelf.new; before = S.used shelf.old; after = S.used shelf.new }) result }
@@ -93,6 +102,8 @@ pub(crate) fn open_leaf<'a, S: Shelf<'a>>(
         (record { held = S.holds shelf.new; before = S.used shelf.old; after = S.used shelf.new })
         tally.old.fetches tally.new.fetches }
     ensures agrees { IfOk result (λ entries. Agrees (spot_of pending.now) (Leaf (number_of tree) entries)) }
+    ensures told { IfErr result (IsReason (number_of tree) (S.holds shelf.new) (S.used shelf.new) (wanted_of 0 (spot_of pending.now))) }
+    ensures memory { result ≡ Err WalkFault.Memory → S.takes_memory ≡ true }
     ensures answer { (node : Node) → IsStated (number_of tree) 0 (spot_of pending.now) node
         → Outcome cause_of (λ entries. Leaf (number_of tree) entries ≡ node) (λ bytes. bytes ≡ spelling node)
         (record { held = S.holds shelf.new; before = S.used shelf.old; after = S.used shelf.new }) result }

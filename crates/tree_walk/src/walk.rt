@@ -1,14 +1,15 @@
 //! The two calls: the entries of a tree in a range of keys, and their number.
 
-ghost use Rattle.std.specs.Prelude.{◌≡◌, ℕ, List};
+ghost use Rattle.std.specs.Prelude.{◌≡◌, ℕ, List, IfErr};
 ghost use Rattle.tree_node.specs.NodeRefs.{bindings_of, number_of};
 ghost use Rattle.tree_node.specs.Nodes.{Binding};
 ghost use Rattle.tree_node.specs.Outcomes.{Outcome};
-ghost use Rattle.tree_node.specs.Shelves.{SameNodes};
+ghost use Rattle.tree_node.specs.Shelves.{HasNone, SameNodes};
 ghost use Rattle.tree_node.specs.Trees.{Shape, levels};
 ghost use Rattle.tree_walk.specs.Choices.{AreThose, IsCount};
 ghost use Rattle.tree_walk.specs.Fetches.{Fetches, cause_of, counted_up};
 ghost use Rattle.tree_walk.specs.Ranges.{IsIn, range_of};
+ghost use Rattle.tree_walk.specs.Reasons.{HasReason};
 ghost use Rattle.tree_walk.specs.Walks.{IsEntryIn, IsMet, IsMetCounted, IsTopOf};
 
 use crate::descent::gather;
@@ -50,6 +51,10 @@ pub fn range<'a, S: Shelf<'a>>(
     ensures fetches { Fetches result
         (record { held = S.holds shelf.new; before = S.used shelf.old; after = S.used shelf.new })
         tally.old.fetches tally.new.fetches }
+    // A refusal tells what is wrong with a node that it came to want,
+    ensures told { IfErr result (HasReason (number_of tree) top.now.0 (S.holds shelf.new) (S.used shelf.new)) }
+    // and it is V1 where the top isn't held.
+    ensures none { HasNone (S.holds shelf.new) top.now.0 → result ≡ Err WalkFault.Missing }
     // Under the top of a tree: exactly the entries in the range, from exactly the nodes that meet it.
     ensures answer { (shape : Shape) (entries : List Binding)
         → IsTopOf shape (number_of tree) entries top.now.0
@@ -89,6 +94,10 @@ pub fn count<'a, S: Shelf<'a>>(
     ensures fetches { Fetches result
         (record { held = S.holds shelf.new; before = S.used shelf.old; after = S.used shelf.new })
         tally.old.fetches tally.new.fetches }
+    // A refusal tells what is wrong with a node that it came to want,
+    ensures told { IfErr result (HasReason (number_of tree) top.now.0 (S.holds shelf.new) (S.used shelf.new)) }
+    // and it is V1 where the top isn't held.
+    ensures none { HasNone (S.holds shelf.new) top.now.0 → result ≡ Err WalkFault.Missing }
     // Under the top of a tree: the number of the entries in the range, from exactly the nodes that meet it and that it
     // doesn't cover.
     ensures answer { (shape : Shape) (entries : List Binding)

@@ -7,8 +7,6 @@ use Rattle.osm_model.specs.Elements.{Element, reference}
 use Rattle.osm_model.specs.Sets.{IsObjectSet}
 use Rattle.osm_model.specs.declared.reference.Ref.{Ref}
 use Rattle.opl_codec.specs.Fields.{Lacks}
-use Rattle.ql_plain.specs.Meaning.{meaning}
-use Rattle.ql_plain.specs.declared.query.Query.{Query}
 
 -- the text has no LF
 abbrev pub HasNoEnd : List ℕ → Type 0
@@ -19,12 +17,6 @@ abbrev pub last_reference : List Element → Option Ref
 last_reference [] = None
 last_reference (o ∷ []) = Some (reference o)
 last_reference (o ∷ p ∷ os) = last_reference (p ∷ os)
-
--- these objects were read: the last reference, and the query's answer over them
-pub record HasRead (query : Query) (objects : List Element) (last : Option Ref) (answer : List ℕ) : Type 0 where
-  pub set : IsObjectSet objects
-  pub last_is : last ≡ last_reference objects
-  pub answer_is : answer ≡ meaning query objects
 
 -- the line is that of this object, which may come after these
 pub record IsNext (objects : List Element) (line : List ℕ) (o : Element) : Type 0 where

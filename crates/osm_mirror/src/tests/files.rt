@@ -5,8 +5,10 @@ use crate::check::check;
 use crate::command_fault::CommandFault;
 use crate::prove::prove;
 use crate::publish::publish;
+use crate::publish_trees::publish_trees;
 use crate::status::Status;
 use osm_check::{Digest, Verdict};
+use osm_index::Edition;
 use std::alloc::Global;
 use std::process::Abort;
 use std::test::Fail;
@@ -51,6 +53,46 @@ fn publishes_roots(rt: HostRuntime) -> Result<(), Fail> {
         publish(rt.alloc(), &mut file.as_bytes(), &mut output)?;
         assert_eq!(rt; output.as_slice(), want.as_bytes(), "{file}");
     }
+    Ok(())
+}
+
+/// The root of no objects over its trees in the first edition, which an independent program computed, and LF.
+const EMPTY_ONE: &str = "d15409ab6166f71beaff4544e4d62e1ff9fd4442699d90b7a114f26e4c8cb88f\n";
+
+#[test]
+fn publishes_tree_roots(rt: HostRuntime) -> Result<(), Fail> {
+    for (edition, want) in [
+        (Edition::One, EMPTY_ONE),
+        (
+            Edition::Two { sequence: 0 },
+            "8b3c46a64fa8554d81785eb48d429955ef309af5117c1c0c3db086f1c6535413\n",
+        ),
+        (
+            Edition::Two { sequence: 7 },
+            "002810b7b77132709f366506ea47ab7df3893c60f1095b26bf69b74ad9b66822\n",
+        ),
+    ] {
+        let mut output = Vec::new(rt.alloc());
+        publish_trees(rt.alloc(), &mut "".as_bytes(), edition, &mut output)?;
+        assert_eq!(rt; output.as_slice(), want.as_bytes());
+    }
+    Ok(())
+}
+
+/// Out of memory, or the whole root: also where an allocation is refused (tests/system).
+#[test]
+fn tree_roots_within_memory(rt: HostRuntime) -> Result<(), Fail> {
+    let alloc = rt.alloc();
+    let mut output = Vec::new(alloc);
+    // The output is a vector, so when it is out of memory that is a device's fault.
+    match publish_trees(alloc, &mut "".as_bytes(), Edition::One, &mut output) {
+        Ok(()) => assert_eq!(rt; output.as_slice(), EMPTY_ONE.as_bytes()),
+        Err(CommandFault::Memory | CommandFault::Device) => assert_eq!(rt; output.len(), 0),
+        Err(fault) => panic!(rt; "{fault}"),
+    }
+    output.clear();
+    publish_trees(alloc, &mut "".as_bytes(), Edition::One, &mut output)?;
+    assert_eq!(rt; output.as_slice(), EMPTY_ONE.as_bytes());
     Ok(())
 }
 

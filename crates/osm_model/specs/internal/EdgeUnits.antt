@@ -1,13 +1,13 @@
 -- Whole units around an edge: what its private functions count with.
 -- Source: this project.
-use Rattle.std.specs.Prelude.{◌↔◌, ℕ, ◌+◌, ◌*◌, ◌<◌, ◌≤◌, ℤ, ◌≤ℤ◌, Bool, true, false}
+use Rattle.std.specs.Prelude.{ℕ, ◌+◌, ◌*◌, ◌<◌, ◌≤◌, ℤ, Bool, true, false}
 use Rattle.osm_model.specs.Degrees.{Decimal, with_sign}
-use Rattle.osm_model.specs.Edges.{IsAtMost, IsAtLeast}
+use Rattle.osm_model.specs.Edges.{IsFloor, IsCeiling}
 
 -- the next whole units below and above a decimal, which are one where it is whole
 pub record IsBetween (d : Decimal) (floor ceiling : ℤ) : Type 0 where
-  pub at_most : (u : ℤ) → (IsAtMost u d ↔ (u ≤ℤ floor))
-  pub at_least : (u : ℤ) → (IsAtLeast u d ↔ (ceiling ≤ℤ u))
+  pub at_most : IsFloor d floor
+  pub at_least : IsCeiling d ceiling
 
 -- the same in numbers without sign: m / k lies between two whole numbers, which are one where it is whole
 pub record IsAround (m k floor ceiling : ℕ) : Type 0 where

@@ -1,7 +1,7 @@
 //! Every kind of statement, over sets that are read from OPL.
 
 use super::{rows, texts_of_sets};
-use crate::answer_query;
+use crate::answer_plain;
 use opl_codec::read_set;
 use ql_syntax::parse;
 use std::process::Abort;
@@ -16,7 +16,7 @@ fn check_rows(
     let set = read_set(rt.alloc(), &mut set.as_bytes())?;
     for (text, wanted) in rows {
         let query = parse(rt.alloc(), text.as_bytes())?;
-        let answer = answer_query(rt.alloc(), &query, &set)?;
+        let answer = answer_plain(rt.alloc(), &query, &set)?;
         assert_eq!(rt; answer.as_slice(), wanted.as_bytes(), "{text}");
     }
     Ok(())
@@ -38,10 +38,10 @@ fn memory_refused_changes_no_meaning(rt: HostRuntime) -> Result<(), Fail> {
     let set = read_set(rt.alloc(), &mut texts_of_sets::ALL_KINDS.as_bytes())?;
     for (text, wanted) in rows::OVER_ALL_KINDS {
         let query = parse(rt.alloc(), text.as_bytes())?;
-        if let Ok(answer) = answer_query(rt.alloc(), &query, &set) {
+        if let Ok(answer) = answer_plain(rt.alloc(), &query, &set) {
             assert_eq!(rt; answer.as_slice(), wanted.as_bytes(), "{text}");
         }
-        let again = answer_query(rt.alloc(), &query, &set)?;
+        let again = answer_plain(rt.alloc(), &query, &set)?;
         assert_eq!(rt; again.as_slice(), wanted.as_bytes(), "{text} again");
     }
     Ok(())

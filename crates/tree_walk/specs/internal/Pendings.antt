@@ -2,13 +2,14 @@
 use Rattle.std.specs.Prelude.{◌≡◌, ℕ, List, [], ◌∷◌, map, Option, Some, Result, Ok, Err, ⊤, ◌<◌, ◌≤◌, length, ◌++◌, ◌⊎◌}
 use Rattle.std.specs.Option.{option_copied}
 use Rattle.std.specs.List.{AllByRecursion, flat_map}
-use Rattle.tree_node.specs.Nodes.{Binding, Leaf, Inner, Link, Node, IsNode, Spells, spelling, level_of, tree_of, keys_of, greatests_of}
+use Rattle.tree_node.specs.Nodes.{Binding, Link, Node, IsNode, Spells, spelling, level_of, tree_of}
 use Rattle.tree_node.specs.NodeRefs.{link_of}
 use Rattle.tree_node.specs.Outcomes.{ShelfUse}
 use Rattle.tree_node.specs.Shelves.{GrownBy}
-use Rattle.tree_node.specs.Trees.{entries_in, entry_count, greatest_of, link_to}
+use Rattle.tree_node.specs.Trees.{entries_in, link_to}
 use Rattle.tree_walk.specs.Fetches.{AreDifferent, HasFetched, counted_up}
 use Rattle.tree_walk.specs.Ranges.{IsAboveLeft, IsNoHigher}
+use Rattle.tree_walk.specs.Reasons.{Child, IsWanted, StartAbove, Wanted, node_keys}
 use Rattle.tree_walk.specs.declared.fault.WalkFault.{WalkFault}
 use Rattle.tree_walk.specs.declared.pending.Pending.{Pending}
 
@@ -25,6 +26,14 @@ spots_of pendings = map spot_of pendings
 abbrev pub stated_of : Option (List ℕ) × Node → Option (List ℕ) × Link
 stated_of spot = (spot.0, link_to spot.1)
 
+-- what a walk wants that fetches a pending child at this level
+abbrev pub wanted_of : ℕ → Option (List ℕ) × Link → Wanted
+wanted_of level spot = Child level spot.0 spot.1
+
+-- a walk from this top came to want these pending children
+abbrev pub AreWanted : (List ℕ → Type 0) → ℕ → List ℕ → ℕ → List (Option (List ℕ) × Link) → Type 0
+AreWanted used tree top level spots = AllByRecursion (λ (spot : Option (List ℕ) × Link). IsWanted used tree top (wanted_of level spot)) spots
+
 -- their spans lie side by side, from the left bound on
 abbrev pub AreInOrder : Option (List ℕ) → List (Option (List ℕ) × Link) → Type 0
 AreInOrder low [] = ⊤
@@ -32,21 +41,6 @@ AreInOrder low (spot ∷ spots) =
     IsNoHigher low spot.0 × IsAboveLeft spot.0 spot.1.greatest × AreInOrder (Some spot.1.greatest) spots
 
 -- ---- nodes that were fetched
-
--- the keys of a node: of its entries, or the greatest ones below its children
-abbrev pub node_keys : Node → List (List ℕ)
-node_keys (Leaf tree entries) = keys_of entries
-node_keys (Inner tree level links) = greatests_of links
-
--- the first of the keys is above the left bound
-abbrev pub StartAbove : Option (List ℕ) → List (List ℕ) → Type 0
-StartAbove left [] = ⊤
-StartAbove left (key ∷ keys) = IsAboveLeft left key
-
--- the node is as its parent states: its keys are above its left bound, the last is the stated one, and it has as many
--- entries below it
-abbrev pub Agrees : Option (List ℕ) × Link → Node → Type 0
-Agrees spot node = StartAbove spot.0 (node_keys node) × ((greatest_of node ≡ spot.1.greatest) × (entry_count node ≡ spot.1.number))
 
 -- the node that an honest parent states so
 pub record IsStated (tree level : ℕ) (spot : Option (List ℕ) × Link) (node : Node) : Type 0 where

@@ -5,7 +5,7 @@ use crate::{Tally, WalkFault};
 use std::alloc::Global;
 use std::process::Abort;
 use std::test::Fail;
-use tree_node::{Child, Digest, NodeFault, Stock, Tree, digest_of};
+use tree_node::{Child, Digest, NodeFault, Shelf, ShelfFault, Stock, Tree, digest_of};
 
 /// A walk over all of the stock is refused so, after this many fetches.
 fn is_refused(
@@ -120,5 +120,36 @@ fn refuses_one_child_named_64_times(rt: HostRuntime) -> Result<(), Fail> {
         top = put_same_child(alloc, &mut stock, level, number, top)?;
     }
     // The first node of a level has the greatest key a0, and is stated to have 61.
-    is_refused(&rt, alloc, &stock, &top, WalkFault::Disagrees, 2)
+    let mut shelf = Counting {
+        shelf: stock.shelf(alloc),
+        fetches: 0,
+    };
+    let (found, tally) = walked(alloc, &mut shelf, &top, Tree::Tags, &all())?;
+    assert_eq!(rt; found.err(), Some(WalkFault::Disagrees));
+    assert_eq!(rt; (tally.fetches, shelf.fetches), (2, 2));
+    Ok(())
+}
+
+/// A shelf that counts by itself what it is asked for.
+#[derive(Drop)]
+struct Counting<S> {
+    shelf: S,
+    fetches: u64,
+}
+
+impl<'a, S: Shelf<'a>> Shelf<'a> for Counting<S> {
+    ghost holds = { λ counting. S.holds counting.shelf };
+
+    ghost used = { λ counting. S.used counting.shelf };
+
+    ghost takes_memory = { S.takes_memory };
+
+    ghost clash_free = { λ counting. S.clash_free counting.shelf };
+
+    ghost used_held = { λ counting. S.used_held counting.shelf };
+
+    fn fetch(&mut self, key: &Digest) -> Result<&'a [u8], ShelfFault> {
+        self.fetches = self.fetches.saturating_add(1);
+        self.shelf.fetch(key)
+    }
 }

@@ -1,10 +1,11 @@
-use Rattle.std.proofs.Common.{◌≡◌, List, ℕ, subst, ap, ◌∙◌}
-use Rattle.ql_plain.specs.Queries.{Reads}
-use Rattle.ql_plain.specs.declared.query.Query.{Query}
-use Rattle.osm_check.specs.declared.prove_fault.ProveFault.TheVariants.{Memory}
+use Rattle.std.proofs.Common.{◌≡◌, List, ℕ, inl, inr, refl, subst, ap, ◌∙◌}
+use Rattle.ql_syntax.specs.Queries.{Reads}
+use Rattle.ql_syntax.specs.Statements.{Statements}
+use Rattle.osm_check.specs.declared.prove_fault.ProveFault.TheVariants as refusals
 use Rattle.osm_mirror.specs.RootLines.{digest_line}
+use Rattle.osm_mirror.specs.declared.command_fault.CommandFault.TheVariants.{Memory}
 use Rattle.osm_mirror.proofs.BegunLemmas.{kept, unwritten, proved_files, answer_begun, proof_begun, root_begun, written_in_turn, written_whole}
-use Rattle.osm_mirror.proofs.FileLemmas.{outside_unheld_files, explained_unheld_files, outside_unproved_files}
+use Rattle.osm_mirror.proofs.FileLemmas.{outside_unheld_files, explained_unheld_files, outside_unproved_files, failed, device_failed, outside_failed, explained_failed}
 use Rattle.osm_mirror.proofs.prove.prove.Goals as goal
 
 pub returns-in_err-set-clause-only : goal.returns-in_err-set-clause-only
@@ -31,7 +32,7 @@ pub returns-in_err-proved-clause-only : goal.returns-in_err-proved-clause-only
 returns-in_err-proved-clause-only g c =
     outside_unproved_files (g.R.Read.remaining c.args.input.now) (g.Q.Read.remaining c.args.query.now) c.in_ok-query.query.items c.in_err-proved.field-0.0 c.from_residual-in_err-proved.result
     c.in_ok-query.ensures.read c.from_residual-in_err-proved.ensures.1
-    (subst (λ (b : List ℕ). (tree : Query) → Reads b tree → c.in_err-proved.field-0.0 ≡ Memory) c.deref.ensures.value c.in_err-proved.ensures.only)
+    (subst (λ (b : List ℕ). (statements : Statements) → Reads b statements → c.in_err-proved.field-0.0 ≡ refusals.Memory) c.deref.ensures.value c.in_err-proved.ensures.only)
 
 pub returns-in_err-proved-clause-nothing : goal.returns-in_err-proved-clause-nothing
 returns-in_err-proved-clause-nothing g c =
@@ -95,3 +96,35 @@ returns-clause-proved g c =
     (proved_files file bytes set c.in_ok-query.query.items c.deref.result.now text c.in_ok-set.ensures.read c.in_ok-query.ensures.read c.deref.ensures.value made.1)
     c.deref-2.ensures.value c.in_ok-write_whole.ensures.whole (c.deref-3.ensures.value ∙ made.2) c.in_ok-write_whole-2.ensures.whole
     (c.as_bytes.ensures.value ∙ c.in_ok-line.ensures ∙ ap digest_line made.0) c.write_whole-3.ensures.whole
+
+pub returns-in_err-line-clause-only : goal.returns-in_err-line-clause-only
+returns-in_err-line-clause-only g c =
+    outside_failed (g.R.Read.remaining c.args.input.now) (g.Q.Read.remaining c.args.query.now) c.from_residual-in_err-line.result (failed c.from_residual-in_err-line.result Memory c.from_residual-in_err-line.ensures.1 (inl refl))
+
+pub returns-in_err-line-clause-refused : goal.returns-in_err-line-clause-refused
+returns-in_err-line-clause-refused g c =
+    explained_failed (g.R.Read.remaining c.args.input.now) _ (g.Q.Read.remaining c.args.query.now) c.from_residual-in_err-line.result (failed c.from_residual-in_err-line.result Memory c.from_residual-in_err-line.ensures.1 (inl refl))
+
+pub returns-in_err-write_whole-clause-only : goal.returns-in_err-write_whole-clause-only
+returns-in_err-write_whole-clause-only g c =
+    outside_failed (g.R.Read.remaining c.args.input.now) (g.Q.Read.remaining c.args.query.now) c.from_residual-in_err-write_whole.result (failed c.from_residual-in_err-write_whole.result c.in_err-write_whole.field-0.0 c.from_residual-in_err-write_whole.ensures.1 (inr c.in_err-write_whole.ensures.device))
+
+pub returns-in_err-write_whole-clause-refused : goal.returns-in_err-write_whole-clause-refused
+returns-in_err-write_whole-clause-refused g c =
+    explained_failed (g.R.Read.remaining c.args.input.now) _ (g.Q.Read.remaining c.args.query.now) c.from_residual-in_err-write_whole.result (failed c.from_residual-in_err-write_whole.result c.in_err-write_whole.field-0.0 c.from_residual-in_err-write_whole.ensures.1 (inr c.in_err-write_whole.ensures.device))
+
+pub returns-in_err-write_whole-2-clause-only : goal.returns-in_err-write_whole-2-clause-only
+returns-in_err-write_whole-2-clause-only g c =
+    outside_failed (g.R.Read.remaining c.args.input.now) (g.Q.Read.remaining c.args.query.now) c.from_residual-in_err-write_whole-2.result (failed c.from_residual-in_err-write_whole-2.result c.in_err-write_whole-2.field-0.0 c.from_residual-in_err-write_whole-2.ensures.1 (inr c.in_err-write_whole-2.ensures.device))
+
+pub returns-in_err-write_whole-2-clause-refused : goal.returns-in_err-write_whole-2-clause-refused
+returns-in_err-write_whole-2-clause-refused g c =
+    explained_failed (g.R.Read.remaining c.args.input.now) _ (g.Q.Read.remaining c.args.query.now) c.from_residual-in_err-write_whole-2.result (failed c.from_residual-in_err-write_whole-2.result c.in_err-write_whole-2.field-0.0 c.from_residual-in_err-write_whole-2.ensures.1 (inr c.in_err-write_whole-2.ensures.device))
+
+pub returns-clause-only : goal.returns-clause-only
+returns-clause-only g c =
+    outside_failed (g.R.Read.remaining c.args.input.now) (g.Q.Read.remaining c.args.query.now) c.write_whole-3.result (device_failed c.write_whole-3.result c.write_whole-3.ensures.device)
+
+pub returns-clause-refused : goal.returns-clause-refused
+returns-clause-refused g c =
+    explained_failed (g.R.Read.remaining c.args.input.now) _ (g.Q.Read.remaining c.args.query.now) c.write_whole-3.result (device_failed c.write_whole-3.result c.write_whole-3.ensures.device)

@@ -1,24 +1,20 @@
-use Rattle.std.proofs.Common.{rules, w64, FitsSigned, sym, ◌++◌, List, ℕ, Vec, Global, refl, ◌∙◌, ap}
-use Rattle.std.proofs.lemmas.Int.{to_z-of_z}
-use Rattle.std.specs.Option.{option_copied}
-use Rattle.opl_codec.specs.Text.{text_of}
-use Rattle.opl_codec.specs.declared.out_mode.OutMode.TheVariants as modes
-use Rattle.ql_plain.proofs.Meanings.{no_object, an_object}
-use Rattle.ql_plain.proofs.answer.answer_plain.Goals.{in-Some+in_ok-write_object, in_default}
+use Rattle.std.proofs.Common.{List, subst, ◌∙◌}
+use Rattle.std.proofs.lemmas.List.{take_all}
+use Rattle.ql_syntax.specs.StatementViews.{statements_of}
+use Rattle.ql_syntax.specs.declared.statement.Stmt.{Stmt}
+use Rattle.ql_plain.proofs.Answering.{prints, prints_next}
+use Rattle.ql_plain.specs.Meanings.{Means, nothing_named}
+use Rattle.ql_plain.specs.internal.NamedSets.{lists_of}
 use Rattle.ql_plain.proofs.answer.answer_plain.Goals as goal
+
+pub loop-statement-preserved : goal.loop-statement-preserved
+loop-statement-preserved c =
+    prints_next c.args.set.now c.stmts-statements.result.now c.loop-statement.statement-index c.statement-item.result c.loop-statement-test.true c.statement-item.is
+    nothing_named (lists_of c.loop-statement.sets.named.items) (lists_of c.answer_statement.new.sets.named.items) c.loop-statement.text.items c.answer_statement.new.text.items
+    c.loop-statement.invariant c.in_ok-answer_statement.ensures.after c.in_ok-answer_statement.ensures.told
 
 pub returns : goal.returns
 returns c =
-    let fits : FitsSigned w64 c.args.query.now.id = search rules in
-    let found = rw (to_z-of_z w64 c.args.query.now.id fits) at c.get.ensures.found in
-    elim c.match-get.branch [
-      | in-Some+in_ok-write_object w ↦
-          ap (λ (v : Vec ℕ Global). v.items) w.text-is
-          ∙ w.in_ok-write_object.ensures.written
-          ∙ ap (λ (y : List ℕ). y ++ text_of w.in-Some.object.now modes.Body) c.new-text.ensures.items
-          ∙ an_object c.args.query.now c.args.set.now _ w.in-Some.object.now c.get.ensures.set (ap (λ (o : _). option_copied o) (sym w.in-Some.is) ∙ found) refl
-      | in_default w ↦
-          ap (λ (v : Vec ℕ Global). v.items) w.text-is
-          ∙ c.new-text.ensures.items
-          ∙ no_object c.args.query.now c.args.set.now _ c.get.ensures.set (ap (λ (o : _). option_copied o) (sym w.in_default.is) ∙ found) refl
-    ]
+    subst (λ (statements : List Stmt). Means c.args.set.now (statements_of statements) c.loop-statement.text.items)
+    (take_all c.loop-statement.statement-index c.stmts-statements.result.now c.loop-statement-test.false ∙ c.stmts-statements.ensures.statements)
+    (prints c.args.set.now _ nothing_named (lists_of c.loop-statement.sets.named.items) c.loop-statement.text.items c.loop-statement.invariant)

@@ -1,4 +1,4 @@
-use Rattle.ql_syntax.proofs.QueryLaws.{reads_or_not}
+use Rattle.ql_syntax.proofs.shared.QueryLaws.{reads_or_not}
 use Rattle.ql_syntax.proofs.laws.never_both.Goals as goal
 
 pub returns : goal.returns

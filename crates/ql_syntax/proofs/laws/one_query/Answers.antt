@@ -1,4 +1,4 @@
-use Rattle.ql_syntax.proofs.QueryLaws.{one_query}
+use Rattle.ql_syntax.proofs.shared.QueryLaws.{one_query}
 use Rattle.ql_syntax.proofs.laws.one_query.Goals as goal
 
 pub returns : goal.returns

@@ -1,5 +1,5 @@
 use Rattle.ql_syntax.specs.StatementViews.{statements_of}
-use Rattle.ql_syntax.proofs.QueryLaws.{read_only, refused_only}
+use Rattle.ql_syntax.proofs.shared.QueryLaws.{read_only, refused_only}
 use Rattle.ql_syntax.proofs.parser.parse.Goals as goal
 
 pub returns-clause-only : goal.returns-clause-only

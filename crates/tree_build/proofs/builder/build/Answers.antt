@@ -10,8 +10,9 @@ use Rattle.tree_node.proofs.shared.PieceLemmas.{join}
 use Rattle.tree_build.specs.Shapes.{shape_of}
 use Rattle.tree_build.specs.internal.Building.{IsOneOf, PutAll}
 use Rattle.tree_node.proofs.shared.Results.{err_is}
+use Rattle.tree_node.proofs.shared.StockLaws.{stock_free}
 use Rattle.tree_build.proofs.StockLemmas.{put_whole}
-use Rattle.tree_build.proofs.BuildLemmas.{only_nodes, clashing_nodes, gained_nodes, rising_first, rising_none, rising_stopped, rising_next, rising_fewer, rising_gained, rising_top}
+use Rattle.tree_build.proofs.BuildLemmas.{only_nodes, clashing_nodes, gained_nodes, none_clash, rising_first, rising_none, rising_stopped, rising_next, rising_fewer, rising_gained, rising_top}
 use Rattle.tree_build.proofs.builder.build.Goals as goal
 
 -- the leaves were refused
@@ -95,3 +96,12 @@ returns-clause-only_its_nodes c =
     (put_whole c.loop-alloc.level (HasNode c.args.stock.now) (HasNode c.loop-alloc.stock) (join tree)
     (rising_gained (shape_of c.args.shape) (number_of c.args.tree) (bindings_of c.args.entries.now) c.loop-alloc.level links (HasNode c.args.stock.now) (HasNode c.loop-alloc.stock) c.loop-alloc.invariant
     (omega (arith, length-map c.loop-alloc.children.items link_of, c.loop-alloc.children.ok.0, c.len.ensures))))
+
+pub returns-clause-decided : goal.returns-clause-decided
+returns-clause-decided c =
+    let links = links_of c.loop-alloc.children.items in
+    let tree = levels (shape_of c.args.shape) (number_of c.args.tree) (bindings_of c.args.entries.now) in
+    let gained = gained_nodes (HasNode c.args.stock.now) (HasNode c.loop-alloc.stock) tree
+    (rising_gained (shape_of c.args.shape) (number_of c.args.tree) (bindings_of c.args.entries.now) c.loop-alloc.level links (HasNode c.args.stock.now) (HasNode c.loop-alloc.stock) c.loop-alloc.invariant
+    (omega (arith, length-map c.loop-alloc.children.items link_of, c.loop-alloc.children.ok.0, c.len.ensures))) in
+    λ clash. absurd (none_clash (HasNode c.args.stock.now) (HasNode c.loop-alloc.stock) tree gained (stock_free c.loop-alloc.stock) clash)

@@ -7,7 +7,7 @@ use Rattle.tree_walk.specs.internal.Accounts.{Account, AreBelowLevel, Gains}
 use Rattle.tree_walk.specs.internal.Openings.{IsOpenedIn}
 use Rattle.tree_walk.specs.Fetches.{cause_of}
 use Rattle.tree_node.specs.Outcomes.{Outcome}
-use Rattle.tree_walk.specs.internal.Pendings.{FetchesBelow, spots_of}
+use Rattle.tree_walk.specs.internal.Pendings.{AreWanted, FetchesBelow, spots_of}
 use Rattle.tree_walk.specs.Ranges.{range_of}
 use Rattle.tree_walk.specs.declared.fault.WalkFault.{WalkFault}
 use Rattle.tree_walk.specs.declared.pending.Pending.{Pending}
@@ -15,6 +15,7 @@ use Rattle.tree_walk.proofs.DescentFetches.{FetchingDown, down_last, down_start,
 use Rattle.tree_walk.proofs.DescentLemmas.{HonestDown, honest_down_end, honest_down_start, honest_down_step, honest_down_stop}
 use Rattle.tree_walk.proofs.FetchLemmas.{same_then}
 use Rattle.tree_node.proofs.shared.Results.{err_is}
+use Rattle.tree_walk.proofs.ReasonLemmas.{refused_as}
 use Rattle.tree_walk.proofs.descent.descend.Goals as goal
 
 pub returns-in_err-pending-clause-fetches : goal.returns-in_err-pending-clause-fetches
@@ -28,11 +29,11 @@ returns-in_err-pending-clause-fetches g c =
 pub returns-in_err-pending-clause-answer : goal.returns-in_err-pending-clause-answer
 returns-in_err-pending-clause-answer g c = λ shape entries reached.
     subst (λ (r : Result (Unit {0}) WalkFault). Outcome cause_of (λ (_ : Unit {0}). (closed : List (Option (List ℕ) × Link)) × (found all : List Binding) × Gains g.G.Gather.gathers c.args.gathered.now c.open_level.new.gathered closed found
-    × Account g.G.Gather.closing closed found all × AreBelowLevel g.G.Gather.closing (range_of c.args.range.now) (levels shape (number_of c.args.tree) entries) c.args.level all) (IsOpenedIn g.G.Gather.closing (range_of c.args.range.now) (levels shape (number_of c.args.tree) entries) 0 c.args.level)
+    × Account g.G.Gather.closing closed found all × AreBelowLevel g.G.Gather.closing (range_of c.args.way.now.range.now) (levels shape (number_of c.args.way.now.tree) entries) c.args.level all) (IsOpenedIn g.G.Gather.closing (range_of c.args.way.now.range.now) (levels shape (number_of c.args.way.now.tree) entries) 0 c.args.level)
     (record { held = g.S.Shelf.holds c.open_level.new.shelf; before = g.S.Shelf.used c.args.shelf.now; after = g.S.Shelf.used c.open_level.new.shelf }) r)
     (sym (err_is c.from_residual.result c.in_err-pending.field-0.0 c.from_residual.ensures.1))
     (record {
-      ends = honest_down_stop g.G.Gather.gathers g.G.Gather.closing (number_of c.args.tree) (range_of c.args.range.now) c.args.level (spots_of c.args.pending.items) c.args.gathered.now (cause_of c.in_err-pending.field-0.0) c.loop-level.level (spots_of c.loop-level.pending.items) c.loop-level.gathered
+      ends = honest_down_stop g.G.Gather.gathers g.G.Gather.closing (number_of c.args.way.now.tree) (range_of c.args.way.now.range.now) c.args.level (spots_of c.args.pending.items) c.args.gathered.now (cause_of c.in_err-pending.field-0.0) c.loop-level.level (spots_of c.loop-level.pending.items) c.loop-level.gathered
           (g.S.Shelf.holds c.open_level.new.shelf) (g.S.Shelf.used c.args.shelf.now) (g.S.Shelf.used c.loop-level.shelf) (g.S.Shelf.used c.open_level.new.shelf) c.loop-level.invariant.within c.loop-level.invariant.honest c.open_level.ensures.grows
           (λ nodes stated. ((rw c.as_slice.ensures.value at c.in_err-pending.ensures.answer) nodes stated).ends) shape entries reached;
     })
@@ -49,8 +50,9 @@ loop-level-preserved g c =
       stays = same_then _ _ _ c.loop-level.invariant.stays c.open_level.ensures.stays;
       grows = λ bytes was. c.open_level.ensures.grows bytes (c.loop-level.invariant.grows bytes was);
       order = c.in_ok-pending.ensures.order;
+      wanted = λ top all. c.in_ok-pending.ensures.wanted top (subst (λ (ps : List Pending). AreWanted (g.S.Shelf.used c.loop-level.shelf) (number_of c.args.way.now.tree) top c.loop-level.level (spots_of ps)) (sym c.as_slice.ensures.value) (c.loop-level.invariant.wanted top all));
       fetches = subst (λ (n : ℕ). FetchingDown n (suc c.args.level) (record { held = g.S.Shelf.holds c.open_level.new.shelf; before = g.S.Shelf.used c.args.shelf.now; after = g.S.Shelf.used c.open_level.new.shelf }) c.args.tally.now.fetches c.open_level.new.tally.fetches) (sym same) fetched;
-      honest = honest_down_step g.G.Gather.gathers g.G.Gather.closing (number_of c.args.tree) (range_of c.args.range.now) c.args.level (spots_of c.args.pending.items) c.args.gathered.now (λ (pending : Vec Pending). spots_of pending.items) cause_of c.in_ok-pending.pending (c.loop-level.level - 1)
+      honest = honest_down_step g.G.Gather.gathers g.G.Gather.closing (number_of c.args.way.now.tree) (range_of c.args.way.now.range.now) c.args.level (spots_of c.args.pending.items) c.args.gathered.now (λ (pending : Vec Pending). spots_of pending.items) cause_of c.in_ok-pending.pending (c.loop-level.level - 1)
           (spots_of c.loop-level.pending.items) c.loop-level.gathered c.open_level.new.gathered (g.S.Shelf.holds c.open_level.new.shelf) (g.S.Shelf.used c.args.shelf.now) (g.S.Shelf.used c.loop-level.shelf) (g.S.Shelf.used c.open_level.new.shelf) (omega (arith, same, c.loop-level.invariant.within))
           (rw same c.loop-level.invariant.honest) c.open_level.ensures.grows (rw (same, sym c.as_slice.ensures.value) c.in_ok-pending.ensures.answer);
     }
@@ -66,9 +68,9 @@ returns-clause-fetches g c =
 pub returns-clause-answer : goal.returns-clause-answer
 returns-clause-answer g c =
     let last : c.loop-level.level ≡ 0 = omega (arith, c.loop-level-test.false) in
-    honest_down_end g.G.Gather.gathers g.G.Gather.closing (number_of c.args.tree) (range_of c.args.range.now) c.args.level (spots_of c.args.pending.items) c.args.gathered.now cause_of c.take_leaves.result (spots_of c.loop-level.pending.items) c.loop-level.gathered c.take_leaves.new.gathered
+    honest_down_end g.G.Gather.gathers g.G.Gather.closing (number_of c.args.way.now.tree) (range_of c.args.way.now.range.now) c.args.level (spots_of c.args.pending.items) c.args.gathered.now cause_of c.take_leaves.result (spots_of c.loop-level.pending.items) c.loop-level.gathered c.take_leaves.new.gathered
     (g.S.Shelf.holds c.take_leaves.new.shelf) (g.S.Shelf.used c.args.shelf.now) (g.S.Shelf.used c.loop-level.shelf) (g.S.Shelf.used c.take_leaves.new.shelf)
-    (subst (λ (n : ℕ). HonestDown g.G.Gather.gathers g.G.Gather.closing (number_of c.args.tree) (range_of c.args.range.now) c.args.level (spots_of c.args.pending.items) c.args.gathered.now n (spots_of c.loop-level.pending.items) c.loop-level.gathered (g.S.Shelf.used c.args.shelf.now) (g.S.Shelf.used c.loop-level.shelf)) last c.loop-level.invariant.honest)
+    (subst (λ (n : ℕ). HonestDown g.G.Gather.gathers g.G.Gather.closing (number_of c.args.way.now.tree) (range_of c.args.way.now.range.now) c.args.level (spots_of c.args.pending.items) c.args.gathered.now n (spots_of c.loop-level.pending.items) c.loop-level.gathered (g.S.Shelf.used c.args.shelf.now) (g.S.Shelf.used c.loop-level.shelf)) last c.loop-level.invariant.honest)
     c.take_leaves.ensures.grows (rw (sym c.as_slice-2.ensures.value) c.take_leaves.ensures.answer)
 
 pub loop-level-init : goal.loop-level-init
@@ -78,6 +80,18 @@ loop-level-init g c = record {
   stays = λ bytes. ((λ is. is), (λ is. is));
   grows = λ bytes was. was;
   order = c.requires.order;
+  wanted = λ top all. all;
   fetches = down_start (suc c.args.level) (g.S.Shelf.used c.args.shelf.now) c.args.tally.now.fetches (g.S.Shelf.holds c.args.shelf.now);
-  honest = honest_down_start g.G.Gather.gathers g.G.Gather.closing (number_of c.args.tree) (range_of c.args.range.now) c.args.level (spots_of c.args.pending.items) c.args.gathered.now (g.S.Shelf.used c.args.shelf.now);
+  honest = honest_down_start g.G.Gather.gathers g.G.Gather.closing (number_of c.args.way.now.tree) (range_of c.args.way.now.range.now) c.args.level (spots_of c.args.pending.items) c.args.gathered.now (g.S.Shelf.used c.args.shelf.now);
 }
+
+pub returns-in_err-pending-clause-told : goal.returns-in_err-pending-clause-told
+returns-in_err-pending-clause-told g c = λ top all.
+    refused_as _ _ _ _ c.in_err-pending.field-0.0 c.from_residual.result (err_is c.from_residual.result c.in_err-pending.field-0.0 c.from_residual.ensures.1)
+    (c.in_err-pending.ensures.told top (subst (λ (ps : List Pending). AreWanted (g.S.Shelf.used c.loop-level.shelf) (number_of c.args.way.now.tree) top c.loop-level.level (spots_of ps)) (sym c.as_slice.ensures.value) (c.loop-level.invariant.wanted top all)))
+
+pub returns-clause-told : goal.returns-clause-told
+returns-clause-told g c = λ top all.
+    let last : c.loop-level.level ≡ 0 = omega (arith, c.loop-level-test.false) in
+    c.take_leaves.ensures.told top (subst (λ (ps : List Pending). AreWanted (g.S.Shelf.used c.loop-level.shelf) (number_of c.args.way.now.tree) top 0 (spots_of ps)) (sym c.as_slice-2.ensures.value)
+    (subst (λ (n : ℕ). AreWanted (g.S.Shelf.used c.loop-level.shelf) (number_of c.args.way.now.tree) top n (spots_of c.loop-level.pending.items)) last (c.loop-level.invariant.wanted top all)))

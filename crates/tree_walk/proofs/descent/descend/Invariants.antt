@@ -1,7 +1,7 @@
 use Rattle.std.proofs.Common.{◌≡◌, ℕ, suc, ◌≤◌, List, None}
 use Rattle.tree_node.specs.NodeRefs.{number_of}
 use Rattle.tree_node.specs.Shelves.{SameNodes}
-use Rattle.tree_walk.specs.internal.Pendings.{AreInOrder, spots_of}
+use Rattle.tree_walk.specs.internal.Pendings.{AreInOrder, AreWanted, spots_of}
 use Rattle.tree_walk.specs.Ranges.{range_of}
 use Rattle.tree_walk.proofs.DescentFetches.{FetchingDown}
 use Rattle.tree_walk.proofs.DescentLemmas.{HonestDown}
@@ -16,7 +16,9 @@ invariant-loop-level g l = record {
   grows : (bytes : List ℕ) → g.S.Shelf.used l.fn.shelf bytes → g.S.Shelf.used l.shelf bytes;
   order : AreInOrder None (spots_of l.pending.items);
   fetches : FetchingDown (suc l.level) (suc l.fn.level) (record { held = g.S.Shelf.holds l.shelf; before = g.S.Shelf.used l.fn.shelf; after = g.S.Shelf.used l.shelf }) l.fn.tally.fetches l.tally.fetches;
-  honest : HonestDown g.G.Gather.gathers g.G.Gather.closing (number_of l.tree) (range_of l.range) l.fn.level (spots_of l.fn.pending.items) l.fn.gathered l.level (spots_of l.pending.items) l.gathered (g.S.Shelf.used l.fn.shelf) (g.S.Shelf.used l.shelf);
+  wanted : (top : List ℕ) → AreWanted (g.S.Shelf.used l.fn.shelf) (number_of l.way.tree) top l.fn.level (spots_of l.fn.pending.items)
+      → AreWanted (g.S.Shelf.used l.shelf) (number_of l.way.tree) top l.level (spots_of l.pending.items);
+  honest : HonestDown g.G.Gather.gathers g.G.Gather.closing (number_of l.way.tree) (range_of l.way.range.now) l.fn.level (spots_of l.fn.pending.items) l.fn.gathered l.level (spots_of l.pending.items) l.gathered (g.S.Shelf.used l.fn.shelf) (g.S.Shelf.used l.shelf);
 }
 
 abbrev pub decreases-loop-level : goal.decreases-loop-level

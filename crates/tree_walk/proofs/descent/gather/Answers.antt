@@ -1,10 +1,10 @@
-use Rattle.std.proofs.Common.{◌≡◌, ◌++◌, ℕ, suc, ◌-◌, List, Option, Result, inl, inr, refl, sym, ap, subst, ◌∙◌, arith, length}
+use Rattle.std.proofs.Common.{◌≡◌, ◌++◌, ℕ, suc, ◌-◌, List, None, Option, Result, Err, inl, inr, refl, sym, ap, subst, ◌∙◌, arith, length}
 use Rattle.tree_node.specs.NodeRefs.{node_read, number_of}
-use Rattle.tree_node.specs.Nodes.{Binding, Link, Node, spelling}
+use Rattle.tree_node.specs.Nodes.{Binding, Inner, Link, Node, spelling}
 use Rattle.tree_node.specs.Trees.{levels, node_in}
 use Rattle.tree_walk.specs.Fetches.{cause_of}
 use Rattle.tree_node.specs.Outcomes.{Outcome}
-use Rattle.tree_walk.specs.internal.Pendings.{FetchedNode, spots_of}
+use Rattle.tree_walk.specs.internal.Pendings.{AreWanted, FetchedNode, spots_of, wanted_of}
 use Rattle.tree_walk.specs.internal.Accounts.{Account, AreBelowLevel, Gains, GathersAll}
 use Rattle.tree_walk.specs.internal.Openings.{IsOpenChild, IsOpened}
 use Rattle.tree_walk.specs.Ranges.{range_of}
@@ -12,8 +12,11 @@ use Rattle.tree_walk.specs.declared.fault.WalkFault.{WalkFault}
 use Rattle.tree_walk.specs.declared.pending.Pending.{Pending}
 use Rattle.tree_walk.specs.declared.fault.WalkFault.TheVariants.{Memory}
 use Rattle.tree_walk.proofs.LevelLemmas.{top_is}
-use Rattle.tree_walk.proofs.OutcomeLemmas.{clash_more}
+use Rattle.tree_node.proofs.shared.OutcomeLaws.{clash_more}
 use Rattle.tree_node.proofs.shared.Results.{err_is}
+use Rattle.tree_walk.proofs.ReasonLemmas.{all_those, children_wanted, refused_for, refused_memory, refused_missing}
+use Rattle.tree_walk.specs.Reasons.{FromTop, IsAccepted, IsWanted, Top}
+use Rattle.tree_walk.specs.Spans.{children_placed}
 use Rattle.tree_walk.proofs.SpotOrder.{order_of_top}
 use Rattle.tree_walk.proofs.TopLemmas.{gathers_inner, gathers_leaf, honest_inner, honest_leaf, honest_refused, honest_then, is_tree, of_top, top_fetched, top_refused, top_then_down, top_then_refused}
 use Rattle.tree_walk.proofs.descent.gather.Goals as goal
@@ -113,3 +116,44 @@ returns-in_ok-pick-in-Inner-clause-answer g c = λ shape entries is.
             found.1 (c.descend.ensures.answer shape entries (rw are below.1))).ends
       ];
     }
+
+pub returns-in_err-entries-clause-told : goal.returns-in_err-entries-clause-told
+returns-in_err-entries-clause-told g c =
+    refused_for (number_of c.args.tree) c.args.top.now.0 _ _ (Top c.args.top.now.0) c.in_err-entries.field-0.0 c.from_residual.result (err_is c.from_residual.result c.in_err-entries.field-0.0 c.from_residual.ensures.1) FromTop c.in_err-entries.ensures.told
+
+pub returns-in_err-entries-clause-none : goal.returns-in_err-entries-clause-none
+returns-in_err-entries-clause-none g c = λ none.
+    refused_missing c.in_err-entries.field-0.0 (Err c.in_err-entries.field-0.0) c.from_residual.result refl (c.in_err-entries.ensures.none none) (err_is c.from_residual.result c.in_err-entries.field-0.0 c.from_residual.ensures.1)
+
+pub returns-in_err-take-in-Leaf-clause-told : goal.returns-in_err-take-in-Leaf-clause-told
+returns-in_err-take-in-Leaf-clause-told g c =
+    refused_memory _ _ _ _ c.from_residual-in_err-take-in-Leaf.result (err_is c.from_residual-in_err-take-in-Leaf.result Memory c.from_residual-in_err-take-in-Leaf.ensures.1)
+
+pub returns-in_err-take-in-Leaf-clause-none : goal.returns-in_err-take-in-Leaf-clause-none
+returns-in_err-take-in-Leaf-clause-none g c = λ none. absurd (let no = c.in_ok-entries.ensures.none none in cc)
+
+pub returns-in_err-pick-in-Inner-clause-told : goal.returns-in_err-pick-in-Inner-clause-told
+returns-in_err-pick-in-Inner-clause-told g c =
+    refused_memory _ _ _ _ c.from_residual-in_err-pick-in-Inner.result (err_is c.from_residual-in_err-pick-in-Inner.result Memory c.from_residual-in_err-pick-in-Inner.ensures.1)
+
+pub returns-in_err-pick-in-Inner-clause-none : goal.returns-in_err-pick-in-Inner-clause-none
+returns-in_err-pick-in-Inner-clause-none g c = λ none. absurd (let no = c.in_ok-entries.ensures.none none in cc)
+
+pub returns-in_ok-take-in-Leaf-clause-none : goal.returns-in_ok-take-in-Leaf-clause-none
+returns-in_ok-take-in-Leaf-clause-none g c = λ none. absurd (let no = c.in_ok-entries.ensures.none none in cc)
+
+pub returns-in_ok-pick-in-Inner-clause-none : goal.returns-in_ok-pick-in-Inner-clause-none
+returns-in_ok-pick-in-Inner-clause-none g c = λ none. absurd (let no = c.in_ok-entries.ensures.none (λ x is. none x ((c.descend.ensures.stays x).1 is)) in cc)
+
+pub returns-in_ok-pick-in-Inner-clause-told : goal.returns-in_ok-pick-in-Inner-clause-told
+returns-in_ok-pick-in-Inner-clause-told g c =
+    let tree = number_of c.args.tree in
+    let used = g.S.Shelf.used c.open.new.shelf in
+    let picked = c.in_ok-pick-in-Inner.ensures in
+    let are : spots_of c.pick.new.pending.items ≡ picked.0 = picked.2 ∙ ap (λ (ps : List Pending). spots_of ps ++ picked.0) c.new-pending.ensures.items in
+    let top = subst (λ (n : Node). FetchedNode n (record { held = g.S.Shelf.holds c.open.new.shelf; before = g.S.Shelf.used c.args.shelf.now; after = g.S.Shelf.used c.open.new.shelf }) c.count_call.new.self.fetches c.open.new.tally.fetches) (ap node_read c.in-Inner.is) c.in_ok-entries.ensures.opens in
+    let level : suc (c.in-Inner.level - 1) ≡ c.in-Inner.level = omega (arith, top.spells.0.1) in
+    let accepted = subst (λ (n : Node). IsAccepted used tree (Top c.args.top.now.0) n) (ap node_read c.in-Inner.is ∙ ap (λ (l : ℕ). Inner (number_of c.in-Inner.tree) l c.in-Inner.children) (sym level)) c.in_ok-entries.ensures.accepted in
+    let children = children_wanted used tree c.args.top.now.0 (Top c.args.top.now.0) (number_of c.in-Inner.tree) (c.in-Inner.level - 1) c.in-Inner.children FromTop accepted in
+    let those = all_those (IsOpenChild g.G.Gather.closing (range_of c.args.range.now)) (λ (spot : Option (List ℕ) × Link). IsWanted used tree c.args.top.now.0 (wanted_of (c.in-Inner.level - 1) spot)) (children_placed None c.in-Inner.children) picked.0 children picked.3 in
+    c.descend.ensures.told c.args.top.now.0 (subst (λ (spots : List (Option (List ℕ) × Link)). AreWanted used tree c.args.top.now.0 (c.in-Inner.level - 1) spots) (sym are) those)

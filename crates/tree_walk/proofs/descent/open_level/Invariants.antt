@@ -1,4 +1,4 @@
-use Rattle.std.proofs.Common.{◌≡◌, [], ℕ, List, Option, drop}
+use Rattle.std.proofs.Common.{◌≡◌, ◌-◌, [], ℕ, List, Option, drop}
 use Rattle.tree_node.specs.NodeRefs.{number_of}
 use Rattle.tree_node.specs.Nodes.{Link, Node}
 use Rattle.tree_node.specs.Shelves.{SameNodes}
@@ -6,7 +6,7 @@ use Rattle.tree_node.specs.Trees.{links_in}
 use Rattle.tree_walk.specs.internal.Accounts.{Gains}
 use Rattle.tree_walk.specs.internal.Openings.{IsClosedChild, IsOpenChild}
 use Rattle.tree_walk.specs.Spans.{children_placed}
-use Rattle.tree_walk.specs.internal.Pendings.{spots_of}
+use Rattle.tree_walk.specs.internal.Pendings.{AreWanted, spots_of}
 use Rattle.tree_walk.specs.Ranges.{range_of}
 use Rattle.tree_walk.proofs.HonestLemmas.{HonestSoFar}
 use Rattle.tree_walk.proofs.LevelFetches.{FetchingLevel}
@@ -22,9 +22,11 @@ invariant-loop-node g l = record {
   grows : (bytes : List ℕ) → g.S.Shelf.used l.fn.shelf bytes → g.S.Shelf.used l.shelf bytes;
   level : (low : Option (List ℕ)) × FetchingLevel l.level low (record { held = g.S.Shelf.holds l.shelf; before = g.S.Shelf.used l.fn.shelf; after = g.S.Shelf.used l.shelf }) l.fn.tally.fetches l.tally.fetches (spots_of (drop l.node-index l.nodes))
       × IsOrderedUpTo low (spots_of l.pending.items);
-  honest : HonestSoFar (λ (spot : Option (List ℕ) × Node). children_placed spot.0 (links_in spot.1)) (IsOpenChild g.G.Gather.closing (range_of l.range)) (number_of l.tree) l.level
+  wanted : (top : List ℕ) → AreWanted (g.S.Shelf.used l.fn.shelf) (number_of l.way.tree) top l.level (spots_of l.nodes)
+      → AreWanted (g.S.Shelf.used l.shelf) (number_of l.way.tree) top (l.level - 1) (spots_of l.pending.items);
+  honest : HonestSoFar (λ (spot : Option (List ℕ) × Node). children_placed spot.0 (links_in spot.1)) (IsOpenChild g.G.Gather.closing (range_of l.way.range.now)) (number_of l.way.tree) l.level
       (spots_of l.nodes) (spots_of (drop l.node-index l.nodes)) (spots_of l.pending.items) (g.S.Shelf.used l.fn.shelf) (g.S.Shelf.used l.shelf);
   closed : (closed : List (Option (List ℕ) × Link)) × Gains g.G.Gather.gathers l.fn.gathered l.gathered closed []
-      × HonestSoFar (λ (spot : Option (List ℕ) × Node). children_placed spot.0 (links_in spot.1)) (IsClosedChild g.G.Gather.closing (range_of l.range)) (number_of l.tree) l.level
+      × HonestSoFar (λ (spot : Option (List ℕ) × Node). children_placed spot.0 (links_in spot.1)) (IsClosedChild g.G.Gather.closing (range_of l.way.range.now)) (number_of l.way.tree) l.level
       (spots_of l.nodes) (spots_of (drop l.node-index l.nodes)) closed (g.S.Shelf.used l.fn.shelf) (g.S.Shelf.used l.shelf);
 }

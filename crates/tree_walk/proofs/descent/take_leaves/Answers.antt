@@ -19,6 +19,7 @@ use Rattle.tree_walk.proofs.HonestLemmas.{HonestSoFar, honest_end, honest_start,
 use Rattle.tree_walk.proofs.LevelFetches.{FetchingLevel, level_end, level_refused, level_start, level_step, level_stopped}
 use Rattle.tree_node.proofs.shared.Results.{err_is}
 use Rattle.tree_walk.proofs.Pendings.{rest_is}
+use Rattle.tree_walk.proofs.ReasonLemmas.{all_wanted_more, refused_for, refused_memory, wanted_at}
 use Rattle.tree_walk.proofs.descent.take_leaves.Goals as goal
 
 pub take-requires : goal.take-requires
@@ -34,16 +35,16 @@ returns-in_err-entries-clause-fetches g c =
 pub returns-in_err-entries-clause-answer : goal.returns-in_err-entries-clause-answer
 returns-in_err-entries-clause-answer g c = λ all stated.
     let items = λ (spot : Option (List ℕ) × Node). entries_in spot.1 in
-    let has = IsEntryIn (range_of c.args.range.now) in
+    let has = IsEntryIn (range_of c.args.way.now.range.now) in
     let spots = spots_of c.args.nodes.now in
     let found = c.loop-node.invariant.honest.0 in
     let used = g.S.Shelf.used c.open_leaf.new.shelf in
-    let before = subst (λ (rest : List (Option (List ℕ) × Link)). HonestSoFar items has (number_of c.args.tree) 0 spots rest found (g.S.Shelf.used c.args.shelf.now) (g.S.Shelf.used c.loop-node.shelf))
+    let before = subst (λ (rest : List (Option (List ℕ) × Link)). HonestSoFar items has (number_of c.args.way.now.tree) 0 spots rest found (g.S.Shelf.used c.args.shelf.now) (g.S.Shelf.used c.loop-node.shelf))
     (rest_is c.args.nodes.now c.loop-node.node-index _ c.loop-node-test.true) c.loop-node.invariant.honest.2 in
     subst (λ (r : Result (Unit {0}) WalkFault). Outcome cause_of (λ (_ : Unit {0}). (those : List Binding) × AreThose has (entries_of_all all) those × Gains g.G.Gather.gathers c.args.gathered.now c.loop-node.gathered [] those) (IsOneOf all) (record { held = g.S.Shelf.holds c.open_leaf.new.shelf; before = g.S.Shelf.used c.args.shelf.now; after = used }) r)
     (sym (err_is c.from_residual.result c.in_err-entries.field-0.0 c.from_residual.ensures.1))
     (record {
-      ends = honest_stop items has (number_of c.args.tree) 0 (cause_of c.in_err-entries.field-0.0) (g.S.Shelf.holds c.open_leaf.new.shelf) spots (spots_of (drop (c.loop-node.node-index + 1) c.args.nodes.now)) _ found
+      ends = honest_stop items has (number_of c.args.way.now.tree) 0 (cause_of c.in_err-entries.field-0.0) (g.S.Shelf.holds c.open_leaf.new.shelf) spots (spots_of (drop (c.loop-node.node-index + 1) c.args.nodes.now)) _ found
           (g.S.Shelf.used c.args.shelf.now) (g.S.Shelf.used c.loop-node.shelf) used before c.open_leaf.ensures.grows (λ node is. (c.in_err-entries.ensures.answer node is).ends) all stated;
     })
 
@@ -53,7 +54,7 @@ returns-in_err-take-clause-fetches g c =
     let before = subst (λ (rest : List (Option (List ℕ) × Link)). FetchingLevel 0 so.0 (record { held = g.S.Shelf.holds c.loop-node.shelf; before = g.S.Shelf.used c.args.shelf.now; after = g.S.Shelf.used c.loop-node.shelf }) c.args.tally.now.fetches c.loop-node.tally.fetches rest)
     (rest_is c.args.nodes.now c.loop-node.node-index _ c.loop-node-test.true) so.1 in
     let next = level_step 0 (g.S.Shelf.used c.args.shelf.now) c.args.tally.now.fetches so.0 (g.S.Shelf.holds c.loop-node.shelf) (g.S.Shelf.holds c.open_leaf.new.shelf) (g.S.Shelf.used c.loop-node.shelf) (g.S.Shelf.used c.open_leaf.new.shelf)
-    c.loop-node.tally.fetches c.open_leaf.new.tally.fetches _ (spots_of (drop (c.loop-node.node-index + 1) c.args.nodes.now)) (Leaf (number_of c.args.tree) c.in_ok-entries.entries)
+    c.loop-node.tally.fetches c.open_leaf.new.tally.fetches _ (spots_of (drop (c.loop-node.node-index + 1) c.args.nodes.now)) (Leaf (number_of c.args.way.now.tree) c.in_ok-entries.entries)
     before c.open_leaf.ensures.stays c.in_ok-entries.ensures.opens refl c.in_ok-entries.ensures.agrees.1.0 in
     level_refused 0 (g.S.Shelf.used c.args.shelf.now) c.args.tally.now.fetches c.from_residual-in_err-take.result Memory (Some _) (g.S.Shelf.holds c.open_leaf.new.shelf) (g.S.Shelf.used c.open_leaf.new.shelf) c.open_leaf.new.tally.fetches
     (spots_of (drop (c.loop-node.node-index + 1) c.args.nodes.now)) (err_is c.from_residual-in_err-take.result Memory c.from_residual-in_err-take.ensures.1) next
@@ -61,7 +62,7 @@ returns-in_err-take-clause-fetches g c =
 pub loop-node-init : goal.loop-node-init
 loop-node-init g c =
     let items = λ (spot : Option (List ℕ) × Node). entries_in spot.1 in
-    let has = IsEntryIn (range_of c.args.range.now) in
+    let has = IsEntryIn (range_of c.args.way.now.range.now) in
     let spots = spots_of c.args.nodes.now in
     let used = g.S.Shelf.used c.args.shelf.now in
     record {
@@ -69,26 +70,26 @@ loop-node-init g c =
       stays = λ bytes. ((λ is. is), (λ is. is));
       grows = λ bytes was. was;
       level = (None, level_start 0 used c.args.tally.now.fetches (g.S.Shelf.holds c.args.shelf.now) spots c.requires.order);
-      honest = ([], gains_none g.G.Gather.gathers c.args.gathered.now, honest_start items has (number_of c.args.tree) 0 spots used);
+      honest = ([], gains_none g.G.Gather.gathers c.args.gathered.now, honest_start items has (number_of c.args.way.now.tree) 0 spots used);
     }
 
 pub loop-node-preserved : goal.loop-node-preserved
 loop-node-preserved g c =
     let items = λ (spot : Option (List ℕ) × Node). entries_in spot.1 in
-    let has = IsEntryIn (range_of c.args.range.now) in
+    let has = IsEntryIn (range_of c.args.way.now.range.now) in
     let spots = spots_of c.args.nodes.now in
     let rest = spots_of (drop (c.loop-node.node-index + 1) c.args.nodes.now) in
     let found = c.loop-node.invariant.honest.0 in
     let so = c.loop-node.invariant.level in
-    let node = Leaf (number_of c.args.tree) c.in_ok-entries.entries in
+    let node = Leaf (number_of c.args.way.now.tree) c.in_ok-entries.entries in
     let before = subst (λ (rest : List (Option (List ℕ) × Link)). FetchingLevel 0 so.0 (record { held = g.S.Shelf.holds c.loop-node.shelf; before = g.S.Shelf.used c.args.shelf.now; after = g.S.Shelf.used c.loop-node.shelf }) c.args.tally.now.fetches c.loop-node.tally.fetches rest)
     (rest_is c.args.nodes.now c.loop-node.node-index _ c.loop-node-test.true) so.1 in
     let next = level_step 0 (g.S.Shelf.used c.args.shelf.now) c.args.tally.now.fetches so.0 (g.S.Shelf.holds c.loop-node.shelf) (g.S.Shelf.holds c.open_leaf.new.shelf) (g.S.Shelf.used c.loop-node.shelf) (g.S.Shelf.used c.open_leaf.new.shelf)
     c.loop-node.tally.fetches c.open_leaf.new.tally.fetches _ rest node before c.open_leaf.ensures.stays c.in_ok-entries.ensures.opens refl c.in_ok-entries.ensures.agrees.1.0 in
     let picked = c.in_ok-take.ensures in
-    let honest_before = subst (λ (rest : List (Option (List ℕ) × Link)). HonestSoFar items has (number_of c.args.tree) 0 spots rest found (g.S.Shelf.used c.args.shelf.now) (g.S.Shelf.used c.loop-node.shelf))
+    let honest_before = subst (λ (rest : List (Option (List ℕ) × Link)). HonestSoFar items has (number_of c.args.way.now.tree) 0 spots rest found (g.S.Shelf.used c.args.shelf.now) (g.S.Shelf.used c.loop-node.shelf))
     (rest_is c.args.nodes.now c.loop-node.node-index _ c.loop-node-test.true) c.loop-node.invariant.honest.2 in
-    let honest = honest_step items has (number_of c.args.tree) 0 (Leaf (number_of c.args.tree)) c.in_ok-entries.entries spots rest _ found picked.0
+    let honest = honest_step items has (number_of c.args.way.now.tree) 0 (Leaf (number_of c.args.way.now.tree)) c.in_ok-entries.entries spots rest _ found picked.0
     (g.S.Shelf.used c.args.shelf.now) (g.S.Shelf.used c.loop-node.shelf) (g.S.Shelf.used c.open_leaf.new.shelf) honest_before c.open_leaf.ensures.grows (λ node is. (c.in_ok-entries.ensures.answer node is).ends) picked.1 in
     record {
       calls = c.open_leaf.ensures.calls ∙ c.loop-node.invariant.calls;
@@ -108,14 +109,26 @@ returns-clause-fetches g c =
 pub returns-clause-answer : goal.returns-clause-answer
 returns-clause-answer g c = λ all stated.
     let items = λ (spot : Option (List ℕ) × Node). entries_in spot.1 in
-    let has = IsEntryIn (range_of c.args.range.now) in
+    let has = IsEntryIn (range_of c.args.way.now.range.now) in
     let spots = spots_of c.args.nodes.now in
     let found = c.loop-node.invariant.honest.0 in
-    let so = subst (λ (rest : List Pending). HonestSoFar items has (number_of c.args.tree) 0 spots (spots_of rest) found (g.S.Shelf.used c.args.shelf.now) (g.S.Shelf.used c.loop-node.shelf))
+    let so = subst (λ (rest : List Pending). HonestSoFar items has (number_of c.args.way.now.tree) 0 spots (spots_of rest) found (g.S.Shelf.used c.args.shelf.now) (g.S.Shelf.used c.loop-node.shelf))
     (drop_of_length-le c.args.nodes.now c.loop-node-test.false) c.loop-node.invariant.honest.2 in
     record {
-      ends = elim (honest_end items has (number_of c.args.tree) 0 spots found (g.S.Shelf.used c.args.shelf.now) (g.S.Shelf.used c.loop-node.shelf) so all stated) [
+      ends = elim (honest_end items has (number_of c.args.way.now.tree) 0 spots found (g.S.Shelf.used c.args.shelf.now) (g.S.Shelf.used c.loop-node.shelf) so all stated) [
         | inl clash ↦ inl clash
         | inr ends ↦ inr ((found, ends.0, c.loop-node.invariant.honest.1), ends.1)
       ];
     }
+
+pub returns-in_err-entries-clause-told : goal.returns-in_err-entries-clause-told
+returns-in_err-entries-clause-told g c = λ top all.
+    let tree = number_of c.args.way.now.tree in
+    let used = g.S.Shelf.used c.open_leaf.new.shelf in
+    let grows = λ (x : List ℕ) (was : g.S.Shelf.used c.args.shelf.now x). c.open_leaf.ensures.grows x (c.loop-node.invariant.grows x was) in
+    let is = wanted_at used tree top 0 c.args.nodes.now c.loop-node.node-index _ c.loop-node-test.true (all_wanted_more (g.S.Shelf.used c.args.shelf.now) used tree top 0 (spots_of c.args.nodes.now) grows all) in
+    refused_for tree top _ used _ c.in_err-entries.field-0.0 c.from_residual.result (err_is c.from_residual.result c.in_err-entries.field-0.0 c.from_residual.ensures.1) is c.in_err-entries.ensures.told
+
+pub returns-in_err-take-clause-told : goal.returns-in_err-take-clause-told
+returns-in_err-take-clause-told g c = λ top all.
+    refused_memory _ _ _ _ c.from_residual-in_err-take.result (err_is c.from_residual-in_err-take.result Memory c.from_residual-in_err-take.ensures.1)

@@ -19,6 +19,6 @@ invariant-loop-node g l = record {
   grows : (bytes : List ℕ) → g.S.Shelf.used l.fn.shelf bytes → g.S.Shelf.used l.shelf bytes;
   level : (low : Option (List ℕ)) × FetchingLevel 0 low (record { held = g.S.Shelf.holds l.shelf; before = g.S.Shelf.used l.fn.shelf; after = g.S.Shelf.used l.shelf }) l.fn.tally.fetches l.tally.fetches (spots_of (drop l.node-index l.nodes));
   honest : (those : List Binding) × Gains g.G.Gather.gathers l.fn.gathered l.gathered [] those
-      × HonestSoFar (λ (spot : Option (List ℕ) × Node). entries_in spot.1) (IsEntryIn (range_of l.range)) (number_of l.tree) 0 (spots_of l.nodes) (spots_of (drop l.node-index l.nodes)) those
+      × HonestSoFar (λ (spot : Option (List ℕ) × Node). entries_in spot.1) (IsEntryIn (range_of l.way.range.now)) (number_of l.way.tree) 0 (spots_of l.nodes) (spots_of (drop l.node-index l.nodes)) those
       (g.S.Shelf.used l.fn.shelf) (g.S.Shelf.used l.shelf);
 }

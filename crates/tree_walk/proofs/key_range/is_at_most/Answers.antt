@@ -1,5 +1,5 @@
 use Rattle.std.proofs.Common.{arith}
-use Rattle.tree_walk.proofs.KeyLemmas.{at_most_unless}
+use Rattle.tree_walk.proofs.shared.KeyLemmas.{at_most_unless}
 use Rattle.tree_walk.proofs.key_range.is_at_most.Goals as goal
 
 pub returns-clause-told : goal.returns-clause-told

@@ -15,6 +15,11 @@ returns-in-Some-clause-given c = (
   ap digest c.bytes.ensures ∙ ap (λ p. digest (node_of p)) c.index.ensures ∙ c.in-Some.ensures.found.1 c.index.result.now,
 )
 
+pub returns-in-Some-clause-none : goal.returns-in-Some-clause-none
+returns-in-Some-clause-none c = λ none. absurd (none c.bytes.result.now
+    (c.in-Some.place, c.index.result.now, c.in-Some.ensures.found.0, sym c.index.ensures, sym c.bytes.ensures)
+    (ap digest c.bytes.ensures ∙ ap (λ p. digest (node_of p)) c.index.ensures ∙ c.in-Some.ensures.found.1 c.index.result.now))
+
 pub returns-in-Some-clause-grown : goal.returns-in-Some-clause-grown
 returns-in-Some-clause-grown c =
     subst (λ (n : List ℕ). GrownBy (HaveMarkedNode c.args.self.now.parts.items c.args.self.now.marks.items) (HaveMarkedNode c.args.self.now.parts.items (set c.args.self.now.marks.items c.in-Some.place true)) n) (sym c.bytes.ensures)

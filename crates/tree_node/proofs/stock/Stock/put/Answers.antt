@@ -2,7 +2,8 @@ use Rattle.std.proofs.Common.{◌≡◌, ℕ, sym, ap, ◌∙◌, inl}
 use Rattle.std.specs.Global.{Vec}
 use Rattle.std.proofs.lemmas.Slice.Eq.{bytes_eq-Decides}
 use Rattle.tree_node.specs.Digests.{digest}
-use Rattle.tree_node.proofs.MapLemmas.{put_grows, owns_after, stands, differ, copied_none}
+use Rattle.tree_node.proofs.MapLemmas.{put_grows, owns_after, stands, differ, copied_none, none_held}
+use Rattle.tree_node.specs.internal.RecorderLaws.{stands_once}
 use Rattle.tree_node.proofs.stock.Stock.put.Goals as goal
 
 pub returns-in-Some-clause-clash : goal.returns-in-Some-clause-clash
@@ -28,3 +29,39 @@ returns-in-Ok-clause-added c =
     (record { each = c.in-Ok.ensures.updates.0; here = c.in-Ok.ensures.updates.1 })
     (c.digest_of-key.ensures ∙ ap digest c.as_slice.ensures.value)
     (inl (sym c.get.ensures.value ∙ copied_none c.get.result c.in_default.not-Some))
+
+pub returns-then-eq-clause-clashes : goal.returns-then-eq-clause-clashes
+returns-then-eq-clause-clashes c =
+    let at = sym c.in-Some.ensures.value in
+    let own = c.args.self.now.own c.digest_of-key.result c.in-Some.node.now at in
+    let decides = bytes_eq-Decides c.as_slice-in-Some.result.now c.as_slice-in-Some-2.result.now in
+    let same : c.in-Some.node.now.items ≡ c.args.bytes.items = sym c.as_slice-in-Some.ensures.value ∙ decides.0 (sym c.eq.ensures ∙ c.if-eq.true) ∙ c.as_slice-in-Some-2.ensures.value in
+    λ x is differs clash. absurd (differs (stands_once c.args.self.now.nodes x c.in-Some.node.now.items is (stands c.args.self.now.nodes c.digest_of-key.result c.in-Some.node.now at own) (clash ∙ ap digest (sym same)) ∙ same))
+
+pub returns-in-Some-clause-there : goal.returns-in-Some-clause-there
+returns-in-Some-clause-there c =
+    let at = sym c.in-Some.ensures.value in
+    let own = c.args.self.now.own c.digest_of-key.result c.in-Some.node.now at in
+    let key = c.digest_of-key.ensures ∙ ap digest c.as_slice.ensures.value in
+    let decides = bytes_eq-Decides c.as_slice-in-Some.result.now c.as_slice-in-Some-2.result.now in
+    λ is. absurd (
+    let same = stands_once c.args.self.now.nodes c.in-Some.node.now.items c.args.bytes.items (stands c.args.self.now.nodes c.digest_of-key.result c.in-Some.node.now at own) is (own ∙ key) in
+    differ _ (decides.1 (c.as_slice-in-Some.ensures.value ∙ same ∙ sym c.as_slice-in-Some-2.ensures.value)) (sym c.eq.ensures ∙ c.if-eq.false))
+
+pub returns-in-Ok-clause-clashes : goal.returns-in-Ok-clause-clashes
+returns-in-Ok-clause-clashes c =
+    let none = sym c.get.ensures.value ∙ copied_none c.get.result c.in_default.not-Some in
+    let key = c.digest_of-key.ensures ∙ ap digest c.as_slice.ensures.value in
+    λ x is differs same. absurd (none_held c.args.self.now.nodes c.digest_of-key.result x none (key ∙ sym same) is)
+
+pub returns-clause-there : goal.returns-clause-there
+returns-clause-there c =
+    let none = sym c.get.ensures.value ∙ copied_none c.get.result c.in_default.not-Some in
+    let key = c.digest_of-key.ensures ∙ ap digest c.as_slice.ensures.value in
+    λ is. absurd (none_held c.args.self.now.nodes c.digest_of-key.result c.args.bytes.items none key is)
+
+pub returns-clause-clashes : goal.returns-clause-clashes
+returns-clause-clashes c =
+    let none = sym c.get.ensures.value ∙ copied_none c.get.result c.in_default.not-Some in
+    let key = c.digest_of-key.ensures ∙ ap digest c.as_slice.ensures.value in
+    λ x is differs same. absurd (none_held c.args.self.now.nodes c.digest_of-key.result x none (key ∙ sym same) is)

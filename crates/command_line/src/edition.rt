@@ -1,0 +1,13 @@
+//! The editions of a root over trees.
+
+/// The edition of a root over the four digest trees of a set.
+#[derive(Clone, Copy, Debug, PartialEq, Eq)]
+pub enum Edition {
+    /// The first edition, which has no sequence number.
+    One,
+    /// The second edition.
+    Two {
+        /// The number of this root in the publisher's sequence of roots, any `u64`.
+        sequence: u64,
+    },
+}

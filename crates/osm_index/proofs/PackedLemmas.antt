@@ -1,0 +1,30 @@
+-- Packed entries: what is cut from the bytes is what was packed into them.
+use Rattle.std.proofs.Common.{◌≡◌, ℕ, zero, suc, ◌+◌, ◌<◌, ◌≤◌, List, [], ◌∷◌, ◌++◌, length, map, take, drop, get_or, sum_by, refl, sym, ap, ◌∙◌, append_assoc, add-one, arith}
+use Rattle.std.specs.List.{flat_map}
+use Rattle.std.proofs.Math.Seq.{drop-cons}
+use Rattle.std.proofs.lemmas.List.{length-append, length-drop, take_at, drop_at}
+use Rattle.tree_node.specs.Nodes.{Binding}
+use Rattle.osm_index.specs.declared.entry_list.Span.{Span}
+use Rattle.osm_index.specs.internal.Listing.{cut, packed_len, span_of, text_of}
+
+-- so many entries of a packed list have been lent, and the rest is packed in what is left
+pub record IsLent (spans : List Span) (bytes : List ℕ) (lent : List Binding) (k : ℕ) (rest : List ℕ) : Type 0 where
+  pub whole : lent ++ cut (drop k spans) rest ≡ cut spans bytes
+  pub long : length rest ≡ packed_len (drop k spans)
+
+pub none_lent : (spans : List Span) (bytes : List ℕ) → length bytes ≡ packed_len spans → IsLent spans bytes [] 0 bytes
+none_lent spans bytes long = record { whole = refl; long = long }
+
+module _ (spans : List Span) (bytes : List ℕ) (lent : List Binding) (k : ℕ) (rest : List ℕ) (span : Span) (is : IsLent spans bytes lent k rest) (inside : k < length spans) (here : span ≡ get_or spans k span) where
+  ahead : drop k spans ≡ span ∷ drop (k + 1) spans
+  ahead = rw (add-one) (drop-cons spans k span inside ∙ ap (λ (x : Span). x ∷ drop (suc k) spans) (sym here))
+
+  -- the next entry is in what is left
+  pub room : span.key + span.value ≤ length rest
+  room = let e = is.long in let f = ap packed_len ahead in omega (arith, e, f)
+
+  pub one_more : IsLent spans bytes (lent ++ record { key = take span.key rest; value = take span.value (drop span.key rest) } ∷ []) (k + 1) (drop span.value (drop span.key rest))
+  one_more = record {
+    whole = append_assoc lent (record { key = take span.key rest; value = take span.value (drop span.key rest) } ∷ []) (cut (drop (k + 1) spans) (drop span.value (drop span.key rest))) ∙ (sym (ap (λ (xs : List Span). lent ++ cut xs rest) ahead) ∙ is.whole);
+    long = let e = is.long in let f = ap packed_len ahead in let l = length-drop span.key rest in let m = length-drop span.value (drop span.key rest) in omega (arith, e, f, l, m, room);
+  }

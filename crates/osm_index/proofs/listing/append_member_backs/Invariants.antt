@@ -1,0 +1,7 @@
+use Rattle.std.proofs.Common.{map, take}
+use Rattle.std.specs.List.{flat_map}
+use Rattle.osm_index.specs.internal.Listing.{Gains, entries_from, member_back, node_back, tag_of}
+use Rattle.osm_index.proofs.listing.append_member_backs.Given as goal
+
+abbrev pub invariant-loop-member : goal.invariant-loop-member
+invariant-loop-member l = Gains l.fn.bytes.items l.bytes.items l.fn.spans.items l.spans.items (map (member_back l.fn.name) (take l.member-index l.members))

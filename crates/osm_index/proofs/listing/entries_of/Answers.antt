@@ -1,0 +1,23 @@
+use Rattle.std.proofs.Common.{◌≡◌, List, length, map, subst, sym, ◌∙◌}
+use Rattle.std.specs.List.{flat_map}
+use Rattle.tree_node.specs.Nodes.{Binding}
+use Rattle.osm_index.specs.internal.Listing.{Gains, IsKeyed, cut, entries_from, packed_len, span_of, text_of}
+use Rattle.osm_index.proofs.ListingLemmas.{cut_as_packed, keyed, long_as_packed, members_are}
+use Rattle.osm_index.proofs.listing.entries_of.Goals as goal
+
+pub new-requires : goal.new-requires
+new-requires c =
+    let gains = rw (c.new-bytes.ensures.items, c.new-spans.ensures.items, c.as_slice.ensures.value) at c.in_ok-append_objects.ensures in
+    rw (gains.texts, gains.lengths) (long_as_packed (flat_map (entries_from c.args.tree) c.args.set.now))
+
+pub returns-clause-members : goal.returns-clause-members
+returns-clause-members c =
+    let gains = rw (c.new-bytes.ensures.items, c.new-spans.ensures.items, c.as_slice.ensures.value) at c.in_ok-append_objects.ensures in
+    let list : c.new.result ≡ flat_map (entries_from c.args.tree) c.args.set.now = c.new.ensures ∙ rw (gains.texts, gains.lengths) (cut_as_packed (flat_map (entries_from c.args.tree) c.args.set.now)) in
+    λ b. rw list (members_are c.args.set.now c.args.tree b)
+
+pub returns-clause-keyed : goal.returns-clause-keyed
+returns-clause-keyed c =
+    let gains = rw (c.new-bytes.ensures.items, c.new-spans.ensures.items, c.as_slice.ensures.value) at c.in_ok-append_objects.ensures in
+    let list : c.new.result ≡ flat_map (entries_from c.args.tree) c.args.set.now = c.new.ensures ∙ rw (gains.texts, gains.lengths) (cut_as_packed (flat_map (entries_from c.args.tree) c.args.set.now)) in
+    subst IsKeyed (sym list) (keyed c.args.set.now c.as_slice.ensures.set c.args.tree)

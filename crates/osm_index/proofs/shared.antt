@@ -1,0 +1,5 @@
+-- Lemmas for the crates above.
+pub mod Members
+pub mod OneObject
+pub mod RangeLaws
+pub mod OnePublication

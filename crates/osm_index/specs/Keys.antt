@@ -1,0 +1,51 @@
+-- The keys of the four trees of a set of objects. Numbers are written with the greatest byte first.
+-- Source: this project's trees, docs/FORMATS.md.
+use Rattle.std.specs.Int.{to_be_bytes, cast_unsigned, w16, w32, w64}
+use Rattle.std.specs.Prelude.{ℕ, ◌+◌, ◌/◌, ◌^◌, List, [], ◌∷◌, ◌++◌, ℤ, pos, ◌+ℤ◌, unsigned_abs}
+use Rattle.osm_model.specs.Elements.{kind_byte}
+use Rattle.osm_model.specs.Places.{Place}
+use Rattle.osm_model.specs.declared.reference.Ref.{Ref}
+
+-- how far a number is above the least one, which is `least` below 0
+abbrev pub above : ℕ → ℤ → ℕ
+above least z = unsigned_abs (z +ℤ pos least)
+
+-- an id in eight bytes: the number of ids below it
+unfoldable pub id_bytes : ℤ → List ℕ
+id_bytes id = to_be_bytes w64 (above (2 ^ 63) id)
+
+-- a reference in nine bytes: its kind and its id
+abbrev pub ref_key : Ref → List ℕ
+ref_key r = kind_byte r.kind ∷ id_bytes r.id
+
+-- a key and a value, each ended by a NUL
+abbrev pub tag_prefix : List ℕ → List ℕ → List ℕ
+tag_prefix key value = (key ++ 0 ∷ []) ++ (value ++ 0 ∷ [])
+
+-- a tag of the object with this reference
+abbrev pub tag_key : List ℕ → List ℕ → Ref → List ℕ
+tag_key key value r = tag_prefix key value ++ ref_key r
+
+-- the row and the column of the cell that a location lies in, a tenth of a degree high and wide: from the south, and
+-- from the west
+abbrev pub row : ℤ → ℕ
+row lat = above 900000000 lat / 1000000
+
+abbrev pub column : ℤ → ℕ
+column lon = above 1800000000 lon / 1000000
+
+-- a cell in four bytes
+unfoldable pub cell_bytes : ℕ → ℕ → List ℕ
+cell_bytes row column = to_be_bytes w16 row ++ to_be_bytes w16 column
+
+-- a node of the map by the cell that it lies in: twelve bytes
+abbrev pub cell_key : Place → ℤ → List ℕ
+cell_key place id = cell_bytes (row place.lat) (column place.lon) ++ id_bytes id
+
+-- a location: longitude and latitude in 1e-7 degree, four bytes each, as two's complement
+unfoldable pub cell_value : Place → List ℕ
+cell_value place = to_be_bytes w32 (cast_unsigned w32 place.lon) ++ to_be_bytes w32 (cast_unsigned w32 place.lat)
+
+-- an object that another one lists, and the other one
+abbrev pub back_key : Ref → Ref → List ℕ
+back_key target referrer = ref_key target ++ ref_key referrer

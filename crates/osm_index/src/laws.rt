@@ -1,0 +1,79 @@
+//! Laws of publications: what the ranges of keys find in the trees of a set of objects. There is nothing
+//! to do when they run.
+
+ghost use Rattle.std.specs.Int.{w64};
+ghost use Rattle.std.specs.List.{Contains};
+ghost use Rattle.std.specs.Prelude.{◌≡◌, ◌↔◌, ℕ, FitsSigned, List, Option, Some};
+ghost use Rattle.osm_model.specs.Elements.{Element, kind_of, reference};
+ghost use Rattle.osm_model.specs.Limits.{HasNoNul};
+ghost use Rattle.osm_model.specs.Tagged.{HasTag};
+ghost use Rattle.osm_model.specs.Membership.{BodyLists};
+ghost use Rattle.osm_model.specs.Sets.{object_at};
+ghost use Rattle.osm_model.specs.declared.kind.Kind.{Kind};
+ghost use Rattle.osm_model.specs.declared.reference.Ref.{Ref};
+ghost use Rattle.tree_node.specs.Nodes.{Binding};
+ghost use Rattle.tree_walk.specs.Choices.{AreThose};
+ghost use Rattle.tree_walk.specs.Walks.{IsEntryIn};
+ghost use Rattle.osm_index.specs.Entries.{back_entry, object_entry, tag_entry};
+ghost use Rattle.osm_index.specs.Publications.{IsPublication, Publication, root_of};
+ghost use Rattle.osm_index.specs.Snapshots.{HasTooMany, IsPublicationOf};
+ghost use Rattle.osm_index.specs.declared.edition.Edition.{Edition};
+ghost use Rattle.tree_node.specs.Trees.{HasTree};
+ghost use Rattle.tree_node.specs.declared.tree.Tree.{Tree};
+ghost use Rattle.osm_index.specs.Ranges.{IsKindOf, back_range, kind_range, object_range, tag_key_range, tag_range};
+ghost use Rattle.tree_node.specs.declared.tree.Tree.TheVariants.{Objects, Tags, Backs};
+
+/// The law of publications: a set of objects has one in an edition, and so one root.
+pub fn publication_law()
+    ensures entries { (p q : Publication) → IsPublication p → IsPublication q → p.objects ≡ q.objects
+        → (tree : Tree) → p.entries tree ≡ q.entries tree }
+    ensures root { (p q : Publication) → IsPublication p → IsPublication q → p.objects ≡ q.objects
+        → p.edition ≡ q.edition → root_of p ≡ root_of q }
+    // A set that has a publication has no tree with too many entries,
+    ensures few { (objects : List Element) (edition : Edition) (p : Publication)
+        → IsPublicationOf objects edition p → ¬ HasTooMany objects }
+    // and each list of entries has a tree.
+    ensures trees { (p : Publication) → IsPublication p → (tree : Tree) → HasTree (p.entries tree) }
+{}
+
+/// The law of the range of one object: it finds that object's entry, where the object is in the set.
+pub fn object_law()
+    ensures { (p : Publication) → IsPublication p → (r : Ref) → FitsSigned w64 r.id → (found : List Binding)
+        → AreThose (IsEntryIn (object_range r)) (p.entries Objects) found
+        → (b : Binding) → Contains found b ↔ ((o : Element) × (object_at p.objects r ≡ Some o) × (b ≡ object_entry o)) }
+{}
+
+/// The law of the range of a kind: it finds just the entries of the objects of that kind.
+pub fn kind_law()
+    ensures { (p : Publication) → IsPublication p → (kind : Kind) (found : List Binding)
+        → AreThose (IsEntryIn (kind_range kind)) (p.entries Objects) found
+        → (b : Binding) → Contains found b ↔ ((o : Element) × Contains p.objects o × (kind_of o.body ≡ kind) × (b ≡ object_entry o)) }
+{}
+
+/// The law of a tag range: it finds just the objects of the kind that have the tag. Key and value have no
+/// NUL, as those of objects.
+pub fn tag_law()
+    ensures { (p : Publication) → IsPublication p → (key value : List ℕ) → HasNoNul key → HasNoNul value
+        → (kind : Option Kind) (found : List Binding)
+        → AreThose (IsEntryIn (tag_range key value kind)) (p.entries Tags) found
+        → (b : Binding) → Contains found b ↔ ((o : Element) × Contains p.objects o × IsKindOf kind (reference o)
+        × HasTag o key value × (b ≡ tag_entry key value (reference o))) }
+{}
+
+/// The law of the range of a tag's key: it finds just the objects that have a tag with that key. The key
+/// has no NUL, as those of objects.
+pub fn tag_key_law()
+    ensures { (p : Publication) → IsPublication p → (key : List ℕ) → HasNoNul key → (found : List Binding)
+        → AreThose (IsEntryIn (tag_key_range key)) (p.entries Tags) found
+        → (b : Binding) → Contains found b ↔ ((o : Element) × (value : List ℕ) × Contains p.objects o × HasNoNul value
+        × HasTag o key value × (b ≡ tag_entry key value (reference o))) }
+{}
+
+/// The law of a back range: it finds just the objects of the kind that list the target, which needn't be
+/// in the set.
+pub fn back_law()
+    ensures { (p : Publication) → IsPublication p → (target : Ref) → FitsSigned w64 target.id → (kind : Kind) (found : List Binding)
+        → AreThose (IsEntryIn (back_range target kind)) (p.entries Backs) found
+        → (b : Binding) → Contains found b ↔ ((o : Element) × Contains p.objects o × (kind_of o.body ≡ kind)
+        × BodyLists o.body target × (b ≡ back_entry target (reference o))) }
+{}

@@ -1,0 +1,29 @@
+//! What the digest trees of a set of objects hold, how they are built, and the root that stands for them.
+//!
+//! [`entries_of`] lists the entries of one tree, and [`Snapshot::build`] builds all four and makes the
+//! manifest and the root. The key and range writers name the keys in which a question about a set is
+//! answered.
+#![tactic(auto)]
+
+mod edition;
+mod entry_list;
+mod fault;
+mod keys;
+mod laws;
+mod listing;
+mod manifest;
+mod ranges;
+mod snapshot;
+
+pub use edition::Edition;
+pub use entry_list::EntryList;
+pub use fault::IndexFault;
+pub use keys::{append_tag_key, back_key, cell_key, cell_value, reference_key};
+pub use laws::{back_law, kind_law, object_law, publication_law, tag_key_law, tag_law};
+pub use listing::entries_of;
+pub use manifest::{Manifest, write_manifest};
+pub use ranges::{OwnedRange, back_range, kind_range, object_range, tag_key_range, tag_range};
+pub use snapshot::Snapshot;
+
+#[cfg(test)]
+mod tests;

@@ -1,0 +1,6 @@
+use Rattle.osm_model.specs.internal.DecimalParts.{decimal_of}
+use Rattle.osm_model.proofs.EdgeUnits.{ceiling_within, same_number}
+use Rattle.osm_model.proofs.edge.Edge.ceiling_units.Goals as goal
+
+pub returns-clause-within : goal.returns-clause-within
+returns-clause-within c = rw (← c.self.view_is) (same_number c.self.inside.axis c.self.inside.ceiling (ceiling_within (record { axis = c.self.inside.axis; value = decimal_of c.self.inside.parts }) c.self.invariant.0 c.self.inside.ceiling c.self.invariant.1.at_least))

@@ -1,0 +1,7 @@
+-- Lengths of texts, in 64 bits.
+-- Source: this project.
+use Rattle.std.specs.Prelude.{ℕ, ◌-◌, ◌^◌, min}
+
+-- a greater number is told as the greatest one
+abbrev pub capped : ℕ → ℕ
+capped n = min n (2 ^ 64 - 1)

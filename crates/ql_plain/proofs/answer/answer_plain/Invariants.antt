@@ -1,0 +1,9 @@
+use Rattle.std.proofs.Common.{take}
+use Rattle.ql_syntax.specs.StatementViews.{statements_of}
+use Rattle.ql_plain.specs.Meanings.{nothing_named}
+use Rattle.ql_plain.specs.internal.NamedSets.{lists_of}
+use Rattle.ql_plain.specs.internal.Runs.{PrintsTo}
+use Rattle.ql_plain.proofs.answer.answer_plain.Given as goal
+
+abbrev pub invariant-loop-statement : goal.invariant-loop-statement
+invariant-loop-statement l = PrintsTo l.set (statements_of (take l.statement-index l.statements)) nothing_named (lists_of l.sets.named.items) l.text.items

@@ -1,0 +1,5 @@
+pub mod BaseSoFar
+pub mod Counted
+pub mod LeastSoFar
+pub mod Parts
+pub mod PlanLaws

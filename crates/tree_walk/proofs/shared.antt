@@ -1,0 +1,4 @@
+-- Lemmas for the crates above.
+pub mod FoundLemmas
+pub mod KeyLemmas
+pub mod WalkedLaws
