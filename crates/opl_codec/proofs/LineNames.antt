@@ -23,7 +23,7 @@ use Rattle.opl_codec.specs.declared.line.TheConstants.{LONGEST_LINE}
 use Rattle.opl_codec.specs.declared.line_parts.LineParts.{LineParts}
 use Rattle.opl_codec.proofs.LineFields.{fields_apart, first_is, read_first, read_all, read_more}
 use Rattle.opl_codec.proofs.LineSteps.{byte_ascii, field_cut}
-use Rattle.opl_codec.proofs.ReadFields.{field_behind}
+use Rattle.opl_codec.proofs.ReadFields.{field_appended}
 
 -- ---- the first byte
 no_zero : (kind : Kind) → kind_letter kind ≢ 0
@@ -131,7 +131,7 @@ once_more kind [] c u once none known = (refl, tt)
 once_more kind ([] ∷ done) c u once none known = absurd (let low = (byte_ascii known.0.0).0 in omega (arith, known.0.1))
 once_more kind ((x ∷ text) ∷ done) c u once none known =
     let parts = not_first x c text done none in
-    (field_behind x done ((c ∷ u) ∷ []) once.0 ∙ not_here c x u parts.0, once_more kind done c u once.1 parts.1 known.1)
+    (field_appended x done ((c ∷ u) ∷ []) once.0 ∙ not_here c x u parts.0, once_more kind done c u once.1 parts.1 known.1)
 
 known_more : (kind : Kind) (done : List (List ℕ)) (f : List ℕ) → Known kind done → IsLetterOf kind (letter_of f) → Known kind (done ++ f ∷ [])
 known_more kind [] f known is = (is, tt)

@@ -5,12 +5,12 @@ use Rattle.opl_codec.specs.Fields.{field, IsOnce}
 use Rattle.opl_codec.proofs.ReadPieces.{equal_from}
 
 -- a field that isn't among the first is found among the others
-pub field_behind : (c : ℕ) (done more : List (List ℕ)) → field c done ≡ None → field c (done ++ more) ≡ field c more
-field_behind c [] more none = refl
-field_behind c ([] ∷ done) more none = field_behind c done more none
-field_behind c ((x ∷ text) ∷ done) more none = elim (x == c) as (λ b. cond b (Some text) (field c done) ≡ None → cond b (Some text) (field c (done ++ more)) ≡ field c more) [
+pub field_appended : (c : ℕ) (done more : List (List ℕ)) → field c done ≡ None → field c (done ++ more) ≡ field c more
+field_appended c [] more none = refl
+field_appended c ([] ∷ done) more none = field_appended c done more none
+field_appended c ((x ∷ text) ∷ done) more none = elim (x == c) as (λ b. cond b (Some text) (field c done) ≡ None → cond b (Some text) (field c (done ++ more)) ≡ field c more) [
   | true ↦ λ e. cc
-  | false ↦ λ e. field_behind c done more e
+  | false ↦ λ e. field_appended c done more e
 ] none
 
 same_letter : (c : ℕ) → (c == c) ≡ true
@@ -46,12 +46,12 @@ other_field c d u ((x ∷ text) ∷ done) differ = ap (cond (x == c) (Some text)
 
 -- the new field is found
 pub new_field : (c : ℕ) (u : List ℕ) (done : List (List ℕ)) → field c done ≡ None → field c (done ++ (c ∷ u) ∷ []) ≡ Some u
-new_field c u done none = field_behind c done ((c ∷ u) ∷ []) none ∙ found_at c u []
+new_field c u done none = field_appended c done ((c ∷ u) ∷ []) none ∙ found_at c u []
 
 -- where each letter stands once, the field that stands there is the one that is found
 pub only_field : (done rest : List (List ℕ)) (c : ℕ) (u : List ℕ) → IsOnce (done ++ (c ∷ u) ∷ rest) → field c (done ++ (c ∷ u) ∷ rest) ≡ Some u
 only_field done rest c u once = from (field c done) refl
   where
     from : (found : Option (List ℕ)) → field c done ≡ found → field c (done ++ (c ∷ u) ∷ rest) ≡ Some u
-    from None e = field_behind c done ((c ∷ u) ∷ rest) e ∙ found_at c u rest
+    from None e = field_appended c done ((c ∷ u) ∷ rest) e ∙ found_at c u rest
     from (Some t) e = absurd (twice c done u rest (λ none. absurd (let s = e in cc)) once)

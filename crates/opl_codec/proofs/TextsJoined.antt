@@ -48,8 +48,8 @@ escape_more bytes i n lt text begins within ends escape =
     let spelled = 37 ∷ (digits ++ 37 ∷ []) in
     let tail = drop (n + 1) after in
     let cut : after ≡ digits ++ 37 ∷ tail = sym (take-append-drop n after) ∙ ap (λ r. digits ++ r) (drop_more after n 0 within ∙ ap (λ b. b ∷ tail) ends) in
-    let behind : drop i bytes ≡ spelled ++ tail = drop_more bytes i 0 lt ∙ (ap (λ b. b ∷ after) begins ∙ ap (λ r. 37 ∷ r) (cut ∙ sym (append_assoc digits (37 ∷ []) tail))) in
-    let whole : bytes ≡ (front ++ spelled) ++ tail = sym (take-append-drop i bytes) ∙ (ap (λ r. front ++ r) behind ∙ sym (append_assoc front spelled tail)) in
+    let following : drop i bytes ≡ spelled ++ tail = drop_more bytes i 0 lt ∙ (ap (λ b. b ∷ after) begins ∙ ap (λ r. 37 ∷ r) (cut ∙ sym (append_assoc digits (37 ∷ []) tail))) in
+    let whole : bytes ≡ (front ++ spelled) ++ tail = sym (take-append-drop i bytes) ∙ (ap (λ r. front ++ r) following ∙ sym (append_assoc front spelled tail)) in
     let front_len : length front ≡ i = length-take-le i bytes (omega arith) in
     let digits_len : length digits ≡ n = length-take-le n after (omega arith) in
     let long : length (front ++ spelled) ≡ i + (n + 2) = omega (arith, length-append front spelled, length-append digits (37 ∷ []), front_len, digits_len) in
@@ -129,8 +129,8 @@ begins_text after is = begins_character is.1.characters after is.1.are is.1.spel
 -- the first `%` of a text begins an escape
 pub first_escape : (text : List ℕ) (len : ℕ) → IsText text → len < length text → get_or text len 0 ≡ 37 → ((k : ℕ) → k < len → get_or text k 0 ≢ 37) → BeginsText (drop (len + 1) text)
 first_escape text len is lt here none =
-    let behind : drop len text ≡ 37 ∷ drop (len + 1) text = drop_more text len 0 lt ∙ ap (λ b. b ∷ drop (len + 1) text) here in
-    begins_text (drop (len + 1) text) (subst IsText behind (literal_front text len is none).1)
+    let following : drop len text ≡ 37 ∷ drop (len + 1) text = drop_more text len 0 lt ∙ ap (λ b. b ∷ drop (len + 1) text) here in
+    begins_text (drop (len + 1) text) (subst IsText following (literal_front text len is none).1)
 
 -- a text up to its first escape and with it, and what comes after that
 pub record OneStep (text rest : List ℕ) (len n : ℕ) : Type 0 where
@@ -146,8 +146,8 @@ one_step text after rest len n is lt here none after_is rest_is within ends esca
     let cut : after ≡ digits ++ 37 ∷ rest = sym (take-append-drop n after) ∙ ap (λ r. digits ++ r) (drop_more after n 0 within ∙ (ap (λ b. b ∷ drop (n + 1) after) ends ∙ ap (λ r. 37 ∷ r) (sym rest_is))) in
     let same = digits_apart digits found.digits rest found.rest escape.hexadecimal found.escape.hexadecimal (sym cut ∙ (after_is ∙ found.parts)) in
     let spelled = 37 ∷ (digits ++ 37 ∷ []) in
-    let behind : drop len text ≡ spelled ++ rest = drop_more text len 0 lt ∙ (ap (λ b. b ∷ drop (len + 1) text) here ∙ ap (λ r. 37 ∷ r) (sym after_is ∙ (cut ∙ sym (append_assoc digits (37 ∷ []) rest)))) in
-    let whole : text ≡ front ++ (spelled ++ rest) = sym (take-append-drop len text) ∙ ap (λ r. front ++ r) behind in
+    let following : drop len text ≡ spelled ++ rest = drop_more text len 0 lt ∙ (ap (λ b. b ∷ drop (len + 1) text) here ∙ ap (λ r. 37 ∷ r) (sym after_is ∙ (cut ∙ sym (append_assoc digits (37 ∷ []) rest)))) in
+    let whole : text ≡ front ++ (spelled ++ rest) = sym (take-append-drop len text) ∙ ap (λ r. front ++ r) following in
     let literal : SpellsText front front = (literal_front text len is none).0 in
     let value = encode_utf8 (digits_value 16 digits) in
     let means : (t : List ℕ) → SpellsText rest t → SpellsText text (front ++ (value ++ t))
@@ -168,13 +168,13 @@ pub front_misfit : (bytes : List ℕ) (len : ℕ) → IsTextFront bytes len → 
 front_misfit bytes len front other =
     let within : len ≤ length bytes = front.within in
     let lt : len < length bytes = omega (arith, within, other) in
-    let behind = drop_more bytes len 0 lt in
-    let stop : EndsText (get_or bytes len 0 ∷ drop (len + 1) bytes) = subst EndsText behind front.ends in
+    let following = drop_more bytes len 0 lt in
+    let stop : EndsText (get_or bytes len 0 ∷ drop (len + 1) bytes) = subst EndsText following front.ends in
     record {
       front = take len bytes;
       byte = get_or bytes len 0;
       rest = drop (len + 1) bytes;
-      spelled_is = sym (take-append-drop len bytes) ∙ ap (λ r. take len bytes ++ r) behind;
+      spelled_is = sym (take-append-drop len bytes) ∙ ap (λ r. take len bytes ++ r) following;
       text = front.text;
       misfit = stop.0;
       no_escape = stop.1;

@@ -1,4 +1,4 @@
--- The order of decimals: by their whole digits, then by those behind the point.
+-- The order of decimals: by their whole digits, then by those after the point.
 use Rattle.std.proofs.Common.{◌≡◌, ◌↔◌, ℕ, zero, suc, ◌+◌, ◌*◌, ◌^◌, ◌<◌, ◌≤◌, Bool, true, false, not, IsTrue, List, length, Option, Some, None, pos, neg_ℤ, ◌≤ℤ◌, ◌<ℤ◌, refl, sym, ◌∙◌, arith}
 use Rattle.std.proofs.Math.Nat.{mul-le-mul}
 use Rattle.std.proofs.lemmas.Int.{ints}
@@ -13,7 +13,7 @@ use Rattle.osm_model.specs.Edges.{size, scale, IsAtLeast, IsAtMost, IsAbove}
 use Rattle.osm_model.proofs.shared.Digits.{after_append}
 use Rattle.osm_model.proofs.Decimals.{power_some}
 use Rattle.osm_model.proofs.Around.{with_sign-mul}
-use Rattle.osm_model.proofs.EdgeSizes.{value_behind}
+use Rattle.osm_model.proofs.EdgeSizes.{value_followed}
 use Rattle.osm_model.proofs.Leading.{same_order, wholes}
 
 pub all_digits : (f : Option (List ℕ)) → IsFraction f → AllDigits 10 (decimals f)
@@ -21,7 +21,7 @@ all_digits None h = tt
 all_digits (Some digits) h = h.1
 
 sized : (d : Decimal) → size d ≡ digits_value 10 d.whole * scale d + digits_value 10 (decimals d.fraction)
-sized d = after_append 0 d.whole (decimals d.fraction) ∙ value_behind (digits_value 10 d.whole) (decimals d.fraction)
+sized d = after_append 0 d.whole (decimals d.fraction) ∙ value_followed (digits_value 10 d.whole) (decimals d.fraction)
 
 pub by_wholes : (d e : Decimal) → IsDecimal d → digits_value 10 d.whole < digits_value 10 e.whole → size d * scale e < size e * scale d
 by_wholes d e is less =

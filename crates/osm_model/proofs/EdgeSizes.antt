@@ -17,16 +17,16 @@ use Rattle.osm_model.proofs.shared.Digits.{after_append, over}
 use Rattle.osm_model.proofs.Decimals.{power_some}
 use Rattle.osm_model.proofs.Around.{cut, up_to, from, with_sign-mul}
 
--- digits behind a number
-pub value_behind : (n : ℕ) (ds : List ℕ) → digits_value_after 10 n ds ≡ n * 10 ^ length ds + digits_value 10 ds
-value_behind n [] = omega arith
-value_behind n (d ∷ ds) =
-    let first = value_behind (n * 10 + digit_value d) ds in
-    let second = value_behind (0 * 10 + digit_value d) ds in
+-- digits after a number
+pub value_followed : (n : ℕ) (ds : List ℕ) → digits_value_after 10 n ds ≡ n * 10 ^ length ds + digits_value 10 ds
+value_followed n [] = omega arith
+value_followed n (d ∷ ds) =
+    let first = value_followed (n * 10 + digit_value d) ds in
+    let second = value_followed (0 * 10 + digit_value d) ds in
     rw (pow-suc 10 (length ds)) (omega (arith, first, second))
 
 pub value_cut : (whole first rest : List ℕ) → digits_value 10 (whole ++ (first ++ rest)) ≡ digits_value 10 (whole ++ first) * 10 ^ length rest + digits_value 10 rest
-value_cut whole first rest = ap (digits_value 10) (sym (append_assoc whole first rest)) ∙ after_append 0 (whole ++ first) rest ∙ value_behind (digits_value 10 (whole ++ first)) rest
+value_cut whole first rest = ap (digits_value 10) (sym (append_assoc whole first rest)) ∙ after_append 0 (whole ++ first) rest ∙ value_followed (digits_value 10 (whole ++ first)) rest
 
 pub digits_right : (xs ys : List ℕ) → AllDigits 10 (xs ++ ys) → AllDigits 10 ys
 digits_right [] ys h = h
@@ -45,7 +45,7 @@ is_zero d digit none = grind (arith, nat_tests)
 pub only_zeros : (ds : List ℕ) → AllDigits 10 ds → digits_value 10 ds ≡ 0 → All (λ d. d ≡ 48) ds
 only_zeros [] digits h = All-nil (λ d. d ≡ 48)
 only_zeros (d ∷ ds) digits h =
-    let parts = value_behind (0 * 10 + digit_value d) ds in
+    let parts = value_followed (0 * 10 + digit_value d) ds in
     let some = power_some (length ds) in
     let large : digit_value d * 1 ≤ digit_value d * 10 ^ length ds = mul-le-mul_left (digit_value d) some in
     let none : digit_value d ≡ 0 = omega (arith, large, parts, h) in
@@ -126,7 +126,7 @@ out_of_range axis negative whole digits fraction f c same near over more within 
 pub few_whole : (e : ExactEdge) → IsEdge e → digits_value 10 e.value.whole ≤ 10000000000
 few_whole e is =
     let digits = decimals e.value.fraction in
-    let parts : size e.value ≡ digits_value 10 e.value.whole * scale e.value + digits_value 10 digits = after_append 0 e.value.whole digits ∙ value_behind (digits_value 10 e.value.whole) digits in
+    let parts : size e.value ≡ digits_value 10 e.value.whole * scale e.value + digits_value 10 digits = after_append 0 e.value.whole digits ∙ value_followed (digits_value 10 e.value.whole) digits in
     let some : 0 < scale e.value = power_some (length digits) in
     let low = mul-le-mul_right (scale e.value) (limits e.axis) in
     elim (cases_lt 10000000000 (digits_value 10 e.value.whole)) [

@@ -1,4 +1,4 @@
--- Digits in order of their places, with zeros behind the last.
+-- Digits in order of their places, with zeros after the last.
 use Rattle.std.proofs.Common.{◌≡◌, ℕ, zero, suc, ◌+◌, ◌-◌, ◌*◌, ◌^◌, ◌<◌, ◌≤◌, List, [], ◌∷◌, length, get_or, take, refl, sym, ◌∙◌, ap, arith, add-one, add-zero, add-suc}
 use Rattle.std.proofs.Math.Nat.{mul-le-mul_right, pow-suc}
 use Rattle.std.proofs.Math.Seq.{take-length}
@@ -31,11 +31,11 @@ front ds (suc i) h =
 leading-all : (ds : List ℕ) → leading ds (length ds) ≡ digits_value 10 ds
 leading-all ds = front ds (length ds) (omega arith) ∙ ap (digits_value 10) (take-length ds)
 
--- behind the last digit each place is one more factor of ten
-behind : (ds : List ℕ) (i j : ℕ) → length ds ≤ i → leading ds (i + j) ≡ leading ds i * 10 ^ j
-behind ds i zero past = rw (add-zero i) (omega arith)
-behind ds i (suc j) past =
-    let before = behind ds i j past in
+-- after the last digit each place is one more factor of ten
+past_end : (ds : List ℕ) (i j : ℕ) → length ds ≤ i → leading ds (i + j) ≡ leading ds i * 10 ^ j
+past_end ds i zero past = rw (add-zero i) (omega arith)
+past_end ds i (suc j) past =
+    let before = past_end ds i j past in
     let none : get_or ds (i + j) 48 ≡ 48 = get_or_past ds (i + j) 48 (omega arith) in
     rw (add-suc i j, none, before, pow-suc 10 j) (omega arith)
 
@@ -54,7 +54,7 @@ stays xs ys i (suc j) digits h =
 
 -- all digits, with as many zeros
 whole : (xs ys : List ℕ) → leading xs (length xs + length ys) ≡ digits_value 10 xs * 10 ^ length ys
-whole xs ys = behind xs (length xs) (length ys) (omega arith) ∙ ap (λ n. n * 10 ^ length ys) (leading-all xs)
+whole xs ys = past_end xs (length xs) (length ys) (omega arith) ∙ ap (λ n. n * 10 ^ length ys) (leading-all xs)
 
 -- the first place at which two differ decides
 pub decided : (xs ys : List ℕ) (i : ℕ) → AllDigits 10 xs → i < length xs + length ys → leading xs i ≡ leading ys i → digit_value (get_or xs i 48) < digit_value (get_or ys i 48)
@@ -74,7 +74,7 @@ alike xs ys i past_xs past_ys within same =
     let j : ℕ = length xs + length ys - i in
     let end : i + j ≡ length xs + length ys = omega arith in
     let turned : length xs + length ys ≡ length ys + length xs = omega arith in
-    sym (whole xs ys) ∙ ap (leading xs) (sym end) ∙ behind xs i j past_xs ∙ ap (λ n. n * 10 ^ j) same ∙ sym (behind ys i j past_ys) ∙ ap (leading ys) (end ∙ turned) ∙ whole ys xs
+    sym (whole xs ys) ∙ ap (leading xs) (sym end) ∙ past_end xs i j past_xs ∙ ap (λ n. n * 10 ^ j) same ∙ sym (past_end ys i j past_ys) ∙ ap (leading ys) (end ∙ turned) ∙ whole ys xs
 
 -- one order is another, where each answer is
 pub same_order : (x y a b : ℕ) (r : Ordering) → r ≡ nat_cmp x y → (x < y → a < b) → (x ≡ y → a ≡ b) → (y < x → b < a) → r ≡ nat_cmp a b

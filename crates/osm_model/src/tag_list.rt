@@ -43,7 +43,8 @@ impl TagList {
     pub fn into_vec(self) -> Vec<Tag>
         ensures { result.items ≡ self }
     {
-        self.tags
+        let TagList { tags } = self;
+        tags
     }
 }
 

@@ -18,14 +18,14 @@ first_or_rest x xs y (suc k, inside, at) = inr (k, omega arith, at)
 here : {X : Type 0} (x : X) (xs : List X) → Contains (x ∷ xs) x
 here x xs = (0, omega arith, refl)
 
-behind : {X : Type 0} (x : X) (xs : List X) (y : X) → Contains xs y → Contains (x ∷ xs) y
-behind x xs y (k, inside, at) = (suc k, omega arith, at)
+in_longer : {X : Type 0} (x : X) (xs : List X) (y : X) → Contains xs y → Contains (x ∷ xs) y
+in_longer x xs y (k, inside, at) = (suc k, omega arith, at)
 
 nothing : {X : Type 0} (y : X) → Contains [] y → ⊥
 nothing y (k, inside, at) = omega arith
 
 module _ {X K : Type 0} (key : X → K) {cmp : K → K → Ordering} (o : IsTotalOrder cmp) where
-  -- the first key is below each key behind it
+  -- the first key is below each key after it
   below_rest : (x : X) (xs : List X) (y : X) → IsStrictlySortedBy cmp (map key (x ∷ xs)) → Contains xs y → cmp (key x) (key y) ≡ Less
   below_rest x xs y up (k, inside, at) =
       let less = Less-from_sorted cmp (map key (x ∷ xs)) 0 (suc k) (key y) up (omega arith) (omega (arith, length-map xs key)) in
@@ -45,8 +45,8 @@ module _ {X K : Type 0} (key : X → K) {cmp : K → K → Ordering} (o : IsTota
   same_elements (x ∷ xs) (y ∷ ys) up vp there back =
       let first : x ≡ y = firsts (first_or_rest y ys x (there x (here x xs))) (first_or_rest x xs y (back y (here y ys))) in
       let rest : xs ≡ ys = same_elements xs ys (sorted_tail cmp (key x) (map key xs) up) (sorted_tail cmp (key y) (map key ys) vp)
-      (λ z inside. later ys (sym first) z (below_rest x xs z up inside) (first_or_rest y ys z (there z (behind x xs z inside))))
-      (λ z inside. later xs first z (below_rest y ys z vp inside) (first_or_rest x xs z (back z (behind y ys z inside)))) in
+      (λ z inside. later ys (sym first) z (below_rest x xs z up inside) (first_or_rest y ys z (there z (in_longer x xs z inside))))
+      (λ z inside. later xs first z (below_rest y ys z vp inside) (first_or_rest x xs z (back z (in_longer y ys z inside)))) in
       cc
     where
       firsts : (y ≡ x) ⊎ Contains ys x → (x ≡ y) ⊎ Contains xs y → x ≡ y
