@@ -1,8 +1,10 @@
 -- The keys of the four trees of a set of objects. Numbers are written with the greatest byte first.
 -- Source: this project's trees, docs/FORMATS.md.
 use Rattle.std.specs.Int.{to_be_bytes, cast_unsigned, w16, w32, w64}
-use Rattle.std.specs.Prelude.{ℕ, ◌+◌, ◌/◌, ◌^◌, List, [], ◌∷◌, ◌++◌, ℤ, pos, ◌+ℤ◌, unsigned_abs}
+use Rattle.std.specs.Prelude.{ℕ, ◌+◌, ◌/◌, ◌≤◌, ◌^◌, List, [], ◌∷◌, ◌++◌, ℤ, pos, ◌+ℤ◌, unsigned_abs}
+use Rattle.std.specs.Str.{IsUtf8}
 use Rattle.osm_model.specs.Elements.{kind_byte}
+use Rattle.osm_model.specs.Limits.{HasNoNul, IsShort}
 use Rattle.osm_model.specs.Places.{Place}
 use Rattle.osm_model.specs.declared.reference.Ref.{Ref}
 
@@ -22,6 +24,12 @@ ref_key r = kind_byte r.kind ∷ id_bytes r.id
 abbrev pub tag_prefix : List ℕ → List ℕ → List ℕ
 tag_prefix key value = (key ++ 0 ∷ []) ++ (value ++ 0 ∷ [])
 
+-- a text that a tag of an object may have as its key or its value
+pub record IsTagText (text : List ℕ) : Type 0 where
+  pub utf8 : IsUtf8 text
+  pub no_nul : HasNoNul text
+  pub short : IsShort text
+
 -- a tag of the object with this reference
 abbrev pub tag_key : List ℕ → List ℕ → Ref → List ℕ
 tag_key key value r = tag_prefix key value ++ ref_key r
@@ -33,6 +41,11 @@ row lat = above 900000000 lat / 1000000
 
 abbrev pub column : ℤ → ℕ
 column lon = above 1800000000 lon / 1000000
+
+-- there is a cell in this row and this column
+pub record IsCell (row column : ℕ) : Type 0 where
+  pub in_rows : row ≤ 1800
+  pub in_columns : column ≤ 3600
 
 -- a cell in four bytes
 unfoldable pub cell_bytes : ℕ → ℕ → List ℕ

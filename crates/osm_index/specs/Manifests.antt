@@ -1,7 +1,7 @@
 -- Manifests: the bytes whose digest is the root of a set of objects.
 -- Source: this project's manifests, docs/FORMATS.md.
 use Rattle.std.specs.Int.{to_be_bytes, w64}
-use Rattle.std.specs.Prelude.{ℕ, ◌-◌, List, [], ◌∷◌, ◌++◌, slice_index_or}
+use Rattle.std.specs.Prelude.{◌≡◌, ℕ, ◌-◌, List, [], ◌∷◌, ◌++◌, length, slice_index_or}
 use Rattle.tree_node.specs.NodeRefs.{number_of}
 use Rattle.tree_node.specs.declared.digest.Digest.{Digest}
 use Rattle.tree_node.specs.declared.tree.Tree.{Tree}
@@ -13,6 +13,10 @@ use Rattle.osm_index.specs.declared.manifest.Manifest.{Manifest}
 -- `OSMM`
 abbrev pub magic : List ℕ
 magic = 79 ∷ 83 ∷ 77 ∷ 77 ∷ []
+
+-- each top has the 32 bytes of a digest
+abbrev pub HaveWidth : (Tree → List ℕ) → Type 0
+HaveWidth tops = (tree : Tree) → length (tops tree) ≡ 32
 
 -- the four digests, in the order of the trees' numbers
 abbrev pub all_tops : (Tree → List ℕ) → List ℕ

@@ -13,6 +13,7 @@ mod laws;
 mod listing;
 mod manifest;
 mod ranges;
+mod read_keys;
 mod snapshot;
 
 pub use edition::Edition;
@@ -21,8 +22,12 @@ pub use fault::IndexFault;
 pub use keys::{append_tag_key, back_key, cell_key, cell_value, reference_key};
 pub use laws::{back_law, kind_law, object_law, publication_law, tag_key_law, tag_law};
 pub use listing::entries_of;
-pub use manifest::{Manifest, write_manifest};
+pub use manifest::{Manifest, read_manifest, write_manifest};
 pub use ranges::{OwnedRange, back_range, kind_range, object_range, tag_key_range, tag_range};
+pub use read_keys::{
+    BackKey, CellKey, TagKey, read_back_key, read_cell_key, read_cell_value, read_reference_key,
+    read_tag_key,
+};
 pub use snapshot::Snapshot;
 
 #[cfg(test)]

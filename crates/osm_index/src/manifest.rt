@@ -1,7 +1,9 @@
 //! Manifests.
 
-ghost use Rattle.std.specs.Prelude.{◌≡◌, ◌++◌, OnErr, OnOk, length, take};
-ghost use Rattle.osm_index.specs.Manifests.{all_tops, edition_bytes, manifest_bytes, top_among};
+ghost use Rattle.std.specs.Prelude.{◌≡◌, ◌≢◌, ◌++◌, ℕ, IfSome, IsNone, List, OnErr, OnOk, length, take};
+ghost use Rattle.osm_index.specs.Manifests.{HaveWidth, all_tops, edition_bytes, manifest, manifest_bytes, top_among};
+ghost use Rattle.osm_index.specs.declared.edition.Edition.{Edition};
+ghost use Rattle.tree_node.specs.declared.tree.Tree.{Tree};
 
 use crate::edition::Edition;
 use std::alloc::AllocError;
@@ -69,4 +71,55 @@ fn append_tops(tops: &[Digest; 4], out: &mut Vec<u8>) -> Result<(), AllocError>
     out.extend_from_slice(&tops[1].0)?;
     out.extend_from_slice(&tops[2].0)?;
     out.extend_from_slice(&tops[3].0)
+}
+
+/// The manifest that these bytes are: 133 bytes in the first edition, 141 in the second (this project,
+/// docs/FORMATS.md). It is none for any other bytes: another beginning than `OSMM`, another number than
+/// 1 or 2 after it, or another length than that of the edition. It takes no memory.
+pub fn read_manifest(bytes: &[u8]) -> Option<Manifest>
+    // What is read has these bytes, and four tops of 32 bytes.
+    ensures some { IfSome result (λ found. bytes.now ≡ manifest_bytes found) }
+    ensures width { IfSome result (λ found. HaveWidth (top_among found.tops)) }
+    // Where nothing is read, the bytes are the manifest of no edition and no four tops.
+    ensures none { IsNone result → (edition : Edition) (tops : Tree → List ℕ) → HaveWidth tops → bytes.now ≢ manifest edition tops }
+{
+    let rest = bytes.strip_prefix(b"OSMM")?;
+    let (edition, rest) = read_edition(rest)?;
+    let tops = read_tops(rest)?;
+    Some(Manifest { edition, tops })
+}
+
+/// The edition at the front of these bytes, and the bytes after it.
+fn read_edition(bytes: &[u8]) -> Option<(Edition, &[u8])>
+    ensures some { IfSome result (λ found. bytes.now ≡ edition_bytes found.0 ++ found.1.now) }
+    ensures none { IsNone result → (edition : Edition) (rest : List ℕ) → bytes.now ≢ edition_bytes edition ++ rest }
+{
+    let (number, rest) = bytes.split_first()?;
+    match *number {
+        1 => Some((Edition::One, rest)),
+        2 => {
+            let (sequence, rest) = rest.split_first_chunk()?;
+            let sequence = u64::from_be_bytes(*sequence);
+            Some((Edition::Two { sequence }, rest))
+        }
+        _ => None,
+    }
+}
+
+/// The four digests that these bytes are.
+fn read_tops(bytes: &[u8]) -> Option<[Digest; 4]>
+    ensures some { IfSome result (λ tops. bytes.now ≡ all_tops (top_among tops)) }
+    ensures width { IfSome result (λ tops. HaveWidth (top_among tops)) }
+    ensures none { IsNone result → length bytes.now ≢ 128 }
+{
+    let (objects, rest) = bytes.split_first_chunk()?;
+    let (tags, rest) = rest.split_first_chunk()?;
+    let (cells, backs) = rest.split_first_chunk()?;
+    let backs = backs.as_array()?;
+    Some([
+        Digest(*objects),
+        Digest(*tags),
+        Digest(*cells),
+        Digest(*backs),
+    ])
 }

@@ -185,12 +185,12 @@ back_found p is target fits kind found those b =
 
 -- ---- tag ranges
 
-no_nul_from : (k : List ℕ) → HasNoNul k → AllByRecursion (λ byte. byte ≡ 0 → ⊥) k
+pub no_nul_from : (k : List ℕ) → HasNoNul k → AllByRecursion (λ byte. byte ≡ 0 → ⊥) k
 unfolding HasNoNul
 no_nul_from k h = recursion_from_All (λ byte. byte ≡ 0 → ⊥) k h
 
 -- texts that end at their first NUL
-cut_at_nul : (k l rest more : List ℕ) → AllByRecursion (λ byte. byte ≡ 0 → ⊥) k → AllByRecursion (λ byte. byte ≡ 0 → ⊥) l → k ++ 0 ∷ rest ≡ l ++ 0 ∷ more → (k ≡ l) × (rest ≡ more)
+pub cut_at_nul : (k l rest more : List ℕ) → AllByRecursion (λ byte. byte ≡ 0 → ⊥) k → AllByRecursion (λ byte. byte ≡ 0 → ⊥) l → k ++ 0 ∷ rest ≡ l ++ 0 ∷ more → (k ≡ l) × (rest ≡ more)
 cut_at_nul [] [] rest more h g e = (refl, cc)
 cut_at_nul [] (y ∷ l) rest more h g e = absurd (g.0 (cc))
 cut_at_nul (x ∷ k) [] rest more h g e = absurd (h.0 (cc))
