@@ -22,6 +22,11 @@ ghost use Rattle.tree_node.specs.Trees.{HasTree};
 ghost use Rattle.tree_node.specs.declared.tree.Tree.{Tree};
 ghost use Rattle.osm_index.specs.Ranges.{IsKindOf, back_range, kind_range, object_range, tag_key_range, tag_range};
 ghost use Rattle.tree_node.specs.declared.tree.Tree.TheVariants.{Objects, Tags, Backs};
+ghost use Rattle.std.specs.List.{AllByRecursion};
+ghost use Rattle.tree_node.specs.NodeRefs.{number_of};
+ghost use Rattle.tree_node.specs.Nodes.{AreBytes};
+ghost use Rattle.tree_walk.specs.Walks.{IsTopOf};
+ghost use Rattle.osm_index.specs.Publications.{shape_in, top_in};
 
 /// The law of publications: a set of objects has one in an edition, and so one root.
 pub fn publication_law()
@@ -76,4 +81,14 @@ pub fn back_law()
         → AreThose (IsEntryIn (back_range target kind)) (p.entries Backs) found
         → (b : Binding) → Contains found b ↔ ((o : Element) × Contains p.objects o × (kind_of o.body ≡ kind)
         × BodyLists o.body target × (b ≡ back_entry target (reference o))) }
+{}
+
+/// The law of entries: their keys and their values are bytes. So what walks and counts ask of a tree holds
+/// of each tree of a publication.
+pub fn entries_are_bytes()
+    ensures keys { (p : Publication) → IsPublication p → (tree : Tree) → AllByRecursion (λ (entry : Binding). AreBytes entry.key) (p.entries tree) }
+    ensures values { (p : Publication) → IsPublication p → (tree : Tree) → AllByRecursion (λ (entry : Binding). AreBytes entry.value) (p.entries tree) }
+    // The digest of a tree's top is one that a walk may begin with.
+    ensures tops { (p : Publication) → IsPublication p → (tree : Tree)
+        → IsTopOf (shape_in p) (number_of tree) (p.entries tree) (top_in p tree) }
 {}
