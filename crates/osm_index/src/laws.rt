@@ -15,6 +15,7 @@ ghost use Rattle.tree_node.specs.Nodes.{Binding};
 ghost use Rattle.tree_walk.specs.Choices.{AreThose};
 ghost use Rattle.tree_walk.specs.Walks.{IsEntryIn};
 ghost use Rattle.osm_index.specs.Entries.{back_entry, object_entry, tag_entry};
+ghost use Rattle.osm_index.specs.Manifests.{HaveWidth, manifest};
 ghost use Rattle.osm_index.specs.Publications.{IsPublication, Publication, root_of};
 ghost use Rattle.osm_index.specs.Snapshots.{HasTooMany, IsPublicationOf};
 ghost use Rattle.osm_index.specs.declared.edition.Edition.{Edition};
@@ -39,6 +40,12 @@ pub fn publication_law()
         → IsPublicationOf objects edition p → ¬ HasTooMany objects }
     // and each list of entries has a tree.
     ensures trees { (p : Publication) → IsPublication p → (tree : Tree) → HasTree (p.entries tree) }
+{}
+
+/// The law of manifests: the bytes of a manifest name the tops of one set of trees.
+pub fn manifest_law()
+    ensures { (edition other : Edition) (tops others : Tree → List ℕ) → HaveWidth tops → HaveWidth others
+        → manifest edition tops ≡ manifest other others → (tree : Tree) → tops tree ≡ others tree }
 {}
 
 /// The law of the range of one object: it finds that object's entry, where the object is in the set.

@@ -1,8 +1,10 @@
-//! Where the answers of queries are written.
+//! The parts of an evaluation: the manifest from which it starts, and where answers are written.
 #![tactic(auto)]
 
+mod opening;
 mod sink;
 
+pub use opening::{ManifestFault, open_manifest};
 pub use sink::Sink;
 
 #[cfg(test)]

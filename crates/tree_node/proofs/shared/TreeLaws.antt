@@ -3,12 +3,17 @@ use Rattle.std.proofs.Common.{◌≡◌, ℕ, zero, suc, ◌+◌, ◌-◌, ◌^�
 use Rattle.std.specs.List.{flat_map, AllByRecursion}
 use Rattle.std.proofs.lemmas.List.Sums.{sum_by-cons}
 use Rattle.std.proofs.Math.Nat.{pow-suc}
+use Rattle.tree_node.specs.Digests.{digest}
 use Rattle.tree_node.specs.Nodes.{Binding, Link, Node, Leaf, Inner, spelling, keys_of, greatests_of, AreRisingFrom, FitsEntry, FitsLink, IsNode, IsTree}
 use Rattle.tree_node.specs.Trees.{Shape, pieces, one_at_least, ends_by, is_marked_entry, is_marked_link, last_key, link_to, leaves, level_over, levels_over, level_at, links_in, entries_in, FitsTree, HasTree}
 use Rattle.tree_node.proofs.DigestLemmas.{length-digest}
 use Rattle.tree_node.proofs.shared.PieceLemmas.{join, least_joins, pieces_all, pieces_join, some_pieces}
 use Rattle.tree_node.proofs.shared.PieceLaws.{IsSized, lasts, pieces_rise, pieces_sized}
 use Rattle.tree_node.proofs.shared.TreeLemmas.{AreLevels, HasShort, leaf_numbers, leaf_short, leaves_few, leaves_some, levels_end, level_half, level_numbers, level_short, level_some, numbers_of, over_some, tree_levels}
+
+-- a digest has 32 bytes
+pub digest_len : (bytes : List ℕ) → length (digest bytes) ≡ 32
+digest_len = length-digest
 
 -- ---- levels, one over the other
 

@@ -1,0 +1,37 @@
+-- The manifest under a root, read from a shelf.
+-- Source: this project's manifests, docs/FORMATS.md.
+use Rattle.std.specs.Prelude.{◌≡◌, ◌≢◌, ℕ, List}
+use Rattle.osm_index.specs.Manifests.{HaveWidth, manifest, top_among}
+use Rattle.osm_index.specs.Publications.{Publication, top_in}
+use Rattle.osm_index.specs.declared.edition.Edition.{Edition}
+use Rattle.osm_index.specs.declared.manifest.Manifest.{Manifest}
+use Rattle.tree_node.specs.Digests.{digest}
+use Rattle.tree_node.specs.Outcomes.{Cause, NoMemory, NodeMissing, OtherCause}
+use Rattle.tree_node.specs.declared.shelf.ShelfFault.{ShelfFault}
+use Rattle.tree_node.specs.declared.shelf.ShelfFault.TheVariants as shelves
+use Rattle.tree_node.specs.declared.tree.Tree.{Tree}
+use Rattle.ql_eval.specs.declared.opening.ManifestFault.{ManifestFault}
+use Rattle.ql_eval.specs.declared.opening.ManifestFault.TheVariants as faults
+
+-- the manifest names the tops of the publication's trees
+abbrev pub IsUnder : Publication → Manifest → Type 0
+IsUnder p found = (tree : Tree) → top_among found.tops tree ≡ top_in p tree
+
+-- the bytes are no manifest's
+abbrev pub IsNoManifest : List ℕ → Type 0
+IsNoManifest bytes = (edition : Edition) (tops : Tree → List ℕ) → HaveWidth tops → bytes ≢ manifest edition tops
+
+-- what is held under the digest is no manifest
+abbrev pub HasMalformed : (List ℕ → Type 0) → List ℕ → Type 0
+HasMalformed holds root = (bytes : List ℕ) × holds bytes × (digest bytes ≡ root) × IsNoManifest bytes
+
+-- what a refused fetch makes of it
+abbrev pub manifest_fault_of : ShelfFault → ManifestFault
+manifest_fault_of shelves.Missing = faults.Missing
+manifest_fault_of shelves.Memory = faults.Memory
+
+-- what a refusal says of the shelf
+abbrev pub cause_of_manifest : ManifestFault → Cause
+cause_of_manifest faults.Missing = NodeMissing
+cause_of_manifest faults.Malformed = OtherCause
+cause_of_manifest faults.Memory = NoMemory
