@@ -5,3 +5,4 @@ pub mod SortedLemmas
 pub mod ListingLemmas
 pub mod FitLemmas
 pub mod PutLemmas
+pub mod CellLemmas

@@ -3,3 +3,4 @@ pub mod Members
 pub mod OneObject
 pub mod RangeLaws
 pub mod OnePublication
+pub mod CellLaws

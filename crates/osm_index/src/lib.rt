@@ -5,6 +5,8 @@
 //! answered.
 #![tactic(auto)]
 
+mod cells;
+mod columns;
 mod edition;
 mod entry_list;
 mod fault;
@@ -15,11 +17,12 @@ mod manifest;
 mod ranges;
 mod snapshot;
 
+pub use cells::cell_ranges;
 pub use edition::Edition;
 pub use entry_list::EntryList;
 pub use fault::IndexFault;
 pub use keys::{append_tag_key, back_key, cell_key, cell_value, reference_key};
-pub use laws::{back_law, kind_law, object_law, publication_law, tag_key_law, tag_law};
+pub use laws::{back_law, cell_law, kind_law, object_law, publication_law, tag_key_law, tag_law};
 pub use listing::entries_of;
 pub use manifest::{Manifest, write_manifest};
 pub use ranges::{OwnedRange, back_range, kind_range, object_range, tag_key_range, tag_range};

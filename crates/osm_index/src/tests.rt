@@ -1,5 +1,7 @@
 //! Rows of small sets, computed by an independent program: keys, entries, manifests and roots.
 
+mod cells;
+
 use crate::{
     Edition, IndexFault, OwnedRange, Snapshot, back_range, entries_of, object_range, tag_key_range,
     tag_range,
