@@ -6,3 +6,4 @@ pub mod ListingLemmas
 pub mod ReadLemmas
 pub mod FitLemmas
 pub mod PutLemmas
+pub mod CellLemmas

@@ -5,3 +5,4 @@ pub mod RangeLaws
 pub mod OnePublication
 pub mod EntryBytes
 pub mod OneManifest
+pub mod CellLaws

@@ -5,6 +5,7 @@ use Rattle.std.specs.Prelude.{◌≡◌, ℕ, ◌+◌, ◌-◌, List, [], ◌∷
 use Rattle.osm_model.specs.Boxes.{ExactBox}
 use Rattle.osm_model.specs.Edges.{IsAbove, IsCeiling, IsFloor}
 use Rattle.osm_model.specs.Elements.{kind_byte}
+use Rattle.osm_model.specs.Places.{IsPlace}
 use Rattle.osm_model.specs.declared.kind.Kind.{Kind}
 use Rattle.osm_model.specs.declared.reference.Ref.{Ref}
 use Rattle.tree_walk.specs.Ranges.{Range}
@@ -67,7 +68,8 @@ AreColumns b west east columns =
     ⊎ ((¬ IsAbove b.west.value b.east.value) × (((east <ℤ west) × (columns ≡ [])) ⊎ ((west ≤ℤ east) × (columns ≡ (column west, column east) ∷ []))))
 
 -- the ranges of the cells that a box meets: row by row from the south, with the least units that aren't below its
--- southern and western edges and the greatest that aren't above its northern and eastern ones
+-- southern and western edges and the greatest that aren't above its northern and eastern ones. These make two
+-- locations, the corners.
 pub record AreCellRanges (b : ExactBox) (ranges : List Range) : Type 0 where
   pub south : ℤ
   pub west : ℤ
@@ -77,6 +79,8 @@ pub record AreCellRanges (b : ExactBox) (ranges : List Range) : Type 0 where
   pub west_is : IsCeiling b.west.value west
   pub north_is : IsFloor b.north.value north
   pub east_is : IsFloor b.east.value east
+  pub southwest : IsPlace (record { lon = west; lat = south })
+  pub northeast : IsPlace (record { lon = east; lat = north })
   pub rows : List ℕ
   pub columns : List (ℕ × ℕ)
   pub rows_are : AreRows south north rows

@@ -2,32 +2,35 @@
 //! to do when they run.
 
 ghost use Rattle.std.specs.Int.{w64};
-ghost use Rattle.std.specs.List.{Contains};
-ghost use Rattle.std.specs.Prelude.{◌≡◌, ◌↔◌, ℕ, FitsSigned, List, Option, Some};
+ghost use Rattle.std.specs.List.{AllByRecursion, Contains};
+ghost use Rattle.std.specs.Prelude.{◌≡◌, ◌↔◌, ◌⊎◌, ◌<◌, ℕ, FitsSigned, List, Option, Some, slice_get};
+ghost use Rattle.osm_model.specs.Boxes.{ExactBox, Holds};
+ghost use Rattle.osm_model.specs.Edges.{IsAbove};
 ghost use Rattle.osm_model.specs.Elements.{Element, kind_of, reference};
 ghost use Rattle.osm_model.specs.Limits.{HasNoNul};
 ghost use Rattle.osm_model.specs.Tagged.{HasTag};
 ghost use Rattle.osm_model.specs.Membership.{BodyLists};
+ghost use Rattle.osm_model.specs.Places.{Place};
 ghost use Rattle.osm_model.specs.Sets.{object_at};
+ghost use Rattle.osm_model.specs.declared.body.Body.TheVariants as bodies;
 ghost use Rattle.osm_model.specs.declared.kind.Kind.{Kind};
 ghost use Rattle.osm_model.specs.declared.reference.Ref.{Ref};
-ghost use Rattle.tree_node.specs.Nodes.{Binding};
+ghost use Rattle.tree_node.specs.NodeRefs.{number_of};
+ghost use Rattle.tree_node.specs.Nodes.{AreBytes, Binding};
+ghost use Rattle.tree_node.specs.Trees.{HasTree};
+ghost use Rattle.tree_node.specs.declared.tree.Tree.TheVariants.{Objects, Tags, Cells, Backs};
+ghost use Rattle.tree_node.specs.declared.tree.Tree.{Tree};
 ghost use Rattle.tree_walk.specs.Choices.{AreThose};
+ghost use Rattle.tree_walk.specs.Ranges.{IsIn, Range};
 ghost use Rattle.tree_walk.specs.Walks.{IsEntryIn};
-ghost use Rattle.osm_index.specs.Entries.{back_entry, object_entry, tag_entry};
+ghost use Rattle.tree_walk.specs.Walks.{IsTopOf};
+ghost use Rattle.osm_index.specs.Entries.{back_entry, cell_entry, object_entry, tag_entry};
+ghost use Rattle.osm_index.specs.Keys.{cell_key, column};
 ghost use Rattle.osm_index.specs.Manifests.{HaveWidth, manifest};
-ghost use Rattle.osm_index.specs.Publications.{IsPublication, Publication, root_of};
+ghost use Rattle.osm_index.specs.Publications.{IsPublication, Publication, root_of, shape_in, top_in};
+ghost use Rattle.osm_index.specs.Ranges.{AreCellRanges, IsKindOf, back_range, kind_range, object_range, tag_key_range, tag_range};
 ghost use Rattle.osm_index.specs.Snapshots.{HasTooMany, IsPublicationOf};
 ghost use Rattle.osm_index.specs.declared.edition.Edition.{Edition};
-ghost use Rattle.tree_node.specs.Trees.{HasTree};
-ghost use Rattle.tree_node.specs.declared.tree.Tree.{Tree};
-ghost use Rattle.osm_index.specs.Ranges.{IsKindOf, back_range, kind_range, object_range, tag_key_range, tag_range};
-ghost use Rattle.tree_node.specs.declared.tree.Tree.TheVariants.{Objects, Tags, Backs};
-ghost use Rattle.std.specs.List.{AllByRecursion};
-ghost use Rattle.tree_node.specs.NodeRefs.{number_of};
-ghost use Rattle.tree_node.specs.Nodes.{AreBytes};
-ghost use Rattle.tree_walk.specs.Walks.{IsTopOf};
-ghost use Rattle.osm_index.specs.Publications.{shape_in, top_in};
 
 /// The law of publications: a set of objects has one in an edition, and so one root.
 pub fn publication_law()
@@ -79,6 +82,28 @@ pub fn tag_key_law()
         → AreThose (IsEntryIn (tag_key_range key)) (p.entries Tags) found
         → (b : Binding) → Contains found b ↔ ((o : Element) × (value : List ℕ) × Contains p.objects o × HasNoNul value
         × HasTag o key value × (b ≡ tag_entry key value (reference o))) }
+{}
+
+/// The law of the ranges of a box's cells. They find nodes of the map: all that the box holds, and perhaps
+/// others in the same cells, so the caller tests the locations. A node that the box holds is in one range
+/// of the list. It is in two where the box crosses the 180th meridian and goes almost round the earth, to
+/// an eastern edge in the column of cells of the western one: there the two ranges of a row share a cell.
+pub fn cell_law()
+    // A range finds just the entries of the nodes whose keys are in it.
+    ensures found { (p : Publication) → IsPublication p → (range : Range) (found : List Binding)
+        → AreThose (IsEntryIn range) (p.entries Cells) found
+        → (entry : Binding) → Contains found entry ↔ ((o : Element) × (place : Place) × Contains p.objects o
+        × (o.body ≡ bodies.Node place) × IsIn range (cell_key place o.id) × (entry ≡ cell_entry place o.id)) }
+    // A node that the box holds is in one of its ranges,
+    ensures held { (p : Publication) → IsPublication p → (b : ExactBox) (ranges : List Range) → AreCellRanges b ranges
+        → (o : Element) → Contains p.objects o → (place : Place) → o.body ≡ bodies.Node place → Holds b place
+        → (range : Range) × Contains ranges range × IsIn range (cell_key place o.id) }
+    // and a node is in one at most, where no cell is in two.
+    ensures once { (p : Publication) → IsPublication p → (b : ExactBox) (ranges : List Range) (are : AreCellRanges b ranges)
+        → (o : Element) → Contains p.objects o → (place : Place) → o.body ≡ bodies.Node place
+        → (¬ IsAbove b.west.value b.east.value) ⊎ (column are.east < column are.west)
+        → (k j : ℕ) (x y : Range) → slice_get ranges k ≡ Some x → slice_get ranges j ≡ Some y
+        → IsIn x (cell_key place o.id) → IsIn y (cell_key place o.id) → k ≡ j }
 {}
 
 /// The law of a back range: it finds just the objects of the kind that list the target, which needn't be

@@ -5,6 +5,8 @@
 //! answered.
 #![tactic(auto)]
 
+mod cells;
+mod columns;
 mod edition;
 mod entry_list;
 mod fault;
@@ -16,13 +18,14 @@ mod ranges;
 mod read_keys;
 mod snapshot;
 
+pub use cells::cell_ranges;
 pub use edition::Edition;
 pub use entry_list::EntryList;
 pub use fault::IndexFault;
 pub use keys::{append_tag_key, back_key, cell_key, cell_value, reference_key};
 pub use laws::{
-    back_law, entries_are_bytes, kind_law, manifest_law, object_law, publication_law, tag_key_law,
-    tag_law,
+    back_law, cell_law, entries_are_bytes, kind_law, manifest_law, object_law, publication_law,
+    tag_key_law, tag_law,
 };
 pub use listing::entries_of;
 pub use manifest::{Manifest, read_manifest, write_manifest};

@@ -2,9 +2,9 @@
 
 ghost use Rattle.std.specs.Prelude.{◌≡◌, ◌++◌, ◌≤◌, ◌<◌, IfOk, IsTrue, List, drop, length, take, true, false, OnOk};
 ghost use Rattle.tree_walk.specs.Ranges.{IsIn, range_of, IsAtMost, Range};
-ghost use Rattle.osm_index.specs.Ranges.{back_range, kind_range, object_range, tag_key_range, tag_range, under_all};
+ghost use Rattle.osm_index.specs.Ranges.{back_range, cell_range, kind_range, object_range, tag_key_range, tag_range, under_all};
 
-use crate::keys::{append_ended, reference_key};
+use crate::keys::{append_ended, cell_bytes, reference_key};
 use osm_model::{Kind, Ref};
 use std::alloc::{AllocError, Global};
 use std::marker::Model;
@@ -44,6 +44,27 @@ impl OwnedRange {
             hi: &self.ends[self.hi_start..],
             under: self.under,
         }
+    }
+
+    /// The range of the cells of a row from one column to another.
+    pub(crate) fn of_cells(
+        alloc: Global,
+        row: u16,
+        first: u16,
+        last: u16,
+    ) -> Result<OwnedRange, AllocError>
+        requires { first ≤ last }
+        ensures { IfOk result (λ range. range ≡ cell_range row (first, last)) }
+    {
+        let [a, b, c, d] = cell_bytes(row, first);
+        let [e, f, g, h] = cell_bytes(row, last);
+        let ends = Vec::from_slice(alloc, &[a, b, c, d, e, f, g, h])?;
+        Ok(OwnedRange {
+            ends,
+            lo_end: 4,
+            hi_start: 4,
+            under: true,
+        })
     }
 
     /// The range whose two ends are these bytes.

@@ -65,7 +65,7 @@ at_most_both a b (inl h) (inl k) = absurd (not_itself a a (order_trans a b a h k
 at_most_both a b (inl h) (inr e) = sym e
 at_most_both a b (inr e) k = e
 
-front_at_most : (front rest : List ℕ) → IsAtMost front (front ++ rest)
+pub front_at_most : (front rest : List ℕ) → IsAtMost front (front ++ rest)
 front_at_most front [] = inr (sym (append-nil front))
 front_at_most front (x ∷ rest) = inl (below_next front x rest)
 
