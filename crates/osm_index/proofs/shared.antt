@@ -6,3 +6,4 @@ pub mod OnePublication
 pub mod EntryBytes
 pub mod OneManifest
 pub mod CellLaws
+pub mod KeyOrder

@@ -3,10 +3,11 @@
 
 ghost use Rattle.std.specs.Int.{w64};
 ghost use Rattle.std.specs.List.{AllByRecursion, Contains};
-ghost use Rattle.std.specs.Prelude.{◌≡◌, ◌↔◌, ◌⊎◌, ◌<◌, ℕ, FitsSigned, List, Option, Some, slice_get};
+ghost use Rattle.std.specs.Prelude.{◌≡◌, ◌↔◌, ◌⊎◌, ◌<◌, ℕ, FitsSigned, List, None, Option, Some, slice_get};
+ghost use Rattle.std.specs.declared.cmp.Ordering.TheVariants.{Less};
 ghost use Rattle.osm_model.specs.Boxes.{ExactBox, Holds};
 ghost use Rattle.osm_model.specs.Edges.{IsAbove};
-ghost use Rattle.osm_model.specs.Elements.{Element, kind_of, reference};
+ghost use Rattle.osm_model.specs.Elements.{Element, kind_of, ref_cmp, reference};
 ghost use Rattle.osm_model.specs.Limits.{HasNoNul};
 ghost use Rattle.osm_model.specs.Tagged.{HasTag};
 ghost use Rattle.osm_model.specs.Membership.{BodyLists};
@@ -16,7 +17,8 @@ ghost use Rattle.osm_model.specs.declared.body.Body.TheVariants as bodies;
 ghost use Rattle.osm_model.specs.declared.kind.Kind.{Kind};
 ghost use Rattle.osm_model.specs.declared.reference.Ref.{Ref};
 ghost use Rattle.tree_node.specs.NodeRefs.{number_of};
-ghost use Rattle.tree_node.specs.Nodes.{AreBytes, Binding};
+ghost use Rattle.tree_node.specs.Nodes.{AreBytes, AreRisingFrom, Binding, keys_of};
+ghost use Rattle.tree_node.specs.Order.{IsBelow};
 ghost use Rattle.tree_node.specs.Trees.{HasTree};
 ghost use Rattle.tree_node.specs.declared.tree.Tree.TheVariants.{Objects, Tags, Cells, Backs};
 ghost use Rattle.tree_node.specs.declared.tree.Tree.{Tree};
@@ -25,7 +27,7 @@ ghost use Rattle.tree_walk.specs.Ranges.{IsIn, Range};
 ghost use Rattle.tree_walk.specs.Walks.{IsEntryIn};
 ghost use Rattle.tree_walk.specs.Walks.{IsTopOf};
 ghost use Rattle.osm_index.specs.Entries.{back_entry, cell_entry, object_entry, tag_entry};
-ghost use Rattle.osm_index.specs.Keys.{cell_key, column};
+ghost use Rattle.osm_index.specs.Keys.{cell_key, column, ref_key};
 ghost use Rattle.osm_index.specs.Manifests.{HaveWidth, manifest};
 ghost use Rattle.osm_index.specs.Publications.{IsPublication, Publication, root_of, shape_in, top_in};
 ghost use Rattle.osm_index.specs.Ranges.{AreCellRanges, IsKindOf, back_range, kind_range, object_range, tag_key_range, tag_range};
@@ -51,6 +53,11 @@ pub fn manifest_law()
         → manifest edition tops ≡ manifest other others → (tree : Tree) → tops tree ≡ others tree }
 {}
 
+/// The law of the order of references: their keys rise as they do, by kind and then by id.
+pub fn key_order_law()
+    ensures { (r s : Ref) → FitsSigned w64 r.id → FitsSigned w64 s.id → (ref_cmp r s ≡ Less) ↔ IsBelow (ref_key r) (ref_key s) }
+{}
+
 /// The law of the range of one object: it finds that object's entry, where the object is in the set.
 pub fn object_law()
     ensures { (p : Publication) → IsPublication p → (r : Ref) → FitsSigned w64 r.id → (found : List Binding)
@@ -58,11 +65,14 @@ pub fn object_law()
         → (b : Binding) → Contains found b ↔ ((o : Element) × (object_at p.objects r ≡ Some o) × (b ≡ object_entry o)) }
 {}
 
-/// The law of the range of a kind: it finds just the entries of the objects of that kind.
+/// The law of the range of a kind: it finds just the entries of the objects of that kind, by rising id.
 pub fn kind_law()
-    ensures { (p : Publication) → IsPublication p → (kind : Kind) (found : List Binding)
+    ensures found { (p : Publication) → IsPublication p → (kind : Kind) (found : List Binding)
         → AreThose (IsEntryIn (kind_range kind)) (p.entries Objects) found
         → (b : Binding) → Contains found b ↔ ((o : Element) × Contains p.objects o × (kind_of o.body ≡ kind) × (b ≡ object_entry o)) }
+    // Their keys rise, and so do their references (`key_order_law`).
+    ensures rising { (p : Publication) → IsPublication p → (kind : Kind) (found : List Binding)
+        → AreThose (IsEntryIn (kind_range kind)) (p.entries Objects) found → AreRisingFrom None (keys_of found) }
 {}
 
 /// The law of a tag range: it finds just the objects of the kind that have the tag. Key and value have no

@@ -44,7 +44,7 @@ ref_of_parts a b k i =
     let of_id : ℤ → Ref = λ i. record { kind = b.kind; id = i } in
     ap of_kind k ∙ ap of_id i
 
-same_reference : (a b : Ref) → ref_cmp a b ≡ Equal → a ≡ b
+pub same_reference : (a b : Ref) → ref_cmp a b ≡ Equal → a ≡ b
 same_reference a b e = let parts = same_parts a.kind b.kind a.id b.id e in ref_of_parts a b parts.0 parts.1
 
 is_equal : (o : Ordering) → is_eq o ≡ true → o ≡ Equal

@@ -23,6 +23,7 @@ use Rattle.tree_node.specs.declared.tree.Tree.TheVariants.{Objects, Tags, Cells,
 use Rattle.tree_walk.specs.Choices.{AreThose}
 use Rattle.tree_walk.specs.Ranges.{Begins, IsAtMost, IsIn, Range}
 use Rattle.tree_walk.specs.Walks.{IsEntryIn}
+use Rattle.tree_walk.proofs.shared.FoundLemmas.{those_rise}
 use Rattle.tree_walk.proofs.shared.KeyLemmas.{below_next}
 use Rattle.osm_index.specs.Entries.{AreEntriesOf, IsEntryOf, IsEntryOfSome, back_entry, object_entry, tag_entry}
 use Rattle.osm_index.specs.Keys.{back_key, id_bytes, ref_key, tag_key, tag_prefix}
@@ -123,6 +124,9 @@ kind_found p is kind found those b =
           let begins : Begins (kind_byte kind ∷ []) b.key = subst (λ (c : Binding). Begins (kind_byte kind ∷ []) c.key) (sym e) ((kind_begins kind (reference o)).1 k) in
           f.1 ((o, there, e), begins)),
     )
+
+pub kind_rising : (p : Publication) → IsPublication p → (kind : Kind) (found : List Binding) → AreThose (IsEntryIn (kind_range kind)) (p.entries Objects) found → AreRisingFrom None (keys_of found)
+kind_rising p is kind found those = those_rise (IsEntryIn (kind_range kind)) None (p.entries Objects) found those (is.lists Objects).rising
 
 -- ---- the range of one object
 

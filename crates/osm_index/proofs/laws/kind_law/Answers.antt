@@ -1,5 +1,8 @@
-use Rattle.osm_index.proofs.shared.RangeLaws.{kind_found}
+use Rattle.osm_index.proofs.shared.RangeLaws.{kind_found, kind_rising}
 use Rattle.osm_index.proofs.laws.kind_law.Goals as goal
 
-pub returns : goal.returns
-returns c = kind_found
+pub returns-clause-found : goal.returns-clause-found
+returns-clause-found c = kind_found
+
+pub returns-clause-rising : goal.returns-clause-rising
+returns-clause-rising c = kind_rising
