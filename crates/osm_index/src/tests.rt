@@ -1,5 +1,6 @@
 //! Rows of small sets, computed by an independent program: keys, entries, manifests and roots.
 
+mod memory;
 mod reading;
 
 use crate::{
