@@ -4,3 +4,4 @@ pub mod OneObject
 pub mod RangeLaws
 pub mod OnePublication
 pub mod EntryBytes
+pub mod OneManifest

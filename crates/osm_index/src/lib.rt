@@ -24,7 +24,7 @@ pub use laws::{
     back_law, entries_are_bytes, kind_law, object_law, publication_law, tag_key_law, tag_law,
 };
 pub use listing::entries_of;
-pub use manifest::{Manifest, read_manifest, write_manifest};
+pub use manifest::{Manifest, manifest_law, read_manifest, write_manifest};
 pub use ranges::{OwnedRange, back_range, kind_range, object_range, tag_key_range, tag_range};
 pub use read_keys::{
     BackKey, CellKey, TagKey, read_back_key, read_cell_key, read_cell_value, read_reference_key,

@@ -1,7 +1,8 @@
 //! Manifests.
 
 ghost use Rattle.std.specs.Prelude.{◌≡◌, ◌≢◌, ◌++◌, ℕ, IfSome, IsNone, List, OnErr, OnOk, length, take};
-ghost use Rattle.osm_index.specs.Manifests.{HaveWidth, all_tops, edition_bytes, manifest, manifest_bytes, top_among};
+ghost use Rattle.osm_index.specs.Manifests.{HasSequence, HaveWidth, all_tops, edition_bytes, manifest, manifest_bytes, top_among};
+ghost use Rattle.osm_index.specs.Publications.{shape_of};
 ghost use Rattle.osm_index.specs.declared.edition.Edition.{Edition};
 ghost use Rattle.tree_node.specs.declared.tree.Tree.{Tree};
 
@@ -123,3 +124,13 @@ fn read_tops(bytes: &[u8]) -> Option<[Digest; 4]>
         Digest(*backs),
     ])
 }
+
+/// The law of manifests: their bytes determine the four tops, the shape of the trees and the edition. There
+/// is nothing to do when it runs.
+pub fn manifest_law()
+    ensures tops { (e f : Edition) (t u : Tree → List ℕ) → HaveWidth t → HaveWidth u → manifest e t ≡ manifest f u
+        → (tree : Tree) → t tree ≡ u tree }
+    ensures shape { (e f : Edition) (t u : Tree → List ℕ) → manifest e t ≡ manifest f u → shape_of e ≡ shape_of f }
+    ensures edition { (e f : Edition) (t u : Tree → List ℕ) → HasSequence e → HasSequence f → manifest e t ≡ manifest f u
+        → e ≡ f }
+{}
