@@ -1,11 +1,11 @@
 -- Keys, values and manifests that are read.
-use Rattle.std.proofs.Common.{◌≡◌, ◌⊎◌, inl, inr, ℕ, zero, suc, ◌+◌, ◌%◌, ◌^◌, ◌<◌, ◌≤◌, ℤ, pos, negsuc, ◌+ℤ◌, unsigned_abs, FitsSigned, to_z, of_z, w16, w32, w64, Bool, true, false, nat_eq, ◌==◌, List, [], ◌∷◌, ◌++◌, length, take, drop, get_or, refl, sym, ap, subst, ◌∙◌, append_assoc, arith}
-use Rattle.std.specs.Int.{cast_signed, cast_unsigned, from_be_bytes, to_be_bytes}
-use Rattle.std.specs.List.{All, AllByRecursion}
+use Rattle.std.proofs.Common.{◌≡◌, inl, inr, ℕ, suc, ◌+◌, ◌%◌, ◌^◌, ◌<◌, ◌≤◌, ℤ, pos, negsuc, unsigned_abs, FitsSigned, to_z, of_z, w16, w32, w64, true, false, nat_eq, List, [], ◌∷◌, ◌++◌, length, take, drop, get_or, refl, sym, ap, subst, ◌∙◌, append_assoc, arith}
+use Rattle.std.specs.Int.{cast_unsigned, from_be_bytes, to_be_bytes}
+use Rattle.std.specs.List.{AllByRecursion}
 use Rattle.std.specs.Cmp.Lexicographic.{pointwise, same_text}
 use Rattle.std.proofs.lemmas.Bool.{cases_lt}
 use Rattle.std.proofs.lemmas.Int.{ints, of_z-to_z, to_z-of_z}
-use Rattle.std.proofs.lemmas.List.{length-append, length-take, take-append-drop, take_at, drop_at, get_or-take, get_or_past}
+use Rattle.std.proofs.lemmas.List.{length-append, length-take, take-append-drop, get_or-take, get_or_past}
 use Rattle.std.proofs.lemmas.List.Elements.{All-from_recursion}
 use Rattle.opl_codec.specs.Fields.{Lacks}
 use Rattle.osm_model.specs.Elements.{kind_byte}
@@ -13,16 +13,14 @@ use Rattle.osm_model.specs.Limits.{HasNoNul}
 use Rattle.osm_model.specs.Places.{IsPlace, Place}
 use Rattle.osm_model.specs.declared.kind.Kind.{Kind}
 use Rattle.osm_model.specs.declared.kind.Kind.TheVariants as kinds
-use Rattle.osm_model.specs.declared.reference.Ref.{Ref}
 use Rattle.tree_node.specs.Nodes.{AreBytes}
 use Rattle.tree_node.specs.declared.tree.Tree.{Tree}
 use Rattle.tree_node.specs.declared.tree.Tree.TheVariants.{Objects, Tags, Cells, Backs}
 use Rattle.tree_node.proofs.shared.FieldLemmas.{AreBytes-drop, wide16, wide32, wide64}
-use Rattle.osm_index.specs.Keys.{IsCell, IsTagText, above, back_key, cell_bytes, cell_value, id_bytes, ref_key, tag_key, tag_prefix}
+use Rattle.osm_index.specs.Keys.{IsCell, above, cell_bytes, cell_value, id_bytes, tag_prefix}
 use Rattle.osm_index.specs.Manifests.{HaveWidth, all_tops, edition_bytes, magic, manifest, top_among}
 use Rattle.osm_index.specs.declared.edition.Edition.{Edition}
 use Rattle.osm_index.specs.declared.edition.Edition.TheVariants as editions
-use Rattle.osm_index.proofs.ListingLemmas.{id_len, ref_key_len}
 use Rattle.osm_index.proofs.Ids.{few_fits}
 use Rattle.osm_index.proofs.shared.RangeLaws.{cut_at_nul, no_nul_from}
 

@@ -1,7 +1,7 @@
 -- Manifests: the bytes whose digest is the root of a set of objects.
 -- Source: this project's manifests, docs/FORMATS.md.
 use Rattle.std.specs.Int.{to_be_bytes, w64}
-use Rattle.std.specs.Prelude.{◌≡◌, ℕ, ◌-◌, List, [], ◌∷◌, ◌++◌, length, slice_index_or}
+use Rattle.std.specs.Prelude.{◌≡◌, ℕ, ◌-◌, ◌<◌, ◌^◌, List, [], ◌∷◌, ◌++◌, length, slice_index_or, ⊤}
 use Rattle.tree_node.specs.NodeRefs.{number_of}
 use Rattle.tree_node.specs.declared.digest.Digest.{Digest}
 use Rattle.tree_node.specs.declared.tree.Tree.{Tree}
@@ -26,6 +26,11 @@ all_tops tops = tops Objects ++ (tops Tags ++ (tops Cells ++ tops Backs))
 abbrev pub edition_bytes : Edition → List ℕ
 edition_bytes editions.One = 1 ∷ []
 edition_bytes (editions.Two sequence) = 2 ∷ to_be_bytes w64 sequence
+
+-- the edition's sequence, where it has one, fits its eight bytes
+abbrev pub HasSequence : Edition → Type 0
+HasSequence editions.One = ⊤
+HasSequence (editions.Two sequence) = sequence < 2 ^ 64
 
 -- the manifest of an edition with these four tops: 133 bytes in the first edition, 141 in the second
 unfoldable pub manifest : Edition → (Tree → List ℕ) → List ℕ

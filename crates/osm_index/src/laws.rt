@@ -24,12 +24,11 @@ ghost use Rattle.tree_node.specs.declared.tree.Tree.TheVariants.{Objects, Tags, 
 ghost use Rattle.tree_node.specs.declared.tree.Tree.{Tree};
 ghost use Rattle.tree_walk.specs.Choices.{AreThose};
 ghost use Rattle.tree_walk.specs.Ranges.{IsIn, Range};
-ghost use Rattle.tree_walk.specs.Walks.{IsEntryIn};
-ghost use Rattle.tree_walk.specs.Walks.{IsTopOf};
+ghost use Rattle.tree_walk.specs.Walks.{IsEntryIn, IsTopOf};
 ghost use Rattle.osm_index.specs.Entries.{back_entry, cell_entry, object_entry, tag_entry};
 ghost use Rattle.osm_index.specs.Keys.{cell_key, column, ref_key};
-ghost use Rattle.osm_index.specs.Manifests.{HaveWidth, manifest};
-ghost use Rattle.osm_index.specs.Publications.{IsPublication, Publication, root_of, shape_in, top_in};
+ghost use Rattle.osm_index.specs.Manifests.{HasSequence, HaveWidth, manifest};
+ghost use Rattle.osm_index.specs.Publications.{IsPublication, Publication, root_of, shape_in, shape_of, top_in};
 ghost use Rattle.osm_index.specs.Ranges.{AreCellRanges, IsKindOf, back_range, kind_range, object_range, tag_key_range, tag_range};
 ghost use Rattle.osm_index.specs.Snapshots.{HasTooMany, IsPublicationOf};
 ghost use Rattle.osm_index.specs.declared.edition.Edition.{Edition};
@@ -47,10 +46,15 @@ pub fn publication_law()
     ensures trees { (p : Publication) → IsPublication p → (tree : Tree) → HasTree (p.entries tree) }
 {}
 
-/// The law of manifests: the bytes of a manifest name the tops of one set of trees.
+/// The law of manifests: their bytes determine the four tops, the shape of the trees, and the edition with
+/// its sequence.
 pub fn manifest_law()
-    ensures { (edition other : Edition) (tops others : Tree → List ℕ) → HaveWidth tops → HaveWidth others
+    ensures tops { (edition other : Edition) (tops others : Tree → List ℕ) → HaveWidth tops → HaveWidth others
         → manifest edition tops ≡ manifest other others → (tree : Tree) → tops tree ≡ others tree }
+    ensures shape { (edition other : Edition) (tops others : Tree → List ℕ)
+        → manifest edition tops ≡ manifest other others → shape_of edition ≡ shape_of other }
+    ensures edition { (edition other : Edition) (tops others : Tree → List ℕ) → HasSequence edition → HasSequence other
+        → manifest edition tops ≡ manifest other others → edition ≡ other }
 {}
 
 /// The law of the order of references: their keys rise as they do, by kind and then by id.

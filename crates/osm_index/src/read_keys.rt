@@ -1,6 +1,6 @@
 //! The keys of the four trees, read.
 
-ghost use Rattle.std.specs.Prelude.{◌≡◌, ◌≢◌, [], ◌∷◌, ◌++◌, ℕ, ℤ, IfSome, IsNone, List};
+ghost use Rattle.std.specs.Prelude.{◌≡◌, ◌≢◌, ◌∷◌, ◌++◌, ℕ, ℤ, IfSome, IsNone, List};
 ghost use Rattle.osm_model.specs.Elements.{kind_byte};
 ghost use Rattle.osm_model.specs.Places.{IsPlace, Place};
 ghost use Rattle.osm_model.specs.declared.kind.Kind.{Kind};

@@ -7,7 +7,7 @@ use Rattle.tree_node.proofs.shared.OutcomeLaws.{Nodes, known_or_clash, uses}
 use Rattle.osm_index.specs.Manifests.{HaveWidth, manifest_bytes, top_among}
 use Rattle.osm_index.specs.Publications.{Publication, manifest_of, root_of, top_in}
 use Rattle.osm_index.specs.declared.manifest.Manifest.{Manifest}
-use Rattle.osm_index.proofs.shared.OneManifest.{one_tops, tops_wide}
+use Rattle.osm_index.proofs.shared.OneManifest.{same_tops, tops_wide}
 use Rattle.ql_eval.specs.Openings.{IsNoManifest, IsUnder, cause_of_manifest}
 use Rattle.ql_eval.specs.declared.opening.ManifestFault.TheVariants.{Malformed}
 
@@ -17,7 +17,7 @@ pub manifest_opened : {held old new : Nodes} (p : Publication) (root bytes : Lis
 manifest_opened {old = old} {new = new} p root bytes found at given grown is wide = record {
   ends = elim (known_or_clash (manifest_of p) bytes ((grown bytes).1 (inr refl)) (given ∙ at)) [
     | inl same ↦ inr (
-      one_tops found.edition p.edition (top_among found.tops) (top_in p) wide (tops_wide p) (sym is ∙ same),
+      same_tops found.edition p.edition (top_among found.tops) (top_in p) wide (tops_wide p) (sym is ∙ same),
       subst (λ (b : List ℕ). GrownBy old new b) same grown,
     )
     | inr clash ↦ inl clash

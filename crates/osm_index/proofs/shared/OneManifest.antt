@@ -1,43 +1,57 @@
--- The bytes of a manifest name the tops of one edition's trees.
-use Rattle.std.proofs.Common.{◌≡◌, ℕ, List, [], ◌∷◌, ◌++◌, length, take, drop, refl, sym, ap, ◌∙◌}
-use Rattle.std.proofs.Math.Seq.{drop-append_seam, take-append_seam}
-use Rattle.tree_node.specs.Digests.{digest}
-use Rattle.tree_node.specs.Trees.{top_of}
+-- Bytes are the manifest of one edition and of four tops at most.
+use Rattle.std.proofs.Common.{◌≡◌, ℕ, List, ◌++◌, length, take, drop, get_or, refl, sym, ap, ◌∙◌, arith, w64}
+use Rattle.std.specs.Int.{from_be_bytes, to_be_bytes}
+use Rattle.std.proofs.lemmas.List.{take_at, drop_at}
+use Rattle.std.proofs.lemmas.Nat.{from_be_bytes-to_be_bytes_8}
 use Rattle.tree_node.specs.declared.tree.Tree.{Tree}
 use Rattle.tree_node.specs.declared.tree.Tree.TheVariants.{Objects, Tags, Cells, Backs}
+use Rattle.osm_index.specs.Manifests.{HasSequence, HaveWidth, all_tops, edition_bytes, manifest}
 use Rattle.tree_node.proofs.shared.TreeLaws.{digest_len}
-use Rattle.osm_index.specs.Manifests.{HaveWidth, all_tops, edition_bytes, magic, manifest}
-use Rattle.osm_index.specs.Publications.{Publication, top_in, tree_in}
+use Rattle.osm_index.specs.Publications.{Publication, shape_of, top_in}
 use Rattle.osm_index.specs.declared.edition.Edition.{Edition}
-use Rattle.osm_index.proofs.ReadLemmas.{manifest_is, one_rest}
+use Rattle.osm_index.specs.declared.edition.Edition.TheVariants as editions
+use Rattle.osm_index.proofs.ReadLemmas.{one_rest}
 
-fronts_same : (a b c d : List ℕ) → length a ≡ length b → a ++ c ≡ b ++ d → (a ≡ b) × (c ≡ d)
-fronts_same a b c d long same = (
-  sym (take-append_seam a c) ∙ ap (take (length a)) same ∙ ap (λ (n : ℕ). take n (b ++ d)) long ∙ take-append_seam b d,
-  sym (drop-append_seam a c) ∙ ap (drop (length a)) same ∙ ap (λ (n : ℕ). drop n (b ++ d)) long ∙ drop-append_seam b d,
+-- what comes after `OSMM`
+same_rest : (e f : Edition) (t u : Tree → List ℕ) → manifest e t ≡ manifest f u → edition_bytes e ++ all_tops t ≡ edition_bytes f ++ all_tops u
+unfolding manifest
+same_rest e f t u h = ap (λ (l : List ℕ). drop 4 l) h
+
+-- fronts of one length are the same, and so is what comes after them
+cut_same : (n : ℕ) (a b c d : List ℕ) → length a ≡ n → length b ≡ n → a ++ c ≡ b ++ d → (a ≡ b) × (c ≡ d)
+cut_same n a b c d h k e = (
+  sym (take_at a c n h) ∙ ap (λ (l : List ℕ). take n l) e ∙ take_at b d n k,
+  sym (drop_at a c n h) ∙ ap (λ (l : List ℕ). drop n l) e ∙ drop_at b d n k,
 )
 
-tops_same : (a b : Tree → List ℕ) → HaveWidth a → HaveWidth b → all_tops a ≡ all_tops b → (tree : Tree) → a tree ≡ b tree
-tops_same a b wide_a wide_b same tree =
-    let one = fronts_same (a Objects) (b Objects) (a Tags ++ (a Cells ++ a Backs)) (b Tags ++ (b Cells ++ b Backs)) (wide_a Objects ∙ sym (wide_b Objects)) same in
-    let two = fronts_same (a Tags) (b Tags) (a Cells ++ a Backs) (b Cells ++ b Backs) (wide_a Tags ∙ sym (wide_b Tags)) one.1 in
-    let three = fronts_same (a Cells) (b Cells) (a Backs) (b Backs) (wide_a Cells ∙ sym (wide_b Cells)) two.1 in
-    of_tree tree one.0 two.0 three.0 three.1
-  where
-    of_tree : (t : Tree) → a Objects ≡ b Objects → a Tags ≡ b Tags → a Cells ≡ b Cells → a Backs ≡ b Backs → a t ≡ b t
-    of_tree Objects p q r s = p
-    of_tree Tags p q r s = q
-    of_tree Cells p q r s = r
-    of_tree Backs p q r s = s
+pub same_tops : (e f : Edition) (t u : Tree → List ℕ) → HaveWidth t → HaveWidth u → manifest e t ≡ manifest f u → (tree : Tree) → t tree ≡ u tree
+same_tops e f t u wide other h tree =
+    let all = one_rest e f (all_tops t) (all_tops u) (same_rest e f t u h) in
+    let objects = cut_same 32 (t Objects) (u Objects) (t Tags ++ (t Cells ++ t Backs)) (u Tags ++ (u Cells ++ u Backs)) (wide Objects) (other Objects) all in
+    let tags = cut_same 32 (t Tags) (u Tags) (t Cells ++ t Backs) (u Cells ++ u Backs) (wide Tags) (other Tags) objects.1 in
+    let cells = cut_same 32 (t Cells) (u Cells) (t Backs) (u Backs) (wide Cells) (other Cells) tags.1 in
+    elim tree as (λ (tree : Tree). t tree ≡ u tree) [ Objects ↦ objects.0 | Tags ↦ tags.0 | Cells ↦ cells.0 | Backs ↦ cells.1 ]
 
-after_magic : (xs ys : List ℕ) → magic ++ xs ≡ magic ++ ys → xs ≡ ys
-after_magic xs ys e = cc
+by_number : (e f : Edition) (rest more : List ℕ) → edition_bytes e ++ rest ≡ edition_bytes f ++ more → shape_of e ≡ shape_of f
+by_number editions.One editions.One rest more h = refl
+by_number editions.One (editions.Two s) rest more h = absurd (let heads : 1 ≡ 2 = ap (λ (l : List ℕ). get_or l 0 0) h in omega (arith, heads))
+by_number (editions.Two s) editions.One rest more h = absurd (let heads : 2 ≡ 1 = ap (λ (l : List ℕ). get_or l 0 0) h in omega (arith, heads))
+by_number (editions.Two s) (editions.Two r) rest more h = refl
 
--- one manifest has one four tops
-pub one_tops : (e f : Edition) (a b : Tree → List ℕ) → HaveWidth a → HaveWidth b → manifest e a ≡ manifest f b → (tree : Tree) → a tree ≡ b tree
-one_tops e f a b wide_a wide_b same =
-    let spelled = sym (manifest_is (manifest e a) e a refl) ∙ manifest_is (manifest e a) f b same in
-    tops_same a b wide_a wide_b (one_rest e f (all_tops a) (all_tops b) (after_magic _ _ spelled))
+pub same_shape : (e f : Edition) (t u : Tree → List ℕ) → manifest e t ≡ manifest f u → shape_of e ≡ shape_of f
+same_shape e f t u h = by_number e f (all_tops t) (all_tops u) (same_rest e f t u h)
+
+by_sequence : (e f : Edition) (rest more : List ℕ) → HasSequence e → HasSequence f → edition_bytes e ++ rest ≡ edition_bytes f ++ more → e ≡ f
+by_sequence editions.One editions.One rest more a b h = refl
+by_sequence editions.One (editions.Two s) rest more a b h = absurd (let heads : 1 ≡ 2 = ap (λ (l : List ℕ). get_or l 0 0) h in omega (arith, heads))
+by_sequence (editions.Two s) editions.One rest more a b h = absurd (let heads : 2 ≡ 1 = ap (λ (l : List ℕ). get_or l 0 0) h in omega (arith, heads))
+by_sequence (editions.Two s) (editions.Two r) rest more a b h =
+    let bytes : to_be_bytes w64 s ≡ to_be_bytes w64 r = ap (λ (l : List ℕ). take 8 (drop 1 l)) h in
+    let same : s ≡ r = sym (from_be_bytes-to_be_bytes_8 s a) ∙ ap (λ (l : List ℕ). from_be_bytes w64 l) bytes ∙ from_be_bytes-to_be_bytes_8 r b in
+    ap (λ (n : ℕ). editions.Two n) same
+
+pub same_edition : (e f : Edition) (t u : Tree → List ℕ) → HasSequence e → HasSequence f → manifest e t ≡ manifest f u → e ≡ f
+same_edition e f t u a b h = by_sequence e f (all_tops t) (all_tops u) a b (same_rest e f t u h)
 
 -- the tops of a publication have the width of digests
 pub tops_wide : (p : Publication) → HaveWidth (top_in p)

@@ -1,4 +1,4 @@
-use Rattle.std.proofs.Common.{◌≡◌, ◌++◌, List, ℕ, length, ap, refl, sym, ◌∙◌}
+use Rattle.std.proofs.Common.{◌++◌, List, ℕ, length, ap, refl, sym, ◌∙◌}
 use Rattle.osm_index.specs.Manifests.{all_tops, edition_bytes, top_among}
 use Rattle.osm_index.proofs.ReadLemmas.{after_magic, has_magic, manifest_from, manifest_is, no_magic, one_rest, tops_len}
 use Rattle.osm_index.proofs.manifest.read_manifest.Goals as goal

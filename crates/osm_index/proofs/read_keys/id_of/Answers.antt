@@ -1,4 +1,4 @@
-use Rattle.std.proofs.Common.{◌≡◌, FitsSigned, w64, rules}
+use Rattle.std.proofs.Common.{FitsSigned, w64, rules}
 use Rattle.std.proofs.lemmas.Int.{to_z-of_z}
 use Rattle.osm_index.proofs.ReadLemmas.{id_read}
 use Rattle.osm_index.proofs.read_keys.id_of.Goals as goal

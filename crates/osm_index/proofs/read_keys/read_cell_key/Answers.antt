@@ -1,7 +1,7 @@
-use Rattle.std.proofs.Common.{◌≡◌, FitsSigned, w16, w64, ◌++◌, ℕ, List, length, take, refl, sym, ap, ◌∙◌, arith, rules}
+use Rattle.std.proofs.Common.{◌≡◌, FitsSigned, w16, w64, ℕ, List, length, take, ap, ◌∙◌, arith, rules}
 use Rattle.std.specs.Int.{from_be_bytes}
 use Rattle.std.proofs.lemmas.Int.{to_z-of_z}
-use Rattle.osm_index.specs.Keys.{cell_bytes, id_bytes}
+use Rattle.osm_index.specs.Keys.{id_bytes}
 use Rattle.osm_index.proofs.ReadLemmas.{cell_len, cell_read, column_is, row_is}
 use Rattle.osm_index.proofs.read_keys.read_cell_key.Goals as goal
 use Rattle.osm_index.proofs.read_keys.read_cell_key.Goals.{then-row-gt-LAST_ROW-via-then-row-gt-LAST_ROW, then-row-gt-LAST_ROW-via-else-row-gt-LAST_ROW+then-column-gt-LAST_COLUMN}

@@ -1,8 +1,6 @@
-use Rattle.std.proofs.Common.{◌≡◌, FitsSigned, w32, ◌++◌, ℕ, ℤ, List, length, unsigned_abs, to_z, of_z, refl, sym, ap, ◌∙◌, arith, rules}
+use Rattle.std.proofs.Common.{FitsSigned, w32, ℕ, ℤ, List, length, unsigned_abs, to_z, ap, ◌∙◌, arith, rules}
 use Rattle.std.specs.Int.{from_be_bytes}
 use Rattle.std.proofs.lemmas.Int.{to_z-of_z}
-use Rattle.osm_model.specs.Places.{Place}
-use Rattle.osm_index.specs.Keys.{cell_value}
 use Rattle.osm_index.proofs.ReadLemmas.{lat_is, location_len, location_read, lon_is}
 use Rattle.osm_index.proofs.read_keys.read_cell_value.Goals as goal
 use Rattle.osm_index.proofs.read_keys.read_cell_value.Goals.{then-unsigned_abs-gt-GREATEST_LON-via-then-unsigned_abs-gt-GREATEST_LON, then-unsigned_abs-gt-GREATEST_LON-via-else-unsigned_abs-gt-GREATEST_LON+then-unsigned_abs-gt-GREATEST_LAT}

@@ -1,4 +1,4 @@
-use Rattle.std.proofs.Common.{◌≡◌, ◌++◌, ◌∷◌, ℕ, List, length, ap, subst, sym, arith}
+use Rattle.std.proofs.Common.{ℕ, List, length, ap, subst, sym, arith}
 use Rattle.std.specs.Str.{IsUtf8}
 use Rattle.opl_codec.specs.Fields.{Lacks}
 use Rattle.osm_index.proofs.ReadLemmas.{lacks_no_nul, lacks_none, one_text}

@@ -1,4 +1,4 @@
-use Rattle.std.proofs.Common.{◌≡◌, ℕ, List, length, ap, ◌∙◌, arith}
+use Rattle.std.proofs.Common.{length, ap, arith}
 use Rattle.osm_index.proofs.ListingLemmas.{ref_key_len}
 use Rattle.osm_index.proofs.read_keys.read_reference_key.Goals as goal
 

@@ -1,4 +1,4 @@
-use Rattle.std.proofs.Common.{◌≡◌, ◌++◌, ◌∷◌, [], ℕ, List, refl, sym, ◌∙◌, ap}
+use Rattle.std.proofs.Common.{◌++◌, ◌∷◌, refl, ◌∙◌}
 use Rattle.osm_index.specs.Keys.{ref_key}
 use Rattle.osm_index.proofs.ReadLemmas.{one_text, tag_flat}
 use Rattle.osm_index.proofs.read_keys.read_tag_key.Goals as goal
