@@ -76,9 +76,10 @@ pub fn tag_key_law()
 {}
 
 /// The law of the ranges of a box's cells. They find nodes of the map: all that the box holds, and perhaps
-/// others in the same cells, so the caller tests the locations. A node that the box holds is in one range
-/// of the list. It is in two where the box crosses the 180th meridian and goes almost round the earth, to
-/// an eastern edge in the column of cells of the western one: there the two ranges of a row share a cell.
+/// others in the same cells, so the caller tests each location. A node that the box holds is in one range
+/// of the list, and only in one. The exception is a box that crosses the 180th meridian and whose western
+/// and eastern edges, in whole units, lie in one column of cells: both ranges of a row have that column's
+/// cell, so a node there is found twice.
 pub fn cell_law()
     // A range finds just the entries of the nodes whose keys are in it.
     ensures found { (p : Publication) → IsPublication p → (range : Range) (found : List Binding)
@@ -89,7 +90,7 @@ pub fn cell_law()
     ensures held { (p : Publication) → IsPublication p → (b : ExactBox) (ranges : List Range) → AreCellRanges b ranges
         → (o : Element) → Contains p.objects o → (place : Place) → o.body ≡ bodies.Node place → Holds b place
         → (range : Range) × Contains ranges range × IsIn range (cell_key place o.id) }
-    // and a node is in one at most, where no cell is in two.
+    // and a node is in one at most, unless a cell is in two.
     ensures once { (p : Publication) → IsPublication p → (b : ExactBox) (ranges : List Range) (are : AreCellRanges b ranges)
         → (o : Element) → Contains p.objects o → (place : Place) → o.body ≡ bodies.Node place
         → (¬ IsAbove b.west.value b.east.value) ⊎ (column are.east < column are.west)

@@ -1,5 +1,5 @@
 -- What the ranges of a box's cells find.
-use Rattle.std.proofs.Common.{◌≡◌, ◌↔◌, ◌⊎◌, inl, inr, ℕ, zero, suc, ◌+◌, ◌-◌, ◌*◌, ◌/◌, ◌%◌, ◌<◌, ◌≤◌, ℤ, pos, negsuc, ◌+ℤ◌, unsigned_abs, true, List, [], ◌∷◌, ◌++◌, length, map, get_or, Option, Some, None, refl, sym, ap, subst, ◌∙◌, append-nil, arith}
+use Rattle.std.proofs.Common.{◌≡◌, ◌↔◌, ◌⊎◌, inl, inr, ℕ, zero, suc, ◌+◌, ◌-◌, ◌*◌, ◌/◌, ◌%◌, ◌<◌, ◌≤◌, ℤ, pos, negsuc, unsigned_abs, true, List, [], ◌∷◌, ◌++◌, map, Some, refl, sym, ap, subst, ◌∙◌, append-nil, arith}
 use Rattle.std.specs.List.{Contains, flat_map, range_with_len, slice_get}
 use Rattle.std.specs.Prelude.{◌≤ℤ◌, ◌<ℤ◌}
 use Rattle.std.proofs.lemmas.Bool.{cases_order}
@@ -24,7 +24,7 @@ use Rattle.tree_walk.proofs.shared.KeyLemmas.{below_cons, cons_below}
 use Rattle.osm_index.specs.Entries.{cell_entry}
 use Rattle.osm_index.specs.Keys.{above, cell_bytes, cell_key, column, id_bytes, row}
 use Rattle.osm_index.specs.Publications.{IsPublication, Publication}
-use Rattle.osm_index.specs.Ranges.{AreCellRanges, AreColumns, AreRows, cell_range, last_column}
+use Rattle.osm_index.specs.Ranges.{AreCellRanges, cell_range, last_column}
 use Rattle.osm_index.proofs.shared.Members.{first_or_in_rest, from_all, from_map, here, in_all, in_map, in_rest, none}
 use Rattle.osm_index.proofs.shared.OneObject.{is_element}
 use Rattle.osm_index.proofs.shared.RangeLaws.{found_is, front_at_most}
