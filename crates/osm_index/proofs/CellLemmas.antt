@@ -52,6 +52,12 @@ are_ranges b edges are rows columns are_rows are_columns ranges e = record {
   ranges_are = e;
 }
 
+-- rows and columns between units that fit 32 bits
+pub rows_kept : (south north : ℤ) (rows : List ℕ) → unsigned_abs south ≤ 900000000 → unsigned_abs north ≤ 900000000 → AreRows (to_z w32 (of_z w32 south)) (to_z w32 (of_z w32 north)) rows → AreRows south north rows
+rows_kept south north rows s n are =
+    subst (λ (z : ℤ). AreRows south z rows) (same_number north (omega (arith, n)))
+    (subst (λ (z : ℤ). AreRows z (to_z w32 (of_z w32 north)) rows) (same_number south (omega (arith, s))) are)
+
 -- an edge of the box in whole units, which fit 32 bits
 pub one_edge : (IsRounded : Decimal → ℤ → Type 0) (e f : ExactEdge) (axis : Axis) (z : ℤ) → e ≡ f → f.axis ≡ axis → IsRounded e.value z → unsigned_abs z ≤ limit e.axis → limit axis ≤ 1800000000
     → IsRounded f.value (to_z w32 (of_z w32 z)) × (unsigned_abs (to_z w32 (of_z w32 z)) ≤ limit axis)

@@ -1,9 +1,9 @@
-use Rattle.std.proofs.Common.{inl, inr, subst, sym, arith}
+use Rattle.std.proofs.Common.{inl, inr, subst, sym}
 use Rattle.std.proofs.lemmas.Result.{IfOk-weaker}
 use Rattle.osm_index.specs.Ranges.{AreColumns}
 use Rattle.osm_index.specs.declared.columns.Columns.{Columns}
 use Rattle.osm_index.specs.internal.Cells.{columns_in, rows_in}
-use Rattle.osm_index.proofs.CellLemmas.{are_ranges}
+use Rattle.osm_index.proofs.CellLemmas.{are_ranges, rows_kept}
 use Rattle.osm_index.proofs.Ids.{same_number}
 use Rattle.osm_index.proofs.cells.cell_ranges.Goals as goal
 use Rattle.osm_index.proofs.cells.cell_ranges.Goals.{then-crosses_meridian, else-crosses_meridian}
@@ -15,7 +15,7 @@ returns c =
     let are = c.whole_edges-edges.ensures in
     let west_is = same_number edges.west are.west_few in
     let east_is = same_number edges.east are.east_few in
-    let rows = rw (same_number edges.south (omega (arith, are.south_few)), same_number edges.north (omega (arith, are.north_few))) at c.rows_between-rows.ensures in
+    let rows = rows_kept edges.south edges.north (rows_in c.rows_between-rows.result) are.south_few are.north_few c.rows_between-rows.ensures in
     let columns : AreColumns b edges.west edges.east (columns_in c.if-crosses_meridian.columns) = elim c.if-crosses_meridian.branch [
       | then-crosses_meridian w ↦ subst (λ (x : Columns). AreColumns b edges.west edges.east (columns_in x)) (sym w.columns-is)
           (inl (c.crosses_meridian.ensures.0 w.if-crosses_meridian.true, rw (west_is, east_is) at w.columns_around-columns.ensures))
