@@ -3,7 +3,7 @@
 
 ghost use Rattle.std.specs.Int.{w64};
 ghost use Rattle.std.specs.List.{Contains};
-ghost use Rattle.std.specs.Prelude.{◌≡◌, ◌↔◌, ◌⊎◌, ◌<◌, ℕ, FitsSigned, List, Option, Some, slice_get};
+ghost use Rattle.std.specs.Prelude.{◌≡◌, ◌↔◌, ◌⊎◌, ◌<◌, ◌≤◌, ℕ, FitsSigned, List, Option, Some, length, slice_get};
 ghost use Rattle.osm_model.specs.Boxes.{ExactBox, Holds};
 ghost use Rattle.osm_model.specs.Edges.{IsAbove};
 ghost use Rattle.osm_model.specs.Elements.{Element, kind_of, reference};
@@ -96,6 +96,8 @@ pub fn cell_law()
         → (¬ IsAbove b.west.value b.east.value) ⊎ (column are.east < column are.west)
         → (k j : ℕ) (x y : Range) → slice_get ranges k ≡ Some x → slice_get ranges j ≡ Some y
         → IsIn x (cell_key place o.id) → IsIn y (cell_key place o.id) → k ≡ j }
+    // There are two ranges for each row of the earth at most.
+    ensures few { (b : ExactBox) (ranges : List Range) → AreCellRanges b ranges → length ranges ≤ 3602 }
 {}
 
 /// The law of a back range: it finds just the objects of the kind that list the target, which needn't be
