@@ -1,14 +1,17 @@
 -- Ranges of cells, as they are made.
-use Rattle.std.proofs.Common.{◌≡◌, ℕ, zero, suc, ◌+◌, ◌-◌, ◌<◌, ◌≤◌, ℤ, unsigned_abs, true, List, [], ◌∷◌, ◌++◌, length, map, take, drop, get_or, refl, sym, ap, subst, ◌∙◌, append_assoc, append-nil, arith}
+use Rattle.std.proofs.Common.{◌≡◌, ℕ, zero, suc, ◌+◌, ◌-◌, ◌<◌, ◌≤◌, ℤ, unsigned_abs, to_z, of_z, w32, true, List, [], ◌∷◌, ◌++◌, length, map, take, drop, get_or, refl, sym, ap, subst, ◌∙◌, append_assoc, append-nil, arith}
 use Rattle.std.specs.List.{flat_map, range_with_len}
 use Rattle.std.proofs.lemmas.List.{take_at, drop_at, length-append}
 use Rattle.osm_model.specs.Boxes.{ExactBox}
-use Rattle.osm_model.specs.Degrees.{limit}
-use Rattle.osm_model.specs.Edges.{ExactEdge, IsCeiling, IsFloor}
+use Rattle.osm_model.specs.Degrees.{Decimal, limit}
+use Rattle.osm_model.specs.Edges.{ExactEdge}
 use Rattle.osm_model.specs.declared.axis.Axis.{Axis}
 use Rattle.tree_walk.specs.Ranges.{IsIn, Range}
 use Rattle.osm_index.specs.Keys.{cell_bytes}
+use Rattle.osm_index.specs.declared.columns.WholeEdges.{WholeEdges}
+use Rattle.osm_index.specs.internal.Cells.{AreWholeEdges}
 use Rattle.osm_index.specs.Ranges.{AreCellRanges, AreColumns, AreRows, cell_range}
+use Rattle.osm_index.proofs.Ids.{same_number}
 use Rattle.osm_index.proofs.shared.CellLaws.{first_in}
 
 pub one_more_row : (f : ℕ → List Range) (a n : ℕ) → flat_map f (range_with_len a (suc n)) ≡ flat_map f (range_with_len a n) ++ f (a + n)
@@ -29,21 +32,19 @@ row_done f first row old new le done more =
 
 -- ---- the ranges of a box
 
-pub are_ranges : (b : ExactBox) → (south north west east : ℤ) → IsCeiling b.south.value south → IsFloor b.north.value north → IsCeiling b.west.value west → IsFloor b.east.value east
-    → unsigned_abs south ≤ 900000000 → unsigned_abs north ≤ 900000000 → unsigned_abs west ≤ 1800000000 → unsigned_abs east ≤ 1800000000
-    → (rows : List ℕ) (columns : List (ℕ × ℕ)) → AreRows south north rows → AreColumns b west east columns
+pub are_ranges : (b : ExactBox) (edges : WholeEdges) → AreWholeEdges b edges → (rows : List ℕ) (columns : List (ℕ × ℕ)) → AreRows edges.south edges.north rows → AreColumns b edges.west edges.east columns
     → (ranges : List Range) → ranges ≡ flat_map (λ row. map (cell_range row) columns) rows → AreCellRanges b ranges
-are_ranges b south north west east cs fn cw fe ls ln lw le rows columns are_rows are_columns ranges e = record {
-  south = south;
-  west = west;
-  north = north;
-  east = east;
-  south_is = cs;
-  west_is = cw;
-  north_is = fn;
-  east_is = fe;
-  southwest = record { lon = lw; lat = ls };
-  northeast = record { lon = le; lat = ln };
+are_ranges b edges are rows columns are_rows are_columns ranges e = record {
+  south = edges.south;
+  west = edges.west;
+  north = edges.north;
+  east = edges.east;
+  south_is = are.south;
+  west_is = are.west;
+  north_is = are.north;
+  east_is = are.east;
+  southwest = record { lon = are.west_few; lat = are.south_few };
+  northeast = record { lon = are.east_few; lat = are.north_few };
   rows = rows;
   columns = columns;
   rows_are = are_rows;
@@ -51,9 +52,21 @@ are_ranges b south north west east cs fn cw fe ls ln lw le rows columns are_rows
   ranges_are = e;
 }
 
--- an edge's units are in the range of its axis
-pub few_units : (e f : ExactEdge) (axis : Axis) (z : ℤ) → e ≡ f → f.axis ≡ axis → unsigned_abs z ≤ limit e.axis → unsigned_abs z ≤ limit axis
-few_units e f axis z same is few = subst (λ (a : Axis). unsigned_abs z ≤ limit a) is (subst (λ (x : ExactEdge). unsigned_abs z ≤ limit x.axis) same few)
+-- rows and columns between units that fit 32 bits
+pub rows_kept : (south north : ℤ) (rows : List ℕ) → unsigned_abs south ≤ 900000000 → unsigned_abs north ≤ 900000000 → AreRows (to_z w32 (of_z w32 south)) (to_z w32 (of_z w32 north)) rows → AreRows south north rows
+rows_kept south north rows s n are =
+    subst (λ (z : ℤ). AreRows south z rows) (same_number north (omega (arith, n)))
+    (subst (λ (z : ℤ). AreRows z (to_z w32 (of_z w32 north)) rows) (same_number south (omega (arith, s))) are)
+
+-- an edge of the box in whole units, which fit 32 bits
+pub one_edge : (IsRounded : Decimal → ℤ → Type 0) (e f : ExactEdge) (axis : Axis) (z : ℤ) → e ≡ f → f.axis ≡ axis → IsRounded e.value z → unsigned_abs z ≤ limit e.axis → limit axis ≤ 1800000000
+    → IsRounded f.value (to_z w32 (of_z w32 z)) × (unsigned_abs (to_z w32 (of_z w32 z)) ≤ limit axis)
+one_edge IsRounded e f axis z same is rounded within wide =
+    let few : unsigned_abs z ≤ limit axis = subst (λ (a : Axis). unsigned_abs z ≤ limit a) is (subst (λ (x : ExactEdge). unsigned_abs z ≤ limit x.axis) same within) in
+    let kept : z ≡ to_z w32 (of_z w32 z) = sym (same_number z (omega (arith, few, wide))) in (
+      subst (λ (y : ℤ). IsRounded f.value y) kept (subst (λ (x : ExactEdge). IsRounded x.value z) same rounded),
+      subst (λ (y : ℤ). unsigned_abs y ≤ limit axis) kept few,
+    )
 
 -- ---- the two ends of a range in eight bytes
 

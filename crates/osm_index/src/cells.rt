@@ -1,12 +1,12 @@
 //! The ranges of the cell tree in which the nodes of a box are found.
 
 ghost use Rattle.std.specs.List.{flat_map};
-ghost use Rattle.std.specs.Prelude.{◌≡◌, [], ◌∷◌, ◌++◌, ◌⊎◌, ◌≤◌, ◌≤ℤ◌, ◌<ℤ◌, IfOk, IsTrue, OnOk, map, unsigned_abs};
-ghost use Rattle.osm_index.specs.Keys.{column, row};
+ghost use Rattle.std.specs.Prelude.{◌≡◌, [], ◌∷◌, ◌++◌, ◌⊎◌, ◌≤◌, ◌≤ℤ◌, ◌<ℤ◌, IfOk, OnOk, map, unsigned_abs};
+ghost use Rattle.osm_index.specs.Keys.{column};
 ghost use Rattle.osm_index.specs.Ranges.{AreCellRanges, AreRows, cell_range, last_column};
-ghost use Rattle.osm_index.specs.internal.Cells.{columns_in, ends_of, rows_in};
+ghost use Rattle.osm_index.specs.internal.Cells.{AreWholeEdges, columns_in, ends_of, rows_in};
 
-use crate::columns::{Columns, Rows, Span};
+use crate::columns::{ColumnSpan, Columns, Rows, WholeEdges};
 use crate::keys::{column, row};
 use crate::ranges::OwnedRange;
 use osm_model::BoxArea;
@@ -25,17 +25,26 @@ const LAST_COLUMN: u16 = 3600;
 pub fn cell_ranges(alloc: Global, area: &BoxArea<'_>) -> Result<Vec<OwnedRange>, AllocError>
     ensures { IfOk result (λ ranges. AreCellRanges area.now ranges.items) }
 {
-    let south = area.south().ceiling_units();
-    let west = area.west().ceiling_units();
-    let north = area.north().floor_units();
-    let east = area.east().floor_units();
-    let rows = rows_between(south, north);
+    let edges = whole_edges(area);
+    let rows = rows_between(edges.south, edges.north);
     let columns = if area.crosses_meridian() {
-        columns_around(west, east)
+        columns_around(edges.west, edges.east)
     } else {
-        columns_between(west, east)
+        columns_between(edges.west, edges.east)
     };
     ranges_of(alloc, rows, columns)
+}
+
+/// The edges of a box, rounded to whole units inside it.
+fn whole_edges(area: &BoxArea<'_>) -> WholeEdges
+    ensures { AreWholeEdges area.now result }
+{
+    WholeEdges {
+        south: area.south().ceiling_units(),
+        west: area.west().ceiling_units(),
+        north: area.north().floor_units(),
+        east: area.east().floor_units(),
+    }
 }
 
 /// The rows from one latitude to another, in 1e-7 degree.
@@ -63,7 +72,7 @@ fn columns_between(west: i32, east: i32) -> Columns
     if east < west {
         return Columns::None;
     }
-    Columns::One(Span {
+    Columns::One(ColumnSpan {
         first: column(west),
         last: column(east),
     })
@@ -75,11 +84,11 @@ fn columns_around(west: i32, east: i32) -> Columns
     requires east { unsigned_abs east ≤ 1800000000 }
     ensures { columns_in result ≡ (column west, last_column) ∷ (0, column east) ∷ [] }
 {
-    let to_meridian = Span {
+    let to_meridian = ColumnSpan {
         first: column(west),
         last: LAST_COLUMN,
     };
-    let from_meridian = Span {
+    let from_meridian = ColumnSpan {
         first: 0,
         last: column(east),
     };
@@ -121,7 +130,7 @@ fn append_row(
 fn append_span(
     alloc: Global,
     row: u16,
-    span: Span,
+    span: ColumnSpan,
     ranges: &mut Vec<OwnedRange>,
 ) -> Result<(), AllocError>
     ensures { OnOk result (ranges.new.items ≡ ranges.old.items ++ cell_range row (ends_of span) ∷ []) }

@@ -3,7 +3,7 @@
 
 ghost use Rattle.std.specs.Int.{w64};
 ghost use Rattle.std.specs.List.{AllByRecursion, Contains};
-ghost use Rattle.std.specs.Prelude.{◌≡◌, ◌↔◌, ◌⊎◌, ◌<◌, ℕ, FitsSigned, List, None, Option, Some, slice_get};
+ghost use Rattle.std.specs.Prelude.{◌≡◌, ◌↔◌, ◌⊎◌, ◌<◌, ◌≤◌, ℕ, FitsSigned, List, None, Option, Some, length, slice_get};
 ghost use Rattle.std.specs.declared.cmp.Ordering.TheVariants.{Less};
 ghost use Rattle.osm_model.specs.Boxes.{ExactBox, Holds};
 ghost use Rattle.osm_model.specs.Edges.{IsAbove};
@@ -99,9 +99,10 @@ pub fn tag_key_law()
 {}
 
 /// The law of the ranges of a box's cells. They find nodes of the map: all that the box holds, and perhaps
-/// others in the same cells, so the caller tests the locations. A node that the box holds is in one range
-/// of the list. It is in two where the box crosses the 180th meridian and goes almost round the earth, to
-/// an eastern edge in the column of cells of the western one: there the two ranges of a row share a cell.
+/// others in the same cells, so the caller tests each location. A node that the box holds is in one range
+/// of the list, and only in one. The exception is a box that crosses the 180th meridian and whose western
+/// and eastern edges, in whole units, lie in one column of cells: both ranges of a row have that column's
+/// cell, so a node there is found twice.
 pub fn cell_law()
     // A range finds just the entries of the nodes whose keys are in it.
     ensures found { (p : Publication) → IsPublication p → (range : Range) (found : List Binding)
@@ -112,12 +113,14 @@ pub fn cell_law()
     ensures held { (p : Publication) → IsPublication p → (b : ExactBox) (ranges : List Range) → AreCellRanges b ranges
         → (o : Element) → Contains p.objects o → (place : Place) → o.body ≡ bodies.Node place → Holds b place
         → (range : Range) × Contains ranges range × IsIn range (cell_key place o.id) }
-    // and a node is in one at most, where no cell is in two.
+    // and a node is in one at most, unless a cell is in two.
     ensures once { (p : Publication) → IsPublication p → (b : ExactBox) (ranges : List Range) (are : AreCellRanges b ranges)
         → (o : Element) → Contains p.objects o → (place : Place) → o.body ≡ bodies.Node place
         → (¬ IsAbove b.west.value b.east.value) ⊎ (column are.east < column are.west)
         → (k j : ℕ) (x y : Range) → slice_get ranges k ≡ Some x → slice_get ranges j ≡ Some y
         → IsIn x (cell_key place o.id) → IsIn y (cell_key place o.id) → k ≡ j }
+    // There are two ranges for each row of the earth at most.
+    ensures few { (b : ExactBox) (ranges : List Range) → AreCellRanges b ranges → length ranges ≤ 3602 }
 {}
 
 /// The law of a back range: it finds just the objects of the kind that list the target, which needn't be

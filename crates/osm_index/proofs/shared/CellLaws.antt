@@ -1,9 +1,10 @@
 -- What the ranges of a box's cells find.
-use Rattle.std.proofs.Common.{◌≡◌, ◌↔◌, ◌⊎◌, inl, inr, ℕ, zero, suc, ◌+◌, ◌-◌, ◌*◌, ◌/◌, ◌%◌, ◌<◌, ◌≤◌, ℤ, pos, negsuc, ◌+ℤ◌, unsigned_abs, true, List, [], ◌∷◌, ◌++◌, length, map, get_or, Option, Some, None, refl, sym, ap, subst, ◌∙◌, append-nil, arith}
+use Rattle.std.proofs.Common.{◌≡◌, ◌↔◌, ◌⊎◌, inl, inr, ℕ, zero, suc, ◌+◌, ◌-◌, ◌*◌, ◌/◌, ◌%◌, ◌<◌, ◌≤◌, ℤ, pos, negsuc, unsigned_abs, true, List, [], ◌∷◌, ◌++◌, length, map, Some, refl, sym, ap, subst, ◌∙◌, append-nil, arith}
 use Rattle.std.specs.List.{Contains, flat_map, range_with_len, slice_get}
 use Rattle.std.specs.Prelude.{◌≤ℤ◌, ◌<ℤ◌}
 use Rattle.std.proofs.lemmas.Bool.{cases_order}
 use Rattle.std.proofs.lemmas.Int.{ints}
+use Rattle.std.proofs.lemmas.List.{length-append}
 use Rattle.std.proofs.lemmas.List.Elements.{Contains-append_cases}
 use Rattle.std.proofs.lemmas.List.FromFn.{get_or-range_with_len, length-range_with_len}
 use Rattle.std.proofs.lemmas.Option.{get_or_from_slice_get, slice_get_within}
@@ -386,6 +387,29 @@ module _ (place : Place) (id : ℤ) (is : IsPlace place) where
           | inr (uncrossed, inl (_, e)) ↦ once_if [] e (λ span there. absurd (none span there)) (λ r hr. tt)
           | inr (uncrossed, inr (_, e)) ↦ once_if ((column are.west, column are.east) ∷ []) e (one_few (column are.west, column are.east) west_few east_few) (λ r hr. ((λ has y there also. none y there), tt))
         ]
+
+-- ---- how many ranges there are
+
+two_a_row : (f : ℕ → List Range) (rows : List ℕ) → ((r : ℕ) → length (f r) ≤ 2) → length (flat_map f rows) ≤ 2 * length rows
+two_a_row f [] few = omega arith
+two_a_row f (r ∷ rows) few = omega (arith, length-append (f r) (flat_map f rows), few r, two_a_row f rows few)
+
+few_rows : (south north : ℤ) (rows : List ℕ) → unsigned_abs north ≤ 900000000 → AreRows south north rows → length rows ≤ 1801
+few_rows south north rows few (inl (_, e)) = subst (λ (l : List ℕ). length l ≤ 1801) (sym e) (omega arith)
+few_rows south north rows few (inr (_, e)) = subst (λ (l : List ℕ). length l ≤ 1801) (sym e) (omega (arith, length-range_with_len (row south) (row north + 1 - row south), row_few north few))
+
+few_columns : (b : ExactBox) (west east : ℤ) (columns : List (ℕ × ℕ)) (r : ℕ) → AreColumns b west east columns → length (map (cell_range r) columns) ≤ 2
+few_columns b west east columns r (inl (_, e)) = subst (λ (l : List (ℕ × ℕ)). length (map (cell_range r) l) ≤ 2) (sym e) (omega arith)
+few_columns b west east columns r (inr (_, inl (_, e))) = subst (λ (l : List (ℕ × ℕ)). length (map (cell_range r) l) ≤ 2) (sym e) (omega arith)
+few_columns b west east columns r (inr (_, inr (_, e))) = subst (λ (l : List (ℕ × ℕ)). length (map (cell_range r) l) ≤ 2) (sym e) (omega arith)
+
+-- two for each row of the earth at most
+pub few_ranges : (b : ExactBox) (ranges : List Range) → AreCellRanges b ranges → length ranges ≤ 3602
+few_ranges b ranges are =
+    let f = λ (r : ℕ). map (cell_range r) are.columns in
+    let each = two_a_row f are.rows (λ r. few_columns b are.west are.east are.columns r are.columns_are) in
+    let rows = few_rows are.south are.north are.rows are.northeast.lat are.rows_are in
+    subst (λ (list : List Range). length list ≤ 3602) (sym are.ranges_are) (omega (arith, each, rows))
 
 -- ---- what the ranges find in a tree of a set
 

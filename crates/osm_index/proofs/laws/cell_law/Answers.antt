@@ -1,4 +1,4 @@
-use Rattle.osm_index.proofs.shared.CellLaws.{cell_found, cell_held, cell_once}
+use Rattle.osm_index.proofs.shared.CellLaws.{cell_found, cell_held, cell_once, few_ranges}
 use Rattle.osm_index.proofs.laws.cell_law.Goals as goal
 
 pub returns-clause-found : goal.returns-clause-found
@@ -9,3 +9,6 @@ returns-clause-held c = cell_held
 
 pub returns-clause-once : goal.returns-clause-once
 returns-clause-once c p is b ranges are o there place node apart = cell_once p is b ranges are o there place node apart
+
+pub returns-clause-few : goal.returns-clause-few
+returns-clause-few c = few_ranges

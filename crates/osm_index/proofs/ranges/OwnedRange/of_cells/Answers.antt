@@ -1,6 +1,6 @@
-use Rattle.std.proofs.Common.{◌≡◌, ◌++◌, ◌∙◌, List, ℕ, arith}
+use Rattle.std.proofs.Common.{◌≡◌, ◌++◌, ◌∙◌, arith}
 use Rattle.osm_index.specs.Keys.{cell_bytes}
-use Rattle.osm_index.proofs.CellLemmas.{eight_bytes, range_is, range_kept}
+use Rattle.osm_index.proofs.CellLemmas.{eight_bytes, range_kept}
 use Rattle.osm_index.proofs.ranges.OwnedRange.of_cells.Goals as goal
 
 pub invariant_of-result : goal.invariant_of-result
