@@ -1,20 +1,18 @@
 -- The entries of a set of objects have a tree.
-use Rattle.std.proofs.Common.{◌≡◌, ◌↔◌, ℕ, ◌+◌, ◌<◌, ◌≤◌, ◌^◌, List, [], ◌∷◌, ◌++◌, length, refl, sym, ap, subst, ◌∙◌, arith, ℤ}
+use Rattle.std.proofs.Common.{◌≡◌, ℕ, ◌≤◌, List, [], ◌∷◌, length, refl, subst, arith}
 use Rattle.std.specs.List.{AllByRecursion, Contains}
 use Rattle.std.proofs.lemmas.List.{length-append}
-use Rattle.osm_model.specs.CanonicalLine.{canonical_line}
 use Rattle.osm_model.specs.Elements.{Element, reference}
 use Rattle.osm_model.specs.Limits.{IsElement}
 use Rattle.osm_model.specs.Places.{Place}
 use Rattle.osm_model.specs.Sets.{IsObjectSet}
-use Rattle.osm_model.specs.declared.reference.Ref.{Ref}
 use Rattle.osm_model.specs.declared.tag.Tag.{Tag}
 use Rattle.tree_node.specs.Nodes.{Binding}
 use Rattle.tree_node.specs.Trees.{FitsTree, HasTree}
 use Rattle.tree_node.specs.declared.limits.TheConstants.{ENTRY_LIMIT}
 use Rattle.tree_node.specs.declared.tree.Tree.{Tree}
 use Rattle.tree_node.specs.declared.tree.Tree.TheVariants.{Objects, Tags, Cells, Backs}
-use Rattle.osm_index.specs.Entries.{AreEntriesOf, IsEntryOf, IsEntryOfSome}
+use Rattle.osm_index.specs.Entries.{AreEntriesOf, IsEntryOf}
 use Rattle.osm_index.specs.Keys.{cell_bytes, cell_value, column, id_bytes, ref_key, row}
 use Rattle.osm_index.proofs.ListingLemmas.{id_len, ref_key_len, tag_key_len}
 use Rattle.osm_index.proofs.shared.Members.{here, in_rest}

@@ -1,6 +1,6 @@
 -- Ids and the numbers that stand for them in keys.
-use Rattle.std.proofs.Common.{◌≡◌, ℕ, List, [], ◌∷◌, ◌++◌, get_or, refl, ◌+◌, ◌%◌, ◌^◌, ◌<◌, ◌≤◌, ℤ, pos, negsuc, ◌+ℤ◌, unsigned_abs, FitsSigned, to_z, of_z, w32, w64, arith, sym, ◌∙◌}
-use Rattle.std.specs.Int.{cast_unsigned, cast_signed}
+use Rattle.std.proofs.Common.{◌≡◌, ℕ, List, [], ◌∷◌, ◌++◌, get_or, refl, ◌+◌, ◌%◌, ◌^◌, ◌≤◌, ℤ, pos, negsuc, unsigned_abs, FitsSigned, to_z, of_z, w32, w64, arith}
+use Rattle.std.specs.Int.{cast_unsigned}
 use Rattle.std.proofs.lemmas.Int.{ints, to_z-of_z}
 use Rattle.osm_index.specs.Keys.{above, cell_bytes, id_bytes}
 

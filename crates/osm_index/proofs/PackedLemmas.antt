@@ -1,11 +1,10 @@
 -- Packed entries: what is cut from the bytes is what was packed into them.
-use Rattle.std.proofs.Common.{◌≡◌, ℕ, zero, suc, ◌+◌, ◌<◌, ◌≤◌, List, [], ◌∷◌, ◌++◌, length, map, take, drop, get_or, sum_by, refl, sym, ap, ◌∙◌, append_assoc, add-one, arith}
-use Rattle.std.specs.List.{flat_map}
+use Rattle.std.proofs.Common.{◌≡◌, ℕ, suc, ◌+◌, ◌<◌, ◌≤◌, List, [], ◌∷◌, ◌++◌, length, take, drop, get_or, refl, sym, ap, ◌∙◌, append_assoc, add-one, arith}
 use Rattle.std.proofs.Math.Seq.{drop-cons}
-use Rattle.std.proofs.lemmas.List.{length-append, length-drop, take_at, drop_at}
+use Rattle.std.proofs.lemmas.List.{length-drop}
 use Rattle.tree_node.specs.Nodes.{Binding}
 use Rattle.osm_index.specs.declared.entry_list.Span.{Span}
-use Rattle.osm_index.specs.internal.Listing.{cut, packed_len, span_of, text_of}
+use Rattle.osm_index.specs.internal.Listing.{cut, packed_len}
 
 -- so many entries of a packed list have been lent, and the rest is packed in what is left
 pub record IsLent (spans : List Span) (bytes : List ℕ) (lent : List Binding) (k : ℕ) (rest : List ℕ) : Type 0 where

@@ -4,12 +4,11 @@ use Rattle.osm_model.specs.Elements.{Element}
 use Rattle.osm_model.specs.Sets.{IsObjectSet}
 use Rattle.tree_node.specs.Digests.{digest}
 use Rattle.tree_node.specs.Keys.{key_of}
-use Rattle.tree_node.specs.NodeRefs.{number_of}
 use Rattle.tree_node.specs.Nodes.{Binding}
 use Rattle.tree_node.specs.Outcomes.{Clash, GrownByAll}
 use Rattle.tree_node.specs.Shelves.{GrownBy, IsClashFree, IsEmptySet}
 use Rattle.tree_node.specs.Stocks.{HasNode}
-use Rattle.tree_node.specs.Trees.{IsNodeOf, levels, top_of}
+use Rattle.tree_node.specs.Trees.{IsNodeOf}
 use Rattle.tree_node.specs.declared.digest.Digest.{Digest}
 use Rattle.tree_node.specs.declared.stock.Stock.{Stock}
 use Rattle.tree_node.specs.declared.limits.TheConstants.{ENTRY_LIMIT}
@@ -17,7 +16,7 @@ use Rattle.tree_node.specs.declared.tree.Tree.{Tree}
 use Rattle.tree_node.specs.declared.tree.Tree.TheVariants.{Objects, Tags, Cells, Backs}
 use Rattle.osm_index.specs.Entries.{AreEntriesOf}
 use Rattle.osm_index.specs.Manifests.{manifest, top_among}
-use Rattle.osm_index.specs.Publications.{IsNodeIn, IsPublication, Publication, manifest_of, shape_of, top_in, tree_in}
+use Rattle.osm_index.specs.Publications.{IsNodeIn, Publication, manifest_of, shape_of, top_in, tree_in}
 use Rattle.osm_index.specs.Snapshots.{IsPublicationOf}
 use Rattle.osm_index.specs.declared.edition.Edition.{Edition}
 use Rattle.osm_index.specs.internal.Putting.{AreAllFour, Ended, EndedAll, HasPut, IsTreeNode}

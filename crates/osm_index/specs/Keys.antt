@@ -1,7 +1,7 @@
 -- The keys of the four trees of a set of objects. Numbers are written with the greatest byte first.
 -- Source: this project's trees, docs/FORMATS.md.
 use Rattle.std.specs.Int.{to_be_bytes, cast_unsigned, w16, w32, w64}
-use Rattle.std.specs.Prelude.{ℕ, ◌+◌, ◌/◌, ◌≤◌, ◌^◌, List, [], ◌∷◌, ◌++◌, ℤ, pos, ◌+ℤ◌, unsigned_abs}
+use Rattle.std.specs.Prelude.{ℕ, ◌/◌, ◌≤◌, ◌^◌, List, [], ◌∷◌, ◌++◌, ℤ, pos, ◌+ℤ◌, unsigned_abs}
 use Rattle.std.specs.Str.{IsUtf8}
 use Rattle.osm_model.specs.Elements.{kind_byte}
 use Rattle.osm_model.specs.Limits.{HasNoNul, IsShort}

@@ -1,5 +1,5 @@
 -- Keys of references are ordered as the references are.
-use Rattle.std.proofs.Common.{◌≡◌, ◌⊎◌, ◌↔◌, inl, inr, ℕ, zero, suc, ◌+◌, ◌*◌, ◌/◌, ◌%◌, ◌^◌, ◌<◌, ◌≤◌, ℤ, pos, negsuc, FitsSigned, w64, List, [], ◌∷◌, ◌++◌, refl, sym, ap, subst, ◌∙◌, arith}
+use Rattle.std.proofs.Common.{◌≡◌, ◌⊎◌, ◌↔◌, inl, inr, ℕ, zero, suc, ◌*◌, ◌/◌, ◌%◌, ◌^◌, ◌<◌, ◌≤◌, ℤ, pos, negsuc, FitsSigned, w64, [], refl, sym, ap, subst, ◌∙◌, arith}
 use Rattle.std.specs.Int.{bytes_high_first}
 use Rattle.std.specs.Ordering.{MatchOrdering, int_cmp, ordering_reverse}
 use Rattle.std.specs.Prelude.{◌<ℤ◌}

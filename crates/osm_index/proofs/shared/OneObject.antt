@@ -1,8 +1,7 @@
 -- A reference is that of one object of a set at most, and a key is that of one reference.
-use Rattle.std.proofs.Common.{◌≡◌, ◌⊎◌, ◌↔◌, inl, inr, ℕ, zero, suc, ◌+◌, ◌^◌, ◌<◌, ◌≤◌, ℤ, pos, negsuc, ◌+ℤ◌, unsigned_abs, FitsSigned, w64, Bool, true, false, List, [], ◌∷◌, ◌++◌, length, map, get_or, Option, Some, None, refl, sym, ap, subst, ◌∙◌, arith}
-use Rattle.std.specs.Int.{to_be_bytes, from_be_bytes}
-use Rattle.std.specs.List.{All, Contains, find}
-use Rattle.std.specs.List.Sorted.{IsStrictlySortedBy}
+use Rattle.std.proofs.Common.{◌≡◌, ℕ, ◌^◌, ◌<◌, ℤ, pos, negsuc, FitsSigned, w64, Bool, true, false, List, [], ◌∷◌, get_or, Some, refl, sym, ap, subst, ◌∙◌, arith}
+use Rattle.std.specs.Int.{from_be_bytes}
+use Rattle.std.specs.List.{Contains}
 use Rattle.std.specs.Ordering.{MatchOrdering, eq_by_cmp, int_cmp, is_eq, ordering_reverse}
 use Rattle.std.specs.declared.cmp.Ordering.{Ordering}
 use Rattle.std.specs.declared.cmp.Ordering.TheVariants.{Less, Equal, Greater}
@@ -10,9 +9,8 @@ use Rattle.std.specs.Prelude.{◌<ℤ◌}
 use Rattle.std.proofs.lemmas.Cmp.{int_ranked}
 use Rattle.std.proofs.lemmas.Int.{ints}
 use Rattle.std.proofs.lemmas.Nat.{from_be_bytes-to_be_bytes_8}
-use Rattle.std.proofs.lemmas.List.Elements.{All-contains}
 use Rattle.osm_model.proofs.shared.References.{finds, refs_total}
-use Rattle.osm_model.specs.Elements.{Element, kind_byte, ref_cmp, reference, references}
+use Rattle.osm_model.specs.Elements.{Element, kind_byte, ref_cmp, reference}
 use Rattle.osm_model.specs.Limits.{IsElement}
 use Rattle.osm_model.specs.Sets.{IsObjectSet, object_at}
 use Rattle.osm_model.specs.declared.kind.Kind.{Kind}

@@ -1,14 +1,13 @@
 -- What a range finds in a tree of a set of objects.
-use Rattle.std.proofs.Common.{◌≡◌, ◌↔◌, ◌⊎◌, inl, inr, ℕ, zero, suc, ◌+◌, ◌<◌, ◌≤◌, ℤ, FitsSigned, w64, Bool, true, false, List, [], ◌∷◌, ◌++◌, length, take, drop, Option, Some, None, refl, sym, ap, subst, ◌∙◌, append_assoc, append-nil, arith}
-use Rattle.std.specs.List.{All, AllByRecursion, Contains}
-use Rattle.std.proofs.lemmas.List.{take_at, drop_at, length-append}
+use Rattle.std.proofs.Common.{◌≡◌, ◌↔◌, inl, inr, ℕ, ℤ, FitsSigned, w64, List, [], ◌∷◌, ◌++◌, take, drop, Option, Some, None, refl, sym, ap, subst, ◌∙◌, append_assoc, append-nil}
+use Rattle.std.specs.List.{AllByRecursion, Contains}
+use Rattle.std.proofs.lemmas.List.{take_at, drop_at}
 use Rattle.std.proofs.lemmas.List.Elements.{recursion_from_All}
-use Rattle.osm_model.specs.CanonicalLine.{canonical_line}
-use Rattle.osm_model.specs.Elements.{Element, kind_byte, kind_of, reference, members_of, nodes_of}
+use Rattle.osm_model.specs.Elements.{Element, kind_byte, kind_of, reference}
 use Rattle.osm_model.specs.Limits.{BodyInRange, HasNoNul, IsElement}
 use Rattle.osm_model.specs.Membership.{BodyLists}
-use Rattle.osm_model.specs.Sets.{IsObjectSet, object_at}
-use Rattle.osm_model.specs.Tagged.{HasKeyOf, HasTag}
+use Rattle.osm_model.specs.Sets.{object_at}
+use Rattle.osm_model.specs.Tagged.{HasTag}
 use Rattle.osm_model.specs.declared.body.Body.{Body}
 use Rattle.osm_model.specs.declared.body.Body.TheVariants as bodies
 use Rattle.osm_model.specs.declared.kind.Kind.{Kind}
@@ -16,22 +15,21 @@ use Rattle.osm_model.specs.declared.member.Member.{Member}
 use Rattle.osm_model.specs.declared.reference.Ref.{Ref}
 use Rattle.osm_model.specs.declared.tag.Tag.{Tag}
 use Rattle.tree_node.specs.Nodes.{AreRisingFrom, Binding, keys_of}
-use Rattle.tree_node.specs.Order.{IsBelow}
 use Rattle.tree_node.specs.internal.OrderLemmas.{not_itself, order_trans}
 use Rattle.tree_node.specs.declared.tree.Tree.{Tree}
-use Rattle.tree_node.specs.declared.tree.Tree.TheVariants.{Objects, Tags, Cells, Backs}
+use Rattle.tree_node.specs.declared.tree.Tree.TheVariants.{Objects, Tags, Backs}
 use Rattle.tree_walk.specs.Choices.{AreThose}
 use Rattle.tree_walk.specs.Ranges.{Begins, IsAtMost, IsIn, Range}
 use Rattle.tree_walk.specs.Walks.{IsEntryIn}
 use Rattle.tree_walk.proofs.shared.FoundLemmas.{those_rise}
 use Rattle.tree_walk.proofs.shared.KeyLemmas.{below_next}
-use Rattle.osm_index.specs.Entries.{AreEntriesOf, IsEntryOf, IsEntryOfSome, back_entry, object_entry, tag_entry}
+use Rattle.osm_index.specs.Entries.{IsEntryOfSome, back_entry, object_entry, tag_entry}
 use Rattle.osm_index.specs.Keys.{back_key, id_bytes, ref_key, tag_key, tag_prefix}
 use Rattle.osm_index.specs.Publications.{IsPublication, Publication}
 use Rattle.osm_index.specs.Ranges.{IsKindOf, back_range, kind_bytes, kind_range, object_range, tag_key_range, tag_range, under_all}
-use Rattle.osm_index.proofs.ListingLemmas.{id_len, ref_key_len}
+use Rattle.osm_index.proofs.ListingLemmas.{ref_key_len}
 use Rattle.osm_index.proofs.shared.Members.{first_or_in_rest, from_map, here, in_rest, none}
-use Rattle.osm_index.proofs.shared.OneObject.{is_element, object_found, object_there, one_object, same_kind, same_ref}
+use Rattle.osm_index.proofs.shared.OneObject.{is_element, object_found, object_there, same_kind, same_ref}
 
 -- ---- the items of a list that have a property
 

@@ -2,7 +2,7 @@
 -- Source: this project.
 use Rattle.std.specs.List.{Contains, flat_map}
 use Rattle.std.specs.Prelude.{◌≡◌, ℕ, ◌+◌, ℤ, List, [], ◌∷◌, ◌++◌, length, map, take, drop}
-use Rattle.osm_model.specs.Elements.{Element, nodes_of, members_of, reference}
+use Rattle.osm_model.specs.Elements.{Element, reference}
 use Rattle.osm_model.specs.declared.body.Body.{Body}
 use Rattle.osm_model.specs.declared.body.Body.TheVariants as bodies
 use Rattle.osm_model.specs.declared.kind.Kind.TheVariants as kinds

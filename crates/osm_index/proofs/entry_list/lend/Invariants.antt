@@ -1,4 +1,3 @@
-use Rattle.std.proofs.Common.{◌≡◌, ◌++◌, length, drop}
 use Rattle.tree_node.specs.NodeRefs.{bindings_of}
 use Rattle.osm_index.proofs.PackedLemmas.{IsLent}
 use Rattle.osm_index.proofs.entry_list.lend.Given as goal

@@ -1,4 +1,4 @@
-use Rattle.std.proofs.Common.{◌≡◌, ◌++◌, refl, arith, sym, ◌∙◌, List, ℕ, FitsSigned, w64, rules}
+use Rattle.std.proofs.Common.{◌≡◌, refl, arith, FitsSigned, w64, rules}
 use Rattle.std.proofs.lemmas.Int.{to_z-of_z}
 use Rattle.osm_index.specs.Keys.{cell_bytes, id_bytes, row, column}
 use Rattle.osm_index.proofs.Ids.{same_number, cell_parts}

@@ -1,6 +1,5 @@
 use Rattle.std.proofs.Common.{map, take}
-use Rattle.std.specs.List.{flat_map}
-use Rattle.osm_index.specs.internal.Listing.{Gains, entries_from, member_back, node_back, tag_of}
+use Rattle.osm_index.specs.internal.Listing.{Gains, member_back}
 use Rattle.osm_index.proofs.listing.append_member_backs.Given as goal
 
 abbrev pub invariant-loop-member : goal.invariant-loop-member

@@ -1,6 +1,6 @@
-use Rattle.std.proofs.Common.{map, take}
+use Rattle.std.proofs.Common.{take}
 use Rattle.std.specs.List.{flat_map}
-use Rattle.osm_index.specs.internal.Listing.{Gains, entries_from, member_back, node_back, tag_of}
+use Rattle.osm_index.specs.internal.Listing.{Gains, entries_from}
 use Rattle.osm_index.proofs.listing.append_objects.Given as goal
 
 abbrev pub invariant-loop-object : goal.invariant-loop-object

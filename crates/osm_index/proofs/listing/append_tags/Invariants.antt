@@ -1,6 +1,5 @@
 use Rattle.std.proofs.Common.{map, take}
-use Rattle.std.specs.List.{flat_map}
-use Rattle.osm_index.specs.internal.Listing.{Gains, entries_from, member_back, node_back, tag_of}
+use Rattle.osm_index.specs.internal.Listing.{Gains, tag_of}
 use Rattle.osm_index.proofs.listing.append_tags.Given as goal
 
 abbrev pub invariant-loop-tag : goal.invariant-loop-tag

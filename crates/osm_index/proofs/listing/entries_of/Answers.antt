@@ -1,7 +1,6 @@
-use Rattle.std.proofs.Common.{◌≡◌, List, length, map, subst, sym, ◌∙◌}
+use Rattle.std.proofs.Common.{◌≡◌, subst, sym, ◌∙◌}
 use Rattle.std.specs.List.{flat_map}
-use Rattle.tree_node.specs.Nodes.{Binding}
-use Rattle.osm_index.specs.internal.Listing.{Gains, IsKeyed, cut, entries_from, packed_len, span_of, text_of}
+use Rattle.osm_index.specs.internal.Listing.{IsKeyed, entries_from}
 use Rattle.osm_index.proofs.ListingLemmas.{cut_as_packed, keyed, long_as_packed, members_are}
 use Rattle.osm_index.proofs.listing.entries_of.Goals as goal
 

@@ -1,9 +1,7 @@
-use Rattle.std.proofs.Common.{◌≡◌, ◌<◌, ◌≤◌, ◌↔◌, length, arith, subst, sym}
+use Rattle.std.proofs.Common.{arith}
 use Rattle.std.proofs.lemmas.List.{length-map}
-use Rattle.std.specs.List.{Contains}
 use Rattle.tree_node.specs.NodeRefs.{binding_of, bindings_of}
-use Rattle.tree_node.specs.Nodes.{Binding}
-use Rattle.osm_index.specs.Entries.{AreEntriesOf, IsEntryOfSome}
+use Rattle.osm_index.specs.Entries.{AreEntriesOf}
 use Rattle.osm_index.proofs.FitLemmas.{has_tree}
 use Rattle.osm_index.proofs.snapshot.put_tree.Goals as goal
 

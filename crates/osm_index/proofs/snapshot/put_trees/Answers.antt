@@ -1,4 +1,3 @@
-use Rattle.std.proofs.Common.{subst}
 use Rattle.osm_index.proofs.PutLemmas.{all_put}
 use Rattle.osm_index.proofs.snapshot.put_trees.Goals as goal
 

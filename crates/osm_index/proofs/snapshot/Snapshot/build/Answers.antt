@@ -1,7 +1,6 @@
-use Rattle.std.proofs.Common.{◌≡◌, ◌∙◌, sym, ap, refl, List, ℕ, Option, None, Some, subst}
+use Rattle.std.proofs.Common.{◌≡◌, ◌∙◌, ap, refl, Option, None, Some, subst}
 use Rattle.tree_node.specs.Digests.{digest}
 use Rattle.tree_node.specs.Stocks.{HasNode}
-use Rattle.osm_index.specs.Manifests.{manifest_bytes, top_among, manifest}
 use Rattle.osm_index.specs.Publications.{manifest_of}
 use Rattle.osm_index.specs.internal.Putting.{EndedAll}
 use Rattle.osm_index.proofs.PutLemmas.{clash_of_trees, clash_with, manifest_is, nodes_are, stock_has_one}
