@@ -1,11 +1,12 @@
 -- The sets that functions give, where they give one.
 use Rattle.std.proofs.Common.{◌≡◌, ℕ, List, Result, Ok, Err, Vec, Global, IfOk, sym, subst}
 use Rattle.osm_model.specs.Elements.{Element}
+use Rattle.osm_model.specs.Tagged.{HasKeyOf, HasTag}
 use Rattle.osm_model.specs.declared.reference.Ref.{Ref}
 use Rattle.ql_syntax.specs.StatementViews.{filter_of}
 use Rattle.ql_syntax.specs.declared.filter.Filter.{Filter}
 use Rattle.ql_plain.specs.Meanings.{IsSetOf}
-use Rattle.ql_plain.specs.Values.{Env, HasKeyOf, HasTag, IsRefOf, Passes}
+use Rattle.ql_plain.specs.Values.{Env, IsRefOf, Passes}
 
 pub if_ok_as : {T E : Type 0} (r : Result T E) {P Q : T → Type 0} → ((x : T) → P x → Q x) → IfOk r P → IfOk r Q
 if_ok_as (Ok x) to p = to x p

@@ -3,6 +3,7 @@ use Rattle.std.proofs.Common.{◌≡◌, ℤ, List, [], Result, Ok, Err, refl, s
 use Rattle.std.specs.Prelude.{OnOk}
 use Rattle.std.specs.List.{Contains}
 use Rattle.osm_model.specs.Elements.{Element, reference}
+use Rattle.osm_model.specs.Membership.{BodyLists}
 use Rattle.osm_model.specs.declared.body.Body.{Body}
 use Rattle.osm_model.specs.declared.body.Body.TheVariants as bodies
 use Rattle.osm_model.specs.declared.kind.Kind.{Kind}
@@ -11,7 +12,6 @@ use Rattle.osm_model.specs.declared.member.Member.{Member}
 use Rattle.osm_model.specs.declared.reference.Ref.{Ref}
 use Rattle.ql_plain.proofs.Adding.{adds_as, adds_nothing, adds_to_nothing}
 use Rattle.ql_plain.proofs.Mapped.{contains_mapped, from_mapped}
-use Rattle.ql_plain.specs.Values.{BodyLists}
 use Rattle.ql_plain.specs.declared.links.Link.{Link}
 use Rattle.ql_plain.specs.internal.Adding.{Adds, From}
 use Rattle.ql_plain.specs.internal.Linked.{AreLinks, IsLinkOf, IsLinkToMember, IsLinkToNode, IsThere}

@@ -1,7 +1,8 @@
 //! Tests of single objects.
 
 ghost use Rattle.std.specs.Prelude.{◌↔◌, IsTrue};
-ghost use Rattle.ql_plain.specs.Values.{HasKeyOf, HasTag, IsPicked};
+ghost use Rattle.osm_model.specs.Tagged.{HasKeyOf, HasTag};
+ghost use Rattle.ql_plain.specs.Values.{IsPicked};
 ghost use Rattle.ql_plain.specs.internal.Tests.{Takes};
 
 use osm_model::{Body, BoxArea, Kind, Object};

@@ -3,8 +3,9 @@ use Rattle.std.specs.Prelude.{◌≡◌}
 use Rattle.osm_model.specs.Boxes.{Holds}
 use Rattle.osm_model.specs.Elements.{Element}
 use Rattle.osm_model.specs.Places.{Place}
+use Rattle.osm_model.specs.Tagged.{HasKeyOf, HasTag}
 use Rattle.osm_model.specs.declared.body.Body.TheVariants as bodies
-use Rattle.ql_plain.specs.Values.{HasKeyOf, HasTag, IsPicked}
+use Rattle.ql_plain.specs.Values.{IsPicked}
 use Rattle.ql_plain.specs.declared.object_test.ObjectTest.{ObjectTest}
 use Rattle.ql_plain.specs.declared.object_test.ObjectTest.TheVariants as tests
 
