@@ -2,7 +2,9 @@
 #![tactic(auto)]
 
 mod answer;
+mod chains;
 mod found;
+mod items;
 mod laws;
 mod links;
 mod named_set;
@@ -17,6 +19,7 @@ mod run;
 mod select;
 mod sets;
 mod step;
+mod there;
 mod written_by;
 
 pub use answer::answer_plain;

@@ -2,22 +2,20 @@
 
 ghost use Rattle.std.specs.Prelude.{IfOk, OnOk};
 ghost use Rattle.std.specs.List.{Contains};
-ghost use Rattle.std.specs.List.Sorted.{IsStrictlySortedBy};
-ghost use Rattle.osm_model.specs.Elements.{ref_cmp};
 ghost use Rattle.osm_model.specs.Sets.{IsObjectSet};
 ghost use Rattle.ql_syntax.specs.StatementViews.{filter_of};
 ghost use Rattle.ql_plain.specs.Meanings.{IsSetOf};
-ghost use Rattle.ql_plain.specs.Values.{IsIn, IsOnPath, IsRefOf, Passes};
+ghost use Rattle.ql_plain.specs.Values.{IsOnPath, IsRefOf, Passes};
 ghost use Rattle.ql_plain.specs.internal.Adding.{Adds};
-ghost use Rattle.ql_plain.specs.internal.Linked.{IsThereAs, IsThereWith};
+ghost use Rattle.ql_plain.specs.internal.Linked.{IsThereWith};
 ghost use Rattle.ql_plain.specs.internal.NamedSets.{lists_of};
 ghost use Rattle.ql_plain.specs.internal.Tests.{Takes};
 
-use crate::links::links;
 use crate::neighbours::{above, below};
 use crate::object_test::ObjectTest;
 use crate::ref_sets::tidy;
 use crate::sets::Sets;
+use crate::there::{add_there, those_there};
 use osm_model::{Kind, ObjectSet, Ref};
 use ql_syntax::{Filter, Path};
 use std::alloc::{AllocError, Global};
@@ -71,18 +69,6 @@ pub fn those(alloc: Global, test: &ObjectTest<'_>, set: &ObjectSet) -> Result<Ve
     Ok(refs)
 }
 
-/// The objects whose references are in a list.
-fn those_there(alloc: Global, names: &[Ref], set: &ObjectSet) -> Result<Vec<Ref>, AllocError>
-    ensures { IfOk result (λ refs. IsSetOf refs.items (IsRefOf set.now (IsIn names.now))) }
-{
-    let mut refs = Vec::new(alloc);
-    for name in names {
-        add_there(*name, set, &mut refs)?;
-    }
-    tidy(&mut refs);
-    Ok(refs)
-}
-
 /// The objects with ids of a list.
 fn with_ids(alloc: Global, ids: &[i64], set: &ObjectSet) -> Result<Vec<Ref>, AllocError>
     ensures { IfOk result (λ refs. IsSetOf refs.items (IsRefOf set.now (λ o. Contains ids.now o.id))) }
@@ -116,27 +102,15 @@ fn add_with_id(id: i64, set: &ObjectSet, refs: &mut Vec<Ref>) -> Result<(), Allo
     add_there(relation, set, refs)
 }
 
-/// Adds a reference where its object is in the set.
-fn add_there(name: Ref, set: &ObjectSet, refs: &mut Vec<Ref>) -> Result<(), AllocError>
-    ensures { OnOk result (Adds refs.old.items refs.new.items (IsThereAs set.now name)) }
-{
-    if set.get(name).is_some() {
-        refs.push(name)?;
-    }
-    Ok(())
-}
-
 /// The objects to which a path leads from a set.
 fn along(alloc: Global, path: Path, from: &[Ref], set: &ObjectSet) -> Result<Vec<Ref>, AllocError>
-    requires { IsStrictlySortedBy ref_cmp from.now }
     ensures { IfOk result (λ refs. IsSetOf refs.items (IsRefOf set.now (IsOnPath set.now from.now path))) }
 {
-    let links = links(alloc, set)?;
     match path {
-        Path::W => below(alloc, &links, from, Kind::Way),
-        Path::R => below(alloc, &links, from, Kind::Rel),
-        Path::Bn => above(alloc, &links, from, Kind::Node),
-        Path::Bw => above(alloc, &links, from, Kind::Way),
-        Path::Br => above(alloc, &links, from, Kind::Rel),
+        Path::W => below(alloc, set, from, Kind::Way),
+        Path::R => below(alloc, set, from, Kind::Rel),
+        Path::Bn => above(alloc, set, from, Kind::Node),
+        Path::Bw => above(alloc, set, from, Kind::Way),
+        Path::Br => above(alloc, set, from, Kind::Rel),
     }
 }

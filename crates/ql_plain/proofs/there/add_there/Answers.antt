@@ -1,7 +1,7 @@
 use Rattle.std.proofs.Common.{refl, sym, ◌∙◌}
 use Rattle.ql_plain.proofs.Adding.{adds_nothing, adds_one}
 use Rattle.ql_plain.proofs.ObjectLists.{there_from_found, absent_from_none}
-use Rattle.ql_plain.proofs.passing.add_there.Goals as goal
+use Rattle.ql_plain.proofs.there.add_there.Goals as goal
 
 pub returns-in_ok-push : goal.returns-in_ok-push
 returns-in_ok-push c =

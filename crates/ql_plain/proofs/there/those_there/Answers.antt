@@ -6,7 +6,7 @@ use Rattle.ql_plain.proofs.Adding.{adds_all, adds_more, adds_start}
 use Rattle.ql_plain.proofs.Leading.{set_from_added}
 use Rattle.ql_plain.proofs.Listing.{there_is}
 use Rattle.ql_plain.specs.internal.Linked.{IsThereAs}
-use Rattle.ql_plain.proofs.passing.those_there.Goals as goal
+use Rattle.ql_plain.proofs.there.those_there.Goals as goal
 
 pub loop-name-init : goal.loop-name-init
 loop-name-init c = rw c.new-refs.ensures.items (adds_start c.args.names.now (IsThereAs c.args.set.now))
