@@ -31,8 +31,8 @@ module _ (body : Body) where
   relation_items members listed is same =
       adds_as
       (λ r from. subst (λ (b : Body). BodyLists b r) (sym is)
-          (subst (λ (s : Ref). Contains (map (λ (m : Member). m.target) members) s) from.2
-          (contains_mapped (λ (m : Member). m.target) members from.0 (subst (λ (ms : List Member). Contains ms from.0) same from.1))))
+      (subst (λ (s : Ref). Contains (map (λ (m : Member). m.target) members) s) from.2
+      (contains_mapped (λ (m : Member). m.target) members from.0 (subst (λ (ms : List Member). Contains ms from.0) same from.1))))
       (λ r lists.
       let of : Contains (map (λ (m : Member). m.target) members) r = subst (λ (b : Body). BodyLists b r) is lists in
       let one = from_mapped (λ (m : Member). m.target) members r of in

@@ -3,15 +3,15 @@
 
 mod answer;
 mod chains;
+mod filter_test;
 mod found;
 mod items;
 mod laws;
 mod links;
+mod named;
 mod named_set;
 mod neighbours;
-mod object_test;
 mod one_step;
-mod passing;
 mod print;
 mod recurse;
 mod ref_sets;

@@ -5,7 +5,7 @@ use Rattle.ql_plain.proofs.Leading.{set_from_added}
 use Rattle.ql_plain.proofs.Listing.{with_ids_is}
 use Rattle.ql_plain.specs.internal.Adding.{Adds}
 use Rattle.ql_plain.specs.internal.Linked.{IsThereWith}
-use Rattle.ql_plain.proofs.passing.with_ids.Goals as goal
+use Rattle.ql_plain.proofs.named.with_ids.Goals as goal
 
 pub loop-id-init : goal.loop-id-init
 loop-id-init c = rw c.new-refs.ensures.items (adds_start c.args.ids.now (IsThereWith c.args.set.now))

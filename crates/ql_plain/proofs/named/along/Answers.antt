@@ -2,7 +2,7 @@ use Rattle.std.proofs.Common.{sym, subst, IfOk}
 use Rattle.ql_syntax.specs.declared.path.Path.{Path}
 use Rattle.ql_plain.specs.Meanings.{IsSetOf}
 use Rattle.ql_plain.specs.Values.{IsOnPath, IsRefOf}
-use Rattle.ql_plain.proofs.passing.along.Goals as goal
+use Rattle.ql_plain.proofs.named.along.Goals as goal
 
 pub returns-in-W : goal.returns-in-W
 returns-in-W c = subst (λ (path : Path). IfOk c.below.result (λ refs. IsSetOf refs.items (IsRefOf c.args.set.now (IsOnPath c.args.set.now c.args.from.now path)))) (sym c.in-W.is) c.below.ensures

@@ -5,7 +5,7 @@ use Rattle.ql_plain.proofs.Linking.{on_ok_as}
 use Rattle.ql_plain.proofs.Listing.{three_kinds}
 use Rattle.ql_plain.specs.internal.Adding.{Adds}
 use Rattle.ql_plain.specs.internal.Linked.{IsThereAs}
-use Rattle.ql_plain.proofs.passing.add_with_id.Goals as goal
+use Rattle.ql_plain.proofs.named.add_with_id.Goals as goal
 
 pub returns : goal.returns
 returns c =
