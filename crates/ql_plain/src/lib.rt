@@ -23,7 +23,10 @@ mod there;
 mod written_by;
 
 pub use answer::answer_plain;
-pub use laws::{nwr_is_all_kinds, one_meaning, out_number_cuts, printed_once_in_order};
+pub use laws::{
+    chains_link_by_link, nwr_is_all_kinds, one_meaning, order_is_no_matter, out_number_cuts,
+    printed_once_in_order,
+};
 
 #[cfg(test)]
 mod tests;
