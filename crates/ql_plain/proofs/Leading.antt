@@ -1,58 +1,60 @@
--- What links lead to, and what it is in the words of objects.
+-- What objects list and what lists them, in the words of objects.
 use Rattle.std.proofs.Common.{◌≡◌, List, [], refl, sym, ap, subst, ◌∙◌}
 use Rattle.std.specs.List.{Contains}
 use Rattle.osm_model.specs.Elements.{Element, reference}
+use Rattle.osm_model.specs.Membership.{BodyLists}
 use Rattle.osm_model.specs.declared.kind.Kind.{Kind}
 use Rattle.osm_model.specs.declared.reference.Ref.{Ref}
 use Rattle.ql_plain.proofs.Adding.{adds_to_nothing}
 use Rattle.ql_plain.proofs.Kept.{set_as}
 use Rattle.ql_plain.specs.Meanings.{IsSetOf}
-use Rattle.ql_plain.specs.Values.{IsAbove, IsBelow, IsRefOf}
-use Rattle.ql_plain.specs.declared.links.Link.{Link}
+use Rattle.ql_plain.specs.Values.{IsAbove, IsBelow, IsIn, IsRefOf}
 use Rattle.ql_plain.specs.internal.Adding.{Adds, From}
-use Rattle.ql_plain.specs.internal.Linked.{AreLinks, LeadsDown, LeadsUp}
+use Rattle.ql_plain.specs.internal.Linked.{IsListedBy, ListsOneOf}
 
 -- a set of what was added to nothing
 pub set_from_added : {added refs : List Ref} {P : Ref → Type 0} → Adds [] added P → IsSetOf refs (Contains added) → IsSetOf refs P
 set_from_added so tidied = set_as (λ r has. (adds_to_nothing refl so r).0 has) (λ r p. (adds_to_nothing refl so r).1 p) tidied
 
-module _ (objects : List Element) (links : List Link) (are : AreLinks objects links) (from : List Ref) (kind : Kind) where
-  pub below_is : {refs : List Ref} → IsSetOf refs (From links (LeadsDown from kind)) → IsSetOf refs (IsRefOf objects (IsBelow objects from kind))
-  below_is =
+module _ (objects : List Element) (from : List Ref) (kind : Kind) where
+  pub below_is : {listed refs : List Ref} → IsSetOf listed (From from (IsListedBy objects kind)) → IsSetOf refs (IsRefOf objects (IsIn listed)) → IsSetOf refs (IsRefOf objects (IsBelow objects from kind))
+  below_is listed_is =
       set_as
       (λ r of.
-      let one = (are of.0).0 of.1 in
-      let parent_is : of.0.parent ≡ reference one.0 = ap (λ (l : Link). l.parent) one.3 in
-      let child_is : of.0.child ≡ reference one.1 = ap (λ (l : Link). l.child) one.3 in (
-        one.1,
-        one.2.child_there,
-        sym child_is ∙ of.2.2,
-        (one.0, one.2, ap (λ (s : Ref). s.kind) (sym parent_is) ∙ of.2.0, subst (λ (s : Ref). Contains from s) parent_is of.2.1),
+      let child = of.0 in
+      let from_name = (listed_is.members (reference child)).0 of.3 in
+      let parent = from_name.2 in (
+        child,
+        of.1,
+        of.2,
+        (parent.0, record { there = parent.1; child_there = of.1; lists = parent.4 }, parent.3, subst (λ (s : Ref). Contains from s) (sym parent.2) from_name.1),
       ))
       (λ r of.
       let child = of.0 in
-      let above = of.3 in (
-        record { parent = reference above.0; child = reference child },
-        (are _).1 (above.0, child, above.1, refl),
-        (above.2, above.3, of.2),
+      let parent = of.3 in (
+        child,
+        of.1,
+        of.2,
+        (listed_is.members (reference child)).1 (reference parent.0, parent.3, (parent.0, parent.1.there, refl, parent.2, parent.1.lists)),
       ))
 
-  pub above_is : {refs : List Ref} → IsSetOf refs (From links (LeadsUp from kind)) → IsSetOf refs (IsRefOf objects (IsAbove objects from kind))
-  above_is =
+  pub above_is : {children refs : List Ref} → IsSetOf children (IsRefOf objects (IsIn from)) → IsSetOf refs (IsRefOf objects (λ o. ListsOneOf kind children o.body)) → IsSetOf refs (IsRefOf objects (IsAbove objects from kind))
+  above_is children_are =
       set_as
       (λ r of.
-      let one = (are of.0).0 of.1 in
-      let parent_is : of.0.parent ≡ reference one.0 = ap (λ (l : Link). l.parent) one.3 in
-      let child_is : of.0.child ≡ reference one.1 = ap (λ (l : Link). l.child) one.3 in (
-        one.0,
-        one.2.there,
-        sym parent_is ∙ of.2.2,
-        (one.1, one.2, ap (λ (s : Ref). s.kind) (sym child_is) ∙ of.2.0, subst (λ (s : Ref). Contains from s) child_is of.2.1),
+      let parent = of.0 in
+      let item = of.3 in
+      let child = (children_are.members item.0).0 item.3 in (
+        parent,
+        of.1,
+        of.2,
+        (child.0, record { there = of.1; child_there = child.1; lists = subst (λ (s : Ref). BodyLists parent.body s) (sym child.2) item.1 }, ap (λ (s : Ref). s.kind) child.2 ∙ item.2, child.3),
       ))
       (λ r of.
       let parent = of.0 in
-      let below = of.3 in (
-        record { parent = reference parent; child = reference below.0 },
-        (are _).1 (parent, below.0, below.1, refl),
-        (below.2, below.3, of.2),
+      let child = of.3 in (
+        parent,
+        of.1,
+        of.2,
+        (reference child.0, child.1.lists, child.2, (children_are.members (reference child.0)).1 (child.0, child.1.child_there, refl, child.3)),
       ))

@@ -3,6 +3,7 @@ pub mod Adding
 pub mod ObjectLists
 pub mod Mapped
 pub mod Linking
+pub mod BodyItems
 pub mod Kept
 pub mod NamedLists
 pub mod Leading

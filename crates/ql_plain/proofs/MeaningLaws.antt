@@ -20,6 +20,7 @@ use Rattle.ql_syntax.specs.Filters.{Filter}
 use Rattle.ql_syntax.specs.Statements.{Statement, Statements, Select, Recurse, Item, Union, Minus, Print, End, Then}
 use Rattle.ql_syntax.specs.declared.pick.Pick.TheVariants as picks
 use Rattle.ql_plain.proofs.Adding.{in_rest, first_or_in_rest, here, none}
+use Rattle.ql_plain.proofs.Mapped.{contains_mapped}
 use Rattle.ql_plain.specs.Meanings.{After, AfterAll, IsSetOf, Means, Prints, cut, given_by, is_in, nothing_named, printed_of, put, told}
 use Rattle.ql_plain.specs.Values.{Env, IsSelected, Passes}
 use Rattle.ql_plain.specs.internal.Founds.{has}
@@ -147,3 +148,28 @@ pub printed_rise : (objects : List Element) (refs : List Ref) (limit : Option �
 printed_rise objects refs None set = subst (λ (rs : List Ref). IsStrictlySortedBy ref_cmp rs) (sym (filtered refs objects)) (IsStrictlySortedBy-filter ref_cmp (has refs) (references objects) set.rising)
 printed_rise objects refs (Some most) set =
     front_rises most (filter (λ o. is_in refs o) objects) (subst (λ (rs : List Ref). IsStrictlySortedBy ref_cmp rs) (sym (filtered refs objects)) (IsStrictlySortedBy-filter ref_cmp (has refs) (references objects) set.rising))
+
+-- ---- the order of the objects
+
+objects_above : (x : Element) (xs : List Element) → IsStrictlySortedBy ref_cmp (references (x ∷ xs)) → (y : Element) → Contains xs y → ref_cmp (reference x) (reference y) ≡ Less
+objects_above x xs up y is = above_head (reference x) (references xs) up (reference y) (contains_mapped reference xs y is)
+
+same_objects : (xs ys : List Element) → IsStrictlySortedBy ref_cmp (references xs) → IsStrictlySortedBy ref_cmp (references ys) → ((o : Element) → Contains xs o → Contains ys o) → ((o : Element) → Contains ys o → Contains xs o) → xs ≡ ys
+same_objects [] [] rx ry to back = refl
+same_objects [] (y ∷ ys) rx ry to back = absurd (none y (back y (here y ys)))
+same_objects (x ∷ xs) [] rx ry to back = absurd (none x (to x (here x xs)))
+same_objects (x ∷ xs) (y ∷ ys) rx ry to back =
+    let same : x ≡ y = heads (first_or_in_rest y ys x (to x (here x xs))) (first_or_in_rest x xs y (back y (here y ys))) in
+    let rest = same_objects xs ys (tail_rises (reference x) (references xs) rx) (tail_rises (reference y) (references ys) ry)
+    (λ o is. elim (first_or_in_rest y ys o (to o (in_rest x xs o is))) [ inl e ↦ absurd (not_above_itself (reference x) (reference o) (ap reference (same ∙ e)) (objects_above x xs rx o is)) | inr in_ys ↦ in_ys ])
+    (λ o is. elim (first_or_in_rest x xs o (back o (in_rest y ys o is))) [ inl e ↦ absurd (not_above_itself (reference y) (reference o) (ap reference (sym same ∙ e)) (objects_above y ys ry o is)) | inr in_xs ↦ in_xs ]) in
+    ap (λ (z : Element). z ∷ xs) same ∙ ap (λ (zs : List Element). y ∷ zs) rest
+  where
+    heads : (y ≡ x) ⊎ Contains ys x → (x ≡ y) ⊎ Contains xs y → x ≡ y
+    heads (inl e) other = sym e
+    heads (inr is) (inl e) = e
+    heads (inr is) (inr is_too) = absurd (not_both (reference x) (reference y) (objects_above x xs rx y is_too) (objects_above y ys ry x is))
+
+pub set_alone : (first second : List Element) (statements : Statements) (text : List ℕ) → IsObjectSet first → IsObjectSet second → ((o : Element) → Contains first o ↔ Contains second o) → Means first statements text → Means second statements text
+set_alone first second statements text set other same means =
+    subst (λ (objects : List Element). Means objects statements text) (same_objects first second set.rising other.rising (λ o. (same o).0) (λ o. (same o).1)) means

@@ -6,13 +6,11 @@ use Rattle.osm_model.specs.Sets.{IsObjectSet}
 use Rattle.osm_model.specs.declared.kind.Kind.TheVariants as kinds
 use Rattle.osm_model.specs.declared.reference.Ref.{Ref}
 use Rattle.ql_plain.proofs.Kept.{set_as}
-use Rattle.ql_plain.proofs.Leading.{above_is, below_is}
 use Rattle.ql_plain.proofs.Selecting.{one_object}
 use Rattle.ql_plain.specs.Meanings.{IsSetOf}
 use Rattle.ql_plain.specs.Values.{IsAbove, IsBelow, IsDown, IsRefOf, IsUp}
-use Rattle.ql_plain.specs.declared.links.Link.{Link}
 use Rattle.ql_plain.specs.internal.Adding.{Adds, From}
-use Rattle.ql_plain.specs.internal.Linked.{AreLinks, IsNoRelation, LeadsDown, LeadsUp}
+use Rattle.ql_plain.specs.internal.Linked.{IsNoRelation}
 
 -- the three parts of what is collected
 in_three : {first mid all : List Ref} {P Q : Ref → Type 0} → Adds first mid P → Adds mid all Q → (r : Ref) → Contains all r ↔ (Contains first r ⊎ (P r ⊎ Q r))
@@ -27,13 +25,10 @@ in_three one two r = (
   ])),
 )
 
-module _ (objects : List Element) (set : IsObjectSet objects) (links : List Link) (are : AreLinks objects links) (from : List Ref) where
-  pub down_is : {ways members inner mid all refs : List Ref} → IsSetOf ways (From links (LeadsDown from kinds.Way)) → IsSetOf members (From links (LeadsDown from kinds.Rel)) → IsSetOf inner (From links (LeadsDown members kinds.Way))
+module _ (objects : List Element) (set : IsObjectSet objects) (from : List Ref) where
+  pub down_is : {ways members inner mid all refs : List Ref} → IsSetOf ways (IsRefOf objects (IsBelow objects from kinds.Way)) → IsSetOf members (IsRefOf objects (IsBelow objects from kinds.Rel)) → IsSetOf inner (IsRefOf objects (IsBelow objects members kinds.Way))
       → Adds ways mid (From members IsNoRelation) → Adds mid all (Contains inner) → IsSetOf refs (Contains all) → IsSetOf refs (IsRefOf objects (IsDown objects from))
-  down_is {members = members} of_ways of_relations of_inner one two tidied =
-      let ways_are = below_is objects links are from kinds.Way of_ways in
-      let members_are = below_is objects links are from kinds.Rel of_relations in
-      let inner_are = below_is objects links are members kinds.Way of_inner in
+  down_is {members = members} ways_are members_are inner_are one two tidied =
       set_as
       (λ r has. elim ((in_three one two r).0 has) [
         | inl in_ways ↦ (let o = (ways_are.members r).0 in_ways in (o.0, o.1, o.2, inl o.3))
@@ -59,12 +54,9 @@ module _ (objects : List Element) (set : IsObjectSet objects) (links : List Link
       ]))
       tidied
 
-  pub up_is : {nodes ways outer mid all refs : List Ref} → IsSetOf nodes (From links (LeadsUp from kinds.Node)) → IsSetOf ways (From links (LeadsUp from kinds.Way)) → IsSetOf outer (From links (LeadsUp nodes kinds.Way))
+  pub up_is : {nodes ways outer mid all refs : List Ref} → IsSetOf nodes (IsRefOf objects (IsAbove objects from kinds.Node)) → IsSetOf ways (IsRefOf objects (IsAbove objects from kinds.Way)) → IsSetOf outer (IsRefOf objects (IsAbove objects nodes kinds.Way))
       → Adds ways mid (Contains nodes) → Adds mid all (Contains outer) → IsSetOf refs (Contains all) → IsSetOf refs (IsRefOf objects (IsUp objects from))
-  up_is {nodes = nodes} of_nodes of_ways of_outer one two tidied =
-      let nodes_are = above_is objects links are from kinds.Node of_nodes in
-      let ways_are = above_is objects links are from kinds.Way of_ways in
-      let outer_are = above_is objects links are nodes kinds.Way of_outer in
+  up_is {nodes = nodes} nodes_are ways_are outer_are one two tidied =
       set_as
       (λ r has. elim ((in_three one two r).0 has) [
         | inl in_ways ↦ (let o = (ways_are.members r).0 in_ways in (o.0, o.1, o.2, inr (inl o.3)))

@@ -2,18 +2,17 @@
 -- Source: the Overpass QL page of the OpenStreetMap wiki, "Filters", "Recurse (n, w, r, bn, bw, br)" and
 -- "Recurse (<, <<, >, >>)"; that only objects of the set are given, and what the four recursions take, is this
 -- project's.
-use Rattle.std.specs.Prelude.{◌≡◌, ◌≢◌, ℕ, List, map, ◌⊎◌, ⊤}
+use Rattle.std.specs.Prelude.{◌≡◌, ◌≢◌, ℕ, List, ◌⊎◌, ⊤}
 use Rattle.std.specs.List.{AllByRecursion, Contains}
 use Rattle.osm_model.specs.Boxes.{Holds}
 use Rattle.osm_model.specs.Elements.{Element, kind_of, reference}
+use Rattle.osm_model.specs.Membership.{BodyLists}
 use Rattle.osm_model.specs.Places.{Place}
-use Rattle.osm_model.specs.declared.body.Body.{Body}
+use Rattle.osm_model.specs.Tagged.{HasKeyOf, HasTag}
 use Rattle.osm_model.specs.declared.body.Body.TheVariants as bodies
 use Rattle.osm_model.specs.declared.kind.Kind.{Kind}
 use Rattle.osm_model.specs.declared.kind.Kind.TheVariants as kinds
-use Rattle.osm_model.specs.declared.member.Member.{Member}
 use Rattle.osm_model.specs.declared.reference.Ref.{Ref}
-use Rattle.osm_model.specs.declared.tag.Tag.{Tag}
 use Rattle.ql_syntax.specs.Filters.{Filter, InSet, HasKey, KeyIs, LacksKey, KeyIsNot, Ids, Within, Via}
 use Rattle.ql_syntax.specs.declared.path.Path.{Path}
 use Rattle.ql_syntax.specs.declared.path.Path.TheVariants as paths
@@ -34,11 +33,6 @@ abbrev pub IsIn : List Ref → Element → Type 0
 IsIn set o = Contains set (reference o)
 
 -- ---- membership
-
-abbrev pub BodyLists : Body → Ref → Type 0
-BodyLists (bodies.Node place) r = ⊥
-BodyLists (bodies.Way nodes) r = (r.kind ≡ kinds.Node) × Contains nodes r.id
-BodyLists (bodies.Rel members) r = Contains (map (λ (member : Member). member.target) members) r
 
 -- both are objects of the list, and the first has the second in its list of nodes or among its members
 pub record IsParent (objects : List Element) (parent child : Element) : Type 0 where
@@ -68,12 +62,6 @@ IsOnPath objects set paths.R o = IsBelow objects set kinds.Rel o
 IsOnPath objects set paths.Bn o = IsAbove objects set kinds.Node o
 IsOnPath objects set paths.Bw o = IsAbove objects set kinds.Way o
 IsOnPath objects set paths.Br o = IsAbove objects set kinds.Rel o
-
-abbrev pub HasKeyOf : Element → List ℕ → Type 0
-HasKeyOf o key = (tag : Tag) × Contains o.tags tag × (tag.key ≡ key)
-
-abbrev pub HasTag : Element → List ℕ → List ℕ → Type 0
-HasTag o key value = (tag : Tag) × Contains o.tags tag × (tag.key ≡ key) × (tag.value ≡ value)
 
 -- the filter keeps the object
 abbrev pub Passes : List Element → Env → Element → Filter → Type 0

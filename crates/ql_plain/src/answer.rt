@@ -15,8 +15,9 @@ use std::alloc::{AllocError, Global};
 /// The answer to a query over a set of objects: what its outs print, one after the other, as OPL, a line an
 /// object. It is the reference of faster answers: a statement goes over all objects.
 ///
-/// A statement costs at most a filter's pass over the objects and their lists for each filter, times a
-/// logarithm; chains of any length and cycles too. Refused only where memory runs out.
+/// A query statement is one pass over the objects, and a pass or a sort of what is named for each filter by a set, by
+/// ids or by a path. A recursion goes along the lists of ways and relations and sorts what it finds, chains of any
+/// length and cycles too. Refused only where memory runs out.
 pub fn answer_plain(
     alloc: Global,
     query: &Query<'_>,

@@ -1,6 +1,7 @@
 //! Laws of the meaning of queries.
 
 ghost use Rattle.std.specs.Prelude.{◌≡◌, ℕ, List, ◌++◌, ◌⊎◌, ◌↔◌, None, Option, Some, filter};
+ghost use Rattle.std.specs.List.{Contains};
 ghost use Rattle.std.specs.List.Sorted.{IsStrictlySortedBy};
 ghost use Rattle.opl_codec.specs.declared.out_mode.OutMode.{OutMode};
 ghost use Rattle.osm_model.specs.Elements.{Element, ref_cmp, references};
@@ -10,7 +11,7 @@ ghost use Rattle.ql_syntax.specs.Filters.{Filter};
 ghost use Rattle.ql_syntax.specs.Statements.{Statements};
 ghost use Rattle.ql_syntax.specs.declared.pick.Pick.TheVariants as picks;
 ghost use Rattle.ql_plain.specs.Meanings.{Means, cut, is_in, printed_of};
-ghost use Rattle.ql_plain.specs.Values.{Env, IsSelected};
+ghost use Rattle.ql_plain.specs.Values.{Env, IsChain, IsParent, IsSelected};
 
 /// A law: a query means one text over a set of objects.
 pub fn one_meaning()
@@ -31,4 +32,18 @@ pub fn out_number_cuts()
 /// A law: an out prints each object once, by kind and rising id.
 pub fn printed_once_in_order()
     ensures { (objects : List Element) (refs : List Ref) (limit : Option ℕ) → IsObjectSet objects → IsStrictlySortedBy ref_cmp (references (cut limit (filter (λ o. is_in refs o) objects))) }
+{}
+
+/// A law: a chain ends at an object just where one link leads to it, or a chain leads to some object and a link from
+/// there to it. So what `>>` and `<<` give is closed under links.
+pub fn chains_link_by_link()
+    ensures { (objects : List Element) (first last : Element) → IsChain objects first last
+        ↔ (IsParent objects first last ⊎ ((next : Element) × IsChain objects first next × IsParent objects next last)) }
+{}
+
+/// A law: the meaning of a query depends on the set of the objects alone: two lists of sets with the same members give
+/// the same texts.
+pub fn order_is_no_matter()
+    ensures { (first second : List Element) (statements : Statements) (text : List ℕ) → IsObjectSet first → IsObjectSet second → ((o : Element) → Contains first o ↔ Contains second o)
+        → Means first statements text → Means second statements text }
 {}

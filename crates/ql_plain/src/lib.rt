@@ -2,14 +2,16 @@
 #![tactic(auto)]
 
 mod answer;
+mod chains;
+mod filter_test;
 mod found;
+mod items;
 mod laws;
 mod links;
+mod named;
 mod named_set;
 mod neighbours;
-mod object_test;
 mod one_step;
-mod passing;
 mod print;
 mod recurse;
 mod ref_sets;
@@ -17,10 +19,14 @@ mod run;
 mod select;
 mod sets;
 mod step;
+mod there;
 mod written_by;
 
 pub use answer::answer_plain;
-pub use laws::{nwr_is_all_kinds, one_meaning, out_number_cuts, printed_once_in_order};
+pub use laws::{
+    chains_link_by_link, nwr_is_all_kinds, one_meaning, order_is_no_matter, out_number_cuts,
+    printed_once_in_order,
+};
 
 #[cfg(test)]
 mod tests;

@@ -1,42 +1,40 @@
 //! The recursions `>` and `<`.
 
-ghost use Rattle.std.specs.Prelude.{List, IfOk, OnOk};
-ghost use Rattle.std.specs.List.Sorted.{IsStrictlySortedBy};
-ghost use Rattle.osm_model.specs.Elements.{Element, ref_cmp};
-ghost use Rattle.osm_model.specs.Sets.{IsObjectSet};
+ghost use Rattle.std.specs.Prelude.{IfOk, OnOk};
 ghost use Rattle.ql_plain.specs.Meanings.{IsSetOf};
 ghost use Rattle.ql_plain.specs.Values.{IsDown, IsRefOf, IsUp};
 ghost use Rattle.ql_plain.specs.internal.Adding.{Adds, From};
-ghost use Rattle.ql_plain.specs.internal.Linked.{AreLinks, IsNoRelation};
+ghost use Rattle.ql_plain.specs.internal.Linked.{IsNoRelation};
 
-use crate::links::Link;
 use crate::neighbours::{above, below};
 use crate::ref_sets::tidy;
-use osm_model::{Kind, Ref};
+use osm_model::{Kind, ObjectSet, Ref};
 use std::alloc::{AllocError, Global};
 
 /// `>`: nodes of a way of the set; nodes and ways of a relation of the set; nodes of such a way.
-pub fn down(alloc: Global, links: &[Link], from: &[Ref]) -> Result<Vec<Ref>, AllocError>
-    requires { IsStrictlySortedBy ref_cmp from.now }
-    ensures { (objects : List Element) → IsObjectSet objects → AreLinks objects links.now → IfOk result (λ refs. IsSetOf refs.items (IsRefOf objects (IsDown objects from.now))) }
+pub fn down(alloc: Global, set: &ObjectSet, from: &[Ref]) -> Result<Vec<Ref>, AllocError>
+    ensures { IfOk result (λ refs. IsSetOf refs.items (IsRefOf set.now (IsDown set.now from.now))) }
 {
-    let mut refs = below(alloc, links, from, Kind::Way)?;
-    let members = below(alloc, links, from, Kind::Rel)?;
+    // For the proof alone: a reference names one object.
+    let _ = set.as_slice();
+    let mut refs = below(alloc, set, from, Kind::Way)?;
+    let members = below(alloc, set, from, Kind::Rel)?;
     add_all_but_relations(&members, &mut refs)?;
-    let inner = below(alloc, links, &members, Kind::Way)?;
+    let inner = below(alloc, set, &members, Kind::Way)?;
     refs.extend_from_slice(&inner)?;
     tidy(&mut refs);
     Ok(refs)
 }
 
 /// `<`: ways of a node of the set; relations of a node or way of the set; relations of such a way.
-pub fn up(alloc: Global, links: &[Link], from: &[Ref]) -> Result<Vec<Ref>, AllocError>
-    requires { IsStrictlySortedBy ref_cmp from.now }
-    ensures { (objects : List Element) → IsObjectSet objects → AreLinks objects links.now → IfOk result (λ refs. IsSetOf refs.items (IsRefOf objects (IsUp objects from.now))) }
+pub fn up(alloc: Global, set: &ObjectSet, from: &[Ref]) -> Result<Vec<Ref>, AllocError>
+    ensures { IfOk result (λ refs. IsSetOf refs.items (IsRefOf set.now (IsUp set.now from.now))) }
 {
-    let of_nodes = above(alloc, links, from, Kind::Node)?;
-    let mut refs = above(alloc, links, from, Kind::Way)?;
-    let outer = above(alloc, links, &of_nodes, Kind::Way)?;
+    // For the proof alone: a reference names one object.
+    let _ = set.as_slice();
+    let of_nodes = above(alloc, set, from, Kind::Node)?;
+    let mut refs = above(alloc, set, from, Kind::Way)?;
+    let outer = above(alloc, set, &of_nodes, Kind::Way)?;
     refs.extend_from_slice(&of_nodes)?;
     refs.extend_from_slice(&outer)?;
     tidy(&mut refs);

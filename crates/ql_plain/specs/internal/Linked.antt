@@ -2,11 +2,13 @@
 use Rattle.std.specs.Prelude.{◌≡◌, ◌≢◌, List, ℤ, ◌↔◌}
 use Rattle.std.specs.List.{Contains}
 use Rattle.osm_model.specs.Elements.{Element, reference}
+use Rattle.osm_model.specs.Membership.{BodyLists}
+use Rattle.osm_model.specs.declared.body.Body.{Body}
 use Rattle.osm_model.specs.declared.kind.Kind.{Kind}
 use Rattle.osm_model.specs.declared.kind.Kind.TheVariants as kinds
 use Rattle.osm_model.specs.declared.member.Member.{Member}
 use Rattle.osm_model.specs.declared.reference.Ref.{Ref}
-use Rattle.ql_plain.specs.Values.{BodyLists, IsParent}
+use Rattle.ql_plain.specs.Values.{IsOfKind, IsParent}
 use Rattle.ql_plain.specs.declared.links.Link.{Link}
 
 -- an object of the list has the reference
@@ -17,27 +19,38 @@ IsThere objects r = (o : Element) × Contains objects o × (reference o ≡ r)
 abbrev pub IsLinkTo : List Element → Ref → Ref → Link → Type 0
 IsLinkTo objects parent child link = (link ≡ record { parent = parent; child = child }) × IsThere objects child
 
-abbrev pub IsLinkToNode : List Element → Ref → ℤ → Link → Type 0
-IsLinkToNode objects parent id = IsLinkTo objects parent (record { kind = kinds.Node; id = id })
-
 abbrev pub IsLinkToMember : List Element → Ref → Member → Link → Type 0
 IsLinkToMember objects parent member = IsLinkTo objects parent member.target
 
--- the link leads down from this object
+-- the link leads down from this object, which is a relation
 abbrev pub IsLinkOf : List Element → Element → Link → Type 0
-IsLinkOf objects parent link = (link.parent ≡ reference parent) × BodyLists parent.body link.child × IsThere objects link.child
+IsLinkOf objects parent link = (link.parent ≡ reference parent) × IsOfKind kinds.Rel parent × BodyLists parent.body link.child × IsThere objects link.child
 
--- the links are all those between objects of the list
+-- the links are all those from relations of the list to objects of the list
 abbrev pub AreLinks : List Element → List Link → Type 0
-AreLinks objects links = (link : Link) → Contains links link ↔ ((parent child : Element) × IsParent objects parent child × (link ≡ record { parent = reference parent; child = reference child }))
+AreLinks objects links = (link : Link) → Contains links link ↔ ((parent child : Element) × IsParent objects parent child × IsOfKind kinds.Rel parent × (link ≡ record { parent = reference parent; child = reference child }))
 
--- the link leads down from an object of this kind in the set to this one
-abbrev pub LeadsDown : List Ref → Kind → Link → Ref → Type 0
-LeadsDown from kind link r = (link.parent.kind ≡ kind) × Contains from link.parent × (link.child ≡ r)
+-- the reference of a node with this id
+abbrev pub IsNode : ℤ → Ref → Type 0
+IsNode id r = record { kind = kinds.Node; id = id } ≡ r
 
--- the link leads up from an object of this kind in the set to this one
-abbrev pub LeadsUp : List Ref → Kind → Link → Ref → Type 0
-LeadsUp from kind link r = (link.child.kind ≡ kind) × Contains from link.child × (link.parent ≡ r)
+-- the reference of a member
+abbrev pub IsTarget : Member → Ref → Type 0
+IsTarget member r = member.target ≡ r
+
+-- an object of the list with this reference is of this kind, and lists it
+abbrev pub IsListedBy : List Element → Kind → Ref → Ref → Type 0
+IsListedBy objects kind name r = (o : Element) × Contains objects o × (reference o ≡ name) × IsOfKind kind o × BodyLists o.body r
+
+-- the body lists one of this kind that is in the set
+abbrev pub ListsOneOf : Kind → List Ref → Body → Type 0
+ListsOneOf kind set body = (r : Ref) × BodyLists body r × (r.kind ≡ kind) × Contains set r
+
+abbrev pub ListsNodeOf : List Ref → List ℤ → Type 0
+ListsNodeOf set nodes = (id : ℤ) × Contains nodes id × Contains set (record { kind = kinds.Node; id = id })
+
+abbrev pub ListsMemberOf : Kind → List Ref → List Member → Type 0
+ListsMemberOf kind set members = (member : Member) × Contains members member × (member.target.kind ≡ kind) × Contains set member.target
 
 -- the reference is this one, of an object of the list
 abbrev pub IsThereAs : List Element → Ref → Ref → Type 0

@@ -1,18 +1,42 @@
--- What tests of single objects say.
-use Rattle.std.specs.Prelude.{◌≡◌}
-use Rattle.osm_model.specs.Boxes.{Holds}
+-- What a filter asks of an object alone, and what it asks of references.
+use Rattle.std.specs.Prelude.{◌≡◌, List, ⊤}
+use Rattle.std.specs.List.{AllByRecursion, Contains}
+use Rattle.osm_model.specs.Boxes.{ExactBox, Holds}
 use Rattle.osm_model.specs.Elements.{Element}
 use Rattle.osm_model.specs.Places.{Place}
+use Rattle.osm_model.specs.Tagged.{HasKeyOf, HasTag}
 use Rattle.osm_model.specs.declared.body.Body.TheVariants as bodies
-use Rattle.ql_plain.specs.Values.{HasKeyOf, HasTag, IsPicked}
-use Rattle.ql_plain.specs.declared.object_test.ObjectTest.{ObjectTest}
-use Rattle.ql_plain.specs.declared.object_test.ObjectTest.TheVariants as tests
+use Rattle.osm_model.specs.declared.reference.Ref.{Ref}
+use Rattle.ql_syntax.specs.Filters.{Filter, InSet, HasKey, KeyIs, LacksKey, KeyIsNot, Ids, Within, Via}
+use Rattle.ql_syntax.specs.declared.pick.Pick.{Pick}
+use Rattle.ql_plain.specs.Values.{Env, IsOnPath, IsPicked, IsRefOf, Passes}
 
--- the test takes the object
-abbrev pub Takes : ObjectTest → Element → Type 0
-Takes (tests.Picked pick) o = IsPicked pick o
-Takes (tests.HasKey key) o = HasKeyOf o key.now
-Takes (tests.LacksKey key) o = ¬ (HasKeyOf o key.now)
-Takes (tests.HasTag key value) o = HasTag o key.now value.now
-Takes (tests.LacksTag key value) o = ¬ (HasTag o key.now value.now)
-Takes (tests.Within area) o = (place : Place) × (o.body ≡ bodies.Node place) × Holds area.now place
+-- a node in the box
+abbrev pub IsWithin : ExactBox → Element → Type 0
+IsWithin area o = (place : Place) × (o.body ≡ bodies.Node place) × Holds area place
+
+-- the filter keeps the object, as far as the object alone tells
+abbrev pub PassesAlone : Filter → Element → Type 0
+PassesAlone (InSet name) o = ⊤
+PassesAlone (HasKey key) o = HasKeyOf o key
+PassesAlone (KeyIs key value) o = HasTag o key value
+PassesAlone (LacksKey key) o = ¬ (HasKeyOf o key)
+PassesAlone (KeyIsNot key value) o = ¬ (HasTag o key value)
+PassesAlone (Ids ids) o = ⊤
+PassesAlone (Within area) o = IsWithin area o
+PassesAlone (Via path name) o = ⊤
+
+-- the filter keeps the object with the reference, as far as what the filter names tells
+abbrev pub IsNamedBy : List Element → Env → Filter → Ref → Type 0
+IsNamedBy objects env (InSet name) r = Contains (env name) r
+IsNamedBy objects env (HasKey key) r = ⊤
+IsNamedBy objects env (KeyIs key value) r = ⊤
+IsNamedBy objects env (LacksKey key) r = ⊤
+IsNamedBy objects env (KeyIsNot key value) r = ⊤
+IsNamedBy objects env (Ids ids) r = IsRefOf objects (λ o. Contains ids o.id) r
+IsNamedBy objects env (Within area) r = ⊤
+IsNamedBy objects env (Via path name) r = IsRefOf objects (IsOnPath objects (env name) path) r
+
+-- the object is of the kind, all filters keep it alone, and these keep it
+abbrev pub IsLeft : List Element → Env → Pick → List Filter → List Filter → Element → Type 0
+IsLeft objects env pick all filters o = (IsPicked pick o × AllByRecursion (λ filter. PassesAlone filter o) all) × AllByRecursion (λ filter. Passes objects env o filter) filters

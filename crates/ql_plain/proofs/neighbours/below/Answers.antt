@@ -1,35 +1,28 @@
-use Rattle.std.proofs.Common.{Vec, Global, get_or, pos, refl, sym, subst, ◌∙◌, ap}
+use Rattle.std.proofs.Common.{List, IfOk, get_or, pos, subst}
 use Rattle.std.proofs.lemmas.List.{get_or_default}
 use Rattle.osm_model.specs.declared.kind.Kind.TheVariants.{Node}
 use Rattle.osm_model.specs.declared.reference.Ref.{Ref}
-use Rattle.ql_plain.proofs.Adding.{adds_all, adds_more, adds_nothing, adds_one, adds_start}
-use Rattle.ql_plain.proofs.Leading.{set_from_added}
-use Rattle.ql_plain.specs.declared.links.Link.{Link}
-use Rattle.ql_plain.specs.internal.Adding.{Adds}
-use Rattle.ql_plain.specs.internal.Linked.{LeadsDown}
+use Rattle.ql_plain.proofs.Adding.{adds_all, adds_more, adds_start}
+use Rattle.ql_plain.proofs.FilterSets.{if_ok_as}
+use Rattle.ql_plain.proofs.Leading.{below_is, set_from_added}
+use Rattle.ql_plain.specs.Meanings.{IsSetOf}
+use Rattle.ql_plain.specs.Values.{IsIn, IsRefOf}
+use Rattle.ql_plain.specs.internal.Linked.{IsListedBy}
 use Rattle.ql_plain.proofs.neighbours.below.Goals as goal
-use Rattle.ql_plain.proofs.neighbours.below.Goals.{then-is_of_kind_in+in_ok-push, else-is_of_kind_in}
 
-pub loop-link-init : goal.loop-link-init
-loop-link-init c = rw c.new-refs.ensures.items (adds_start c.args.links.now (LeadsDown c.args.from.now c.args.kind))
+pub loop-name-init : goal.loop-name-init
+loop-name-init c = rw c.new-listed.ensures.items (adds_start c.args.from.now (IsListedBy c.args.set.now c.args.kind))
 
-pub loop-link-preserved : goal.loop-link-preserved
-loop-link-preserved c =
-    let links = c.args.links.now in
-    let k = c.loop-link.link-index in
+pub loop-name-preserved : goal.loop-name-preserved
+loop-name-preserved c =
+    let from = c.args.from.now in
+    let k = c.loop-name.name-index in
     let first : Ref = record { kind = Node; id = pos 0 } in
-    let none : Link = record { parent = first; child = first } in
-    let link = get_or links k none in
-    let Is : Link → Ref → Type 0 = LeadsDown c.args.from.now c.args.kind in
-    adds_more links Is k link c.loop-link-test.true (get_or_default links k none link c.loop-link-test.true) c.loop-link.invariant
-    (elim c.if-is_of_kind_in.branch [
-      | then-is_of_kind_in+in_ok-push w ↦
-          (let held = c.is_of_kind_in.ensures.0 w.if-is_of_kind_in.true in
-          adds_one link.child (ap (λ (v : Vec Ref Global). v.items) w.refs-is ∙ w.in_ok-push.ensures.items) (held.0, held.1, refl) (λ r is. is.2))
-      | else-is_of_kind_in w ↦
-          subst (λ (v : Vec Ref Global). Adds c.loop-link.refs.items v.items (Is link)) (sym w.refs-is)
-          (adds_nothing (λ r is. let held = c.is_of_kind_in.ensures.1 (is.0, is.1) in let not = w.if-is_of_kind_in.false in cc))
-    ])
+    let name = get_or from k first in
+    adds_more from (IsListedBy c.args.set.now c.args.kind) k name c.loop-name-test.true (get_or_default from k first name c.loop-name-test.true) c.loop-name.invariant c.in_ok-add_listed.ensures
 
 pub returns : goal.returns
-returns c = set_from_added (adds_all c.args.links.now (LeadsDown c.args.from.now c.args.kind) c.loop-link.link-index c.loop-link-test.false c.loop-link.invariant) c.tidy.ensures
+returns c =
+    let listed = set_from_added (adds_all c.args.from.now (IsListedBy c.args.set.now c.args.kind) c.loop-name.name-index c.loop-name-test.false c.loop-name.invariant) c.tidy.ensures in
+    if_ok_as c.those_there.result (λ refs. below_is c.args.set.now c.args.from.now c.args.kind listed)
+    (subst (λ (names : List Ref). IfOk c.those_there.result (λ refs. IsSetOf refs.items (IsRefOf c.args.set.now (IsIn names)))) c.deref.ensures.value c.those_there.ensures)

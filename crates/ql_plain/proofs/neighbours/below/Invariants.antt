@@ -1,7 +1,7 @@
 use Rattle.std.proofs.Common.{[], take}
 use Rattle.ql_plain.specs.internal.Adding.{Adds, From}
-use Rattle.ql_plain.specs.internal.Linked.{LeadsDown}
+use Rattle.ql_plain.specs.internal.Linked.{IsListedBy}
 use Rattle.ql_plain.proofs.neighbours.below.Given as goal
 
-abbrev pub invariant-loop-link : goal.invariant-loop-link
-invariant-loop-link l = Adds [] l.refs.items (From (take l.link-index l.links) (LeadsDown l.from l.kind))
+abbrev pub invariant-loop-name : goal.invariant-loop-name
+invariant-loop-name l = Adds [] l.listed.items (From (take l.name-index l.from) (IsListedBy l.set l.kind))

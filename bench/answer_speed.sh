@@ -1,0 +1,30 @@
+#!/usr/bin/env bash
+# What each kind of statement costs `answer_plain`, beside one pass over all objects that tests a key: in process, over
+# a mixed extract of 1,155,000 objects and one of a tenth of it, so that growth shows. The program
+# bench/answer_speed.program is built over copies of the crates in a folder outside the repository (WORK, or a new
+# one), so that the gate doesn't prove it.
+#
+#   bench/answer_speed.sh
+set -eu
+. "$(dirname "$0")/program.sh"
+data=$top/bench/data
+mkdir -p "$data"
+
+# An extract, made once: extract NAME SHARE.
+extract() {
+    local file=$data/$1.opl
+    [ -f "$file" ] || { python3 "$top/bench/make_extract.py" --share "$2" >"$file.part"; mv "$file.part" "$file"; }
+}
+
+extract extract-tenth 0.1
+extract extract 1
+build_program answer_speed 'osm_model: itoa thiserror
+opl_codec: osm_model itoa memchr simdutf8 thiserror
+ql_syntax: osm_model opl_codec simdutf8 smallvec thiserror
+ql_plain: osm_model opl_codec ql_syntax
+answer_speed: opl_codec ql_plain ql_syntax osm_model anyhow' osm_model opl_codec ql_syntax ql_plain
+
+echo "$(rt version)"
+echo "$(nproc) processors, $(sed -n 's/^model name\s*: //p' /proc/cpuinfo | head -n 1), Linux $(uname -r)"
+out/answer_speed <"$data/extract-tenth.opl"
+out/answer_speed <"$data/extract.opl"

@@ -1,0 +1,81 @@
+-- What the bodies of objects list.
+use Rattle.std.proofs.Common.{◌≡◌, ℤ, List, [], refl, sym, ap, subst, ◌∙◌, map}
+use Rattle.std.specs.List.{Contains}
+use Rattle.osm_model.specs.Elements.{Element, kind_of, reference}
+use Rattle.osm_model.specs.Membership.{BodyLists}
+use Rattle.osm_model.specs.declared.body.Body.{Body}
+use Rattle.osm_model.specs.declared.body.Body.TheVariants as bodies
+use Rattle.osm_model.specs.declared.kind.Kind.{Kind}
+use Rattle.osm_model.specs.declared.kind.Kind.TheVariants as kinds
+use Rattle.osm_model.specs.declared.member.Member.{Member}
+use Rattle.osm_model.specs.declared.reference.Ref.{Ref}
+use Rattle.ql_plain.proofs.Adding.{adds_as, adds_nothing}
+use Rattle.ql_plain.proofs.Linking.{same_node}
+use Rattle.ql_plain.proofs.Mapped.{contains_mapped, from_mapped}
+use Rattle.ql_plain.specs.internal.Adding.{Adds, From}
+use Rattle.ql_plain.specs.internal.Linked.{IsNode, IsTarget, ListsMemberOf, ListsNodeOf, ListsOneOf}
+
+module _ (body : Body) where
+  pub way_items : (nodes listed : List ℤ) → body ≡ bodies.Way nodes → listed ≡ nodes → {old new : List Ref} → Adds old new (From listed IsNode) → Adds old new (BodyLists body)
+  way_items nodes listed is same =
+      adds_as
+      (λ r from. subst (λ (b : Body). BodyLists b r) (sym is) (
+        ap (λ (s : Ref). s.kind) (sym from.2),
+        subst (λ (id : ℤ). Contains nodes id) (ap (λ (s : Ref). s.id) from.2) (subst (λ (ids : List ℤ). Contains ids from.0) same from.1),
+      ))
+      (λ r lists.
+      let of : (r.kind ≡ kinds.Node) × Contains nodes r.id = subst (λ (b : Body). BodyLists b r) is lists in
+      (r.id, subst (λ (ids : List ℤ). Contains ids r.id) (sym same) of.1, sym (same_node r of.0)))
+
+  pub relation_items : (members listed : List Member) → body ≡ bodies.Rel members → listed ≡ members → {old new : List Ref} → Adds old new (From listed IsTarget) → Adds old new (BodyLists body)
+  relation_items members listed is same =
+      adds_as
+      (λ r from. subst (λ (b : Body). BodyLists b r) (sym is)
+      (subst (λ (s : Ref). Contains (map (λ (m : Member). m.target) members) s) from.2
+      (contains_mapped (λ (m : Member). m.target) members from.0 (subst (λ (ms : List Member). Contains ms from.0) same from.1))))
+      (λ r lists.
+      let of : Contains (map (λ (m : Member). m.target) members) r = subst (λ (b : Body). BodyLists b r) is lists in
+      let one = from_mapped (λ (m : Member). m.target) members r of in
+      (one.0, subst (λ (ms : List Member). Contains ms one.0) (sym same) one.1, one.2))
+
+  pub node_items : {place : _} → body ≡ bodies.Node place → {refs : List Ref} → Adds refs refs (BodyLists body)
+  node_items is = adds_nothing (λ r lists. subst (λ (b : Body). BodyLists b r) is lists)
+
+  -- ---- what of them is in a set
+
+  module _ (kind : Kind) (set : List Ref) where
+    pub node_lists_none : {place : _} → body ≡ bodies.Node place → ListsOneOf kind set body → ⊥
+    node_lists_none is lists = subst (λ (b : Body). BodyLists b lists.0) is lists.1
+
+    pub way_lists : (nodes listed : List ℤ) → body ≡ bodies.Way nodes → listed ≡ nodes → kind ≡ kinds.Node → ListsNodeOf set listed → ListsOneOf kind set body
+    way_lists nodes listed is same node one = (
+      record { kind = kinds.Node; id = one.0 },
+      subst (λ (b : Body). BodyLists b (record { kind = kinds.Node; id = one.0 })) (sym is) (refl, subst (λ (ids : List ℤ). Contains ids one.0) same one.1),
+      sym node,
+      one.2,
+    )
+
+    pub from_way_lists : (nodes listed : List ℤ) → body ≡ bodies.Way nodes → listed ≡ nodes → ListsOneOf kind set body → (kind ≡ kinds.Node) × ListsNodeOf set listed
+    from_way_lists nodes listed is same lists =
+        let r = lists.0 in
+        let of : (r.kind ≡ kinds.Node) × Contains nodes r.id = subst (λ (b : Body). BodyLists b r) is lists.1 in
+        (sym lists.2 ∙ of.0, (r.id, subst (λ (ids : List ℤ). Contains ids r.id) (sym same) of.1, subst (λ (s : Ref). Contains set s) (same_node r of.0) lists.3))
+
+    pub relation_lists : (members listed : List Member) → body ≡ bodies.Rel members → listed ≡ members → ListsMemberOf kind set listed → ListsOneOf kind set body
+    relation_lists members listed is same one = (
+      one.0.target,
+      subst (λ (b : Body). BodyLists b one.0.target) (sym is) (contains_mapped (λ (m : Member). m.target) members one.0 (subst (λ (ms : List Member). Contains ms one.0) same one.1)),
+      one.2,
+      one.3,
+    )
+
+    pub from_relation_lists : (members listed : List Member) → body ≡ bodies.Rel members → listed ≡ members → ListsOneOf kind set body → ListsMemberOf kind set listed
+    from_relation_lists members listed is same lists =
+        let r = lists.0 in
+        let of : Contains (map (λ (m : Member). m.target) members) r = subst (λ (b : Body). BodyLists b r) is lists.1 in
+        let one = from_mapped (λ (m : Member). m.target) members r of in (
+          one.0,
+          subst (λ (ms : List Member). Contains ms one.0) (sym same) one.1,
+          ap (λ (s : Ref). s.kind) one.2 ∙ lists.2,
+          subst (λ (s : Ref). Contains set s) (sym one.2) lists.3,
+        )

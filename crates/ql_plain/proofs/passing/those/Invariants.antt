@@ -1,9 +1,0 @@
-use Rattle.std.proofs.Common.{◌≡◌, take}
-use Rattle.std.specs.List.{Contains}
-use Rattle.osm_model.specs.Elements.{Element, reference}
-use Rattle.ql_plain.specs.Meanings.{IsSetOf}
-use Rattle.ql_plain.specs.internal.Tests.{Takes}
-use Rattle.ql_plain.proofs.passing.those.Given as goal
-
-abbrev pub invariant-loop-object : goal.invariant-loop-object
-invariant-loop-object l = IsSetOf l.refs.items (λ r. (o : Element) × Contains (take l.object-index l.objects) o × (reference o ≡ r) × Takes l.test o)

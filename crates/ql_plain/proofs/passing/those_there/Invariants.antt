@@ -1,7 +1,0 @@
-use Rattle.std.proofs.Common.{[], take}
-use Rattle.ql_plain.specs.internal.Adding.{Adds, From}
-use Rattle.ql_plain.specs.internal.Linked.{IsThereAs}
-use Rattle.ql_plain.proofs.passing.those_there.Given as goal
-
-abbrev pub invariant-loop-name : goal.invariant-loop-name
-invariant-loop-name l = Adds [] l.refs.items (From (take l.name-index l.names) (IsThereAs l.set))

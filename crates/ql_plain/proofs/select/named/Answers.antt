@@ -1,0 +1,48 @@
+use Rattle.std.proofs.Common.{◌≡◌, ℕ, List, Ok, Err, IfOk, true, subst, sym, ap, ◌∙◌}
+use Rattle.std.specs.List.{Contains}
+use Rattle.osm_model.specs.declared.reference.Ref.{Ref}
+use Rattle.ql_syntax.specs.StatementViews.{filter_of}
+use Rattle.ql_syntax.specs.declared.filter.Filter.{Filter}
+use Rattle.ql_plain.proofs.FilterSets.{if_ok_as}
+use Rattle.ql_plain.proofs.Kept.{set_as}
+use Rattle.std.proofs.Common.{ℤ}
+use Rattle.ql_plain.specs.Meanings.{IsSetOf}
+use Rattle.ql_plain.specs.Values.{IsOnPath, IsRefOf}
+use Rattle.ql_plain.specs.internal.Adding.{IsWanted}
+use Rattle.ql_plain.specs.internal.NamedSets.{lists_of}
+use Rattle.ql_plain.specs.internal.Tests.{IsNamedBy}
+use Rattle.ql_plain.proofs.select.named.Goals as goal
+
+pub returns-in-InSet : goal.returns-in-InSet
+returns-in-InSet c =
+    let env = lists_of c.args.sets.now.named.items in
+    let refs = c.args.refs.items in
+    let names_are : c.get.result.now ≡ env c.in-InSet.name = c.get.ensures.value ∙ ap (λ (name : List ℕ). env name) c.as_bytes.ensures in
+    subst (λ (f : Filter). IfOk c.kept.result (λ left. IsSetOf left.items (λ r. Contains refs r × IsNamedBy c.args.set.now env (filter_of f) r))) (sym c.in-InSet.is)
+    (subst (λ (names : List Ref). IfOk c.kept.result (λ left. IsSetOf left.items (λ r. Contains refs r × Contains names r))) names_are
+    (subst (λ (rs : List Ref). IfOk c.kept.result (λ left. IsSetOf left.items (λ r. Contains rs r × Contains c.get.result.now r))) c.deref.ensures.value c.kept.ensures))
+
+pub returns-in_ok-those-in-Ids : goal.returns-in_ok-those-in-Ids
+returns-in_ok-those-in-Ids c =
+    let env = lists_of c.args.sets.now.named.items in
+    let refs = c.args.refs.items in
+    let those = c.in_ok-those-in-Ids.those.items in
+    let are : IsSetOf those (IsRefOf c.args.set.now (λ o. Contains c.in-Ids.ids.items o.id)) =
+    subst (λ (ids : List ℤ). IsSetOf those (IsRefOf c.args.set.now (λ o. Contains ids o.id))) c.as_slice.ensures c.in_ok-those-in-Ids.ensures in
+    subst (λ (f : Filter). IfOk c.kept-in-Ids.result (λ left. IsSetOf left.items (λ r. Contains refs r × IsNamedBy c.args.set.now env (filter_of f) r))) (sym c.in-Ids.is)
+    (if_ok_as c.kept-in-Ids.result (λ left. set_as (λ r both. (both.0, (are.members r).0 both.1)) (λ r both. (both.0, (are.members r).1 both.1)))
+    (subst (λ (names : List Ref). IfOk c.kept-in-Ids.result (λ left. IsSetOf left.items (λ r. Contains refs r × Contains names r))) c.deref-in-Ids-2.ensures.value
+    (subst (λ (rs : List Ref). IfOk c.kept-in-Ids.result (λ left. IsSetOf left.items (λ r. Contains rs r × Contains c.deref-in-Ids-2.result.now r))) c.deref-in-Ids.ensures.value c.kept-in-Ids.ensures)))
+
+pub returns-in_ok-those-in-Via : goal.returns-in_ok-those-in-Via
+returns-in_ok-those-in-Via c =
+    let env = lists_of c.args.sets.now.named.items in
+    let refs = c.args.refs.items in
+    let those = c.in_ok-those-in-Via.those.items in
+    let names_are : c.get-in-Via.result.now ≡ env c.in-Via.name = c.get-in-Via.ensures.value ∙ ap (λ (name : List ℕ). env name) c.as_bytes-in-Via.ensures in
+    let are : IsSetOf those (IsRefOf c.args.set.now (IsOnPath c.args.set.now (env c.in-Via.name) c.in-Via.path)) =
+    subst (λ (names : List Ref). IsSetOf those (IsRefOf c.args.set.now (IsOnPath c.args.set.now names c.in-Via.path))) names_are c.in_ok-those-in-Via.ensures in
+    subst (λ (f : Filter). IfOk c.kept-in-Via.result (λ left. IsSetOf left.items (λ r. Contains refs r × IsNamedBy c.args.set.now env (filter_of f) r))) (sym c.in-Via.is)
+    (if_ok_as c.kept-in-Via.result (λ left. set_as (λ r both. (both.0, (are.members r).0 both.1)) (λ r both. (both.0, (are.members r).1 both.1)))
+    (subst (λ (names : List Ref). IfOk c.kept-in-Via.result (λ left. IsSetOf left.items (λ r. Contains refs r × Contains names r))) c.deref-in-Via-2.ensures.value
+    (subst (λ (rs : List Ref). IfOk c.kept-in-Via.result (λ left. IsSetOf left.items (λ r. Contains rs r × Contains c.deref-in-Via-2.result.now r))) c.deref-in-Via.ensures.value c.kept-in-Via.ensures)))

@@ -1,0 +1,13 @@
+use Rattle.std.proofs.Common.{refl, sym, ◌∙◌}
+use Rattle.ql_plain.proofs.Adding.{adds_nothing, adds_one}
+use Rattle.ql_plain.proofs.ObjectLists.{there_from_found, absent_from_none}
+use Rattle.ql_plain.proofs.there.add_there.Goals as goal
+
+pub returns-in_ok-push : goal.returns-in_ok-push
+returns-in_ok-push c =
+    adds_one _ c.in_ok-push.ensures.items
+    (refl, there_from_found c.args.set.now c.args.name c.get.result c.get.ensures.found (sym c.is_some.ensures ∙ c.if-is_some.true))
+    (λ r is. sym is.0)
+
+pub returns-else-is_some : goal.returns-else-is_some
+returns-else-is_some c = adds_nothing (λ r is. absent_from_none c.args.set.now c.args.name c.get.result c.get.ensures.found (sym c.is_some.ensures ∙ c.if-is_some.false) is.1)

@@ -1,0 +1,80 @@
+//! Tests of single objects.
+
+ghost use Rattle.std.specs.Prelude.{◌↔◌, IsTrue};
+ghost use Rattle.std.specs.List.{AllByRecursion};
+ghost use Rattle.osm_model.specs.Tagged.{HasKeyOf, HasTag};
+ghost use Rattle.ql_syntax.specs.StatementViews.{filter_of, filters_of};
+ghost use Rattle.ql_plain.specs.Values.{IsPicked};
+ghost use Rattle.ql_plain.specs.internal.Tests.{IsWithin, PassesAlone};
+
+use osm_model::{Body, BoxArea, Object};
+use ql_syntax::{Filter, Pick};
+
+/// Whether an object is of the kind of a query statement, and its filters keep it as far as the object alone tells:
+/// filters by a set, by ids and by a path look at more.
+pub fn is_taken(kind: Pick, filters: &[Filter<'_>], object: &Object) -> bool
+    ensures { IsTrue result ↔ (IsPicked kind object.now × AllByRecursion (λ filter. PassesAlone filter object.now) (filters_of filters.now)) }
+{
+    is_picked(kind, object) && is_kept(filters, object)
+}
+
+fn is_picked(pick: Pick, object: &Object) -> bool
+    ensures { IsTrue result ↔ IsPicked pick object.now }
+{
+    match (pick, object.body()) {
+        (Pick::Node, Body::Node(_)) => true,
+        (Pick::Way, Body::Way(_)) => true,
+        (Pick::Rel, Body::Rel(_)) => true,
+        (Pick::Nwr, _) => true,
+        _ => false,
+    }
+}
+
+/// Whether all filters keep it. The first that doesn't ends it.
+fn is_kept(filters: &[Filter<'_>], object: &Object) -> bool
+    ensures { IsTrue result ↔ AllByRecursion (λ filter. PassesAlone filter object.now) (filters_of filters.now) }
+{
+    for filter in filters {
+        if !keeps(filter, object) {
+            return false;
+        }
+    }
+    true
+}
+
+/// Whether a filter keeps it.
+fn keeps(filter: &Filter<'_>, object: &Object) -> bool
+    ensures { IsTrue result ↔ PassesAlone (filter_of filter.now) object.now }
+{
+    match filter {
+        Filter::HasKey(key) => has_key(object, key.as_bytes()),
+        Filter::KeyIs(key, value) => has_tag(object, key.as_bytes(), value.as_bytes()),
+        Filter::LacksKey(key) => !has_key(object, key.as_bytes()),
+        Filter::KeyIsNot(key, value) => !has_tag(object, key.as_bytes(), value.as_bytes()),
+        Filter::Within(area) => is_within(object, area),
+        Filter::InSet(_) => true,
+        Filter::Ids(_) => true,
+        Filter::Via(_, _) => true,
+    }
+}
+
+fn is_within(object: &Object, area: &BoxArea<'_>) -> bool
+    ensures { IsTrue result ↔ IsWithin area.now object.now }
+{
+    match object.body() {
+        Body::Node(place) => area.holds(*place),
+        _ => false,
+    }
+}
+
+fn has_key(object: &Object, key: &[u8]) -> bool
+    ensures { IsTrue result ↔ HasKeyOf object.now key.now }
+{
+    object.tags().iter().any(|tag| tag.key.as_bytes() == key)
+}
+
+fn has_tag(object: &Object, key: &[u8], value: &[u8]) -> bool
+    ensures { IsTrue result ↔ HasTag object.now key.now value.now }
+{
+    object.tags().iter().any(|tag| tag.key.as_bytes() == key && tag.value.as_bytes() == value)
+}

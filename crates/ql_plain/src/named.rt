@@ -1,0 +1,66 @@
+//! The objects that ids name, and those to which paths lead.
+
+ghost use Rattle.std.specs.Prelude.{IfOk, OnOk};
+ghost use Rattle.std.specs.List.{Contains};
+ghost use Rattle.ql_plain.specs.Meanings.{IsSetOf};
+ghost use Rattle.ql_plain.specs.Values.{IsOnPath, IsRefOf};
+ghost use Rattle.ql_plain.specs.internal.Adding.{Adds};
+ghost use Rattle.ql_plain.specs.internal.Linked.{IsThereWith};
+
+use crate::neighbours::{above, below};
+use crate::ref_sets::tidy;
+use crate::there::add_there;
+use osm_model::{Kind, ObjectSet, Ref};
+use ql_syntax::Path;
+use std::alloc::{AllocError, Global};
+
+/// The objects with ids of a list.
+pub fn with_ids(alloc: Global, ids: &[i64], set: &ObjectSet) -> Result<Vec<Ref>, AllocError>
+    ensures { IfOk result (λ refs. IsSetOf refs.items (IsRefOf set.now (λ o. Contains ids.now o.id))) }
+{
+    let mut refs = Vec::new(alloc);
+    for id in ids {
+        add_with_id(*id, set, &mut refs)?;
+    }
+    tidy(&mut refs);
+    Ok(refs)
+}
+
+/// Adds the objects with an id: at most one of each kind.
+fn add_with_id(id: i64, set: &ObjectSet, refs: &mut Vec<Ref>) -> Result<(), AllocError>
+    ensures { OnOk result (Adds refs.old.items refs.new.items (IsThereWith set.now id)) }
+{
+    let node = Ref {
+        kind: Kind::Node,
+        id,
+    };
+    let way = Ref {
+        kind: Kind::Way,
+        id,
+    };
+    let relation = Ref {
+        kind: Kind::Rel,
+        id,
+    };
+    add_there(node, set, refs)?;
+    add_there(way, set, refs)?;
+    add_there(relation, set, refs)
+}
+
+/// The objects to which a path leads from a set.
+pub fn along(
+    alloc: Global,
+    path: Path,
+    from: &[Ref],
+    set: &ObjectSet,
+) -> Result<Vec<Ref>, AllocError>
+    ensures { IfOk result (λ refs. IsSetOf refs.items (IsRefOf set.now (IsOnPath set.now from.now path))) }
+{
+    match path {
+        Path::W => below(alloc, set, from, Kind::Way),
+        Path::R => below(alloc, set, from, Kind::Rel),
+        Path::Bn => above(alloc, set, from, Kind::Node),
+        Path::Bw => above(alloc, set, from, Kind::Way),
+        Path::Br => above(alloc, set, from, Kind::Rel),
+    }
+}

@@ -1,0 +1,33 @@
+//! Which references are of objects of a set.
+
+ghost use Rattle.std.specs.Prelude.{IfOk, OnOk};
+ghost use Rattle.ql_plain.specs.Meanings.{IsSetOf};
+ghost use Rattle.ql_plain.specs.Values.{IsIn, IsRefOf};
+ghost use Rattle.ql_plain.specs.internal.Adding.{Adds};
+ghost use Rattle.ql_plain.specs.internal.Linked.{IsThereAs};
+
+use crate::ref_sets::tidy;
+use osm_model::{ObjectSet, Ref};
+use std::alloc::{AllocError, Global};
+
+/// The objects whose references are in a list.
+pub fn those_there(alloc: Global, names: &[Ref], set: &ObjectSet) -> Result<Vec<Ref>, AllocError>
+    ensures { IfOk result (λ refs. IsSetOf refs.items (IsRefOf set.now (IsIn names.now))) }
+{
+    let mut refs = Vec::new(alloc);
+    for name in names {
+        add_there(*name, set, &mut refs)?;
+    }
+    tidy(&mut refs);
+    Ok(refs)
+}
+
+/// Adds a reference where its object is in the set.
+pub fn add_there(name: Ref, set: &ObjectSet, refs: &mut Vec<Ref>) -> Result<(), AllocError>
+    ensures { OnOk result (Adds refs.old.items refs.new.items (IsThereAs set.now name)) }
+{
+    if set.get(name).is_some() {
+        refs.push(name)?;
+    }
+    Ok(())
+}
