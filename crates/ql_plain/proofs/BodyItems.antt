@@ -1,7 +1,6 @@
 -- What the bodies of objects list.
-use Rattle.std.proofs.Common.{◌≡◌, ℤ, List, [], refl, sym, ap, subst, ◌∙◌, map}
+use Rattle.std.proofs.Common.{◌≡◌, ℤ, List, refl, sym, ap, subst, ◌∙◌, map}
 use Rattle.std.specs.List.{Contains}
-use Rattle.osm_model.specs.Elements.{Element, kind_of, reference}
 use Rattle.osm_model.specs.Membership.{BodyLists}
 use Rattle.osm_model.specs.declared.body.Body.{Body}
 use Rattle.osm_model.specs.declared.body.Body.TheVariants as bodies

@@ -1,5 +1,5 @@
 -- What objects list and what lists them, in the words of objects.
-use Rattle.std.proofs.Common.{◌≡◌, List, [], refl, sym, ap, subst, ◌∙◌}
+use Rattle.std.proofs.Common.{List, [], refl, sym, ap, subst, ◌∙◌}
 use Rattle.std.specs.List.{Contains}
 use Rattle.osm_model.specs.Elements.{Element, reference}
 use Rattle.osm_model.specs.Membership.{BodyLists}

@@ -1,4 +1,4 @@
-use Rattle.std.proofs.Common.{◌≡◌, ℕ, List, Ok, Err, IfOk, true, subst, sym, ap, ◌∙◌}
+use Rattle.std.proofs.Common.{◌≡◌, ℕ, List, IfOk, subst, sym, ap, ◌∙◌}
 use Rattle.std.specs.List.{Contains}
 use Rattle.osm_model.specs.declared.reference.Ref.{Ref}
 use Rattle.ql_syntax.specs.StatementViews.{filter_of}
@@ -8,7 +8,6 @@ use Rattle.ql_plain.proofs.Kept.{set_as}
 use Rattle.std.proofs.Common.{ℤ}
 use Rattle.ql_plain.specs.Meanings.{IsSetOf}
 use Rattle.ql_plain.specs.Values.{IsOnPath, IsRefOf}
-use Rattle.ql_plain.specs.internal.Adding.{IsWanted}
 use Rattle.ql_plain.specs.internal.NamedSets.{lists_of}
 use Rattle.ql_plain.specs.internal.Tests.{IsNamedBy}
 use Rattle.ql_plain.proofs.select.named.Goals as goal
