@@ -1,16 +1,18 @@
 -- What objects list and what lists them, in the words of objects.
-use Rattle.std.proofs.Common.{List, [], refl, sym, ap, subst, ◌∙◌}
+use Rattle.std.proofs.Common.{◌≡◌, ◌↔◌, List, [], Bool, true, refl, sym, ap, subst, ◌∙◌}
 use Rattle.std.specs.List.{Contains}
 use Rattle.osm_model.specs.Elements.{Element, reference}
 use Rattle.osm_model.specs.Membership.{BodyLists}
+use Rattle.osm_model.specs.Sets.{IsObjectSet}
 use Rattle.osm_model.specs.declared.kind.Kind.{Kind}
 use Rattle.osm_model.specs.declared.reference.Ref.{Ref}
 use Rattle.ql_plain.proofs.Adding.{adds_to_nothing}
 use Rattle.ql_plain.proofs.Kept.{set_as}
+use Rattle.ql_plain.proofs.Selecting.{one_object}
 use Rattle.ql_plain.specs.Meanings.{IsSetOf}
 use Rattle.ql_plain.specs.Values.{IsAbove, IsBelow, IsIn, IsRefOf}
 use Rattle.ql_plain.specs.internal.Adding.{Adds, From}
-use Rattle.ql_plain.specs.internal.Linked.{IsListedBy, ListsOneOf}
+use Rattle.ql_plain.specs.internal.Linked.{IsListedBy, IsThereIn, ListsOneOf}
 
 -- a set of what was added to nothing
 pub set_from_added : {added refs : List Ref} {P : Ref → Type 0} → Adds [] added P → IsSetOf refs (Contains added) → IsSetOf refs P
@@ -38,13 +40,13 @@ module _ (objects : List Element) (from : List Ref) (kind : Kind) where
         (listed_is.members (reference child)).1 (reference parent.0, parent.3, (parent.0, parent.1.there, refl, parent.2, parent.1.lists)),
       ))
 
-  pub above_is : {children refs : List Ref} → IsSetOf children (IsRefOf objects (IsIn from)) → IsSetOf refs (IsRefOf objects (λ o. ListsOneOf kind children o.body)) → IsSetOf refs (IsRefOf objects (IsAbove objects from kind))
+  pub above_is : {children refs : List Ref} → IsSetOf children (IsRefOf objects (IsIn from)) → IsSetOf refs (IsRefOf objects (λ o. ListsOneOf kind (IsThereIn objects children) o.body)) → IsSetOf refs (IsRefOf objects (IsAbove objects from kind))
   above_is children_are =
       set_as
       (λ r of.
       let parent = of.0 in
       let item = of.3 in
-      let child = (children_are.members item.0).0 item.3 in (
+      let child = (children_are.members item.0).0 item.3.0 in (
         parent,
         of.1,
         of.2,
@@ -56,5 +58,21 @@ module _ (objects : List Element) (from : List Ref) (kind : Kind) where
         parent,
         of.1,
         of.2,
-        (reference child.0, child.1.lists, child.2, (children_are.members (reference child.0)).1 (child.0, child.1.child_there, refl, child.3)),
+        (reference child.0, child.1.lists, child.2, ((children_are.members (reference child.0)).1 (child.0, child.1.child_there, refl, child.3), (child.0, child.1.child_there, refl))),
       ))
+
+  -- an object that lists one in the set is above it
+  pub above_from_lists : (o : Element) → Contains objects o → ListsOneOf kind (IsThereIn objects from) o.body → IsAbove objects from kind o
+  above_from_lists o there item =
+      let child = item.3.1 in
+      (child.0, record { there = there; child_there = child.1; lists = subst (λ (s : Ref). BodyLists o.body s) (sym child.2) item.1 }, ap (λ (s : Ref). s.kind) child.2 ∙ item.2, subst (λ (s : Ref). Contains from s) (sym child.2) item.3.0)
+
+  pub lists_from_above : (o : Element) → IsAbove objects from kind o → ListsOneOf kind (IsThereIn objects from) o.body
+  lists_from_above o child = (reference child.0, child.1.lists, child.2, (child.3, (child.0, child.1.child_there, refl)))
+
+  -- what a reference tells, whose object was looked up
+  pub above_told : IsObjectSet objects → (name : Ref) (o : Element) → Contains objects o → reference o ≡ name → (b : Bool) → (b ≡ true) ↔ ListsOneOf kind (IsThereIn objects from) o.body → (b ≡ true) ↔ IsRefOf objects (IsAbove objects from kind) name
+  above_told set name o there named b told = (
+    (λ yes. (o, there, named, above_from_lists o there (told.0 yes))),
+    (λ of. told.1 (lists_from_above o (subst (λ (p : Element). IsAbove objects from kind p) (one_object objects set of.0 o of.1 there (of.2 ∙ sym named)) of.3))),
+  )

@@ -5,6 +5,7 @@ pub mod Mapped
 pub mod Linking
 pub mod BodyItems
 pub mod Kept
+pub mod Seeking
 pub mod NamedLists
 pub mod Leading
 pub mod Listing

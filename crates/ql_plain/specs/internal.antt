@@ -6,3 +6,4 @@ pub mod Tests
 pub mod Steps
 pub mod Founds
 pub mod Runs
+pub mod Seeking

@@ -13,7 +13,7 @@ ghost use Rattle.ql_plain.specs.internal.Steps.{IsPath};
 use crate::found::Found;
 use crate::links::links;
 use crate::neighbours::{above, below};
-use crate::ref_sets::tidy;
+use crate::ref_sets::{tidy, unite};
 use crate::step::{Step, steps};
 use osm_model::{Kind, ObjectSet, Ref};
 use std::alloc::{AllocError, Global};
@@ -32,7 +32,7 @@ pub fn down_all(alloc: Global, set: &ObjectSet, from: &[Ref]) -> Result<Vec<Ref>
     parents.extend_from_slice(&refs)?;
     let nodes = below(alloc, set, &parents, Kind::Way)?;
     refs.extend_from_slice(&nodes)?;
-    tidy(&mut refs);
+    unite(&mut refs)?;
     Ok(refs)
 }
 
@@ -50,7 +50,7 @@ pub fn up_all(alloc: Global, set: &ObjectSet, from: &[Ref]) -> Result<Vec<Ref>, 
     children.extend_from_slice(&refs)?;
     let relations = reached(alloc, &steps, &children)?;
     refs.extend_from_slice(&relations)?;
-    tidy(&mut refs);
+    unite(&mut refs)?;
     Ok(refs)
 }
 

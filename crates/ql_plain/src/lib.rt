@@ -6,6 +6,7 @@ mod chains;
 mod filter_test;
 mod found;
 mod items;
+mod kept_neighbours;
 mod laws;
 mod links;
 mod named;
@@ -15,7 +16,9 @@ mod one_step;
 mod print;
 mod recurse;
 mod ref_sets;
+mod referenced;
 mod run;
+mod seek;
 mod select;
 mod sets;
 mod step;
@@ -27,6 +30,7 @@ pub use laws::{
     chains_link_by_link, nwr_is_all_kinds, one_meaning, order_is_no_matter, out_number_cuts,
     printed_once_in_order,
 };
+pub use ref_sets::tidy;
 
 #[cfg(test)]
 mod tests;

@@ -1,13 +1,15 @@
-//! The objects that ids name, and those to which paths lead.
+//! What ids and paths name.
 
 ghost use Rattle.std.specs.Prelude.{IfOk, OnOk};
 ghost use Rattle.std.specs.List.{Contains};
+ghost use Rattle.std.specs.List.Sorted.{IsStrictlySortedBy};
+ghost use Rattle.osm_model.specs.Elements.{ref_cmp};
 ghost use Rattle.ql_plain.specs.Meanings.{IsSetOf};
 ghost use Rattle.ql_plain.specs.Values.{IsOnPath, IsRefOf};
 ghost use Rattle.ql_plain.specs.internal.Adding.{Adds};
 ghost use Rattle.ql_plain.specs.internal.Linked.{IsThereWith};
 
-use crate::neighbours::{above, below};
+use crate::kept_neighbours::{kept_above, kept_below};
 use crate::ref_sets::tidy;
 use crate::there::add_there;
 use osm_model::{Kind, ObjectSet, Ref};
@@ -47,20 +49,23 @@ fn add_with_id(id: i64, set: &ObjectSet, refs: &mut Vec<Ref>) -> Result<(), Allo
     add_there(relation, set, refs)
 }
 
-/// The objects to which a path leads from a set.
-pub fn along(
+/// Of some references, those of objects to which a path leads from a set.
+pub fn via(
     alloc: Global,
+    refs: &[Ref],
     path: Path,
     from: &[Ref],
     set: &ObjectSet,
 ) -> Result<Vec<Ref>, AllocError>
-    ensures { IfOk result (λ refs. IsSetOf refs.items (IsRefOf set.now (IsOnPath set.now from.now path))) }
+    requires rising { IsStrictlySortedBy ref_cmp refs.now }
+    requires from_rising { IsStrictlySortedBy ref_cmp from.now }
+    ensures { IfOk result (λ left. IsSetOf left.items (λ r. Contains refs.now r × IsRefOf set.now (IsOnPath set.now from.now path) r)) }
 {
     match path {
-        Path::W => below(alloc, set, from, Kind::Way),
-        Path::R => below(alloc, set, from, Kind::Rel),
-        Path::Bn => above(alloc, set, from, Kind::Node),
-        Path::Bw => above(alloc, set, from, Kind::Way),
-        Path::Br => above(alloc, set, from, Kind::Rel),
+        Path::W => kept_below(alloc, refs, set, from, Kind::Way),
+        Path::R => kept_below(alloc, refs, set, from, Kind::Rel),
+        Path::Bn => kept_above(alloc, refs, set, from, Kind::Node),
+        Path::Bw => kept_above(alloc, refs, set, from, Kind::Way),
+        Path::Br => kept_above(alloc, refs, set, from, Kind::Rel),
     }
 }

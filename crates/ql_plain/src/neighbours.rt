@@ -5,7 +5,7 @@ ghost use Rattle.osm_model.specs.Sets.{IsObjectSet};
 ghost use Rattle.ql_plain.specs.Meanings.{IsSetOf};
 ghost use Rattle.ql_plain.specs.Values.{IsAbove, IsBelow, IsRefOf};
 ghost use Rattle.ql_plain.specs.internal.Adding.{Adds};
-ghost use Rattle.ql_plain.specs.internal.Linked.{IsListedBy, ListsOneOf};
+ghost use Rattle.ql_plain.specs.internal.Linked.{IsListedBy, IsThereIn, ListsOneOf};
 ghost use Rattle.std.specs.List.Sorted.{IsStrictlySortedBy};
 ghost use Rattle.osm_model.specs.Elements.{ref_cmp};
 
@@ -72,14 +72,14 @@ fn listing(
     kind: Kind,
 ) -> Result<Vec<Ref>, AllocError>
     requires { IsStrictlySortedBy ref_cmp children.now }
-    ensures taken { IfOk result (λ refs. IsSetOf refs.items (IsRefOf set.now (λ o. ListsOneOf kind children.now o.body))) }
+    ensures taken { IfOk result (λ refs. IsSetOf refs.items (IsRefOf set.now (λ o. ListsOneOf kind (IsThereIn set.now children.now) o.body))) }
     // As its type says.
     ensures set { IsObjectSet set.now }
 {
     let objects = set.as_slice();
     let mut refs = Vec::new(alloc);
     for object in objects {
-        if lists_one_of(object, kind, children) {
+        if lists_one_of(object, kind, children, set) {
             refs.push(object.reference())?;
         }
     }

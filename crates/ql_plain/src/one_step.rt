@@ -7,7 +7,7 @@ ghost use Rattle.ql_plain.specs.internal.Adding.{Adds, From};
 ghost use Rattle.ql_plain.specs.internal.Linked.{IsNoRelation};
 
 use crate::neighbours::{above, below};
-use crate::ref_sets::tidy;
+use crate::ref_sets::unite;
 use osm_model::{Kind, ObjectSet, Ref};
 use std::alloc::{AllocError, Global};
 
@@ -22,7 +22,7 @@ pub fn down(alloc: Global, set: &ObjectSet, from: &[Ref]) -> Result<Vec<Ref>, Al
     add_all_but_relations(&members, &mut refs)?;
     let inner = below(alloc, set, &members, Kind::Way)?;
     refs.extend_from_slice(&inner)?;
-    tidy(&mut refs);
+    unite(&mut refs)?;
     Ok(refs)
 }
 
@@ -37,7 +37,7 @@ pub fn up(alloc: Global, set: &ObjectSet, from: &[Ref]) -> Result<Vec<Ref>, Allo
     let outer = above(alloc, set, &of_nodes, Kind::Way)?;
     refs.extend_from_slice(&of_nodes)?;
     refs.extend_from_slice(&outer)?;
-    tidy(&mut refs);
+    unite(&mut refs)?;
     Ok(refs)
 }
 

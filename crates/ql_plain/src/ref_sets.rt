@@ -1,12 +1,13 @@
 //! Sets of references, as rising lists.
 
-ghost use Rattle.std.specs.Prelude.{◌≡◌, ◌↔◌, IfOk, IsTrue};
+ghost use Rattle.std.specs.Prelude.{◌≡◌, ◌↔◌, IfOk, IsTrue, OnOk};
 ghost use Rattle.std.specs.List.{Contains};
 ghost use Rattle.std.specs.List.Sorted.{IsStrictlySortedBy};
 ghost use Rattle.osm_model.specs.Elements.{ref_cmp};
 ghost use Rattle.ql_plain.specs.Meanings.{IsSetOf};
 ghost use Rattle.ql_plain.specs.internal.Adding.{IsWanted};
 
+use crate::seek::step_to;
 use osm_model::Ref;
 use std::alloc::{AllocError, Global};
 
@@ -18,6 +19,17 @@ pub fn tidy(refs: &mut Vec<Ref>)
     refs.dedup();
 }
 
+/// Sorts what some sets have, one after the other, and drops repeated references: a merge of the sets. Where memory runs
+/// out, they stay as they were.
+pub fn unite(refs: &mut Vec<Ref>) -> Result<(), AllocError>
+    ensures { OnOk result (IsSetOf refs.new.items (Contains refs.old.items)) }
+{
+    // The stable sort merges what rises already.
+    refs.sort()?;
+    refs.dedup();
+    Ok(())
+}
+
 /// Whether a reference is in a set. A binary search.
 pub fn is_in(refs: &[Ref], name: Ref) -> bool
     requires { IsStrictlySortedBy ref_cmp refs.now }
@@ -26,7 +38,8 @@ pub fn is_in(refs: &[Ref], name: Ref) -> bool
     refs.binary_search(&name).is_ok()
 }
 
-/// The references of a set that are in another one, or those that aren't where `wanted` is `false`.
+/// The references of a set that are in another one, or those that aren't where `wanted` is `false`. One pass over the
+/// first set, with a search in the other one that goes along.
 pub fn kept(
     alloc: Global,
     refs: &[Ref],
@@ -37,11 +50,15 @@ pub fn kept(
     requires others_rising { IsStrictlySortedBy ref_cmp others.now }
     ensures { IfOk result (λ kept. IsSetOf kept.items (λ r. Contains refs.now r × IsWanted wanted (Contains others.now r))) }
 {
-    let mut kept = Vec::new(alloc);
+    // Not more than the first set has, so the list never moves as it grows.
+    let mut kept = Vec::with_capacity(alloc, refs.len())?;
+    let mut at = 0;
     for name in refs {
-        if is_in(others, *name) == wanted {
+        let (next, is_there) = step_to(others, at, *name);
+        if is_there == wanted {
             kept.push(*name)?;
         }
+        at = next;
     }
     Ok(kept)
 }

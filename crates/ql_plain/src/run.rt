@@ -6,7 +6,7 @@ ghost use Rattle.ql_plain.specs.Meanings.{After, AfterAll};
 ghost use Rattle.ql_plain.specs.internal.NamedSets.{lists_of};
 
 use crate::recurse::recurse;
-use crate::ref_sets::{kept, tidy};
+use crate::ref_sets::{kept, unite};
 use crate::select::select;
 use crate::sets::Sets;
 use crate::written_by::written_by;
@@ -43,7 +43,7 @@ pub fn run<'q>(
         }
         Stmt::Union { parts, into } => {
             let mut refs = run_all(alloc, parts, sets, set)?;
-            tidy(&mut refs);
+            unite(&mut refs)?;
             sets.write(into.as_bytes(), refs)
         }
         Stmt::Minus { left, right, into } => {

@@ -12,7 +12,7 @@ ghost use Rattle.ql_plain.specs.internal.NamedSets.{lists_of};
 ghost use Rattle.ql_plain.specs.internal.Tests.{IsNamedBy, PassesAlone};
 
 use crate::filter_test::is_taken;
-use crate::named::{along, with_ids};
+use crate::named::{via, with_ids};
 use crate::ref_sets::kept;
 use crate::sets::Sets;
 use osm_model::{ObjectSet, Ref};
@@ -77,10 +77,7 @@ fn named(
             let those = with_ids(alloc, ids.as_slice(), set)?;
             kept(alloc, &refs, &those, true)
         }
-        Filter::Via(path, name) => {
-            let those = along(alloc, *path, sets.get(name.as_bytes()), set)?;
-            kept(alloc, &refs, &those, true)
-        }
+        Filter::Via(path, name) => via(alloc, &refs, *path, sets.get(name.as_bytes()), set),
         _ => Ok(refs),
     }
 }

@@ -7,16 +7,24 @@ ghost use Rattle.ql_plain.specs.internal.Adding.{Adds};
 ghost use Rattle.ql_plain.specs.internal.Linked.{IsThereAs};
 
 use crate::ref_sets::tidy;
+use crate::seek::step_to;
 use osm_model::{ObjectSet, Ref};
 use std::alloc::{AllocError, Global};
 
-/// The objects whose references are in a list.
+/// The objects whose references are in a list. A search for each that starts where the last one ended, and a sort of
+/// what is there: both are linear where the references rise.
 pub fn those_there(alloc: Global, names: &[Ref], set: &ObjectSet) -> Result<Vec<Ref>, AllocError>
     ensures { IfOk result (λ refs. IsSetOf refs.items (IsRefOf set.now (IsIn names.now))) }
 {
+    let objects = set.as_slice();
     let mut refs = Vec::new(alloc);
+    let mut at = 0;
     for name in names {
-        add_there(*name, set, &mut refs)?;
+        let (next, is_there) = step_to(objects, at, *name);
+        if is_there {
+            refs.push(*name)?;
+        }
+        at = next;
     }
     tidy(&mut refs);
     Ok(refs)

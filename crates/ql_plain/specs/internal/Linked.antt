@@ -42,15 +42,19 @@ IsTarget member r = member.target ≡ r
 abbrev pub IsListedBy : List Element → Kind → Ref → Ref → Type 0
 IsListedBy objects kind name r = (o : Element) × Contains objects o × (reference o ≡ name) × IsOfKind kind o × BodyLists o.body r
 
--- the body lists one of this kind that is in the set
-abbrev pub ListsOneOf : Kind → List Ref → Body → Type 0
-ListsOneOf kind set body = (r : Ref) × BodyLists body r × (r.kind ≡ kind) × Contains set r
+-- the reference is in the set, and of an object of the list
+abbrev pub IsThereIn : List Element → List Ref → Ref → Type 0
+IsThereIn objects set r = Contains set r × IsThere objects r
 
-abbrev pub ListsNodeOf : List Ref → List ℤ → Type 0
-ListsNodeOf set nodes = (id : ℤ) × Contains nodes id × Contains set (record { kind = kinds.Node; id = id })
+-- the body lists one of this kind of which this is so
+abbrev pub ListsOneOf : Kind → (Ref → Type 0) → Body → Type 0
+ListsOneOf kind P body = (r : Ref) × BodyLists body r × (r.kind ≡ kind) × P r
 
-abbrev pub ListsMemberOf : Kind → List Ref → List Member → Type 0
-ListsMemberOf kind set members = (member : Member) × Contains members member × (member.target.kind ≡ kind) × Contains set member.target
+abbrev pub ListsNodeOf : (Ref → Type 0) → List ℤ → Type 0
+ListsNodeOf P nodes = (id : ℤ) × Contains nodes id × P (record { kind = kinds.Node; id = id })
+
+abbrev pub ListsMemberOf : Kind → (Ref → Type 0) → List Member → Type 0
+ListsMemberOf kind P members = (member : Member) × Contains members member × (member.target.kind ≡ kind) × P member.target
 
 -- the reference is this one, of an object of the list
 abbrev pub IsThereAs : List Element → Ref → Ref → Type 0

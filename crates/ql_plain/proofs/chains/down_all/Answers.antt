@@ -28,4 +28,4 @@ returns c =
     let nodes_are : IsSetOf nodes (IsRefOf c.args.set.now (IsBelow c.args.set.now parents kinds.Way)) =
     subst (λ (them : List Ref). IsSetOf nodes (IsRefOf c.args.set.now (IsBelow c.args.set.now them kinds.Way))) c.deref-4.ensures.value c.in_ok-nodes.ensures in
     let whole : Adds reached all (Contains nodes) = adds_list nodes (c.in_ok-extend_from_slice-2.ensures.items ∙ ap (λ (them : List Ref). reached ++ them) c.deref-5.ensures.value) in
-    down_all c.args.set.now c.as_slice.ensures.set links c.in_ok-links.ensures steps down from reached parents nodes all reached_are both nodes_are whole c.tidy.ensures
+    down_all c.args.set.now c.as_slice.ensures.set links c.in_ok-links.ensures steps down from reached parents nodes all reached_are both nodes_are whole c.in_ok-unite.ensures

@@ -26,4 +26,4 @@ returns c =
     subst (λ (them : List Ref). IsSetOf reached (λ r. (s : Ref) × Contains them s × IsPath steps s r)) c.deref-4.ensures.value of_steps in
     let both : Adds from children (Contains listing) = adds_list listing (c.in_ok-extend_from_slice.ensures.items ∙ ap (λ (them : List Ref). c.in_ok-children.children.items ++ them) c.deref-2.ensures.value ∙ ap (λ (them : List Ref). them ++ listing) c.in_ok-children.ensures.items) in
     let whole : Adds listing all (Contains reached) = adds_list reached (c.in_ok-extend_from_slice-2.ensures.items ∙ ap (λ (them : List Ref). listing ++ them) c.deref-5.ensures.value) in
-    up_all c.args.set.now c.as_slice.ensures.set links c.in_ok-links.ensures steps up from listing children reached all c.in_ok-refs.ensures both reached_are whole c.tidy.ensures
+    up_all c.args.set.now c.as_slice.ensures.set links c.in_ok-links.ensures steps up from listing children reached all c.in_ok-refs.ensures both reached_are whole c.in_ok-unite.ensures

@@ -4,13 +4,14 @@ use Rattle.std.proofs.lemmas.List.{take_all}
 use Rattle.osm_model.specs.declared.member.Member.{Member}
 use Rattle.std.proofs.Common.{List}
 use Rattle.ql_plain.proofs.Adding.{more_cases}
+use Rattle.ql_plain.specs.internal.Linked.{IsThereIn}
 use Rattle.ql_plain.proofs.items.lists_member_of.Goals as goal
 
 pub loop-member-preserved : goal.loop-member-preserved
 loop-member-preserved c = λ member has is. elim (more_cases c.args.members.now c.loop-member.member-index c.member-item.result c.loop-member-test.true c.member-item.is member has) [
   | inl before ↦ c.loop-member.invariant member before is
   | inr same ↦ (
-      let held = c.is_of_kind_in.ensures.1 (subst (λ (m : Member). (m.target.kind ≡ c.args.kind) × Contains c.args.refs.now m.target) (sym same) is) in
+      let held = c.is_of_kind_in.ensures.1 (subst (λ (m : Member). (m.target.kind ≡ c.args.kind) × IsThereIn c.args.set.now c.args.refs.now m.target) (sym same) is) in
       let not = c.if-is_of_kind_in.false in
       cc)
 ]

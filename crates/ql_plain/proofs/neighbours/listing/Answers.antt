@@ -5,21 +5,21 @@ use Rattle.osm_model.specs.declared.reference.Ref.{Ref}
 use Rattle.ql_plain.proofs.Kept.{kept_all, kept_more, kept_nothing, kept_same}
 use Rattle.ql_plain.specs.Meanings.{IsSetOf}
 use Rattle.ql_plain.specs.Values.{IsRefOf}
-use Rattle.ql_plain.specs.internal.Linked.{ListsOneOf}
+use Rattle.ql_plain.specs.internal.Linked.{IsThereIn, ListsOneOf}
 use Rattle.ql_plain.proofs.neighbours.listing.Goals as goal
 use Rattle.ql_plain.proofs.neighbours.listing.Goals.{then-lists_one_of+in_ok-push, else-lists_one_of}
 
 pub loop-object-init : goal.loop-object-init
 loop-object-init c =
     let rising = subst (λ (objects : List Element). IsStrictlySortedBy ref_cmp (map (λ (o : Element). reference o) objects)) (sym c.as_slice-objects.ensures.value) c.as_slice-objects.ensures.set.rising in
-    kept_nothing (λ (o : Element). reference o) c.as_slice-objects.result.now rising (λ (o : Element). ListsOneOf c.args.kind c.args.children.now o.body) _ c.new-refs.ensures.items
+    kept_nothing (λ (o : Element). reference o) c.as_slice-objects.result.now rising (λ (o : Element). ListsOneOf c.args.kind (IsThereIn c.args.set.now c.args.children.now) o.body) _ c.new-refs.ensures.items
 
 pub loop-object-preserved : goal.loop-object-preserved
 loop-object-preserved c =
     let objects = c.as_slice-objects.result.now in
     let rising = subst (λ (objects : List Element). IsStrictlySortedBy ref_cmp (map (λ (o : Element). reference o) objects)) (sym c.as_slice-objects.ensures.value) c.as_slice-objects.ensures.set.rising in
     let k = c.loop-object.object-index in
-    let Is : Element → Type 0 = λ o. ListsOneOf c.args.kind c.args.children.now o.body in
+    let Is : Element → Type 0 = λ o. ListsOneOf c.args.kind (IsThereIn c.args.set.now c.args.children.now) o.body in
     elim c.if-lists_one_of.branch [
       | then-lists_one_of+in_ok-push w ↦
           kept_more (λ (o : Element). reference o) objects rising Is k c.object-item.result c.loop-object-test.true c.object-item.is c.loop-object.refs.items c.loop-object.invariant c.if-lists_one_of.refs.items
@@ -32,5 +32,5 @@ loop-object-preserved c =
 pub returns-clause-taken : goal.returns-clause-taken
 returns-clause-taken c =
     let rising = subst (λ (objects : List Element). IsStrictlySortedBy ref_cmp (map (λ (o : Element). reference o) objects)) (sym c.as_slice-objects.ensures.value) c.as_slice-objects.ensures.set.rising in
-    subst (λ (objects : List Element). IsSetOf c.loop-object.refs.items (IsRefOf objects (λ (o : Element). ListsOneOf c.args.kind c.args.children.now o.body))) c.as_slice-objects.ensures.value
-    (kept_all (λ (o : Element). reference o) c.as_slice-objects.result.now rising (λ (o : Element). ListsOneOf c.args.kind c.args.children.now o.body) c.loop-object.object-index c.loop-object-test.false _ c.loop-object.invariant)
+    subst (λ (objects : List Element). IsSetOf c.loop-object.refs.items (IsRefOf objects (λ (o : Element). ListsOneOf c.args.kind (IsThereIn c.args.set.now c.args.children.now) o.body))) c.as_slice-objects.ensures.value
+    (kept_all (λ (o : Element). reference o) c.as_slice-objects.result.now rising (λ (o : Element). ListsOneOf c.args.kind (IsThereIn c.args.set.now c.args.children.now) o.body) c.loop-object.object-index c.loop-object-test.false _ c.loop-object.invariant)

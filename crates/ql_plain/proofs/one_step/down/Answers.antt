@@ -16,4 +16,4 @@ returns c =
     let inner_is = subst (λ (names : List Ref). IsSetOf inner (IsRefOf c.args.set.now (IsBelow c.args.set.now names kinds.Way))) c.deref-2.ensures.value c.in_ok-inner.ensures in
     down_is c.args.set.now c.as_slice.ensures.set c.args.from.now c.in_ok-refs.ensures c.in_ok-members.ensures inner_is added
     (adds_list inner (c.in_ok-extend_from_slice.ensures.items ∙ ap (λ (names : List Ref). c.add_all_but_relations.new.refs.items ++ names) c.deref-3.ensures.value))
-    c.tidy.ensures
+    c.in_ok-unite.ensures

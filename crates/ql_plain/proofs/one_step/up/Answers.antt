@@ -15,4 +15,4 @@ returns c =
     up_is c.args.set.now c.as_slice.ensures.set c.args.from.now c.in_ok-of_nodes.ensures c.in_ok-refs.ensures outer_is
     (adds_list nodes (c.in_ok-extend_from_slice.ensures.items ∙ ap (λ (names : List Ref). c.in_ok-refs.refs.items ++ names) c.deref-2.ensures.value))
     (adds_list outer (c.in_ok-extend_from_slice-2.ensures.items ∙ ap (λ (names : List Ref). c.extend_from_slice.new.self.items ++ names) c.deref-3.ensures.value))
-    c.tidy.ensures
+    c.in_ok-unite.ensures

@@ -1,4 +1,4 @@
-use Rattle.std.proofs.Common.{◌≡◌, take}
+use Rattle.std.proofs.Common.{◌≡◌, ◌≤◌, length, take}
 use Rattle.std.specs.List.{Contains}
 use Rattle.osm_model.specs.declared.reference.Ref.{Ref}
 use Rattle.ql_plain.specs.Meanings.{IsSetOf}
@@ -6,4 +6,7 @@ use Rattle.ql_plain.specs.internal.Adding.{IsWanted}
 use Rattle.ql_plain.proofs.ref_sets.kept.Given as goal
 
 abbrev pub invariant-loop-name : goal.invariant-loop-name
-invariant-loop-name l = IsSetOf l.kept.items (λ r. (x : Ref) × Contains (take l.name-index l.refs) x × (x ≡ r) × IsWanted l.wanted (Contains l.others x))
+invariant-loop-name l = record {
+  kept : IsSetOf l.kept.items (λ r. (x : Ref) × Contains (take l.name-index l.refs) x × (x ≡ r) × IsWanted l.wanted (Contains l.others x));
+  within : l.at ≤ length l.others;
+}

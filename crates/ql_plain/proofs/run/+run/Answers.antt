@@ -35,17 +35,17 @@ run-returns-in_ok-refs-in-Recurse t c =
     (refs, so, written ∙ ap (λ (name : List ℕ). put name refs env) c.as_bytes-in-Recurse-2.ensures))
     c.write-in-Recurse.ensures
 
-pub run-returns-in_ok-refs-in-Union : goal.run-returns-in_ok-refs-in-Union
-run-returns-in_ok-refs-in-Union t c =
+pub run-returns-in_ok-unite-in-Union : goal.run-returns-in_ok-unite-in-Union
+run-returns-in_ok-unite-in-Union t c =
     let env = lists_of c.args.sets.now.named.items in
     let mid = lists_of c.run_all.new.sets.named.items in
     let given = c.in_ok-refs-in-Union.refs.items in
-    let refs = c.tidy.new.refs.items in
+    let refs = c.unite.new.refs.items in
     let parts = c.in-Union.parts in
     let all : AfterAll c.args.set.now (statements_of parts.items) env mid given = subst (λ (ps : List Stmt). AfterAll c.args.set.now (statements_of ps) env mid given) c.deref-in-Union.ensures.value c.in_ok-refs-in-Union.ensures in
     on_ok_as c.write-in-Union.result
     (λ written. subst (λ (s : tree.Statement). After c.args.set.now s env (lists_of c.write-in-Union.new.self.named.items)) (sym (ap statement_of c.in-Union.is ∙ union_is parts c.in-Union.into))
-    (mid, given, all, (refs, c.tidy.ensures, written ∙ ap (λ (name : List ℕ). put name refs mid) c.as_bytes-in-Union.ensures)))
+    (mid, given, all, (refs, c.in_ok-unite-in-Union.ensures, written ∙ ap (λ (name : List ℕ). put name refs mid) c.as_bytes-in-Union.ensures)))
     c.write-in-Union.ensures
 
 pub run-returns-in_ok-refs-in-Minus : goal.run-returns-in_ok-refs-in-Minus

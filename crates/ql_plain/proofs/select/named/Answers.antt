@@ -33,15 +33,11 @@ returns-in_ok-those-in-Ids c =
     (subst (λ (names : List Ref). IfOk c.kept-in-Ids.result (λ left. IsSetOf left.items (λ r. Contains refs r × Contains names r))) c.deref-in-Ids-2.ensures.value
     (subst (λ (rs : List Ref). IfOk c.kept-in-Ids.result (λ left. IsSetOf left.items (λ r. Contains rs r × Contains c.deref-in-Ids-2.result.now r))) c.deref-in-Ids.ensures.value c.kept-in-Ids.ensures)))
 
-pub returns-in_ok-those-in-Via : goal.returns-in_ok-those-in-Via
-returns-in_ok-those-in-Via c =
+pub returns-in-Via : goal.returns-in-Via
+returns-in-Via c =
     let env = lists_of c.args.sets.now.named.items in
     let refs = c.args.refs.items in
-    let those = c.in_ok-those-in-Via.those.items in
     let names_are : c.get-in-Via.result.now ≡ env c.in-Via.name = c.get-in-Via.ensures.value ∙ ap (λ (name : List ℕ). env name) c.as_bytes-in-Via.ensures in
-    let are : IsSetOf those (IsRefOf c.args.set.now (IsOnPath c.args.set.now (env c.in-Via.name) c.in-Via.path)) =
-    subst (λ (names : List Ref). IsSetOf those (IsRefOf c.args.set.now (IsOnPath c.args.set.now names c.in-Via.path))) names_are c.in_ok-those-in-Via.ensures in
-    subst (λ (f : Filter). IfOk c.kept-in-Via.result (λ left. IsSetOf left.items (λ r. Contains refs r × IsNamedBy c.args.set.now env (filter_of f) r))) (sym c.in-Via.is)
-    (if_ok_as c.kept-in-Via.result (λ left. set_as (λ r both. (both.0, (are.members r).0 both.1)) (λ r both. (both.0, (are.members r).1 both.1)))
-    (subst (λ (names : List Ref). IfOk c.kept-in-Via.result (λ left. IsSetOf left.items (λ r. Contains refs r × Contains names r))) c.deref-in-Via-2.ensures.value
-    (subst (λ (rs : List Ref). IfOk c.kept-in-Via.result (λ left. IsSetOf left.items (λ r. Contains rs r × Contains c.deref-in-Via-2.result.now r))) c.deref-in-Via.ensures.value c.kept-in-Via.ensures)))
+    subst (λ (f : Filter). IfOk c.via.result (λ left. IsSetOf left.items (λ r. Contains refs r × IsNamedBy c.args.set.now env (filter_of f) r))) (sym c.in-Via.is)
+    (subst (λ (names : List Ref). IfOk c.via.result (λ left. IsSetOf left.items (λ r. Contains refs r × IsRefOf c.args.set.now (IsOnPath c.args.set.now names c.in-Via.path) r))) names_are
+    (subst (λ (rs : List Ref). IfOk c.via.result (λ left. IsSetOf left.items (λ r. Contains rs r × IsRefOf c.args.set.now (IsOnPath c.args.set.now c.get-in-Via.result.now c.in-Via.path) r))) c.deref-in-Via.ensures.value c.via.ensures))

@@ -1,0 +1,13 @@
+use Rattle.std.proofs.Common.{List, IfOk, subst}
+use Rattle.std.specs.List.{Contains}
+use Rattle.osm_model.specs.declared.reference.Ref.{Ref}
+use Rattle.ql_plain.proofs.FilterSets.{if_ok_as}
+use Rattle.ql_plain.proofs.Kept.{set_as}
+use Rattle.ql_plain.specs.Meanings.{IsSetOf}
+use Rattle.ql_plain.proofs.kept_neighbours.kept_below.Goals as goal
+
+pub returns : goal.returns
+returns c =
+    let are = c.in_ok-those.ensures in
+    if_ok_as c.kept.result (λ left. set_as (λ r both. (both.0, (are.members r).0 both.1)) (λ r both. (both.0, (are.members r).1 both.1)))
+    (subst (λ (names : List Ref). IfOk c.kept.result (λ left. IsSetOf left.items (λ r. Contains c.args.refs.now r × Contains names r))) c.deref.ensures.value c.kept.ensures)

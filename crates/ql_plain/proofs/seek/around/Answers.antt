@@ -1,0 +1,13 @@
+use Rattle.std.proofs.Common.{arith}
+use Rattle.std.specs.declared.cmp.Ordering.TheVariants.{Less, Greater}
+use Rattle.ql_plain.proofs.Seeking.{after_here, around_here, before_next, told, told_same}
+use Rattle.ql_plain.proofs.seek.around.Goals as goal
+
+pub rise-requires-clause-before : goal.rise-requires-clause-before
+rise-requires-clause-before g c = before_next g.T.Referenced.name_of c.args.items.now c.args.name c.requires.rising c.args.at c.index-items-at.result (omega arith) c.index-items-at.is (told c.name.result (g.T.Referenced.name_of c.index-items-at.result) c.args.name Less c.name.ensures c.in-Less.ensures)
+
+pub fall-requires-in-Greater-clause-after : goal.fall-requires-in-Greater-clause-after
+fall-requires-in-Greater-clause-after g c = after_here g.T.Referenced.name_of c.args.items.now c.args.name c.requires.rising c.args.at c.index-items-at.result (omega arith) c.index-items-at.is (told c.name.result (g.T.Referenced.name_of c.index-items-at.result) c.args.name Greater c.name.ensures c.in-Greater.ensures)
+
+pub returns-in-Equal : goal.returns-in-Equal
+returns-in-Equal g c = around_here g.T.Referenced.name_of c.args.items.now c.args.name c.requires.rising c.args.at c.index-items-at.result (omega arith) c.index-items-at.is (told_same c.name.result (g.T.Referenced.name_of c.index-items-at.result) c.args.name c.name.ensures c.in-Equal.ensures)
