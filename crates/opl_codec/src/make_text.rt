@@ -14,7 +14,7 @@ pub fn make_text(alloc: Global, spelled: &str) -> Result<Text, AllocError>
     ensures { IfOk result (λ text. SpellsText spelled.now text) }
 {
     if memchr(b'%', spelled.as_bytes()).is_none() {
-        return Ok(Text::new(String::from_str(alloc, spelled)?));
+        return Text::from_str(alloc, spelled);
     }
     let mut text = String::with_capacity(alloc, spelled.len())?;
     let mut rest = spelled;

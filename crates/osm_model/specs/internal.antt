@@ -3,3 +3,4 @@ pub mod EdgeUnits
 pub mod DecimalParts
 pub mod LineLength
 pub mod Comparisons
+pub mod StoredTexts

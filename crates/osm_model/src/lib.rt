@@ -32,6 +32,7 @@ mod tag;
 mod tag_list;
 mod tag_order;
 mod text;
+mod text_storage;
 mod units;
 
 pub use axis::Axis;

@@ -12,10 +12,10 @@ use crate::text::Text;
 pub struct Meta {
     /// How many versions the object has had.
     pub version: u32,
+    /// The moment of the last change. It stands here to take no padding beside the version.
+    pub stamp: Option<Stamp>,
     /// The changeset of the last change.
     pub changeset: i64,
-    /// The moment of the last change.
-    pub stamp: Option<Stamp>,
     /// The number of the user who made it.
     pub uid: i64,
     /// The name of that user.

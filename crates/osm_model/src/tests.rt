@@ -11,7 +11,7 @@ use std::alloc::Global;
 use std::test::Fail;
 
 fn text(alloc: Global, content: &str) -> Result<Text, Fail> {
-    Ok(Text::new(String::from_str(alloc, content)?))
+    Ok(Text::from_str(alloc, content)?)
 }
 
 /// The same text so many times.
@@ -91,6 +91,19 @@ fn node(alloc: Global, id: i64) -> Result<Object, Fail> {
             ..RELATION
         },
     )
+}
+
+/// Under refused allocations: the whole text, or out of memory.
+#[test]
+fn texts_are_copied_within_memory(rt: HostRuntime) -> Result<(), Fail> {
+    for content in ["", "motorway", "motorway_junction"] {
+        if let Ok(copy) = Text::from_str(rt.alloc(), content) {
+            assert_eq!(rt; copy.as_str(), content);
+        }
+        let copy = text(rt.alloc(), content)?;
+        assert_eq!(rt; copy.as_str(), content);
+    }
+    Ok(())
 }
 
 #[test]

@@ -1,12 +1,14 @@
 //! Texts of objects.
 
-ghost use Rattle.std.specs.Prelude.{◌≡◌, Some, length, string_bytes, bytes_eq};
+ghost use Rattle.std.specs.Prelude.{◌≡◌, IfOk, Some, length, string_bytes, bytes_eq};
 ghost use Rattle.std.proofs.Common.{refl};
 ghost use Rattle.std.specs.Ordering.{nat_cmp};
 ghost use Rattle.std.specs.Str.{IsUtf8};
 ghost use Rattle.std.specs.Cmp.{partial_equiv_from_equiv};
 ghost use Rattle.std.specs.Cmp.Lexicographic.{slice_cmp, nat_list_eq_equiv, nat_list_cmp_total, texts_ties, texts_po};
 
+use crate::text_storage::TextStorage;
+use std::alloc::{AllocError, Global};
 use std::cmp::Ordering;
 use std::marker::Model;
 
@@ -16,30 +18,42 @@ use std::marker::Model;
 /// object's texts keep theirs.
 #[derive(Debug, Drop)]
 pub struct Text {
-    content: String,
+    content: TextStorage,
 }
 
 impl Model for Text {
-    ghost use Rattle.std.specs.Prelude.{List, ℕ, string_bytes};
+    ghost use Rattle.std.specs.Prelude.{List, ℕ};
+    ghost use Rattle.osm_model.specs.internal.StoredTexts.{stored_bytes};
 
     ghost Value = { List ℕ };
 
-    ghost view = { λ a. string_bytes a.content };
+    ghost view = { λ a. stored_bytes a.content };
 }
 
 impl Text {
-    /// The text of this string.
+    /// The text of this string. It takes no memory, and gives back that of a short string.
     pub fn new(content: String) -> Text
         ensures { result ≡ string_bytes content }
     {
-        Text { content }
+        Text {
+            content: TextStorage::from_string(content),
+        }
+    }
+
+    /// A copy of this text. One of up to 16 bytes takes no memory.
+    pub fn from_str(alloc: Global, content: &str) -> Result<Text, AllocError>
+        ensures { IfOk result (λ text. text ≡ content.now) }
+    {
+        Ok(Text {
+            content: TextStorage::from_str(alloc, content)?,
+        })
     }
 
     /// Its bytes, which are UTF-8.
     pub fn as_bytes(&self) -> &[u8]
         ensures { result.now ≡ self.now }
     {
-        self.content.as_bytes()
+        self.as_str().as_bytes()
     }
 
     /// The same as a `str`.
@@ -53,7 +67,7 @@ impl Text {
     pub fn len(&self) -> usize
         ensures { result ≡ length self.now }
     {
-        self.content.len()
+        self.as_str().len()
     }
 }
 
@@ -99,5 +113,5 @@ impl Ord for Text {
 pub fn note_utf8(text: &Text)
     ensures { IsUtf8 text.now }
 {
-    let _ = text.content.len();
+    let _ = text.content.as_str();
 }

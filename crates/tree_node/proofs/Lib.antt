@@ -8,5 +8,4 @@ pub mod MapLemmas
 pub mod NodeFaults
 pub mod RecorderLemmas
 pub mod SkipLemmas
-pub mod WordOrder
 pub mod shared

@@ -12,3 +12,4 @@ pub mod TreeLaws
 pub mod TreeLemmas
 pub mod TreeParts
 pub mod TreeSame
+pub mod WordOrder

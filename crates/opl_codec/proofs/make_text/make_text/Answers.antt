@@ -1,6 +1,7 @@
 use Rattle.std.proofs.Common.{◌≡◌, ◌<◌, ◌+◌, ℕ, List, [], length, take, drop, get_or, arith, sym, ap, subst, ◌∙◌}
 use Rattle.std.specs.Prelude.{string_bytes}
 use Rattle.std.specs.Str.Parse.{digits_value}
+use Rattle.std.proofs.lemmas.Result.{IfOk-weaker}
 use Rattle.std.proofs.lemmas.Str.{IsCharBoundary-after_ascii}
 use Rattle.opl_codec.specs.Texts.{IsEscape, SpellsText, BeginsEscape}
 use Rattle.opl_codec.proofs.TextsJoined.{all_literal, first_escape, one_step}
@@ -11,8 +12,7 @@ pub returns-then-is_none : goal.returns-then-is_none
 returns-then-is_none c =
     let spelled = c.args.spelled.now in
     let none = no_mark_found c.as_bytes.result.now spelled c.memchr.result c.as_bytes.ensures.value c.if-is_none.ensures c.memchr.ensures in
-    let same : c.new.result ≡ spelled = c.new.ensures ∙ c.in_ok-from_str.ensures.ok in
-    subst (SpellsText spelled) (sym same) (all_literal spelled c.requires none)
+    IfOk-weaker c.from_str.result (λ text. text ≡ spelled) (SpellsText spelled) (λ text same. subst (SpellsText spelled) (sym same) (all_literal spelled c.requires none)) c.from_str.ensures
 
 pub loop-len-init : goal.loop-len-init
 loop-len-init c =
@@ -69,4 +69,4 @@ pub returns : goal.returns
 returns c =
     let text = c.loop-len.rest.now in
     let none = no_mark c.as_bytes-in-loop-len.result.now text c.as_bytes-in-loop-len.ensures.value c.in_default.ensures in
-    means_all c.args.spelled.now text (string_bytes c.loop-len.text) c.new-2.result c.loop-len.invariant.means (all_literal text c.loop-len.invariant.left none) (c.new-2.ensures ∙ c.in_ok-push_str-2.ensures.bytes)
+    means_all c.args.spelled.now text (string_bytes c.loop-len.text) c.new.result c.loop-len.invariant.means (all_literal text c.loop-len.invariant.left none) (c.new.ensures ∙ c.in_ok-push_str-2.ensures.bytes)

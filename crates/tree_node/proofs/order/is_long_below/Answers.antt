@@ -1,7 +1,7 @@
 use Rattle.std.proofs.Common.{◌≡◌, ◌∙◌, ap, sym, arith}
 use Rattle.std.specs.Int.{from_be_bytes, w64}
 use Rattle.tree_node.specs.Order.{order}
-use Rattle.tree_node.proofs.WordOrder.{equal_words, unequal_words}
+use Rattle.tree_node.proofs.shared.WordOrder.{equal_words, unequal_words}
 use Rattle.tree_node.proofs.order.is_long_below.Goals as goal
 
 pub returns-then-low_number-high_number : goal.returns-then-low_number-high_number

@@ -1,6 +1,6 @@
 use Rattle.std.proofs.Common.{sym}
 use Rattle.tree_node.specs.Order.{IsBelow}
-use Rattle.tree_node.proofs.WordOrder.{is_above, is_same, isnt}
+use Rattle.tree_node.proofs.shared.WordOrder.{is_above, is_same, isnt}
 use Rattle.tree_node.proofs.order.order_of.Goals as goal
 
 pub returns-then-is_long_below-2 : goal.returns-then-is_long_below-2

@@ -1,0 +1,104 @@
+-- The order of keys by the numbers of their fronts.
+use Rattle.std.proofs.Common.{◌≡◌, ◌≢◌, ℕ, zero, suc, ◌+◌, ◌<◌, List, [], ◌∷◌, drop, get_or, refl, sym, ap, ◌∙◌, inl, inr, arith}
+use Rattle.std.specs.Int.{from_be_bytes, to_be_bytes, w64}
+use Rattle.std.specs.Ordering.{nat_cmp, ordering_reverse, ordering_then}
+use Rattle.std.specs.Cmp.{nat_cmp_is}
+use Rattle.std.specs.declared.cmp.Ordering.TheVariants.{Less, Equal, Greater}
+use Rattle.std.proofs.lemmas.Bool.{cases_order, lt-ltb}
+use Rattle.std.proofs.lemmas.Cmp.{nat_list_cmp_total}
+use Rattle.std.proofs.lemmas.List.{get_or-drop}
+use Rattle.tree_node.specs.Nodes.{AreBytes}
+use Rattle.tree_node.specs.Order.{IsBelow, order}
+use Rattle.tree_node.proofs.shared.FieldLemmas.{wide64}
+use Rattle.tree_node.proofs.shared.WordOrder.{unequal_words}
+use Rattle.osm_index.specs.internal.Fronts.{front_number}
+
+-- the first n bytes, with zeros after a shorter key
+abbrev padded : ℕ → List ℕ → List ℕ
+padded zero key = []
+padded (suc n) key = get_or key 0 0 ∷ padded n (drop 1 key)
+
+lower_head : (x y : ℕ) (xs ys : List ℕ) → x < y → IsBelow (x ∷ xs) (y ∷ ys)
+lower_head x y xs ys lt = ap (λ o. ordering_then o (order xs ys)) (sym (nat_cmp_is x y Less lt))
+
+higher_head : (x y : ℕ) (xs ys : List ℕ) → y < x → order (x ∷ xs) (y ∷ ys) ≡ Greater
+higher_head x y xs ys lt = ap (λ o. ordering_then o (order xs ys)) (sym (nat_cmp_is x y Greater lt))
+
+equal_heads : (x y : ℕ) (xs ys : List ℕ) → x ≡ y → order (x ∷ xs) (y ∷ ys) ≡ order xs ys
+equal_heads x y xs ys e = ap (λ o. ordering_then o (order xs ys)) (sym (nat_cmp_is x y Equal e))
+
+-- a key with a lower front is below
+below_padded : (n : ℕ) (xs ys : List ℕ) → IsBelow (padded n xs) (padded n ys) → IsBelow xs ys
+below_padded zero xs ys below = absurd (cc)
+below_padded (suc n) [] [] below = below_padded n [] [] (sym (equal_heads 0 0 (padded n []) (padded n []) refl) ∙ below)
+below_padded (suc n) [] (y ∷ ys) below = refl
+below_padded (suc n) (x ∷ xs) [] below =
+    elim (cases_order x 0) [
+      | inl e ↦ let rest : IsBelow xs [] = below_padded n xs [] (sym (equal_heads x 0 (padded n xs) (padded n []) e) ∙ below) in absurd (above_none xs rest)
+      | inr (inl less) ↦ absurd (omega (arith, less))
+      | inr (inr more) ↦ let high = higher_head x 0 (padded n xs) (padded n []) more in absurd (cc)
+    ]
+  where
+    above_none : (zs : List ℕ) → IsBelow zs [] → ⊥
+    above_none [] below = cc
+    above_none (z ∷ zs) below = cc
+below_padded (suc n) (x ∷ xs) (y ∷ ys) below =
+    elim (cases_order x y) [
+      | inl e ↦ equal_heads x y xs ys e ∙ below_padded n xs ys (sym (equal_heads x y (padded n xs) (padded n ys) e) ∙ below)
+      | inr (inl less) ↦ lower_head x y xs ys less
+      | inr (inr more) ↦ let high = higher_head x y (padded n xs) (padded n ys) more in absurd (cc)
+    ]
+
+-- after equal fronts what follows decides
+below_rest : (n : ℕ) (xs ys : List ℕ) → padded n xs ≡ padded n ys → IsBelow (drop n xs) (drop n ys) → IsBelow xs ys
+below_rest zero xs ys same below = below
+below_rest (suc n) [] [] same below = below
+below_rest (suc n) [] (y ∷ ys) same below = refl
+below_rest (suc n) (x ∷ xs) [] same below = absurd (above_none (drop n xs) below)
+  where
+    above_none : (zs : List ℕ) → IsBelow zs [] → ⊥
+    above_none [] below = cc
+    above_none (z ∷ zs) below = cc
+below_rest (suc n) (x ∷ xs) (y ∷ ys) same below =
+    let heads : x ≡ y = cc in
+    let rests : padded n xs ≡ padded n ys = cc in
+    equal_heads x y xs ys heads ∙ below_rest n xs ys rests below
+
+padded_bytes : (n : ℕ) (key : List ℕ) → AreBytes key → AreBytes (padded n key)
+padded_bytes zero key bytes i = omega arith
+padded_bytes (suc n) key bytes zero = bytes 0
+padded_bytes (suc n) key bytes (suc i) = padded_bytes n (drop 1 key) (λ k. omega (arith, bytes (1 + k), get_or-drop 1 key k 0)) i
+
+front_is : (key : List ℕ) → front_number key ≡ from_be_bytes w64 (padded 8 key)
+front_is [] = refl
+front_is (a ∷ []) = refl
+front_is (a ∷ b ∷ []) = refl
+front_is (a ∷ b ∷ c ∷ []) = refl
+front_is (a ∷ b ∷ c ∷ d ∷ []) = refl
+front_is (a ∷ b ∷ c ∷ d ∷ e ∷ []) = refl
+front_is (a ∷ b ∷ c ∷ d ∷ e ∷ f ∷ []) = refl
+front_is (a ∷ b ∷ c ∷ d ∷ e ∷ f ∷ g ∷ rest) = refl
+
+module _ (xs ys : List ℕ) (fits : AreBytes xs) (others : AreBytes ys) where
+  pub lower_front : front_number xs < front_number ys → IsBelow xs ys
+  lower_front lt =
+      let words = unequal_words (padded 8 xs) (padded 8 ys) (padded_bytes 8 xs fits) (padded_bytes 8 ys others) (omega arith) (omega arith) (front_number xs) (front_number ys) (front_is xs) (front_is ys) (λ e. omega (arith, lt, e)) in
+      below_padded 8 xs ys (words.0 (lt-ltb (front_number xs) (front_number ys) lt))
+
+  same_front : front_number xs ≡ front_number ys → padded 8 xs ≡ padded 8 ys
+  same_front same =
+      sym (wide64.back (padded 8 xs) refl (padded_bytes 8 xs fits))
+      ∙ ap (to_be_bytes w64) (sym (front_is xs) ∙ same ∙ front_is ys)
+      ∙ wide64.back (padded 8 ys) refl (padded_bytes 8 ys others)
+
+  pub lower_next : front_number xs ≡ front_number ys → IsBelow (drop 8 xs) (drop 8 ys) → IsBelow xs ys
+  lower_next same below = below_rest 8 xs ys (same_front same) below
+
+-- two numbers that differ compare as what they order
+pub compares_as : (m n : ℕ) (xs ys : List ℕ) → m ≢ n → (m < n → IsBelow xs ys) → (n < m → IsBelow ys xs) → nat_cmp m n ≡ order xs ys
+compares_as m n xs ys apart below above =
+    elim (cases_order m n) [
+      | inl e ↦ absurd (apart e)
+      | inr (inl less) ↦ sym (nat_cmp_is m n Less less) ∙ sym (below less)
+      | inr (inr more) ↦ sym (nat_cmp_is m n Greater more) ∙ sym (nat_list_cmp_total.antisymm xs ys ∙ ap ordering_reverse (above more))
+    ]
