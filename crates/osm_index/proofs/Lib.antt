@@ -7,3 +7,4 @@ pub mod ReadLemmas
 pub mod FitLemmas
 pub mod PutLemmas
 pub mod CellLemmas
+pub mod FrontLemmas

@@ -134,7 +134,7 @@ unsigned_below (pos n) few = omega (arith, ints)
 unsigned_below (negsuc n) few = omega (arith, ints)
 
 -- a number of the range is read back
-again : (z : ℤ) → unsigned_abs z ≤ 1800000000 → to_z w32 (from_be_bytes w32 (to_be_bytes w32 (cast_unsigned w32 z))) ≡ z
+pub again : (z : ℤ) → unsigned_abs z ≤ 1800000000 → to_z w32 (from_be_bytes w32 (to_be_bytes w32 (cast_unsigned w32 z))) ≡ z
 again z few = ap (λ (n : ℕ). to_z w32 n) (wide32.again (of_z w32 z) (unsigned_below z few)) ∙ to_z-of_z w32 z (few_fits z few)
 
 pub lon_is : (value : List ℕ) (place : Place) → IsPlace place → value ≡ cell_value place → to_z w32 (from_be_bytes w32 (take 4 value)) ≡ place.lon

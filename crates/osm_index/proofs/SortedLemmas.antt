@@ -1,5 +1,5 @@
 -- Entries that are sorted by their keys, each once.
-use Rattle.std.proofs.Common.{◌≡◌, ◌↔◌, ℕ, Bool, List, [], ◌∷◌, length, map, None, Some, refl, sym, ap, ◌∙◌, subst}
+use Rattle.std.proofs.Common.{◌≡◌, ◌↔◌, ◌+◌, ◌<◌, ℕ, zero, suc, get_or, arith, Bool, List, [], ◌∷◌, length, map, None, Some, refl, sym, ap, ◌∙◌, subst}
 use Rattle.std.specs.List.{AllAdjacentBelow, AllByRecursion, Contains, dedup}
 use Rattle.std.specs.List.Sorted.{IsPermutation, IsSortedByKey, IsStrictlySortedBy}
 use Rattle.std.specs.Cmp.{IsEquivalence}
@@ -7,6 +7,7 @@ use Rattle.std.specs.Prelude.{bytes_eq}
 use Rattle.std.specs.declared.cmp.Ordering.TheVariants.{Less}
 use Rattle.std.proofs.lemmas.Cmp.{nat_list_cmp_total, on_total}
 use Rattle.std.proofs.lemmas.List.Kept.{Any-dedup, Contains-from_dedup, IsStrictlySortedBy-dedup}
+use Rattle.std.proofs.lemmas.List.{length-map}
 use Rattle.std.proofs.lemmas.List.Sorted.{Contains-permutation, IsPermutation-sym}
 use Rattle.std.proofs.lemmas.Map.Text.{is_eq-slice_cmp}
 use Rattle.std.proofs.lemmas.Slice.Eq.{bytes_eq-Decides}
@@ -16,6 +17,8 @@ use Rattle.tree_node.specs.Nodes.{AreRisingFrom, Binding, keys_of}
 use Rattle.tree_node.specs.NodeRefs.{binding_of, bindings_of}
 use Rattle.tree_node.specs.Order.{IsBelow, order}
 use Rattle.tree_node.specs.declared.item.Item.{Item}
+use Rattle.osm_index.specs.declared.fronted_entry.FrontedEntry.{FrontedEntry}
+use Rattle.osm_index.specs.internal.FrontedEntries.{items_of}
 use Rattle.osm_index.specs.internal.Listing.{IsKeyed}
 use Rattle.osm_index.proofs.shared.Members.{from_map, in_map}
 
@@ -90,3 +93,16 @@ members_then old sorted list e p keyed b =
 
 pub members_else : (old : List Item) (list : List Binding) → bindings_of old ≡ list → (b : Binding) → Contains (bindings_of old) b ↔ Contains list b
 members_else old list e b = subst (λ (l : List Binding). Contains (bindings_of old) b ↔ Contains l b) e ((λ h. h), (λ h. h))
+
+-- ---- entries that were sorted beside the fronts of their keys
+
+item_at : (fronted : List FrontedEntry) (k : ℕ) (d : Item) (e : FrontedEntry) → k < length fronted → get_or (items_of fronted) k d ≡ (get_or fronted k e).item
+item_at [] k d e inside = absurd (omega arith)
+item_at (f ∷ fronted) zero d e inside = refl
+item_at (f ∷ fronted) (suc k) d e inside = item_at fronted k d e (omega arith)
+
+pub items_sorted : (fronted : List FrontedEntry) → IsSortedByKey (λ entry. entry.item.key.now) order fronted → IsSortedByKey (λ entry. entry.key.now) order (items_of fronted)
+items_sorted [] sorted = λ k d low high. absurd (omega arith)
+items_sorted (f ∷ fronted) sorted = λ k d low high.
+    let inside : k + 1 < length (f ∷ fronted) = omega (arith, length-map (f ∷ fronted) (λ (entry : FrontedEntry). entry.item)) in
+    rw (item_at (f ∷ fronted) (k + 1) d f inside, item_at (f ∷ fronted) k d f (omega arith)) (sorted k f low inside)

@@ -7,3 +7,4 @@ pub mod EntryBytes
 pub mod OneManifest
 pub mod CellLaws
 pub mod KeyOrder
+pub mod OneKey

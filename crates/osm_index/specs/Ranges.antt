@@ -41,9 +41,9 @@ tag_range key value kind = under_all (tag_prefix key value ++ kind_bytes kind)
 abbrev pub tag_key_range : List ℕ → Range
 tag_key_range key = under_all (key ++ 0 ∷ [])
 
--- the objects of a kind that list this one
-abbrev pub back_range : Ref → Kind → Range
-back_range target kind = under_all (ref_key target ++ kind_byte kind ∷ [])
+-- the objects of a kind, or of all kinds, that list this one
+abbrev pub back_range : Ref → Option Kind → Range
+back_range target kind = under_all (ref_key target ++ kind_bytes kind)
 
 -- ---- the cells that a box meets
 

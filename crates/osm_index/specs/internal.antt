@@ -2,3 +2,5 @@
 pub mod Listing
 pub mod Putting
 pub mod Cells
+pub mod Fronts
+pub mod FrontedEntries

@@ -2,12 +2,14 @@
 
 ghost use Rattle.std.specs.List.{AllAdjacentBelow, Contains, dedup};
 ghost use Rattle.std.specs.List.Sorted.{IsPermutation, IsSortedByKey};
-ghost use Rattle.std.specs.Prelude.{◌≡◌, ◌↔◌, ℕ, List, IfOk, IsTrue, length, bytes_eq};
+ghost use Rattle.std.specs.Prelude.{◌≡◌, ◌↔◌, ℕ, List, IfOk, IsTrue, OnOk, length, bytes_eq};
 ghost use Rattle.tree_node.specs.NodeRefs.{binding_of, bindings_of};
 ghost use Rattle.tree_node.specs.Nodes.{AreRisingFrom, Binding, keys_of};
 ghost use Rattle.tree_node.specs.Order.{IsBelow, order};
+ghost use Rattle.osm_index.specs.internal.FrontedEntries.{items_of};
 ghost use Rattle.osm_index.specs.internal.Listing.{IsKeyed, cut, packed_len};
 
+use crate::fronted_entry::FrontedEntry;
 use std::alloc::{AllocError, Global};
 use std::marker::Model;
 use tree_build::Entry;
@@ -50,7 +52,8 @@ impl EntryList {
     }
 
     /// The entries by rising key, each once, as slices of this list. They are sorted in n log n where
-    /// they don't rise already; equal entries come once. It takes the memory of two slices an entry.
+    /// they don't rise already; equal entries come once. It takes the memory of two slices an entry, and of
+    /// 48 bytes more while it sorts.
     pub fn sorted(&self, alloc: Global) -> Result<Vec<Entry<'_>>, AllocError>
         // The keys strictly rise,
         ensures rising { IfOk result (λ entries. AreRisingFrom None (keys_of (bindings_of entries.items))) }
@@ -60,7 +63,7 @@ impl EntryList {
     {
         let mut entries = lend(alloc, &self.bytes, &self.spans)?;
         if !keys_rise(&entries) {
-            sort_entries(&mut entries);
+            sort_entries(alloc, &mut entries)?;
             drop_repeats(&mut entries);
         }
         Ok(entries)
@@ -96,11 +99,31 @@ fn keys_rise(entries: &[Entry<'_>]) -> bool
 }
 
 /// Sorts entries by their keys.
-fn sort_entries(entries: &mut Vec<Entry<'_>>)
-    ensures permutation { IsPermutation entries.old.items entries.new.items }
-    ensures sorted { IsSortedByKey (λ entry. entry.key.now) order entries.new.items }
+fn sort_entries(alloc: Global, entries: &mut Vec<Entry<'_>>) -> Result<(), AllocError>
+    ensures permutation { OnOk result (IsPermutation entries.old.items entries.new.items) }
+    ensures sorted { OnOk result (IsSortedByKey (λ entry. entry.key.now) order entries.new.items) }
 {
-    entries.sort_unstable_by(|first, second| first.key.cmp(second.key));
+    let mut fronted = with_fronts(alloc, entries)?;
+    fronted.sort_unstable_by(|first, second| first.compare(second));
+    entries.clear();
+    for entry in &fronted {
+        entries.push(entry.item)?;
+    }
+    Ok(())
+}
+
+/// Each entry with the front of its key.
+fn with_fronts<'a>(
+    alloc: Global,
+    entries: &[Entry<'a>],
+) -> Result<Vec<FrontedEntry<'a>>, AllocError>
+    ensures { IfOk result (λ fronted. items_of fronted.items ≡ entries.now) }
+{
+    let mut fronted = Vec::with_capacity(alloc, entries.len())?;
+    for entry in entries {
+        fronted.push(FrontedEntry::new(*entry))?;
+    }
+    Ok(fronted)
 }
 
 /// Drops each entry that has the key of the one before it.

@@ -126,9 +126,9 @@ pub fn cell_law()
 /// The law of a back range: it finds just the objects of the kind that list the target, which needn't be
 /// in the set.
 pub fn back_law()
-    ensures { (p : Publication) → IsPublication p → (target : Ref) → FitsSigned w64 target.id → (kind : Kind) (found : List Binding)
+    ensures { (p : Publication) → IsPublication p → (target : Ref) → FitsSigned w64 target.id → (kind : Option Kind) (found : List Binding)
         → AreThose (IsEntryIn (back_range target kind)) (p.entries Backs) found
-        → (b : Binding) → Contains found b ↔ ((o : Element) × Contains p.objects o × (kind_of o.body ≡ kind)
+        → (b : Binding) → Contains found b ↔ ((o : Element) × Contains p.objects o × IsKindOf kind (reference o)
         × BodyLists o.body target × (b ≡ back_entry target (reference o))) }
 {}
 

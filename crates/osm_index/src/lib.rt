@@ -10,6 +10,7 @@ mod columns;
 mod edition;
 mod entry_list;
 mod fault;
+mod fronted_entry;
 mod keys;
 mod laws;
 mod listing;

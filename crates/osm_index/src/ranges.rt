@@ -126,12 +126,14 @@ pub fn tag_key_range(alloc: Global, key: &[u8]) -> Result<OwnedRange, AllocError
     Ok(OwnedRange::at(ends, true))
 }
 
-/// The range of the back tree that asks for the objects of a kind that list an object. That object
-/// needn't be in the set.
-pub fn back_range(alloc: Global, target: Ref, kind: Kind) -> Result<OwnedRange, AllocError>
+/// The range of the back tree that asks for the objects of a kind, or of all kinds, that list an object.
+/// That object needn't be in the set.
+pub fn back_range(alloc: Global, target: Ref, kind: Option<Kind>) -> Result<OwnedRange, AllocError>
     ensures { IfOk result (λ range. range ≡ back_range target kind) }
 {
     let mut ends = Vec::from_slice(alloc, &reference_key(target))?;
-    ends.push(kind as u8)?;
+    if let Some(kind) = kind {
+        ends.push(kind as u8)?;
+    }
     Ok(OwnedRange::at(ends, true))
 }

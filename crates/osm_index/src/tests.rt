@@ -156,8 +156,10 @@ const WAY: Ref = Ref {
 fn object_ranges_name_their_ends(rt: HostRuntime) -> Result<(), Fail> {
     let object = ends(rt.alloc(), &object_range(rt.alloc(), WAY)?)?;
     assert_eq!(rt; object.as_str(), "02800000000000000a 02800000000000000a");
-    let back = ends(rt.alloc(), &back_range(rt.alloc(), WAY, Kind::Rel)?)?;
+    let back = ends(rt.alloc(), &back_range(rt.alloc(), WAY, Some(Kind::Rel))?)?;
     assert_eq!(rt; back.as_str(), "02800000000000000a03 02800000000000000a03");
+    let backs = ends(rt.alloc(), &back_range(rt.alloc(), WAY, None)?)?;
+    assert_eq!(rt; backs.as_str(), "02800000000000000a 02800000000000000a");
     Ok(())
 }
 

@@ -49,10 +49,10 @@ row_rises y z few up = omega (arith, above_rises 900000000 y z few up)
 pub column_rises : (y z : ℤ) → unsigned_abs y ≤ 1800000000 → y ≤ℤ z → column y ≤ column z
 column_rises y z few up = omega (arith, above_rises 1800000000 y z few up)
 
-row_few : (z : ℤ) → unsigned_abs z ≤ 900000000 → row z ≤ 1800
+pub row_few : (z : ℤ) → unsigned_abs z ≤ 900000000 → row z ≤ 1800
 row_few z few = omega (arith, above_few 900000000 z few)
 
-column_few : (z : ℤ) → unsigned_abs z ≤ 1800000000 → column z ≤ last_column
+pub column_few : (z : ℤ) → unsigned_abs z ≤ 1800000000 → column z ≤ last_column
 column_few z few = omega (arith, above_few 1800000000 z few)
 
 -- ---- strings that begin with four bytes, by the number that the four make

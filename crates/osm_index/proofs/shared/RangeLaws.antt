@@ -146,7 +146,8 @@ object_is_found p is r fits found those b =
 
 -- ---- the back range
 
-fits_of_lists : (body : Body) (r : Ref) → BodyInRange body → BodyLists body r → FitsSigned w64 r.id
+-- what an object lists has an id of 64 bits
+pub fits_of_lists : (body : Body) (r : Ref) → BodyInRange body → BodyLists body r → FitsSigned w64 r.id
 fits_of_lists (bodies.Node place) r h k = absurd k
 fits_of_lists (bodies.Way nodes) r h (kind, at) = subst (λ (i : ℤ). FitsSigned w64 i) at.2 (h at.0 r.id at.1)
 fits_of_lists (bodies.Rel members) r h k =
@@ -156,21 +157,30 @@ fits_of_lists (bodies.Rel members) r h k =
     let of_member = subst (λ (m : Member). FitsSigned w64 m.target.id) at.2 here_fits in
     subst (λ (s : Ref). FitsSigned w64 s.id) (sym found.2) of_member
 
-back_begins : (target t s : Ref) (kind : Kind) → Begins (ref_key target ++ kind_byte kind ∷ []) (back_key t s) → (ref_key t ≡ ref_key target) × (s.kind ≡ kind)
-back_begins target t s kind (rest, e) =
-    let whole : ref_key t ++ ref_key s ≡ ref_key target ++ (kind_byte kind ∷ rest) = e ∙ append_assoc (ref_key target) (kind_byte kind ∷ []) rest in
-    let fronts = sym (take_at (ref_key t) (ref_key s) 9 (ref_key_len t)) ∙ ap (λ (l : List ℕ). take 9 l) whole ∙ take_at (ref_key target) (kind_byte kind ∷ rest) 9 (ref_key_len target) in
-    let backs = sym (drop_at (ref_key t) (ref_key s) 9 (ref_key_len t)) ∙ ap (λ (l : List ℕ). drop 9 l) whole ∙ drop_at (ref_key target) (kind_byte kind ∷ rest) 9 (ref_key_len target) in
+-- what a back key begins with, and what follows it
+back_front : (target t s : Ref) (front rest : List ℕ) → back_key t s ≡ (ref_key target ++ front) ++ rest → (ref_key t ≡ ref_key target) × (ref_key s ≡ front ++ rest)
+back_front target t s front rest e =
+    let whole : ref_key t ++ ref_key s ≡ ref_key target ++ (front ++ rest) = e ∙ append_assoc (ref_key target) front rest in (
+      sym (take_at (ref_key t) (ref_key s) 9 (ref_key_len t)) ∙ ap (λ (l : List ℕ). take 9 l) whole ∙ take_at (ref_key target) (front ++ rest) 9 (ref_key_len target),
+      sym (drop_at (ref_key t) (ref_key s) 9 (ref_key_len t)) ∙ ap (λ (l : List ℕ). drop 9 l) whole ∙ drop_at (ref_key target) (front ++ rest) 9 (ref_key_len target),
+    )
+
+back_begins : (target t s : Ref) (kind : Option Kind) → Begins (ref_key target ++ kind_bytes kind) (back_key t s) → (ref_key t ≡ ref_key target) × IsKindOf kind s
+back_begins target t s None (rest, e) = ((back_front target t s [] rest e).0, tt)
+back_begins target t s (Some kind) (rest, e) =
+    let parts = back_front target t s (kind_byte kind ∷ []) rest e in
+    let tails : ref_key s ≡ kind_byte kind ∷ rest = parts.1 in
     let heads : kind_byte s.kind ≡ kind_byte kind = cc in
-    (fronts, same_kind s.kind kind heads)
+    (parts.0, same_kind s.kind kind heads)
 
-begins_back : (target s : Ref) (kind : Kind) → s.kind ≡ kind → Begins (ref_key target ++ kind_byte kind ∷ []) (back_key target s)
-begins_back target s kind e = (id_bytes s.id, ap (λ (k : Kind). ref_key target ++ (kind_byte k ∷ id_bytes s.id)) e ∙ sym (append_assoc (ref_key target) (kind_byte kind ∷ []) (id_bytes s.id)))
+begins_back : (target s : Ref) (kind : Option Kind) → IsKindOf kind s → Begins (ref_key target ++ kind_bytes kind) (back_key target s)
+begins_back target s None k = (ref_key s, ap (λ (front : List ℕ). front ++ ref_key s) (sym (append-nil (ref_key target))))
+begins_back target s (Some kind) e = (id_bytes s.id, ap (λ (k : Kind). ref_key target ++ (kind_byte k ∷ id_bytes s.id)) e ∙ sym (append_assoc (ref_key target) (kind_byte kind ∷ []) (id_bytes s.id)))
 
-pub back_found : (p : Publication) → IsPublication p → (target : Ref) → FitsSigned w64 target.id → (kind : Kind) (found : List Binding) → AreThose (IsEntryIn (back_range target kind)) (p.entries Backs) found
-    → (b : Binding) → Contains found b ↔ ((o : Element) × Contains p.objects o × (kind_of o.body ≡ kind) × BodyLists o.body target × (b ≡ back_entry target (reference o)))
+pub back_found : (p : Publication) → IsPublication p → (target : Ref) → FitsSigned w64 target.id → (kind : Option Kind) (found : List Binding) → AreThose (IsEntryIn (back_range target kind)) (p.entries Backs) found
+    → (b : Binding) → Contains found b ↔ ((o : Element) × Contains p.objects o × IsKindOf kind (reference o) × BodyLists o.body target × (b ≡ back_entry target (reference o)))
 back_found p is target fits kind found those b =
-    let front = ref_key target ++ kind_byte kind ∷ [] in
+    let front = ref_key target ++ kind_bytes kind in
     let f = found_under p is Backs found front those b in (
       (λ h.
           let x = f.0 h in

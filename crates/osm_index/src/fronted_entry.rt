@@ -1,0 +1,103 @@
+//! Entries as they are sorted.
+
+ghost use Rattle.std.specs.Prelude.{◌≡◌, drop, slice_index};
+ghost use Rattle.tree_node.specs.Nodes.{AreBytes};
+ghost use Rattle.tree_node.specs.Order.{order};
+ghost use Rattle.osm_index.specs.internal.Fronts.{front_number};
+
+use std::cmp::Ordering;
+use tree_build::Entry;
+use tree_node::is_below;
+
+/// How many bytes one number holds.
+const FRONT: usize = 8;
+
+/// An entry beside the first sixteen bytes of its key, as two numbers. They mostly decide the order of two
+/// entries, without a look at keys that lie far apart in memory.
+#[derive(Clone, Copy)]
+pub(crate) struct FrontedEntry<'a> {
+    high: u64,
+    low: u64,
+    pub item: Entry<'a>,
+    ghost high_is: { high ≡ front_number item.key.now },
+    ghost low_is: { low ≡ front_number (drop 8 item.key.now) },
+    ghost bytes: { AreBytes item.key.now },
+}
+
+impl<'a> FrontedEntry<'a> {
+    /// This entry with the front of its key.
+    pub fn new(item: Entry<'a>) -> FrontedEntry<'a>
+        ensures { result.item ≡ item.entry }
+    {
+        FrontedEntry {
+            high: front_number(item.key),
+            low: front_number(after_front(item.key)),
+            item,
+        }
+    }
+
+    /// How the keys of two entries compare.
+    pub fn compare(&self, other: &FrontedEntry<'_>) -> Ordering
+        ensures { result ≡ order self.now.item.key.now other.now.item.key.now }
+    {
+        if self.high != other.high {
+            return self.high.cmp(&other.high);
+        }
+        if self.low != other.low {
+            return self.low.cmp(&other.low);
+        }
+        compare_keys(self.item.key, other.item.key)
+    }
+}
+
+/// The first eight bytes as a number, the first byte the highest, with zeros after a shorter key.
+fn front_number(key: &[u8]) -> u64
+    ensures number { result ≡ front_number key.now }
+    ensures bytes { AreBytes key.now }
+{
+    if key.len() < FRONT {
+        return u64::from_be_bytes([
+            byte_at(key, 0),
+            byte_at(key, 1),
+            byte_at(key, 2),
+            byte_at(key, 3),
+            byte_at(key, 4),
+            byte_at(key, 5),
+            byte_at(key, 6),
+            byte_at(key, 7),
+        ]);
+    }
+    u64::from_be_bytes([
+        key[0], key[1], key[2], key[3], key[4], key[5], key[6], key[7],
+    ])
+}
+
+/// The byte at this place, and 0 after the end.
+fn byte_at(key: &[u8], place: usize) -> u8
+    ensures { result ≡ slice_index key.now place }
+{
+    match key.get(place) {
+        Some(byte) => *byte,
+        None => 0,
+    }
+}
+
+/// What follows the first eight bytes.
+fn after_front(key: &[u8]) -> &[u8]
+    ensures { result.now ≡ drop 8 key.now }
+{
+    &key[FRONT.min(key.len())..]
+}
+
+/// The order of two keys, by which of them is below the other.
+fn compare_keys(first: &[u8], second: &[u8]) -> Ordering
+    ensures { result ≡ order first.now second.now }
+{
+    if is_below(first, second) {
+        return Ordering::Less;
+    }
+    if is_below(second, first) {
+        return Ordering::Greater;
+    }
+    Ordering::Equal
+}
