@@ -1,2 +1,5 @@
 pub mod Lengths
 pub mod Openings
+pub mod Faults
+pub mod Questions
+pub mod internal

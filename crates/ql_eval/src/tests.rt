@@ -1,4 +1,5 @@
-//! Openings and sinks.
+//! Lookups, openings and sinks.
 
+mod lookups;
 mod opening;
 mod sink;

@@ -1,0 +1,166 @@
+-- What the entries of a publication say, and which objects the ranges of questions find.
+use Rattle.std.proofs.Common.{◌≡◌, ◌↔◌, ◌⊎◌, inl, inr, ℕ, ◌≤◌, List, FitsSigned, w64, length, Option, Result, Ok, Err, MatchResult, refl, sym, ap, subst, ◌∙◌}
+use Rattle.std.specs.List.{Contains}
+use Rattle.std.specs.Prelude.{IfErr, IfOk}
+use Rattle.std.specs.Str.{IsUtf8}
+use Rattle.std.specs.declared.alloc.Global.{Global}
+use Rattle.std.specs.declared.vec.Vec.{Vec}
+use Rattle.osm_model.specs.Elements.{Element, kind_of, reference}
+use Rattle.osm_model.specs.Limits.{BodyInRange, HasNoNul, IsElement}
+use Rattle.osm_model.specs.declared.kind.Kind.{Kind}
+use Rattle.osm_model.specs.declared.reference.Ref.{Ref}
+use Rattle.osm_model.specs.declared.tag.Tag.{Tag}
+use Rattle.tree_node.specs.Nodes.{Binding}
+use Rattle.tree_node.specs.Outcomes.{NoMemory, Outcome, ShelfUse}
+use Rattle.tree_node.proofs.shared.OutcomeLaws.{Nodes, outcome_same, uses}
+use Rattle.tree_node.specs.declared.tree.Tree.{Tree}
+use Rattle.tree_node.specs.declared.tree.Tree.TheVariants.{Objects, Tags, Cells, Backs}
+use Rattle.tree_walk.specs.Choices.{AreThose}
+use Rattle.tree_walk.specs.Ranges.{Range}
+use Rattle.tree_walk.specs.Walks.{IsEntryIn}
+use Rattle.tree_walk.proofs.shared.FoundLemmas.{those_among}
+use Rattle.osm_index.specs.Entries.{IsEntryOf, back_entry, object_entry, tag_entry}
+use Rattle.osm_index.specs.Keys.{IsTagText, column, row}
+use Rattle.osm_index.specs.Publications.{IsPublication, Publication}
+use Rattle.osm_index.specs.Ranges.{back_range, kind_range, tag_key_range, tag_range}
+use Rattle.osm_index.proofs.shared.CellLaws.{column_few, row_few}
+use Rattle.osm_index.proofs.shared.OneObject.{is_element}
+use Rattle.osm_index.proofs.shared.RangeLaws.{back_found, fits_of_lists, kind_found, tag_found, tag_key_found}
+use Rattle.ql_plain.specs.Meanings.{IsSetOf}
+use Rattle.ql_plain.specs.Values.{IsRefOf}
+use Rattle.ql_eval.specs.Faults.{cause_of_evaluation}
+use Rattle.ql_eval.specs.Questions.{Answers, Ask, IsAskedBy, Listed, NeededBy, NeedsAsk, OfKind, Question, ThatList, WithKey, WithTag}
+use Rattle.ql_eval.specs.declared.fault.EvalFault.{EvalFault}
+use Rattle.ql_eval.specs.declared.fault.EvalFault.TheVariants as faults
+use Rattle.ql_eval.specs.internal.Entries.{HasUnread, IsSaid, Names}
+use Rattle.ql_eval.proofs.NameLemmas.{one_named}
+
+-- ---- each entry names the object that it is of
+
+tag_texts : (o : Element) (tag : Tag) → IsElement o → Contains o.tags tag → IsTagText tag.key × IsTagText tag.value
+tag_texts o tag is has =
+    let utf8 = subst (λ (t : Tag). IsUtf8 t.key × IsUtf8 t.value) has.2 (is.utf8.in_tags has.0 tag has.1) in
+    let clean = subst (λ (t : Tag). HasNoNul t.key × HasNoNul t.value) has.2 (is.clean.in_tags has.0 tag has.1) in
+    let short = subst (λ (t : Tag). (length t.key ≤ 4096) × (length t.value ≤ 4096)) has.2 (is.fits.short.in_tags has.0 tag has.1) in
+    (record { utf8 = utf8.0; no_nul = clean.0; short = short.0 }, record { utf8 = utf8.1; no_nul = clean.1; short = short.1 })
+
+pub entry_names : (o : Element) (tree : Tree) (b : Binding) → IsElement o → IsEntryOf o tree b → Names tree b (reference o)
+entry_names o Objects b is e = ap (λ (c : Binding). c.key) e
+entry_names o Tags b is (tag, has, e) =
+    let texts = tag_texts o tag is has in
+    (tag.key, tag.value, texts.0, texts.1, ap (λ (c : Binding). c.key) e, ap (λ (c : Binding). c.value) e)
+entry_names o Cells b is (place, at, e) =
+    let is_place = subst BodyInRange at is.body_in_range in (
+      place,
+      record {
+        node = ap kind_of at;
+        row = row place.lat;
+        column = column place.lon;
+        cell = record { in_rows = row_few place.lat is_place.lat; in_columns = column_few place.lon is_place.lon };
+        key = ap (λ (c : Binding). c.key) e;
+        is_place = is_place;
+        value = ap (λ (c : Binding). c.value) e;
+      },
+    )
+entry_names o Backs b is (target, lists, e) =
+    (target, fits_of_lists o.body target is.body_in_range lists, ap (λ (c : Binding). c.key) e, ap (λ (c : Binding). c.value) e)
+
+module _ (p : Publication) (is : IsPublication p) (tree : Tree) (found : List Binding) where
+  -- so no entry that a range finds is of another form
+  pub never_unread : (range : Range) → AreThose (IsEntryIn range) (p.entries tree) found → HasUnread tree found → ⊥
+  never_unread range those (b, among, nothing) =
+      let have = those_among (IsEntryIn range) (p.entries tree) found those b among in
+      let (o, there, of) = ((is.lists tree).members b).0 have.0 in
+      let element = is_element p.objects o is.set there in
+      nothing (reference o) element.in_range (entry_names o tree b element of)
+
+  -- where a range finds just the entries of some objects, these are the ones that are named
+  pub said_as : (Has : Element → Type 0) → ((b : Binding) → Contains found b → (o : Element) × Contains p.objects o × Has o × IsEntryOf o tree b)
+      → ((o : Element) → Contains p.objects o → Has o → (b : Binding) × Contains found b × IsEntryOf o tree b) → (r : Ref) → IsSaid (Names tree) found r ↔ IsRefOf p.objects Has r
+  said_as Has of from r = (
+    (λ (b, among, names, fits).
+        let (o, there, has, entry) = of b among in
+        let element = is_element p.objects o is.set there in
+        (o, there, one_named tree b (reference o) r element.in_range fits (entry_names o tree b element entry) names, has)),
+    (λ (o, there, e, has).
+        let (b, among, entry) = from o there has in
+        let element = is_element p.objects o is.set there in
+        subst (λ (s : Ref). IsSaid (Names tree) found s) e (b, among, entry_names o tree b element entry, element.in_range)),
+  )
+
+-- ---- what the range of a question finds
+
+module _ (p : Publication) (is : IsPublication p) (found : List Binding) where
+  pub kind_named : (kind : Kind) → AreThose (IsEntryIn (kind_range kind)) (p.entries Objects) found → (r : Ref) → IsSaid (Names Objects) found r ↔ IsRefOf p.objects (Answers (OfKind kind)) r
+  kind_named kind those = said_as p is Objects found (Answers (OfKind kind))
+      (λ b among. (kind_found p is kind found those b).0 among)
+      (λ o there k. (object_entry o, (kind_found p is kind found those (object_entry o)).1 (o, there, k, refl), refl))
+
+  pub tag_named : (key value : List ℕ) (kind : Option Kind) → HasNoNul key → HasNoNul value → AreThose (IsEntryIn (tag_range key value kind)) (p.entries Tags) found
+      → (r : Ref) → IsSaid (Names Tags) found r ↔ IsRefOf p.objects (Answers (WithTag key value kind)) r
+  tag_named key value kind hk hv those = said_as p is Tags found (Answers (WithTag key value kind))
+      (λ b among.
+      let (o, there, of_kind, (tag, at, ek, ev), e) = (tag_found p is key value hk hv kind found those b).0 among in
+      (o, there, (of_kind, (tag, at, ek, ev)), (tag, at, e ∙ ap (λ (k : List ℕ). tag_entry k value (reference o)) (sym ek) ∙ ap (λ (v : List ℕ). tag_entry tag.key v (reference o)) (sym ev))))
+      (λ o there (of_kind, (tag, at, ek, ev)). (
+        tag_entry key value (reference o),
+        (tag_found p is key value hk hv kind found those (tag_entry key value (reference o))).1 (o, there, of_kind, (tag, at, ek, ev), refl),
+        (tag, at, ap (λ (k : List ℕ). tag_entry k value (reference o)) (sym ek) ∙ ap (λ (v : List ℕ). tag_entry tag.key v (reference o)) (sym ev)),
+      ))
+
+  pub key_named : (key : List ℕ) → HasNoNul key → AreThose (IsEntryIn (tag_key_range key)) (p.entries Tags) found → (r : Ref) → IsSaid (Names Tags) found r ↔ IsRefOf p.objects (Answers (WithKey key)) r
+  key_named key hk those = said_as p is Tags found (Answers (WithKey key))
+      (λ b among.
+      let (o, value, there, clean, (tag, at, ek, ev), e) = (tag_key_found p is key hk found those b).0 among in
+      (o, there, (tag, at, ek), (tag, at, e ∙ ap (λ (k : List ℕ). tag_entry k value (reference o)) (sym ek) ∙ ap (λ (v : List ℕ). tag_entry tag.key v (reference o)) (sym ev))))
+      (λ o there (tag, at, ek).
+      let clean = (tag_texts o tag (is_element p.objects o is.set there) at).1.no_nul in (
+        tag_entry key tag.value (reference o),
+        (tag_key_found p is key hk found those (tag_entry key tag.value (reference o))).1 (o, tag.value, there, clean, (tag, at, ek, refl), refl),
+        (tag, at, ap (λ (k : List ℕ). tag_entry k tag.value (reference o)) (sym ek)),
+      ))
+
+  pub list_named : (target : Ref) (kind : Option Kind) → FitsSigned w64 target.id → AreThose (IsEntryIn (back_range target kind)) (p.entries Backs) found
+      → (r : Ref) → IsSaid (Names Backs) found r ↔ IsRefOf p.objects (Answers (ThatList target kind)) r
+  list_named target kind fits those = said_as p is Backs found (Answers (ThatList target kind))
+      (λ b among.
+      let (o, there, of_kind, lists, e) = (back_found p is target fits kind found those b).0 among in
+      (o, there, (of_kind, lists), (target, lists, e)))
+      (λ o there (of_kind, lists).
+      (back_entry target (reference o), (back_found p is target fits kind found those (back_entry target (reference o))).1 (o, there, of_kind, lists, refl), (target, lists, refl)))
+
+-- ---- reading what was found
+
+-- the entries that a range found were read, or memory was refused
+pub names_read : (p : Publication) → IsPublication p → (tree : Tree) (range : Range) (found : List Binding) → AreThose (IsEntryIn range) (p.entries tree) found → (result : Result (Vec Ref Global) EvalFault)
+    → IfOk result (λ names. IsSetOf names.items (IsSaid (Names tree) found)) → IfErr result (λ fault. (fault ≡ faults.Memory) ⊎ ((fault ≡ faults.Form) × HasUnread tree found))
+    → MatchResult result (λ names. (all : List Binding) × AreThose (IsEntryIn range) (p.entries tree) all × IsSetOf names.items (IsSaid (Names tree) all)) (λ fault. cause_of_evaluation fault ≡ NoMemory)
+names_read p is tree range found those (Ok names) read refused = (found, those, read)
+names_read p is tree range found those (Err fault) read refused = elim refused [
+  | inl memory ↦ ap cause_of_evaluation memory
+  | inr form ↦ absurd (never_unread p is tree found range those form.1)
+]
+
+pub set_as : (names : List Ref) (This That : Ref → Type 0) → ((r : Ref) → This r ↔ That r) → IsSetOf names This → IsSetOf names That
+set_as names This That same set = record { rising = set.rising; members = λ r. ((λ has. (same r).0 ((set.members r).0 has)), (λ is. (set.members r).1 ((same r).1 is))) }
+
+-- ---- questions that one walk answers
+
+-- how a walk ends whose entries were read
+abbrev pub FoundWell : Publication → Tree → Range → ShelfUse → Result (Vec Ref Global) EvalFault → Type 0
+FoundWell p tree range shelf result =
+    Outcome cause_of_evaluation (λ names. (found : List Binding) × AreThose (IsEntryIn range) (p.entries tree) found × IsSetOf names.items (IsSaid (Names tree) found)) (NeedsAsk p (Listed tree range)) shelf result
+
+-- how a question is answered
+abbrev pub AnsweredWell : Publication → Question → ShelfUse → Result (Vec Ref Global) EvalFault → Type 0
+AnsweredWell p question shelf result =
+    Outcome cause_of_evaluation (λ names. IsSetOf names.items (IsRefOf p.objects (Answers question))) (NeededBy p (IsAskedBy question)) shelf result
+
+pub answered : (p : Publication) (question : Question) (tree : Tree) (range : Range) {held old new : Nodes} (result : Result (Vec Ref Global) EvalFault) → ((ask : Ask) → IsAskedBy question ask ↔ (ask ≡ Listed tree range))
+    → ((found : List Binding) → AreThose (IsEntryIn range) (p.entries tree) found → (r : Ref) → IsSaid (Names tree) found r ↔ IsRefOf p.objects (Answers question) r)
+    → FoundWell p tree range (uses held old new) result → AnsweredWell p question (uses held old new) result
+answered p question tree range result asks named so = outcome_same
+    (λ x needs. record { ask = Listed tree range; asked = (asks (Listed tree range)).1 refl; needs = needs })
+    (λ names is x needs. subst (λ (ask : Ask). NeedsAsk p ask x) ((asks needs.ask).0 needs.asked) needs.needs)
+    (λ names (found, those, set). set_as names.items (IsSaid (Names tree) found) (IsRefOf p.objects (Answers question)) (named found those) set)
+    so

@@ -1,0 +1,35 @@
+-- Steps of an evaluation: walks, and what is read from what they found.
+use Rattle.std.proofs.Common.{◌≡◌, ℕ, List, inl, inr, Result, Ok, Err, MatchResult, refl, sym, ap, subst}
+use Rattle.tree_node.specs.Outcomes.{Cause, NoMemory, Outcome, RefusedFor}
+use Rattle.tree_node.proofs.shared.OutcomeLaws.{Nodes, clash_more, outcome_as, uses}
+use Rattle.tree_walk.specs.Fetches.{cause_of}
+use Rattle.tree_walk.specs.declared.fault.WalkFault.{WalkFault}
+use Rattle.tree_walk.specs.declared.fault.WalkFault.TheVariants as walks
+use Rattle.ql_eval.specs.Faults.{cause_of_evaluation, fault_of_walk}
+use Rattle.ql_eval.specs.declared.fault.EvalFault.{EvalFault}
+use Rattle.ql_eval.specs.declared.fault.EvalFault.TheVariants as faults
+
+-- a refused walk refuses the evaluation for the same cause
+pub walk_cause : (fault : WalkFault) → cause_of_evaluation (fault_of_walk fault) ≡ cause_of fault
+walk_cause walks.Missing = refl
+walk_cause (walks.Malformed fault) = refl
+walk_cause walks.WrongTreeOrLevel = refl
+walk_cause walks.Disagrees = refl
+walk_cause walks.Memory = refl
+
+-- what a call gave is read, which is refused for memory alone where it gave what it should
+pub then_read : {A B F G : Type 0} {first_cause : F → Cause} {all_cause : G → Cause} {Is : A → Type 0} {All : B → Type 0} {first all before held old new : Nodes} {value : A} (result : Result B G)
+    → ((x : List ℕ) → first x → all x) → ((x : List ℕ) → all x → first x) → (Is value → MatchResult result All (λ fault. all_cause fault ≡ NoMemory))
+    → Outcome first_cause Is first (uses before old new) (Ok value) → Outcome all_cause All all (uses held old new) result
+then_read (Ok found) more back read so = outcome_as more (λ is. back) read so
+then_read {all_cause = all_cause} {first = first} {all = all} {held = held} {new = new} (Err fault) more back read so = record {
+  ends = elim so.ends [
+    | inl clash ↦ inl (clash_more first all new new more (λ x u. u) clash)
+    | inr one ↦ inr (subst (λ (c : Cause). RefusedFor all held c) (sym (read one.0)) tt)
+  ];
+}
+
+-- out of memory says nothing of the shelf
+pub memory_cause : {A : Type 0} (Is : A → Type 0) (result : Result A EvalFault) → MatchResult result Is (λ fault. fault ≡ faults.Memory) → MatchResult result Is (λ fault. cause_of_evaluation fault ≡ NoMemory)
+memory_cause Is (Ok value) is = is
+memory_cause Is (Err fault) is = ap cause_of_evaluation is

@@ -1,0 +1,72 @@
+-- What an evaluation asks the trees of a publication: questions, the ranges of keys that each asks for, and the objects
+-- that it is after.
+-- Source: this project's evaluation, docs/FORMATS.md.
+use Rattle.std.specs.Prelude.{◌≡◌, ℕ, List, Option, ⊤}
+use Rattle.osm_model.specs.Elements.{Element, kind_of, reference}
+use Rattle.osm_model.specs.Limits.{HasNoNul}
+use Rattle.osm_model.specs.Membership.{BodyLists}
+use Rattle.osm_model.specs.Tagged.{HasKeyOf, HasTag}
+use Rattle.osm_model.specs.declared.kind.Kind.{Kind}
+use Rattle.osm_model.specs.declared.reference.Ref.{Ref}
+use Rattle.tree_node.specs.declared.tree.Tree.{Tree}
+use Rattle.tree_node.specs.declared.tree.Tree.TheVariants.{Objects, Tags, Backs}
+use Rattle.tree_walk.specs.Ranges.{Range}
+use Rattle.tree_walk.specs.Walks.{IsMet, IsMetCounted}
+use Rattle.osm_index.specs.Publications.{Publication, tree_in}
+use Rattle.osm_index.specs.Ranges.{IsKindOf, back_range, kind_range, object_range, tag_key_range, tag_range}
+
+-- ---- what is asked for
+
+-- all entries of a tree in a range of keys, or their number alone
+pub data Ask : Type 0 where
+  Listed : Tree → Range → Ask
+  Counted : Tree → Range → Ask
+
+-- the node is one that the ask needs
+abbrev pub NeedsAsk : Publication → Ask → List ℕ → Type 0
+NeedsAsk p (Listed tree range) bytes = IsMet range (tree_in p tree) bytes
+NeedsAsk p (Counted tree range) bytes = IsMetCounted range (tree_in p tree) bytes
+
+-- the node is one that some of these asks needs
+pub record NeededBy (p : Publication) (Asks : Ask → Type 0) (bytes : List ℕ) : Type 0 where
+  pub ask : Ask
+  pub asked : Asks ask
+  pub needs : NeedsAsk p ask bytes
+
+-- one object
+abbrev pub object_ask : Ref → Ask
+object_ask r = Listed Objects (object_range r)
+
+-- ---- questions
+
+-- what one walk answers
+pub data Question : Type 0 where
+  -- the objects of a kind
+  OfKind : Kind → Question
+  -- those of a kind, or of all kinds, that have a tag
+  WithTag : List ℕ → List ℕ → Option Kind → Question
+  -- those that have a tag with a key
+  WithKey : List ℕ → Question
+  -- the objects of a kind, or of all kinds, that list an object, which needn't be in the set
+  ThatList : Ref → Option Kind → Question
+
+-- the question asks for this
+abbrev pub IsAskedBy : Question → Ask → Type 0
+IsAskedBy (OfKind kind) ask = ask ≡ Listed Objects (kind_range kind)
+IsAskedBy (WithTag key value kind) ask = ask ≡ Listed Tags (tag_range key value kind)
+IsAskedBy (WithKey key) ask = ask ≡ Listed Tags (tag_key_range key)
+IsAskedBy (ThatList target kind) ask = ask ≡ Listed Backs (back_range target kind)
+
+-- the object is one that the question is after
+abbrev pub Answers : Question → Element → Type 0
+Answers (OfKind kind) o = kind_of o.body ≡ kind
+Answers (WithTag key value kind) o = IsKindOf kind (reference o) × HasTag o key value
+Answers (WithKey key) o = HasKeyOf o key
+Answers (ThatList target kind) o = IsKindOf kind (reference o) × BodyLists o.body target
+
+-- keys and values have no NUL, as those of every query
+abbrev pub HasNoNulIn : Question → Type 0
+HasNoNulIn (OfKind kind) = ⊤
+HasNoNulIn (WithTag key value kind) = HasNoNul key × HasNoNul value
+HasNoNulIn (WithKey key) = HasNoNul key
+HasNoNulIn (ThatList target kind) = ⊤

@@ -1,0 +1,78 @@
+//! Walks over the trees under a manifest.
+
+ghost use Rattle.std.specs.Prelude.{◌≡◌, ℕ, List, OnOk};
+ghost use Rattle.tree_node.specs.NodeRefs.{bindings_of, number_of};
+ghost use Rattle.tree_node.specs.Outcomes.{Outcome};
+ghost use Rattle.tree_node.specs.Shelves.{SameNodes};
+ghost use Rattle.tree_walk.specs.Choices.{AreThose, IsCount};
+ghost use Rattle.tree_walk.specs.Fetches.{cause_of};
+ghost use Rattle.tree_walk.specs.Ranges.{IsIn, range_of};
+ghost use Rattle.tree_walk.specs.Walked.{HasWalked};
+ghost use Rattle.tree_walk.specs.Walks.{IsEntryIn};
+ghost use Rattle.osm_index.specs.Manifests.{top_among};
+ghost use Rattle.osm_index.specs.Publications.{IsPublication, Publication};
+ghost use Rattle.ql_eval.specs.Openings.{IsUnder};
+ghost use Rattle.ql_eval.specs.Questions.{Counted, Listed, NeedsAsk};
+
+use osm_index::Manifest;
+use std::alloc::Global;
+use tree_node::{Digest, Item, Shelf, Tree};
+use tree_walk::{KeyRange, Tally, WalkFault, count, range};
+
+/// The entries of a tree in a range of keys.
+pub(crate) fn entries_in<'a, S: Shelf<'a>>(
+    alloc: Global,
+    shelf: &mut S,
+    manifest: &Manifest,
+    tree: Tree,
+    keys: &KeyRange<'_>,
+    tally: &mut Tally,
+) -> Result<Vec<Item<'a>>, WalkFault>
+    requires { IsIn (range_of keys.now) keys.now.lo.now }
+    ensures stays { SameNodes (S.holds shelf.old) (S.holds shelf.new) }
+    ensures grows { (bytes : List ℕ) → S.used shelf.old bytes → S.used shelf.new bytes }
+    ensures walked { OnOk result (HasWalked
+        (record { held = S.holds shelf.new; before = S.used shelf.old; after = S.used shelf.new })
+        tally.old.calls tally.new.calls tally.old.fetches tally.new.fetches) }
+    ensures answer { (p : Publication) → IsPublication p → IsUnder p manifest.now
+        → Outcome cause_of (λ found. AreThose (IsEntryIn (range_of keys.now)) (p.entries tree) (bindings_of found.items))
+        (NeedsAsk p (Listed tree (range_of keys.now)))
+        (record { held = S.holds shelf.new; before = S.used shelf.old; after = S.used shelf.new }) result }
+{
+    range(alloc, shelf, top_of(manifest, tree), tree, keys, tally)
+}
+
+/// The number of entries of a tree in a range of keys.
+pub(crate) fn count_in<'a, S: Shelf<'a>>(
+    alloc: Global,
+    shelf: &mut S,
+    manifest: &Manifest,
+    tree: Tree,
+    keys: &KeyRange<'_>,
+    tally: &mut Tally,
+) -> Result<u64, WalkFault>
+    requires { IsIn (range_of keys.now) keys.now.lo.now }
+    ensures stays { SameNodes (S.holds shelf.old) (S.holds shelf.new) }
+    ensures grows { (bytes : List ℕ) → S.used shelf.old bytes → S.used shelf.new bytes }
+    ensures walked { OnOk result (HasWalked
+        (record { held = S.holds shelf.new; before = S.used shelf.old; after = S.used shelf.new })
+        tally.old.calls tally.new.calls tally.old.fetches tally.new.fetches) }
+    ensures answer { (p : Publication) → IsPublication p → IsUnder p manifest.now
+        → Outcome cause_of (λ number. IsCount (IsEntryIn (range_of keys.now)) (p.entries tree) number)
+        (NeedsAsk p (Counted tree (range_of keys.now)))
+        (record { held = S.holds shelf.new; before = S.used shelf.old; after = S.used shelf.new }) result }
+{
+    count(alloc, shelf, top_of(manifest, tree), tree, keys, tally)
+}
+
+/// The digest of a tree's top.
+fn top_of(manifest: &Manifest, tree: Tree) -> &Digest
+    ensures { result.now.0 ≡ top_among manifest.now.tops tree }
+{
+    match tree {
+        Tree::Objects => &manifest.tops[0],
+        Tree::Tags => &manifest.tops[1],
+        Tree::Cells => &manifest.tops[2],
+        Tree::Backs => &manifest.tops[3],
+    }
+}
