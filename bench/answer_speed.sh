@@ -18,7 +18,7 @@ extract() {
 
 extract extract-tenth 0.1
 extract extract 1
-build_program answer_speed 'osm_model: itoa thiserror
+build_program answer_speed 'osm_model: arrayvec itoa thiserror
 opl_codec: osm_model itoa memchr simdutf8 thiserror
 ql_syntax: osm_model opl_codec simdutf8 smallvec thiserror
 ql_plain: osm_model opl_codec ql_syntax

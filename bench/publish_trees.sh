@@ -69,7 +69,7 @@ side_by_side() {
 built=$("$top/osm_mirror" --help 2>&1) || [ $? -eq 2 ] || { echo "$built" >&2; exit 1; }
 extract extract-tenth 0.1
 extract extract 1
-build_program publish_trees 'osm_model: itoa thiserror
+build_program publish_trees 'osm_model: arrayvec itoa thiserror
 opl_codec: osm_model itoa memchr simdutf8 thiserror
 tree_node: sha2 thiserror
 tree_build: tree_node thiserror

@@ -7,7 +7,7 @@
 set -eu
 runs=${1:-3}
 . "$(dirname "$0")/program.sh"
-build_program query_speed 'osm_model: itoa thiserror
+build_program query_speed 'osm_model: arrayvec itoa thiserror
 opl_codec: osm_model itoa memchr simdutf8 thiserror
 ql_syntax: osm_model opl_codec simdutf8 smallvec thiserror
 query_speed: ql_syntax anyhow' osm_model opl_codec ql_syntax

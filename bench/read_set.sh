@@ -33,7 +33,7 @@ side_by_side() {
 built=$("$top/osm_mirror" --help 2>&1) || [ $? -eq 2 ] || { echo "$built" >&2; exit 1; }
 extract extract-tenth 0.1
 extract extract 1
-build_program read_speed 'osm_model: itoa thiserror
+build_program read_speed 'osm_model: arrayvec itoa thiserror
 opl_codec: osm_model itoa memchr simdutf8 thiserror
 read_speed: opl_codec' osm_model opl_codec
 
