@@ -3,4 +3,7 @@ pub mod WalkLemmas
 pub mod ObjectLemmas
 pub mod NameLemmas
 pub mod StepLemmas
+pub mod EachLemmas
+pub mod LoopLemmas
+pub mod BoxLemmas
 pub mod EntryLemmas

@@ -1,5 +1,7 @@
 -- Steps of an evaluation: walks, and what is read from what they found.
 use Rattle.std.proofs.Common.{◌≡◌, ℕ, List, inl, inr, Result, Ok, Err, MatchResult, refl, sym, ap, subst}
+use Rattle.std.specs.Prelude.{IfErr}
+use Rattle.std.specs.Result.{IsErrAnd}
 use Rattle.tree_node.specs.Outcomes.{Cause, NoMemory, Outcome, RefusedFor}
 use Rattle.tree_node.proofs.shared.OutcomeLaws.{Nodes, clash_more, outcome_as, uses}
 use Rattle.tree_walk.specs.Fetches.{cause_of}
@@ -33,3 +35,8 @@ then_read {all_cause = all_cause} {first = first} {all = all} {held = held} {new
 pub memory_cause : {A : Type 0} (Is : A → Type 0) (result : Result A EvalFault) → MatchResult result Is (λ fault. fault ≡ faults.Memory) → MatchResult result Is (λ fault. cause_of_evaluation fault ≡ NoMemory)
 memory_cause Is (Ok value) is = is
 memory_cause Is (Err fault) is = ap cause_of_evaluation is
+
+-- a refusal that is passed on
+pub refused_as : {A : Type 0} (Says : EvalFault → Type 0) (result : Result A EvalFault) (fault : EvalFault) → IsErrAnd result (λ f. f ≡ fault) → Says fault → IfErr result Says
+refused_as Says (Ok value) fault is says = tt
+refused_as Says (Err f) fault is says = subst Says (sym is) says
