@@ -5,5 +5,6 @@ pub mod NameLemmas
 pub mod StepLemmas
 pub mod EachLemmas
 pub mod LoopLemmas
+pub mod LinkLemmas
 pub mod BoxLemmas
 pub mod EntryLemmas

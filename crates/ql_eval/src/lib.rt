@@ -4,6 +4,8 @@
 
 mod boxes;
 mod fault;
+mod kinds;
+mod links;
 mod lookups;
 mod names;
 mod objects;
