@@ -2,5 +2,5 @@
 pub mod Entries
 pub mod Views
 pub mod Boxes
-pub mod Links
 pub mod Kinds
+pub mod Links

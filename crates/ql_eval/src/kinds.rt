@@ -12,8 +12,7 @@ use osm_model::{Kind, Ref};
 /// binary searches.
 pub(crate) fn between(names: &[Ref], first: Kind, last: Kind) -> &[Ref]
     requires { IsStrictlySortedBy ref_cmp names.now }
-    ensures members { (r : _) → Contains result.now r ↔ (Contains names.now r × IsBetween first last r) }
-    ensures rising { IsStrictlySortedBy ref_cmp result.now }
+    ensures { (r : _) → Contains result.now r ↔ (Contains names.now r × IsBetween first last r) }
 {
     let start = names.partition_point(|name| name.kind < first);
     let rest = &names[start..];

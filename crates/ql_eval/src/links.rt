@@ -10,9 +10,10 @@ ghost use Rattle.ql_plain.specs.Meanings.{IsSetOf};
 ghost use Rattle.ql_eval.specs.Faults.{cause_of_evaluation};
 ghost use Rattle.ql_eval.specs.Questions.{NeededBy};
 ghost use Rattle.ql_eval.specs.internal.Entries.{IsThere};
-ghost use Rattle.ql_eval.specs.internal.Links.{AreThere, IsBackAsk, IsListedOf, IsObjectAsk, IsParentAsk, IsThereAs, ListsIt};
+ghost use Rattle.ql_eval.specs.internal.Links.{AreThere, IsBackAsk, IsBelowAsk, IsListedIn, IsListedOf, IsObjectAsk, IsParentAsk, IsThereAs, ListsIt};
 
 use crate::fault::EvalFault;
+use crate::kinds::between;
 use crate::question::Question;
 use crate::source::Source;
 use osm_model::{Kind, Ref};
@@ -135,4 +136,23 @@ fn add_listing<W: Source>(
     let found = source.names(&Question::ThatList(name, kind))?;
     refs.extend_from_slice(&found)?;
     Ok(())
+}
+
+/// What the ways and relations of some references list that is there and of the kinds from one to another, as a set.
+pub(crate) fn below<W: Source>(
+    alloc: Global,
+    source: &mut W,
+    names: &[Ref],
+    first: Kind,
+    last: Kind,
+) -> Result<Vec<Ref>, EvalFault>
+    ensures later { W.later source.old source.new }
+    ensures walked { OnOk result (W.walked source.old source.new) }
+    ensures answer { (p : Publication) → IsPublication p → W.under source.old p → AreThere p.objects names.now
+        → Outcome cause_of_evaluation (λ refs. IsSetOf refs.items (λ r. IsListedIn p.objects names.now first last r × IsThere p.objects r))
+        (NeededBy p (IsBelowAsk p.objects names.now first last))
+        (record { held = W.holds source.new; before = W.used source.old; after = W.used source.new }) result }
+{
+    let listed = listed_by(alloc, source, names)?;
+    those_there(alloc, source, between(&listed, first, last))
 }
