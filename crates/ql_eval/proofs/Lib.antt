@@ -6,5 +6,6 @@ pub mod StepLemmas
 pub mod EachLemmas
 pub mod LoopLemmas
 pub mod LinkLemmas
+pub mod ChainLemmas
 pub mod BoxLemmas
 pub mod EntryLemmas

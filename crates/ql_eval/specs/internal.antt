@@ -4,3 +4,4 @@ pub mod Views
 pub mod Boxes
 pub mod Kinds
 pub mod Links
+pub mod Chains

@@ -1,7 +1,9 @@
 //! The nodes in a box, asked of a shelf under a manifest.
 
 ghost use Rattle.std.specs.Int.{w64};
-ghost use Rattle.std.specs.Prelude.{◌≡◌, ◌⊎◌, ℕ, FitsSigned, IfErr, List, OnOk};
+ghost use Rattle.std.specs.Prelude.{◌≡◌, ◌⊎◌, ℕ, FitsSigned, IfErr, IfOk, List, OnOk};
+ghost use Rattle.std.specs.List.Sorted.{IsStrictlySortedBy};
+ghost use Rattle.osm_model.specs.Elements.{ref_cmp};
 ghost use Rattle.osm_model.specs.declared.reference.Ref.{Ref};
 ghost use Rattle.tree_node.specs.NodeRefs.{binding_of, bindings_of};
 ghost use Rattle.tree_node.specs.Outcomes.{Outcome};
@@ -37,6 +39,7 @@ pub fn find_in_box<'a, S: Shelf<'a>>(
     area: &BoxArea<'_>,
     tally: &mut Tally,
 ) -> Result<Vec<Ref>, EvalFault>
+    ensures rising { IfOk result (λ names. IsStrictlySortedBy ref_cmp names.items) }
     ensures stays { SameNodes (S.holds shelf.old) (S.holds shelf.new) }
     ensures grows { (bytes : List ℕ) → S.used shelf.old bytes → S.used shelf.new bytes }
     ensures walked { OnOk result (HasWalked

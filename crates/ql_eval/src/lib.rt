@@ -3,6 +3,7 @@
 #![tactic(auto)]
 
 mod boxes;
+mod chains;
 mod fault;
 mod kinds;
 mod links;

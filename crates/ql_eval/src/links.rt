@@ -1,7 +1,9 @@
 //! What objects list, and what lists them, asked of a source.
 
-ghost use Rattle.std.specs.Prelude.{◌≡◌, ℕ, List, OnOk};
+ghost use Rattle.std.specs.Prelude.{◌≡◌, ℕ, IfOk, List, OnOk};
 ghost use Rattle.std.specs.List.{Contains};
+ghost use Rattle.std.specs.List.Sorted.{IsStrictlySortedBy};
+ghost use Rattle.osm_model.specs.Elements.{ref_cmp};
 ghost use Rattle.osm_model.specs.declared.kind.Kind.{Kind};
 ghost use Rattle.tree_node.specs.Outcomes.{Outcome};
 ghost use Rattle.osm_index.specs.Publications.{IsPublication, Publication};
@@ -29,6 +31,7 @@ pub(crate) fn listed_by<W: Source>(
 ) -> Result<Vec<Ref>, EvalFault>
     ensures later { W.later source.old source.new }
     ensures walked { OnOk result (W.walked source.old source.new) }
+    ensures rising { IfOk result (λ refs. IsStrictlySortedBy ref_cmp refs.items) }
     ensures answer { (p : Publication) → IsPublication p → W.under source.old p → AreThere p.objects names.now
         → Outcome cause_of_evaluation (λ refs. IsSetOf refs.items (From names.now (IsListedOf p.objects))) (NeededBy p (From names.now IsParentAsk))
         (record { held = W.holds source.new; before = W.used source.old; after = W.used source.new }) result }
@@ -73,6 +76,7 @@ pub(crate) fn those_there<W: Source>(
 ) -> Result<Vec<Ref>, EvalFault>
     ensures later { W.later source.old source.new }
     ensures walked { OnOk result (W.walked source.old source.new) }
+    ensures rising { IfOk result (λ refs. IsStrictlySortedBy ref_cmp refs.items) }
     ensures answer { (p : Publication) → IsPublication p → W.under source.old p
         → Outcome cause_of_evaluation (λ refs. IsSetOf refs.items (From names.now (IsThereAs p.objects))) (NeededBy p (From names.now IsObjectAsk))
         (record { held = W.holds source.new; before = W.used source.old; after = W.used source.new }) result }
@@ -108,6 +112,7 @@ pub(crate) fn listing<W: Source>(
 ) -> Result<Vec<Ref>, EvalFault>
     ensures later { W.later source.old source.new }
     ensures walked { OnOk result (W.walked source.old source.new) }
+    ensures rising { IfOk result (λ refs. IsStrictlySortedBy ref_cmp refs.items) }
     ensures answer { (p : Publication) → IsPublication p → W.under source.old p
         → Outcome cause_of_evaluation (λ refs. IsSetOf refs.items (From names.now (ListsIt p.objects kind))) (NeededBy p (From names.now (IsBackAsk kind)))
         (record { held = W.holds source.new; before = W.used source.old; after = W.used source.new }) result }
@@ -148,6 +153,7 @@ pub(crate) fn below<W: Source>(
 ) -> Result<Vec<Ref>, EvalFault>
     ensures later { W.later source.old source.new }
     ensures walked { OnOk result (W.walked source.old source.new) }
+    ensures rising { IfOk result (λ refs. IsStrictlySortedBy ref_cmp refs.items) }
     ensures answer { (p : Publication) → IsPublication p → W.under source.old p → AreThere p.objects names.now
         → Outcome cause_of_evaluation (λ refs. IsSetOf refs.items (λ r. IsListedIn p.objects names.now first last r × IsThere p.objects r))
         (NeededBy p (IsBelowAsk p.objects names.now first last))

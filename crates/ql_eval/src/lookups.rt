@@ -2,6 +2,8 @@
 
 ghost use Rattle.std.specs.Int.{w64};
 ghost use Rattle.std.specs.Prelude.{◌≡◌, ◌↔◌, ℕ, FitsSigned, IfOk, IsTrue, List, OnOk};
+ghost use Rattle.std.specs.List.Sorted.{IsStrictlySortedBy};
+ghost use Rattle.osm_model.specs.Elements.{ref_cmp};
 ghost use Rattle.osm_model.specs.Sets.{object_at};
 ghost use Rattle.tree_node.specs.Outcomes.{Outcome};
 ghost use Rattle.tree_node.specs.Shelves.{SameNodes};
@@ -93,6 +95,7 @@ pub fn find_names<'a, S: Shelf<'a>>(
     question: &Question<'_>,
     tally: &mut Tally,
 ) -> Result<Vec<Ref>, EvalFault>
+    ensures rising { IfOk result (λ names. IsStrictlySortedBy ref_cmp names.items) }
     ensures stays { SameNodes (S.holds shelf.old) (S.holds shelf.new) }
     ensures grows { (bytes : List ℕ) → S.used shelf.old bytes → S.used shelf.new bytes }
     ensures walked { OnOk result (HasWalked

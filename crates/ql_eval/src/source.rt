@@ -1,6 +1,8 @@
 //! What an evaluation asks.
 
-ghost use Rattle.std.specs.Prelude.{◌≡◌, ◌↔◌, ℕ, IsTrue, List, OnOk};
+ghost use Rattle.std.specs.Prelude.{◌≡◌, ◌↔◌, ℕ, IfOk, IsTrue, List, OnOk};
+ghost use Rattle.std.specs.List.Sorted.{IsStrictlySortedBy};
+ghost use Rattle.osm_model.specs.Elements.{ref_cmp};
 ghost use Rattle.osm_model.specs.Sets.{object_at};
 ghost use Rattle.tree_node.specs.Outcomes.{Outcome};
 ghost use Rattle.tree_node.specs.Shelves.{SameNodes};
@@ -53,6 +55,7 @@ pub trait Source {
 
     /// The objects that a question is after, as a set.
     fn names(&mut self, question: &Question<'_>) -> Result<Vec<Ref>, EvalFault>
+        ensures rising { IfOk result (λ names. IsStrictlySortedBy ref_cmp names.items) }
         ensures later { later self.old self.new }
         ensures walked { OnOk result (walked self.old self.new) }
         ensures answer { (p : Publication) → IsPublication p → under self.old p → HasNoNulIn (question_of question.now)
@@ -70,6 +73,7 @@ pub trait Source {
 
     /// The nodes in a box, as a set.
     fn nodes_in(&mut self, area: &BoxArea<'_>) -> Result<Vec<Ref>, EvalFault>
+        ensures rising { IfOk result (λ names. IsStrictlySortedBy ref_cmp names.items) }
         ensures later { later self.old self.new }
         ensures walked { OnOk result (walked self.old self.new) }
         ensures answer { (p : Publication) → IsPublication p → under self.old p

@@ -18,7 +18,7 @@ use Rattle.ql_syntax.specs.declared.recursion.Recursion.TheVariants as recursion
 use Rattle.ql_plain.specs.declared.links.Link.{Link}
 use Rattle.ql_plain.specs.declared.step.Step.{Step}
 use Rattle.ql_plain.specs.Adding.{Adds, From}
-use Rattle.ql_plain.specs.internal.Founds.{IsClosure}
+use Rattle.ql_plain.specs.Founds.{IsClosure}
 use Rattle.ql_plain.specs.internal.Linked.{AreLinks}
 use Rattle.ql_plain.specs.internal.Steps.{AreSteps, IsPath, IsStep, More, One}
 

@@ -4,4 +4,5 @@ pub mod NamedSets
 pub mod Adding
 pub mod ObjectTests
 pub mod Runs
+pub mod Founds
 pub mod internal

@@ -2,5 +2,4 @@
 pub mod Linked
 pub mod Tests
 pub mod Steps
-pub mod Founds
 pub mod Seeking

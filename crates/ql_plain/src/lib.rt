@@ -31,6 +31,7 @@ pub use laws::{
     printed_once_in_order,
 };
 pub use filter_test::passes_alone;
+pub use found::Found;
 pub use items::add_items;
 pub use named_set::NamedSet;
 pub use ref_sets::{is_in, kept, tidy, unite};

@@ -23,7 +23,7 @@ use Rattle.ql_plain.proofs.shared.Adding.{in_rest, first_or_in_rest, here, none}
 use Rattle.ql_plain.proofs.Mapped.{contains_mapped}
 use Rattle.ql_plain.specs.Meanings.{After, AfterAll, IsSetOf, Means, Prints, cut, given_by, is_in, nothing_named, printed_of, put, told}
 use Rattle.ql_plain.specs.Values.{Env, IsSelected, Passes}
-use Rattle.ql_plain.specs.internal.Founds.{has}
+use Rattle.ql_plain.specs.Founds.{has}
 
 -- ---- one set
 
