@@ -5,6 +5,7 @@ pub mod NameLemmas
 pub mod StepLemmas
 pub mod EachLemmas
 pub mod LoopLemmas
+pub mod KindLemmas
 pub mod LinkLemmas
 pub mod ChainLemmas
 pub mod BoxLemmas
