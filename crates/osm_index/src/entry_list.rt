@@ -52,8 +52,8 @@ impl EntryList {
     }
 
     /// The entries by rising key, each once, as slices of this list. They are sorted in n log n where
-    /// they don't rise already; equal entries come once. It takes the memory of two slices an entry, and of
-    /// 48 bytes more while it sorts.
+    /// they don't rise already; equal entries come once. It takes the memory of two slices an entry, and 48
+    /// bytes more an entry while it sorts.
     pub fn sorted(&self, alloc: Global) -> Result<Vec<Entry<'_>>, AllocError>
         // The keys strictly rise,
         ensures rising { IfOk result (λ entries. AreRisingFrom None (keys_of (bindings_of entries.items))) }

@@ -31,7 +31,11 @@ use std::alloc::Global;
 use tree_node::{Shelf, Tree};
 use tree_walk::{KeyRange, Tally};
 
-/// The object of this name, if it is there.
+/// The object of this name, if it is there: one walk over the object tree (docs/FORMATS.md).
+///
+/// Refused where the walk is (E1), where what it found isn't the line of that object (E2), and where memory runs
+/// out. Over the trees of a publisher only a missing node and memory refuse it, unless two nodes have one digest. What
+/// was used until then stays used.
 pub fn find_object<'a, S: Shelf<'a>>(
     alloc: Global,
     shelf: &mut S,
@@ -58,7 +62,11 @@ pub fn find_object<'a, S: Shelf<'a>>(
     object_in(alloc, name, &found)
 }
 
-/// The objects that a question is after, as a set.
+/// The objects that a question is after, by rising kind and id, each once: one walk over one tree (docs/FORMATS.md).
+///
+/// Refused where the walk is (E1), where an entry that it found isn't of its tree's form (E2), and where memory runs
+/// out. Over the trees of a publisher only a missing node and memory refuse it, unless two nodes have one digest. What
+/// was used until then stays used. Keys and values with a NUL are in no tag; for them other objects may come.
 pub fn find_names<'a, S: Shelf<'a>>(
     alloc: Global,
     shelf: &mut S,

@@ -19,8 +19,7 @@ pub fn tidy(refs: &mut Vec<Ref>)
     refs.dedup();
 }
 
-/// Sorts what some sets have, one after the other, and drops repeated references: a merge of the sets. Where memory runs
-/// out, they stay as they were.
+/// Sorts what some sets have, one after the other, and drops repeated references: a merge of the sets.
 pub fn unite(refs: &mut Vec<Ref>) -> Result<(), AllocError>
     ensures { OnOk result (IsSetOf refs.new.items (Contains refs.old.items)) }
 {
