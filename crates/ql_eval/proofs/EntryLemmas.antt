@@ -11,8 +11,7 @@ use Rattle.osm_model.specs.declared.kind.Kind.{Kind}
 use Rattle.osm_model.specs.declared.reference.Ref.{Ref}
 use Rattle.osm_model.specs.declared.tag.Tag.{Tag}
 use Rattle.tree_node.specs.Nodes.{Binding}
-use Rattle.tree_node.specs.Outcomes.{NoMemory, Outcome, ShelfUse}
-use Rattle.tree_node.proofs.shared.OutcomeLaws.{Nodes, outcome_same, uses}
+use Rattle.tree_node.specs.Outcomes.{NoMemory}
 use Rattle.tree_node.specs.declared.tree.Tree.{Tree}
 use Rattle.tree_node.specs.declared.tree.Tree.TheVariants.{Objects, Tags, Cells, Backs}
 use Rattle.tree_walk.specs.Choices.{AreThose}
@@ -29,10 +28,10 @@ use Rattle.osm_index.proofs.shared.RangeLaws.{back_found, fits_of_lists, kind_fo
 use Rattle.ql_plain.specs.Meanings.{IsSetOf}
 use Rattle.ql_plain.specs.Values.{IsRefOf}
 use Rattle.ql_eval.specs.Faults.{cause_of_evaluation}
-use Rattle.ql_eval.specs.Questions.{Answers, Ask, IsAskedBy, Listed, NeededBy, NeedsAsk, OfKind, Question, ThatList, WithKey, WithTag}
+use Rattle.ql_eval.specs.Questions.{Answers, HasNoNulIn, OfKind, Question, ThatList, WithKey, WithTag, range_asked, tree_asked}
 use Rattle.ql_eval.specs.declared.fault.EvalFault.{EvalFault}
 use Rattle.ql_eval.specs.declared.fault.EvalFault.TheVariants as faults
-use Rattle.ql_eval.specs.internal.Entries.{HasUnread, IsSaid, Names}
+use Rattle.ql_eval.specs.internal.Entries.{HasUnread, IsSaid, Names, TargetFits}
 use Rattle.ql_eval.proofs.NameLemmas.{one_named}
 
 -- ---- each entry names the object that it is of
@@ -131,36 +130,25 @@ module _ (p : Publication) (is : IsPublication p) (found : List Binding) where
 
 -- ---- reading what was found
 
--- the entries that a range found were read, or memory was refused
-pub names_read : (p : Publication) → IsPublication p → (tree : Tree) (range : Range) (found : List Binding) → AreThose (IsEntryIn range) (p.entries tree) found → (result : Result (Vec Ref Global) EvalFault)
-    → IfOk result (λ names. IsSetOf names.items (IsSaid (Names tree) found)) → IfErr result (λ fault. (fault ≡ faults.Memory) ⊎ ((fault ≡ faults.Form) × HasUnread tree found))
-    → MatchResult result (λ names. (all : List Binding) × AreThose (IsEntryIn range) (p.entries tree) all × IsSetOf names.items (IsSaid (Names tree) all)) (λ fault. cause_of_evaluation fault ≡ NoMemory)
-names_read p is tree range found those (Ok names) read refused = (found, those, read)
-names_read p is tree range found those (Err fault) read refused = elim refused [
-  | inl memory ↦ ap cause_of_evaluation memory
-  | inr form ↦ absurd (never_unread p is tree found range those form.1)
-]
-
 pub set_as : (names : List Ref) (This That : Ref → Type 0) → ((r : Ref) → This r ↔ That r) → IsSetOf names This → IsSetOf names That
 set_as names This That same set = record { rising = set.rising; members = λ r. ((λ has. (same r).0 ((set.members r).0 has)), (λ is. (set.members r).1 ((same r).1 is))) }
 
--- ---- questions that one walk answers
+-- what the range of a question finds names the objects that it is after
+pub named : (p : Publication) → IsPublication p → (question : Question) → HasNoNulIn question → TargetFits question → (found : List Binding)
+    → AreThose (IsEntryIn (range_asked question)) (p.entries (tree_asked question)) found → (r : Ref) → IsSaid (Names (tree_asked question)) found r ↔ IsRefOf p.objects (Answers question) r
+named p is (OfKind kind) clean fits found those = kind_named p is found kind those
+named p is (WithTag key value kind) clean fits found those = tag_named p is found key value kind clean.0 clean.1 those
+named p is (WithKey key) clean fits found those = key_named p is found key clean those
+named p is (ThatList target kind) clean fits found those = list_named p is found target kind fits those
 
--- how a walk ends whose entries were read
-abbrev pub FoundWell : Publication → Tree → Range → ShelfUse → Result (Vec Ref Global) EvalFault → Type 0
-FoundWell p tree range shelf result =
-    Outcome cause_of_evaluation (λ names. (found : List Binding) × AreThose (IsEntryIn range) (p.entries tree) found × IsSetOf names.items (IsSaid (Names tree) found)) (NeedsAsk p (Listed tree range)) shelf result
-
--- how a question is answered
-abbrev pub AnsweredWell : Publication → Question → ShelfUse → Result (Vec Ref Global) EvalFault → Type 0
-AnsweredWell p question shelf result =
-    Outcome cause_of_evaluation (λ names. IsSetOf names.items (IsRefOf p.objects (Answers question))) (NeededBy p (IsAskedBy question)) shelf result
-
-pub answered : (p : Publication) (question : Question) (tree : Tree) (range : Range) {held old new : Nodes} (result : Result (Vec Ref Global) EvalFault) → ((ask : Ask) → IsAskedBy question ask ↔ (ask ≡ Listed tree range))
-    → ((found : List Binding) → AreThose (IsEntryIn range) (p.entries tree) found → (r : Ref) → IsSaid (Names tree) found r ↔ IsRefOf p.objects (Answers question) r)
-    → FoundWell p tree range (uses held old new) result → AnsweredWell p question (uses held old new) result
-answered p question tree range result asks named so = outcome_same
-    (λ x needs. record { ask = Listed tree range; asked = (asks (Listed tree range)).1 refl; needs = needs })
-    (λ names is x needs. subst (λ (ask : Ask). NeedsAsk p ask x) ((asks needs.ask).0 needs.asked) needs.needs)
-    (λ names (found, those, set). set_as names.items (IsSaid (Names tree) found) (IsRefOf p.objects (Answers question)) (named found those) set)
-    so
+-- the names that a question's range has, read
+pub answered : (p : Publication) → IsPublication p → (question : Question) → HasNoNulIn question → TargetFits question → (found : List Binding)
+    → AreThose (IsEntryIn (range_asked question)) (p.entries (tree_asked question)) found → (result : Result (Vec Ref Global) EvalFault)
+    → IfOk result (λ names. IsSetOf names.items (IsSaid (Names (tree_asked question)) found)) → IfErr result (λ fault. (fault ≡ faults.Memory) ⊎ ((fault ≡ faults.Form) × HasUnread (tree_asked question) found))
+    → MatchResult result (λ names. IsSetOf names.items (IsRefOf p.objects (Answers question))) (λ fault. cause_of_evaluation fault ≡ NoMemory)
+answered p is question clean fits found those (Ok names) read refused =
+    set_as names.items (IsSaid (Names (tree_asked question)) found) (IsRefOf p.objects (Answers question)) (named p is question clean fits found those) read
+answered p is question clean fits found those (Err fault) read refused = elim refused [
+  | inl memory ↦ ap cause_of_evaluation memory
+  | inr form ↦ absurd (never_unread p is (tree_asked question) found (range_asked question) those form.1)
+]

@@ -3,4 +3,10 @@ pub mod WalkLemmas
 pub mod ObjectLemmas
 pub mod NameLemmas
 pub mod StepLemmas
+pub mod EachLemmas
+pub mod LoopLemmas
+pub mod KindLemmas
+pub mod LinkLemmas
+pub mod ChainLemmas
+pub mod BoxLemmas
 pub mod EntryLemmas

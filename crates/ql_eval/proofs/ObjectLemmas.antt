@@ -18,10 +18,10 @@ use Rattle.tree_node.specs.Nodes.{Binding}
 use Rattle.tree_node.specs.declared.item.Item.{Item}
 use Rattle.osm_index.specs.Entries.{object_entry}
 use Rattle.osm_index.proofs.shared.Members.{here, none}
-use Rattle.osm_index.proofs.shared.OneObject.{is_element, object_found}
+use Rattle.osm_index.proofs.shared.OneObject.{is_element, object_found, object_there}
 use Rattle.ql_eval.specs.declared.fault.EvalFault.{EvalFault}
 use Rattle.ql_eval.specs.declared.fault.EvalFault.TheVariants.{Memory}
-use Rattle.ql_eval.specs.internal.Entries.{IsFoundAs}
+use Rattle.ql_eval.specs.internal.Entries.{IsFoundAs, IsThere}
 
 -- what reading a line gives that puts this object
 abbrev pub IsPutOr : Result (Option Change) OplFault → Element → Type 0
@@ -52,6 +52,13 @@ none_found objects r [] nowhere is = at (object_at objects r) refl
     at : (o : Option Element) → object_at objects r ≡ o → object_at objects r ≡ None
     at None e = e
     at (Some o) e = absurd (none (object_entry o) ((is (object_entry o)).1 (o, e, refl)))
+
+-- which no object of the list has
+pub none_there : (objects : List Element) (r : Ref) → IsObjectSet objects → object_at objects r ≡ None → ¬ IsThere objects r
+none_there objects r set nowhere (o, there, named) =
+    let at : object_at objects r ≡ Some o = subst (λ (s : Ref). object_at objects s ≡ Some o) named (object_there objects o set there) in
+    let both : None ≡ Some o = sym nowhere ∙ at in
+    cc
 
 -- else its entry, first
 pub first_found : (objects : List Element) (r : Ref) (found : List Item) (item : Item) → slice_get found 0 ≡ Some item → IsObjectSet objects → IsFoundAs objects r (bindings_of found)

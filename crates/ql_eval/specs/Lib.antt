@@ -2,4 +2,5 @@ pub mod Lengths
 pub mod Openings
 pub mod Faults
 pub mod Questions
+pub mod Asks
 pub mod internal

@@ -10,8 +10,9 @@ use Rattle.osm_model.specs.declared.kind.Kind.{Kind}
 use Rattle.osm_model.specs.declared.reference.Ref.{Ref}
 use Rattle.tree_node.specs.declared.tree.Tree.{Tree}
 use Rattle.tree_node.specs.declared.tree.Tree.TheVariants.{Objects, Tags, Backs}
+use Rattle.tree_walk.specs.Choices.{IsCount}
 use Rattle.tree_walk.specs.Ranges.{Range}
-use Rattle.tree_walk.specs.Walks.{IsMet, IsMetCounted}
+use Rattle.tree_walk.specs.Walks.{IsEntryIn, IsMet, IsMetCounted}
 use Rattle.osm_index.specs.Publications.{Publication, tree_in}
 use Rattle.osm_index.specs.Ranges.{IsKindOf, back_range, kind_range, object_range, tag_key_range, tag_range}
 
@@ -50,12 +51,30 @@ pub data Question : Type 0 where
   -- the objects of a kind, or of all kinds, that list an object, which needn't be in the set
   ThatList : Ref → Option Kind → Question
 
--- the question asks for this
-abbrev pub IsAskedBy : Question → Ask → Type 0
-IsAskedBy (OfKind kind) ask = ask ≡ Listed Objects (kind_range kind)
-IsAskedBy (WithTag key value kind) ask = ask ≡ Listed Tags (tag_range key value kind)
-IsAskedBy (WithKey key) ask = ask ≡ Listed Tags (tag_key_range key)
-IsAskedBy (ThatList target kind) ask = ask ≡ Listed Backs (back_range target kind)
+-- the tree that a question asks
+abbrev pub tree_asked : Question → Tree
+tree_asked (OfKind kind) = Objects
+tree_asked (WithTag key value kind) = Tags
+tree_asked (WithKey key) = Tags
+tree_asked (ThatList target kind) = Backs
+
+-- and the keys there
+abbrev pub range_asked : Question → Range
+range_asked (OfKind kind) = kind_range kind
+range_asked (WithTag key value kind) = tag_range key value kind
+range_asked (WithKey key) = tag_key_range key
+range_asked (ThatList target kind) = back_range target kind
+
+-- what a question asks, and what asking for the number of its entries asks
+abbrev pub names_ask : Question → Ask
+names_ask question = Listed (tree_asked question) (range_asked question)
+
+abbrev pub count_ask : Question → Ask
+count_ask question = Counted (tree_asked question) (range_asked question)
+
+-- so many entries are in the question's range
+abbrev pub IsCountOf : Publication → Question → ℕ → Type 0
+IsCountOf p question count = IsCount (IsEntryIn (range_asked question)) (p.entries (tree_asked question)) count
 
 -- the object is one that the question is after
 abbrev pub Answers : Question → Element → Type 0

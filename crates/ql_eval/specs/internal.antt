@@ -1,3 +1,7 @@
 -- Words that only private clauses cite: nothing that a reader of the promises must believe.
 pub mod Entries
 pub mod Views
+pub mod Boxes
+pub mod Kinds
+pub mod Links
+pub mod Chains

@@ -2,17 +2,25 @@
 //! are written.
 #![tactic(auto)]
 
+mod boxes;
+mod chains;
 mod fault;
+mod kinds;
+mod links;
 mod lookups;
 mod names;
 mod objects;
 mod opening;
+mod over;
+mod placed;
 mod question;
 mod sink;
+mod source;
 mod walks;
 
 pub use fault::EvalFault;
-pub use lookups::{find_names, find_object};
+pub use boxes::find_in_box;
+pub use lookups::{count_names, find_names, find_object, has_object};
 pub use opening::{ManifestFault, open_manifest};
 pub use question::Question;
 pub use sink::Sink;

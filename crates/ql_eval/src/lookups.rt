@@ -1,33 +1,32 @@
 //! Questions, asked of a shelf under a manifest.
 
 ghost use Rattle.std.specs.Int.{w64};
-ghost use Rattle.std.specs.Prelude.{◌≡◌, ℕ, FitsSigned, List, OnOk};
+ghost use Rattle.std.specs.Prelude.{◌≡◌, ◌↔◌, ℕ, FitsSigned, IfOk, IsTrue, List, OnOk};
+ghost use Rattle.std.specs.List.Sorted.{IsStrictlySortedBy};
+ghost use Rattle.osm_model.specs.Elements.{ref_cmp};
 ghost use Rattle.osm_model.specs.Sets.{object_at};
-ghost use Rattle.tree_node.specs.Nodes.{Binding};
 ghost use Rattle.tree_node.specs.Outcomes.{Outcome};
 ghost use Rattle.tree_node.specs.Shelves.{SameNodes};
-ghost use Rattle.tree_walk.specs.Choices.{AreThose};
 ghost use Rattle.tree_walk.specs.Walked.{HasWalked};
-ghost use Rattle.tree_walk.specs.Walks.{IsEntryIn};
 ghost use Rattle.osm_index.specs.Publications.{IsPublication, Publication};
 ghost use Rattle.ql_plain.specs.Meanings.{IsSetOf};
 ghost use Rattle.ql_plain.specs.Values.{IsRefOf};
 ghost use Rattle.ql_eval.specs.Faults.{cause_of_evaluation};
 ghost use Rattle.ql_eval.specs.Openings.{IsUnder};
-ghost use Rattle.ql_eval.specs.Questions.{Answers, HasNoNulIn, IsAskedBy, Listed, NeededBy, NeedsAsk, object_ask};
-ghost use Rattle.ql_eval.specs.internal.Entries.{IsSaid, Names};
+ghost use Rattle.ql_eval.specs.Questions.{Answers, HasNoNulIn, IsCountOf, NeedsAsk, count_ask, names_ask, object_ask, range_asked, tree_asked};
+ghost use Rattle.ql_eval.specs.internal.Entries.{IsThere, TargetFits};
 ghost use Rattle.ql_eval.specs.internal.Views.{question_of};
 
 use crate::fault::EvalFault;
 use crate::names::names_in;
 use crate::objects::object_in;
 use crate::question::Question;
-use crate::walks::entries_in;
+use crate::walks::{count_in, entries_in};
 use osm_index::{
     Manifest, OwnedRange, back_range, kind_range, reference_key, tag_key_range, tag_range,
 };
 use osm_model::{Object, Ref};
-use std::alloc::Global;
+use std::alloc::{AllocError, Global};
 use tree_node::{Shelf, Tree};
 use tree_walk::{KeyRange, Tally};
 
@@ -62,6 +61,36 @@ pub fn find_object<'a, S: Shelf<'a>>(
     object_in(alloc, name, &found)
 }
 
+/// Whether the object of this name is there. What the tree says of it isn't read.
+pub fn has_object<'a, S: Shelf<'a>>(
+    alloc: Global,
+    shelf: &mut S,
+    manifest: &Manifest,
+    name: Ref,
+    tally: &mut Tally,
+) -> Result<bool, EvalFault>
+    ensures stays { SameNodes (S.holds shelf.old) (S.holds shelf.new) }
+    ensures grows { (bytes : List ℕ) → S.used shelf.old bytes → S.used shelf.new bytes }
+    ensures walked { OnOk result (HasWalked
+        (record { held = S.holds shelf.new; before = S.used shelf.old; after = S.used shelf.new })
+        tally.old.calls tally.new.calls tally.old.fetches tally.new.fetches) }
+    ensures answer { (p : Publication) → IsPublication p → IsUnder p manifest.now
+        → Outcome cause_of_evaluation (λ there. IsTrue there ↔ IsThere p.objects name) (NeedsAsk p (object_ask name))
+        (record { held = S.holds shelf.new; before = S.used shelf.old; after = S.used shelf.new }) result }
+{
+    let key = reference_key(name);
+    let keys = KeyRange {
+        lo: &key,
+        hi: &key,
+        under: false,
+    };
+    let found = entries_in(alloc, shelf, manifest, Tree::Objects, &keys, tally)?;
+    match found.first() {
+        Some(_) => Ok(true),
+        None => Ok(false),
+    }
+}
+
 /// The objects that a question is after, by rising kind and id, each once: one walk over one tree (docs/FORMATS.md).
 ///
 /// Refused where the walk is (E1), where an entry that it found isn't of its tree's form (E2), and where memory runs
@@ -74,6 +103,7 @@ pub fn find_names<'a, S: Shelf<'a>>(
     question: &Question<'_>,
     tally: &mut Tally,
 ) -> Result<Vec<Ref>, EvalFault>
+    ensures rising { IfOk result (λ names. IsStrictlySortedBy ref_cmp names.items) }
     ensures stays { SameNodes (S.holds shelf.old) (S.holds shelf.new) }
     ensures grows { (bytes : List ℕ) → S.used shelf.old bytes → S.used shelf.new bytes }
     ensures walked { OnOk result (HasWalked
@@ -81,26 +111,62 @@ pub fn find_names<'a, S: Shelf<'a>>(
         tally.old.calls tally.new.calls tally.old.fetches tally.new.fetches) }
     ensures answer { (p : Publication) → IsPublication p → IsUnder p manifest.now → HasNoNulIn (question_of question.now)
         → Outcome cause_of_evaluation (λ names. IsSetOf names.items (IsRefOf p.objects (Answers (question_of question.now))))
-        (NeededBy p (IsAskedBy (question_of question.now)))
+        (NeedsAsk p (names_ask (question_of question.now)))
         (record { held = S.holds shelf.new; before = S.used shelf.old; after = S.used shelf.new }) result }
 {
+    let tree = tree_of(question);
+    let keys = keys_of(alloc, question)?;
+    let found = entries_in(alloc, shelf, manifest, tree, &keys.as_range(), tally)?;
+    names_in(alloc, tree, &found)
+}
+
+/// The number of entries in a question's range. For a key that is the number of objects that have it.
+pub fn count_names<'a, S: Shelf<'a>>(
+    alloc: Global,
+    shelf: &mut S,
+    manifest: &Manifest,
+    question: &Question<'_>,
+    tally: &mut Tally,
+) -> Result<u64, EvalFault>
+    ensures stays { SameNodes (S.holds shelf.old) (S.holds shelf.new) }
+    ensures grows { (bytes : List ℕ) → S.used shelf.old bytes → S.used shelf.new bytes }
+    ensures walked { OnOk result (HasWalked
+        (record { held = S.holds shelf.new; before = S.used shelf.old; after = S.used shelf.new })
+        tally.old.calls tally.new.calls tally.old.fetches tally.new.fetches) }
+    ensures answer { (p : Publication) → IsPublication p → IsUnder p manifest.now
+        → Outcome cause_of_evaluation (IsCountOf p (question_of question.now)) (NeedsAsk p (count_ask (question_of question.now)))
+        (record { held = S.holds shelf.new; before = S.used shelf.old; after = S.used shelf.new }) result }
+{
+    let keys = keys_of(alloc, question)?;
+    let count = count_in(alloc, shelf, manifest, tree_of(question), &keys.as_range(), tally)?;
+    Ok(count)
+}
+
+/// The tree that a question asks.
+fn tree_of(question: &Question<'_>) -> Tree
+    ensures { result ≡ tree_asked (question_of question.now) }
+{
     match question {
-        Question::OfKind(kind) => {
-            let keys = kind_range(alloc, *kind)?;
-            names_under(alloc, shelf, manifest, Tree::Objects, &keys, tally)
-        }
-        Question::WithTag(key, value, kind) => {
-            let keys = tag_range(alloc, key, value, *kind)?;
-            names_under(alloc, shelf, manifest, Tree::Tags, &keys, tally)
-        }
-        Question::WithKey(key) => {
-            let keys = tag_key_range(alloc, key)?;
-            names_under(alloc, shelf, manifest, Tree::Tags, &keys, tally)
-        }
+        Question::OfKind(_) => Tree::Objects,
+        Question::WithTag(_, _, _) => Tree::Tags,
+        Question::WithKey(_) => Tree::Tags,
+        Question::ThatList(_, _) => Tree::Backs,
+    }
+}
+
+/// The keys that a question asks for.
+fn keys_of(alloc: Global, question: &Question<'_>) -> Result<OwnedRange, AllocError>
+    ensures keys { IfOk result (λ keys. keys ≡ range_asked (question_of question.now)) }
+    // As its type says.
+    ensures fits { TargetFits (question_of question.now) }
+{
+    match question {
+        Question::OfKind(kind) => kind_range(alloc, *kind),
+        Question::WithTag(key, value, kind) => tag_range(alloc, key, value, *kind),
+        Question::WithKey(key) => tag_key_range(alloc, key),
         Question::ThatList(target, kind) => {
             note_id(*target);
-            let keys = back_range(alloc, *target, *kind)?;
-            names_under(alloc, shelf, manifest, Tree::Backs, &keys, tally)
+            back_range(alloc, *target, *kind)
         }
     }
 }
@@ -109,26 +175,3 @@ pub fn find_names<'a, S: Shelf<'a>>(
 fn note_id(_name: Ref)
     ensures { FitsSigned w64 _name.id }
 {}
-
-/// The objects that the entries of a tree in a range of keys name, as a set.
-fn names_under<'a, S: Shelf<'a>>(
-    alloc: Global,
-    shelf: &mut S,
-    manifest: &Manifest,
-    tree: Tree,
-    keys: &OwnedRange,
-    tally: &mut Tally,
-) -> Result<Vec<Ref>, EvalFault>
-    ensures stays { SameNodes (S.holds shelf.old) (S.holds shelf.new) }
-    ensures grows { (bytes : List ℕ) → S.used shelf.old bytes → S.used shelf.new bytes }
-    ensures walked { OnOk result (HasWalked
-        (record { held = S.holds shelf.new; before = S.used shelf.old; after = S.used shelf.new })
-        tally.old.calls tally.new.calls tally.old.fetches tally.new.fetches) }
-    ensures answer { (p : Publication) → IsPublication p → IsUnder p manifest.now
-        → Outcome cause_of_evaluation (λ names. (found : List Binding) × AreThose (IsEntryIn keys.now) (p.entries tree) found × IsSetOf names.items (IsSaid (Names tree) found))
-        (NeedsAsk p (Listed tree keys.now))
-        (record { held = S.holds shelf.new; before = S.used shelf.old; after = S.used shelf.new }) result }
-{
-    let found = entries_in(alloc, shelf, manifest, tree, &keys.as_range(), tally)?;
-    names_in(alloc, tree, &found)
-}

@@ -9,8 +9,9 @@ ghost use Rattle.ql_plain.specs.Meanings.{IsSetOf};
 ghost use Rattle.ql_eval.specs.internal.Entries.{HasUnread, IsSaid, Names};
 
 use crate::fault::EvalFault;
-use osm_index::{read_back_key, read_cell_key, read_cell_value, read_reference_key, read_tag_key};
-use osm_model::{Kind, Ref};
+use crate::placed::placed_by;
+use osm_index::{read_back_key, read_reference_key, read_tag_key};
+use osm_model::Ref;
 use ql_plain::tidy;
 use std::alloc::Global;
 use tree_node::{Item, Tree};
@@ -44,14 +45,7 @@ fn name_in(tree: Tree, item: &Item<'_>) -> Option<Ref>
             let found = read_tag_key(item.key)?;
             item.value.is_empty().then_some(found.name)
         }
-        Tree::Cells => {
-            let found = read_cell_key(item.key)?;
-            read_cell_value(item.value)?;
-            Some(Ref {
-                kind: Kind::Node,
-                id: found.id,
-            })
-        }
+        Tree::Cells => Some(placed_by(item)?.name),
         Tree::Backs => {
             let found = read_back_key(item.key)?;
             item.value.is_empty().then_some(found.referrer)

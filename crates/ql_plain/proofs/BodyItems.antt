@@ -8,10 +8,10 @@ use Rattle.osm_model.specs.declared.kind.Kind.{Kind}
 use Rattle.osm_model.specs.declared.kind.Kind.TheVariants as kinds
 use Rattle.osm_model.specs.declared.member.Member.{Member}
 use Rattle.osm_model.specs.declared.reference.Ref.{Ref}
-use Rattle.ql_plain.proofs.Adding.{adds_as, adds_nothing}
+use Rattle.ql_plain.proofs.shared.Adding.{adds_as, adds_nothing}
 use Rattle.ql_plain.proofs.Linking.{same_node}
 use Rattle.ql_plain.proofs.Mapped.{contains_mapped, from_mapped}
-use Rattle.ql_plain.specs.internal.Adding.{Adds, From}
+use Rattle.ql_plain.specs.Adding.{Adds, From}
 use Rattle.ql_plain.specs.internal.Linked.{IsNode, IsTarget, ListsMemberOf, ListsNodeOf, ListsOneOf}
 
 module _ (body : Body) where

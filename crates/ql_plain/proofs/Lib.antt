@@ -1,12 +1,10 @@
 pub mod References
-pub mod Adding
 pub mod ObjectLists
 pub mod Mapped
 pub mod Linking
 pub mod BodyItems
-pub mod Kept
+pub mod Keeping
 pub mod Seeking
-pub mod NamedLists
 pub mod Leading
 pub mod Listing
 pub mod FilterSets
@@ -15,8 +13,5 @@ pub mod OneLink
 pub mod Stepping
 pub mod Founding
 pub mod Paths
-pub mod Running
 pub mod Printing
-pub mod Answering
-pub mod MeaningLaws
 pub mod shared

@@ -10,10 +10,10 @@ use Rattle.osm_model.specs.declared.kind.Kind.{Kind}
 use Rattle.osm_model.specs.declared.kind.Kind.TheVariants as kinds
 use Rattle.osm_model.specs.declared.member.Member.{Member}
 use Rattle.osm_model.specs.declared.reference.Ref.{Ref}
-use Rattle.ql_plain.proofs.Adding.{adds_as, adds_nothing, adds_to_nothing}
+use Rattle.ql_plain.proofs.shared.Adding.{adds_as, adds_nothing, adds_to_nothing}
 use Rattle.ql_plain.proofs.Mapped.{contains_mapped, from_mapped}
 use Rattle.ql_plain.specs.declared.links.Link.{Link}
-use Rattle.ql_plain.specs.internal.Adding.{Adds, From}
+use Rattle.ql_plain.specs.Adding.{Adds, From}
 use Rattle.ql_plain.specs.internal.Linked.{AreLinks, IsLinkOf, IsLinkToMember, IsThere}
 
 pub on_ok_as : {T E : Type 0} (r : Result T E) {P Q : Type 0} → (P → Q) → OnOk r P → OnOk r Q

@@ -1,7 +1,7 @@
 -- Elements of a mapped list.
 use Rattle.std.proofs.Common.{◌≡◌, List, [], ◌∷◌, map, inl, inr, ap, subst}
 use Rattle.std.specs.List.{Contains}
-use Rattle.ql_plain.proofs.Adding.{in_rest, first_or_in_rest, here, none}
+use Rattle.ql_plain.proofs.shared.Adding.{in_rest, first_or_in_rest, here, none}
 
 pub contains_mapped : {X Y : Type 0} (f : X → Y) (xs : List X) (x : X) → Contains xs x → Contains (map f xs) (f x)
 contains_mapped f [] x has = absurd (none x has)

@@ -8,7 +8,7 @@ use Rattle.osm_model.proofs.shared.References.{refs_total}
 use Rattle.osm_model.specs.Elements.{Element, ref_cmp, reference}
 use Rattle.osm_model.specs.Sets.{object_at}
 use Rattle.osm_model.specs.declared.reference.Ref.{Ref}
-use Rattle.ql_plain.proofs.Adding.{in_rest, first_or_in_rest, here, none}
+use Rattle.ql_plain.proofs.shared.Adding.{in_rest, first_or_in_rest, here, none}
 use Rattle.ql_plain.proofs.References.{is_equal, same_reference}
 use Rattle.ql_plain.specs.internal.Linked.{IsThere}
 

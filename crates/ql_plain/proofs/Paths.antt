@@ -9,16 +9,16 @@ use Rattle.osm_model.specs.declared.body.Body.TheVariants as bodies
 use Rattle.osm_model.specs.declared.kind.Kind.{Kind}
 use Rattle.osm_model.specs.declared.kind.Kind.TheVariants as kinds
 use Rattle.osm_model.specs.declared.reference.Ref.{Ref}
-use Rattle.ql_plain.proofs.Adding.{adds_to_nothing}
-use Rattle.ql_plain.proofs.Kept.{set_as}
+use Rattle.ql_plain.proofs.shared.Adding.{adds_to_nothing}
+use Rattle.ql_plain.proofs.Keeping.{set_as}
 use Rattle.ql_plain.proofs.Selecting.{one_object}
 use Rattle.ql_plain.specs.Meanings.{IsSetOf}
 use Rattle.ql_plain.specs.Values.{IsAbove, IsBelow, IsChain, IsOfKind, IsParent, IsReached, IsRefOf, Link as Last, Longer}
 use Rattle.ql_syntax.specs.declared.recursion.Recursion.TheVariants as recursions
 use Rattle.ql_plain.specs.declared.links.Link.{Link}
 use Rattle.ql_plain.specs.declared.step.Step.{Step}
-use Rattle.ql_plain.specs.internal.Adding.{Adds, From}
-use Rattle.ql_plain.specs.internal.Founds.{IsClosure}
+use Rattle.ql_plain.specs.Adding.{Adds, From}
+use Rattle.ql_plain.specs.Founds.{IsClosure}
 use Rattle.ql_plain.specs.internal.Linked.{AreLinks}
 use Rattle.ql_plain.specs.internal.Steps.{AreSteps, IsPath, IsStep, More, One}
 

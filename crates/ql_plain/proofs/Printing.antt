@@ -9,7 +9,7 @@ use Rattle.std.proofs.lemmas.List.{append-nil, length-append, take-append-le, ta
 use Rattle.std.proofs.lemmas.List.Elements.{filter-append}
 use Rattle.osm_model.specs.Elements.{Element, reference}
 use Rattle.osm_model.specs.declared.reference.Ref.{Ref}
-use Rattle.ql_plain.proofs.Adding.{one_more}
+use Rattle.ql_plain.proofs.shared.Adding.{one_more}
 use Rattle.ql_plain.proofs.Founding.{has_it, it_is_had}
 use Rattle.ql_plain.specs.Meanings.{cut, is_in}
 

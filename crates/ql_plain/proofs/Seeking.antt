@@ -10,7 +10,7 @@ use Rattle.std.specs.declared.cmp.Ordering.TheVariants.{Less, Equal, Greater}
 use Rattle.osm_model.proofs.shared.References.{refs_total}
 use Rattle.osm_model.specs.Elements.{ref_cmp}
 use Rattle.osm_model.specs.declared.reference.Ref.{Ref}
-use Rattle.ql_plain.proofs.Kept.{earlier_below}
+use Rattle.ql_plain.proofs.Keeping.{earlier_below}
 use Rattle.ql_plain.proofs.References.{same_reference}
 use Rattle.ql_plain.specs.internal.Seeking.{AreAfter, AreBefore, IsAround, IsAt, IsSought, Names}
 

@@ -14,12 +14,13 @@ use Rattle.ql_syntax.specs.Filters as tree
 use Rattle.ql_syntax.specs.StatementViews.{filter_of, filters_of}
 use Rattle.ql_syntax.specs.declared.filter.Filter.{Filter}
 use Rattle.ql_syntax.specs.declared.pick.Pick.{Pick}
-use Rattle.ql_plain.proofs.Adding.{item_is_in, one_more}
-use Rattle.ql_plain.proofs.Kept.{earlier_below, set_as}
+use Rattle.ql_plain.proofs.shared.Adding.{item_is_in, one_more}
+use Rattle.ql_plain.proofs.Keeping.{earlier_below, set_as}
 use Rattle.ql_plain.proofs.Mapped.{contains_mapped}
 use Rattle.ql_plain.specs.Meanings.{IsSetOf}
 use Rattle.ql_plain.specs.Values.{Env, IsOnPath, IsPicked, IsRefOf, IsSelected, Passes}
-use Rattle.ql_plain.specs.internal.Tests.{IsLeft, IsNamedBy, PassesAlone}
+use Rattle.ql_plain.specs.ObjectTests.{PassesAlone}
+use Rattle.ql_plain.specs.internal.Tests.{IsLeft, IsNamedBy}
 
 -- a reference names one object of a set
 pub one_object : (objects : List Element) → IsObjectSet objects → (o p : Element) → Contains objects o → Contains objects p → reference o ≡ reference p → o ≡ p

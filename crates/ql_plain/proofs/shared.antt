@@ -1,2 +1,7 @@
 -- Lemmas for the crates above.
 pub mod Laws
+pub mod Adding
+pub mod NamedLists
+pub mod Running
+pub mod Answering
+pub mod MeaningLaws

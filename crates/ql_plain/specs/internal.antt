@@ -1,9 +1,5 @@
 -- Words that only private clauses cite: nothing that a reader of the promises must believe.
-pub mod NamedSets
-pub mod Adding
 pub mod Linked
 pub mod Tests
 pub mod Steps
-pub mod Founds
-pub mod Runs
 pub mod Seeking

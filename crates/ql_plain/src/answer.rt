@@ -3,7 +3,7 @@
 ghost use Rattle.std.specs.Prelude.{◌≡◌, ◌++◌, IfOk, OnOk};
 ghost use Rattle.ql_syntax.specs.StatementViews.{statement_of, statements_of};
 ghost use Rattle.ql_plain.specs.Meanings.{After, Means, told};
-ghost use Rattle.ql_plain.specs.internal.NamedSets.{lists_of};
+ghost use Rattle.ql_plain.specs.NamedSets.{lists_of};
 
 use crate::print::print;
 use crate::run::run;

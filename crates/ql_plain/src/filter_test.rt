@@ -5,7 +5,7 @@ ghost use Rattle.std.specs.List.{AllByRecursion};
 ghost use Rattle.osm_model.specs.Tagged.{HasKeyOf, HasTag};
 ghost use Rattle.ql_syntax.specs.StatementViews.{filter_of, filters_of};
 ghost use Rattle.ql_plain.specs.Values.{IsPicked};
-ghost use Rattle.ql_plain.specs.internal.Tests.{IsWithin, PassesAlone};
+ghost use Rattle.ql_plain.specs.ObjectTests.{IsWithin, PassesAlone};
 
 use osm_model::{Body, BoxArea, Object};
 use ql_syntax::{Filter, Pick};
@@ -35,15 +35,16 @@ fn is_kept(filters: &[Filter<'_>], object: &Object) -> bool
     ensures { IsTrue result ↔ AllByRecursion (λ filter. PassesAlone filter object.now) (filters_of filters.now) }
 {
     for filter in filters {
-        if !keeps(filter, object) {
+        if !passes_alone(filter, object) {
             return false;
         }
     }
     true
 }
 
-/// Whether a filter keeps it.
-fn keeps(filter: &Filter<'_>, object: &Object) -> bool
+/// Whether a filter keeps an object, as far as the object alone tells: filters by a set, by ids and by a path look at
+/// more, and keep it here.
+pub fn passes_alone(filter: &Filter<'_>, object: &Object) -> bool
     ensures { IsTrue result ↔ PassesAlone (filter_of filter.now) object.now }
 {
     match filter {

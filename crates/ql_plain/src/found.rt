@@ -3,7 +3,7 @@
 ghost use Rattle.std.specs.Prelude.{◌≡◌, [], OnOk};
 ghost use Rattle.std.specs.List.Sorted.{IsSortedByKey};
 ghost use Rattle.osm_model.specs.Elements.{ref_cmp};
-ghost use Rattle.ql_plain.specs.internal.Founds.{AddsName, Follows, IsClosure, IsTold};
+ghost use Rattle.ql_plain.specs.Founds.{AddsName, Follows, IsClosure, IsTold};
 
 use crate::step::{Step, steps_from};
 use osm_model::Ref;
@@ -62,7 +62,7 @@ impl Found {
     }
 
     /// Adds a reference, where it is new.
-    fn add(&mut self, name: Ref) -> Result<(), AllocError>
+    pub fn add(&mut self, name: Ref) -> Result<(), AllocError>
         requires { IsTold self.old }
         ensures told { OnOk result (IsTold self.new) }
         ensures added { OnOk result (AddsName name self.old.refs.items self.new.refs.items) }

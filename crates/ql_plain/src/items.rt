@@ -4,7 +4,7 @@ ghost use Rattle.std.specs.Prelude.{◌≡◌, ◌≤◌, ◌↔◌, IsTrue, OnO
 ghost use Rattle.std.specs.List.Sorted.{IsStrictlySortedBy};
 ghost use Rattle.osm_model.specs.Elements.{ref_cmp};
 ghost use Rattle.osm_model.specs.Membership.{BodyLists};
-ghost use Rattle.ql_plain.specs.internal.Adding.{Adds, From};
+ghost use Rattle.ql_plain.specs.Adding.{Adds, From};
 ghost use Rattle.ql_plain.specs.internal.Linked.{IsNode, IsTarget, IsThere, IsThereIn, ListsOneOf, ListsMemberOf, ListsNodeOf};
 
 use crate::seek::{even_place, seek};

@@ -6,7 +6,7 @@ ghost use Rattle.std.specs.List.Sorted.{IsStrictlySortedBy};
 ghost use Rattle.osm_model.specs.Elements.{ref_cmp};
 ghost use Rattle.ql_plain.specs.Meanings.{IsSetOf};
 ghost use Rattle.ql_plain.specs.Values.{IsOnPath, IsRefOf};
-ghost use Rattle.ql_plain.specs.internal.Adding.{Adds};
+ghost use Rattle.ql_plain.specs.Adding.{Adds};
 ghost use Rattle.ql_plain.specs.internal.Linked.{IsThereWith};
 
 use crate::kept_neighbours::{kept_above, kept_below};

@@ -4,7 +4,7 @@ ghost use Rattle.std.specs.Prelude.{IfOk, OnOk};
 ghost use Rattle.osm_model.specs.Sets.{IsObjectSet};
 ghost use Rattle.ql_plain.specs.Meanings.{IsSetOf};
 ghost use Rattle.ql_plain.specs.Values.{IsAbove, IsBelow, IsRefOf};
-ghost use Rattle.ql_plain.specs.internal.Adding.{Adds};
+ghost use Rattle.ql_plain.specs.Adding.{Adds};
 ghost use Rattle.ql_plain.specs.internal.Linked.{IsListedBy, IsThereIn, ListsOneOf};
 ghost use Rattle.std.specs.List.Sorted.{IsStrictlySortedBy};
 ghost use Rattle.osm_model.specs.Elements.{ref_cmp};

@@ -3,7 +3,7 @@
 ghost use Rattle.std.specs.Prelude.{IfOk, OnOk};
 ghost use Rattle.ql_plain.specs.Meanings.{IsSetOf};
 ghost use Rattle.ql_plain.specs.Values.{IsDown, IsRefOf, IsUp};
-ghost use Rattle.ql_plain.specs.internal.Adding.{Adds, From};
+ghost use Rattle.ql_plain.specs.Adding.{Adds, From};
 ghost use Rattle.ql_plain.specs.internal.Linked.{IsNoRelation};
 
 use crate::neighbours::{above, below};

@@ -5,7 +5,7 @@ ghost use Rattle.std.specs.List.{Contains};
 ghost use Rattle.std.specs.List.Sorted.{IsStrictlySortedBy};
 ghost use Rattle.osm_model.specs.Elements.{ref_cmp};
 ghost use Rattle.ql_plain.specs.Meanings.{IsSetOf};
-ghost use Rattle.ql_plain.specs.internal.Adding.{IsWanted};
+ghost use Rattle.ql_plain.specs.Adding.{IsWanted};
 
 use crate::seek::step_to;
 use osm_model::Ref;

@@ -8,8 +8,9 @@ ghost use Rattle.osm_model.specs.Sets.{IsObjectSet};
 ghost use Rattle.ql_syntax.specs.StatementViews.{filter_of, filters_of};
 ghost use Rattle.ql_plain.specs.Meanings.{IsSetOf};
 ghost use Rattle.ql_plain.specs.Values.{IsPicked, IsRefOf, IsSelected};
-ghost use Rattle.ql_plain.specs.internal.NamedSets.{lists_of};
-ghost use Rattle.ql_plain.specs.internal.Tests.{IsNamedBy, PassesAlone};
+ghost use Rattle.ql_plain.specs.NamedSets.{lists_of};
+ghost use Rattle.ql_plain.specs.ObjectTests.{PassesAlone};
+ghost use Rattle.ql_plain.specs.internal.Tests.{IsNamedBy};
 
 use crate::filter_test::is_taken;
 use crate::named::{via, with_ids};

@@ -3,7 +3,7 @@
 ghost use Rattle.std.specs.Prelude.{IfOk, OnOk};
 ghost use Rattle.ql_plain.specs.Meanings.{IsSetOf};
 ghost use Rattle.ql_plain.specs.Values.{IsIn, IsRefOf};
-ghost use Rattle.ql_plain.specs.internal.Adding.{Adds};
+ghost use Rattle.ql_plain.specs.Adding.{Adds};
 ghost use Rattle.ql_plain.specs.internal.Linked.{IsThereAs};
 
 use crate::ref_sets::tidy;

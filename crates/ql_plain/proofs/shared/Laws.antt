@@ -4,7 +4,7 @@ use Rattle.osm_model.specs.Elements.{Element}
 use Rattle.osm_model.specs.Sets.{IsObjectSet}
 use Rattle.ql_syntax.specs.Statements.{Statements}
 use Rattle.ql_plain.specs.Meanings.{Means}
-use Rattle.ql_plain.proofs.MeaningLaws as laws
+use Rattle.ql_plain.proofs.shared.MeaningLaws as laws
 
 -- it means one text over a set of objects
 pub one_meaning : (objects : List Element) (statements : Statements) (first second : List ℕ) → IsObjectSet objects → Means objects statements first → Means objects statements second → first ≡ second

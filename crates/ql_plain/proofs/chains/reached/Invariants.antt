@@ -1,6 +1,6 @@
 use Rattle.std.proofs.Common.{[], take}
-use Rattle.ql_plain.specs.internal.Adding.{Adds, From}
-use Rattle.ql_plain.specs.internal.Founds.{IsTold}
+use Rattle.ql_plain.specs.Adding.{Adds, From}
+use Rattle.ql_plain.specs.Founds.{IsTold}
 use Rattle.ql_plain.specs.internal.Steps.{IsStep}
 use Rattle.ql_plain.proofs.chains.reached.Given as goal
 

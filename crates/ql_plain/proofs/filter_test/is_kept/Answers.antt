@@ -4,10 +4,10 @@ use Rattle.std.specs.List.{AllByRecursion}
 use Rattle.ql_syntax.specs.Filters as tree
 use Rattle.ql_syntax.specs.StatementViews.{filter_of, filters_of}
 use Rattle.ql_syntax.specs.declared.filter.Filter.{Filter}
-use Rattle.ql_plain.proofs.Adding.{item_is_in, one_more}
+use Rattle.ql_plain.proofs.shared.Adding.{item_is_in, one_more}
 use Rattle.ql_plain.proofs.Mapped.{contains_mapped}
 use Rattle.ql_plain.proofs.Selecting.{all_at, all_push}
-use Rattle.ql_plain.specs.internal.Tests.{PassesAlone}
+use Rattle.ql_plain.specs.ObjectTests.{PassesAlone}
 use Rattle.ql_plain.proofs.filter_test.is_kept.Goals as goal
 
 pub loop-filter-preserved : goal.loop-filter-preserved
@@ -17,7 +17,7 @@ loop-filter-preserved c =
     let f = c.filter-item.result in
     let Is : tree.Filter → Type 0 = λ filter. PassesAlone filter c.args.object.now in
     subst (λ (fs : List tree.Filter). AllByRecursion Is fs) (sym (ap filters_of (one_more filters k f c.loop-filter-test.true c.filter-item.is) ∙ map-append filter_of _ (f ∷ [])))
-    (all_push Is _ (filter_of f) c.loop-filter.invariant (c.keeps.ensures.0 c.if-not-keeps.false))
+    (all_push Is _ (filter_of f) c.loop-filter.invariant (c.passes_alone.ensures.0 c.if-not-passes_alone.false))
 
 pub returns : goal.returns
 returns c = (
@@ -25,15 +25,15 @@ returns c = (
   (λ all. refl),
 )
 
-pub returns-then-not-keeps : goal.returns-then-not-keeps
-returns-then-not-keeps c = (
+pub returns-then-not-passes_alone : goal.returns-then-not-passes_alone
+returns-then-not-passes_alone c = (
   (λ is. cc),
   (λ all.
       let filters = c.args.filters.now in
       let k = c.loop-filter.filter-index in
       let f = c.filter-item.result in
       let has = contains_mapped filter_of filters f (item_is_in filters k f c.loop-filter-test.true c.filter-item.is) in
-      let one = c.keeps.ensures.1 (all_at (λ (filter : tree.Filter). PassesAlone filter c.args.object.now) (filters_of filters) (filter_of f) all has) in
-      let not = c.if-not-keeps.true in
+      let one = c.passes_alone.ensures.1 (all_at (λ (filter : tree.Filter). PassesAlone filter c.args.object.now) (filters_of filters) (filter_of f) all has) in
+      let not = c.if-not-passes_alone.true in
       cc),
 )

@@ -1,5 +1,5 @@
 use Rattle.std.proofs.Common.{refl}
-use Rattle.ql_plain.proofs.Adding.{adds_more, adds_one}
+use Rattle.ql_plain.proofs.shared.Adding.{adds_more, adds_one}
 use Rattle.ql_plain.specs.internal.Linked.{IsTarget}
 use Rattle.ql_plain.proofs.items.add_members.Goals as goal
 

@@ -2,7 +2,7 @@ use Rattle.std.proofs.Common.{◌≡◌, ◌++◌, ◌∷◌, [], FitsSigned, ge
 use Rattle.std.proofs.lemmas.List.{get_or_default}
 use Rattle.osm_model.specs.declared.kind.Kind.TheVariants.{Node}
 use Rattle.osm_model.specs.declared.reference.Ref.{Ref}
-use Rattle.ql_plain.proofs.Adding.{adds_more, adds_one}
+use Rattle.ql_plain.proofs.shared.Adding.{adds_more, adds_one}
 use Rattle.ql_plain.specs.internal.Linked.{IsNode}
 use Rattle.ql_plain.proofs.items.add_nodes.Goals as goal
 

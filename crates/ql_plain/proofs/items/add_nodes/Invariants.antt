@@ -1,5 +1,5 @@
 use Rattle.std.proofs.Common.{take}
-use Rattle.ql_plain.specs.internal.Adding.{Adds, From}
+use Rattle.ql_plain.specs.Adding.{Adds, From}
 use Rattle.ql_plain.specs.internal.Linked.{IsNode}
 use Rattle.ql_plain.proofs.items.add_nodes.Given as goal
 

@@ -2,7 +2,7 @@ use Rattle.std.proofs.Common.{List, IfOk, subst}
 use Rattle.std.specs.List.{Contains}
 use Rattle.osm_model.specs.declared.reference.Ref.{Ref}
 use Rattle.ql_plain.proofs.FilterSets.{if_ok_as}
-use Rattle.ql_plain.proofs.Kept.{set_as}
+use Rattle.ql_plain.proofs.Keeping.{set_as}
 use Rattle.ql_plain.specs.Meanings.{IsSetOf}
 use Rattle.ql_plain.proofs.kept_neighbours.kept_below.Goals as goal
 

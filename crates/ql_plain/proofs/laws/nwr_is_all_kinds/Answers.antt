@@ -1,4 +1,4 @@
-use Rattle.ql_plain.proofs.MeaningLaws.{nwr_is_all}
+use Rattle.ql_plain.proofs.shared.MeaningLaws.{nwr_is_all}
 use Rattle.ql_plain.proofs.laws.nwr_is_all_kinds.Goals as goal
 
 pub returns : goal.returns

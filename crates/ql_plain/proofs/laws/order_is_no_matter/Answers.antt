@@ -1,4 +1,4 @@
-use Rattle.ql_plain.proofs.MeaningLaws.{set_alone}
+use Rattle.ql_plain.proofs.shared.MeaningLaws.{set_alone}
 use Rattle.ql_plain.proofs.laws.order_is_no_matter.Goals as goal
 
 pub returns : goal.returns

@@ -1,4 +1,4 @@
-use Rattle.ql_plain.proofs.MeaningLaws.{number_cuts}
+use Rattle.ql_plain.proofs.shared.MeaningLaws.{number_cuts}
 use Rattle.ql_plain.proofs.laws.out_number_cuts.Goals as goal
 
 pub returns : goal.returns

@@ -1,5 +1,5 @@
 use Rattle.std.proofs.Common.{◌≡◌, rules, sym}
-use Rattle.ql_plain.proofs.Adding.{adds_nothing}
+use Rattle.ql_plain.proofs.shared.Adding.{adds_nothing}
 use Rattle.ql_plain.proofs.Linking.{on_ok_as}
 use Rattle.ql_plain.proofs.Listing.{listed_by_it}
 use Rattle.ql_plain.proofs.ObjectLists.{object_is_absent}

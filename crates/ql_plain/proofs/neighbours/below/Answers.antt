@@ -2,7 +2,7 @@ use Rattle.std.proofs.Common.{List, IfOk, get_or, pos, subst}
 use Rattle.std.proofs.lemmas.List.{get_or_default}
 use Rattle.osm_model.specs.declared.kind.Kind.TheVariants.{Node}
 use Rattle.osm_model.specs.declared.reference.Ref.{Ref}
-use Rattle.ql_plain.proofs.Adding.{adds_all, adds_more, adds_start}
+use Rattle.ql_plain.proofs.shared.Adding.{adds_all, adds_more, adds_start}
 use Rattle.ql_plain.proofs.FilterSets.{if_ok_as}
 use Rattle.ql_plain.proofs.Leading.{below_is, set_from_added}
 use Rattle.ql_plain.specs.Meanings.{IsSetOf}

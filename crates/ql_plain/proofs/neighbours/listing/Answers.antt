@@ -2,7 +2,7 @@ use Rattle.std.proofs.Common.{List, ◌++◌, ◌∷◌, [], Vec, Global, map, a
 use Rattle.std.specs.List.Sorted.{IsStrictlySortedBy}
 use Rattle.osm_model.specs.Elements.{Element, ref_cmp, reference}
 use Rattle.osm_model.specs.declared.reference.Ref.{Ref}
-use Rattle.ql_plain.proofs.Kept.{kept_all, kept_more, kept_nothing, kept_same}
+use Rattle.ql_plain.proofs.Keeping.{kept_all, kept_more, kept_nothing, kept_same}
 use Rattle.ql_plain.specs.Meanings.{IsSetOf}
 use Rattle.ql_plain.specs.Values.{IsRefOf}
 use Rattle.ql_plain.specs.internal.Linked.{IsThereIn, ListsOneOf}

@@ -3,7 +3,7 @@ use Rattle.std.specs.declared.cmp.Ordering.{Ordering}
 use Rattle.std.specs.List.Sorted.{IsBinarySearchResult}
 use Rattle.osm_model.specs.declared.reference.Ref.{Ref}
 use Rattle.osm_model.specs.Elements.{ref_cmp}
-use Rattle.ql_plain.proofs.Kept.{found_or_not}
+use Rattle.ql_plain.proofs.Keeping.{found_or_not}
 use Rattle.ql_plain.proofs.References.{same_order}
 use Rattle.ql_plain.proofs.ref_sets.is_in.Goals as goal
 

@@ -5,8 +5,8 @@ use Rattle.osm_model.specs.Elements.{ref_cmp}
 use Rattle.std.specs.List.Sorted.{IsStrictlySortedBy}
 use Rattle.std.specs.List.{Contains}
 use Rattle.osm_model.specs.declared.reference.Ref.{Ref}
-use Rattle.ql_plain.specs.internal.Adding.{IsWanted}
-use Rattle.ql_plain.proofs.Kept.{kept_all, kept_more, kept_nothing, kept_same, map_same, set_as, unwanted, wanted}
+use Rattle.ql_plain.specs.Adding.{IsWanted}
+use Rattle.ql_plain.proofs.Keeping.{kept_all, kept_more, kept_nothing, kept_same, map_same, set_as, unwanted, wanted}
 use Rattle.ql_plain.proofs.Seeking.{named_in}
 use Rattle.ql_plain.proofs.ref_sets.kept.Goals as goal
 use Rattle.ql_plain.proofs.ref_sets.kept.Goals.{then-is_there-wanted+in_ok-push, else-is_there-wanted}

@@ -2,7 +2,7 @@ use Rattle.std.proofs.Common.{◌≡◌, ◌≤◌, length, take}
 use Rattle.std.specs.List.{Contains}
 use Rattle.osm_model.specs.declared.reference.Ref.{Ref}
 use Rattle.ql_plain.specs.Meanings.{IsSetOf}
-use Rattle.ql_plain.specs.internal.Adding.{IsWanted}
+use Rattle.ql_plain.specs.Adding.{IsWanted}
 use Rattle.ql_plain.proofs.ref_sets.kept.Given as goal
 
 abbrev pub invariant-loop-name : goal.invariant-loop-name

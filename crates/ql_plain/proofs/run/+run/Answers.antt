@@ -7,10 +7,10 @@ use Rattle.ql_syntax.specs.Statements as tree
 use Rattle.ql_syntax.specs.declared.filter.Filter.{Filter}
 use Rattle.ql_syntax.specs.declared.statement.Stmt.{Stmt}
 use Rattle.ql_plain.proofs.Linking.{on_ok_as}
-use Rattle.ql_plain.proofs.Running.{after_next, minus_after}
+use Rattle.ql_plain.proofs.shared.Running.{after_next, minus_after}
 use Rattle.ql_plain.specs.Meanings.{After, AfterAll, IsSetOf, given_by, put}
 use Rattle.ql_plain.specs.Values.{IsReached, IsRefOf, IsSelected}
-use Rattle.ql_plain.specs.internal.NamedSets.{lists_of}
+use Rattle.ql_plain.specs.NamedSets.{lists_of}
 use Rattle.ql_plain.proofs.run.+run.Goals as goal
 
 pub run-returns-in_ok-refs-in-Select : goal.run-returns-in_ok-refs-in-Select

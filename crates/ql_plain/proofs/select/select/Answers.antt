@@ -1,7 +1,7 @@
 use Rattle.std.proofs.Common.{refl}
 use Rattle.ql_syntax.specs.StatementViews.{filters_of}
 use Rattle.ql_plain.proofs.Selecting.{left_all, left_more, left_start}
-use Rattle.ql_plain.specs.internal.NamedSets.{lists_of}
+use Rattle.ql_plain.specs.NamedSets.{lists_of}
 use Rattle.ql_plain.proofs.select.select.Goals as goal
 
 pub loop-filter-init : goal.loop-filter-init

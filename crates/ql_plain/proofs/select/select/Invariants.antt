@@ -2,7 +2,7 @@ use Rattle.std.proofs.Common.{take}
 use Rattle.ql_syntax.specs.StatementViews.{filters_of}
 use Rattle.ql_plain.specs.Meanings.{IsSetOf}
 use Rattle.ql_plain.specs.Values.{IsRefOf}
-use Rattle.ql_plain.specs.internal.NamedSets.{lists_of}
+use Rattle.ql_plain.specs.NamedSets.{lists_of}
 use Rattle.ql_plain.specs.internal.Tests.{IsLeft}
 use Rattle.ql_plain.proofs.select.select.Given as goal
 

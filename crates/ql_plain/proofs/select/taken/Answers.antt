@@ -2,14 +2,14 @@ use Rattle.std.proofs.Common.{List, ◌++◌, ◌∷◌, [], Vec, Global, map, a
 use Rattle.std.specs.List.Sorted.{IsStrictlySortedBy}
 use Rattle.osm_model.specs.Elements.{Element, ref_cmp, reference}
 use Rattle.osm_model.specs.declared.reference.Ref.{Ref}
-use Rattle.ql_plain.proofs.Kept.{kept_all, kept_more, kept_nothing, kept_same}
+use Rattle.ql_plain.proofs.Keeping.{kept_all, kept_more, kept_nothing, kept_same}
 use Rattle.ql_plain.specs.Meanings.{IsSetOf}
 use Rattle.ql_plain.specs.Values.{IsRefOf}
 use Rattle.std.specs.List.{AllByRecursion}
 use Rattle.ql_syntax.specs.Filters as tree
 use Rattle.ql_syntax.specs.StatementViews.{filters_of}
 use Rattle.ql_plain.specs.Values.{IsPicked}
-use Rattle.ql_plain.specs.internal.Tests.{PassesAlone}
+use Rattle.ql_plain.specs.ObjectTests.{PassesAlone}
 use Rattle.ql_plain.proofs.select.taken.Goals as goal
 use Rattle.ql_plain.proofs.select.taken.Goals.{then-is_taken+in_ok-push, else-is_taken}
 

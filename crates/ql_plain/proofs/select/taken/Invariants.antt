@@ -4,7 +4,7 @@ use Rattle.osm_model.specs.Elements.{Element, reference}
 use Rattle.ql_syntax.specs.StatementViews.{filters_of}
 use Rattle.ql_plain.specs.Meanings.{IsSetOf}
 use Rattle.ql_plain.specs.Values.{IsPicked}
-use Rattle.ql_plain.specs.internal.Tests.{PassesAlone}
+use Rattle.ql_plain.specs.ObjectTests.{PassesAlone}
 use Rattle.ql_plain.proofs.select.taken.Given as goal
 
 abbrev pub invariant-loop-object : goal.invariant-loop-object

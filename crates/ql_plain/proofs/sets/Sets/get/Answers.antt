@@ -1,4 +1,4 @@
-use Rattle.ql_plain.proofs.Kept.{rising_nothing}
+use Rattle.ql_plain.proofs.Keeping.{rising_nothing}
 use Rattle.ql_plain.proofs.sets.Sets.get.Goals as goal
 
 pub returns-clause-rising : goal.returns-clause-rising

@@ -1,5 +1,5 @@
 use Rattle.std.proofs.Common.{◌≡◌, drop}
-use Rattle.ql_plain.specs.internal.NamedSets.{lists_of}
+use Rattle.ql_plain.specs.NamedSets.{lists_of}
 use Rattle.ql_plain.proofs.sets.Sets.get.Given as goal
 
 abbrev pub invariant-loop-named : goal.invariant-loop-named

@@ -1,7 +1,7 @@
 use Rattle.std.proofs.Common.{refl, ◌∙◌, ap}
 use Rattle.std.proofs.Math.Path.{fun_ext}
-use Rattle.ql_plain.proofs.NamedLists.{put_in_place, put_last}
-use Rattle.ql_plain.specs.internal.NamedSets.{lists_of}
+use Rattle.ql_plain.proofs.shared.NamedLists.{put_in_place, put_last}
+use Rattle.ql_plain.specs.NamedSets.{lists_of}
 use Rattle.ql_plain.proofs.sets.Sets.write.Goals as goal
 
 pub returns-in-Some : goal.returns-in-Some

@@ -19,11 +19,11 @@ use Rattle.osm_model.specs.declared.reference.Ref.{Ref}
 use Rattle.ql_syntax.specs.Filters.{Filter}
 use Rattle.ql_syntax.specs.Statements.{Statement, Statements, Select, Recurse, Item, Union, Minus, Print, End, Then}
 use Rattle.ql_syntax.specs.declared.pick.Pick.TheVariants as picks
-use Rattle.ql_plain.proofs.Adding.{in_rest, first_or_in_rest, here, none}
+use Rattle.ql_plain.proofs.shared.Adding.{in_rest, first_or_in_rest, here, none}
 use Rattle.ql_plain.proofs.Mapped.{contains_mapped}
 use Rattle.ql_plain.specs.Meanings.{After, AfterAll, IsSetOf, Means, Prints, cut, given_by, is_in, nothing_named, printed_of, put, told}
 use Rattle.ql_plain.specs.Values.{Env, IsSelected, Passes}
-use Rattle.ql_plain.specs.internal.Founds.{has}
+use Rattle.ql_plain.specs.Founds.{has}
 
 -- ---- one set
 

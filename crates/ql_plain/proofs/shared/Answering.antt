@@ -5,10 +5,10 @@ use Rattle.osm_model.specs.Elements.{Element}
 use Rattle.ql_syntax.specs.StatementViews.{statement_of, statements_of}
 use Rattle.ql_syntax.specs.Statements.{Statements, End, Then}
 use Rattle.ql_syntax.specs.declared.statement.Stmt.{Stmt}
-use Rattle.ql_plain.proofs.Adding.{one_more}
+use Rattle.ql_plain.proofs.shared.Adding.{one_more}
 use Rattle.ql_plain.specs.Meanings.{After, Prints, told}
 use Rattle.ql_plain.specs.Values.{Env}
-use Rattle.ql_plain.specs.internal.Runs.{PrintsTo}
+use Rattle.ql_plain.specs.Runs.{PrintsTo}
 
 prints_more : (objects : List Element) (xs : List Stmt) (x : Stmt) (env mid later : Env) (text : List ℕ)
     → PrintsTo objects (statements_of xs) env mid text → After objects (statement_of x) mid later → PrintsTo objects (statements_of (xs ++ x ∷ [])) env later (text ++ told objects (statement_of x) mid)

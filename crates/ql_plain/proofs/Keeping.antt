@@ -14,11 +14,11 @@ use Rattle.std.specs.declared.cmp.Ordering.TheVariants.{Less, Equal}
 use Rattle.osm_model.proofs.shared.References.{refs_total}
 use Rattle.osm_model.specs.Elements.{ref_cmp}
 use Rattle.osm_model.specs.declared.reference.Ref.{Ref}
-use Rattle.ql_plain.proofs.Adding.{last_in_more, more_cases, none, was_in_more}
+use Rattle.ql_plain.proofs.shared.Adding.{last_in_more, more_cases, none, was_in_more}
 use Rattle.ql_plain.proofs.References.{same_reference}
 use mathlib.Core.Bool.{beq}
 use Rattle.ql_plain.specs.Meanings.{IsSetOf}
-use Rattle.ql_plain.specs.internal.Adding.{IsWanted}
+use Rattle.ql_plain.specs.Adding.{IsWanted}
 
 pub rising_nothing : IsStrictlySortedBy ref_cmp []
 unfolding IsStrictlySortedBy

@@ -6,10 +6,10 @@ use Rattle.osm_model.specs.Elements.{Element}
 use Rattle.osm_model.specs.declared.reference.Ref.{Ref}
 use Rattle.ql_syntax.specs.StatementViews.{statement_of, statements_of}
 use Rattle.ql_syntax.specs.declared.statement.Stmt.{Stmt}
-use Rattle.ql_plain.proofs.Adding.{one_more}
+use Rattle.ql_plain.proofs.shared.Adding.{one_more}
 use Rattle.std.proofs.Common.{false}
 use Rattle.ql_syntax.specs.Statements as tree
-use Rattle.ql_plain.specs.internal.Adding.{IsWanted}
+use Rattle.ql_plain.specs.Adding.{IsWanted}
 use Rattle.ql_plain.specs.Meanings.{After, AfterAll, IsSetOf, given_by, put}
 use Rattle.ql_plain.specs.Values.{Env}
 

@@ -3,7 +3,7 @@
 ghost use Rattle.std.specs.Prelude.{◌≡◌};
 ghost use Rattle.ql_syntax.specs.StatementViews.{statement_of};
 ghost use Rattle.ql_plain.specs.Meanings.{given_by};
-ghost use Rattle.ql_plain.specs.internal.NamedSets.{lists_of};
+ghost use Rattle.ql_plain.specs.NamedSets.{lists_of};
 ghost use Rattle.std.specs.List.Sorted.{IsStrictlySortedBy};
 ghost use Rattle.osm_model.specs.Elements.{ref_cmp};
 

@@ -1,0 +1,8 @@
+use Rattle.std.proofs.Common.{take}
+use Rattle.tree_node.specs.NodeRefs.{binding_of}
+use Rattle.ql_plain.specs.Adding.{Adds, From}
+use Rattle.ql_eval.specs.internal.Entries.{PlacesIn}
+use Rattle.ql_eval.proofs.boxes.add_nodes.Given as goal
+
+abbrev pub invariant-loop-item : goal.invariant-loop-item
+invariant-loop-item l = Adds l.fn.names.items l.names.items (From (take l.item-index l.found) (λ item. PlacesIn l.area (binding_of item)))

@@ -1,0 +1,36 @@
+use Rattle.std.proofs.Common.{◌≡◌, ◌⊎◌, List, sym, ap, subst}
+use Rattle.std.specs.Prelude.{IfErr, OnOk}
+use Rattle.tree_node.specs.NodeRefs.{bindings_of}
+use Rattle.tree_node.specs.declared.item.Item.{Item}
+use Rattle.tree_node.specs.declared.tree.Tree.TheVariants.{Cells}
+use Rattle.tree_node.proofs.shared.OutcomeLaws.{outcome_stops}
+use Rattle.tree_walk.specs.Choices.{AreThose}
+use Rattle.tree_walk.specs.Ranges.{Range}
+use Rattle.tree_walk.specs.Walks.{IsEntryIn}
+use Rattle.ql_plain.specs.Adding.{Adds}
+use Rattle.ql_eval.specs.Questions.{Ask, Listed, NeedsAsk}
+use Rattle.ql_eval.specs.declared.fault.EvalFault.TheVariants as faults
+use Rattle.ql_eval.specs.internal.Entries.{HasUnread, IsSaid, SaysIn}
+use Rattle.ql_eval.proofs.BoxLemmas.{range_added}
+use Rattle.ql_eval.proofs.EachLemmas.{needed_one, one_needed}
+use Rattle.ql_eval.proofs.StepLemmas.{then_read, walk_cause}
+use Rattle.std.proofs.Common.{refl}
+use Rattle.ql_eval.proofs.boxes.add_range.Goals as goal
+
+pub returns-in_err-found-clause-answer : goal.returns-in_err-found-clause-answer
+returns-in_err-found-clause-answer g c = λ p is under.
+    outcome_stops _ c.from_residual.ensures.1 (walk_cause c.in_err-found.field-0.0)
+    (λ x needs. needed_one (Listed Cells c.args.keys.now) refl x (subst (λ (range : Range). NeedsAsk p (Listed Cells range) x) c.as_range.ensures.value needs))
+    (c.in_err-found.ensures.answer p is under)
+
+pub returns-clause-answer : goal.returns-clause-answer
+returns-clause-answer g c = λ p is under.
+    let items = c.in_ok-found.found.items in
+    then_read c.add_nodes.result
+    (λ x needs. needed_one (Listed Cells c.args.keys.now) refl x (subst (λ (range : Range). NeedsAsk p (Listed Cells range) x) c.as_range.ensures.value needs))
+    (λ x needs. subst (λ (range : Range). NeedsAsk p (Listed Cells range) x) (sym c.as_range.ensures.value) (one_needed (Listed Cells c.args.keys.now) x needs))
+    (λ those.
+    range_added p is c.args.area.now c.args.keys.now (bindings_of items) _ _ (subst (λ (range : Range). AreThose (IsEntryIn range) (p.entries Cells) (bindings_of items)) c.as_range.ensures.value those) c.add_nodes.result
+    (subst (λ (all : List Item). OnOk c.add_nodes.result (Adds c.args.names.now.items c.add_nodes.new.names.items (IsSaid (SaysIn c.args.area.now) (bindings_of all)))) c.deref.ensures.value c.add_nodes.ensures.added)
+    (subst (λ (all : List Item). IfErr c.add_nodes.result (λ fault. (fault ≡ faults.Memory) ⊎ ((fault ≡ faults.Form) × HasUnread Cells (bindings_of all)))) c.deref.ensures.value c.add_nodes.ensures.refused))
+    (c.in_ok-found.ensures.answer p is under)

@@ -1,0 +1,40 @@
+use Rattle.std.proofs.Common.{◌≡◌, ℕ, List, [], sym, subst}
+use Rattle.tree_walk.specs.Ranges.{Range}
+use Rattle.tree_walk.proofs.shared.WalkedLaws.{walked_none, walked_then}
+use Rattle.osm_index.specs.Ranges.{AreCellRanges}
+use Rattle.ql_eval.specs.internal.Boxes.{IsCellsAsk, IsFoundIn}
+use Rattle.ql_eval.proofs.BoxLemmas.{box_needs, box_set, needs_box}
+use Rattle.ql_eval.proofs.LoopLemmas.{gone_all, gone_next, gone_none, gone_stops}
+use Rattle.ql_eval.proofs.boxes.find_in_box.Goals as goal
+
+pub loop-keys-init : goal.loop-keys-init
+loop-keys-init g c = record {
+  stays = λ x. ((λ has. has), (λ has. has));
+  grows = λ x has. has;
+  walked = walked_none _ _ _ _;
+  answer = λ p is under. rw c.new-names.ensures.items (gone_none p c.deref-keys-items.result.now (IsFoundIn p.objects c.args.area.now) IsCellsAsk);
+}
+
+pub returns-in_err-add_range-clause-answer : goal.returns-in_err-add_range-clause-answer
+returns-in_err-add_range-clause-answer g c = λ p is under.
+    gone_stops p c.deref-keys-items.result.now (IsFoundIn p.objects c.args.area.now) IsCellsAsk c.loop-keys.keys-index c.keys-item.result c.loop-keys-test.true c.keys-item.is
+    _ c.from_residual-in_err-add_range.ensures.1 (box_needs p is c.args.area.now c.deref-keys-items.result.now (subst (λ (list : List Range). AreCellRanges c.args.area.now list) (sym c.deref-keys-items.ensures.value) c.in_ok-ranges.ensures)) c.add_range.ensures.grows
+    (c.loop-keys.invariant.answer p is under) (c.in_err-add_range.ensures.answer p is under)
+
+pub loop-keys-preserved : goal.loop-keys-preserved
+loop-keys-preserved g c = record {
+  stays = λ x. ((λ has. (c.loop-keys.invariant.stays x).0 ((c.add_range.ensures.stays x).0 has)), (λ has. (c.add_range.ensures.stays x).1 ((c.loop-keys.invariant.stays x).1 has)));
+  grows = λ x has. c.add_range.ensures.grows x (c.loop-keys.invariant.grows x has);
+  walked = walked_then _ _ _ _ _ _ _ _ _ _ _ c.add_range.ensures.stays c.loop-keys.invariant.walked c.in_ok-add_range.ensures.walked;
+  answer = λ p is under.
+      gone_next p c.deref-keys-items.result.now (IsFoundIn p.objects c.args.area.now) IsCellsAsk c.loop-keys.keys-index c.keys-item.result c.loop-keys-test.true c.keys-item.is
+      c.add_range.ensures.grows (c.loop-keys.invariant.answer p is under) (c.in_ok-add_range.ensures.answer p is under);
+}
+
+pub returns-clause-answer : goal.returns-clause-answer
+returns-clause-answer g c = λ p is under.
+    let ranges = c.deref-keys-items.result.now in
+    let are = subst (λ (list : List Range). AreCellRanges c.args.area.now list) (sym c.deref-keys-items.ensures.value) c.in_ok-ranges.ensures in
+    gone_all p ranges (IsFoundIn p.objects c.args.area.now) IsCellsAsk c.loop-keys.keys-index c.loop-keys-test.false
+    (box_needs p is c.args.area.now ranges are) (needs_box p is c.args.area.now ranges are) (λ so. box_set p is c.args.area.now ranges _ _ are so c.tidy.ensures)
+    (c.loop-keys.invariant.answer p is under)

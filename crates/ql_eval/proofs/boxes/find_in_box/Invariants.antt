@@ -1,0 +1,18 @@
+use Rattle.std.proofs.Common.{ℕ, List, []}
+use Rattle.tree_node.specs.Shelves.{SameNodes}
+use Rattle.tree_node.proofs.shared.OutcomeLaws.{uses}
+use Rattle.tree_walk.specs.Walked.{HasWalked}
+use Rattle.osm_index.specs.Publications.{IsPublication, Publication}
+use Rattle.ql_eval.specs.Openings.{IsUnder}
+use Rattle.ql_eval.specs.internal.Boxes.{IsCellsAsk, IsFoundIn}
+use Rattle.ql_eval.proofs.LoopLemmas.{HasGone}
+use Rattle.ql_eval.proofs.boxes.find_in_box.Given as goal
+
+abbrev pub invariant-loop-keys : goal.invariant-loop-keys
+invariant-loop-keys g l = record {
+  stays : SameNodes (g.S.Shelf.holds l.fn.shelf) (g.S.Shelf.holds l.shelf);
+  grows : (bytes : List ℕ) → g.S.Shelf.used l.fn.shelf bytes → g.S.Shelf.used l.shelf bytes;
+  walked : HasWalked (uses (g.S.Shelf.holds l.shelf) (g.S.Shelf.used l.fn.shelf) (g.S.Shelf.used l.shelf)) l.fn.tally.calls l.tally.calls l.fn.tally.fetches l.tally.fetches;
+  answer : (p : Publication) → IsPublication p → IsUnder p l.manifest
+      → HasGone p l.keys-items (IsFoundIn p.objects l.area) IsCellsAsk l.keys-index [] l.names.items (uses (g.S.Shelf.holds l.shelf) (g.S.Shelf.used l.fn.shelf) (g.S.Shelf.used l.shelf));
+}

@@ -1,0 +1,20 @@
+use Rattle.std.proofs.Common.{◌≡◌, ◌↔◌, List, None, refl, sym, subst}
+use Rattle.tree_node.proofs.shared.OutcomeLaws.{outcome_same, uses}
+use Rattle.ql_plain.specs.Adding.{From}
+use Rattle.ql_plain.specs.Meanings.{IsSetOf}
+use Rattle.ql_eval.specs.declared.chains.Direction.{Direction}
+use Rattle.ql_eval.specs.declared.chains.Direction.TheVariants as directions
+use Rattle.ql_eval.specs.internal.Chains.{Leads, LeadsAsk}
+use Rattle.ql_eval.proofs.ChainLemmas.{LedWell, down_leads, down_needs, needs_down}
+use Rattle.ql_eval.proofs.chains.leads.Goals as goal
+
+pub returns-in-Down-clause-answer : goal.returns-in-Down-clause-answer
+returns-in-Down-clause-answer g c = λ p is under there.
+    let shelf = uses (g.W.Source.holds c.below.new.source) (g.W.Source.used c.args.source.now) (g.W.Source.used c.below.new.source) in
+    subst (λ (d : Direction). LedWell p d c.args.names.now shelf c.below.result) (sym c.in-Down.is)
+    (outcome_same (down_needs p c.args.names.now) (λ refs set. needs_down p c.args.names.now) (λ refs. down_leads p.objects c.args.names.now refs.items) (c.below.ensures.answer p is under there))
+
+pub returns-in-Up-clause-answer : goal.returns-in-Up-clause-answer
+returns-in-Up-clause-answer g c = λ p is under there.
+    let shelf = uses (g.W.Source.holds c.listing.new.source) (g.W.Source.used c.args.source.now) (g.W.Source.used c.listing.new.source) in
+    subst (λ (d : Direction). LedWell p d c.args.names.now shelf c.listing.result) (sym c.in-Up.is) (c.listing.ensures.answer p is under)

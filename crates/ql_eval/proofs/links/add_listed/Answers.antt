@@ -1,0 +1,18 @@
+use Rattle.std.proofs.Common.{◌≡◌, ◌≢◌, refl, sym, ◌∙◌, rules}
+use Rattle.osm_model.specs.declared.kind.Kind.TheVariants as kinds
+use Rattle.tree_node.proofs.shared.OutcomeLaws.{never_stops, outcome_as}
+use Rattle.ql_eval.specs.Questions.{object_ask}
+use Rattle.ql_eval.proofs.LinkLemmas.{needs_parent, object_lists, parent_needs}
+use Rattle.ql_eval.proofs.ObjectLemmas.{none_there}
+use Rattle.ql_eval.proofs.links.add_listed.Goals as goal
+
+pub returns-in_ok-add_items-in-Some-clause-answer : goal.returns-in_ok-add_items-in-Some-clause-answer
+returns-in_ok-add_items-in-Some-clause-answer g c = λ p is under there.
+    let other : c.args.name.kind ≢ kinds.Node = search rules in
+    outcome_as (parent_needs c.args.name other) (λ so. needs_parent c.args.name)
+    (λ so. object_lists p.objects c.args.name c.in-Some.object _ _ is.set (sym c.in-Some.is ∙ so) c.in_ok-add_items-in-Some.ensures) (c.in_ok-object.ensures.answer p is under)
+
+pub returns-in-None-clause-answer : goal.returns-in-None-clause-answer
+returns-in-None-clause-answer g c = λ p is under there.
+    let other : c.args.name.kind ≢ kinds.Node = search rules in
+    never_stops (parent_needs c.args.name other) (λ so. none_there p.objects c.args.name is.set (sym (sym c.in-None.is ∙ so)) there) (c.in_ok-object.ensures.answer p is under)

@@ -1,0 +1,40 @@
+-- Chains of membership between references, one step after the other.
+use Rattle.std.specs.Prelude.{◌≡◌, ℕ, List, ◌⊎◌, None, drop}
+use Rattle.std.specs.List.{Contains}
+use Rattle.osm_model.specs.Elements.{Element}
+use Rattle.osm_model.specs.declared.reference.Ref.{Ref}
+use Rattle.ql_plain.specs.Adding.{From}
+use Rattle.ql_eval.specs.Asks.{AskedFor}
+use Rattle.ql_eval.specs.Questions.{Ask, object_ask}
+use Rattle.ql_eval.specs.declared.chains.Direction.{Direction}
+use Rattle.ql_eval.specs.declared.chains.Direction.TheVariants.{Down, Up}
+use Rattle.ql_eval.specs.internal.Entries.{IsThere}
+use Rattle.ql_eval.specs.internal.Links.{IsBackAsk, IsListedOf, IsParentAsk, ListsIt}
+
+-- a step leads from the first to the second, which is there
+abbrev pub Leads : Direction → List Element → Ref → Ref → Type 0
+Leads Down objects first second = IsListedOf objects first second × IsThere objects second
+Leads Up objects first second = ListsIt objects None first second
+
+-- what the steps from a reference ask
+abbrev pub LeadsAsk : Direction → List Element → Ref → Ask → Type 0
+LeadsAsk Down objects name ask = IsParentAsk name ask ⊎ AskedFor (IsListedOf objects name) object_ask ask
+LeadsAsk Up objects name ask = IsBackAsk None name ask
+
+-- one or more steps lead from the first to the last
+pub data IsWay (direction : Direction) (objects : List Element) : Ref → Ref → Type 0 where
+  One : (first last : Ref) → Leads direction objects first last → IsWay direction objects first last
+  More : (first next last : Ref) → IsWay direction objects first next → Leads direction objects next last → IsWay direction objects first last
+
+-- one or more steps lead there from the set
+abbrev pub IsEnd : Direction → List Element → List Ref → Ref → Type 0
+IsEnd direction objects from r = (s : Ref) × Contains from s × IsWay direction objects s r
+
+-- how far chains have been gone along: from these references steps were taken, and those were found, of which the ones
+-- from a place on are still to be gone on from
+pub record AreChained (direction : Direction) (objects : List Element) (from followed refs : List Ref) (at : ℕ) : Type 0 where
+  pub starts : (r : Ref) → Contains from r → Contains followed r
+  pub only : (r : Ref) → Contains followed r → Contains from r ⊎ Contains refs r
+  pub cover : (r : Ref) → Contains refs r → Contains followed r ⊎ Contains (drop at refs) r
+  pub closed : (r : Ref) → From followed (Leads direction objects) r → Contains refs r
+  pub sound : (r : Ref) → Contains refs r → IsEnd direction objects from r

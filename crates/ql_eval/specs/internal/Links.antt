@@ -1,0 +1,48 @@
+-- What single references ask and give, on the way along links of membership.
+use Rattle.std.specs.Prelude.{◌≡◌, ◌≢◌, ◌⊎◌, List, Option}
+use Rattle.std.specs.List.{Contains}
+use Rattle.osm_model.specs.Elements.{Element, reference}
+use Rattle.osm_model.specs.Membership.{BodyLists}
+use Rattle.osm_model.specs.declared.kind.Kind.{Kind}
+use Rattle.osm_model.specs.declared.kind.Kind.TheVariants as kinds
+use Rattle.osm_model.specs.declared.reference.Ref.{Ref}
+use Rattle.ql_plain.specs.Adding.{From}
+use Rattle.ql_plain.specs.Values.{IsRefOf}
+use Rattle.ql_eval.specs.Asks.{AskedFor, back_ask}
+use Rattle.ql_eval.specs.Questions.{Answers, Ask, ThatList, object_ask}
+use Rattle.ql_eval.specs.internal.Entries.{IsThere}
+use Rattle.ql_eval.specs.internal.Kinds.{IsBetween}
+
+-- all references of the list are of objects that are there
+abbrev pub AreThere : List Element → List Ref → Type 0
+AreThere objects names = (r : Ref) → Contains names r → IsThere objects r
+
+-- the object with the first reference lists the second
+abbrev pub IsListedOf : List Element → Ref → Ref → Type 0
+IsListedOf objects name r = (o : Element) × Contains objects o × (reference o ≡ name) × BodyLists o.body r
+
+-- what a reference asks of which the list is wanted: its object, but for nodes, which list nothing
+abbrev pub IsParentAsk : Ref → Ask → Type 0
+IsParentAsk name ask = (name.kind ≢ kinds.Node) × (ask ≡ object_ask name)
+
+-- the reference is this one, of an object that is there
+abbrev pub IsThereAs : List Element → Ref → Ref → Type 0
+IsThereAs objects name r = (name ≡ r) × IsThere objects name
+
+abbrev pub IsObjectAsk : Ref → Ask → Type 0
+IsObjectAsk name ask = ask ≡ object_ask name
+
+-- the second lists the first, and is of the kind
+abbrev pub ListsIt : List Element → Option Kind → Ref → Ref → Type 0
+ListsIt objects kind name = IsRefOf objects (Answers (ThatList name kind))
+
+abbrev pub IsBackAsk : Option Kind → Ref → Ask → Type 0
+IsBackAsk kind name ask = ask ≡ back_ask kind name
+
+-- an object with one of these references lists it, and it is of the kinds from one to another
+abbrev pub IsListedIn : List Element → List Ref → Kind → Kind → Ref → Type 0
+IsListedIn objects names first last r = From names (IsListedOf objects) r × IsBetween first last r
+
+-- the objects with these references, and what they list of the kinds
+abbrev pub IsBelowAsk : List Element → List Ref → Kind → Kind → Ask → Type 0
+IsBelowAsk objects names first last ask = From names IsParentAsk ask ⊎ AskedFor (IsListedIn objects names first last) object_ask ask

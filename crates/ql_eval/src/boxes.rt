@@ -1,0 +1,116 @@
+//! The nodes in a box, asked of a shelf under a manifest.
+
+ghost use Rattle.std.specs.Int.{w64};
+ghost use Rattle.std.specs.Prelude.{◌≡◌, ◌⊎◌, ℕ, FitsSigned, IfErr, IfOk, List, OnOk};
+ghost use Rattle.std.specs.List.Sorted.{IsStrictlySortedBy};
+ghost use Rattle.osm_model.specs.Elements.{ref_cmp};
+ghost use Rattle.osm_model.specs.declared.reference.Ref.{Ref};
+ghost use Rattle.tree_node.specs.NodeRefs.{binding_of, bindings_of};
+ghost use Rattle.tree_node.specs.Outcomes.{Outcome};
+ghost use Rattle.tree_node.specs.Shelves.{SameNodes};
+ghost use Rattle.tree_node.specs.declared.tree.Tree.TheVariants.{Cells};
+ghost use Rattle.tree_walk.specs.Walked.{HasWalked};
+ghost use Rattle.osm_index.specs.Publications.{IsPublication, Publication};
+ghost use Rattle.ql_plain.specs.Meanings.{IsSetOf};
+ghost use Rattle.ql_plain.specs.Values.{IsRefOf};
+ghost use Rattle.ql_plain.specs.Adding.{Adds};
+ghost use Rattle.ql_eval.specs.Asks.{IsAskedInBox, IsInBox};
+ghost use Rattle.ql_eval.specs.Faults.{cause_of_evaluation};
+ghost use Rattle.ql_eval.specs.Openings.{IsUnder};
+ghost use Rattle.ql_eval.specs.Questions.{NeededBy};
+ghost use Rattle.ql_eval.specs.internal.Boxes.{IsCellsAsk, IsFoundIn};
+ghost use Rattle.ql_eval.specs.internal.Entries.{HasUnread, IsSaid, Names, PlacesIn, SaysIn};
+
+use crate::fault::EvalFault;
+use crate::placed::placed_by;
+use crate::walks::entries_in;
+use osm_index::{Manifest, OwnedRange, cell_ranges};
+use osm_model::{BoxArea, Ref};
+use ql_plain::tidy;
+use std::alloc::Global;
+use tree_node::{Item, Shelf, Tree};
+use tree_walk::Tally;
+
+/// The nodes in a box, as a set.
+pub fn find_in_box<'a, S: Shelf<'a>>(
+    alloc: Global,
+    shelf: &mut S,
+    manifest: &Manifest,
+    area: &BoxArea<'_>,
+    tally: &mut Tally,
+) -> Result<Vec<Ref>, EvalFault>
+    ensures rising { IfOk result (λ names. IsStrictlySortedBy ref_cmp names.items) }
+    ensures stays { SameNodes (S.holds shelf.old) (S.holds shelf.new) }
+    ensures grows { (bytes : List ℕ) → S.used shelf.old bytes → S.used shelf.new bytes }
+    ensures walked { OnOk result (HasWalked
+        (record { held = S.holds shelf.new; before = S.used shelf.old; after = S.used shelf.new })
+        tally.old.calls tally.new.calls tally.old.fetches tally.new.fetches) }
+    ensures answer { (p : Publication) → IsPublication p → IsUnder p manifest.now
+        → Outcome cause_of_evaluation (λ names. IsSetOf names.items (IsRefOf p.objects (IsInBox area.now)))
+        (NeededBy p (IsAskedInBox area.now))
+        (record { held = S.holds shelf.new; before = S.used shelf.old; after = S.used shelf.new }) result }
+{
+    let ranges = cell_ranges(alloc, area)?;
+    let mut names = Vec::new(alloc);
+    for keys in &ranges {
+        add_range(alloc, shelf, manifest, area, keys, tally, &mut names)?;
+    }
+    tidy(&mut names);
+    Ok(names)
+}
+
+/// Adds the nodes in a box that a range of cells has.
+fn add_range<'a, S: Shelf<'a>>(
+    alloc: Global,
+    shelf: &mut S,
+    manifest: &Manifest,
+    area: &BoxArea<'_>,
+    keys: &OwnedRange,
+    tally: &mut Tally,
+    names: &mut Vec<Ref>,
+) -> Result<(), EvalFault>
+    ensures stays { SameNodes (S.holds shelf.old) (S.holds shelf.new) }
+    ensures grows { (bytes : List ℕ) → S.used shelf.old bytes → S.used shelf.new bytes }
+    ensures walked { OnOk result (HasWalked
+        (record { held = S.holds shelf.new; before = S.used shelf.old; after = S.used shelf.new })
+        tally.old.calls tally.new.calls tally.old.fetches tally.new.fetches) }
+    ensures answer { (p : Publication) → IsPublication p → IsUnder p manifest.now
+        → Outcome cause_of_evaluation (λ _. Adds names.old.items names.new.items (IsFoundIn p.objects area.now keys.now))
+        (NeededBy p (IsCellsAsk keys.now))
+        (record { held = S.holds shelf.new; before = S.used shelf.old; after = S.used shelf.new }) result }
+{
+    let found = entries_in(alloc, shelf, manifest, Tree::Cells, &keys.as_range(), tally)?;
+    add_nodes(area, &found, names)
+}
+
+/// Adds the nodes that entries of the cell tree place in a box. `Form` where an entry isn't of its form.
+fn add_nodes(
+    area: &BoxArea<'_>,
+    found: &[Item<'_>],
+    names: &mut Vec<Ref>,
+) -> Result<(), EvalFault>
+    ensures added { OnOk result (Adds names.old.items names.new.items (IsSaid (SaysIn area.now) (bindings_of found.now))) }
+    ensures refused { IfErr result (λ fault. (fault ≡ EvalFault.Memory) ⊎ ((fault ≡ EvalFault.Form) × HasUnread Cells (bindings_of found.now))) }
+{
+    for item in found {
+        add_node(area, item, names)?;
+    }
+    Ok(())
+}
+
+/// Adds the node that an entry places, where that is in the box.
+fn add_node(area: &BoxArea<'_>, item: &Item<'_>, names: &mut Vec<Ref>) -> Result<(), EvalFault>
+    ensures added { OnOk result (Adds names.old.items names.new.items (PlacesIn area.now (binding_of item.now))) }
+    ensures refused { IfErr result (λ fault. (fault ≡ EvalFault.Memory) ⊎ ((fault ≡ EvalFault.Form)
+        × ((name : Ref) → FitsSigned w64 name.id → ¬ Names Cells (binding_of item.now) name))) }
+{
+    match placed_by(item) {
+        Some(node) => {
+            if area.holds(node.place) {
+                names.push(node.name)?;
+            }
+            Ok(())
+        }
+        None => Err(EvalFault::Form),
+    }
+}

@@ -1,0 +1,115 @@
+//! A shelf as a source.
+
+ghost use Rattle.std.specs.Prelude.{◌≡◌, ℕ, List};
+ghost use Rattle.tree_node.specs.Shelves.{SameNodes};
+ghost use Rattle.tree_walk.specs.Walked.{HasWalked};
+ghost use Rattle.ql_eval.specs.Openings.{IsUnder};
+
+use crate::boxes::find_in_box;
+use crate::fault::EvalFault;
+use crate::lookups::{count_names, find_names, find_object, has_object};
+use crate::question::Question;
+use crate::source::Source;
+use osm_index::Manifest;
+use osm_model::{BoxArea, Object, Ref};
+use std::alloc::Global;
+use tree_node::Shelf;
+use tree_walk::Tally;
+
+/// The trees under a manifest, read from a shelf.
+pub(crate) struct Over<'s, 'a, S: Shelf<'a>> {
+    pub(crate) alloc: Global,
+    pub(crate) shelf: &'s mut S,
+    pub(crate) manifest: Manifest,
+    pub(crate) tally: Tally,
+    /// Ties the lifetime of what the shelf lends.
+    pub(crate) nothing: &'a [u8],
+}
+
+impl<'s, 'a, S: Shelf<'a>> Source for Over<'s, 'a, S> {
+    ghost use Rattle.std.specs.Prelude.{◌≡◌, ℕ, List, refl};
+    ghost use Rattle.std.proofs.Common.{◌∙◌, subst};
+    ghost use Rattle.osm_index.specs.declared.manifest.Manifest.{Manifest};
+    ghost use Rattle.tree_node.specs.Shelves.{SameNodes};
+    ghost use Rattle.tree_walk.specs.Walked.{HasWalked};
+    ghost use Rattle.ql_eval.specs.Openings.{IsUnder};
+    ghost use Rattle.tree_walk.proofs.shared.WalkedLaws.{walked_none, walked_then};
+
+    ghost holds = { λ o. S.holds o.shelf.now };
+
+    ghost used = { λ o. S.used o.shelf.now };
+
+    ghost under = { λ o p. IsUnder p o.manifest };
+
+    ghost later = { λ o n. (o.shelf.ghost_name ≡ n.shelf.ghost_name) × (o.manifest ≡ n.manifest)
+        × SameNodes (S.holds o.shelf.now) (S.holds n.shelf.now) × ((bytes : List ℕ) → S.used o.shelf.now bytes → S.used n.shelf.now bytes) };
+
+    ghost walked = { λ o n. HasWalked (record { held = S.holds n.shelf.now; before = S.used o.shelf.now; after = S.used n.shelf.now })
+        o.tally.calls n.tally.calls o.tally.fetches n.tally.fetches };
+
+    ghost itself = { λ o. (refl, refl, (λ x. ((λ has. has), (λ has. has))), (λ x has. has)) };
+
+    ghost chained = { λ o n m first second. (first.0 ∙ second.0, first.1 ∙ second.1,
+        (λ x. ((λ has. (first.2 x).0 ((second.2 x).0 has)), (λ has. (second.2 x).1 ((first.2 x).1 has)))),
+        (λ x has. second.3 x (first.3 x has))) };
+
+    ghost stays = { λ o n later. later.2 };
+
+    ghost grows = { λ o n bytes later has. later.3 bytes has };
+
+    ghost same_under = { λ o n p later under. subst (λ (m : Manifest). IsUnder p m) later.1 under };
+
+    ghost no_walk = { λ o. walked_none (S.holds o.shelf.now) (S.used o.shelf.now) o.tally.calls o.tally.fetches };
+
+    ghost more_walks = { λ o n m first second one two. walked_then _ _ _ _ _ _ _ _ _ _ _ second.2 one two };
+
+    fn object(&mut self, name: Ref) -> Result<Option<Object>, EvalFault> {
+        find_object(
+            self.alloc,
+            &mut *self.shelf,
+            &self.manifest,
+            name,
+            &mut self.tally,
+        )
+    }
+
+    fn has(&mut self, name: Ref) -> Result<bool, EvalFault> {
+        has_object(
+            self.alloc,
+            &mut *self.shelf,
+            &self.manifest,
+            name,
+            &mut self.tally,
+        )
+    }
+
+    fn names(&mut self, question: &Question<'_>) -> Result<Vec<Ref>, EvalFault> {
+        find_names(
+            self.alloc,
+            &mut *self.shelf,
+            &self.manifest,
+            question,
+            &mut self.tally,
+        )
+    }
+
+    fn count(&mut self, question: &Question<'_>) -> Result<u64, EvalFault> {
+        count_names(
+            self.alloc,
+            &mut *self.shelf,
+            &self.manifest,
+            question,
+            &mut self.tally,
+        )
+    }
+
+    fn nodes_in(&mut self, area: &BoxArea<'_>) -> Result<Vec<Ref>, EvalFault> {
+        find_in_box(
+            self.alloc,
+            &mut *self.shelf,
+            &self.manifest,
+            area,
+            &mut self.tally,
+        )
+    }
+}

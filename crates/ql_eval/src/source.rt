@@ -1,0 +1,97 @@
+//! What an evaluation asks.
+
+ghost use Rattle.std.specs.Prelude.{◌≡◌, ◌↔◌, ℕ, IfOk, IsTrue, List, OnOk};
+ghost use Rattle.std.specs.List.Sorted.{IsStrictlySortedBy};
+ghost use Rattle.osm_model.specs.Elements.{ref_cmp};
+ghost use Rattle.osm_model.specs.Sets.{object_at};
+ghost use Rattle.tree_node.specs.Outcomes.{Outcome};
+ghost use Rattle.tree_node.specs.Shelves.{SameNodes};
+ghost use Rattle.osm_index.specs.Publications.{IsPublication, Publication};
+ghost use Rattle.ql_plain.specs.Meanings.{IsSetOf};
+ghost use Rattle.ql_plain.specs.Values.{IsRefOf};
+ghost use Rattle.ql_eval.specs.Asks.{IsAskedInBox, IsInBox};
+ghost use Rattle.ql_eval.specs.Faults.{cause_of_evaluation};
+ghost use Rattle.ql_eval.specs.Questions.{Answers, HasNoNulIn, IsCountOf, NeededBy, NeedsAsk, count_ask, names_ask, object_ask};
+ghost use Rattle.ql_eval.specs.internal.Entries.{IsThere};
+ghost use Rattle.ql_eval.specs.internal.Views.{question_of};
+
+use crate::fault::EvalFault;
+use crate::question::Question;
+use osm_model::{BoxArea, Object, Ref};
+
+/// What an evaluation asks: the trees under a manifest, read from a shelf. It stands without the shelf's lifetime, so
+/// that statements are run over any of them.
+pub trait Source {
+    /// The nodes that the shelf holds.
+    ghost holds: { Self → List ℕ → Type 0 };
+
+    /// Those that were used.
+    ghost used: { Self → List ℕ → Type 0 };
+
+    /// The manifest is that of the publication.
+    ghost under: { Self → Publication → Type 0 };
+
+    /// The same source at a later moment.
+    ghost later: { Self → Self → Type 0 };
+
+    /// From one moment to a later one nodes were used by walks alone, and all walks are counted.
+    ghost walked: { Self → Self → Type 0 };
+
+    /// The object with this reference, if it is there.
+    fn object(&mut self, name: Ref) -> Result<Option<Object>, EvalFault>
+        ensures later { later self.old self.new }
+        ensures walked { OnOk result (walked self.old self.new) }
+        ensures answer { (p : Publication) → IsPublication p → under self.old p
+            → Outcome cause_of_evaluation (λ object. object ≡ object_at p.objects name) (NeedsAsk p (object_ask name))
+            (record { held = holds self.new; before = used self.old; after = used self.new }) result };
+
+    /// Whether the object with this reference is there.
+    fn has(&mut self, name: Ref) -> Result<bool, EvalFault>
+        ensures later { later self.old self.new }
+        ensures walked { OnOk result (walked self.old self.new) }
+        ensures answer { (p : Publication) → IsPublication p → under self.old p
+            → Outcome cause_of_evaluation (λ there. IsTrue there ↔ IsThere p.objects name) (NeedsAsk p (object_ask name))
+            (record { held = holds self.new; before = used self.old; after = used self.new }) result };
+
+    /// The objects that a question is after, as a set.
+    fn names(&mut self, question: &Question<'_>) -> Result<Vec<Ref>, EvalFault>
+        ensures rising { IfOk result (λ names. IsStrictlySortedBy ref_cmp names.items) }
+        ensures later { later self.old self.new }
+        ensures walked { OnOk result (walked self.old self.new) }
+        ensures answer { (p : Publication) → IsPublication p → under self.old p → HasNoNulIn (question_of question.now)
+            → Outcome cause_of_evaluation (λ names. IsSetOf names.items (IsRefOf p.objects (Answers (question_of question.now))))
+            (NeedsAsk p (names_ask (question_of question.now)))
+            (record { held = holds self.new; before = used self.old; after = used self.new }) result };
+
+    /// The number of entries that a question's range has.
+    fn count(&mut self, question: &Question<'_>) -> Result<u64, EvalFault>
+        ensures later { later self.old self.new }
+        ensures walked { OnOk result (walked self.old self.new) }
+        ensures answer { (p : Publication) → IsPublication p → under self.old p
+            → Outcome cause_of_evaluation (IsCountOf p (question_of question.now)) (NeedsAsk p (count_ask (question_of question.now)))
+            (record { held = holds self.new; before = used self.old; after = used self.new }) result };
+
+    /// The nodes in a box, as a set.
+    fn nodes_in(&mut self, area: &BoxArea<'_>) -> Result<Vec<Ref>, EvalFault>
+        ensures rising { IfOk result (λ names. IsStrictlySortedBy ref_cmp names.items) }
+        ensures later { later self.old self.new }
+        ensures walked { OnOk result (walked self.old self.new) }
+        ensures answer { (p : Publication) → IsPublication p → under self.old p
+            → Outcome cause_of_evaluation (λ names. IsSetOf names.items (IsRefOf p.objects (IsInBox area.now)))
+            (NeededBy p (IsAskedInBox area.now))
+            (record { held = holds self.new; before = used self.old; after = used self.new }) result };
+
+    ghost itself: { (s : Self) → later s s };
+
+    ghost chained: { (s t u : Self) → later s t → later t u → later s u };
+
+    ghost stays: { (s t : Self) → later s t → SameNodes (holds s) (holds t) };
+
+    ghost grows: { (s t : Self) (bytes : List ℕ) → later s t → used s bytes → used t bytes };
+
+    ghost same_under: { (s t : Self) (p : Publication) → later s t → under s p → under t p };
+
+    ghost no_walk: { (s : Self) → walked s s };
+
+    ghost more_walks: { (s t u : Self) → later s t → later t u → walked s t → walked t u → walked s u };
+}
