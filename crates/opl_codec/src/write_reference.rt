@@ -8,7 +8,8 @@ use itoa::Buffer;
 use osm_model::{Kind, Ref};
 use std::alloc::AllocError;
 
-/// Appends the letter of a kind, and an id.
+/// Appends the letter of a kind, and an id, as `n1`: the first field of an object's line (Osmium's OPL manual). Where
+/// memory is refused, the bytes that were there before are still its first ones.
 pub fn append_reference(reference: Ref, out: &mut Vec<u8>) -> Result<(), AllocError>
     ensures ok { OnOk result (out.new.items ≡ out.old.items ++ reference_text reference) }
     ensures err { OnErr result (take (length out.old.items) out.new.items ≡ out.old.items) }

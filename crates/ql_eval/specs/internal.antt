@@ -5,3 +5,4 @@ pub mod Boxes
 pub mod Kinds
 pub mod Links
 pub mod Chains
+pub mod Selecting

@@ -1,7 +1,7 @@
 //! Rows of lines that are written.
 
-use crate::{OutMode, write_object};
-use osm_model::{Body, Coord, Meta, Object, Stamp, Tag, Text};
+use crate::{OutMode, append_reference, write_object};
+use osm_model::{Body, Coord, Kind, Meta, Object, Ref, Stamp, Tag, Text};
 use std::alloc::{AllocError, Global};
 use std::process::Abort;
 use std::test::Fail;
@@ -132,5 +132,24 @@ fn refused_memory_leaves_the_old_bytes(rt: HostRuntime) -> Result<(), Fail> {
     let first = is_written(&rt, &object, line);
     let second = is_written(&rt, &object, line);
     assert!(rt; first || second);
+    Ok(())
+}
+
+/// Under refused allocations: all references or out of memory, and with memory all of them.
+fn references(alloc: Global) -> Result<Vec<u8>, AllocError> {
+    let mut out = Vec::new(alloc);
+    for (kind, id) in [(Kind::Node, 1), (Kind::Way, -2), (Kind::Rel, i64::MAX)] {
+        append_reference(Ref { kind, id }, &mut out)?;
+    }
+    Ok(out)
+}
+
+#[test]
+fn references_have_letter_and_id_or_memory_is_refused(rt: HostRuntime) -> Result<(), Fail> {
+    let out = match references(rt.alloc()) {
+        Ok(out) => out,
+        Err(_) => references(rt.alloc())?,
+    };
+    assert_eq!(rt; out.as_slice(), b"n1w-2r9223372036854775807".as_slice());
     Ok(())
 }

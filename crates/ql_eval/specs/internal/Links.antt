@@ -1,5 +1,5 @@
 -- What single references ask and give, on the way along links of membership.
-use Rattle.std.specs.Prelude.{◌≡◌, ◌≢◌, ◌⊎◌, List, Option}
+use Rattle.std.specs.Prelude.{◌≡◌, ◌≢◌, ◌⊎◌, ℕ, List, Option}
 use Rattle.std.specs.List.{Contains}
 use Rattle.osm_model.specs.Elements.{Element, reference}
 use Rattle.osm_model.specs.Membership.{BodyLists}
@@ -7,7 +7,7 @@ use Rattle.osm_model.specs.declared.kind.Kind.{Kind}
 use Rattle.osm_model.specs.declared.kind.Kind.TheVariants as kinds
 use Rattle.osm_model.specs.declared.reference.Ref.{Ref}
 use Rattle.ql_plain.specs.Adding.{From}
-use Rattle.ql_plain.specs.Values.{IsRefOf}
+use Rattle.ql_plain.specs.Values.{Env, IsRefOf}
 use Rattle.ql_eval.specs.Asks.{AskedFor, back_ask}
 use Rattle.ql_eval.specs.Questions.{Answers, Ask, ThatList, object_ask}
 use Rattle.ql_eval.specs.internal.Entries.{IsThere}
@@ -16,6 +16,10 @@ use Rattle.ql_eval.specs.internal.Kinds.{IsBetween}
 -- all references of the list are of objects that are there
 abbrev pub AreThere : List Element → List Ref → Type 0
 AreThere objects names = (r : Ref) → Contains names r → IsThere objects r
+
+-- and so are those of all named sets
+abbrev pub AreAllThere : List Element → Env → Type 0
+AreAllThere objects env = (name : List ℕ) → AreThere objects (env name)
 
 -- the object with the first reference lists the second
 abbrev pub IsListedOf : List Element → Ref → Ref → Type 0
