@@ -1,6 +1,6 @@
 -- Parts of sets by kind.
 use Rattle.std.proofs.Common.{◌≡◌, ◌↔◌, ◌⊎◌, inl, inr, eq-or-lt_of_le, ℕ, ℤ, zero, suc, ◌+◌, ◌-◌, ◌<◌, ◌≤◌, List, [], ◌∷◌, ◌++◌, Bool, true, false, length, take, drop, get_or, nat_le, nat_lt, refl, sym, ap, subst, ◌∙◌, arith}
-use Rattle.std.specs.List.{AllWithin, Contains}
+use Rattle.std.specs.List.{AllByRecursion, AllWithin, Contains}
 use Rattle.std.specs.List.Sorted.{IsPartitionedBy, IsPartitionPoint, IsStrictlySortedBy}
 use Rattle.std.proofs.lemmas.Map.Keys.{Less-from_sorted, sorted_tail}
 use Rattle.std.proofs.lemmas.List.{get_or-take, length-drop, length-take, take-append-drop, take_all}
@@ -10,6 +10,8 @@ use Rattle.osm_model.specs.Elements.{kind_byte, ref_cmp}
 use Rattle.osm_model.specs.declared.kind.Kind.{Kind}
 use Rattle.osm_model.specs.declared.kind.Kind.TheVariants as kinds
 use Rattle.osm_model.specs.declared.reference.Ref.{Ref}
+use Rattle.osm_index.proofs.shared.OneObject.{same_kind}
+use Rattle.ql_eval.specs.internal.Kinds.{IsBetween}
 
 -- ---- lists and their places
 
@@ -87,6 +89,17 @@ rising_back zero names rising = rising
 rising_back (suc i) [] rising = rising
 rising_back (suc i) (x ∷ names) rising = rising_back i names (sorted_tail ref_cmp x names rising)
 
+all_front : {X : Type 0} (P : X → Type 0) (i : ℕ) (xs : List X) → AllByRecursion P xs → AllByRecursion P (take i xs)
+all_front P zero xs all = tt
+all_front P (suc i) [] all = tt
+all_front P (suc i) (x ∷ xs) all = (all.0, all_front P i xs all.1)
+
+pub rising_front : (i : ℕ) (names : List Ref) → IsStrictlySortedBy ref_cmp names → IsStrictlySortedBy ref_cmp (take i names)
+unfolding IsStrictlySortedBy
+rising_front zero names rising = tt
+rising_front (suc i) [] rising = tt
+rising_front (suc i) (x ∷ names) rising = (all_front (λ (y : Ref). ref_cmp x y ≡ Less) i names rising.0, rising_front i names rising.1)
+
 -- what the two tests say
 pub not_before : (m n : ℕ) → (nat_lt m n ≡ false) ↔ (n ≤ m)
 not_before m n = ((λ e. grind (arith, e)), (λ le. grind (arith, le)))
@@ -97,3 +110,13 @@ is_at_most m n = ((λ e. grind (arith, e)), (λ le. grind (arith, le)))
 -- a slice from a place on is what is left there
 pub slice_is_rest : {X : Type 0} (xs : List X) (first : ℕ) → take (length xs - first) (drop first xs) ≡ drop first xs
 slice_is_rest xs first = take_all (length xs - first) (drop first xs) (omega (arith, length-drop first xs))
+
+-- from a kind to itself is that kind
+pub is_one_kind : (kind : Kind) (r : Ref) → IsBetween kind kind r ↔ (r.kind ≡ kind)
+is_one_kind kind r = (
+  (λ is. same_kind r.kind kind (omega (arith, is.not_below, is.not_above))),
+  (λ e. record { not_below = rw e (omega arith); not_above = rw e (omega arith) }),
+)
+
+pub of_one_kind : (some all : List Ref) (kind : Kind) (r : Ref) → Contains some r ↔ (Contains all r × IsBetween kind kind r) → Contains some r ↔ (Contains all r × (r.kind ≡ kind))
+of_one_kind some all kind r are = ((λ has. let so = are.0 has in (so.0, (is_one_kind kind r).0 so.1)), (λ has. are.1 (has.0, (is_one_kind kind r).1 has.1)))

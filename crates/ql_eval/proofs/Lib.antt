@@ -7,6 +7,12 @@ pub mod EachLemmas
 pub mod LoopLemmas
 pub mod KindLemmas
 pub mod LinkLemmas
+pub mod RecursionLemmas
+pub mod PathLemmas
+pub mod CandidateLemmas
+pub mod StatementLemmas
+pub mod SelectLemmas
 pub mod ChainLemmas
+pub mod EndLemmas
 pub mod BoxLemmas
 pub mod EntryLemmas

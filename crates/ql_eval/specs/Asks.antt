@@ -155,14 +155,21 @@ AskedByRest env (Within area) ask = ⊥
 abbrev pub IsCandidate : List Element → Env → Pick → Planned → Ref → Type 0
 IsCandidate objects env pick plan = IsRefOf objects (IsSelected objects env pick (option_to_list plan.base))
 
--- what a query statement asks: the counts of rivals, what its base asks, and where filters are left over, what these ask
--- and each candidate
-abbrev pub AskedByPlan : Publication → Env → Pick → Planned → Ask → Type 0
-AskedByPlan p env pick plan ask =
-    AskedByRivals (kind_picked pick) (rivals_of plan) ask
-    ⊎ (AskedByBase p.objects env (kind_picked pick) plan.base ask
+-- what a plan asks: what its base asks, and where filters are left over, what these ask and each candidate
+abbrev pub AskedByPlan : List Element → Env → Pick → Planned → Ask → Type 0
+AskedByPlan objects env pick plan ask =
+    AskedByBase objects env (kind_picked pick) plan.base ask
     ⊎ (((filter : Filter) × Contains (rest_of plan) filter × AskedByRest env filter ask)
-    ⊎ ((rest_of plan ≢ []) × AskedFor (IsCandidate p.objects env pick plan) object_ask ask)))
+    ⊎ ((rest_of plan ≢ []) × AskedFor (IsCandidate objects env pick plan) object_ask ask))
+
+-- the counts by which the plan of a query statement is chosen
+abbrev pub AskedByChoice : Option Kind → List Filter → Ask → Type 0
+AskedByChoice kind filters ask = (plan : Planned) × IsPlan filters plan × AskedByRivals kind (rivals_of plan) ask
+
+-- what a query statement asks: the counts of rivals, and what the plan asks that is chosen
+abbrev pub AskedBySelect : Publication → Env → Pick → List Filter → Ask → Type 0
+AskedBySelect p env pick filters ask =
+    AskedByChoice (kind_picked pick) filters ask ⊎ ((plan : Planned) × IsPlanned p (kind_picked pick) filters plan × AskedByPlan p.objects env pick plan ask)
 
 -- ---- recursions
 
@@ -212,7 +219,7 @@ AskedByOut set modes.Meta limit ask = AskedFor (Contains (cut limit set)) object
 abbrev mutual
   -- what a statement asks that is run over these named sets
   pub AskedBy : Publication → Statement → Env → Ask → Type 0
-  AskedBy p (Select pick filters into) env ask = (plan : Planned) × IsPlanned p (kind_picked pick) filters plan × AskedByPlan p env pick plan ask
+  AskedBy p (Select pick filters into) env ask = AskedBySelect p env pick filters ask
   AskedBy p (Recurse start how into) env ask = AskedByRecursion p.objects how (env start) ask
   AskedBy p (Item start into) env ask = ⊥
   AskedBy p (Union parts into) env ask = AskedByAll p parts env ask

@@ -6,3 +6,6 @@ pub mod Kinds
 pub mod Links
 pub mod Chains
 pub mod Selecting
+pub mod Paths
+pub mod Candidates
+pub mod Lawful

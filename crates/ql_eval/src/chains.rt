@@ -1,6 +1,6 @@
 //! Chains of membership of any length, asked of a source.
 
-ghost use Rattle.std.specs.Prelude.{◌≡◌, ◌⊎◌, ℕ, IfOk, List, OnOk};
+ghost use Rattle.std.specs.Prelude.{◌≡◌, ◌++◌, ℕ, IfOk, List, OnOk};
 ghost use Rattle.std.specs.List.{Contains};
 ghost use Rattle.std.specs.List.Sorted.{IsStrictlySortedBy};
 ghost use Rattle.osm_model.specs.Elements.{ref_cmp};
@@ -11,7 +11,7 @@ ghost use Rattle.ql_plain.specs.Founds.{Goes, IsTold};
 ghost use Rattle.ql_plain.specs.Meanings.{IsSetOf};
 ghost use Rattle.ql_eval.specs.Faults.{cause_of_evaluation};
 ghost use Rattle.ql_eval.specs.Questions.{NeededBy};
-ghost use Rattle.ql_eval.specs.internal.Chains.{IsEnd, IsWay, Leads, LeadsAsk};
+ghost use Rattle.ql_eval.specs.internal.Chains.{IsEnd, IsEndAsk, Leads, LeadsAsk};
 ghost use Rattle.ql_eval.specs.internal.Links.{AreThere};
 
 use crate::fault::EvalFault;
@@ -30,7 +30,8 @@ pub(crate) enum Direction {
     Up,
 }
 
-/// What one or more steps lead to from some references, as a set. Each reference is gone on from once.
+/// What one or more steps lead to from some references, as a set. What was found is gone on from in rounds, each
+/// reference once; cycles end where a round finds nothing new.
 pub(crate) fn ends<W: Source>(
     alloc: Global,
     source: &mut W,
@@ -41,8 +42,7 @@ pub(crate) fn ends<W: Source>(
     ensures walked { OnOk result (W.walked source.old source.new) }
     ensures rising { IfOk result (λ refs. IsStrictlySortedBy ref_cmp refs.items) }
     ensures answer { (p : Publication) → IsPublication p → W.under source.old p → AreThere p.objects from.now
-        → Outcome cause_of_evaluation (λ refs. IsSetOf refs.items (IsEnd direction p.objects from.now))
-        (NeededBy p (From from.now (λ first ask. LeadsAsk direction p.objects first ask ⊎ ((r : _) × IsWay direction p.objects first r × LeadsAsk direction p.objects r ask))))
+        → Outcome cause_of_evaluation (λ refs. IsSetOf refs.items (IsEnd direction p.objects from.now)) (NeededBy p (IsEndAsk direction p.objects from.now))
         (record { held = W.holds source.new; before = W.used source.old; after = W.used source.new }) result }
 {
     let mut found = Found::new(alloc);

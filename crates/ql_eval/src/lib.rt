@@ -3,6 +3,7 @@
 #![tactic(auto)]
 
 mod boxes;
+mod candidates;
 mod chains;
 mod fault;
 mod kinds;
@@ -12,8 +13,10 @@ mod names;
 mod objects;
 mod opening;
 mod over;
+mod paths;
 mod placed;
 mod question;
+mod recursions;
 mod sink;
 mod source;
 mod walks;

@@ -1,5 +1,5 @@
 -- Chains of membership between references, one step after the other.
-use Rattle.std.specs.Prelude.{◌≡◌, ℕ, List, ◌⊎◌, None, drop}
+use Rattle.std.specs.Prelude.{List, ◌⊎◌, None}
 use Rattle.std.specs.List.{Contains}
 use Rattle.osm_model.specs.Elements.{Element}
 use Rattle.osm_model.specs.declared.reference.Ref.{Ref}
@@ -30,11 +30,18 @@ pub data IsWay (direction : Direction) (objects : List Element) : Ref → Ref �
 abbrev pub IsEnd : Direction → List Element → List Ref → Ref → Type 0
 IsEnd direction objects from r = (s : Ref) × Contains from s × IsWay direction objects s r
 
--- how far chains have been gone along: from these references steps were taken, and those were found, of which the ones
--- from a place on are still to be gone on from
-pub record AreChained (direction : Direction) (objects : List Element) (from followed refs : List Ref) (at : ℕ) : Type 0 where
-  pub starts : (r : Ref) → Contains from r → Contains followed r
-  pub only : (r : Ref) → Contains followed r → Contains from r ⊎ Contains refs r
-  pub cover : (r : Ref) → Contains refs r → Contains followed r ⊎ Contains (drop at refs) r
+-- what all steps from the set and from where they lead ask
+abbrev pub IsEndAsk : Direction → List Element → List Ref → Ask → Type 0
+IsEndAsk direction objects from ask = From from (LeadsAsk direction objects) ask ⊎ ((r : Ref) × IsEnd direction objects from r × LeadsAsk direction objects r ask)
+
+-- what steps from the set ask, and steps from some of the references where steps from it lead
+abbrev pub IsChainAsk : Direction → List Element → List Ref → List Ref → Ask → Type 0
+IsChainAsk direction objects from followed ask =
+    From from (LeadsAsk direction objects) ask ⊎ ((r : Ref) × Contains followed r × IsEnd direction objects from r × LeadsAsk direction objects r ask)
+
+-- how far chains have been gone along: what steps from the set and from some of the references lead to is among the
+-- references, and nothing else is
+pub record AreChained (direction : Direction) (objects : List Element) (from followed refs : List Ref) : Type 0 where
+  pub starts : (r : Ref) → From from (Leads direction objects) r → Contains refs r
   pub closed : (r : Ref) → From followed (Leads direction objects) r → Contains refs r
   pub sound : (r : Ref) → Contains refs r → IsEnd direction objects from r

@@ -50,3 +50,19 @@ IsListedIn objects names first last r = From names (IsListedOf objects) r × IsB
 -- the objects with these references, and what they list of the kinds
 abbrev pub IsBelowAsk : List Element → List Ref → Kind → Kind → Ask → Type 0
 IsBelowAsk objects names first last ask = From names IsParentAsk ask ⊎ AskedFor (IsListedIn objects names first last) object_ask ask
+
+-- and it is there
+abbrev pub IsBelowThere : List Element → List Ref → Kind → Kind → Ref → Type 0
+IsBelowThere objects names first last r = IsListedIn objects names first last r × IsThere objects r
+
+-- a way that one of these relations lists lists it, and it is there
+abbrev pub IsBelowWay : List Element → List Ref → Ref → Type 0
+IsBelowWay objects relations r = (way : Ref) × (way.kind ≡ kinds.Way) × IsBelowThere objects relations kinds.Node kinds.Way way × IsListedOf objects way r
+
+-- a node or way that one of these relations lists, or what such a way lists
+abbrev pub IsMemberBelow : List Element → List Ref → Ref → Type 0
+IsMemberBelow objects relations r = IsBelowThere objects relations kinds.Node kinds.Way r ⊎ (IsBelowWay objects relations r × IsThere objects r)
+
+-- the objects with these references, the nodes and ways that they list, and what such ways list
+abbrev pub IsMemberAsk : List Element → List Ref → Ask → Type 0
+IsMemberAsk objects relations ask = IsBelowAsk objects relations kinds.Node kinds.Way ask ⊎ AskedFor (IsBelowWay objects relations) object_ask ask

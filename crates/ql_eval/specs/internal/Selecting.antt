@@ -1,18 +1,12 @@
--- The steps of a query statement: which plan is taken, and which candidates its other filters keep.
-use Rattle.std.specs.Prelude.{◌≢◌, ◌⊎◌, List, [], Option}
+-- Which candidates of a query statement the filters keep that are left over.
+use Rattle.std.specs.Prelude.{◌≢◌, ◌⊎◌, List, []}
 use Rattle.std.specs.List.{AllByRecursion, Contains}
 use Rattle.osm_model.specs.Elements.{Element}
-use Rattle.osm_model.specs.declared.kind.Kind.{Kind}
 use Rattle.osm_model.specs.declared.reference.Ref.{Ref}
 use Rattle.ql_syntax.specs.Filters.{Filter}
 use Rattle.ql_plain.specs.Values.{Env, IsRefOf, Passes}
-use Rattle.ql_plan.specs.Plans.{IsPlan, Planned, rivals_of}
-use Rattle.ql_eval.specs.Asks.{AskedByRest, AskedByRivals, AskedFor}
+use Rattle.ql_eval.specs.Asks.{AskedByRest, AskedFor}
 use Rattle.ql_eval.specs.Questions.{Ask, object_ask}
-
--- the counts by which a plan is chosen
-abbrev pub IsCountAsk : Option Kind → List Filter → Ask → Type 0
-IsCountAsk kind filters ask = (plan : Planned) × IsPlan filters plan × AskedByRivals kind (rivals_of plan) ask
 
 -- what filters ask that are left over, and each candidate
 abbrev pub IsTestAsk : Env → List Filter → List Ref → Ask → Type 0

@@ -3,11 +3,11 @@ use Rattle.std.specs.List.Sorted.{IsPartitionPoint}
 use Rattle.std.proofs.lemmas.List.Sorted.{IsPartitionPoint-from_clause}
 use Rattle.osm_model.specs.Elements.{kind_byte}
 use Rattle.osm_model.specs.declared.reference.Ref.{Ref}
-use Rattle.ql_eval.proofs.KindLemmas.{before_point, is_at_most, up_to_first}
+use Rattle.ql_eval.proofs.KindLemmas.{before_point, is_at_most, rising_front, up_to_first}
 use Rattle.ql_eval.proofs.kinds.up_to.Goals as goal
 
-pub returns : goal.returns
-returns c = λ r.
+pub returns-clause-members : goal.returns-clause-members
+returns-clause-members c = λ r.
     let names = c.args.names.now in
     let count = c.partition_point-count.result in
     let byte = kind_byte c.args.last in
@@ -17,3 +17,6 @@ returns c = λ r.
       (λ has. let (among, passes) = parts.0 has in (among, (is_at_most (kind_byte r.kind) byte).0 passes)),
       (λ (among, le). parts.1 (among, (is_at_most (kind_byte r.kind) byte).1 le)),
     )
+
+pub returns-clause-rising : goal.returns-clause-rising
+returns-clause-rising c = rising_front c.partition_point-count.result c.args.names.now c.requires

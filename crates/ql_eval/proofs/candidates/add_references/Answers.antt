@@ -1,0 +1,18 @@
+use Rattle.std.proofs.Common.{◌≡◌, ◌++◌, ◌∷◌, [], FitsSigned, get_or, pos, refl, rules, to_z-of_z, w64}
+use Rattle.std.proofs.lemmas.List.{get_or_default}
+use Rattle.osm_model.specs.declared.reference.Ref.{Ref}
+use Rattle.ql_plain.proofs.shared.Adding.{adds_all, adds_more, adds_one}
+use Rattle.ql_eval.specs.internal.Candidates.{IsWith}
+use Rattle.ql_eval.proofs.candidates.add_references.Goals as goal
+
+pub loop-id-preserved : goal.loop-id-preserved
+loop-id-preserved c =
+    let id = get_or c.args.ids.now c.loop-id.id-index (pos 0) in
+    let small : FitsSigned w64 id = search rules in
+    let name : Ref = record { kind = c.args.kind; id = id } in
+    let pushed : c.push.new.self.items ≡ c.loop-id.names.items ++ name ∷ [] = simp (to_z-of_z small) at c.in_ok-push.ensures.items in
+    adds_more c.args.ids.now (IsWith c.args.kind) c.loop-id.id-index id c.loop-id-test.true (get_or_default c.args.ids.now c.loop-id.id-index (pos 0) id c.loop-id-test.true) c.loop-id.invariant
+    (adds_one name pushed refl (λ r is. is))
+
+pub returns : goal.returns
+returns c = adds_all c.args.ids.now (IsWith c.args.kind) c.loop-id.id-index c.loop-id-test.false c.loop-id.invariant

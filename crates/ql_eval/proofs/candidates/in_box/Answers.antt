@@ -1,0 +1,7 @@
+use Rattle.tree_node.proofs.shared.OutcomeLaws.{outcome_as}
+use Rattle.ql_eval.proofs.CandidateLemmas.{found_picked}
+use Rattle.ql_eval.proofs.candidates.in_box.Goals as goal
+
+pub returns-clause-answer : goal.returns-clause-answer
+returns-clause-answer g c = λ p is under.
+    outcome_as (λ x needs. needs) (λ so x needs. needs) (λ so. found_picked c.args.kind c.deref.ensures.value so c.in_ok-picked.ensures) (c.in_ok-found.ensures.answer p is under)

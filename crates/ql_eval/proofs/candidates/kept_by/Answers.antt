@@ -1,0 +1,70 @@
+use Rattle.std.proofs.Common.{◌≡◌, ℕ, ℤ, List, Ok, refl, sym, ap, subst, ◌∙◌}
+use Rattle.std.specs.List.{Contains}
+use Rattle.osm_model.specs.Boxes.{ExactBox}
+use Rattle.osm_model.specs.declared.reference.Ref.{Ref}
+use Rattle.tree_node.proofs.shared.OutcomeLaws.{outcome_same, outcome_starts, uses}
+use Rattle.osm_index.specs.Ranges.{IsKindOf}
+use Rattle.ql_syntax.specs.Filters.{Filter, HasKey, Ids, InSet, KeyIs, Via, Within}
+use Rattle.ql_syntax.specs.LawfulQueries.{Allows}
+use Rattle.ql_syntax.specs.StatementViews.{filter_of}
+use Rattle.ql_plain.specs.Meanings.{IsSetOf}
+use Rattle.ql_plain.specs.NamedSets.{lists_of}
+use Rattle.ql_eval.specs.Questions.{WithTag, names_ask}
+use Rattle.ql_eval.specs.internal.Links.{AreThere}
+use Rattle.ql_eval.proofs.CandidateLemmas.{box_kept, ids_kept, kept_as, key_kept, set_kept, tag_kept}
+use Rattle.ql_eval.proofs.EachLemmas.{needed_one, one_needed}
+use Rattle.ql_eval.proofs.PathLemmas.{PathWell}
+use Rattle.ql_eval.proofs.candidates.kept_by.Goals as goal
+
+pub returns-in-Ids-clause-answer : goal.returns-in-Ids-clause-answer
+returns-in-Ids-clause-answer g c = λ p is under there allowed.
+    let env = lists_of c.args.sets.now.named.items in
+    let kind = c.kind_of-kind.result in
+    let ids = c.as_slice.result.now in
+    kept_as p env (uses (g.W.Source.holds c.with_ids.new.source) (g.W.Source.used c.args.source.now) (g.W.Source.used c.with_ids.new.source)) c.with_ids.result c.kind_of-kind.ensures (ap filter_of c.in-Ids.is ∙ ap (λ (l : List ℤ). Ids l) (sym c.as_slice.ensures))
+    (outcome_same (λ x needs. needs) (λ refs so x needs. needs) (λ refs. ids_kept p.objects env kind refs.items ids) (c.with_ids.ensures.answer p is under))
+
+pub returns-in_ok-picked-in-InSet-clause-answer : goal.returns-in_ok-picked-in-InSet-clause-answer
+returns-in_ok-picked-in-InSet-clause-answer g c = λ p is under there allowed.
+    let env = lists_of c.args.sets.now.named.items in
+    let kind = c.kind_of-kind.result in
+    let name = c.in-InSet.name in
+    let refs = c.in_ok-picked-in-InSet.field-0.items in
+    let so = subst (λ (set : List Ref). IsSetOf refs (λ r. Contains set r × IsKindOf kind r)) (c.get.ensures.value ∙ ap env c.as_bytes.ensures) c.in_ok-picked-in-InSet.ensures in
+    kept_as p env (uses (g.W.Source.holds c.args.source.now) (g.W.Source.used c.args.source.now) (g.W.Source.used c.args.source.now)) (Ok c.in_ok-picked-in-InSet.field-0) c.kind_of-kind.ensures (ap filter_of c.in-InSet.is)
+    (outcome_starts (set_kept p.objects env kind refs name (there name) so) (λ x needs. needs.asked))
+
+pub returns-in-Via-clause-answer : goal.returns-in-Via-clause-answer
+returns-in-Via-clause-answer g c = λ p is under there allowed.
+    let env = lists_of c.args.sets.now.named.items in
+    let kind = c.kind_of-kind.result in
+    let set = c.get-in-Via.ensures.value ∙ ap env c.as_bytes-in-Via.ensures in
+    kept_as p env (uses (g.W.Source.holds c.on_path.new.source) (g.W.Source.used c.args.source.now) (g.W.Source.used c.on_path.new.source)) c.on_path.result c.kind_of-kind.ensures (ap filter_of c.in-Via.is)
+    (subst (λ (set : List Ref). PathWell p c.in-Via.path set kind (uses (g.W.Source.holds c.on_path.new.source) (g.W.Source.used c.args.source.now) (g.W.Source.used c.on_path.new.source)) c.on_path.result) set
+    (c.on_path.ensures.answer p is under (subst (λ (set : List Ref). AreThere p.objects set) (sym set) (there c.in-Via.name))))
+
+pub returns-in-KeyIs-clause-answer : goal.returns-in-KeyIs-clause-answer
+returns-in-KeyIs-clause-answer g c = λ p is under there allowed.
+    let env = lists_of c.args.sets.now.named.items in
+    let key = c.as_bytes-in-KeyIs.result.now in
+    let value = c.as_bytes-in-KeyIs-2.result.now in
+    let filter : filter_of c.args.filter.now ≡ KeyIs key value = ap filter_of c.in-KeyIs.is ∙ ap (λ (k : List ℕ). KeyIs k c.in-KeyIs.value) (sym c.as_bytes-in-KeyIs.ensures) ∙ ap (λ (v : List ℕ). KeyIs key v) (sym c.as_bytes-in-KeyIs-2.ensures) in
+    kept_as p env (uses (g.W.Source.holds c.names.new.self) (g.W.Source.used c.args.source.now) (g.W.Source.used c.names.new.self)) c.names.result c.kind_of-kind.ensures filter
+    (outcome_same (needed_one (names_ask (WithTag key value c.kind_of-kind.result)) refl) (λ refs so. one_needed (names_ask (WithTag key value c.kind_of-kind.result))) (λ refs. tag_kept p.objects env c.kind_of-kind.result refs.items key value)
+      (c.names.ensures.answer p is under (subst (λ (f : Filter). Allows c.args.pick f) filter allowed)))
+
+pub returns-in-HasKey-clause-answer : goal.returns-in-HasKey-clause-answer
+returns-in-HasKey-clause-answer g c = λ p is under there allowed.
+    let env = lists_of c.args.sets.now.named.items in
+    let key = c.as_bytes-in-HasKey.result.now in
+    let filter : filter_of c.args.filter.now ≡ HasKey key = ap filter_of c.in-HasKey.is ∙ ap (λ (k : List ℕ). HasKey k) (sym c.as_bytes-in-HasKey.ensures) in
+    kept_as p env (uses (g.W.Source.holds c.with_key.new.source) (g.W.Source.used c.args.source.now) (g.W.Source.used c.with_key.new.source)) c.with_key.result c.kind_of-kind.ensures filter
+    (outcome_same (λ x needs. needs) (λ refs so x needs. needs) (λ refs. key_kept p.objects env c.kind_of-kind.result refs.items key)
+      (c.with_key.ensures.answer p is under (subst (λ (f : Filter). Allows c.args.pick f) filter allowed)))
+
+pub returns-in-Within-clause-answer : goal.returns-in-Within-clause-answer
+returns-in-Within-clause-answer g c = λ p is under there allowed.
+    let env = lists_of c.args.sets.now.named.items in
+    let area = c.deref.result.now in
+    kept_as p env (uses (g.W.Source.holds c.in_box.new.source) (g.W.Source.used c.args.source.now) (g.W.Source.used c.in_box.new.source)) c.in_box.result c.kind_of-kind.ensures (ap filter_of c.in-Within.is ∙ ap (λ (a : ExactBox). Within a) (sym c.deref.ensures))
+    (outcome_same (λ x needs. needs) (λ refs so x needs. needs) (λ refs. box_kept p.objects env c.kind_of-kind.result refs.items area) (c.in_box.ensures.answer p is under))

@@ -1,0 +1,26 @@
+use Rattle.std.proofs.Common.{refl}
+use Rattle.std.proofs.lemmas.List.{get_or_default}
+use Rattle.ql_eval.specs.internal.Candidates.{IsKindAsk, IsOfThisKind}
+use Rattle.ql_eval.proofs.LinkLemmas.{set_of_added}
+use Rattle.ql_eval.proofs.LoopLemmas.{gone_all, gone_next, gone_stops}
+use Rattle.ql_eval.proofs.candidates.of_kinds.Goals as goal
+
+pub returns-in_err-add_kind-clause-answer : goal.returns-in_err-add_kind-clause-answer
+returns-in_err-add_kind-clause-answer g c = λ p is under.
+    gone_stops p c.args.kinds.now (IsOfThisKind p.objects) IsKindAsk c.loop-kind.kind-index _ c.loop-kind-test.true (get_or_default c.args.kinds.now c.loop-kind.kind-index _ _ c.loop-kind-test.true)
+    _ c.from_residual.ensures.1 (λ x needs. needs) (λ x. g.met.W.Source.grows _ _ x c.add_kind.ensures.later)
+    (c.loop-kind.invariant.answer p is under) (c.in_err-add_kind.ensures.answer p is (g.met.W.Source.same_under _ _ p c.loop-kind.invariant.later under))
+
+pub loop-kind-preserved : goal.loop-kind-preserved
+loop-kind-preserved g c = record {
+  later = g.met.W.Source.chained _ _ _ c.loop-kind.invariant.later c.add_kind.ensures.later;
+  walked = g.met.W.Source.more_walks _ _ _ c.loop-kind.invariant.later c.add_kind.ensures.later c.loop-kind.invariant.walked c.in_ok-add_kind.ensures.walked;
+  answer = λ p is under.
+      gone_next p c.args.kinds.now (IsOfThisKind p.objects) IsKindAsk c.loop-kind.kind-index _ c.loop-kind-test.true (get_or_default c.args.kinds.now c.loop-kind.kind-index _ _ c.loop-kind-test.true)
+      (λ x. g.met.W.Source.grows _ _ x c.add_kind.ensures.later) (c.loop-kind.invariant.answer p is under) (c.in_ok-add_kind.ensures.answer p is (g.met.W.Source.same_under _ _ p c.loop-kind.invariant.later under));
+}
+
+pub returns-clause-answer : goal.returns-clause-answer
+returns-clause-answer g c = λ p is under.
+    gone_all p c.args.kinds.now (IsOfThisKind p.objects) IsKindAsk c.loop-kind.kind-index c.loop-kind-test.false (λ x needs. needs) (λ x needs. needs)
+    (λ so. set_of_added so c.tidy.ensures) (c.loop-kind.invariant.answer p is under)

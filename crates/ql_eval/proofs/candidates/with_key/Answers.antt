@@ -1,0 +1,11 @@
+use Rattle.std.proofs.Common.{refl, sym, subst}
+use Rattle.tree_node.proofs.shared.OutcomeLaws.{outcome_as}
+use Rattle.ql_eval.specs.Questions.{WithKey, names_ask}
+use Rattle.ql_eval.proofs.CandidateLemmas.{found_picked}
+use Rattle.ql_eval.proofs.EachLemmas.{needed_one, one_needed}
+use Rattle.ql_eval.proofs.candidates.with_key.Goals as goal
+
+pub returns-clause-answer : goal.returns-clause-answer
+returns-clause-answer g c = λ p is under clean.
+    outcome_as (needed_one (names_ask (WithKey c.args.key.now)) refl) (λ so. one_needed (names_ask (WithKey c.args.key.now)))
+    (λ so. found_picked c.args.kind c.deref.ensures.value so c.in_ok-picked.ensures) (c.in_ok-found.ensures.answer p is under clean)

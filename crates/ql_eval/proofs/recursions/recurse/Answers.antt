@@ -1,0 +1,27 @@
+use Rattle.std.proofs.Common.{refl, sym, subst}
+use Rattle.tree_node.proofs.shared.OutcomeLaws.{outcome_same, uses}
+use Rattle.ql_syntax.specs.declared.recursion.Recursion.{Recursion}
+use Rattle.ql_eval.proofs.EndLemmas.{RecursedWell, down_all_needs, down_all_set, needs_down_all, needs_up_all, up_all_needs, up_all_set}
+use Rattle.ql_eval.proofs.recursions.recurse.Goals as goal
+
+pub returns-in-Down-clause-answer : goal.returns-in-Down-clause-answer
+returns-in-Down-clause-answer g c = λ p is under there.
+    let shelf = uses (g.W.Source.holds c.down.new.source) (g.W.Source.used c.args.source.now) (g.W.Source.used c.down.new.source) in
+    subst (λ (how : Recursion). RecursedWell p how c.args.set.now shelf c.down.result) (sym c.in-Down.is) (c.down.ensures.answer p is under there)
+
+pub returns-in-Up-clause-answer : goal.returns-in-Up-clause-answer
+returns-in-Up-clause-answer g c = λ p is under there.
+    let shelf = uses (g.W.Source.holds c.up.new.source) (g.W.Source.used c.args.source.now) (g.W.Source.used c.up.new.source) in
+    subst (λ (how : Recursion). RecursedWell p how c.args.set.now shelf c.up.result) (sym c.in-Up.is) (c.up.ensures.answer p is under there)
+
+pub returns-in-DownAll-clause-answer : goal.returns-in-DownAll-clause-answer
+returns-in-DownAll-clause-answer g c = λ p is under there.
+    let shelf = uses (g.W.Source.holds c.ends.new.source) (g.W.Source.used c.args.source.now) (g.W.Source.used c.ends.new.source) in
+    subst (λ (how : Recursion). RecursedWell p how c.args.set.now shelf c.ends.result) (sym c.in-DownAll.is)
+    (outcome_same (down_all_needs p is.set c.args.set.now there) (λ refs set. needs_down_all p is.set c.args.set.now there) (λ refs. down_all_set p is.set c.args.set.now there refs.items) (c.ends.ensures.answer p is under there))
+
+pub returns-in-UpAll-clause-answer : goal.returns-in-UpAll-clause-answer
+returns-in-UpAll-clause-answer g c = λ p is under there.
+    let shelf = uses (g.W.Source.holds c.ends-in-UpAll.new.source) (g.W.Source.used c.args.source.now) (g.W.Source.used c.ends-in-UpAll.new.source) in
+    subst (λ (how : Recursion). RecursedWell p how c.args.set.now shelf c.ends-in-UpAll.result) (sym c.in-UpAll.is)
+    (outcome_same (up_all_needs p is.set c.args.set.now there) (λ refs set. needs_up_all p is.set c.args.set.now there) (λ refs. up_all_set p is.set c.args.set.now there refs.items) (c.ends-in-UpAll.ensures.answer p is under there))

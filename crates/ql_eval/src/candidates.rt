@@ -1,0 +1,212 @@
+//! What the base of a query statement finds, asked of a source.
+
+ghost use Rattle.std.specs.Prelude.{◌≡◌, ◌↔◌, ◌<◌, ℕ, IfOk, List, OnOk};
+ghost use Rattle.std.specs.List.{Contains};
+ghost use Rattle.std.specs.List.Sorted.{IsStrictlySortedBy};
+ghost use Rattle.std.specs.Option.{ForSome, option_map, option_to_list};
+ghost use Rattle.osm_model.specs.Elements.{ref_cmp};
+ghost use Rattle.osm_model.specs.Limits.{HasNoNul};
+ghost use Rattle.osm_model.specs.Tagged.{HasKeyOf};
+ghost use Rattle.osm_model.specs.declared.reference.Ref.{Ref};
+ghost use Rattle.tree_node.specs.Outcomes.{Outcome};
+ghost use Rattle.osm_index.specs.Publications.{IsPublication, Publication};
+ghost use Rattle.osm_index.specs.Ranges.{IsKindOf};
+ghost use Rattle.ql_syntax.specs.LawfulQueries.{Allows};
+ghost use Rattle.ql_syntax.specs.StatementViews.{filter_of};
+ghost use Rattle.ql_plain.specs.Adding.{Adds, From};
+ghost use Rattle.ql_plain.specs.Meanings.{IsSetOf};
+ghost use Rattle.ql_plain.specs.NamedSets.{lists_of};
+ghost use Rattle.ql_plain.specs.Values.{IsRefOf, IsSelected};
+ghost use Rattle.ql_plan.specs.Plans.{never, rank_of};
+ghost use Rattle.ql_eval.specs.Asks.{AskedByBase, AskedFor, IsAskedInBox, IsInBox, kind_picked};
+ghost use Rattle.ql_eval.specs.Faults.{cause_of_evaluation};
+ghost use Rattle.ql_eval.specs.Questions.{NeededBy, names_ask, object_ask};
+ghost use Rattle.ql_eval.specs.Questions as questions;
+ghost use Rattle.ql_eval.specs.internal.Candidates.{IsKeptOf, IsKindAsk, IsOfIds, IsOfThisKind, IsWith};
+ghost use Rattle.ql_eval.specs.internal.Entries.{IsThere};
+ghost use Rattle.ql_eval.specs.internal.Links.{AreAllThere};
+
+use crate::fault::EvalFault;
+use crate::kinds::{kind_of, kinds_in, of_kind};
+use crate::links::those_there;
+use crate::paths::on_path;
+use crate::question::Question;
+use crate::source::Source;
+use osm_model::{BoxArea, Kind, Ref};
+use ql_plain::{Sets, tidy};
+use ql_syntax::{Filter, Pick};
+use std::alloc::{AllocError, Global};
+
+/// The objects of a kind that the base keeps, or all of the kind where there is none, as a set.
+pub(crate) fn candidates<W: Source>(
+    alloc: Global,
+    source: &mut W,
+    pick: Pick,
+    base: Option<&Filter<'_>>,
+    sets: &Sets<'_>,
+) -> Result<Vec<Ref>, EvalFault>
+    requires { ForSome (option_map (λ f. filter_of f.now) base) (λ base. rank_of base < never) }
+    ensures later { W.later source.old source.new }
+    ensures walked { OnOk result (W.walked source.old source.new) }
+    ensures rising { IfOk result (λ refs. IsStrictlySortedBy ref_cmp refs.items) }
+    ensures answer { (p : Publication) → IsPublication p → W.under source.old p → AreAllThere p.objects (lists_of sets.now.named.items)
+        → ForSome (option_map (λ f. filter_of f.now) base.entry) (Allows pick)
+        → Outcome cause_of_evaluation (λ refs. IsSetOf refs.items (IsRefOf p.objects (IsSelected p.objects (lists_of sets.now.named.items) pick (option_to_list (option_map (λ f. filter_of f.now) base.entry)))))
+        (NeededBy p (AskedByBase p.objects (lists_of sets.now.named.items) (kind_picked pick) (option_map (λ f. filter_of f.now) base.entry)))
+        (record { held = W.holds source.new; before = W.used source.old; after = W.used source.new }) result }
+{
+    match base {
+        None => of_kinds(alloc, source, kinds_in(kind_of(pick))),
+        Some(filter) => kept_by(alloc, source, pick, filter, sets),
+    }
+}
+
+/// The objects of some kinds, as a set.
+fn of_kinds<W: Source>(
+    alloc: Global,
+    source: &mut W,
+    kinds: &[Kind],
+) -> Result<Vec<Ref>, EvalFault>
+    ensures later { W.later source.old source.new }
+    ensures walked { OnOk result (W.walked source.old source.new) }
+    ensures rising { IfOk result (λ refs. IsStrictlySortedBy ref_cmp refs.items) }
+    ensures answer { (p : Publication) → IsPublication p → W.under source.old p
+        → Outcome cause_of_evaluation (λ refs. IsSetOf refs.items (From kinds.now (IsOfThisKind p.objects))) (NeededBy p (From kinds.now IsKindAsk))
+        (record { held = W.holds source.new; before = W.used source.old; after = W.used source.new }) result }
+{
+    let mut refs = Vec::new(alloc);
+    for kind in kinds {
+        add_kind(source, *kind, &mut refs)?;
+    }
+    tidy(&mut refs);
+    Ok(refs)
+}
+
+/// Adds the objects of a kind.
+fn add_kind<W: Source>(
+    source: &mut W,
+    kind: Kind,
+    refs: &mut Vec<Ref>,
+) -> Result<(), EvalFault>
+    ensures later { W.later source.old source.new }
+    ensures walked { OnOk result (W.walked source.old source.new) }
+    ensures answer { (p : Publication) → IsPublication p → W.under source.old p
+        → Outcome cause_of_evaluation (λ _. Adds refs.old.items refs.new.items (IsOfThisKind p.objects kind)) (NeededBy p (IsKindAsk kind))
+        (record { held = W.holds source.new; before = W.used source.old; after = W.used source.new }) result }
+{
+    let found = source.names(&Question::OfKind(kind))?;
+    refs.extend_from_slice(&found)?;
+    Ok(())
+}
+
+/// The objects of a kind, or of all kinds, that a filter keeps which can be a base, as a set.
+fn kept_by<W: Source>(
+    alloc: Global,
+    source: &mut W,
+    pick: Pick,
+    filter: &Filter<'_>,
+    sets: &Sets<'_>,
+) -> Result<Vec<Ref>, EvalFault>
+    requires { rank_of (filter_of filter.now) < never }
+    ensures later { W.later source.old source.new }
+    ensures walked { OnOk result (W.walked source.old source.new) }
+    ensures rising { IfOk result (λ refs. IsStrictlySortedBy ref_cmp refs.items) }
+    ensures answer { (p : Publication) → IsPublication p → W.under source.old p → AreAllThere p.objects (lists_of sets.now.named.items) → Allows pick (filter_of filter.now)
+        → Outcome cause_of_evaluation (λ refs. IsSetOf refs.items (IsKeptOf p.objects (lists_of sets.now.named.items) (kind_picked pick) (filter_of filter.now)))
+        (NeededBy p (AskedByBase p.objects (lists_of sets.now.named.items) (kind_picked pick) (Some (filter_of filter.now))))
+        (record { held = W.holds source.new; before = W.used source.old; after = W.used source.new }) result }
+{
+    let kind = kind_of(pick);
+    match filter {
+        Filter::Ids(ids) => with_ids(alloc, source, ids.as_slice(), kind),
+        Filter::InSet(name) => Ok(picked(alloc, sets.get(name.as_bytes()), kind)?),
+        Filter::Via(path, name) => on_path(alloc, source, *path, sets.get(name.as_bytes()), kind),
+        Filter::KeyIs(key, value) => source.names(&Question::WithTag(key.as_bytes(), value.as_bytes(), kind)),
+        Filter::HasKey(key) => with_key(alloc, source, key.as_bytes(), kind),
+        Filter::Within(area) => in_box(alloc, source, area, kind),
+        Filter::LacksKey(_) | Filter::KeyIsNot(_, _) => unreachable!("never a base"),
+    }
+}
+
+/// The objects with some ids that are there, of a kind or of all kinds, as a set.
+fn with_ids<W: Source>(
+    alloc: Global,
+    source: &mut W,
+    ids: &[i64],
+    kind: Option<Kind>,
+) -> Result<Vec<Ref>, EvalFault>
+    ensures later { W.later source.old source.new }
+    ensures walked { OnOk result (W.walked source.old source.new) }
+    ensures rising { IfOk result (λ refs. IsStrictlySortedBy ref_cmp refs.items) }
+    ensures answer { (p : Publication) → IsPublication p → W.under source.old p
+        → Outcome cause_of_evaluation (λ refs. IsSetOf refs.items (λ r. IsOfIds kind ids.now r × IsThere p.objects r)) (NeededBy p (AskedFor (IsOfIds kind ids.now) object_ask))
+        (record { held = W.holds source.new; before = W.used source.old; after = W.used source.new }) result }
+{
+    let names = references(alloc, kinds_in(kind), ids)?;
+    those_there(alloc, source, &names)
+}
+
+/// The references of some kinds with some ids.
+fn references(alloc: Global, kinds: &[Kind], ids: &[i64]) -> Result<Vec<Ref>, AllocError>
+    ensures { IfOk result (λ names. (r : Ref) → Contains names.items r ↔ (Contains kinds.now r.kind × Contains ids.now r.id)) }
+{
+    let mut names = Vec::new(alloc);
+    for kind in kinds {
+        add_references(*kind, ids, &mut names)?;
+    }
+    Ok(names)
+}
+
+/// Adds the references of a kind with some ids.
+fn add_references(kind: Kind, ids: &[i64], names: &mut Vec<Ref>) -> Result<(), AllocError>
+    ensures { OnOk result (Adds names.old.items names.new.items (From ids.now (IsWith kind))) }
+{
+    for id in ids {
+        names.push(Ref { kind, id: *id })?;
+    }
+    Ok(())
+}
+
+/// The objects that have a key, of a kind or of all kinds, as a set.
+fn with_key<W: Source>(
+    alloc: Global,
+    source: &mut W,
+    key: &[u8],
+    kind: Option<Kind>,
+) -> Result<Vec<Ref>, EvalFault>
+    ensures later { W.later source.old source.new }
+    ensures walked { OnOk result (W.walked source.old source.new) }
+    ensures rising { IfOk result (λ refs. IsStrictlySortedBy ref_cmp refs.items) }
+    ensures answer { (p : Publication) → IsPublication p → W.under source.old p → HasNoNul key.now
+        → Outcome cause_of_evaluation (λ refs. IsSetOf refs.items (λ r. IsRefOf p.objects (λ o. HasKeyOf o key.now) r × IsKindOf kind r)) (NeededBy p (λ ask. ask ≡ names_ask (questions.WithKey key.now)))
+        (record { held = W.holds source.new; before = W.used source.old; after = W.used source.new }) result }
+{
+    let found = source.names(&Question::WithKey(key))?;
+    Ok(picked(alloc, &found, kind)?)
+}
+
+/// The nodes in a box, if nodes are asked for, as a set.
+fn in_box<W: Source>(
+    alloc: Global,
+    source: &mut W,
+    area: &BoxArea<'_>,
+    kind: Option<Kind>,
+) -> Result<Vec<Ref>, EvalFault>
+    ensures later { W.later source.old source.new }
+    ensures walked { OnOk result (W.walked source.old source.new) }
+    ensures rising { IfOk result (λ refs. IsStrictlySortedBy ref_cmp refs.items) }
+    ensures answer { (p : Publication) → IsPublication p → W.under source.old p
+        → Outcome cause_of_evaluation (λ refs. IsSetOf refs.items (λ r. IsRefOf p.objects (IsInBox area.now) r × IsKindOf kind r)) (NeededBy p (IsAskedInBox area.now))
+        (record { held = W.holds source.new; before = W.used source.old; after = W.used source.new }) result }
+{
+    let found = source.nodes_in(area)?;
+    Ok(picked(alloc, &found, kind)?)
+}
+
+/// The references of a set that are of a kind, or all of them.
+fn picked(alloc: Global, names: &[Ref], kind: Option<Kind>) -> Result<Vec<Ref>, AllocError>
+    requires { IsStrictlySortedBy ref_cmp names.now }
+    ensures { IfOk result (λ refs. IsSetOf refs.items (λ r. Contains names.now r × IsKindOf kind r)) }
+{
+    Vec::from_slice(alloc, of_kind(names, kind))
+}
