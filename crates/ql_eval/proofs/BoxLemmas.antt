@@ -6,7 +6,7 @@ use Rattle.std.specs.List.{Contains, flat_map}
 use Rattle.osm_model.specs.Boxes.{ExactBox, Holds}
 use Rattle.osm_model.specs.Degrees.{Decimal}
 use Rattle.osm_model.specs.Edges.{IsCeiling, IsFloor}
-use Rattle.osm_model.specs.Elements.{Element, reference}
+use Rattle.osm_model.specs.Elements.{reference}
 use Rattle.osm_model.specs.Limits.{BodyInRange}
 use Rattle.osm_model.specs.Places.{IsPlace, Place}
 use Rattle.osm_model.specs.declared.body.Body.{Body}
@@ -18,10 +18,9 @@ use Rattle.tree_node.specs.Outcomes.{NoMemory}
 use Rattle.tree_node.specs.declared.item.Item.{Item}
 use Rattle.tree_node.specs.declared.tree.Tree.TheVariants.{Cells}
 use Rattle.tree_walk.specs.Choices.{AreThose}
-use Rattle.tree_walk.specs.Ranges.{IsIn, Range}
+use Rattle.tree_walk.specs.Ranges.{Range}
 use Rattle.tree_walk.specs.Walks.{IsEntryIn}
 use Rattle.osm_index.specs.Entries.{cell_entry}
-use Rattle.osm_index.specs.Keys.{cell_key}
 use Rattle.osm_index.specs.Publications.{IsPublication, Publication}
 use Rattle.osm_index.specs.Ranges.{AreCellRanges, AreColumns, AreRows, cell_range}
 use Rattle.osm_index.proofs.shared.CellLaws.{cell_found, cell_held}
@@ -34,7 +33,7 @@ use Rattle.ql_plain.specs.Meanings.{IsSetOf}
 use Rattle.ql_plain.specs.Values.{IsRefOf}
 use Rattle.ql_eval.specs.Asks.{IsAskedInBox, IsInBox}
 use Rattle.ql_eval.specs.Faults.{cause_of_evaluation}
-use Rattle.ql_eval.specs.Questions.{Ask, NeededBy}
+use Rattle.ql_eval.specs.Questions.{NeededBy}
 use Rattle.ql_eval.specs.declared.fault.EvalFault.{EvalFault}
 use Rattle.ql_eval.specs.declared.fault.EvalFault.TheVariants as faults
 use Rattle.ql_eval.specs.internal.Boxes.{IsCellsAsk, IsFoundIn}

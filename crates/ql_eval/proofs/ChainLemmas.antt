@@ -1,5 +1,5 @@
 -- Chains of membership, step by step.
-use Rattle.std.proofs.Common.{◌≡◌, ◌≢◌, ◌↔◌, ◌⊎◌, inl, inr, ℕ, suc, ◌≤◌, List, [], ◌∷◌, length, take, drop, Option, None, Result, Ok, refl, sym, ap, subst, ◌∙◌, arith}
+use Rattle.std.proofs.Common.{◌≡◌, ◌⊎◌, inl, inr, ℕ, suc, ◌≤◌, List, [], ◌∷◌, length, take, drop, Result, Ok, refl, sym, ap, subst, ◌∙◌, arith}
 use Rattle.std.specs.List.{Contains}
 use Rattle.std.proofs.lemmas.List.{length-take, take-append-drop}
 use Rattle.std.proofs.lemmas.List.Elements.{Contains-append_cases, Contains-append_left, Contains-append_right}
@@ -17,7 +17,7 @@ use Rattle.ql_plain.specs.Adding.{Adds, From}
 use Rattle.ql_plain.specs.Founds.{Goes}
 use Rattle.ql_plain.specs.Meanings.{IsSetOf}
 use Rattle.ql_eval.specs.Faults.{cause_of_evaluation}
-use Rattle.ql_eval.specs.Questions.{Ask, NeededBy}
+use Rattle.ql_eval.specs.Questions.{NeededBy}
 use Rattle.ql_eval.specs.declared.chains.Direction.{Direction}
 use Rattle.ql_eval.specs.declared.chains.Direction.TheVariants.{Down, Up}
 use Rattle.ql_eval.specs.declared.fault.EvalFault.{EvalFault}

@@ -1,30 +1,27 @@
 -- `>>` and `<<` as chains of membership between objects and as steps between references.
-use Rattle.std.proofs.Common.{◌≡◌, ◌≢◌, ◌↔◌, ◌⊎◌, inl, inr, ℕ, List, None, Result, refl, sym, ap, subst, ◌∙◌}
+use Rattle.std.proofs.Common.{◌≡◌, ◌↔◌, ◌⊎◌, inl, inr, ℕ, List, Result, refl, sym, subst, ◌∙◌}
 use Rattle.std.specs.List.{Contains}
 use Rattle.std.specs.declared.alloc.Global.{Global}
 use Rattle.std.specs.declared.vec.Vec.{Vec}
-use Rattle.osm_model.specs.Elements.{Element, kind_of, reference}
+use Rattle.osm_model.specs.Elements.{Element, reference}
 use Rattle.osm_model.specs.Membership.{BodyLists}
 use Rattle.osm_model.specs.Sets.{IsObjectSet}
-use Rattle.osm_model.specs.declared.kind.Kind.TheVariants as kinds
 use Rattle.osm_model.specs.declared.reference.Ref.{Ref}
 use Rattle.osm_index.proofs.shared.OneObject.{one_object}
 use Rattle.tree_node.specs.Outcomes.{Outcome, ShelfUse}
 use Rattle.osm_index.specs.Publications.{Publication}
 use Rattle.ql_syntax.specs.declared.recursion.Recursion.{Recursion}
 use Rattle.ql_syntax.specs.declared.recursion.Recursion.TheVariants as recursions
-use Rattle.ql_plain.specs.Adding.{From}
 use Rattle.ql_plain.specs.Meanings.{IsSetOf}
 use Rattle.ql_plain.specs.Values.{IsChain, IsParent, IsReached, IsRefOf, Link, Longer}
-use Rattle.ql_eval.specs.Asks.{AskedByRecursion, AskedFor, IsListedBy, IsParentIn, back_ask}
+use Rattle.ql_eval.specs.Asks.{AskedByRecursion}
 use Rattle.ql_eval.specs.Faults.{cause_of_evaluation}
 use Rattle.ql_eval.specs.Questions.{Ask, NeededBy, object_ask}
 use Rattle.ql_eval.specs.declared.chains.Direction.{Direction}
 use Rattle.ql_eval.specs.declared.chains.Direction.TheVariants.{Down, Up}
 use Rattle.ql_eval.specs.declared.fault.EvalFault.{EvalFault}
-use Rattle.ql_eval.specs.internal.Chains.{IsEnd, IsEndAsk, IsWay, Leads, LeadsAsk, More, One}
-use Rattle.ql_eval.specs.internal.Entries.{IsThere}
-use Rattle.ql_eval.specs.internal.Links.{AreThere, IsListedOf, IsParentAsk}
+use Rattle.ql_eval.specs.internal.Chains.{IsEnd, IsEndAsk, IsWay, Leads, More, One}
+use Rattle.ql_eval.specs.internal.Links.{AreThere, IsListedOf}
 use Rattle.ql_eval.proofs.EachLemmas.{needed_as}
 use Rattle.ql_eval.proofs.EntryLemmas.{set_as}
 

@@ -1,5 +1,5 @@
 -- Parts of sets by kind.
-use Rattle.std.proofs.Common.{◌≡◌, ◌↔◌, ◌⊎◌, inl, inr, eq-or-lt_of_le, ℕ, ℤ, zero, suc, ◌+◌, ◌-◌, ◌<◌, ◌≤◌, List, [], ◌∷◌, ◌++◌, Bool, true, false, length, take, drop, get_or, nat_le, nat_lt, refl, sym, ap, subst, ◌∙◌, arith}
+use Rattle.std.proofs.Common.{◌≡◌, ◌↔◌, inl, inr, eq-or-lt_of_le, ℕ, ℤ, zero, suc, ◌-◌, ◌<◌, ◌≤◌, List, [], ◌∷◌, Bool, true, false, length, take, drop, get_or, nat_le, nat_lt, sym, subst, ◌∙◌, arith}
 use Rattle.std.specs.List.{AllByRecursion, AllWithin, Contains}
 use Rattle.std.specs.List.Sorted.{IsPartitionedBy, IsPartitionPoint, IsStrictlySortedBy}
 use Rattle.std.proofs.lemmas.Map.Keys.{Less-from_sorted, sorted_tail}
@@ -29,8 +29,9 @@ in_back P (y ∷ xs) (suc i) x all has = in_back P xs i x (λ k d from lt. all (
 pub after_point : {X : Type 0} (test : X → Bool) (xs : List X) (i : ℕ) → IsPartitionPoint (λ x. test x ≡ true) (λ x. test x ≡ false) xs i → (x : X) → Contains (drop i xs) x ↔ (Contains xs x × (test x ≡ false))
 after_point test xs i point x = (
   (λ has. (
-      subst (λ (l : List _). Contains l x) (take-append-drop i xs) (Contains-append_right (take i xs) (drop i xs) x has),
-      in_back (λ y. test y ≡ false) xs i x point.1 has)),
+    subst (λ (l : List _). Contains l x) (take-append-drop i xs) (Contains-append_right (take i xs) (drop i xs) x has),
+    in_back (λ y. test y ≡ false) xs i x point.1 has,
+  )),
   (λ (has, fails). elim (Contains-append_cases (take i xs) (drop i xs) x (subst (λ (l : List _). Contains l x) (sym (take-append-drop i xs)) has)) [
     | inl before ↦ absurd (let passes : test x ≡ true = in_front (λ y. test y ≡ true) xs i x point.0 before in cc)
     | inr after ↦ after
@@ -40,8 +41,9 @@ after_point test xs i point x = (
 pub before_point : {X : Type 0} (test : X → Bool) (xs : List X) (i : ℕ) → IsPartitionPoint (λ x. test x ≡ true) (λ x. test x ≡ false) xs i → (x : X) → Contains (take i xs) x ↔ (Contains xs x × (test x ≡ true))
 before_point test xs i point x = (
   (λ has. (
-      subst (λ (l : List _). Contains l x) (take-append-drop i xs) (Contains-append_left (take i xs) (drop i xs) x has),
-      in_front (λ y. test y ≡ true) xs i x point.0 has)),
+    subst (λ (l : List _). Contains l x) (take-append-drop i xs) (Contains-append_left (take i xs) (drop i xs) x has),
+    in_front (λ y. test y ≡ true) xs i x point.0 has,
+  )),
   (λ (has, passes). elim (Contains-append_cases (take i xs) (drop i xs) x (subst (λ (l : List _). Contains l x) (sym (take-append-drop i xs)) has)) [
     | inl before ↦ before
     | inr after ↦ absurd (let fails : test x ≡ false = in_back (λ y. test y ≡ false) xs i x point.1 after in cc)

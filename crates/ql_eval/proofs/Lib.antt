@@ -16,3 +16,15 @@ pub mod ChainLemmas
 pub mod EndLemmas
 pub mod BoxLemmas
 pub mod EntryLemmas
+pub mod AllLemmas
+pub mod HalfLemmas
+pub mod BodyLemmas
+pub mod PassingLemmas
+pub mod NarrowingLemmas
+pub mod RestLemmas
+pub mod CountLemmas
+pub mod PlanLemmas
+pub mod WritingLemmas
+pub mod PrintLemmas
+pub mod QueryLemmas
+pub mod OutLemmas

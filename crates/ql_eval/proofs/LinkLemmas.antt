@@ -1,8 +1,8 @@
 -- What objects list, and what lists them.
-use Rattle.std.proofs.Common.{◌≡◌, ◌≢◌, ◌↔◌, ◌⊎◌, inl, inr, ℕ, List, [], ◌∷◌, ◌++◌, Option, Some, None, Bool, true, false, refl, sym, ap, subst, ◌∙◌}
+use Rattle.std.proofs.Common.{◌≡◌, ◌≢◌, ◌↔◌, ◌⊎◌, inl, inr, ℕ, List, [], ◌∷◌, ◌++◌, Some, Bool, true, false, refl, sym, ap, subst, ◌∙◌}
 use Rattle.std.specs.List.{Contains}
 use Rattle.std.specs.Prelude.{IsTrue}
-use Rattle.osm_model.specs.Elements.{Element, kind_of, reference}
+use Rattle.osm_model.specs.Elements.{Element, kind_of}
 use Rattle.osm_model.specs.Membership.{BodyLists}
 use Rattle.osm_model.specs.Sets.{IsObjectSet, object_at}
 use Rattle.osm_model.specs.declared.body.Body.{Body}

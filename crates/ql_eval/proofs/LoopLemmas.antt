@@ -1,5 +1,5 @@
 -- Loops that ask something for each of several things, and add what they find to a list.
-use Rattle.std.proofs.Common.{◌≡◌, ℕ, ◌+◌, ◌<◌, ◌≤◌, List, [], Result, Ok, Err, length, take, get_or, refl, sym}
+use Rattle.std.proofs.Common.{◌≡◌, ℕ, ◌+◌, ◌<◌, ◌≤◌, List, Result, Ok, Err, length, take, get_or, refl}
 use Rattle.std.specs.Result.{IsErrAnd}
 use Rattle.tree_node.specs.Outcomes.{Outcome, ShelfUse}
 use Rattle.tree_node.proofs.shared.OutcomeLaws.{Nodes, outcome_as, outcome_starts, outcome_then, outcome_then_stops, uses}

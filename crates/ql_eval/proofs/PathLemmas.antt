@@ -1,9 +1,9 @@
 -- Where paths lead, in terms of what single references list and are listed by.
-use Rattle.std.proofs.Common.{◌≡◌, ◌≢◌, ◌↔◌, ◌⊎◌, inl, inr, ℕ, List, Option, Some, None, Result, refl, sym, ap, subst, ◌∙◌}
+use Rattle.std.proofs.Common.{◌≡◌, ◌≢◌, ◌↔◌, inl, inr, ℕ, List, Option, Some, None, Result, refl, sym, ap, subst, ◌∙◌}
 use Rattle.std.specs.List.{Contains}
 use Rattle.std.specs.declared.alloc.Global.{Global}
 use Rattle.std.specs.declared.vec.Vec.{Vec}
-use Rattle.osm_model.specs.Elements.{Element, kind_of, reference}
+use Rattle.osm_model.specs.Elements.{reference}
 use Rattle.osm_model.specs.Membership.{BodyLists}
 use Rattle.osm_model.specs.declared.kind.Kind.{Kind}
 use Rattle.osm_model.specs.declared.kind.Kind.TheVariants as kinds
@@ -81,13 +81,20 @@ module _ (p : Publication) (set names : List Ref) (from : Kind) (kind : Option K
         (λ (name, among, (o, there, named, (of_kind, lists))).
             let so = (are name).0 among in
             let (child, child_there, same) = there_all name so.0 in
-            let lists_it : BodyLists o.body (reference child) = subst (λ (s : Ref). BodyLists o.body s) (sym same) lists in
-            (subst (λ (s : Ref). IsKindOf kind s) named of_kind, (o, there, named, (
-              child,
-              record { there = there; child_there = child_there; lists = lists_it },
-              ap (λ (s : Ref). s.kind) same ∙ so.1,
-              subst (λ (s : Ref). Contains set s) (sym same) so.0,
-            )))),
+            let lists_it : BodyLists o.body (reference child) = subst (λ (s : Ref). BodyLists o.body s) (sym same) lists in (
+              subst (λ (s : Ref). IsKindOf kind s) named of_kind,
+              (
+                o,
+                there,
+                named,
+                (
+                  child,
+                  record { there = there; child_there = child_there; lists = lists_it },
+                  ap (λ (s : Ref). s.kind) same ∙ so.1,
+                  subst (λ (s : Ref). Contains set s) (sym same) so.0,
+                ),
+              ),
+            )),
         (λ (of_kind, (o, there, named, (child, parent, child_kind, in_set))).
             (reference child, (are (reference child)).1 (in_set, child_kind), (o, there, named, (subst (λ (s : Ref). IsKindOf kind s) (sym named) of_kind, parent.lists)))),
       )) is

@@ -1,5 +1,5 @@
 -- What `>` and `<` give and ask, in terms of what single references list and are listed by.
-use Rattle.std.proofs.Common.{◌≡◌, ◌≢◌, ◌↔◌, ◌⊎◌, inl, inr, ℕ, ◌++◌, List, [], None, refl, sym, ap, subst, ◌∙◌, arith}
+use Rattle.std.proofs.Common.{◌≡◌, ◌≢◌, ◌↔◌, ◌⊎◌, inl, inr, ℕ, ◌++◌, List, None, refl, sym, ap, subst, ◌∙◌, arith}
 use Rattle.std.specs.List.{Contains}
 use Rattle.osm_model.specs.Elements.{Element, kind_of, reference}
 use Rattle.osm_model.specs.Membership.{BodyLists}
@@ -14,11 +14,11 @@ use Rattle.ql_plain.proofs.shared.Adding.{adds_as, adds_list, adds_then}
 use Rattle.ql_plain.specs.Adding.{Adds, From}
 use Rattle.ql_plain.specs.Meanings.{IsSetOf}
 use Rattle.ql_plain.specs.Values.{IsAbove, IsBelow, IsDown, IsParent, IsReached, IsRefOf, IsUp}
-use Rattle.ql_eval.specs.Asks.{AskedByRecursion, AskedFor, IsOfKindIn, IsWayBelow, back_ask}
-use Rattle.ql_eval.specs.Questions.{Ask, NeededBy, object_ask}
+use Rattle.ql_eval.specs.Asks.{AskedByRecursion, IsOfKindIn, IsWayBelow}
+use Rattle.ql_eval.specs.Questions.{Ask, NeededBy}
 use Rattle.ql_eval.specs.internal.Entries.{IsThere}
 use Rattle.ql_eval.specs.internal.Kinds.{IsBetween}
-use Rattle.ql_eval.specs.internal.Links.{AreThere, IsBackAsk, IsBelowAsk, IsBelowThere, IsBelowWay, IsListedIn, IsListedOf, IsMemberAsk, IsMemberBelow, IsParentAsk, ListsIt}
+use Rattle.ql_eval.specs.internal.Links.{AreThere, IsBackAsk, IsBelowAsk, IsBelowThere, IsListedOf, IsMemberAsk, IsMemberBelow, ListsIt}
 use Rattle.ql_eval.proofs.EachLemmas.{needed_as, needed_or}
 use Rattle.ql_eval.proofs.EntryLemmas.{set_as}
 use Rattle.ql_eval.proofs.KindLemmas.{is_one_kind}
@@ -129,13 +129,17 @@ module _ (p : Publication) (set ways relations : List Ref)
       (o, has, named, inr (inl ((λ is. no_relation r between (ap (λ (s : Ref). s.kind) (sym named) ∙ is)), below)))
   found_down r (inr (inr ((way, of_kind, ((listed, between), there_too), (w, has, named, lists)), (o, there, is)))) =
       let w_listed = subst (λ (s : Ref). From relations (IsListedOf objects) s) (sym named) listed in
-      let w_below = listed_below objects set kinds.Rel relations relations_are w has w_listed in
-      (o, there, is, inr (inr (
-        w,
-        record { there = has; child_there = there; lists = subst (λ (s : Ref). BodyLists w.body s) (sym is) lists },
-        ap (λ (s : Ref). s.kind) named ∙ of_kind,
-        w_below,
-      )))
+      let w_below = listed_below objects set kinds.Rel relations relations_are w has w_listed in (
+        o,
+        there,
+        is,
+        inr (inr (
+          w,
+          record { there = has; child_there = there; lists = subst (λ (s : Ref). BodyLists w.body s) (sym is) lists },
+          ap (λ (s : Ref). s.kind) named ∙ of_kind,
+          w_below,
+        )),
+      )
 
   down_found : (r : Ref) → IsRefOf objects (IsDown objects set) r → IsBelowThere objects ways kinds.Node kinds.Rel r ⊎ IsMemberBelow objects relations r
   down_found r (o, there, named, (inl below)) = let so = of_below objects set kinds.Way ways ways_are r (o, there, named, below) in inl ((so.0, all_kinds r), so.1)

@@ -1,10 +1,14 @@
 -- Query statements: the base of a plan and the filters that are left over.
-use Rattle.std.proofs.Common.{◌≡◌, ◌≢◌, ◌↔◌, ◌⊎◌, inl, inr, ℕ, List, [], ◌∷◌, ◌++◌, Option, Some, None, refl, sym, ap, subst, ◌∙◌}
+use Rattle.std.proofs.Common.{◌≡◌, ◌⊎◌, inl, inr, ℕ, List, [], ◌∷◌, ◌++◌, Option, Some, None, Result, sym, subst, ◌∙◌}
 use Rattle.std.specs.List.{AllByRecursion, Contains}
 use Rattle.std.specs.Option.{ForSome, option_to_list}
-use Rattle.osm_model.specs.Elements.{Element, reference}
+use Rattle.std.specs.declared.alloc.Global.{Global}
+use Rattle.std.specs.declared.vec.Vec.{Vec}
+use Rattle.osm_model.specs.Elements.{Element}
 use Rattle.osm_model.specs.Sets.{IsObjectSet}
+use Rattle.osm_model.specs.declared.kind.Kind.{Kind}
 use Rattle.osm_model.specs.declared.reference.Ref.{Ref}
+use Rattle.tree_node.specs.Outcomes.{Outcome, ShelfUse}
 use Rattle.osm_index.proofs.shared.OneObject.{one_object}
 use Rattle.osm_index.specs.Publications.{Publication}
 use Rattle.ql_syntax.specs.Filters.{Filter}
@@ -14,7 +18,9 @@ use Rattle.ql_plain.specs.Meanings.{IsSetOf}
 use Rattle.ql_plain.specs.Values.{Env, IsRefOf, IsSelected, Passes}
 use Rattle.ql_plan.specs.Plans.{Planned, filters_in}
 use Rattle.ql_eval.specs.Asks.{AskedByBase, AskedByChoice, AskedByPlan, AskedBySelect, IsCandidate, IsPlanned, kind_picked}
+use Rattle.ql_eval.specs.Faults.{cause_of_evaluation}
 use Rattle.ql_eval.specs.Questions.{Ask, NeededBy}
+use Rattle.ql_eval.specs.declared.fault.EvalFault.{EvalFault}
 use Rattle.ql_eval.specs.internal.Links.{AreThere}
 use Rattle.ql_eval.specs.internal.Selecting.{IsKeptBy, IsTestAsk}
 use Rattle.ql_eval.proofs.EachLemmas.{needed_as, needed_or}
@@ -36,8 +42,18 @@ all_second P (x ∷ xs) ys all = all_second P xs ys all.1
 
 -- the base is lawful where all filters are
 pub base_lawful : (pick : Pick) (before : List Filter) (base : Option Filter) (after : List Filter) → AllByRecursion (Allows pick) (before ++ option_to_list base ++ after) → ForSome base (Allows pick)
-base_lawful pick before None after all = tt
-base_lawful pick before (Some filter) after all = (all_second (Allows pick) before (filter ∷ []) (all_first (Allows pick) (before ++ filter ∷ []) after all)).0
+base_lawful pick before None after all filter e = cc
+base_lawful pick before (Some base) after all filter e =
+    let same : base ≡ filter = cc in
+    subst (Allows pick) same (all_second (Allows pick) before (base ∷ []) (all_first (Allows pick) (before ++ base ∷ []) after all)).0
+
+-- how left-over filters are tested, and how a plan is chosen
+abbrev pub TestedWell : Publication → Env → List Filter → List Ref → ShelfUse → Result (Vec Ref Global) EvalFault → Type 0
+TestedWell p env rest candidates shelf result =
+    Outcome cause_of_evaluation (λ refs. IsSetOf refs.items (λ r. Contains candidates r × IsKeptBy p.objects env rest r)) (NeededBy p (IsTestAsk env rest candidates)) shelf result
+
+abbrev pub PlannedWell : Publication → Option Kind → List Filter → ShelfUse → Result Planned EvalFault → Type 0
+PlannedWell p kind filters shelf result = Outcome cause_of_evaluation (IsPlanned p kind filters) (NeededBy p (AskedByChoice kind filters)) shelf result
 
 -- ---- what is kept
 
@@ -49,9 +65,16 @@ module _ (objects : List Element) (set : IsObjectSet objects) (env : Env) (pick 
   kept_selected : (r : Ref) → IsCandidate objects env pick plan r × IsKeptBy objects env (plan.before ++ plan.after) r → IsRefOf objects (IsSelected objects env pick (filters_in plan)) r
   kept_selected r ((o, there, named, (picked, base)), (other, there_too, named_too, rest)) =
       let same = one_object objects other o set there_too there (named_too ∙ sym named) in
-      let all : AllByRecursion (keeps o) (plan.before ++ plan.after) = subst (λ (e : Element). AllByRecursion (keeps e) (plan.before ++ plan.after)) same rest in
-      (o, there, named, (picked, all_both (keeps o) (plan.before ++ option_to_list plan.base) plan.after
-        (all_both (keeps o) plan.before (option_to_list plan.base) (all_first (keeps o) plan.before plan.after all) base) (all_second (keeps o) plan.before plan.after all)))
+      let all : AllByRecursion (keeps o) (plan.before ++ plan.after) = subst (λ (e : Element). AllByRecursion (keeps e) (plan.before ++ plan.after)) same rest in (
+        o,
+        there,
+        named,
+        (
+          picked,
+          all_both (keeps o) (plan.before ++ option_to_list plan.base) plan.after
+              (all_both (keeps o) plan.before (option_to_list plan.base) (all_first (keeps o) plan.before plan.after all) base) (all_second (keeps o) plan.before plan.after all),
+        ),
+      )
 
   selected_kept : (r : Ref) → IsRefOf objects (IsSelected objects env pick (filters_in plan)) r → IsCandidate objects env pick plan r × IsKeptBy objects env (plan.before ++ plan.after) r
   selected_kept r (o, there, named, (picked, all)) =

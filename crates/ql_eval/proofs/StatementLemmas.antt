@@ -1,57 +1,74 @@
 -- Statements, one after the other: what they ask, and that the sets that they write are of objects that are there.
-use Rattle.std.proofs.Common.{◌≡◌, ◌⊎◌, inl, inr, ℕ, zero, suc, ◌+◌, ◌<◌, ◌≤◌, Bool, true, false, List, [], ◌∷◌, ◌++◌, get_or, length, take, drop, bytes_eq, if◌then◌else◌, refl, sym, ap, subst, ◌∙◌, arith}
+use Rattle.std.proofs.Common.{◌≡◌, ◌⊎◌, inl, inr, ℕ, zero, suc, ◌+◌, ◌<◌, Bool, true, false, List, [], ◌∷◌, ◌++◌, Result, get_or, length, take, drop, bytes_eq, if◌then◌else◌, sym, subst, arith}
 use Rattle.std.proofs.lemmas.List.{take-append-drop}
 use Rattle.std.proofs.lemmas.List.Elements.{Contains-append_cases}
 use Rattle.std.specs.List.{Contains}
+use Rattle.std.specs.Prelude.{⊤}
+use Rattle.std.specs.declared.alloc.Global.{Global}
+use Rattle.std.specs.declared.vec.Vec.{Vec}
 use Rattle.osm_model.specs.Elements.{Element}
 use Rattle.osm_model.specs.declared.reference.Ref.{Ref}
+use Rattle.tree_node.specs.Outcomes.{Outcome, ShelfUse}
 use Rattle.osm_index.specs.Publications.{Publication}
 use Rattle.osm_index.proofs.shared.Members.{none}
+use Rattle.ql_syntax.specs.Filters.{Filter}
 use Rattle.ql_syntax.specs.LawfulQueries.{AreInner, IsInner, IsTop}
 use Rattle.ql_syntax.specs.StatementViews.{statement_of, statements_of}
 use Rattle.ql_syntax.specs.Statements.{Statement, Statements, Select, Recurse, Item, Union, Minus, Print, End, Then}
+use Rattle.ql_syntax.specs.declared.pick.Pick.{Pick}
 use Rattle.ql_syntax.specs.declared.statement.Stmt.{Stmt}
 use Rattle.ql_plain.proofs.shared.Adding.{one_more}
 use Rattle.ql_plain.proofs.shared.MeaningLaws.{after_once}
 use Rattle.ql_plain.specs.Meanings.{After, AfterAll, IsSetOf, Writes, given_by, put}
-use Rattle.ql_plain.specs.Values.{Env, IsRefOf}
-use Rattle.ql_eval.specs.Asks.{AskedBy, AskedByAll}
+use Rattle.ql_plain.specs.Values.{Env, IsRefOf, IsSelected}
+use Rattle.ql_eval.specs.Asks.{AskedBy, AskedByAll, AskedBySelect}
+use Rattle.ql_eval.specs.Faults.{cause_of_evaluation}
 use Rattle.ql_eval.specs.Questions.{Ask, NeededBy}
+use Rattle.ql_eval.specs.declared.fault.EvalFault.{EvalFault}
 use Rattle.ql_eval.specs.internal.Entries.{IsThere}
-use Rattle.ql_eval.specs.internal.Lawful.{HasLawfulFilters, HaveLawfulFilters}
+use Rattle.ql_eval.specs.internal.Lawful.{CanRun, CanRunAll}
 use Rattle.ql_eval.specs.internal.Links.{AreAllThere, AreThere}
-use Rattle.ql_eval.proofs.EachLemmas.{needed_as}
+use Rattle.ql_eval.proofs.EachLemmas.{needed_as, needed_or}
 
--- ---- lawful filters
+-- ---- statements that can be run
 
 mutual
-  pub inner_lawful : (depth : ℕ) (statement : Statement) → IsInner depth statement → HasLawfulFilters statement
+  pub inner_lawful : (depth : ℕ) (statement : Statement) → IsInner depth statement → CanRun statement
   inner_lawful depth (Select pick filters into) is = is
   inner_lawful depth (Recurse start how into) is = tt
   inner_lawful depth (Item start into) is = tt
   inner_lawful depth (Union parts into) (below, e, inner, some) = inner_all_lawful below parts inner
   inner_lawful depth (Minus left right into) (below, e, first, second) = (inner_lawful below left first, inner_lawful below right second)
-  inner_lawful depth (Print start mode limit) is = tt
+  inner_lawful depth (Print start mode limit) is = absurd is
 
-  inner_all_lawful : (depth : ℕ) (statements : Statements) → AreInner depth statements → HaveLawfulFilters statements
+  inner_all_lawful : (depth : ℕ) (statements : Statements) → AreInner depth statements → CanRunAll statements
   inner_all_lawful depth End is = tt
   inner_all_lawful depth (Then statement statements) is = (inner_lawful depth statement is.0, inner_all_lawful depth statements is.1)
 
-pub top_lawful : (statement : Statement) → IsTop statement → HasLawfulFilters statement
-top_lawful (Select pick filters into) is = inner_lawful _ (Select pick filters into) is
-top_lawful (Recurse start how into) is = tt
-top_lawful (Item start into) is = tt
-top_lawful (Union parts into) is = inner_lawful _ (Union parts into) is
-top_lawful (Minus left right into) is = inner_lawful _ (Minus left right into) is
-top_lawful (Print start mode limit) is = tt
+-- a statement of a query is run, or it is an out
+abbrev pub IsOut : Statement → Type 0
+IsOut (Print start mode limit) = ⊤
+IsOut (Select pick filters into) = ⊥
+IsOut (Recurse start how into) = ⊥
+IsOut (Item start into) = ⊥
+IsOut (Union parts into) = ⊥
+IsOut (Minus left right into) = ⊥
+
+pub top_lawful : (statement : Statement) → IsTop statement → CanRun statement ⊎ IsOut statement
+top_lawful (Select pick filters into) is = inl is
+top_lawful (Recurse start how into) is = inl tt
+top_lawful (Item start into) is = inl tt
+top_lawful (Union parts into) (below, e, inner, some) = inl (inner_all_lawful below parts inner)
+top_lawful (Minus left right into) (below, e, first, second) = inl (inner_lawful below left first, inner_lawful below right second)
+top_lawful (Print start mode limit) is = inr tt
 
 -- one of several
-pub one_lawful : (statements : List Stmt) (k : ℕ) (x : Stmt) → k < length statements → x ≡ get_or statements k x → HaveLawfulFilters (statements_of statements) → HasLawfulFilters (statement_of x)
+pub one_lawful : (statements : List Stmt) (k : ℕ) (x : Stmt) → k < length statements → x ≡ get_or statements k x → CanRunAll (statements_of statements) → CanRun (statement_of x)
 one_lawful statements k x lt is lawful = at statements x lawful (k, lt, sym is)
   where
-    at : (ss : List Stmt) (x : Stmt) → HaveLawfulFilters (statements_of ss) → Contains ss x → HasLawfulFilters (statement_of x)
+    at : (ss : List Stmt) (x : Stmt) → CanRunAll (statements_of ss) → Contains ss x → CanRun (statement_of x)
     at [] x all has = absurd (none x has)
-    at (y ∷ ys) x all (zero, lt, same) = subst (λ (s : Stmt). HasLawfulFilters (statement_of s)) same all.0
+    at (y ∷ ys) x all (zero, lt, same) = subst (λ (s : Stmt). CanRun (statement_of s)) same all.0
     at (y ∷ ys) x all (suc j, lt, same) = at ys x all.1 (j, omega (arith, lt), same)
 
 -- ---- sets of objects that are there
@@ -162,3 +179,45 @@ module _ (p : Publication) where
 
       pub part_all : (y : List ℕ) → NeededBy p (AskedBy p (statement_of x) mid) y → NeededBy p (AskedByAll p (statements_of parts) env) y
       part_all y needs = parts_all env parts (k + 1) y (part_needs y needs)
+
+-- ---- statements in the code
+
+-- how a statement is run, how statements are, and how a query statement is answered
+abbrev pub RanWell : Publication → Statement → Env → Env → ShelfUse → Result (Unit {0}) EvalFault → Type 0
+RanWell p statement env later shelf result = Outcome cause_of_evaluation (λ _. After p.objects statement env later) (NeededBy p (AskedBy p statement env)) shelf result
+
+abbrev pub RanAllWell : Publication → Statements → Env → Env → ShelfUse → Result (Vec Ref Global) EvalFault → Type 0
+RanAllWell p parts env later shelf result = Outcome cause_of_evaluation (λ given. AfterAll p.objects parts env later given.items) (NeededBy p (AskedByAll p parts env)) shelf result
+
+abbrev pub SelectedWell : Publication → Env → Pick → List Filter → ShelfUse → Result (Vec Ref Global) EvalFault → Type 0
+SelectedWell p env pick filters shelf result =
+    Outcome cause_of_evaluation (λ refs. IsSetOf refs.items (IsRefOf p.objects (IsSelected p.objects env pick filters))) (NeededBy p (AskedBySelect p env pick filters)) shelf result
+
+module _ {s t : Statement} (same : s ≡ t) where
+  pub needs_as : (p : Publication) (env : Env) (x : List ℕ) → NeededBy p (AskedBy p t env) x → NeededBy p (AskedBy p s env) x
+  needs_as p env x needs = subst (λ (u : Statement). NeededBy p (AskedBy p u env) x) (sym same) needs
+
+  pub as_needs : (p : Publication) (env : Env) (x : List ℕ) → NeededBy p (AskedBy p s env) x → NeededBy p (AskedBy p t env) x
+  as_needs p env x needs = subst (λ (u : Statement). NeededBy p (AskedBy p u env) x) same needs
+
+  pub after_as : (objects : List Element) (env later : Env) → After objects t env later → After objects s env later
+  after_as objects env later after = subst (λ (u : Statement). After objects u env later) (sym same) after
+
+  pub can_run_as : CanRun s → CanRun t
+  can_run_as can = subst CanRun same can
+
+-- the two statements of a difference
+module _ (p : Publication) (left right : Statement) (into : List ℕ) (env : Env) where
+  pub left_needs : (x : List ℕ) → NeededBy p (AskedBy p left env) x → NeededBy p (AskedBy p (Minus left right into) env) x
+  left_needs = needed_as (λ ask asked. inl asked)
+
+  module _ (mid : Env) (so : After p.objects left env mid) where
+    pub right_needs : (x : List ℕ) → NeededBy p (AskedBy p right mid) x → NeededBy p (AskedBy p (Minus left right into) env) x
+    right_needs = needed_as (λ ask asked. inr (mid, so, asked))
+
+    minus_ask : (ask : Ask) → AskedBy p (Minus left right into) env ask → AskedBy p left env ask ⊎ AskedBy p right mid ask
+    minus_ask ask (inl first) = inl first
+    minus_ask ask (inr (other, after, second)) = inr (subst (λ (m : Env). AskedBy p right m ask) (after_once p.objects left env other mid after so) second)
+
+    pub minus_splits : (x : List ℕ) → NeededBy p (AskedBy p (Minus left right into) env) x → NeededBy p (AskedBy p left env) x ⊎ NeededBy p (AskedBy p right mid) x
+    minus_splits x needs = needed_or x (needed_as minus_ask x needs)

@@ -1,6 +1,6 @@
 -- What a query asks the trees of a publication, statement by statement, and which nodes it needs.
 -- Source: this project's evaluation, docs/FORMATS.md.
-use Rattle.std.specs.Prelude.{◌≡◌, ◌≢◌, ◌⊎◌, ℕ, List, [], ◌∷◌, Option, Some, None, ⊤}
+use Rattle.std.specs.Prelude.{◌≡◌, ◌≢◌, ◌⊎◌, ℕ, List, [], ◌∷◌, Option, Some, None}
 use Rattle.std.specs.List.{Contains}
 use Rattle.std.specs.Option.{option_to_list}
 use Rattle.osm_model.specs.Boxes.{ExactBox, Holds}

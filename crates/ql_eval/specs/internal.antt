@@ -9,3 +9,6 @@ pub mod Selecting
 pub mod Paths
 pub mod Candidates
 pub mod Lawful
+pub mod Narrowing
+pub mod Counting
+pub mod Printing

@@ -84,11 +84,7 @@ fn add_range<'a, S: Shelf<'a>>(
 }
 
 /// Adds the nodes that entries of the cell tree place in a box. `Form` where an entry isn't of its form.
-fn add_nodes(
-    area: &BoxArea<'_>,
-    found: &[Item<'_>],
-    names: &mut Vec<Ref>,
-) -> Result<(), EvalFault>
+fn add_nodes(area: &BoxArea<'_>, found: &[Item<'_>], names: &mut Vec<Ref>) -> Result<(), EvalFault>
     ensures added { OnOk result (Adds names.old.items names.new.items (IsSaid (SaysIn area.now) (bindings_of found.now))) }
     ensures refused { IfErr result (λ fault. (fault ≡ EvalFault.Memory) ⊎ ((fault ≡ EvalFault.Form) × HasUnread Cells (bindings_of found.now))) }
 {

@@ -62,11 +62,7 @@ pub(crate) fn candidates<W: Source>(
 }
 
 /// The objects of some kinds, as a set.
-fn of_kinds<W: Source>(
-    alloc: Global,
-    source: &mut W,
-    kinds: &[Kind],
-) -> Result<Vec<Ref>, EvalFault>
+fn of_kinds<W: Source>(alloc: Global, source: &mut W, kinds: &[Kind]) -> Result<Vec<Ref>, EvalFault>
     ensures later { W.later source.old source.new }
     ensures walked { OnOk result (W.walked source.old source.new) }
     ensures rising { IfOk result (λ refs. IsStrictlySortedBy ref_cmp refs.items) }
@@ -83,11 +79,7 @@ fn of_kinds<W: Source>(
 }
 
 /// Adds the objects of a kind.
-fn add_kind<W: Source>(
-    source: &mut W,
-    kind: Kind,
-    refs: &mut Vec<Ref>,
-) -> Result<(), EvalFault>
+fn add_kind<W: Source>(source: &mut W, kind: Kind, refs: &mut Vec<Ref>) -> Result<(), EvalFault>
     ensures later { W.later source.old source.new }
     ensures walked { OnOk result (W.walked source.old source.new) }
     ensures answer { (p : Publication) → IsPublication p → W.under source.old p
@@ -121,7 +113,11 @@ fn kept_by<W: Source>(
         Filter::Ids(ids) => with_ids(alloc, source, ids.as_slice(), kind),
         Filter::InSet(name) => Ok(picked(alloc, sets.get(name.as_bytes()), kind)?),
         Filter::Via(path, name) => on_path(alloc, source, *path, sets.get(name.as_bytes()), kind),
-        Filter::KeyIs(key, value) => source.names(&Question::WithTag(key.as_bytes(), value.as_bytes(), kind)),
+        Filter::KeyIs(key, value) => source.names(&Question::WithTag(
+            key.as_bytes(),
+            value.as_bytes(),
+            kind,
+        )),
         Filter::HasKey(key) => with_key(alloc, source, key.as_bytes(), kind),
         Filter::Within(area) => in_box(alloc, source, area, kind),
         Filter::LacksKey(_) | Filter::KeyIsNot(_, _) => unreachable!("never a base"),

@@ -2,30 +2,38 @@
 //! are written.
 #![tactic(auto)]
 
+mod answering;
 mod boxes;
 mod candidates;
 mod chains;
+mod evaluation;
 mod fault;
 mod kinds;
 mod links;
+mod lists_in;
 mod lookups;
 mod names;
+mod narrowed;
 mod objects;
 mod opening;
 mod over;
+mod passing;
 mod paths;
 mod placed;
+mod planned;
+mod print;
 mod question;
 mod recursions;
+mod run;
+mod select;
 mod sink;
 mod source;
+mod tested;
 mod walks;
 
+pub use evaluation::{Report, evaluate};
 pub use fault::EvalFault;
-pub use boxes::find_in_box;
-pub use lookups::{count_names, find_names, find_object, has_object};
 pub use opening::{ManifestFault, open_manifest};
-pub use question::Question;
 pub use sink::Sink;
 
 #[cfg(test)]

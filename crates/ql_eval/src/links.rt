@@ -45,11 +45,7 @@ pub(crate) fn listed_by<W: Source>(
 }
 
 /// Adds what the object with a reference lists.
-fn add_listed<W: Source>(
-    source: &mut W,
-    name: Ref,
-    listed: &mut Vec<Ref>,
-) -> Result<(), EvalFault>
+fn add_listed<W: Source>(source: &mut W, name: Ref, listed: &mut Vec<Ref>) -> Result<(), EvalFault>
     ensures later { W.later source.old source.new }
     ensures walked { OnOk result (W.walked source.old source.new) }
     ensures answer { (p : Publication) → IsPublication p → W.under source.old p → IsThere p.objects name

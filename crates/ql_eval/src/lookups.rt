@@ -138,7 +138,14 @@ pub fn count_names<'a, S: Shelf<'a>>(
         (record { held = S.holds shelf.new; before = S.used shelf.old; after = S.used shelf.new }) result }
 {
     let keys = keys_of(alloc, question)?;
-    let count = count_in(alloc, shelf, manifest, tree_of(question), &keys.as_range(), tally)?;
+    let count = count_in(
+        alloc,
+        shelf,
+        manifest,
+        tree_of(question),
+        &keys.as_range(),
+        tally,
+    )?;
     Ok(count)
 }
 

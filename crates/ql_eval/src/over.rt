@@ -49,9 +49,12 @@ impl<'s, 'a, S: Shelf<'a>> Source for Over<'s, 'a, S> {
 
     ghost itself = { λ o. (refl, refl, (λ x. ((λ has. has), (λ has. has))), (λ x has. has)) };
 
-    ghost chained = { λ o n m first second. (first.0 ∙ second.0, first.1 ∙ second.1,
-        (λ x. ((λ has. (first.2 x).0 ((second.2 x).0 has)), (λ has. (second.2 x).1 ((first.2 x).1 has)))),
-        (λ x has. second.3 x (first.3 x has))) };
+    ghost chained = { λ o n m first second. (
+      first.0 ∙ second.0,
+      first.1 ∙ second.1,
+      (λ x. ((λ has. (first.2 x).0 ((second.2 x).0 has)), (λ has. (second.2 x).1 ((first.2 x).1 has)))),
+      (λ x has. second.3 x (first.3 x has)),
+    ) };
 
     ghost stays = { λ o n later. later.2 };
 

@@ -1,5 +1,8 @@
 //! Lookups, openings and sinks.
 
+mod answers;
 mod lookups;
 mod opening;
+mod rows;
 mod sink;
+mod texts_of_sets;

@@ -1,6 +1,8 @@
 //! Objects and names, asked of a shelf.
 
-use crate::{EvalFault, Question, find_names, find_object};
+use crate::EvalFault;
+use crate::lookups::{find_names, find_object};
+use crate::question::Question;
 use opl_codec::read_set;
 use osm_index::{Edition, Snapshot};
 use osm_model::{Kind, Ref};

@@ -1,4 +1,4 @@
-use Rattle.std.proofs.Common.{◌≡◌, ◌⊎◌, List, sym, ap, subst}
+use Rattle.std.proofs.Common.{◌≡◌, ◌⊎◌, List, sym, subst}
 use Rattle.std.specs.Prelude.{IfErr, OnOk}
 use Rattle.tree_node.specs.NodeRefs.{bindings_of}
 use Rattle.tree_node.specs.declared.item.Item.{Item}
@@ -8,7 +8,7 @@ use Rattle.tree_walk.specs.Choices.{AreThose}
 use Rattle.tree_walk.specs.Ranges.{Range}
 use Rattle.tree_walk.specs.Walks.{IsEntryIn}
 use Rattle.ql_plain.specs.Adding.{Adds}
-use Rattle.ql_eval.specs.Questions.{Ask, Listed, NeedsAsk}
+use Rattle.ql_eval.specs.Questions.{Listed, NeedsAsk}
 use Rattle.ql_eval.specs.declared.fault.EvalFault.TheVariants as faults
 use Rattle.ql_eval.specs.internal.Entries.{HasUnread, IsSaid, SaysIn}
 use Rattle.ql_eval.proofs.BoxLemmas.{range_added}

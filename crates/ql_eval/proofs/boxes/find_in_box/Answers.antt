@@ -1,4 +1,4 @@
-use Rattle.std.proofs.Common.{◌≡◌, ℕ, List, [], sym, subst}
+use Rattle.std.proofs.Common.{List, sym, subst}
 use Rattle.tree_walk.specs.Ranges.{Range}
 use Rattle.tree_walk.proofs.shared.WalkedLaws.{walked_none, walked_then}
 use Rattle.osm_index.specs.Ranges.{AreCellRanges}

@@ -4,7 +4,7 @@ use Rattle.osm_model.specs.Boxes.{ExactBox}
 use Rattle.osm_model.specs.declared.reference.Ref.{Ref}
 use Rattle.tree_node.proofs.shared.OutcomeLaws.{outcome_same, outcome_starts, uses}
 use Rattle.osm_index.specs.Ranges.{IsKindOf}
-use Rattle.ql_syntax.specs.Filters.{Filter, HasKey, Ids, InSet, KeyIs, Via, Within}
+use Rattle.ql_syntax.specs.Filters.{Filter, HasKey, Ids, KeyIs, Within}
 use Rattle.ql_syntax.specs.LawfulQueries.{Allows}
 use Rattle.ql_syntax.specs.StatementViews.{filter_of}
 use Rattle.ql_plain.specs.Meanings.{IsSetOf}
@@ -51,7 +51,7 @@ returns-in-KeyIs-clause-answer g c = λ p is under there allowed.
     let filter : filter_of c.args.filter.now ≡ KeyIs key value = ap filter_of c.in-KeyIs.is ∙ ap (λ (k : List ℕ). KeyIs k c.in-KeyIs.value) (sym c.as_bytes-in-KeyIs.ensures) ∙ ap (λ (v : List ℕ). KeyIs key v) (sym c.as_bytes-in-KeyIs-2.ensures) in
     kept_as p env (uses (g.W.Source.holds c.names.new.self) (g.W.Source.used c.args.source.now) (g.W.Source.used c.names.new.self)) c.names.result c.kind_of-kind.ensures filter
     (outcome_same (needed_one (names_ask (WithTag key value c.kind_of-kind.result)) refl) (λ refs so. one_needed (names_ask (WithTag key value c.kind_of-kind.result))) (λ refs. tag_kept p.objects env c.kind_of-kind.result refs.items key value)
-      (c.names.ensures.answer p is under (subst (λ (f : Filter). Allows c.args.pick f) filter allowed)))
+    (c.names.ensures.answer p is under (subst (λ (f : Filter). Allows c.args.pick f) filter allowed)))
 
 pub returns-in-HasKey-clause-answer : goal.returns-in-HasKey-clause-answer
 returns-in-HasKey-clause-answer g c = λ p is under there allowed.
@@ -60,7 +60,7 @@ returns-in-HasKey-clause-answer g c = λ p is under there allowed.
     let filter : filter_of c.args.filter.now ≡ HasKey key = ap filter_of c.in-HasKey.is ∙ ap (λ (k : List ℕ). HasKey k) (sym c.as_bytes-in-HasKey.ensures) in
     kept_as p env (uses (g.W.Source.holds c.with_key.new.source) (g.W.Source.used c.args.source.now) (g.W.Source.used c.with_key.new.source)) c.with_key.result c.kind_of-kind.ensures filter
     (outcome_same (λ x needs. needs) (λ refs so x needs. needs) (λ refs. key_kept p.objects env c.kind_of-kind.result refs.items key)
-      (c.with_key.ensures.answer p is under (subst (λ (f : Filter). Allows c.args.pick f) filter allowed)))
+    (c.with_key.ensures.answer p is under (subst (λ (f : Filter). Allows c.args.pick f) filter allowed)))
 
 pub returns-in-Within-clause-answer : goal.returns-in-Within-clause-answer
 returns-in-Within-clause-answer g c = λ p is under there allowed.

@@ -1,4 +1,3 @@
-use Rattle.std.proofs.Common.{refl}
 use Rattle.std.proofs.lemmas.List.{get_or_default}
 use Rattle.ql_eval.specs.internal.Candidates.{IsKindAsk, IsOfThisKind}
 use Rattle.ql_eval.proofs.LinkLemmas.{set_of_added}

@@ -1,5 +1,3 @@
-use Rattle.std.proofs.Common.{List}
-use Rattle.osm_model.specs.declared.reference.Ref.{Ref}
 use Rattle.ql_eval.proofs.CandidateLemmas.{copied_set}
 use Rattle.ql_eval.proofs.candidates.picked.Goals as goal
 

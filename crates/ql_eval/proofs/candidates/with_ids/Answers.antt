@@ -1,4 +1,4 @@
-use Rattle.std.proofs.Common.{◌↔◌, List, subst, sym, ◌∙◌, ap}
+use Rattle.std.proofs.Common.{◌↔◌, List, subst, sym}
 use Rattle.std.specs.List.{Contains}
 use Rattle.osm_model.specs.declared.kind.Kind.{Kind}
 use Rattle.osm_model.specs.declared.reference.Ref.{Ref}

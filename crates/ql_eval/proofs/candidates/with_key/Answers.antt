@@ -1,4 +1,4 @@
-use Rattle.std.proofs.Common.{refl, sym, subst}
+use Rattle.std.proofs.Common.{refl}
 use Rattle.tree_node.proofs.shared.OutcomeLaws.{outcome_as}
 use Rattle.ql_eval.specs.Questions.{WithKey, names_ask}
 use Rattle.ql_eval.proofs.CandidateLemmas.{found_picked}

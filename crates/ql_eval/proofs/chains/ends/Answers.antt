@@ -1,4 +1,4 @@
-use Rattle.std.proofs.Common.{◌≡◌, ◌-◌, ◌≤◌, List, [], length, take, drop, Ok, Err, refl, sym, ap, subst, ◌∙◌, arith}
+use Rattle.std.proofs.Common.{◌≡◌, ◌-◌, List, [], length, take, drop, Ok, Err, refl, sym, ap, subst, ◌∙◌, arith}
 use Rattle.std.proofs.lemmas.List.{take_all}
 use Rattle.std.specs.List.{Contains}
 use Rattle.osm_model.specs.declared.reference.Ref.{Ref}
@@ -36,7 +36,7 @@ returns-in_err-next-2-clause-answer g c = λ p is under there.
     outcome_then_stops _ c.from_residual-in_err-next-2.ensures.1 refl (λ x. g.met.W.Source.grows _ _ x c.leads-in-loop-at.ensures.later)
     (chain_ends p direction from (take at refs)) (λ so. left_ends p direction from at refs so) (c.loop-at.invariant.answer p is under there)
     (λ so. subst (λ (names : List Ref). LedWell p direction names shelf (Err c.in_err-next-2.field-0.0)) rest
-      (c.in_err-next-2.ensures.answer p is (g.met.W.Source.same_under _ _ p c.loop-at.invariant.later under) (subst (λ (names : List Ref). AreThere p.objects names) (sym rest) (left_there direction p.objects from at refs so))))
+    (c.in_err-next-2.ensures.answer p is (g.met.W.Source.same_under _ _ p c.loop-at.invariant.later under) (subst (λ (names : List Ref). AreThere p.objects names) (sym rest) (left_there direction p.objects from at refs so))))
 
 pub loop-at-preserved : goal.loop-at-preserved
 loop-at-preserved g c =
@@ -64,7 +64,7 @@ loop-at-preserved g c =
           (λ so next. chained_next direction p.objects from at refs c.in_ok-next-2.next.items more so next adds)
           (c.loop-at.invariant.answer p is under there)
           (λ so. subst (λ (names : List Ref). LedWell p direction names shelf (Ok c.in_ok-next-2.next)) rest
-            (c.in_ok-next-2.ensures.answer p is (g.met.W.Source.same_under _ _ p c.loop-at.invariant.later under) (subst (λ (names : List Ref). AreThere p.objects names) (sym rest) (left_there direction p.objects from at refs so)))));
+          (c.in_ok-next-2.ensures.answer p is (g.met.W.Source.same_under _ _ p c.loop-at.invariant.later under) (subst (λ (names : List Ref). AreThere p.objects names) (sym rest) (left_there direction p.objects from at refs so)))));
     }
 
 pub returns-clause-answer : goal.returns-clause-answer

@@ -1,4 +1,4 @@
-use Rattle.std.proofs.Common.{ℕ, ◌-◌, ◌^◌, ◌≤◌, length, take, Ok}
+use Rattle.std.proofs.Common.{◌-◌, ◌^◌, ◌≤◌, length, take, Ok}
 use Rattle.tree_node.specs.Outcomes.{Outcome}
 use Rattle.tree_node.proofs.shared.OutcomeLaws.{uses}
 use Rattle.osm_index.specs.Publications.{IsPublication, Publication}

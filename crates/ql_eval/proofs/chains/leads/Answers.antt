@@ -1,10 +1,6 @@
-use Rattle.std.proofs.Common.{◌≡◌, ◌↔◌, List, None, refl, sym, subst}
+use Rattle.std.proofs.Common.{sym, subst}
 use Rattle.tree_node.proofs.shared.OutcomeLaws.{outcome_same, uses}
-use Rattle.ql_plain.specs.Adding.{From}
-use Rattle.ql_plain.specs.Meanings.{IsSetOf}
 use Rattle.ql_eval.specs.declared.chains.Direction.{Direction}
-use Rattle.ql_eval.specs.declared.chains.Direction.TheVariants as directions
-use Rattle.ql_eval.specs.internal.Chains.{Leads, LeadsAsk}
 use Rattle.ql_eval.proofs.ChainLemmas.{LedWell, down_leads, down_needs, needs_down}
 use Rattle.ql_eval.proofs.chains.leads.Goals as goal
 

@@ -1,4 +1,4 @@
-use Rattle.std.proofs.Common.{◌≡◌, ◌↔◌, Option, Some, None, sym, subst}
+use Rattle.std.proofs.Common.{◌↔◌, Option, sym, subst}
 use Rattle.std.specs.List.{Contains}
 use Rattle.osm_model.specs.declared.kind.Kind.{Kind}
 use Rattle.osm_index.specs.Ranges.{IsKindOf}

@@ -1,7 +1,6 @@
-use Rattle.std.proofs.Common.{◌≡◌, ◌≢◌, refl, sym, ◌∙◌, rules}
+use Rattle.std.proofs.Common.{◌≢◌, sym, ◌∙◌, rules}
 use Rattle.osm_model.specs.declared.kind.Kind.TheVariants as kinds
 use Rattle.tree_node.proofs.shared.OutcomeLaws.{never_stops, outcome_as}
-use Rattle.ql_eval.specs.Questions.{object_ask}
 use Rattle.ql_eval.proofs.LinkLemmas.{needs_parent, object_lists, parent_needs}
 use Rattle.ql_eval.proofs.ObjectLemmas.{none_there}
 use Rattle.ql_eval.proofs.links.add_listed.Goals as goal

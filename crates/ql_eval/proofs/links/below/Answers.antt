@@ -22,7 +22,7 @@ returns-clause-answer g c = λ p is under there.
     let last = c.args.last in
     let some = c.between.result.now in
     let listed_in = λ (so : IsSetOf c.in_ok-listed.listed.items (From names (IsListedOf p.objects))) (r : Ref). below_set p.objects names first last c.in_ok-listed.listed.items some
-        so (subst (λ (all : List Ref). (s : Ref) → Contains some s ↔ (Contains all s × IsBetween first last s)) c.deref.ensures.value c.between.ensures.members) r in
+    so (subst (λ (all : List Ref). (s : Ref) → Contains some s ↔ (Contains all s × IsBetween first last s)) c.deref.ensures.value c.between.ensures.members) r in
     then_same (λ x. g.met.W.Source.grows _ _ x c.those_there.ensures.later)
     (needed_as (λ ask asked. inl asked)) (λ so. below_needs p names first last some (listed_in so)) (λ so b set. needs_below p names first last some (listed_in so))
     (λ so b set. below_there p names first last some (listed_in so) b.items set)

@@ -1,4 +1,4 @@
-use Rattle.std.proofs.Common.{◌≡◌, ap, sym, subst, ◌∙◌}
+use Rattle.std.proofs.Common.{ap, sym, subst, ◌∙◌}
 use Rattle.tree_node.specs.declared.tree.Tree.{Tree}
 use Rattle.tree_node.proofs.shared.OutcomeLaws.{outcome_as, outcome_stops}
 use Rattle.tree_walk.specs.Choices.{IsCount}
@@ -25,5 +25,5 @@ returns-clause-answer g c = λ p is under.
     (λ x needs. subst (λ (ask : Ask). NeedsAsk p ask x) same needs)
     (λ is x needs. subst (λ (ask : Ask). NeedsAsk p ask x) (sym same) needs)
     (λ is. subst (λ (t : Tree). IsCount (IsEntryIn (range_asked question)) (p.entries t) c.in_ok-count.count) c.tree_of.ensures
-      (subst (λ (range : Range). IsCount (IsEntryIn range) (p.entries c.tree_of.result) c.in_ok-count.count) (c.as_range.ensures.value ∙ c.in_ok-keys.ensures.keys) is))
+    (subst (λ (range : Range). IsCount (IsEntryIn range) (p.entries c.tree_of.result) c.in_ok-count.count) (c.as_range.ensures.value ∙ c.in_ok-keys.ensures.keys) is))
     (c.in_ok-count.ensures.answer p is under)

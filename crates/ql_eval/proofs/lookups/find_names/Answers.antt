@@ -34,10 +34,10 @@ returns-clause-answer g c = λ p is under clean.
     (λ those.
     answered p is question clean c.in_ok-keys.ensures.fits (bindings_of c.in_ok-found.found.items)
     (subst (λ (t : Tree). AreThose (IsEntryIn (range_asked question)) (p.entries t) (bindings_of c.in_ok-found.found.items)) c.tree_of-tree.ensures
-      (subst (λ (range : Range). AreThose (IsEntryIn range) (p.entries c.tree_of-tree.result) (bindings_of c.in_ok-found.found.items)) (c.as_range.ensures.value ∙ c.in_ok-keys.ensures.keys) those))
+    (subst (λ (range : Range). AreThose (IsEntryIn range) (p.entries c.tree_of-tree.result) (bindings_of c.in_ok-found.found.items)) (c.as_range.ensures.value ∙ c.in_ok-keys.ensures.keys) those))
     c.names_in.result
     (subst (λ (t : Tree). IfOk c.names_in.result (λ names. IsSetOf names.items (IsSaid (Names t) (bindings_of c.in_ok-found.found.items)))) c.tree_of-tree.ensures
-      (subst (λ (all : List Item). IfOk c.names_in.result (λ names. IsSetOf names.items (IsSaid (Names c.tree_of-tree.result) (bindings_of all)))) c.deref.ensures.value c.names_in.ensures.read))
+    (subst (λ (all : List Item). IfOk c.names_in.result (λ names. IsSetOf names.items (IsSaid (Names c.tree_of-tree.result) (bindings_of all)))) c.deref.ensures.value c.names_in.ensures.read))
     (subst (λ (t : Tree). IfErr c.names_in.result (λ fault. (fault ≡ faults.Memory) ⊎ ((fault ≡ faults.Form) × HasUnread t (bindings_of c.in_ok-found.found.items)))) c.tree_of-tree.ensures
-      (subst (λ (all : List Item). IfErr c.names_in.result (λ fault. (fault ≡ faults.Memory) ⊎ ((fault ≡ faults.Form) × HasUnread c.tree_of-tree.result (bindings_of all)))) c.deref.ensures.value c.names_in.ensures.refused)))
+    (subst (λ (all : List Item). IfErr c.names_in.result (λ fault. (fault ≡ faults.Memory) ⊎ ((fault ≡ faults.Form) × HasUnread c.tree_of-tree.result (bindings_of all)))) c.deref.ensures.value c.names_in.ensures.refused)))
     (c.in_ok-found.ensures.answer p is under)

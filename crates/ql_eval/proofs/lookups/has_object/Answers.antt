@@ -1,4 +1,4 @@
-use Rattle.std.proofs.Common.{◌≡◌, ℕ, List, FitsSigned, w64, false, refl, sym, ap, subst, ◌∙◌, rules}
+use Rattle.std.proofs.Common.{ℕ, List, FitsSigned, w64, false, refl, sym, ap, subst, ◌∙◌, rules}
 use Rattle.std.specs.Option.{option_copied}
 use Rattle.tree_node.specs.NodeRefs.{bindings_of}
 use Rattle.tree_node.specs.declared.item.Item.{Item}

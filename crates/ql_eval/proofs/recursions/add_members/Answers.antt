@@ -1,4 +1,4 @@
-use Rattle.std.proofs.Common.{◌≡◌, ◌↔◌, ◌++◌, List, inl, refl, ap, subst, ◌∙◌}
+use Rattle.std.proofs.Common.{◌↔◌, ◌++◌, List, inl, refl, ap, subst, ◌∙◌}
 use Rattle.std.specs.List.{Contains}
 use Rattle.osm_model.specs.declared.kind.Kind.TheVariants as kinds
 use Rattle.osm_model.specs.declared.reference.Ref.{Ref}
@@ -30,6 +30,6 @@ returns-clause-answer g c = λ p is under there.
     outcome_then (λ x. g.met.W.Source.grows _ _ x c.below-2.ensures.later)
     (needed_as (λ ask asked. inl asked)) (λ so. inner_needs p c.args.relations.now members ways so are) (λ so inner. members_split p c.args.relations.now members ways so are)
     (λ so inner. members_added p c.args.relations.now members ways so are c.in_ok-inner.inner.items _ _ _ inner (c.in_ok-extend_from_slice.ensures.items ∙ ap (λ (l : List Ref). c.args.refs.now.items ++ l) c.deref-2.ensures.value)
-      (c.in_ok-extend_from_slice-2.ensures.items ∙ ap (λ (l : List Ref). c.extend_from_slice.new.self.items ++ l) c.deref-3.ensures.value))
+    (c.in_ok-extend_from_slice-2.ensures.items ∙ ap (λ (l : List Ref). c.extend_from_slice.new.self.items ++ l) c.deref-3.ensures.value))
     (c.in_ok-members.ensures.answer p is under there)
     (λ so. c.in_ok-inner.ensures.answer p is (g.met.W.Source.same_under _ _ p c.in_ok-members.ensures.later under) (ways_there p c.args.relations.now members ways so are))

@@ -1,4 +1,4 @@
-use Rattle.std.proofs.Common.{refl, sym, subst}
+use Rattle.std.proofs.Common.{sym, subst}
 use Rattle.tree_node.proofs.shared.OutcomeLaws.{outcome_same, uses}
 use Rattle.ql_syntax.specs.declared.recursion.Recursion.{Recursion}
 use Rattle.ql_eval.proofs.EndLemmas.{RecursedWell, down_all_needs, down_all_set, needs_down_all, needs_up_all, up_all_needs, up_all_set}

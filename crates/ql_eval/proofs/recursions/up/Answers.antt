@@ -34,6 +34,6 @@ returns-clause-answer g c = λ p is under there.
     (children_need p set children c.between-children.ensures.members) (λ so. outer_needs p set children refs ways c.between-children.ensures.members so ways_are there)
     (λ so outer. up_splits p set children refs ways c.between-children.ensures.members so ways_are there)
     (λ so outer. up_set p set children refs ways c.between-children.ensures.members so ways_are there c.in_ok-outer.outer.items _ _ outer
-      (c.in_ok-extend_from_slice.ensures.items ∙ ap (λ (l : List Ref). refs ++ l) c.deref-2.ensures.value) c.tidy.ensures)
+    (c.in_ok-extend_from_slice.ensures.items ∙ ap (λ (l : List Ref). refs ++ l) c.deref-2.ensures.value) c.tidy.ensures)
     (c.in_ok-refs.ensures.answer p is under)
     (λ so. c.in_ok-outer.ensures.answer p is (g.met.W.Source.same_under _ _ p c.in_ok-refs.ensures.later under))

@@ -1,0 +1,238 @@
+-- A set is printed reference by reference: which objects those are, and their texts.
+use Rattle.std.proofs.Common.{◌≡◌, ◌≢◌, ◌↔◌, inl, inr, ℕ, zero, suc, ◌+◌, ◌<◌, ◌≤◌, Bool, true, false, ◌||◌, if◌then◌else◌, List, [], ◌∷◌, ◌++◌, length, take, get_or, Option, Some, None, Result, Ok, Err, refl, sym, ap, subst, ◌∙◌}
+use Rattle.std.specs.List.{Contains, filter, flat_map, list_any}
+use Rattle.std.specs.List.Sorted.{IsStrictlySortedBy}
+use Rattle.std.specs.Ordering.{eq_by_cmp, is_eq}
+use Rattle.std.specs.Result.{IsErrAnd}
+use Rattle.std.specs.declared.cmp.Ordering.{Ordering}
+use Rattle.std.specs.declared.cmp.Ordering.TheVariants.{Less, Equal, Greater}
+use Rattle.std.proofs.lemmas.Cmp.{tied_itself}
+use Rattle.std.proofs.lemmas.Grind.{flat_map-append}
+use Rattle.std.proofs.lemmas.List.{append-nil, take_all, take_more}
+use Rattle.std.proofs.lemmas.List.Elements.{All-contains, All-contains_itself, All-filter, filter_passes}
+use Rattle.osm_model.proofs.shared.References.{refs_total}
+use Rattle.osm_model.specs.Elements.{Element, ref_cmp, reference, references}
+use Rattle.osm_model.specs.Sets.{IsObjectSet}
+use Rattle.osm_model.specs.declared.reference.Ref.{Ref}
+use Rattle.opl_codec.specs.Text.{text_of}
+use Rattle.opl_codec.specs.declared.out_mode.OutMode.{OutMode}
+use Rattle.opl_codec.specs.declared.out_mode.OutMode.TheVariants as modes
+use Rattle.tree_node.specs.Outcomes.{Outcome, ShelfUse}
+use Rattle.tree_node.proofs.shared.OutcomeLaws.{Nodes, outcome_as, outcome_starts, outcome_then, outcome_then_stops, uses}
+use Rattle.osm_index.proofs.shared.Members.{first_or_in_rest, from_map, here, in_map, in_rest, none}
+use Rattle.osm_index.proofs.shared.OneObject.{object_there, same_reference}
+use Rattle.osm_index.specs.Publications.{Publication}
+use Rattle.ql_plain.proofs.shared.MeaningLaws.{one_set, printed_rise}
+use Rattle.ql_plain.specs.Adding.{From}
+use Rattle.ql_plain.specs.Meanings.{cut, is_in, printed_of}
+use Rattle.ql_eval.specs.Asks.{AskedByOut}
+use Rattle.ql_eval.specs.Faults.{cause_of_evaluation}
+use Rattle.ql_eval.specs.Questions.{Ask, NeededBy}
+use Rattle.ql_eval.specs.Written.{HasWritten}
+use Rattle.ql_eval.specs.declared.fault.EvalFault.{EvalFault}
+use Rattle.ql_eval.specs.internal.Links.{AreThere, IsObjectAsk}
+use Rattle.ql_eval.proofs.EachLemmas.{all_front, front_all, front_needs, needs_split, next_all, next_needs, none_needed}
+use Rattle.ql_eval.specs.internal.Printing.{line_at, line_of, lines_at, name_line, name_lines}
+use Rattle.ql_eval.proofs.WritingLemmas.{written_none, written_then}
+
+-- ---- the objects of a set
+
+any_at : (a b : Bool) → a ≡ true → (a || b) ≡ true
+any_at true b is = refl
+any_at false b is = cc
+
+any_later : (a b : Bool) → b ≡ true → (a || b) ≡ true
+any_later true b is = refl
+any_later false b is = is
+
+any_from_one : (test : Ref → Bool) (xs : List Ref) (x : Ref) → Contains xs x → test x ≡ true → list_any test xs ≡ true
+any_from_one test [] x is so = absurd (none x is)
+any_from_one test (y ∷ xs) x is so = elim (first_or_in_rest y xs x is) [
+  | inl same ↦ any_at (test y) (list_any test xs) (ap test same ∙ so)
+  | inr later ↦ any_later (test y) (list_any test xs) (any_from_one test xs x later so)
+]
+
+one_case : (test : Ref → Bool) (y : Ref) (xs : List Ref) (b : Bool) → test y ≡ b → ((list_any test xs ≡ true) → (x : Ref) × Contains xs x × (test x ≡ true)) → (b || list_any test xs) ≡ true → (x : Ref) × Contains (y ∷ xs) x × (test x ≡ true)
+one_case test y xs true e later is = (y, here y xs, e)
+one_case test y xs false e later is = let one = later is in (one.0, in_rest y xs one.0 one.1, one.2)
+
+one_from_any : (test : Ref → Bool) (xs : List Ref) → list_any test xs ≡ true → (x : Ref) × Contains xs x × (test x ≡ true)
+one_from_any test [] is = cc
+one_from_any test (y ∷ xs) is = one_case test y xs (test y) refl (one_from_any test xs) is
+
+is_equal : (o : Ordering) → is_eq o ≡ true → o ≡ Equal
+is_equal Less e = cc
+is_equal Equal e = refl
+is_equal Greater e = cc
+
+in_set : (refs : List Ref) (o : Element) → Contains refs (reference o) → is_in refs o ≡ true
+in_set refs o has = any_from_one (λ (r : Ref). eq_by_cmp ref_cmp r (reference o)) refs (reference o) has (ap is_eq (tied_itself refs_total (reference o)))
+
+of_set : (refs : List Ref) (o : Element) → is_in refs o ≡ true → Contains refs (reference o)
+of_set refs o is =
+    let one = one_from_any (λ (r : Ref). eq_by_cmp ref_cmp r (reference o)) refs is in
+    subst (λ (r : Ref). Contains refs r) (same_reference one.0 (reference o) (is_equal (ref_cmp one.0 (reference o)) one.2)) one.1
+
+filtered_case : (test : Element → Bool) (x : Element) (xs : List Element) (b : Bool) → b ≡ true → Contains (if b then x ∷ filter test xs else filter test xs) x
+filtered_case test x xs true e = here x (filter test xs)
+filtered_case test x xs false e = absurd (let no = e in cc)
+
+filtered_later : (test : Element → Bool) (x y : Element) (xs : List Element) (b : Bool) → Contains (filter test xs) y → Contains (if b then x ∷ filter test xs else filter test xs) y
+filtered_later test x y xs true is = in_rest x (filter test xs) y is
+filtered_later test x y xs false is = is
+
+in_filter : (test : Element → Bool) (xs : List Element) (x : Element) → Contains xs x → test x ≡ true → Contains (filter test xs) x
+in_filter test [] x is so = absurd (none x is)
+in_filter test (y ∷ xs) x is so = elim (first_or_in_rest y xs x is) [
+  | inl same ↦ subst (λ (z : Element). Contains (filter test (y ∷ xs)) z) same (filtered_case test y xs (test y) (ap test same ∙ so))
+  | inr later ↦ filtered_later test y x xs (test y) (in_filter test xs x later so)
+]
+
+from_filter : (test : Element → Bool) (xs : List Element) (x : Element) → Contains (filter test xs) x → Contains xs x
+from_filter test xs x is = All-contains (Contains xs) (filter test xs) x (All-filter test (Contains xs) xs (All-contains_itself xs)) is
+
+passes_filter : (test : Element → Bool) (xs : List Element) (x : Element) → Contains (filter test xs) x → test x ≡ true
+passes_filter test xs x is = All-contains (λ (y : Element). test y ≡ true) (filter test xs) x (filter_passes test xs) is
+
+-- the objects of a set have just its references, in their order
+taken_are : (objects : List Element) (refs : List Ref) → IsObjectSet objects → IsStrictlySortedBy ref_cmp refs → AreThere objects refs → references (filter (λ o. is_in refs o) objects) ≡ refs
+taken_are objects refs set rising there = one_set (references (filter (λ o. is_in refs o) objects)) refs (record { rising = printed_rise objects refs None set; members = members }) (record { rising = rising; members = λ r. ((λ is. is), (λ is. is)) })
+  where
+    members : (r : Ref) → Contains (references (filter (λ o. is_in refs o) objects)) r ↔ Contains refs r
+    members r = (
+      (λ is.
+          let found = from_map reference (filter (λ o. is_in refs o) objects) r is in
+          subst (λ (s : Ref). Contains refs s) (sym found.2) (of_set refs found.0 (passes_filter (λ o. is_in refs o) objects found.0 found.1))),
+      (λ is.
+          let found = there r is in
+          let o = found.0 in
+          let has : Contains refs (reference o) = subst (λ (s : Ref). Contains refs s) (sym found.2) is in
+          subst (λ (s : Ref). Contains (references (filter (λ p. is_in refs p) objects)) s) found.2 (in_map reference (filter (λ p. is_in refs p) objects) o (in_filter (λ p. is_in refs p) objects o found.1 (in_set refs o has)))),
+    )
+
+-- ---- their texts
+
+same_lines : (by_name : Ref → List ℕ) (line : Element → List ℕ) (xs : List Element) → ((o : Element) → Contains xs o → by_name (reference o) ≡ line o) → flat_map by_name (references xs) ≡ flat_map line xs
+same_lines by_name line [] same = refl
+same_lines by_name line (x ∷ xs) same =
+    ap (λ (bytes : List ℕ). bytes ++ flat_map by_name (references xs)) (same x (here x xs))
+    ∙ ap (λ (bytes : List ℕ). line x ++ bytes) (same_lines by_name line xs (λ o is. same o (in_rest x xs o is)))
+
+map_take : (n : ℕ) (xs : List Element) → references (take n xs) ≡ take n (references xs)
+map_take zero xs = refl
+map_take (suc n) [] = refl
+map_take (suc n) (x ∷ xs) = ap (λ (rs : List Ref). reference x ∷ rs) (map_take n xs)
+
+map_cut : (limit : Option ℕ) (xs : List Element) → references (cut limit xs) ≡ cut limit (references xs)
+map_cut None xs = refl
+map_cut (Some most) xs = map_take most xs
+
+in_take : (n : ℕ) (xs : List Element) (x : Element) → Contains (take n xs) x → Contains xs x
+in_take zero xs x is = absurd (none x is)
+in_take (suc n) [] x is = absurd (none x is)
+in_take (suc n) (y ∷ xs) x is = elim (first_or_in_rest y (take n xs) x is) [
+  | inl same ↦ subst (λ (z : Element). Contains (y ∷ xs) z) same (here y xs)
+  | inr later ↦ in_rest y xs x (in_take n xs x later)
+]
+
+in_cut : (limit : Option ℕ) (xs : List Element) (x : Element) → Contains (cut limit xs) x → Contains xs x
+in_cut None xs x is = is
+in_cut (Some most) xs x is = in_take most xs x is
+
+-- what is printed of a set is told by its references, where each of them tells the text of its object
+pub printed_by_names : (by_name : Ref → List ℕ) (objects : List Element) (refs : List Ref) (mode : OutMode) (limit : Option ℕ) → IsObjectSet objects → IsStrictlySortedBy ref_cmp refs → AreThere objects refs
+    → ((o : Element) → Contains objects o → by_name (reference o) ≡ text_of o mode) → flat_map by_name (cut limit refs) ≡ printed_of objects refs mode limit
+printed_by_names by_name objects refs mode limit set rising there same =
+    ap (λ (rs : List Ref). flat_map by_name (cut limit rs)) (sym (taken_are objects refs set rising there))
+    ∙ ap (flat_map by_name) (sym (map_cut limit (filter (λ o. is_in refs o) objects)))
+    ∙ same_lines by_name (λ o. text_of o mode) (cut limit (filter (λ o. is_in refs o) objects))
+    (λ o is. same o (from_filter (λ p. is_in refs p) objects o (in_cut limit (filter (λ p. is_in refs p) objects) o is)))
+
+-- the text of an object by its id alone
+name_is_text : (o : Element) → name_line (reference o) ≡ text_of o modes.Ids
+unfolding text_of
+name_is_text o = refl
+
+pub printed_names : (objects : List Element) (refs : List Ref) (limit : Option ℕ) → IsObjectSet objects → IsStrictlySortedBy ref_cmp refs → AreThere objects refs
+    → name_lines (cut limit refs) ≡ printed_of objects refs modes.Ids limit
+printed_names objects refs limit set rising there = printed_by_names name_line objects refs modes.Ids limit set rising there (λ o is. name_is_text o)
+
+pub printed_objects : (objects : List Element) (refs : List Ref) (mode : OutMode) (limit : Option ℕ) → IsObjectSet objects → IsStrictlySortedBy ref_cmp refs → AreThere objects refs
+    → lines_at objects mode (cut limit refs) ≡ printed_of objects refs mode limit
+printed_objects objects refs mode limit set rising there =
+    printed_by_names (line_at objects mode) objects refs mode limit set rising there (λ o is. ap (line_of mode) (object_there objects o set is))
+
+-- what is there of a set is there of its first references
+take_there : (objects : List Element) (n : ℕ) (refs : List Ref) → AreThere objects refs → AreThere objects (take n refs)
+take_there objects zero refs there r is = absurd (none r is)
+take_there objects (suc n) [] there r is = absurd (none r is)
+take_there objects (suc n) (x ∷ refs) there r is = elim (first_or_in_rest x (take n refs) r is) [
+  | inl same ↦ there r (subst (λ (s : Ref). Contains (x ∷ refs) s) same (here x refs))
+  | inr later ↦ take_there objects n refs (λ s has. there s (in_rest x refs s has)) r later
+]
+
+pub cut_there : (objects : List Element) (limit : Option ℕ) (refs : List Ref) → AreThere objects refs → AreThere objects (cut limit refs)
+cut_there objects None refs there = there
+cut_there objects (Some most) refs there = take_there objects most refs there
+
+-- ---- what an out asks
+
+pub out_asks : (refs : List Ref) (mode : OutMode) (limit : Option ℕ) → mode ≢ modes.Ids → (ask : Ask) → AskedByOut refs mode limit ask → From (cut limit refs) IsObjectAsk ask
+out_asks refs modes.Ids limit other ask asked = absurd (other refl)
+out_asks refs modes.Tags limit other ask asked = asked
+out_asks refs modes.Skel limit other ask asked = asked
+out_asks refs modes.Body limit other ask asked = asked
+out_asks refs modes.Meta limit other ask asked = asked
+
+pub asks_out : (refs : List Ref) (mode : OutMode) (limit : Option ℕ) → mode ≢ modes.Ids → (ask : Ask) → From (cut limit refs) IsObjectAsk ask → AskedByOut refs mode limit ask
+asks_out refs modes.Ids limit other ask asked = absurd (other refl)
+asks_out refs modes.Tags limit other ask asked = asked
+asks_out refs modes.Skel limit other ask asked = asked
+asks_out refs modes.Body limit other ask asked = asked
+asks_out refs modes.Meta limit other ask asked = asked
+
+-- ---- one more line
+
+module _ {B : Type 0} (xs : List B) (line : B → List ℕ) where
+  lines_more : (k : ℕ) (b : B) → k < length xs → b ≡ get_or xs k b → flat_map line (take (k + 1) xs) ≡ flat_map line (take k xs) ++ line b
+  lines_more k b lt is =
+      ap (flat_map line) (take_more xs k b lt ∙ ap (λ (y : B). take k xs ++ y ∷ []) (sym is))
+      ∙ flat_map-append line (take k xs) (b ∷ []) ∙ ap (λ (bytes : List ℕ). flat_map line (take k xs) ++ bytes) (append-nil (line b))
+
+  pub written_more : {old mid new : Nodes} (k : ℕ) (b : B) → k < length xs → b ≡ get_or xs k b → HasWritten old mid (flat_map line (take k xs)) → HasWritten mid new (line b) → HasWritten old new (flat_map line (take (k + 1) xs))
+  written_more {old = old} {new = new} k b lt is so one = subst (λ (text : List ℕ). HasWritten old new text) (sym (lines_more k b lt is)) (written_then so one)
+
+  pub written_all : {old new : Nodes} (k : ℕ) → length xs ≤ k → HasWritten old new (flat_map line (take k xs)) → HasWritten old new (flat_map line xs)
+  written_all {old = old} {new = new} k past so = subst (λ (some : List B). HasWritten old new (flat_map line some)) (take_all k xs past) so
+
+-- ---- a loop that asks for each of several things, and writes a line of each
+
+module _ {B : Type 0} (p : Publication) (xs : List B) (Asks : B → Ask → Type 0) (line : B → List ℕ) where
+  -- so many were asked for and written
+  abbrev pub HasPrinted : ℕ → Nodes → Nodes → ShelfUse → Type 0
+  HasPrinted k was is shelf = Outcome cause_of_evaluation (λ (_ : Unit {0}). HasWritten was is (flat_map line (take k xs))) (NeededBy p (From (take k xs) Asks)) shelf (Ok tt)
+
+  -- one of them was
+  abbrev pub HasPut : {V : Type 0} → B → Nodes → Nodes → ShelfUse → Result V EvalFault → Type 0
+  HasPut b was is shelf result = Outcome cause_of_evaluation (λ _. HasWritten was is (line b)) (NeededBy p (Asks b)) shelf result
+
+  pub printed_none : {held used was : Nodes} → HasPrinted 0 was was (uses held used used)
+  printed_none = outcome_starts written_none (none_needed Asks p xs)
+
+  module _ (k : ℕ) (b : B) (lt : k < length xs) (is_next : b ≡ get_or xs k b) where
+    pub printed_next : {V : Type 0} {before held old mid new was mark is : Nodes} {value : V} → ((x : List ℕ) → mid x → new x)
+        → HasPrinted k was mark (uses before old mid) → HasPut b mark is (uses held mid new) (Ok value) → HasPrinted (k + 1) was is (uses held old new)
+    printed_next grows so step =
+        outcome_then grows (front_needs Asks p xs k b lt is_next) (λ done. next_needs Asks p xs k b lt is_next) (λ done next. needs_split Asks p xs k b lt is_next)
+        (λ done next. written_more xs line k b lt is_next done next) so (λ done. step)
+
+    pub printed_stops : {C V : Type 0} {All : C → Type 0} {before held old mid new was mark is : Nodes} {result : Result C EvalFault} (fault : EvalFault) → IsErrAnd result (λ f. f ≡ fault)
+        → ((x : List ℕ) → mid x → new x) → HasPrinted k was mark (uses before old mid) → HasPut {V = V} b mark is (uses held mid new) (Err fault)
+        → Outcome cause_of_evaluation All (NeededBy p (From xs Asks)) (uses held old new) result
+    printed_stops fault err grows so step =
+        outcome_then_stops fault err refl grows (front_all Asks p xs k) (λ has. next_all Asks p xs k b lt is_next) so (λ has. step)
+
+  -- all of them were
+  pub printed_all : {C : Type 0} {before held old new was is : Nodes} {value : C} (k : ℕ) → length xs ≤ k
+      → HasPrinted k was is (uses before old new) → Outcome cause_of_evaluation (λ _. HasWritten was is (flat_map line xs)) (NeededBy p (From xs Asks)) (uses held old new) (Ok value)
+  printed_all k past so = outcome_as (front_all Asks p xs k) (λ done. all_front Asks p xs k past) (λ done. written_all xs line k past done) so

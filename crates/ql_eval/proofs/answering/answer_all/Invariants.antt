@@ -1,0 +1,20 @@
+use Rattle.std.proofs.Common.{◌≡◌, ℕ, List}
+use Rattle.tree_node.proofs.shared.OutcomeLaws.{uses}
+use Rattle.osm_index.specs.Publications.{IsPublication, Publication}
+use Rattle.ql_syntax.specs.LawfulQueries.{IsQuery}
+use Rattle.ql_syntax.specs.StatementViews.{statements_of}
+use Rattle.ql_plain.specs.NamedSets.{lists_of}
+use Rattle.ql_eval.specs.Written.{HasWritten}
+use Rattle.ql_eval.proofs.QueryLemmas.{HasAnswered}
+use Rattle.ql_eval.proofs.answering.answer_all.Given as goal
+
+abbrev pub invariant-loop-statement : goal.invariant-loop-statement
+invariant-loop-statement g l = record {
+  later : g.W.Source.later l.fn.source l.source;
+  walked : g.W.Source.walked l.fn.source l.source;
+  kept : g.T.Sink.kept l.sink ≡ g.T.Sink.kept l.fn.sink;
+  wrote : (text : List ℕ) × HasWritten (g.T.Sink.stands l.fn.sink) (g.T.Sink.stands l.sink) text;
+  answer : (p : Publication) → IsPublication p → g.W.Source.under l.fn.source p → IsQuery (statements_of l.statements)
+      → HasAnswered p l.statements l.statement-index (lists_of l.sets.named.items) (g.T.Sink.stands l.fn.sink) (g.T.Sink.stands l.sink)
+      (uses (g.W.Source.holds l.source) (g.W.Source.used l.fn.source) (g.W.Source.used l.source));
+}

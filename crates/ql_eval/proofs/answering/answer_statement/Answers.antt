@@ -1,0 +1,47 @@
+use Rattle.std.proofs.Common.{◌≡◌, inl, inr, ℕ, List, [], refl, subst, sym}
+use Rattle.osm_model.specs.declared.reference.Ref.{Ref}
+use Rattle.tree_node.proofs.shared.OutcomeLaws.{outcome_same}
+use Rattle.ql_syntax.specs.StatementViews.{statement_of}
+use Rattle.ql_syntax.specs.declared.statement.Stmt.{Stmt}
+use Rattle.ql_plain.specs.Meanings.{After, printed_of, told}
+use Rattle.ql_plain.specs.NamedSets.{lists_of}
+use Rattle.ql_eval.specs.Asks.{AskedBy, AskedByOut}
+use Rattle.ql_eval.specs.Written.{HasWritten}
+use Rattle.ql_eval.specs.internal.Lawful.{CanRun}
+use Rattle.ql_eval.specs.internal.Links.{AreThere}
+use Rattle.ql_eval.proofs.EachLemmas.{needed_as}
+use Rattle.ql_eval.proofs.OutLemmas.{no_out, told_nothing}
+use Rattle.ql_eval.proofs.StatementLemmas.{top_lawful}
+use Rattle.ql_eval.proofs.WritingLemmas.{written_none}
+use Rattle.ql_eval.proofs.answering.answer_statement.Goals as goal
+
+pub returns-in-Print-clause-answer : goal.returns-in-Print-clause-answer
+returns-in-Print-clause-answer g c = λ p is under there top.
+    let env = lists_of c.args.sets.now.named.items in
+    let out = c.in-Print.out in
+    let refs : c.get.result.now ≡ lists_of c.args.sets.now.named.items c.in-Print.out.from =
+    subst (λ (name : List ℕ). c.get.result.now ≡ lists_of c.args.sets.now.named.items name) c.as_bytes.ensures c.get.ensures.value in
+    outcome_same
+    (needed_as (λ ask asked. subst (λ (s : Stmt). AskedBy p (statement_of s) env ask) (sym c.in-Print.is) (subst (λ (rs : List Ref). AskedByOut rs out.mode out.limit ask) refs asked)))
+    (λ value so. needed_as (λ ask asked. subst (λ (rs : List Ref). AskedByOut rs out.mode out.limit ask) (sym refs) (subst (λ (s : Stmt). AskedBy p (statement_of s) env ask) c.in-Print.is asked)))
+    (λ value so. (
+      subst (λ (s : Stmt). After p.objects (statement_of s) env env) (sym c.in-Print.is) refl,
+      subst (λ (s : Stmt). HasWritten (g.T.Sink.stands c.args.sink.now) (g.T.Sink.stands c.print.new.sink) (told p.objects (statement_of s) env)) (sym c.in-Print.is)
+          (subst (λ (rs : List Ref). HasWritten (g.T.Sink.stands c.args.sink.now) (g.T.Sink.stands c.print.new.sink) (printed_of p.objects rs out.mode out.limit)) refs so),
+    ))
+    (c.print.ensures.answer p is under (subst (λ (rs : List Ref). AreThere p.objects rs) (sym refs) (there out.from)))
+
+pub returns-in_default : goal.returns-in_default
+returns-in_default g c = record {
+  later = c.run.ensures.later;
+  walked = c.run.ensures.walked;
+  kept = refl;
+  wrote = ([], written_none);
+  answer = λ p is under there top.
+      let statement = statement_of c.args.statement.now in
+      let env = lists_of c.args.sets.now.named.items in
+      let can : CanRun statement = elim (top_lawful statement top) [ inl can ↦ can | inr out ↦ absurd (no_out c.args.statement.now c.in_default.not-Print out) ] in
+      outcome_same (λ x needs. needs) (λ value so x needs. needs)
+      (λ value so. (so, subst (λ (text : List ℕ). HasWritten (g.T.Sink.stands c.args.sink.now) (g.T.Sink.stands c.args.sink.now) text) (sym (told_nothing p.objects statement env can)) written_none))
+      (c.run.ensures.answer p is under there can);
+}

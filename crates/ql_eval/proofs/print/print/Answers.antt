@@ -1,0 +1,38 @@
+use Rattle.std.proofs.Common.{◌≡◌, ◌≢◌, ℕ, List, ap, rules, subst, sym, ◌∙◌}
+use Rattle.osm_model.specs.declared.reference.Ref.{Ref}
+use Rattle.opl_codec.specs.declared.out_mode.OutMode.{OutMode}
+use Rattle.opl_codec.specs.declared.out_mode.OutMode.TheVariants as modes
+use Rattle.tree_node.proofs.shared.OutcomeLaws.{outcome_same, outcome_starts}
+use Rattle.ql_plain.specs.Adding.{From}
+use Rattle.ql_plain.specs.Meanings.{printed_of}
+use Rattle.ql_eval.specs.Asks.{AskedByOut}
+use Rattle.ql_eval.specs.Written.{HasWritten}
+use Rattle.ql_eval.specs.internal.Links.{AreThere, IsObjectAsk}
+use Rattle.ql_eval.proofs.EachLemmas.{needed_as}
+use Rattle.ql_eval.specs.internal.Printing.{lines_at, name_lines}
+use Rattle.ql_eval.proofs.PrintLemmas.{asks_out, cut_there, out_asks, printed_names, printed_objects}
+use Rattle.ql_eval.proofs.print.print.Goals as goal
+
+pub returns-then-eq-clause-answer : goal.returns-then-eq-clause-answer
+returns-then-eq-clause-answer g c = λ p is under there.
+    let refs = c.args.refs.now in
+    let limit = c.args.limit in
+    let ids : c.args.mode ≡ modes.Ids = search rules in
+    let text : name_lines c.first_of-first.result.now ≡ printed_of p.objects refs c.args.mode limit =
+    ap name_lines c.first_of-first.ensures ∙ printed_names p.objects refs limit is.set c.requires there ∙ ap (λ (m : OutMode). printed_of p.objects refs m limit) (sym ids) in
+    outcome_starts (subst (λ (bytes : List ℕ). HasWritten (g.T.Sink.stands c.args.sink.now) (g.T.Sink.stands c.print_names.new.sink) bytes) text c.in_ok-print_names.ensures.written)
+    (λ x needs. subst (λ (m : OutMode). AskedByOut refs m limit needs.ask) ids needs.asked)
+
+pub returns-clause-answer : goal.returns-clause-answer
+returns-clause-answer g c = λ p is under there.
+    let refs = c.args.refs.now in
+    let mode = c.args.mode in
+    let limit = c.args.limit in
+    let first = c.first_of-first.ensures in
+    let other : mode ≢ modes.Ids = search rules in
+    let text : lines_at p.objects mode c.first_of-first.result.now ≡ printed_of p.objects refs mode limit = ap (lines_at p.objects mode) first ∙ printed_objects p.objects refs mode limit is.set c.requires there in
+    outcome_same
+    (needed_as (λ ask asked. asks_out refs mode limit other ask (subst (λ (rs : List Ref). From rs IsObjectAsk ask) first asked)))
+    (λ value so. needed_as (λ ask asked. subst (λ (rs : List Ref). From rs IsObjectAsk ask) (sym first) (out_asks refs mode limit other ask asked)))
+    (λ value so. subst (λ (bytes : List ℕ). HasWritten (g.T.Sink.stands c.args.sink.now) (g.T.Sink.stands c.print_objects.new.sink) bytes) text so)
+    (c.print_objects.ensures.answer p is under (subst (λ (rs : List Ref). AreThere p.objects rs) (sym first) (cut_there p.objects limit refs there)))

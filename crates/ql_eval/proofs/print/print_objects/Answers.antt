@@ -1,0 +1,32 @@
+use Rattle.std.proofs.Common.{◌++◌, ◌∙◌}
+use Rattle.std.proofs.lemmas.List.{get_or_default}
+use Rattle.std.proofs.lemmas.List.Elements.{Contains-get_or}
+use Rattle.ql_eval.specs.internal.Links.{IsObjectAsk}
+use Rattle.ql_eval.specs.internal.Printing.{line_at}
+use Rattle.ql_eval.proofs.PrintLemmas.{printed_all, printed_next, printed_stops}
+use Rattle.ql_eval.proofs.WritingLemmas.{written_then}
+use Rattle.ql_eval.proofs.print.print_objects.Goals as goal
+
+pub returns-in_err-print_object-clause-wrote : goal.returns-in_err-print_object-clause-wrote
+returns-in_err-print_object-clause-wrote g c = (c.loop-name.invariant.wrote.0 ++ c.print_object.ensures.wrote.0, written_then c.loop-name.invariant.wrote.1 c.print_object.ensures.wrote.1)
+
+pub returns-in_err-print_object-clause-answer : goal.returns-in_err-print_object-clause-answer
+returns-in_err-print_object-clause-answer g c = λ p is under there.
+    printed_stops p c.args.names.now IsObjectAsk (line_at p.objects c.args.mode) c.loop-name.name-index _ c.loop-name-test.true (get_or_default c.args.names.now c.loop-name.name-index _ _ c.loop-name-test.true)
+    _ c.from_residual.ensures.1 (λ x. g.met.W.Source.grows _ _ x c.print_object.ensures.later)
+    (c.loop-name.invariant.answer p is under there) (c.in_err-print_object.ensures.answer p is (g.met.W.Source.same_under _ _ p c.loop-name.invariant.later under) (there _ (Contains-get_or c.args.names.now c.loop-name.name-index _ c.loop-name-test.true)))
+
+pub loop-name-preserved : goal.loop-name-preserved
+loop-name-preserved g c = record {
+  later = g.met.W.Source.chained _ _ _ c.loop-name.invariant.later c.print_object.ensures.later;
+  walked = g.met.W.Source.more_walks _ _ _ c.loop-name.invariant.later c.print_object.ensures.later c.loop-name.invariant.walked c.in_ok-print_object.ensures.walked;
+  kept = c.print_object.ensures.kept ∙ c.loop-name.invariant.kept;
+  wrote = (c.loop-name.invariant.wrote.0 ++ c.print_object.ensures.wrote.0, written_then c.loop-name.invariant.wrote.1 c.print_object.ensures.wrote.1);
+  answer = λ p is under there.
+      printed_next p c.args.names.now IsObjectAsk (line_at p.objects c.args.mode) c.loop-name.name-index _ c.loop-name-test.true (get_or_default c.args.names.now c.loop-name.name-index _ _ c.loop-name-test.true)
+      (λ x. g.met.W.Source.grows _ _ x c.print_object.ensures.later) (c.loop-name.invariant.answer p is under there) (c.in_ok-print_object.ensures.answer p is (g.met.W.Source.same_under _ _ p c.loop-name.invariant.later under) (there _ (Contains-get_or c.args.names.now c.loop-name.name-index _ c.loop-name-test.true)));
+}
+
+pub returns-clause-answer : goal.returns-clause-answer
+returns-clause-answer g c = λ p is under there.
+    printed_all p c.args.names.now IsObjectAsk (line_at p.objects c.args.mode) c.loop-name.name-index c.loop-name-test.false (c.loop-name.invariant.answer p is under there)

@@ -1,0 +1,39 @@
+use Rattle.std.proofs.Common.{List, Option, Ok, refl, sym, subst}
+use Rattle.std.specs.List.{AllByRecursion}
+use Rattle.osm_model.specs.declared.kind.Kind.{Kind}
+use Rattle.tree_node.proofs.shared.OutcomeLaws.{outcome_stops, uses}
+use Rattle.ql_syntax.specs.Filters.{Filter}
+use Rattle.ql_syntax.specs.LawfulQueries.{Allows}
+use Rattle.ql_syntax.specs.StatementViews.{filters_of}
+use Rattle.ql_plain.specs.Meanings.{IsSetOf}
+use Rattle.ql_plain.specs.NamedSets.{lists_of}
+use Rattle.ql_plain.specs.Values.{IsRefOf, IsSelected}
+use Rattle.ql_eval.specs.Asks.{AskedByChoice, kind_picked}
+use Rattle.ql_eval.specs.Questions.{NeededBy}
+use Rattle.ql_eval.proofs.PlanLemmas.{one_planned}
+use Rattle.ql_eval.proofs.SelectLemmas.{PlannedWell, choice_asks, chosen_asks, select_splits}
+use Rattle.ql_eval.proofs.StepLemmas.{then_same}
+use Rattle.ql_eval.proofs.select.select.Goals as goal
+
+pub returns-in_err-plan-clause-answer : goal.returns-in_err-plan-clause-answer
+returns-in_err-plan-clause-answer g c = λ p is under there lawful.
+    let env = lists_of c.args.sets.now.named.items in
+    let filters = filters_of c.args.filters.now in
+    outcome_stops _ c.from_residual.ensures.1 refl
+    (λ x needs. choice_asks p env c.args.pick filters x (subst (λ (k : Option Kind). NeededBy p (AskedByChoice k filters) x) c.kind_of.ensures needs))
+    (c.in_err-plan.ensures.answer p is under)
+
+pub returns-clause-answer : goal.returns-clause-answer
+returns-clause-answer g c = λ p is under there lawful.
+    let env = lists_of c.args.sets.now.named.items in
+    let pick = c.args.pick in
+    let filters = filters_of c.args.filters.now in
+    let plan = c.in_ok-plan.plan in
+    let written = c.in_ok-plan.ensures.written.0 in
+    let one = one_planned p (kind_picked pick) filters in
+    let first = uses (g.W.Source.holds c.planned.new.source) (g.W.Source.used c.args.source.now) (g.W.Source.used c.planned.new.source) in
+    then_same (λ x. g.met.W.Source.grows _ _ x c.answered.ensures.later)
+    (choice_asks p env pick filters) (λ chosen. chosen_asks p env pick filters one plan chosen) (λ chosen b set. select_splits p env pick filters one plan chosen)
+    (λ chosen b set. subst (λ (fs : List Filter). IsSetOf b.items (IsRefOf p.objects (IsSelected p.objects env pick fs))) written set)
+    (subst (λ (k : Option Kind). PlannedWell p k filters first (Ok plan)) c.kind_of.ensures (c.in_ok-plan.ensures.answer p is under))
+    (λ chosen. c.answered.ensures.answer p is (g.met.W.Source.same_under _ _ p c.in_ok-plan.ensures.later under) there (subst (λ (fs : List Filter). AllByRecursion (Allows pick) fs) (sym written) lawful))

@@ -1,0 +1,77 @@
+//! The statements of a query, one after the other.
+
+ghost use Rattle.std.specs.Prelude.{◌≡◌, ℕ, List, OnOk};
+ghost use Rattle.tree_node.specs.Outcomes.{Outcome};
+ghost use Rattle.osm_index.specs.Publications.{IsPublication, Publication};
+ghost use Rattle.ql_syntax.specs.LawfulQueries.{IsQuery, IsTop};
+ghost use Rattle.ql_syntax.specs.StatementViews.{statement_of, statements_of};
+ghost use Rattle.ql_plain.specs.Meanings.{After, Means, nothing_named, told};
+ghost use Rattle.ql_plain.specs.NamedSets.{lists_of};
+ghost use Rattle.ql_eval.specs.Asks.{AskedBy, AskedByAll};
+ghost use Rattle.ql_eval.specs.Faults.{cause_of_evaluation};
+ghost use Rattle.ql_eval.specs.Questions.{NeededBy};
+ghost use Rattle.ql_eval.specs.Written.{HasWritten};
+ghost use Rattle.ql_eval.specs.internal.Links.{AreAllThere};
+
+use crate::fault::EvalFault;
+use crate::print::print;
+use crate::run::run;
+use crate::sink::Sink;
+use crate::source::Source;
+use ql_plain::Sets;
+use ql_syntax::Stmt;
+use std::alloc::Global;
+
+/// Runs the statements of a query, and writes what they print. No set is named at first.
+pub(crate) fn answer_all<'q, W: Source, T: Sink>(
+    alloc: Global,
+    statements: &[Stmt<'q>],
+    source: &mut W,
+    sink: &mut T,
+) -> Result<(), EvalFault>
+    ensures later { W.later source.old source.new }
+    ensures walked { OnOk result (W.walked source.old source.new) }
+    ensures kept { T.kept sink.new ≡ T.kept sink.old }
+    ensures wrote { (text : List ℕ) × HasWritten (T.stands sink.old) (T.stands sink.new) text }
+    ensures answer { (p : Publication) → IsPublication p → W.under source.old p → IsQuery (statements_of statements.now)
+        → Outcome cause_of_evaluation (λ _. (text : List ℕ) × Means p.objects (statements_of statements.now) text × HasWritten (T.stands sink.old) (T.stands sink.new) text)
+        (NeededBy p (AskedByAll p (statements_of statements.now) nothing_named))
+        (record { held = W.holds source.new; before = W.used source.old; after = W.used source.new }) result }
+{
+    let mut sets = Sets::new(alloc);
+    for statement in statements {
+        answer_statement(alloc, statement, &mut sets, source, sink)?;
+    }
+    Ok(())
+}
+
+/// Runs a statement, and writes what it prints.
+fn answer_statement<'q, W: Source, T: Sink>(
+    alloc: Global,
+    statement: &Stmt<'q>,
+    sets: &mut Sets<'q>,
+    source: &mut W,
+    sink: &mut T,
+) -> Result<(), EvalFault>
+    ensures later { W.later source.old source.new }
+    ensures walked { OnOk result (W.walked source.old source.new) }
+    ensures kept { T.kept sink.new ≡ T.kept sink.old }
+    ensures wrote { (text : List ℕ) × HasWritten (T.stands sink.old) (T.stands sink.new) text }
+    ensures answer { (p : Publication) → IsPublication p → W.under source.old p → AreAllThere p.objects (lists_of sets.old.named.items) → IsTop (statement_of statement.now)
+        → Outcome cause_of_evaluation (λ _. After p.objects (statement_of statement.now) (lists_of sets.old.named.items) (lists_of sets.new.named.items)
+        × HasWritten (T.stands sink.old) (T.stands sink.new) (told p.objects (statement_of statement.now) (lists_of sets.old.named.items)))
+        (NeededBy p (AskedBy p (statement_of statement.now) (lists_of sets.old.named.items)))
+        (record { held = W.holds source.new; before = W.used source.old; after = W.used source.new }) result }
+{
+    match statement {
+        Stmt::Print(out) => print(
+            alloc,
+            source,
+            sets.get(out.from.as_bytes()),
+            out.mode,
+            out.limit,
+            sink,
+        ),
+        _ => run(alloc, statement, sets, source),
+    }
+}

@@ -1,0 +1,125 @@
+//! The answer to a query, from what a shelf holds.
+
+ghost use Rattle.std.specs.Prelude.{◌≡◌, ◌-◌, ◌^◌, ◌<◌, ◌⊎◌, ℕ, Err, IfOk, List, OnErr, OnOk, length};
+ghost use Rattle.tree_node.specs.Digests.{digest};
+ghost use Rattle.tree_node.specs.Outcomes.{Outcome};
+ghost use Rattle.tree_node.specs.Shelves.{HasNone, SameNodes};
+ghost use Rattle.tree_walk.specs.Walked.{HasWalked};
+ghost use Rattle.osm_index.specs.Manifests.{manifest_bytes};
+ghost use Rattle.osm_index.specs.Publications.{IsPublication, Publication, root_of};
+ghost use Rattle.ql_syntax.specs.LawfulQueries.{IsQuery};
+ghost use Rattle.ql_syntax.specs.StatementViews.{statements_of};
+ghost use Rattle.ql_plain.specs.Meanings.{Means, nothing_named};
+ghost use Rattle.ql_eval.specs.Asks.{AskedByAll, IsNeeded};
+ghost use Rattle.ql_eval.specs.Faults.{cause_of_evaluation};
+ghost use Rattle.ql_eval.specs.Openings.{IsUnder};
+ghost use Rattle.ql_eval.specs.Questions.{NeededBy};
+ghost use Rattle.ql_eval.specs.Written.{HasWritten};
+
+use crate::answering::answer_all;
+use crate::fault::EvalFault;
+use crate::opening::{ManifestFault, open_manifest};
+use crate::over::Over;
+use crate::sink::Sink;
+use osm_index::Manifest;
+use ql_syntax::{Query, Stmt};
+use std::alloc::Global;
+use tree_node::{Digest, Shelf};
+use tree_walk::Tally;
+
+/// What an evaluation did.
+#[derive(Clone, Copy, Debug, PartialEq, Eq)]
+pub struct Report {
+    /// How many walks it made, counts included. It stays at the greatest u64.
+    pub ranges: u64,
+    /// How many nodes the walks fetched. It stays at the greatest u64.
+    pub fetched: u64,
+}
+
+/// Writes the answer to a query into a sink, from the nodes under a root.
+///
+/// A refusal leaves the text of the sink as it was. The nodes that were fetched until then stay used.
+pub fn evaluate<'a, S: Shelf<'a>, T: Sink>(
+    alloc: Global,
+    query: &Query<'_>,
+    root: &Digest,
+    shelf: &mut S,
+    sink: &mut T,
+) -> Result<Report, EvalFault>
+    // The sink tells its length, to which a refused answer is cut.
+    requires { (text : List ℕ) → T.stands sink.old text → length text < 2 ^ 64 - 1 }
+    // The held nodes never change, and what was used stays used.
+    ensures stays { SameNodes (S.holds shelf.old) (S.holds shelf.new) }
+    ensures grows { (bytes : List ℕ) → S.used shelf.old bytes → S.used shelf.new bytes }
+    ensures kept { T.kept sink.new ≡ T.kept sink.old }
+    ensures refused { OnErr result ((text : List ℕ) → T.stands sink.old text → T.stands sink.new text) }
+    // E4 with `Missing` where no held node has the root.
+    ensures none { HasNone (S.holds shelf.new) root.now.0 → result ≡ Err (EvalFault.Manifest ManifestFault.Missing) }
+    // Whatever the root is of, the report counts the walks and what they fetched.
+    ensures report { IfOk result (λ report. (found : Manifest) × S.holds shelf.new (manifest_bytes found) × (digest (manifest_bytes found) ≡ root.now.0)
+        × HasWalked (record { held = S.holds shelf.new; before = λ bytes. S.used shelf.old bytes ⊎ (bytes ≡ manifest_bytes found); after = S.used shelf.new }) 0 report.ranges 0 report.fetched) }
+    // Under the root of a publication: its answer, by just the needed nodes.
+    ensures answer { (p : Publication) → IsPublication p → root.now.0 ≡ root_of p
+        → Outcome cause_of_evaluation (λ _. (text : List ℕ) × Means p.objects (statements_of query.now) text × HasWritten (T.stands sink.old) (T.stands sink.new) text)
+        (IsNeeded p (statements_of query.now))
+        (record { held = S.holds shelf.new; before = S.used shelf.old; after = S.used shelf.new }) result }
+{
+    let len = sink.len();
+    let manifest = open_manifest(root, shelf)?;
+    let mut tally = Tally {
+        calls: 0,
+        fetches: 0,
+    };
+    let statements = query.stmts();
+    match run_over(alloc, statements, manifest, shelf, sink, &mut tally) {
+        Ok(()) => Ok(Report {
+            ranges: tally.calls,
+            fetched: tally.fetches,
+        }),
+        Err(fault) => {
+            sink.cut(len);
+            Err(fault)
+        }
+    }
+}
+
+/// Runs the statements of a query under a manifest. The tally becomes that of all walks.
+fn run_over<'a, S: Shelf<'a>, T: Sink>(
+    alloc: Global,
+    statements: &[Stmt<'_>],
+    manifest: Manifest,
+    shelf: &mut S,
+    sink: &mut T,
+    tally: &mut Tally,
+) -> Result<(), EvalFault>
+    ensures stays { SameNodes (S.holds shelf.old) (S.holds shelf.new) }
+    ensures grows { (bytes : List ℕ) → S.used shelf.old bytes → S.used shelf.new bytes }
+    ensures walked { OnOk result (HasWalked (record { held = S.holds shelf.new; before = S.used shelf.old; after = S.used shelf.new }) 0 tally.new.calls 0 tally.new.fetches) }
+    ensures kept { T.kept sink.new ≡ T.kept sink.old }
+    ensures wrote { (text : List ℕ) × HasWritten (T.stands sink.old) (T.stands sink.new) text }
+    ensures answer { (p : Publication) → IsPublication p → IsUnder p manifest → IsQuery (statements_of statements.now)
+        → Outcome cause_of_evaluation (λ _. (text : List ℕ) × Means p.objects (statements_of statements.now) text × HasWritten (T.stands sink.old) (T.stands sink.new) text)
+        (NeededBy p (AskedByAll p (statements_of statements.now) nothing_named))
+        (record { held = S.holds shelf.new; before = S.used shelf.old; after = S.used shelf.new }) result }
+{
+    let mut source = Over {
+        alloc,
+        shelf,
+        manifest,
+        tally: Tally {
+            calls: 0,
+            fetches: 0,
+        },
+        nothing: b"",
+    };
+    let ran = answer_all(alloc, statements, &mut source, sink);
+    *tally = source.tally;
+    let Over {
+        alloc: _,
+        shelf: _,
+        manifest: _,
+        tally: _,
+        nothing: _,
+    } = source;
+    ran
+}

@@ -1,0 +1,154 @@
+//! What an out prints.
+
+ghost use Rattle.std.specs.Prelude.{◌≡◌, ◌≢◌, ℕ, List, OnOk};
+ghost use Rattle.std.specs.List.Sorted.{IsStrictlySortedBy};
+ghost use Rattle.osm_model.specs.Elements.{ref_cmp};
+ghost use Rattle.osm_model.specs.Sets.{object_at};
+ghost use Rattle.opl_codec.specs.Text.{text_of};
+ghost use Rattle.tree_node.specs.Outcomes.{Outcome};
+ghost use Rattle.osm_index.specs.Publications.{IsPublication, Publication};
+ghost use Rattle.ql_plain.specs.Adding.{From};
+ghost use Rattle.ql_plain.specs.Meanings.{cut, printed_of};
+ghost use Rattle.ql_eval.specs.Asks.{AskedByOut};
+ghost use Rattle.ql_eval.specs.Faults.{cause_of_evaluation};
+ghost use Rattle.ql_eval.specs.Questions.{NeededBy};
+ghost use Rattle.ql_eval.specs.Written.{HasWritten};
+ghost use Rattle.ql_eval.specs.internal.Entries.{IsThere};
+ghost use Rattle.ql_eval.specs.internal.Links.{AreThere, IsObjectAsk};
+ghost use Rattle.ql_eval.specs.internal.Printing.{line_at, lines_at, name_line, name_lines};
+
+use crate::fault::EvalFault;
+use crate::sink::Sink;
+use crate::source::Source;
+use opl_codec::{OutMode, append_reference, write_object};
+use osm_model::{Object, Ref};
+use std::alloc::{AllocError, Global};
+
+/// Writes the first objects of a set, by kind and rising id, at most so many. By ids nothing is asked; in every other
+/// mode each object is asked of the source, `Absent` where one isn't there.
+pub(crate) fn print<W: Source, T: Sink>(
+    alloc: Global,
+    source: &mut W,
+    refs: &[Ref],
+    mode: OutMode,
+    limit: Option<u64>,
+    sink: &mut T,
+) -> Result<(), EvalFault>
+    requires { IsStrictlySortedBy ref_cmp refs.now }
+    ensures later { W.later source.old source.new }
+    ensures walked { OnOk result (W.walked source.old source.new) }
+    ensures kept { T.kept sink.new ≡ T.kept sink.old }
+    ensures wrote { (text : List ℕ) × HasWritten (T.stands sink.old) (T.stands sink.new) text }
+    ensures answer { (p : Publication) → IsPublication p → W.under source.old p → AreThere p.objects refs.now
+        → Outcome cause_of_evaluation (λ _. HasWritten (T.stands sink.old) (T.stands sink.new) (printed_of p.objects refs.now mode limit))
+        (NeededBy p (AskedByOut refs.now mode limit))
+        (record { held = W.holds source.new; before = W.used source.old; after = W.used source.new }) result }
+{
+    let first = first_of(refs, limit);
+    if mode == OutMode::Ids {
+        print_names(alloc, first, sink)?;
+        return Ok(());
+    }
+    print_objects(alloc, source, first, mode, sink)
+}
+
+/// The first references, at most so many.
+fn first_of(refs: &[Ref], limit: Option<u64>) -> &[Ref]
+    ensures { result.now ≡ cut limit refs.now }
+{
+    match limit {
+        Some(most) if most < refs.len() as u64 => &refs[..most as usize],
+        _ => refs,
+    }
+}
+
+/// Writes references, a line each.
+fn print_names<T: Sink>(alloc: Global, names: &[Ref], sink: &mut T) -> Result<(), AllocError>
+    ensures kept { T.kept sink.new ≡ T.kept sink.old }
+    ensures wrote { (text : List ℕ) × HasWritten (T.stands sink.old) (T.stands sink.new) text }
+    ensures written { OnOk result (HasWritten (T.stands sink.old) (T.stands sink.new) (name_lines names.now)) }
+{
+    let mut line = Vec::new(alloc);
+    for name in names {
+        put_name(*name, &mut line, sink)?;
+    }
+    Ok(())
+}
+
+/// Writes a reference as a line.
+fn put_name<T: Sink>(name: Ref, line: &mut Vec<u8>, sink: &mut T) -> Result<(), AllocError>
+    ensures kept { T.kept sink.new ≡ T.kept sink.old }
+    ensures wrote { (text : List ℕ) × HasWritten (T.stands sink.old) (T.stands sink.new) text }
+    ensures written { OnOk result (HasWritten (T.stands sink.old) (T.stands sink.new) (name_line name)) }
+{
+    line.clear();
+    append_reference(name, line)?;
+    line.push(b'\n')?;
+    sink.put(line)
+}
+
+/// Writes the objects with some references.
+fn print_objects<W: Source, T: Sink>(
+    alloc: Global,
+    source: &mut W,
+    names: &[Ref],
+    mode: OutMode,
+    sink: &mut T,
+) -> Result<(), EvalFault>
+    ensures later { W.later source.old source.new }
+    ensures walked { OnOk result (W.walked source.old source.new) }
+    ensures kept { T.kept sink.new ≡ T.kept sink.old }
+    ensures wrote { (text : List ℕ) × HasWritten (T.stands sink.old) (T.stands sink.new) text }
+    ensures answer { (p : Publication) → IsPublication p → W.under source.old p → AreThere p.objects names.now
+        → Outcome cause_of_evaluation (λ _. HasWritten (T.stands sink.old) (T.stands sink.new) (lines_at p.objects mode names.now))
+        (NeededBy p (From names.now IsObjectAsk))
+        (record { held = W.holds source.new; before = W.used source.old; after = W.used source.new }) result }
+{
+    let mut line = Vec::new(alloc);
+    for name in names {
+        print_object(source, *name, mode, &mut line, sink)?;
+    }
+    Ok(())
+}
+
+/// Writes the object with a reference.
+fn print_object<W: Source, T: Sink>(
+    source: &mut W,
+    name: Ref,
+    mode: OutMode,
+    line: &mut Vec<u8>,
+    sink: &mut T,
+) -> Result<(), EvalFault>
+    ensures later { W.later source.old source.new }
+    ensures walked { OnOk result (W.walked source.old source.new) }
+    ensures kept { T.kept sink.new ≡ T.kept sink.old }
+    ensures wrote { (text : List ℕ) × HasWritten (T.stands sink.old) (T.stands sink.new) text }
+    ensures answer { (p : Publication) → IsPublication p → W.under source.old p → IsThere p.objects name
+        → Outcome cause_of_evaluation (λ _. HasWritten (T.stands sink.old) (T.stands sink.new) (line_at p.objects mode name))
+        (NeededBy p (IsObjectAsk name))
+        (record { held = W.holds source.new; before = W.used source.old; after = W.used source.new }) result }
+{
+    match source.object(name)? {
+        Some(object) => {
+            put_object(&object, mode, line, sink)?;
+            Ok(())
+        }
+        None => Err(EvalFault::Absent),
+    }
+}
+
+/// Writes the text of an object.
+fn put_object<T: Sink>(
+    object: &Object,
+    mode: OutMode,
+    line: &mut Vec<u8>,
+    sink: &mut T,
+) -> Result<(), AllocError>
+    ensures kept { T.kept sink.new ≡ T.kept sink.old }
+    ensures wrote { (text : List ℕ) × HasWritten (T.stands sink.old) (T.stands sink.new) text }
+    ensures written { OnOk result (HasWritten (T.stands sink.old) (T.stands sink.new) (text_of object.now mode)) }
+{
+    line.clear();
+    write_object(object, mode, line)?;
+    sink.put(line)
+}

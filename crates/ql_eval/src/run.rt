@@ -1,0 +1,98 @@
+//! Statements that write sets, asked of a source.
+
+ghost use Rattle.std.specs.Prelude.{◌≡◌, ℕ, IfOk, List, OnOk};
+ghost use Rattle.tree_node.specs.Outcomes.{Outcome};
+ghost use Rattle.osm_index.specs.Publications.{IsPublication, Publication};
+ghost use Rattle.ql_syntax.specs.StatementViews.{statement_of, statements_of};
+ghost use Rattle.ql_plain.specs.Meanings.{After, AfterAll};
+ghost use Rattle.ql_plain.specs.NamedSets.{lists_of};
+ghost use Rattle.ql_eval.specs.Asks.{AskedBy, AskedByAll};
+ghost use Rattle.ql_eval.specs.Faults.{cause_of_evaluation};
+ghost use Rattle.ql_eval.specs.Questions.{NeededBy};
+ghost use Rattle.ql_eval.specs.internal.Lawful.{CanRun, CanRunAll};
+ghost use Rattle.ql_eval.specs.internal.Links.{AreAllThere};
+
+use crate::fault::EvalFault;
+use crate::recursions::recurse;
+use crate::select::select;
+use crate::source::Source;
+use osm_model::Ref;
+use ql_plain::{Sets, kept, unite, written_by};
+use ql_syntax::Stmt;
+use std::alloc::Global;
+
+/// Runs a statement: the set that it writes is written. An out writes none.
+#[cycle(run)]
+pub(crate) fn run<'q, W: Source>(
+    alloc: Global,
+    statement: &Stmt<'q>,
+    sets: &mut Sets<'q>,
+    source: &mut W,
+) -> Result<(), EvalFault>
+    ensures later { W.later source.old source.new }
+    ensures walked { OnOk result (W.walked source.old source.new) }
+    ensures answer { (p : Publication) → IsPublication p → W.under source.old p → AreAllThere p.objects (lists_of sets.old.named.items) → CanRun (statement_of statement.now)
+        → Outcome cause_of_evaluation (λ _. After p.objects (statement_of statement.now) (lists_of sets.old.named.items) (lists_of sets.new.named.items))
+        (NeededBy p (AskedBy p (statement_of statement.now) (lists_of sets.old.named.items)))
+        (record { held = W.holds source.new; before = W.used source.old; after = W.used source.new }) result }
+{
+    match statement {
+        Stmt::Select {
+            kind,
+            filters,
+            into,
+        } => {
+            let refs = select(alloc, source, *kind, filters, sets)?;
+            sets.write(into.as_bytes(), refs)?;
+            Ok(())
+        }
+        Stmt::Recurse { from, how, into } => {
+            let refs = recurse(alloc, source, *how, sets.get(from.as_bytes()))?;
+            sets.write(into.as_bytes(), refs)?;
+            Ok(())
+        }
+        Stmt::Item { from, into } => {
+            let refs = Vec::from_slice(alloc, sets.get(from.as_bytes()))?;
+            sets.write(into.as_bytes(), refs)?;
+            Ok(())
+        }
+        Stmt::Union { parts, into } => {
+            let mut refs = run_all(alloc, parts, sets, source)?;
+            unite(&mut refs)?;
+            sets.write(into.as_bytes(), refs)?;
+            Ok(())
+        }
+        Stmt::Minus { left, right, into } => {
+            run(alloc, left, sets, source)?;
+            let first = Vec::from_slice(alloc, written_by(left, sets))?;
+            run(alloc, right, sets, source)?;
+            let refs = kept(alloc, &first, written_by(right, sets), false)?;
+            sets.write(into.as_bytes(), refs)?;
+            Ok(())
+        }
+        Stmt::Print(_) => Ok(()),
+    }
+}
+
+/// Runs statements in order, and gives what they wrote, one after the other.
+#[cycle(run)]
+fn run_all<'q, W: Source>(
+    alloc: Global,
+    parts: &[Stmt<'q>],
+    sets: &mut Sets<'q>,
+    source: &mut W,
+) -> Result<Vec<Ref>, EvalFault>
+    ensures later { W.later source.old source.new }
+    ensures walked { OnOk result (W.walked source.old source.new) }
+    ensures answer { (p : Publication) → IsPublication p → W.under source.old p → AreAllThere p.objects (lists_of sets.old.named.items) → CanRunAll (statements_of parts.now)
+        → Outcome cause_of_evaluation (λ given. AfterAll p.objects (statements_of parts.now) (lists_of sets.old.named.items) (lists_of sets.new.named.items) given.items)
+        (NeededBy p (AskedByAll p (statements_of parts.now) (lists_of sets.old.named.items)))
+        (record { held = W.holds source.new; before = W.used source.old; after = W.used source.new }) result }
+{
+    let mut given = Vec::new(alloc);
+    for part in parts {
+        run(alloc, part, sets, source)?;
+        given.extend_from_slice(written_by(part, sets))?;
+    }
+    Ok(given)
+}

@@ -1,0 +1,73 @@
+//! Query statements, asked of a source.
+
+ghost use Rattle.std.specs.Prelude.{◌≡◌, ◌<◌, ℕ, IfOk, List, OnOk};
+ghost use Rattle.std.specs.List.{AllByRecursion};
+ghost use Rattle.std.specs.List.Sorted.{IsStrictlySortedBy};
+ghost use Rattle.std.specs.Option.{ForSome};
+ghost use Rattle.osm_model.specs.Elements.{ref_cmp};
+ghost use Rattle.tree_node.specs.Outcomes.{Outcome};
+ghost use Rattle.osm_index.specs.Publications.{IsPublication, Publication};
+ghost use Rattle.ql_syntax.specs.LawfulQueries.{Allows};
+ghost use Rattle.ql_syntax.specs.StatementViews.{filters_of};
+ghost use Rattle.ql_plain.specs.Meanings.{IsSetOf};
+ghost use Rattle.ql_plain.specs.NamedSets.{lists_of};
+ghost use Rattle.ql_plain.specs.Values.{IsRefOf, IsSelected};
+ghost use Rattle.ql_plan.specs.Plans.{filters_in, never, rank_of};
+ghost use Rattle.ql_eval.specs.Asks.{AskedByPlan, AskedBySelect};
+ghost use Rattle.ql_eval.specs.Faults.{cause_of_evaluation};
+ghost use Rattle.ql_eval.specs.Questions.{NeededBy};
+ghost use Rattle.ql_eval.specs.internal.Links.{AreAllThere};
+
+use crate::candidates::candidates;
+use crate::fault::EvalFault;
+use crate::kinds::kind_of;
+use crate::planned::planned;
+use crate::source::Source;
+use crate::tested::tested;
+use osm_model::Ref;
+use ql_plain::Sets;
+use ql_plan::Plan;
+use ql_syntax::{Filter, Pick};
+use std::alloc::Global;
+
+/// The objects of a kind that all filters keep, as a set: what the base of the plan finds, of which the other filters
+/// are tested.
+pub(crate) fn select<W: Source>(
+    alloc: Global,
+    source: &mut W,
+    pick: Pick,
+    filters: &[Filter<'_>],
+    sets: &Sets<'_>,
+) -> Result<Vec<Ref>, EvalFault>
+    ensures later { W.later source.old source.new }
+    ensures walked { OnOk result (W.walked source.old source.new) }
+    ensures rising { IfOk result (λ refs. IsStrictlySortedBy ref_cmp refs.items) }
+    ensures answer { (p : Publication) → IsPublication p → W.under source.old p → AreAllThere p.objects (lists_of sets.now.named.items) → AllByRecursion (Allows pick) (filters_of filters.now)
+        → Outcome cause_of_evaluation (λ refs. IsSetOf refs.items (IsRefOf p.objects (IsSelected p.objects (lists_of sets.now.named.items) pick (filters_of filters.now))))
+        (NeededBy p (AskedBySelect p (lists_of sets.now.named.items) pick (filters_of filters.now)))
+        (record { held = W.holds source.new; before = W.used source.old; after = W.used source.new }) result }
+{
+    let plan = planned(alloc, source, kind_of(pick), filters)?;
+    answered(alloc, source, pick, &plan, sets)
+}
+
+/// The same by a plan.
+fn answered<W: Source>(
+    alloc: Global,
+    source: &mut W,
+    pick: Pick,
+    plan: &Plan<'_, '_>,
+    sets: &Sets<'_>,
+) -> Result<Vec<Ref>, EvalFault>
+    requires { ForSome plan.now.base (λ base. rank_of base < never) }
+    ensures later { W.later source.old source.new }
+    ensures walked { OnOk result (W.walked source.old source.new) }
+    ensures rising { IfOk result (λ refs. IsStrictlySortedBy ref_cmp refs.items) }
+    ensures answer { (p : Publication) → IsPublication p → W.under source.old p → AreAllThere p.objects (lists_of sets.now.named.items) → AllByRecursion (Allows pick) (filters_in plan.now)
+        → Outcome cause_of_evaluation (λ refs. IsSetOf refs.items (IsRefOf p.objects (IsSelected p.objects (lists_of sets.now.named.items) pick (filters_in plan.now))))
+        (NeededBy p (AskedByPlan p.objects (lists_of sets.now.named.items) pick plan.now))
+        (record { held = W.holds source.new; before = W.used source.old; after = W.used source.new }) result }
+{
+    let found = candidates(alloc, source, pick, plan.base(), sets)?;
+    tested(alloc, source, &found, plan.before(), plan.after(), sets)
+}
