@@ -1,6 +1,7 @@
 //! Lookups, openings and sinks.
 
 mod answers;
+mod contradictions;
 mod lookups;
 mod opening;
 mod rows;

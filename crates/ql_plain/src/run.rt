@@ -5,11 +5,11 @@ ghost use Rattle.ql_syntax.specs.StatementViews.{statement_of, statements_of};
 ghost use Rattle.ql_plain.specs.Meanings.{After, AfterAll};
 ghost use Rattle.ql_plain.specs.NamedSets.{lists_of};
 
+use crate::given::written_by;
 use crate::recurse::recurse;
 use crate::ref_sets::{kept, unite};
 use crate::select::select;
 use crate::sets::Sets;
-use crate::given::written_by;
 use osm_model::{ObjectSet, Ref};
 use ql_syntax::Stmt;
 use std::alloc::{AllocError, Global};
