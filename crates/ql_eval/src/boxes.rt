@@ -32,7 +32,7 @@ use tree_node::{Item, Shelf, Tree};
 use tree_walk::Tally;
 
 /// The nodes in a box, as a set.
-pub fn find_in_box<'a, S: Shelf<'a>>(
+pub(crate) fn find_in_box<'a, S: Shelf<'a>>(
     alloc: Global,
     shelf: &mut S,
     manifest: &Manifest,

@@ -1,5 +1,7 @@
-//! The parts of an evaluation: the manifest from which it starts, what is asked of the trees under it, and where answers
-//! are written.
+//! Queries answered from the trees of a published set.
+//!
+//! [`evaluate`] opens the manifest of a root on any shelf, walks the ranges that the query asks for and no
+//! others, and writes the answer into a [`Sink`].
 #![tactic(auto)]
 
 mod answering;

@@ -35,7 +35,7 @@ use tree_walk::{KeyRange, Tally};
 /// Refused where the walk is (E1), where what it found isn't the line of that object (E2), and where memory runs
 /// out. Over the trees of a publisher only a missing node and memory refuse it, unless two nodes have one digest. What
 /// was used until then stays used.
-pub fn find_object<'a, S: Shelf<'a>>(
+pub(crate) fn find_object<'a, S: Shelf<'a>>(
     alloc: Global,
     shelf: &mut S,
     manifest: &Manifest,
@@ -62,7 +62,7 @@ pub fn find_object<'a, S: Shelf<'a>>(
 }
 
 /// Whether the object of this name is there. What the tree says of it isn't read.
-pub fn has_object<'a, S: Shelf<'a>>(
+pub(crate) fn has_object<'a, S: Shelf<'a>>(
     alloc: Global,
     shelf: &mut S,
     manifest: &Manifest,
@@ -96,7 +96,7 @@ pub fn has_object<'a, S: Shelf<'a>>(
 /// Refused where the walk is (E1), where an entry that it found isn't of its tree's form (E2), and where memory runs
 /// out. Over the trees of a publisher only a missing node and memory refuse it, unless two nodes have one digest. What
 /// was used until then stays used. Keys and values with a NUL are in no tag; for them other objects may come.
-pub fn find_names<'a, S: Shelf<'a>>(
+pub(crate) fn find_names<'a, S: Shelf<'a>>(
     alloc: Global,
     shelf: &mut S,
     manifest: &Manifest,
@@ -121,7 +121,7 @@ pub fn find_names<'a, S: Shelf<'a>>(
 }
 
 /// The number of entries in a question's range. For a key that is the number of objects that have it.
-pub fn count_names<'a, S: Shelf<'a>>(
+pub(crate) fn count_names<'a, S: Shelf<'a>>(
     alloc: Global,
     shelf: &mut S,
     manifest: &Manifest,

@@ -13,7 +13,7 @@ use tree_node::Item;
 
 /// A node and where it lies, as an entry of the cell tree says it.
 #[derive(Clone, Copy, Debug, PartialEq, Eq)]
-pub struct Placed {
+pub(crate) struct Placed {
     /// The node.
     pub name: Ref,
     /// Where it lies.
@@ -21,7 +21,7 @@ pub struct Placed {
 }
 
 /// The node that an entry of the cell tree places, and where.
-pub fn placed_by(item: &Item<'_>) -> Option<Placed>
+pub(crate) fn placed_by(item: &Item<'_>) -> Option<Placed>
     ensures some { IfSome result (λ node. SaysPlace (binding_of item.now) node.name node.place) }
     // As its type says.
     ensures fits { IfSome result (λ node. FitsSigned w64 node.name.id) }

@@ -4,7 +4,7 @@ use osm_model::{Kind, Ref};
 
 /// What one walk over a tree answers: which objects there are of one sort.
 #[derive(Clone, Copy, Debug)]
-pub enum Question<'q> {
+pub(crate) enum Question<'q> {
     /// The objects of a kind.
     OfKind(Kind),
     /// Those of a kind, or of all kinds, that have a tag with this key and this value.

@@ -21,7 +21,7 @@ use osm_model::{BoxArea, Object, Ref};
 
 /// What an evaluation asks: the trees under a manifest, read from a shelf. It stands without the shelf's lifetime, so
 /// that statements are run over any of them.
-pub trait Source {
+pub(crate) trait Source {
     /// The nodes that the shelf holds.
     ghost holds: { Self → List ℕ → Type 0 };
 
