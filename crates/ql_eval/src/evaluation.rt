@@ -2,8 +2,8 @@
 
 ghost use Rattle.std.specs.Prelude.{◌≡◌, ◌-◌, ◌^◌, ◌<◌, ◌⊎◌, ℕ, Err, IfOk, List, OnErr, OnOk, length};
 ghost use Rattle.tree_node.specs.Digests.{digest};
-ghost use Rattle.tree_node.specs.Outcomes.{Outcome};
-ghost use Rattle.tree_node.specs.Shelves.{HasNone, SameNodes};
+ghost use Rattle.tree_node.specs.Outcomes.{EndsWell, Outcome};
+ghost use Rattle.tree_node.specs.Shelves.{HasNone, IsClashFree, SameNodes};
 ghost use Rattle.tree_walk.specs.Walked.{HasWalked};
 ghost use Rattle.osm_index.specs.Manifests.{manifest_bytes};
 ghost use Rattle.osm_index.specs.Publications.{IsPublication, Publication, root_of};
@@ -63,6 +63,12 @@ pub fn evaluate<'a, S: Shelf<'a>, T: Sink>(
         → Outcome cause_of_evaluation (λ _. (text : List ℕ) × Means p.objects (statements_of query.now) text × HasWritten (T.stands sink.old) (T.stands sink.new) text)
         (IsNeeded p (statements_of query.now))
         (record { held = S.holds shelf.new; before = S.used shelf.old; after = S.used shelf.new }) result }
+    // Over a shelf that holds all needed nodes, memory alone refuses it, and no clash is left to speak of.
+    ensures served { (p : Publication) → IsPublication p → root.now.0 ≡ root_of p
+        → ((bytes : List ℕ) → IsNeeded p (statements_of query.now) bytes → S.holds shelf.new bytes)
+        → EndsWell cause_of_evaluation (λ _. (text : List ℕ) × Means p.objects (statements_of query.now) text × HasWritten (T.stands sink.old) (T.stands sink.new) text)
+        (IsNeeded p (statements_of query.now))
+        (record { held = S.holds shelf.new; before = S.used shelf.old; after = S.used shelf.new }) result }
 {
     let len = sink.len();
     let manifest = open_manifest(root, shelf)?;
@@ -94,6 +100,9 @@ fn run_over<'a, S: Shelf<'a>, T: Sink>(
 ) -> Result<(), EvalFault>
     ensures stays { SameNodes (S.holds shelf.old) (S.holds shelf.new) }
     ensures grows { (bytes : List ℕ) → S.used shelf.old bytes → S.used shelf.new bytes }
+    // As each shelf: no two held nodes have one digest, and what was used is held.
+    ensures unlike { IsClashFree (S.holds shelf.new) }
+    ensures held { (bytes : List ℕ) → S.used shelf.new bytes → S.holds shelf.new bytes }
     ensures walked { OnOk result (HasWalked (record { held = S.holds shelf.new; before = S.used shelf.old; after = S.used shelf.new }) 0 tally.new.calls 0 tally.new.fetches) }
     ensures kept { T.kept sink.new ≡ T.kept sink.old }
     ensures wrote { (text : List ℕ) × HasWritten (T.stands sink.old) (T.stands sink.new) text }

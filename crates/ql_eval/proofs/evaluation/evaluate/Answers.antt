@@ -1,5 +1,5 @@
 use Rattle.std.proofs.Common.{List, inl, inr, refl, subst, sym}
-use Rattle.tree_node.proofs.shared.OutcomeLaws.{outcome_then, outcome_then_stops}
+use Rattle.tree_node.proofs.shared.OutcomeLaws.{honest, outcome_then, outcome_then_stops}
 use Rattle.ql_syntax.specs.LawfulQueries.{IsQuery}
 use Rattle.ql_syntax.specs.StatementViews.{statements_of}
 use Rattle.ql_syntax.specs.declared.statement.Stmt.{Stmt}
@@ -22,3 +22,11 @@ returns-in-Err-clause-answer g c = λ p is root.
     outcome_then_stops c.in-Err.fault refl refl c.run_over.ensures.grows (λ x needs. inl needs)
     (λ so x needs. inr (subst (λ (ss : List Stmt). NeededBy p (AskedByAll p (statements_of ss) nothing_named) x) c.stmts-statements.ensures.statements needs))
     (c.in_ok-manifest.ensures.answer p root) (λ so. c.in-Err.ensures.answer p is so (subst (λ (ss : List Stmt). IsQuery (statements_of ss)) (sym c.stmts-statements.ensures.statements) c.stmts-statements.ensures.kept))
+
+pub returns-in-Ok-clause-served : goal.returns-in-Ok-clause-served
+returns-in-Ok-clause-served g c = λ p is root all.
+    honest c.run_over.ensures.unlike all c.run_over.ensures.held (returns-in-Ok-clause-answer g c p is root)
+
+pub returns-in-Err-clause-served : goal.returns-in-Err-clause-served
+returns-in-Err-clause-served g c = λ p is root all.
+    honest c.run_over.ensures.unlike all c.run_over.ensures.held (returns-in-Err-clause-answer g c p is root)
