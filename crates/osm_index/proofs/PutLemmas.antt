@@ -15,9 +15,9 @@ use Rattle.tree_node.specs.declared.limits.TheConstants.{ENTRY_LIMIT}
 use Rattle.tree_node.specs.declared.tree.Tree.{Tree}
 use Rattle.tree_node.specs.declared.tree.Tree.TheVariants.{Objects, Tags, Cells, Backs}
 use Rattle.osm_index.specs.Entries.{AreEntriesOf}
+use Rattle.osm_index.specs.Holdings.{AreHeld}
 use Rattle.osm_index.specs.Manifests.{manifest, top_among}
-use Rattle.osm_index.specs.Publications.{IsNodeIn, Publication, manifest_of, shape_of, top_in, tree_in}
-use Rattle.osm_index.specs.Snapshots.{IsPublicationOf}
+use Rattle.osm_index.specs.Publications.{IsNodeIn, IsPublicationOf, Publication, manifest_of, shape_of, top_in, tree_in}
 use Rattle.osm_index.specs.declared.edition.Edition.{Edition}
 use Rattle.osm_index.specs.internal.Putting.{AreAllFour, Ended, EndedAll, HasPut, IsTreeNode}
 
@@ -143,3 +143,22 @@ stock_has_one stock p nodes x y h k e =
 
 pub clash_of_trees : (p : Publication) → Clash (IsTreeNode p) (IsTreeNode p) → Clash (IsNodeIn p) (IsNodeIn p)
 clash_of_trees p k = clash_among (IsTreeNode p) (IsTreeNode p) (IsNodeIn p) (λ x n. inr n) (λ x n. inr n) k
+
+-- what a snapshot is made of, once its trees and its manifest were put into a stock without nodes
+pub all_held : {old : List ℕ → Type 0} (p : Publication) (set : List Element) (edition : Edition) → IsPublicationOf set edition p → (tops : List Digest)
+    → ((tree : Tree) → top_among tops tree ≡ top_in p tree) × GrownByAll (λ _. ⊥) old (IsTreeNode p)
+    → (stock : Stock) (bytes : List ℕ) → bytes ≡ manifest edition (top_among tops) → GrownBy old (HasNode stock) bytes
+    → (key : Digest) → key.0 ≡ digest bytes
+    → AreHeld set edition stock (record { edition = edition; tops = tops }) key p
+all_held p set edition is tops put stock bytes written grown key of = record {
+  is = is;
+  nodes = nodes;
+  manifest = same;
+  root = of ∙ ap digest (written ∙ same);
+  no_clash = stock_has_one stock p nodes
+}
+  where
+    same : manifest edition (top_among tops) ≡ manifest_of p
+    same = manifest_is p set edition is tops put.0
+    nodes : (x : List ℕ) → HasNode stock x ↔ IsNodeIn p x
+    nodes = nodes_are p set edition is tops put.0 _ (HasNode stock) bytes (written ∙ same) put.1 grown

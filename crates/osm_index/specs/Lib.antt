@@ -3,5 +3,6 @@ pub mod Entries
 pub mod Ranges
 pub mod Manifests
 pub mod Publications
+pub mod Holdings
 pub mod Snapshots
 pub mod internal

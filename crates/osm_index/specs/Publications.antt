@@ -1,6 +1,6 @@
 -- What a publisher makes of a set of objects: the four trees, the manifest and the root.
 -- Source: this project's trees and manifests, docs/FORMATS.md.
-use Rattle.std.specs.Prelude.{◌≡◌, ℕ, ◌≤◌, List, length, ◌⊎◌}
+use Rattle.std.specs.Prelude.{◌≡◌, ℕ, ◌<◌, ◌≤◌, List, length, ◌⊎◌}
 use Rattle.osm_model.specs.Elements.{Element}
 use Rattle.osm_model.specs.Sets.{IsObjectSet}
 use Rattle.tree_node.specs.Digests.{digest}
@@ -26,6 +26,16 @@ pub record IsPublication (p : Publication) : Type 0 where
   pub set : IsObjectSet p.objects
   pub lists : (tree : Tree) → AreEntriesOf p.objects tree (p.entries tree)
   pub few : (tree : Tree) → length (p.entries tree) ≤ ENTRY_LIMIT
+
+-- a publication of these objects in this edition
+pub record IsPublicationOf (objects : List Element) (edition : Edition) (p : Publication) : Type 0 where
+  pub published : IsPublication p
+  pub same_objects : p.objects ≡ objects
+  pub same_edition : p.edition ≡ edition
+
+-- a tree of these objects has more entries than a tree may have
+abbrev pub HasTooMany : List Element → Type 0
+HasTooMany objects = (tree : Tree) × (entries : List Binding) × AreEntriesOf objects tree entries × (ENTRY_LIMIT < length entries)
 
 -- the shape of an edition's trees
 abbrev pub shape_of : Edition → trees.Shape

@@ -28,9 +28,8 @@ ghost use Rattle.tree_walk.specs.Walks.{IsEntryIn, IsTopOf};
 ghost use Rattle.osm_index.specs.Entries.{back_entry, cell_entry, object_entry, tag_entry};
 ghost use Rattle.osm_index.specs.Keys.{cell_key, column, ref_key};
 ghost use Rattle.osm_index.specs.Manifests.{HasSequence, HaveWidth, manifest};
-ghost use Rattle.osm_index.specs.Publications.{IsPublication, Publication, root_of, shape_in, shape_of, top_in};
+ghost use Rattle.osm_index.specs.Publications.{HasTooMany, IsPublication, IsPublicationOf, Publication, root_of, shape_in, shape_of, top_in};
 ghost use Rattle.osm_index.specs.Ranges.{AreCellRanges, IsKindOf, back_range, kind_range, object_range, tag_key_range, tag_range};
-ghost use Rattle.osm_index.specs.Snapshots.{HasTooMany, IsPublicationOf};
 ghost use Rattle.osm_index.specs.declared.edition.Edition.{Edition};
 
 /// The law of publications: a set of objects has one in an edition, and so one root.

@@ -9,9 +9,9 @@ ghost use Rattle.tree_node.specs.Shelves.{IsEmptySet};
 ghost use Rattle.tree_node.specs.Stocks.{HasNode};
 ghost use Rattle.tree_build.specs.Shapes.{shape_of as shape_word};
 ghost use Rattle.osm_index.specs.Entries.{AreEntriesOf};
+ghost use Rattle.osm_index.specs.Holdings.{HoldSome};
 ghost use Rattle.osm_index.specs.Manifests.{manifest_bytes, top_among};
-ghost use Rattle.osm_index.specs.Publications.{IsNodeIn, Publication, shape_of};
-ghost use Rattle.osm_index.specs.Snapshots.{HasTooMany, HoldsPublication, IsPublicationOf};
+ghost use Rattle.osm_index.specs.Publications.{HasTooMany, IsNodeIn, IsPublicationOf, Publication, shape_of};
 ghost use Rattle.osm_index.specs.internal.Putting.{AreAllFour, EndsTree, EndsTrees};
 
 use crate::edition::Edition;
@@ -23,7 +23,8 @@ use std::alloc::{AllocError, Global};
 use tree_build::{BuildFault, Entry, Shape, build};
 use tree_node::{Digest, ENTRY_LIMIT, PutFault, Stock, Tree};
 
-/// A set of objects in an edition, with the nodes of its trees, its manifest and its root.
+/// A set of objects in an edition, with the nodes of its trees, its manifest and its root: the type keeps
+/// that they are those of one publication, and that no two different nodes of it have one digest.
 #[derive(Drop)]
 pub struct Snapshot {
     set: ObjectSet,
@@ -31,9 +32,12 @@ pub struct Snapshot {
     stock: Stock,
     manifest: Manifest,
     root: Digest,
+    ghost own: { ∥ HoldSome set edition stock manifest root ∥₁ },
 }
 
 impl Snapshot {
+    ghost use Rattle.osm_index.specs.Snapshots.{HoldsPublication};
+
     /// Builds the trees of a set of objects (this project's trees, docs/FORMATS.md).
     ///
     /// The time is that of sorting the entries of each tree and of hashing all nodes; the entries of one

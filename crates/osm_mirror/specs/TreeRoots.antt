@@ -5,8 +5,7 @@ use Rattle.std.specs.Io.KnownBytes.{Appends, Keeps}
 use Rattle.osm_model.specs.Elements.{Element}
 use Rattle.opl_codec.specs.Files.{HoldsSet}
 use Rattle.tree_node.specs.Outcomes.{Clash as HasClash}
-use Rattle.osm_index.specs.Publications.{IsNodeIn, Publication, root_of}
-use Rattle.osm_index.specs.Snapshots.{HasTooMany, IsPublicationOf}
+use Rattle.osm_index.specs.Publications.{HasTooMany, IsNodeIn, IsPublicationOf, Publication, root_of}
 use Rattle.osm_index.specs.declared.edition.Edition.{Edition}
 use Rattle.osm_mirror.specs.Ask.{IsOutside, IsUnheld}
 use Rattle.osm_mirror.specs.RootLines.{digest_line}
