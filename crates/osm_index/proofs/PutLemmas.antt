@@ -155,10 +155,11 @@ all_held p set edition is tops put stock bytes written grown key of = record {
   nodes = nodes;
   manifest = same;
   root = of ∙ ap digest (written ∙ same);
-  no_clash = stock_has_one stock p nodes
+  no_clash = stock_has_one stock p nodes;
 }
   where
     same : manifest edition (top_among tops) ≡ manifest_of p
     same = manifest_is p set edition is tops put.0
+
     nodes : (x : List ℕ) → HasNode stock x ↔ IsNodeIn p x
     nodes = nodes_are p set edition is tops put.0 _ (HasNode stock) bytes (written ∙ same) put.1 grown
