@@ -1,10 +1,12 @@
 #!/usr/bin/env bash
-# Roots and checks over the plain text: `osm_mirror publish` beside `osmium cat` (Debian's osmium-tool, OPL to OPL)
-# and `sha256sum` of its output, and `osm_mirror check` of a proof beside `publish`, in the same run. Prints
+# Proofs: how large they are beside the data set, and what it takes to check one. Over mixed extracts of 11,550, 115,500
+# and 1,155,000 objects: a node by its id, a box of about 100 nodes, and a tag with about 10,000 results in the largest.
+# `osm_mirror check` runs beside `sha256sum` of the proof and `osmium cat` of the answer (Debian's osmium-tool), and
+# `osm_mirror publish` beside `osmium cat` of the extract and `sha256sum`, in the same run. Prints sizes in bytes,
 # processor time and peak memory.
 #
 #   apt-get install osmium-tool
-#   bench/plain_proofs.sh [RUNS]
+#   bench/proofs.sh [RUNS]
 set -eu
 cd "$(dirname -- "$(readlink -f -- "$0")")"
 runs=${1:-5}
@@ -12,28 +14,22 @@ data=data
 mkdir -p "$data"
 program=../crates/osm_mirror/out/osm_mirror
 
-# A file of nodes, made once, and an answer over it with its proof.
-made() {
-    local objects=$1 file=$data/nodes-$1.opl
-    if [ ! -f "$file" ]; then
-        python3 make_nodes.py "$objects" >"$file.part"
-        mv "$file.part" "$file"
-    fi
-    printf 'node(1);out;' >"$data/query"
-    "$program" prove "$file" "$data/query" "$data/answer-$objects" "$data/proof-$objects" >"$data/root-$objects"
+# An extract of this share, made once.
+extract() {
+    local file=$data/extract-$1.opl
+    [ -f "$file" ] || { python3 make_extract.py --share "$1" >"$file.part"; mv "$file.part" "$file"; }
 }
 
-side_by_side() {
-    local objects=$1 root
-    local publish="$program publish $data/nodes-$objects.opl"
-    local cat="osmium cat --no-progress -F opl -f opl -o - $data/nodes-$objects.opl | sha256sum"
-    root=$(cat "$data/root-$objects")
-    local check="$program check $root $data/query $data/answer-$objects $data/proof-$objects"
-    if [ "$($check)" != yes ]; then
-        echo "$check: doesn't say yes" >&2
-        exit 1
-    fi
-    python3 measure.py "$objects" "$runs" /dev/null publish "$publish" "cat, sha256sum" "$cat" check "$check"
+# The sizes of a query's answer and proof over an extract, and the time to check them.
+proved() {
+    local file=$1 objects=$2 name=$3 query=$4 root answer=$data/answer.opl proof=$data/proof check
+    printf '%s' "$query" >"$data/query"
+    root=$("$program" prove "$file" "$data/query" "$answer" "$proof")
+    check="$program check $root $data/query $answer $proof"
+    [ "$($check)" = yes ] || { echo "$check: doesn't say yes" >&2; exit 1; }
+    echo "$objects objects, $(stat -c %s "$file") bytes; $name, $query: answer $(stat -c %s "$answer"), proof $(stat -c %s "$proof")"
+    python3 measure.py "$objects" "$runs" /dev/null check "$check" \
+        "sha256sum" "sha256sum $proof" "osmium cat" "osmium cat --no-progress -F opl -f opl -o /dev/null --overwrite $answer"
 }
 
 command -v osmium >/dev/null || { echo "osmium isn't installed" >&2; exit 1; }
@@ -42,7 +38,15 @@ built=$(../osm_mirror --help 2>&1) || [ $? -eq 2 ] || { echo "$built" >&2; exit 
 echo "$(rt version); $(osmium --version | head -n 1)"
 echo "$(nproc) processors, $(sed -n 's/^model name\s*: //p' /proc/cpuinfo | head -n 1), Linux $(uname -r)"
 echo "median of $runs runs"
-for objects in 100000 1000000; do
-    made "$objects"
-    side_by_side "$objects"
+# The box's half edge in 1e-4 degree, so that it holds about as many nodes in each extract.
+for row in '0.01 11550 1000' '0.1 115500 316' '1 1155000 100'; do
+    read -r share objects half <<<"$row"
+    extract "$share"
+    file=$data/extract-$share.opl
+    edge=$(printf '%04d' "$half")
+    proved "$file" "$objects" 'an id' 'node(5000);out;'
+    proved "$file" "$objects" 'a box' "node(51.$((10000 - half)),12.$((10000 - half)),52.$edge,13.$edge);out;"
+    proved "$file" "$objects" 'a tag' 'nwr["name"="Weg"];out;'
+    python3 measure.py "$objects" "$runs" /dev/null publish "$program publish $file" \
+        "cat, sha256sum" "osmium cat --no-progress -F opl -f opl -o - $file | sha256sum"
 done

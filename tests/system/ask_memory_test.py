@@ -14,7 +14,6 @@ NODES = b"".join(
 RUNS = [
     (["ask", "node(1);out;"], TWO_NODES),
     (["ask", "node(77);out;"], NODES),
-    (["ask", "node(150);out;"], NODES),
     (["ask", '(node["name"="node-7"]->.a;way(bn.a);.a>;)->.b;.b out ids;'], NODES),
     (["ask", '(node["a\\n"];(node(id:1,2,3'], TWO_NODES),
     (["ask", "node(1)"], TWO_NODES),

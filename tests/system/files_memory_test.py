@@ -19,7 +19,7 @@ def main():
         tally.check("prove", len(root) == 64, root)
         for words in [
             ["publish", file],
-            ["publish", file, "--edition", "2"],
+            ["publish", file, "--edition", "1"],
             ["prove", file, query, "/dev/null", "/dev/null"],
             ["prove", file, bad, "/dev/null", "/dev/null"],
             ["check", root, query, answer, proof],

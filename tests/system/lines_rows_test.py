@@ -1,6 +1,5 @@
 """Lines of OPL, and sets of them: what an independent program says of each (tests/vectors), through the program."""
 
-import hashlib
 import re
 import tempfile
 from concurrent.futures import ThreadPoolExecutor
@@ -24,17 +23,23 @@ def rows(name):
     return [[unescaped(field) for field in line.split(b"\t")] for line in lines if line]
 
 
-def published(text):
-    """What `publish` is to say of a set with this canonical text."""
-    return Outcome(hashlib.sha256(text).hexdigest().encode() + b"\n", b"", 0)
+def set_file(name):
+    """The file of a set of the vectors."""
+    return VECTORS / f"set-{name.decode()}.opl"
+
+
+def canonical(file):
+    """The answer to a query for all objects in full: the canonical text of the file's set, or its refusal."""
+    with file.open("rb") as stdin:
+        return run([PROGRAM, "ask", "nwr;out meta;"], stdin)
 
 
 def expected(outcome, told):
-    """What `publish` is to say of a file that is this one line."""
+    """What is to be said of a file that is this one line."""
     if outcome == b"put":
-        return published(told + b"\n")
+        return Outcome(told + b"\n", b"", 0)
     if outcome == b"skipped":
-        return published(b"")
+        return Outcome(b"", b"", 0)
     if outcome == b"delete":
         return Outcome(b"", b"O10 line 1 byte 0\n", 2)
     cause, byte = told.split()
@@ -48,7 +53,7 @@ def check_line(tally, room, number, row):
     endings = [b"", b"\n"] if line.endswith(b"\r") else [b"", b"\n", b"\r\n"]
     for ending in endings:
         file.write_bytes(line + ending)
-        ended = run([PROGRAM, "publish", file])
+        ended = canonical(file)
         tally.check(f"line {number} {line} {ending}", ended == expected(outcome, told), ended)
     name = re.match(rb"n(-?\d+) ", told)
     if outcome == b"put" and name:
@@ -84,12 +89,15 @@ F_AGAIN = (
 
 
 def check_spellings(tally, room):
-    """One set, however it is spelled; and the first line with a fault is told."""
+    """One set and one root, however it is spelled; and the first line with a fault is told."""
+    root = next(row[3] for row in rows("roots.tsv") if row[:3] == [b"F", b"2", b"0"])
     for text in [F, F_AGAIN]:
         file = Path(room) / "F.opl"
         file.write_bytes(text)
+        ended = canonical(file)
+        tally.check("F", ended == Outcome(F, b"", 0), ended)
         ended = run([PROGRAM, "publish", file])
-        tally.check("F", ended == published(F), ended)
+        tally.check("F: root", ended == Outcome(root + b"\n", b"", 0), ended)
     for text, told in [
         (b"n1 x1 y1\nn2 dD\nc5\n", b"O10 line 2 byte 0\n"),
         (b"n1 x1 y1\n# x\nn1 x1 y1\nn2 dD\n", b"O13 line 3 byte 0\n"),

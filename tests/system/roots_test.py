@@ -1,34 +1,33 @@
-"""`publish` with and without an edition: the roots of the vectors' sets, and the words that are refused."""
+"""`publish` in both editions: the roots of the vectors' sets, and the words that are refused."""
 
-from lines_rows_test import VECTORS, rows
+from lines_rows_test import rows, set_file
 from runs import PROGRAM, Outcome, Tally, run
 
 
-def words_of(edition, sequence):
-    """The options that ask for a root: none for the plain text, which has edition 0 in the vectors."""
-    if edition == b"0":
-        return []
-    return ["--edition", edition, "--sequence", sequence]
+def options_of(edition, sequence):
+    """The ways to ask for a root: edition 2 and sequence number 0 may be left out, and edition 1 has none."""
+    if edition == b"1":
+        return [["--edition", "1"], ["--edition", "1", "--sequence", "7"]]
+    options = [["--edition", "2", "--sequence", sequence], ["--sequence", sequence]]
+    if sequence == b"0":
+        options += [["--edition", "2"], []]
+    return options
 
 
 def check_roots(tally):
-    """Each set of the vectors has its root over its text, and its roots over its trees."""
-    listed = rows("roots.tsv")
-    tally.check("all roots are there", len(listed) == 24, len(listed))
+    """Each set of the vectors has its roots."""
+    listed = [row for row in rows("roots.tsv") if row[1] != b"0"]
+    tally.check("all roots are there", len(listed) == 18, len(listed))
     for name, edition, sequence, root, *_ in listed:
-        file = VECTORS / f"set-{name.decode()}.opl"
-        ended = run([PROGRAM, "publish", file, *words_of(edition, sequence)])
-        tally.check(f"root of {name} {edition} {sequence}", ended == Outcome(root + b"\n", b"", 0), ended)
-        if edition == b"2" and sequence == b"0":
-            ended = run([PROGRAM, "publish", file, "--edition", "2"])
-            tally.check(f"root of {name} without a sequence", ended == Outcome(root + b"\n", b"", 0), ended)
+        for options in options_of(edition, sequence):
+            ended = run([PROGRAM, "publish", set_file(name), *options])
+            tally.check(f"root of {name} {options}", ended == Outcome(root + b"\n", b"", 0), ended)
 
 
 def check_refused(tally):
-    file = VECTORS / "set-one.opl"
-    ended = run([PROGRAM, "publish", file, "--edition", "3"])
+    ended = run([PROGRAM, "publish", "no-such-file", "--edition", "3"])
     tally.check("edition 3", ended == Outcome(b"", b"bad edition\n", 2), ended)
-    ended = run([PROGRAM, "publish", file, "--edition", "2", "--sequence", "x"])
+    ended = run([PROGRAM, "publish", set_file(b"one"), "--sequence", "x"])
     tally.check("sequence x", ended.stdout == b"" and ended.stderr != b"" and ended.status == 2, ended)
 
 

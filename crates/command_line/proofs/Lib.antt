@@ -1,2 +1,2 @@
 pub mod Commands
-pub mod Editions
+pub mod Sequences

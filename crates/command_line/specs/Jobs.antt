@@ -1,12 +1,13 @@
 -- What a job says of clap's matches.
 -- Source: this project; the digits of a root are decoded as `hex` decodes them.
-use Rattle.std.specs.Prelude.{◌≡◌, List, Ok, Option, Some, None, codes}
+use Rattle.std.specs.Prelude.{◌≡◌, ◌⊎◌, List, Ok, Option, Some, None, codes}
 use Rattle.std.specs.String.{string_bytes}
 use Rattle.clap.specs.Words.{Row, Text, first_of, one_of}
 use Rattle.hex.specs.Hex.{decode_of}
 use Rattle.command_line.specs.Arguments.{text_of}
 use Rattle.command_line.specs.AskCommand.{ask_name}
-use Rattle.command_line.specs.PublishCommand.{AsksForEdition, IsBadEdition, publish_name}
+use Rattle.command_line.specs.EditionOptions.{AsksForEdition, IsBadEdition}
+use Rattle.command_line.specs.PublishCommand.{publish_name}
 use Rattle.command_line.specs.ProveCommand.{prove_name}
 use Rattle.command_line.specs.CheckCommand.{IsRootText, check_name}
 use Rattle.command_line.specs.declared.job.Job.{Job}
@@ -18,11 +19,12 @@ Gives (Ask query) name rows = (name ≡ ask_name) × (string_bytes query ≡ tex
 Gives (Publish file edition) name rows = (name ≡ publish_name)
     × (string_bytes file ≡ text_of (codes "FILE") rows)
     × AsksForEdition (first_of (codes "edition") rows) (one_of (codes "sequence") rows) edition
-Gives (Prove file query answer proof) name rows = (name ≡ prove_name)
+Gives (Prove file query answer proof edition) name rows = (name ≡ prove_name)
     × (string_bytes file ≡ text_of (codes "FILE") rows)
     × (string_bytes query ≡ text_of (codes "QUERYFILE") rows)
     × (string_bytes answer ≡ text_of (codes "ANSWERFILE") rows)
     × (string_bytes proof ≡ text_of (codes "PROOFFILE") rows)
+    × AsksForEdition (first_of (codes "edition") rows) (one_of (codes "sequence") rows) edition
 Gives (Check root query answer proof) name rows = (name ≡ check_name)
     × (decode_of (text_of (codes "ROOT") rows) ≡ Ok root.0)
     × (string_bytes query ≡ text_of (codes "QUERYFILE") rows)
@@ -39,7 +41,7 @@ abbrev pub HasBadRoot : Option (Text × List Row) → Type 0
 HasBadRoot None = ⊥
 HasBadRoot (Some matched) = (matched.0 ≡ check_name) × ¬ (IsRootText (text_of (codes "ROOT") matched.1))
 
--- the command `publish` was matched, with a word for the edition that is neither `1` nor `2`
+-- the command `publish` or `prove` was matched, with a word for the edition that is neither `1` nor `2`
 abbrev pub HasBadEdition : Option (Text × List Row) → Type 0
 HasBadEdition None = ⊥
-HasBadEdition (Some matched) = (matched.0 ≡ publish_name) × IsBadEdition (first_of (codes "edition") matched.1)
+HasBadEdition (Some matched) = ((matched.0 ≡ publish_name) ⊎ (matched.0 ≡ prove_name)) × IsBadEdition (first_of (codes "edition") matched.1)

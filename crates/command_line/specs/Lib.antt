@@ -2,6 +2,7 @@ pub mod Arguments
 pub mod AskCommand
 pub mod CheckCommand
 pub mod CommandLine
+pub mod EditionOptions
 pub mod Jobs
 pub mod ProveCommand
 pub mod PublishCommand

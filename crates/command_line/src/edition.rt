@@ -1,6 +1,6 @@
-//! The editions of a root over trees.
+//! The editions of a root.
 
-/// The edition of a root over the four digest trees of a set.
+/// The edition of a root.
 #[derive(Clone, Copy, Debug, PartialEq, Eq)]
 pub enum Edition {
     /// The first edition, which has no sequence number.

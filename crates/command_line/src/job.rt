@@ -12,14 +12,15 @@ pub enum Job {
         /// The bytes of the word QUERY as they stand.
         query: String,
     },
-    /// `publish FILE [--edition 1|2] [--sequence N]`: tell a root of a set.
+    /// `publish FILE [--edition 1|2] [--sequence N]`: tell the root of a set.
     Publish {
         /// The OPL file with the set's objects.
         file: String,
-        /// The edition of the root over the set's trees; `None` for the root over its plain text.
-        edition: Option<Edition>,
+        /// The edition of the root.
+        edition: Edition,
     },
-    /// `prove FILE QUERYFILE ANSWERFILE PROOFFILE`: write an answer and its proof, and tell the root.
+    /// `prove FILE QUERYFILE ANSWERFILE PROOFFILE [--edition 1|2] [--sequence N]`: write an answer and its
+    /// proof, and tell the root.
     Prove {
         /// The OPL file with the set's objects.
         file: String,
@@ -29,6 +30,8 @@ pub enum Job {
         answer_file: String,
         /// The file that the proof is written to.
         proof_file: String,
+        /// The edition of the root.
+        edition: Edition,
     },
     /// `check ROOT QUERYFILE ANSWERFILE PROOFFILE`: tell whether an answer is right.
     Check {

@@ -1,13 +1,16 @@
-//! The command `prove FILE QUERYFILE ANSWERFILE PROOFFILE`.
+//! The command `prove FILE QUERYFILE ANSWERFILE PROOFFILE [--edition 1|2] [--sequence N]`.
 
-ghost use Rattle.std.specs.Prelude.{◌≡◌, IfOk};
-ghost use Rattle.clap.specs.Words.{found_of, rows_of};
+ghost use Rattle.std.specs.Prelude.{◌≡◌, ◌⊎◌, IfErr, IfOk, codes};
+ghost use Rattle.clap.specs.Words.{first_of, found_of, rows_of};
+ghost use Rattle.command_line.specs.EditionOptions.{IsBadEdition};
 ghost use Rattle.command_line.specs.internal.Commands.{IsCommand};
 ghost use Rattle.command_line.specs.Jobs.{Gives};
 ghost use Rattle.command_line.specs.ProveCommand.{prove_app, prove_name};
 
 use crate::arguments::{Argument, FILE, QUERY_FILE, and_wanted, text_of};
+use crate::edition_options::{and_edition_options, edition_of};
 use crate::job::Job;
+use crate::words_fault::WordsFault;
 use clap::{ArgMatches, Command};
 use std::alloc::{AllocError, Global};
 
@@ -34,21 +37,26 @@ pub fn prove_command<'a>(alloc: Global) -> Result<Command<'a>, AllocError>
     let command = and_wanted(alloc, Command::new(alloc, PROVE).about(ABOUT), FILE)?;
     let command = and_wanted(alloc, command, QUERY_FILE)?;
     let command = and_wanted(alloc, command, ANSWER_FILE)?;
-    and_wanted(alloc, command, PROOF_FILE)
+    let command = and_wanted(alloc, command, PROOF_FILE)?;
+    and_edition_options(alloc, command)
 }
 
-/// What the matches of this command ask for.
-pub fn prove_job(alloc: Global, matches: &ArgMatches<'_>) -> Result<Job, AllocError>
-    ensures { IfOk result (λ job. Gives job prove_name (rows_of (found_of matches.now))) }
+/// What the matches of this command ask for. `BadEdition` where the word after `--edition` is neither `1` nor `2`.
+pub fn prove_job(alloc: Global, matches: &ArgMatches<'_>) -> Result<Job, WordsFault>
+    ensures given { IfOk result (λ job. Gives job prove_name (rows_of (found_of matches.now))) }
+    ensures refused { IfErr result (λ fault. (fault ≡ WordsFault.Memory) ⊎ ((fault ≡ WordsFault.BadEdition)
+        × IsBadEdition (first_of (codes "edition") (rows_of (found_of matches.now))))) }
 {
     let file = text_of(alloc, matches, FILE)?;
     let query_file = text_of(alloc, matches, QUERY_FILE)?;
     let answer_file = text_of(alloc, matches, ANSWER_FILE)?;
     let proof_file = text_of(alloc, matches, PROOF_FILE)?;
+    let edition = edition_of(matches)?;
     Ok(Job::Prove {
         file,
         query_file,
         answer_file,
         proof_file,
+        edition,
     })
 }

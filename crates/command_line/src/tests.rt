@@ -43,9 +43,20 @@ fn reads_the_commands_over_files(rt: HostRuntime) -> Result<(), Fail> {
     for (line, want) in [
         (
             "m prove a.opl b c d",
-            "Prove { file: \"a.opl\", query_file: \"b\", answer_file: \"c\", proof_file: \"d\" }",
+            "Prove { file: \"a.opl\", query_file: \"b\", answer_file: \"c\", proof_file: \"d\", edition: Two { sequence: 0 } }",
         ),
-        ("m publish -- -", "Publish { file: \"-\", edition: None }"),
+        (
+            "m prove --sequence 7 a.opl b --edition 2 c d",
+            "Prove { file: \"a.opl\", query_file: \"b\", answer_file: \"c\", proof_file: \"d\", edition: Two { sequence: 7 } }",
+        ),
+        (
+            "m prove a.opl b c d --edition=1",
+            "Prove { file: \"a.opl\", query_file: \"b\", answer_file: \"c\", proof_file: \"d\", edition: One }",
+        ),
+        (
+            "m publish -- -",
+            "Publish { file: \"-\", edition: Two { sequence: 0 } }",
+        ),
     ] {
         assert_eq!(rt; shown(alloc, line)?.as_str(), want, "{line}");
     }
@@ -55,32 +66,21 @@ fn reads_the_commands_over_files(rt: HostRuntime) -> Result<(), Fail> {
 #[test]
 fn reads_editions(rt: HostRuntime) -> Result<(), Fail> {
     let alloc = rt.alloc();
-    for (line, want) in [
-        ("m publish a.opl", None),
-        ("m publish a.opl --edition 1", Some(Edition::One)),
+    for (options, want) in [
+        ("", Edition::Two { sequence: 0 }),
+        (" --edition 1", Edition::One),
+        (" --edition 2", Edition::Two { sequence: 0 }),
+        (" --edition=2 --sequence=7", Edition::Two { sequence: 7 }),
         (
-            "m publish --edition 2 a.opl",
-            Some(Edition::Two { sequence: 0 }),
+            " --sequence 18446744073709551615 --edition 2",
+            Edition::Two { sequence: u64::MAX },
         ),
-        (
-            "m publish a.opl --edition=2 --sequence=7",
-            Some(Edition::Two { sequence: 7 }),
-        ),
-        (
-            "m publish --sequence 18446744073709551615 --edition 2 a.opl",
-            Some(Edition::Two { sequence: u64::MAX }),
-        ),
-        (
-            "m publish a.opl --edition 2 --sequence +7",
-            Some(Edition::Two { sequence: 7 }),
-        ),
-        (
-            "m publish a.opl --edition 1 --sequence 7",
-            Some(Edition::One),
-        ),
-        ("m publish a.opl --sequence 7", None),
+        (" --edition 2 --sequence +7", Edition::Two { sequence: 7 }),
+        (" --edition 1 --sequence 7", Edition::One),
+        (" --sequence 7", Edition::Two { sequence: 7 }),
     ] {
-        match read_words(alloc, words_of(alloc, line)?)? {
+        let line = format!(in alloc; "m publish a.opl{options}")?;
+        match read_words(alloc, words_of(alloc, &line)?)? {
             Job::Publish { file, edition } => {
                 assert_eq!(rt; file.as_str(), "a.opl", "{line}");
                 assert_eq!(rt; edition, want, "{line}");
@@ -94,12 +94,14 @@ fn reads_editions(rt: HostRuntime) -> Result<(), Fail> {
 #[test]
 fn refuses_bad_editions(rt: HostRuntime) -> Result<(), Fail> {
     let alloc = rt.alloc();
-    for word in ["3", "", "two", "0", "01", "+1", "12", "1.0"] {
-        let line = format!(in alloc; "m publish a.opl --edition {word}")?;
-        match read_words(alloc, words_of(alloc, &line)?) {
-            Ok(job) => panic!(rt; "{line}: {job:?}"),
-            Err(WordsFault::BadEdition) => {}
-            Err(fault) => panic!(rt; "{line}: {fault}"),
+    for command in ["publish a.opl", "prove a.opl b c d"] {
+        for word in ["3", "", "two", "0", "01", "+1", "12", "1.0"] {
+            let line = format!(in alloc; "m {command} --edition {word}")?;
+            match read_words(alloc, words_of(alloc, &line)?) {
+                Ok(job) => panic!(rt; "{line}: {job:?}"),
+                Err(WordsFault::BadEdition) => {}
+                Err(fault) => panic!(rt; "{line}: {fault}"),
+            }
         }
     }
     let told = format!(in alloc; "{}", WordsFault::BadEdition)?;
@@ -185,7 +187,7 @@ fn refuses_with_the_text_of_clap(rt: HostRuntime) -> Result<(), Fail> {
             "error: the argument '--edition <EDITION>' cannot be used multiple times\n",
         ),
         (
-            "osm_mirror publish a --edition 2 --sequence x",
+            "osm_mirror prove a b c d --sequence x",
             "error: invalid value 'x' for '--sequence <N>': invalid digit found in string\n",
         ),
         (
@@ -211,11 +213,11 @@ fn refuses_with_the_text_of_clap(rt: HostRuntime) -> Result<(), Fail> {
         ),
         (
             "osm_mirror publish -h",
-            "Prints the root of a set, by which clients check answers\n\nUsage: osm_mirror publish [OPTIONS] <FILE>\n\nArguments:\n  <FILE>  OPL file with the objects of the set\n\nOptions:\n      --edition <EDITION>  Edition of the root over trees: 1, or 2 with a sequence number; without it the root over the plain text\n      --sequence <N>       Sequence number of an edition 2 root, 0 if it isn't given; has no effect without '--edition 2'\n  -h, --help               Print help\n",
+            "Prints the root of a set, by which clients check answers\n\nUsage: osm_mirror publish [OPTIONS] <FILE>\n\nArguments:\n  <FILE>  OPL file with the objects of the set\n\nOptions:\n      --edition <EDITION>  Edition of the root: 1, or 2 with a sequence number; 2 if it isn't given\n      --sequence <N>       Sequence number of an edition 2 root, 0 if it isn't given; has no effect with '--edition 1'\n  -h, --help               Print help\n",
         ),
         (
             "osm_mirror prove -h",
-            "Writes the answer to a query and its proof, and prints the root of the set\n\nUsage: osm_mirror prove <FILE> <QUERYFILE> <ANSWERFILE> <PROOFFILE>\n\nArguments:\n  <FILE>        OPL file with the objects of the set\n  <QUERYFILE>   File whose bytes are the query\n  <ANSWERFILE>  File that the answer is written to\n  <PROOFFILE>   File that the proof is written to\n",
+            "Writes the answer to a query and its proof, and prints the root of the set\n\nUsage: osm_mirror prove [OPTIONS] <FILE> <QUERYFILE> <ANSWERFILE> <PROOFFILE>\n\nArguments:\n  <FILE>        OPL file with the objects of the set\n  <QUERYFILE>   File whose bytes are the query\n  <ANSWERFILE>  File that the answer is written to\n  <PROOFFILE>   File that the proof is written to\n\nOptions:\n      --edition <EDITION>  Edition of the root: 1, or 2 with a sequence number; 2 if it isn't given\n      --sequence <N>       Sequence number of an edition 2 root, 0 if it isn't given; has no effect with '--edition 1'\n  -h, --help               Print help\n",
         ),
         (
             "osm_mirror check -h",
@@ -248,7 +250,7 @@ fn reads_within_memory(rt: HostRuntime) -> Result<(), Fail> {
     let again = shown(alloc, "osm_mirror publish a.opl")?;
     assert_eq!(rt;
         again.as_str(),
-        "Publish { file: \"a.opl\", edition: None }"
+        "Publish { file: \"a.opl\", edition: Two { sequence: 0 } }"
     );
     Ok(())
 }

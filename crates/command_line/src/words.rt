@@ -27,7 +27,7 @@ use std::alloc::{AllocError, Global};
 ///
 /// `Usage` with `clap`'s text, where the words are none of this command line, or ask for help. `BadRoot`
 /// where the word ROOT of `check` isn't 64 hexadecimal digits. `BadEdition` where the word after `--edition` of
-/// `publish` is neither `1` nor `2`. `Memory` where an allocation was refused.
+/// `publish` or `prove` is neither `1` nor `2`. `Memory` where an allocation was refused.
 pub fn read_words(alloc: Global, words: Vec<String>) -> Result<Job, WordsFault>
     ensures read { IfOk result (λ job. GivesMatch job (subcommand_of program_app (map string_bytes words.items))) }
     ensures accepted { OnOk result (fault_of program_app (map string_bytes words.items) ≡ []) }
@@ -57,7 +57,7 @@ fn job_of(alloc: Global, name: &str, matches: &ArgMatches<'_>) -> Result<Job, Wo
     match name {
         ASK => Ok(ask_job(alloc, matches)?),
         PUBLISH => publish_job(alloc, matches),
-        PROVE => Ok(prove_job(alloc, matches)?),
+        PROVE => prove_job(alloc, matches),
         CHECK => check_job(alloc, matches),
         _ => unreachable!("each command has its arm"),
     }

@@ -1,7 +1,5 @@
-pub mod Texts
-pub mod Sets
 pub mod Fronts
-pub mod Lines
-pub mod TextsRead
+pub mod Judgements
+pub mod NeededNodes
 pub mod OneVerdict
-pub mod Refusals
+pub mod Reports

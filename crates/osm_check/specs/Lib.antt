@@ -1,5 +1,5 @@
-pub mod Refusals
-pub mod Roots
+pub mod Matching
+pub mod Matchers
 pub mod Verdicts
 pub mod VerdictTexts
 pub mod internal

@@ -12,7 +12,12 @@ use Rattle.osm_check.specs.declared.why.Why.TheVariants as whys
 abbrev pub why_text : Why → List ℕ
 why_text (whys.QueryRefused fault) = codes "C1 " ++ (code_text fault.cause ++ (32 ∷ decimal fault.byte))
 why_text whys.ProofMalformed = codes "C2"
+why_text whys.ProofNotRising = codes "C3"
 why_text whys.NodeMissing = codes "C4"
+why_text whys.NodeMalformed = codes "C5"
+why_text whys.NodesDisagree = codes "C6"
+why_text whys.EntriesDisagree = codes "C7"
+why_text whys.NodeUnused = codes "C8"
 why_text (whys.AnswerDiffers byte) = codes "C9 " ++ decimal byte
 
 -- what is said of an answer

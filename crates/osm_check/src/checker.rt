@@ -1,32 +1,40 @@
 //! The checker.
 
-ghost use Rattle.std.specs.Prelude.{◌≡◌, ◌≢◌, ◌⊎◌, IfErr, IfOk, List};
-ghost use Rattle.osm_model.specs.Elements.{Element};
-ghost use Rattle.osm_model.specs.Sets.{IsObjectSet};
-ghost use Rattle.tree_node.specs.Digests.{digest};
-ghost use Rattle.osm_check.specs.Roots.{Clash, IsProofOf, proof_text, root_of};
-ghost use Rattle.osm_check.specs.Verdicts.{IsAnswer, IsVerdict, no_walks};
-ghost use Rattle.osm_check.specs.declared.report.Report.{Report};
+ghost use Rattle.std.specs.Prelude.{◌≡◌, ◌≢◌, ◌⊎◌, IfErr, IfOk, List, MatchResult, None, Some};
+ghost use Rattle.tree_node.specs.Outcomes.{Clash};
+ghost use Rattle.tree_node.specs.Parts.{HaveRisingDigests};
+ghost use Rattle.osm_index.specs.Publications.{IsNodeIn, IsPublication, Publication, root_of};
+ghost use Rattle.ql_syntax.specs.StatementViews.{statements_of};
+ghost use Rattle.osm_prove.specs.Proofs.{FitsProof, nodes_of};
+ghost use Rattle.osm_prove.specs.Proved.{IsProved};
+ghost use Rattle.osm_check.specs.Verdicts.{AreAlike, IsVerdict, IsYes, StandsIn, TellsOf};
+ghost use Rattle.osm_check.specs.internal.Judging.{IsJudged, why_of};
+ghost use Rattle.ql_eval.specs.declared.evaluation.Report.{Report};
 ghost use Rattle.osm_check.specs.declared.verdict.Verdict.{Verdict};
+ghost use Rattle.osm_check.specs.declared.why.Why.{Why};
 
-use crate::difference::first_difference;
-use crate::proof_reader::read_proof;
-use crate::report::Report;
+use crate::matcher::Matcher;
 use crate::verdict::Verdict;
 use crate::why::Why;
-use ql_plain::answer_plain;
-use ql_syntax::{QlCause, QlFault, parse};
+use osm_prove::{ProofFault, read_proof};
+use ql_eval::{EvalFault, ManifestFault, evaluate};
+use ql_syntax::{QlCause, QlFault, Query, parse};
 use std::alloc::{AllocError, Global};
-use tree_node::{Digest, digest_of};
+use tree_node::{Bag, Digest, Part};
+use tree_walk::WalkFault;
 
 /// Whether an answer is right: whether it is the OPL text of the query's meaning over the set with this root.
-/// Nothing is assumed of the query, the answer and the proof.
+/// Nothing is assumed of the query, the answer and the proof. Roots of both editions are checked; the manifest
+/// tells which it is.
 ///
-/// The reason for a no is the first of these: `QueryRefused` where the query doesn't read; `NodeMissing` where
-/// the proof's digest isn't the root; `ProofMalformed` where the proof isn't the canonical text of a set;
-/// `AnswerDiffers` where the answer isn't the query's meaning over that set. The proof is read once, line by
-/// line. Its objects are held, and beside them the answer that is expected. Linear in the proof's bytes, and
-/// what the query costs ([`answer_plain`]).
+/// The reason for a no is the first of these: `QueryRefused` where the query doesn't read; `ProofMalformed`
+/// and `ProofNotRising` where the proof isn't one; then as it is met in the evaluation `NodeMissing`,
+/// `NodeMalformed`, `NodesDisagree` or `EntriesDisagree`; `NodeUnused` where the proof holds more than the
+/// query needs; `AnswerDiffers` where the answer isn't the query's meaning.
+///
+/// The query is evaluated over the nodes of the proof, which are slices of its bytes, and what comes out is
+/// compared with the answer on the way: neither is copied. The time grows with the proof's bytes and with what
+/// the query costs over them ([`evaluate`]).
 ///
 /// Refused only where memory runs out.
 pub fn check(
@@ -36,18 +44,18 @@ pub fn check(
     answer: &[u8],
     proof: &[u8],
 ) -> Result<Verdict, AllocError>
-    // The headline: under the root of any set, a yes says that the answer is the query's meaning over that
-    // set, and the proof the one proof of it, unless the proof and that set's text are two with one digest.
-    ensures headline { (objects : List Element) (report : Report) → IsObjectSet objects → root.now.0 ≡ root_of objects
-        → result ≡ Ok (Verdict.Yes report)
-        → (IsAnswer query.now answer.now objects × (proof.now ≡ proof_text objects)) ⊎ Clash proof.now (proof_text objects) }
+    // The headline: under the root of any publication, a yes says that the answer is the query's meaning over its
+    // set, and the proof the one proof of it, unless a node of the publication and a node that stands in the proof
+    // are two with one digest.
+    ensures headline { (p : Publication) (report : Report) → IsPublication p → root.now.0 ≡ root_of p → result ≡ Ok (Verdict.Yes report)
+        → IsProved p query.now answer.now proof.now ⊎ Clash (IsNodeIn p) (StandsIn proof.now) }
     // An honest mirror is always accepted.
-    ensures honest { (objects : List Element) → IsProofOf proof.now objects → root.now.0 ≡ root_of objects
-        → IsAnswer query.now answer.now objects → IfOk result (λ verdict. verdict ≡ Verdict.Yes no_walks) }
+    ensures honest { (p : Publication) → IsPublication p → root.now.0 ≡ root_of p → IsProved p query.now answer.now proof.now → IfOk result IsYes }
     // The verdict is the one that is owed,
     ensures verdict { IfOk result (IsVerdict query.now root.now.0 answer.now proof.now) }
-    // and the one that is owed is given.
-    ensures only { (owed : Verdict) → IsVerdict query.now root.now.0 answer.now proof.now owed → IfOk result (λ verdict. verdict ≡ owed) }
+    // and under the root of a publication the one that is owed is given, with the same exception.
+    ensures only { (p : Publication) (owed : Verdict) → IsPublication p → root.now.0 ≡ root_of p → TellsOf p query.now answer.now proof.now owed
+        → IfOk result (λ verdict. AreAlike verdict owed) ⊎ Clash (IsNodeIn p) (StandsIn proof.now) }
 {
     decide(alloc, query, root, answer, proof)
 }
@@ -66,20 +74,12 @@ fn decide(
         Ok(parsed) => parsed,
         Err(fault) => return refused(fault),
     };
-    if digest_of(proof) != *root {
-        return Ok(Verdict::No(Why::NodeMissing));
+    match read_proof(alloc, proof) {
+        Ok(parts) => judge(alloc, &parsed, root, answer, parts),
+        Err(ProofFault::Malformed) => Ok(Verdict::No(Why::ProofMalformed)),
+        Err(ProofFault::NotRising) => Ok(Verdict::No(Why::ProofNotRising)),
+        Err(ProofFault::Memory) => Err(AllocError),
     }
-    let Some(set) = read_proof(alloc, proof)? else {
-        return Ok(Verdict::No(Why::ProofMalformed));
-    };
-    let expected = answer_plain(alloc, &parsed, &set)?;
-    Ok(match first_difference(answer, &expected) {
-        Some(byte) => Verdict::No(Why::AnswerDiffers(byte)),
-        None => Verdict::Yes(Report {
-            ranges: 0,
-            fetched: 0,
-        }),
-    })
 }
 
 /// The verdict on a query that isn't read: out of memory is none.
@@ -90,5 +90,52 @@ fn refused(fault: QlFault) -> Result<Verdict, AllocError>
     match fault.cause {
         QlCause::Memory => Err(AllocError),
         _ => Ok(Verdict::No(Why::QueryRefused(fault))),
+    }
+}
+
+/// The verdict on an answer, from the nodes of a proof.
+fn judge<'a>(
+    alloc: Global,
+    query: &Query<'_>,
+    root: &Digest,
+    answer: &[u8],
+    parts: Vec<Part<'a>>,
+) -> Result<Verdict, AllocError>
+    requires fit { FitsProof (nodes_of parts.items) }
+    requires rising { HaveRisingDigests parts.items }
+    ensures { IfOk result (IsJudged root.now.0 (statements_of query.now) answer.now (nodes_of parts.entry.items)) }
+{
+    let mut bag = Bag::new(alloc, parts)?;
+    let mut matcher = Matcher::new(answer);
+    let report = match evaluate(alloc, query, root, &mut bag, &mut matcher) {
+        Ok(report) => report,
+        Err(fault) => return stopped(fault),
+    };
+    if !bag.all_used() {
+        return Ok(Verdict::No(Why::NodeUnused));
+    }
+    Ok(match matcher.difference() {
+        Some(byte) => Verdict::No(Why::AnswerDiffers(byte)),
+        None => Verdict::Yes(report),
+    })
+}
+
+/// The verdict where an evaluation was refused: out of memory is none.
+fn stopped(fault: EvalFault) -> Result<Verdict, AllocError>
+    ensures { MatchResult result (λ verdict. (why : Why) × (why_of fault ≡ Some why) × (verdict ≡ Verdict.No why)) (λ _. why_of fault ≡ None) }
+{
+    match fault {
+        EvalFault::Walk(WalkFault::Missing) | EvalFault::Manifest(ManifestFault::Missing) => {
+            Ok(Verdict::No(Why::NodeMissing))
+        }
+        EvalFault::Walk(WalkFault::Malformed(_)) | EvalFault::Manifest(ManifestFault::Malformed) =>
+            { Ok(Verdict::No(Why::NodeMalformed)) }
+        EvalFault::Walk(WalkFault::WrongTreeOrLevel | WalkFault::Disagrees) => {
+            Ok(Verdict::No(Why::NodesDisagree))
+        }
+        EvalFault::Form | EvalFault::Absent => Ok(Verdict::No(Why::EntriesDisagree)),
+        EvalFault::Walk(WalkFault::Memory)
+        | EvalFault::Manifest(ManifestFault::Memory)
+        | EvalFault::Memory => Err(AllocError),
     }
 }

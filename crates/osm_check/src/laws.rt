@@ -1,29 +1,21 @@
-//! Laws: what verdicts and texts determine.
+//! Laws: what verdicts say of a publication whose root it is.
 
 ghost use Rattle.std.specs.Prelude.{◌≡◌, ◌⊎◌, ℕ, List};
-ghost use Rattle.osm_model.specs.Elements.{Element};
-ghost use Rattle.osm_model.specs.Sets.{IsObjectSet};
-ghost use Rattle.osm_check.specs.Roots.{Clash, IsProofOf, proof_text, root_of};
-ghost use Rattle.osm_check.specs.Verdicts.{IsVerdict, Tells};
+ghost use Rattle.tree_node.specs.Outcomes.{Clash};
+ghost use Rattle.osm_index.specs.Publications.{IsNodeIn, IsPublication, Publication, root_of};
+ghost use Rattle.osm_check.specs.Verdicts.{AreAlike, IsVerdict, StandsIn, TellsOf};
 ghost use Rattle.osm_check.specs.declared.verdict.Verdict.{Verdict};
 
-/// A law: bytes are the canonical text of one set at most.
-pub fn one_text()
-    ensures { (bytes : List ℕ) (first second : List Element) → IsProofOf bytes first → IsProofOf bytes second → first ≡ second }
-{}
-
-/// A law: one verdict at most is owed.
-pub fn one_verdict()
-    ensures { (query root answer proof : List ℕ) (first second : Verdict) → IsVerdict query root answer proof first
-        → IsVerdict query root answer proof second → first ≡ second }
-{}
-
-/// A law: what a verdict says where the root is that of a set, whichever set it is. A yes says that the answer
-/// is the query's meaning over it, `NodeMissing` that the proof isn't its text, `AnswerDiffers` that the proof
-/// is, and where the answer differs from the meaning; `ProofMalformed` doesn't come. Unless the proof and the
-/// set's text are two with one digest.
+/// A law: what a verdict says where the root is that of a publication, whichever it is; unless a node of the
+/// publication and one that stands in the proof are two with one digest.
 pub fn under_root()
-    ensures { (query answer proof : List ℕ) (objects : List Element) (verdict : Verdict) → IsObjectSet objects
-        → IsVerdict query (root_of objects) answer proof verdict
-        → Tells query answer proof objects verdict ⊎ Clash proof (proof_text objects) }
+    ensures { (query answer proof : List ℕ) (p : Publication) (verdict : Verdict) → IsPublication p
+        → IsVerdict query (root_of p) answer proof verdict
+        → TellsOf p query answer proof verdict ⊎ Clash (IsNodeIn p) (StandsIn proof) }
+{}
+
+/// A law: of a publication one verdict at most is true, but for what a yes counts.
+pub fn one_verdict()
+    ensures { (query answer proof : List ℕ) (p : Publication) (first second : Verdict) → IsPublication p
+        → TellsOf p query answer proof first → TellsOf p query answer proof second → AreAlike first second }
 {}

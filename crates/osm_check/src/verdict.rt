@@ -3,8 +3,8 @@
 ghost use Rattle.std.specs.Prelude.{Some};
 ghost use Rattle.osm_check.specs.VerdictTexts.{verdict_text};
 
-use crate::report::Report;
 use crate::why::Why;
+use ql_eval::Report;
 use std::fmt;
 
 /// What the checker answers. Its text is what the program prints: `yes`, or `no` and the reason, as in

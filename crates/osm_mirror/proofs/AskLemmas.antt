@@ -1,64 +1,100 @@
--- Faults of `ask` from the faults of the calls that it makes.
-use Rattle.std.proofs.Common.{◌≡◌, ◌≢◌, ◌⊎◌, ℕ, List, Option, None, Some, Result, Ok, Err, IfSome, IfErr, IsErrAnd, inl, inr, refl, sym, subst, ap, ◌∙◌}
+-- Faults of `ask` from the faults of the calls that it makes, and its answer from what they make.
+use Rattle.std.proofs.Common.{◌≡◌, ℕ, List, Option, None, Some, Result, Ok, Err, IfSome, IfErr, IsErrAnd, refl, sym, subst, ap, ◌∙◌}
 use Rattle.osm_model.specs.Elements.{Element}
-use Rattle.opl_codec.specs.Files.{HoldsSet, IsReaderOrMemory as IsOutsideFile, StopsFile}
-use Rattle.opl_codec.specs.LineReads.{no_memory}
-use Rattle.opl_codec.specs.declared.cause.OplCause.{OplCause}
-use Rattle.opl_codec.specs.declared.cause.OplCause.TheVariants as causes
-use Rattle.opl_codec.specs.declared.fault.LoadFault.{LoadFault}
-use Rattle.ql_syntax.specs.Queries.{Reads}
+use Rattle.opl_codec.specs.Files.{HoldsSet}
+use Rattle.osm_index.specs.Publications.{Publication}
+use Rattle.osm_index.specs.Snapshots.{HoldsPublication}
+use Rattle.osm_index.specs.declared.edition.Edition.{Edition}
+use Rattle.osm_index.specs.declared.snapshot.Snapshot.{Snapshot}
+use Rattle.ql_syntax.specs.Queries.{HasFault, Reads}
 use Rattle.ql_syntax.specs.Statements.{Statements}
-use Rattle.osm_check.specs.declared.prove_fault.ProveFault.{ProveFault}
-use Rattle.osm_check.specs.declared.prove_fault.ProveFault.TheVariants as refusals
-use Rattle.osm_mirror.specs.Ask.{Explains, IsAnswer, IsOutside, IsUnheld}
-use Rattle.osm_mirror.specs.Faults.{fault_of_cause, fault_of_load, fault_of_prove}
+use Rattle.ql_syntax.specs.declared.fault.QlFault.{QlFault}
+use Rattle.ql_plain.specs.Meanings.{Means}
+use Rattle.osm_prove.specs.Proved.{IsProved}
+use Rattle.osm_prove.specs.declared.prove_fault.ProveFault.{ProveFault}
+use Rattle.osm_prove.specs.declared.prove_fault.ProveFault.TheVariants as refusals
+use Rattle.osm_mirror.specs.Ask.{Explains, HoldsTrees, IsAnswer}
+use Rattle.osm_mirror.specs.Faults.{fault_of_prove}
+use Rattle.osm_mirror.specs.TreeRoots.{ExplainsTrees, IsOutsideOrTrees, IsPublicationIn}
 use Rattle.osm_mirror.specs.declared.command_fault.CommandFault.{CommandFault}
+use Rattle.osm_mirror.specs.declared.command_fault.CommandFault.TheVariants.{Opl, Query, Endless, Clash, TooMany, Memory, Device}
 
--- of a file that isn't read, where it isn't the reader that failed nor memory that ran out
-pub unheld : (file : List ℕ) (left : Option (List ℕ)) (load : LoadFault) (cause : OplCause) → load.fault.cause ≡ cause → cause ≢ causes.ReaderFailed → cause ≢ causes.Memory
-    → (load ≡ no_memory) ⊎ StopsFile file left load → IsUnheld file left load
-unheld file left load cause is unfailed real (inl none) = let told = ap (λ (l : LoadFault). l.fault.cause) none in absurd (real (sym is ∙ told))
-unheld file left load cause is unfailed real (inr stops) = record { stops = stops; unfailed = λ e. unfailed (sym is ∙ e); real = λ e. real (sym is ∙ e) }
+-- ---- no trees
 
--- what the reader doesn't read is refused as it should be
-explained_cause : (file : List ℕ) (left : Option (List ℕ)) (query : List ℕ) (load : LoadFault) (cause : OplCause) → load.fault.cause ≡ cause
-    → (load ≡ no_memory) ⊎ StopsFile file left load → Explains file left query (fault_of_cause load cause)
-explained_cause file left query load causes.ReaderFailed is why = tt
-explained_cause file left query load causes.Memory is why = tt
-explained_cause file left query load cause is why = unheld file left load cause is (λ e. cc) (λ e. cc) why
+-- what explains that there are no trees explains it for `ask`
+explains : (file : List ℕ) (left : Option (List ℕ)) (edition : Edition) (query : List ℕ) (fault : CommandFault) → ExplainsTrees file left edition fault
+    → Explains file left edition query fault
+explains file left edition query (Opl load) why = why
+explains file left edition query (Query refused) why = absurd why
+explains file left edition query Endless why = absurd why
+explains file left edition query Clash why = why
+explains file left edition query TooMany why = why
+explains file left edition query Memory why = tt
+explains file left edition query Device why = tt
 
--- a fault that lies outside the file lies outside of all that `ask` is given
-pub outside_cause : (load : LoadFault) (cause : OplCause) → load.fault.cause ≡ cause → IsOutsideFile cause → IsOutside (fault_of_cause load cause)
-outside_cause load causes.ReaderFailed is outside = tt
-outside_cause load causes.Memory is outside = tt
-outside_cause load causes.Endless is outside = is
-outside_cause load _ is outside = elim outside [ inl failed ↦ cc | inr other ↦ elim other [ inl endless ↦ cc | inr memory ↦ cc ] ]
+pub explained_unmade : (known left : Option (List ℕ)) (edition : Edition) (query : List ℕ) (fault : CommandFault) (result : Result (Unit {0}) CommandFault)
+    → IsErrAnd result (λ told. told ≡ fault)
+    → IfSome known (λ file. ExplainsTrees file left edition fault)
+    → IfSome known (λ file. IfErr result (Explains file left edition query))
+explained_unmade None left edition query fault result told why = tt
+explained_unmade (Some file) left edition query fault (Ok done) told why = tt
+explained_unmade (Some file) left edition query fault (Err other) told why =
+    subst (Explains file left edition query) (sym told) (explains file left edition query fault why)
 
--- a set that isn't read: the fault is explained
-pub explained_unread : (known left : Option (List ℕ)) (query : List ℕ) (load : LoadFault) (result : Result (Unit {0}) CommandFault)
-    → IsErrAnd result (λ fault. fault ≡ fault_of_load load)
-    → IfSome known (λ file. (load ≡ no_memory) ⊎ StopsFile file left load)
-    → IfSome known (λ file. IfErr result (Explains file left query))
-explained_unread None left query load result told why = tt
-explained_unread (Some file) left query load (Ok done) told why = tt
-explained_unread (Some file) left query load (Err fault) told why =
-    subst (Explains file left query) (sym told) (explained_cause file left query load load.fault.cause refl why)
+-- where there is an answer, the fault lies outside, or in the trees
+pub outside_unmade : (known : Option (List ℕ)) (edition : Edition) (query : List ℕ) (fault : CommandFault) (result : Result (Unit {0}) CommandFault)
+    → IsErrAnd result (λ told. told ≡ fault)
+    → IfSome known (λ file. (set : List Element) → HoldsSet file set → IsOutsideOrTrees set edition fault)
+    → IfSome known (λ file. (text : List ℕ) (answer : IsAnswer file query text) → IfErr result (IsOutsideOrTrees answer.set edition))
+outside_unmade None edition query fault result told only = tt
+outside_unmade (Some file) edition query fault (Ok done) told only = λ text answer. tt
+outside_unmade (Some file) edition query fault (Err other) told only = λ text answer.
+    subst (IsOutsideOrTrees answer.set edition) (sym told) (only answer.set answer.holds)
 
--- a set that isn't read: where there is an answer, the fault lies outside
-pub outside_unread : (known : Option (List ℕ)) (query : List ℕ) (load : LoadFault) (result : Result (Unit {0}) CommandFault)
-    → IsErrAnd result (λ fault. fault ≡ fault_of_load load)
-    → IfSome known (λ file. (objects : List Element) → HoldsSet file objects → IsOutsideFile load.fault.cause)
-    → IfSome known (λ file. (text : List ℕ) → IsAnswer file query text → IfErr result IsOutside)
-outside_unread None query load result told only = tt
-outside_unread (Some file) query load (Ok done) told only = λ text answer. tt
-outside_unread (Some file) query load (Err fault) told only = λ text answer.
-    subst IsOutside (sym told) (outside_cause load load.fault.cause refl (only answer.set answer.holds))
+-- ---- trees, and no answer
 
--- an answer that isn't made: where the query reads, the fault lies outside
-pub outside_unproved : (known : Option (List ℕ)) (query : List ℕ) (refusal : ProveFault) (result : Result (Unit {0}) CommandFault)
-    → IsErrAnd result (λ fault. fault ≡ fault_of_prove refusal) → ((statements : Statements) → Reads query statements → refusal ≡ refusals.Memory)
-    → IfSome known (λ file. (text : List ℕ) → IsAnswer file query text → IfErr result IsOutside)
-outside_unproved None query refusal result told only = tt
-outside_unproved (Some file) query refusal (Ok done) told only = λ text answer. tt
-outside_unproved (Some file) query refusal (Err fault) told only = λ text answer.
-    subst IsOutside (sym (told ∙ ap fault_of_prove (only answer.answer.statements answer.answer.reads))) tt
+-- the file's trees are there
+pub trees_held : (known : Option (List ℕ)) (edition : Edition) (snapshot : Snapshot) (p : Publication)
+    → HoldsPublication snapshot p → IfSome known (λ file. IsPublicationIn file edition p) → IfSome known (λ file. HoldsTrees file edition)
+trees_held None edition snapshot p held is = tt
+trees_held (Some file) edition snapshot p held is = record { p = p; published = is; no_clash = held.no_clash }
+
+refusal_explained : (file : List ℕ) (left : Option (List ℕ)) (edition : Edition) (query : List ℕ) (refusal : ProveFault) → HoldsTrees file edition
+    → ((fault : QlFault) → refusal ≡ refusals.Query fault → HasFault query fault) → Explains file left edition query (fault_of_prove refusal)
+refusal_explained file left edition query (refusals.Query fault) holds why = (holds, why fault refl)
+refusal_explained file left edition query refusals.Memory holds why = tt
+
+-- the query is refused for its fault
+pub explained_unproved : (known left : Option (List ℕ)) (edition : Edition) (query : List ℕ) (refusal : ProveFault) (result : Result (Unit {0}) CommandFault)
+    → IsErrAnd result (λ told. told ≡ fault_of_prove refusal)
+    → IfSome known (λ file. HoldsTrees file edition)
+    → ((fault : QlFault) → refusal ≡ refusals.Query fault → HasFault query fault)
+    → IfSome known (λ file. IfErr result (Explains file left edition query))
+explained_unproved None left edition query refusal result told holds why = tt
+explained_unproved (Some file) left edition query refusal (Ok done) told holds why = tt
+explained_unproved (Some file) left edition query refusal (Err other) told holds why =
+    subst (Explains file left edition query) (sym told) (refusal_explained file left edition query refusal holds why)
+
+-- where the query reads, the fault lies outside
+pub outside_unproved : (known : Option (List ℕ)) (edition : Edition) (query : List ℕ) (refusal : ProveFault) (result : Result (Unit {0}) CommandFault)
+    → IsErrAnd result (λ told. told ≡ fault_of_prove refusal)
+    → ((statements : Statements) → Reads query statements → refusal ≡ refusals.Memory)
+    → IfSome known (λ file. (text : List ℕ) (answer : IsAnswer file query text) → IfErr result (IsOutsideOrTrees answer.set edition))
+outside_unproved None edition query refusal result told only = tt
+outside_unproved (Some file) edition query refusal (Ok done) told only = λ text answer. tt
+outside_unproved (Some file) edition query refusal (Err other) told only = λ text answer.
+    subst (IsOutsideOrTrees answer.set edition) (sym (told ∙ ap fault_of_prove (only answer.statements answer.reads))) tt
+
+-- ---- the answer
+
+-- what is proved over a publication of the file's set is the answer
+pub answer_is : (known : Option (List ℕ)) (edition : Edition) (p : Publication) (query text nodes : List ℕ)
+    → IfSome known (λ file. IsPublicationIn file edition p) → IsProved p query text nodes → IfSome known (λ file. IsAnswer file query text)
+answer_is None edition p query text nodes is proved = tt
+answer_is (Some file) edition p query text nodes is proved = record {
+  set = is.set;
+  holds = is.holds;
+  statements = proved.statements;
+  reads = proved.reads;
+  means = subst (λ (objects : List Element). Means objects proved.statements text) is.published.same_objects proved.means;
+}

@@ -1,15 +1,20 @@
--- What `prove`, `ask`, `publish` and `check` have written where they end.
-use Rattle.std.proofs.Common.{◌≡◌, ◌≢◌, ℕ, List, Option, None, Some, Result, Ok, Err, IfErr, IfSome, OnOk, inl, inr, subst, ◌∙◌}
+-- What `prove`, `ask` and `check` have written where they end.
+use Rattle.std.proofs.Common.{◌≡◌, ◌≢◌, ◌⊎◌, ℕ, List, Option, None, Some, Result, Ok, Err, IfErr, IfSome, OnOk, ap, inl, inr, subst, ◌∙◌}
+use Rattle.std.specs.declared.alloc.AllocError.{AllocError}
 use Rattle.std.proofs.KnownBytes.{Keeps-refl}
 use Rattle.std.specs.Io.KnownBytes.{Appends, Keeps}
-use Rattle.osm_model.specs.Elements.{Element}
-use Rattle.opl_codec.specs.Files.{HoldsSet}
-use Rattle.osm_check.specs.Roots.{proof_text}
-use Rattle.osm_check.specs.Verdicts.{IsAnswer as IsRightAnswer, IsVerdict}
+use Rattle.tree_node.specs.Outcomes.{Clash}
+use Rattle.osm_index.specs.Publications.{IsNodeIn, IsPublication, Publication, root_of}
+use Rattle.osm_index.specs.declared.edition.Edition.{Edition}
+use Rattle.osm_prove.specs.Proved.{IsProved}
+use Rattle.ql_eval.specs.declared.evaluation.Report.{Report}
+use Rattle.osm_check.specs.Verdicts.{IsVerdict, StandsIn}
 use Rattle.osm_check.specs.declared.verdict.Verdict.{Verdict}
+use Rattle.osm_check.specs.declared.verdict.Verdict.TheVariants.{Yes}
 use Rattle.osm_mirror.specs.Ask.{IsAnswer, IsBegun}
-use Rattle.osm_mirror.specs.Files.{IfBoth, IfThree, IsBegunProof, IsBegunRoot, IsBegunVerdict, IsProved}
-use Rattle.osm_mirror.specs.RootLines.{root_line, verdict_line}
+use Rattle.osm_mirror.specs.Files.{IfBoth, IfThree, IsBegunProof, IsBegunVerdict, IsProvedIn}
+use Rattle.osm_mirror.specs.RootLines.{verdict_line}
+use Rattle.osm_mirror.specs.TreeRoots.{IsPublicationIn, publication_line}
 use Rattle.osm_mirror.specs.Written.{AppendInTurn, AppendsFront, Output, UpToFirst, UpToSecond, UpToThird, Writing}
 use Rattle.osm_mirror.specs.declared.command_fault.CommandFault.{CommandFault}
 use Rattle.osm_mirror.specs.declared.command_fault.CommandFault.TheVariants.{Device}
@@ -24,10 +29,10 @@ abbrev pub writing : List ℕ → Option (List ℕ) → Option (List ℕ) → Wr
 writing text old new = record { text = text; output = record { before = old; after = new } }
 
 -- nothing is written
-pub unwritten : (first second answer proof root : Option (List ℕ)) → IfBoth first second (λ file bytes. IsBegunProof file bytes (same answer) (same proof) (same root))
-unwritten None second answer proof root = tt
-unwritten (Some file) None answer proof root = tt
-unwritten (Some file) (Some bytes) answer proof root = inl (Keeps-refl answer, Keeps-refl proof, Keeps-refl root)
+pub unwritten : (first second : Option (List ℕ)) (edition : Edition) (answer proof root : Option (List ℕ)) → IfBoth first second (λ file bytes. IsBegunProof file bytes edition (same answer) (same proof) (same root))
+unwritten None second edition answer proof root = tt
+unwritten (Some file) None edition answer proof root = tt
+unwritten (Some file) (Some bytes) edition answer proof root = inl (Keeps-refl answer, Keeps-refl proof, Keeps-refl root)
 
 -- nothing is written, whatever the result
 pub kept : (answer proof root : Option (List ℕ)) (result : Result (Unit {0}) CommandFault)
@@ -36,13 +41,13 @@ kept answer proof root (Ok done) = tt
 kept answer proof root (Err fault) = λ other. (Keeps-refl answer, Keeps-refl proof, Keeps-refl root)
 
 -- what was read is proved, where the bytes that were read are those that were looked at
-pub proved_files : (first second : Option (List ℕ)) (set : List Element) (read query text : List ℕ)
-    → IfSome first (λ file. HoldsSet file set) → IfSome second (λ left. read ≡ left) → query ≡ read → IsRightAnswer query text set
-    → IfBoth first second (λ file bytes. IsProved file bytes text set)
-proved_files None second set read query text holds same is right = tt
-proved_files (Some file) None set read query text holds same is right = tt
-proved_files (Some file) (Some bytes) set read query text holds same is right =
-    record { holds = holds; answer = subst (λ (q : List ℕ). IsRightAnswer q text set) (is ∙ same) right }
+pub proved_files : (first second : Option (List ℕ)) (edition : Edition) (p : Publication) (read query text nodes : List ℕ)
+    → IfSome first (λ file. IsPublicationIn file edition p) → IfSome second (λ left. read ≡ left) → query ≡ read → IsProved p query text nodes
+    → IfBoth first second (λ file bytes. IsProvedIn file bytes edition p text nodes)
+proved_files None second edition p read query text nodes published same is proved = tt
+proved_files (Some file) None edition p read query text nodes published same is proved = tt
+proved_files (Some file) (Some bytes) edition p read query text nodes published same is proved =
+    record { published = published; proved = subst (λ (q : List ℕ). IsProved p q text nodes) (is ∙ same) proved }
 
 -- the answer is begun
 pub answer_begun : (written text proof root : List ℕ) (old_answer new_answer old_proof old_root : Option (List ℕ))
@@ -66,28 +71,29 @@ root_begun written written_proof line text proof root a b c d e f is whole proof
     UpToThird (subst (λ (t : List ℕ). Appends a b t) is whole) (subst (λ (t : List ℕ). Appends c d t) proof_is proof_whole) (subst (λ (t : List ℕ). AppendsFront e f t) root_is begun)
 
 -- the three texts are written in turn, as far as it went
-pub written_in_turn : (first second : Option (List ℕ)) (set : List Element) (text : List ℕ) (old_answer new_answer old_proof new_proof old_root new_root : Option (List ℕ))
-    → IfBoth first second (λ file bytes. IsProved file bytes text set)
-    → AppendInTurn (writing text old_answer new_answer) (writing (proof_text set) old_proof new_proof) (writing (root_line set) old_root new_root)
-    → IfBoth first second (λ file bytes. IsBegunProof file bytes (record { before = old_answer; after = new_answer }) (record { before = old_proof; after = new_proof }) (record { before = old_root; after = new_root }))
-written_in_turn None second set text a b c d e f proved turn = tt
-written_in_turn (Some file) None set text a b c d e f proved turn = tt
-written_in_turn (Some file) (Some bytes) set text a b c d e f proved turn = inr (set, text, proved, turn)
+pub written_in_turn : (first second : Option (List ℕ)) (edition : Edition) (p : Publication) (text nodes : List ℕ) (old_answer new_answer old_proof new_proof old_root new_root : Option (List ℕ))
+    → IfBoth first second (λ file bytes. IsProvedIn file bytes edition p text nodes)
+    → AppendInTurn (writing text old_answer new_answer) (writing nodes old_proof new_proof) (writing (publication_line p) old_root new_root)
+    → IfBoth first second (λ file bytes. IsBegunProof file bytes edition (record { before = old_answer; after = new_answer }) (record { before = old_proof; after = new_proof }) (record { before = old_root; after = new_root }))
+written_in_turn None second edition p text nodes a b c d e f proved turn = tt
+written_in_turn (Some file) None edition p text nodes a b c d e f proved turn = tt
+written_in_turn (Some file) (Some bytes) edition p text nodes a b c d e f proved turn = inr (p, text, nodes, proved, turn)
 
 -- the three texts are written whole
-pub written_whole : (first second : Option (List ℕ)) (set : List Element) (written written_proof line text : List ℕ) (old_answer new_answer old_proof new_proof old_root new_root : Option (List ℕ))
+pub written_whole : (first second : Option (List ℕ)) (edition : Edition) (p : Publication) (written written_proof line text nodes : List ℕ) (old_answer new_answer old_proof new_proof old_root new_root : Option (List ℕ))
     (result : Result (Unit {0}) CommandFault)
-    → IfBoth first second (λ file bytes. IsProved file bytes text set)
-    → written ≡ text → Appends old_answer new_answer written → written_proof ≡ proof_text set → Appends old_proof new_proof written_proof
-    → line ≡ root_line set → OnOk result (Appends old_root new_root line)
-    → OnOk result (IfBoth first second (λ file bytes. (set : List Element) × (text : List ℕ) × IsProved file bytes text set
-    × Appends old_answer new_answer text × Appends old_proof new_proof (proof_text set) × Appends old_root new_root (root_line set)))
-written_whole first second set w p l text a b c d e f (Err fault) proved is whole proof_is proof_whole root_is root_whole = tt
-written_whole None second set w p l text a b c d e f (Ok done) proved is whole proof_is proof_whole root_is root_whole = tt
-written_whole (Some file) None set w p l text a b c d e f (Ok done) proved is whole proof_is proof_whole root_is root_whole = tt
-written_whole (Some file) (Some bytes) set w p l text a b c d e f (Ok done) proved is whole proof_is proof_whole root_is root_whole = (
-  set,
+    → IfBoth first second (λ file bytes. IsProvedIn file bytes edition p text nodes)
+    → written ≡ text → Appends old_answer new_answer written → written_proof ≡ nodes → Appends old_proof new_proof written_proof
+    → line ≡ publication_line p → OnOk result (Appends old_root new_root line)
+    → OnOk result (IfBoth first second (λ file bytes. (p : Publication) × (text : List ℕ) × (nodes : List ℕ) × IsProvedIn file bytes edition p text nodes
+    × Appends old_answer new_answer text × Appends old_proof new_proof nodes × Appends old_root new_root (publication_line p)))
+written_whole first second edition p w v l text nodes a b c d e f (Err fault) proved is whole proof_is proof_whole root_is root_whole = tt
+written_whole None second edition p w v l text nodes a b c d e f (Ok done) proved is whole proof_is proof_whole root_is root_whole = tt
+written_whole (Some file) None edition p w v l text nodes a b c d e f (Ok done) proved is whole proof_is proof_whole root_is root_whole = tt
+written_whole (Some file) (Some bytes) edition p w v l text nodes a b c d e f (Ok done) proved is whole proof_is proof_whole root_is root_whole = (
+  p,
   text,
+  nodes,
   proved,
   subst (λ (t : List ℕ). Appends a b t) is whole,
   subst (λ (t : List ℕ). Appends c d t) proof_is proof_whole,
@@ -95,13 +101,6 @@ written_whole (Some file) (Some bytes) set w p l text a b c d e f (Ok done) prov
 )
 
 -- ---- `ask`
-
--- this text is the answer
-pub answer_is : (known : Option (List ℕ)) (set : List Element) (query text : List ℕ)
-    → IfSome known (λ file. HoldsSet file set) → IsRightAnswer query text set → IfSome known (λ file. IsAnswer file query text)
-answer_is None set query text holds right = tt
-answer_is (Some file) set query text holds right =
-    record { set = set; holds = holds; answer = right }
 
 -- a beginning of it is written
 pub begun_answer : (known : Option (List ℕ)) (query written text : List ℕ) (old new : Option (List ℕ))
@@ -117,35 +116,30 @@ whole_answer known query written text old new (Err fault) answer is whole = tt
 whole_answer None query written text old new (Ok done) answer is whole = tt
 whole_answer (Some file) query written text old new (Ok done) answer is whole = (text, answer, subst (λ (t : List ℕ). Appends old new t) is whole)
 
--- ---- `publish`
-
--- a beginning of the root's line is written
-pub begun_root : (known : Option (List ℕ)) (set : List Element) (line : List ℕ) (old new : Option (List ℕ))
-    → IfSome known (λ file. HoldsSet file set) → line ≡ root_line set → AppendsFront old new line → IfSome known (λ file. IsBegunRoot file old new)
-begun_root None set line old new holds is begun = tt
-begun_root (Some file) set line old new holds is begun = inr (set, holds, subst (λ (t : List ℕ). AppendsFront old new t) is begun)
-
--- it is written whole
-pub whole_root : (known : Option (List ℕ)) (set : List Element) (line : List ℕ) (old new : Option (List ℕ)) (result : Result (Unit {0}) CommandFault)
-    → IfSome known (λ file. HoldsSet file set) → line ≡ root_line set → OnOk result (Appends old new line)
-    → OnOk result (IfSome known (λ file. (set : List Element) × HoldsSet file set × Appends old new (root_line set)))
-whole_root known set line old new (Err fault) holds is whole = tt
-whole_root None set line old new (Ok done) holds is whole = tt
-whole_root (Some file) set line old new (Ok done) holds is whole = (set, holds, subst (λ (t : List ℕ). Appends old new t) is whole)
-
 -- ---- `check`
 
--- the verdict is the one that is owed, where the bytes that were read are those that were checked
-pub owed : (first second third : Option (List ℕ)) (root query answer proof query_read answer_read proof_read : List ℕ) (verdict : Verdict)
+-- what is said of the bytes that were checked is said of those that the readers told
+pub told_of : (P : List ℕ → List ℕ → List ℕ → Type 0) (first second third : Option (List ℕ)) (query answer proof query_read answer_read proof_read : List ℕ)
     → query ≡ query_read → answer ≡ answer_read → proof ≡ proof_read
     → IfSome first (λ left. query_read ≡ left) → IfSome second (λ left. answer_read ≡ left) → IfSome third (λ left. proof_read ≡ left)
-    → IsVerdict query root answer proof verdict
-    → IfThree first second third (λ q a p. IsVerdict q root a p verdict)
-owed None second third root query answer proof x y z verdict e f g q a p is = tt
-owed (Some _) None third root query answer proof x y z verdict e f g q a p is = tt
-owed (Some _) (Some _) None root query answer proof x y z verdict e f g q a p is = tt
-owed (Some u) (Some v) (Some w) root query answer proof x y z verdict e f g q a p is =
-    subst (λ (b : List ℕ). IsVerdict b root v w verdict) (e ∙ q) (subst (λ (b : List ℕ). IsVerdict query root b w verdict) (f ∙ a) (subst (λ (b : List ℕ). IsVerdict query root answer b verdict) (g ∙ p) is))
+    → P query answer proof → IfThree first second third P
+told_of P None second third query answer proof x y z e f g q a p said = tt
+told_of P (Some _) None third query answer proof x y z e f g q a p said = tt
+told_of P (Some _) (Some _) None query answer proof x y z e f g q a p said = tt
+told_of P (Some u) (Some v) (Some w) query answer proof x y z e f g q a p said =
+    subst (λ (b : List ℕ). P b v w) (e ∙ q) (subst (λ (b : List ℕ). P query b w) (f ∙ a) (subst (λ (b : List ℕ). P query answer b) (g ∙ p) said))
+
+-- what a yes says of the bytes that were checked it says of those that the readers told
+pub headline_told : (first second third : Option (List ℕ)) (root query answer proof query_read answer_read proof_read : List ℕ) (verdict : Verdict)
+    (told : Result Verdict AllocError) (result : Result Verdict CommandFault) → told ≡ Ok verdict → result ≡ Ok verdict
+    → query ≡ query_read → answer ≡ answer_read → proof ≡ proof_read
+    → IfSome first (λ left. query_read ≡ left) → IfSome second (λ left. answer_read ≡ left) → IfSome third (λ left. proof_read ≡ left)
+    → ((p : Publication) (report : Report) → IsPublication p → root ≡ root_of p → told ≡ Ok (Yes report) → IsProved p query answer proof ⊎ Clash (IsNodeIn p) (StandsIn proof))
+    → IfThree first second third (λ q a n. (p : Publication) (report : Report) → IsPublication p → root ≡ root_of p → result ≡ Ok (Yes report) → IsProved p q a n ⊎ Clash (IsNodeIn p) (StandsIn n))
+headline_told first second third root query answer proof x y z verdict told result t r e f g q a n says =
+    told_of (λ b c d. (p : Publication) (report : Report) → IsPublication p → root ≡ root_of p → result ≡ Ok (Yes report) → IsProved p b c d ⊎ Clash (IsNodeIn p) (StandsIn d))
+    first second third query answer proof x y z e f g q a n
+    (λ p report is same yes. let yes_verdict : verdict ≡ Yes report = cc in says p report is same (t ∙ ap (λ (v : Verdict). Ok v) yes_verdict))
 
 -- a beginning of its line is written
 pub begun_verdict : (first second third : Option (List ℕ)) (root line : List ℕ) (verdict : Verdict) (old new : Option (List ℕ))

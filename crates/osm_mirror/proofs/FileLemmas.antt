@@ -1,22 +1,13 @@
--- Files that are read whole, and sets that aren't read.
+-- Files that are read whole, and faults of `prove` from those of the calls that it makes.
 use Rattle.std.proofs.Common.{◌≡◌, ◌⊎◌, ℕ, List, [], ◌++◌, Option, None, Some, Result, Ok, Err, IfSome, IfErr, IsErrAnd, inl, inr, refl, sym, subst, ap, ◌∙◌, append-nil}
 use Rattle.std.specs.Io.KnownBytes.{Consumes, IsAtEnd}
 use Rattle.osm_model.specs.Elements.{Element}
-use Rattle.opl_codec.specs.Files.{HoldsSet, IsReaderOrMemory as IsOutsideFile, StopsFile}
-use Rattle.opl_codec.specs.LineReads.{no_memory}
-use Rattle.opl_codec.specs.declared.cause.OplCause.{OplCause}
-use Rattle.opl_codec.specs.declared.cause.OplCause.TheVariants as causes
-use Rattle.opl_codec.specs.declared.fault.LoadFault.{LoadFault}
-use Rattle.ql_syntax.specs.Queries.{Reads}
-use Rattle.ql_syntax.specs.Statements.{Statements}
-use Rattle.osm_check.specs.declared.prove_fault.ProveFault.{ProveFault}
-use Rattle.osm_check.specs.declared.prove_fault.ProveFault.TheVariants as refusals
-use Rattle.osm_mirror.specs.Ask.{IsOutside}
-use Rattle.osm_mirror.specs.Faults.{fault_of_cause, fault_of_load, fault_of_prove}
-use Rattle.osm_mirror.specs.Files.{ExplainsFiles, ExplainsSet, IfBoth, IsOutsideFiles, IsProved}
+use Rattle.osm_index.specs.declared.edition.Edition.{Edition}
+use Rattle.osm_mirror.specs.Ask.{Explains, HoldsTrees, IsAnswer}
+use Rattle.osm_mirror.specs.Files.{ExplainsFiles, IfBoth, IsEndless, IsOutsideFiles, IsUnread}
+use Rattle.osm_mirror.specs.TreeRoots.{IsOutsideOrTrees}
 use Rattle.osm_mirror.specs.declared.command_fault.CommandFault.{CommandFault}
 use Rattle.osm_mirror.specs.declared.command_fault.CommandFault.TheVariants.{Opl, Query, Endless, Clash, TooMany, Memory, Device}
-use Rattle.osm_mirror.proofs.AskLemmas.{outside_cause, unheld}
 
 -- where no byte is left, all bytes were read
 pub whole : (old mid new : Option (List ℕ)) (front : List ℕ) → Consumes old mid front → Consumes mid new [] → IsAtEnd new → IfSome old (λ left. front ≡ left)
@@ -25,100 +16,99 @@ whole (Some file) None new front h k end = absurd h
 whole (Some file) (Some rest) None front h k end = absurd k
 whole (Some file) (Some rest) (Some left) front h k end = sym (h ∙ ap (λ r. front ++ r) (k ∙ end) ∙ append-nil front)
 
--- a set that isn't read: where the file holds one, the fault lies outside
-pub outside_unheld : (known : Option (List ℕ)) (load : LoadFault) (result : Result (Unit {0}) CommandFault)
-    → IsErrAnd result (λ fault. fault ≡ fault_of_load load)
-    → IfSome known (λ file. (objects : List Element) → HoldsSet file objects → IsOutsideFile load.fault.cause)
-    → IfSome known (λ file. (set : List Element) → HoldsSet file set → IfErr result IsOutside)
-outside_unheld None load result told only = tt
-outside_unheld (Some file) load (Ok done) told only = λ set holds. tt
-outside_unheld (Some file) load (Err fault) told only = λ set holds. subst IsOutside (sym told) (outside_cause load load.fault.cause refl (only set holds))
+-- the bytes that were read are those that the reader told
+pub same_read : (second : Option (List ℕ)) (read bytes : List ℕ) → second ≡ Some bytes → IfSome second (λ left. read ≡ left) → read ≡ bytes
+same_read None read bytes is told = cc
+same_read (Some left) read bytes is told = cc
 
-explained_cause : (file : List ℕ) (left : Option (List ℕ)) (load : LoadFault) (cause : OplCause) → load.fault.cause ≡ cause
-    → (load ≡ no_memory) ⊎ StopsFile file left load → ExplainsSet file left (fault_of_cause load cause)
-explained_cause file left load causes.ReaderFailed is why = tt
-explained_cause file left load causes.Memory is why = tt
-explained_cause file left load cause is why = unheld file left load cause is (λ e. cc) (λ e. cc) why
+-- ---- what `ask` would tell of the query's bytes is told by `prove`
+
+-- a fault that lies outside, or in the trees
+pub outside_files : (first second : Option (List ℕ)) (edition : Edition) (result : Result (Unit {0}) CommandFault)
+    → ((bytes : List ℕ) → second ≡ Some bytes → IfSome first (λ file. (text : List ℕ) (answer : IsAnswer file bytes text) → IfErr result (IsOutsideOrTrees answer.set edition)))
+    → IfBoth first second (λ file bytes. (text : List ℕ) (answer : IsAnswer file bytes text) → IfErr result (IsOutsideFiles answer.set edition))
+outside_files None second edition result only = tt
+outside_files (Some file) None edition result only = tt
+outside_files (Some file) (Some bytes) edition (Ok done) only = λ text answer. tt
+outside_files (Some file) (Some bytes) edition (Err fault) only = λ text answer. inl (only bytes refl text answer)
+
+explains_files : (file : List ℕ) (left : Option (List ℕ)) (edition : Edition) (bytes : List ℕ) (fault : CommandFault) → Explains file left edition bytes fault
+    → ExplainsFiles file left edition bytes fault
+explains_files file left edition bytes (Opl load) why = why
+explains_files file left edition bytes (Query refused) why = why
+explains_files file left edition bytes Endless why = absurd why
+explains_files file left edition bytes Clash why = why
+explains_files file left edition bytes TooMany why = why
+explains_files file left edition bytes Memory why = tt
+explains_files file left edition bytes Device why = tt
 
 -- and why it comes
-pub explained_unheld : (known left : Option (List ℕ)) (load : LoadFault) (result : Result (Unit {0}) CommandFault)
-    → IsErrAnd result (λ fault. fault ≡ fault_of_load load)
-    → IfSome known (λ file. (load ≡ no_memory) ⊎ StopsFile file left load)
-    → IfSome known (λ file. IfErr result (ExplainsSet file left))
-explained_unheld None left load result told why = tt
-explained_unheld (Some file) left load (Ok done) told why = tt
-explained_unheld (Some file) left load (Err fault) told why = subst (ExplainsSet file left) (sym told) (explained_cause file left load load.fault.cause refl why)
+pub explained_files : (first left second : Option (List ℕ)) (edition : Edition) (result : Result (Unit {0}) CommandFault)
+    → ((bytes : List ℕ) → second ≡ Some bytes → IfSome first (λ file. IfErr result (Explains file left edition bytes)))
+    → IfBoth first second (λ file bytes. IfErr result (ExplainsFiles file left edition bytes))
+explained_files None left second edition result why = tt
+explained_files (Some file) left None edition result why = tt
+explained_files (Some file) left (Some bytes) edition (Ok done) why = tt
+explained_files (Some file) left (Some bytes) edition (Err fault) why = explains_files file left edition bytes fault (why bytes refl)
 
--- ---- `prove`
+-- ---- a query that isn't read, and a want of memory or a device
 
--- a set that isn't read
-pub outside_unheld_files : (first second : Option (List ℕ)) (load : LoadFault) (result : Result (Unit {0}) CommandFault)
-    → IsErrAnd result (λ fault. fault ≡ fault_of_load load)
-    → IfSome first (λ file. (objects : List Element) → HoldsSet file objects → IsOutsideFile load.fault.cause)
-    → IfBoth first second (λ file bytes. (set : List Element) (text : List ℕ) → IsProved file bytes text set → IfErr result IsOutsideFiles)
-outside_unheld_files None second load result told only = tt
-outside_unheld_files (Some file) None load result told only = tt
-outside_unheld_files (Some file) (Some bytes) load (Ok done) told only = λ set text proved. tt
-outside_unheld_files (Some file) (Some bytes) load (Err fault) told only = λ set text proved.
-    inl (subst IsOutside (sym told) (outside_cause load load.fault.cause refl (only set proved.holds)))
+outside_fault : (set : List Element) (edition : Edition) (fault : CommandFault) → IsUnread fault → IsOutsideFiles set edition fault
+outside_fault set edition fault (inl endless) = inr endless
+outside_fault set edition fault (inr (inl memory)) = inl (subst (IsOutsideOrTrees set edition) (sym memory) tt)
+outside_fault set edition fault (inr (inr device)) = inl (subst (IsOutsideOrTrees set edition) (sym device) tt)
 
--- what explains a fault of `publish` explains it for `prove`
-of_set : (file : List ℕ) (left : Option (List ℕ)) (bytes : List ℕ) (fault : CommandFault) → ExplainsSet file left fault → ExplainsFiles file left bytes fault
-of_set file left bytes (Opl load) why = why
-of_set file left bytes (Query refused) why = absurd why
-of_set file left bytes Endless why = absurd why
-of_set file left bytes Clash why = absurd why
-of_set file left bytes TooMany why = absurd why
-of_set file left bytes Memory why = tt
-of_set file left bytes Device why = tt
+-- the end that a file that isn't read makes
+pub unread : (result : Result (Unit {0}) CommandFault) (fault : CommandFault) → IsErrAnd result (λ told. told ≡ fault) → IsUnread fault → IfErr result IsUnread
+unread (Ok done) fault told why = tt
+unread (Err other) fault told why = subst IsUnread (sym told) why
 
-pub explained_unheld_files : (first left second : Option (List ℕ)) (load : LoadFault) (result : Result (Unit {0}) CommandFault)
-    → IsErrAnd result (λ fault. fault ≡ fault_of_load load)
-    → IfSome first (λ file. (load ≡ no_memory) ⊎ StopsFile file left load)
-    → IfBoth first second (λ file bytes. IfErr result (ExplainsFiles file left bytes))
-explained_unheld_files None left second load result told why = tt
-explained_unheld_files (Some file) left None load result told why = tt
-explained_unheld_files (Some file) left (Some bytes) load (Ok done) told why = tt
-explained_unheld_files (Some file) left (Some bytes) load (Err fault) told why =
-    of_set file left bytes fault (subst (ExplainsSet file left) (sym told) (explained_cause file left load load.fault.cause refl why))
+-- such a fault lies outside the files, whatever they are
+pub outside_unread : (first second : Option (List ℕ)) (edition : Edition) (result : Result (Unit {0}) CommandFault) → IfErr result IsUnread
+    → IfBoth first second (λ file bytes. (text : List ℕ) (answer : IsAnswer file bytes text) → IfErr result (IsOutsideFiles answer.set edition))
+outside_unread None second edition result why = tt
+outside_unread (Some file) None edition result why = tt
+outside_unread (Some file) (Some bytes) edition (Ok done) why = λ text answer. tt
+outside_unread (Some file) (Some bytes) edition (Err fault) why = λ text answer. outside_fault answer.set edition fault why
 
--- an answer that isn't made: where the query reads, the fault lies outside
-pub outside_unproved_files : (first second : Option (List ℕ)) (read : List ℕ) (refusal : ProveFault) (result : Result (Unit {0}) CommandFault)
-    → IfSome second (λ left. read ≡ left) → IsErrAnd result (λ fault. fault ≡ fault_of_prove refusal)
-    → ((statements : Statements) → Reads read statements → refusal ≡ refusals.Memory)
-    → IfBoth first second (λ file bytes. (set : List Element) (text : List ℕ) → IsProved file bytes text set → IfErr result IsOutsideFiles)
-outside_unproved_files None second read refusal result same told only = tt
-outside_unproved_files (Some file) None read refusal result same told only = tt
-outside_unproved_files (Some file) (Some bytes) read refusal (Ok done) same told only = λ set text proved. tt
-outside_unproved_files (Some file) (Some bytes) read refusal (Err fault) same told only = λ set text proved.
-    inl (subst IsOutside (sym (told ∙ ap fault_of_prove (only proved.answer.statements (subst (λ (b : List ℕ). Reads b proved.answer.statements) (sym same) proved.answer.reads)))) tt)
+explained_fault : (file : List ℕ) (left : Option (List ℕ)) (edition : Edition) (bytes : List ℕ) (fault : CommandFault) → IsUnread fault
+    → (fault ≡ Endless → HoldsTrees file edition × IsEndless bytes) → ExplainsFiles file left edition bytes fault
+explained_fault file left edition bytes fault (inl endless) long = subst (ExplainsFiles file left edition bytes) (sym endless) (long endless)
+explained_fault file left edition bytes fault (inr (inl memory)) long = subst (ExplainsFiles file left edition bytes) (sym memory) tt
+explained_fault file left edition bytes fault (inr (inr device)) long = subst (ExplainsFiles file left edition bytes) (sym device) tt
+
+-- a query's file without an end is so long, and comes after the trees
+pub explained_unread : (first left second : Option (List ℕ)) (edition : Edition) (fault : CommandFault) (result : Result (Unit {0}) CommandFault)
+    → IsErrAnd result (λ told. told ≡ fault) → IsUnread fault
+    → IfSome first (λ file. HoldsTrees file edition) → IfSome second (λ bytes. fault ≡ Endless → IsEndless bytes)
+    → IfBoth first second (λ file bytes. IfErr result (ExplainsFiles file left edition bytes))
+explained_unread None left second edition fault result told why holds long = tt
+explained_unread (Some file) left None edition fault result told why holds long = tt
+explained_unread (Some file) left (Some bytes) edition fault (Ok done) told why holds long = tt
+explained_unread (Some file) left (Some bytes) edition fault (Err other) told why holds long =
+    subst (ExplainsFiles file left edition bytes) (sym told) (explained_fault file left edition bytes fault why (λ endless. (holds, long endless)))
 
 -- an end for want of memory, or for a device
 abbrev pub IsFailed : CommandFault → Type 0
 IsFailed fault = (fault ≡ Memory) ⊎ (fault ≡ Device)
 
-pub failed : (result : Result (Unit {0}) CommandFault) (told : CommandFault) → IsErrAnd result (λ fault. fault ≡ told) → IsFailed told → IfErr result IsFailed
-failed (Ok done) told is why = tt
-failed (Err fault) told is why = subst IsFailed (sym is) why
+pub failed : (result : Result (Unit {0}) CommandFault) (fault : CommandFault) → IsErrAnd result (λ told. told ≡ fault) → IsFailed fault → IfErr result IsFailed
+failed (Ok done) fault told why = tt
+failed (Err other) fault told why = subst IsFailed (sym told) why
 
 pub device_failed : (result : Result (Unit {0}) CommandFault) → IfErr result (λ fault. fault ≡ Device) → IfErr result IsFailed
 device_failed (Ok done) is = tt
 device_failed (Err fault) is = inr is
 
--- such a fault lies outside the files, whatever they are
-pub outside_failed : (first second : Option (List ℕ)) (result : Result (Unit {0}) CommandFault) → IfErr result IsFailed
-    → IfBoth first second (λ file bytes. (set : List Element) (text : List ℕ) → IsProved file bytes text set → IfErr result IsOutsideFiles)
-outside_failed None second result why = tt
-outside_failed (Some file) None result why = tt
-outside_failed (Some file) (Some bytes) (Ok done) why = λ set text proved. tt
-outside_failed (Some file) (Some bytes) (Err fault) why = λ set text proved.
-    inl (elim why [ inl memory ↦ subst IsOutside (sym memory) tt | inr device ↦ subst IsOutside (sym device) tt ])
+pub outside_failed : (first second : Option (List ℕ)) (edition : Edition) (result : Result (Unit {0}) CommandFault) → IfErr result IsFailed
+    → IfBoth first second (λ file bytes. (text : List ℕ) (answer : IsAnswer file bytes text) → IfErr result (IsOutsideFiles answer.set edition))
+outside_failed first second edition (Ok done) why = outside_unread first second edition (Ok done) tt
+outside_failed first second edition (Err fault) why = outside_unread first second edition (Err fault) (inr why)
 
--- and it is explained
-pub explained_failed : (first left second : Option (List ℕ)) (result : Result (Unit {0}) CommandFault) → IfErr result IsFailed
-    → IfBoth first second (λ file bytes. IfErr result (ExplainsFiles file left bytes))
-explained_failed None left second result why = tt
-explained_failed (Some file) left None result why = tt
-explained_failed (Some file) left (Some bytes) (Ok done) why = tt
-explained_failed (Some file) left (Some bytes) (Err fault) why =
-    elim why [ inl memory ↦ subst (ExplainsFiles file left bytes) (sym memory) tt | inr device ↦ subst (ExplainsFiles file left bytes) (sym device) tt ]
+pub explained_failed : (first left second : Option (List ℕ)) (edition : Edition) (result : Result (Unit {0}) CommandFault) → IfErr result IsFailed
+    → IfBoth first second (λ file bytes. IfErr result (ExplainsFiles file left edition bytes))
+explained_failed None left second edition result why = tt
+explained_failed (Some file) left None edition result why = tt
+explained_failed (Some file) left (Some bytes) edition (Ok done) why = tt
+explained_failed (Some file) left (Some bytes) edition (Err fault) why = explained_fault file left edition bytes fault (inr why)
+    (λ endless. absurd (elim why [ inl memory ↦ cc | inr device ↦ cc ]))

@@ -1,53 +1,44 @@
 -- What the command `ask` answers, and when it answers nothing.
 -- Source: this project.
-use Rattle.std.specs.Prelude.{◌≡◌, ◌≢◌, ℕ, ◌≤◌, ◌^◌, ◌⊎◌, List, Option, length, ⊤}
+use Rattle.std.specs.Prelude.{◌⊎◌, ℕ, List, Option}
 use Rattle.std.specs.Io.KnownBytes.{Keeps}
 use Rattle.osm_model.specs.Elements.{Element}
-use Rattle.opl_codec.specs.Files.{HoldsSet, StopsFile}
-use Rattle.opl_codec.specs.declared.cause.OplCause.TheVariants as causes
-use Rattle.opl_codec.specs.declared.fault.LoadFault.{LoadFault}
-use Rattle.ql_syntax.specs.Queries.{HasFault}
-use Rattle.osm_check.specs.Verdicts.{IsAnswer as IsRightAnswer}
-use Rattle.osm_mirror.specs.declared.command_fault.CommandFault.{CommandFault}
-use Rattle.osm_mirror.specs.declared.command_fault.CommandFault.TheVariants.{Opl, Query, Endless, Clash, TooMany, Memory, Device}
+use Rattle.opl_codec.specs.Files.{HoldsSet}
+use Rattle.tree_node.specs.Shelves.{IsClashFree}
+use Rattle.osm_index.specs.Publications.{IsNodeIn, Publication}
+use Rattle.osm_index.specs.declared.edition.Edition.{Edition}
+use Rattle.osm_index.specs.declared.edition.Edition.TheVariants.{Two}
+use Rattle.ql_syntax.specs.Queries.{HasFault, Reads}
+use Rattle.ql_syntax.specs.Statements.{Statements}
+use Rattle.ql_plain.specs.Meanings.{Means}
+use Rattle.osm_mirror.specs.TreeRoots.{ExplainsTrees, IsPublicationIn}
 use Rattle.osm_mirror.specs.Written.{AppendsFront}
+use Rattle.osm_mirror.specs.declared.command_fault.CommandFault.{CommandFault}
+use Rattle.osm_mirror.specs.declared.command_fault.CommandFault.TheVariants.{Query}
 
 -- the file holds a set, the bytes read as a query, and this text is its meaning over the set
 pub record IsAnswer (file query text : List ℕ) : Type 0 where
   pub set : List Element
   pub holds : HoldsSet file set
-  pub answer : IsRightAnswer query text set
+  pub statements : Statements
+  pub reads : Reads query statements
+  pub means : Means set statements text
 
--- the bytes are so many that a reader of them may be told to have no end
-abbrev pub IsEndless : List ℕ → Type 0
-IsEndless bytes = 2 ^ 32 ≤ length bytes
+-- the edition in which `ask` makes and checks a proof
+abbrev pub ask_edition : Edition
+ask_edition = Two 0
 
--- no set was read of the file, of which this is left: its first line that can't be read is told with the byte
--- in it, or the line within which the reader was found to have no end
-pub record IsUnheld (file : List ℕ) (left : Option (List ℕ)) (load : LoadFault) : Type 0 where
-  pub stops : StopsFile file left load
-  pub unfailed : load.fault.cause ≢ causes.ReaderFailed
-  pub real : load.fault.cause ≢ causes.Memory
+-- the file holds a set whose trees can be made in this edition: few enough entries, and no two different nodes
+-- with one digest
+pub record HoldsTrees (file : List ℕ) (edition : Edition) : Type 0 where
+  pub p : Publication
+  pub published : IsPublicationIn file edition p
+  pub no_clash : IsClashFree (IsNodeIn p)
 
--- why each fault comes: the input, of which this is left, is looked at before the query
-abbrev pub Explains : (file : List ℕ) (left : Option (List ℕ)) (query : List ℕ) → CommandFault → Type 0
-Explains file left query (Opl load) = IsUnheld file left load
-Explains file left query (Query refused) = ((set : List Element) × HoldsSet file set) × HasFault query refused
-Explains file left query Endless = ⊥
-Explains file left query Clash = ⊥
-Explains file left query TooMany = ⊥
-Explains file left query Memory = ⊤
-Explains file left query Device = ⊤
-
--- the fault lies outside file and query: the reader never ended, or memory or a device failed
-abbrev pub IsOutside : CommandFault → Type 0
-IsOutside (Opl load) = load.fault.cause ≡ causes.Endless
-IsOutside (Query refused) = ⊥
-IsOutside Endless = ⊥
-IsOutside Clash = ⊥
-IsOutside TooMany = ⊥
-IsOutside Memory = ⊤
-IsOutside Device = ⊤
+-- why each fault comes: the input, of which this is left, is looked at first, then its trees, and then the query
+abbrev pub Explains : (file : List ℕ) (left : Option (List ℕ)) (edition : Edition) (query : List ℕ) → CommandFault → Type 0
+Explains file left edition query (Query refused) = HoldsTrees file edition × HasFault query refused
+Explains file left edition query fault = ExplainsTrees file left edition fault
 
 -- the output has gained nothing, or a beginning of the answer
 abbrev pub IsBegun : (file query : List ℕ) (old new : Option (List ℕ)) → Type 0

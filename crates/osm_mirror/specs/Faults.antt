@@ -3,8 +3,8 @@
 use Rattle.opl_codec.specs.declared.cause.OplCause.{OplCause}
 use Rattle.opl_codec.specs.declared.cause.OplCause.TheVariants as causes
 use Rattle.opl_codec.specs.declared.fault.LoadFault.{LoadFault}
-use Rattle.osm_check.specs.declared.prove_fault.ProveFault.{ProveFault}
-use Rattle.osm_check.specs.declared.prove_fault.ProveFault.TheVariants as refusals
+use Rattle.osm_prove.specs.declared.prove_fault.ProveFault.{ProveFault}
+use Rattle.osm_prove.specs.declared.prove_fault.ProveFault.TheVariants as refusals
 use Rattle.osm_index.specs.declared.fault.IndexFault.{IndexFault}
 use Rattle.osm_index.specs.declared.fault.IndexFault.TheVariants as indexes
 use Rattle.osm_mirror.specs.declared.command_fault.CommandFault.{CommandFault}

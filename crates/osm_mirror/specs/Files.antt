@@ -1,17 +1,19 @@
--- What the commands `publish`, `prove` and `check` write, and when they write nothing.
+-- What the commands `prove` and `check` write, and when they write nothing.
 -- Source: this project.
-use Rattle.std.specs.Prelude.{◌≡◌, ℕ, ◌⊎◌, List, Option, Some, None, ⊤}
+use Rattle.std.specs.Prelude.{◌≡◌, ℕ, ◌≤◌, ◌^◌, ◌⊎◌, List, Option, Some, None, length, ⊤}
 use Rattle.std.specs.Io.KnownBytes.{Keeps}
 use Rattle.osm_model.specs.Elements.{Element}
-use Rattle.opl_codec.specs.Files.{HoldsSet}
-use Rattle.osm_check.specs.Roots.{proof_text}
-use Rattle.osm_check.specs.Verdicts.{IsAnswer as IsRightAnswer, IsVerdict}
+use Rattle.osm_index.specs.Publications.{Publication}
+use Rattle.osm_index.specs.declared.edition.Edition.{Edition}
+use Rattle.osm_prove.specs.Proved.{IsProved}
+use Rattle.osm_check.specs.Verdicts.{IsVerdict}
 use Rattle.osm_check.specs.declared.verdict.Verdict.{Verdict}
-use Rattle.osm_mirror.specs.Ask.{Explains, IsEndless, IsOutside, IsUnheld}
-use Rattle.osm_mirror.specs.declared.command_fault.CommandFault.{CommandFault}
-use Rattle.osm_mirror.specs.declared.command_fault.CommandFault.TheVariants.{Opl, Query, Endless, Clash, TooMany, Memory, Device}
-use Rattle.osm_mirror.specs.RootLines.{root_line, verdict_line}
+use Rattle.osm_mirror.specs.Ask.{Explains, HoldsTrees}
+use Rattle.osm_mirror.specs.RootLines.{verdict_line}
+use Rattle.osm_mirror.specs.TreeRoots.{IsOutsideOrTrees, IsPublicationIn, publication_line}
 use Rattle.osm_mirror.specs.Written.{AppendInTurn, AppendsFront, IsUntouched, Output}
+use Rattle.osm_mirror.specs.declared.command_fault.CommandFault.{CommandFault}
+use Rattle.osm_mirror.specs.declared.command_fault.CommandFault.TheVariants.{Endless, Memory, Device}
 
 -- what is said of two readers' bytes, where both tell them
 abbrev pub IfBoth : Option (List ℕ) → Option (List ℕ) → (List ℕ → List ℕ → Type 0) → Type 0
@@ -24,50 +26,32 @@ abbrev pub IfThree : Option (List ℕ) → Option (List ℕ) → Option (List �
 IfThree None second third P = ⊤
 IfThree (Some a) second third P = IfBoth second third (P a)
 
--- ---- `publish`
-
--- why each fault of `publish` comes: no set is read of the input, of which this is left, or the fault lies
--- outside it
-abbrev pub ExplainsSet : (file : List ℕ) (left : Option (List ℕ)) → CommandFault → Type 0
-ExplainsSet file left (Opl load) = IsUnheld file left load
-ExplainsSet file left (Query refused) = ⊥
-ExplainsSet file left Endless = ⊥
-ExplainsSet file left Clash = ⊥
-ExplainsSet file left TooMany = ⊥
-ExplainsSet file left Memory = ⊤
-ExplainsSet file left Device = ⊤
-
--- the output has gained nothing, or a beginning of the root's line
-abbrev pub IsBegunRoot : (file : List ℕ) (old new : Option (List ℕ)) → Type 0
-IsBegunRoot file old new = Keeps old new ⊎ ((set : List Element) × HoldsSet file set × AppendsFront old new (root_line set))
+-- the bytes are so many that a reader of them may be told to have no end
+abbrev pub IsEndless : List ℕ → Type 0
+IsEndless bytes = 2 ^ 32 ≤ length bytes
 
 -- ---- `prove`
 
--- the file holds this set, the bytes read as a query, and this text is its meaning over the set
-pub record IsProved (file query text : List ℕ) (set : List Element) : Type 0 where
-  pub holds : HoldsSet file set
-  pub answer : IsRightAnswer query text set
+-- a publication in this edition of a set that the file holds, the answer to a query over it, and the proof of it
+pub record IsProvedIn (file query : List ℕ) (edition : Edition) (p : Publication) (answer proof : List ℕ) : Type 0 where
+  pub published : IsPublicationIn file edition p
+  pub proved : IsProved p query answer proof
 
--- the fault lies outside the files' bytes: also a query's file that never ended
-abbrev pub IsOutsideFiles : CommandFault → Type 0
-IsOutsideFiles fault = IsOutside fault ⊎ (fault ≡ Endless)
+-- the fault lies outside the files' bytes (also a query's file that never ended), or the trees of this set can't be made
+abbrev pub IsOutsideFiles : List Element → Edition → CommandFault → Type 0
+IsOutsideFiles set edition fault = IsOutsideOrTrees set edition fault ⊎ (fault ≡ Endless)
 
 -- why each fault of `prove` comes, where this is left of the file
-abbrev pub ExplainsFiles : (file : List ℕ) (left : Option (List ℕ)) (query : List ℕ) → CommandFault → Type 0
-ExplainsFiles file left query (Opl load) = IsUnheld file left load
-ExplainsFiles file left query (Query refused) = Explains file left query (Query refused)
-ExplainsFiles file left query Endless = IsEndless query
-ExplainsFiles file left query Clash = ⊥
-ExplainsFiles file left query TooMany = ⊥
-ExplainsFiles file left query Memory = ⊤
-ExplainsFiles file left query Device = ⊤
+abbrev pub ExplainsFiles : (file : List ℕ) (left : Option (List ℕ)) (edition : Edition) (query : List ℕ) → CommandFault → Type 0
+ExplainsFiles file left edition query Endless = HoldsTrees file edition × IsEndless query
+ExplainsFiles file left edition query fault = Explains file left edition query fault
 
 -- the three writers have gained nothing, or, in this order, the answer, its proof and the root's line, as far as it went
-abbrev pub IsBegunProof : (file query : List ℕ) (answer proof root : Output) → Type 0
-IsBegunProof file query answer proof root =
+abbrev pub IsBegunProof : (file query : List ℕ) (edition : Edition) (answer proof root : Output) → Type 0
+IsBegunProof file query edition answer proof root =
     (IsUntouched answer × IsUntouched proof × IsUntouched root)
-    ⊎ ((set : List Element) × (text : List ℕ) × IsProved file query text set
-    × AppendInTurn (record { text = text; output = answer }) (record { text = proof_text set; output = proof }) (record { text = root_line set; output = root }))
+    ⊎ ((p : Publication) × (text : List ℕ) × (nodes : List ℕ) × IsProvedIn file query edition p text nodes
+    × AppendInTurn (record { text = text; output = answer }) (record { text = nodes; output = proof }) (record { text = publication_line p; output = root }))
 
 -- ---- `check`
 

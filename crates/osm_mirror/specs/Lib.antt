@@ -1,8 +1,8 @@
 pub mod Written
 pub mod Statuses
 pub mod Faults
-pub mod Ask
-pub mod Files
 pub mod RootLines
 pub mod Editions
 pub mod TreeRoots
+pub mod Ask
+pub mod Files

@@ -3,18 +3,12 @@
 use Rattle.std.specs.Prelude.{ℕ, List, [], ◌∷◌, ◌++◌}
 use Rattle.hex.specs.Hex.{encode_lower}
 use Rattle.osm_model.specs.Bytes.{line_feed}
-use Rattle.osm_model.specs.Elements.{Element}
-use Rattle.osm_check.specs.Roots.{root_of}
 use Rattle.osm_check.specs.VerdictTexts.{verdict_text}
 use Rattle.osm_check.specs.declared.verdict.Verdict.{Verdict}
 
 -- the digits of a digest, in lower case, and LF
 abbrev pub digest_line : List ℕ → List ℕ
 digest_line digest = encode_lower digest ++ line_feed ∷ []
-
--- the root of a set
-abbrev pub root_line : List Element → List ℕ
-root_line objects = digest_line (root_of objects)
 
 -- a verdict and LF
 abbrev pub verdict_line : Verdict → List ℕ

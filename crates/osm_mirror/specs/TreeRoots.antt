@@ -1,13 +1,14 @@
--- What `publish --edition` writes, and when it writes nothing.
+-- What `publish` writes, and when it writes nothing.
 -- Source: this project.
-use Rattle.std.specs.Prelude.{◌⊎◌, ℕ, List, Option, ⊤}
-use Rattle.std.specs.Io.KnownBytes.{Appends, Keeps}
+use Rattle.std.specs.Prelude.{◌≡◌, ◌≢◌, ◌⊎◌, ℕ, List, Option, ⊤}
+use Rattle.std.specs.Io.KnownBytes.{Keeps}
 use Rattle.osm_model.specs.Elements.{Element}
-use Rattle.opl_codec.specs.Files.{HoldsSet}
+use Rattle.opl_codec.specs.Files.{HoldsSet, StopsFile}
+use Rattle.opl_codec.specs.declared.cause.OplCause.TheVariants as causes
+use Rattle.opl_codec.specs.declared.fault.LoadFault.{LoadFault}
 use Rattle.tree_node.specs.Outcomes.{Clash as HasClash}
 use Rattle.osm_index.specs.Publications.{HasTooMany, IsNodeIn, IsPublicationOf, Publication, root_of}
 use Rattle.osm_index.specs.declared.edition.Edition.{Edition}
-use Rattle.osm_mirror.specs.Ask.{IsOutside, IsUnheld}
 use Rattle.osm_mirror.specs.RootLines.{digest_line}
 use Rattle.osm_mirror.specs.Written.{AppendsFront}
 use Rattle.osm_mirror.specs.declared.command_fault.CommandFault.{CommandFault}
@@ -27,9 +28,17 @@ publication_line p = digest_line (root_of p)
 abbrev pub HasClashingNodes : List Element → Edition → Type 0
 HasClashingNodes set edition = (p : Publication) × IsPublicationOf set edition p × HasClash (IsNodeIn p) (IsNodeIn p)
 
--- the fault lies outside the file, or the trees of this set can't be made
+-- no set was read of the file, of which this is left: its first line that can't be read is told with the byte
+-- in it, or the line within which the reader was found to have no end
+pub record IsUnheld (file : List ℕ) (left : Option (List ℕ)) (load : LoadFault) : Type 0 where
+  pub stops : StopsFile file left load
+  pub unfailed : load.fault.cause ≢ causes.ReaderFailed
+  pub real : load.fault.cause ≢ causes.Memory
+
+-- the fault lies outside the file (its reader never ended, or memory or a device failed), or the trees of this set
+-- can't be made
 abbrev pub IsOutsideOrTrees : List Element → Edition → CommandFault → Type 0
-IsOutsideOrTrees set edition (Opl load) = IsOutside (Opl load)
+IsOutsideOrTrees set edition (Opl load) = load.fault.cause ≡ causes.Endless
 IsOutsideOrTrees set edition (Query refused) = ⊥
 IsOutsideOrTrees set edition Endless = ⊥
 IsOutsideOrTrees set edition Clash = HasClashingNodes set edition

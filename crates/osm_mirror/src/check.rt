@@ -1,8 +1,12 @@
 //! The command `check ROOT QUERYFILE ANSWERFILE PROOFFILE`.
 
-ghost use Rattle.std.specs.Prelude.{◌≡◌, ◌≢◌, IfErr, IfOk, OnOk, true};
+ghost use Rattle.std.specs.Prelude.{◌≡◌, ◌≢◌, ◌⊎◌, IfErr, IfOk, Ok, OnOk, true};
 ghost use Rattle.std.specs.Io.KnownBytes.{Appends, Keeps};
-ghost use Rattle.osm_check.specs.Verdicts.{IsVerdict};
+ghost use Rattle.tree_node.specs.Outcomes.{Clash};
+ghost use Rattle.osm_index.specs.Publications.{IsNodeIn, IsPublication, Publication, root_of};
+ghost use Rattle.osm_prove.specs.Proved.{IsProved};
+ghost use Rattle.ql_eval.specs.declared.evaluation.Report.{Report};
+ghost use Rattle.osm_check.specs.Verdicts.{IsVerdict, IsYes, StandsIn};
 ghost use Rattle.osm_mirror.specs.Files.{ExplainsThree, IfThree, IsBegunVerdict, IsUnread};
 ghost use Rattle.osm_mirror.specs.RootLines.{verdict_line};
 
@@ -16,7 +20,8 @@ use std::alloc::Global;
 use std::io::Read;
 
 /// Reads the query's bytes, then the answer's, then the proof's, decides by the root and them alone whether
-/// the answer is right, and writes the verdict: `yes`, or `no` and the reason, and LF.
+/// the answer is right, and writes the verdict: `yes`, or `no` and the reason, and LF. The root may be of
+/// either edition.
 ///
 /// # Errors
 ///
@@ -33,6 +38,16 @@ pub fn check<Q: Read, A: Read, P: Read, W: Outlet>(
     proof: &mut P,
     output: &mut W,
 ) -> Result<Verdict, CommandFault>
+    // The headline: under the root of any publication, a yes says that the answer is the query's meaning over its
+    // set, and the proof the one proof of it, unless a node of the publication and a node that stands in the proof
+    // are two with one digest.
+    ensures headline { IfThree (Q.remaining query.old) (A.remaining answer.old) (P.remaining proof.old)
+        (λ query_bytes answer_bytes proof_bytes. (p : Publication) (report : Report) → IsPublication p → root.now.0 ≡ root_of p
+        → result ≡ Ok (Verdict.Yes report) → IsProved p query_bytes answer_bytes proof_bytes ⊎ Clash (IsNodeIn p) (StandsIn proof_bytes)) }
+    // An honest mirror is always accepted.
+    ensures honest { IfThree (Q.remaining query.old) (A.remaining answer.old) (P.remaining proof.old)
+        (λ query_bytes answer_bytes proof_bytes. (p : Publication) → IsPublication p → root.now.0 ≡ root_of p
+        → IsProved p query_bytes answer_bytes proof_bytes → IfOk result IsYes) }
     // The verdict is the one that is owed, and the output has gained exactly its line.
     ensures told { IfOk result (λ verdict. IfThree (Q.remaining query.old) (A.remaining answer.old) (P.remaining proof.old)
         (λ query_bytes answer_bytes proof_bytes. IsVerdict query_bytes root.now.0 answer_bytes proof_bytes verdict)

@@ -6,8 +6,8 @@ ghost use Rattle.osm_mirror.specs.declared.command_fault.CommandFault.TheVariant
 
 use crate::status::Status;
 use opl_codec::{LoadFault, OplCause};
-use osm_check::ProveFault;
 use osm_index::IndexFault;
+use osm_prove::ProveFault;
 use ql_syntax::QlFault;
 use std::alloc::AllocError;
 use thiserror::Error;

@@ -1,9 +1,8 @@
 //! The program `osm_mirror`: an Overpass query server whose answers can be checked.
 //!
 //! Each command is a function over readers and writers that it is lent: [`ask`](ask::ask),
-//! [`publish`](publish::publish), [`publish_trees`](publish_trees::publish_trees), [`prove`](prove::prove),
-//! [`check`](check::check). What stands here fetches the words, lends the command that they ask for its
-//! files, tells of a fault and ends with the status.
+//! [`publish`](publish::publish), [`prove`](prove::prove), [`check`](check::check). What stands here fetches
+//! the words, lends the command that they ask for its files, tells of a fault and ends with the status.
 #![tactic(auto)]
 
 pub mod ask;
@@ -14,7 +13,7 @@ pub mod outlet;
 pub mod output_file;
 pub mod prove;
 pub mod publish;
-pub mod publish_trees;
+pub mod read_snapshot;
 pub mod read_whole;
 pub mod root_line;
 pub mod status;
@@ -31,7 +30,6 @@ use crate::input_file::InputFile;
 use crate::output_file::OutputFile;
 use crate::prove::prove;
 use crate::publish::publish;
-use crate::publish_trees::publish_trees;
 use crate::status::Status;
 use crate::tree_edition::tree_edition;
 use command_line::{Job, WordsFault, read_words};
@@ -71,25 +69,24 @@ fn done(rt: &HostRuntime, job: Job) -> Status {
         Job::Ask { query } => ended(rt, ask(alloc, query.as_bytes(), &mut rt.stdin(), output)),
         Job::Publish { file, edition } => {
             let input = &mut InputFile::new(rt, &file);
-            match edition {
-                None => ended(rt, publish(alloc, input, output)),
-                Some(words) => {
-                    let edition = tree_edition(words);
-                    ended(rt, publish_trees(alloc, input, edition, output))
-                }
-            }
+            ended(rt, publish(alloc, input, tree_edition(edition), output))
         }
         Job::Prove {
             file,
             query_file,
             answer_file,
             proof_file,
+            edition,
         } => {
             let input = &mut InputFile::new(rt, &file);
             let query = &mut InputFile::new(rt, &query_file);
             let answer = &mut OutputFile::new(rt, &answer_file);
             let proof = &mut OutputFile::new(rt, &proof_file);
-            ended(rt, prove(alloc, input, query, answer, proof, output))
+            let edition = tree_edition(edition);
+            ended(
+                rt,
+                prove(alloc, input, query, edition, answer, proof, output),
+            )
         }
         Job::Check {
             root,

@@ -1,135 +1,212 @@
-//! The commands over files.
+//! The commands over files. Roots, and lengths and digests of proofs, are those that an independent program
+//! computed.
 
-use super::{NarrowWriter, SlowReader, Stop, TWO_NODES};
+use super::{ALL_KINDS, FIRST, FIRST_ANSWER, NarrowWriter, SlowReader, Stop, TWO_NODES};
 use crate::check::check;
 use crate::command_fault::CommandFault;
 use crate::prove::prove;
 use crate::publish::publish;
-use crate::publish_trees::publish_trees;
 use crate::status::Status;
 use osm_check::{Digest, Verdict};
 use osm_index::Edition;
 use std::alloc::Global;
 use std::process::Abort;
 use std::test::Fail;
+use tree_node::digest_of;
 
-/// The root of the two nodes, which an independent program computed, and LF.
-const ROOT: &str = "b7a6a32b3587ef7b820f351eb24607aa8e30178ccbad9937961aef9db5547269\n";
+const SEVENTH: Edition = Edition::Two { sequence: 7 };
 
-const QUERY: &str = "node(1);out;";
+/// The root of the objects of all kinds in the first edition, and LF.
+const ROOT_ONE: &str = "75a22f59df64013528dcb5e169ed9fd2305ff00f4b700f271af080582a6e0671\n";
 
-const ANSWER: &str = "n1 Thighway=crossing x13.4 y52.5\n";
+/// The same in the second edition, with sequence number 7.
+const ROOT_TWO: &str = "271e49a5432b1f23937721950d20e4003dfb01c994b9332797dac312f4e5a077\n";
 
-const PROOF: &str = "n1 v0 dV c0 t i0 u Thighway=crossing x13.4 y52.5\n\
-    n2 v0 dV c0 t i0 u T x13.4000001 y52.5\n";
-
-fn root(alloc: Global) -> Result<Digest, Fail> {
-    let bytes = hex::decode(alloc, &ROOT.as_bytes()[..64])?;
-    Ok(Digest::from_slice(&bytes).ok_or("no 32 bytes")?)
+/// What `prove` writes: the answer, the proof and the root's line.
+#[derive(Drop)]
+struct Written {
+    answer: Vec<u8>,
+    proof: Vec<u8>,
+    line: Vec<u8>,
 }
 
-/// A reader of eleven bytes a call, which fails at one call (0: at none).
-fn slow(text: &str, fails_at: usize) -> SlowReader<'_> {
-    SlowReader {
-        left: text.as_bytes(),
-        at_once: 11,
-        fails_at,
-        calls: 0,
-    }
+/// What `prove` makes of the objects of all kinds and this query.
+fn made(alloc: Global, query: &str, edition: Edition) -> Result<Written, CommandFault> {
+    let mut answer = Vec::new(alloc);
+    let mut proof = Vec::new(alloc);
+    let mut line = Vec::new(alloc);
+    let input = &mut ALL_KINDS.as_bytes();
+    let query = &mut query.as_bytes();
+    prove(
+        alloc,
+        input,
+        query,
+        edition,
+        &mut answer,
+        &mut proof,
+        &mut line,
+    )?;
+    Ok(Written {
+        answer,
+        proof,
+        line,
+    })
+}
+
+/// The root whose digits and LF are these.
+fn root(alloc: Global, line: &[u8]) -> Result<Digest, Fail> {
+    let digits = line.get(..64).ok_or("no 64 digits")?;
+    let bytes = hex::decode(alloc, digits)?;
+    Ok(Digest::from_slice(&bytes).ok_or("no 32 bytes")?)
 }
 
 #[test]
 fn publishes_roots(rt: HostRuntime) -> Result<(), Fail> {
-    let empty = "e3b0c44298fc1c149afbf4c8996fb92427ae41e4649b934ca495991b7852b855\n";
-    for (file, want) in [
-        ("", empty),
-        (TWO_NODES, ROOT),
+    for (file, edition, want) in [
         (
-            "n2 y52.5 x13.4000001\nn1 x13.40 Thighway=crossing y52.5",
-            ROOT,
+            "",
+            Edition::One,
+            "d15409ab6166f71beaff4544e4d62e1ff9fd4442699d90b7a114f26e4c8cb88f\n",
         ),
-    ] {
-        let mut output = Vec::new(rt.alloc());
-        publish(rt.alloc(), &mut file.as_bytes(), &mut output)?;
-        assert_eq!(rt; output.as_slice(), want.as_bytes(), "{file}");
-    }
-    Ok(())
-}
-
-/// The root of no objects over its trees in the first edition, which an independent program computed, and LF.
-const EMPTY_ONE: &str = "d15409ab6166f71beaff4544e4d62e1ff9fd4442699d90b7a114f26e4c8cb88f\n";
-
-#[test]
-fn publishes_tree_roots(rt: HostRuntime) -> Result<(), Fail> {
-    for (edition, want) in [
-        (Edition::One, EMPTY_ONE),
         (
+            "",
             Edition::Two { sequence: 0 },
             "8b3c46a64fa8554d81785eb48d429955ef309af5117c1c0c3db086f1c6535413\n",
         ),
         (
-            Edition::Two { sequence: 7 },
+            "",
+            SEVENTH,
             "002810b7b77132709f366506ea47ab7df3893c60f1095b26bf69b74ad9b66822\n",
         ),
+        (ALL_KINDS, Edition::One, ROOT_ONE),
+        (ALL_KINDS, SEVENTH, ROOT_TWO),
     ] {
         let mut output = Vec::new(rt.alloc());
-        publish_trees(rt.alloc(), &mut "".as_bytes(), edition, &mut output)?;
-        assert_eq!(rt; output.as_slice(), want.as_bytes());
+        publish(rt.alloc(), &mut file.as_bytes(), edition, &mut output)?;
+        assert_eq!(rt; output.as_slice(), want.as_bytes(), "{file}");
     }
-    Ok(())
-}
-
-/// Out of memory, or the whole root: also where an allocation is refused (tests/system).
-#[test]
-fn tree_roots_within_memory(rt: HostRuntime) -> Result<(), Fail> {
-    let alloc = rt.alloc();
-    let mut output = Vec::new(alloc);
-    // The output is a vector, so when it is out of memory that is a device's fault.
-    match publish_trees(alloc, &mut "".as_bytes(), Edition::One, &mut output) {
-        Ok(()) => assert_eq!(rt; output.as_slice(), EMPTY_ONE.as_bytes()),
-        Err(CommandFault::Memory | CommandFault::Device) => assert_eq!(rt; output.len(), 0),
-        Err(fault) => panic!(rt; "{fault}"),
-    }
-    output.clear();
-    publish_trees(alloc, &mut "".as_bytes(), Edition::One, &mut output)?;
-    assert_eq!(rt; output.as_slice(), EMPTY_ONE.as_bytes());
     Ok(())
 }
 
 #[test]
 fn proves(rt: HostRuntime) -> Result<(), Fail> {
     let alloc = rt.alloc();
-    let mut answer = Vec::new(alloc);
-    let mut proof = Vec::new(alloc);
-    let mut output = Vec::new(alloc);
-    let input = &mut TWO_NODES.as_bytes();
-    let query = &mut QUERY.as_bytes();
-    prove(alloc, input, query, &mut answer, &mut proof, &mut output)?;
-    assert_eq!(rt; answer.as_slice(), ANSWER.as_bytes());
-    assert_eq!(rt; proof.as_slice(), PROOF.as_bytes());
-    assert_eq!(rt; output.as_slice(), ROOT.as_bytes());
+    for (edition, line, len, digest) in [
+        (
+            Edition::One,
+            ROOT_ONE,
+            439,
+            "72fa6fa244d82b40df81b8117478cad772cd6b5a0ccf34cb1f26904f0b9aafbf",
+        ),
+        (
+            SEVENTH,
+            ROOT_TWO,
+            447,
+            "b2e2e6b6e945b36b1919f5ece009f569dedc402f07c0850756f1535d62b07598",
+        ),
+    ] {
+        let made = made(alloc, FIRST, edition)?;
+        assert_eq!(rt; made.answer.as_slice(), FIRST_ANSWER.as_bytes());
+        assert_eq!(rt; made.line.as_slice(), line.as_bytes());
+        assert_eq!(rt; made.proof.len(), len);
+        let got = hex::encode(alloc, digest_of(&made.proof).0)?;
+        assert_eq!(rt; got.as_str(), digest);
+    }
     Ok(())
 }
 
+/// Under each root the proof of `FIRST` in an edition, without so many of its last bytes.
 #[test]
 fn checks(rt: HostRuntime) -> Result<(), Fail> {
     let alloc = rt.alloc();
-    let root = root(alloc)?;
-    for (query, answer, proof, want, status) in [
-        (QUERY, ANSWER, PROOF, "yes\n", Status::Done),
-        ("node(3);out;", "", PROOF, "yes\n", Status::Done),
-        (QUERY, "n1 T x13.4 y52.5\n", PROOF, "no C9 4\n", Status::No),
-        (QUERY, "", PROOF, "no C9 0\n", Status::No),
-        (QUERY, ANSWER, ANSWER, "no C4\n", Status::No),
-        ("node(1)", ANSWER, PROOF, "no C1 Q11 7\n", Status::No),
+    for (line, query, answer, edition, cut, want, status) in [
+        (
+            ROOT_ONE,
+            FIRST,
+            FIRST_ANSWER,
+            Edition::One,
+            0,
+            "yes\n",
+            Status::Done,
+        ),
+        (
+            ROOT_TWO,
+            FIRST,
+            FIRST_ANSWER,
+            SEVENTH,
+            0,
+            "yes\n",
+            Status::Done,
+        ),
+        (
+            ROOT_TWO,
+            "node(3);out;",
+            "",
+            SEVENTH,
+            0,
+            "yes\n",
+            Status::Done,
+        ),
+        (
+            ROOT_TWO,
+            FIRST,
+            "n1 T x13.4 y52.5\n",
+            SEVENTH,
+            0,
+            "no C9 4\n",
+            Status::No,
+        ),
+        (ROOT_TWO, FIRST, "", SEVENTH, 0, "no C9 0\n", Status::No),
+        (
+            ROOT_TWO,
+            FIRST,
+            FIRST_ANSWER,
+            SEVENTH,
+            1,
+            "no C2\n",
+            Status::No,
+        ),
+        // A proof of the other edition, and queries that need fewer nodes, or others.
+        (
+            ROOT_TWO,
+            FIRST,
+            FIRST_ANSWER,
+            Edition::One,
+            0,
+            "no C4\n",
+            Status::No,
+        ),
+        (ROOT_TWO, ".a out;", "", SEVENTH, 0, "no C8\n", Status::No),
+        (
+            ROOT_TWO,
+            "node[\"a\"];out;",
+            "",
+            SEVENTH,
+            0,
+            "no C4\n",
+            Status::No,
+        ),
+        (
+            ROOT_TWO,
+            "node(1)",
+            FIRST_ANSWER,
+            SEVENTH,
+            0,
+            "no C1 Q11 7\n",
+            Status::No,
+        ),
     ] {
+        let root = root(alloc, line.as_bytes())?;
+        let mut made = made(alloc, FIRST, edition)?;
+        let len = made.proof.len().saturating_sub(cut);
+        made.proof.truncate(len);
         let mut output = Vec::new(alloc);
         let verdict = check(
             alloc,
             &root,
             &mut query.as_bytes(),
             &mut answer.as_bytes(),
-            &mut proof.as_bytes(),
+            &mut made.proof.as_slice(),
             &mut output,
         )?;
         assert_eq!(rt; output.as_slice(), want.as_bytes());
@@ -139,50 +216,79 @@ fn checks(rt: HostRuntime) -> Result<(), Fail> {
     Ok(())
 }
 
-/// Each read of each reader fails in turn: a device, and nothing is written.
+/// A reader of eleven bytes a call, which fails at one call (0: at none).
+fn slow(left: &[u8], fails_at: usize) -> SlowReader<'_> {
+    SlowReader {
+        left,
+        at_once: 11,
+        fails_at,
+        calls: 0,
+    }
+}
+
+/// How many calls such a reader of these bytes gets: the last one finds the end.
+fn calls(bytes: &[u8]) -> usize {
+    bytes.len().div_ceil(11).saturating_add(1)
+}
+
+/// Each read of each reader of `prove` fails in turn: a device, and nothing is written.
 #[test]
-fn readers_fail(rt: HostRuntime) -> Result<(), Fail> {
+fn readers_of_prove_fail(rt: HostRuntime) -> Result<(), Fail> {
     let alloc = rt.alloc();
-    let root = root(alloc)?;
-    for fails_at in 1..6 {
-        for place in 0..3 {
+    let texts = [TWO_NODES.as_bytes(), FIRST.as_bytes()];
+    for (place, text) in texts.iter().enumerate() {
+        for fails_at in 1..=calls(text) {
             let at = |reader| if reader == place { fails_at } else { 0 };
             let mut answer = Vec::new(alloc);
             let mut proof = Vec::new(alloc);
             let mut output = Vec::new(alloc);
             let outcome = prove(
                 alloc,
-                &mut slow(TWO_NODES, at(0)),
-                &mut slow(QUERY, at(1)),
+                &mut slow(TWO_NODES.as_bytes(), at(0)),
+                &mut slow(FIRST.as_bytes(), at(1)),
+                SEVENTH,
                 &mut answer,
                 &mut proof,
                 &mut output,
             );
-            // The query is read by three calls, and a third reader isn't there.
-            let calls = [6, 3, 0];
-            if fails_at <= calls[place] {
-                assert_eq!(rt; outcome, Err(CommandFault::Device), "{place} at {fails_at}");
-                assert!(rt; answer.is_empty() && proof.is_empty() && output.is_empty());
-            } else {
-                assert_eq!(rt; outcome, Ok(()), "{place} at {fails_at}");
-            }
+            assert_eq!(rt; outcome, Err(CommandFault::Device), "{place} at {fails_at}");
+            assert!(rt; answer.is_empty() && proof.is_empty() && output.is_empty());
+        }
+    }
+    Ok(())
+}
+
+/// The same of `check`, with its three readers.
+#[test]
+fn readers_of_check_fail(rt: HostRuntime) -> Result<(), Fail> {
+    let alloc = rt.alloc();
+    let made = made(alloc, FIRST, SEVENTH)?;
+    let root = root(alloc, &made.line)?;
+    let texts = [
+        FIRST.as_bytes(),
+        made.answer.as_slice(),
+        made.proof.as_slice(),
+    ];
+    for (place, text) in texts.iter().enumerate() {
+        for fails_at in 0..=calls(text) {
+            let at = |reader| if reader == place { fails_at } else { 0 };
+            let mut output = Vec::new(alloc);
             let outcome = check(
                 alloc,
                 &root,
-                &mut slow(QUERY, at(0)),
-                &mut slow(ANSWER, at(1)),
-                &mut slow(PROOF, at(2)),
+                &mut slow(FIRST.as_bytes(), at(0)),
+                &mut slow(&made.answer, at(1)),
+                &mut slow(&made.proof, at(2)),
                 &mut output,
             );
-            let calls = [3, 4, 9];
             match outcome {
                 Ok(verdict) => {
-                    assert!(rt; fails_at > calls[place], "{place} at {fails_at}");
-                    assert!(rt; matches!(verdict, Verdict::Yes(_)), "{place} at {fails_at}");
+                    assert_eq!(rt; fails_at, 0);
+                    assert!(rt; matches!(verdict, Verdict::Yes(_)));
                 }
                 Err(fault) => {
-                    assert!(rt; fails_at <= calls[place], "{place} at {fails_at}");
-                    assert_eq!(rt; fault, CommandFault::Device);
+                    assert_eq!(rt; fault, CommandFault::Device, "{place} at {fails_at}");
+                    assert!(rt; fails_at != 0 && output.is_empty());
                 }
             }
         }
@@ -202,9 +308,9 @@ fn narrow(alloc: Global, stop: Stop, stops_at: usize) -> NarrowWriter {
 }
 
 /// The writer has taken all of the text (`None`), or the bytes of so many whole calls.
-fn check_taken(rt: &impl Abort, writer: &NarrowWriter, text: &str, calls: Option<usize>) {
+fn check_taken(rt: &impl Abort, writer: &NarrowWriter, text: &[u8], calls: Option<usize>) {
     let taken = writer.taken.as_slice();
-    assert!(rt; text.as_bytes().starts_with(taken));
+    assert!(rt; text.starts_with(taken));
     match calls {
         None => assert_eq!(rt; taken.len(), text.len()),
         Some(calls) => assert_eq!(rt; taken.len(), calls.saturating_mul(16)),
@@ -215,6 +321,7 @@ fn check_taken(rt: &impl Abort, writer: &NarrowWriter, text: &str, calls: Option
 #[test]
 fn writers_of_prove_stop(rt: HostRuntime) -> Result<(), Fail> {
     let alloc = rt.alloc();
+    let made = made(alloc, FIRST, SEVENTH)?;
     for stop in [Stop::Fails, Stop::TakesNothing] {
         for (first, second, third) in [
             (Some(0), Some(0), Some(0)),
@@ -228,13 +335,19 @@ fn writers_of_prove_stop(rt: HostRuntime) -> Result<(), Fail> {
             let mut answer = narrow(alloc, stop, stops_at(first));
             let mut proof = narrow(alloc, stop, stops_at(second));
             let mut output = narrow(alloc, stop, stops_at(third));
-            let input = &mut TWO_NODES.as_bytes();
-            let query = &mut QUERY.as_bytes();
-            let outcome = prove(alloc, input, query, &mut answer, &mut proof, &mut output);
+            let outcome = prove(
+                alloc,
+                &mut ALL_KINDS.as_bytes(),
+                &mut FIRST.as_bytes(),
+                SEVENTH,
+                &mut answer,
+                &mut proof,
+                &mut output,
+            );
             assert_eq!(rt; outcome, Err(CommandFault::Device));
-            check_taken(&rt, &answer, ANSWER, first);
-            check_taken(&rt, &proof, PROOF, second);
-            check_taken(&rt, &output, ROOT, third);
+            check_taken(&rt, &answer, &made.answer, first);
+            check_taken(&rt, &proof, &made.proof, second);
+            check_taken(&rt, &output, &made.line, third);
         }
     }
     Ok(())
@@ -244,31 +357,27 @@ fn writers_of_prove_stop(rt: HostRuntime) -> Result<(), Fail> {
 #[test]
 fn files_within_memory(rt: HostRuntime) -> Result<(), Fail> {
     let alloc = rt.alloc();
-    let root = root(alloc)?;
     let mut output = Vec::new(alloc);
-    let mut answer = Vec::new(alloc);
-    let mut proof = Vec::new(alloc);
     // The writers are vectors, so when they are out of memory that is a device's fault.
-    match publish(alloc, &mut TWO_NODES.as_bytes(), &mut output) {
-        Ok(()) => assert_eq!(rt; output.as_slice(), ROOT.as_bytes()),
+    match publish(alloc, &mut ALL_KINDS.as_bytes(), SEVENTH, &mut output) {
+        Ok(()) => assert_eq!(rt; output.as_slice(), ROOT_TWO.as_bytes()),
         Err(CommandFault::Memory | CommandFault::Device) => assert_eq!(rt; output.len(), 0),
         Err(fault) => panic!(rt; "{fault}"),
     }
-    output.clear();
-    let input = &mut TWO_NODES.as_bytes();
-    let query = &mut QUERY.as_bytes();
-    match prove(alloc, input, query, &mut answer, &mut proof, &mut output) {
-        Ok(()) => assert_eq!(rt; answer.as_slice(), ANSWER.as_bytes()),
+    match made(alloc, FIRST, SEVENTH) {
+        Ok(made) => assert_eq!(rt; made.answer.as_slice(), FIRST_ANSWER.as_bytes()),
         Err(CommandFault::Memory | CommandFault::Device) => {}
         Err(fault) => panic!(rt; "{fault}"),
     }
+    let made = made(alloc, FIRST, SEVENTH)?;
+    let root = root(alloc, &made.line)?;
     output.clear();
     match check(
         alloc,
         &root,
-        &mut QUERY.as_bytes(),
-        &mut ANSWER.as_bytes(),
-        &mut PROOF.as_bytes(),
+        &mut FIRST.as_bytes(),
+        &mut made.answer.as_slice(),
+        &mut made.proof.as_slice(),
         &mut output,
     ) {
         Ok(_) => assert_eq!(rt; output.as_slice(), b"yes\n".as_slice()),
@@ -276,7 +385,7 @@ fn files_within_memory(rt: HostRuntime) -> Result<(), Fail> {
         Err(fault) => panic!(rt; "{fault}"),
     }
     output.clear();
-    publish(alloc, &mut TWO_NODES.as_bytes(), &mut output)?;
-    assert_eq!(rt; output.as_slice(), ROOT.as_bytes());
+    publish(alloc, &mut ALL_KINDS.as_bytes(), SEVENTH, &mut output)?;
+    assert_eq!(rt; output.as_slice(), ROOT_TWO.as_bytes());
     Ok(())
 }

@@ -1,45 +1,52 @@
-use Rattle.std.proofs.Common.{List, ℕ, sym, subst, ◌∙◌}
-use Rattle.osm_check.specs.Roots.{IsProofOf}
-use Rattle.osm_check.specs.Verdicts.{IsAnswer as IsRightAnswer}
-use Rattle.osm_mirror.proofs.AskLemmas.{explained_unread, outside_unread, outside_unproved}
-use Rattle.osm_mirror.proofs.BegunLemmas.{answer_is, begun_answer, whole_answer}
+use Rattle.std.proofs.Common.{List, ℕ, Err, ap, sym, subst}
+use Rattle.osm_prove.specs.Proved.{IsProved}
+use Rattle.osm_mirror.specs.Ask.{ask_edition}
+use Rattle.osm_mirror.proofs.AskLemmas.{answer_is, explained_unmade, explained_unproved, outside_unmade, outside_unproved, trees_held}
+use Rattle.osm_mirror.proofs.BegunLemmas.{begun_answer, whole_answer}
 use Rattle.osm_mirror.proofs.ask.ask.Goals as goal
 
-pub returns-in_err-set-clause-only : goal.returns-in_err-set-clause-only
-returns-in_err-set-clause-only g c =
-    outside_unread (g.R.Read.remaining c.args.input.now) c.args.query.now c.in_err-set.field-0.0 c.from_residual.result c.from_residual.ensures.1 c.in_err-set.ensures.only
+pub returns-in_err-snapshot-clause-only : goal.returns-in_err-snapshot-clause-only
+returns-in_err-snapshot-clause-only g c =
+    outside_unmade (g.R.Read.remaining c.args.input.now) ask_edition c.args.query.now c.in_err-snapshot.field-0.0 c.from_residual.result c.from_residual.ensures.1 c.in_err-snapshot.ensures.only
 
-pub returns-in_err-set-clause-refused : goal.returns-in_err-set-clause-refused
-returns-in_err-set-clause-refused g c =
-    explained_unread (g.R.Read.remaining c.args.input.now) _ c.args.query.now c.in_err-set.field-0.0 c.from_residual.result c.from_residual.ensures.1 c.in_err-set.ensures.refused
+pub returns-in_err-snapshot-clause-refused : goal.returns-in_err-snapshot-clause-refused
+returns-in_err-snapshot-clause-refused g c =
+    explained_unmade (g.R.Read.remaining c.args.input.now) _ ask_edition c.args.query.now c.in_err-snapshot.field-0.0 c.from_residual.result c.from_residual.ensures.1 c.in_err-snapshot.ensures.refused
 
 pub returns-in_err-proved-clause-only : goal.returns-in_err-proved-clause-only
 returns-in_err-proved-clause-only g c =
-    outside_unproved (g.R.Read.remaining c.args.input.now) c.args.query.now c.in_err-proved.field-0.0 c.from_residual-in_err-proved.result c.from_residual-in_err-proved.ensures.1 c.in_err-proved.ensures.only
+    outside_unproved (g.R.Read.remaining c.args.input.now) ask_edition c.args.query.now c.in_err-proved.field-0.0 c.from_residual-in_err-proved.result c.from_residual-in_err-proved.ensures.1 c.in_err-proved.ensures.only
+
+pub returns-in_err-proved-clause-refused : goal.returns-in_err-proved-clause-refused
+returns-in_err-proved-clause-refused g c =
+    let known = g.R.Read.remaining c.args.input.now in
+    let (p, held) = c.in_ok-snapshot.ensures.held in
+    explained_unproved known _ ask_edition c.args.query.now c.in_err-proved.field-0.0 c.from_residual-in_err-proved.result c.from_residual-in_err-proved.ensures.1
+    (trees_held known ask_edition c.in_ok-snapshot.snapshot p held (c.in_ok-snapshot.ensures.made p held)) (λ fault told. c.in_err-proved.ensures.told fault (ap Err told))
 
 pub unreachable-requires : goal.unreachable-requires
 unreachable-requires g c =
-    let set = c.in_ok-set.set in
-    let file = c.in_ok-set.ensures.held in
-    let right = c.in_ok-proved.ensures.proved in
-    let proof : IsProofOf c.deref-2.result.now set = record { set = file.1.set; text_is = c.deref-2.ensures.value ∙ right.2 } in
-    let answer = subst (λ (text : List ℕ). IsRightAnswer c.args.query.now text set) (sym c.deref.ensures.value) right.1 in
-    let yes = c.in_ok-check.ensures.honest set proof right.0 answer in
-    let no = c.in-No.is in
-    cc
+    let (p, held) = c.in_ok-snapshot.ensures.held in
+    let made = c.in_ok-proved.ensures.proved p held in
+    let answer = subst (λ (text : List ℕ). IsProved p c.args.query.now text c.in_ok-proved.proved.proof.items) (sym c.deref.ensures.value) made.1 in
+    let proved = subst (λ (nodes : List ℕ). IsProved p c.args.query.now c.deref.result.now nodes) (sym c.deref-2.ensures.value) answer in
+    let yes = c.in_ok-check.ensures.honest p held.is.published made.0 proved in
+    rw c.in-No.is at yes
 
 pub returns-clause-answered : goal.returns-clause-answered
 returns-clause-answered g c =
     let known = g.R.Read.remaining c.args.input.now in
+    let (p, held) = c.in_ok-snapshot.ensures.held in
     let text = c.in_ok-proved.proved.answer.items in
     whole_answer known c.args.query.now c.deref-in-Yes.result.now text _ _ _
-    (answer_is known c.in_ok-set.set c.args.query.now text c.in_ok-set.ensures.read c.in_ok-proved.ensures.proved.1)
+    (answer_is known ask_edition p c.args.query.now text _ (c.in_ok-snapshot.ensures.made p held) (c.in_ok-proved.ensures.proved p held).1)
     c.deref-in-Yes.ensures.value c.write_whole.ensures.whole
 
 pub returns-clause-begun : goal.returns-clause-begun
 returns-clause-begun g c =
     let known = g.R.Read.remaining c.args.input.now in
+    let (p, held) = c.in_ok-snapshot.ensures.held in
     let text = c.in_ok-proved.proved.answer.items in
     begun_answer known c.args.query.now c.deref-in-Yes.result.now text _ _
-    (answer_is known c.in_ok-set.set c.args.query.now text c.in_ok-set.ensures.read c.in_ok-proved.ensures.proved.1)
+    (answer_is known ask_edition p c.args.query.now text _ (c.in_ok-snapshot.ensures.made p held) (c.in_ok-proved.ensures.proved p held).1)
     c.deref-in-Yes.ensures.value c.write_whole.ensures.begun

@@ -1,0 +1,45 @@
+-- The options `--edition 1|2` and `--sequence N`, which tell the edition of a root.
+-- Source: this project; a number is read as Rust's `u64` reads it.
+use Rattle.std.specs.Prelude.{◌≡◌, ◌≢◌, ◌<◌, ◌^◌, ℕ, Option, Some, None, codes, unwrap_or}
+use Rattle.std.specs.Str.Parse.{IsNumeral, digits_value, without_leading_plus}
+use Rattle.clap.specs.Words.{App, Rule, Text, new_rule, with_rule}
+use Rattle.clap.specs.declared.builder.value_parser.ValueParser.TheVariants as value
+use Rattle.command_line.specs.declared.edition.Edition.{Edition}
+use Rattle.command_line.specs.declared.edition.Edition.TheVariants.{One, Two}
+
+-- an option `--name` with one value
+abbrev pub option_rule : Text → Rule
+option_rule name = record (new_rule name) { long = Some name; value_names = 1 }
+
+abbrev pub edition_rule : Rule
+edition_rule = option_rule (codes "edition")
+
+-- its value is a number below 2^64
+abbrev pub sequence_rule : Rule
+sequence_rule = record (option_rule (codes "sequence")) { parser = Some (value.Unsigned 0 18446744073709551615) }
+
+-- a command with both options
+abbrev pub with_edition_options : App → App
+with_edition_options app = with_rule (with_rule app edition_rule) sequence_rule
+
+-- decimal digits, maybe after a `+`, that write a number below 2^64
+abbrev pub IsNumberText : Text → Type 0
+IsNumberText text = IsNumeral 10 (without_leading_plus text) × (digits_value 10 (without_leading_plus text) < 2 ^ 64)
+
+-- the number after `--sequence`; 0 where there is none, and where the text is no such number, which `clap` refuses
+abbrev pub IsSequence : Option Text → ℕ → Type 0
+IsSequence None number = number ≡ 0
+IsSequence (Some text) number = (IsNumberText text → number ≡ digits_value 10 (without_leading_plus text)) × (¬ (IsNumberText text) → number ≡ 0)
+
+-- the word after `--edition`; `2` where there is none
+abbrev pub edition_word : Option Text → Text
+edition_word word = unwrap_or word (codes "2")
+
+-- the words after `--edition` and `--sequence` ask for this edition
+abbrev pub AsksForEdition : Option Text → Option Text → Edition → Type 0
+AsksForEdition word number One = edition_word word ≡ codes "1"
+AsksForEdition word number (Two sequence) = (edition_word word ≡ codes "2") × IsSequence number sequence
+
+-- the word after `--edition` is neither `1` nor `2`
+abbrev pub IsBadEdition : Option Text → Type 0
+IsBadEdition word = (edition_word word ≢ codes "1") × (edition_word word ≢ codes "2")

@@ -1,0 +1,6 @@
+pub mod shared
+mod FormLemmas
+mod NodeCounts
+mod NodeLengths
+mod Proving
+mod Refusals

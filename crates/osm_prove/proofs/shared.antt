@@ -1,0 +1,5 @@
+-- Lemmas that crates above cite too.
+pub mod ListingLaws
+pub mod NodeOrder
+pub mod PartNodes
+pub mod ProofLaws

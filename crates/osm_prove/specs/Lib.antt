@@ -1,0 +1,3 @@
+pub mod Proofs
+pub mod Proved
+pub mod Refusals

@@ -1,0 +1,92 @@
+//! An answer and its proof, as a mirror makes them.
+
+ghost use Rattle.std.specs.Prelude.{◌≡◌, ◌⊎◌, Err, IfErr, IfOk, IsTrue};
+ghost use Rattle.tree_node.specs.Outcomes.{NoMemory};
+ghost use Rattle.osm_index.specs.Publications.{Publication, root_of};
+ghost use Rattle.osm_index.specs.Snapshots.{HoldsPublication};
+ghost use Rattle.ql_syntax.specs.Queries.{HasFault, Reads};
+ghost use Rattle.ql_syntax.specs.StatementViews.{statements_of};
+ghost use Rattle.ql_syntax.specs.Statements.{Statements};
+ghost use Rattle.ql_syntax.specs.declared.fault.QlFault.{QlFault};
+ghost use Rattle.ql_plain.specs.Meanings.{Means};
+ghost use Rattle.ql_eval.specs.Faults.{cause_of_evaluation};
+ghost use Rattle.osm_prove.specs.Proved.{IsProofOf, IsProved};
+
+use crate::proof_writer::write_proof;
+use crate::prove_fault::ProveFault;
+use crate::proved::Proved;
+use osm_index::Snapshot;
+use ql_eval::{EvalFault, ManifestFault, evaluate};
+use ql_syntax::{Query, parse};
+use std::alloc::{AllocError, Global};
+use tree_node::Recorder;
+use tree_walk::WalkFault;
+
+/// The answer to a query over a snapshot, its root, and the proof by which a checker says yes to them. The
+/// query is these bytes as they stand.
+///
+/// The proof lists the nodes that the evaluation of the query needs, the manifest among them. Its nodes are
+/// copied once, from the snapshot into the proof.
+///
+/// Refused with `Query` exactly where the query doesn't read, and else only where memory runs out.
+pub fn prove(alloc: Global, snapshot: &Snapshot, query: &[u8]) -> Result<Proved, ProveFault>
+    // What is given is the root, the query's meaning over the snapshot's set, and the one proof.
+    ensures proved { (p : Publication) → HoldsPublication snapshot.now p → IfOk result (λ proved. (proved.root.0 ≡ root_of p)
+        × IsProved p query.now proved.answer.items proved.proof.items) }
+    // A query with a fault is refused with it, unless memory runs out,
+    ensures refused { (fault : QlFault) → HasFault query.now fault → (result ≡ Err (ProveFault.Query fault)) ⊎ (result ≡ Err ProveFault.Memory) }
+    // and no other is told;
+    ensures told { (fault : QlFault) → result ≡ Err (ProveFault.Query fault) → HasFault query.now fault }
+    // one that reads is refused for memory alone.
+    ensures only { (statements : Statements) → Reads query.now statements → IfErr result (λ fault. fault ≡ ProveFault.Memory) }
+{
+    let parsed = parse(alloc, query)?;
+    let (answer, proof) = answer_with_proof(alloc, snapshot, &parsed)?;
+    Ok(Proved {
+        root: *snapshot.root(),
+        answer,
+        proof,
+    })
+}
+
+/// The answer to a query over a snapshot, and the proof of it.
+fn answer_with_proof(
+    alloc: Global,
+    snapshot: &Snapshot,
+    query: &Query<'_>,
+) -> Result<(Vec<u8>, Vec<u8>), AllocError>
+    ensures { (p : Publication) → HoldsPublication snapshot.now p → IfOk result (λ both. Means p.objects (statements_of query.now) both.0.items
+        × IsProofOf p (statements_of query.now) both.1.items) }
+{
+    let mut shelf = Recorder::new(alloc, snapshot.stock());
+    let mut answer = Vec::new(alloc);
+    match evaluate(alloc, query, snapshot.root(), &mut shelf, &mut answer) {
+        Ok(_) => {}
+        Err(fault) => return Err(memory_alone(fault)),
+    }
+    let parts = shelf.parts()?;
+    let proof = write_proof(alloc, &parts)?;
+    Ok((answer, proof))
+}
+
+/// What an evaluation over a snapshot is refused for.
+fn memory_alone(fault: EvalFault) -> AllocError
+    requires { ∥ cause_of_evaluation fault ≡ NoMemory ∥₁ }
+{
+    if !is_memory(fault) {
+        unreachable!("the snapshot holds each node that a query needs");
+    }
+    AllocError
+}
+
+/// Whether an evaluation was refused for memory, wherever it ran out.
+fn is_memory(fault: EvalFault) -> bool
+    ensures { cause_of_evaluation fault ≡ NoMemory → IsTrue result }
+{
+    match fault {
+        EvalFault::Memory => true,
+        EvalFault::Walk(fault) => matches!(fault, WalkFault::Memory),
+        EvalFault::Manifest(fault) => matches!(fault, ManifestFault::Memory),
+        EvalFault::Form | EvalFault::Absent => false,
+    }
+}
