@@ -6,6 +6,7 @@ use Rattle.command_line.specs.AskCommand.{ask_app}
 use Rattle.command_line.specs.PublishCommand.{publish_app}
 use Rattle.command_line.specs.ProveCommand.{prove_app}
 use Rattle.command_line.specs.CheckCommand.{check_app}
+use Rattle.command_line.specs.ServeCommand.{serve_app}
 
 -- the program, of which a command is required; its help is no command
 abbrev pub bare_app : App
@@ -14,4 +15,4 @@ bare_app = let app = new_app (codes "osm_mirror") in
 
 -- one level of commands
 abbrev pub program_app : App
-program_app = with_subcommand (with_subcommand (with_subcommand (with_subcommand bare_app ask_app.top) publish_app.top) prove_app.top) check_app.top
+program_app = with_subcommand (with_subcommand (with_subcommand (with_subcommand (with_subcommand bare_app ask_app.top) publish_app.top) prove_app.top) check_app.top) serve_app.top

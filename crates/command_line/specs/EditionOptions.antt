@@ -1,9 +1,9 @@
 -- The options `--edition 1|2` and `--sequence N`, which tell the edition of a root.
--- Source: this project; a number is read as Rust's `u64` reads it.
-use Rattle.std.specs.Prelude.{◌≡◌, ◌≢◌, ◌<◌, ◌^◌, ℕ, Option, Some, None, codes, unwrap_or}
-use Rattle.std.specs.Str.Parse.{IsNumeral, digits_value, without_leading_plus}
+-- Source: this project.
+use Rattle.std.specs.Prelude.{◌≡◌, ◌≢◌, ℕ, Option, Some, codes, unwrap_or}
 use Rattle.clap.specs.Words.{App, Rule, Text, new_rule, with_rule}
 use Rattle.clap.specs.declared.builder.value_parser.ValueParser.TheVariants as value
+use Rattle.command_line.specs.Numbers.{IsNumber}
 use Rattle.command_line.specs.declared.edition.Edition.{Edition}
 use Rattle.command_line.specs.declared.edition.Edition.TheVariants.{One, Two}
 
@@ -22,14 +22,9 @@ sequence_rule = record (option_rule (codes "sequence")) { parser = Some (value.U
 abbrev pub with_edition_options : App → App
 with_edition_options app = with_rule (with_rule app edition_rule) sequence_rule
 
--- decimal digits, maybe after a `+`, that write a number below 2^64
-abbrev pub IsNumberText : Text → Type 0
-IsNumberText text = IsNumeral 10 (without_leading_plus text) × (digits_value 10 (without_leading_plus text) < 2 ^ 64)
-
--- the number after `--sequence`; 0 where there is none, and where the text is no such number, which `clap` refuses
+-- the number after `--sequence`, 0 where there is none
 abbrev pub IsSequence : Option Text → ℕ → Type 0
-IsSequence None number = number ≡ 0
-IsSequence (Some text) number = (IsNumberText text → number ≡ digits_value 10 (without_leading_plus text)) × (¬ (IsNumberText text) → number ≡ 0)
+IsSequence = IsNumber 64 0
 
 -- the word after `--edition`; `2` where there is none
 abbrev pub edition_word : Option Text → Text

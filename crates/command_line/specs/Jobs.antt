@@ -10,8 +10,10 @@ use Rattle.command_line.specs.EditionOptions.{AsksForEdition, IsBadEdition}
 use Rattle.command_line.specs.PublishCommand.{publish_name}
 use Rattle.command_line.specs.ProveCommand.{prove_name}
 use Rattle.command_line.specs.CheckCommand.{IsRootText, check_name}
+use Rattle.command_line.specs.Numbers.{IsNumber}
+use Rattle.command_line.specs.ServeCommand.{serve_name}
 use Rattle.command_line.specs.declared.job.Job.{Job}
-use Rattle.command_line.specs.declared.job.Job.TheVariants.{Ask, Publish, Prove, Check}
+use Rattle.command_line.specs.declared.job.Job.TheVariants.{Ask, Publish, Prove, Check, Serve}
 
 -- the job is that of the command of this name with these matches
 abbrev pub Gives : Job → Text → List Row → Type 0
@@ -30,6 +32,11 @@ Gives (Check root query answer proof) name rows = (name ≡ check_name)
     × (string_bytes query ≡ text_of (codes "QUERYFILE") rows)
     × (string_bytes answer ≡ text_of (codes "ANSWERFILE") rows)
     × (string_bytes proof ≡ text_of (codes "PROOFFILE") rows)
+Gives (Serve file port connections edition) name rows = (name ≡ serve_name)
+    × (string_bytes file ≡ text_of (codes "FILE") rows)
+    × IsNumber 16 0 (one_of (codes "PORT") rows) port
+    × IsNumber 32 4294967295 (one_of (codes "connections") rows) connections
+    × AsksForEdition (first_of (codes "edition") rows) (one_of (codes "sequence") rows) edition
 
 -- the job is that of the command that was matched
 abbrev pub GivesMatch : Job → Option (Text × List Row) → Type 0
@@ -41,7 +48,7 @@ abbrev pub HasBadRoot : Option (Text × List Row) → Type 0
 HasBadRoot None = ⊥
 HasBadRoot (Some matched) = (matched.0 ≡ check_name) × ¬ (IsRootText (text_of (codes "ROOT") matched.1))
 
--- the command `publish` or `prove` was matched, with a word for the edition that is neither `1` nor `2`
+-- the command `publish`, `prove` or `serve` was matched, with a word for the edition that is neither `1` nor `2`
 abbrev pub HasBadEdition : Option (Text × List Row) → Type 0
 HasBadEdition None = ⊥
-HasBadEdition (Some matched) = ((matched.0 ≡ publish_name) ⊎ (matched.0 ≡ prove_name)) × IsBadEdition (first_of (codes "edition") matched.1)
+HasBadEdition (Some matched) = ((matched.0 ≡ publish_name) ⊎ ((matched.0 ≡ prove_name) ⊎ (matched.0 ≡ serve_name))) × IsBadEdition (first_of (codes "edition") matched.1)

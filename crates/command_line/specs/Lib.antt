@@ -4,6 +4,8 @@ pub mod CheckCommand
 pub mod CommandLine
 pub mod EditionOptions
 pub mod Jobs
+pub mod Numbers
 pub mod ProveCommand
 pub mod PublishCommand
+pub mod ServeCommand
 pub mod internal

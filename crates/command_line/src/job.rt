@@ -44,4 +44,15 @@ pub enum Job {
         /// The file whose bytes are the proof.
         proof_file: String,
     },
+    /// `serve FILE PORT [--connections N] [--edition 1|2] [--sequence N]`: answer queries over HTTP.
+    Serve {
+        /// The OPL file with the set's objects.
+        file: String,
+        /// The port of 127.0.0.1 to listen on; 0 asks for any that is free.
+        port: u16,
+        /// The number of connections to serve.
+        connections: u32,
+        /// The edition of the root.
+        edition: Edition,
+    },
 }

@@ -13,6 +13,7 @@ mod job;
 mod program_command;
 mod prove_command;
 mod publish_command;
+mod serve_command;
 #[cfg(test)]
 mod tests;
 mod words;

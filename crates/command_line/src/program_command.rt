@@ -10,6 +10,7 @@ use crate::ask_command::ask_command;
 use crate::check_command::check_command;
 use crate::prove_command::prove_command;
 use crate::publish_command::publish_command;
+use crate::serve_command::serve_command;
 use clap::Command;
 use std::alloc::{AllocError, Global};
 
@@ -28,7 +29,8 @@ pub fn program_command<'a>(alloc: Global) -> Result<Command<'a>, AllocError>
     let program = and_command(program, ask_command(alloc)?)?;
     let program = and_command(program, publish_command(alloc)?)?;
     let program = and_command(program, prove_command(alloc)?)?;
-    and_command(program, check_command(alloc)?)
+    let program = and_command(program, check_command(alloc)?)?;
+    and_command(program, serve_command(alloc)?)
 }
 
 /// The program with one more command.

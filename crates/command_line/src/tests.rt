@@ -92,9 +92,36 @@ fn reads_editions(rt: HostRuntime) -> Result<(), Fail> {
 }
 
 #[test]
+fn reads_serve(rt: HostRuntime) -> Result<(), Fail> {
+    let alloc = rt.alloc();
+    for (words, want) in [
+        (
+            "80",
+            "Serve { file: \"a.opl\", port: 80, connections: 4294967295, edition: Two { sequence: 0 } }",
+        ),
+        (
+            "65535 --connections 1 --edition 2 --sequence 7",
+            "Serve { file: \"a.opl\", port: 65535, connections: 1, edition: Two { sequence: 7 } }",
+        ),
+        (
+            "0 --edition=1 --connections=4294967295",
+            "Serve { file: \"a.opl\", port: 0, connections: 4294967295, edition: One }",
+        ),
+        (
+            "+8080 --connections 0",
+            "Serve { file: \"a.opl\", port: 8080, connections: 0, edition: Two { sequence: 0 } }",
+        ),
+    ] {
+        let line = format!(in alloc; "m serve a.opl {words}")?;
+        assert_eq!(rt; shown(alloc, &line)?.as_str(), want, "{line}");
+    }
+    Ok(())
+}
+
+#[test]
 fn refuses_bad_editions(rt: HostRuntime) -> Result<(), Fail> {
     let alloc = rt.alloc();
-    for command in ["publish a.opl", "prove a.opl b c d"] {
+    for command in ["publish a.opl", "prove a.opl b c d", "serve a.opl 80"] {
         for word in ["3", "", "two", "0", "01", "+1", "12", "1.0"] {
             let line = format!(in alloc; "m {command} --edition {word}")?;
             match read_words(alloc, words_of(alloc, &line)?) {
@@ -202,10 +229,26 @@ fn refuses_with_the_text_of_clap(rt: HostRuntime) -> Result<(), Fail> {
             "osm_mirror publish a --edition 2 --sequence=-1",
             "error: invalid value '-1' for '--sequence <N>': invalid digit found in string\n",
         ),
+        (
+            "osm_mirror serve a",
+            "error: the following required arguments were not provided:\n",
+        ),
+        (
+            "osm_mirror serve a 65536",
+            "error: invalid value '65536' for '<PORT>': 65536 is not in 0..=65535\n",
+        ),
+        (
+            "osm_mirror serve a http",
+            "error: invalid value 'http' for '<PORT>': invalid digit found in string\n",
+        ),
+        (
+            "osm_mirror serve a 80 --connections 4294967296",
+            "error: invalid value '4294967296' for '--connections <N>': 4294967296 is not in 0..=4294967295\n",
+        ),
         ("osm_mirror help", "error: unrecognized subcommand 'help'\n"),
         (
             "osm_mirror --help",
-            "Answers OpenStreetMap queries, and proves and checks the answers\n\nUsage: osm_mirror <COMMAND>\n\nCommands:\n  ask      Answers a query over the OPL text on standard input, after checking the answer\n  publish  Prints the root of a set, by which clients check answers\n  prove    Writes the answer to a query and its proof, and prints the root of the set\n  check    Checks an answer by its proof and a root: prints 'yes', or 'no' and why\n",
+            "Answers OpenStreetMap queries, and proves and checks the answers\n\nUsage: osm_mirror <COMMAND>\n\nCommands:\n  ask      Answers a query over the OPL text on standard input, after checking the answer\n  publish  Prints the root of a set, by which clients check answers\n  prove    Writes the answer to a query and its proof, and prints the root of the set\n  check    Checks an answer by its proof and a root: prints 'yes', or 'no' and why\n  serve    Answers queries over HTTP, with proofs, on 127.0.0.1\n",
         ),
         (
             "osm_mirror ask -h",
@@ -218,6 +261,10 @@ fn refuses_with_the_text_of_clap(rt: HostRuntime) -> Result<(), Fail> {
         (
             "osm_mirror prove -h",
             "Writes the answer to a query and its proof, and prints the root of the set\n\nUsage: osm_mirror prove [OPTIONS] <FILE> <QUERYFILE> <ANSWERFILE> <PROOFFILE>\n\nArguments:\n  <FILE>        OPL file with the objects of the set\n  <QUERYFILE>   File whose bytes are the query\n  <ANSWERFILE>  File that the answer is written to\n  <PROOFFILE>   File that the proof is written to\n\nOptions:\n      --edition <EDITION>  Edition of the root: 1, or 2 with a sequence number; 2 if it isn't given\n      --sequence <N>       Sequence number of an edition 2 root, 0 if it isn't given; has no effect with '--edition 1'\n  -h, --help               Print help\n",
+        ),
+        (
+            "osm_mirror serve -h",
+            "Answers queries over HTTP, with proofs, on 127.0.0.1\n\nUsage: osm_mirror serve [OPTIONS] <FILE> <PORT>\n\nArguments:\n  <FILE>  OPL file with the objects of the set\n  <PORT>  Port to listen on; 0 takes any that is free\n\nOptions:\n      --connections <N>    Number of connections to serve, one after the other; 4294967295 if it isn't given\n      --edition <EDITION>  Edition of the root: 1, or 2 with a sequence number; 2 if it isn't given\n      --sequence <N>       Sequence number of an edition 2 root, 0 if it isn't given; has no effect with '--edition 1'\n  -h, --help               Print help\n",
         ),
         (
             "osm_mirror check -h",

@@ -13,6 +13,7 @@ use crate::job::Job;
 use crate::program_command::program_command;
 use crate::prove_command::{PROVE, prove_job};
 use crate::publish_command::{PUBLISH, publish_job};
+use crate::serve_command::{SERVE, serve_job};
 use crate::words_fault::WordsFault;
 use clap::ArgMatches;
 use clap::error::ErrorKind;
@@ -27,7 +28,7 @@ use std::alloc::{AllocError, Global};
 ///
 /// `Usage` with `clap`'s text, where the words are none of this command line, or ask for help. `BadRoot`
 /// where the word ROOT of `check` isn't 64 hexadecimal digits. `BadEdition` where the word after `--edition` of
-/// `publish` or `prove` is neither `1` nor `2`. `Memory` where an allocation was refused.
+/// `publish`, `prove` or `serve` is neither `1` nor `2`. `Memory` where an allocation was refused.
 pub fn read_words(alloc: Global, words: Vec<String>) -> Result<Job, WordsFault>
     ensures read { IfOk result (λ job. GivesMatch job (subcommand_of program_app (map string_bytes words.items))) }
     ensures accepted { OnOk result (fault_of program_app (map string_bytes words.items) ≡ []) }
@@ -59,6 +60,7 @@ fn job_of(alloc: Global, name: &str, matches: &ArgMatches<'_>) -> Result<Job, Wo
         PUBLISH => publish_job(alloc, matches),
         PROVE => prove_job(alloc, matches),
         CHECK => check_job(alloc, matches),
+        SERVE => serve_job(alloc, matches),
         _ => unreachable!("each command has its arm"),
     }
 }

@@ -7,6 +7,7 @@ use Rattle.command_line.specs.AskCommand.{ask_name}
 use Rattle.command_line.specs.PublishCommand.{publish_name}
 use Rattle.command_line.specs.ProveCommand.{prove_name}
 use Rattle.command_line.specs.CheckCommand.{check_name}
+use Rattle.command_line.specs.ServeCommand.{serve_name}
 
 -- the command is this one to clap, and has no argument that its subcommands share
 abbrev pub IsCommand : App → Command → Type 0
@@ -14,4 +15,4 @@ IsCommand app c = (app_of c ≡ app) × ((fields_of c).has_globals ≡ false)
 
 -- the name of a command
 abbrev pub IsCommandName : Text → Type 0
-IsCommandName name = (name ≡ ask_name) ⊎ ((name ≡ publish_name) ⊎ ((name ≡ prove_name) ⊎ (name ≡ check_name)))
+IsCommandName name = (name ≡ ask_name) ⊎ ((name ≡ publish_name) ⊎ ((name ≡ prove_name) ⊎ ((name ≡ check_name) ⊎ (name ≡ serve_name))))

@@ -14,4 +14,5 @@ returns c =
     let one = c.in_ok-program.ensures.0 ∙ ap₂ joined bare c.in_ok-ask_command.ensures.0 in
     let two = c.in_ok-program-2.ensures.0 ∙ ap₂ joined one c.in_ok-publish_command.ensures.0 in
     let three = c.in_ok-program-3.ensures.0 ∙ ap₂ joined two c.in_ok-prove_command.ensures.0 in
-    IfOk-weaker c.and_command-4.result _ _ (λ r h. (h.0 ∙ ap₂ joined three c.in_ok-check_command.ensures.0, h.1)) c.and_command-4.ensures
+    let four = c.in_ok-program-4.ensures.0 ∙ ap₂ joined three c.in_ok-check_command.ensures.0 in
+    IfOk-weaker c.and_command-5.result _ _ (λ r h. (h.0 ∙ ap₂ joined four c.in_ok-serve_command.ensures.0, h.1)) c.and_command-5.ensures

@@ -1,0 +1,92 @@
+//! The command `serve FILE PORT [--connections N] [--edition 1|2] [--sequence N]`.
+
+ghost use Rattle.std.specs.Prelude.{◌≡◌, ◌⊎◌, IfErr, IfOk, codes, false};
+ghost use Rattle.clap.specs.Words.{first_of, found_of, one_of, rows_of, rule_of};
+ghost use Rattle.command_line.specs.EditionOptions.{IsBadEdition};
+ghost use Rattle.command_line.specs.internal.Commands.{IsCommand};
+ghost use Rattle.command_line.specs.Jobs.{Gives};
+ghost use Rattle.command_line.specs.Numbers.{IsNumber};
+ghost use Rattle.command_line.specs.ServeCommand.{connections_rule, port_rule, serve_app, serve_name};
+
+use crate::arguments::{FILE, and_option, and_wanted, text_of};
+use crate::edition_options::{and_edition_options, edition_of};
+use crate::job::Job;
+use crate::words_fault::WordsFault;
+use clap::{Arg, ArgMatches, Command, value_parser};
+use std::alloc::{AllocError, Global};
+
+/// The name of the command.
+pub const SERVE: &str = "serve";
+
+/// What the program's help says of the command.
+const ABOUT: &str = "Answers queries over HTTP, with proofs, on 127.0.0.1";
+
+const PORT: &str = "PORT";
+
+const PORT_HELP: &str = "Port to listen on; 0 takes any that is free";
+
+const CONNECTIONS: &str = "connections";
+
+const CONNECTIONS_HELP: &str =
+    "Number of connections to serve, one after the other; 4294967295 if it isn't given";
+
+/// The command, as `clap` is told of it.
+pub fn serve_command<'a>(alloc: Global) -> Result<Command<'a>, AllocError>
+    ensures { IfOk result (IsCommand serve_app) }
+{
+    let command = and_wanted(alloc, Command::new(alloc, SERVE).about(ABOUT), FILE)?;
+    let command = and_option(command, port_argument(alloc))?;
+    let command = and_option(command, connections_option(alloc))?;
+    and_edition_options(alloc, command)
+}
+
+fn port_argument<'a>(alloc: Global) -> Arg<'a>
+    ensures rule { rule_of result ≡ port_rule }
+    ensures local { result.global ≡ false }
+{
+    Arg::new(alloc, PORT)
+        .required(true)
+        .value_parser(value_parser!(u16))
+        .help(PORT_HELP)
+}
+
+fn connections_option<'a>(alloc: Global) -> Arg<'a>
+    ensures rule { rule_of result ≡ connections_rule }
+    ensures local { result.global ≡ false }
+{
+    Arg::new(alloc, CONNECTIONS)
+        .long(CONNECTIONS)
+        .value_name("N")
+        .value_parser(value_parser!(u32))
+        .help(CONNECTIONS_HELP)
+}
+
+/// What the matches of this command ask for. `BadEdition` where the word after `--edition` is neither `1` nor `2`.
+pub fn serve_job(alloc: Global, matches: &ArgMatches<'_>) -> Result<Job, WordsFault>
+    ensures given { IfOk result (λ job. Gives job serve_name (rows_of (found_of matches.now))) }
+    ensures refused { IfErr result (λ fault. (fault ≡ WordsFault.Memory) ⊎ ((fault ≡ WordsFault.BadEdition)
+        × IsBadEdition (first_of (codes "edition") (rows_of (found_of matches.now))))) }
+{
+    let file = text_of(alloc, matches, FILE)?;
+    let edition = edition_of(matches)?;
+    Ok(Job::Serve {
+        file,
+        port: port_of(matches),
+        connections: connections_of(matches),
+        edition,
+    })
+}
+
+/// The port in the matches.
+fn port_of(matches: &ArgMatches<'_>) -> u16
+    ensures { IsNumber 16 0 (one_of (codes "PORT") (rows_of (found_of matches.now))) result }
+{
+    matches.get_one::<u16>(PORT).unwrap_or(0)
+}
+
+/// The number of connections in the matches, the greatest where they have none.
+fn connections_of(matches: &ArgMatches<'_>) -> u32
+    ensures { IsNumber 32 4294967295 (one_of (codes "connections") (rows_of (found_of matches.now))) result }
+{
+    matches.get_one::<u32>(CONNECTIONS).unwrap_or(u32::MAX)
+}
