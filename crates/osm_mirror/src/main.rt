@@ -1,14 +1,17 @@
 //! The program `osm_mirror`: an Overpass query server whose answers can be checked.
 //!
 //! Each command is a function over readers and writers that it is lent: [`ask`](ask::ask),
-//! [`publish`](publish::publish), [`prove`](prove::prove), [`check`](check::check). What stands here fetches
-//! the words, lends the command that they ask for its files, tells of a fault and ends with the status.
+//! [`publish`](publish::publish), [`prove`](prove::prove), [`check`](check::check), [`serve`](serve::serve). What
+//! stands here fetches the words, lends the command that they ask for its files and its socket, tells of a fault and
+//! ends with the status.
 #![tactic(auto)]
 
 pub mod ask;
 pub mod check;
 pub mod command_fault;
+pub mod door;
 pub mod input_file;
+pub mod listening_line;
 pub mod outlet;
 pub mod output_file;
 pub mod prove;
@@ -16,6 +19,8 @@ pub mod publish;
 pub mod read_snapshot;
 pub mod read_whole;
 pub mod root_line;
+pub mod serve;
+pub mod socket_door;
 pub mod status;
 #[cfg(test)]
 mod tests;
@@ -27,12 +32,17 @@ use crate::ask::ask;
 use crate::check::check;
 use crate::command_fault::CommandFault;
 use crate::input_file::InputFile;
+use crate::listening_line::listening_line;
 use crate::output_file::OutputFile;
 use crate::prove::prove;
 use crate::publish::publish;
+use crate::read_snapshot::read_snapshot;
+use crate::serve::serve;
+use crate::socket_door::SocketDoor;
 use crate::status::Status;
 use crate::tree_edition::tree_edition;
 use command_line::{Job, WordsFault, read_words};
+use osm_index::Edition;
 use std::env;
 use std::io::{ErrorKind, Write};
 use std::process::ExitCode;
@@ -102,7 +112,34 @@ fn done(rt: &HostRuntime, job: Job) -> Status {
                 Err(fault) => ended(rt, Err(fault)),
             }
         }
+        Job::Serve {
+            file,
+            port,
+            connections,
+            edition,
+        } => {
+            let edition = tree_edition(edition);
+            ended(rt, serve_file(rt, &file, port, connections, edition))
+        }
     }
+}
+
+/// Serves the set of this file on this port. Once it listens, it says where and over what.
+fn serve_file(
+    rt: &HostRuntime,
+    file: &str,
+    port: u16,
+    connections: u32,
+    edition: Edition,
+) -> Result<(), CommandFault> {
+    let alloc = rt.alloc();
+    let snapshot = read_snapshot(alloc, &mut InputFile::new(rt, file), edition)?;
+    let mut door = SocketDoor::open(rt, port)?;
+    let line = listening_line(alloc, door.address()?, &snapshot)?;
+    let errors = &mut rt.stderr();
+    // Where standard error takes nothing, it serves all the same.
+    let _ = write!(errors, "{line}");
+    serve(alloc, &snapshot, &mut door, connections, errors)
 }
 
 /// How the program ends after a command; a fault is told in one line.

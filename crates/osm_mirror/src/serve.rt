@@ -1,0 +1,39 @@
+//! The command `serve FILE PORT [--connections N] [--edition 1|2] [--sequence N]`.
+
+ghost use Rattle.std.specs.Prelude.{◌≡◌, ◌⊎◌, ◌+◌, ◌<◌, ℕ, IfErr, IfSome, OnErr, OnOk, Some};
+
+use crate::command_fault::CommandFault;
+use crate::door::Door;
+use osm_index::Snapshot;
+use std::alloc::Global;
+use std::io::Write;
+
+/// Serves this number of connections, one after the other: each is answered over the snapshot by
+/// [`osm_gate::serve`]. A connection that ends badly is told in one line of `errors` (`G1` to `G4`), and the next
+/// is taken.
+///
+/// # Errors
+///
+/// `Device` or `Memory` where the door has no further connection; fewer were taken then.
+pub fn serve<D: Door, E: Write>(
+    alloc: Global,
+    snapshot: &Snapshot,
+    door: &mut D,
+    connections: u32,
+    errors: &mut E,
+) -> Result<(), CommandFault>
+    // So many connections were taken,
+    ensures all { OnOk result (IfSome (D.given door.old) (λ n. D.given door.new ≡ Some (n + connections))) }
+    // and fewer where the door fails.
+    ensures fewer { OnErr result (IfSome (D.given door.old) (λ n. (k : ℕ) × (k < connections) × (D.given door.new ≡ Some (n + k)))) }
+    ensures outside { IfErr result (λ fault. (fault ≡ CommandFault.Memory) ⊎ (fault ≡ CommandFault.Device)) }
+{
+    for _ in 0..connections {
+        let (mut reader, mut writer) = door.next()?;
+        if let Err(fault) = osm_gate::serve(alloc, &mut reader, &mut writer, snapshot) {
+            // Where the line can't be written, the next connection is served all the same.
+            let _ = writeln!(errors, "{fault}");
+        }
+    }
+    Ok(())
+}

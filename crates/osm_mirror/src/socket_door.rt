@@ -1,0 +1,110 @@
+//! The connections of a listening socket.
+
+ghost use Rattle.std.specs.Prelude.{None};
+
+use crate::command_fault::CommandFault;
+use crate::door::Door;
+use std::alloc::Global;
+use std::io;
+use std::io::{ErrorKind, Read, Write};
+use std::net::{SocketAddr, TcpListener, TcpStream};
+use std::rc::Rc;
+use std::time::Duration;
+
+/// How long a client may keep its connection without sending a byte, or without taking one, in seconds. The next client
+/// waits for as long.
+const IDLE_SECONDS: u64 = 10;
+
+/// A socket of this machine that listens for clients of this machine (127.0.0.1).
+#[derive(Drop)]
+pub struct SocketDoor {
+    alloc: Global,
+    listener: TcpListener,
+}
+
+impl SocketDoor {
+    /// Listens on this port; 0 asks for any that is free. Refused with `Device` where the port can't be had.
+    pub fn open(rt: &HostRuntime, port: u16) -> Result<SocketDoor, CommandFault> {
+        match TcpListener::bind(rt, ("127.0.0.1", port)) {
+            Ok(listener) => Ok(SocketDoor {
+                alloc: rt.alloc(),
+                listener,
+            }),
+            Err(_) => Err(CommandFault::Device),
+        }
+    }
+
+    /// Where it listens.
+    pub fn address(&self) -> Result<SocketAddr, CommandFault> {
+        match self.listener.local_addr() {
+            Ok(address) => Ok(address),
+            Err(_) => Err(CommandFault::Device),
+        }
+    }
+}
+
+impl Door for SocketDoor {
+    type Reader = StreamReader;
+
+    type Writer = StreamWriter;
+
+    ghost given = { λ _. None };
+
+    fn next(&mut self) -> Result<(StreamReader, StreamWriter), CommandFault> {
+        for accepted in self.listener.incoming() {
+            match accepted {
+                Ok(stream) => return ends_of(self.alloc, stream),
+                // A client that has gone again is no fault of the socket.
+                Err(error) if is_passing(error.kind()) => {}
+                Err(_) => return Err(CommandFault::Device),
+            }
+        }
+        Err(CommandFault::Device)
+    }
+}
+
+/// Whether the next call may well succeed.
+fn is_passing(kind: ErrorKind) -> bool {
+    kind == ErrorKind::ConnectionAborted || kind == ErrorKind::Interrupted
+}
+
+/// Both ends of an accepted stream.
+fn ends_of(alloc: Global, stream: TcpStream) -> Result<(StreamReader, StreamWriter), CommandFault> {
+    // Where an option can't be set, the stream still serves.
+    let _ = stream.set_nodelay(true);
+    let _ = stream.set_read_timeout(Some(Duration::from_secs(IDLE_SECONDS)));
+    let _ = stream.set_write_timeout(Some(Duration::from_secs(IDLE_SECONDS)));
+    let stream = Rc::new(alloc, stream)?;
+    let other = stream.clone()?;
+    Ok((StreamReader { stream }, StreamWriter { stream: other }))
+}
+
+/// The reading end of an accepted stream.
+#[derive(Drop)]
+pub struct StreamReader {
+    stream: Rc<TcpStream>,
+}
+
+impl Read for StreamReader {
+    fn read(&mut self, buf: &mut [u8]) -> io::Result<usize> {
+        let mut stream: &TcpStream = &self.stream;
+        stream.read(buf)
+    }
+}
+
+/// The writing end of the same stream.
+#[derive(Drop)]
+pub struct StreamWriter {
+    stream: Rc<TcpStream>,
+}
+
+impl Write for StreamWriter {
+    fn write(&mut self, buf: &[u8]) -> io::Result<usize> {
+        let mut stream: &TcpStream = &self.stream;
+        stream.write(buf)
+    }
+
+    fn flush(&mut self) -> io::Result<()> {
+        Ok(())
+    }
+}
