@@ -1,0 +1,322 @@
+"""`serve` over loopback sockets: the vectors' connections, real clients, refused allocations, and nginx in front.
+
+What needs curl, openssl or nginx is skipped where they aren't there, and said so.
+"""
+
+import http.client
+import os
+import shutil
+import socket
+import subprocess
+import tempfile
+import time
+from contextlib import contextmanager
+from itertools import count
+from pathlib import Path
+from urllib.parse import quote
+
+from lines_rows_test import rows, set_file
+from runs import PROGRAM, SECONDS, TOP, Outcome, Tally, built_library, run
+
+FETCH = TOP / "examples/fetch-and-check"
+NGINX = TOP / "examples/nginx.conf"
+
+QUERY = "node(1);out ids;"
+ANSWER = b"n1\n"
+
+NO_MEMORY = (
+    b"HTTP/1.1 503 Service Unavailable\r\nContent-Type: text/plain; charset=utf-8\r\n"
+    b"Content-Length: 10\r\nConnection: close\r\n\r\nno memory\n"
+)
+
+
+def root_of(name, edition):
+    """The root of a set of the vectors with sequence number 0."""
+    return next(row[3].decode() for row in rows("roots.tsv") if row[:3] == [name, edition, b"0"])
+
+
+class Server:
+    """A server that runs, and the line that it began with."""
+
+    def __init__(self, file, words, environment):
+        command = [PROGRAM, "serve", file, "0", *words]
+        self.process = subprocess.Popen(command, stdout=subprocess.PIPE, stderr=subprocess.PIPE, env=environment)
+        self.line = self.process.stderr.readline()
+        begun = self.line.startswith(b"osm_mirror listens on 127.0.0.1:")
+        self.port = int(self.line.split(b",")[0].split(b":")[1]) if begun else None
+
+    def connect(self):
+        return socket.create_connection(("127.0.0.1", self.port), timeout=SECONDS)
+
+    def ended(self):
+        """What it wrote after its first line, and its status, once it has ended."""
+        stdout, stderr = self.process.communicate(timeout=SECONDS)
+        return Outcome(stdout, stderr, self.process.returncode)
+
+    def peak_kib(self):
+        """The most memory that it had so far."""
+        text = Path(f"/proc/{self.process.pid}/status").read_text(encoding="ascii")
+        return next(int(line.split()[1]) for line in text.splitlines() if line.startswith("VmHWM"))
+
+
+@contextmanager
+def server(file, *words, refusing=None):
+    """A server over this file, ended when the block ends."""
+    environment = dict(os.environ)
+    if refusing is not None:
+        environment |= {"LD_PRELOAD": str(built_library())} | {k: str(v) for k, v in refusing.items()}
+    running = Server(file, [str(word) for word in words], environment)
+    try:
+        yield running
+    finally:
+        running.process.kill()
+        running.process.communicate()
+
+
+def all_of(connection):
+    """All bytes that come until the other side closes."""
+    parts = []
+    while part := connection.recv(1 << 16):
+        parts.append(part)
+    return b"".join(parts)
+
+
+def told(running, pieces):
+    """All that a connection gets to these pieces, after which nothing more comes."""
+    with running.connect() as connection:
+        connection.setsockopt(socket.IPPROTO_TCP, socket.TCP_NODELAY, 1)
+        try:
+            for piece in pieces:
+                connection.sendall(piece)
+            connection.shutdown(socket.SHUT_WR)
+        except (BrokenPipeError, ConnectionResetError):
+            pass  # The server has closed the connection already.
+        return all_of(connection)
+
+
+def check_vectors(tally):
+    """Each connection of the vectors, in one piece and cut, gets the vectors' answers."""
+    listed = [[row[0], row[1], *map(bytes.fromhex, (row[2].decode(), row[3].decode()))] for row in rows("requests.tsv")]
+    tally.check("all connections are there", len(listed) == 138, len(listed))
+    for name, edition in sorted({(row[0], row[1]) for row in listed}):
+        of_set = [row[2:] for row in listed if row[:2] == [name, edition]]
+        with server(set_file(name), "--edition", edition.decode(), "--connections", 3 * len(of_set)) as running:
+            objects = len(set_file(name).read_bytes().splitlines())
+            line = f"osm_mirror listens on 127.0.0.1:{running.port}, over {objects} objects, root {root_of(name, edition)}\n"
+            tally.check(f"{name} {edition} begins", running.line == line.encode(), running.line)
+            for given, want in of_set:
+                for cuts in [(), (1, len(given) // 2), (len(given) - 1,)]:
+                    places = [0, *cuts, len(given)]
+                    got = told(running, [given[a:b] for a, b in zip(places, places[1:])])
+                    tally.check(f"{name} {edition} {given[:60]} {cuts}", got == want, got[:300])
+            outcome = running.ended()
+            tally.check(f"{name} {edition} ends", outcome == Outcome(b"", b"", 0), outcome)
+
+
+def check_words(tally):
+    """What can't be served is told in the order of the words, the set and the port."""
+    for words, want in [
+        (["no-such-file", "0", "--edition", "3"], Outcome(b"", b"bad edition\n", 2)),
+        (["no-such-file", "0"], Outcome(b"", b"device\n", 3)),
+        ([set_file(b"one"), "0", "--connections", "0"], None),
+    ]:
+        outcome = run([PROGRAM, "serve", *words])
+        if want is None:
+            tally.check(f"serve {words}", outcome.status == 0 and outcome.stderr.count(b"\n") == 1, outcome)
+        else:
+            tally.check(f"serve {words}", outcome == want, outcome)
+    with socket.create_server(("127.0.0.1", 0)) as taken:
+        outcome = run([PROGRAM, "serve", set_file(b"one"), str(taken.getsockname()[1])])
+        tally.check("a port that is taken", outcome == Outcome(b"", b"device\n", 3), outcome)
+
+
+def check_python(tally):
+    """python3's client, over one kept connection."""
+    with server(set_file(b"F"), "--connections", 1) as running:
+        client = http.client.HTTPConnection("127.0.0.1", running.port, timeout=SECONDS)
+        for method, target, body, status, want in [
+            ("GET", f"/api/interpreter?data={quote(QUERY)}", None, 200, ANSWER),
+            ("POST", "/api/interpreter", QUERY, 200, ANSWER),
+            ("POST", "/api/interpreter", f"data={quote(QUERY)}", 200, ANSWER),
+            ("GET", "/api/root", None, 200, root_of(b"F", b"2").encode() + b"\n"),
+            ("GET", "/api", None, 404, b"not found\n"),
+            ("DELETE", "/api/root", None, 405, b"method not allowed\n"),
+            ("POST", "/api/interpreter", 'node[~"a"~"b"];out;', 400, b"Q7 byte 5\n"),
+            ("GET", "/api/interpreter", None, 400, b"no data\n"),
+        ]:
+            client.request(method, target, body)
+            reply = client.getresponse()
+            got = reply.read()
+            tally.check(f"http.client {method} {target} {body}", (reply.status, got) == (status, want), reply.status, got)
+            root = root_of(b"F", b"2") if status == 200 else None
+            tally.check(f"http.client {target} root", reply.headers["Osm-Root"] == root, reply.headers)
+        client.close()
+        tally.check("http.client ends", running.ended() == Outcome(b"", b"", 0))
+
+
+def check_curl(tally):
+    """curl, as people call it: a form, a raw body, a kept connection, HTTP/1.0, HEAD."""
+    if shutil.which("curl") is None:
+        print("SKIPPED: curl isn't installed")
+        return
+    with server(set_file(b"F")) as running:
+        site = f"http://127.0.0.1:{running.port}/api"
+        for words, want in [
+            ([f"{site}/interpreter", "--data-urlencode", f"data={QUERY}"], ANSWER),
+            ([f"{site}/interpreter", "--data-urlencode", f"data={QUERY}", "--get"], ANSWER),
+            ([f"{site}/interpreter", "--data-binary", QUERY], ANSWER),
+            ([f"{site}/interpreter", "--data-binary", QUERY, "--http1.0"], ANSWER),
+            ([f"{site}/root", f"{site}/root", "--write-out", "%{num_connects}\n"],
+             b"".join(root_of(b"F", b"2").encode() + b"\n" + n + b"\n" for n in (b"1", b"0"))),
+            ([f"{site}/root", "--head", "--output", os.devnull, "--write-out", "%{http_code}"], b"405"),
+            ([f"{site}/interpreter", "--data-binary", "@" + os.devnull, "--write-out", "%{http_code}"], b"200"),
+        ]:
+            outcome = run(["curl", "--silent", "--show-error", *words])
+            tally.check(f"curl {words}", outcome == Outcome(want, b"", 0), outcome)
+
+
+def check_load(tally):
+    """10,000 requests on one connection, which take no more memory at the end than after the first thousand."""
+    request = b"POST /api/interpreter HTTP/1.1\r\nContent-Length: 16\r\n\r\n" + QUERY.encode()
+    with server(set_file(b"F"), "--connections", 1) as running, running.connect() as connection:
+        file = connection.makefile("rb")
+        met, early = 0, None
+        for number in range(10_000):
+            connection.sendall(request)
+            status, length = file.readline(), 0
+            while (line := file.readline()) != b"\r\n":
+                if line.lower().startswith(b"content-length:"):
+                    length = int(line.split(b":")[1])
+            met += (status, file.read(length)) == (b"HTTP/1.1 200 OK\r\n", ANSWER)
+            if number == 1_000:
+                early = running.peak_kib()
+        tally.check("10,000 requests", met == 10_000, met)
+        late = running.peak_kib()
+        tally.check("flat memory", late <= early + 64, early, late)
+
+
+def check_idle(tally):
+    """A client that says nothing loses its connection after ten seconds, and the next is served."""
+    with server(set_file(b"F"), "--connections", 2) as running, running.connect() as idle:
+        begun = time.monotonic()
+        got = told(running, [b"GET /api/root HTTP/1.0\r\n\r\n"])
+        took = time.monotonic() - begun
+        tally.check("the next is served", got.endswith(root_of(b"F", b"2").encode() + b"\n") and 9 < took < 20, took, got)
+        tally.check("the idle one got nothing", all_of(idle) == b"")
+        outcome = running.ended()
+        tally.check("an idle client is told", outcome == Outcome(b"", b"G1\n", 0), outcome)
+
+
+def check_allocations(tally):
+    """Each allocation refused in turn: before it listens it ends, after that one connection ends with the 503 at most."""
+    request = b"POST /api/checked HTTP/1.1\r\nContent-Length: 16\r\n\r\n" + QUERY.encode()
+    with server(set_file(b"F"), "--connections", 1) as running:
+        whole = told(running, [request, request])
+    met = 0
+    for number in count(1):
+        with tempfile.TemporaryDirectory() as room:
+            mark = Path(room) / "refused"
+            refusing = {"REFUSE_ALLOCATION": number, "REFUSE_MARK": mark}
+            with server(set_file(b"F"), "--connections", 2, refusing=refusing) as running:
+                if running.port is None:
+                    rest = running.ended()
+                    tally.check(f"allocation {number}", (running.line, rest) == (b"no memory\n", Outcome(b"", b"", 3)),
+                                running.line, rest)
+                    continue
+                first = told(running, [request, request])
+                second = told(running, [request, request])
+                rest = running.ended()
+            if not mark.exists():
+                break
+            met += 1
+            refused = [first == whole[:len(first) - len(NO_MEMORY)] + NO_MEMORY, first == whole, first == b""]
+            holds = (
+                (first == whole and second == whole and rest == Outcome(b"", b"", 0))
+                or (refused[0] and second == whole and rest == Outcome(b"", b"G3\n", 0))
+                or (first == b"" and second == b"" and rest == Outcome(b"", b"no memory\n", 3))
+            )
+            tally.check(f"allocation {number}", holds, first[-200:], len(second), rest)
+    tally.check("allocations of requests were refused", met > 10, met)
+
+
+def check_fetch(tally, site, name, environment=None):
+    """examples/fetch-and-check gives the answer under the publisher's root, and refuses it under another."""
+    environment = dict(os.environ) | {"OSM_MIRROR": str(PROGRAM)} | (environment or {})
+
+    def fetched(root, query):
+        words = [FETCH, root, site, query]
+        ended = subprocess.run(words, capture_output=True, env=environment, timeout=SECONDS)
+        return Outcome(ended.stdout, ended.stderr, ended.returncode)
+
+    root = root_of(name, b"2")
+    outcome = fetched(root, QUERY)
+    tally.check(f"fetch-and-check at {site}", outcome == Outcome(ANSWER, b"yes\n", 0), outcome)
+    outcome = fetched(root_of(b"town", b"2"), QUERY)
+    tally.check(f"fetch-and-check at {site}, another root", outcome == Outcome(b"", b"no C4\n", 1), outcome)
+    outcome = fetched(root, "node(1)")
+    tally.check(f"fetch-and-check at {site}, a bad query", outcome.status == 2 and b"400: Q" in outcome.stderr, outcome)
+
+
+@contextmanager
+def nginx_before(ports, room):
+    """nginx with the example's configuration over these ports, listening on a port of its own, which is given."""
+    with socket.create_server(("127.0.0.1", 0)) as free:
+        port = free.getsockname()[1]
+    text = NGINX.read_text(encoding="utf-8").replace("/run/osm-mirror", str(room)).replace(":8443", f":{port}")
+    for written, is_one in zip((8081, 8082), ports):
+        text = text.replace(f":{written}", f":{is_one}")
+    (room / "nginx.conf").write_text(text, encoding="utf-8")
+    key, certificate = room / "key.pem", room / "certificate.pem"
+    subprocess.run(
+        ["openssl", "req", "-x509", "-newkey", "rsa:2048", "-nodes", "-days", "2", "-subj", "/CN=localhost", "-addext",
+         "subjectAltName=DNS:localhost", "-keyout", key, "-out", certificate], check=True, capture_output=True)
+    command = ["nginx", "-c", str(room / "nginx.conf"), "-e", str(room / "nginx.log"), "-g", "daemon off;"]
+    running = subprocess.Popen(command, stdout=subprocess.PIPE, stderr=subprocess.PIPE)
+    try:
+        for _ in range(200):
+            with socket.socket() as probe:
+                if probe.connect_ex(("127.0.0.1", port)) == 0:
+                    break
+            time.sleep(0.05)
+        yield port
+    finally:
+        running.terminate()
+        running.communicate(timeout=SECONDS)
+
+
+def check_nginx(tally):
+    """TLS, two mirrors, many clients at a time."""
+    if missing := [name for name in ("nginx", "openssl", "curl") if shutil.which(name) is None]:
+        print(f"SKIPPED: {', '.join(missing)} isn't installed")
+        return
+    with tempfile.TemporaryDirectory() as folder, server(set_file(b"F")) as one, server(set_file(b"F")) as two:
+        room = Path(folder)
+        room.chmod(0o755)
+        with nginx_before((one.port, two.port), room) as port:
+            site = f"https://localhost:{port}"
+            trust = {"CURL_CA_BUNDLE": str(room / "certificate.pem")}
+            check_fetch(tally, site, b"F", trust)
+            words = ["curl", "--silent", "--show-error", "--cacert", room / "certificate.pem", "--parallel",
+                     "--data-urlencode", f"data={QUERY}", f"{site}/api/interpreter?[1-200]"]
+            outcome = run(words)
+            tally.check("200 requests through nginx", outcome == Outcome(ANSWER * 200, b"", 0), outcome.stderr, len(outcome.stdout))
+
+
+def main():
+    tally = Tally()
+    built_library()
+    check_words(tally)
+    check_vectors(tally)
+    check_python(tally)
+    check_curl(tally)
+    check_load(tally)
+    check_idle(tally)
+    check_allocations(tally)
+    with server(set_file(b"F")) as running:
+        check_fetch(tally, f"http://127.0.0.1:{running.port}", b"F")
+    check_nginx(tally)
+    tally.end()
+
+
+if __name__ == "__main__":
+    main()
