@@ -1,0 +1,2 @@
+pub mod HeadEndLemmas
+pub mod HeadLemmas

@@ -1,0 +1,2 @@
+pub mod HeadEnds
+pub mod Heads
