@@ -1,2 +1,4 @@
+pub mod FieldLemmas
 pub mod HeadEndLemmas
 pub mod HeadLemmas
+pub mod RequestLemmas
