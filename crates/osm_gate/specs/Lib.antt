@@ -1,6 +1,9 @@
 pub mod Fields
+pub mod Forms
 pub mod HeadEnds
 pub mod Heads
 pub mod Requests
+pub mod ResponseTexts
 pub mod Responses
+pub mod Routes
 pub mod internal

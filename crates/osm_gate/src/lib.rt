@@ -7,7 +7,14 @@ mod head;
 mod head_end;
 mod laws;
 mod limits;
+mod method;
+mod place;
+mod query_text;
 mod refusal;
 mod request;
+mod respond;
+mod response;
+mod target;
+mod told;
 
 pub use laws::head_is_the_grammars;
