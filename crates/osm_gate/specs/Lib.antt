@@ -1,3 +1,4 @@
+pub mod Connections
 pub mod Fields
 pub mod Forms
 pub mod HeadEnds
@@ -6,4 +7,6 @@ pub mod Requests
 pub mod ResponseTexts
 pub mod Responses
 pub mod Routes
+pub mod Serving
+pub mod Written
 pub mod internal
