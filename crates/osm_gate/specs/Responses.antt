@@ -13,7 +13,7 @@ use Rattle.ql_syntax.specs.Refusals.{code_text}
 use Rattle.ql_syntax.specs.declared.fault.QlFault.{QlFault}
 use Rattle.osm_gate.specs.Forms.{query_of}
 use Rattle.osm_gate.specs.Requests.{Asked}
-use Rattle.osm_gate.specs.ResponseTexts.{Response, response_text}
+use Rattle.osm_gate.specs.ResponseTexts.{Response}
 use Rattle.osm_gate.specs.Routes.{path_of, place_of}
 use Rattle.osm_gate.specs.declared.method.Method.{Method}
 use Rattle.osm_gate.specs.declared.method.Method.TheVariants.{Get, Other, Post}

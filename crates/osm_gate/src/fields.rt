@@ -16,11 +16,7 @@ use httparse::spans::HeaderSpan;
 
 /// The length of the body (RFC 9112, section 6), or why the request is refused.
 #[tactic(auto, unfolding(crate::specs::Fields::framing))]
-pub(crate) fn body_len(
-    head: &[u8],
-    headers: &[HeaderSpan],
-    method: &[u8],
-) -> Result<usize, Refusal>
+pub(crate) fn body_len(head: &[u8], headers: &[HeaderSpan], method: &[u8]) -> Result<usize, Refusal>
     requires { All (IsHeaderWithin (length head.now)) headers.now }
     ensures framing { result ≡ framing method.now (map (header_bytes head.now) headers.now) }
     ensures bound { IfOk result (λ len. len ≤ BODY_LIMIT) }

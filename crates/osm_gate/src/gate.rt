@@ -85,14 +85,19 @@ impl Gate {
         // Without a complete head all of the rest has been scanned; with one there is no need to scan it again.
         let scanned = if self.needed == 0 { before } else { 0 };
         let rest = self.rest.as_slice();
-        let (responses, left) =
-            match respond_to_all(self.alloc, &self.router, snapshot, rest, scanned) {
-                Ok(both) => both,
-                Err(error) => {
-                    self.rest.truncate(before);
-                    return Err(error);
-                }
-            };
+        let (responses, left) = match respond_to_all(
+            self.alloc,
+            &self.router,
+            snapshot,
+            rest,
+            scanned,
+        ) {
+            Ok(both) => both,
+            Err(error) => {
+                self.rest.truncate(before);
+                return Err(error);
+            }
+        };
         match left {
             Some(open) => {
                 drop_front(&mut self.rest, open.at);

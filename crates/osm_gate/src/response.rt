@@ -59,11 +59,7 @@ fn total_len(parts: &[&[u8]]) -> Option<usize>
 }
 
 /// The status line, the fields and the empty line.
-fn head_text(
-    alloc: Global,
-    head: &ResponseHead<'_>,
-    body_len: usize,
-) -> Result<String, AllocError>
+fn head_text(alloc: Global, head: &ResponseHead<'_>, body_len: usize) -> Result<String, AllocError>
     ensures { IfOk result (λ text. string_bytes text ≡ head_text (parts_of head.now) body_len) }
 {
     let mut text = status_line(alloc, &head.status)?;

@@ -46,7 +46,13 @@ pub(crate) fn write_told(
     match told {
         Err(fault) => {
             let text = fault_text(alloc, fault)?;
-            write_refusal(alloc, output, closes, StatusCode::BAD_REQUEST, text.as_str())
+            write_refusal(
+                alloc,
+                output,
+                closes,
+                StatusCode::BAD_REQUEST,
+                text.as_str(),
+            )
         }
         Ok(proved) => {
             if is_checked {

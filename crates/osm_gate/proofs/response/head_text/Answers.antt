@@ -1,4 +1,4 @@
-use Rattle.std.proofs.Common.{◌≡◌, ◌++◌, rules, codes, length}
+use Rattle.std.proofs.Common.{◌≡◌, ◌++◌, rules, codes}
 use Rattle.std.specs.String.{string_bytes}
 use Rattle.std.specs.Fmt.{decimal}
 use Rattle.osm_gate.specs.ResponseTexts.{field_line, content_type, line_end}

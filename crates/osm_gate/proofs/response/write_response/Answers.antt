@@ -1,4 +1,4 @@
-use Rattle.std.proofs.Common.{◌≡◌, ◌∙◌, ap, ◌++◌, rules, arith, append_assoc, List, ℕ, length, take}
+use Rattle.std.proofs.Common.{◌≡◌, ◌∙◌, ap, ◌++◌, rules, arith, append_assoc, List, ℕ, take}
 use Rattle.std.proofs.lemmas.List.{take_all}
 use Rattle.osm_gate.specs.ResponseTexts.{head_text, response_text}
 use Rattle.osm_gate.specs.internal.Adding.{joined, parts_of}

@@ -1,6 +1,5 @@
 -- The head, and the parts so far.
 use Rattle.std.proofs.Common.{◌≡◌, ◌++◌, take}
-use Rattle.std.specs.String.{string_bytes}
 use Rattle.osm_gate.specs.internal.Adding.{joined}
 use Rattle.osm_gate.proofs.response.write_response.Given as goal
 

@@ -14,14 +14,14 @@ pub returns-in_default-read-clause-begun : goal.returns-in_default-read-clause-b
 returns-in_default-read-clause-begun g c =
     let (front, consumed, gate_is, responds) = c.loop.invariant in
     λ p holds. let (text, to_front, written) = responds p holds in
-        inl (front, text, Consumes-kept _ _ _ _ consumed c.in_default-read.ensures.bytes, to_front, all_front _ _ _ written)
+    inl (front, text, Consumes-kept _ _ _ _ consumed c.in_default-read.ensures.bytes, to_front, all_front _ _ _ written)
 
 pub returns-then-n-eq0-clause-begun : goal.returns-then-n-eq0-clause-begun
 returns-then-n-eq0-clause-begun g c =
     let (front, consumed, gate_is, responds) = c.loop.invariant in
     let none = rw c.if-n-eq0.true at c.in-Ok-read.ensures.bytes.0 in
     λ p holds. let (text, to_front, written) = responds p holds in
-        inl (front, text, rw (append-nil front) at (Consumes-trans _ _ _ _ _ consumed none), to_front, all_front _ _ _ written)
+    inl (front, text, rw (append-nil front) at (Consumes-trans _ _ _ _ _ consumed none), to_front, all_front _ _ _ written)
 
 pub returns-in_default-feed-clause-memory : goal.returns-in_default-feed-clause-memory
 returns-in_default-feed-clause-memory g c = λ p holds is.
