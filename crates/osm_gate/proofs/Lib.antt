@@ -1,0 +1,13 @@
+pub mod BreakLemmas
+pub mod ConnectionLemmas
+pub mod FeedLemmas
+pub mod FieldLemmas
+pub mod HeadEndLemmas
+pub mod HeadLemmas
+pub mod NoMemory
+pub mod RequestLemmas
+pub mod RespondingLemmas
+pub mod ResponseLemmas
+pub mod RouteLemmas
+pub mod ServeLemmas
+pub mod StepLemmas

@@ -1,0 +1,109 @@
+-- What is left of the bytes, and what is known of it.
+use Rattle.std.proofs.Common.{◌≡◌, ◌∙◌, ◌<◌, ◌≤◌, ◌+◌, ◌-◌, ℕ, Bool, true, false, List, [], ◌∷◌, ◌++◌, ap, sym, refl, arith, length, drop, take}
+use Rattle.std.specs.Prelude.{None, if◌then◌else◌, suc}
+use Rattle.std.proofs.lemmas.List.{length-drop, drop-drop}
+use Rattle.osm_index.specs.Publications.{Publication}
+use Rattle.osm_index.specs.Snapshots.{HoldsPublication}
+use Rattle.osm_index.specs.declared.snapshot.Snapshot.{Snapshot}
+use Rattle.osm_gate.specs.Connections.{Heard, Responds, RespondsTo, closed_rest, heard, open_rest, preceded}
+use Rattle.osm_gate.specs.HeadEnds.{begins_with_break, head_length, is_break, skip_breaks}
+use Rattle.osm_gate.specs.Requests.{Outcome, first_request}
+use Rattle.osm_gate.specs.declared.limits.TheConstants.{HEAD_LIMIT}
+use Rattle.osm_gate.specs.declared.requests.Step.TheVariants.{Ended, Next, Open}
+use Rattle.osm_gate.specs.internal.Kept.{IsOpen}
+use Rattle.osm_gate.specs.internal.Steps.{StepIs}
+use Rattle.osm_gate.proofs.BreakLemmas.{skip-none}
+use Rattle.osm_gate.proofs.ConnectionLemmas.{heard-last, heard-more, heard-stop}
+use Rattle.osm_gate.proofs.RequestLemmas.{request-progresses}
+use Rattle.osm_gate.proofs.RespondingLemmas.{responds-append}
+
+-- the bytes from some place on
+abbrev pub IsTail : List ℕ → List ℕ → Type 0
+IsTail rest bytes = (k : ℕ) × (k ≤ length bytes) × (rest ≡ drop k bytes)
+
+pub tail-whole : (bytes : List ℕ) → IsTail bytes bytes
+tail-whole bytes = (0, omega arith, refl)
+
+pub tail-drop : (rest bytes : List ℕ) (n : ℕ) → n ≤ length rest → IsTail rest bytes → IsTail (drop n rest) bytes
+tail-drop rest bytes n fits tail =
+    let (k, inside, is) = tail in
+    let left = ap length is in
+    (k + n, omega (arith, left, length-drop k bytes), ap (λ (t : List ℕ). drop n t) is ∙ drop-drop n k bytes)
+
+skip-drop : (a : List ℕ) → (j : ℕ) × (j ≤ length a) × (skip_breaks a ≡ drop j a)
+skip-drop [] = (0, omega arith, refl)
+skip-drop (x ∷ a) = go (is_break x) refl (skip-drop a)
+  where
+    go : (c : Bool) → is_break x ≡ c → (j : ℕ) × (j ≤ length a) × (skip_breaks a ≡ drop j a)
+        → (j : ℕ) × (j ≤ length (x ∷ a)) × ((if c then skip_breaks a else x ∷ a) ≡ drop j (x ∷ a))
+    go true e (j, fits, is) = (suc j, omega arith, is)
+    go false e later = (0, omega arith, refl)
+
+pub tail-skip : (rest bytes : List ℕ) → IsTail rest bytes → IsTail (skip_breaks rest) bytes
+tail-skip rest bytes tail =
+    let (j, fits, is) = skip-drop rest in
+    let (k, inside, same) = tail-drop rest bytes j fits tail in
+    (k, inside, is ∙ same)
+
+pub tail-place : (rest bytes : List ℕ) → IsTail rest bytes → (length rest ≤ length bytes) × (rest ≡ drop (length bytes - length rest) bytes)
+tail-place rest bytes tail =
+    let (k, inside, is) = tail in
+    let left = ap length is in
+    let size = length-drop k bytes in
+    let place : length bytes - length rest ≡ k = omega (arith, left, size) in
+    (omega (arith, left, size), rw place is)
+
+pub open-head : (bytes : List ℕ) → begins_with_break bytes ≡ false → head_length (take HEAD_LIMIT bytes) ≡ None → IsOpen 0 bytes
+open-head bytes begins e = record { starts = skip-none bytes begins; head = λ _. e; some = λ h. absurd (omega (arith, h)); waits = λ more h. absurd (omega (arith, h)) }
+
+pub open-body : (bytes : List ℕ) (needed : ℕ) → begins_with_break bytes ≡ false → (0 < length bytes) × (length bytes < needed)
+    → ((more : List ℕ) → length (bytes ++ more) < needed → first_request (bytes ++ more) ≡ None) → IsOpen needed bytes
+open-body bytes needed begins missing waits = record { starts = skip-none bytes begins; head = λ z. absurd (omega (arith, missing.0, missing.1, z)); some = λ _. missing.0; waits = waits }
+
+-- ---- one step of the loop
+
+-- the responses so far are those to these requests, and then the rest is heard
+abbrev pub SoFar : Snapshot → List ℕ → List ℕ → List ℕ → Type 0
+SoFar snapshot bytes rest text = (outcomes : List Outcome) × (heard bytes ≡ preceded outcomes (heard rest))
+    × ((p : Publication) → HoldsPublication snapshot p → Responds p outcomes text)
+
+module _ (snapshot : Snapshot) (bytes rest start old new : List ℕ) (starts : start ≡ skip_breaks rest) (so_far : SoFar snapshot bytes rest old) where
+  pub step-open : (needed : ℕ) → StepIs (Open needed) snapshot start old new
+      → ((p : Publication) → HoldsPublication snapshot p → RespondsTo p bytes new) × ((heard bytes).rest ≡ open_rest start)
+  step-open needed step =
+      let (outcomes, said, responds) = so_far in
+      let none = rw starts at step.0 in
+      let whole = heard-stop bytes rest outcomes none said in
+      let same : (heard bytes).outcomes ≡ outcomes = ap (λ (s : Heard). s.outcomes) whole in
+      (λ p holds. rw (same, step.2) (responds p holds), ap (λ (s : Heard). s.rest) whole ∙ ap open_rest (sym starts))
+
+  pub step-ended : StepIs Ended snapshot start old new
+      → ((p : Publication) → HoldsPublication snapshot p → RespondsTo p bytes new) × ((heard bytes).rest ≡ closed_rest)
+  step-ended step =
+      let (outcomes, said, responds) = so_far in
+      let (d, first, ends, adds) = step in
+      let is = rw starts at first in
+      let whole = heard-last bytes rest outcomes d is ends said in
+      let same : (heard bytes).outcomes ≡ outcomes ++ d.outcome ∷ [] = ap (λ (s : Heard). s.outcomes) whole in (
+        λ p holds. let (text, one, added) = adds p holds in
+            rw (same, added) (responds-append p outcomes (d.outcome ∷ []) old text (responds p holds) one),
+        ap (λ (s : Heard). s.rest) whole,
+      )
+
+  pub step-next : (used : ℕ) → StepIs (Next used) snapshot start old new
+      → (0 < used) × (used ≤ length start) × SoFar snapshot bytes (drop used start) new
+  step-next used step =
+      let (outcomes, said, responds) = so_far in
+      let (d, first, stays, adds, same) = step in
+      let is = rw starts at first in
+      let progress = request-progresses start d first in
+      let more = heard-more bytes rest outcomes d is stays said in (
+        omega (arith, progress.0, same),
+        omega (arith, progress.1, same),
+        (
+          outcomes ++ d.outcome ∷ [],
+          more ∙ (λ i. preceded (outcomes ++ d.outcome ∷ []) (heard (drop (same i) ((sym starts) i)))),
+          λ p holds. let (text, one, added) = adds p holds in
+              rw added (responds-append p outcomes (d.outcome ∷ []) old text (responds p holds) one),
+        ),
+      )

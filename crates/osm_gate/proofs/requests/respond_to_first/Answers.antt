@@ -1,0 +1,52 @@
+use Rattle.std.proofs.Common.{◌∙◌, sym, refl}
+use Rattle.osm_gate.specs.Requests.{Decided, asked, refused}
+use Rattle.osm_gate.specs.ResponseTexts.{response_text}
+use Rattle.osm_gate.specs.Responses.{refused_response}
+use Rattle.osm_gate.specs.internal.Decisions.{asked_of}
+use Rattle.osm_gate.proofs.RespondingLemmas.{responds-one}
+use Rattle.osm_gate.proofs.StepLemmas.{open-body, open-head}
+use Rattle.osm_gate.proofs.requests.respond_to_first.Goals as goal
+
+pub returns-then-branch : goal.returns-then-branch
+returns-then-branch c =
+    let a = asked_of c.in-Complete.request in
+    let d : Decided = record { outcome = asked a; used = c.in-Complete.used } in (
+      d,
+      sym c.in-Complete.ensures.decided,
+      sym c.in_ok-respond-in-Complete.ensures.closes ∙ c.if-branch.true,
+      λ p holds. let (r, is, added) = c.in_ok-respond-in-Complete.ensures.text p holds in
+          (response_text r, responds-one p (asked a) (response_text r) (r, is, refl), added),
+    )
+
+pub returns-else-branch : goal.returns-else-branch
+returns-else-branch c =
+    let a = asked_of c.in-Complete.request in
+    let d : Decided = record { outcome = asked a; used = c.in-Complete.used } in (
+      d,
+      sym c.in-Complete.ensures.decided,
+      sym c.in_ok-respond-in-Complete.ensures.closes ∙ c.if-branch.false,
+      λ p holds. let (r, is, added) = c.in_ok-respond-in-Complete.ensures.text p holds in
+          (response_text r, responds-one p (asked a) (response_text r) (r, is, refl), added),
+      refl,
+    )
+
+pub returns-in-HeadOpen : goal.returns-in-HeadOpen
+returns-in-HeadOpen c =
+    (sym c.in-HeadOpen.ensures.decided, open-head c.args.bytes.now c.requires.begins c.in-HeadOpen.ensures.open, refl)
+
+pub returns-in-BodyOpen : goal.returns-in-BodyOpen
+returns-in-BodyOpen c = (
+  sym c.in-BodyOpen.ensures.decided,
+  open-body c.args.bytes.now c.in-BodyOpen.needed c.requires.begins c.in-BodyOpen.ensures.missing c.in-BodyOpen.ensures.waits,
+  refl,
+)
+
+pub returns-in_ok-refuse-in-Refused : goal.returns-in_ok-refuse-in-Refused
+returns-in_ok-refuse-in-Refused c =
+    let d : Decided = record { outcome = refused c.in-Refused.refusal; used = c.in-Refused.used } in
+    let text = response_text (refused_response c.in-Refused.refusal) in (
+      d,
+      sym c.in-Refused.ensures.decided,
+      refl,
+      λ p holds. (text, responds-one p (refused c.in-Refused.refusal) text refl, c.in_ok-refuse-in-Refused.ensures),
+    )

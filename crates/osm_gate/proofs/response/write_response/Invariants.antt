@@ -1,0 +1,7 @@
+-- The head, and the parts so far.
+use Rattle.std.proofs.Common.{◌≡◌, ◌++◌, take}
+use Rattle.osm_gate.specs.internal.Adding.{joined}
+use Rattle.osm_gate.proofs.response.write_response.Given as goal
+
+abbrev pub invariant-loop-part : goal.invariant-loop-part
+invariant-loop-part l = l.output.items ≡ (l.initial.output.items ++ joined (take l.part-index l.body))

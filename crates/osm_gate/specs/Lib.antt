@@ -1,0 +1,12 @@
+pub mod Connections
+pub mod Fields
+pub mod Forms
+pub mod HeadEnds
+pub mod Heads
+pub mod Requests
+pub mod ResponseTexts
+pub mod Responses
+pub mod Routes
+pub mod Serving
+pub mod Written
+pub mod internal

@@ -1,0 +1,127 @@
+-- The response that a request has over a publication.
+-- Source: this project; the statuses are those of RFC 9110, section 15, and RFC 6585, section 5.
+use Rattle.std.specs.Prelude.{◌≡◌, ℕ, Bool, true, false, ◌||◌, List, [], ◌∷◌, ◌++◌, length, Option, Some, None, if◌then◌else◌, codes}
+use Rattle.std.specs.Fmt.{decimal}
+use Rattle.std.specs.Int.{to_be_bytes, w64}
+use Rattle.std.specs.Str.{bytes_eq}
+use Rattle.hex.specs.Hex.{encode_lower}
+use Rattle.osm_model.specs.Bytes.{line_feed}
+use Rattle.osm_index.specs.Publications.{Publication, root_of}
+use Rattle.osm_prove.specs.Proved.{IsProved}
+use Rattle.ql_syntax.specs.Queries.{HasFault}
+use Rattle.ql_syntax.specs.Refusals.{code_text}
+use Rattle.ql_syntax.specs.declared.fault.QlFault.{QlFault}
+use Rattle.osm_gate.specs.Forms.{query_of}
+use Rattle.osm_gate.specs.Requests.{Asked}
+use Rattle.osm_gate.specs.ResponseTexts.{Response}
+use Rattle.osm_gate.specs.Routes.{path_of, place_of}
+use Rattle.osm_gate.specs.declared.method.Method.{Method}
+use Rattle.osm_gate.specs.declared.method.Method.TheVariants.{Get, Other, Post}
+use Rattle.osm_gate.specs.declared.place.Place.{Place}
+use Rattle.osm_gate.specs.declared.place.Place.TheVariants.{Checked, Interpreter, Root}
+use Rattle.osm_gate.specs.declared.refusal.Refusal.{Refusal}
+use Rattle.osm_gate.specs.declared.refusal.Refusal.TheVariants.{BadHead, BadLength, HeadTooLarge, LengthRequired, TooLarge, TransferCoding}
+
+-- ---- kinds of responses
+
+-- a refusal says why in its body
+abbrev pub refusal : Bool → ℕ → List ℕ → Response
+refusal closes status text = record {
+  head = record { status = status; is_binary = false; root = None; allow = None; closes = closes };
+  body = text ++ line_feed ∷ [];
+}
+
+abbrev pub not_allowed : Bool → List ℕ → Response
+not_allowed closes methods = record {
+  head = record { status = 405; is_binary = false; root = None; allow = Some methods; closes = closes };
+  body = codes "method not allowed" ++ line_feed ∷ [];
+}
+
+-- what was asked for, under this root
+abbrev pub found : Bool → List ℕ → Bool → List ℕ → Response
+found closes root is_binary body = record {
+  head = record { status = 200; is_binary = is_binary; root = Some root; allow = None; closes = closes };
+  body = body;
+}
+
+-- ---- queries
+
+-- what is told of a query: why it doesn't read, or a root, and the answer and the proof under it
+pub data Told : Type 0 where
+  not_read : QlFault → Told
+  answered : List ℕ → List ℕ → List ℕ → Told
+
+-- it is the query's fault, or the publication's root, the query's meaning over its set, and the one proof
+unfoldable pub Tells : Publication → List ℕ → Told → Type 0
+Tells p query (not_read fault) = HasFault query fault
+Tells p query (answered root answer proof) = (root ≡ root_of p) × IsProved p query answer proof
+
+-- the code of the cause, and the place: `Q7 byte 5`
+abbrev pub fault_text : QlFault → List ℕ
+fault_text fault = code_text fault.cause ++ (codes " byte " ++ decimal fault.byte)
+
+-- the answer alone, or what a client can check: the root, the length of the answer in eight bytes, the answer
+-- and the proof
+abbrev pub told_body : Bool → List ℕ → List ℕ → List ℕ → List ℕ
+told_body true root answer proof = root ++ (to_be_bytes w64 (length answer) ++ (answer ++ proof))
+told_body false root answer proof = answer
+
+abbrev pub by_told : Bool → Bool → Told → Response
+by_told closes is_checked (not_read fault) = refusal closes 400 (fault_text fault)
+by_told closes is_checked (answered root answer proof) = found closes root is_checked (told_body is_checked root answer proof)
+
+abbrev pub ByQuery : Bool → Bool → Publication → Option (List ℕ) → Response → Type 0
+ByQuery closes is_checked p None r = r ≡ refusal closes 400 (codes "no data")
+ByQuery closes is_checked p (Some query) r = (told : Told) × Tells p query told × (r ≡ by_told closes is_checked told)
+
+-- ---- methods and places
+
+abbrev pub method_of : List ℕ → Method
+method_of method = if bytes_eq method (codes "GET") then Get else (if bytes_eq method (codes "POST") then Post else Other)
+
+abbrev pub ByMethod : Bool → Bool → Publication → Asked → Method → Response → Type 0
+ByMethod closes is_checked p a Get r = ByQuery closes is_checked p (query_of false a) r
+ByMethod closes is_checked p a Post r = ByQuery closes is_checked p (query_of true a) r
+ByMethod closes is_checked p a Other r = r ≡ not_allowed closes (codes "GET, POST")
+
+-- the root in hexadecimal digits
+abbrev pub root_by_method : Bool → List ℕ → Method → Response
+root_by_method closes root Get = found closes root false (encode_lower root ++ line_feed ∷ [])
+root_by_method closes root Post = not_allowed closes (codes "GET")
+root_by_method closes root Other = not_allowed closes (codes "GET")
+
+abbrev pub ByPlace : Bool → Publication → Asked → Option Place → Response → Type 0
+ByPlace closes p a None r = r ≡ refusal closes 404 (codes "not found")
+ByPlace closes p a (Some Interpreter) r = ByMethod closes false p a (method_of a.method) r
+ByPlace closes p a (Some Checked) r = ByMethod closes true p a (method_of a.method) r
+ByPlace closes p a (Some Root) r = r ≡ root_by_method closes (root_of p) (method_of a.method)
+
+-- the connection ends after the response to this request
+abbrev pub ends : Asked → Bool
+ends a = a.closes || bytes_eq a.method (codes "HEAD")
+
+-- the response to a complete request
+unfoldable pub IsResponse : Publication → Asked → Response → Type 0
+IsResponse p a r = ByPlace (ends a) p a (place_of (path_of a.target)) r
+
+-- ---- requests that are refused as they stand
+
+abbrev pub refusal_status : Refusal → ℕ
+refusal_status HeadTooLarge = 431
+refusal_status BadHead = 400
+refusal_status TransferCoding = 501
+refusal_status BadLength = 400
+refusal_status LengthRequired = 411
+refusal_status TooLarge = 413
+
+abbrev pub refusal_text : Refusal → List ℕ
+refusal_text HeadTooLarge = codes "head too large"
+refusal_text BadHead = codes "bad head"
+refusal_text TransferCoding = codes "transfer coding"
+refusal_text BadLength = codes "bad length"
+refusal_text LengthRequired = codes "length required"
+refusal_text TooLarge = codes "too large"
+
+-- the connection ends after each
+abbrev pub refused_response : Refusal → Response
+refused_response r = refusal true (refusal_status r) (refusal_text r)

@@ -1,0 +1,29 @@
+-- Where the target of a request leads.
+-- Source: RFC 9112, section 3.2; the paths are this project's. What a path matches is matchit's.
+use Rattle.std.specs.Prelude.{ℕ, List, [], ◌∷◌, Option, None, option_map, if◌then◌else◌, codes}
+use Rattle.std.specs.Str.{is_utf8}
+use Rattle.form_urlencoded.specs.Form.{split_once}
+use Rattle.matchit.specs.Router.{RouteOf}
+use Rattle.matchit.specs.Rows.{RowsOf}
+use Rattle.matchit.specs.Seek.{first}
+use Rattle.osm_gate.specs.declared.place.Place.{Place}
+use Rattle.osm_gate.specs.declared.place.Place.TheVariants.{Checked, Interpreter, Root}
+use Rattle.osm_gate.specs.declared.target.TheConstants.{QUESTION_MARK}
+
+-- a target's path and its query part, before and after the first `?`; the path isn't decoded
+abbrev pub path_of : List ℕ → List ℕ
+path_of target = (split_once QUESTION_MARK target).0
+
+abbrev pub query_part : List ℕ → List ℕ
+query_part target = (split_once QUESTION_MARK target).1
+
+-- a route without parameters
+abbrev pub route : List ℕ → Place → List ℕ × RouteOf Place
+route text place = (text, record { pattern = text; text = text; names = []; value = place })
+
+-- the routes, in the order in which the router keeps them
+abbrev pub route_rows : RowsOf (RouteOf Place)
+route_rows = route (codes "/api/checked") Checked ∷ route (codes "/api/interpreter") Interpreter ∷ route (codes "/api/root") Root ∷ []
+
+unfoldable pub place_of : List ℕ → Option Place
+place_of path = if is_utf8 path then option_map (λ route. route.value) (first route_rows path) else None

@@ -1,0 +1,40 @@
+-- What the code writes responses from, and what it has added to its output.
+use Rattle.std.specs.Prelude.{◌≡◌, ℕ, List, ◌++◌, Result, Ok, Err, option_map}
+use Rattle.std.specs.Borrow.{Bor}
+use Rattle.std.specs.List.{flat_map}
+use Rattle.std.specs.String.{string_bytes}
+use Rattle.ql_syntax.specs.declared.fault.QlFault.{QlFault}
+use Rattle.osm_prove.specs.declared.proved.Proved.{Proved}
+use Rattle.osm_gate.specs.ResponseTexts.{HeadParts, Response, response_text}
+use Rattle.osm_gate.specs.Responses.{Told, answered, not_read}
+use Rattle.osm_gate.specs.declared.query_text.QueryText.{QueryText}
+use Rattle.osm_gate.specs.declared.query_text.QueryText.TheVariants.{Body, Form}
+use Rattle.osm_gate.specs.declared.response.ResponseHead.{ResponseHead}
+
+abbrev pub parts_of : ResponseHead → HeadParts
+parts_of head = record {
+  status = head.status;
+  is_binary = head.is_binary;
+  root = option_map (λ root. root.now.0) head.root;
+  allow = option_map (λ allow. allow.now) head.allow;
+  closes = head.closes;
+}
+
+-- the parts of a body, one after the other
+abbrev pub joined : List (Bor (List ℕ)) → List ℕ
+joined parts = flat_map (λ (part : Bor (List ℕ)). part.now) parts
+
+abbrev pub response_of : ResponseHead → List (Bor (List ℕ)) → Response
+response_of head body = record { head = parts_of head; body = joined body }
+
+abbrev pub text_of : QueryText → List ℕ
+text_of (Form text) = string_bytes text
+text_of (Body body) = body.now
+
+abbrev pub told_of : Result Proved QlFault → Told
+told_of (Ok proved) = answered proved.root.0 proved.answer.items proved.proof.items
+told_of (Err fault) = not_read fault
+
+-- a response was added of which this is so
+abbrev pub AddsResponse : (Response → Type 0) → List ℕ → List ℕ → Type 0
+AddsResponse P old new = (r : Response) × P r × (new ≡ old ++ response_text r)

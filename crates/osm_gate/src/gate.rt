@@ -1,0 +1,124 @@
+//! One connection.
+
+ghost use Rattle.std.specs.Prelude.{◌≡◌, ◌≤◌, IfOk, OnErr, [], drop, length};
+ghost use Rattle.osm_index.specs.Publications.{Publication};
+ghost use Rattle.osm_index.specs.Snapshots.{HoldsPublication};
+ghost use Rattle.osm_gate.specs.Connections.{Responds, Rest, heard_next, open_rest};
+ghost use Rattle.osm_gate.specs.internal.Kept.{IsKept};
+
+use crate::place::{Place, routes};
+use crate::requests::respond_to_all;
+use matchit::{InsertError, Router};
+use osm_index::Snapshot;
+use std::alloc::{AllocError, Global};
+use std::marker::Model;
+
+/// One connection, which is fed its bytes in pieces and gives the responses to its requests. Contracts see it as
+/// whether it is closed, and the bytes after the last complete request.
+///
+/// How the bytes are cut into pieces changes no response. All pieces together are looked at in time that is
+/// linear in their bytes: no head is scanned anew because a piece of it has come. The gate keeps no more than a
+/// head and a body.
+#[derive(Drop)]
+pub struct Gate {
+    alloc: Global,
+    router: Router<Place>,
+    rest: Vec<u8>,
+    /// The rest is no complete request as long as it has fewer bytes; 0 where its head isn't complete.
+    needed: usize,
+    is_closed: bool,
+}
+
+impl Model for Gate {
+    ghost Value = { Rest };
+
+    ghost view = { λ gate. record { is_closed = gate.is_closed; bytes = gate.rest.items } };
+
+    ghost invariant = { λ gate. IsKept gate.is_closed gate.needed gate.rest.items gate.router };
+}
+
+impl Gate {
+    /// A new connection. Refused only where memory runs out.
+    pub fn new(alloc: Global) -> Result<Gate, AllocError>
+        // It isn't closed, and has no bytes yet.
+        ensures { IfOk result (λ gate. gate ≡ open_rest []) }
+    {
+        match routes(alloc) {
+            Ok(router) => Ok(Gate {
+                alloc,
+                router,
+                rest: Vec::new(alloc),
+                needed: 0,
+                is_closed: false,
+            }),
+            Err(InsertError::OutOfMemory) => Err(AllocError),
+            Err(_) => unreachable!("the routes don't conflict"),
+        }
+    }
+
+    /// Whether the connection has ended: no further bytes have a response. It takes no memory.
+    pub fn closed(&self) -> bool
+        ensures { result ≡ self.now.is_closed }
+    {
+        self.is_closed
+    }
+
+    /// Takes the next piece, and gives the responses to the requests that it completes, over the snapshot. None
+    /// once the gate is closed. Refused only where memory runs out.
+    pub fn feed(&mut self, piece: &[u8], snapshot: &Snapshot) -> Result<Vec<u8>, AllocError>
+        // What is given responds to the requests of what was left and of this piece,
+        ensures responses { (p : Publication) → HoldsPublication snapshot.now p
+            → IfOk result (λ responses. Responds p (heard_next self.old piece.now).outcomes responses.items) }
+        // and what is left of both is left.
+        ensures rest { IfOk result (λ responses. self.new ≡ (heard_next self.old piece.now).rest) }
+        // Out of memory the gate is as before: no part of the piece was taken.
+        ensures unchanged { OnErr result (self.new ≡ self.old) }
+    {
+        if self.is_closed {
+            return Ok(Vec::new(self.alloc));
+        }
+        let before = self.rest.len();
+        self.rest.extend_from_slice(piece)?;
+        if self.rest.len() < self.needed {
+            return Ok(Vec::new(self.alloc));
+        }
+        // Without a complete head all of the rest has been scanned; with one there is no need to scan it again.
+        let scanned = if self.needed == 0 { before } else { 0 };
+        let rest = self.rest.as_slice();
+        let (responses, left) = match respond_to_all(
+            self.alloc,
+            &self.router,
+            snapshot,
+            rest,
+            scanned,
+        ) {
+            Ok(both) => both,
+            Err(error) => {
+                self.rest.truncate(before);
+                return Err(error);
+            }
+        };
+        match left {
+            Some(open) => {
+                drop_front(&mut self.rest, open.at);
+                self.needed = open.needed;
+            }
+            None => {
+                self.rest.clear();
+                self.needed = 0;
+                self.is_closed = true;
+            }
+        }
+        Ok(responses)
+    }
+}
+
+/// Takes so many bytes off the front.
+fn drop_front(bytes: &mut Vec<u8>, count: usize)
+    requires { count ≤ length bytes.old.items }
+    ensures { bytes.new.items ≡ drop count bytes.old.items }
+{
+    let left = bytes.len() - count;
+    bytes.as_mut_slice().rotate_left(count);
+    bytes.truncate(left);
+}

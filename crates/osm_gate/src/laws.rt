@@ -1,0 +1,32 @@
+//! Laws of heads and of connections.
+
+ghost use Rattle.std.specs.Prelude.{◌≡◌, ◌↔◌, ◌++◌, ℕ, List, Some, [], true};
+ghost use Rattle.httparse.specs.Grammar.{RequestHead};
+ghost use Rattle.osm_index.specs.Publications.{Publication};
+ghost use Rattle.osm_gate.specs.Connections.{Responds, Rest, closed_rest, heard, heard_next, preceded};
+ghost use Rattle.osm_gate.specs.Heads.{IsHead, head_of};
+ghost use Rattle.osm_gate.specs.Requests.{Outcome};
+
+/// A law: bytes are found to be a head exactly where httparse's grammar reads them as it.
+pub fn head_is_the_grammars()
+    ensures { (bytes : List ℕ) (h : RequestHead) → (head_of bytes ≡ Some h) ↔ IsHead bytes h }
+{}
+
+/// A law: some bytes and then others ask what the first ask, and then what is left of them and the others ask. So
+/// pieces may be cut anywhere.
+pub fn pieces_ask_the_same()
+    ensures { (a b : List ℕ) → heard (a ++ b) ≡ preceded (heard a).outcomes (heard_next (heard a).rest b) }
+{}
+
+/// A law: after the end of a connection no bytes ask anything, and nothing is left of them.
+pub fn nothing_after_the_end()
+    ensures { (rest : Rest) (piece : List ℕ) → rest.is_closed ≡ true
+        → ((heard_next rest piece).outcomes ≡ []) × ((heard_next rest piece).rest ≡ closed_rest) }
+{}
+
+/// A law: what responds to some requests and then to others is what responds to the first, and then what responds
+/// to the others.
+pub fn responses_stand_in_order()
+    ensures { (p : Publication) (first second : List Outcome) (text : List ℕ) → Responds p (first ++ second) text
+        → (a : List ℕ) × (b : List ℕ) × Responds p first a × Responds p second b × (text ≡ a ++ b) }
+{}

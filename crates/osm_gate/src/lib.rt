@@ -1,0 +1,32 @@
+//! HTTP: a connection is fed bytes and gives responses.
+//!
+//! A [`Gate`] is one connection: it is fed pieces of bytes, and gives the responses to the requests that they
+//! complete. [`serve`](serve::serve) drives one over a reader and a writer.
+#![tactic(auto)]
+
+mod decision;
+mod fields;
+mod gate;
+mod gate_fault;
+mod head;
+mod head_end;
+mod laws;
+mod limits;
+mod method;
+mod place;
+mod query_text;
+mod refusal;
+mod request;
+mod requests;
+mod respond;
+mod response;
+pub mod serve;
+mod target;
+mod told;
+pub mod write_whole;
+
+pub use gate::Gate;
+pub use gate_fault::GateFault;
+pub use laws::{
+    head_is_the_grammars, nothing_after_the_end, pieces_ask_the_same, responses_stand_in_order,
+};

@@ -1,0 +1,104 @@
+//! All complete requests of some bytes.
+
+ghost use Rattle.std.specs.Prelude.{◌≡◌, ◌≤◌, IfOk, IfSome, None, drop, false, length, take};
+ghost use Rattle.osm_index.specs.Publications.{Publication};
+ghost use Rattle.osm_index.specs.Snapshots.{HoldsPublication};
+ghost use Rattle.osm_gate.specs.Connections.{RespondsTo, heard};
+ghost use Rattle.osm_gate.specs.HeadEnds.{begins_with_break, head_length, skip_breaks};
+ghost use Rattle.osm_gate.specs.Requests.{first_request};
+ghost use Rattle.osm_gate.specs.Routes.{route_rows};
+ghost use Rattle.osm_gate.specs.internal.Kept.{IsOpen};
+ghost use Rattle.osm_gate.specs.internal.Steps.{StepIs, rest_at};
+ghost use Rattle.osm_gate.specs.declared.limits.TheConstants.{HEAD_LIMIT};
+
+use crate::decision::{Decision, first_request};
+use crate::head_end::without_breaks;
+use crate::place::Place;
+use crate::respond::{refuse, respond};
+use matchit::Router;
+use osm_index::Snapshot;
+use std::alloc::{AllocError, Global};
+
+/// Where the bytes after the last complete request begin, and how many of them are needed before one more can
+/// be complete: 0 where their head isn't complete.
+#[derive(Clone, Copy, Debug)]
+pub(crate) struct Open {
+    pub(crate) at: usize,
+    pub(crate) needed: usize,
+}
+
+/// What came of the first request.
+#[derive(Clone, Copy, Debug)]
+pub(crate) enum Step {
+    /// It isn't complete.
+    Open { needed: usize },
+    /// It has its response, and the connection ends.
+    Ended,
+    /// It has its response, and took so many bytes.
+    Next { used: usize },
+}
+
+/// The responses to all complete requests, and what is left unless the connection ends. The first `scanned` bytes,
+/// those without CR and LF before them, are known to hold no complete head.
+pub(crate) fn respond_to_all(
+    alloc: Global,
+    router: &Router<Place>,
+    snapshot: &Snapshot,
+    bytes: &[u8],
+    scanned: usize,
+) -> Result<(Vec<u8>, Option<Open>), AllocError>
+    requires router { router.now ≡ route_rows }
+    requires scanned { head_length (take scanned (take HEAD_LIMIT (skip_breaks bytes.now))) ≡ None }
+    ensures responses { (p : Publication) → HoldsPublication snapshot.now p → IfOk result (λ both. RespondsTo p bytes.now both.0.items) }
+    ensures rest { IfOk result (λ both. (heard bytes.now).rest ≡ rest_at bytes.now both.1) }
+    ensures open { IfOk result (λ both. IfSome both.1 (λ open_at. (open_at.at ≤ length bytes.now) × IsOpen open_at.needed (drop open_at.at bytes.now))) }
+{
+    let mut responses = Vec::new(alloc);
+    let mut rest = bytes;
+    let mut scanned = scanned;
+    loop {
+        let start = without_breaks(rest);
+        match respond_to_first(alloc, &mut responses, router, snapshot, start, scanned)? {
+            Step::Open { needed } => {
+                let at = bytes.len() - start.len();
+                return Ok((responses, Some(Open { at, needed })));
+            }
+            Step::Ended => return Ok((responses, None)),
+            Step::Next { used } => {
+                let (_, later) = start.split_at(used);
+                rest = later;
+                scanned = 0;
+            }
+        }
+    }
+}
+
+/// Appends the response to the first request, where it is complete.
+fn respond_to_first(
+    alloc: Global,
+    responses: &mut Vec<u8>,
+    router: &Router<Place>,
+    snapshot: &Snapshot,
+    bytes: &[u8],
+    scanned: usize,
+) -> Result<Step, AllocError>
+    requires router { router.now ≡ route_rows }
+    requires begins { begins_with_break bytes.now ≡ false }
+    requires scanned { head_length (take scanned (take HEAD_LIMIT bytes.now)) ≡ None }
+    ensures { IfOk result (λ step. StepIs step snapshot.now bytes.now responses.old.items responses.new.items) }
+{
+    match first_request(bytes, scanned) {
+        Decision::HeadOpen => Ok(Step::Open { needed: 0 }),
+        Decision::BodyOpen { needed } => Ok(Step::Open { needed }),
+        Decision::Refused { refusal, used: _ } => {
+            refuse(alloc, responses, refusal)?;
+            Ok(Step::Ended)
+        }
+        Decision::Complete { request, used } => {
+            if respond(alloc, responses, router, snapshot, &request)? {
+                return Ok(Step::Ended);
+            }
+            Ok(Step::Next { used })
+        }
+    }
+}
