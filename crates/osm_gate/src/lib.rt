@@ -30,3 +30,6 @@ pub use gate_fault::GateFault;
 pub use laws::{
     head_is_the_grammars, nothing_after_the_end, pieces_ask_the_same, responses_stand_in_order,
 };
+
+#[cfg(test)]
+mod tests;
