@@ -37,18 +37,18 @@ fn snapshot_of(alloc: Global, set: &str, edition: Edition) -> Result<Snapshot, F
 
 /// What a connection came to.
 #[derive(Drop)]
-struct Fed {
+struct Seen {
     responses: Vec<u8>,
     left: Vec<u8>,
     closed: bool,
 }
 
 /// What a connection comes to that is fed two pieces.
-fn fed(alloc: Global, snapshot: &Snapshot, first: &[u8], second: &[u8]) -> Result<Fed, Fail> {
+fn fed(alloc: Global, snapshot: &Snapshot, first: &[u8], second: &[u8]) -> Result<Seen, Fail> {
     let mut gate = Gate::new(alloc)?;
     let mut responses = gate.feed(first, snapshot)?;
     responses.extend_from_slice(&gate.feed(second, snapshot)?)?;
-    Ok(Fed {
+    Ok(Seen {
         responses,
         left: gate.left().to_vec(alloc)?,
         closed: gate.closed(),
@@ -56,13 +56,13 @@ fn fed(alloc: Global, snapshot: &Snapshot, first: &[u8], second: &[u8]) -> Resul
 }
 
 /// The same, a byte a piece.
-fn fed_bytewise(alloc: Global, snapshot: &Snapshot, bytes: &[u8]) -> Result<Fed, Fail> {
+fn fed_bytewise(alloc: Global, snapshot: &Snapshot, bytes: &[u8]) -> Result<Seen, Fail> {
     let mut gate = Gate::new(alloc)?;
     let mut responses = Vec::new(alloc);
     for byte in bytes {
         responses.extend_from_slice(&gate.feed(&[*byte], snapshot)?)?;
     }
-    Ok(Fed {
+    Ok(Seen {
         responses,
         left: gate.left().to_vec(alloc)?,
         closed: gate.closed(),

@@ -1,6 +1,6 @@
 //! Lengths and statuses beyond the rows of the independent program, as the profile states them.
 
-use super::{ALL_KINDS, Fed, fed, snapshot_of};
+use super::{ALL_KINDS, Seen, fed, snapshot_of};
 use osm_index::{Edition, Snapshot};
 use std::alloc::Global;
 use std::process::Abort;
@@ -10,7 +10,7 @@ use std::test::Fail;
 type Told = (&'static str, &'static str, bool);
 
 /// Whether a response has this status and this length.
-fn check_told(rt: &(impl Abort + AllocGlobal), got: &Fed, want: Told) -> Result<(), Fail> {
+fn check_told(rt: &(impl Abort + AllocGlobal), got: &Seen, want: Told) -> Result<(), Fail> {
     let (status, length, closed) = want;
     let text = std::str::from_utf8(&got.responses)?;
     let line = format!(in rt.alloc(); "HTTP/1.1 {status}\r\n")?;
@@ -22,7 +22,7 @@ fn check_told(rt: &(impl Abort + AllocGlobal), got: &Fed, want: Told) -> Result<
 }
 
 /// A POST with this body.
-fn posted(alloc: Global, snapshot: &Snapshot, path: &str, body: &[u8]) -> Result<Fed, Fail> {
+fn posted(alloc: Global, snapshot: &Snapshot, path: &str, body: &[u8]) -> Result<Seen, Fail> {
     let len = body.len();
     let head = format!(in alloc; "POST {path} HTTP/1.1\r\nContent-Length: {len}\r\n\r\n")?;
     fed(alloc, snapshot, head.as_bytes(), body)

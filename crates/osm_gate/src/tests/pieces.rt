@@ -2,7 +2,7 @@
 
 use super::rows::{End, ROWS, Row, Sent};
 use super::{
-    ALL_KINDS, Fed, LATER_ROOT, ROOT, ROOT_OF_NONE, checked, fed, fed_bytewise, snapshot_of,
+    ALL_KINDS, LATER_ROOT, ROOT, ROOT_OF_NONE, Seen, checked, fed, fed_bytewise, snapshot_of,
 };
 use osm_index::{Edition, Snapshot};
 use std::alloc::Global;
@@ -59,13 +59,14 @@ fn hex(alloc: Global, bytes: &[u8]) -> Result<String, Fail> {
 }
 
 /// Whether a connection came to this.
-fn check_fed(rt: &(impl Abort + AllocGlobal), got: &Fed, responses: &[u8], left: &[u8], end: End) {
+fn check_fed(rt: &(impl Abort + AllocGlobal), got: &Seen, responses: &[u8], left: &[u8], end: End) {
     assert_eq!(rt; got.responses.as_slice(), responses);
     assert_eq!(rt; got.left.as_slice(), left);
     assert_eq!(rt; got.closed, end == End::Closed);
 }
 
-/// Whether these bytes come to this, fed whole, byte by byte, and in every two pieces.
+/// Whether these bytes come to this, fed whole, byte by byte, and in every two pieces; in some two pieces where there are
+/// thousands of bytes, among them those that are cut near the end.
 fn check_cuts(
     rt: &(impl Abort + AllocGlobal),
     snapshot: &Snapshot,
@@ -79,6 +80,9 @@ fn check_cuts(
     check_fed(rt, &got, responses, left, end);
     for cut in 0..=bytes.len() {
         let (first, second) = bytes.split_at(cut);
+        if bytes.len() > 4096 && second.len() > 8 && cut % 61 > 0 {
+            continue;
+        }
         let got = fed(alloc, snapshot, first, second)?;
         check_fed(rt, &got, responses, left, end);
     }
