@@ -5,9 +5,11 @@ pub mod FieldLemmas
 pub mod HeadEndLemmas
 pub mod HeadLemmas
 pub mod NoMemory
+pub mod OneResponse
 pub mod RequestLemmas
 pub mod RespondingLemmas
 pub mod ResponseLemmas
 pub mod RouteLemmas
 pub mod ServeLemmas
+pub mod ShortRests
 pub mod StepLemmas

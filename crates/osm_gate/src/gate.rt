@@ -63,6 +63,12 @@ impl Gate {
         self.is_closed
     }
 
+    /// The bytes after the last complete request.
+    #[cfg(test)]
+    pub(crate) fn left(&self) -> &[u8] {
+        &self.rest
+    }
+
     /// Takes the next piece, and gives the responses to the requests that it completes, over the snapshot. None
     /// once the gate is closed. Refused only where memory runs out.
     pub fn feed(&mut self, piece: &[u8], snapshot: &Snapshot) -> Result<Vec<u8>, AllocError>

@@ -1,11 +1,12 @@
 //! Laws of heads and of connections.
 
-ghost use Rattle.std.specs.Prelude.{◌≡◌, ◌↔◌, ◌++◌, ℕ, List, Some, [], true};
+ghost use Rattle.std.specs.Prelude.{◌≡◌, ◌↔◌, ◌++◌, ◌+◌, ◌<◌, ℕ, List, Some, [], length, true};
 ghost use Rattle.httparse.specs.Grammar.{RequestHead};
-ghost use Rattle.osm_index.specs.Publications.{Publication};
+ghost use Rattle.osm_index.specs.Publications.{IsPublication, Publication};
 ghost use Rattle.osm_gate.specs.Connections.{Responds, Rest, closed_rest, heard, heard_next, preceded};
 ghost use Rattle.osm_gate.specs.Heads.{IsHead, head_of};
 ghost use Rattle.osm_gate.specs.Requests.{Outcome};
+ghost use Rattle.osm_gate.specs.declared.limits.TheConstants.{BODY_LIMIT, HEAD_LIMIT};
 
 /// A law: bytes are found to be a head exactly where httparse's grammar reads them as it.
 pub fn head_is_the_grammars()
@@ -29,4 +30,15 @@ pub fn nothing_after_the_end()
 pub fn responses_stand_in_order()
     ensures { (p : Publication) (first second : List Outcome) (text : List ℕ) → Responds p (first ++ second) text
         → (a : List ℕ) × (b : List ℕ) × Responds p first a × Responds p second b × (text ≡ a ++ b) }
+{}
+
+/// A law: requests have one text of responses at most over a publication.
+pub fn one_response()
+    ensures { (p : Publication) (outcomes : List Outcome) (first second : List ℕ) → IsPublication p
+        → Responds p outcomes first → Responds p outcomes second → first ≡ second }
+{}
+
+/// A law: what is left of a connection is shorter than the longest head and the longest body together.
+pub fn rests_are_short()
+    ensures { (bytes : List ℕ) → length (heard bytes).rest.bytes < HEAD_LIMIT + BODY_LIMIT }
 {}

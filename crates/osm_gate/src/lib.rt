@@ -28,5 +28,9 @@ pub mod write_whole;
 pub use gate::Gate;
 pub use gate_fault::GateFault;
 pub use laws::{
-    head_is_the_grammars, nothing_after_the_end, pieces_ask_the_same, responses_stand_in_order,
+    head_is_the_grammars, nothing_after_the_end, one_response, pieces_ask_the_same,
+    responses_stand_in_order, rests_are_short,
 };
+
+#[cfg(test)]
+mod tests;
