@@ -74,7 +74,9 @@ fn ends_of(alloc: Global, stream: TcpStream) -> Result<(StreamReader, StreamWrit
     let _ = stream.set_nodelay(true);
     let _ = stream.set_read_timeout(Some(Duration::from_secs(IDLE_SECONDS)));
     let _ = stream.set_write_timeout(Some(Duration::from_secs(IDLE_SECONDS)));
-    let stream = Rc::new(alloc, stream)?;
+    let Ok(stream) = Rc::new(alloc, stream) else {
+        return Err(CommandFault::Memory);
+    };
     let other = stream.clone()?;
     Ok((StreamReader { stream }, StreamWriter { stream: other }))
 }
