@@ -1,10 +1,10 @@
 -- What a gate that is fed a piece keeps.
-use Rattle.std.proofs.Common.{◌≡◌, ◌∙◌, ◌<◌, ◌+◌, ◌-◌, ℕ, Bool, true, false, List, [], ◌∷◌, ◌++◌, ap, sym, refl, arith, length, take, append_assoc, length-append, inl, inr}
+use Rattle.std.proofs.Common.{◌≡◌, ◌∙◌, ◌<◌, ◌+◌, ◌-◌, ℕ, Bool, false, List, [], ◌∷◌, ◌++◌, ap, sym, refl, arith, length, take, append_assoc, length-append, inl, inr}
 use Rattle.std.specs.Prelude.{None, ◌⊎◌}
 use Rattle.std.proofs.lemmas.List.{take-append-le, take_all, length-take}
 use Rattle.std.proofs.lemmas.Bool.{cases_lt}
 use Rattle.std.proofs.Math.Seq.{take-append-add, take-append_seam}
-use Rattle.osm_gate.specs.Connections.{Heard, closed_rest, heard, heard_next, open_rest}
+use Rattle.osm_gate.specs.Connections.{Heard, heard, heard_next, open_rest}
 use Rattle.osm_gate.specs.HeadEnds.{head_length, skip_breaks}
 use Rattle.osm_gate.specs.Requests.{first_request}
 use Rattle.osm_gate.specs.declared.limits.TheConstants.{HEAD_LIMIT}
@@ -12,11 +12,7 @@ use Rattle.osm_gate.specs.internal.Kept.{IsOpen}
 use Rattle.osm_gate.proofs.BreakLemmas.{skip-some}
 use Rattle.osm_gate.proofs.ConnectionLemmas.{heard-none}
 
--- ---- a closed one
-
-pub next-closed : (is_closed : Bool) (bytes piece : List ℕ) → is_closed ≡ true
-    → heard_next (record { is_closed = is_closed; bytes = bytes }) piece ≡ record { outcomes = []; rest = closed_rest }
-next-closed is_closed bytes piece e = rw e refl
+-- ---- an open one
 
 pub next-open : (is_closed : Bool) (bytes piece : List ℕ) → is_closed ≡ false
     → heard_next (record { is_closed = is_closed; bytes = bytes }) piece ≡ heard (bytes ++ piece)

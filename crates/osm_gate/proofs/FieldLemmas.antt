@@ -1,5 +1,5 @@
 -- Values that a loop has found.
-use Rattle.std.proofs.Common.{◌≡◌, ◌∙◌, ◌<◌, ◌≤◌, ◌+◌, ◌*◌, ◌^◌, ℕ, Bool, true, false, List, [], ◌∷◌, refl, arith, length, take, get_or, ◌-◌, IsTrue, drop}
+use Rattle.std.proofs.Common.{◌≡◌, ◌<◌, ◌≤◌, ◌+◌, ◌*◌, ◌^◌, ℕ, true, false, List, [], ◌∷◌, refl, arith, length, take, get_or, ◌-◌, IsTrue, drop}
 use Rattle.std.specs.Prelude.{Option, Some, None}
 use Rattle.std.specs.Borrow.{Bor}
 use Rattle.std.specs.Prelude.{map, ◌&&◌, nat_lt, nat_le, is_some}
@@ -71,9 +71,3 @@ named-yes name bytes headers i inside same = rw (drop_more headers i empty_span 
 pub found-none : (o : Option (Bor (List ℕ))) → false ≡ is_some o → found_values o ≡ []
 found-none None e = refl
 found-none (Some v) e = cc
-
-pub length-made : (ds : List ℕ) (all : Bool) → all ≡ list_all is_ascii_digit ds → 0 < length ds → length ds ≤ 19 → all ≡ is_length ds
-length-made ds all is some short =
-    let one : nat_lt 0 (length ds) ≡ true = grind (arith, nat_tests) in
-    let two : nat_le (length ds) 19 ≡ true = grind (arith, nat_tests) in
-    is ∙ rw (one, two) refl

@@ -3,7 +3,7 @@ use Rattle.std.proofs.Common.{◌≡◌, ◌∙◌, ◌<◌, ◌≤◌, ◌+◌,
 use Rattle.std.specs.Prelude.{Option, Some, None, option_map, ◌⊎◌, if◌then◌else◌, zero, suc, ◌&&◌, ◌==◌, nat_lt}
 use Rattle.std.proofs.lemmas.Bool.{and_parts}
 use Rattle.std.proofs.lemmas.Bool.Decides.{nat_tests}
-use Rattle.std.proofs.lemmas.List.{drop_more, drop_all}
+use Rattle.std.proofs.lemmas.List.{drop_more}
 use Rattle.osm_gate.specs.HeadEnds.{empty_line, head_length}
 
 -- ---- the empty line
@@ -133,15 +133,3 @@ passed-more at a inside so_far not =
     let is : here (get_or a at 0) rest ≡ false = not_ended (get_or a at 0) rest not in
     so_far ∙ ap (λ (t : List ℕ). option_map (λ n. at + n) (head_length t)) first
     ∙ rw is (shift-more at (head_length rest))
-
-pub passed-end : (at : ℕ) (a : List ℕ) → at < length a → Passed at a
-    → get_or a at 0 ≡ 10 → 0 < empty_line (drop (at + 1) a) → head_length a ≡ Some (at + 1 + empty_line (drop (at + 1) a))
-passed-end at a inside so_far is some =
-    let rest = drop (at + 1) a in
-    let first = drop_more a at 0 inside in
-    let ends : here (get_or a at 0) rest ≡ true = grind (arith, nat_tests) in
-    so_far ∙ ap (λ (t : List ℕ). option_map (λ n. at + n) (head_length t)) first
-    ∙ rw ends (ap (λ (k : ℕ). Some k) (omega arith))
-
-pub passed-all : (at : ℕ) (a : List ℕ) → length a ≤ at → Passed at a → head_length a ≡ None
-passed-all at a past so_far = so_far ∙ ap (λ (t : List ℕ). option_map (λ n. at + n) (head_length t)) (drop_all at a past)

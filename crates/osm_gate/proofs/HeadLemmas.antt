@@ -24,6 +24,7 @@ use Rattle.httparse.specs.Pieces.{Stops, is_newline}
 use Rattle.httparse.proofs.PieceLemmas.{Stops_token, Stops_value, space_ends_token, colon_ends_token, print_field-append}
 use Rattle.httparse.proofs.GrammarLemmas.{print_request-append}
 use Rattle.osm_gate.specs.HeadEnds.{begins_with_break, line_feeds}
+use Rattle.osm_gate.specs.declared.limits.TheConstants.{FIELD_LIMIT, LINE_LIMIT}
 use Rattle.osm_gate.specs.Heads.{run, past, end_at, past_end, value_at, field_at, past_field, fields_at, past_fields, target_at, version_at, section_at, cut_head, is_field, is_head, head_of, IsHead}
 
 -- ---- runs
@@ -312,8 +313,8 @@ reads-head bytes h rest begins is =
     is.1 ∙ print_request-append h rest in
     blank-none h.blank _ (rw whole at begins)
 
--- a head that begins with no line end and has 66 line feeds at most has 64 fields at most
-pub fields-fit : (bytes : List ℕ) (h : RequestHead) → line_feeds bytes ≤ 66 → IsHead bytes h → length h.fields ≤ 64
+-- a head has two line feeds more than fields at least
+pub fields-fit : (bytes : List ℕ) (h : RequestHead) → line_feeds bytes ≤ LINE_LIMIT → IsHead bytes h → length h.fields ≤ FIELD_LIMIT
 fields-fit bytes h lines is = omega (arith, head-feeds bytes h is)
 
 -- what was read is the whole
@@ -333,7 +334,7 @@ read-some bytes headers r found complete is whole begins =
     (h, head_of-complete bytes h (reads, reads-head bytes h [] begins reads), at)
 
 pub read-none : (bytes : List ℕ) (headers : List HeaderSpan) (r : Result (Status RequestSpans) Error) (room : ℕ)
-    → FindsRequest bytes room headers r → 64 ≤ room → line_feeds bytes ≤ 66
+    → FindsRequest bytes room headers r → FIELD_LIMIT ≤ room → line_feeds bytes ≤ LINE_LIMIT
     → ((found : RequestSpans) → r ≡ Ok (Complete found) → found.len ≢ length bytes) → head_of bytes ≡ None
 read-none bytes headers r room finds fits lines other = head_of-none bytes λ h is.
     go r other h is (finds h [] is.0 (omega (arith, fields-fit bytes h lines is)))

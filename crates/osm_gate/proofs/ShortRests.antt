@@ -8,14 +8,14 @@ use Rattle.std.proofs.lemmas.Bool.Decides.{nat_tests}
 use Rattle.std.proofs.lemmas.List.{length-drop}
 use Rattle.httparse.specs.Grammar.{RequestHead}
 use Rattle.httparse.specs.Spans.{name_and_value}
-use Rattle.osm_gate.specs.Connections.{Heard, Rest, closed_rest, ends_with, heard, heard_after, heard_within, open_rest, preceded}
+use Rattle.osm_gate.specs.Connections.{ends_with, heard, heard_after, heard_within}
 use Rattle.osm_gate.specs.Fields.{FieldPair, body_length, framing, is_named, length_of, values_named}
 use Rattle.osm_gate.specs.HeadEnds.{head_length, line_feeds, skip_breaks}
 use Rattle.osm_gate.specs.Heads.{head_of}
-use Rattle.osm_gate.specs.Requests.{Asked, Decided, Outcome, after_head, asked, asked_with, by_end, first_request, refuse, with_body}
+use Rattle.osm_gate.specs.Requests.{Decided, after_head, asked, asked_with, by_end, first_request, refuse, with_body}
 use Rattle.osm_gate.specs.declared.limits.TheConstants.{BODY_LIMIT, HEAD_LIMIT, LINE_LIMIT}
 use Rattle.osm_gate.specs.declared.refusal.Refusal.{Refusal}
-use Rattle.osm_gate.specs.declared.refusal.Refusal.TheVariants.{BadHead, HeadTooLarge, LengthRequired, TooLarge, TransferCoding}
+use Rattle.osm_gate.specs.declared.refusal.Refusal.TheVariants.{HeadTooLarge, TooLarge, TransferCoding}
 use Rattle.osm_gate.proofs.BreakLemmas.{skip-fits}
 use Rattle.osm_gate.proofs.ConnectionLemmas.{chosen_of}
 use Rattle.osm_gate.proofs.RequestLemmas.{end-fits, request-progresses}
