@@ -22,4 +22,8 @@ pub trait Door {
         ensures one_more { OnOk result (IfSome (given self.old) (λ n. given self.new ≡ Some (suc n))) }
         ensures none { OnErr result (given self.new ≡ given self.old) }
         ensures outside { IfErr result (λ fault. (fault ≡ CommandFault.Memory) ⊎ (fault ≡ CommandFault.Device)) };
+
+    /// Ends a connection, so that what was written to it still arrives.
+    fn end(&mut self, reader: Self::Reader, writer: Self::Writer)
+        ensures { given self.new ≡ given self.old };
 }

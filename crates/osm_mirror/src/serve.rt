@@ -28,12 +28,15 @@ pub fn serve<D: Door, E: Write>(
     ensures fewer { OnErr result (IfSome (D.given door.old) (λ n. (k : ℕ) × (k < connections) × (D.given door.new ≡ Some (n + k)))) }
     ensures outside { IfErr result (λ fault. (fault ≡ CommandFault.Memory) ⊎ (fault ≡ CommandFault.Device)) }
 {
-    for _ in 0..connections {
+    let mut taken = 0;
+    while taken < connections {
         let (mut reader, mut writer) = door.next()?;
+        taken += 1;
         if let Err(fault) = osm_gate::serve::serve(alloc, &mut reader, &mut writer, snapshot) {
             // Where the line can't be written, the next connection is served all the same.
             let _ = writeln!(errors, "{fault}");
         }
+        door.end(reader, writer);
     }
     Ok(())
 }

@@ -1,19 +1,28 @@
 //! The connections of a listening socket.
 
-ghost use Rattle.std.specs.Prelude.{None};
+ghost use Rattle.std.specs.Prelude.{◌≡◌, IfErr, None};
 
 use crate::command_fault::CommandFault;
 use crate::door::Door;
 use std::alloc::Global;
 use std::io;
 use std::io::{ErrorKind, Read, Write};
-use std::net::{SocketAddr, TcpListener, TcpStream};
+use std::net::{Shutdown, SocketAddr, TcpListener, TcpStream};
 use std::rc::Rc;
 use std::time::Duration;
 
 /// How long a client may keep its connection without sending a byte, or without taking one, in seconds. The next client
 /// waits for as long.
 const IDLE_SECONDS: u64 = 10;
+
+/// How long an ended connection is waited for while its client still sends, in seconds a read.
+const LINGER_SECONDS: u64 = 1;
+
+/// How many reads an ended connection has while its client still sends.
+const LINGER_READS: usize = 32;
+
+/// How many bytes one of these reads takes at most.
+const LINGER_PIECE: usize = 65536;
 
 /// A socket of this machine that listens for clients of this machine (127.0.0.1).
 #[derive(Drop)]
@@ -61,6 +70,22 @@ impl Door for SocketDoor {
         }
         Err(CommandFault::Device)
     }
+
+    /// Tells the client that nothing more comes, and reads on until it closes its side too: where bytes are left unread,
+    /// closing at once would have the system throw away what the client hasn't read yet (RFC 9112, section 9.6).
+    fn end(&mut self, mut reader: StreamReader, _writer: StreamWriter) {
+        let _ = reader.stream.shutdown(Shutdown::Write);
+        let _ = reader
+            .stream
+            .set_read_timeout(Some(Duration::from_secs(LINGER_SECONDS)));
+        let mut piece = [0; LINGER_PIECE];
+        for _ in 0..LINGER_READS {
+            match reader.read(&mut piece) {
+                Ok(0) | Err(_) => return,
+                Ok(_) => {}
+            }
+        }
+    }
 }
 
 /// Whether the next call may well succeed.
@@ -68,8 +93,10 @@ fn is_passing(kind: ErrorKind) -> bool {
     kind == ErrorKind::ConnectionAborted || kind == ErrorKind::Interrupted
 }
 
-/// Both ends of an accepted stream.
-fn ends_of(alloc: Global, stream: TcpStream) -> Result<(StreamReader, StreamWriter), CommandFault> {
+/// Both ends of an accepted stream. Refused only where memory runs out.
+fn ends_of(alloc: Global, stream: TcpStream) -> Result<(StreamReader, StreamWriter), CommandFault>
+    ensures { IfErr result (λ fault. fault ≡ CommandFault.Memory) }
+{
     // Where an option can't be set, the stream still serves.
     let _ = stream.set_nodelay(true);
     let _ = stream.set_read_timeout(Some(Duration::from_secs(IDLE_SECONDS)));

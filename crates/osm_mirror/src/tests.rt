@@ -1,4 +1,5 @@
 mod files;
+mod serving;
 
 ghost use Rattle.std.specs.Prelude.{true};
 
