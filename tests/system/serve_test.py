@@ -299,7 +299,9 @@ def check_nginx(tally):
             words = ["curl", "--silent", "--show-error", "--cacert", room / "certificate.pem", "--parallel",
                      "--data-urlencode", f"data={QUERY}", f"{site}/api/interpreter?[1-200]"]
             outcome = run(words)
-            tally.check("200 requests through nginx", outcome == Outcome(ANSWER * 200, b"", 0), outcome.stderr, len(outcome.stdout))
+            # (some versions of curl show their progress all the same)
+            holds = (outcome.stdout, outcome.status) == (ANSWER * 200, 0)
+            tally.check("200 requests through nginx", holds, outcome.stderr, len(outcome.stdout))
 
 
 def main():
