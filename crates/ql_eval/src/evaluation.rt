@@ -18,6 +18,7 @@ ghost use Rattle.ql_eval.specs.Written.{HasWritten};
 
 use crate::answering::answer_all;
 use crate::fault::EvalFault;
+use crate::lines::Lines;
 use crate::opening::{ManifestFault, open_manifest};
 use crate::over::Over;
 use crate::sink::Sink;
@@ -119,7 +120,7 @@ fn run_over<'a, S: Shelf<'a>, T: Sink>(
             calls: 0,
             fetches: 0,
         },
-        nothing: b"",
+        lines: Lines::new(alloc),
     };
     let ran = answer_all(alloc, statements, &mut source, sink);
     *tally = source.tally;
@@ -128,7 +129,7 @@ fn run_over<'a, S: Shelf<'a>, T: Sink>(
         shelf: _,
         manifest: _,
         tally: _,
-        nothing: _,
+        lines: _,
     } = source;
     ran
 }
