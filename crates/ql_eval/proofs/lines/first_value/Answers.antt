@@ -1,4 +1,4 @@
-use Rattle.std.proofs.Common.{sym, ap, ◌∙◌}
+use Rattle.std.proofs.Common.{Some, sym, ap, ◌∙◌}
 use Rattle.std.specs.Option.{option_copied, option_map}
 use Rattle.osm_model.specs.CanonicalLine.{canonical_line}
 use Rattle.ql_eval.proofs.ObjectLemmas.{first_found, none_found}
