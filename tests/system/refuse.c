@@ -4,9 +4,11 @@
  *   REFUSE_ALLOCATION=N  the Nth malloc, calloc or realloc answers null, with ENOMEM
  *   REFUSE_READ=N        the Nth read fails
  *   REFUSE_WRITE=N       the Nth write fails
+ *   REFUSE_RECV=N        the Nth recv fails; likewise REFUSE_SEND, REFUSE_ACCEPT, REFUSE_SOCKET, REFUSE_BIND,
+ *                        REFUSE_LISTEN and REFUSE_NAME (getsockname)
  *   REFUSE_ERRNO=E       with this errno (EIO where it is left out); 0: the call answers 0 in place of failing
- *   SHORT_READS=K        each read asks for K bytes at most
- *   SHORT_WRITES=K       each write hands on K bytes at most
+ *   SHORT_READS=K        each read and recv asks for K bytes at most
+ *   SHORT_WRITES=K       each write and send hands on K bytes at most
  *   REFUSE_MARK=FILE     this file is made as soon as a call is refused, so that who started the program can
  *                        tell a run in which the Nth call came from one that has fewer
  *
@@ -18,6 +20,7 @@
 #include <fcntl.h>
 #include <stdlib.h>
 #include <string.h>
+#include <sys/socket.h>
 #include <sys/syscall.h>
 #include <unistd.h>
 
@@ -32,7 +35,7 @@ struct calls {
     unsigned long refused;
 };
 
-static struct calls allocations, reads, writes;
+static struct calls allocations, reads, writes, recvs, sends, accepts, sockets, binds, listens, names;
 static unsigned long most_read, most_written;
 static int refused_with = EIO;
 static const char *mark;
@@ -99,6 +102,48 @@ ssize_t write(int file, const void *bytes, size_t count) {
     return syscall(SYS_write, file, bytes, shortened(count, most_written));
 }
 
+ssize_t recv(int socket, void *bytes, size_t count, int flags) {
+    if (is_refused(&recvs))
+        return refusal();
+    return syscall(SYS_recvfrom, socket, bytes, shortened(count, most_read), flags, NULL, NULL);
+}
+
+ssize_t send(int socket, const void *bytes, size_t count, int flags) {
+    if (is_refused(&sends))
+        return refusal();
+    return syscall(SYS_sendto, socket, bytes, shortened(count, most_written), flags, NULL, 0);
+}
+
+int accept4(int socket, struct sockaddr *address, socklen_t *len, int flags) {
+    if (is_refused(&accepts))
+        return (int)refusal();
+    return (int)syscall(SYS_accept4, socket, address, len, flags);
+}
+
+int socket(int domain, int type, int protocol) {
+    if (is_refused(&sockets))
+        return (int)refusal();
+    return (int)syscall(SYS_socket, domain, type, protocol);
+}
+
+int bind(int socket, const struct sockaddr *address, socklen_t len) {
+    if (is_refused(&binds))
+        return (int)refusal();
+    return (int)syscall(SYS_bind, socket, address, len);
+}
+
+int listen(int socket, int backlog) {
+    if (is_refused(&listens))
+        return (int)refusal();
+    return (int)syscall(SYS_listen, socket, backlog);
+}
+
+int getsockname(int socket, struct sockaddr *address, socklen_t *len) {
+    if (is_refused(&names))
+        return (int)refusal();
+    return (int)syscall(SYS_getsockname, socket, address, len);
+}
+
 typedef int main_type(int, char **, char **);
 typedef int start_type(main_type *, int, char **, void (*)(void), void (*)(void), void (*)(void), void *);
 
@@ -117,6 +162,13 @@ int __libc_start_main(main_type *main, int count, char **words, void (*init)(voi
     allocations.refused = number("REFUSE_ALLOCATION");
     reads.refused = number("REFUSE_READ");
     writes.refused = number("REFUSE_WRITE");
+    recvs.refused = number("REFUSE_RECV");
+    sends.refused = number("REFUSE_SEND");
+    accepts.refused = number("REFUSE_ACCEPT");
+    sockets.refused = number("REFUSE_SOCKET");
+    binds.refused = number("REFUSE_BIND");
+    listens.refused = number("REFUSE_LISTEN");
+    names.refused = number("REFUSE_NAME");
     most_read = number("SHORT_READS");
     most_written = number("SHORT_WRITES");
     if (getenv("REFUSE_ERRNO") != NULL)

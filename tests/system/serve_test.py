@@ -1,8 +1,10 @@
-"""`serve` over loopback sockets: the vectors' connections, real clients, refused allocations, and nginx in front.
+"""`serve` over loopback sockets: the vectors' connections, real clients, refused allocations, failing devices, and nginx
+in front.
 
 What needs curl, openssl or nginx is skipped where they aren't there, and said so.
 """
 
+import errno
 import http.client
 import os
 import shutil
@@ -40,7 +42,10 @@ class Server:
 
     def __init__(self, file, words, environment):
         command = [PROGRAM, "serve", file, "0", *words]
-        self.process = subprocess.Popen(command, stdout=subprocess.PIPE, stderr=subprocess.PIPE, env=environment)
+        # Unbuffered: what follows the first line has to stay in the pipe for `communicate`, which reads past a buffer.
+        self.process = subprocess.Popen(
+            command, bufsize=0, stdout=subprocess.PIPE, stderr=subprocess.PIPE, env=environment
+        )
         self.line = self.process.stderr.readline()
         begun = self.line.startswith(b"osm_mirror listens on 127.0.0.1:")
         self.port = int(self.line.split(b",")[0].split(b":")[1]) if begun else None
@@ -88,7 +93,7 @@ def told(running, pieces):
     """All that a connection gets to these pieces, after which nothing more comes; nothing where none is taken any more."""
     try:
         connection = running.connect()
-    except ConnectionRefusedError:
+    except (ConnectionRefusedError, ConnectionResetError):
         return b""
     with connection:
         connection.setsockopt(socket.IPPROTO_TCP, socket.TCP_NODELAY, 1)
@@ -96,8 +101,10 @@ def told(running, pieces):
             for piece in pieces:
                 connection.sendall(piece)
             connection.shutdown(socket.SHUT_WR)
-        except (BrokenPipeError, ConnectionResetError):
-            pass  # The server has closed the connection already.
+        except OSError as error:
+            # The server has closed the connection already.
+            if error.errno not in (errno.EPIPE, errno.ECONNRESET, errno.ENOTCONN):
+                raise
         return all_of(connection)
 
 
@@ -253,6 +260,70 @@ def check_allocations(tally):
     tally.check("allocations of requests were refused", met > 10, met)
 
 
+def check_opening(tally):
+    """A socket that can't be made, bound or named, or doesn't listen, is a device that fails, before any line is told."""
+    for kind in ("REFUSE_SOCKET", "REFUSE_BIND", "REFUSE_LISTEN", "REFUSE_NAME"):
+        with tempfile.TemporaryDirectory() as room:
+            mark = Path(room) / "refused"
+            with server(set_file(b"F"), refusing={kind: 1, "REFUSE_MARK": mark}) as running:
+                rest = running.ended()
+            tally.check(kind, (mark.exists(), running.line, rest) == (True, b"device\n", Outcome(b"", b"", 3)), running.line, rest)
+
+
+def check_accepting(tally):
+    """A client that has gone again before it is taken is passed over; any other failure ends the server."""
+    request = b"GET /api/root HTTP/1.1\r\nConnection: close\r\n\r\n"
+    root = root_of(b"F", b"2").encode() + b"\n"
+    for number in (1, 2):
+        for cause, is_passing in ((errno.ECONNABORTED, True), (errno.EINTR, True), (errno.EMFILE, False)):
+            refusing = {"REFUSE_ACCEPT": number, "REFUSE_ERRNO": cause}
+            with server(set_file(b"F"), "--connections", 2, refusing=refusing) as running:
+                got = [told(running, [request]).endswith(root) for _ in range(2)]
+                rest = running.ended()
+            if is_passing:
+                want = [True, True], Outcome(b"", b"", 0)
+            else:
+                want = [place < number for place in (1, 2)], Outcome(b"", b"device\n", 3)
+            tally.check(f"accept {number}, {errno.errorcode[cause]}", (got, rest) == want, got, rest)
+
+
+def check_devices(tally):
+    """Each recv and each send refused in turn, whole and 16 bytes a call: that connection is told, and the next is served."""
+    first = b"POST /api/interpreter HTTP/1.1\r\nContent-Length: 16\r\n\r\n" + QUERY.encode()
+    last = b"GET /api/root HTTP/1.1\r\nConnection: close\r\n\r\n"
+    with server(set_file(b"F"), "--connections", 2) as running:
+        whole = told(running, [first, last])
+        one = whole.removesuffix(told(running, [last]))
+    tally.check("two responses", 0 < len(one) < len(whole), whole)
+    for kind, code in (("REFUSE_RECV", b"G1\n"), ("REFUSE_SEND", b"G2\n")):
+        for others in ({}, {"SHORT_READS": 16, "SHORT_WRITES": 16}):
+            check_each_call(tally, kind, code, others, (first, last), (one, whole))
+
+
+def check_each_call(tally, kind, code, others, requests, responses):
+    """Calls of one kind, refused in turn in the first of two connections, until there is none of this number in it."""
+    one, whole = responses
+    for number in count(1):
+        with tempfile.TemporaryDirectory() as room:
+            mark = Path(room) / "refused"
+            refusing = {kind: number, "REFUSE_MARK": mark} | others
+            with server(set_file(b"F"), "--connections", 2, refusing=refusing) as running:
+                got = told(running, [b"".join(requests)])
+                is_refused = mark.exists()
+                second = told(running, [requests[1]])
+                rest = running.ended()
+        name = f"{kind} {number} {'16 bytes a call' if others else ''}"
+        if got == whole:
+            # The call fell into the wait for the client's end, or into the next connection, or there is none.
+            tally.check(f"{name} is past the first connection", rest.status == 0 and number > 1, number, rest)
+            return
+        holds = is_refused and whole.startswith(got) and second == whole.removeprefix(one)
+        if kind == "REFUSE_RECV":
+            # What was read before has its responses, whole.
+            holds = holds and got in (b"", one)
+        tally.check(name, holds and rest == Outcome(b"", code, 0), got[-100:], second[-100:], rest)
+
+
 def check_fetch(tally, site, name, environment=None):
     """examples/fetch-and-check gives the answer under the publisher's root, and refuses it under another."""
     environment = dict(os.environ) | {"OSM_MIRROR": str(PROGRAM)} | (environment or {})
@@ -328,6 +399,9 @@ def main():
     check_load(tally)
     check_idle(tally)
     check_allocations(tally)
+    check_opening(tally)
+    check_accepting(tally)
+    check_devices(tally)
     with server(set_file(b"F")) as running:
         check_fetch(tally, f"http://127.0.0.1:{running.port}", b"F")
     check_nginx(tally)

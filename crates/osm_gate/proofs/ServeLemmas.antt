@@ -1,9 +1,9 @@
 -- What a reader gave, a writer got and a gate holds, from one piece to the next.
-use Rattle.std.proofs.Common.{◌≡◌, ◌∙◌, ◌+◌, ℕ, true, List, ◌++◌, ap, sym, refl, arith, length, take, append-nil, length-append}
+use Rattle.std.proofs.Common.{◌≡◌, ◌≤◌, ◌∙◌, ◌+◌, ℕ, true, List, ◌++◌, ap, sym, refl, arith, length, take, append-nil, length-append}
 use Rattle.std.specs.Prelude.{Option, Some, None, IfSome}
 use Rattle.std.specs.Io.KnownBytes.{Appends, Consumes}
 use Rattle.std.proofs.KnownBytes.{Appends-trans}
-use Rattle.std.proofs.lemmas.List.{take_all}
+use Rattle.std.proofs.lemmas.List.{length-take-le, take_all}
 use Rattle.std.proofs.Math.Seq.{take-append-add}
 use Rattle.osm_index.specs.Publications.{Publication}
 use Rattle.osm_index.specs.Snapshots.{HoldsPublication}
@@ -13,11 +13,15 @@ use Rattle.osm_gate.specs.Written.{AppendsFront}
 use Rattle.osm_gate.proofs.ConnectionLemmas.{cut}
 use Rattle.osm_gate.proofs.RespondingLemmas.{responds-append}
 
--- the front of the input has been read, the gate holds its rest, and what was written responds to it, over
--- whatever publication the snapshot holds
-abbrev pub Served : Snapshot → Option (List ℕ) → Option (List ℕ) → Option (List ℕ) → Option (List ℕ) → Rest → Type 0
-Served snapshot unread left before after gate = (front : List ℕ) × Consumes unread left front × (gate ≡ (heard front).rest)
+-- the front of the input has been read, a byte a read at least, the gate holds its rest, and what was written responds
+-- to it, over whatever publication the snapshot holds
+abbrev pub Served : Snapshot → Option (List ℕ) → Option (List ℕ) → Option (List ℕ) → Option (List ℕ) → Rest → ℕ → Type 0
+Served snapshot unread left before after gate reads = (front : List ℕ) × (reads ≤ length front) × Consumes unread left front × (gate ≡ (heard front).rest)
     × ((p : Publication) → HoldsPublication snapshot p → (text : List ℕ) × RespondsTo p front text × Appends before after text)
+
+-- a read that gave a byte is one more
+pub one_more : (reads n : ℕ) (front buf : List ℕ) → reads ≤ length front → ¬ (n ≡ 0) → n ≤ length buf → reads + 1 ≤ length (front ++ take n buf)
+one_more reads n front buf so_far some within = omega (arith, so_far, some, within, length-append front (take n buf), length-take-le n buf within)
 
 -- all of a text is a beginning of it
 pub all_front : (old new : Option (List ℕ)) (text : List ℕ) → Appends old new text → AppendsFront old new text

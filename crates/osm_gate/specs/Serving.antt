@@ -1,6 +1,6 @@
 -- What was read of a connection, and what was written to it.
 -- Source: this project; what readers and writers tell of their bytes is std's.
-use Rattle.std.specs.Prelude.{ℕ, ◌⊎◌, List, ◌++◌, Option, IfSome, true, codes}
+use Rattle.std.specs.Prelude.{ℕ, ◌⊎◌, ◌≤◌, ◌^◌, List, ◌++◌, Option, IfSome, true, codes, length}
 use Rattle.std.specs.Io.KnownBytes.{Appends, Consumes}
 use Rattle.osm_index.specs.Publications.{Publication}
 use Rattle.osm_gate.specs.Connections.{RespondsTo}
@@ -26,6 +26,11 @@ HasServed p e = IfSome e.unread (λ input. (text : List ℕ) × RespondsTo p inp
 -- what was read has its responses
 abbrev pub HasResponded : Publication → Exchange → Type 0
 HasResponded p e = (front : List ℕ) × (text : List ℕ) × Consumes e.unread e.left front × RespondsTo p front text × Appends e.before e.after text
+
+-- so has it, and 2^20 bytes were read at least: each read gave one
+abbrev pub HasRespondedToMany : Publication → Exchange → Type 0
+HasRespondedToMany p e = (front : List ℕ) × (text : List ℕ) × (2 ^ 20 ≤ length front) × Consumes e.unread e.left front
+    × RespondsTo p front text × Appends e.before e.after text
 
 -- what was read before the last piece has its responses, and after them it was said that memory runs out
 abbrev pub HasGivenUp : Publication → Exchange → Type 0

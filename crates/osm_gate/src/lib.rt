@@ -1,7 +1,7 @@
 //! HTTP: a connection is fed bytes and gives responses.
 //!
 //! A [`Gate`] is one connection: it is fed pieces of bytes, and gives the responses to the requests that they
-//! complete. [`serve`](serve::serve) drives one over a reader and a writer.
+//! complete. [`serve`] drives one over a reader and a writer.
 #![tactic(auto)]
 
 mod decision;
@@ -20,10 +20,10 @@ mod request;
 mod requests;
 mod respond;
 mod response;
-pub mod serve;
+mod serving;
 mod target;
 mod told;
-pub mod write_whole;
+mod writing;
 
 pub use gate::Gate;
 pub use gate_fault::GateFault;
@@ -31,6 +31,8 @@ pub use laws::{
     head_is_the_grammars, nothing_after_the_end, one_response, pieces_ask_the_same,
     responses_stand_in_order, rests_are_short,
 };
+pub use serving::serve;
+pub use writing::write_whole;
 
 #[cfg(test)]
 mod tests;

@@ -15,7 +15,8 @@ use Rattle.osm_mirror.specs.Ask.{IsAnswer, IsBegun}
 use Rattle.osm_mirror.specs.Files.{IfBoth, IfThree, IsBegunProof, IsBegunVerdict, IsProvedIn}
 use Rattle.osm_mirror.specs.RootLines.{verdict_line}
 use Rattle.osm_mirror.specs.TreeRoots.{IsPublicationIn, publication_line}
-use Rattle.osm_mirror.specs.Written.{AppendInTurn, AppendsFront, Output, UpToFirst, UpToSecond, UpToThird, Writing}
+use Rattle.osm_gate.specs.Written.{AppendsFront}
+use Rattle.osm_mirror.specs.Written.{AppendInTurn, Output, UpToFirst, UpToSecond, UpToThird, Writing}
 use Rattle.osm_mirror.specs.declared.command_fault.CommandFault.{CommandFault}
 use Rattle.osm_mirror.specs.declared.command_fault.CommandFault.TheVariants.{Device}
 

@@ -11,7 +11,8 @@ use Rattle.osm_check.specs.declared.verdict.Verdict.{Verdict}
 use Rattle.osm_mirror.specs.Ask.{Explains, HoldsTrees}
 use Rattle.osm_mirror.specs.RootLines.{verdict_line}
 use Rattle.osm_mirror.specs.TreeRoots.{IsOutsideOrTrees, IsPublicationIn, publication_line}
-use Rattle.osm_mirror.specs.Written.{AppendInTurn, AppendsFront, IsUntouched, Output}
+use Rattle.osm_gate.specs.Written.{AppendsFront}
+use Rattle.osm_mirror.specs.Written.{AppendInTurn, IsUntouched, Output}
 use Rattle.osm_mirror.specs.declared.command_fault.CommandFault.{CommandFault}
 use Rattle.osm_mirror.specs.declared.command_fault.CommandFault.TheVariants.{Endless, Memory, Device}
 

@@ -1,13 +1,10 @@
 -- What writers have gained.
 -- Source: this project; what a writer tells of its bytes is std's.
-use Rattle.std.specs.Prelude.{◌≡◌, ℕ, ◌≤◌, List, Option, Result, Ok, Err, take, length}
+use Rattle.std.specs.Prelude.{◌≡◌, ℕ, List, Option, Result, Ok, Err}
 use Rattle.osm_mirror.specs.declared.command_fault.CommandFault.{CommandFault}
 use Rattle.osm_mirror.specs.declared.command_fault.CommandFault.TheVariants.{Device}
 use Rattle.std.specs.Io.KnownBytes.{Appends, Keeps}
-
--- a beginning of the text, which may be nothing or all of it
-abbrev pub AppendsFront : Option (List ℕ) → Option (List ℕ) → List ℕ → Type 0
-AppendsFront old new text = (k : ℕ) × (k ≤ length text) × Appends old new (take k text)
+use Rattle.osm_gate.specs.Written.{AppendsFront}
 
 -- the bytes of a writer before a call and after it, as far as it tells them
 pub record Output : Type 0 where

@@ -32,7 +32,7 @@ pub fn serve<D: Door, E: Write>(
     while taken < connections {
         let (mut reader, mut writer) = door.next()?;
         taken += 1;
-        if let Err(fault) = osm_gate::serve::serve(alloc, &mut reader, &mut writer, snapshot) {
+        if let Err(fault) = osm_gate::serve(alloc, &mut reader, &mut writer, snapshot) {
             // Where the line can't be written, the next connection is served all the same.
             let _ = writeln!(errors, "{fault}");
         }

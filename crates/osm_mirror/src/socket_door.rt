@@ -33,7 +33,9 @@ pub struct SocketDoor {
 
 impl SocketDoor {
     /// Listens on this port; 0 asks for any that is free. Refused with `Device` where the port can't be had.
-    pub fn open(rt: &HostRuntime, port: u16) -> Result<SocketDoor, CommandFault> {
+    pub fn open(rt: &HostRuntime, port: u16) -> Result<SocketDoor, CommandFault>
+        ensures { IfErr result (λ fault. fault ≡ CommandFault.Device) }
+    {
         match TcpListener::bind(rt, ("127.0.0.1", port)) {
             Ok(listener) => Ok(SocketDoor {
                 alloc: rt.alloc(),
@@ -43,8 +45,10 @@ impl SocketDoor {
         }
     }
 
-    /// Where it listens.
-    pub fn address(&self) -> Result<SocketAddr, CommandFault> {
+    /// Where it listens. Refused with `Device` where the system doesn't say.
+    pub fn address(&self) -> Result<SocketAddr, CommandFault>
+        ensures { IfErr result (λ fault. fault ≡ CommandFault.Device) }
+    {
         match self.listener.local_addr() {
             Ok(address) => Ok(address),
             Err(_) => Err(CommandFault::Device),

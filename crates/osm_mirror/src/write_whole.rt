@@ -2,15 +2,14 @@
 
 ghost use Rattle.std.specs.Prelude.{◌≡◌, IfErr, OnOk, true};
 ghost use Rattle.std.specs.Io.KnownBytes.{Appends};
-ghost use Rattle.osm_mirror.specs.Written.{AppendsFront};
+ghost use Rattle.osm_gate.specs.Written.{AppendsFront};
 
 use crate::command_fault::CommandFault;
 use crate::outlet::Outlet;
 
-/// Writes the text, in as few calls as the writer takes, and flushes the writer.
+/// Writes the text as [`osm_gate::write_whole`] does, and flushes the writer.
 ///
-/// Refused with `Device` where a call fails or takes nothing; a beginning of the text is written then. (A
-/// loop of our own, since the contract of std's `write_all` doesn't say what is written where it fails.)
+/// Refused with `Device` where a call fails or takes nothing; a beginning of the text is written then.
 pub fn write_whole<W: Outlet>(writer: &mut W, text: &[u8]) -> Result<(), CommandFault>
     // The whole text is written.
     ensures whole { OnOk result (Appends (W.contents writer.old) (W.contents writer.new) text.now) }
@@ -20,12 +19,8 @@ pub fn write_whole<W: Outlet>(writer: &mut W, text: &[u8]) -> Result<(), Command
     ensures flushed { OnOk result (W.is_flushed writer.new ≡ true) }
     ensures device { IfErr result (λ fault. fault ≡ CommandFault.Device) }
 {
-    let mut done = 0;
-    while done < text.len() {
-        match writer.write(&text[done..]) {
-            Ok(0) | Err(_) => return Err(CommandFault::Device),
-            Ok(taken) => done += taken,
-        }
+    match osm_gate::write_whole(writer, text) {
+        Ok(()) => writer.hand_on(),
+        Err(_) => Err(CommandFault::Device),
     }
-    writer.hand_on()
 }

@@ -18,6 +18,7 @@ ghost use Rattle.ql_eval.specs.Written.{HasWritten};
 
 use crate::answering::answer_all;
 use crate::fault::EvalFault;
+use crate::lines::Lines;
 use crate::opening::{ManifestFault, open_manifest};
 use crate::over::Over;
 use crate::sink::Sink;
@@ -30,13 +31,17 @@ use tree_walk::Tally;
 /// What an evaluation did.
 #[derive(Clone, Copy, Debug, PartialEq, Eq)]
 pub struct Report {
-    /// How many walks it made, counts included. It stays at the greatest u64.
+    /// How many walks it made, counts included. An object that is asked again takes no further walk. It stays at the
+    /// greatest u64.
     pub ranges: u64,
     /// How many nodes the walks fetched. It stays at the greatest u64.
     pub fetched: u64,
 }
 
 /// Writes the answer to a query into a sink, from the nodes under a root.
+///
+/// Each object is looked up once, however often the query asks for it. Its reference and a borrow of its line, or that it
+/// isn't there, are kept until the query ends.
 ///
 /// A refusal leaves the text of the sink as it was. The nodes that were fetched until then stay used.
 pub fn evaluate<'a, S: Shelf<'a>, T: Sink>(
@@ -111,6 +116,7 @@ fn run_over<'a, S: Shelf<'a>, T: Sink>(
         (NeededBy p (AskedByAll p (statements_of statements.now) nothing_named))
         (record { held = S.holds shelf.new; before = S.used shelf.old; after = S.used shelf.new }) result }
 {
+    let mut lines = Lines::new(alloc);
     let mut source = Over {
         alloc,
         shelf,
@@ -119,7 +125,7 @@ fn run_over<'a, S: Shelf<'a>, T: Sink>(
             calls: 0,
             fetches: 0,
         },
-        nothing: b"",
+        lines: &mut lines,
     };
     let ran = answer_all(alloc, statements, &mut source, sink);
     *tally = source.tally;
@@ -128,7 +134,7 @@ fn run_over<'a, S: Shelf<'a>, T: Sink>(
         shelf: _,
         manifest: _,
         tally: _,
-        nothing: _,
+        lines: _,
     } = source;
     ran
 }

@@ -1,7 +1,7 @@
 //! Queries answered from the trees of a published set.
 //!
 //! [`evaluate`] opens the manifest of a root on any shelf, walks the ranges that the query asks for and no
-//! others, and writes the answer into a [`Sink`].
+//! others, and writes the answer into a [`Sink`]. An object that is asked twice is looked up once.
 #![tactic(auto)]
 
 mod answering;
@@ -11,6 +11,7 @@ mod chains;
 mod evaluation;
 mod fault;
 mod kinds;
+mod lines;
 mod links;
 mod lists_in;
 mod lookups;

@@ -15,22 +15,23 @@ ghost use Rattle.ql_eval.specs.Faults.{cause_of_evaluation};
 ghost use Rattle.ql_eval.specs.Openings.{IsUnder};
 ghost use Rattle.ql_eval.specs.Questions.{Answers, HasNoNulIn, IsCountOf, NeedsAsk, count_ask, names_ask, object_ask, range_asked, tree_asked};
 ghost use Rattle.ql_eval.specs.internal.Entries.{IsThere, TargetFits};
+ghost use Rattle.ql_eval.specs.internal.Lines.{Remembers};
 ghost use Rattle.ql_eval.specs.internal.Views.{question_of};
 
 use crate::fault::EvalFault;
+use crate::lines::{Lines, line_of};
 use crate::names::names_in;
-use crate::objects::object_in;
+use crate::objects::read_object;
 use crate::question::Question;
 use crate::walks::{count_in, entries_in};
-use osm_index::{
-    Manifest, OwnedRange, back_range, kind_range, reference_key, tag_key_range, tag_range,
-};
+use osm_index::{Manifest, OwnedRange, back_range, kind_range, tag_key_range, tag_range};
 use osm_model::{Object, Ref};
 use std::alloc::{AllocError, Global};
 use tree_node::{Shelf, Tree};
-use tree_walk::{KeyRange, Tally};
+use tree_walk::Tally;
 
-/// The object of this name, if it is there: one walk over the object tree (docs/FORMATS.md).
+/// The object of this name, if it is there (docs/FORMATS.md). Its line is looked up once in a query, and read at each
+/// call.
 ///
 /// Refused where the walk is (E1), where what it found isn't the line of that object (E2), and where memory runs
 /// out. Over the trees of a publisher only a missing node and memory refuse it, unless two nodes have one digest. What
@@ -41,51 +42,47 @@ pub(crate) fn find_object<'a, S: Shelf<'a>>(
     manifest: &Manifest,
     name: Ref,
     tally: &mut Tally,
+    lines: &mut Lines<'a>,
 ) -> Result<Option<Object>, EvalFault>
     ensures stays { SameNodes (S.holds shelf.old) (S.holds shelf.new) }
     ensures grows { (bytes : List ℕ) → S.used shelf.old bytes → S.used shelf.new bytes }
     ensures walked { OnOk result (HasWalked
         (record { held = S.holds shelf.new; before = S.used shelf.old; after = S.used shelf.new })
         tally.old.calls tally.new.calls tally.old.fetches tally.new.fetches) }
-    ensures answer { (p : Publication) → IsPublication p → IsUnder p manifest.now
+    ensures remembers { (p : Publication) → IsUnder p manifest.now → Remembers p (S.used shelf.old) lines.old → Remembers p (S.used shelf.new) lines.new }
+    ensures answer { (p : Publication) → IsPublication p → IsUnder p manifest.now → Remembers p (S.used shelf.old) lines.old
         → Outcome cause_of_evaluation (λ object. object ≡ object_at p.objects name) (NeedsAsk p (object_ask name))
         (record { held = S.holds shelf.new; before = S.used shelf.old; after = S.used shelf.new }) result }
 {
-    let key = reference_key(name);
-    let keys = KeyRange {
-        lo: &key,
-        hi: &key,
-        under: false,
-    };
-    let found = entries_in(alloc, shelf, manifest, Tree::Objects, &keys, tally)?;
-    object_in(alloc, name, &found)
+    match line_of(alloc, shelf, manifest, name, tally, lines)? {
+        Some(line) => {
+            let object = read_object(alloc, name, line)?;
+            Ok(Some(object))
+        }
+        None => Ok(None),
+    }
 }
 
-/// Whether the object of this name is there. What the tree says of it isn't read.
+/// Whether the object of this name is there. Its line is looked up once in a query, and what it says isn't read.
 pub(crate) fn has_object<'a, S: Shelf<'a>>(
     alloc: Global,
     shelf: &mut S,
     manifest: &Manifest,
     name: Ref,
     tally: &mut Tally,
+    lines: &mut Lines<'a>,
 ) -> Result<bool, EvalFault>
     ensures stays { SameNodes (S.holds shelf.old) (S.holds shelf.new) }
     ensures grows { (bytes : List ℕ) → S.used shelf.old bytes → S.used shelf.new bytes }
     ensures walked { OnOk result (HasWalked
         (record { held = S.holds shelf.new; before = S.used shelf.old; after = S.used shelf.new })
         tally.old.calls tally.new.calls tally.old.fetches tally.new.fetches) }
-    ensures answer { (p : Publication) → IsPublication p → IsUnder p manifest.now
+    ensures remembers { (p : Publication) → IsUnder p manifest.now → Remembers p (S.used shelf.old) lines.old → Remembers p (S.used shelf.new) lines.new }
+    ensures answer { (p : Publication) → IsPublication p → IsUnder p manifest.now → Remembers p (S.used shelf.old) lines.old
         → Outcome cause_of_evaluation (λ there. IsTrue there ↔ IsThere p.objects name) (NeedsAsk p (object_ask name))
         (record { held = S.holds shelf.new; before = S.used shelf.old; after = S.used shelf.new }) result }
 {
-    let key = reference_key(name);
-    let keys = KeyRange {
-        lo: &key,
-        hi: &key,
-        under: false,
-    };
-    let found = entries_in(alloc, shelf, manifest, Tree::Objects, &keys, tally)?;
-    match found.first() {
+    match line_of(alloc, shelf, manifest, name, tally, lines)? {
         Some(_) => Ok(true),
         None => Ok(false),
     }

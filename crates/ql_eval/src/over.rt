@@ -1,12 +1,15 @@
-//! A shelf as a source.
+//! A shelf as a source, with the lines that were looked up in it.
 
 ghost use Rattle.std.specs.Prelude.{◌≡◌, ℕ, List};
 ghost use Rattle.tree_node.specs.Shelves.{SameNodes};
 ghost use Rattle.tree_walk.specs.Walked.{HasWalked};
+ghost use Rattle.osm_index.specs.Publications.{Publication};
 ghost use Rattle.ql_eval.specs.Openings.{IsUnder};
+ghost use Rattle.ql_eval.specs.internal.Lines.{Remembers};
 
 use crate::boxes::find_in_box;
 use crate::fault::EvalFault;
+use crate::lines::Lines;
 use crate::lookups::{count_names, find_names, find_object, has_object};
 use crate::question::Question;
 use crate::source::Source;
@@ -22,8 +25,8 @@ pub(crate) struct Over<'s, 'a, S: Shelf<'a>> {
     pub(crate) shelf: &'s mut S,
     pub(crate) manifest: Manifest,
     pub(crate) tally: Tally,
-    /// Ties the lifetime of what the shelf lends.
-    pub(crate) nothing: &'a [u8],
+    /// The lines that were looked up. The caller owns them, so that a source has nothing to free.
+    pub(crate) lines: &'s mut Lines<'a>,
 }
 
 impl<'s, 'a, S: Shelf<'a>> Source for Over<'s, 'a, S> {
@@ -32,35 +35,39 @@ impl<'s, 'a, S: Shelf<'a>> Source for Over<'s, 'a, S> {
     ghost use Rattle.osm_index.specs.declared.manifest.Manifest.{Manifest};
     ghost use Rattle.tree_node.specs.Shelves.{SameNodes};
     ghost use Rattle.tree_walk.specs.Walked.{HasWalked};
+    ghost use Rattle.osm_index.specs.Publications.{Publication};
     ghost use Rattle.ql_eval.specs.Openings.{IsUnder};
+    ghost use Rattle.ql_eval.specs.internal.Lines.{Remembers};
     ghost use Rattle.tree_walk.proofs.shared.WalkedLaws.{walked_none, walked_then};
 
     ghost holds = { λ o. S.holds o.shelf.now };
 
     ghost used = { λ o. S.used o.shelf.now };
 
-    ghost under = { λ o p. IsUnder p o.manifest };
+    ghost under = { λ o p. IsUnder p o.manifest × Remembers p (S.used o.shelf.now) o.lines.now };
 
     ghost later = { λ o n. (o.shelf.ghost_name ≡ n.shelf.ghost_name) × (o.manifest ≡ n.manifest)
-        × SameNodes (S.holds o.shelf.now) (S.holds n.shelf.now) × ((bytes : List ℕ) → S.used o.shelf.now bytes → S.used n.shelf.now bytes) };
+        × SameNodes (S.holds o.shelf.now) (S.holds n.shelf.now) × ((bytes : List ℕ) → S.used o.shelf.now bytes → S.used n.shelf.now bytes)
+        × ((p : Publication) → IsUnder p o.manifest → Remembers p (S.used o.shelf.now) o.lines.now → Remembers p (S.used n.shelf.now) n.lines.now) };
 
     ghost walked = { λ o n. HasWalked (record { held = S.holds n.shelf.now; before = S.used o.shelf.now; after = S.used n.shelf.now })
         o.tally.calls n.tally.calls o.tally.fetches n.tally.fetches };
 
-    ghost itself = { λ o. (refl, refl, (λ x. ((λ has. has), (λ has. has))), (λ x has. has)) };
+    ghost itself = { λ o. (refl, refl, (λ x. ((λ has. has), (λ has. has))), (λ x has. has), (λ p under known. known)) };
 
     ghost chained = { λ o n m first second. (
       first.0 ∙ second.0,
       first.1 ∙ second.1,
       (λ x. ((λ has. (first.2 x).0 ((second.2 x).0 has)), (λ has. (second.2 x).1 ((first.2 x).1 has)))),
       (λ x has. second.3 x (first.3 x has)),
+      (λ p under known. second.4 p (subst (λ (m : Manifest). IsUnder p m) first.1 under) (first.4 p under known)),
     ) };
 
     ghost stays = { λ o n later. later.2 };
 
     ghost grows = { λ o n bytes later has. later.3 bytes has };
 
-    ghost same_under = { λ o n p later under. subst (λ (m : Manifest). IsUnder p m) later.1 under };
+    ghost same_under = { λ o n p later under. (subst (λ (m : Manifest). IsUnder p m) later.1 under.0, later.4 p under.0 under.1) };
 
     ghost no_walk = { λ o. walked_none (S.holds o.shelf.now) (S.used o.shelf.now) o.tally.calls o.tally.fetches };
 
@@ -73,6 +80,7 @@ impl<'s, 'a, S: Shelf<'a>> Source for Over<'s, 'a, S> {
             &self.manifest,
             name,
             &mut self.tally,
+            &mut *self.lines,
         )
     }
 
@@ -83,6 +91,7 @@ impl<'s, 'a, S: Shelf<'a>> Source for Over<'s, 'a, S> {
             &self.manifest,
             name,
             &mut self.tally,
+            &mut *self.lines,
         )
     }
 

@@ -28,7 +28,7 @@ pub(crate) trait Source {
     /// Those that were used.
     ghost used: { Self → List ℕ → Type 0 };
 
-    /// The manifest is that of the publication.
+    /// The manifest is that of the publication, and what is remembered of its objects is true.
     ghost under: { Self → Publication → Type 0 };
 
     /// The same source at a later moment.

@@ -1,7 +1,8 @@
-//! Lookups, openings and sinks.
+//! Answers, lookups, openings and sinks.
 
 mod answers;
 mod contradictions;
+mod fetches;
 mod lookups;
 mod opening;
 mod rows;

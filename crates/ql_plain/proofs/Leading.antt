@@ -6,17 +6,29 @@ use Rattle.osm_model.specs.Membership.{BodyLists}
 use Rattle.osm_model.specs.Sets.{IsObjectSet}
 use Rattle.osm_model.specs.declared.kind.Kind.{Kind}
 use Rattle.osm_model.specs.declared.reference.Ref.{Ref}
-use Rattle.ql_plain.proofs.shared.Adding.{adds_to_nothing}
+use Rattle.ql_plain.proofs.shared.Adding.{adds_as, adds_to_nothing}
 use Rattle.ql_plain.proofs.Keeping.{set_as}
 use Rattle.ql_plain.proofs.Selecting.{one_object}
 use Rattle.ql_plain.specs.Meanings.{IsSetOf}
 use Rattle.ql_plain.specs.Values.{IsAbove, IsBelow, IsIn, IsRefOf}
 use Rattle.ql_plain.specs.Adding.{Adds, From}
-use Rattle.ql_plain.specs.internal.Linked.{IsListedBy, IsThereIn, ListsOneOf}
+use Rattle.ql_plain.specs.internal.Linked.{IsListedBy, IsThere, IsThereAs, IsThereIn, IsThereListedBy, ListsOneOf}
 
 -- a set of what was added to nothing
 pub set_from_added : {added refs : List Ref} {P : Ref → Type 0} → Adds [] added P → IsSetOf refs (Contains added) → IsSetOf refs P
 set_from_added so tidied = set_as (λ r has. (adds_to_nothing refl so r).0 has) (λ r p. (adds_to_nothing refl so r).1 p) tidied
+
+-- of what an object lists, what is there
+pub there_listed_by : (objects : List Element) (kind : Kind) (name : Ref) {listed old new : List Ref} → Adds [] listed (IsListedBy objects kind name) → Adds old new (From listed (IsThereAs objects)) → Adds old new (IsThereListedBy objects kind name)
+there_listed_by objects kind name {listed = listed} so =
+    adds_as
+    (λ r of.
+    let there : IsThereAs objects of.0 r = of.2 in
+    ((adds_to_nothing refl so r).0 (subst (λ (s : Ref). Contains listed s) (sym there.0) of.1), subst (λ (s : Ref). IsThere objects s) (sym there.0) there.1))
+    (λ r of.
+    let here : IsListedBy objects kind name r = of.0 in
+    let there : IsThere objects r = of.1 in
+    (r, (adds_to_nothing refl so r).1 here, (refl, there)))
 
 module _ (objects : List Element) (from : List Ref) (kind : Kind) where
   pub below_is : {listed refs : List Ref} → IsSetOf listed (From from (IsListedBy objects kind)) → IsSetOf refs (IsRefOf objects (IsIn listed)) → IsSetOf refs (IsRefOf objects (IsBelow objects from kind))
@@ -39,6 +51,28 @@ module _ (objects : List Element) (from : List Ref) (kind : Kind) where
         of.2,
         (listed_is.members (reference child)).1 (reference parent.0, parent.3, (parent.0, parent.1.there, refl, parent.2, parent.1.lists)),
       ))
+
+  -- the same where each item that is there was added
+  pub below_is_added : {added refs : List Ref} → Adds [] added (From from (IsThereListedBy objects kind)) → IsSetOf refs (Contains added) → IsSetOf refs (IsRefOf objects (IsBelow objects from kind))
+  below_is_added so taken =
+      set_as
+      (λ r of.
+      let listed : IsThereListedBy objects kind of.0 r = of.2 in
+      let parent : IsListedBy objects kind of.0 r = listed.0 in
+      let child : IsThere objects r = listed.1 in (
+        child.0,
+        child.1,
+        child.2,
+        (parent.0, record { there = parent.1; child_there = child.1; lists = subst (λ (s : Ref). BodyLists parent.0.body s) (sym child.2) parent.4 }, parent.3, subst (λ (s : Ref). Contains from s) (sym parent.2) of.1),
+      ))
+      (λ r of.
+      let child = of.0 in
+      let parent = of.3 in (
+        reference parent.0,
+        parent.3,
+        ((parent.0, parent.1.there, refl, parent.2, subst (λ (s : Ref). BodyLists parent.0.body s) of.2 parent.1.lists), (child, of.1, of.2)),
+      ))
+      (set_from_added so taken)
 
   pub above_is : {children refs : List Ref} → IsSetOf children (IsRefOf objects (IsIn from)) → IsSetOf refs (IsRefOf objects (λ o. ListsOneOf kind (IsThereIn objects children) o.body)) → IsSetOf refs (IsRefOf objects (IsAbove objects from kind))
   above_is children_are =

@@ -5,6 +5,8 @@ pub mod Linking
 pub mod BodyItems
 pub mod Keeping
 pub mod Seeking
+pub mod Rows
+pub mod Marking
 pub mod Leading
 pub mod Listing
 pub mod FilterSets

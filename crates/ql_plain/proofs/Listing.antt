@@ -1,15 +1,14 @@
 -- References of objects that are there.
-use Rattle.std.proofs.Common.{◌≡◌, ℤ, List, Some, ◌⊎◌, inl, inr, refl, sym, ap, subst, ◌∙◌}
+use Rattle.std.proofs.Common.{◌≡◌, ℤ, List, ◌⊎◌, inl, inr, refl, sym, ap, subst, ◌∙◌}
 use Rattle.std.specs.List.{Contains}
 use Rattle.osm_model.specs.Elements.{Element, reference}
 use Rattle.osm_model.specs.Membership.{BodyLists}
-use Rattle.osm_model.specs.Sets.{IsObjectSet, object_at}
+use Rattle.osm_model.specs.Sets.{IsObjectSet}
 use Rattle.osm_model.specs.declared.kind.Kind.{Kind}
 use Rattle.osm_model.specs.declared.kind.Kind.TheVariants as kinds
 use Rattle.osm_model.specs.declared.reference.Ref.{Ref}
 use Rattle.ql_plain.proofs.shared.Adding.{adds_as, adds_then}
 use Rattle.ql_plain.proofs.Keeping.{set_as}
-use Rattle.ql_plain.proofs.ObjectLists.{object_is_there}
 use Rattle.ql_plain.proofs.Selecting.{one_object}
 use Rattle.ql_plain.specs.Meanings.{IsSetOf}
 use Rattle.ql_plain.specs.Values.{IsIn, IsRefOf}
@@ -66,10 +65,9 @@ with_ids_is objects ids =
     (λ r of. (of.0.id, of.3, (ap (λ (s : Ref). s.id) (sym of.2), (of.0, of.1, of.2))))
 
 -- what an object lists that was looked up
-pub listed_by_it : (objects : List Element) (set : IsObjectSet objects) (name : Ref) (kind : Kind) (o : Element) → object_at objects name ≡ Some o → name.kind ≡ kind → {old new : List Ref} → Adds old new (BodyLists o.body)
+pub listed_by_it : (objects : List Element) (set : IsObjectSet objects) (name : Ref) (kind : Kind) (o : Element) → Contains objects o → reference o ≡ name → name.kind ≡ kind → {old new : List Ref} → Adds old new (BodyLists o.body)
     → Adds old new (IsListedBy objects kind name)
-listed_by_it objects set name kind o found of_kind =
-    let there = object_is_there objects name o found in
+listed_by_it objects set name kind o there named of_kind =
     adds_as
-    (λ r lists. (o, there.0, there.1, ap (λ (s : Ref). s.kind) there.1 ∙ of_kind, lists))
-    (λ r of. subst (λ (p : Element). BodyLists p.body r) (one_object objects set of.0 o of.1 there.0 (of.2 ∙ sym there.1)) of.4)
+    (λ r lists. (o, there, named, ap (λ (s : Ref). s.kind) named ∙ of_kind, lists))
+    (λ r of. subst (λ (p : Element). BodyLists p.body r) (one_object objects set of.0 o of.1 there (of.2 ∙ sym named)) of.4)

@@ -1,7 +1,6 @@
 -- What a filter asks of an object alone.
 -- Source: this project.
 use Rattle.std.specs.Prelude.{◌≡◌, ⊤}
-use Rattle.std.specs.List.{Contains}
 use Rattle.osm_model.specs.Boxes.{ExactBox, Holds}
 use Rattle.osm_model.specs.Elements.{Element}
 use Rattle.osm_model.specs.Places.{Place}

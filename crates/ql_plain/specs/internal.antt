@@ -3,3 +3,4 @@ pub mod Linked
 pub mod Tests
 pub mod Steps
 pub mod Seeking
+pub mod Marks

@@ -26,7 +26,12 @@ pub fn kept_below(
     ensures { IfOk result (λ left. IsSetOf left.items (λ r. Contains refs.now r × IsRefOf set.now (IsBelow set.now from.now kind) r)) }
 {
     let those = below(alloc, set, from, kind)?;
-    kept(alloc, refs, &those, true)
+    // The shorter one is gone over, with searches in the other one.
+    if those.len() < refs.len() {
+        kept(alloc, &those, refs, true)
+    } else {
+        kept(alloc, refs, &those, true)
+    }
 }
 
 /// Those that list objects of a kind in a set. A search for each of them, and for what its object lists until one is

@@ -1,22 +1,22 @@
 //! What objects of a set list, and what lists them.
 
-ghost use Rattle.std.specs.Prelude.{IfOk, OnOk};
+ghost use Rattle.std.specs.Prelude.{IfOk};
 ghost use Rattle.osm_model.specs.Sets.{IsObjectSet};
 ghost use Rattle.ql_plain.specs.Meanings.{IsSetOf};
 ghost use Rattle.ql_plain.specs.Values.{IsAbove, IsBelow, IsRefOf};
-ghost use Rattle.ql_plain.specs.Adding.{Adds};
-ghost use Rattle.ql_plain.specs.internal.Linked.{IsListedBy, IsThereIn, ListsOneOf};
+ghost use Rattle.ql_plain.specs.internal.Linked.{IsThereIn, ListsOneOf};
 ghost use Rattle.std.specs.List.Sorted.{IsStrictlySortedBy};
 ghost use Rattle.osm_model.specs.Elements.{ref_cmp};
 
-use crate::items::{add_items, lists_one_of};
+use crate::items::lists_one_of;
+use crate::listed::add_listed;
+use crate::marks::below_by_marks;
 use crate::ref_sets::tidy;
 use crate::there::those_there;
 use osm_model::{Kind, ObjectSet, Ref};
 use std::alloc::{AllocError, Global};
 
-/// What objects of a kind in a set list, as far as it is there. A look-up for each of the set, and a sort of what
-/// they list.
+/// What objects of a kind in a set list, as far as it is there.
 pub fn below(
     alloc: Global,
     set: &ObjectSet,
@@ -25,30 +25,33 @@ pub fn below(
 ) -> Result<Vec<Ref>, AllocError>
     ensures { IfOk result (λ refs. IsSetOf refs.items (IsRefOf set.now (IsBelow set.now from.now kind))) }
 {
+    // Marks are for sets that list much: they spare a sort of what is listed, but take a byte for each object that
+    // there is and a pass over them, which a small set would pay for nothing. A list is some ten items long, so that
+    // from a sixteenth of all objects on about as much may be listed as there is.
+    if from.len() < set.as_slice().len() / 16 {
+        below_by_sort(alloc, set, from, kind)
+    } else {
+        below_by_marks(alloc, set, from, kind)
+    }
+}
+
+/// What objects of a kind in a set list, as far as it is there. A search for each of the set that starts where the last
+/// one ended, and a sort of what they list.
+fn below_by_sort(
+    alloc: Global,
+    set: &ObjectSet,
+    from: &[Ref],
+    kind: Kind,
+) -> Result<Vec<Ref>, AllocError>
+    ensures { IfOk result (λ refs. IsSetOf refs.items (IsRefOf set.now (IsBelow set.now from.now kind))) }
+{
     let mut listed = Vec::new(alloc);
+    let mut at = 0;
     for name in from {
-        add_listed(*name, kind, set, &mut listed)?;
+        at = add_listed(*name, kind, set, at, &mut listed)?;
     }
     tidy(&mut listed);
     those_there(alloc, &listed, set)
-}
-
-/// Adds what the object with a reference lists, where it is there and of a kind.
-fn add_listed(
-    name: Ref,
-    kind: Kind,
-    set: &ObjectSet,
-    listed: &mut Vec<Ref>,
-) -> Result<(), AllocError>
-    ensures { OnOk result (Adds listed.old.items listed.new.items (IsListedBy set.now kind name)) }
-{
-    if name.kind != kind {
-        return Ok(());
-    }
-    match set.get(name) {
-        Some(object) => add_items(object, listed),
-        None => Ok(()),
-    }
 }
 
 /// What lists objects of a kind in a set. One pass over the objects and what they list.

@@ -52,14 +52,15 @@ fn has_at<T: Referenced>(items: &[T], at: usize, name: Ref) -> bool
 
 /// Where a reference with this id would be in a list that rises, if its ids were spread evenly: a place from which a
 /// search for it is short, as a rule.
-pub fn even_place(refs: &[Ref], id: i64) -> usize
-    ensures { result ≤ length refs.now }
+pub fn even_place<T: Referenced>(items: &[T], id: i64) -> usize
+    ensures { result ≤ length items.now }
 {
-    match (refs.first(), refs.last()) {
-        (Some(first), Some(last)) if first.id < id => {
-            let offset = id.abs_diff(first.id).saturating_mul(refs.len() as u64);
-            let place = offset / last.id.abs_diff(first.id).max(1);
-            refs.len().min(place as usize)
+    match (items.first(), items.last()) {
+        (Some(first), Some(last)) if first.name().id < id => {
+            let start = first.name().id;
+            let offset = id.abs_diff(start).saturating_mul(items.len() as u64);
+            let place = offset / last.name().id.abs_diff(start).max(1);
+            items.len().min(place as usize)
         }
         _ => 0,
     }

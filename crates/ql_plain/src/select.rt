@@ -13,6 +13,7 @@ ghost use Rattle.ql_plain.specs.ObjectTests.{PassesAlone};
 ghost use Rattle.ql_plain.specs.internal.Tests.{IsNamedBy};
 
 use crate::filter_test::is_taken;
+use crate::kinds::of_pick;
 use crate::named::{via, with_ids};
 use crate::ref_sets::kept;
 use crate::sets::Sets;
@@ -20,8 +21,8 @@ use osm_model::{ObjectSet, Ref};
 use ql_syntax::{Filter, Pick};
 use std::alloc::{AllocError, Global};
 
-/// The objects of a kind that all filters keep: one pass over the objects with the filters that look at an object
-/// alone, and of what they leave the references that each other filter names.
+/// The objects of a kind that all filters keep: one pass over the objects of the kind with the filters that look at an
+/// object alone, and of what they leave the references that each other filter names.
 pub fn select(
     alloc: Global,
     kind: Pick,
@@ -51,7 +52,7 @@ fn taken(
     // As its type says.
     ensures set { IsObjectSet set.now }
 {
-    let objects = set.as_slice();
+    let objects = of_pick(set.as_slice(), kind);
     let mut refs = Vec::new(alloc);
     for object in objects {
         if is_taken(kind, filters, object) {

@@ -3,8 +3,7 @@
 
 use super::serving::SlowReader;
 use super::{ALL_KINDS, snapshot_of};
-use crate::serve::serve;
-use crate::{Gate, GateFault};
+use crate::{Gate, GateFault, serve};
 use osm_index::{Edition, Snapshot};
 use std::alloc::Global;
 use std::io;

@@ -1,8 +1,7 @@
 //! Connections over readers and writers that are slow, or fail.
 
 use super::{ALL_KINDS, fed, snapshot_of};
-use crate::GateFault;
-use crate::serve::serve;
+use crate::{GateFault, serve};
 use osm_index::Edition;
 use std::io;
 use std::io::{Read, Write};

@@ -1,6 +1,7 @@
 //! Objects and names, asked of a shelf.
 
 use crate::EvalFault;
+use crate::lines::Lines;
 use crate::lookups::{find_names, find_object};
 use crate::question::Question;
 use opl_codec::read_set;
@@ -51,13 +52,15 @@ fn objects_are_found_within_memory(rt: HostRuntime) -> Result<(), Fail> {
     let alloc = rt.alloc();
     let snapshot = snapshot(alloc)?;
     let mut shelf = snapshot.stock().shelf(alloc);
+    let manifest = snapshot.manifest();
     let mut tally = Tally::default();
+    let mut lines = Lines::new(alloc);
     for name in [FIRST, SECOND, WAY] {
         // Run with each allocation refused in turn: the object, or out of memory and then the object.
-        if let Err(fault) = find_object(alloc, &mut shelf, snapshot.manifest(), name, &mut tally) {
+        if let Err(fault) = find_object(alloc, &mut shelf, manifest, name, &mut tally, &mut lines) {
             assert_eq!(rt; fault, EvalFault::Memory);
         }
-        match find_object(alloc, &mut shelf, snapshot.manifest(), name, &mut tally)? {
+        match find_object(alloc, &mut shelf, manifest, name, &mut tally, &mut lines)? {
             Some(object) => assert!(rt; object.reference() == name),
             None => panic!(rt; "an object of the set"),
         }
@@ -67,7 +70,7 @@ fn objects_are_found_within_memory(rt: HostRuntime) -> Result<(), Fail> {
         id: 1,
     };
     let mut tally = Tally::default();
-    let found = find_object(alloc, &mut shelf, snapshot.manifest(), absent, &mut tally)?;
+    let found = find_object(alloc, &mut shelf, manifest, absent, &mut tally, &mut lines)?;
     assert!(rt; found.is_none());
     assert_eq!(rt; tally.calls, 1);
     Ok(())
@@ -104,7 +107,14 @@ fn missing_nodes_are_told(rt: HostRuntime) -> Result<(), Fail> {
     let mut shelf = stock.shelf(alloc);
     let mut tally = Tally::default();
     let missing = EvalFault::Walk(WalkFault::Missing);
-    let found = find_object(alloc, &mut shelf, snapshot.manifest(), WAY, &mut tally);
+    let found = find_object(
+        alloc,
+        &mut shelf,
+        snapshot.manifest(),
+        WAY,
+        &mut tally,
+        &mut Lines::new(alloc),
+    );
     assert!(rt; matches!(found, Err(fault) if fault == missing));
     for (question, _) in &QUESTIONS {
         let names = find_names(alloc, &mut shelf, snapshot.manifest(), question, &mut tally);

@@ -42,6 +42,10 @@ IsTarget member r = member.target ≡ r
 abbrev pub IsListedBy : List Element → Kind → Ref → Ref → Type 0
 IsListedBy objects kind name r = (o : Element) × Contains objects o × (reference o ≡ name) × IsOfKind kind o × BodyLists o.body r
 
+-- the same, where what it lists is of an object of the list
+abbrev pub IsThereListedBy : List Element → Kind → Ref → Ref → Type 0
+IsThereListedBy objects kind name r = IsListedBy objects kind name r × IsThere objects r
+
 -- the reference is in the set, and of an object of the list
 abbrev pub IsThereIn : List Element → List Ref → Ref → Type 0
 IsThereIn objects set r = Contains set r × IsThere objects r

@@ -1,5 +1,5 @@
 -- What a filter asks of references.
-use Rattle.std.specs.Prelude.{◌≡◌, List, ⊤}
+use Rattle.std.specs.Prelude.{List, ⊤}
 use Rattle.std.specs.List.{AllByRecursion, Contains}
 use Rattle.osm_model.specs.Elements.{Element}
 use Rattle.osm_model.specs.declared.reference.Ref.{Ref}

@@ -92,7 +92,7 @@ pub(super) const OVER_ONE: [(&str, &str); 5] = [
 ];
 
 /// Over nodes, ways and relations in relations with a cycle; some references are of objects that aren't there.
-pub(super) const OVER_TOWN: [(&str, &str); 34] = [
+pub(super) const OVER_TOWN: [(&str, &str); 36] = [
     (
         "node[amenity=cafe];out;",
         "n7 Tamenity=cafe,name=Caf%e9% x13.401 y52.501\nn12 Tamenity=cafe,name=A%2c%%20%B x13.4 y52.502\n",
@@ -160,6 +160,15 @@ pub(super) const OVER_TOWN: [(&str, &str); 34] = [
     ("nwr(24)[type];out tags;", "r24 Ttype=multipolygon\n"),
     ("node(1);node._(1);out ids;", "n1\n"),
     ("way(13);node(w);out ids;", "n21\nn22\nn23\n"),
+    // Dense sets: what they list is told by marks.
+    (
+        "way->.a;node(w.a);out ids;",
+        "n1\nn2\nn3\nn4\nn5\nn7\nn8\nn11\nn13\nn14\nn17\nn19\nn21\nn22\nn23\n",
+    ),
+    (
+        "rel->.a;(node(r.a);way(r.a);rel(r.a););out ids;",
+        "n5\nn7\nn24\nw10\nw11\nw12\nr1\nr2\nr3\nr4\n",
+    ),
 ];
 
 /// Over 130 nodes with tags in common.

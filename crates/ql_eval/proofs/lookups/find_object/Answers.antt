@@ -1,32 +1,26 @@
-use Rattle.std.proofs.Common.{◌≡◌, ℕ, List, FitsSigned, w64, false, sym, subst, rules}
+use Rattle.std.proofs.Common.{◌≡◌, Some, sym, ap, subst, ◌∙◌}
+use Rattle.osm_model.specs.Elements.{Element}
 use Rattle.osm_model.specs.Sets.{object_at}
-use Rattle.tree_node.specs.NodeRefs.{bindings_of}
-use Rattle.tree_node.specs.declared.item.Item.{Item}
-use Rattle.tree_node.specs.declared.tree.Tree.TheVariants.{Objects}
-use Rattle.tree_node.proofs.shared.OutcomeLaws.{outcome_stops}
-use Rattle.tree_walk.specs.Choices.{AreThose}
-use Rattle.tree_walk.specs.Walks.{IsEntryIn}
-use Rattle.osm_index.proofs.shared.RangeLaws.{object_is_found}
-use Rattle.ql_eval.specs.Questions.{Listed, NeedsAsk}
-use Rattle.ql_eval.specs.internal.Entries.{IsFoundAs}
-use Rattle.ql_eval.proofs.StepLemmas.{memory_cause, then_read, walk_cause}
+use Rattle.tree_node.proofs.shared.OutcomeLaws.{outcome_as}
+use Rattle.ql_eval.specs.internal.Lines.{IsLineAt}
+use Rattle.ql_eval.proofs.LineLemmas.{Line, line_is}
+use Rattle.ql_eval.proofs.ObjectLemmas.{memory_told}
+use Rattle.ql_eval.proofs.StepLemmas.{memory_cause, then_read}
 use Rattle.ql_eval.proofs.lookups.find_object.Goals as goal
 
-pub returns-in_err-found-clause-answer : goal.returns-in_err-found-clause-answer
-returns-in_err-found-clause-answer g c = λ p is under.
-    outcome_stops _ c.from_residual.ensures.1 (walk_cause c.in_err-found.field-0.0)
-    (λ x needs. subst (λ (key : List ℕ). NeedsAsk p (Listed Objects (record { lo = key; hi = key; under = false })) x) c.reference_key-key.ensures needs)
-    (c.in_err-found.ensures.answer p is under)
+pub returns-in_err-object-in-Some-clause-answer : goal.returns-in_err-object-in-Some-clause-answer
+returns-in_err-object-in-Some-clause-answer g c = λ p is under known.
+    then_read c.from_residual-in_err-object-in-Some.result (λ x needs. needs) (λ x needs. needs)
+    (λ found.
+    let (o, at, element, named, text) = line_is p.objects c.args.name c.in-Some.line is.set (subst (λ (l : Line). IsLineAt p.objects c.args.name l) c.in-Some.is found) in
+    memory_cause (λ object. object ≡ object_at p.objects c.args.name) c.from_residual-in_err-object-in-Some.result
+    (memory_told _ c.from_residual-in_err-object-in-Some.result _ c.from_residual-in_err-object-in-Some.ensures.1 (c.in_err-object-in-Some.ensures o element named text)))
+    (c.in_ok-line.ensures.answer p is under known)
 
-pub returns-clause-answer : goal.returns-clause-answer
-returns-clause-answer g c = λ p is under.
-    let fits : FitsSigned w64 c.args.name.id = search rules in
-    then_read c.object_in.result
-    (λ x needs. subst (λ (key : List ℕ). NeedsAsk p (Listed Objects (record { lo = key; hi = key; under = false })) x) c.reference_key-key.ensures needs)
-    (λ x needs. subst (λ (key : List ℕ). NeedsAsk p (Listed Objects (record { lo = key; hi = key; under = false })) x) (sym c.reference_key-key.ensures) needs)
-    (λ those.
-    let found : IsFoundAs p.objects c.args.name (bindings_of c.in_ok-found.found.items) =
-    object_is_found p is c.args.name fits (bindings_of c.in_ok-found.found.items)
-    (subst (λ (key : List ℕ). AreThose (IsEntryIn (record { lo = key; hi = key; under = false })) (p.entries Objects) (bindings_of c.in_ok-found.found.items)) c.reference_key-key.ensures those) in
-    memory_cause (λ object. object ≡ object_at p.objects c.args.name) c.object_in.result (c.object_in.ensures p.objects is.set (subst (λ (items : List Item). IsFoundAs p.objects c.args.name (bindings_of items)) (sym c.deref.ensures.value) found)))
-    (c.in_ok-found.ensures.answer p is under)
+pub returns-in_ok-object-in-Some-clause-answer : goal.returns-in_ok-object-in-Some-clause-answer
+returns-in_ok-object-in-Some-clause-answer g c = λ p is under known.
+    outcome_as (λ x needs. needs) (λ so x needs. needs)
+    (λ found.
+    let (o, at, element, named, text) = line_is p.objects c.args.name c.in-Some.line is.set (subst (λ (l : Line). IsLineAt p.objects c.args.name l) c.in-Some.is found) in
+    ap (λ (e : Element). Some e) (c.in_ok-object-in-Some.ensures o element named text) ∙ sym at)
+    (c.in_ok-line.ensures.answer p is under known)

@@ -1,11 +1,8 @@
-use Rattle.std.proofs.Common.{List, ◌++◌, ◌∷◌, [], Vec, Global, map, ap, subst, sym, ◌∙◌}
-use Rattle.std.specs.List.Sorted.{IsStrictlySortedBy}
-use Rattle.osm_model.specs.Elements.{Element, ref_cmp, reference}
+use Rattle.std.proofs.Common.{List, ◌++◌, ◌∷◌, [], ◌↔◌, Vec, Global, ap, subst, ◌∙◌}
+use Rattle.osm_model.specs.Elements.{Element, reference}
 use Rattle.osm_model.specs.declared.reference.Ref.{Ref}
-use Rattle.ql_plain.proofs.Keeping.{kept_all, kept_more, kept_nothing, kept_same}
-use Rattle.ql_plain.specs.Meanings.{IsSetOf}
-use Rattle.ql_plain.specs.Values.{IsRefOf}
-use Rattle.std.specs.List.{AllByRecursion}
+use Rattle.ql_plain.proofs.Keeping.{kept_all, kept_more, kept_nothing, kept_same, set_as}
+use Rattle.std.specs.List.{AllByRecursion, Contains}
 use Rattle.ql_syntax.specs.Filters as tree
 use Rattle.ql_syntax.specs.StatementViews.{filters_of}
 use Rattle.ql_plain.specs.Values.{IsPicked}
@@ -15,13 +12,13 @@ use Rattle.ql_plain.proofs.select.taken.Goals.{then-is_taken+in_ok-push, else-is
 
 pub loop-object-init : goal.loop-object-init
 loop-object-init c =
-    let rising = subst (λ (objects : List Element). IsStrictlySortedBy ref_cmp (map (λ (o : Element). reference o) objects)) (sym c.as_slice-objects.ensures.value) c.as_slice-objects.ensures.set.rising in
-    kept_nothing (λ (o : Element). reference o) c.as_slice-objects.result.now rising (λ (o : Element). IsPicked c.args.kind o × AllByRecursion (λ (filter : tree.Filter). PassesAlone filter o) (filters_of c.args.filters.now)) _ c.new-refs.ensures.items
+    let rising = c.of_pick-objects.ensures.rising in
+    kept_nothing (λ (o : Element). reference o) c.of_pick-objects.result.now rising (λ (o : Element). IsPicked c.args.kind o × AllByRecursion (λ (filter : tree.Filter). PassesAlone filter o) (filters_of c.args.filters.now)) _ c.new-refs.ensures.items
 
 pub loop-object-preserved : goal.loop-object-preserved
 loop-object-preserved c =
-    let objects = c.as_slice-objects.result.now in
-    let rising = subst (λ (objects : List Element). IsStrictlySortedBy ref_cmp (map (λ (o : Element). reference o) objects)) (sym c.as_slice-objects.ensures.value) c.as_slice-objects.ensures.set.rising in
+    let objects = c.of_pick-objects.result.now in
+    let rising = c.of_pick-objects.ensures.rising in
     let k = c.loop-object.object-index in
     let Is : Element → Type 0 = λ (o : Element). IsPicked c.args.kind o × AllByRecursion (λ (filter : tree.Filter). PassesAlone filter o) (filters_of c.args.filters.now) in
     elim c.if-is_taken.branch [
@@ -35,6 +32,11 @@ loop-object-preserved c =
 
 pub returns-clause-taken : goal.returns-clause-taken
 returns-clause-taken c =
-    let rising = subst (λ (objects : List Element). IsStrictlySortedBy ref_cmp (map (λ (o : Element). reference o) objects)) (sym c.as_slice-objects.ensures.value) c.as_slice-objects.ensures.set.rising in
-    subst (λ (objects : List Element). IsSetOf c.loop-object.refs.items (IsRefOf objects (λ (o : Element). IsPicked c.args.kind o × AllByRecursion (λ (filter : tree.Filter). PassesAlone filter o) (filters_of c.args.filters.now)))) c.as_slice-objects.ensures.value
-    (kept_all (λ (o : Element). reference o) c.as_slice-objects.result.now rising (λ (o : Element). IsPicked c.args.kind o × AllByRecursion (λ (filter : tree.Filter). PassesAlone filter o) (filters_of c.args.filters.now)) c.loop-object.object-index c.loop-object-test.false _ c.loop-object.invariant)
+    let picked = c.of_pick-objects.result.now in
+    let Is : Element → Type 0 = λ (o : Element). IsPicked c.args.kind o × AllByRecursion (λ (filter : tree.Filter). PassesAlone filter o) (filters_of c.args.filters.now) in
+    let members : (o : Element) → Contains picked o ↔ (Contains c.args.set.now o × IsPicked c.args.kind o) =
+    λ o. subst (λ (objects : List Element). Contains picked o ↔ (Contains objects o × IsPicked c.args.kind o)) c.as_slice.ensures.value (c.of_pick-objects.ensures.members o) in
+    set_as
+    (λ r of. (of.0, ((members of.0).0 of.1).0, of.2, of.3))
+    (λ r of. (of.0, (members of.0).1 (of.1, of.3.0), of.2, of.3))
+    (kept_all (λ (o : Element). reference o) picked c.of_pick-objects.ensures.rising Is c.loop-object.object-index c.loop-object-test.false _ c.loop-object.invariant)

@@ -1,0 +1,94 @@
+//! A connection over a reader and a writer.
+
+ghost use Rattle.std.specs.Prelude.{◌≡◌, ◌⊎◌, IsErrOf, OnOk};
+ghost use Rattle.std.specs.Io.KnownBytes.{Appends};
+ghost use Rattle.osm_index.specs.Publications.{Publication};
+ghost use Rattle.osm_index.specs.Snapshots.{HoldsPublication};
+ghost use Rattle.osm_gate.specs.Serving.{HasBegun, HasGivenUp, HasResponded, HasRespondedToMany, HasServed, no_memory};
+ghost use Rattle.osm_gate.specs.Written.{AppendsFront};
+
+use crate::gate::Gate;
+use crate::gate_fault::GateFault;
+use crate::limits::{PIECE_LIMIT, READ_LIMIT};
+use crate::writing::write_whole;
+use osm_index::Snapshot;
+use std::alloc::Global;
+use std::io::{Read, Write};
+
+/// Responds to the requests of one connection, until its input ends or the connection does. It is read in pieces
+/// of at most 8,192 bytes, and the responses to each piece are written before the next is read.
+///
+/// # Errors
+///
+/// `Reader` (G1) where a read failed: what was read before has its responses. `Writer` (G2) where a write failed or
+/// took nothing: a beginning of the responses was written. `Memory` (G3) where an allocation was refused: what was
+/// read before the last piece has its responses, and a fixed response of status 503 comes after them. `Endless`
+/// (G4) after 1,048,576 reads without an end.
+///
+/// Clauses that speak of bytes do so where the reader and the writer tell them.
+pub fn serve<R: Read, W: Write>(
+    alloc: Global,
+    reader: &mut R,
+    writer: &mut W,
+    snapshot: &Snapshot,
+) -> Result<(), GateFault>
+    // What was written responds to the whole input.
+    ensures done { (p : Publication) → HoldsPublication snapshot.now p
+        → OnOk result (HasServed p (record { unread = R.remaining reader.old; left = R.remaining reader.new; before = W.contents writer.old; after = W.contents writer.new })) }
+    // Where the reader failed, it responds to what was read.
+    ensures reader { (p : Publication) → HoldsPublication snapshot.now p → IsErrOf result GateFault.Reader
+        → HasResponded p (record { unread = R.remaining reader.old; left = R.remaining reader.new; before = W.contents writer.old; after = W.contents writer.new }) }
+    // Where it had no end, too, and that is 2^20 bytes at least.
+    ensures endless { (p : Publication) → HoldsPublication snapshot.now p → IsErrOf result GateFault.Endless
+        → HasRespondedToMany p (record { unread = R.remaining reader.old; left = R.remaining reader.new; before = W.contents writer.old; after = W.contents writer.new }) }
+    // Where memory ran out, it responds to what was read before the last piece, and then says so.
+    ensures memory { (p : Publication) → HoldsPublication snapshot.now p → IsErrOf result GateFault.Memory
+        → HasGivenUp p (record { unread = R.remaining reader.old; left = R.remaining reader.new; before = W.contents writer.old; after = W.contents writer.new }) }
+    // Whatever happened, no more than a beginning of these was written.
+    ensures begun { (p : Publication) → HoldsPublication snapshot.now p
+        → HasBegun p (record { unread = R.remaining reader.old; left = R.remaining reader.new; before = W.contents writer.old; after = W.contents writer.new }) }
+{
+    let Ok(mut gate) = Gate::new(alloc) else {
+        return Err(give_up(writer));
+    };
+    let mut piece = [0; PIECE_LIMIT];
+    let mut reads = 0;
+    while reads < READ_LIMIT {
+        let Ok(n) = reader.read(&mut piece) else {
+            return Err(GateFault::Reader);
+        };
+        if n == 0 {
+            return Ok(());
+        }
+        let Ok(responses) = gate.feed(&piece[..n], snapshot) else {
+            return Err(give_up(writer));
+        };
+        write_whole(writer, &responses)?;
+        if gate.closed() {
+            return Ok(());
+        }
+        reads += 1;
+    }
+    Err(GateFault::Endless)
+}
+
+/// Tells the client that memory has run out. It takes none.
+fn give_up<W: Write>(writer: &mut W) -> GateFault
+    // The fixed response is written, unless the writer fails,
+    ensures whole { result ≡ GateFault.Memory → Appends (W.contents writer.old) (W.contents writer.new) no_memory }
+    // and whatever happens, no more than a beginning of it.
+    ensures begun { AppendsFront (W.contents writer.old) (W.contents writer.new) no_memory }
+    ensures kinds { (result ≡ GateFault.Memory) ⊎ (result ≡ GateFault.Writer) }
+{
+    match write_whole(writer, no_memory()) {
+        Ok(()) => GateFault::Memory,
+        Err(fault) => fault,
+    }
+}
+
+/// The fixed response where memory runs out.
+fn no_memory() -> &'static [u8]
+    ensures { result.now ≡ no_memory }
+{
+    b"HTTP/1.1 503 Service Unavailable\r\nContent-Type: text/plain; charset=utf-8\r\nContent-Length: 10\r\nConnection: close\r\n\r\nno memory\n"
+}
