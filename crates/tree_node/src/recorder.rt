@@ -72,9 +72,13 @@ impl<'a> Shelf<'a> for Recorder<'a> {
 
     ghost used_held = { λ r. given_held r.stock.now.nodes r.given r.own };
 
-    /// It takes memory only for a node that was not used before, and is logarithmic in the number
-    /// of nodes.
+    /// It takes memory only for a node that was not used before, and is logarithmic in the number of
+    /// nodes; of a node that was used before, in the number of used nodes.
     fn fetch(&mut self, key: &Digest) -> Result<&'a [u8], ShelfFault> {
+        // Walks ask the nodes near a top again and again, and few of a stock's nodes are used.
+        if let Some(node) = self.given.get(key) {
+            return Ok(*node);
+        }
         let stock = self.stock;
         match stock.find(key) {
             Some(node) => match self.given.insert(*key, node) {
