@@ -140,3 +140,12 @@ pub none_held : (nodes : BTreeMap Digest (Vec ℕ)) (key : Digest) (x : List ℕ
 none_held nodes key x none same is =
     let here : option_map (λ (w : Vec ℕ). w.items) None ≡ Some x = ap (option_map (λ (w : Vec ℕ). w.items)) (sym none) ∙ ap (λ (d : List ℕ). option_map (λ (w : Vec ℕ). w.items) (get digest_cmp nodes (record { 0 = d }))) same ∙ is in
     Prim.cc
+
+-- what was given under a digest is used and held, and has it, where each given node is what the stock has
+pub given_used : (nodes : BTreeMap Digest (Vec ℕ)) (given : BTreeMap Digest (Bor (List ℕ))) (key : Digest) (b : Bor (List ℕ)) → get digest_cmp given key ≡ Some b
+    → ForSome (get digest_cmp given key) (λ c. option_map (λ (w : Vec ℕ). w.items) (get digest_cmp nodes key) ≡ Some c.now)
+    → ForSome (get digest_cmp nodes key) (λ w. digest w.items ≡ key.0)
+    → StandsIn (λ (c : Bor (List ℕ)). c.now) given b.now × StandsIn (λ (w : Vec ℕ). w.items) nodes b.now × (digest b.now ≡ key.0)
+given_used nodes given key b is own owned =
+    let held = found_held nodes key b.now (own b is) owned in
+    (ap (λ (d : List ℕ). option_map (λ (c : Bor (List ℕ)). c.now) (get digest_cmp given (record { 0 = d }))) held.1 ∙ ap (option_map (λ (c : Bor (List ℕ)). c.now)) is, held.0, held.1)

@@ -2,7 +2,8 @@
 
 ghost use Rattle.std.specs.BTreeMap.{get};
 ghost use Rattle.std.specs.Option.{ForSome, option_map};
-ghost use Rattle.std.specs.Prelude.{◌≡◌, Some, IfOk, true};
+ghost use Rattle.std.specs.Prelude.{◌≡◌, Some, IfOk, IfSome, true};
+ghost use Rattle.tree_node.specs.Digests.{digest as digest_word};
 ghost use Rattle.tree_node.specs.Keys.{digest_cmp};
 ghost use Rattle.tree_node.specs.Parts.{HaveNode, HaveRisingDigests};
 ghost use Rattle.tree_node.specs.Shelves.{IsEmptySet, SameNodes};
@@ -55,6 +56,17 @@ impl<'a> Recorder<'a> {
         }
         Ok(parts)
     }
+
+    /// The node with this digest, if it was used before.
+    fn used_node(&self, key: &Digest) -> Option<&'a [u8]>
+        ensures { IfSome result (λ node.
+            RecorderUsed self.now node.now × RecorderHolds self.now node.now × (digest_word node.now ≡ key.now.0)) }
+    {
+        match self.given.get(key) {
+            Some(node) => Some(*node),
+            None => None,
+        }
+    }
 }
 
 impl<'a> Shelf<'a> for Recorder<'a> {
@@ -76,8 +88,8 @@ impl<'a> Shelf<'a> for Recorder<'a> {
     /// nodes; of a node that was used before, in the number of used nodes.
     fn fetch(&mut self, key: &Digest) -> Result<&'a [u8], ShelfFault> {
         // Walks ask the nodes near a top again and again, and few of a stock's nodes are used.
-        if let Some(node) = self.given.get(key) {
-            return Ok(*node);
+        if let Some(node) = self.used_node(key) {
+            return Ok(node);
         }
         let stock = self.stock;
         match stock.find(key) {
