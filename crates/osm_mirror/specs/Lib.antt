@@ -1,8 +1,9 @@
-pub mod Written
-pub mod Statuses
-pub mod Faults
-pub mod RootLines
-pub mod Editions
-pub mod TreeRoots
 pub mod Ask
+pub mod Editions
+pub mod Faults
 pub mod Files
+pub mod ListeningLines
+pub mod RootLines
+pub mod Statuses
+pub mod TreeRoots
+pub mod Written
