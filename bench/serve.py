@@ -15,8 +15,8 @@ from urllib.parse import quote
 PROGRAM = Path(__file__).resolve().parents[1] / "crates/osm_mirror/out/osm_mirror"
 ROUNDS = 5
 QUERY = "node(4998);out;"
-# About 10 MB of text: every tenth object or so.
-LARGE = "node(51.5,12.5,52.2,13.2);out;"
+# About 10 MB of text: more than a quarter of the nodes.
+LARGE = "node(51.3,12.3,52.36,13.36);out;"
 
 NGINX = """
 worker_processes 1;
@@ -128,15 +128,15 @@ def main():
         is_at = statistics.median(taken)
         cost = f", {statistics.median(own[name]):.0f} microseconds of processor time each" if name in own else ""
         print(f"{name}: {is_at:,.0f} requests a second, {is_at / beside:.2f} of nginx{cost}")
+    rate(client, interpreter(QUERY), max(0, 100_000 - 2 * ROUNDS * count))
+    early = peak_mib(mirror.pid)
     firsts = []
     for _ in range(ROUNDS):
         length, first = client.get(interpreter(LARGE))
         firsts.append(first)
     print(f"an answer of {length / 1e6:.1f} MB: first byte after {statistics.median(firsts) * 1000:.0f} ms")
-    early = peak_mib(mirror.pid)
-    rate(client, interpreter(QUERY), max(0, 100_000 - 2 * ROUNDS * count))
-    print(f"memory at its peak: {begun:.1f} MiB when it began to listen, {early:.1f} MiB after the large answers, "
-          f"{peak_mib(mirror.pid):.1f} MiB after {max(100_000, 2 * ROUNDS * count):,} requests")
+    print(f"memory at its peak: {begun:.1f} MiB when it began to listen, {early:.1f} MiB after "
+          f"{max(100_000, 2 * ROUNDS * count):,} requests, {peak_mib(mirror.pid):.1f} MiB after the large answers")
     mirror.kill()
 
 
