@@ -1,2 +1,10 @@
 -- Words that only private clauses cite: nothing that a reader of the promises must believe.
 pub mod Building
+pub mod Cutting
+pub mod Edits
+pub mod Holding
+pub mod ItemChanges
+pub mod RisingChanges
+pub mod Seeking
+pub mod Towers
+pub mod Weaving
