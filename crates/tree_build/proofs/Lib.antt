@@ -5,6 +5,7 @@ pub mod CutLemmas
 pub mod DescentLemmas
 pub mod FitLemmas
 pub mod GoneLemmas
+pub mod HandLemmas
 pub mod LengthLemmas
 pub mod LevelLemmas
 pub mod LevelSteps

@@ -2,6 +2,7 @@
 pub mod Building
 pub mod Cutting
 pub mod Edits
+pub mod FitLaws
 pub mod Holding
 pub mod ItemChanges
 pub mod RisingChanges

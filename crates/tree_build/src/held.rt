@@ -39,8 +39,7 @@ pub(crate) fn open<'a, S: Shelf<'a>>(
     ensures grows { (bytes : List ℕ) → S.used shelf.old bytes → S.used shelf.new bytes }
     ensures node { (node : Node) → IsHeld (S.holds shelf.new) key.now.0 node
         → IfOk result (λ found. node_read found.node ≡ node) }
-    ensures old { (node : Node) → IsHeld (S.holds shelf.new) key.now.0 node
-        → IfOk result (λ found. IsOldNode found.old node) }
+    ensures old { IfOk result (λ found. IsOldNode found.old (node_read found.node)) }
     ensures used { (node : Node) → IsHeld (S.holds shelf.new) key.now.0 node
         → (bytes : List ℕ) → S.used shelf.new bytes → S.used shelf.old bytes ⊎ (bytes ≡ spelling node) }
 {

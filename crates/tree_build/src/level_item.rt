@@ -1,6 +1,6 @@
 //! Items of a level of a tree, and changes of them.
 
-ghost use Rattle.std.specs.Prelude.{◌≡◌, ◌≤◌, ℕ, List, Bool, IfOk, length, map};
+ghost use Rattle.std.specs.Prelude.{◌≡◌, ◌≤◌, ◌++◌, ℕ, List, Bool, IfOk, length, map, refl};
 ghost use Rattle.tree_node.specs.declared.limits.TheConstants.{ITEM_LIMIT};
 ghost use Rattle.tree_node.specs.NodeRefs.{node_read, number_of};
 ghost use Rattle.tree_node.specs.Nodes.{Node, spelling};
@@ -13,15 +13,16 @@ use crate::leaf::{last_key, leaf_bytes};
 use std::alloc::{AllocError, Global};
 use tree_node::{Child, NodeRef, Tree};
 
-/// What the nodes of a level are made of: the entries of leaves, or what an inner node says of its
-/// children.
-pub(crate) trait LevelItem<'x>: Cut + Copy {
+/// What nodes are written of: the entries of a leaf, or what an inner node says of its children.
+pub(crate) trait NodeItem: Cut + Copy {
     /// What an item is, without where it lies in memory.
     ghost Meaning: { Type 0 };
 
     ghost meaning: { Self → Meaning };
 
     /// The key that the items of a level are ordered by.
+    ghost key_of: { Self → List ℕ };
+
     ghost key_in: { Meaning → List ℕ };
 
     ghost marked_in: { Meaning → Bool };
@@ -35,35 +36,54 @@ pub(crate) trait LevelItem<'x>: Cut + Copy {
     /// A node of these items can be written.
     ghost Fit: { List Meaning → Type 0 };
 
-    /// The item's key.
-    fn key(&self) -> &'x [u8]
-        ensures { result.now ≡ key_in (meaning self.now) };
-
-    /// The items of a node of the level.
-    fn items_of(alloc: Global, node: NodeRef<'x>) -> Result<Vec<Self>, AllocError>
-        ensures { IfOk result (λ items. map meaning items.items ≡ items_in (node_read node.entry)) };
-
     /// The bytes of the node with these items.
-    fn bytes_of(alloc: Global, tree: Tree, level: u8, items: &[Self]) -> Result<Vec<u8>, AllocError>
+    fn bytes_of(
+        alloc: Global,
+        tree: Tree,
+        level: u8,
+        items: &[Self],
+    ) -> Result<Vec<u8>, AllocError>
         requires few { length items.now ≤ ITEM_LIMIT }
         requires fit { Fit (map meaning items.now) }
         ensures { IfOk result (λ bytes. bytes.items
             ≡ spelling (node_over (number_of tree) level (map meaning items.now))) };
-
-    /// The last of their keys; of none the empty one.
-    fn greatest(items: &[Self]) -> &'x [u8]
-        ensures { (tree level : ℕ)
-            → result.now ≡ greatest_of (node_over tree level (map meaning items.now)) };
 
     /// The number of entries that they are or that are below them.
     fn number(items: &[Self]) -> u64
         requires { Fit (map meaning items.now) }
         ensures { (tree level : ℕ)
             → result ≡ entry_count (node_over tree level (map meaning items.now)) };
+
+    /// The key is that of what the item is,
+    ghost keys: { (item : Self) → key_of item ≡ key_in (meaning item) };
+
+    /// and so is its mark.
+    ghost marks: { (item : Self) → Self.marked item ≡ marked_in (meaning item) };
+
+    /// A node of a part of items that fit can be written.
+    ghost parts: { (items others : List Meaning) → Fit (items ++ others) → Fit items × Fit others };
 }
 
-impl<'x> LevelItem<'x> for Entry<'x> {
+/// The items of the nodes of a level, which lie in the bytes of nodes or in changes.
+pub(crate) trait LevelItem<'x>: NodeItem {
+    /// The item's key.
+    fn key(&self) -> &'x [u8]
+        ensures { result.now ≡ Self.key_of self.now };
+
+    /// The last of their keys; of none the empty one.
+    fn greatest(items: &[Self]) -> &'x [u8]
+        ensures { (tree level : ℕ)
+            → result.now ≡ greatest_of (Self.node_over tree level (map Self.meaning items.now)) };
+
+    /// The items of a node of the level.
+    fn items_of(alloc: Global, node: NodeRef<'x>) -> Result<Vec<Self>, AllocError>
+        ensures { IfOk result (λ items.
+            map Self.meaning items.items ≡ Self.items_in (node_read node.entry)) };
+}
+
+impl<'x> NodeItem for Entry<'x> {
     ghost use Rattle.std.specs.List.{AllByRecursion};
+    ghost use Rattle.tree_build.specs.internal.FitLaws.{entries_parts};
     ghost use Rattle.tree_node.specs.NodeRefs.{binding_of};
     ghost use Rattle.tree_node.specs.Nodes.{Binding, Leaf};
     ghost use Rattle.tree_node.specs.Trees.{FitsTree, entries_in, is_marked_entry};
@@ -71,6 +91,8 @@ impl<'x> LevelItem<'x> for Entry<'x> {
     ghost Meaning = { Binding };
 
     ghost meaning = { binding_of };
+
+    ghost key_of = { λ item. item.key.now };
 
     ghost key_in = { λ (entry : Binding). entry.key };
 
@@ -82,8 +104,33 @@ impl<'x> LevelItem<'x> for Entry<'x> {
 
     ghost Fit = { AllByRecursion FitsTree };
 
+    ghost keys = { λ item. refl };
+
+    ghost marks = { λ item. refl };
+
+    ghost parts = { entries_parts };
+
+    fn bytes_of(
+        alloc: Global,
+        tree: Tree,
+        _level: u8,
+        items: &[Self],
+    ) -> Result<Vec<u8>, AllocError> {
+        leaf_bytes(alloc, tree, items)
+    }
+
+    fn number(items: &[Self]) -> u64 {
+        items.len() as u64
+    }
+}
+
+impl<'x> LevelItem<'x> for Entry<'x> {
     fn key(&self) -> &'x [u8] {
         self.key
+    }
+
+    fn greatest(items: &[Self]) -> &'x [u8] {
+        last_key(items)
     }
 
     fn items_of(alloc: Global, node: NodeRef<'x>) -> Result<Vec<Self>, AllocError> {
@@ -95,27 +142,11 @@ impl<'x> LevelItem<'x> for Entry<'x> {
         }
         Ok(items)
     }
-
-    fn bytes_of(
-        alloc: Global,
-        tree: Tree,
-        _level: u8,
-        items: &[Self],
-    ) -> Result<Vec<u8>, AllocError> {
-        leaf_bytes(alloc, tree, items)
-    }
-
-    fn greatest(items: &[Self]) -> &'x [u8] {
-        last_key(items)
-    }
-
-    fn number(items: &[Self]) -> u64 {
-        items.len() as u64
-    }
 }
 
-impl<'x> LevelItem<'x> for Child<'x> {
+impl<'x> NodeItem for Child<'x> {
     ghost use Rattle.tree_build.specs.internal.Building.{AreWithin};
+    ghost use Rattle.tree_build.specs.internal.FitLaws.{links_parts};
     ghost use Rattle.tree_node.specs.NodeRefs.{link_of};
     ghost use Rattle.tree_node.specs.Nodes.{Inner, Link};
     ghost use Rattle.tree_node.specs.Trees.{is_marked_link, links_in};
@@ -123,6 +154,8 @@ impl<'x> LevelItem<'x> for Child<'x> {
     ghost Meaning = { Link };
 
     ghost meaning = { link_of };
+
+    ghost key_of = { λ child. child.greatest.now };
 
     ghost key_in = { λ (link : Link). link.greatest };
 
@@ -134,19 +167,11 @@ impl<'x> LevelItem<'x> for Child<'x> {
 
     ghost Fit = { AreWithin };
 
-    fn key(&self) -> &'x [u8] {
-        self.greatest
-    }
+    ghost keys = { λ child. refl };
 
-    fn items_of(alloc: Global, node: NodeRef<'x>) -> Result<Vec<Self>, AllocError> {
-        let mut items = Vec::new(alloc);
-        if let NodeRef::Inner { children, .. } = node {
-            for child in children {
-                items.push(child)?;
-            }
-        }
-        Ok(items)
-    }
+    ghost marks = { λ child. refl };
+
+    ghost parts = { links_parts };
 
     fn bytes_of(
         alloc: Global,
@@ -157,12 +182,28 @@ impl<'x> LevelItem<'x> for Child<'x> {
         inner_bytes(alloc, tree, level, items)
     }
 
+    fn number(items: &[Self]) -> u64 {
+        entries_below(items)
+    }
+}
+
+impl<'x> LevelItem<'x> for Child<'x> {
+    fn key(&self) -> &'x [u8] {
+        self.greatest
+    }
+
     fn greatest(items: &[Self]) -> &'x [u8] {
         last_greatest(items)
     }
 
-    fn number(items: &[Self]) -> u64 {
-        entries_below(items)
+    fn items_of(alloc: Global, node: NodeRef<'x>) -> Result<Vec<Self>, AllocError> {
+        let mut items = Vec::new(alloc);
+        if let NodeRef::Inner { children, .. } = node {
+            for child in children {
+                items.push(child)?;
+            }
+        }
+        Ok(items)
     }
 }
 

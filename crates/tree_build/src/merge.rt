@@ -11,14 +11,14 @@ use crate::level_item::{ItemChange, LevelItem};
 use std::alloc::{AllocError, Global};
 use tree_node::is_below;
 
-/// The items before this key, and those behind it.
+/// The items before this key, and those after it.
 pub(crate) fn split_at_key<'x, 's, T: LevelItem<'x>>(
     items: &'s [T],
     key: &[u8],
 ) -> (&'s [T], &'s [T])
-    ensures below { AllByRecursion (λ item. IsBelow (T.key_in (T.meaning item)) key.now) result.0.now }
+    ensures below { AllByRecursion (λ item. IsBelow (T.key_of item) key.now) result.0.now }
     ensures changed { (change : Change _) → change.key ≡ key.now
-        → changed_once T.key_in (T.meaning item) s.now change ≡ result.0.now ++ (one_or_none change.put ++ result.1.now) }
+        → changed_once T.key_of items.now change ≡ result.0.now ++ (one_or_none change.put ++ result.1.now) }
 {
     let mut at = 0;
     for item in items {
@@ -33,7 +33,7 @@ pub(crate) fn split_at_key<'x, 's, T: LevelItem<'x>>(
     (items, &[])
 }
 
-/// Puts the item, where there is one, behind the others.
+/// Puts the item, where there is one, after the others.
 fn push_some<T: Copy>(items: &mut Vec<T>, item: Option<T>) -> Result<(), AllocError>
     ensures { OnOk result (items.new.items ≡ items.old.items ++ one_or_none item) }
 {
@@ -49,8 +49,8 @@ pub(crate) fn merge<'x, T: LevelItem<'x>>(
     items: &[T],
     changes: &[ItemChange<'x, T>],
 ) -> Result<Vec<T>, AllocError>
-    requires { AreOwnAndRising (λ item. T.key_in (T.meaning item)) (changes_in changes.now) }
-    ensures { IfOk result (λ merged. merged.items ≡ changed T.key_in (T.meaning item) s.now (changes_in changes.now)) }
+    requires { AreOwnAndRising T.key_of (changes_in changes.now) }
+    ensures { IfOk result (λ merged. merged.items ≡ changed T.key_of items.now (changes_in changes.now)) }
 {
     let mut merged = Vec::new(alloc);
     let mut rest = items;

@@ -1,9 +1,9 @@
 //! New nodes, as they are made.
 
-use crate::level_item::LevelItem;
+ghost use Rattle.std.specs.Prelude.{◌≡◌};
+
 use crate::rebuilt::NewNode;
-use std::alloc::{AllocError, Global};
-use tree_node::{Child, Tree, digest_of};
+use tree_node::Child;
 
 /// A node that was made of a piece of a level's items, and what its parent says of it.
 #[derive(Drop)]
@@ -16,28 +16,19 @@ pub(crate) struct NewPiece<'c> {
 }
 
 impl<'c> NewPiece<'c> {
+    ghost use Rattle.tree_build.specs.internal.Edits.{IsNewNode};
+    ghost use Rattle.tree_node.specs.NodeRefs.{link_of};
+    ghost use Rattle.tree_node.specs.Nodes.{Node};
+    ghost use Rattle.tree_node.specs.Trees.{link_to};
+
     /// What an inner node says of it.
-    pub(crate) fn child(&self) -> Child<'c> {
+    pub(crate) fn child(&self) -> Child<'c>
+        ensures { (node : Node) → IsNewNode self.now node → link_of result ≡ link_to node }
+    {
         Child {
             greatest: self.greatest,
             number: self.number,
             digest: self.node.digest,
         }
     }
-}
-
-/// The node of this tree and level with these items.
-pub(crate) fn make_node<'c, T: LevelItem<'c>>(
-    alloc: Global,
-    tree: Tree,
-    level: u8,
-    items: &[T],
-) -> Result<NewPiece<'c>, AllocError> {
-    let bytes = T::bytes_of(alloc, tree, level, items)?;
-    let digest = digest_of(bytes.as_slice());
-    Ok(NewPiece {
-        node: NewNode { digest, bytes },
-        greatest: T::greatest(items),
-        number: T::number(items),
-    })
 }

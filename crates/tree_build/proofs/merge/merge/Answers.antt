@@ -3,14 +3,14 @@ use Rattle.std.proofs.Math.Seq.{drop-cons}
 use Rattle.tree_build.specs.Changing.{Change, changed, one_or_none}
 use Rattle.tree_build.specs.internal.RisingChanges.{AreOwnAndRising}
 use Rattle.tree_build.specs.internal.ItemChanges.{change_in, changes_in}
-use Rattle.tree_build.specs.declared.keyed.ItemChange.{ItemChange}
+use Rattle.tree_build.specs.declared.level_item.ItemChange.{ItemChange}
 use Rattle.tree_build.proofs.ChangeLemmas.{merge_step}
 use Rattle.tree_build.proofs.merge.merge.Goals as goal
 
 pub loop-change-preserved : goal.loop-change-preserved
 loop-change-preserved g c =
     let X = g.row.T.Denot in
-    let key = g.T.Keyed.key_of in
+    let key = g.T.NodeItem.key_of in
     let at = c.loop-change.change-index in
     let changes = c.args.changes.now in
     let item = c.change-item.result in

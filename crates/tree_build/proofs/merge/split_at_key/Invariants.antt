@@ -7,5 +7,5 @@ use Rattle.tree_build.proofs.merge.split_at_key.Given as goal
 abbrev pub invariant-loop-item : goal.invariant-loop-item
 invariant-loop-item g l = record {
   count : l.at ≡ l.item-index;
-  below : AllByRecursion (λ item. IsBelow (g.T.Keyed.key_of item) l.key) (take l.at l.items);
+  below : AllByRecursion (λ item. IsBelow (g.T.NodeItem.key_of item) l.key) (take l.at l.items);
 }
