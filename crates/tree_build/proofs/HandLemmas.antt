@@ -3,9 +3,12 @@ use Rattle.std.proofs.Common.{◌≡◌, ℕ, zero, suc, ◌+◌, ◌<◌, ◌�
 use Rattle.std.proofs.lemmas.List.{append-nil, map-append}
 use Rattle.std.proofs.Math.Seq.{drop-cons}
 use Rattle.tree_node.specs.Nodes.{Node}
+use Rattle.tree_node.specs.Trees.{pieces_from}
+use Rattle.tree_node.proofs.shared.PieceLemmas.{join}
 use Rattle.tree_build.specs.declared.piece.NewPiece.{NewPiece}
 use Rattle.tree_build.specs.internal.Cutting.{done_by, hand_after}
 use Rattle.tree_build.specs.internal.Edits.{Each, HaveCome, IsNewNode}
+use Rattle.tree_build.specs.internal.Steps.{HaveGoneOn}
 use Rattle.tree_build.proofs.RecutLemmas.{done_append, hand_append}
 
 -- ---- what is left of a list that a loop goes over
@@ -82,3 +85,43 @@ module _ {X : Type 0} (Fit : List X → Type 0) (ends : ℕ → X → Bool) (nod
   -- all were taken
   pub cutting_done : (first items : List X) (before after : List NewPiece) (hand : List X) → IsCutting first items before after hand [] → HaveCome before after (map node (done_by ends first items))
   cutting_done first items before after hand so = subst (λ (ns : List Node). HaveCome before after ns) (sym (so.whole ∙ append-nil so.made)) so.come
+
+-- ---- what is in hand behind some items
+
+module _ {X : Type 0} (ends : ℕ → X → Bool) where
+  -- the pieces that ended, and what is in hand, are what there was
+  pub hand_joins : (hand xs : List X) → join (done_by ends hand xs) ++ hand_after ends hand xs ≡ hand ++ xs
+  hand_joins hand [] = sym (append-nil hand)
+  hand_joins hand (x ∷ xs) = step (ends (length hand + 1) x) (hand_joins [] xs) (hand_joins (hand ++ x ∷ []) xs)
+    where
+      step : (b : Bool) → join (done_by ends [] xs) ++ hand_after ends [] xs ≡ xs → join (done_by ends (hand ++ x ∷ []) xs) ++ hand_after ends (hand ++ x ∷ []) xs ≡ (hand ++ x ∷ []) ++ xs
+          → join (cond b ((hand ++ x ∷ []) ∷ done_by ends [] xs) (done_by ends (hand ++ x ∷ []) xs)) ++ cond b (hand_after ends [] xs) (hand_after ends (hand ++ x ∷ []) xs) ≡ hand ++ x ∷ xs
+      step true one two = append_assoc (hand ++ x ∷ []) (join (done_by ends [] xs)) (hand_after ends [] xs) ∙ ap (λ (ys : List X). (hand ++ x ∷ []) ++ ys) one ∙ append_assoc hand (x ∷ []) xs
+      step false one two = two ∙ append_assoc hand (x ∷ []) xs
+
+  module _ (Fit : List X → Type 0) (parts : (xs ys : List X) → Fit (xs ++ ys) → Fit xs × Fit ys) where
+    -- what is in hand fits, where all did
+    pub hand_fits : (hand xs others : List X) → Fit (hand ++ (xs ++ others)) → Fit (hand_after ends hand xs ++ others)
+    hand_fits hand xs others fit =
+        (parts (join (done_by ends hand xs)) (hand_after ends hand xs ++ others)
+        (subst Fit
+        (sym (append_assoc hand xs others) ∙ ap (λ (ys : List X). ys ++ others) (sym (hand_joins hand xs)) ∙ append_assoc (join (done_by ends hand xs)) (hand_after ends hand xs) others)
+        fit)).1
+
+    pub last_fits : (hand xs : List X) → Fit (hand ++ xs) → Fit (hand_after ends hand xs)
+    last_fits hand xs fit = (parts (join (done_by ends hand xs)) (hand_after ends hand xs) (subst Fit (sym (hand_joins hand xs)) fit)).1
+
+  -- the items were cut, and the level closed where they are its last
+  pub gone_on : (over : List X → Node) (is_last : Bool) (hand : List X) (news : List NewPiece) (items others mid_hand next : List X) (mid later : List NewPiece)
+      → HaveCome news mid (map over (done_by ends hand others)) → mid_hand ≡ hand_after ends hand others → others ≡ items
+      → HaveCome mid later (map over (cond is_last (pieces_from ends mid_hand []) [])) → next ≡ cond is_last [] mid_hand → HaveGoneOn ends over is_last hand news items next later
+  gone_on over is_last hand news items others mid_hand next mid later cut hand_is same come next_is =
+      let all : mid_hand ≡ hand_after ends hand items = hand_is ∙ ap (hand_after ends hand) same in
+      let last : HaveCome mid later (map over (cond is_last (pieces_from ends (hand_after ends hand items) []) [])) =
+      subst (λ (h : List X). HaveCome mid later (map over (cond is_last (pieces_from ends h []) []))) all come in
+      let first : HaveCome news mid (map over (done_by ends hand items)) = subst (λ (ys : List X). HaveCome news mid (map over (done_by ends hand ys))) same cut in
+      record {
+        come = subst (λ (ns : List Node). HaveCome news later ns) (sym (map-append over (done_by ends hand items) (cond is_last (pieces_from ends (hand_after ends hand items) []) [])))
+            (come_then news mid later (map over (done_by ends hand items)) (map over (cond is_last (pieces_from ends (hand_after ends hand items) []) [])) first last);
+        hand_is = next_is ∙ ap (λ (h : List X). cond is_last [] h) all;
+      }

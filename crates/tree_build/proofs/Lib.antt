@@ -9,12 +9,14 @@ pub mod HandLemmas
 pub mod LengthLemmas
 pub mod LevelLemmas
 pub mod LevelSteps
+pub mod MeaningLemmas
 pub mod NextLemmas
 pub mod ParentLemmas
 pub mod RecutLemmas
 pub mod SeekLemmas
 pub mod SeekStates
 pub mod SplitLemmas
+pub mod StepItems
 pub mod StockLemmas
 pub mod TowerLemmas
 pub mod WeaveLemmas

@@ -13,7 +13,7 @@ use Rattle.tree_build.specs.internal.Weaving.{IsIn}
 use Rattle.tree_build.proofs.SeekLemmas.{all_front}
 
 -- what lies before a key doesn't reach it
-never_both : (wanted : List ℕ) (above : Bool) (k : List ℕ) → LiesBefore wanted above k → Reaches wanted above k → ⊥
+pub never_both : (wanted : List ℕ) (above : Bool) (k : List ℕ) → LiesBefore wanted above k → Reaches wanted above k → ⊥
 never_both wanted false k before (inl up) = not_itself k k (order_trans k wanted k before up) refl
 never_both wanted false k before (inr same) = not_itself k wanted before (sym same)
 never_both wanted true k (inl before) up = not_itself k k (order_trans k wanted k before up) refl

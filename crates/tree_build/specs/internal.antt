@@ -7,5 +7,6 @@ pub mod Holding
 pub mod ItemChanges
 pub mod RisingChanges
 pub mod Seeking
+pub mod Steps
 pub mod Towers
 pub mod Weaving

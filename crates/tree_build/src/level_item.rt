@@ -37,12 +37,7 @@ pub(crate) trait NodeItem: Cut + Copy {
     ghost Fit: { List Meaning → Type 0 };
 
     /// The bytes of the node with these items.
-    fn bytes_of(
-        alloc: Global,
-        tree: Tree,
-        level: u8,
-        items: &[Self],
-    ) -> Result<Vec<u8>, AllocError>
+    fn bytes_of(alloc: Global, tree: Tree, level: u8, items: &[Self]) -> Result<Vec<u8>, AllocError>
         requires few { length items.now ≤ ITEM_LIMIT }
         requires fit { Fit (map meaning items.now) }
         ensures { IfOk result (λ bytes. bytes.items

@@ -4,7 +4,7 @@ use crate::Entry;
 use crate::change::EntryChange;
 use crate::differ::differ;
 use crate::level_item::ItemChange;
-use crate::step::{LevelEdit, OldLevel, step};
+use crate::step::{LevelEdit, OldLevel, step_inner, step_leaves};
 use std::alloc::{AllocError, Global};
 use tree_node::{Digest, Shelf, Tree};
 
@@ -54,12 +54,12 @@ pub(crate) fn change_levels<'a: 'c, 'c, S: Shelf<'a>>(
         level: 0,
     };
     let items = item_changes(alloc, changes)?;
-    let leaves: LevelEdit<'c> = step(alloc, shelf, place, items.as_slice())?;
+    let leaves: LevelEdit<'c> = step_leaves(alloc, shelf, place, items.as_slice())?;
     let mut next = differ(alloc, &leaves)?;
     edits.push(leaves)?;
     while place.level < top_level && !next.is_empty() {
         place.level += 1;
-        let edit: LevelEdit<'c> = step(alloc, shelf, place, next.as_slice())?;
+        let edit: LevelEdit<'c> = step_inner(alloc, shelf, place, next.as_slice())?;
         next = differ(alloc, &edit)?;
         edits.push(edit)?;
     }

@@ -3,9 +3,9 @@
 use crate::Entry;
 use crate::change::EntryChange;
 use crate::grow::grow;
+use crate::hand::make_node;
 use crate::held::{level_in, open};
 use crate::levels::{TreeEdit, change_levels};
-use crate::hand::make_node;
 use crate::piece::NewPiece;
 use crate::rebuilt::Rebuilt;
 use crate::settle::{Top, settle};

@@ -43,7 +43,7 @@ loop-found-preserved g c =
     record {
       state = rw c.are_both-last.ensures
           (seek_next _ _ _ _ _ _ _ _ _ _ c.loop-found.invariant.state higher _ (link_of c.child_of-is_last.result.0) _ _ picked.2 picked.3 _ _ _
-              (record { stays = c.open-in-loop-found.ensures.stays; grows = c.open-in-loop-found.ensures.grows; found_is = c.in_ok-found-2.ensures.node; only = c.in_ok-found-2.ensures.used }));
+          (record { stays = c.open-in-loop-found.ensures.stays; grows = c.open-in-loop-found.ensures.grows; found_is = c.in_ok-found-2.ensures.node; only = c.in_ok-found-2.ensures.used }));
       old = c.in_ok-found-2.ensures.old;
     }
 
