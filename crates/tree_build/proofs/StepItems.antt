@@ -114,23 +114,20 @@ module _ {X : Type 0} (key : X → List ℕ) (ends : ℕ → X → Bool) (items 
         none [] le = tt
         none (n ∷ ns) le = absurd (omega arith)
 
-  -- items of nodes in front are below what their greatest keys are below
-  pub items_below : (k : List ℕ) (front back : List Node) → nodes ≡ front ++ back → AllByRecursion (λ (n : Node). IsBelow (greatest_of n) k) front → AllByRecursion (λ (x : X). IsBelow (key x) k) (flat_map items front)
-  items_below k front back whole all = go [] front back whole all
+  -- items of nodes are below what the nodes' greatest keys are below
+  pub items_below : (k : List ℕ) (done front back : List Node) → nodes ≡ done ++ (front ++ back) → AllByRecursion (λ (n : Node). IsBelow (greatest_of n) k) front → AllByRecursion (λ (x : X). IsBelow (key x) k) (flat_map items front)
+  items_below k done [] back whole all = tt
+  items_below k done (n ∷ front) back whole all =
+      both (items n) (flat_map items front) (up (items n) (items_up_to done n (front ++ back) whole) all.0)
+      (items_below k (done ++ n ∷ []) front back (whole ∙ sym (append_assoc done (n ∷ []) (front ++ back))) all.1)
     where
-      up : (k : List ℕ) (n : Node) (xs : List X) → AllByRecursion (λ (x : X). IsUpTo (key x) (greatest_of n)) xs → IsBelow (greatest_of n) k → AllByRecursion (λ (x : X). IsBelow (key x) k) xs
-      up k n [] all below = tt
-      up k n (x ∷ xs) all below = (elim all.0 [ inl less ↦ order_trans (key x) (greatest_of n) k less below | inr same ↦ subst (λ (l : List ℕ). IsBelow l k) (sym same) below ], up k n xs all.1 below)
+      up : (xs : List X) → AllByRecursion (λ (x : X). IsUpTo (key x) (greatest_of n)) xs → IsBelow (greatest_of n) k → AllByRecursion (λ (x : X). IsBelow (key x) k) xs
+      up [] all below = tt
+      up (x ∷ xs) all below = (elim all.0 [ inl less ↦ order_trans (key x) (greatest_of n) k less below | inr same ↦ subst (λ (l : List ℕ). IsBelow l k) (sym same) below ], up xs all.1 below)
 
       both : (xs ys : List X) → AllByRecursion (λ (x : X). IsBelow (key x) k) xs → AllByRecursion (λ (x : X). IsBelow (key x) k) ys → AllByRecursion (λ (x : X). IsBelow (key x) k) (xs ++ ys)
       both [] ys one two = two
       both (x ∷ xs) ys one two = (one.0, both xs ys one.1 two)
-
-      go : (done front back : List Node) → nodes ≡ done ++ (front ++ back) → AllByRecursion (λ (n : Node). IsBelow (greatest_of n) k) front → AllByRecursion (λ (x : X). IsBelow (key x) k) (flat_map items front)
-      go done [] back whole all = tt
-      go done (n ∷ front) back whole all =
-          both (items n) (flat_map items front) (up k n (items n) (items_up_to done n (front ++ back) whole) all.0)
-          (go (done ++ n ∷ []) front back (whole ∙ sym (append_assoc done (n ∷ []) (front ++ back))) all.1)
 
   -- the pieces of nodes after some
   pub pieces_after : (front back : List Node) → nodes ≡ front ++ back → 2 ≤ length nodes → ArePieces ends (map items back)
