@@ -6,8 +6,8 @@ use Rattle.tree_node.specs.Nodes.{AreRisingFrom, Binding, IsNode, Leaf, Inner, L
 use Rattle.tree_node.specs.Order.{IsBelow}
 use Rattle.tree_node.specs.internal.OrderLemmas.{order_trans}
 use Rattle.tree_node.specs.Trees.{Two, greatest_of, last_key, leaves, level_at, levels, links_in, link_to, node_in, no_node}
-use Rattle.tree_node.proofs.shared.TreeLaws.{above as over, last_has_one, nodes_at, over_joined, pair_at, whole}
-use Rattle.tree_node.proofs.shared.TreeLemmas.{tree_levels}
+use Rattle.tree_node.proofs.shared.TreeLaws.{above as over, last_has_one, level_has, nodes_at, over_joined, pair_at, whole}
+use Rattle.tree_node.proofs.shared.TreeLemmas.{leaves_some, tree_levels}
 use Rattle.tree_node.proofs.shared.TreeParts.{kind_at}
 use Rattle.tree_build.specs.internal.RisingChanges.{IsUpTo}
 use Rattle.tree_build.specs.internal.Holding.{IsHeld, IsHeldTree, IsSoughtNode}
@@ -183,3 +183,8 @@ module _ (held : List ℕ → Type 0) (top : List ℕ) (tree : ℕ) (entries : L
   sought_links level lt wanted above node last at =
       let nodes = subst (λ (ns : List Node). AllByRecursion IsNode ns) at.sought.whole (nodes_at Two tree entries is.has is.is_tree (suc level) lt) in
       has_links level node (all_parts IsNode at.front (node ∷ at.back) nodes).1.0 (sought_level (suc level) lt wanted above node last at)
+
+-- each level of a tree has a node
+pub level_some_at : (tree : ℕ) (entries : List Binding) (level : ℕ) → level < length (levels Two tree entries) → 1 ≤ length (level_at (levels Two tree entries) level)
+unfolding levels
+level_some_at tree entries level lt = level_has Two tree 1 (leaves Two tree entries) (over Two tree entries) level (tree_levels Two tree entries) (leaves_some Two tree entries) lt

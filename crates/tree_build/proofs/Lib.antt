@@ -17,6 +17,7 @@ pub mod SeekLemmas
 pub mod SeekStates
 pub mod SplitLemmas
 pub mod StepItems
+pub mod StepLoops
 pub mod StepStates
 pub mod StockLemmas
 pub mod TowerLemmas

@@ -14,6 +14,10 @@ abbrev pub invariant-loop-wanted : goal.invariant-loop-wanted
 invariant-loop-wanted g l = record {
   stays : SameNodes (g.S.Shelf.holds l.fn.shelf) (g.S.Shelf.holds l.shelf);
   grows : (bytes : List _) → g.S.Shelf.used l.fn.shelf bytes → g.S.Shelf.used l.shelf bytes;
+  state : (entries : List Binding) → IsHeldTree (g.S.Shelf.holds l.fn.shelf) l.place.top.0 (number_of l.place.tree) entries → l.place.level < length (levels Two (number_of l.place.tree) entries)
+      → CanStep (λ (entry : Binding). entry.key) (ends_by Two is_marked_entry) entries_in (Leaf (number_of l.place.tree)) (AllByRecursion FitsTree) (level_at (levels Two (number_of l.place.tree) entries) l.place.level) (changes_meant binding_of l.changes)
+      → StepState (λ (entry : Binding). entry.key) (ends_by Two is_marked_entry) entries_in (Leaf (number_of l.place.tree)) (AllByRecursion FitsTree) (level_at (levels Two (number_of l.place.tree) entries) l.place.level) (changes_meant binding_of l.changes)
+      l.work.olds.items l.work.news.items (map binding_of l.work.hand.items) (changes_meant binding_of (drop l.done l.changes));
   few : length l.work.hand.items < 64;
   within : l.done ≤ length l.changes;
 }
