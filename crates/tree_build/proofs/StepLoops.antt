@@ -97,8 +97,7 @@ module _ {T X : Type 0} (meaning : T → X) (key : X → List ℕ) (ends : ℕ �
         whole = whole ∙ ap (λ (ds : List (ItemChange T)). changes_meant meaning (take count (drop done cs)) ++ changes_meant meaning ds) later;
         last = λ stops. (ends_here.0 stops, ap (changes_meant meaning) (sym later ∙ ap (λ n. drop n (drop done cs)) (last stops) ∙ drop-length (drop done cs)));
         more = λ goes.
-            let own_later = own_back (changes_meant meaning (take count (drop done cs))) (changes_meant meaning (drop count (drop done cs))) (subst (λ (ds : List (Change X)). AreOwnAndRising key ds) whole own) in
-            (
+            let own_later = own_back (changes_meant meaning (take count (drop done cs))) (changes_meant meaning (drop count (drop done cs))) (subst (λ (ds : List (Change X)). AreOwnAndRising key ds) whole own) in (
               some behind (λ none. let t : is_last ≡ true = ends_here.1 none in cc),
               subst (λ (l : List ℕ). AllByRecursion (λ (c : Change X). IsUpTo c.key l) (changes_meant meaning (take count (drop done cs)))) k_is (all_meant (λ (l : List ℕ). IsUpTo l k) (take count (drop done cs)) (up_to goes)),
               subst (λ (ds : List (ItemChange T)). AllByRecursion (λ (c : Change X). IsBelow (greatest_of node) c.key) (changes_meant meaning ds)) later

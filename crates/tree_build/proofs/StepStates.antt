@@ -435,7 +435,7 @@ module _ {X : Type 0} (key : X → List ℕ) (ends : ℕ → X → Bool) (items 
         let some : 1 ≤ length olds = omega (arith, so.some, ap (length {A = Change X}) no_rest) in
         let cut = subst (λ (h : List X). IsCutTo key ends wanted_pieces so.made h (map items state.back) []) no_hand (subst (λ (cs : List (Change X)). IsCutTo key ends wanted_pieces so.made hand (map items state.back) cs) no_rest so.cut) in
         let goal_is : wanted_pieces ≡ so.made ++ map items state.back = cut_rest key ends wanted_pieces so.made (map items state.back) cut (pieces_left state.front state.back so.whole
-            (omega (arith, some, each_length IsOldNode olds so.opened so.olds_stand, woven_length so.kept so.opened state.front so.was))) in
+        (omega (arith, some, each_length IsOldNode olds so.opened so.olds_stand, woven_length so.kept so.opened state.front so.was))) in
         record {
           kept = so.kept ++ state.back;
           opened = so.opened;

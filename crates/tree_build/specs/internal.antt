@@ -1,6 +1,7 @@
 -- Words that only private clauses cite: nothing that a reader of the promises must believe.
 pub mod Building
 pub mod Cutting
+pub mod Differing
 pub mod Edits
 pub mod FitLaws
 pub mod Holding

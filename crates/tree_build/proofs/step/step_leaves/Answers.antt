@@ -15,20 +15,22 @@ loop-wanted-init g c = record {
   grows = λ x h. h;
   state = λ entries is lt can.
       start_state binding_of (λ (entry : Binding). entry.key) (ends_by Two is_marked_entry) entries_in (Leaf (number_of c.args.place.tree)) (AllByRecursion FitsTree) (level_at (levels Two (number_of c.args.place.tree) entries) c.args.place.level) c.args.changes.now can (level_some_at (number_of c.args.place.tree) entries c.args.place.level lt) _ _ _
-          c.start-work.ensures.olds c.start-work.ensures.news c.start-work.ensures.hand;
+      c.start-work.ensures.olds c.start-work.ensures.news c.start-work.ensures.hand;
   few = omega (arith, ap length c.start-work.ensures.hand);
   within = omega arith;
-  }
+}
 
 pub seek-requires : goal.seek-requires
 seek-requires g c = λ k.
-    let (entries, is, lt, can) = c.requires in
-    ((refl, tt), record {
-      tree = number_of c.args.place.tree;
-      entries = entries;
-      is = held_then (g.S.Shelf.holds c.args.shelf.now) (g.S.Shelf.holds c.loop-wanted.shelf) c.args.place.top.0 (number_of c.args.place.tree) entries (λ x h. (c.loop-wanted.invariant.stays x).1 h) is;
-      has_level = lt;
-    })
+    let (entries, is, lt, can) = c.requires in (
+      (refl, tt),
+      record {
+        tree = number_of c.args.place.tree;
+        entries = entries;
+        is = held_then (g.S.Shelf.holds c.args.shelf.now) (g.S.Shelf.holds c.loop-wanted.shelf) c.args.place.top.0 (number_of c.args.place.tree) entries (λ x h. (c.loop-wanted.invariant.stays x).1 h) is;
+        has_level = lt;
+      },
+    )
 
 pub take-requires : goal.take-requires
 take-requires g c κs =
@@ -63,7 +65,7 @@ loop-wanted-preserved g c = record {
       went_then binding_of (λ (entry : Binding). entry.key) (ends_by Two is_marked_entry) entries_in (Leaf (number_of c.args.place.tree)) (AllByRecursion FitsTree) (level_at (levels Two (number_of c.args.place.tree) entries) c.args.place.level) c.args.changes.now can _ _ _ _ _ _ _ _ t _ _ c.take.new.work.hand.items c.in_ok-take.ensures.olds c.in_ok-take.ensures.went_on;
   few = c.in_ok-take.ensures.few;
   within = within_rest c.args.changes.now _ _ c.loop-wanted.invariant.within c.count_up_to.ensures.within;
-  }
+}
 
 pub returns-clause-edited : goal.returns-clause-edited
 returns-clause-edited g c = λ entries is lt can.
