@@ -3,6 +3,7 @@ pub mod ChangeLemmas
 pub mod ChangedLaw
 pub mod CutLemmas
 pub mod DescentLemmas
+pub mod DifferChanges
 pub mod DifferLemmas
 pub mod FitLemmas
 pub mod GoneLemmas

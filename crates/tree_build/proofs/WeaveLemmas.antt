@@ -42,7 +42,7 @@ module _ {X : Type 0} (key : X → List ℕ) where
   abbrev Rise : Option (List ℕ) → List X → Type 0
   Rise low xs = AreRisingFrom low (map key xs)
 
-  above_low : (low : List ℕ) (xs : List X) → Rise (Some low) xs → (n : X) → IsIn n xs → IsBelow low (key n)
+  pub above_low : (low : List ℕ) (xs : List X) → Rise (Some low) xs → (n : X) → IsIn n xs → IsBelow low (key n)
   above_low low [] rise n is = absurd is
   above_low low (x ∷ xs) rise n is = elim is [
     | inl here ↦ subst (λ (m : X). IsBelow low (key m)) (sym here) rise.0
