@@ -205,11 +205,11 @@ module _ (kept olds news old new lost gained : List Node) (cs : List (Change Lin
   kept_free : (n : Node) → IsIn n kept → IsFree link_key cs (greatest_of n)
   kept_free n here = free_of (greatest_of n) olds news lost gained cs d
       (λ m among e.
-          let one : n ≡ m = one_key None old old_rises n m (woven_first n kept olds old was here) (woven_second m kept olds old was among) e in
-          woven_apart greatest_of None kept olds old was old_rises n here (subst (λ (p : Node). IsIn p olds) (sym one) among))
+      let one : n ≡ m = one_key None old old_rises n m (woven_first n kept olds old was here) (woven_second m kept olds old was among) e in
+      woven_apart greatest_of None kept olds old was old_rises n here (subst (λ (p : Node). IsIn p olds) (sym one) among))
       (λ m among e.
-          let one : n ≡ m = one_key None new new_rises n m (woven_first n kept news new is here) (woven_second m kept news new is among) e in
-          woven_apart greatest_of None kept news new is new_rises n here (subst (λ (p : Node). IsIn p news) (sym one) among))
+      let one : n ≡ m = one_key None new new_rises n m (woven_first n kept news new is here) (woven_second m kept news new is among) e in
+      woven_apart greatest_of None kept news new is new_rises n here (subst (λ (p : Node). IsIn p news) (sym one) among))
 
   -- the changes take the items of the old level to those of the new one
   pub links_changed : changed link_key (map link_to old) cs ≡ map link_to new
@@ -223,14 +223,14 @@ module _ (kept olds news old new lost gained : List Node) (cs : List (Change Lin
             subst (λ (k : Link). IsIn k (map link_to new)) (sym found.2) (in_mapped found.0 new (stayed found.0 found.1 (subst (λ (k : Link). IsFree link_key cs (link_key k)) found.2 stays.1)))
       ])
       (λ l in_new.
-          let found = of_mapped l new in_new in
-          subst (λ (k : Link). IsIn k (changed link_key (map link_to old) cs)) (sym found.2) ((holds (link_to found.0)).1 (elim (in_woven found.0 kept news new is found.1) [
-            | inl keeps ↦ inr (in_mapped found.0 old (woven_first found.0 kept olds old was keeps), kept_free found.0 keeps)
-            | inr newly ↦ elim (new_kept None olds news lost gained cs d olds_rise news_rise found.0 newly) [
-              | inl puts ↦ inl puts.0
-              | inr stays ↦ inr (in_mapped found.0 old (woven_second found.0 kept olds old was stays.0), stays.1)
-            ]
-          ])))
+      let found = of_mapped l new in_new in
+      subst (λ (k : Link). IsIn k (changed link_key (map link_to old) cs)) (sym found.2) ((holds (link_to found.0)).1 (elim (in_woven found.0 kept news new is found.1) [
+        | inl keeps ↦ inr (in_mapped found.0 old (woven_first found.0 kept olds old was keeps), kept_free found.0 keeps)
+        | inr newly ↦ elim (new_kept None olds news lost gained cs d olds_rise news_rise found.0 newly) [
+          | inl puts ↦ inl puts.0
+          | inr stays ↦ inr (in_mapped found.0 old (woven_second found.0 kept olds old was stays.0), stays.1)
+        ]
+      ])))
     where
       stayed : (n : Node) → IsIn n old → IsFree link_key cs (greatest_of n) → IsIn n new
       stayed n here free = elim (in_woven n kept olds old was here) [

@@ -13,6 +13,7 @@ pub mod LevelLemmas
 pub mod LevelSteps
 pub mod MeaningLemmas
 pub mod NextLemmas
+pub mod OldLevels
 pub mod ParentLemmas
 pub mod RecutLemmas
 pub mod SeekLemmas
@@ -23,5 +24,6 @@ pub mod StepLoops
 pub mod StepStates
 pub mod StockLemmas
 pub mod TowerLemmas
+pub mod TreeEdits
 pub mod WeaveLemmas
 pub mod shared

@@ -10,4 +10,5 @@ pub mod RisingChanges
 pub mod Seeking
 pub mod Steps
 pub mod Towers
+pub mod TreeEdits
 pub mod Weaving

@@ -1,4 +1,6 @@
 use Rattle.tree_build.proofs.DifferChanges.{links_changed}
+use Rattle.tree_build.proofs.OldLevels.{leaf_level}
+use Rattle.tree_build.proofs.TreeEdits.{next_of}
 use Rattle.std.proofs.Common.{◌≡◌, ◌+◌, ◌-◌, ◌∷◌, ◌++◌, [], List, length, take, drop, suc, refl, sym, ap, subst, ◌∙◌, add-one, arith}
 use Rattle.std.proofs.lemmas.List.{drop-drop, length-drop}
 use Rattle.std.proofs.Math.Seq.{drop-cons, drop-length}
@@ -16,7 +18,7 @@ pub loop-new-init : goal.loop-new-init
 loop-new-init c = record {
   within = omega arith;
   so_far = λ olds news one two three four. differing_start olds news _ _ _ (ap (changes_meant link_of) c.new-changes.ensures.items) one two three four;
-  }
+}
 
 pub loop-new-preserved : goal.loop-new-preserved
 loop-new-preserved c =
@@ -39,8 +41,8 @@ loop-new-preserved c =
           let so = subst (λ (xs : List NewPiece). IsDiffering olds news (drop done c.args.edit.now.olds.items) xs (changes_meant link_of c.loop-new.changes.items)) next
           (c.loop-new.invariant.so_far olds news one two three four) in
           differing_next olds news _ _ _ _ _ _ so (λ nodes node stand stands are is.
-              let (lost, gained, more, whole, goes) = c.in_ok-done.ensures.goes_on nodes node (subst (λ (os : List OldNode). Each IsOldNode os nodes) (sym slice) stand) stands are is in
-              (lost, gained, more, whole, subst (λ (os : List OldNode). GoesOn nodes node os lost gained more) ahead goes));
+          let (lost, gained, more, whole, goes) = c.in_ok-done.ensures.goes_on nodes node (subst (λ (os : List OldNode). Each IsOldNode os nodes) (sym slice) stand) stands are is in
+          (lost, gained, more, whole, subst (λ (os : List OldNode). GoesOn nodes node os lost gained more) ahead goes));
     }
 
 pub returns : goal.returns
