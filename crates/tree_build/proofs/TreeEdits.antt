@@ -1,23 +1,28 @@
 -- The edits of a tree's levels, and the changes of the next one.
-use Rattle.std.proofs.Common.{◌≡◌, ℕ, zero, suc, ◌+◌, ◌<◌, ◌≤◌, List, [], ◌∷◌, ◌++◌, length, map, ◌⊎◌, inl, inr, None, Some, refl, sym, ap, subst, ◌∙◌, arith}
+use Rattle.std.proofs.Common.{◌≡◌, ℕ, zero, suc, ◌+◌, ◌-◌, ◌<◌, ◌≤◌, IsTrue, Bool, true, false, eqb, eqb-true, List, [], ◌∷◌, ◌++◌, length, map, ◌⊎◌, inl, inr, None, Some, refl, sym, ap, subst, ◌∙◌, arith}
 use Rattle.std.specs.List.{flat_map, AllByRecursion}
+use Rattle.std.proofs.lemmas.Bool.{cases_lt}
+use Rattle.std.proofs.lemmas.List.{length-map}
 use Rattle.tree_node.specs.Nodes.{AreRisingFrom, Binding, IsNode, IsTree, Inner, Leaf, Link, Node}
 use Rattle.tree_node.specs.internal.OrderLemmas.{order_trans}
 use Rattle.tree_node.specs.Trees.{FitsTree, HasTree, Two, ends_by, entries_in, greatest_of, is_marked_entry, is_marked_link, leaves, level_at, levels, link_to, links_in, pieces}
 use Rattle.tree_node.proofs.shared.TreeLaws.{leaves_joined}
 use Rattle.tree_build.specs.Changing.{Change, changed}
-use Rattle.tree_build.specs.Rebuilding.{changed_entries}
+use Rattle.tree_build.specs.Rebuilding.{IsOldTree, change_of, changed_entries, changes_of}
+use Rattle.tree_build.specs.declared.change.EntryChange.{EntryChange}
+use Rattle.tree_build.specs.internal.Holding.{IsHeldTree}
 use Rattle.tree_build.specs.internal.Building.{AreWithin}
 use Rattle.tree_build.specs.internal.Differing.{Differ, nothing, gone_last, gone, came_last, came, same, replaced}
 use Rattle.tree_build.specs.internal.Edits.{Each, IsNewNode, IsOldNode}
 use Rattle.tree_build.specs.internal.RisingChanges.{AreOwnAndRising}
 use Rattle.tree_build.specs.internal.Steps.{CanStep, IsEdit}
 use Rattle.tree_build.specs.internal.Towers.{tower}
-use Rattle.tree_build.specs.internal.TreeEdits.{AreEdits, HaveOpened}
+use Rattle.tree_build.specs.internal.TreeEdits.{AreEdits, HaveOpened, IsTreeEdit}
+use Rattle.tree_build.specs.declared.levels.TreeEdit.{TreeEdit}
 use Rattle.tree_build.specs.internal.Weaving.{IsIn, Woven, none, left, right}
 use Rattle.tree_build.specs.declared.step.LevelEdit.{LevelEdit}
 use Rattle.tree_build.proofs.DifferChanges.{changes_own, links_changed, same_items}
-use Rattle.tree_build.proofs.OldLevels.{inner_level, leaf_level, leaves_at, linked, old_few, old_nodes, old_rises, tower_first, tower_next, tower_nodes, tower_rises, tower_within}
+use Rattle.tree_build.proofs.OldLevels.{inner_level, leaf_level, leaves_at, linked, old_few, own_changes, old_nodes, old_rises, tower_first, tower_next, tower_nodes, tower_rises, tower_within}
 use Rattle.tree_build.proofs.StepItems.{rise_loose}
 use Rattle.tree_build.proofs.WeaveLemmas.{in_woven, woven_first, woven_second}
 
@@ -176,3 +181,89 @@ levels_more old new level next_level edits next_edits edit cs ds so count e is s
   opened = opened_more edits edit so.opened some;
   next = next;
 })
+
+-- ---- old trees in sets of nodes
+
+pub held_of : (held : List ℕ → Type 0) (top : List ℕ) (changes : List (Change Binding)) (tree : ℕ) (entries : List Binding) → IsOldTree held top changes tree entries → IsHeldTree held top tree entries
+held_of held top changes tree entries is = record { is_tree = is.is_tree; has = is.has; is_top = is.is_top; holds = is.holds }
+
+pub old_then : (old new : List ℕ → Type 0) (top : List ℕ) (changes : List (Change Binding)) (tree : ℕ) (entries : List Binding) → ((x : List ℕ) → old x → new x) → IsOldTree old top changes tree entries → IsOldTree new top changes tree entries
+old_then old new top changes tree entries more is = record { is_tree = is.is_tree; has = is.has; is_top = is.is_top; holds = λ x of. more x (is.holds x of); rising = is.rising; changed_has = is.changed_has }
+
+-- what a step of the leaves is given
+pub given_leaves : (held : List ℕ → Type 0) (top : List ℕ) (changes : List EntryChange) (tree : ℕ) (entries : List Binding) (given : List (Change Binding)) → given ≡ changes_of changes → 1 ≤ length changes → IsOldTree held top (changes_of changes) tree entries
+    → CanStep (λ (entry : Binding). entry.key) (ends_by Two is_marked_entry) entries_in (Leaf tree) (AllByRecursion FitsTree) (level_at (levels Two tree entries) 0) given
+given_leaves held top changes tree entries given e some is =
+    subst (λ (cs : List (Change Binding)). CanStep (λ (entry : Binding). entry.key) (ends_by Two is_marked_entry) entries_in (Leaf tree) (AllByRecursion FitsTree) (level_at (levels Two tree entries) 0) cs) (sym e)
+    (can_leaves tree entries (changes_of changes) is.is_tree is.has is.changed_has (omega (arith, some, length-map changes change_of)) (own_changes changes is.rising))
+
+-- what a step of the leaves gives is the edit of the leaves
+pub edit_leaves : (held : List ℕ → Type 0) (top : List ℕ) (changes : List EntryChange) (tree : ℕ) (entries : List Binding) (given : List (Change Binding)) → given ≡ changes_of changes → IsOldTree held top (changes_of changes) tree entries → (edit : LevelEdit)
+    → IsEdit (level_at (levels Two tree entries) 0) (map (Leaf tree) (pieces (ends_by Two is_marked_entry) (changed (λ (entry : Binding). entry.key) (flat_map entries_in (level_at (levels Two tree entries) 0)) given))) edit
+    → IsEdit (level_at (levels Two tree entries) 0) (tower Two tree (changed_entries entries (changes_of changes)) 0) edit
+edit_leaves held top changes tree entries given e is edit gives =
+    subst (λ (ns : List Node). IsEdit (level_at (levels Two tree entries) 0) ns edit)
+    (ap (λ (cs : List (Change Binding)). map (Leaf tree) (pieces (ends_by Two is_marked_entry) (changed (λ (entry : Binding). entry.key) (flat_map entries_in (level_at (levels Two tree entries) 0)) cs))) e
+    ∙ leaves_are tree entries (changes_of changes) is.is_tree is.has is.changed_has) gives
+
+pub edit_inner : (held : List ℕ → Type 0) (top : List ℕ) (changes : List EntryChange) (tree : ℕ) (entries : List Binding) → IsOldTree held top (changes_of changes) tree entries → (level next_level : ℕ) → next_level ≡ suc level → next_level < length (levels Two tree entries)
+    → (cs : List (Change Link)) → NextChanges (level_at (levels Two tree entries) level) (tower Two tree (changed_entries entries (changes_of changes)) level) cs → (edit : LevelEdit)
+    → IsEdit (level_at (levels Two tree entries) next_level) (map (Inner tree next_level) (pieces (ends_by Two is_marked_link) (changed (λ (link : Link). link.greatest) (flat_map links_in (level_at (levels Two tree entries) next_level)) cs))) edit
+    → IsEdit (level_at (levels Two tree entries) next_level) (tower Two tree (changed_entries entries (changes_of changes)) next_level) edit
+edit_inner held top changes tree entries is level next_level at lt cs next edit gives = by next_level at lt gives
+  where
+    by : (n : ℕ) → n ≡ suc level → n < length (levels Two tree entries)
+        → IsEdit (level_at (levels Two tree entries) n) (map (Inner tree n) (pieces (ends_by Two is_marked_link) (changed (λ (link : Link). link.greatest) (flat_map links_in (level_at (levels Two tree entries) n)) cs))) edit
+        → IsEdit (level_at (levels Two tree entries) n) (tower Two tree (changed_entries entries (changes_of changes)) n) edit
+    by n e below has_edit =
+        let lt_suc : suc level < length (levels Two tree entries) = omega arith in
+        subst (λ k. IsEdit (level_at (levels Two tree entries) k) (tower Two tree (changed_entries entries (changes_of changes)) k) edit) (sym e)
+        (subst (λ (ns : List Node). IsEdit (level_at (levels Two tree entries) (suc level)) ns edit) (inner_are tree entries (changes_of changes) is.is_tree is.has is.changed_has level lt_suc cs next)
+        (subst (λ k. IsEdit (level_at (levels Two tree entries) k) (map (Inner tree k) (pieces (ends_by Two is_marked_link) (changed (λ (link : Link). link.greatest) (flat_map links_in (level_at (levels Two tree entries) k)) cs))) edit) e has_edit))
+
+pub given_inner : (held : List ℕ → Type 0) (top : List ℕ) (changes : List EntryChange) (tree : ℕ) (entries : List Binding) → IsOldTree held top (changes_of changes) tree entries → (level next_level : ℕ) → next_level ≡ suc level → next_level < length (levels Two tree entries)
+    → (cs given : List (Change Link)) → given ≡ cs → NextChanges (level_at (levels Two tree entries) level) (tower Two tree (changed_entries entries (changes_of changes)) level) cs → 1 ≤ length cs
+    → CanStep (λ (link : Link). link.greatest) (ends_by Two is_marked_link) links_in (Inner tree next_level) AreWithin (level_at (levels Two tree entries) next_level) given
+given_inner held top changes tree entries is level next_level at lt cs given e next some =
+    let lt_suc : suc level < length (levels Two tree entries) = omega arith in
+    subst (λ k. CanStep (λ (link : Link). link.greatest) (ends_by Two is_marked_link) links_in (Inner tree k) AreWithin (level_at (levels Two tree entries) k) given) (sym at)
+    (subst (λ (ds : List (Change Link)). CanStep (λ (link : Link). link.greatest) (ends_by Two is_marked_link) links_in (Inner tree (suc level)) AreWithin (level_at (levels Two tree entries) (suc level)) ds) (sym e)
+    (can_inner tree entries (changes_of changes) is.is_tree is.has is.changed_has level lt_suc cs next some))
+
+-- at the end
+pub tree_edit : (held : List ℕ → Type 0) (top : List ℕ) (changes : List EntryChange) (tree : ℕ) (entries : List Binding) → IsOldTree held top (changes_of changes) tree entries → (level top_level : ℕ) (edits : List LevelEdit) (cs : List (Change Link))
+    → LevelsState (levels Two tree entries) (tower Two tree (changed_entries entries (changes_of changes))) level edits cs
+    → top_level + 1 ≡ length (levels Two tree entries) → level ≤ top_level → length edits ≡ level + 1
+    → (edited : TreeEdit) → edited.edits.items ≡ edits → (IsTrue edited.stays → cs ≡ []) → (edited.stays ≡ false → level ≡ top_level)
+    → IsTreeEdit (levels Two tree entries) (tower Two tree (changed_entries entries (changes_of changes))) edited
+tree_edit held top changes tree entries is level top_level edits cs state height low count edited edits_are stays goes = record {
+  are = subst (λ (es : List LevelEdit). AreEdits (levels Two tree entries) (tower Two tree (changed_entries entries (changes_of changes))) 0 es) (sym edits_are) state.are;
+  opened = subst HaveOpened (sym edits_are) state.opened;
+  some = omega (arith, ap (length {A = LevelEdit}) edits_are);
+  within = omega (arith, ap (length {A = LevelEdit}) edits_are);
+  same = λ yes_stays.
+      let at : level ≡ length edited.edits.items - 1 = omega (arith, ap (length {A = LevelEdit}) edits_are) in
+      subst (λ n. level_at (levels Two tree entries) n ≡ tower Two tree (changed_entries entries (changes_of changes)) n) at
+      (same_level tree entries (changes_of changes) is.is_tree is.has is.changed_has level (omega arith) cs state.next (stays yes_stays));
+  whole = λ ends. omega (arith, goes ends, ap (length {A = LevelEdit}) edits_are);
+}
+
+empty_list : {X : Type 0} (xs : List X) → length xs ≡ 0 → xs ≡ []
+empty_list [] e = refl
+empty_list (x ∷ xs) e = absurd (omega (arith, e))
+
+pub none_next : {X Y : Type 0} (f : X → Y) (xs : List X) (len : ℕ) (b : Bool) → len ≡ length xs → b ≡ eqb len 0 → b ≡ true → map f xs ≡ []
+none_next {X} {Y} f xs len b len_is test yes_empty = ap (map f) (empty_list xs (sym len_is ∙ eqb-true len 0 (sym test ∙ yes_empty)))
+
+pub at_top : {X : Type 0} (xs : List X) (len level top_level slice_len : ℕ) (b goes : Bool) → len ≡ length xs → slice_len ≡ length xs → b ≡ eqb len 0 → b ≡ false → ((level < top_level) × (1 ≤ slice_len) → goes ≡ true) → goes ≡ false → level ≤ top_level → level ≡ top_level
+at_top xs len level top_level slice_len b goes len_is slice_is test some on off low = elim (cases_lt level top_level) [
+  | inl lt ↦
+      let has : 1 ≤ slice_len = omega (arith, not_zero len (sym test ∙ some)) in
+      let t : goes ≡ true = on (lt, has) in
+      absurd cc
+  | inr ge ↦ omega arith
+]
+  where
+    not_zero : (n : ℕ) → eqb n 0 ≡ false → 1 ≤ n
+    not_zero zero e = absurd cc
+    not_zero (suc n) e = omega arith

@@ -57,7 +57,7 @@ pub(crate) fn change_levels<'a: 'c, 'c, S: Shelf<'a>>(
     let mut next = differ(alloc, &leaves)?;
     edits.push(leaves)?;
     let mut level = 0;
-    while goes_on(level, top_level, next.as_slice()) {
+    'levels: while goes_on(level, top_level, next.as_slice()) {
         level += 1;
         let place = OldLevel {
             tree,

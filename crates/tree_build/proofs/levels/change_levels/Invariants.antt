@@ -10,8 +10,8 @@ use Rattle.tree_build.proofs.TreeEdits.{LevelsState}
 use Rattle.tree_build.proofs.levels.change_levels.Given as goal
 
 -- the levels so far were changed
-abbrev pub invariant-loop-level : goal.invariant-loop-level
-invariant-loop-level g l = record {
+abbrev pub invariant-levels : goal.invariant-levels
+invariant-levels g l = record {
   stays : SameNodes (g.S.Shelf.holds l.fn.shelf) (g.S.Shelf.holds l.shelf);
   grows : (bytes : List _) → g.S.Shelf.used l.fn.shelf bytes → g.S.Shelf.used l.shelf bytes;
   low : l.level ≤ l.top_level;
@@ -20,5 +20,5 @@ invariant-loop-level g l = record {
       → LevelsState (levels Two (number_of l.tree) entries) (tower Two (number_of l.tree) (changed_entries entries (changes_of l.changes))) l.level l.edits.items (changes_meant link_of l.next.items);
 }
 
-abbrev pub decreases-loop-level : goal.decreases-loop-level
-decreases-loop-level g l = l.top_level - l.level
+abbrev pub decreases-levels : goal.decreases-levels
+decreases-levels g l = l.top_level - l.level
