@@ -7,6 +7,7 @@ pub mod DifferChanges
 pub mod DifferLemmas
 pub mod FitLemmas
 pub mod GoneLemmas
+pub mod GrowLemmas
 pub mod HandLemmas
 pub mod LengthLemmas
 pub mod LevelLemmas

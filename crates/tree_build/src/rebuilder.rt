@@ -59,7 +59,7 @@ fn finish<'a, 'c, S: Shelf<'a>>(
             },
             [one] => settle(shelf, edits.as_slice(), &one.node.digest, &mut gone)?,
             news => Top {
-                digest: grow(alloc, tree, edits.len() as u8, news, &mut added)?,
+                digest: grow(alloc, tree, last as u8, news, &mut added)?,
                 level: last,
             },
         }

@@ -30,9 +30,9 @@ levels-init g c = record {
       let gives = c.in_ok-leaves.ensures.edited entries (held_of _ _ _ _ _ now) (omega arith) (given_leaves _ _ c.args.changes.now (number_of c.args.tree) entries _ given some is) in
       let edit = edit_leaves _ _ c.args.changes.now (number_of c.args.tree) entries _ given is c.in_ok-leaves.leaves gives in
       let next = next_of _ _ c.in_ok-leaves.leaves (changes_meant link_of c.in_ok-next.next.items) edit (nodes_old (number_of c.args.tree) entries (changes_of c.args.changes.now) is.is_tree is.has is.changed_has 0 (omega arith))
-          (nodes_new (number_of c.args.tree) entries (changes_of c.args.changes.now) is.is_tree is.has is.changed_has 0 (omega arith)) c.in_ok-next.ensures in
+      (nodes_new (number_of c.args.tree) entries (changes_of c.args.changes.now) is.is_tree is.has is.changed_has 0 (omega arith)) c.in_ok-next.ensures in
       levels_first _ _ _ c.in_ok-leaves.leaves _ (c.in_ok-push.ensures.items ∙ ap (λ xs. xs ++ c.in_ok-leaves.leaves ∷ []) c.new-edits.ensures.items) edit c.in_ok-leaves.ensures.some next;
-  }
+}
 
 pub step_inner-requires : goal.step_inner-requires
 step_inner-requires g c = λ k.
@@ -41,13 +41,15 @@ step_inner-requires g c = λ k.
     let state = c.levels.invariant.state entries is height in
     let given : changes_meant link_of c.as_slice-in-levels-2.result.now ≡ changes_meant link_of c.levels.next.items = ap (changes_meant link_of) c.as_slice-in-levels-2.ensures.value in
     let has : 1 ≤ length (changes_meant link_of c.levels.next.items) = omega (arith, on.1, ap length c.as_slice-in-levels.ensures.value, length-map c.levels.next.items (change_meant link_of)) in
-    let below : c.levels.level + 1 < length (levels Two (number_of c.args.tree) entries) = omega (arith, on.0) in
-    ((refl, tt), (
-      entries,
-      held_of _ _ _ _ _ (old_then _ (g.S.Shelf.holds c.levels.shelf) _ _ _ _ (λ x h. (c.levels.invariant.stays x).1 h) is),
-      below,
-      given_inner _ _ c.args.changes.now (number_of c.args.tree) entries is c.levels.level (c.levels.level + 1) (add-one c.levels.level) below _ _ given state.next has,
-    ))
+    let below : c.levels.level + 1 < length (levels Two (number_of c.args.tree) entries) = omega (arith, on.0) in (
+      (refl, tt),
+      (
+        entries,
+        held_of _ _ _ _ _ (old_then _ (g.S.Shelf.holds c.levels.shelf) _ _ _ _ (λ x h. (c.levels.invariant.stays x).1 h) is),
+        below,
+        given_inner _ _ c.args.changes.now (number_of c.args.tree) entries is c.levels.level (c.levels.level + 1) (add-one c.levels.level) below _ _ given state.next has,
+      ),
+    )
 
 pub levels-preserved : goal.levels-preserved
 levels-preserved g c =
@@ -64,13 +66,13 @@ levels-preserved g c =
           let below : c.levels.level + 1 < length (levels Two (number_of c.args.tree) entries) = omega (arith, on.0) in
           let now = old_then _ (g.S.Shelf.holds c.step_inner.new.shelf) _ _ _ _ (λ x h. (c.step_inner.ensures.stays x).1 ((c.levels.invariant.stays x).1 h)) is in
           let gives = c.in_ok-edit.ensures.edited entries (held_of _ _ _ _ _ now) below
-              (given_inner _ _ c.args.changes.now (number_of c.args.tree) entries is c.levels.level (c.levels.level + 1) (add-one c.levels.level) below _ _ given state.next has) in
+          (given_inner _ _ c.args.changes.now (number_of c.args.tree) entries is c.levels.level (c.levels.level + 1) (add-one c.levels.level) below _ _ given state.next has) in
           let edit = edit_inner _ _ c.args.changes.now (number_of c.args.tree) entries is c.levels.level (c.levels.level + 1) (add-one c.levels.level) below _ state.next c.in_ok-edit.edit
-              (subst (λ cs. IsEdit (level_at (levels Two (number_of c.args.tree) entries) (c.levels.level + 1))
-              (map (Inner (number_of c.args.tree) (c.levels.level + 1)) (pieces (ends_by Two is_marked_link) (changed (λ (link : Link). link.greatest) (flat_map links_in (level_at (levels Two (number_of c.args.tree) entries) (c.levels.level + 1))) cs))) c.in_ok-edit.edit) given gives) in
+          (subst (λ cs. IsEdit (level_at (levels Two (number_of c.args.tree) entries) (c.levels.level + 1))
+          (map (Inner (number_of c.args.tree) (c.levels.level + 1)) (pieces (ends_by Two is_marked_link) (changed (λ (link : Link). link.greatest) (flat_map links_in (level_at (levels Two (number_of c.args.tree) entries) (c.levels.level + 1))) cs))) c.in_ok-edit.edit) given gives) in
           let next = next_of _ _ c.in_ok-edit.edit (changes_meant link_of c.in_ok-next-2.next.items) edit
-              (nodes_old (number_of c.args.tree) entries (changes_of c.args.changes.now) is.is_tree is.has is.changed_has (c.levels.level + 1) below)
-              (nodes_new (number_of c.args.tree) entries (changes_of c.args.changes.now) is.is_tree is.has is.changed_has (c.levels.level + 1) below) c.in_ok-next-2.ensures in
+          (nodes_old (number_of c.args.tree) entries (changes_of c.args.changes.now) is.is_tree is.has is.changed_has (c.levels.level + 1) below)
+          (nodes_new (number_of c.args.tree) entries (changes_of c.args.changes.now) is.is_tree is.has is.changed_has (c.levels.level + 1) below) c.in_ok-next-2.ensures in
           levels_more _ _ c.levels.level (c.levels.level + 1) _ _ c.in_ok-edit.edit _ _ state (sym c.levels.invariant.count) c.in_ok-push-2.ensures.items edit c.in_ok-edit.ensures.some next;
     }
 
@@ -82,4 +84,4 @@ returns-clause-edited g c = λ entries is height.
     (record { edits = c.levels.edits; stays = c.is_empty-stays.result }) refl
     (none_next (change_meant link_of) c.levels.next.items (vec_len c.levels.next) c.is_empty-stays.result c.levels.next.ok.0 c.is_empty-stays.ensures)
     (λ some. at_top c.levels.next.items (vec_len c.levels.next) c.levels.level c.args.top_level (length c.as_slice-in-levels.result.now) c.is_empty-stays.result c.goes_on.result c.levels.next.ok.0
-        (ap length c.as_slice-in-levels.ensures.value) c.is_empty-stays.ensures some c.goes_on.ensures.1 c.levels-test.false c.levels.invariant.low)
+    (ap length c.as_slice-in-levels.ensures.value) c.is_empty-stays.ensures some c.goes_on.ensures.1 c.levels-test.false c.levels.invariant.low)
