@@ -165,3 +165,32 @@ growing_done new before level added later children so few child is = record {
     first (c ∷ cs) (n ∷ ns) e has at =
         let heads : link_of c ≡ link_to n = cc in
         ap (λ (d : Child). d.digest.0) at ∙ ap (λ (l : Link). l.child) heads
+
+pub none_left : {X : Type 0} (xs : List X) (n : ℕ) → length xs ≤ n → drop n xs ≡ []
+none_left [] zero le = refl
+none_left [] (suc n) le = refl
+none_left (x ∷ xs) zero le = absurd (omega arith)
+none_left (x ∷ xs) (suc n) le = none_left xs n (omega arith)
+
+module _ (tree : ℕ) (entries : List Binding) where
+  pub tower_over : (level : ℕ) → map (Inner tree (level + 1)) (pieces (ends_by Two is_marked_link) (map link_to (tower Two tree entries level))) ≡ tower Two tree entries (level + 1)
+  unfolding tower
+  tower_over level = let n : level + 1 ≡ suc level = omega arith in
+      ap (λ k. map (Inner tree k) (pieces (ends_by Two is_marked_link) (map link_to (tower Two tree entries level)))) n ∙ ap (λ k. tower Two tree entries k) (sym n)
+
+pub some_next : (news : List NewPiece) (known : List Node) → Each IsNewNode news known → 1 ≤ length news → 1 ≤ length known
+some_next [] known all some = absurd (omega arith)
+some_next (p ∷ ps) [] all some = absurd all
+some_next (p ∷ ps) (n ∷ ns) all some = omega arith
+
+pub made_next : (tree : ℕ) (entries : List Binding) (level : ℕ) (links : List Link) (news : List NewPiece) → links ≡ map link_to (tower Two tree entries level)
+    → Each IsNewNode news (map (Inner tree (level + 1)) (pieces (ends_by Two is_marked_link) links)) → Each IsNewNode news (tower Two tree entries (level + 1))
+made_next tree entries level links news linked all =
+    subst (λ (ns : List Node). Each IsNewNode news ns) (ap (λ (ls : List Link). map (Inner tree (level + 1)) (pieces (ends_by Two is_marked_link) ls)) linked ∙ tower_over tree entries level) all
+
+pub grow_falls : (tree : ℕ) (entries : List Binding) (level : ℕ) (children next : List Child) → links_of children ≡ map link_to (tower Two tree entries level) → links_of next ≡ map link_to (tower Two tree entries (level + 1)) → 2 ≤ length children
+    → length next < length children
+grow_falls tree entries level children next one two many =
+    let n : level + 1 ≡ suc level = omega arith in
+    omega (arith, many, ap (length {A = Link}) one, ap (length {A = Link}) two, length-map children link_of, length-map next link_of, length-map (tower Two tree entries level) link_to, length-map (tower Two tree entries (level + 1)) link_to,
+    tower_half tree entries level, ap (λ k. length (tower Two tree entries k)) n)

@@ -248,7 +248,7 @@ tree_edit held top changes tree entries is level top_level edits cs state height
   whole = λ ends. omega (arith, goes ends, ap (length {A = LevelEdit}) edits_are);
 }
 
-empty_list : {X : Type 0} (xs : List X) → length xs ≡ 0 → xs ≡ []
+pub empty_list : {X : Type 0} (xs : List X) → length xs ≡ 0 → xs ≡ []
 empty_list [] e = refl
 empty_list (x ∷ xs) e = absurd (omega (arith, e))
 

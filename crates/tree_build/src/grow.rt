@@ -34,7 +34,7 @@ pub(crate) fn grow<'c>(
 {
     let mut children = children_of(alloc, nodes)?;
     let mut level = before;
-    while children.len() > 1 {
+    'growing: while children.len() > 1 {
         level += 1;
         let news = level_over(alloc, tree, level, children.as_slice())?;
         children = children_of(alloc, news.as_slice())?;
