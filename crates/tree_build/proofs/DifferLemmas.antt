@@ -17,6 +17,7 @@ use Rattle.tree_build.specs.declared.differ.Counterpart.TheVariants.{Missing, Ch
 use Rattle.tree_build.specs.declared.held.OldNode.{OldNode}
 use Rattle.tree_build.specs.declared.piece.NewPiece.{NewPiece}
 use Rattle.tree_build.proofs.ChangeLemmas.{merge_above, merge_below, merge_same}
+use Rattle.tree_build.proofs.HandLemmas.{each_append}
 use Rattle.tree_build.proofs.ParentLemmas.{one_spelling}
 use Rattle.tree_build.proofs.SeekLemmas.{not_below}
 
@@ -78,10 +79,19 @@ below_are key (o ∷ os) (n ∷ ns) all below = (subst (λ (k : List ℕ). IsBel
 next_left : {X : Type 0} (n : ℕ) (xs : List X) (x : X) (rest : List X) → drop n xs ≡ x ∷ rest → drop (n + 1) xs ≡ rest
 next_left {X} n xs x rest e = sym (drop-drop 1 n xs) ∙ ap (drop 1) e
 
+next_taken : {X : Type 0} (n : ℕ) (xs : List X) (x : X) (rest : List X) → drop n xs ≡ x ∷ rest → take (n + 1) xs ≡ take n xs ++ x ∷ []
+next_taken {X} n xs x rest e = ap (λ k. take k xs) (add-one n) ∙ by n xs e
+  where
+    by : (k : ℕ) (ys : List X) → drop k ys ≡ x ∷ rest → take (suc k) ys ≡ take k ys ++ x ∷ []
+    by zero [] f = absurd cc
+    by zero (y ∷ ys) f = let head : y ≡ x = cc in ap (λ (z : X). z ∷ []) head
+    by (suc k) [] f = absurd cc
+    by (suc k) (y ∷ ys) f = ap (λ (zs : List X). y ∷ zs) (by k ys f)
+
 -- what a new node adds
-pub record Adds (nodes : List Node) (node : Node) (rest : List OldNode) (before after : List (Change Link)) : Type 0 where
+pub record Adds (nodes : List Node) (node : Node) (rest : List OldNode) (before after : List (Change Link)) (lost_olds : List OldNode) (gained : List Node) : Type 0 where
   pub lost : List Node
-  pub gained : List Node
+  pub lost_stand : Each IsOldNode lost_olds lost
   pub more : List (Change Link)
   pub whole : after ≡ before ++ more
   pub goes : GoesOn nodes node rest lost gained more
@@ -110,10 +120,10 @@ module _ (olds : List OldNode) (new : NewPiece) (count : ℕ) (nodes : List Node
   whole_put after came_is = came_is ∙ ap (λ (cs : List (Change Link)). cs ++ put node ∷ []) went_are ∙ append_assoc before (map taken parts.fronts) (put node ∷ [])
 
   -- no old node has its key
-  pub adds_missing : IsCounterpart (drop count olds) new Missing → (after : List (Change Link)) → after ≡ mid ++ put node ∷ [] → Adds nodes node (drop count olds) before after
+  pub adds_missing : IsCounterpart (drop count olds) new Missing → (after : List (Change Link)) → after ≡ mid ++ put node ∷ [] → Adds nodes node (drop count olds) before after (take count olds) (node ∷ [])
   adds_missing is_missing after came_is = record {
     lost = parts.fronts;
-    gained = node ∷ [];
+    lost_stand = parts.front_stand;
     more = map taken parts.fronts ++ put node ∷ [];
     whole = whole_put after came_is;
     goes = record {
@@ -136,10 +146,10 @@ module _ (olds : List OldNode) (new : NewPiece) (count : ℕ) (nodes : List Node
           came n ns node news later earned more less d
 
   -- an old node with other bytes has it
-  pub adds_changed : IsCounterpart (drop count olds) new Changed → (after : List (Change Link)) → after ≡ mid ++ put node ∷ [] → Adds nodes node (drop (count + 1) olds) before after
+  pub adds_changed : IsCounterpart (drop count olds) new Changed → (after : List (Change Link)) → after ≡ mid ++ put node ∷ [] → Adds nodes node (drop (count + 1) olds) before after (take (count + 1) olds) (node ∷ [])
   adds_changed is_changed after came_is = by (drop count olds) parts.backs refl refl parts.back_stand is_changed
     where
-      by : (os : List OldNode) (ns : List Node) → drop count olds ≡ os → parts.backs ≡ ns → Each IsOldNode os ns → IsCounterpart os new Changed → Adds nodes node (drop (count + 1) olds) before after
+      by : (os : List OldNode) (ns : List Node) → drop count olds ≡ os → parts.backs ≡ ns → Each IsOldNode os ns → IsCounterpart os new Changed → Adds nodes node (drop (count + 1) olds) before after (take (count + 1) olds) (node ∷ [])
       by [] ns left_are backs_is all is_one = absurd is_one
       by (o ∷ os) [] left_are backs_is all is_one = absurd all
       by (o ∷ os) (n ∷ ns) left_are backs_is all is_one =
@@ -148,7 +158,7 @@ module _ (olds : List OldNode) (new : NewPiece) (count : ℕ) (nodes : List Node
           let rest : drop (count + 1) olds ≡ os = next_left count olds o os left_are in
           record {
             lost = parts.fronts ++ n ∷ [];
-            gained = node ∷ [];
+            lost_stand = subst (λ (ds : List OldNode). Each IsOldNode ds (parts.fronts ++ n ∷ [])) (sym (next_taken count olds o os left_are)) (each_append IsOldNode (take count olds) parts.fronts (o ∷ []) (n ∷ []) parts.front_stand (all.0, tt));
             more = map taken parts.fronts ++ put node ∷ [];
             whole = whole_put after came_is;
             goes = record {
@@ -164,10 +174,10 @@ module _ (olds : List OldNode) (new : NewPiece) (count : ℕ) (nodes : List Node
           }
 
   -- an old node is the same
-  pub adds_same : IsCounterpart (drop count olds) new Same → Adds nodes node (drop (count + 1) olds) before mid
+  pub adds_same : IsCounterpart (drop count olds) new Same → Adds nodes node (drop (count + 1) olds) before mid (take count olds) []
   adds_same is_same = by (drop count olds) parts.backs refl refl parts.back_stand is_same
     where
-      by : (os : List OldNode) (ns : List Node) → drop count olds ≡ os → parts.backs ≡ ns → Each IsOldNode os ns → IsCounterpart os new Same → Adds nodes node (drop (count + 1) olds) before mid
+      by : (os : List OldNode) (ns : List Node) → drop count olds ≡ os → parts.backs ≡ ns → Each IsOldNode os ns → IsCounterpart os new Same → Adds nodes node (drop (count + 1) olds) before mid (take count olds) []
       by [] ns left_are backs_is all is_one = absurd is_one
       by (o ∷ os) [] left_are backs_is all is_one = absurd all
       by (o ∷ os) (n ∷ ns) left_are backs_is all is_one =
@@ -176,7 +186,7 @@ module _ (olds : List OldNode) (new : NewPiece) (count : ℕ) (nodes : List Node
           let rest : drop (count + 1) olds ≡ os = next_left count olds o os left_are in
           record {
             lost = parts.fronts;
-            gained = [];
+            lost_stand = parts.front_stand;
             more = map taken parts.fronts;
             whole = went_are;
             goes = record {

@@ -192,5 +192,15 @@ pub grow_falls : (tree : ℕ) (entries : List Binding) (level : ℕ) (children n
     → length next < length children
 grow_falls tree entries level children next one two many =
     let n : level + 1 ≡ suc level = omega arith in
-    omega (arith, many, ap (length {A = Link}) one, ap (length {A = Link}) two, length-map children link_of, length-map next link_of, length-map (tower Two tree entries level) link_to, length-map (tower Two tree entries (level + 1)) link_to,
-    tower_half tree entries level, ap (λ k. length (tower Two tree entries k)) n)
+    omega (
+      arith,
+      many,
+      ap (length {A = Link}) one,
+      ap (length {A = Link}) two,
+      length-map children link_of,
+      length-map next link_of,
+      length-map (tower Two tree entries level) link_to,
+      length-map (tower Two tree entries (level + 1)) link_to,
+      tower_half tree entries level,
+      ap (λ k. length (tower Two tree entries k)) n,
+    )

@@ -24,6 +24,7 @@ pub mod StepItems
 pub mod StepLoops
 pub mod StepStates
 pub mod StockLemmas
+pub mod TellLemmas
 pub mod TowerLemmas
 pub mod TreeEdits
 pub mod WeaveLemmas

@@ -10,6 +10,7 @@ pub mod ItemChanges
 pub mod RisingChanges
 pub mod Seeking
 pub mod Steps
+pub mod Telling
 pub mod Towers
 pub mod TreeEdits
 pub mod Weaving
