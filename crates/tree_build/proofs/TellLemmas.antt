@@ -9,6 +9,8 @@ use Rattle.tree_build.specs.internal.Edits.{Each, IsNewNode, IsOldNode}
 use Rattle.tree_build.specs.internal.Telling.{HasTold, node_digest}
 use Rattle.tree_build.specs.declared.held.OldNode.{OldNode}
 use Rattle.tree_build.specs.declared.piece.NewPiece.{NewPiece}
+use Rattle.tree_build.specs.declared.rebuilt.NewNode.{NewNode}
+use Rattle.tree_build.specs.Rebuilding.{nodes_of}
 use Rattle.tree_build.proofs.DifferLemmas.{all_gone}
 
 pub digests_are : (olds : List OldNode) (nodes : List Node) → Each IsOldNode olds nodes → map (λ (old : OldNode). old.digest.0) olds ≡ map node_digest nodes
@@ -99,3 +101,7 @@ telling_done olds news rest added later gone lost_later end so told = by so.left
       added_are = so.added_are ∙ ap (λ (gs : List Node). added ++ map spelling gs) (sym (append-nil so.gained));
       gone_are = more_mapped node_digest gone lost_later end so.lost so.left_olds so.gone_are (told so.left_olds so.old_stand);
     }
+
+-- one more node was added
+pub pushed_node : (old after : List NewNode) (x : NewNode) (node : Node) → after ≡ old ++ x ∷ [] → x.bytes.items ≡ spelling node → nodes_of after ≡ nodes_of old ++ map spelling (node ∷ [])
+pushed_node old after x node is says = ap nodes_of is ∙ map-append (λ (n : NewNode). n.bytes.items) old (x ∷ []) ∙ ap (λ (b : List ℕ). nodes_of old ++ b ∷ []) says

@@ -34,7 +34,8 @@ pub(crate) fn tell_level(
     for new in news {
         done += tell_one(&olds[done..], new, added, gone)?;
     }
-    tell_gone(&olds[done..], gone)
+    tell_gone(&olds[done..], gone)?;
+    Ok(())
 }
 
 /// Tells what the old nodes up to the greatest key of the new one, and that one, say of the level, and
