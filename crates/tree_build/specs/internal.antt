@@ -9,6 +9,7 @@ pub mod Holding
 pub mod ItemChanges
 pub mod RisingChanges
 pub mod Seeking
+pub mod Settling
 pub mod Steps
 pub mod Telling
 pub mod Towers
