@@ -19,6 +19,7 @@ pub mod ParentLemmas
 pub mod RecutLemmas
 pub mod SeekLemmas
 pub mod SeekStates
+pub mod SettleLemmas
 pub mod SplitLemmas
 pub mod StepItems
 pub mod StepLoops
