@@ -96,11 +96,11 @@ after_free k [] all = tt
 after_free k (c ∷ cs) all = ((λ e. not_itself k c.key all.0 e), after_free k cs all.1)
 
 -- a node above all in front has another key
-not_same : (k : List ℕ) (ns : List Node) → Rise (Some k) ns → (m : Node) → IsIn m ns → greatest_of m ≢ k
+pub not_same : (k : List ℕ) (ns : List Node) → Rise (Some k) ns → (m : Node) → IsIn m ns → greatest_of m ≢ k
 not_same k ns rise m is e = not_itself k (greatest_of m) (above_low greatest_of k ns rise m is) (sym e)
 
 -- a new node is put, or is an old one whose key no change has
-new_kept : (low : Option (List ℕ)) (olds news lost gained : List Node) (cs : List (Change Link)) → Differ olds news lost gained cs → Rise low olds → Rise low news → (m : Node) → IsIn m news
+pub new_kept : (low : Option (List ℕ)) (olds news lost gained : List Node) (cs : List (Change Link)) → Differ olds news lost gained cs → Rise low olds → Rise low news → (m : Node) → IsIn m news
     → (IsPut link_key cs (link_to m) × IsIn m gained) ⊎ (IsIn m olds × IsFree link_key cs (greatest_of m))
 new_kept low _ _ _ _ _ nothing one two m is = absurd is
 new_kept low _ _ _ _ _ (gone_last o os lost gained cs d) one two m is = absurd is

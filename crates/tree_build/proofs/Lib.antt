@@ -5,6 +5,7 @@ pub mod CutLemmas
 pub mod DescentLemmas
 pub mod DifferChanges
 pub mod DifferLemmas
+pub mod DifferSets
 pub mod FitLemmas
 pub mod GoneLemmas
 pub mod GrowLemmas

@@ -1,4 +1,5 @@
 use Rattle.tree_build.proofs.DifferChanges.{links_changed}
+use Rattle.tree_build.proofs.DifferSets.{gained_are}
 use Rattle.tree_build.proofs.OldLevels.{leaf_level}
 use Rattle.tree_build.proofs.TreeEdits.{next_of}
 use Rattle.std.proofs.Common.{◌≡◌, ◌+◌, ◌-◌, ◌∷◌, ◌++◌, [], List, length, take, drop, suc, refl, sym, ap, subst, ◌∙◌, add-one, arith}
