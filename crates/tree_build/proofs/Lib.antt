@@ -17,6 +17,7 @@ pub mod MeaningLemmas
 pub mod NextLemmas
 pub mod OldLevels
 pub mod ParentLemmas
+pub mod RebuildLemmas
 pub mod RecutLemmas
 pub mod SeekLemmas
 pub mod SeekStates

@@ -10,6 +10,7 @@ mod change;
 mod cut;
 mod differ;
 mod fault;
+mod finish;
 mod grow;
 mod hand;
 mod held;

@@ -1,26 +1,58 @@
 //! Rebuilding the tree of a changed list.
 
-use crate::Entry;
-use crate::change::EntryChange;
-use crate::grow::grow;
-use crate::hand::make_node;
-use crate::held::{level_in, open};
-use crate::levels::{TreeEdit, change_levels};
-use crate::piece::NewPiece;
-use crate::rebuilt::Rebuilt;
-use crate::settle::{Top, settle};
-use crate::step::LevelEdit;
-use crate::tell::{tell_gone, tell_level};
-use std::alloc::{AllocError, Global};
-use tree_node::{Digest, Shelf, Tree};
+ghost use Rattle.std.specs.Prelude.{◌≡◌, ◌+◌, ◌*◌, ℕ, List, IfOk, length};
+ghost use Rattle.tree_build.specs.Rebuilding.{AreClashFree, GrownByAtMost, HoldsOldTree, IsOldTree, IsRebuilt, changed_entries, changes_of};
+ghost use Rattle.tree_node.specs.Nodes.{Binding};
+ghost use Rattle.tree_node.specs.Shelves.{SameNodes};
+ghost use Rattle.tree_node.specs.Trees.{Two, levels};
 
-/// The tree of the second shape over a changed list.
+use crate::change::EntryChange;
+use crate::finish::finish;
+use crate::held::{level_in, open};
+use crate::levels::change_levels;
+use crate::rebuilt::Rebuilt;
+use std::alloc::{AllocError, Global};
+use tree_node::{Digest, Shelf};
+
+/// The tree of the second shape over a changed list, from the nodes of the old tree and the changes (this
+/// project's trees, docs/FORMATS.md): the digest of its top, the nodes that it has and the old tree
+/// hasn't, and the digests of those that only the old tree has. Nodes are compared by their bytes, so
+/// this holds whatever their digests are.
+///
+/// The shelf has to hold the old tree, whose top has this digest. The keys of the changes rise, and the
+/// changed list has a tree. Without changes it gives the old tree's top, and fetches nothing.
+///
+/// It fetches the nodes on the ways from the top to the changes' keys, and beyond them only nodes that
+/// are gone, each as often as it goes by: its time grows with the changes and the nodes that change, times
+/// the levels of the tree, and not with the tree. It takes the memory of the nodes that change.
+///
+/// Refused only where memory was refused, of this call or of the shelf. Then nothing is told, and the
+/// shelf may have given some nodes; a later call starts anew.
 pub fn rebuild<'a, S: Shelf<'a>>(
     alloc: Global,
     shelf: &mut S,
     top: &Digest,
     changes: &[EntryChange],
-) -> Result<Rebuilt, AllocError> {
+) -> Result<Rebuilt, AllocError>
+    requires { HoldsOldTree (S.holds shelf.old) top.now.0 (changes_of changes.now) }
+    // The held nodes never change, and what was used stays used.
+    ensures stays { SameNodes (S.holds shelf.old) (S.holds shelf.new) }
+    ensures grows { (bytes : List ℕ) → S.used shelf.old bytes → S.used shelf.new bytes }
+    // It gives the tree of the changed entries: its top, what was added and what is gone.
+    ensures rebuilt { (tree : ℕ) (entries : List Binding)
+        → IsOldTree (S.holds shelf.new) top.now.0 (changes_of changes.now) tree entries
+        → let old = levels Two tree entries in
+        let new = levels Two tree (changed_entries entries (changes_of changes.now)) in
+        IfOk result (λ rebuilt. IsRebuilt old new rebuilt) }
+    // Beyond the nodes that are gone it reads at most one node a change and level of the old tree.
+    ensures used { (tree : ℕ) (entries : List Binding)
+        → IsOldTree (S.holds shelf.new) top.now.0 (changes_of changes.now) tree entries
+        → let old = levels Two tree entries in
+        let new = levels Two tree (changed_entries entries (changes_of changes.now)) in
+        AreClashFree old new
+        → IfOk result (λ rebuilt. GrownByAtMost (length rebuilt.gone.items + length changes.now * length old)
+        (S.used shelf.old) (S.used shelf.new)) }
+{
     if changes.is_empty() {
         return Ok(Rebuilt {
             top: *top,
@@ -32,61 +64,4 @@ pub fn rebuild<'a, S: Shelf<'a>>(
     let tree = old.node.tree();
     let edited = change_levels(alloc, shelf, tree, top, level_in(&old.node), changes)?;
     finish(alloc, shelf, tree, top, edited)
-}
-
-/// The top of the new tree over these levels, what is above them and what of them is no part of it.
-fn finish<'a, 'c, S: Shelf<'a>>(
-    alloc: Global,
-    shelf: &mut S,
-    tree: Tree,
-    old_top: &Digest,
-    edited: TreeEdit<'c>,
-) -> Result<Rebuilt, AllocError> {
-    let TreeEdit { mut edits, stays } = edited;
-    let mut added = Vec::new(alloc);
-    let mut gone = Vec::new(alloc);
-    let last = edits.len() - 1;
-    let top = if stays {
-        Top {
-            digest: *old_top,
-            level: last,
-        }
-    } else {
-        match edits[last].news.as_slice() {
-            [] => Top {
-                digest: put_empty_leaf(alloc, tree, &mut edits)?,
-                level: 0,
-            },
-            [one] => settle(shelf, edits.as_slice(), &one.node.digest, &mut gone)?,
-            news => Top {
-                digest: grow(alloc, tree, last as u8, news, &mut added)?,
-                level: last,
-            },
-        }
-    };
-    for (level, edit) in edits.into_iter().enumerate() {
-        if level <= top.level {
-            tell_level(edit, &mut added, &mut gone)?;
-        } else {
-            tell_gone(edit.olds.as_slice(), &mut gone)?;
-        }
-    }
-    Ok(Rebuilt {
-        top: top.digest,
-        added,
-        gone,
-    })
-}
-
-/// Makes the leaf without entries the only new one, and gives its digest.
-fn put_empty_leaf<'c>(
-    alloc: Global,
-    tree: Tree,
-    edits: &mut Vec<LevelEdit<'c>>,
-) -> Result<Digest, AllocError> {
-    let none: [Entry<'c>; 0] = [];
-    let leaf: NewPiece<'c> = make_node(alloc, tree, 0, &none)?;
-    let digest = leaf.node.digest;
-    edits[0].news.push(leaf)?;
-    Ok(digest)
 }

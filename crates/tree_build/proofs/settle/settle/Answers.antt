@@ -17,7 +17,7 @@ down-init g c = record {
   state = λ tree top changes entries is are high one top_is.
       let (some_tree, some_top, some_changes, some_entries, some_is, some_are, some, some_high, some_one, some_top_is) = c.requires in
       settling_start tree (changed_entries entries changes) c.args.edits.now _ _ some one top_is;
-  }
+}
 
 pub only_child_at-requires : goal.only_child_at-requires
 only_child_at-requires g c = λ k.
@@ -28,11 +28,13 @@ only_child_at-requires g c = λ k.
     let zero_level : 0 + c.down.level ≡ c.down.level = omega arith in
     let edit_here = subst (λ n. IsEdit (level_at (levels Two tree entries) n) (tower Two tree (changed_entries entries changes) n) c.index-edits-level.result) zero_level edit in
     let below : c.down.level < length (levels Two tree entries) = omega (arith, c.down.invariant.within, high) in
-    let alone = settling_lone tree (changed_entries entries changes) c.args.edits.now _ _ _ c.down.level so in
-    ((refl, tt), λ none_new. record {
-      node = settling_node tree (changed_entries entries changes) c.args.edits.now _ _ _ c.down.level so;
-      is_held = lone_held (g.S.Shelf.holds c.down.shelf) top changes tree entries now c.down.level below c.index-edits-level.result edit_here _ alone (omega (arith, old_few tree entries is.has)) none_new c.down.top.0 so.top_is;
-    })
+    let alone = settling_lone tree (changed_entries entries changes) c.args.edits.now _ _ _ c.down.level so in (
+      (refl, tt),
+      λ none_new. record {
+        node = settling_node tree (changed_entries entries changes) c.args.edits.now _ _ _ c.down.level so;
+        is_held = lone_held (g.S.Shelf.holds c.down.shelf) top changes tree entries now c.down.level below c.index-edits-level.result edit_here _ alone (omega (arith, old_few tree entries is.has)) none_new c.down.top.0 so.top_is;
+      },
+    )
 
 pub down-preserved : goal.down-preserved
 down-preserved g c = record {
@@ -49,12 +51,12 @@ down-preserved g c = record {
       let few : c.down.level ≤ 63 = omega (arith, old_few tree entries is.has) in
       let alone = settling_lone tree (changed_entries entries changes) c.args.edits.now _ _ _ c.down.level so in
       let child = c.in_ok-below.ensures.child (settling_node tree (changed_entries entries changes) c.args.edits.now _ _ _ c.down.level so)
-          (lone_is (g.S.Shelf.holds c.only_child_at.new.shelf) top changes tree entries now c.down.level below c.index-edits-level.result edit_here _ alone few)
-          (λ none_new. lone_held (g.S.Shelf.holds c.only_child_at.new.shelf) top changes tree entries now c.down.level below c.index-edits-level.result edit_here _ alone few none_new c.down.top.0 so.top_is)
-          (lone_new (g.S.Shelf.holds c.only_child_at.new.shelf) top changes tree entries now c.down.level below c.index-edits-level.result edit_here _ alone) in
+      (lone_is (g.S.Shelf.holds c.only_child_at.new.shelf) top changes tree entries now c.down.level below c.index-edits-level.result edit_here _ alone few)
+      (λ none_new. lone_held (g.S.Shelf.holds c.only_child_at.new.shelf) top changes tree entries now c.down.level below c.index-edits-level.result edit_here _ alone few none_new c.down.top.0 so.top_is)
+      (lone_new (g.S.Shelf.holds c.only_child_at.new.shelf) top changes tree entries now c.down.level below c.index-edits-level.result edit_here _ alone) in
       settling_next tree (changed_entries entries changes) c.args.edits.now _ _ _ c.down.level so c.index-edits-level-in-Some.result c.index-edits-level-in-Some.is c.in-Some.below
-          (subst (λ o. IsOnlyChild (get_or (tower Two tree (changed_entries entries changes) c.down.level) 0 no_node) o) c.in-Some.is child) _ c.in_ok-push_stayed.ensures;
-  }
+      (subst (λ o. IsOnlyChild (get_or (tower Two tree (changed_entries entries changes) c.down.level) 0 no_node) o) c.in-Some.is child) _ c.in_ok-push_stayed.ensures;
+}
 
 pub overflow_sub-level-in-Some : goal.overflow_sub-level-in-Some
 overflow_sub-level-in-Some g c =
