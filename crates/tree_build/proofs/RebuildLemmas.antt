@@ -1,7 +1,8 @@
 -- The top of the old tree, and a list without changes.
-use Rattle.std.proofs.Common.{◌≡◌, ℕ, ◌+◌, ◌-◌, ◌<◌, List, [], ◌∷◌, ◌++◌, length, true, refl, sym, ap, subst, ◌∙◌, arith}
+use Rattle.std.proofs.Common.{◌≡◌, ℕ, ◌+◌, ◌-◌, ◌<◌, ◌≤◌, eqb, eqb-true, false, List, [], ◌∷◌, ◌++◌, length, true, refl, sym, ap, subst, ◌∙◌, arith}
 use Rattle.std.specs.List.{AllByRecursion}
-use Rattle.tree_node.specs.Nodes.{Binding, Node, level_of, tree_of}
+use Rattle.tree_node.specs.Nodes.{Binding, Node, level_of, spelling, tree_of}
+use Rattle.tree_node.specs.Shelves.{SameNodes}
 use Rattle.tree_node.specs.Trees.{Two, level_at, levels, top_of}
 use Rattle.tree_node.proofs.shared.TreeLaws.{whole}
 use Rattle.tree_node.proofs.shared.TreeParts.{kind_at}
@@ -47,3 +48,14 @@ unchanged old rebuilt top none_added none_gone = record {
   gone = λ key. ((λ among. absurd (subst (λ ds. IsAmong (digests_of ds) key) none_gone among)), (λ (bytes, of_old, not_new, is). absurd (not_new of_old)));
   gone_once = subst (λ ds. AreDifferent (digests_of ds)) (sym none_gone) tt;
 }
+
+pub later_held : (held later : List ℕ → Type 0) → SameNodes held later → (key : List ℕ) (node : Node) → IsHeld held key node → IsHeld later key node
+later_held held later same key node is = record { is = is.is; holds = (same (spelling node)).1 is.holds; digest_is = is.digest_is }
+
+pub some_changes : {X : Type 0} (xs : List X) → false ≡ eqb (length xs) 0 → 1 ≤ length xs
+some_changes [] e = absurd cc
+some_changes (x ∷ xs) e = omega arith
+
+pub no_changes : {X : Type 0} (xs : List X) → true ≡ eqb (length xs) 0 → xs ≡ []
+no_changes [] e = refl
+no_changes (x ∷ xs) e = absurd (let n : length (x ∷ xs) ≡ 0 = eqb-true (length (x ∷ xs)) 0 (sym e) in omega (arith, n))

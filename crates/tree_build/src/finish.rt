@@ -43,14 +43,8 @@ pub(crate) fn finish<'a, 'c, S: Shelf<'a>>(
     let TreeEdit { mut edits, stays } = edited;
     let mut added = Vec::new(alloc);
     let mut gone = Vec::new(alloc);
-    let top = if stays {
-        Top {
-            digest: *old_top,
-            level: edits.len() - 1,
-        }
-    } else {
-        find_top(alloc, shelf, tree, &mut edits, &mut added, &mut gone)?
-    };
+    let old = stays.then_some(*old_top);
+    let top = find_top(alloc, shelf, tree, old, &mut edits, &mut added, &mut gone)?;
     tell_all(edits, top.level, &mut added, &mut gone)?;
     Ok(Rebuilt {
         top: top.digest,
@@ -59,18 +53,25 @@ pub(crate) fn finish<'a, 'c, S: Shelf<'a>>(
     })
 }
 
-/// The top of the new tree over these levels, of which the last has all nodes of its level as new ones:
-/// the levels above it are made, or the tree loses levels. Without entries it gets the leaf without
-/// entries.
+/// The top of the new tree over these levels. It is the old one, where the last of them is as it was. Else
+/// the last has all nodes of its level as new ones: the levels above it are made, or the tree loses levels.
+/// Without entries it gets the leaf without entries.
 fn find_top<'a, 'c, S: Shelf<'a>>(
     alloc: Global,
     shelf: &mut S,
     tree: Tree,
+    old: Option<Digest>,
     edits: &mut Vec<LevelEdit<'c>>,
     added: &mut Vec<NewNode>,
     gone: &mut Vec<Digest>,
 ) -> Result<Top, AllocError> {
     let last = edits.len() - 1;
+    if let Some(digest) = old {
+        return Ok(Top {
+            digest,
+            level: last,
+        });
+    }
     match edits[last].news.as_slice() {
         [] => {
             let digest = put_empty_leaf(alloc, tree, edits)?;
