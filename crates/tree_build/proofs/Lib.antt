@@ -10,6 +10,7 @@ pub mod FitLemmas
 pub mod GoneLemmas
 pub mod GrowLemmas
 pub mod HandLemmas
+pub mod LastLemmas
 pub mod LengthLemmas
 pub mod LevelLemmas
 pub mod LevelSteps

@@ -35,7 +35,7 @@ pub record IsLast (olds : List OldNode) (front : List Node) : Type 0 where
   pub front_is : front ≡ nodes ++ node ∷ []
   pub stands : old.greatest.now ≡ greatest_of node
 
-each_length : {X Y : Type 0} (Stands : X → Y → Type 0) (xs : List X) (ys : List Y) → Each Stands xs ys → length xs ≡ length ys
+pub each_length : {X Y : Type 0} (Stands : X → Y → Type 0) (xs : List X) (ys : List Y) → Each Stands xs ys → length xs ≡ length ys
 each_length Stands [] [] all = refl
 each_length Stands [] (y ∷ ys) all = absurd all
 each_length Stands (x ∷ xs) [] all = absurd all

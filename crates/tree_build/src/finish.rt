@@ -1,10 +1,10 @@
 //! The new tree, from how the levels of the old one change.
 
-ghost use Rattle.std.specs.Prelude.{◌≡◌, ◌<◌, ◌≤◌, ℕ, List, IfOk, length};
+ghost use Rattle.std.specs.Prelude.{◌≡◌, ◌≤◌, ℕ, List, IfOk, None, length};
 ghost use Rattle.tree_build.specs.Changing.{Change};
 ghost use Rattle.tree_build.specs.Rebuilding.{IsOldTree, IsRebuilt, changed_entries};
 ghost use Rattle.tree_build.specs.internal.Towers.{tower};
-ghost use Rattle.tree_build.specs.internal.TreeEdits.{IsTreeEdit};
+ghost use Rattle.tree_build.specs.internal.TreeEdits.{AreEdits, HaveOpened, IsTreeEdit};
 ghost use Rattle.tree_node.specs.NodeRefs.{number_of};
 ghost use Rattle.tree_node.specs.Nodes.{Binding};
 ghost use Rattle.tree_node.specs.Shelves.{SameNodes};
@@ -64,7 +64,16 @@ fn find_top<'a, 'c, S: Shelf<'a>>(
     edits: &mut Vec<LevelEdit<'c>>,
     added: &mut Vec<NewNode>,
     gone: &mut Vec<Digest>,
-) -> Result<Top, AllocError> {
+) -> Result<Top, AllocError>
+    requires { (top : List ℕ) × (changes : List (Change Binding)) × (entries : List Binding)
+        × IsOldTree (S.holds shelf.old) top changes (number_of tree) entries
+        × AreEdits (levels Two (number_of tree) entries) (tower Two (number_of tree) (changed_entries entries changes)) 0 edits.old.items
+        × HaveOpened edits.old.items × (1 ≤ length edits.old.items)
+        × (length edits.old.items ≤ length (levels Two (number_of tree) entries))
+        × (old ≡ None → length edits.old.items ≡ length (levels Two (number_of tree) entries)) }
+    ensures stays { SameNodes (S.holds shelf.old) (S.holds shelf.new) }
+    ensures grows { (bytes : List ℕ) → S.used shelf.old bytes → S.used shelf.new bytes }
+{
     let last = edits.len() - 1;
     if let Some(digest) = old {
         return Ok(Top {
@@ -96,7 +105,9 @@ fn put_empty_leaf<'c>(
     alloc: Global,
     tree: Tree,
     edits: &mut Vec<LevelEdit<'c>>,
-) -> Result<Digest, AllocError> {
+) -> Result<Digest, AllocError>
+    requires { 1 ≤ length edits.old.items }
+{
     let none: [Entry<'c>; 0] = [];
     let leaf: NewPiece<'c> = make_node(alloc, tree, 0, &none)?;
     let digest = leaf.node.digest;
