@@ -28,6 +28,7 @@ pub mod StepItems
 pub mod StepLoops
 pub mod StepStates
 pub mod StockLemmas
+pub mod TellAllLemmas
 pub mod TellLemmas
 pub mod TowerLemmas
 pub mod TreeEdits

@@ -14,4 +14,5 @@ pub mod Steps
 pub mod Telling
 pub mod Towers
 pub mod TreeEdits
+pub mod TreeTelling
 pub mod Weaving

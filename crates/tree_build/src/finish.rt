@@ -1,14 +1,16 @@
 //! The new tree, from how the levels of the old one change.
 
-ghost use Rattle.std.specs.Prelude.{◌≡◌, ◌≤◌, ℕ, List, IfOk, None, length};
+ghost use Rattle.std.specs.List.{AllByRecursion};
+ghost use Rattle.std.specs.Prelude.{◌≡◌, ◌<◌, ◌≤◌, ℕ, List, IfOk, None, OnOk, length};
 ghost use Rattle.tree_build.specs.Changing.{Change};
-ghost use Rattle.tree_build.specs.Rebuilding.{IsOldTree, IsRebuilt, changed_entries};
+ghost use Rattle.tree_build.specs.Rebuilding.{IsOldTree, IsRebuilt, changed_entries, digests_of, nodes_of};
 ghost use Rattle.tree_build.specs.internal.Towers.{tower};
 ghost use Rattle.tree_build.specs.internal.TreeEdits.{AreEdits, HaveOpened, IsTreeEdit};
+ghost use Rattle.tree_build.specs.internal.TreeTelling.{HaveTold};
 ghost use Rattle.tree_node.specs.NodeRefs.{number_of};
-ghost use Rattle.tree_node.specs.Nodes.{Binding};
+ghost use Rattle.tree_node.specs.Nodes.{Binding, IsNode, Node};
 ghost use Rattle.tree_node.specs.Shelves.{SameNodes};
-ghost use Rattle.tree_node.specs.Trees.{Two, levels};
+ghost use Rattle.tree_node.specs.Trees.{Two, level_at, levels};
 
 use crate::Entry;
 use crate::grow::grow;
@@ -122,13 +124,20 @@ fn tell_all(
     top_level: usize,
     added: &mut Vec<NewNode>,
     gone: &mut Vec<Digest>,
-) -> Result<(), AllocError> {
-    for (level, edit) in edits.into_iter().enumerate() {
+) -> Result<(), AllocError>
+    ensures { (old : List (List Node)) (new : ℕ → List Node) (are : AreEdits old new 0 edits.entry.items)
+        → ((level : ℕ) → level < length edits.entry.items → AllByRecursion IsNode (level_at old level) × AllByRecursion IsNode (new level))
+        → OnOk result (HaveTold old new top_level 0 edits.entry.items are (nodes_of added.old.items) (nodes_of added.new.items)
+        (digests_of gone.old.items) (digests_of gone.new.items)) }
+{
+    let mut level = 0;
+    for edit in edits {
         if level <= top_level {
             tell_level(edit, added, gone)?;
         } else {
             tell_gone(edit.olds.as_slice(), gone)?;
         }
+        level += 1;
     }
     Ok(())
 }
