@@ -4,9 +4,10 @@ ghost use Rattle.std.specs.List.{AllByRecursion};
 ghost use Rattle.std.specs.Prelude.{◌≡◌, ◌<◌, ◌≤◌, ℕ, List, IfOk, None, OnOk, length};
 ghost use Rattle.tree_build.specs.Changing.{Change};
 ghost use Rattle.tree_build.specs.Rebuilding.{IsOldTree, IsRebuilt, changed_entries, digests_of, nodes_of};
+ghost use Rattle.tree_build.specs.internal.Edits.{Each, IsNewNode, IsOldNode};
 ghost use Rattle.tree_build.specs.internal.Towers.{tower};
 ghost use Rattle.tree_build.specs.internal.TreeEdits.{AreEdits, HaveOpened, IsTreeEdit};
-ghost use Rattle.tree_build.specs.internal.TreeTelling.{HaveTold};
+ghost use Rattle.tree_build.specs.internal.TreeTelling.{HaveTold, IsTold};
 ghost use Rattle.tree_node.specs.NodeRefs.{number_of};
 ghost use Rattle.tree_node.specs.Nodes.{Binding, IsNode, Node};
 ghost use Rattle.tree_node.specs.Shelves.{SameNodes};
@@ -132,12 +133,28 @@ fn tell_all(
 {
     let mut level = 0;
     for edit in edits {
-        if level <= top_level {
-            tell_level(edit, added, gone)?;
-        } else {
-            tell_gone(edit.olds.as_slice(), gone)?;
-        }
+        tell_edit(edit, level, top_level, added, gone)?;
         level += 1;
     }
     Ok(())
+}
+
+/// The same of one level.
+fn tell_edit(
+    edit: LevelEdit<'_>,
+    level: usize,
+    top_level: usize,
+    added: &mut Vec<NewNode>,
+    gone: &mut Vec<Digest>,
+) -> Result<(), AllocError>
+    ensures { (opened came : List Node) → Each IsOldNode edit.entry.olds.items opened → Each IsNewNode edit.entry.news.items came
+        → AllByRecursion IsNode opened → AllByRecursion IsNode came
+        → OnOk result (IsTold top_level level opened came (nodes_of added.old.items) (nodes_of added.new.items)
+        (digests_of gone.old.items) (digests_of gone.new.items)) }
+{
+    if level <= top_level {
+        tell_level(edit, added, gone)?;
+        return Ok(());
+    }
+    tell_gone(edit.olds.as_slice(), gone)
 }

@@ -14,5 +14,6 @@ invariant-loop-edit l = record {
   count : into_iter_len l.edit-iterator ≡ length (into_iter_items l.edit-iterator);
   level_is : l.level + length (into_iter_items l.edit-iterator) ≡ length l.fn.edits.items;
   so_far : (old : List (List Node)) (new : ℕ → List Node) (are : AreEdits old new 0 l.fn.edits.items)
+      → ((level : ℕ) → level < length l.fn.edits.items → AllByRecursion IsNode (level_at old level) × AllByRecursion IsNode (new level))
       → AreTelling old new l.fn.top_level l.fn.edits.items are l.level (into_iter_items l.edit-iterator) (nodes_of l.fn.added.items) (nodes_of l.added.items) (digests_of l.fn.gone.items) (digests_of l.gone.items);
 }
