@@ -1,7 +1,7 @@
 //! The new tree, from how the levels of the old one change.
 
 ghost use Rattle.std.specs.List.{AllByRecursion};
-ghost use Rattle.std.specs.Prelude.{◌≡◌, ◌<◌, ◌≤◌, ℕ, List, IfOk, None, OnOk, length};
+ghost use Rattle.std.specs.Prelude.{◌≡◌, ◌<◌, ◌≤◌, ℕ, List, [], IfOk, None, OnOk, length};
 ghost use Rattle.tree_build.specs.Changing.{Change};
 ghost use Rattle.tree_build.specs.Rebuilding.{IsOldTree, IsRebuilt, changed_entries, digests_of, nodes_of};
 ghost use Rattle.tree_build.specs.internal.Edits.{Each, IsNewNode, IsOldNode};
@@ -9,7 +9,7 @@ ghost use Rattle.tree_build.specs.internal.Towers.{tower};
 ghost use Rattle.tree_build.specs.internal.TreeEdits.{AreEdits, HaveOpened, IsTreeEdit};
 ghost use Rattle.tree_build.specs.internal.TreeTelling.{HaveTold, IsTold};
 ghost use Rattle.tree_node.specs.NodeRefs.{number_of};
-ghost use Rattle.tree_node.specs.Nodes.{Binding, IsNode, Node};
+ghost use Rattle.tree_node.specs.Nodes.{Binding, IsNode, Leaf, Node};
 ghost use Rattle.tree_node.specs.Shelves.{SameNodes};
 ghost use Rattle.tree_node.specs.Trees.{Two, level_at, levels};
 
@@ -111,11 +111,18 @@ fn put_empty_leaf<'c>(
 ) -> Result<Digest, AllocError>
     requires { 1 ≤ length edits.old.items }
 {
-    let none: [Entry<'c>; 0] = [];
-    let leaf: NewPiece<'c> = make_node(alloc, tree, 0, &none)?;
+    let leaf = empty_leaf(alloc, tree)?;
     let digest = leaf.node.digest;
     edits[0].news.push(leaf)?;
     Ok(digest)
+}
+
+/// The leaf without entries.
+fn empty_leaf<'c>(alloc: Global, tree: Tree) -> Result<NewPiece<'c>, AllocError>
+    ensures { IfOk result (λ new. IsNewNode new (Leaf (number_of tree) [])) }
+{
+    let none: [Entry<'c>; 0] = [];
+    make_node(alloc, tree, 0, &none)
 }
 
 /// Tells of the levels up to the top's what each has gained and lost; the opened nodes of the levels above
