@@ -2,7 +2,7 @@
 # One node by its id out of an OPL file: `osm_mirror ask` beside `osmium getid` (Debian's osmium-tool) on the same
 # text in the same run. Prints processor time, peak memory, and how both grow from 100,000 to 1,000,000 nodes.
 #
-#   apt-get install osmium-tool
+#   apt-get install osmium-tool time
 #   bench/first_path.sh [RUNS]
 set -eu
 cd "$(dirname -- "$(readlink -f -- "$0")")"

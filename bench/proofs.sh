@@ -5,7 +5,7 @@
 # `osm_mirror publish` beside `osmium cat` of the extract and `sha256sum`, in the same run. Prints sizes in bytes,
 # processor time and peak memory.
 #
-#   apt-get install osmium-tool
+#   apt-get install osmium-tool time
 #   bench/proofs.sh [RUNS]
 set -eu
 cd "$(dirname -- "$(readlink -f -- "$0")")"
@@ -44,7 +44,7 @@ for row in '0.01 11550 1000' '0.1 115500 316' '1 1155000 100'; do
     extract "$share"
     file=$data/extract-$share.opl
     edge=$(printf '%04d' "$half")
-    proved "$file" "$objects" 'an id' 'node(5000);out;'
+    proved "$file" "$objects" 'an id' 'node(4998);out;'
     proved "$file" "$objects" 'a box' "node(51.$((10000 - half)),12.$((10000 - half)),52.$edge,13.$edge);out;"
     proved "$file" "$objects" 'a tag' 'nwr["name"="Weg"];out;'
     python3 measure.py "$objects" "$runs" /dev/null publish "$program publish $file" \

@@ -5,7 +5,7 @@
 # bench/publish_trees.program is built over copies of the crates in a folder outside the repository (WORK, or a new
 # one), so that the gate doesn't prove it.
 #
-#   apt-get install osmium-tool
+#   apt-get install osmium-tool time
 #   bench/publish_trees.sh [RUNS]
 set -eu
 runs=${1:-3}

@@ -4,7 +4,7 @@
 # memory of a set beside the file's bytes. The program bench/read_speed.program is built over copies of the crates in a
 # folder outside the repository (WORK, or a new one), so that the gate doesn't prove it.
 #
-#   apt-get install osmium-tool
+#   apt-get install osmium-tool time
 #   bench/read_set.sh [RUNS]
 set -eu
 runs=${1:-5}

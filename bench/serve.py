@@ -14,7 +14,7 @@ from urllib.parse import quote
 
 PROGRAM = Path(__file__).resolve().parents[1] / "crates/osm_mirror/out/osm_mirror"
 ROUNDS = 5
-QUERY = "node(5000);out;"
+QUERY = "node(4998);out;"
 # About 10 MB of text: every tenth object or so.
 LARGE = "node(51.5,12.5,52.2,13.2);out;"
 
