@@ -4,7 +4,9 @@ ghost use Rattle.std.specs.Prelude.{◌≡◌, IfOk, false};
 ghost use Rattle.clap.specs.declared.builder.command.Command.TheViews.{out-Command as fields_of};
 ghost use Rattle.clap.specs.Words.{app_of, with_subcommand};
 ghost use Rattle.command_line.specs.internal.Commands.{IsCommand};
-ghost use Rattle.command_line.specs.CommandLine.{program_app};
+ghost use Rattle.command_line.specs.AskCommand.{ask_app};
+ghost use Rattle.command_line.specs.CommandLine.{bare_app, program_app};
+ghost use Rattle.command_line.specs.PublishCommand.{publish_app};
 
 use crate::ask_command::ask_command;
 use crate::check_command::check_command;
@@ -22,15 +24,28 @@ const ABOUT: &str = "Answers OpenStreetMap queries, and proves and checks the an
 pub fn program_command<'a>(alloc: Global) -> Result<Command<'a>, AllocError>
     ensures { IfOk result (IsCommand program_app) }
 {
-    let program = Command::new(alloc, "osm_mirror")
-        .about(ABOUT)
-        .subcommand_required(true)
-        .disable_help_subcommand(true);
-    let program = and_command(program, ask_command(alloc)?)?;
-    let program = and_command(program, publish_command(alloc)?)?;
+    let program = publisher_program(alloc)?;
     let program = and_command(program, prove_command(alloc)?)?;
     let program = and_command(program, check_command(alloc)?)?;
     and_command(program, serve_command(alloc)?)
+}
+
+/// The program with the commands that need no proof: split off, since a long chain of calls is dear to prove.
+fn publisher_program<'a>(alloc: Global) -> Result<Command<'a>, AllocError>
+    ensures { IfOk result (IsCommand (with_subcommand (with_subcommand bare_app ask_app.top) publish_app.top)) }
+{
+    let program = and_command(bare_program(alloc), ask_command(alloc)?)?;
+    and_command(program, publish_command(alloc)?)
+}
+
+/// The program without a command.
+fn bare_program<'a>(alloc: Global) -> Command<'a>
+    ensures { IsCommand bare_app result }
+{
+    Command::new(alloc, "osm_mirror")
+        .about(ABOUT)
+        .subcommand_required(true)
+        .disable_help_subcommand(true)
 }
 
 /// The program with one more command.

@@ -1,6 +1,6 @@
 //! What an object is made of, beside its tags.
 
-ghost use Rattle.std.specs.Prelude.{◌≡◌};
+ghost use Rattle.std.specs.Prelude.{◌≡◌, IfOk};
 ghost use Rattle.osm_model.specs.Elements.{nodes_of, members_of};
 ghost use Rattle.osm_model.specs.Limits.{BodyInRange};
 
@@ -8,6 +8,7 @@ use crate::coord::Coord;
 use crate::member::{Member, note_targets};
 use crate::member_list::MemberList;
 use crate::node_list::{NodeList, note_ids};
+use std::alloc::{AllocError, Global};
 
 /// What is particular to an object's kind (OpenStreetMap API 0.6).
 #[derive(Debug, Drop, PartialEq, Eq)]
@@ -18,6 +19,19 @@ pub enum Body {
     Way(NodeList),
     /// The members of a relation, in its order.
     Rel(MemberList),
+}
+
+impl Body {
+    /// A copy.
+    pub(crate) fn copy(&self, alloc: Global) -> Result<Body, AllocError>
+        ensures { IfOk result (λ body. body ≡ self.now) }
+    {
+        match self {
+            Body::Node(place) => Ok(Body::Node(*place)),
+            Body::Way(nodes) => Ok(Body::Way(nodes.copy(alloc)?)),
+            Body::Rel(members) => Ok(Body::Rel(members.copy(alloc)?)),
+        }
+    }
 }
 
 /// The nodes that a body lists: none but a way's.

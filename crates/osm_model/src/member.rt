@@ -1,11 +1,12 @@
 //! Members of relations.
 
-ghost use Rattle.std.specs.Prelude.{All, FitsSigned};
+ghost use Rattle.std.specs.Prelude.{◌≡◌, All, FitsSigned, IfOk};
 ghost use Rattle.std.specs.Int.{w64};
 ghost use Rattle.std.specs.Str.{IsUtf8};
 
 use crate::reference::Ref;
 use crate::text::{Text, note_utf8};
+use std::alloc::{AllocError, Global};
 
 /// A member of a relation: an object that the relation lists, and what it is there (OpenStreetMap API
 /// 0.6). A set need not hold the object.
@@ -15,6 +16,18 @@ pub struct Member {
     pub target: Ref,
     /// What it is in the relation; this may be empty.
     pub role: Text,
+}
+
+impl Member {
+    /// A copy.
+    pub(crate) fn copy(&self, alloc: Global) -> Result<Member, AllocError>
+        ensures { IfOk result (λ member. member ≡ self.now) }
+    {
+        Ok(Member {
+            target: self.target,
+            role: self.role.copy(alloc)?,
+        })
+    }
 }
 
 /// Brings to a proof that the ids of members are in the range of their type. It does nothing else.

@@ -1,12 +1,13 @@
 //! Lists of members.
 
-ghost use Rattle.std.specs.Prelude.{◌≡◌};
+ghost use Rattle.std.specs.Prelude.{◌≡◌, IfOk};
 ghost use Rattle.std.specs.Cmp.{partial_equiv_from_equiv};
 ghost use Rattle.std.specs.Cmp.Lexicographic.{pointwise, lists_equiv};
 ghost use Rattle.osm_model.specs.Elements.{member_eq};
 ghost use Rattle.osm_model.specs.internal.Comparisons.{members_equiv};
 
 use crate::member::Member;
+use std::alloc::{AllocError, Global};
 use std::marker::Model;
 
 /// The members of a relation, in its order; one may come twice. Contracts see the list of them.
@@ -30,6 +31,17 @@ impl MemberList {
         ensures { result ≡ members.items }
     {
         MemberList { members }
+    }
+
+    /// A copy.
+    pub fn copy(&self, alloc: Global) -> Result<MemberList, AllocError>
+        ensures { IfOk result (λ list. list ≡ self.now) }
+    {
+        let mut members = Vec::with_capacity(alloc, self.members.len())?;
+        for member in &self.members {
+            members.push(member.copy(alloc)?)?;
+        }
+        Ok(MemberList { members })
     }
 
     /// The members.

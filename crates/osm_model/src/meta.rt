@@ -1,9 +1,11 @@
 //! What is known of an object's last change.
 
+ghost use Rattle.std.specs.Prelude.{◌≡◌, IfOk};
 ghost use Rattle.osm_model.specs.Limits.{MetaInRange};
 
 use crate::stamp::Stamp;
 use crate::text::Text;
+use std::alloc::{AllocError, Global};
 
 /// The metadata of an object: who changed it last, and when (OpenStreetMap API 0.6).
 ///
@@ -20,6 +22,21 @@ pub struct Meta {
     pub uid: i64,
     /// The name of that user.
     pub user: Text,
+}
+
+impl Meta {
+    /// A copy.
+    pub(crate) fn copy(&self, alloc: Global) -> Result<Meta, AllocError>
+        ensures { IfOk result (λ meta. meta ≡ self.now) }
+    {
+        Ok(Meta {
+            version: self.version,
+            stamp: self.stamp,
+            changeset: self.changeset,
+            uid: self.uid,
+            user: self.user.copy(alloc)?,
+        })
+    }
 }
 
 /// Brings to a proof that the numbers of metadata are in the ranges of their types, and that the stamp

@@ -1,12 +1,13 @@
 //! Lists of nodes.
 
-ghost use Rattle.std.specs.Prelude.{◌≡◌, All, FitsSigned};
+ghost use Rattle.std.specs.Prelude.{◌≡◌, All, FitsSigned, IfOk};
 ghost use Rattle.std.proofs.Common.{rules};
 ghost use Rattle.std.specs.Int.{w64};
 ghost use Rattle.std.specs.Ordering.{int_eq};
 ghost use Rattle.std.specs.Cmp.Lexicographic.{pointwise};
 ghost use Rattle.std.specs.Cmp.Rules.{comparing};
 
+use std::alloc::{AllocError, Global};
 use std::marker::Model;
 
 /// The ids of a way's nodes, in its order; a node may come twice. Contracts see the list of them.
@@ -29,6 +30,15 @@ impl NodeList {
         ensures { result ≡ ids.items }
     {
         NodeList { ids }
+    }
+
+    /// A copy.
+    pub fn copy(&self, alloc: Global) -> Result<NodeList, AllocError>
+        ensures { IfOk result (λ list. list ≡ self.now) }
+    {
+        Ok(NodeList {
+            ids: Vec::from_slice(alloc, &self.ids)?,
+        })
     }
 
     /// The ids.

@@ -16,6 +16,7 @@ use crate::tag::{Tag, note_tags};
 use crate::tag_list::TagList;
 use crate::tag_order::{keys_rise, sort_tags};
 use crate::text::note_utf8;
+use std::alloc::{AllocError, Global};
 use std::marker::Model;
 
 /// An object: its id, metadata, tags by rising key, and what is particular to its kind.
@@ -84,6 +85,18 @@ impl Object {
             meta,
             tags: TagList::new(tags),
             body,
+        })
+    }
+
+    /// An equal object. Refused only out of memory.
+    pub fn copy(&self, alloc: Global) -> Result<Object, AllocError>
+        ensures { IfOk result (λ object. object ≡ self.now) }
+    {
+        Ok(Object {
+            id: self.id,
+            meta: self.meta.copy(alloc)?,
+            tags: self.tags.copy(alloc)?,
+            body: self.body.copy(alloc)?,
         })
     }
 

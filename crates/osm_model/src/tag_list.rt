@@ -1,12 +1,13 @@
 //! Lists of tags.
 
-ghost use Rattle.std.specs.Prelude.{◌≡◌};
+ghost use Rattle.std.specs.Prelude.{◌≡◌, IfOk};
 ghost use Rattle.std.proofs.Common.{rules};
 ghost use Rattle.std.specs.Cmp.Lexicographic.{pointwise};
 ghost use Rattle.std.specs.Cmp.Rules.{comparing};
 ghost use Rattle.osm_model.specs.Elements.{tag_eq};
 
 use crate::tag::Tag;
+use std::alloc::{AllocError, Global};
 use std::marker::Model;
 
 /// Tags in their order. Contracts see the list of them.
@@ -37,6 +38,17 @@ impl TagList {
         ensures { result.now ≡ self.now }
     {
         &self.tags
+    }
+
+    /// A copy.
+    pub fn copy(&self, alloc: Global) -> Result<TagList, AllocError>
+        ensures { IfOk result (λ list. list ≡ self.now) }
+    {
+        let mut tags = Vec::with_capacity(alloc, self.tags.len())?;
+        for tag in &self.tags {
+            tags.push(tag.copy(alloc)?)?;
+        }
+        Ok(TagList { tags })
     }
 
     /// The tags, to be owned by the caller.

@@ -49,6 +49,13 @@ impl Text {
         })
     }
 
+    /// A copy. One of up to 16 bytes takes no memory.
+    pub(crate) fn copy(&self, alloc: Global) -> Result<Text, AllocError>
+        ensures { IfOk result (λ text. text ≡ self.now) }
+    {
+        Text::from_str(alloc, self.as_str())
+    }
+
     /// Its bytes, which are UTF-8.
     pub fn as_bytes(&self) -> &[u8]
         ensures { result.now ≡ self.now }

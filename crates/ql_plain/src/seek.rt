@@ -20,11 +20,21 @@ pub fn seek<T: Referenced>(items: &[T], at: usize, name: Ref) -> (usize, bool)
     requires within { at ≤ length items.now }
     ensures { IsSought T.name_of items.now name result.0 result.1 }
 {
-    if has_at(items, at, name) {
-        return (at, true);
+    if at == items.len() {
+        let (low, high) = fall(items, at, name);
+        return narrow(items, low, high, name);
     }
-    let (low, high) = around(items, at, name);
-    narrow(items, low, high, name)
+    match compare(items[at].name(), name) {
+        Ordering::Equal => (at, true),
+        Ordering::Less => {
+            let (low, high) = rise(items, at + 1, name);
+            narrow(items, low, high, name)
+        }
+        Ordering::Greater => {
+            let (low, high) = fall(items, at, name);
+            narrow(items, low, high, name)
+        }
+    }
 }
 
 /// Whether an item of a list that rises has a reference, and from where to search for one that is above it. Where
@@ -43,13 +53,6 @@ pub fn step_to<T: Referenced>(items: &[T], at: usize, name: Ref) -> (usize, bool
     }
 }
 
-/// Whether the item at a place has the reference.
-fn has_at<T: Referenced>(items: &[T], at: usize, name: Ref) -> bool
-    ensures { result ≡ true → IsAt T.name_of items.now name at }
-{
-    at < items.len() && compare(items[at].name(), name).is_eq()
-}
-
 /// Where a reference with this id would be in a list that rises, if its ids were spread evenly: a place from which a
 /// search for it is short, as a rule.
 pub fn even_place<T: Referenced>(items: &[T], id: i64) -> usize
@@ -63,22 +66,6 @@ pub fn even_place<T: Referenced>(items: &[T], id: i64) -> usize
             items.len().min(place as usize)
         }
         _ => 0,
-    }
-}
-
-/// Places between which a reference is, if it is there, near this one.
-fn around<T: Referenced>(items: &[T], at: usize, name: Ref) -> (usize, usize)
-    requires rising { IsStrictlySortedBy ref_cmp (map T.name_of items.now) }
-    requires within { at ≤ length items.now }
-    ensures { IsAround T.name_of items.now name result.0 result.1 }
-{
-    if at == items.len() {
-        return fall(items, at, name);
-    }
-    match compare(items[at].name(), name) {
-        Ordering::Less => rise(items, at + 1, name),
-        Ordering::Equal => (at, at + 1),
-        Ordering::Greater => fall(items, at, name),
     }
 }
 

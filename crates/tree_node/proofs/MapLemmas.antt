@@ -1,5 +1,5 @@
 -- What a map of nodes holds after an insert.
-use Rattle.std.proofs.Common.{◌≡◌, ◌⊎◌, ℕ, List, Option, Some, None, Bool, true, false, cond, refl, sym, ap, subst, ◌∙◌, inl, inr, Result, Ok, Err}
+use Rattle.std.proofs.Common.{◌≡◌, ◌≢◌, ◌⊎◌, ◌↔◌, ℕ, List, Option, Some, None, Bool, true, false, cond, refl, sym, ap, subst, ◌∙◌, inl, inr, Result, Ok, Err}
 use Rattle.std.specs.Global.{Vec}
 use Rattle.std.specs.Prelude.{OnOk, OnErr}
 use Rattle.std.specs.BTreeMap.{Updates}
@@ -11,6 +11,7 @@ use Rattle.std.specs.declared.cmp.Ordering.TheVariants.{Less, Equal, Greater}
 use Rattle.std.specs.Borrow.{Bor}
 use Rattle.std.specs.BTreeMap.{BTreeMap, get, is_at}
 use Rattle.std.proofs.lemmas.Bool.{cases_Bool}
+use Rattle.std.proofs.lemmas.Cmp.{nat_list_cmp_total, tied_itself}
 use Rattle.tree_node.specs.Digests.{digest}
 use Rattle.tree_node.specs.declared.digest.Digest.{Digest}
 use Rattle.tree_node.specs.Shelves.{GrownBy}
@@ -149,3 +150,45 @@ pub given_used : (nodes : BTreeMap Digest (Vec ℕ)) (given : BTreeMap Digest (B
 given_used nodes given key b is own owned =
     let held = found_held nodes key b.now (own b is) owned in
     (ap (λ (d : List ℕ). option_map (λ (c : Bor (List ℕ)). c.now) (get digest_cmp given (record { 0 = d }))) held.1 ∙ ap (option_map (λ (c : Bor (List ℕ)). c.now)) is, held.0, held.1)
+
+-- the map n is m without what stood at k
+pub record IsTaken {V : Type 0} (m n : BTreeMap Digest V) (k : Digest) : Type 0 where
+  pub each : (q : Digest) → get digest_cmp n q ≡ cond (is_at (digest_cmp k) q) None (get digest_cmp m q)
+
+module _ {V : Type 0} (m n : BTreeMap Digest V) (k : Digest) (taken : IsTaken m n k) where
+  -- nothing stands at k,
+  taken_there : (q : Digest) → is_at (digest_cmp k) q ≡ true → get digest_cmp n q ≡ None
+  taken_there q hit = taken.each q ∙ ap (λ b. cond b None (get digest_cmp m q)) hit
+
+  -- and elsewhere what stood there
+  kept_there : (q : Digest) → is_at (digest_cmp k) q ≡ false → get digest_cmp n q ≡ get digest_cmp m q
+  kept_there q miss = taken.each q ∙ ap (λ b. cond b None (get digest_cmp m q)) miss
+
+  -- the nodes with another digest stay, and no other
+  pub take_loses : (view : V → List ℕ) (x : List ℕ) → StandsIn view n x ↔ (StandsIn view m x × (digest x ≢ k.0))
+  take_loses view x = (forth, back)
+    where
+      forth : StandsIn view n x → StandsIn view m x × (digest x ≢ k.0)
+      forth is =
+          elim (cases_Bool (is_at (digest_cmp k) (key_of x))) [
+            | inl hit ↦ absurd (let none : option_map view None ≡ Some x = ap (option_map view) (sym (taken_there (key_of x) hit)) ∙ is in Prim.cc)
+            | inr miss ↦ (ap (option_map view) (sym (kept_there (key_of x) miss)) ∙ is, λ same. differ _ (itself (key_of x) (ap (λ (d : List ℕ). record { 0 = d }) same)) miss)
+          ]
+        where
+          itself : (q : Digest) → q ≡ k → is_at (digest_cmp k) q ≡ true
+          itself q e = ap (λ (p : Digest). is_at (digest_cmp k) p) e ∙ ap is_eq (tied_itself nat_list_cmp_total k.0)
+
+      back : StandsIn view m x × (digest x ≢ k.0) → StandsIn view n x
+      back (is, apart) =
+          elim (cases_Bool (is_at (digest_cmp k) (key_of x))) [
+            | inl hit ↦ absurd (apart (ap (λ (q : Digest). q.0) (sym (at_is k (key_of x) hit))))
+            | inr miss ↦ ap (option_map view) (kept_there (key_of x) miss) ∙ is
+          ]
+
+  -- what stood under its own digest still does
+  pub take_owns : (P : Digest → V → Type 0) → ((q : Digest) → ForSome (get digest_cmp m q) (λ w. P q w)) → (q : Digest) → ForSome (get digest_cmp n q) (λ w. P q w)
+  take_owns P before q w is =
+      elim (cases_Bool (is_at (digest_cmp k) q)) [
+        | inl hit ↦ absurd (let none : None ≡ Some w = sym (taken_there q hit) ∙ is in Prim.cc)
+        | inr miss ↦ before q w (sym (kept_there q miss) ∙ is)
+      ]

@@ -2,7 +2,7 @@
 
 ghost use Rattle.std.specs.BTreeMap.{get};
 ghost use Rattle.std.specs.Option.{ForSome, option_map};
-ghost use Rattle.std.specs.Prelude.{◌≡◌, ◌≢◌, ℕ, List, IfOk, IsOk, OnOk, OnErr};
+ghost use Rattle.std.specs.Prelude.{◌≡◌, ◌≢◌, ◌↔◌, ℕ, List, IfOk, IsOk, OnOk, OnErr};
 ghost use Rattle.tree_node.specs.Digests.{digest as digest_word};
 ghost use Rattle.tree_node.specs.Keys.{digest_cmp};
 ghost use Rattle.tree_node.specs.Shelves.{GrownBy, IsEmptySet, SameNodes};
@@ -70,6 +70,13 @@ impl Stock {
             Ok(_) => Ok(key),
             Err(_) => Err(PutFault::Memory),
         }
+    }
+
+    /// Takes away the node with this digest, where it is held, and no other. It takes no memory.
+    pub fn remove(&mut self, key: &Digest)
+        ensures { (x : List ℕ) → HasNode self.new x ↔ (HasNode self.old x × (digest_word x ≢ key.now.0)) }
+    {
+        self.nodes.remove(key);
     }
 
     /// A shelf over these nodes, none of them used. It takes no memory yet; what it remembers later

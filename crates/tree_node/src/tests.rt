@@ -228,6 +228,16 @@ fn records_and_lends_what_was_used(rt: HostRuntime) -> Result<(), Fail> {
     Ok(())
 }
 
+#[test]
+fn takes_one_node_away(rt: HostRuntime) -> Result<(), Fail> {
+    let mut stock = stock_of(rt.alloc(), &[b"a", b"b"])?;
+    stock.remove(&digest_of(b"a"));
+    stock.remove(&digest_of(b"c"));
+    let mut shelf = stock.shelf(rt.alloc());
+    assert!(rt; shelf.fetch(&digest_of(b"a")).is_err() && shelf.fetch(&digest_of(b"b")).is_ok());
+    Ok(())
+}
+
 /// These bytes, owned; asked for once more where memory was refused.
 fn owned(alloc: Global, bytes: &[u8]) -> Result<Vec<u8>, AllocError> {
     match bytes.to_vec(alloc) {
