@@ -14,8 +14,6 @@ mod program_command;
 mod prove_command;
 mod publish_command;
 mod serve_command;
-#[cfg(test)]
-mod tests;
 mod words;
 mod words_fault;
 

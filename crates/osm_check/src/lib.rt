@@ -7,8 +7,6 @@
 mod checker;
 mod laws;
 mod matcher;
-#[cfg(test)]
-mod tests;
 mod verdict;
 mod why;
 

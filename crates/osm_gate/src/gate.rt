@@ -63,9 +63,10 @@ impl Gate {
         self.is_closed
     }
 
-    /// The bytes after the last complete request.
-    #[cfg(test)]
-    pub(crate) fn left(&self) -> &[u8] {
+    /// The bytes after the last complete request: those of a request that isn't complete yet. It takes no memory.
+    pub fn left(&self) -> &[u8]
+        ensures { result.now ≡ self.now.bytes }
+    {
         &self.rest
     }
 

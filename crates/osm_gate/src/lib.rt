@@ -33,6 +33,3 @@ pub use laws::{
 };
 pub use serving::serve;
 pub use writing::write_whole;
-
-#[cfg(test)]
-mod tests;

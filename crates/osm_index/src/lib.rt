@@ -36,6 +36,3 @@ pub use read_keys::{
     read_tag_key,
 };
 pub use snapshot::Snapshot;
-
-#[cfg(test)]
-mod tests;

@@ -60,6 +60,3 @@ pub use tag::Tag;
 pub use tag_list::TagList;
 pub use tag_order::{keys_rise, sort_tags};
 pub use text::Text;
-
-#[cfg(test)]
-mod tests;

@@ -20,6 +20,3 @@ pub use proof_writer::write_proof;
 pub use prove_fault::ProveFault;
 pub use proved::Proved;
 pub use prover::prove;
-
-#[cfg(test)]
-mod tests;

@@ -38,6 +38,3 @@ pub use evaluation::{Report, evaluate};
 pub use fault::EvalFault;
 pub use opening::{ManifestFault, open_manifest};
 pub use sink::Sink;
-
-#[cfg(test)]
-mod tests;

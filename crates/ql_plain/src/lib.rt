@@ -40,6 +40,3 @@ pub use laws::{
 pub use named_set::NamedSet;
 pub use ref_sets::{is_in, kept, tidy, unite};
 pub use sets::Sets;
-
-#[cfg(test)]
-mod tests;

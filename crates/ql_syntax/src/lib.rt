@@ -56,6 +56,3 @@ pub use ql_text::QlText;
 pub use query::Query;
 pub use recursion::Recursion;
 pub use statement::{Out, Stmt};
-
-#[cfg(test)]
-mod tests;

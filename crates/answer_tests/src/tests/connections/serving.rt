@@ -1,0 +1,221 @@
+//! Connections over readers and writers that are slow, or fail.
+
+use super::fed;
+use crate::tests::snapshot_of;
+use crate::tests::texts_of_sets::ALL_KINDS;
+use osm_gate::{GateFault, serve};
+use osm_index::Edition;
+use std::io;
+use std::io::{Read, Write};
+use std::test::Fail;
+
+/// Two requests, of which the first has the response that an independent program made.
+const FIRST: &str =
+    "GET /api/interpreter?data=node%281%29%3Bout%20ids%3B HTTP/1.1\r\nHost: h\r\n\r\n";
+
+const SECOND: &str = "GET /x HTTP/1.1\r\nConnection: close\r\n\r\n";
+
+const FIRST_RESPONSE: &str = "\
+HTTP/1.1 200 OK\r\n\
+Content-Type: text/plain; charset=utf-8\r\n\
+Content-Length: 3\r\n\
+Osm-Root: 75a22f59df64013528dcb5e169ed9fd2305ff00f4b700f271af080582a6e0671\r\n\
+\r\n\
+n1\n";
+
+const SECOND_RESPONSE: &str = "\
+HTTP/1.1 404 Not Found\r\n\
+Content-Type: text/plain; charset=utf-8\r\n\
+Content-Length: 10\r\n\
+Connection: close\r\n\
+\r\n\
+not found\n";
+
+/// A reader that gives some bytes a call, and fails at one call (0: at none).
+#[derive(Drop)]
+pub(super) struct SlowReader<'a> {
+    pub(super) left: &'a [u8],
+    pub(super) at_once: usize,
+    pub(super) fails_at: usize,
+    pub(super) calls: usize,
+}
+
+impl Read for SlowReader<'_> {
+    fn read(&mut self, buf: &mut [u8]) -> io::Result<usize> {
+        self.calls = self.calls.saturating_add(1);
+        if self.calls == self.fails_at {
+            return Err(io::Error::from(io::ErrorKind::Other));
+        }
+        let len = self.at_once.min(self.left.len()).min(buf.len());
+        let (now, left) = self.left.split_at(len);
+        buf[..len].copy_from_slice(now);
+        self.left = left;
+        Ok(len)
+    }
+}
+
+/// A reader that gives one LF a call, without end.
+#[derive(Drop)]
+struct LineFeeds {
+    calls: u32,
+}
+
+impl Read for LineFeeds {
+    fn read(&mut self, buf: &mut [u8]) -> io::Result<usize> {
+        self.calls = self.calls.saturating_add(1);
+        match buf.first_mut() {
+            Some(first) => {
+                *first = b'\n';
+                Ok(1)
+            }
+            None => Ok(0),
+        }
+    }
+}
+
+/// A writer that takes some bytes a call, and at one call fails or takes nothing (0: at none).
+#[derive(Drop)]
+struct NarrowWriter {
+    taken: Vec<u8>,
+    at_once: usize,
+    stops_at: usize,
+    fails: bool,
+    calls: usize,
+}
+
+impl Write for NarrowWriter {
+    fn write(&mut self, buf: &[u8]) -> io::Result<usize> {
+        self.calls = self.calls.saturating_add(1);
+        if self.calls == self.stops_at {
+            if self.fails {
+                return Err(io::Error::from(io::ErrorKind::Other));
+            }
+            return Ok(0);
+        }
+        let len = self.at_once.min(buf.len());
+        self.taken.extend_from_slice(&buf[..len])?;
+        Ok(len)
+    }
+
+    fn flush(&mut self) -> io::Result<()> {
+        Ok(())
+    }
+}
+
+/// One byte a read: what was read before the read that fails has its responses.
+#[test]
+fn readers_fail(rt: HostRuntime) -> Result<(), Fail> {
+    let alloc = rt.alloc();
+    let snapshot = snapshot_of(alloc, ALL_KINDS, Edition::One)?;
+    let input = format!(in alloc; "{FIRST}{SECOND}{FIRST}")?;
+    let both = format!(in alloc; "{FIRST_RESPONSE}{SECOND_RESPONSE}")?;
+    // The second request ends the connection, and what comes after it isn't read.
+    let reads = FIRST.len().saturating_add(SECOND.len());
+    for fails_at in 0..=reads.saturating_add(1) {
+        let mut reader = SlowReader {
+            left: input.as_bytes(),
+            at_once: 1,
+            fails_at,
+            calls: 0,
+        };
+        let mut written = Vec::new(alloc);
+        let outcome = serve(alloc, &mut reader, &mut written, &snapshot);
+        if fails_at == 0 || fails_at > reads {
+            assert_eq!(rt; outcome, Ok(()), "{fails_at}");
+            assert_eq!(rt; reader.calls, reads);
+            assert_eq!(rt; written.as_slice(), both.as_bytes());
+            continue;
+        }
+        assert_eq!(rt; outcome, Err(GateFault::Reader), "{fails_at}");
+        let want = if fails_at > FIRST.len() {
+            FIRST_RESPONSE
+        } else {
+            ""
+        };
+        assert_eq!(rt; written.as_slice(), want.as_bytes(), "{fails_at}");
+    }
+    Ok(())
+}
+
+/// At the end of the input the connection is done, though a request isn't complete.
+#[test]
+fn the_input_ends(rt: HostRuntime) -> Result<(), Fail> {
+    let alloc = rt.alloc();
+    let snapshot = snapshot_of(alloc, ALL_KINDS, Edition::One)?;
+    for len in 0..=FIRST.len() {
+        let (input, _) = FIRST.as_bytes().split_at(len);
+        let mut reader = SlowReader {
+            left: input,
+            at_once: 8,
+            fails_at: 0,
+            calls: 0,
+        };
+        let mut written = Vec::new(alloc);
+        let outcome = serve(alloc, &mut reader, &mut written, &snapshot);
+        assert_eq!(rt; outcome, Ok(()));
+        let want = fed(alloc, &snapshot, input, b"")?;
+        assert_eq!(rt; written.as_slice(), want.responses.as_slice());
+    }
+    Ok(())
+}
+
+/// A write that fails or takes nothing leaves what was written before it.
+#[test]
+fn writers_stop(rt: HostRuntime) -> Result<(), Fail> {
+    let alloc = rt.alloc();
+    let snapshot = snapshot_of(alloc, ALL_KINDS, Edition::One)?;
+    let input = format!(in alloc; "{FIRST}{SECOND}")?;
+    let both = format!(in alloc; "{FIRST_RESPONSE}{SECOND_RESPONSE}")?;
+    let want = both.as_bytes();
+    for (at_once, fails) in [(1, true), (7, false), (7, true), (64, false)] {
+        let writes = want.len().div_ceil(at_once);
+        for stops_at in 0..=writes {
+            let mut writer = NarrowWriter {
+                taken: Vec::new(alloc),
+                at_once,
+                stops_at,
+                fails,
+                calls: 0,
+            };
+            let outcome = serve(alloc, &mut input.as_bytes(), &mut writer, &snapshot);
+            let taken = writer.taken.as_slice();
+            if stops_at == 0 {
+                assert_eq!(rt; outcome, Ok(()));
+                assert_eq!(rt; taken, want);
+                continue;
+            }
+            assert_eq!(rt; outcome, Err(GateFault::Writer), "{at_once} {stops_at}");
+            assert!(rt; want.starts_with(taken), "{at_once} {stops_at}");
+            let before = (stops_at - 1).saturating_mul(at_once);
+            assert_eq!(rt; taken.len(), before, "{at_once} {stops_at}");
+        }
+    }
+    Ok(())
+}
+
+#[test]
+fn a_connection_without_end_is_given_up(rt: HostRuntime) -> Result<(), Fail> {
+    let alloc = rt.alloc();
+    let snapshot = snapshot_of(alloc, "", Edition::One)?;
+    let mut reader = LineFeeds { calls: 0 };
+    let mut written = Vec::new(alloc);
+    let outcome = serve(alloc, &mut reader, &mut written, &snapshot);
+    assert_eq!(rt; outcome, Err(GateFault::Endless));
+    assert_eq!(rt; reader.calls, 1_048_576);
+    assert_eq!(rt; written.len(), 0);
+    Ok(())
+}
+
+#[test]
+fn faults_have_their_codes(rt: HostRuntime) -> Result<(), Fail> {
+    for (fault, text) in [
+        (GateFault::Reader, "G1"),
+        (GateFault::Writer, "G2"),
+        (GateFault::Memory, "G3"),
+        (GateFault::Endless, "G4"),
+    ] {
+        let told = format!(in rt.alloc(); "{fault}")?;
+        assert_eq!(rt; told.as_str(), text);
+    }
+    Ok(())
+}

@@ -1,0 +1,8 @@
+//! Answers, lookups, openings and sinks.
+
+mod answers;
+mod contradictions;
+mod fetches;
+mod lookups;
+mod opening;
+mod sink;

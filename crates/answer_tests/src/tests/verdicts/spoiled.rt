@@ -1,0 +1,186 @@
+//! A right proof, spoiled in every way: that of `node(65);out;` over the nodes 1 to 65 in the first edition.
+
+use super::{flip, proof_of, told};
+use crate::tests::snapshot_of;
+use osm_check::{Verdict, check};
+use osm_index::{Edition, Snapshot};
+use osm_prove::{Proved, prove, read_proof};
+use std::alloc::Global;
+use std::test::Fail;
+use tree_node::{Digest, Part};
+
+const QUERY: &[u8] = b"node(65);out;";
+
+const ANSWER: &[u8] = b"n65 T x0 y0\n";
+
+/// The tree of the objects has two leaves, of 64 entries and one, under one node.
+fn sixty_five(alloc: Global) -> Result<Snapshot, Fail> {
+    let mut text = String::new(alloc);
+    for id in 1..66_u8 {
+        let line = format!(in alloc; "n{id} x0 y0\n")?;
+        text.push_str(line.as_str())?;
+    }
+    snapshot_of(alloc, text.as_str(), Edition::One)
+}
+
+fn right(alloc: Global) -> Result<Proved, Fail> {
+    Ok(prove(alloc, &sixty_five(alloc)?, QUERY)?)
+}
+
+#[test]
+fn it_is_right_as_it_is(rt: HostRuntime) -> Result<(), Fail> {
+    let alloc = rt.alloc();
+    let Proved {
+        root,
+        answer,
+        proof,
+    } = right(alloc)?;
+    assert_eq!(rt; answer.as_slice(), ANSWER);
+    assert_eq!(rt; read_proof(alloc, &proof)?.len(), 3);
+    let verdict = check(alloc, QUERY, &root, &answer, &proof)?;
+    let is_yes = matches!(verdict, Verdict::Yes(report) if report.fetched >= 2);
+    assert!(rt; is_yes, "{verdict:?}");
+    Ok(())
+}
+
+/// Which of the proof's three nodes a spoiled one lists, in which order, and what is told of it: each is left out, each
+/// is doubled, and each pair is swapped.
+const OTHER_LISTS: [(&[usize], &str); 9] = [
+    (&[1, 2], "no C4"),
+    (&[0, 2], "no C4"),
+    (&[0, 1], "no C4"),
+    (&[0, 0, 1, 2], "no C3"),
+    (&[0, 1, 1, 2], "no C3"),
+    (&[0, 1, 2, 2], "no C3"),
+    (&[1, 0, 2], "no C3"),
+    (&[2, 1, 0], "no C3"),
+    (&[0, 2, 1], "no C3"),
+];
+
+/// A proof that lists the parts at these places.
+fn listing(alloc: Global, parts: &[Part<'_>], places: &[usize]) -> Result<Vec<u8>, Fail> {
+    let mut nodes = Vec::new(alloc);
+    for place in places {
+        nodes.push(parts.get(*place).ok_or("no such part")?.bytes())?;
+    }
+    proof_of(alloc, &nodes)
+}
+
+#[test]
+fn nodes_are_left_out_doubled_and_swapped(rt: HostRuntime) -> Result<(), Fail> {
+    let alloc = rt.alloc();
+    let Proved { root, proof, .. } = right(alloc)?;
+    let parts = read_proof(alloc, &proof)?;
+    for (places, wanted) in OTHER_LISTS {
+        let spoiled = listing(alloc, &parts, places)?;
+        let verdict = told(alloc, QUERY, &root, ANSWER, &spoiled)?;
+        assert_eq!(rt; verdict.as_str(), wanted);
+    }
+    Ok(())
+}
+
+/// The leaf of the first 64 nodes, which another query needs, is added in its place.
+#[test]
+fn a_node_is_added(rt: HostRuntime) -> Result<(), Fail> {
+    let alloc = rt.alloc();
+    let snapshot = sixty_five(alloc)?;
+    let Proved { root, proof, .. } = prove(alloc, &snapshot, QUERY)?;
+    let other = prove(alloc, &snapshot, b"node(64);node(65);out;")?;
+    let spoiled = other.proof;
+    assert_eq!(rt; read_proof(alloc, &spoiled)?.len(), 4);
+    assert!(rt; proof.len() < spoiled.len());
+    assert_eq!(rt;
+        told(alloc, QUERY, &root, ANSWER, &spoiled)?.as_str(),
+        "no C8"
+    );
+    Ok(())
+}
+
+#[test]
+fn the_proof_is_cut_and_longer(rt: HostRuntime) -> Result<(), Fail> {
+    let alloc = rt.alloc();
+    let Proved {
+        root,
+        mut proof,
+        ..
+    } = right(alloc)?;
+    for len in 0..proof.len() {
+        let verdict = told(alloc, QUERY, &root, ANSWER, &proof[..len])?;
+        assert_eq!(rt; verdict.as_str(), "no C2");
+    }
+    proof.push(0)?;
+    assert_eq!(rt;
+        told(alloc, QUERY, &root, ANSWER, &proof)?.as_str(),
+        "no C2"
+    );
+    Ok(())
+}
+
+#[test]
+fn no_bit_of_the_proof_can_be_another(rt: HostRuntime) -> Result<(), Fail> {
+    let alloc = rt.alloc();
+    let Proved {
+        root,
+        mut proof,
+        ..
+    } = right(alloc)?;
+    for bit in 0..proof.len().saturating_mul(8) {
+        flip(&mut proof, bit);
+        let verdict = check(alloc, QUERY, &root, ANSWER, &proof)?;
+        assert!(rt; matches!(verdict, Verdict::No(_)), "bit {bit}");
+        flip(&mut proof, bit);
+    }
+    Ok(())
+}
+
+#[test]
+fn no_bit_of_the_root_can_be_another(rt: HostRuntime) -> Result<(), Fail> {
+    let alloc = rt.alloc();
+    let Proved { root, proof, .. } = right(alloc)?;
+    for bit in 0..256 {
+        let mut bytes = root.0;
+        flip(&mut bytes, bit);
+        let verdict = told(alloc, QUERY, &Digest(bytes), ANSWER, &proof)?;
+        assert_eq!(rt; verdict.as_str(), "no C4");
+    }
+    Ok(())
+}
+
+/// The top of the objects, an inner node, is no manifest.
+#[test]
+fn the_root_is_that_of_a_tree(rt: HostRuntime) -> Result<(), Fail> {
+    let alloc = rt.alloc();
+    let Proved { proof, .. } = right(alloc)?;
+    let parts = read_proof(alloc, &proof)?;
+    let mut tops = parts
+        .iter()
+        .filter(|part| part.bytes().starts_with(b"\x01\x01"));
+    let top = tops.next().ok_or("no inner node")?.digest();
+    assert_eq!(rt; told(alloc, QUERY, &top, ANSWER, &proof)?.as_str(), "no C5");
+    Ok(())
+}
+
+#[test]
+fn the_answer_differs(rt: HostRuntime) -> Result<(), Fail> {
+    let alloc = rt.alloc();
+    let Proved {
+        root,
+        mut answer,
+        proof,
+    } = right(alloc)?;
+    for place in 0..answer.len() {
+        let wanted = format!(in alloc; "no C9 {place}")?;
+        let cut = told(alloc, QUERY, &root, &answer[..place], &proof)?;
+        assert_eq!(rt; cut.as_str(), wanted.as_str());
+        flip(&mut answer, place.saturating_mul(8));
+        let changed = told(alloc, QUERY, &root, &answer, &proof)?;
+        assert_eq!(rt; changed.as_str(), wanted.as_str());
+        flip(&mut answer, place.saturating_mul(8));
+    }
+    answer.push(b'\n')?;
+    assert_eq!(rt;
+        told(alloc, QUERY, &root, &answer, &proof)?.as_str(),
+        "no C9 12"
+    );
+    Ok(())
+}
