@@ -56,6 +56,3 @@ pub use piece_reader::{PieceFault, PieceReader};
 pub use separator::cut;
 pub use write_line::write_object;
 pub use write_reference::append_reference;
-
-#[cfg(test)]
-mod tests;

@@ -1,6 +1,6 @@
 //! Rows of lines that are written.
 
-use crate::{OutMode, append_reference, write_object};
+use opl_codec::{OutMode, append_reference, write_object};
 use osm_model::{Body, Coord, Kind, Meta, Object, Ref, Stamp, Tag, Text};
 use std::alloc::{AllocError, Global};
 use std::process::Abort;

@@ -1,6 +1,6 @@
 //! Files as sets: lines in any order, pieces of any size, repeated objects, failing readers.
 
-use crate::{
+use opl_codec::{
     Change, LineReader, LoadFault, OplCause, OplFault, OutMode, PieceReader, cut, read_set,
     write_object,
 };

@@ -1,6 +1,6 @@
 //! Rows of lines and of their refusals.
 
-use crate::{Change, OplCause, OplFault, OutMode, read_line, write_object};
+use opl_codec::{Change, OplCause, OplFault, OutMode, read_line, write_object};
 use osm_model::{Kind, Ref};
 use std::alloc::Global;
 use std::test::Fail;

@@ -2,6 +2,5 @@
 
 mod files;
 mod lines;
-mod texts;
 mod values;
 mod written;
