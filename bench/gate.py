@@ -50,7 +50,7 @@ def work_of(process):
         return None
     if os.path.basename(words[0]) != "rattle" or "--crate-name" not in words:
         return None
-    crate = words[words.index("--crate-name") + 1].removesuffix("_tests")
+    crate = words[words.index("--crate-name") + 1]
     if os.path.basename(folder).startswith("rt-edit-"):
         return crate, "edits"
     return crate, "tests" if "--test" in words else "proofs"

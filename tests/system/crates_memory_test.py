@@ -6,7 +6,8 @@ makes. So each run must pass, or end with the `Err` of a refused allocation that
 assertion that fails, another error, or a signal is a wrong answer.
 
 The gate has built a test binary for each crate that has tests. A crate whose binary isn't there is a failure, and
-so is one whose sources take memory and whose binary has no such test.
+so is one whose sources take memory and which has no such test, in its own binary or in that of the crate that holds
+its tests.
 """
 
 import re
@@ -16,6 +17,18 @@ from runs import TOP, Tally, each_refused, run
 ENDED_BY_ERROR = "the test failed: its result gives status 1"
 # `Device`: no such test has a device, but a vector that is written to fails as a writer when it is out of memory.
 OUT_OF_MEMORY = re.compile(r"^[Ee]rror: .*(AllocError|AllocFailed|OutOfMemory|Memory|no memory|Device$)", re.MULTILINE)
+
+
+# Where the tests of a crate stand that has none of its own: in the crate of its name and `_tests`, or in a module of
+# another.
+MODULES = {
+    "ql_plain": "plain_answers",
+    "osm_index": "snapshots",
+    "ql_eval": "evaluations",
+    "osm_prove": "proofs",
+    "osm_check": "verdicts",
+    "osm_gate": "connections",
+}
 
 
 def crates():
@@ -29,6 +42,19 @@ def sources(crate, of_tests):
     paths = sorted(crate.glob("src/**/*.rt"))
     chosen = [path for path in paths if ("tests" in path.relative_to(crate).as_posix()) == of_tests]
     return "".join(path.read_text(encoding="utf-8") for path in chosen)
+
+
+def binary_of(crate):
+    return crate / "out" / f"{crate.name}_tests"
+
+
+def tests_of(crate):
+    """The crate that holds the tests of a crate, and how the names of these begin."""
+    if "#[test]" in sources(crate, of_tests=True):
+        return crate, ""
+    if crate.name in MODULES:
+        return crate.parent / "answer_tests", f"tests::{MODULES[crate.name]}::"
+    return crate.parent / f"{crate.name}_tests", ""
 
 
 def memory_tests(binary):
@@ -58,13 +84,15 @@ def check_test(tally, binary, name):
 
 def check_crate(tally, crate):
     """Runs the tests of a crate that are about memory. Each crate that takes an allocator has some."""
-    binary = crate / "out" / f"{crate.name}_tests"
+    binary = binary_of(crate)
     if "#[test]" in sources(crate, of_tests=True):
         tally.check(f"{crate.name}: its tests were built", binary.exists())
-    names = memory_tests(binary) if binary.exists() else []
     if "alloc: Global" in sources(crate, of_tests=False):
-        tally.check(f"{crate.name}: it has tests of refused memory", names != [])
-    for name in names:
+        holder, front = tests_of(crate)
+        names = memory_tests(binary_of(holder)) if binary_of(holder).exists() else []
+        met = [name for name in names if name.startswith(front)]
+        tally.check(f"{crate.name}: it has tests of refused memory", met != [])
+    for name in memory_tests(binary) if binary.exists() else []:
         check_test(tally, binary, name)
 
 
