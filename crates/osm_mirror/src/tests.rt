@@ -8,9 +8,9 @@ use crate::command_fault::CommandFault;
 use crate::outlet::{Outlet, told};
 use crate::status::Status;
 use std::alloc::Global;
-use std::io;
-use std::io::{Read, Write};
+use std::io::Write;
 use std::test::Fail;
+use test_devices::{NarrowWriter, SlowReader, Stop};
 
 const TWO_NODES: &str = "n1 Thighway=crossing x13.4 y52.5\nn2 x13.4000001 y52.5\n";
 
@@ -25,70 +25,6 @@ r100 Ttype=route Mw10@outer,n99@stop,r100@
 const FIRST: &str = "node(1);out;";
 
 const FIRST_ANSWER: &str = "n1 Thighway=crossing x13.4 y52.5\n";
-
-/// A reader that gives some bytes a call, and fails at one call (0: at none).
-#[derive(Drop)]
-struct SlowReader<'a> {
-    left: &'a [u8],
-    at_once: usize,
-    fails_at: usize,
-    calls: usize,
-}
-
-impl Read for SlowReader<'_> {
-    fn read(&mut self, buf: &mut [u8]) -> io::Result<usize> {
-        self.calls = self.calls.saturating_add(1);
-        if self.calls == self.fails_at {
-            return Err(io::Error::from(io::ErrorKind::Other));
-        }
-        let len = self.at_once.min(self.left.len()).min(buf.len());
-        let (now, left) = self.left.split_at(len);
-        buf[..len].copy_from_slice(now);
-        self.left = left;
-        Ok(len)
-    }
-}
-
-/// What a writer does at the call at which it stops.
-#[derive(Clone, Copy, Debug, PartialEq, Eq)]
-enum Stop {
-    Fails,
-    TakesNothing,
-    /// It takes all, and its flush fails.
-    HoldsBack,
-}
-
-/// A writer that takes some bytes a call, and stops at one call (0: at none).
-#[derive(Drop)]
-struct NarrowWriter {
-    taken: Vec<u8>,
-    at_once: usize,
-    stops_at: usize,
-    stop: Stop,
-    calls: usize,
-}
-
-impl Write for NarrowWriter {
-    fn write(&mut self, buf: &[u8]) -> io::Result<usize> {
-        self.calls = self.calls.saturating_add(1);
-        if self.calls == self.stops_at {
-            return match self.stop {
-                Stop::Fails => Err(io::Error::from(io::ErrorKind::Other)),
-                Stop::TakesNothing | Stop::HoldsBack => Ok(0),
-            };
-        }
-        let len = self.at_once.min(buf.len());
-        self.taken.extend_from_slice(&buf[..len])?;
-        Ok(len)
-    }
-
-    fn flush(&mut self) -> io::Result<()> {
-        if self.stop == Stop::HoldsBack {
-            return Err(io::Error::from(io::ErrorKind::Other));
-        }
-        Ok(())
-    }
-}
 
 impl Outlet for NarrowWriter {
     ghost is_flushed = { λ _. true };

@@ -6,33 +6,9 @@ use opl_codec::{
 };
 use osm_model::{Kind, Ref};
 use std::alloc::{AllocError, Global};
-use std::io;
-use std::io::Read;
 use std::process::Abort;
 use std::test::Fail;
-
-/// A reader that gives some bytes a call, and fails at one call (0: at none).
-#[derive(Drop)]
-struct SlowReader<'a> {
-    left: &'a [u8],
-    at_once: usize,
-    fails_at: usize,
-    calls: usize,
-}
-
-impl Read for SlowReader<'_> {
-    fn read(&mut self, buf: &mut [u8]) -> io::Result<usize> {
-        self.calls = self.calls.saturating_add(1);
-        if self.calls == self.fails_at {
-            return Err(io::Error::from(io::ErrorKind::Other));
-        }
-        let len = self.at_once.min(self.left.len()).min(buf.len());
-        let (now, left) = self.left.split_at(len);
-        buf[..len].copy_from_slice(now);
-        self.left = left;
-        Ok(len)
-    }
-}
+use test_devices::SlowReader;
 
 /// What is told of a file, given so many bytes at once.
 fn refusal(alloc: Global, file: &str, at_once: usize) -> Option<LoadFault> {

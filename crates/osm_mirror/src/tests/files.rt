@@ -1,7 +1,7 @@
 //! The commands over files. Roots, and lengths and digests of proofs, are those that an independent program
 //! computed.
 
-use super::{ALL_KINDS, FIRST, FIRST_ANSWER, NarrowWriter, SlowReader, Stop, TWO_NODES};
+use super::{ALL_KINDS, FIRST, FIRST_ANSWER, TWO_NODES};
 use crate::check::check;
 use crate::command_fault::CommandFault;
 use crate::prove::prove;
@@ -12,6 +12,7 @@ use osm_index::Edition;
 use std::alloc::Global;
 use std::process::Abort;
 use std::test::Fail;
+use test_devices::{NarrowWriter, SlowReader, Stop};
 use tree_node::digest_of;
 
 const SEVENTH: Edition = Edition::Two { sequence: 7 };

@@ -1,7 +1,6 @@
 //! Memory that is refused. Run with each allocation refused in turn: the whole result, or out of memory and then the
 //! whole result.
 
-use super::serving::SlowReader;
 use crate::tests::snapshot_of;
 use crate::tests::texts_of_sets::ALL_KINDS;
 use osm_gate::{Gate, GateFault, serve};
@@ -11,6 +10,7 @@ use std::io;
 use std::io::Write;
 use std::process::Abort;
 use std::test::Fail;
+use test_devices::SlowReader;
 
 const SENT: &[u8] =
     b"GET /api/interpreter?data=node%281%29%3Bout%20ids%3B HTTP/1.1\r\nHost: h\r\n\r\n";

@@ -6,8 +6,9 @@ use crate::tests::texts_of_sets::ALL_KINDS;
 use osm_gate::{GateFault, serve};
 use osm_index::Edition;
 use std::io;
-use std::io::{Read, Write};
+use std::io::Read;
 use std::test::Fail;
+use test_devices::{NarrowWriter, SlowReader, Stop};
 
 /// Two requests, of which the first has the response that an independent program made.
 const FIRST: &str =
@@ -31,29 +32,6 @@ Connection: close\r\n\
 \r\n\
 not found\n";
 
-/// A reader that gives some bytes a call, and fails at one call (0: at none).
-#[derive(Drop)]
-pub(super) struct SlowReader<'a> {
-    pub(super) left: &'a [u8],
-    pub(super) at_once: usize,
-    pub(super) fails_at: usize,
-    pub(super) calls: usize,
-}
-
-impl Read for SlowReader<'_> {
-    fn read(&mut self, buf: &mut [u8]) -> io::Result<usize> {
-        self.calls = self.calls.saturating_add(1);
-        if self.calls == self.fails_at {
-            return Err(io::Error::from(io::ErrorKind::Other));
-        }
-        let len = self.at_once.min(self.left.len()).min(buf.len());
-        let (now, left) = self.left.split_at(len);
-        buf[..len].copy_from_slice(now);
-        self.left = left;
-        Ok(len)
-    }
-}
-
 /// A reader that gives one LF a call, without end.
 #[derive(Drop)]
 struct LineFeeds {
@@ -70,35 +48,6 @@ impl Read for LineFeeds {
             }
             None => Ok(0),
         }
-    }
-}
-
-/// A writer that takes some bytes a call, and at one call fails or takes nothing (0: at none).
-#[derive(Drop)]
-struct NarrowWriter {
-    taken: Vec<u8>,
-    at_once: usize,
-    stops_at: usize,
-    fails: bool,
-    calls: usize,
-}
-
-impl Write for NarrowWriter {
-    fn write(&mut self, buf: &[u8]) -> io::Result<usize> {
-        self.calls = self.calls.saturating_add(1);
-        if self.calls == self.stops_at {
-            if self.fails {
-                return Err(io::Error::from(io::ErrorKind::Other));
-            }
-            return Ok(0);
-        }
-        let len = self.at_once.min(buf.len());
-        self.taken.extend_from_slice(&buf[..len])?;
-        Ok(len)
-    }
-
-    fn flush(&mut self) -> io::Result<()> {
-        Ok(())
     }
 }
 
@@ -167,14 +116,19 @@ fn writers_stop(rt: HostRuntime) -> Result<(), Fail> {
     let input = format!(in alloc; "{FIRST}{SECOND}")?;
     let both = format!(in alloc; "{FIRST_RESPONSE}{SECOND_RESPONSE}")?;
     let want = both.as_bytes();
-    for (at_once, fails) in [(1, true), (7, false), (7, true), (64, false)] {
+    for (at_once, stop) in [
+        (1, Stop::Fails),
+        (7, Stop::TakesNothing),
+        (7, Stop::Fails),
+        (64, Stop::TakesNothing),
+    ] {
         let writes = want.len().div_ceil(at_once);
         for stops_at in 0..=writes {
             let mut writer = NarrowWriter {
                 taken: Vec::new(alloc),
                 at_once,
                 stops_at,
-                fails,
+                stop,
                 calls: 0,
             };
             let outcome = serve(alloc, &mut input.as_bytes(), &mut writer, &snapshot);

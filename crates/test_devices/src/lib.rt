@@ -1,0 +1,8 @@
+//! Devices for the tests of other crates: a reader and a writer that take few bytes a call and stop where a test says.
+#![tactic(auto)]
+
+mod narrow_writer;
+mod slow_reader;
+
+pub use narrow_writer::{NarrowWriter, Stop};
+pub use slow_reader::SlowReader;
