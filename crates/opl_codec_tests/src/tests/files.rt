@@ -6,6 +6,7 @@ use opl_codec::{
 };
 use osm_model::{Kind, Ref};
 use std::alloc::{AllocError, Global};
+use std::io::Read;
 use std::process::Abort;
 use std::test::Fail;
 use test_devices::SlowReader;
