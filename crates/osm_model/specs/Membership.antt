@@ -1,6 +1,6 @@
 -- Which objects the body of an object lists.
 -- Source: the element model of the OpenStreetMap API 0.6.
-use Rattle.std.specs.Prelude.{◌≡◌, List, map}
+use Rattle.std.specs.Prelude.{◌≡◌, map}
 use Rattle.std.specs.List.{Contains}
 use Rattle.osm_model.specs.declared.body.Body.{Body}
 use Rattle.osm_model.specs.declared.body.Body.TheVariants as bodies
