@@ -1,8 +1,8 @@
 #!/usr/bin/env bash
 # Queries answered from the trees of a snapshot, in process and warm, beside SQLite with an index for each question, over
-# a mixed extract of 1,155,000 objects (SHARE times as many), in the same run. The program bench/evaluate_speed.program is
-# built over copies of the crates in a folder outside the repository (WORK, or a new one), so that the gate doesn't prove
-# it.
+# a mixed extract of 1,155,000 objects (SHARE times as many) of which some are marked, in the same run; and the same
+# answers with their proofs, by `prove`. The program bench/evaluate_speed.program is built over copies of the crates in a
+# folder outside the repository (WORK, or a new one), so that the gate doesn't prove it.
 #
 #   bench/evaluate.sh [SHARE]
 set -eu
@@ -10,13 +10,13 @@ share=${1:-1}
 . "$(dirname "$0")/program.sh"
 data=$top/bench/data
 mkdir -p "$data"
-file=$data/extract-$share.opl
-[ -f "$file" ] || { python3 "$top/bench/make_extract.py" --share "$share" >"$file.part"; mv "$file.part" "$file"; }
+file=$data/extract-marked-$share.opl
+[ -f "$file" ] || { python3 "$top/bench/make_extract.py" --marked --share "$share" >"$file.part"; mv "$file.part" "$file"; }
 
-crates='osm_model opl_codec ql_syntax ql_plain ql_plan tree_node tree_build tree_walk osm_index ql_eval'
+crates='osm_model opl_codec ql_syntax ql_plain ql_plan tree_node tree_build tree_walk osm_index ql_eval osm_prove'
 # shellcheck disable=SC2086
 build_program evaluate_speed "$(grep -E "^(${crates// /|}):" "$top/crates.txt")
-evaluate_speed: opl_codec osm_index ql_eval ql_syntax tree_node anyhow" $crates
+evaluate_speed: opl_codec osm_index osm_prove ql_eval ql_syntax tree_node anyhow" $crates
 
 echo "$(rt version); SQLite $(python3 -c 'import sqlite3; print(sqlite3.sqlite_version)')"
 echo "$(nproc) processors, $(sed -n 's/^model name\s*: //p' /proc/cpuinfo | head -n 1), Linux $(uname -r)"

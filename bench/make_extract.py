@@ -1,9 +1,10 @@
 #!/usr/bin/env python3
-"""Writes a mixed extract as OPL to standard output: make_extract.py [--share SHARE] [--seed SEED].
+"""Writes a mixed extract as OPL to standard output: make_extract.py [--share SHARE] [--seed SEED] [--marked].
 
 At share 1 it has 1,000,000 nodes, 150,000 ways and 5,000 relations, some 110 MB, in the order in which extracts
 have them: nodes, ways, relations, each by rising id. All have metadata; one node in ten, each way and each relation
-have tags, some of them with escapes. The same arguments give the same bytes.
+have tags, some of them with escapes. With --marked every 11th object has a further tag, `mark=seldom` on every 1,155th
+and `mark=often` on the others: 1,000 and 104,000 objects at share 1. The same arguments give the same bytes.
 """
 
 import argparse
@@ -16,6 +17,7 @@ NAMES = ["Main%20%Street", "Stra%df%e", "Allee", "A%2c%%20%B", "Caf%e9%", "Weg"]
 USERS = ["Ann", "bob", "map%20%per", "Zo%eb%", "some_body"]
 ROLES = ["outer", "inner", "", "stop", "from", "to"]
 LINES_A_WRITE = 10_000
+SELDOM, OFTEN = 1_155, 11
 
 
 class Extract:
@@ -66,13 +68,26 @@ class Extract:
             yield self.relation(number, ways)
 
 
+def marked(lines):
+    """The same lines, some of them with a further tag."""
+    for number, line in enumerate(lines, 1):
+        if number % OFTEN:
+            yield line
+            continue
+        before, after = line.split(" T", 1)
+        mark = "mark=often" if number % SELDOM else "mark=seldom"
+        yield f"{before} T{mark}{'' if after.startswith(' ') else ','}{after}"
+
+
 def main():
     parser = argparse.ArgumentParser()
     parser.add_argument("--share", type=float, default=1)
     parser.add_argument("--seed", type=int, default=1)
+    parser.add_argument("--marked", action="store_true")
     given = parser.parse_args()
     held = []
-    for line in Extract(given.seed).lines(given.share):
+    lines = Extract(given.seed).lines(given.share)
+    for line in marked(lines) if given.marked else lines:
         held.append(line)
         if len(held) == LINES_A_WRITE:
             sys.stdout.write("".join(held))

@@ -21,12 +21,20 @@ QUESTIONS = [
         "WHERE south >= 52.0 AND north <= 52.02 AND west >= 13.0 AND east <= 13.02) ORDER BY id",
     ),
     (
-        "[k=v], few",
+        "[k=v], 68",
         "SELECT line FROM tags JOIN objects USING (kind, id) WHERE key = 'highway' AND value = 'yes1' ORDER BY kind, id",
     ),
     (
-        "[k=v], many",
+        "[k=v], 1,000",
+        "SELECT line FROM tags JOIN objects USING (kind, id) WHERE key = 'mark' AND value = 'seldom' ORDER BY kind, id",
+    ),
+    (
+        "[k=v], 10,000",
         "SELECT line FROM tags JOIN objects USING (kind, id) WHERE key = 'name' AND value = 'Weg' ORDER BY kind, id",
+    ),
+    (
+        "[k=v], 100,000",
+        "SELECT line FROM tags JOIN objects USING (kind, id) WHERE key = 'mark' AND value = 'often' ORDER BY kind, id",
     ),
     (
         "way(bn) of a box",
