@@ -12,6 +12,7 @@ use Rattle.opl_codec.specs.LineChanges.{is_skipped, Spells, SpellsObject}
 use Rattle.opl_codec.specs.LineReads.{IsRefused, IsUnread}
 use Rattle.opl_codec.specs.declared.cause.OplCause.{OplCause}
 use Rattle.opl_codec.specs.declared.cause.OplCause.TheVariants as causes
+use Rattle.opl_codec.specs.declared.change.Change.{Change}
 use Rattle.opl_codec.specs.declared.change.Change.TheVariants as changes
 use Rattle.opl_codec.specs.declared.fault.LoadFault.{LoadFault}
 use Rattle.opl_codec.specs.declared.fault.OplFault.{OplFault}
@@ -56,14 +57,35 @@ pub record IsCutOff (file : List ℕ) (left : Option (List ℕ)) (before : List 
   pub cut : pieces line_feed given ≡ before ++ begun ∷ []
   pub why : IsUnread (length given) fault
 
--- why no set is read of a file, of which this is left: the line after these has a fault, or the reader
--- failed or didn't end in it
-pub record StopsFile (file : List ℕ) (left : Option (List ℕ)) (load : LoadFault) : Type 0 where
+-- why a file, of which this is left, isn't read: the lines before this one put something, and then this line is at
+-- fault, or the reader failed or didn't end in it
+pub record StopsAt {X : Type 0} (Put : List (List ℕ) → X → Type 0) (AtFault : X → List ℕ → OplFault → Type 0)
+    (file : List ℕ) (left : Option (List ℕ)) (load : LoadFault) : Type 0 where
   pub before : List (List ℕ)
   pub line : List ℕ
   pub after : List (List ℕ)
-  pub objects : List Element
+  pub found : X
   pub lines_are : pieces line_feed file ≡ before ++ line ∷ after
   pub number_is : load.line ≡ length before + 1
-  pub put : PutSet before objects
-  pub why : IsAtFault objects line load.fault ⊎ IsCutOff file left before load.fault
+  pub put : Put before found
+  pub why : AtFault found line load.fault ⊎ IsCutOff file left before load.fault
+
+-- why no set is read of a file
+abbrev pub StopsFile : List ℕ → Option (List ℕ) → LoadFault → Type 0
+StopsFile file left load = StopsAt PutSet IsAtFault file left load
+
+-- the lines that say something are these changes, in order
+abbrev pub SpellsChanges : List (List ℕ) → List Change → Type 0
+SpellsChanges lines changes = Each Spells (spoken_of lines) changes
+
+-- the lines of the file are these changes, in order
+abbrev pub HoldsChanges : List ℕ → List Change → Type 0
+HoldsChanges file changes = SpellsChanges (pieces line_feed file) changes
+
+-- a line that is no change and isn't skipped
+abbrev pub IsNoChange : List Change → List ℕ → OplFault → Type 0
+IsNoChange _ line fault = IsRefused line fault
+
+-- why no changes are read of a file
+abbrev pub StopsChanges : List ℕ → Option (List ℕ) → LoadFault → Type 0
+StopsChanges file left load = StopsAt SpellsChanges IsNoChange file left load

@@ -1,6 +1,6 @@
 //! Lines of Osmium's OPL format to objects and back.
 //!
-//! [`read_line`] reads one line, [`read_set`] a whole file as a set of objects, and [`write_object`]
+//! [`read_line`] reads one line, [`read_changes, read_set`] a whole file as a set of objects, and [`write_object`]
 //! writes the one canonical line of an object in a mode.
 #![tactic(auto)]
 
@@ -50,7 +50,7 @@ pub use fault::{LoadFault, OplFault};
 pub use laws::{one_escaped_text, one_line, one_number_text, text_is_read};
 pub use line::{one_change, read_line};
 pub use line_reader::LineReader;
-pub use load::{one_set, read_set, stopped_holds_none};
+pub use load::{one_change_list, one_set, read_changes, read_set, stopped_holds_none};
 pub use out_mode::OutMode;
 pub use piece_reader::{PieceFault, PieceReader};
 pub use separator::cut;

@@ -1,9 +1,10 @@
-//! Sets of objects, read from files.
+//! Sets of objects and lists of changes, read from files.
 
-ghost use Rattle.std.specs.Prelude.{◌≡◌, ◌⊎◌, ◌≤◌, ◌^◌, ℕ, IfErr, IfSome, IfOk, List, MatchResult, OnOk, Option, length};
+ghost use Rattle.std.specs.Prelude.{[], ◌∷◌, ◌++◌, ◌≡◌, ◌⊎◌, ◌≤◌, ◌^◌, ℕ, IfErr, IfSome, IfOk, List, MatchResult, OnOk, Option, length};
 ghost use Rattle.osm_model.specs.Elements.{Element, references};
-ghost use Rattle.opl_codec.specs.Files.{HoldsSet, IsReaderOrMemory, StopsFile};
+ghost use Rattle.opl_codec.specs.Files.{HoldsChanges, HoldsSet, IsReaderOrMemory, PutSet, SpellsChanges, StopsChanges, StopsFile};
 ghost use Rattle.opl_codec.specs.LineReads.{no_memory};
+ghost use Rattle.opl_codec.specs.declared.change.Change.{Change as ChangeWord};
 ghost use Rattle.opl_codec.specs.declared.fault.LoadFault.{LoadFault};
 ghost use Rattle.opl_codec.specs.internal.Loading.{IsUnput, Knows, Puts, ReadsAll};
 
@@ -58,7 +59,7 @@ pub fn read_set<R: Read>(alloc: Global, reader: &mut R) -> Result<ObjectSet, Loa
 
 /// The objects that the lines of a reader put, in their order.
 fn read_objects<R: Read>(alloc: Global, reader: &mut R) -> Result<Vec<Object>, LoadFault>
-    ensures read { IfOk result (λ objects. ReadsAll (R.remaining reader.old) objects.items) }
+    ensures read { IfOk result (λ objects. ReadsAll PutSet (R.remaining reader.old) objects.items) }
     ensures refused { IfSome (R.remaining reader.old) (λ file. IfErr result (λ load. (load ≡ no_memory) ⊎ StopsFile file (R.remaining reader.new) load)) }
     ensures memory { IfErr result (λ load. load.fault.cause ≡ OplCause.Memory → load ≡ no_memory) }
 {
@@ -94,6 +95,63 @@ fn put(
         Change::Delete(_) => Err(LoadFault::at(line, OplCause::Deleted)),
     }
 }
+
+/// The changes that a file holds, one a line, in order (see `read_line`). Lines end with LF, which the
+/// last may lack; skipped ones are passed over. The reader ends where it gives no bytes.
+///
+/// It reads pieces of at most 65,536 bytes, in time linear in the bytes, and keeps nothing but the
+/// changes and the beginning of one line, at most 2^25 bytes.
+///
+/// Refused as `read_set` refuses, by the first line with a fault; but a line may delete an object, and
+/// several may change the same one. `Memory`, at line 0 and byte 0, may come in place of any answer.
+///
+/// Source: Osmium's OPL manual; the limits, the causes and their places are this project's.
+pub fn read_changes<R: Read>(alloc: Global, reader: &mut R) -> Result<Vec<Change>, LoadFault>
+    // What is read is what the file holds.
+    ensures read { IfSome (R.remaining reader.old) (λ file. IfOk result (λ changes. HoldsChanges file changes.items)) }
+    // Whatever the reader declares of its bytes, what is read are changes that a file holds.
+    ensures held { IfOk result (λ changes. (file : List ℕ) × HoldsChanges file changes.items) }
+    // What the file holds is read, unless the reader failed, never ended, or memory ran out.
+    ensures only { IfSome (R.remaining reader.old) (λ file. (changes : List ChangeWord) → HoldsChanges file changes
+        → MatchResult result (λ read. read.items ≡ changes) (λ fault. IsReaderOrMemory fault.fault.cause)) }
+    // A file that is refused as endless has 2^32 bytes at least.
+    ensures endless { IfSome (R.remaining reader.old) (λ file. IfErr result (λ fault.
+        fault.fault.cause ≡ OplCause.Endless → 2 ^ 32 ≤ length file)) }
+    // A refusal names the line that can't be read, and the byte in it.
+    ensures refused { IfSome (R.remaining reader.old) (λ file. IfErr result (λ load. (load ≡ no_memory) ⊎ StopsChanges file (R.remaining reader.new) load)) }
+    // Out of memory is told of no line.
+    ensures memory { IfErr result (λ load. load.fault.cause ≡ OplCause.Memory → load ≡ no_memory) }
+{
+    let changes = list_changes(alloc, reader)?;
+    Ok(changes)
+}
+
+/// What the lines of a reader say, in their order.
+fn list_changes<R: Read>(alloc: Global, reader: &mut R) -> Result<Vec<Change>, LoadFault>
+    ensures read { IfOk result (λ changes. ReadsAll SpellsChanges (R.remaining reader.old) changes.items) }
+    ensures refused { IfSome (R.remaining reader.old) (λ file. IfErr result (λ load. (load ≡ no_memory) ⊎ StopsChanges file (R.remaining reader.new) load)) }
+    ensures memory { IfErr result (λ load. load.fault.cause ≡ OplCause.Memory → load ≡ no_memory) }
+{
+    let mut buffer = LineBuffer::new(alloc);
+    let mut changes = Vec::new(alloc);
+    while let Some((_, change)) = buffer.next_change(reader)? {
+        append(&mut changes, change)?;
+    }
+    Ok(changes)
+}
+
+/// Puts a change after these.
+fn append(changes: &mut Vec<Change>, change: Change) -> Result<(), AllocError>
+    ensures { OnOk result (changes.new.items ≡ changes.old.items ++ change ∷ []) }
+{
+    changes.push(change)?;
+    Ok(())
+}
+
+/// A law: a file holds one list of changes at most (`HoldsChanges` of `specs/Files.antt`).
+pub fn one_change_list()
+    ensures { (file : List ℕ) (a b : List ChangeWord) → HoldsChanges file a → HoldsChanges file b → a ≡ b }
+{}
 
 /// A law: a file holds one set at most (`HoldsSet` of `specs/Files.antt`).
 pub fn one_set()

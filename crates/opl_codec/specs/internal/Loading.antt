@@ -12,7 +12,6 @@ use Rattle.osm_model.specs.Elements.{Element, ref_cmp}
 use Rattle.osm_model.specs.Sets.{HasDistinctReferences}
 use Rattle.osm_model.specs.declared.reference.Ref.{Ref}
 use Rattle.opl_codec.specs.Fields.{pieces}
-use Rattle.opl_codec.specs.Files.{PutSet}
 use Rattle.opl_codec.specs.LineReads.{AreEnded, IsEnd, LinePlace, Takes, no_memory}
 use Rattle.opl_codec.specs.internal.Buffering.{unread}
 use Rattle.opl_codec.specs.declared.cause.OplCause.{OplCause}
@@ -50,22 +49,22 @@ pub record IsTold (b : LineBuffer) (load : LoadFault) : Type 0 where
 abbrev pub start : Option (List ℕ) → LinePlace
 start known = record { lines = 0; taken = 0; left = known; is_ended = false }
 
--- from the first place to the second, all lines were read, and they put these objects
-pub record ReadsTo (old new : LinePlace) (objects : List Element) : Type 0 where
+-- from the first place to the second, all lines were read, and this is what they put
+pub record ReadsTo {X : Type 0} (Put : List (List ℕ) → X → Type 0) (old new : LinePlace) (found : X) : Type 0 where
   pub text : List ℕ
   pub lines : List (List ℕ)
   pub takes : Takes old new text
   pub lines_are : AreEnded text lines ⊎ ((pieces line_feed text ≡ lines) × IsEnd new)
   pub counted : new.lines ≡ old.lines + length lines
-  pub put : PutSet lines objects
+  pub put : Put lines found
 
--- the bytes of a reader are lines that put these objects
-pub record ReadsAll (known : Option (List ℕ)) (objects : List Element) : Type 0 where
+-- the bytes of a reader are lines, and this is what they put
+pub record ReadsAll {X : Type 0} (Put : List (List ℕ) → X → Type 0) (known : Option (List ℕ)) (found : X) : Type 0 where
   pub left : Option (List ℕ)
   pub text : List ℕ
   pub read : Consumes known left text
   pub end : IsAtEnd left
-  pub put : PutSet (pieces line_feed text) objects
+  pub put : Put (pieces line_feed text) found
 
 -- these objects, after which the change is put, are one more
 pub record Puts (old new : List Element) (change : Change) : Type 0 where

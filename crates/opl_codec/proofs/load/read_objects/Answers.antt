@@ -1,5 +1,5 @@
 use Rattle.std.proofs.lemmas.Result.{err_from_is_err_and}
-use Rattle.opl_codec.proofs.ReadFiles.{next_refused, put_refused, reads_all, reads_put, starts}
+use Rattle.opl_codec.proofs.ReadFiles.{next_refused, put_refused, reads_put, set_reads_all, set_starts}
 use Rattle.opl_codec.proofs.load.read_objects.Goals as goal
 
 pub loop-objects-init : goal.loop-objects-init
@@ -7,7 +7,7 @@ loop-objects-init g c =
     let none = c.new-objects.ensures.items in
     record {
       goes_on = c.new-buffer.ensures.sound _;
-      come = rw none (starts _ c.new-buffer.result c.new-buffer.ensures.nothing c.new-buffer.ensures.unread c.new-references.ensures.apart);
+      come = rw none (set_starts _ c.new-buffer.result c.new-buffer.ensures.nothing c.new-buffer.ensures.unread c.new-references.ensures.apart);
       known = rw none c.new-references.ensures;
     }
 
@@ -40,4 +40,4 @@ returns-in_err-put-clause-refused g c =
     rw (p.1, p.2) (put_refused _ _ c.next_change.new.self _ _ c.in-Some.change _ _ i.come (λ over. let end = (c.next_change.ensures.over over).0 in cc) says c.in_err-put.ensures.refused)
 
 pub returns-clause-read : goal.returns-clause-read
-returns-clause-read g c = reads_all _ _ _ _ c.loop-objects.invariant.come (rw c.in_default.is at c.in_ok-line.ensures.next)
+returns-clause-read g c = set_reads_all _ _ _ _ c.loop-objects.invariant.come (rw c.in_default.is at c.in_ok-line.ensures.next)
