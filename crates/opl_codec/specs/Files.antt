@@ -1,5 +1,5 @@
--- What a file says: the set of the objects that its lines are.
--- Source: Osmium's OPL manual: one object a line; lines end with LF.
+-- What a file says: the set of the objects that its lines are, or the changes, in order.
+-- Source: Osmium's OPL manual: one object a line, or one change; lines end with LF.
 use Rattle.std.specs.Prelude.{◌≡◌, ◌⊎◌, ℕ, ◌+◌, not, List, [], ◌∷◌, ◌++◌, length, filter, Option, Some}
 use Rattle.std.specs.List.Sorted.{IsPermutation}
 use Rattle.std.specs.Io.KnownBytes.{Consumes}
