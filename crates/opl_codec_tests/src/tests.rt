@@ -1,5 +1,6 @@
-//! Rows: lines that are read, files, and lines that are written.
+//! Rows: lines that are read, files, changes, and lines that are written.
 
+mod changes;
 mod files;
 mod lines;
 mod values;

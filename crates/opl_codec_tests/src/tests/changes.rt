@@ -1,0 +1,94 @@
+//! Files as lists of changes: puts and deletes, in order, also of one object.
+
+use opl_codec::{Change, LoadFault, OplCause, OplFault, read_changes};
+use osm_model::{Kind, Ref};
+use std::alloc::Global;
+use std::test::Fail;
+use test_devices::SlowReader;
+
+const FILE: &str = "n1 x1 y1\n# a comment\nw10 v2 dD\n\nn1 v2 x2 y2\r\nr-2 dD\nn1 dD";
+
+/// What the lines of the file change, and whether they put it.
+const WANTED: [(Kind, i64, bool); 5] = [
+    (Kind::Node, 1, true),
+    (Kind::Way, 10, false),
+    (Kind::Node, 1, true),
+    (Kind::Rel, -2, false),
+    (Kind::Node, 1, false),
+];
+
+/// The file, so many bytes a call, of which one fails (0: none).
+fn slow(at_once: usize, fails_at: usize) -> SlowReader<'static> {
+    SlowReader {
+        left: FILE.as_bytes(),
+        at_once,
+        fails_at,
+        calls: 0,
+    }
+}
+
+/// Whether these are the changes of the file.
+fn are_wanted(changes: &[Change]) -> bool {
+    changes.len() == WANTED.len()
+        && changes.iter().zip(&WANTED).all(|(change, (kind, id, is_put))| {
+            let name = Ref {
+                kind: *kind,
+                id: *id,
+            };
+            match change {
+                Change::Put(object) => *is_put && object.reference() == name,
+                Change::Delete(reference) => !*is_put && *reference == name,
+            }
+        })
+}
+
+fn fault(line: u64, cause: OplCause, byte: usize) -> LoadFault {
+    LoadFault {
+        line,
+        fault: OplFault { cause, byte },
+    }
+}
+
+fn refusal(alloc: Global, file: &str) -> Option<LoadFault> {
+    read_changes(alloc, &mut file.as_bytes()).err()
+}
+
+#[test]
+fn changes_are_read_in_order(rt: HostRuntime) -> Result<(), Fail> {
+    for at_once in [1, 7, 4096] {
+        let changes = read_changes(rt.alloc(), &mut slow(at_once, 0))?;
+        assert!(rt; are_wanted(&changes), "{at_once}");
+    }
+    let none = read_changes(rt.alloc(), &mut "\n# nothing\n".as_bytes())?;
+    assert_eq!(rt; none.len(), 0);
+    Ok(())
+}
+
+#[test]
+fn the_line_that_is_no_change_is_told(rt: HostRuntime) {
+    let rows = [
+        ("n1 x1 y1\nn1 dD\nc5\n", 3, OplCause::UnknownObject, 0),
+        ("n1 dD\n\nn1 q dD", 3, OplCause::UnknownField, 3),
+        ("n1 dD q\nc5\n", 1, OplCause::UnknownField, 6),
+        ("n1 x1\nn2 dD\n", 1, OplCause::NoLocation, 5),
+    ];
+    for (file, line, cause, byte) in rows {
+        let told = refusal(rt.alloc(), file);
+        assert_eq!(rt; told, Some(fault(line, cause, byte)), "{file:?}");
+    }
+    // The third line begins at byte 21: the 22nd call, of one byte each, reads its first.
+    let told = read_changes(rt.alloc(), &mut slow(1, 22)).err();
+    assert_eq!(rt; told, Some(fault(3, OplCause::ReaderFailed, 0)));
+}
+
+/// Run with each allocation refused in turn: all changes, or out of memory and then all changes.
+#[test]
+fn memory_changes_no_list(rt: HostRuntime) -> Result<(), Fail> {
+    match read_changes(rt.alloc(), &mut slow(5, 0)) {
+        Ok(changes) => assert!(rt; are_wanted(&changes)),
+        Err(told) => assert_eq!(rt; told, fault(0, OplCause::Memory, 0)),
+    }
+    let changes = read_changes(rt.alloc(), &mut slow(5, 0))?;
+    assert!(rt; are_wanted(&changes));
+    Ok(())
+}
