@@ -8,6 +8,7 @@ use osm_model::{
     sort_tags, write_degrees,
 };
 use std::alloc::Global;
+use std::process::Abort;
 use std::test::Fail;
 
 fn text(alloc: Global, content: &str) -> Result<Text, Fail> {
@@ -91,6 +92,15 @@ fn node(alloc: Global, id: i64) -> Result<Object, Fail> {
             ..RELATION
         },
     )
+}
+
+/// Nodes with these ids, in this order.
+fn nodes(alloc: Global, ids: &[i64]) -> Result<Vec<Object>, Fail> {
+    let mut nodes = Vec::new(alloc);
+    for id in ids {
+        nodes.push(node(alloc, *id)?)?;
+    }
+    Ok(nodes)
 }
 
 /// Under refused allocations: the whole text, or out of memory.
@@ -181,24 +191,38 @@ fn moments_keep_their_ranges(rt: HostRuntime) {
     assert_eq!(rt; moment, Stamp::new(2020, 2, 31, 23, 59, 60));
 }
 
+/// How many nodes or members an object lists; of a node whether its longitude is that of `body`.
+fn listed(object: &Object) -> usize {
+    match object.body() {
+        Body::Node(place) => usize::from(place.lon() == 134_000_000),
+        Body::Way(nodes) => nodes.as_slice().len(),
+        Body::Rel(members) => members.as_slice().len(),
+    }
+}
+
+fn check_parts(rt: &(impl Abort + AllocGlobal), kind: Kind) -> Result<(), Fail> {
+    let object = object(rt.alloc(), Parts { kind, ..RELATION })?;
+    let reference = object.reference();
+    assert_eq!(rt; (reference.kind, reference.id), (kind, object.id()));
+    assert_eq!(rt; object.meta().version, 3);
+    let key = object.tags().first().map(|tag| tag.key.as_str());
+    assert_eq!(rt; key, Some("a"));
+    let wanted = if kind == Kind::Way { 3 } else { 1 };
+    assert_eq!(rt; listed(&object), wanted);
+    Ok(())
+}
+
 #[test]
 fn an_object_gives_its_parts(rt: HostRuntime) -> Result<(), Fail> {
-    let alloc = rt.alloc();
-    for kind in [Kind::Node, Kind::Way, Kind::Rel] {
-        let object = object(alloc, Parts { kind, ..RELATION })?;
-        let reference = object.reference();
-        assert_eq!(rt; (reference.kind, reference.id), (kind, object.id()));
-        assert_eq!(rt; object.meta().version, 3);
-        let keys: [Option<&str>; 1] = [object.tags().first().map(|tag| tag.key.as_str())];
-        assert_eq!(rt; keys[0], Some("a"));
-        let listed = match object.body() {
-            Body::Node(place) => usize::from(place.lon() == 134_000_000),
-            Body::Way(nodes) => nodes.as_slice().len(),
-            Body::Rel(members) => members.as_slice().len(),
-        };
-        assert_eq!(rt; listed, if kind == Kind::Way { 3 } else { 1 });
-    }
-    Ok(())
+    check_parts(&rt, Kind::Node)?;
+    check_parts(&rt, Kind::Way)?;
+    check_parts(&rt, Kind::Rel)
+}
+
+fn are_equal(alloc: Global, first: Parts, second: Parts) -> Result<bool, Fail> {
+    let first = object(alloc, first)?;
+    let second = object(alloc, second)?;
+    Ok(first == second)
 }
 
 #[test]
@@ -248,7 +272,7 @@ fn objects_are_equal_part_by_part(rt: HostRuntime) -> Result<(), Fail> {
         (way, Parts { node: 8, ..way }, false),
     ];
     for (first, second, wanted) in rows {
-        assert_eq!(rt; object(alloc, first)? == object(alloc, second)?, wanted);
+        assert_eq!(rt; are_equal(alloc, first, second)?, wanted);
     }
     Ok(())
 }
@@ -276,6 +300,16 @@ fn long_body(
         return Ok(Body::Way(NodeList::new(nodes)));
     }
     Ok(Body::Rel(MemberList::new(members)))
+}
+
+/// A tag with the key `a`, and one with this key and a value of so many bytes.
+fn two_tags(alloc: Global, key: &str, value_len: usize) -> Result<Vec<Tag>, Fail> {
+    let mut tags = Vec::new(alloc);
+    tags.push(tag(alloc, "a", "1")?)?;
+    let mut second = tag(alloc, key, "")?;
+    second.value = long_text(alloc, "x", value_len)?;
+    tags.push(second)?;
+    Ok(tags)
 }
 
 /// The limits, and the order of the refusals. The line of 65,535 members `n7@` with a role of 63
@@ -355,9 +389,7 @@ fn limits_are_kept(rt: HostRuntime) -> Result<(), Fail> {
         ),
     ];
     for (kind, items, letter, len, key, value_len, wanted) in rows {
-        let mut second = tag(alloc, key, "")?;
-        second.value = long_text(alloc, "x", value_len)?;
-        let tags = vec![in alloc; tag(alloc, "a", "1")?, second]?;
+        let tags = two_tags(alloc, key, value_len)?;
         let body = long_body(alloc, kind, items, letter, len)?;
         let fault = Object::new(1, meta(alloc, 0), tags, body).err();
         assert_eq!(rt; fault, wanted, "{kind:?} {items} {len} {value_len}");
@@ -368,8 +400,7 @@ fn limits_are_kept(rt: HostRuntime) -> Result<(), Fail> {
 #[test]
 fn sets_are_sorted_and_searched(rt: HostRuntime) -> Result<(), Fail> {
     let alloc = rt.alloc();
-    let objects = vec![in alloc; node(alloc, 3)?, node(alloc, -1)?, node(alloc, 2)?]?;
-    let set = ObjectSet::from_objects(objects)?;
+    let set = ObjectSet::from_objects(nodes(alloc, &[3, -1, 2])?)?;
     assert_eq!(rt; set.as_slice().len(), 3);
     assert_eq!(rt; set.as_slice()[0].id(), -1);
     let rows = [
@@ -380,21 +411,32 @@ fn sets_are_sorted_and_searched(rt: HostRuntime) -> Result<(), Fail> {
     for (kind, id, is_there) in rows {
         assert_eq!(rt; set.get(Ref { kind, id }).is_some(), is_there);
     }
-    let twice = vec![in alloc; node(alloc, 3)?, node(alloc, 1)?, node(alloc, 3)?]?;
-    assert_eq!(rt;
-        ObjectSet::from_objects(twice).err(),
-        Some(ModelFault::ObjectTwice)
-    );
     Ok(())
 }
 
 #[test]
-fn texts_and_tags_are_ordered_by_bytes(rt: HostRuntime) -> Result<(), Fail> {
+fn sets_hold_an_object_once(rt: HostRuntime) -> Result<(), Fail> {
+    let twice = nodes(rt.alloc(), &[3, 1, 3])?;
+    let fault = ObjectSet::from_objects(twice).err();
+    assert_eq!(rt; fault, Some(ModelFault::ObjectTwice));
+    Ok(())
+}
+
+#[test]
+fn texts_are_ordered_by_bytes(rt: HostRuntime) -> Result<(), Fail> {
     let alloc = rt.alloc();
     let short = text(alloc, "Zug")?;
     assert_eq!(rt; (short.as_str(), short.len()), ("Zug", 3));
-    assert!(rt; short == text(alloc, "Zug")?);
-    assert!(rt; short < text(alloc, "a")?);
+    let same = text(alloc, "Zug")?;
+    assert!(rt; short == same);
+    let later = text(alloc, "a")?;
+    assert!(rt; short < later);
+    Ok(())
+}
+
+#[test]
+fn tags_are_sorted_by_key(rt: HostRuntime) -> Result<(), Fail> {
+    let alloc = rt.alloc();
     let mut tags = vec![in alloc; tag(alloc, "b", "1")?, tag(alloc, "a", "2")?]?;
     assert!(rt; !keys_rise(&tags));
     sort_tags(&mut tags);
