@@ -7,6 +7,7 @@ mod verdicts;
 
 use osm_check::check;
 use std::alloc::Global;
+use std::process::Abort;
 use std::test::Fail;
 use tree_node::{Digest, Part};
 
@@ -20,6 +21,20 @@ fn told(
 ) -> Result<String, Fail> {
     let verdict = check(alloc, query, root, answer, proof)?;
     Ok(format!(in alloc; "{verdict}")?)
+}
+
+/// Whether this is the text of the verdict.
+fn check_told(
+    rt: &(impl Abort + AllocGlobal),
+    query: &[u8],
+    root: &Digest,
+    answer: &[u8],
+    proof: &[u8],
+    wanted: &str,
+) -> Result<(), Fail> {
+    let verdict = told(rt.alloc(), query, root, answer, proof)?;
+    assert_eq!(rt; verdict.as_str(), wanted);
+    Ok(())
 }
 
 /// A proof's form around these nodes, in whatever order they are.

@@ -4,9 +4,10 @@ use super::fed;
 use crate::tests::snapshot_of;
 use crate::tests::texts_of_sets::ALL_KINDS;
 use osm_gate::{GateFault, serve};
-use osm_index::Edition;
+use osm_index::{Edition, Snapshot};
 use std::io;
 use std::io::Read;
+use std::process::Abort;
 use std::test::Fail;
 use test_devices::{NarrowWriter, SlowReader, Stop};
 
@@ -51,37 +52,53 @@ impl Read for LineFeeds {
     }
 }
 
+/// Whether a connection whose reader fails at a call has the responses to what was read before; `reads` are those to the
+/// end of the second request.
+fn check_failing(
+    rt: &(impl Abort + AllocGlobal),
+    snapshot: &Snapshot,
+    input: &[u8],
+    fails_at: usize,
+    reads: usize,
+) -> Result<(), Fail> {
+    let mut reader = SlowReader {
+        left: input,
+        at_once: 1,
+        fails_at,
+        calls: 0,
+    };
+    let mut written = Vec::new(rt.alloc());
+    let outcome = serve(rt.alloc(), &mut reader, &mut written, snapshot);
+    if fails_at == 0 || fails_at > reads {
+        assert_eq!(rt; outcome, Ok(()), "{fails_at}");
+        assert_eq!(rt; reader.calls, reads);
+        let (first, second) = written
+            .as_slice()
+            .split_at(FIRST_RESPONSE.len().min(written.len()));
+        assert_eq!(rt; first, FIRST_RESPONSE.as_bytes());
+        assert_eq!(rt; second, SECOND_RESPONSE.as_bytes());
+        return Ok(());
+    }
+    assert_eq!(rt; outcome, Err(GateFault::Reader), "{fails_at}");
+    let want = if fails_at > FIRST.len() {
+        FIRST_RESPONSE
+    } else {
+        ""
+    };
+    assert_eq!(rt; written.as_slice(), want.as_bytes(), "{fails_at}");
+    Ok(())
+}
+
 /// One byte a read: what was read before the read that fails has its responses.
 #[test]
 fn readers_fail(rt: HostRuntime) -> Result<(), Fail> {
     let alloc = rt.alloc();
     let snapshot = snapshot_of(alloc, ALL_KINDS, Edition::One)?;
     let input = format!(in alloc; "{FIRST}{SECOND}{FIRST}")?;
-    let both = format!(in alloc; "{FIRST_RESPONSE}{SECOND_RESPONSE}")?;
     // The second request ends the connection, and what comes after it isn't read.
     let reads = FIRST.len().saturating_add(SECOND.len());
     for fails_at in 0..=reads.saturating_add(1) {
-        let mut reader = SlowReader {
-            left: input.as_bytes(),
-            at_once: 1,
-            fails_at,
-            calls: 0,
-        };
-        let mut written = Vec::new(alloc);
-        let outcome = serve(alloc, &mut reader, &mut written, &snapshot);
-        if fails_at == 0 || fails_at > reads {
-            assert_eq!(rt; outcome, Ok(()), "{fails_at}");
-            assert_eq!(rt; reader.calls, reads);
-            assert_eq!(rt; written.as_slice(), both.as_bytes());
-            continue;
-        }
-        assert_eq!(rt; outcome, Err(GateFault::Reader), "{fails_at}");
-        let want = if fails_at > FIRST.len() {
-            FIRST_RESPONSE
-        } else {
-            ""
-        };
-        assert_eq!(rt; written.as_slice(), want.as_bytes(), "{fails_at}");
+        check_failing(&rt, &snapshot, input.as_bytes(), fails_at, reads)?;
     }
     Ok(())
 }
@@ -108,12 +125,42 @@ fn the_input_ends(rt: HostRuntime) -> Result<(), Fail> {
     Ok(())
 }
 
+/// Whether a connection leaves with a writer what it wrote before the call at which the writer stops.
+fn check_stopping(
+    rt: &(impl Abort + AllocGlobal),
+    snapshot: &Snapshot,
+    at_once: usize,
+    stops_at: usize,
+    stop: Stop,
+    want: &[u8],
+) -> Result<(), Fail> {
+    let input = format!(in rt.alloc(); "{FIRST}{SECOND}")?;
+    let mut writer = NarrowWriter {
+        taken: Vec::new(rt.alloc()),
+        at_once,
+        stops_at,
+        stop,
+        calls: 0,
+    };
+    let outcome = serve(rt.alloc(), &mut input.as_bytes(), &mut writer, snapshot);
+    let taken = writer.taken.as_slice();
+    if stops_at == 0 {
+        assert_eq!(rt; outcome, Ok(()));
+        assert_eq!(rt; taken, want);
+        return Ok(());
+    }
+    assert_eq!(rt; outcome, Err(GateFault::Writer), "{at_once} {stops_at}");
+    assert!(rt; want.starts_with(taken), "{at_once} {stops_at}");
+    let before = (stops_at - 1).saturating_mul(at_once);
+    assert_eq!(rt; taken.len(), before, "{at_once} {stops_at}");
+    Ok(())
+}
+
 /// A write that fails or takes nothing leaves what was written before it.
 #[test]
 fn writers_stop(rt: HostRuntime) -> Result<(), Fail> {
     let alloc = rt.alloc();
     let snapshot = snapshot_of(alloc, ALL_KINDS, Edition::One)?;
-    let input = format!(in alloc; "{FIRST}{SECOND}")?;
     let both = format!(in alloc; "{FIRST_RESPONSE}{SECOND_RESPONSE}")?;
     let want = both.as_bytes();
     for (at_once, stop) in [
@@ -122,26 +169,8 @@ fn writers_stop(rt: HostRuntime) -> Result<(), Fail> {
         (7, Stop::Fails),
         (64, Stop::TakesNothing),
     ] {
-        let writes = want.len().div_ceil(at_once);
-        for stops_at in 0..=writes {
-            let mut writer = NarrowWriter {
-                taken: Vec::new(alloc),
-                at_once,
-                stops_at,
-                stop,
-                calls: 0,
-            };
-            let outcome = serve(alloc, &mut input.as_bytes(), &mut writer, &snapshot);
-            let taken = writer.taken.as_slice();
-            if stops_at == 0 {
-                assert_eq!(rt; outcome, Ok(()));
-                assert_eq!(rt; taken, want);
-                continue;
-            }
-            assert_eq!(rt; outcome, Err(GateFault::Writer), "{at_once} {stops_at}");
-            assert!(rt; want.starts_with(taken), "{at_once} {stops_at}");
-            let before = (stops_at - 1).saturating_mul(at_once);
-            assert_eq!(rt; taken.len(), before, "{at_once} {stops_at}");
+        for stops_at in 0..=want.len().div_ceil(at_once) {
+            check_stopping(&rt, &snapshot, at_once, stops_at, stop, want)?;
         }
     }
     Ok(())

@@ -12,28 +12,49 @@ use std::process::Abort;
 use std::test::Fail;
 use tree_node::digest_of;
 
-/// Whether the answer is the plain one, the proof is the one that is told, and its nodes are read and written again.
+/// Whether the answer is the plain one.
+fn check_answer(
+    rt: &(impl Abort + AllocGlobal),
+    snapshot: &Snapshot,
+    text: &str,
+    answer: &[u8],
+) -> Result<(), Fail> {
+    let query = parse(rt.alloc(), text.as_bytes())?;
+    let plain = answer_plain(rt.alloc(), &query, snapshot.objects())?;
+    assert_eq!(rt; answer, plain.as_slice(), "{text}");
+    Ok(())
+}
+
+/// Whether the proof is the one that is told, and its nodes are read and written again.
+fn check_proof(
+    rt: &(impl Abort + AllocGlobal),
+    text: &str,
+    proof: &[u8],
+    told: &str,
+) -> Result<(), Fail> {
+    let alloc = rt.alloc();
+    let parts = read_proof(alloc, proof)?;
+    let again = write_proof(alloc, &parts)?;
+    assert_eq!(rt; again.as_slice(), proof, "{text}");
+    let nodes = parts.len();
+    let bytes = proof.len();
+    let digest = hex(alloc, &digest_of(proof).0)?;
+    let found = format!(in alloc; "{nodes} {bytes} {digest}")?;
+    assert_eq!(rt; found.as_str(), told, "{text}");
+    Ok(())
+}
+
+/// Whether the answer is the plain one, and its proof the one that is told.
 fn check_row(
     rt: &(impl Abort + AllocGlobal),
     snapshot: &Snapshot,
     text: &str,
     told: &str,
 ) -> Result<(), Fail> {
-    let alloc = rt.alloc();
-    let proved = prove(alloc, snapshot, text.as_bytes())?;
-    let query = parse(alloc, text.as_bytes())?;
-    let plain = answer_plain(alloc, &query, snapshot.objects())?;
+    let proved = prove(rt.alloc(), snapshot, text.as_bytes())?;
     assert_eq!(rt; &proved.root, snapshot.root());
-    assert_eq!(rt; proved.answer.as_slice(), plain.as_slice(), "{text}");
-    let parts = read_proof(alloc, &proved.proof)?;
-    let nodes = parts.len();
-    let bytes = proved.proof.len();
-    let digest = hex(alloc, &digest_of(&proved.proof).0)?;
-    let found = format!(in alloc; "{nodes} {bytes} {digest}")?;
-    assert_eq!(rt; found.as_str(), told, "{text}");
-    let again = write_proof(alloc, &parts)?;
-    assert_eq!(rt; again.as_slice(), proved.proof.as_slice(), "{text}");
-    Ok(())
+    check_answer(rt, snapshot, text, &proved.answer)?;
+    check_proof(rt, text, &proved.proof, told)
 }
 
 fn check_rows(rt: &(impl Abort + AllocGlobal), set: &str, rows: &[Row]) -> Result<(), Fail> {

@@ -10,6 +10,7 @@ use osm_index::{
 };
 use osm_model::{Coord, Kind, Ref};
 use std::alloc::Global;
+use std::process::Abort;
 use std::test::Fail;
 use tree_build::Entry;
 use tree_node::Tree;
@@ -26,64 +27,86 @@ fn manifest_of(alloc: Global, edition: Edition) -> Result<Vec<u8>, Fail> {
     Ok(bytes)
 }
 
-#[test]
-fn manifests_are_read(rt: HostRuntime) -> Result<(), Fail> {
-    let alloc = rt.alloc();
-    let rows = [
-        (Edition::One, 133, "4f534d4d01"),
-        (
-            Edition::Two { sequence: 7 },
-            141,
-            "4f534d4d020000000000000007",
-        ),
-    ];
-    for (edition, len, front) in rows {
-        let bytes = manifest_of(alloc, edition)?;
-        assert_eq!(rt; bytes.len(), len);
-        let digits = hex(alloc, &bytes)?;
-        assert!(rt; digits.as_str().starts_with(front));
-        assert!(rt; digits.as_str().ends_with(TOPS));
-        let mut again = Vec::new(alloc);
-        if let Some(manifest) = read_manifest(&bytes) {
-            assert_eq!(rt; manifest.edition, edition);
-            write_manifest(&manifest, &mut again)?;
-        }
-        assert_eq!(rt; &again[..], &bytes[..]);
+/// Whether the manifest is read and written again, has so many bytes, and begins with these digits.
+fn check_manifest(
+    rt: &(impl Abort + AllocGlobal),
+    edition: Edition,
+    len: usize,
+    front: &str,
+) -> Result<(), Fail> {
+    let bytes = manifest_of(rt.alloc(), edition)?;
+    assert_eq!(rt; bytes.len(), len);
+    let mut again = Vec::new(rt.alloc());
+    if let Some(manifest) = read_manifest(&bytes) {
+        assert_eq!(rt; manifest.edition, edition);
+        write_manifest(&manifest, &mut again)?;
     }
+    assert_eq!(rt; &again[..], &bytes[..]);
+    let digits = hex(rt.alloc(), &bytes)?;
+    assert!(rt; digits.as_str().starts_with(front));
+    assert!(rt; digits.as_str().ends_with(TOPS));
     Ok(())
 }
 
 #[test]
-fn other_bytes_are_no_manifest(rt: HostRuntime) -> Result<(), Fail> {
+fn manifests_are_read(rt: HostRuntime) -> Result<(), Fail> {
+    check_manifest(&rt, Edition::One, 133, "4f534d4d01")?;
+    let second = Edition::Two { sequence: 7 };
+    check_manifest(&rt, second, 141, "4f534d4d020000000000000007")
+}
+
+/// Whether the manifest of an edition, cut to so many bytes, is read.
+fn is_read_cut(alloc: Global, edition: Edition, len: usize) -> Result<bool, Fail> {
+    let bytes = manifest_of(alloc, edition)?;
+    Ok(read_manifest(bytes.get(..len).unwrap_or(&[])).is_some())
+}
+
+/// Whether the manifest of an edition is read with another byte at a place.
+fn is_read_with(alloc: Global, edition: Edition, place: usize, byte: u8) -> Result<bool, Fail> {
+    let mut bytes = manifest_of(alloc, edition)?;
+    if let Some(there) = bytes.get_mut(place) {
+        *there = byte;
+    }
+    Ok(read_manifest(&bytes).is_some())
+}
+
+/// Another length than that of the edition.
+#[test]
+fn manifests_have_their_length(rt: HostRuntime) -> Result<(), Fail> {
     let alloc = rt.alloc();
-    let first = manifest_of(alloc, Edition::One)?;
-    let second = manifest_of(alloc, Edition::Two { sequence: 0 })?;
-    // Another length than that of the edition.
-    assert_eq!(rt; read_manifest(&[]), None);
-    for len in [4, 5, 12, 13, 132, 133, 140] {
-        assert_eq!(rt; read_manifest(second.get(..len).unwrap_or(&[])), None);
+    for len in [0, 4, 5, 12, 13, 132, 133, 140] {
+        assert!(rt;
+            !is_read_cut(alloc, Edition::Two { sequence: 0 }, len)?,
+            "{len}"
+        );
     }
-    assert_eq!(rt; read_manifest(first.get(..132).unwrap_or(&[])), None);
-    // Another beginning, another number, and the number of the other edition.
-    let rows = [(0, b'o'), (3, b'N'), (4, 0), (4, 2), (4, 3)];
-    for (place, byte) in rows {
-        let mut bytes = manifest_of(alloc, Edition::One)?;
-        if let Some(there) = bytes.get_mut(place) {
-            *there = byte;
-        }
-        assert_eq!(rt; read_manifest(&bytes), None);
-    }
-    for byte in [0, 1, 3] {
-        let mut bytes = manifest_of(alloc, Edition::Two { sequence: 0 })?;
-        if let Some(there) = bytes.get_mut(4) {
-            *there = byte;
-        }
-        assert_eq!(rt; read_manifest(&bytes), None);
-    }
-    // A byte after the last digest.
+    assert!(rt; !is_read_cut(alloc, Edition::One, 132)?);
     let mut longer = manifest_of(alloc, Edition::One)?;
     longer.push(0)?;
-    assert_eq!(rt; read_manifest(&longer), None);
+    assert!(rt; read_manifest(&longer).is_none());
+    Ok(())
+}
+
+/// Another beginning, another number, and the number of the other edition.
+#[test]
+fn other_bytes_are_no_manifest(rt: HostRuntime) -> Result<(), Fail> {
+    let second = Edition::Two { sequence: 0 };
+    let rows = [
+        (Edition::One, 0, b'o'),
+        (Edition::One, 3, b'N'),
+        (Edition::One, 4, 0),
+        (Edition::One, 4, 2),
+        (Edition::One, 4, 3),
+        (second, 4, 0),
+        (second, 4, 1),
+        (second, 4, 3),
+    ];
+    for (edition, place, byte) in rows {
+        assert!(rt;
+            !is_read_with(rt.alloc(), edition, place, byte)?,
+            "{place} {byte}"
+        );
+    }
     Ok(())
 }
 

@@ -3,6 +3,7 @@
 use super::{nodes_of, proof_of, told};
 use osm_index::{Edition, Manifest, write_manifest};
 use std::alloc::Global;
+use std::process::Abort;
 use std::test::Fail;
 use tree_node::{Digest, Shelf, Stock, digest_of};
 
@@ -92,34 +93,46 @@ fn verdict_on(
 const ALL_NODES: &[u8] = b"node;out ids;";
 
 /// What the walk over a tree of the objects meets first is told.
+/// Whether this is the verdict on a query for all nodes, over a tree of these nodes, without tags.
+fn check_tree(
+    rt: &(impl Abort + AllocGlobal),
+    answer: &[u8],
+    nodes: &[&[u8]],
+    wanted: &str,
+) -> Result<(), Fail> {
+    let verdict = verdict_on(rt.alloc(), ALL_NODES, answer, nodes, NO_TAG)?;
+    assert_eq!(rt; verdict.as_str(), wanted);
+    Ok(())
+}
+
 #[test]
 fn trees_that_contradict_themselves(rt: HostRuntime) -> Result<(), Fail> {
     let alloc = rt.alloc();
     let one = over(alloc, 1, KEY_1, 1, NODE_1)?;
+    check_tree(&rt, b"n1\n", &[&one, NODE_1], "yes")?;
+    // The child has the level of its parent.
     let beside = over(alloc, 1, KEY_1, 1, &one)?;
-    let too_great = over(alloc, 1, KEY_2, 1, NODE_1)?;
-    let too_many = over(alloc, 1, KEY_1, 2, NODE_1)?;
-    let mut again = [1, 1, 0, 2].to_vec(alloc)?;
+    check_tree(&rt, b"n1\n", &[&beside, &one], "no C6")?;
+    // A leaf of another tree.
+    check_tree(&rt, b"", &[NO_TAG], "no C6")
+}
+
+/// A child states a key or a number that isn't its own.
+#[test]
+fn trees_that_misstate_a_child(rt: HostRuntime) -> Result<(), Fail> {
+    let too_great = over(rt.alloc(), 1, KEY_2, 1, NODE_1)?;
+    check_tree(&rt, b"n1\n", &[&too_great, NODE_1], "no C6")?;
+    let too_many = over(rt.alloc(), 1, KEY_1, 2, NODE_1)?;
+    check_tree(&rt, b"n1\n", &[&too_many, NODE_1], "no C6")
+}
+
+/// The second child's key isn't above the first's.
+#[test]
+fn trees_whose_children_dont_rise(rt: HostRuntime) -> Result<(), Fail> {
+    let mut again = [1, 1, 0, 2].to_vec(rt.alloc())?;
     append_child(KEY_1, 1, NODE_1, &mut again)?;
     append_child(KEY_2, 1, NODE_1, &mut again)?;
-    let trees: [(&str, [&[u8]; 2]); 5] = [
-        ("yes", [&one, NODE_1]),
-        // The child has the level of its parent.
-        ("no C6", [&beside, &one]),
-        // It states a key or a number that isn't its child's.
-        ("no C6", [&too_great, NODE_1]),
-        ("no C6", [&too_many, NODE_1]),
-        // The second child's key isn't above the first's.
-        ("no C6", [&again, NODE_1]),
-    ];
-    for (wanted, nodes) in trees {
-        let verdict = verdict_on(alloc, ALL_NODES, b"n1\n", &nodes, NO_TAG)?;
-        assert_eq!(rt; verdict.as_str(), wanted);
-    }
-    // A leaf of another tree.
-    let verdict = verdict_on(alloc, ALL_NODES, b"", &[NO_TAG], NO_TAG)?;
-    assert_eq!(rt; verdict.as_str(), "no C6");
-    Ok(())
+    check_tree(&rt, b"n1\n", &[&again, NODE_1], "no C6")
 }
 
 /// An inner node of the object tree that names one child 64 times, with rising keys.
@@ -147,9 +160,7 @@ fn a_child_named_many_times(rt: HostRuntime) -> Result<(), Fail> {
     }
     let mut named = nodes_from(alloc, &nodes)?;
     named.insert(0, below.as_slice())?;
-    let verdict = verdict_on(alloc, ALL_NODES, b"", &named, NO_TAG)?;
-    assert_eq!(rt; verdict.as_str(), "no C6");
-    Ok(())
+    check_tree(&rt, b"", &named, "no C6")
 }
 
 fn nodes_from<'a>(alloc: Global, owned: &'a [Vec<u8>]) -> Result<Vec<&'a [u8]>, Fail> {
@@ -173,9 +184,7 @@ fn levels_of_one_child(rt: HostRuntime) -> Result<(), Fail> {
     }
     let mut named = nodes_from(alloc, &nodes)?;
     named.insert(0, &below)?;
-    let verdict = verdict_on(alloc, ALL_NODES, b"n1\n", &named, NO_TAG)?;
-    assert_eq!(rt; verdict.as_str(), "yes");
-    Ok(())
+    check_tree(&rt, b"n1\n", &named, "yes")
 }
 
 /// Trees whose entries contradict each other.

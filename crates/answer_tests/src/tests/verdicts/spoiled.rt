@@ -1,11 +1,12 @@
 //! A right proof, spoiled in every way: that of `node(65);out;` over the nodes 1 to 65 in the first edition.
 
-use super::{flip, proof_of, told};
+use super::{check_told, flip, proof_of};
 use crate::tests::snapshot_of;
 use osm_check::{Verdict, check};
 use osm_index::{Edition, Snapshot};
 use osm_prove::{Proved, prove, read_proof};
 use std::alloc::Global;
+use std::process::Abort;
 use std::test::Fail;
 use tree_node::{Digest, Part};
 
@@ -73,8 +74,7 @@ fn nodes_are_left_out_doubled_and_swapped(rt: HostRuntime) -> Result<(), Fail> {
     let parts = read_proof(alloc, &proof)?;
     for (places, wanted) in OTHER_LISTS {
         let spoiled = listing(alloc, &parts, places)?;
-        let verdict = told(alloc, QUERY, &root, ANSWER, &spoiled)?;
-        assert_eq!(rt; verdict.as_str(), wanted);
+        check_told(&rt, QUERY, &root, ANSWER, &spoiled, wanted)?;
     }
     Ok(())
 }
@@ -86,14 +86,10 @@ fn a_node_is_added(rt: HostRuntime) -> Result<(), Fail> {
     let snapshot = sixty_five(alloc)?;
     let Proved { root, proof, .. } = prove(alloc, &snapshot, QUERY)?;
     let other = prove(alloc, &snapshot, b"node(64);node(65);out;")?;
-    let spoiled = other.proof;
-    assert_eq!(rt; read_proof(alloc, &spoiled)?.len(), 4);
-    assert!(rt; proof.len() < spoiled.len());
-    assert_eq!(rt;
-        told(alloc, QUERY, &root, ANSWER, &spoiled)?.as_str(),
-        "no C8"
-    );
-    Ok(())
+    let nodes = read_proof(alloc, &other.proof)?.len();
+    assert_eq!(rt; nodes, 4);
+    assert!(rt; proof.len() < other.proof.len());
+    check_told(&rt, QUERY, &root, ANSWER, &other.proof, "no C8")
 }
 
 #[test]
@@ -105,15 +101,10 @@ fn the_proof_is_cut_and_longer(rt: HostRuntime) -> Result<(), Fail> {
         ..
     } = right(alloc)?;
     for len in 0..proof.len() {
-        let verdict = told(alloc, QUERY, &root, ANSWER, &proof[..len])?;
-        assert_eq!(rt; verdict.as_str(), "no C2");
+        check_told(&rt, QUERY, &root, ANSWER, &proof[..len], "no C2")?;
     }
     proof.push(0)?;
-    assert_eq!(rt;
-        told(alloc, QUERY, &root, ANSWER, &proof)?.as_str(),
-        "no C2"
-    );
-    Ok(())
+    check_told(&rt, QUERY, &root, ANSWER, &proof, "no C2")
 }
 
 #[test]
@@ -140,8 +131,7 @@ fn no_bit_of_the_root_can_be_another(rt: HostRuntime) -> Result<(), Fail> {
     for bit in 0..256 {
         let mut bytes = root.0;
         flip(&mut bytes, bit);
-        let verdict = told(alloc, QUERY, &Digest(bytes), ANSWER, &proof)?;
-        assert_eq!(rt; verdict.as_str(), "no C4");
+        check_told(&rt, QUERY, &Digest(bytes), ANSWER, &proof, "no C4")?;
     }
     Ok(())
 }
@@ -156,8 +146,19 @@ fn the_root_is_that_of_a_tree(rt: HostRuntime) -> Result<(), Fail> {
         .iter()
         .filter(|part| part.bytes().starts_with(b"\x01\x01"));
     let top = tops.next().ok_or("no inner node")?.digest();
-    assert_eq!(rt; told(alloc, QUERY, &top, ANSWER, &proof)?.as_str(), "no C5");
-    Ok(())
+    check_told(&rt, QUERY, &top, ANSWER, &proof, "no C5")
+}
+
+/// Whether the answer is told to differ from this place on.
+fn check_differs(
+    rt: &(impl Abort + AllocGlobal),
+    root: &Digest,
+    answer: &[u8],
+    proof: &[u8],
+    place: usize,
+) -> Result<(), Fail> {
+    let wanted = format!(in rt.alloc(); "no C9 {place}")?;
+    check_told(rt, QUERY, root, answer, proof, wanted.as_str())
 }
 
 #[test]
@@ -169,18 +170,11 @@ fn the_answer_differs(rt: HostRuntime) -> Result<(), Fail> {
         proof,
     } = right(alloc)?;
     for place in 0..answer.len() {
-        let wanted = format!(in alloc; "no C9 {place}")?;
-        let cut = told(alloc, QUERY, &root, &answer[..place], &proof)?;
-        assert_eq!(rt; cut.as_str(), wanted.as_str());
+        check_differs(&rt, &root, &answer[..place], &proof, place)?;
         flip(&mut answer, place.saturating_mul(8));
-        let changed = told(alloc, QUERY, &root, &answer, &proof)?;
-        assert_eq!(rt; changed.as_str(), wanted.as_str());
+        check_differs(&rt, &root, &answer, &proof, place)?;
         flip(&mut answer, place.saturating_mul(8));
     }
     answer.push(b'\n')?;
-    assert_eq!(rt;
-        told(alloc, QUERY, &root, &answer, &proof)?.as_str(),
-        "no C9 12"
-    );
-    Ok(())
+    check_differs(&rt, &root, &answer, &proof, 12)
 }

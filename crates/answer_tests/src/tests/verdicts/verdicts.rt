@@ -1,6 +1,6 @@
 //! Verdicts on small sets, in both editions.
 
-use super::told;
+use super::check_told;
 use crate::tests::snapshot_of;
 use crate::tests::texts_of_sets::ALL_KINDS;
 use osm_check::{Report, Verdict, check};
@@ -66,15 +66,9 @@ fn nothing_is_checked_too(rt: HostRuntime) -> Result<(), Fail> {
         let query = b"node(1);out;";
         let Proved { root, proof, .. } = prove(alloc, &snapshot, query)?;
         assert_eq!(rt; proof.len(), len);
-        assert_eq!(rt; told(alloc, query, &root, b"", &proof)?.as_str(), "yes");
-        assert_eq!(rt;
-            told(alloc, query, &root, b"x", &proof)?.as_str(),
-            "no C9 0"
-        );
-        assert_eq!(rt;
-            told(alloc, b"node(1)", &root, b"", b"")?.as_str(),
-            "no C1 Q11 7"
-        );
+        check_told(&rt, query, &root, b"", &proof, "yes")?;
+        check_told(&rt, query, &root, b"x", &proof, "no C9 0")?;
+        check_told(&rt, b"node(1)", &root, b"", b"", "no C1 Q11 7")?;
     }
     Ok(())
 }
@@ -88,8 +82,7 @@ fn a_proof_of_another_edition_lacks_the_manifest(rt: HostRuntime) -> Result<(), 
     for sequence in [0, 7] {
         let edition = Edition::Two { sequence };
         let two = prove(alloc, &snapshot_of(alloc, ALL_KINDS, edition)?, query)?;
-        let verdict = told(alloc, query, &two.root, &one.answer, &one.proof)?;
-        assert_eq!(rt; verdict.as_str(), "no C4");
+        check_told(&rt, query, &two.root, &one.answer, &one.proof, "no C4")?;
     }
     Ok(())
 }
