@@ -75,28 +75,38 @@ fn reads_the_commands_over_files(rt: HostRuntime) -> Result<(), Fail> {
 fn reads_editions(rt: HostRuntime) -> Result<(), Fail> {
     let alloc = rt.alloc();
     for (options, want) in [
-        ("", "Two { sequence: 0 }"),
-        (" --edition 1", "One"),
-        (" --edition 2", "Two { sequence: 0 }"),
-        (" --edition=2 --sequence=7", "Two { sequence: 7 }"),
+        (
+            "",
+            "Publish { file: \"a.opl\", edition: Two { sequence: 0 } }",
+        ),
+        (" --edition 1", "Publish { file: \"a.opl\", edition: One }"),
+        (
+            " --edition 2",
+            "Publish { file: \"a.opl\", edition: Two { sequence: 0 } }",
+        ),
+        (
+            " --edition=2 --sequence=7",
+            "Publish { file: \"a.opl\", edition: Two { sequence: 7 } }",
+        ),
         (
             " --sequence 18446744073709551615 --edition 2",
-            "Two { sequence: 18446744073709551615 }",
+            "Publish { file: \"a.opl\", edition: Two { sequence: 18446744073709551615 } }",
         ),
-        (" --edition 2 --sequence +7", "Two { sequence: 7 }"),
-        (" --edition 1 --sequence 7", "One"),
-        (" --sequence 7", "Two { sequence: 7 }"),
+        (
+            " --edition 2 --sequence +7",
+            "Publish { file: \"a.opl\", edition: Two { sequence: 7 } }",
+        ),
+        (
+            " --edition 1 --sequence 7",
+            "Publish { file: \"a.opl\", edition: One }",
+        ),
+        (
+            " --sequence 7",
+            "Publish { file: \"a.opl\", edition: Two { sequence: 7 } }",
+        ),
     ] {
         let line = format!(in alloc; "m publish a.opl{options}")?;
-        let job = shown(alloc, &line)?;
-        let told = job
-            .as_str()
-            .strip_prefix("Publish { file: \"a.opl\", edition: ");
-        assert_eq!(rt;
-            told.and_then(|rest| rest.strip_suffix(" }")),
-            Some(want),
-            "{line}"
-        );
+        assert_eq!(rt; shown(alloc, &line)?.as_str(), want, "{line}");
     }
     Ok(())
 }

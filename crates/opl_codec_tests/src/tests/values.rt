@@ -1,6 +1,7 @@
 //! Rows of the values of fields: each in a line, which is written again, or refused at its place.
 
 use opl_codec::{Change, OplCause, OplFault, OutMode, read_line, write_object};
+use std::alloc::Global;
 use std::test::Fail;
 
 /// Lines, and the same object in the one spelling of its metadata.
@@ -157,18 +158,21 @@ const REFUSED: [(&str, OplCause, usize); 72] = [
     ("w1 u\0", OplCause::BadValue, 3),
 ];
 
+/// What the line puts, in the spelling of its metadata, without its LF.
+fn spelling(alloc: Global, line: &str) -> Result<Vec<u8>, Fail> {
+    let mut text = Vec::new(alloc);
+    if let Some(Change::Put(object)) = read_line(alloc, line.as_bytes())? {
+        write_object(&object, OutMode::Meta, &mut text)?;
+    }
+    text.pop();
+    Ok(text)
+}
+
 #[test]
 fn values_are_read(rt: HostRuntime) -> Result<(), Fail> {
     for (line, spelled) in READ {
-        let mut out = Vec::new(rt.alloc());
-        if let Some(Change::Put(object)) = read_line(rt.alloc(), line.as_bytes())? {
-            write_object(&object, OutMode::Meta, &mut out)?;
-        }
-        assert_eq!(rt;
-            out.strip_suffix(b"\n"),
-            Some(spelled.as_bytes()),
-            "at {line}"
-        );
+        let text = spelling(rt.alloc(), line)?;
+        assert_eq!(rt; text.as_slice(), spelled.as_bytes(), "at {line}");
     }
     Ok(())
 }
