@@ -191,6 +191,27 @@ fn moments_keep_their_ranges(rt: HostRuntime) {
     assert_eq!(rt; moment, Stamp::new(2020, 2, 31, 23, 59, 60));
 }
 
+/// Whether an object is equal to its copy, unless memory runs out, and to a second one.
+fn is_copied(alloc: Global, kind: Kind) -> Result<bool, Fail> {
+    let object = object(alloc, Parts { kind, ..RELATION })?;
+    let first = object.copy(alloc);
+    let is_first_equal = match &first {
+        Ok(copy) => *copy == object,
+        Err(_) => true,
+    };
+    let second = object.copy(alloc)?;
+    Ok(is_first_equal && second == object)
+}
+
+/// Under refused allocations: an equal object, or out of memory.
+#[test]
+fn objects_are_copied_within_memory(rt: HostRuntime) -> Result<(), Fail> {
+    for kind in [Kind::Node, Kind::Way, Kind::Rel] {
+        assert!(rt; is_copied(rt.alloc(), kind)?);
+    }
+    Ok(())
+}
+
 /// How many nodes or members an object lists; of a node whether its longitude is that of `body`.
 fn listed(object: &Object) -> usize {
     match object.body() {
