@@ -1,0 +1,26 @@
+-- How the levels of a tree change, from the leaves up.
+use Rattle.std.specs.Prelude.{◌≡◌, ℕ, suc, ◌-◌, ◌≤◌, List, [], ◌∷◌, length, IsTrue, false, ⊤}
+use Rattle.std.specs.List.{AllByRecursion}
+use Rattle.tree_node.specs.Nodes.{Node}
+use Rattle.tree_node.specs.Trees.{level_at}
+use Rattle.tree_build.specs.internal.Steps.{IsEdit}
+use Rattle.tree_build.specs.declared.levels.TreeEdit.{TreeEdit}
+use Rattle.tree_build.specs.declared.step.LevelEdit.{LevelEdit}
+
+-- these are the edits of the levels from this one on
+abbrev pub AreEdits : List (List Node) → (ℕ → List Node) → ℕ → List LevelEdit → Type 0
+AreEdits old new level [] = ⊤
+AreEdits old new level (edit ∷ edits) = IsEdit (level_at old level) (new level) edit × AreEdits old new (suc level) edits
+
+-- each opened a node
+abbrev pub HaveOpened : List LevelEdit → Type 0
+HaveOpened edits = AllByRecursion (λ (edit : LevelEdit). 1 ≤ length edit.olds.items) edits
+
+-- the edits of the levels up to the old top's, or to the first one that is as it was
+pub record IsTreeEdit (old : List (List Node)) (new : ℕ → List Node) (edited : TreeEdit) : Type 0 where
+  pub are : AreEdits old new 0 edited.edits.items
+  pub opened : HaveOpened edited.edits.items
+  pub some : 1 ≤ length edited.edits.items
+  pub within : length edited.edits.items ≤ length old
+  pub same : IsTrue edited.stays → level_at old (length edited.edits.items - 1) ≡ new (length edited.edits.items - 1)
+  pub whole : edited.stays ≡ false → length edited.edits.items ≡ length old
