@@ -11,7 +11,7 @@ use Rattle.tree_build.proofs.WeaveLemmas.{only_one}
 abbrev Rise : Option (List ℕ) → List Node → Type 0
 Rise low ns = AreRisingFrom low (map greatest_of ns)
 
-gained_new : (olds news lost gained : List Node) (cs : List (Change Link)) → Differ olds news lost gained cs → (m : Node) → IsIn m gained → IsIn m news
+pub gained_new : (olds news lost gained : List Node) (cs : List (Change Link)) → Differ olds news lost gained cs → (m : Node) → IsIn m gained → IsIn m news
 gained_new _ _ _ _ _ nothing m is = is
 gained_new _ _ _ _ _ (gone_last o os lost gained cs d) m is = gained_new os [] lost gained cs d m is
 gained_new _ _ _ _ _ (gone o os n ns lost gained cs below d) m is = gained_new os (n ∷ ns) lost gained cs d m is
@@ -20,7 +20,7 @@ gained_new _ _ _ _ _ (came o os n ns lost gained cs below d) m is = elim is [ in
 gained_new _ _ _ _ _ (same o os n ns lost gained cs equal d) m is = inr (gained_new os ns lost gained cs d m is)
 gained_new _ _ _ _ _ (replaced o os n ns lost gained cs equal other d) m is = elim is [ inl here ↦ inl here | inr there ↦ inr (gained_new os ns lost gained cs d m there) ]
 
-lost_old : (olds news lost gained : List Node) (cs : List (Change Link)) → Differ olds news lost gained cs → (m : Node) → IsIn m lost → IsIn m olds
+pub lost_old : (olds news lost gained : List Node) (cs : List (Change Link)) → Differ olds news lost gained cs → (m : Node) → IsIn m lost → IsIn m olds
 lost_old _ _ _ _ _ nothing m is = is
 lost_old _ _ _ _ _ (gone_last o os lost gained cs d) m is = elim is [ inl here ↦ inl here | inr there ↦ inr (lost_old os [] lost gained cs d m there) ]
 lost_old _ _ _ _ _ (gone o os n ns lost gained cs below d) m is = elim is [ inl here ↦ inl here | inr there ↦ inr (lost_old os (n ∷ ns) lost gained cs d m there) ]

@@ -20,7 +20,7 @@ pub last_one : (tree : ℕ) (entries : List Binding) → length (level_at (level
 unfolding levels
 last_one tree entries = last_has_one Two tree 1 (leaves Two tree entries) (over Two tree entries) (tree_levels Two tree entries)
 
-woven_count : {X : Type 0} (xs ys zs : List X) → Woven xs ys zs → length xs + length ys ≡ length zs
+pub woven_count : {X : Type 0} (xs ys zs : List X) → Woven xs ys zs → length xs + length ys ≡ length zs
 woven_count _ _ _ none = omega arith
 woven_count _ _ _ (left x xs ys zs w) = omega (arith, woven_count xs ys zs w)
 woven_count _ _ _ (right y xs ys zs w) = omega (arith, woven_count xs ys zs w)

@@ -6,7 +6,9 @@ pub mod DescentLemmas
 pub mod DifferChanges
 pub mod DifferLemmas
 pub mod DifferSets
+pub mod FinishLemmas
 pub mod FitLemmas
+pub mod FoundLemmas
 pub mod GoneLemmas
 pub mod GrowLemmas
 pub mod HandLemmas
@@ -14,9 +16,11 @@ pub mod LastLemmas
 pub mod LengthLemmas
 pub mod LevelLemmas
 pub mod LevelSteps
+pub mod LevelsLemmas
 pub mod MeaningLemmas
 pub mod NextLemmas
 pub mod OldLevels
+pub mod OnceLemmas
 pub mod ParentLemmas
 pub mod RebuildLemmas
 pub mod RecutLemmas
@@ -30,6 +34,7 @@ pub mod StepStates
 pub mod StockLemmas
 pub mod TellAllLemmas
 pub mod TellLemmas
+pub mod ToldLemmas
 pub mod TowerLemmas
 pub mod TreeEdits
 pub mod WeaveLemmas

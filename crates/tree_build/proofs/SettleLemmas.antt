@@ -29,12 +29,12 @@ lone [] d e = absurd (omega (arith, e))
 lone (x ∷ []) d e = refl
 lone (x ∷ y ∷ xs) d e = absurd (omega (arith, e))
 
-record HasPlace {X : Type 0} (n : X) (ns : List X) (d : X) : Type 0 where
+pub record HasPlace {X : Type 0} (n : X) (ns : List X) (d : X) : Type 0 where
   pub place : ℕ
   pub within : place < length ns
   pub at : get_or ns place d ≡ n
 
-in_place : {X : Type 0} (n : X) (ns : List X) (d : X) → IsIn n ns → HasPlace n ns d
+pub in_place : {X : Type 0} (n : X) (ns : List X) (d : X) → IsIn n ns → HasPlace n ns d
 in_place n [] d is = absurd is
 in_place n (m ∷ ms) d is = elim is [
   | inl here ↦ record { place = 0; within = omega arith; at = sym here }

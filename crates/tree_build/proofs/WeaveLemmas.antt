@@ -85,11 +85,11 @@ module _ {X : Type 0} (key : X → List ℕ) where
 -- ---- how many were read
 
 module _ {X : Type 0} where
-  in_front : (n : X) (xs ys : List X) → IsIn n xs → IsIn n (xs ++ ys)
+  pub in_front : (n : X) (xs ys : List X) → IsIn n xs → IsIn n (xs ++ ys)
   in_front n [] ys is = absurd is
   in_front n (x ∷ xs) ys is = elim is [ inl here ↦ inl here | inr there ↦ inr (in_front n xs ys there) ]
 
-  in_back : (n : X) (xs ys : List X) → IsIn n ys → IsIn n (xs ++ ys)
+  pub in_back : (n : X) (xs ys : List X) → IsIn n ys → IsIn n (xs ++ ys)
   in_back n [] ys is = is
   in_back n (x ∷ xs) ys is = inr (in_back n xs ys is)
 

@@ -4,6 +4,7 @@ pub mod Cutting
 pub mod Differing
 pub mod Edits
 pub mod FitLaws
+pub mod FoundTops
 pub mod Growing
 pub mod Holding
 pub mod ItemChanges

@@ -1,10 +1,13 @@
 //! The new tree, from how the levels of the old one change.
 
 ghost use Rattle.std.specs.List.{AllByRecursion};
-ghost use Rattle.std.specs.Prelude.{◌≡◌, ◌<◌, ◌≤◌, ℕ, List, [], IfOk, None, OnOk, length};
+ghost use Rattle.std.specs.Prelude.{◌≡◌, ◌<◌, ◌≤◌, ◌-◌, ℕ, List, [], IfOk, IfSome, None, OnOk, length};
 ghost use Rattle.tree_build.specs.Changing.{Change};
 ghost use Rattle.tree_build.specs.Rebuilding.{IsOldTree, IsRebuilt, changed_entries, digests_of, nodes_of};
 ghost use Rattle.tree_build.specs.internal.Edits.{Each, IsNewNode, IsOldNode};
+ghost use Rattle.tree_build.specs.declared.piece.NewPiece.{NewPiece as New};
+ghost use Rattle.tree_build.specs.internal.FoundTops.{HaveGained, IsFound};
+ghost use Rattle.tree_build.specs.internal.Telling.{node_digest};
 ghost use Rattle.tree_build.specs.internal.Towers.{tower};
 ghost use Rattle.tree_build.specs.internal.TreeEdits.{AreEdits, HaveOpened, IsTreeEdit};
 ghost use Rattle.tree_build.specs.internal.TreeTelling.{HaveTold, IsTold};
@@ -76,6 +79,16 @@ fn find_top<'a, 'c, S: Shelf<'a>>(
         × (old ≡ None → length edits.old.items ≡ length (levels Two (number_of tree) entries)) }
     ensures stays { SameNodes (S.holds shelf.old) (S.holds shelf.new) }
     ensures grows { (bytes : List ℕ) → S.used shelf.old bytes → S.used shelf.new bytes }
+    ensures found { (top : List ℕ) (changes : List (Change Binding)) (entries : List Binding)
+        → IsOldTree (S.holds shelf.new) top changes (number_of tree) entries
+        → AreEdits (levels Two (number_of tree) entries) (tower Two (number_of tree) (changed_entries entries changes)) 0 edits.old.items
+        → HaveOpened edits.old.items → 1 ≤ length edits.old.items
+        → length edits.old.items ≤ length (levels Two (number_of tree) entries)
+        → (old ≡ None → length edits.old.items ≡ length (levels Two (number_of tree) entries))
+        → IfSome old (λ digest. (digest.0 ≡ top)
+        × (level_at (levels Two (number_of tree) entries) (length edits.old.items - 1) ≡ tower Two (number_of tree) (changed_entries entries changes) (length edits.old.items - 1)))
+        → IfOk result (λ found. IsFound (levels Two (number_of tree) entries) (levels Two (number_of tree) (changed_entries entries changes)) edits.new.items
+        (nodes_of added.old.items) (nodes_of added.new.items) (digests_of gone.old.items) (digests_of gone.new.items) found.digest.0 found.level) }
 {
     let last = edits.len() - 1;
     if let Some(digest) = old {
@@ -110,6 +123,8 @@ fn put_empty_leaf<'c>(
     edits: &mut Vec<LevelEdit<'c>>,
 ) -> Result<Digest, AllocError>
     requires { 1 ≤ length edits.old.items }
+    ensures { IfOk result (λ digest. (digest.0 ≡ node_digest (Leaf (number_of tree) []))
+        × ((leaf : New) × IsNewNode leaf (Leaf (number_of tree) []) × HaveGained leaf edits.old.items edits.new.items)) }
 {
     let leaf = empty_leaf(alloc, tree)?;
     let digest = leaf.node.digest;
