@@ -1,6 +1,9 @@
 -- What is told of a rebuild is what was rebuilt.
-use Rattle.std.proofs.Common.{◌≡◌, ℕ, zero, suc, ◌+◌, ◌<◌, ◌≤◌, List, [], ◌∷◌, ◌++◌, length, get_or, map, ◌⊎◌, inl, inr, ◌↔◌, refl, sym, ap, subst, ◌∙◌, append_assoc, arith}
+use Rattle.std.proofs.Common.{◌≡◌, ℕ, zero, suc, ◌+◌, ◌<◌, ◌≤◌, List, [], ◌∷◌, ◌++◌, length, get_or, map, ◌⊎◌, inl, inr, ◌↔◌, IsTrue, Bool, true, false, Option, None, Some, refl, sym, ap, subst, ◌∙◌, arith}
 use Rattle.std.proofs.lemmas.List.{map-append}
+use Rattle.std.specs.Bool.{then_some}
+use Rattle.std.specs.Prelude.{IfSome}
+use Rattle.tree_node.specs.declared.digest.Digest.{Digest}
 use Rattle.tree_node.specs.Digests.{digest}
 use Rattle.tree_node.specs.Nodes.{Binding, IsTree, Node, level_of, spelling}
 use Rattle.tree_node.specs.Shelves.{IsClashFree}
@@ -203,3 +206,13 @@ module _ (held : List ℕ → Type 0) (old_top : List ℕ) (changes : List (Chan
             one_spelling a b (nodes_in tree entries is.has is.is_tree one.level a one.is) (nodes_in tree entries is.has is.is_tree two.level b two.is)
             (free (spelling a) (spelling b) (is.holds (spelling a) (node_of tree entries one.level a one.is)) (is.holds (spelling b) (node_of tree entries two.level b two.is)) same)));
       }
+
+-- ---- whether the old top stays
+
+pub none_stays : (b : Bool) (top : Digest) (o : Option Digest) → o ≡ then_some b top → o ≡ None → b ≡ false
+none_stays true top o is none = absurd (let t : Some top ≡ None = sym is ∙ none in cc)
+none_stays false top o is none = refl
+
+pub some_stays : (P : Digest → Type 0) (b : Bool) (top : Digest) (o : Option Digest) → o ≡ then_some b top → (IsTrue b → P top) → IfSome o P
+some_stays P true top o is then = subst (λ (x : Option Digest). IfSome x P) (sym is) (then refl)
+some_stays P false top o is then = subst (λ (x : Option Digest). IfSome x P) (sym is) tt
