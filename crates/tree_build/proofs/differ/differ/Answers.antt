@@ -1,8 +1,4 @@
-use Rattle.tree_build.proofs.DifferChanges.{links_changed}
-use Rattle.tree_build.proofs.DifferSets.{gained_are}
-use Rattle.tree_build.proofs.OldLevels.{leaf_level}
-use Rattle.tree_build.proofs.TreeEdits.{next_of}
-use Rattle.std.proofs.Common.{◌≡◌, ◌+◌, ◌-◌, ◌∷◌, ◌++◌, [], List, length, take, drop, suc, refl, sym, ap, subst, ◌∙◌, add-one, arith}
+use Rattle.std.proofs.Common.{◌≡◌, ◌+◌, ◌-◌, ◌∷◌, ◌++◌, [], List, length, take, drop, suc, sym, ap, subst, ◌∙◌, add-one, arith}
 use Rattle.std.proofs.lemmas.List.{drop-drop, length-drop}
 use Rattle.std.proofs.Math.Seq.{drop-cons, drop-length}
 use Rattle.tree_node.specs.NodeRefs.{link_of}
@@ -12,7 +8,7 @@ use Rattle.tree_build.specs.internal.Differing.{GoesOn}
 use Rattle.tree_build.specs.internal.Edits.{Each, IsOldNode}
 use Rattle.tree_build.specs.internal.ItemChanges.{changes_meant}
 use Rattle.tree_build.proofs.DifferLemmas.{IsDiffering, gone_changes, differing_done, differing_next, differing_start}
-use Rattle.tree_build.proofs.StepLoops.{rest_is, within_rest}
+use Rattle.tree_build.proofs.StepLoops.{rest_is}
 use Rattle.tree_build.proofs.differ.differ.Goals as goal
 
 pub loop-new-init : goal.loop-new-init

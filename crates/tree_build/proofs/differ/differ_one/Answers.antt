@@ -1,7 +1,5 @@
-use Rattle.std.proofs.Common.{refl, subst}
-use Rattle.tree_node.specs.Nodes.{Node}
+use Rattle.std.proofs.Common.{subst}
 use Rattle.tree_build.specs.declared.differ.Counterpart.TheVariants.{Missing, Changed, Same}
-use Rattle.tree_build.specs.declared.held.OldNode.{OldNode}
 use Rattle.tree_build.specs.internal.Differing.{IsCounterpart}
 use Rattle.tree_build.proofs.DifferLemmas.{adds_changed, adds_missing, adds_same}
 use Rattle.tree_build.proofs.StepLoops.{rest_is}

@@ -1,4 +1,4 @@
-use Rattle.std.proofs.Common.{◌≡◌, ◌≤◌, ◌<◌, ◌-◌, ℕ, [], List, length, refl, subst, rules, arith}
+use Rattle.std.proofs.Common.{◌≡◌, ◌-◌, ℕ, [], List, length, refl, subst, rules, arith}
 use Rattle.tree_node.specs.NodeRefs.{number_of}
 use Rattle.tree_node.specs.Trees.{Two, level_at, levels}
 use Rattle.tree_node.specs.Shelves.{IsClashFree}

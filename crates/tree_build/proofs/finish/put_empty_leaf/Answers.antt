@@ -1,4 +1,4 @@
-use Rattle.std.proofs.Common.{◌≡◌, ◌∙◌, ap, refl}
+use Rattle.std.proofs.Common.{◌∙◌, ap, refl}
 use Rattle.tree_node.specs.Digests.{digest}
 use Rattle.tree_build.proofs.FoundLemmas.{gained_set}
 use Rattle.tree_build.proofs.finish.put_empty_leaf.Goals as goal

@@ -1,4 +1,4 @@
-use Rattle.std.proofs.Common.{List, drop, length, subst, ap}
+use Rattle.std.proofs.Common.{List, subst}
 use Rattle.tree_node.specs.NodeRefs.{links_of}
 use Rattle.tree_build.specs.declared.piece.NewPiece.{NewPiece}
 use Rattle.tree_build.proofs.GrowLemmas.{AreLinked, linked_done, none_left}

@@ -1,7 +1,6 @@
-use Rattle.std.proofs.Common.{◌≡◌, ◌++◌, List, map, drop}
+use Rattle.std.proofs.Common.{List, drop}
 use Rattle.tree_node.specs.NodeRefs.{links_of}
 use Rattle.tree_node.specs.Nodes.{Node}
-use Rattle.tree_node.specs.Trees.{link_to}
 use Rattle.tree_build.specs.internal.Edits.{Each, IsNewNode}
 use Rattle.tree_build.proofs.GrowLemmas.{AreLinked}
 use Rattle.tree_build.proofs.grow.children_of.Given as goal

@@ -1,8 +1,7 @@
-use Rattle.std.proofs.Common.{◌≡◌, ◌+◌, ◌≤◌, ◌<◌, List, length, map, refl, sym, ap, subst, ◌∙◌, add-one, arith}
+use Rattle.std.proofs.Common.{◌+◌, ◌≤◌, length, sym, ap, subst, ◌∙◌, add-one, arith}
 use Rattle.std.proofs.lemmas.List.{length-map}
 use Rattle.tree_node.specs.NodeRefs.{link_of, links_of, number_of}
-use Rattle.tree_node.specs.Nodes.{Inner, Link, Node}
-use Rattle.tree_node.specs.Trees.{Two, ends_by, is_marked_link, link_to, pieces}
+use Rattle.tree_node.specs.Trees.{Two, link_to}
 use Rattle.tree_build.specs.internal.Building.{AreWithin}
 use Rattle.tree_build.specs.internal.Edits.{Each, IsNewNode}
 use Rattle.tree_build.specs.internal.Towers.{tower}

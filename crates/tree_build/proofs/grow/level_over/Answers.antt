@@ -1,6 +1,6 @@
-use Rattle.std.proofs.Common.{◌≡◌, ◌++◌, [], List, map, refl, sym, ap, subst, ◌∙◌}
+use Rattle.std.proofs.Common.{[], map, refl, sym, ap, subst, ◌∙◌}
 use Rattle.tree_node.specs.NodeRefs.{link_of, links_of, number_of}
-use Rattle.tree_node.specs.Nodes.{Inner, Link}
+use Rattle.tree_node.specs.Nodes.{Inner}
 use Rattle.tree_node.specs.Trees.{Two, ends_by, is_marked_link}
 use Rattle.tree_build.specs.internal.Building.{AreWithin}
 use Rattle.tree_build.specs.internal.Cutting.{done_by, hand_after}

@@ -1,4 +1,4 @@
-use Rattle.std.proofs.Common.{◌≡◌, ◌+◌, ◌∷◌, [], List, map, drop, refl, sym, subst, ◌∙◌, arith}
+use Rattle.std.proofs.Common.{List, map, refl, sym, subst, arith}
 use Rattle.tree_node.specs.NodeRefs.{number_of}
 use Rattle.tree_node.specs.Trees.{Two, ends_by}
 use Rattle.tree_build.proofs.HandLemmas.{IsCutting, cutting_done, cutting_fit, cutting_next, cutting_start, next_mapped, none_mapped}

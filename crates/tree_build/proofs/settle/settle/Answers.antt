@@ -1,4 +1,4 @@
-use Rattle.std.proofs.Common.{◌≡◌, ◌≤◌, ◌<◌, ◌+◌, ◌-◌, List, length, get_or, refl, sym, ap, subst, ◌∙◌, arith}
+use Rattle.std.proofs.Common.{◌≡◌, ◌≤◌, ◌<◌, ◌+◌, length, get_or, refl, subst, arith}
 use Rattle.tree_node.specs.Trees.{Two, levels, level_at, no_node}
 use Rattle.tree_build.specs.Rebuilding.{changed_entries}
 use Rattle.tree_build.specs.internal.Settling.{IsOnlyChild}

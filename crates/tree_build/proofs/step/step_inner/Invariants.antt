@@ -1,4 +1,4 @@
-use Rattle.std.proofs.Common.{◌≡◌, ◌-◌, ◌<◌, ◌≤◌, List, length, map, drop}
+use Rattle.std.proofs.Common.{◌-◌, ◌<◌, ◌≤◌, List, length, map, drop}
 use Rattle.tree_node.specs.NodeRefs.{link_of, number_of}
 use Rattle.tree_node.specs.Nodes.{Binding, Inner, Link}
 use Rattle.tree_node.specs.Shelves.{SameNodes}

@@ -1,4 +1,4 @@
-use Rattle.std.proofs.Common.{◌≡◌, ◌-◌, ◌<◌, ◌≤◌, List, length, map, drop}
+use Rattle.std.proofs.Common.{◌-◌, ◌<◌, ◌≤◌, List, length, map, drop}
 use Rattle.std.specs.List.{AllByRecursion}
 use Rattle.tree_node.specs.NodeRefs.{binding_of, number_of}
 use Rattle.tree_node.specs.Nodes.{Binding, Leaf}
