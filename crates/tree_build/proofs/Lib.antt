@@ -37,5 +37,6 @@ pub mod TellLemmas
 pub mod ToldLemmas
 pub mod TowerLemmas
 pub mod TreeEdits
+pub mod UsedLemmas
 pub mod WeaveLemmas
 pub mod shared

@@ -1,10 +1,10 @@
 //! Changing one level of a tree.
 
 ghost use Rattle.std.specs.List.{AllByRecursion, flat_map};
-ghost use Rattle.std.specs.Prelude.{◌≡◌, ◌<◌, ◌≤◌, ◌++◌, ◌∷◌, [], ℕ, List, IfOk, OnOk, IsTrue, false, drop, if◌then◌else◌, length, map, take};
+ghost use Rattle.std.specs.Prelude.{◌≡◌, ◌<◌, ◌≤◌, ◌⊎◌, ◌++◌, ◌∷◌, [], ℕ, List, IfOk, OnOk, IsTrue, false, drop, if◌then◌else◌, length, map, take};
 ghost use Rattle.tree_build.specs.Changing.{changed};
 ghost use Rattle.tree_build.specs.internal.Edits.{HaveCome};
-ghost use Rattle.tree_build.specs.internal.Holding.{IsHeldTree};
+ghost use Rattle.tree_build.specs.internal.Holding.{IsHeldTree, IsOnWayTo};
 ghost use Rattle.tree_build.specs.internal.ItemChanges.{changes_meant};
 ghost use Rattle.tree_build.specs.internal.RisingChanges.{AreOwnAndRising, IsUpTo};
 ghost use Rattle.tree_build.specs.internal.Steps.{CanStep, FirstIsAbove, HaveGoneOn, IsEdit, IsWanted};
@@ -77,6 +77,11 @@ pub(crate) fn step_leaves<'a: 'c, 'c, S: Shelf<'a>>(
         (changed (λ (entry : Binding). entry.key) (flat_map entries_in nodes) (changes_meant binding_of changes.now)))) edit) }
     // and one old node or more.
     ensures some { IfOk result (λ edit. 1 ≤ length edit.olds.items) }
+    // It reads just what is on the ways to these old nodes.
+    ensures used { (entries : List Binding) → IsHeldTree (S.holds shelf.new) place.top.0 (number_of place.tree) entries
+        → place.level < length (levels Two (number_of place.tree) entries)
+        → IfOk result (λ edit. (bytes : List ℕ) → S.used shelf.new bytes
+        → S.used shelf.old bytes ⊎ IsOnWayTo (levels Two (number_of place.tree) entries) place.level edit.olds.items bytes) }
 {
     let mut work = start(alloc);
     let mut done = 0;
@@ -111,6 +116,11 @@ pub(crate) fn step_inner<'a: 'c, 'c, S: Shelf<'a>>(
         (changed (λ (link : Link). link.greatest) (flat_map links_in nodes) (changes_meant link_of changes.now)))) edit) }
     // and one old node or more.
     ensures some { IfOk result (λ edit. 1 ≤ length edit.olds.items) }
+    // It reads just what is on the ways to these old nodes.
+    ensures used { (entries : List Binding) → IsHeldTree (S.holds shelf.new) place.top.0 (number_of place.tree) entries
+        → place.level < length (levels Two (number_of place.tree) entries)
+        → IfOk result (λ edit. (bytes : List ℕ) → S.used shelf.new bytes
+        → S.used shelf.old bytes ⊎ IsOnWayTo (levels Two (number_of place.tree) entries) place.level edit.olds.items bytes) }
 {
     let mut work = start(alloc);
     let mut done = 0;

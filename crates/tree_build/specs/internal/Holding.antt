@@ -3,7 +3,10 @@ use Rattle.std.specs.Prelude.{◌≡◌, ℕ, ◌<◌, ◌≤◌, List, [], leng
 use Rattle.tree_node.specs.Digests.{digest}
 use Rattle.tree_node.specs.Nodes.{Binding, IsNode, IsTree, Node, spelling}
 use Rattle.tree_node.specs.Trees.{Two, HasTree, IsNodeOf, greatest_of, level_at, levels, top_of}
+use Rattle.tree_build.specs.internal.Edits.{IsOldNode}
 use Rattle.tree_build.specs.internal.Seeking.{IsSought}
+use Rattle.tree_build.specs.internal.Weaving.{IsIn}
+use Rattle.tree_build.specs.declared.held.OldNode.{OldNode}
 
 -- the set holds this node, whose digest this is
 pub record IsHeld (held : List ℕ → Type 0) (key : List ℕ) (node : Node) : Type 0 where
@@ -46,3 +49,15 @@ pub record IsOnWay (tree : List (List Node)) (level : ℕ) (wanted : List ℕ) (
   pub last : Bool
   pub sought : IsSoughtNode tree at wanted above node last
   pub spelled : bytes ≡ spelling node
+
+-- it is on the way to a node of the level that was opened
+pub record IsOnWayTo (tree : List (List Node)) (level : ℕ) (olds : List OldNode) (bytes : List ℕ) : Type 0 where
+  pub wanted : List ℕ
+  pub above : Bool
+  pub on_way : IsOnWay tree level wanted above bytes
+  pub node : Node
+  pub last : Bool
+  pub sought : IsSoughtNode tree level wanted above node last
+  pub old : OldNode
+  pub opened : IsIn old olds
+  pub stands : IsOldNode old node

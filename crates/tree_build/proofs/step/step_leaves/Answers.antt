@@ -1,4 +1,4 @@
-use Rattle.std.proofs.Common.{length, refl, ap, arith}
+use Rattle.std.proofs.Common.{List, ◌⊎◌, inl, length, refl, sym, ap, subst, arith}
 use Rattle.std.specs.List.{AllByRecursion}
 use Rattle.tree_node.specs.NodeRefs.{binding_of, node_read, number_of}
 use Rattle.tree_node.specs.Nodes.{Binding, Leaf}
@@ -6,6 +6,9 @@ use Rattle.tree_node.specs.Trees.{FitsTree, Two, ends_by, entries_in, is_marked_
 use Rattle.tree_build.specs.internal.FitLaws.{entries_parts}
 use Rattle.tree_build.proofs.DescentLemmas.{level_some_at}
 use Rattle.tree_build.proofs.SeekStates.{held_then}
+use Rattle.tree_build.specs.internal.Holding.{IsOnWayTo}
+use Rattle.tree_build.specs.declared.held.OldNode.{OldNode}
+use Rattle.tree_build.proofs.UsedLemmas.{way_more}
 use Rattle.tree_build.proofs.StepLoops.{edit_of, end_state, falls, some_of, start_state, turn, went_then, within_rest}
 use Rattle.tree_build.proofs.step.step_leaves.Goals as goal
 
@@ -13,6 +16,7 @@ pub loop-wanted-init : goal.loop-wanted-init
 loop-wanted-init g c = record {
   stays = λ x. ((λ h. h), (λ h. h));
   grows = λ x h. h;
+  used = λ entries is lt x h. inl h;
   state = λ entries is lt can.
       start_state binding_of (λ (entry : Binding). entry.key) (ends_by Two is_marked_entry) entries_in (Leaf (number_of c.args.place.tree)) (AllByRecursion FitsTree) (level_at (levels Two (number_of c.args.place.tree) entries) c.args.place.level) c.args.changes.now can (level_some_at (number_of c.args.place.tree) entries c.args.place.level lt) _ _ _
       c.start-work.ensures.olds c.start-work.ensures.news c.start-work.ensures.hand;
@@ -56,6 +60,12 @@ pub loop-wanted-preserved : goal.loop-wanted-preserved
 loop-wanted-preserved g c = record {
   stays = λ x. ((λ h. (c.loop-wanted.invariant.stays x).0 ((c.seek.ensures.stays x).0 h)), (λ h. (c.seek.ensures.stays x).1 ((c.loop-wanted.invariant.stays x).1 h)));
   grows = λ x h. c.seek.ensures.grows x (c.loop-wanted.invariant.grows x h);
+  used = λ entries is lt x h.
+      let held_now = held_then (g.S.Shelf.holds c.args.shelf.now) (g.S.Shelf.holds c.seek.new.shelf) c.args.place.top.0 (number_of c.args.place.tree) entries
+      (λ y k. (c.seek.ensures.stays y).1 ((c.loop-wanted.invariant.stays y).1 k)) is in
+      way_more (levels Two (number_of c.args.place.tree) entries) c.args.place.level c.loop-wanted.work.olds.items c.take.new.work.olds.items c.in_ok-found.found.old c.in_ok-take.ensures.olds
+      c.in-Some.wanted.now c.in-Some.above (node_read c.in_ok-found.found.node) c.in_ok-found.is_last (c.in_ok-found.ensures.node (number_of c.args.place.tree) entries held_now lt) c.in_ok-found.ensures.old x (g.S.Shelf.used c.args.shelf.now x) (g.S.Shelf.used c.loop-wanted.shelf x)
+      (c.loop-wanted.invariant.used entries is lt x) (c.in_ok-found.ensures.used (number_of c.args.place.tree) entries held_now lt x h);
   state = λ entries is lt can.
       let held_now = held_then (g.S.Shelf.holds c.args.shelf.now) (g.S.Shelf.holds c.seek.new.shelf) c.args.place.top.0 (number_of c.args.place.tree) entries
       (λ x h. (c.seek.ensures.stays x).1 ((c.loop-wanted.invariant.stays x).1 h)) is in
@@ -82,3 +92,9 @@ returns-clause-some g c =
 pub returns-in_err-take-clause-stays : goal.returns-in_err-take-clause-stays
 returns-in_err-take-clause-stays g c =
     λ x. ((λ h. (c.loop-wanted.invariant.stays x).0 ((c.seek.ensures.stays x).0 h)), (λ h. (c.seek.ensures.stays x).1 ((c.loop-wanted.invariant.stays x).1 h)))
+
+pub returns-clause-used : goal.returns-clause-used
+returns-clause-used g c = λ entries is lt x h.
+    let was = held_then (g.S.Shelf.holds c.loop-wanted.shelf) (g.S.Shelf.holds c.args.shelf.now) c.args.place.top.0 (number_of c.args.place.tree) entries (λ y k. (c.loop-wanted.invariant.stays y).0 k) is in
+    subst (λ (os : List OldNode). g.S.Shelf.used c.args.shelf.now x ⊎ IsOnWayTo (levels Two (number_of c.args.place.tree) entries) c.args.place.level os x) (sym (ap (λ v. v.items) c.finish.ensures.olds))
+    (c.loop-wanted.invariant.used entries was lt x h)

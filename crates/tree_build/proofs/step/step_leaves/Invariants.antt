@@ -1,10 +1,10 @@
-use Rattle.std.proofs.Common.{◌-◌, ◌<◌, ◌≤◌, List, length, map, drop}
+use Rattle.std.proofs.Common.{◌-◌, ◌<◌, ◌≤◌, List, length, map, drop, ◌⊎◌, ℕ}
 use Rattle.std.specs.List.{AllByRecursion}
 use Rattle.tree_node.specs.NodeRefs.{binding_of, number_of}
 use Rattle.tree_node.specs.Nodes.{Binding, Leaf}
 use Rattle.tree_node.specs.Shelves.{SameNodes}
 use Rattle.tree_node.specs.Trees.{FitsTree, Two, ends_by, entries_in, is_marked_entry, level_at, levels}
-use Rattle.tree_build.specs.internal.Holding.{IsHeldTree}
+use Rattle.tree_build.specs.internal.Holding.{IsHeldTree, IsOnWayTo}
 use Rattle.tree_build.specs.internal.ItemChanges.{changes_meant}
 use Rattle.tree_build.specs.internal.Steps.{CanStep}
 use Rattle.tree_build.proofs.StepStates.{StepState}
@@ -14,6 +14,8 @@ abbrev pub invariant-loop-wanted : goal.invariant-loop-wanted
 invariant-loop-wanted g l = record {
   stays : SameNodes (g.S.Shelf.holds l.fn.shelf) (g.S.Shelf.holds l.shelf);
   grows : (bytes : List _) → g.S.Shelf.used l.fn.shelf bytes → g.S.Shelf.used l.shelf bytes;
+  used : (entries : List Binding) → IsHeldTree (g.S.Shelf.holds l.fn.shelf) l.place.top.0 (number_of l.place.tree) entries → l.place.level < length (levels Two (number_of l.place.tree) entries)
+      → (bytes : List ℕ) → g.S.Shelf.used l.shelf bytes → g.S.Shelf.used l.fn.shelf bytes ⊎ IsOnWayTo (levels Two (number_of l.place.tree) entries) l.place.level l.work.olds.items bytes;
   state : (entries : List Binding) → IsHeldTree (g.S.Shelf.holds l.fn.shelf) l.place.top.0 (number_of l.place.tree) entries → l.place.level < length (levels Two (number_of l.place.tree) entries)
       → CanStep (λ (entry : Binding). entry.key) (ends_by Two is_marked_entry) entries_in (Leaf (number_of l.place.tree)) (AllByRecursion FitsTree) (level_at (levels Two (number_of l.place.tree) entries) l.place.level) (changes_meant binding_of l.changes)
       → StepState (λ (entry : Binding). entry.key) (ends_by Two is_marked_entry) entries_in (Leaf (number_of l.place.tree)) (AllByRecursion FitsTree) (level_at (levels Two (number_of l.place.tree) entries) l.place.level) (changes_meant binding_of l.changes)
