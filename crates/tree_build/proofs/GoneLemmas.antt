@@ -58,7 +58,7 @@ module _ {X : Type 0} (key : X → List ℕ) (ends : ℕ → X → Bool) where
 
   module _ (x : X) (rest : List X) where
     -- it begins with another item
-    abbrev IsOther : List X → Type 0
+    abbrev pub IsOther : List X → Type 0
     IsOther p = p ≢ x ∷ rest
 
     begins_below : (p : List X) → Begins (λ (y : X). IsBelow (key y) (key x)) p → IsOther p
@@ -77,7 +77,7 @@ module _ {X : Type 0} (key : X → List ℕ) (ends : ℕ → X → Bool) where
     all_either [] all = tt
     all_either (p ∷ ps) all = (elim all.0 [ inl low ↦ begins_below p low | inr high ↦ begins_above p high ], all_either ps all.1)
 
-    in_hand : (hand xs : List X) → hand ≢ [] → AllByRecursion (λ (y : X). IsBelow (key y) (key x)) hand → AllByRecursion (λ (y : X). IsBelow (key x) (key y)) xs
+    pub in_hand : (hand xs : List X) → hand ≢ [] → AllByRecursion (λ (y : X). IsBelow (key y) (key x)) hand → AllByRecursion (λ (y : X). IsBelow (key x) (key y)) xs
         → AllByRecursion IsOther (pieces_from ends hand (x ∷ xs))
     in_hand [] xs some low high = absurd (some refl)
     in_hand (h ∷ hs) xs some low high =

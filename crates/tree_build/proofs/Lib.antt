@@ -22,6 +22,7 @@ pub mod NextLemmas
 pub mod OldLevels
 pub mod OnceLemmas
 pub mod ParentLemmas
+pub mod ReasonLemmas
 pub mod RebuildLemmas
 pub mod RecutLemmas
 pub mod SeekLemmas

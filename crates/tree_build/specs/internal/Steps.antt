@@ -10,7 +10,8 @@ use Rattle.tree_build.specs.Changing.{Change, changed}
 use Rattle.tree_build.specs.internal.Cutting.{ArePieces, done_by, hand_after}
 use Rattle.tree_build.specs.internal.Edits.{Each, HaveCome, IsNewNode, IsOldNode}
 use Rattle.tree_build.specs.internal.RisingChanges.{AreOwnAndRising, IsUpTo}
-use Rattle.tree_build.specs.internal.Weaving.{Woven}
+use Rattle.tree_build.specs.internal.Seeking.{IsSought}
+use Rattle.tree_build.specs.internal.Weaving.{IsIn, Woven}
 use Rattle.tree_build.specs.declared.held.OldNode.{OldNode}
 use Rattle.tree_build.specs.declared.level_item.ItemChange.{ItemChange}
 use Rattle.tree_build.specs.declared.piece.NewPiece.{NewPiece}
@@ -63,3 +64,35 @@ FirstIsAbove key (change ∷ changes) = IsBelow key change.key.now
 pub record HaveGoneOn {X : Type 0} (ends : ℕ → X → Bool) (over : List X → Node) (is_last : Bool) (hand : List X) (news : List NewPiece) (items next : List X) (later : List NewPiece) : Type 0 where
   pub come : HaveCome news later (map over (done_by ends hand items ++ (if is_last then pieces_from ends (hand_after ends hand items) [] else [])))
   pub hand_is : next ≡ (if is_last then [] else hand_after ends hand items)
+
+-- the node is sought for the key
+pub record IsSoughtFor (nodes : List Node) (key : List ℕ) (node : Node) : Type 0 where
+  pub front : List Node
+  pub back : List Node
+  pub sought : IsSought greatest_of key false nodes front node back
+
+-- why a node was opened: it is sought for one of the keys, or it is gone
+abbrev pub IsReason : List Node → List Node → List (List ℕ) → Node → Type 0
+IsReason nodes new keys node = ((key : List ℕ) × IsIn key keys × IsSoughtFor nodes key node) ⊎ (¬ IsIn node new)
+
+-- the old node was opened for a reason
+pub record IsOpenedFor (nodes new : List Node) (keys : List (List ℕ)) (old : OldNode) : Type 0 where
+  pub node : Node
+  pub stands : IsOldNode old node
+  pub reason : IsReason nodes new keys node
+
+-- the node that is sought for the key was opened
+pub record IsCovered (nodes : List Node) (olds : List OldNode) (key : List ℕ) : Type 0 where
+  pub old : OldNode
+  pub opened : IsIn old olds
+  pub node : Node
+  pub stands : IsOldNode old node
+  pub sought : IsSoughtFor nodes key node
+
+-- Each old node was opened for a reason, and those that are sought for these keys were opened.
+pub record HaveReasons (nodes new : List Node) (keys covered : List (List ℕ)) (olds : List OldNode) : Type 0 where
+  pub reasons : AllByRecursion (IsOpenedFor nodes new keys) olds
+  pub covers : AllByRecursion (IsCovered nodes olds) covered
+
+abbrev pub keys_changed : {X : Type 0} → List (Change X) → List (List ℕ)
+keys_changed {X} changes = map (λ (c : Change X). c.key) changes
