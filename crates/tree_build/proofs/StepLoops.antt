@@ -34,7 +34,7 @@ module _ {T X : Type 0} (meaning : T → X) (key : X → List ℕ) (ends : ℕ �
     pub at : StepAt key ends items over Fit nodes (changes_meant meaning cs) others (node ∷ behind) olds news (map meaning hand) (changes_meant meaning (drop done cs))
     pub last : (IsTrue is_last → behind ≡ []) × (behind ≡ [] → IsTrue is_last)
 
-  none_meant : (hand : List T) → map meaning hand ≡ [] → hand ≡ []
+  pub none_meant : (hand : List T) → map meaning hand ≡ [] → hand ≡ []
   none_meant [] e = refl
   none_meant (x ∷ xs) e = absurd cc
 

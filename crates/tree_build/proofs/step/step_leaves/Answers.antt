@@ -8,7 +8,7 @@ use Rattle.tree_build.proofs.DescentLemmas.{level_some_at}
 use Rattle.tree_build.proofs.SeekStates.{held_then}
 use Rattle.tree_build.specs.internal.Holding.{IsOnWayTo}
 use Rattle.tree_build.specs.declared.held.OldNode.{OldNode}
-use Rattle.tree_build.proofs.ReasonLemmas.{is_gone}
+use Rattle.tree_build.proofs.ReasonLemmas.{first_reasons, last_reasons, next_reasons}
 use Rattle.tree_build.proofs.UsedLemmas.{way_more}
 use Rattle.tree_build.proofs.StepLoops.{edit_of, end_state, falls, some_of, start_state, turn, went_then, within_rest}
 use Rattle.tree_build.proofs.step.step_leaves.Goals as goal
