@@ -184,8 +184,9 @@ module _ {T X : Type 0} (meaning : T → X) (key : X → List ℕ) (ends : ℕ �
   key_in (suc n) [] k is = is
   key_in (suc n) (d ∷ ds) k is = inr (key_in n ds k is)
 
-  pub first_reasons : HaveReasons nodes (new_nodes key ends items over Fit nodes (changes_meant meaning cs) can back_is) (keys_changed (changes_meant meaning cs)) (keys_to 0) []
-  first_reasons = record { reasons = tt; covers = tt }
+  pub first_reasons : (olds : List OldNode) → olds ≡ [] → HaveReasons nodes (new_nodes key ends items over Fit nodes (changes_meant meaning cs) can back_is) (keys_changed (changes_meant meaning cs)) (keys_to 0) olds
+  first_reasons [] none = record { reasons = tt; covers = tt }
+  first_reasons (o ∷ os) none = absurd cc
 
   more_covered : (olds later : List OldNode) (old : OldNode) → later ≡ olds ++ old ∷ [] → (keys : List (List ℕ)) → AllByRecursion (IsCovered nodes olds) keys → AllByRecursion (IsCovered nodes later) keys
   more_covered olds later old same [] all = tt
@@ -244,10 +245,17 @@ module _ {T X : Type 0} (meaning : T → X) (key : X → List ℕ) (ends : ℕ �
       }
 
   -- at the end all changes were taken
-  pub last_reasons : (olds : List OldNode) (hand : List T) (done : ℕ) → IsWanted olds hand (take (length cs - done) (drop done cs)) None → ((hand ≢ []) × (olds ≡ []) → ⊥)
+  pub last_reasons : (olds : List OldNode) (news : List NewPiece) (hand : List T) (done : ℕ) → StepState key ends items over Fit nodes (changes_meant meaning cs) olds news (map meaning hand) (changes_meant meaning (drop done cs)) → IsWanted olds hand (take (length cs - done) (drop done cs)) None
       → HaveReasons nodes (new_nodes key ends items over Fit nodes (changes_meant meaning cs) can back_is) (keys_changed (changes_meant meaning cs)) (keys_to done) olds
       → HaveReasons nodes (new_nodes key ends items over Fit nodes (changes_meant meaning cs) can back_is) (keys_changed (changes_meant meaning cs)) (keys_changed (changes_meant meaning cs)) olds
-  last_reasons olds hand done wants never so =
+  last_reasons olds news hand done state wants so =
       let none_left : drop done cs ≡ [] = elim wants [ inl both ↦ sym (rest_is cs done) ∙ both.1 | inr not ↦ absurd (never not) ] in
       let whole : take done cs ≡ cs = sym (append-nil (take done cs)) ∙ ap (λ (ds : List (ItemChange T)). take done cs ++ ds) (sym none_left) ∙ take-append-drop done cs in
       record { reasons = so.reasons; covers = subst (λ (ds : List (ItemChange T)). AllByRecursion (IsCovered nodes olds) (keys_changed (changes_meant meaning ds))) whole so.covers }
+    where
+      not_empty : (os : List OldNode) (o : OldNode) → os ++ o ∷ [] ≡ [] → ⊥
+      not_empty [] o e = cc
+      not_empty (p ∷ os) o e = cc
+
+      never : (hand ≢ []) × (olds ≡ []) → ⊥
+      never both = elim state.at.following [ inl none ↦ both.0 (none_meant meaning key ends items over Fit nodes cs can hand none) | inr last ↦ not_empty last.before last.old (sym last.olds_are ∙ both.1) ]

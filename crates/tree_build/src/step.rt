@@ -7,7 +7,7 @@ ghost use Rattle.tree_build.specs.internal.Edits.{HaveCome};
 ghost use Rattle.tree_build.specs.internal.Holding.{IsHeldTree, IsOnWayTo};
 ghost use Rattle.tree_build.specs.internal.ItemChanges.{changes_meant};
 ghost use Rattle.tree_build.specs.internal.RisingChanges.{AreOwnAndRising, IsUpTo};
-ghost use Rattle.tree_build.specs.internal.Steps.{CanStep, FirstIsAbove, HaveGoneOn, IsEdit, IsWanted};
+ghost use Rattle.tree_build.specs.internal.Steps.{CanStep, FirstIsAbove, HaveGoneOn, HaveReasons, IsEdit, IsWanted, keys_changed};
 ghost use Rattle.tree_build.specs.internal.Building.{AreWithin};
 ghost use Rattle.tree_node.specs.declared.limits.TheConstants.{ITEM_LIMIT};
 ghost use Rattle.tree_node.specs.NodeRefs.{binding_of, link_of, node_read, number_of};
@@ -82,6 +82,14 @@ pub(crate) fn step_leaves<'a: 'c, 'c, S: Shelf<'a>>(
         → place.level < length (levels Two (number_of place.tree) entries)
         → IfOk result (λ edit. (bytes : List ℕ) → S.used shelf.new bytes
         → S.used shelf.old bytes ⊎ IsOnWayTo (levels Two (number_of place.tree) entries) place.level edit.olds.items bytes) }
+    // They are sought for a change or are gone, and those that are sought for a change are among them.
+    ensures reasons { (entries : List Binding) → IsHeldTree (S.holds shelf.new) place.top.0 (number_of place.tree) entries
+        → place.level < length (levels Two (number_of place.tree) entries)
+        → let nodes = level_at (levels Two (number_of place.tree) entries) place.level in
+        CanStep (λ (entry : Binding). entry.key) (ends_by Two is_marked_entry) entries_in (Leaf (number_of place.tree)) (AllByRecursion FitsTree) nodes (changes_meant binding_of changes.now)
+        → IfOk result (λ edit. HaveReasons nodes (map (Leaf (number_of place.tree)) (pieces (ends_by Two is_marked_entry)
+        (changed (λ (entry : Binding). entry.key) (flat_map entries_in nodes) (changes_meant binding_of changes.now))))
+        (keys_changed (changes_meant binding_of changes.now)) (keys_changed (changes_meant binding_of changes.now)) edit.olds.items) }
 {
     let mut work = start(alloc);
     let mut done = 0;
@@ -121,6 +129,14 @@ pub(crate) fn step_inner<'a: 'c, 'c, S: Shelf<'a>>(
         → place.level < length (levels Two (number_of place.tree) entries)
         → IfOk result (λ edit. (bytes : List ℕ) → S.used shelf.new bytes
         → S.used shelf.old bytes ⊎ IsOnWayTo (levels Two (number_of place.tree) entries) place.level edit.olds.items bytes) }
+    // They are sought for a change or are gone, and those that are sought for a change are among them.
+    ensures reasons { (entries : List Binding) → IsHeldTree (S.holds shelf.new) place.top.0 (number_of place.tree) entries
+        → place.level < length (levels Two (number_of place.tree) entries)
+        → let nodes = level_at (levels Two (number_of place.tree) entries) place.level in
+        CanStep (λ (link : Link). link.greatest) (ends_by Two is_marked_link) links_in (Inner (number_of place.tree) place.level) AreWithin nodes (changes_meant link_of changes.now)
+        → IfOk result (λ edit. HaveReasons nodes (map (Inner (number_of place.tree) place.level) (pieces (ends_by Two is_marked_link)
+        (changed (λ (link : Link). link.greatest) (flat_map links_in nodes) (changes_meant link_of changes.now))))
+        (keys_changed (changes_meant link_of changes.now)) (keys_changed (changes_meant link_of changes.now)) edit.olds.items) }
 {
     let mut work = start(alloc);
     let mut done = 0;
