@@ -1,10 +1,10 @@
 //! Changing a tree from level to level.
 
-ghost use Rattle.std.specs.Prelude.{◌≡◌, ◌+◌, ◌≤◌, ◌<◌, ◌↔◌, ℕ, List, IfOk, IsTrue, length};
+ghost use Rattle.std.specs.Prelude.{◌≡◌, ◌⊎◌, ◌+◌, ◌≤◌, ◌<◌, ◌↔◌, ℕ, List, IfOk, IsTrue, length};
 ghost use Rattle.tree_build.specs.Rebuilding.{IsOldTree, change_of, changed_entries, changes_of};
 ghost use Rattle.tree_build.specs.internal.ItemChanges.{change_meant, changes_meant};
 ghost use Rattle.tree_build.specs.internal.Towers.{tower};
-ghost use Rattle.tree_build.specs.internal.TreeEdits.{IsTreeEdit};
+ghost use Rattle.tree_build.specs.internal.TreeEdits.{IsRead, IsTreeEdit};
 ghost use Rattle.tree_node.specs.NodeRefs.{binding_of, number_of};
 ghost use Rattle.tree_node.specs.Nodes.{Binding};
 ghost use Rattle.tree_node.specs.Shelves.{SameNodes};
@@ -45,6 +45,11 @@ pub(crate) fn change_levels<'a: 'c, 'c, S: Shelf<'a>>(
         → top_level + 1 ≡ length (levels Two (number_of tree) entries)
         → IfOk result (IsTreeEdit (levels Two (number_of tree) entries)
         (tower Two (number_of tree) (changed_entries entries (changes_of changes.now)))) }
+    // It reads just what is on the ways to the nodes that were opened.
+    ensures used { (entries : List Binding) → IsOldTree (S.holds shelf.new) top.now.0 (changes_of changes.now) (number_of tree) entries
+        → top_level + 1 ≡ length (levels Two (number_of tree) entries)
+        → IfOk result (λ edited. (bytes : List ℕ) → S.used shelf.new bytes
+        → S.used shelf.old bytes ⊎ IsRead (levels Two (number_of tree) entries) 0 edited.edits.items bytes) }
 {
     let mut edits = Vec::new(alloc);
     let items = item_changes(alloc, changes)?;

@@ -1,8 +1,9 @@
 -- How the levels of a tree change, from the leaves up.
-use Rattle.std.specs.Prelude.{◌≡◌, ℕ, suc, ◌-◌, ◌≤◌, List, [], ◌∷◌, length, IsTrue, false, ⊤}
+use Rattle.std.specs.Prelude.{◌≡◌, ◌⊎◌, ℕ, suc, ◌-◌, ◌≤◌, List, [], ◌∷◌, length, IsTrue, false, ⊤}
 use Rattle.std.specs.List.{AllByRecursion}
 use Rattle.tree_node.specs.Nodes.{Node}
 use Rattle.tree_node.specs.Trees.{level_at}
+use Rattle.tree_build.specs.internal.Holding.{IsOnWayTo}
 use Rattle.tree_build.specs.internal.Steps.{IsEdit}
 use Rattle.tree_build.specs.declared.levels.TreeEdit.{TreeEdit}
 use Rattle.tree_build.specs.declared.step.LevelEdit.{LevelEdit}
@@ -24,3 +25,8 @@ pub record IsTreeEdit (old : List (List Node)) (new : ℕ → List Node) (edited
   pub within : length edited.edits.items ≤ length old
   pub same : IsTrue edited.stays → level_at old (length edited.edits.items - 1) ≡ new (length edited.edits.items - 1)
   pub whole : edited.stays ≡ false → length edited.edits.items ≡ length old
+
+-- it is on the way to a node that one of the edits opened, of the levels from this one on
+abbrev pub IsRead : List (List Node) → ℕ → List LevelEdit → List ℕ → Type 0
+IsRead old level [] bytes = ⊥
+IsRead old level (edit ∷ edits) bytes = IsOnWayTo old level edit.olds.items bytes ⊎ IsRead old (suc level) edits bytes

@@ -1,4 +1,4 @@
-use Rattle.std.proofs.Common.{vec_len, ◌≡◌, ◌+◌, ◌++◌, ◌∷◌, [], ◌<◌, ◌≤◌, length-append, length, map, refl, sym, ap, subst, ◌∙◌, add-one, arith}
+use Rattle.std.proofs.Common.{vec_len, inl, ◌≡◌, ◌+◌, ◌++◌, ◌∷◌, [], ◌<◌, ◌≤◌, length-append, length, map, refl, sym, ap, subst, ◌∙◌, add-one, arith}
 use Rattle.tree_node.specs.NodeRefs.{binding_of, link_of, number_of}
 use Rattle.std.specs.List.{flat_map}
 use Rattle.std.proofs.lemmas.List.{length-map}
@@ -9,6 +9,7 @@ use Rattle.tree_build.specs.internal.Steps.{IsEdit}
 use Rattle.tree_build.specs.Rebuilding.{changes_of}
 use Rattle.tree_build.specs.internal.ItemChanges.{change_meant, changes_meant}
 use Rattle.tree_build.proofs.TreeEdits.{edit_inner, edit_leaves, given_inner, given_leaves, held_of, levels_first, levels_more, next_of, nodes_new, nodes_old, old_then, at_top, none_next, tree_edit}
+use Rattle.tree_build.proofs.UsedLemmas.{read_more}
 use Rattle.tree_build.proofs.levels.change_levels.Goals as goal
 
 pub step_leaves-requires : goal.step_leaves-requires
@@ -23,6 +24,11 @@ levels-init g c = record {
   grows = c.step_leaves.ensures.grows;
   low = omega arith;
   count = ap length c.in_ok-push.ensures.items ∙ ap (λ xs. length (xs ++ c.in_ok-leaves.leaves ∷ [])) c.new-edits.ensures.items;
+  used = λ entries is height x h.
+      let now = old_then _ (g.S.Shelf.holds c.step_leaves.new.shelf) _ _ _ _ (λ y k. (c.step_leaves.ensures.stays y).1 k) is in
+      read_more (levels Two (number_of c.args.tree) entries) 0 [] c.push.new.self.items c.in_ok-leaves.leaves x (g.S.Shelf.used c.args.shelf.now x) (g.S.Shelf.used c.args.shelf.now x)
+      (c.in_ok-push.ensures.items ∙ ap (λ xs. xs ++ c.in_ok-leaves.leaves ∷ []) c.new-edits.ensures.items) refl (λ k. inl k)
+      (c.in_ok-leaves.ensures.used entries (held_of _ _ _ _ _ now) (omega arith) x h);
   state = λ entries is height.
       let given : changes_meant binding_of c.as_slice.result.now ≡ changes_of c.args.changes.now = ap (changes_meant binding_of) c.as_slice.ensures.value ∙ c.in_ok-items.ensures in
       let (some_entries, some_is, some_height, some) = c.requires in
@@ -59,6 +65,12 @@ levels-preserved g c =
       grows = λ x h. c.step_inner.ensures.grows x (c.levels.invariant.grows x h);
       low = omega (arith, on.0);
       count = omega (arith, ap length c.in_ok-push-2.ensures.items, length-append c.levels.edits.items (c.in_ok-edit.edit ∷ []), c.levels.invariant.count);
+      used = λ entries is height x h.
+          let below : c.levels.level + 1 < length (levels Two (number_of c.args.tree) entries) = omega (arith, on.0) in
+          let now = old_then _ (g.S.Shelf.holds c.step_inner.new.shelf) _ _ _ _ (λ y k. (c.step_inner.ensures.stays y).1 ((c.levels.invariant.stays y).1 k)) is in
+          read_more (levels Two (number_of c.args.tree) entries) (c.levels.level + 1) c.levels.edits.items c.push-in-levels.new.self.items c.in_ok-edit.edit x (g.S.Shelf.used c.args.shelf.now x) (g.S.Shelf.used c.levels.shelf x)
+          c.in_ok-push-2.ensures.items c.levels.invariant.count (c.levels.invariant.used entries is height x)
+          (c.in_ok-edit.ensures.used entries (held_of _ _ _ _ _ now) below x h);
       state = λ entries is height.
           let state = c.levels.invariant.state entries is height in
           let given : changes_meant link_of c.as_slice-in-levels-2.result.now ≡ changes_meant link_of c.levels.next.items = ap (changes_meant link_of) c.as_slice-in-levels-2.ensures.value in
@@ -85,3 +97,22 @@ returns-clause-edited g c = λ entries is height.
     (none_next (change_meant link_of) c.levels.next.items (vec_len c.levels.next) c.is_empty-stays.result c.levels.next.ok.0 c.is_empty-stays.ensures)
     (λ some. at_top c.levels.next.items (vec_len c.levels.next) c.levels.level c.args.top_level (length c.as_slice-in-levels.result.now) c.is_empty-stays.result c.goes_on.result c.levels.next.ok.0
     (ap length c.as_slice-in-levels.ensures.value) c.is_empty-stays.ensures some c.goes_on.ensures.1 c.levels-test.false c.levels.invariant.low)
+
+pub returns-clause-used : goal.returns-clause-used
+returns-clause-used g c = λ entries is height.
+    let was = old_then _ (g.S.Shelf.holds c.args.shelf.now) _ _ _ _ (λ x h. (c.levels.invariant.stays x).0 h) is in
+    c.levels.invariant.used entries was height
+
+pub returns-in_err-next-2-clause-stays : goal.returns-in_err-next-2-clause-stays
+returns-in_err-next-2-clause-stays g c =
+    λ x. ((λ h. (c.levels.invariant.stays x).0 ((c.step_inner.ensures.stays x).0 h)), (λ h. (c.step_inner.ensures.stays x).1 ((c.levels.invariant.stays x).1 h)))
+
+pub returns-in_err-next-2-clause-grows : goal.returns-in_err-next-2-clause-grows
+returns-in_err-next-2-clause-grows g c = λ x h. c.step_inner.ensures.grows x (c.levels.invariant.grows x h)
+
+pub returns-in_err-push-2-clause-stays : goal.returns-in_err-push-2-clause-stays
+returns-in_err-push-2-clause-stays g c =
+    λ x. ((λ h. (c.levels.invariant.stays x).0 ((c.step_inner.ensures.stays x).0 h)), (λ h. (c.step_inner.ensures.stays x).1 ((c.levels.invariant.stays x).1 h)))
+
+pub returns-in_err-push-2-clause-grows : goal.returns-in_err-push-2-clause-grows
+returns-in_err-push-2-clause-grows g c = λ x h. c.step_inner.ensures.grows x (c.levels.invariant.grows x h)

@@ -1,10 +1,11 @@
-use Rattle.std.proofs.Common.{◌≡◌, ◌+◌, ◌-◌, ◌≤◌, List, length}
+use Rattle.std.proofs.Common.{◌≡◌, ℕ, ◌⊎◌, ◌+◌, ◌-◌, ◌≤◌, List, length}
 use Rattle.tree_node.specs.NodeRefs.{link_of, number_of}
 use Rattle.tree_node.specs.Nodes.{Binding}
 use Rattle.tree_node.specs.Shelves.{SameNodes}
 use Rattle.tree_node.specs.Trees.{Two, levels}
 use Rattle.tree_build.specs.Rebuilding.{IsOldTree, changed_entries, changes_of}
 use Rattle.tree_build.specs.internal.ItemChanges.{changes_meant}
+use Rattle.tree_build.specs.internal.TreeEdits.{IsRead}
 use Rattle.tree_build.specs.internal.Towers.{tower}
 use Rattle.tree_build.proofs.TreeEdits.{LevelsState}
 use Rattle.tree_build.proofs.levels.change_levels.Given as goal
@@ -16,6 +17,8 @@ invariant-levels g l = record {
   grows : (bytes : List _) → g.S.Shelf.used l.fn.shelf bytes → g.S.Shelf.used l.shelf bytes;
   low : l.level ≤ l.top_level;
   count : length l.edits.items ≡ l.level + 1;
+  used : (entries : List Binding) → IsOldTree (g.S.Shelf.holds l.fn.shelf) l.top.0 (changes_of l.changes) (number_of l.tree) entries → l.top_level + 1 ≡ length (levels Two (number_of l.tree) entries)
+      → (bytes : List ℕ) → g.S.Shelf.used l.shelf bytes → g.S.Shelf.used l.fn.shelf bytes ⊎ IsRead (levels Two (number_of l.tree) entries) 0 l.edits.items bytes;
   state : (entries : List Binding) → IsOldTree (g.S.Shelf.holds l.fn.shelf) l.top.0 (changes_of l.changes) (number_of l.tree) entries → l.top_level + 1 ≡ length (levels Two (number_of l.tree) entries)
       → LevelsState (levels Two (number_of l.tree) entries) (tower Two (number_of l.tree) (changed_entries entries (changes_of l.changes))) l.level l.edits.items (changes_meant link_of l.next.items);
 }
