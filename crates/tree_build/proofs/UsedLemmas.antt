@@ -1,8 +1,10 @@
 -- What was read.
-use Rattle.std.proofs.Common.{◌≡◌, ℕ, suc, ◌+◌, List, [], ◌∷◌, ◌++◌, length, ◌⊎◌, inl, inr, Bool, refl, sym, subst, arith}
-use Rattle.tree_node.specs.Nodes.{Node}
+use Rattle.std.proofs.Common.{◌≡◌, ℕ, suc, ◌+◌, ◌<◌, ◌≤◌, get_or, List, [], ◌∷◌, ◌++◌, length, ◌⊎◌, inl, inr, Bool, refl, sym, subst, arith}
+use Rattle.tree_node.specs.Nodes.{Node, spelling}
+use Rattle.tree_node.specs.Trees.{no_node}
 use Rattle.tree_build.specs.internal.Edits.{IsOldNode}
 use Rattle.tree_build.specs.internal.Holding.{IsOnWay, IsOnWayTo, IsSoughtNode}
+use Rattle.tree_build.specs.internal.Settling.{IsReadBy}
 use Rattle.tree_build.specs.internal.TreeEdits.{IsRead}
 use Rattle.tree_build.specs.internal.Weaving.{IsIn}
 use Rattle.tree_build.specs.declared.held.OldNode.{OldNode}
@@ -40,3 +42,16 @@ read_more tree level edits later edit bytes Used Mid more count before read =
       | inl earlier ↦ elim (before earlier) [ inl used ↦ inl used | inr way ↦ inr (read_front tree 0 edits (edit ∷ []) bytes way) ]
       | inr here ↦ inr (read_back tree 0 level edits edit bytes (omega (arith, count)) here)
     ])
+
+-- ---- coming down to the top
+
+-- one level more was passed
+pub read_down : (new : ℕ → List Node) (edits : List LevelEdit) (level from : ℕ) (edit : LevelEdit) (bytes : List ℕ) → from ≤ level → level < length edits → edit ≡ get_or edits level edit → (Used Mid : Type 0) → (Mid → Used ⊎ IsReadBy new edits (level + 1) bytes)
+    → Mid ⊎ ((edit.news.items ≡ []) × (bytes ≡ spelling (get_or (new level) 0 no_node))) → Used ⊎ IsReadBy new edits from bytes
+read_down new edits level from edit bytes low high edit_is Used Mid before read = elim read [
+  | inl earlier ↦ elim (before earlier) [
+    | inl used ↦ inl used
+    | inr by ↦ inr (record { at = by.at; low = omega (arith, low, by.low); high = by.high; edit = by.edit; edit_is = by.edit_is; none_new = by.none_new; spelled = by.spelled })
+  ]
+  | inr here ↦ inr (record { at = level; low = low; high = high; edit = edit; edit_is = edit_is; none_new = here.0; spelled = here.1 })
+]

@@ -1,11 +1,11 @@
 //! Coming down to the top of a tree that lost levels.
 
-ghost use Rattle.std.specs.Prelude.{◌≡◌, ◌∷◌, ◌++◌, ◌≤◌, ◌-◌, ◌==◌, [], ℕ, List, IfOk, OnOk, if◌then◌else◌, length, slice_index_or};
+ghost use Rattle.std.specs.Prelude.{◌≡◌, ◌⊎◌, ◌∷◌, ◌++◌, ◌≤◌, ◌-◌, ◌==◌, [], ℕ, List, IfOk, OnOk, if◌then◌else◌, length, slice_index_or};
 ghost use Rattle.tree_build.specs.Changing.{Change};
 ghost use Rattle.tree_build.specs.Rebuilding.{IsOldTree, changed_entries, digests_of};
 ghost use Rattle.tree_build.specs.internal.Edits.{IsNewNode};
 ghost use Rattle.tree_build.specs.internal.Holding.{HoldsNode, IsHeld};
-ghost use Rattle.tree_build.specs.internal.Settling.{HasSettled, IsOnlyChild};
+ghost use Rattle.tree_build.specs.internal.Settling.{HasSettled, IsOnlyChild, IsReadBy};
 ghost use Rattle.tree_build.specs.internal.Telling.{node_digest};
 ghost use Rattle.tree_build.specs.internal.Towers.{tower};
 ghost use Rattle.tree_build.specs.internal.TreeEdits.{AreEdits};
@@ -51,6 +51,15 @@ pub(crate) fn settle<'a, 'c, S: Shelf<'a>>(
         → digest.now.0 ≡ node_digest (slice_index_or (tower Two tree (changed_entries entries changes) (length edits.now - 1)) 0 no_node)
         → IfOk result (λ found. HasSettled (tower Two tree (changed_entries entries changes)) edits.now
         (digests_of gone.old.items) (digests_of gone.new.items) found.digest.0 found.level) }
+    // It reads just the nodes that aren't new on its way down.
+    ensures used { (tree : ℕ) (top : List ℕ) (changes : List (Change Binding)) (entries : List Binding)
+        → IsOldTree (S.holds shelf.new) top changes tree entries
+        → AreEdits (levels Two tree entries) (tower Two tree (changed_entries entries changes)) 0 edits.now
+        → length edits.now ≤ length (levels Two tree entries)
+        → length (tower Two tree (changed_entries entries changes) (length edits.now - 1)) ≡ 1
+        → digest.now.0 ≡ node_digest (slice_index_or (tower Two tree (changed_entries entries changes) (length edits.now - 1)) 0 no_node)
+        → IfOk result (λ found. (bytes : List ℕ) → S.used shelf.new bytes
+        → S.used shelf.old bytes ⊎ IsReadBy (tower Two tree (changed_entries entries changes)) edits.now found.level bytes) }
 {
     let mut level = edits.len() - 1;
     let mut top = *digest;
@@ -90,6 +99,8 @@ fn only_child_at<'a, 'c, S: Shelf<'a>>(
         → (edit.now.news.items ≡ [] → IsHeld (S.holds shelf.new) digest.now.0 node)
         → ((new : New) (others : List New) → edit.now.news.items ≡ new ∷ others → IsNewNode new node)
         → IfOk result (IsOnlyChild node) }
+    ensures used { (node : Node) → (edit.now.news.items ≡ [] → IsHeld (S.holds shelf.new) digest.now.0 node)
+        → (bytes : List ℕ) → S.used shelf.new bytes → S.used shelf.old bytes ⊎ ((edit.now.news.items ≡ []) × (bytes ≡ spelling node)) }
 {
     match edit.news.first() {
         Some(new) => Ok(only_child(new.node.bytes.as_slice())),

@@ -1,6 +1,6 @@
 -- Coming down to the top of a tree that lost levels.
 use Rattle.std.specs.Prelude.{◌≡◌, ◌≢◌, ℕ, zero, suc, ◌+◌, ◌-◌, ◌<◌, ◌≤◌, List, [], ◌∷◌, ◌++◌, ◌⊎◌, length, map, Option, None, Some, ◌==◌, if◌then◌else◌, slice_index_or}
-use Rattle.tree_node.specs.Nodes.{Link, Node}
+use Rattle.tree_node.specs.Nodes.{Link, Node, spelling}
 use Rattle.tree_node.specs.Trees.{links_in, no_node}
 use Rattle.tree_node.specs.declared.digest.Digest.{Digest}
 use Rattle.tree_build.specs.internal.Telling.{node_digest}
@@ -35,3 +35,13 @@ pub record HasSettled (new : ℕ → List Node) (edits : List LevelEdit) (gone l
   pub first : (level ≡ 0) ⊎ (2 ≤ length (new (level - 1)))
   pub top_is : top ≡ node_digest (slice_index_or (new level) 0 no_node)
   pub gone_are : later ≡ gone ++ map node_digest (passed (stayed_at new 0 edits) (length edits - 1) steps)
+
+-- the one node of a level from this one on, whose edit has no new ones
+pub record IsReadBy (new : ℕ → List Node) (edits : List LevelEdit) (level : ℕ) (bytes : List ℕ) : Type 0 where
+  pub at : ℕ
+  pub low : level ≤ at
+  pub high : at < length edits
+  pub edit : LevelEdit
+  pub edit_is : edit ≡ slice_index_or edits at edit
+  pub none_new : edit.news.items ≡ []
+  pub spelled : bytes ≡ spelling (slice_index_or (new at) 0 no_node)
