@@ -1,10 +1,11 @@
 -- Query statements: what filters ask of an object alone, and what they name.
-use Rattle.std.proofs.Common.{◌≡◌, ℕ, ◌+◌, ◌<◌, ◌≤◌, List, [], ◌∷◌, ◌++◌, length, get_or, take, inl, inr, refl, sym, ap, subst, ◌∙◌, arith}
+use Rattle.std.proofs.Common.{◌≡◌, ℕ, ◌+◌, ◌-◌, ◌<◌, ◌≤◌, ◌↔◌, List, [], ◌∷◌, ◌++◌, length, get_or, take, drop, inl, inr, refl, sym, ap, subst, ◌∙◌, arith}
 use Rattle.std.proofs.lemmas.Bool.{cases_lt}
 use Rattle.std.proofs.lemmas.Cmp.{tied_itself}
-use Rattle.std.proofs.lemmas.List.{get_or_default, map-append, take_all}
+use Rattle.std.proofs.lemmas.List.{append_assoc, get_or_default, map-append, take-append-drop, take_all}
 use Rattle.std.proofs.lemmas.List.Elements.{All-contains, All-from_recursion}
 use Rattle.std.specs.List.{AllByRecursion, Contains}
+use Rattle.std.specs.List.Sorted.{IsStrictlySortedBy}
 use Rattle.std.specs.declared.cmp.Ordering.TheVariants.{Equal}
 use Rattle.osm_model.proofs.shared.References.{refs_total}
 use Rattle.osm_model.specs.Elements.{Element, ref_cmp, reference}
@@ -14,13 +15,13 @@ use Rattle.ql_syntax.specs.Filters as tree
 use Rattle.ql_syntax.specs.StatementViews.{filter_of, filters_of}
 use Rattle.ql_syntax.specs.declared.filter.Filter.{Filter}
 use Rattle.ql_syntax.specs.declared.pick.Pick.{Pick}
-use Rattle.ql_plain.proofs.shared.Adding.{item_is_in, one_more}
+use Rattle.ql_plain.proofs.shared.Adding.{one_more}
 use Rattle.ql_plain.proofs.Keeping.{earlier_below, set_as}
-use Rattle.ql_plain.proofs.Mapped.{contains_mapped}
+use Rattle.ql_plain.proofs.Stepping.{slice_is_rest}
 use Rattle.ql_plain.specs.Meanings.{IsSetOf}
 use Rattle.ql_plain.specs.Values.{Env, IsOnPath, IsPicked, IsRefOf, IsSelected, Passes}
 use Rattle.ql_plain.specs.ObjectTests.{PassesAlone}
-use Rattle.ql_plain.specs.internal.Tests.{IsLeft, IsNamedBy}
+use Rattle.ql_plain.specs.internal.Tests.{AreNamedBy, IsNamedBy, IsTaken}
 
 -- a reference names one object of a set
 pub one_object : (objects : List Element) → IsObjectSet objects → (o p : Element) → Contains objects o → Contains objects p → reference o ≡ reference p → o ≡ p
@@ -40,6 +41,13 @@ one_object objects set o p has has_too same = elim (cases_lt has.0 has_too.0) [
         let equal : ref_cmp (reference x) (reference y) ≡ Equal = ap (λ (r : Ref). ref_cmp r (reference y)) is ∙ tied_itself refs_total (reference y) in
         cc
 
+-- what is told of an object that was looked up is told of its reference
+pub told_of_name : (objects : List Element) → IsObjectSet objects → (P : Element → Type 0) (name : Ref) (o : Element) → Contains objects o → reference o ≡ name → {Q : Type 0} → Q ↔ P o → Q ↔ IsRefOf objects P name
+told_of_name objects set P name o there named told = (
+  (λ yes. (o, there, named, told.0 yes)),
+  (λ of. told.1 (subst P (one_object objects set of.0 o of.1 there (of.2 ∙ sym named)) of.3)),
+)
+
 pub all_push : {X : Type 0} (P : X → Type 0) (xs : List X) (x : X) → AllByRecursion P xs → P x → AllByRecursion P (xs ++ x ∷ [])
 all_push P [] x all p = (p, tt)
 all_push P (y ∷ xs) x all p = (all.0, all_push P xs x all.1 p)
@@ -54,6 +62,14 @@ all_last P (y ∷ xs) x all = all_last P xs x all.1
 
 pub all_at : {X : Type 0} (P : X → Type 0) (xs : List X) (x : X) → AllByRecursion P xs → Contains xs x → P x
 all_at P xs x all has = All-contains P xs x (All-from_recursion P xs all) has
+
+all_join : {X : Type 0} (P : X → Type 0) (xs : List X) (x : X) (ys : List X) → AllByRecursion P xs → P x → AllByRecursion P ys → AllByRecursion P (xs ++ x ∷ ys)
+all_join P [] x ys all p more = (p, more)
+all_join P (z ∷ xs) x ys all p more = (all.0, all_join P xs x ys all.1 p more)
+
+all_parts : {X : Type 0} (P : X → Type 0) (xs : List X) (x : X) (ys : List X) → AllByRecursion P (xs ++ x ∷ ys) → AllByRecursion P xs × P x × AllByRecursion P ys
+all_parts P [] x ys all = (tt, all.0, all.1)
+all_parts P (z ∷ xs) x ys all = (let rest = all_parts P xs x ys all.1 in ((all.0, rest.0), rest.1, rest.2))
 
 -- a filter keeps an object where it keeps it alone and names it
 module _ (objects : List Element) (set : IsObjectSet objects) (env : Env) (o : Element) (there : Contains objects o) where
@@ -87,42 +103,85 @@ module _ (objects : List Element) (set : IsObjectSet objects) (env : Env) (o : E
   passes_from (tree.Within area) alone named = alone
   passes_from (tree.Via path name) alone named = subst (λ (p : Element). IsOnPath objects (env name) path p) (one_object objects set named.0 o named.1 there named.2) named.3
 
-module _ (objects : List Element) (set : IsObjectSet objects) (env : Env) (pick : Pick) (all : List tree.Filter) where
-  pub left_start : {refs : List Ref} → IsSetOf refs (IsRefOf objects (λ o. IsPicked pick o × AllByRecursion (λ filter. PassesAlone filter o) all)) → IsSetOf refs (IsRefOf objects (IsLeft objects env pick all []))
-  left_start = set_as (λ r of. (of.0, of.1, of.2, (of.3, tt))) (λ r of. (of.0, of.1, of.2, of.3.0))
+  -- the same of several filters
+  every_alone : (fs : List tree.Filter) → AllByRecursion (λ filter. Passes objects env o filter) fs → AllByRecursion (λ filter. PassesAlone filter o) fs
+  every_alone [] passes = tt
+  every_alone (f ∷ fs) passes = (alone_of f passes.0, every_alone fs passes.1)
 
-  left_then : (filters : List tree.Filter) (f : tree.Filter) → Contains all f → {refs left : List Ref} → IsSetOf refs (IsRefOf objects (IsLeft objects env pick all filters)) → IsSetOf left (λ r. Contains refs r × IsNamedBy objects env f r)
-      → IsSetOf left (IsRefOf objects (IsLeft objects env pick all (filters ++ f ∷ [])))
-  left_then filters f of_all before then =
+  every_named : (fs : List tree.Filter) → AllByRecursion (λ filter. Passes objects env o filter) fs → AreNamedBy objects env fs (reference o)
+  every_named [] passes = tt
+  every_named (f ∷ fs) passes = (named_of f passes.0, every_named fs passes.1)
+
+  every_passes : (fs : List tree.Filter) → AllByRecursion (λ filter. PassesAlone filter o) fs → AreNamedBy objects env fs (reference o) → AllByRecursion (λ filter. Passes objects env o filter) fs
+  every_passes [] alone named = tt
+  every_passes (f ∷ fs) alone named = (passes_from f alone.0 named.0, every_passes fs alone.1 named.1)
+
+module _ (objects : List Element) (set : IsObjectSet objects) (env : Env) (pick : Pick) (all : List tree.Filter) where
+  -- the references of what is taken that all filters name
+  selected : {refs : List Ref} → IsSetOf refs (λ r. IsRefOf objects (IsTaken pick all) r × AreNamedBy objects env all r) → IsSetOf refs (IsRefOf objects (IsSelected objects env pick all))
+  selected =
       set_as
-      (λ r of.
-      let was = (before.members r).0 of.0 in
-      let o = was.0 in
-      let alone = all_at (λ (g : tree.Filter). PassesAlone g o) all f was.3.0.1 of_all in
-      let named = subst (λ (s : Ref). IsNamedBy objects env f s) (sym was.2) of.1 in
-      (o, was.1, was.2, (was.3.0, all_push (λ (g : tree.Filter). Passes objects env o g) filters f was.3.1 (passes_from objects set env o was.1 f alone named))))
+      (λ r both.
+      let of = both.0 in
+      let o = of.0 in
+      (o, of.1, of.2, (of.3.0, every_passes objects set env o of.1 all of.3.1 (subst (λ (s : Ref). AreNamedBy objects env all s) (sym of.2) both.1))))
       (λ r of.
       let o = of.0 in (
-        (before.members r).1 (o, of.1, of.2, (of.3.0, all_front (λ (g : tree.Filter). Passes objects env o g) filters f of.3.1)),
-        subst (λ (s : Ref). IsNamedBy objects env f s) of.2 (named_of objects set env o of.1 f (all_last (λ (g : tree.Filter). Passes objects env o g) filters f of.3.1)),
+        (o, of.1, of.2, (of.3.0, every_alone objects set env o of.1 all of.3.1)),
+        subst (λ (s : Ref). AreNamedBy objects env all s) of.2 (every_named objects set env o of.1 all of.3.1),
       ))
-      then
 
-  pub left_more : (filters : List Filter) → all ≡ filters_of filters → (k : ℕ) (f : Filter) → k < length filters → f ≡ get_or filters k f → {refs left : List Ref} → IsSetOf refs (IsRefOf objects (IsLeft objects env pick all (filters_of (take k filters))))
-      → IsSetOf left (λ r. Contains refs r × IsNamedBy objects env (filter_of f) r) → IsSetOf left (IsRefOf objects (IsLeft objects env pick all (filters_of (take (k + 1) filters))))
-  left_more filters are k f lt is {left = left} before then =
+  -- all of the kind were gone over, and then all filters
+  pub from_taken : {refs left : List Ref} → IsSetOf refs (IsRefOf objects (IsTaken pick all)) → IsSetOf left (λ r. Contains refs r × AreNamedBy objects env all r)
+      → IsSetOf left (IsRefOf objects (IsSelected objects env pick all))
+  from_taken taken then = selected (set_as (λ r both. ((taken.members r).0 both.0, both.1)) (λ r both. ((taken.members r).1 both.0, both.1)) then)
+
+  -- one filter named references, and then the filters before and after it were gone over
+  pub from_named : (before after : List tree.Filter) (f : tree.Filter) → all ≡ before ++ f ∷ after → {names refs left later : List Ref} → IsSetOf names (IsNamedBy objects env f)
+      → IsSetOf refs (λ r. Contains names r × IsRefOf objects (IsTaken pick all) r) → IsSetOf left (λ r. Contains refs r × AreNamedBy objects env before r) → IsSetOf later (λ r. Contains left r × AreNamedBy objects env after r)
+      → IsSetOf later (IsRefOf objects (IsSelected objects env pick all))
+  from_named before after f parts named taken first then =
+      selected (set_as
+      (λ r both.
+      let was = (first.members r).0 both.0 in
+      let of = (taken.members r).0 was.0 in
+      (of.1, subst (λ (fs : List tree.Filter). AreNamedBy objects env fs r) (sym parts) (all_join (λ (g : tree.Filter). IsNamedBy objects env g r) before f after was.1 ((named.members r).0 of.0) both.1)))
+      (λ r both.
+      let every = all_parts (λ (g : tree.Filter). IsNamedBy objects env g r) before f after (subst (λ (fs : List tree.Filter). AreNamedBy objects env fs r) parts both.1) in
+      ((first.members r).1 ((taken.members r).1 ((named.members r).1 every.1, both.0), every.0), every.2))
+      then)
+
+-- the filters before one of them, it, and those after it
+pub around : (filters : List Filter) (k : ℕ) (f : Filter) → k < length filters → f ≡ get_or filters k f → filters_of filters ≡ filters_of (take k filters) ++ filter_of f ∷ filters_of (take (length filters - (k + 1)) (drop (k + 1) filters))
+around filters k f lt is =
+    ap filters_of (
+    sym (take-append-drop (k + 1) filters)
+    ∙ ap (λ (fs : List Filter). fs ++ drop (k + 1) filters) (one_more filters k f lt is)
+    ∙ append_assoc (take k filters) (f ∷ []) (drop (k + 1) filters)
+    ∙ ap (λ (fs : List Filter). take k filters ++ f ∷ fs) (sym (slice_is_rest filters (k + 1)))
+    )
+    ∙ map-append filter_of (take k filters) (f ∷ take (length filters - (k + 1)) (drop (k + 1) filters))
+
+-- ---- references that filters name, one filter after the other
+
+module _ (objects : List Element) (env : Env) where
+  pub narrowed_none : (refs : List Ref) → IsStrictlySortedBy ref_cmp refs → IsSetOf refs (λ r. Contains refs r × AreNamedBy objects env [] r)
+  narrowed_none refs up = record { rising = up; members = λ r. ((λ has. (has, tt)), (λ both. both.0)) }
+
+  pub narrowed_more : (refs : List Ref) (filters : List Filter) (k : ℕ) (f : Filter) → k < length filters → f ≡ get_or filters k f → {left later : List Ref} → IsSetOf left (λ r. Contains refs r × AreNamedBy objects env (filters_of (take k filters)) r)
+      → IsSetOf later (λ r. Contains left r × IsNamedBy objects env (filter_of f) r) → IsSetOf later (λ r. Contains refs r × AreNamedBy objects env (filters_of (take (k + 1) filters)) r)
+  narrowed_more refs filters k f lt is {later = later} before then =
       let more : filters_of (take (k + 1) filters) ≡ filters_of (take k filters) ++ filter_of f ∷ [] = ap filters_of (one_more filters k f lt is) ∙ map-append filter_of (take k filters) (f ∷ []) in
-      let of_all : Contains all (filter_of f) = subst (λ (fs : List tree.Filter). Contains fs (filter_of f)) (sym are) (contains_mapped filter_of filters f (item_is_in filters k f lt is)) in
-      subst (λ (fs : List tree.Filter). IsSetOf left (IsRefOf objects (IsLeft objects env pick all fs))) (sym more) (left_then (filters_of (take k filters)) (filter_of f) of_all before then)
+      let fs = filters_of (take k filters) in
+      subst (λ (some : List tree.Filter). IsSetOf later (λ r. Contains refs r × AreNamedBy objects env some r)) (sym more)
+      (set_as
+      (λ r both. let was = (before.members r).0 both.0 in (was.0, all_push (λ (g : tree.Filter). IsNamedBy objects env g r) fs (filter_of f) was.1 both.1))
+      (λ r both. (
+        (before.members r).1 (both.0, all_front (λ (g : tree.Filter). IsNamedBy objects env g r) fs (filter_of f) both.1),
+        all_last (λ (g : tree.Filter). IsNamedBy objects env g r) fs (filter_of f) both.1,
+      ))
+      then)
 
   -- all filters were gone over
-  pub left_all : (filters : List Filter) → all ≡ filters_of filters → (k : ℕ) → length filters ≤ k → {refs : List Ref} → IsSetOf refs (IsRefOf objects (IsLeft objects env pick all (filters_of (take k filters)))) → IsSetOf refs (IsRefOf objects (IsSelected objects env pick (filters_of filters)))
-  left_all filters are k past {refs = refs} so =
-      set_as
-      (λ r of. (of.0, of.1, of.2, (of.3.0.0, of.3.1)))
-      (λ r of. (of.0, of.1, of.2, ((of.3.0, subst (λ (fs : List tree.Filter). AllByRecursion (λ filter. PassesAlone filter of.0) fs) (sym are) (every of.0 of.1 (filters_of filters) of.3.1)), of.3.1)))
-      (subst (λ (fs : List Filter). IsSetOf refs (IsRefOf objects (IsLeft objects env pick all (filters_of fs)))) (take_all k filters past) so)
-    where
-      every : (o : Element) → Contains objects o → (fs : List tree.Filter) → AllByRecursion (λ filter. Passes objects env o filter) fs → AllByRecursion (λ filter. PassesAlone filter o) fs
-      every o there [] passes = tt
-      every o there (f ∷ fs) passes = (alone_of objects set env o there f passes.0, every o there fs passes.1)
+  pub narrowed_all : (refs : List Ref) (filters : List Filter) (k : ℕ) → length filters ≤ k → {left : List Ref} → IsSetOf left (λ r. Contains refs r × AreNamedBy objects env (filters_of (take k filters)) r) → IsSetOf left (λ r. Contains refs r × AreNamedBy objects env (filters_of filters) r)
+  narrowed_all refs filters k past {left = left} so = subst (λ (fs : List Filter). IsSetOf left (λ r. Contains refs r × AreNamedBy objects env (filters_of fs) r)) (take_all k filters past) so

@@ -1,20 +1,58 @@
 //! What ids and paths name.
 
-ghost use Rattle.std.specs.Prelude.{IfOk, OnOk};
+ghost use Rattle.std.specs.Prelude.{IfOk, IfSome, OnOk};
 ghost use Rattle.std.specs.List.{Contains};
 ghost use Rattle.std.specs.List.Sorted.{IsStrictlySortedBy};
 ghost use Rattle.osm_model.specs.Elements.{ref_cmp};
+ghost use Rattle.ql_syntax.specs.StatementViews.{filter_of};
 ghost use Rattle.ql_plain.specs.Meanings.{IsSetOf};
 ghost use Rattle.ql_plain.specs.Values.{IsOnPath, IsRefOf};
 ghost use Rattle.ql_plain.specs.Adding.{Adds};
+ghost use Rattle.ql_plain.specs.NamedSets.{lists_of};
 ghost use Rattle.ql_plain.specs.internal.Linked.{IsThereWith};
+ghost use Rattle.ql_plain.specs.internal.Tests.{IsNamedBy};
 
 use crate::kept_neighbours::{kept_above, kept_below};
+use crate::neighbours::below;
 use crate::ref_sets::tidy;
+use crate::sets::Sets;
 use crate::there::add_there;
 use osm_model::{Kind, ObjectSet, Ref};
-use ql_syntax::Path;
+use ql_syntax::{Filter, Path};
 use std::alloc::{AllocError, Global};
+
+/// What a filter names by itself, where it does so: ids, and the paths that lead down. It costs as much as what ids and
+/// the set of the path list.
+pub fn named_outright(
+    alloc: Global,
+    filter: &Filter<'_>,
+    sets: &Sets<'_>,
+    set: &ObjectSet,
+) -> Result<Option<Vec<Ref>>, AllocError>
+    ensures { IfOk result (λ found. IfSome found (λ names. IsSetOf names.items (IsNamedBy set.now (lists_of sets.now.named.items) (filter_of filter.now)))) }
+{
+    match filter {
+        Filter::Ids(ids) => Ok(Some(with_ids(alloc, ids.as_slice(), set)?)),
+        Filter::Via(path, name) => led_down(alloc, *path, sets.get(name.as_bytes()), set),
+        _ => Ok(None),
+    }
+}
+
+/// Where a path leads from a set, if it leads down.
+fn led_down(
+    alloc: Global,
+    path: Path,
+    from: &[Ref],
+    set: &ObjectSet,
+) -> Result<Option<Vec<Ref>>, AllocError>
+    ensures { IfOk result (λ found. IfSome found (λ names. IsSetOf names.items (IsRefOf set.now (IsOnPath set.now from.now path)))) }
+{
+    match path {
+        Path::W => Ok(Some(below(alloc, set, from, Kind::Way)?)),
+        Path::R => Ok(Some(below(alloc, set, from, Kind::Rel)?)),
+        _ => Ok(None),
+    }
+}
 
 /// The objects with ids of a list.
 pub fn with_ids(alloc: Global, ids: &[i64], set: &ObjectSet) -> Result<Vec<Ref>, AllocError>

@@ -1,28 +1,31 @@
 //! Query statements.
 
-ghost use Rattle.std.specs.Prelude.{IfOk};
-ghost use Rattle.std.specs.List.{AllByRecursion, Contains};
+ghost use Rattle.std.specs.Prelude.{◌↔◌, IfOk, IsTrue};
+ghost use Rattle.std.specs.List.{Contains};
 ghost use Rattle.std.specs.List.Sorted.{IsStrictlySortedBy};
 ghost use Rattle.osm_model.specs.Elements.{ref_cmp};
 ghost use Rattle.osm_model.specs.Sets.{IsObjectSet};
 ghost use Rattle.ql_syntax.specs.StatementViews.{filter_of, filters_of};
 ghost use Rattle.ql_plain.specs.Meanings.{IsSetOf};
-ghost use Rattle.ql_plain.specs.Values.{IsPicked, IsRefOf, IsSelected};
+ghost use Rattle.ql_plain.specs.Values.{IsRefOf, IsSelected};
 ghost use Rattle.ql_plain.specs.NamedSets.{lists_of};
-ghost use Rattle.ql_plain.specs.ObjectTests.{PassesAlone};
-ghost use Rattle.ql_plain.specs.internal.Tests.{IsNamedBy};
+ghost use Rattle.ql_plain.specs.internal.Tests.{AreNamedBy, IsNamedBy, IsTaken};
 
 use crate::filter_test::is_taken;
 use crate::kinds::of_pick;
-use crate::named::{via, with_ids};
+use crate::named::{named_outright, via, with_ids};
 use crate::ref_sets::kept;
+use crate::seek::seek;
 use crate::sets::Sets;
 use osm_model::{ObjectSet, Ref};
 use ql_syntax::{Filter, Pick};
 use std::alloc::{AllocError, Global};
 
-/// The objects of a kind that all filters keep: one pass over the objects of the kind with the filters that look at an
-/// object alone, and of what they leave the references that each other filter names.
+/// The objects of a kind that all filters keep.
+///
+/// Where a filter names objects outright, the first such filter goes first, and no more is looked at than what it
+/// names. Else it takes one pass over the objects of the kind. Either way the filters that look at an object alone are
+/// asked of each, and what they leave is narrowed by each other filter in turn.
 pub fn select(
     alloc: Global,
     kind: Pick,
@@ -34,21 +37,26 @@ pub fn select(
 {
     // For the proof alone: a reference names one object.
     let _ = set.as_slice();
-    let mut refs = taken(alloc, kind, filters, set)?;
-    for filter in filters {
-        refs = named(alloc, refs, filter, sets, set)?;
+    for (place, filter) in filters.iter().enumerate() {
+        if let Some(names) = named_outright(alloc, filter, sets, set)? {
+            let first = taken_of(alloc, kind, filters, &names, set)?;
+            // All filters but this one, which has named them.
+            let left = narrowed(alloc, first, &filters[..place], sets, set)?;
+            return narrowed(alloc, left, &filters[place + 1..], sets, set);
+        }
     }
-    Ok(refs)
+    let all = taken(alloc, kind, filters, set)?;
+    narrowed(alloc, all, filters, sets, set)
 }
 
-/// The objects of a kind that the filters keep which look at an object alone.
+/// The objects of a kind that the filters keep which look at an object alone. One pass over the objects of the kind.
 fn taken(
     alloc: Global,
     kind: Pick,
     filters: &[Filter<'_>],
     set: &ObjectSet,
 ) -> Result<Vec<Ref>, AllocError>
-    ensures taken { IfOk result (λ refs. IsSetOf refs.items (IsRefOf set.now (λ o. IsPicked kind o × AllByRecursion (λ filter. PassesAlone filter o) (filters_of filters.now)))) }
+    ensures taken { IfOk result (λ refs. IsSetOf refs.items (IsRefOf set.now (IsTaken kind (filters_of filters.now)))) }
     // As its type says.
     ensures set { IsObjectSet set.now }
 {
@@ -60,6 +68,69 @@ fn taken(
         }
     }
     Ok(refs)
+}
+
+/// Of some references, those of objects of a kind that the filters keep which look at an object alone. A search for
+/// each that starts where the last one ended, so it takes no more than those references and the way between them.
+fn taken_of(
+    alloc: Global,
+    kind: Pick,
+    filters: &[Filter<'_>],
+    names: &[Ref],
+    set: &ObjectSet,
+) -> Result<Vec<Ref>, AllocError>
+    requires { IsStrictlySortedBy ref_cmp names.now }
+    ensures { IfOk result (λ refs. IsSetOf refs.items (λ r. Contains names.now r × IsRefOf set.now (IsTaken kind (filters_of filters.now)) r)) }
+{
+    // Not more than there are names, so the list never moves as it grows.
+    let mut refs = Vec::with_capacity(alloc, names.len())?;
+    let mut at = 0;
+    for name in names {
+        let (next, is_one) = is_taken_at(kind, filters, set, at, *name);
+        if is_one {
+            refs.push(*name)?;
+        }
+        at = next;
+    }
+    Ok(refs)
+}
+
+/// Whether the object with a reference is there, of a kind, and kept by the filters that look at it alone, and where
+/// it was searched.
+fn is_taken_at(
+    kind: Pick,
+    filters: &[Filter<'_>],
+    set: &ObjectSet,
+    at: usize,
+    name: Ref,
+) -> (usize, bool)
+    ensures { IsTrue result.1 ↔ IsRefOf set.now (IsTaken kind (filters_of filters.now)) name }
+{
+    let objects = set.as_slice();
+    let (next, is_there) = seek(objects, at.min(objects.len()), name);
+    if is_there {
+        (next, is_taken(kind, filters, &objects[next]))
+    } else {
+        (next, false)
+    }
+}
+
+/// Of some references, those that each of some filters names which looks at more than an object.
+fn narrowed(
+    alloc: Global,
+    refs: Vec<Ref>,
+    filters: &[Filter<'_>],
+    sets: &Sets<'_>,
+    set: &ObjectSet,
+) -> Result<Vec<Ref>, AllocError>
+    requires { IsStrictlySortedBy ref_cmp refs.items }
+    ensures { IfOk result (λ left. IsSetOf left.items (λ r. Contains refs.items r × AreNamedBy set.now (lists_of sets.now.named.items) (filters_of filters.now) r)) }
+{
+    let mut left = refs;
+    for filter in filters {
+        left = named(alloc, left, filter, sets, set)?;
+    }
+    Ok(left)
 }
 
 /// Of some references, those that a filter names which looks at more than an object. Other filters name all.

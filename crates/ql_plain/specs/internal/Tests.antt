@@ -6,7 +6,7 @@ use Rattle.osm_model.specs.declared.reference.Ref.{Ref}
 use Rattle.ql_syntax.specs.Filters.{Filter, InSet, HasKey, KeyIs, LacksKey, KeyIsNot, Ids, Within, Via}
 use Rattle.ql_syntax.specs.declared.pick.Pick.{Pick}
 use Rattle.ql_plain.specs.ObjectTests.{PassesAlone}
-use Rattle.ql_plain.specs.Values.{Env, IsOnPath, IsPicked, IsRefOf, Passes}
+use Rattle.ql_plain.specs.Values.{Env, IsOnPath, IsPicked, IsRefOf}
 
 -- the filter keeps the object with the reference, as far as what the filter names tells
 abbrev pub IsNamedBy : List Element → Env → Filter → Ref → Type 0
@@ -19,6 +19,10 @@ IsNamedBy objects env (Ids ids) r = IsRefOf objects (λ o. Contains ids o.id) r
 IsNamedBy objects env (Within area) r = ⊤
 IsNamedBy objects env (Via path name) r = IsRefOf objects (IsOnPath objects (env name) path) r
 
--- the object is of the kind, all filters keep it alone, and these keep it
-abbrev pub IsLeft : List Element → Env → Pick → List Filter → List Filter → Element → Type 0
-IsLeft objects env pick all filters o = (IsPicked pick o × AllByRecursion (λ filter. PassesAlone filter o) all) × AllByRecursion (λ filter. Passes objects env o filter) filters
+-- the same of several filters
+abbrev pub AreNamedBy : List Element → Env → List Filter → Ref → Type 0
+AreNamedBy objects env filters r = AllByRecursion (λ filter. IsNamedBy objects env filter r) filters
+
+-- the object is of the kind, and all filters keep it as far as the object alone tells
+abbrev pub IsTaken : Pick → List Filter → Element → Type 0
+IsTaken pick filters o = IsPicked pick o × AllByRecursion (λ filter. PassesAlone filter o) filters

@@ -1,16 +1,31 @@
-use Rattle.std.proofs.Common.{refl}
-use Rattle.ql_syntax.specs.StatementViews.{filters_of}
-use Rattle.ql_plain.proofs.Selecting.{left_all, left_more, left_start}
+use Rattle.std.proofs.Common.{List, take, drop, length, ◌-◌, ◌+◌, subst}
+use Rattle.std.specs.List.{Contains}
+use Rattle.osm_model.specs.declared.reference.Ref.{Ref}
+use Rattle.ql_syntax.specs.StatementViews.{filter_of, filters_of}
+use Rattle.ql_plain.proofs.FilterSets.{if_ok_as}
+use Rattle.ql_plain.proofs.Selecting.{around, from_named, from_taken}
+use Rattle.ql_plain.specs.Meanings.{IsSetOf}
+use Rattle.ql_plain.specs.Values.{IsRefOf}
 use Rattle.ql_plain.specs.NamedSets.{lists_of}
+use Rattle.ql_plain.specs.internal.Tests.{IsTaken}
 use Rattle.ql_plain.proofs.select.select.Goals as goal
-
-pub loop-filter-init : goal.loop-filter-init
-loop-filter-init c = left_start c.args.set.now c.as_slice.ensures.set (lists_of c.args.sets.now.named.items) c.args.kind (filters_of c.args.filters.now) c.in_ok-refs.ensures.taken
-
-pub loop-filter-preserved : goal.loop-filter-preserved
-loop-filter-preserved c =
-    left_more c.args.set.now c.as_slice.ensures.set (lists_of c.args.sets.now.named.items) c.args.kind (filters_of c.args.filters.now) c.args.filters.now refl c.loop-filter.filter-index c.filter-item.result c.loop-filter-test.true c.filter-item.is c.loop-filter.invariant c.in_ok-refs-2.ensures
 
 pub returns : goal.returns
 returns c =
-    left_all c.args.set.now c.as_slice.ensures.set (lists_of c.args.sets.now.named.items) c.args.kind (filters_of c.args.filters.now) c.args.filters.now refl c.loop-filter.filter-index c.loop-filter-test.false c.loop-filter.invariant
+    if_ok_as c.narrowed-2.result (λ left. from_taken c.args.set.now c.as_slice.ensures.set (lists_of c.args.sets.now.named.items) c.args.kind (filters_of c.args.filters.now) c.in_ok-all.ensures.taken) c.narrowed-2.ensures
+
+pub returns-in-Some : goal.returns-in-Some
+returns-in-Some c =
+    let env = lists_of c.args.sets.now.named.items in
+    let filters = c.args.filters.now in
+    let all = filters_of filters in
+    let k = c.loop-place.place in
+    let f = c.index-filters-place.result in
+    let names = c.in-Some.names.items in
+    let first = c.in_ok-first.first.items in
+    let named = rw c.in-Some.is at c.in_ok-names.ensures in
+    let taken : IsSetOf first (λ r. Contains names r × IsRefOf c.args.set.now (IsTaken c.args.kind all) r) =
+    subst (λ (some : List Ref). IsSetOf first (λ r. Contains some r × IsRefOf c.args.set.now (IsTaken c.args.kind all) r)) c.deref.ensures.value c.in_ok-first.ensures in
+    if_ok_as c.narrowed-in-Some.result
+    (λ later. from_named c.args.set.now c.as_slice.ensures.set env c.args.kind all (filters_of (take k filters)) (filters_of (take (length filters - (k + 1)) (drop (k + 1) filters))) (filter_of f) (around filters k f c.loop-place-test.true c.index-filters-place.is) named taken c.in_ok-left.ensures)
+    c.narrowed-in-Some.ensures
