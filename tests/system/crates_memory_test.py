@@ -22,12 +22,15 @@ OUT_OF_MEMORY = re.compile(r"^[Ee]rror: .*(AllocError|AllocFailed|OutOfMemory|Me
 # Where the tests of a crate stand that has none of its own: in the crate of its name and `_tests`, or in a module of
 # another.
 MODULES = {
-    "ql_plain": "plain_answers",
-    "osm_index": "snapshots",
-    "ql_eval": "evaluations",
-    "osm_prove": "proofs",
-    "osm_check": "verdicts",
-    "osm_gate": "connections",
+    "tree_node": ("tree_tests", "nodes"),
+    "tree_build": ("tree_tests", "trees"),
+    "tree_walk": ("tree_tests", "walks"),
+    "ql_plain": ("answer_tests", "plain_answers"),
+    "osm_index": ("answer_tests", "snapshots"),
+    "ql_eval": ("answer_tests", "evaluations"),
+    "osm_prove": ("answer_tests", "proofs"),
+    "osm_check": ("answer_tests", "verdicts"),
+    "osm_gate": ("answer_tests", "connections"),
 }
 
 
@@ -53,7 +56,8 @@ def tests_of(crate):
     if "#[test]" in sources(crate, of_tests=True):
         return crate, ""
     if crate.name in MODULES:
-        return crate.parent / "answer_tests", f"tests::{MODULES[crate.name]}::"
+        holder, module = MODULES[crate.name]
+        return crate.parent / holder, f"tests::{module}::"
     return crate.parent / f"{crate.name}_tests", ""
 
 

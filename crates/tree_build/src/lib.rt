@@ -12,8 +12,6 @@ mod inner;
 mod laws;
 mod leaf;
 mod shape;
-#[cfg(test)]
-mod tests;
 
 pub use builder::build;
 pub use fault::BuildFault;

@@ -23,8 +23,6 @@ mod recorder;
 mod shelf;
 mod spelling;
 mod stock;
-#[cfg(test)]
-mod tests;
 mod tree;
 mod write;
 

@@ -13,8 +13,6 @@ mod key_range;
 mod laws;
 mod pending;
 mod tally;
-#[cfg(test)]
-mod tests;
 mod visit;
 mod walk;
 

@@ -1,0 +1,7 @@
+//! Tests of tree_node, tree_build and tree_walk.
+//!
+//! They are a crate of their own because a crate that has tests is proved twice, with them and without.
+#![tactic(auto)]
+
+#[cfg(test)]
+mod tests;

@@ -1,0 +1,189 @@
+//! Trees of lists made by rule, and worked ones.
+
+ghost use Rattle.std.specs.Prelude.{◌<◌, IsTrue};
+ghost use Rattle.tree_node.specs.NodeRefs.{bindings_of};
+ghost use Rattle.tree_node.specs.Trees.{HasTree};
+
+use super::rows::{BYTES, MARKED, NUMBERS, VALUES, row_of};
+use std::alloc::{AllocError, Global};
+use std::process::Abort;
+use std::test::Fail;
+use tree_build::{BuildFault, Entry, Shape, build};
+use tree_node::{Digest, ENTRY_LIMIT, KEY_LIMIT, Stock, Tree, VALUE_LIMIT, is_above};
+
+/// The digest in lower-case hexadecimal.
+fn shown(alloc: Global, digest: &Digest) -> Result<String, AllocError> {
+    let mut text = String::new(alloc);
+    for byte in digest.0 {
+        text.push_str(format!(in alloc; "{byte:02x}")?.as_str())?;
+    }
+    Ok(text)
+}
+
+/// Whether the entries have a tree.
+fn has_tree(entries: &[Entry<'_>]) -> bool
+    ensures { IsTrue result → HasTree (bindings_of entries.now) }
+{
+    let mut last: Option<&[u8]> = None;
+    for entry in entries {
+        if entry.key.len() > KEY_LIMIT || entry.value.len() > VALUE_LIMIT {
+            return false;
+        }
+        if !is_above(last, entry.key) {
+            return false;
+        }
+        last = Some(entry.key);
+    }
+    entries.len() <= ENTRY_LIMIT
+}
+
+/// The tree of these entries, which have one.
+fn built(
+    alloc: Global,
+    entries: &[Entry<'_>],
+    tree: Tree,
+    shape: Shape,
+    stock: &mut Stock,
+) -> Result<Digest, Fail> {
+    has_tree(entries)
+        .then_some(())
+        .ok_or("the entries have no tree")?;
+    Ok(build(alloc, entries, tree, shape, stock)?)
+}
+
+/// The tree of these entries has this top.
+fn has_top(
+    rt: &impl Abort,
+    alloc: Global,
+    entries: &[Entry<'_>],
+    tree: Tree,
+    shape: Shape,
+    top: &str,
+) -> Result<(), Fail> {
+    let mut stock = Stock::new(alloc);
+    let built = built(alloc, entries, tree, shape, &mut stock)?;
+    assert_eq!(rt; shown(alloc, &built)?.as_str(), top);
+    Ok(())
+}
+
+/// The entries whose keys are these bytes, cut into keys of this many, without values.
+fn keys_alone(alloc: Global, keys: &[u8], len: usize) -> Result<Vec<Entry<'_>>, AllocError>
+    requires { 0 < len }
+{
+    let mut entries = Vec::new(alloc);
+    for key in keys.chunks(len) {
+        entries.push(Entry { key, value: b"" })?;
+    }
+    Ok(entries)
+}
+
+/// The last bytes of the numbers from 0, this many of them, in this many bytes each, up to 8.
+fn numbers(alloc: Global, count: usize, len: usize) -> Result<Vec<u8>, AllocError> {
+    let mut bytes = Vec::new(alloc);
+    for number in 0..count {
+        let all = (number as u64).to_be_bytes();
+        bytes.extend_from_slice(all.get(8usize.saturating_sub(len)..).unwrap_or(&[]))?;
+    }
+    Ok(bytes)
+}
+
+/// The decimal digits of the squares of the numbers from 0, this many of them.
+fn squares(alloc: Global, count: usize) -> Result<Vec<String>, AllocError> {
+    let mut squares = Vec::new(alloc);
+    for number in 0..count {
+        let square = number.wrapping_mul(number);
+        squares.push(format!(in alloc; "{square}")?)?;
+    }
+    Ok(squares)
+}
+
+/// Builds the trees of the rows, from keys of this many bytes, with the digits of squares as their values
+/// or without values.
+fn build_rows(
+    rt: &impl Abort,
+    alloc: Global,
+    rows: &str,
+    len: usize,
+    valued: bool,
+) -> Result<(), Fail>
+    requires { 0 < len }
+{
+    for line in rows.lines() {
+        let row = row_of(line).ok_or("a row was expected")?;
+        let keys = numbers(alloc, row.entries, len)?;
+        let values = squares(alloc, if valued { row.entries } else { 0 })?;
+        let mut entries = keys_alone(alloc, keys.as_slice(), len)?;
+        for (entry, value) in entries.iter_mut().zip(&values) {
+            entry.value = value.as_bytes();
+        }
+        has_top(rt, alloc, entries.as_slice(), row.tree, row.shape, row.top)?;
+    }
+    Ok(())
+}
+
+#[test]
+fn builds_trees_of_single_bytes(rt: HostRuntime) -> Result<(), Fail> {
+    build_rows(&rt, rt.alloc(), BYTES, 1, false)
+}
+
+#[test]
+fn builds_trees_of_numbers(rt: HostRuntime) -> Result<(), Fail> {
+    build_rows(&rt, rt.alloc(), NUMBERS, 8, false)
+}
+
+#[test]
+fn builds_trees_of_entries_with_values(rt: HostRuntime) -> Result<(), Fail> {
+    build_rows(&rt, rt.alloc(), VALUES, 8, true)
+}
+
+#[test]
+fn cuts_the_second_shape_at_marks(rt: HostRuntime) -> Result<(), Fail> {
+    let alloc = rt.alloc();
+    for (tree, keys, top) in MARKED {
+        let entries = keys_alone(alloc, keys, 1)?;
+        has_top(&rt, alloc, entries.as_slice(), tree, Shape::Two, top)?;
+    }
+    Ok(())
+}
+
+#[test]
+fn shows_the_faults(rt: HostRuntime) -> Result<(), Fail> {
+    let alloc = rt.alloc();
+    let faults = format!(in alloc; "{}, {}", BuildFault::Clash, BuildFault::Memory)?;
+    assert_eq!(rt; faults.as_str(), "N6, no memory");
+    Ok(())
+}
+
+/// Where memory is refused, the next call, with ample memory, gives the full result. Run with each
+/// allocation refused in turn.
+#[test]
+fn stands_after_refused_memory(rt: HostRuntime) -> Result<(), Fail> {
+    let alloc = rt.alloc();
+    // The second of these keys is marked: in the second shape there are two leaves.
+    let entries = keys_alone(alloc, b"\x09\x0a\x0b", 1)?;
+    if !has_tree(entries.as_slice()) {
+        return Err(Fail::from("the entries have no tree"));
+    }
+    let mut stock = Stock::new(alloc);
+    let mut top = build(
+        alloc,
+        entries.as_slice(),
+        Tree::Objects,
+        Shape::Two,
+        &mut stock,
+    );
+    if top == Err(BuildFault::Memory) {
+        top = build(
+            alloc,
+            entries.as_slice(),
+            Tree::Objects,
+            Shape::Two,
+            &mut stock,
+        );
+    }
+    assert_eq!(rt;
+        shown(alloc, &top?)?.as_str(),
+        "fc4cfbb8206c1c9fc900051898370a35d77951a3ee2009605d817b556281fd3a"
+    );
+    Ok(())
+}

@@ -1,0 +1,170 @@
+//! Trees written by hand, and the walks over them that the tests ask for.
+
+ghost use Rattle.std.specs.List.{All};
+ghost use Rattle.std.specs.Prelude.{◌^◌, ◌<◌, ◌≤◌, IfOk, IsTrue, length};
+ghost use Rattle.tree_node.specs.NodeRefs.{binding_of};
+ghost use Rattle.tree_node.specs.Nodes.{FitsEntry};
+ghost use Rattle.tree_node.specs.declared.limits.TheConstants.{ITEM_LIMIT};
+
+use std::alloc::{AllocError, Global};
+use std::test::Fail;
+use tree_node::{Child, Digest, ITEM_LIMIT, Shelf, Stock, Tree, write_inner, write_leaf};
+use tree_walk::{Item, KeyRange, Tally, WalkFault, count, range};
+
+/// The keys from the first to the last, and where `under` holds those that the last begins.
+pub(super) fn range_of<'a>(lo: &'a [u8], hi: &'a [u8], under: bool) -> KeyRange<'a> {
+    KeyRange { lo, hi, under }
+}
+
+/// The key alone, or with `under` all keys that it begins.
+pub(super) fn at(key: &[u8], under: bool) -> KeyRange<'_> {
+    range_of(key, key, under)
+}
+
+/// The whole of a tree.
+pub(super) fn all<'a>() -> KeyRange<'a> {
+    at(b"", true)
+}
+
+/// What a walk gave, and its tally.
+pub(super) fn walked<'a, S: Shelf<'a>>(
+    alloc: Global,
+    shelf: &mut S,
+    top: &Digest,
+    tree: Tree,
+    keys: &KeyRange<'_>,
+) -> Result<(Result<Vec<Item<'a>>, WalkFault>, Tally), Fail> {
+    if !keys.contains(keys.lo) {
+        return Err(Fail::from("the range is empty"));
+    }
+    let mut tally = Tally::default();
+    let found = range(alloc, shelf, top, tree, keys, &mut tally);
+    Ok((found, tally))
+}
+
+/// What a count gave, and its tally.
+pub(super) fn counted<'a, S: Shelf<'a>>(
+    alloc: Global,
+    shelf: &mut S,
+    top: &Digest,
+    tree: Tree,
+    keys: &KeyRange<'_>,
+) -> Result<(Result<u64, WalkFault>, Tally), Fail> {
+    if !keys.contains(keys.lo) {
+        return Err(Fail::from("the range is empty"));
+    }
+    let mut tally = Tally::default();
+    let number = count(alloc, shelf, top, tree, keys, &mut tally);
+    Ok((number, tally))
+}
+
+/// The keys of the front and one byte more, from the first to the last, one after the other.
+pub(super) fn keys(
+    alloc: Global,
+    front: &[u8],
+    first: u8,
+    last: u8,
+) -> Result<Vec<u8>, AllocError> {
+    let mut bytes = Vec::new(alloc);
+    for byte in first..=last {
+        bytes.extend_from_slice(front)?;
+        bytes.push(byte)?;
+    }
+    Ok(bytes)
+}
+
+/// The entry of this key, with itself as its value.
+fn entry_of(key: &[u8]) -> Result<Item<'_>, Fail>
+    ensures { IfOk result (λ item. FitsEntry (binding_of item)) }
+{
+    if key.len() < 65_536 {
+        return Ok(Item { key, value: key });
+    }
+    Err(Fail::from("the key is too long"))
+}
+
+/// Puts the leaf of these keys, cut into keys of this many bytes.
+pub(super) fn put_leaf(
+    alloc: Global,
+    stock: &mut Stock,
+    tree: Tree,
+    keys: &[u8],
+    len: usize,
+) -> Result<Digest, Fail>
+    requires { 0 < len }
+{
+    let mut items = Vec::new(alloc);
+    for key in keys.chunks(len) {
+        items.push(entry_of(key)?)?;
+    }
+    let mut bytes = Vec::new(alloc);
+    if items.len() <= ITEM_LIMIT {
+        write_leaf(tree, items.as_slice(), &mut bytes)?;
+    }
+    Ok(stock.put(bytes)?)
+}
+
+/// Whether an inner node with these children can be written.
+fn can_be_written(children: &[Child<'_>]) -> bool
+    ensures few { IsTrue result → length children.now ≤ ITEM_LIMIT }
+    ensures fit { IsTrue result → All (λ child. length child.greatest.now < 2 ^ 16) children.now }
+{
+    children.len() <= ITEM_LIMIT && children.iter().all(|child| child.greatest.len() < 65_536)
+}
+
+/// Puts the inner node of these children.
+pub(super) fn put_inner(
+    alloc: Global,
+    stock: &mut Stock,
+    tree: Tree,
+    level: u8,
+    children: &[Child<'_>],
+) -> Result<Digest, Fail> {
+    if !can_be_written(children) {
+        return Err(Fail::from("the children can't be written"));
+    }
+    let mut bytes = Vec::new(alloc);
+    write_inner(tree, level, children, &mut bytes)?;
+    Ok(stock.put(bytes)?)
+}
+
+/// What a parent states of a child.
+pub(super) fn child<'a>(greatest: &'a [u8], number: u64, digest: Digest) -> Child<'a> {
+    Child {
+        greatest,
+        number,
+        digest,
+    }
+}
+
+/// Puts the tree of the 65 keys 00 to 40, whose two leaves lie below one top.
+pub(super) fn put_65_keys(alloc: Global, stock: &mut Stock) -> Result<Digest, Fail> {
+    let first = put_leaf(
+        alloc,
+        stock,
+        Tree::Tags,
+        keys(alloc, b"", 0, 0x3f)?.as_slice(),
+        1,
+    )?;
+    let last = put_leaf(alloc, stock, Tree::Tags, b"\x40", 1)?;
+    let children = [child(b"\x3f", 64, first), child(b"\x40", 1, last)];
+    put_inner(alloc, stock, Tree::Tags, 1, &children)
+}
+
+/// Puts the tree of the 130 keys 610000 to 610081, whose three leaves lie below one top.
+pub(super) fn put_130_keys(alloc: Global, stock: &mut Stock) -> Result<Digest, Fail> {
+    let mut leaves = Vec::new(alloc);
+    for (first, last) in [(0x00, 0x3f), (0x40, 0x7f), (0x80, 0x81)] {
+        let keys = keys(alloc, b"\x61\x00", first, last)?;
+        leaves.push(put_leaf(alloc, stock, Tree::Tags, keys.as_slice(), 3)?)?;
+    }
+    let [one, two, three] = leaves.as_slice() else {
+        return Err(Fail::from("three leaves were expected"));
+    };
+    let children = [
+        child(b"\x61\x00\x3f", 64, *one),
+        child(b"\x61\x00\x7f", 64, *two),
+        child(b"\x61\x00\x81", 2, *three),
+    ];
+    put_inner(alloc, stock, Tree::Tags, 1, &children)
+}
