@@ -6,6 +6,6 @@ use Rattle.ql_plain.proofs.marks.below_by_marks.Given as goal
 
 abbrev pub invariant-loop-name : goal.invariant-loop-name
 invariant-loop-name l = record {
-  paired : length l.marks.items ≡ length l.objects;
-  added : Adds [] (marked l.objects l.marks.items) (From (take l.name-index l.from) (IsThereListedBy l.set l.kind));
+  paired : length l.marks.items ≡ length l.all.items;
+  added : Adds [] (marked l.all.items l.marks.items) (From (take l.name-index l.from) (IsThereListedBy l.set l.kind));
 }

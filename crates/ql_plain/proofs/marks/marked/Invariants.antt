@@ -3,4 +3,4 @@ use Rattle.ql_plain.specs.internal.Marks.{marked}
 use Rattle.ql_plain.proofs.marks.marked.Given as goal
 
 abbrev pub invariant-loop-place : goal.invariant-loop-place
-invariant-loop-place l = l.refs.items ≡ marked (take l.place l.objects) (take l.place l.marks)
+invariant-loop-place l = l.refs.items ≡ marked (take l.place l.all) (take l.place l.marks)
