@@ -1,4 +1,6 @@
+pub mod Changing
 pub mod Cuts
+pub mod Rebuilding
 pub mod Refusals
 pub mod Shapes
 pub mod internal

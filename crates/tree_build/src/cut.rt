@@ -62,7 +62,7 @@ pub(crate) fn first_piece<T: Cut>(items: &[T], shape: Shape) -> &[T]
 
 /// Whether a piece ends after this item as its item of this number, from 1. A mark is looked at only
 /// where it decides.
-fn ends_after<T: Cut>(item: &T, number: usize, shape: Shape) -> bool
+pub(crate) fn ends_after<T: Cut>(item: &T, number: usize, shape: Shape) -> bool
     ensures { result ≡ ends_by (shape_of shape) T.marked number item.now }
 {
     match shape {

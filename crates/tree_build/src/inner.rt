@@ -5,14 +5,14 @@ ghost use Rattle.tree_build.specs.internal.Building.{AreWithin, PutAll};
 ghost use Rattle.tree_build.specs.Shapes.{shape_of};
 ghost use Rattle.tree_node.specs.declared.limits.TheConstants.{ITEM_LIMIT};
 ghost use Rattle.tree_node.specs.NodeRefs.{inner_of, link_of, links_of, number_of};
-ghost use Rattle.tree_node.specs.Nodes.{Inner, Link, greatests_of};
+ghost use Rattle.tree_node.specs.Nodes.{Inner, Link, greatests_of, spelling};
 ghost use Rattle.tree_node.specs.Stocks.{HasNode};
 ghost use Rattle.tree_node.specs.Trees.{ends_by, is_marked_link, last_key as key_at_end, link_to, one_at_least, pieces};
 
 use crate::cut::first_piece;
 use crate::fault::BuildFault;
 use crate::shape::Shape;
-use std::alloc::Global;
+use std::alloc::{AllocError, Global};
 use tree_node::{Child, Stock, Tree, write_inner};
 
 /// Puts the inner nodes of this level over the children into the stock, and gives what an inner node
@@ -59,9 +59,7 @@ fn put_inner<'a>(
     ensures put { PutAll result (HasNode stock.old) (HasNode stock.new)
         (inner_of tree level children.now ∷ []) }
 {
-    let mut bytes = Vec::with_capacity(alloc, inner_len(children))?;
-    write_inner(tree, level, children, &mut bytes)?;
-    let digest = stock.put(bytes)?;
+    let digest = stock.put(inner_bytes(alloc, tree, level, children)?)?;
     Ok(Child {
         greatest: last_greatest(children),
         number: entries_below(children),
@@ -69,8 +67,24 @@ fn put_inner<'a>(
     })
 }
 
+/// The bytes of the inner node with these children, in just the room that they need.
+pub(crate) fn inner_bytes(
+    alloc: Global,
+    tree: Tree,
+    level: u8,
+    children: &[Child<'_>],
+) -> Result<Vec<u8>, AllocError>
+    requires few { length children.now ≤ ITEM_LIMIT }
+    requires within { AreWithin (links_of children.now) }
+    ensures { IfOk result (λ bytes. bytes.items ≡ spelling (inner_of tree level children.now)) }
+{
+    let mut bytes = Vec::with_capacity(alloc, inner_len(children))?;
+    write_inner(tree, level, children, &mut bytes)?;
+    Ok(bytes)
+}
+
 /// The last of the greatest keys of these children; of none the empty key.
-fn last_greatest<'a>(children: &[Child<'a>]) -> &'a [u8]
+pub(crate) fn last_greatest<'a>(children: &[Child<'a>]) -> &'a [u8]
     ensures { result.now ≡ key_at_end (greatests_of (links_of children.now)) }
 {
     match children.last() {
@@ -80,7 +94,7 @@ fn last_greatest<'a>(children: &[Child<'a>]) -> &'a [u8]
 }
 
 /// The number of entries below these children.
-fn entries_below(children: &[Child<'_>]) -> u64
+pub(crate) fn entries_below(children: &[Child<'_>]) -> u64
     requires { AreWithin (links_of children.now) }
     ensures { result ≡ sum_by (λ (link : Link). link.number) (links_of children.now) }
 {

@@ -14,7 +14,7 @@ use crate::Entry;
 use crate::cut::first_piece;
 use crate::fault::BuildFault;
 use crate::shape::Shape;
-use std::alloc::Global;
+use std::alloc::{AllocError, Global};
 use tree_node::{Child, Stock, Tree, write_leaf};
 
 /// Puts the leaves over the entries into the stock, and gives what an inner node says of each.
@@ -56,9 +56,7 @@ fn put_leaf<'a>(
     ensures link { IfOk result (λ child. link_of child ≡ link_to (leaf_of tree entries.now)) }
     ensures put { PutAll result (HasNode stock.old) (HasNode stock.new) (leaf_of tree entries.now ∷ []) }
 {
-    let mut bytes = Vec::with_capacity(alloc, leaf_len(entries))?;
-    write_leaf(tree, entries, &mut bytes)?;
-    let digest = stock.put(bytes)?;
+    let digest = stock.put(leaf_bytes(alloc, tree, entries)?)?;
     Ok(Child {
         greatest: last_key(entries),
         number: entries.len() as u64,
@@ -66,8 +64,23 @@ fn put_leaf<'a>(
     })
 }
 
+/// The bytes of the leaf with these entries, in just the room that they need.
+pub(crate) fn leaf_bytes(
+    alloc: Global,
+    tree: Tree,
+    entries: &[Entry<'_>],
+) -> Result<Vec<u8>, AllocError>
+    requires few { length entries.now ≤ ITEM_LIMIT }
+    requires fit { AllByRecursion FitsTree (bindings_of entries.now) }
+    ensures { IfOk result (λ bytes. bytes.items ≡ spelling (leaf_of tree entries.now)) }
+{
+    let mut bytes = Vec::with_capacity(alloc, leaf_len(entries))?;
+    write_leaf(tree, entries, &mut bytes)?;
+    Ok(bytes)
+}
+
 /// The last key of these entries; of none the empty one.
-fn last_key<'a>(entries: &[Entry<'a>]) -> &'a [u8]
+pub(crate) fn last_key<'a>(entries: &[Entry<'a>]) -> &'a [u8]
     ensures { result.now ≡ key_at_end (keys_of (bindings_of entries.now)) }
 {
     match entries.last() {

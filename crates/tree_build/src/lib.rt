@@ -6,15 +6,34 @@
 #![tactic(auto)]
 
 mod builder;
+mod change;
 mod cut;
+mod differ;
 mod fault;
+mod finish;
+mod grow;
+mod hand;
+mod held;
 mod inner;
 mod laws;
 mod leaf;
+mod level_item;
+mod levels;
+mod merge;
+mod piece;
+mod rebuilder;
+mod rebuilt;
+mod seek;
+mod settle;
 mod shape;
+mod step;
+mod tell;
 
 pub use builder::build;
+pub use change::EntryChange;
 pub use fault::BuildFault;
 pub use laws::{cuts_law, determines_law, entries_law, levels_law, nodes_law, pieces_law};
+pub use rebuilder::rebuild;
+pub use rebuilt::{NewNode, Rebuilt};
 pub use shape::Shape;
 pub use tree_node::Item as Entry;

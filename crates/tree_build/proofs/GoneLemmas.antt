@@ -1,0 +1,102 @@
+-- A piece that is taken in while something is in hand is no piece of the new list: what it begins with stands in the
+-- midst of one.
+use Rattle.std.proofs.Common.{◌≡◌, ◌≢◌, ℕ, ◌+◌, List, [], ◌∷◌, ◌++◌, length, ◌⊎◌, inl, inr, Bool, true, false, cond, refl, sym, ap, subst}
+use Rattle.std.specs.List.{AllByRecursion}
+use Rattle.tree_node.specs.Order.{IsBelow}
+use Rattle.tree_node.specs.internal.OrderLemmas.{not_itself}
+use Rattle.tree_node.specs.Trees.{pieces, pieces_from}
+use Rattle.tree_node.proofs.shared.PieceLemmas.{pieces_step, chosen}
+use Rattle.tree_build.specs.internal.Cutting.{hand_after, done_by}
+use Rattle.tree_build.proofs.RecutLemmas.{pieces_append}
+
+all_behind : {X : Type 0} (P : X → Type 0) (xs ys : List X) → AllByRecursion P xs → AllByRecursion P ys → AllByRecursion P (xs ++ ys)
+all_behind P [] ys p q = q
+all_behind P (x ∷ xs) ys p q = (p.0, all_behind P xs ys p.1 q)
+
+module _ {X : Type 0} (key : X → List ℕ) (ends : ℕ → X → Bool) where
+  -- the first item of a piece has the property
+  abbrev pub Begins : (X → Type 0) → List X → Type 0
+  Begins P [] = ⊥
+  Begins P (x ∷ xs) = P x
+
+  begins_more : (P : X → Type 0) (hand : List X) (x : X) → AllByRecursion P hand → P x → Begins P (hand ++ x ∷ [])
+  begins_more P [] x all p = p
+  begins_more P (h ∷ hs) x all p = all.0
+
+  -- what all items have, the first ones of all pieces have
+  pieces_begin : (P : X → Type 0) (hand xs : List X) → AllByRecursion P hand → AllByRecursion P xs → AllByRecursion (Begins P) (pieces_from ends hand xs)
+  pieces_begin P [] [] in_hand all = tt
+  pieces_begin P (h ∷ hs) [] in_hand all = (in_hand.0, tt)
+  pieces_begin P hand (x ∷ xs) in_hand all =
+      subst (λ (ps : List (List X)). AllByRecursion (Begins P) ps) (sym (pieces_step ends hand x xs))
+      (chosen (λ (ps : List (List X)). AllByRecursion (Begins P) ps) (ends (length hand + 1) x) ((hand ++ x ∷ []) ∷ pieces_from ends [] xs) (pieces_from ends (hand ++ x ∷ []) xs)
+      (λ _. (begins_more P hand x in_hand all.0, pieces_begin P [] xs tt all.1))
+      (λ _. pieces_begin P (hand ++ x ∷ []) xs (all_behind P hand (x ∷ []) in_hand (all.0, tt)) all.1))
+
+  done_begin : (P : X → Type 0) (hand xs : List X) → AllByRecursion P hand → AllByRecursion P xs → AllByRecursion (Begins P) (done_by ends hand xs) × AllByRecursion P (hand_after ends hand xs)
+  done_begin P hand [] in_hand all = (tt, in_hand)
+  done_begin P hand (x ∷ xs) in_hand all = step (ends (length hand + 1) x) (done_begin P [] xs tt all.1) (done_begin P (hand ++ x ∷ []) xs (all_behind P hand (x ∷ []) in_hand (all.0, tt)) all.1)
+    where
+      step : (b : Bool)
+          → AllByRecursion (Begins P) (done_by ends [] xs) × AllByRecursion P (hand_after ends [] xs)
+          → AllByRecursion (Begins P) (done_by ends (hand ++ x ∷ []) xs) × AllByRecursion P (hand_after ends (hand ++ x ∷ []) xs)
+          → AllByRecursion (Begins P) (cond b ((hand ++ x ∷ []) ∷ done_by ends [] xs) (done_by ends (hand ++ x ∷ []) xs)) × AllByRecursion P (cond b (hand_after ends [] xs) (hand_after ends (hand ++ x ∷ []) xs))
+      step true p q = ((begins_more P hand x in_hand all.0, p.0), p.1)
+      step false p q = q
+
+  -- of a list with something in hand the first piece begins with that, the others with an item of the list
+  first_or_other : (P Q : X → Type 0) (h : X) (hs xs : List X) → P h → AllByRecursion Q xs → AllByRecursion (λ (p : List X). Begins P p ⊎ Begins Q p) (pieces_from ends (h ∷ hs) xs)
+  first_or_other P Q h hs [] has all = (inl has, tt)
+  first_or_other P Q h hs (x ∷ xs) has all =
+      chosen (λ (ps : List (List X)). AllByRecursion (λ (p : List X). Begins P p ⊎ Begins Q p) ps) (ends (length (h ∷ hs) + 1) x) ((h ∷ (hs ++ x ∷ [])) ∷ pieces_from ends [] xs) (pieces_from ends (h ∷ (hs ++ x ∷ [])) xs)
+      (λ _. (inl has, others (pieces_from ends [] xs) (pieces_begin Q [] xs tt all.1)))
+      (λ _. first_or_other P Q h (hs ++ x ∷ []) xs has all.1)
+    where
+      others : (ps : List (List X)) → AllByRecursion (Begins Q) ps → AllByRecursion (λ (p : List X). Begins P p ⊎ Begins Q p) ps
+      others [] all = tt
+      others (p ∷ ps) all = (inr all.0, others ps all.1)
+
+  module _ (x : X) (rest : List X) where
+    -- it begins with another item
+    abbrev pub IsOther : List X → Type 0
+    IsOther p = p ≢ x ∷ rest
+
+    begins_below : (p : List X) → Begins (λ (y : X). IsBelow (key y) (key x)) p → IsOther p
+    begins_below [] none = absurd none
+    begins_below (y ∷ ys) below = λ same. let head : y ≡ x = cc in not_itself (key y) (key x) below (ap key head)
+
+    begins_above : (p : List X) → Begins (λ (y : X). IsBelow (key x) (key y)) p → IsOther p
+    begins_above [] none = absurd none
+    begins_above (y ∷ ys) above = λ same. let head : x ≡ y = cc in not_itself (key x) (key y) above (ap key head)
+
+    all_below : (ps : List (List X)) → AllByRecursion (Begins (λ (y : X). IsBelow (key y) (key x))) ps → AllByRecursion IsOther ps
+    all_below [] all = tt
+    all_below (p ∷ ps) all = (begins_below p all.0, all_below ps all.1)
+
+    all_either : (ps : List (List X)) → AllByRecursion (λ (p : List X). Begins (λ (y : X). IsBelow (key y) (key x)) p ⊎ Begins (λ (y : X). IsBelow (key x) (key y)) p) ps → AllByRecursion IsOther ps
+    all_either [] all = tt
+    all_either (p ∷ ps) all = (elim all.0 [ inl low ↦ begins_below p low | inr high ↦ begins_above p high ], all_either ps all.1)
+
+    pub in_hand : (hand xs : List X) → hand ≢ [] → AllByRecursion (λ (y : X). IsBelow (key y) (key x)) hand → AllByRecursion (λ (y : X). IsBelow (key x) (key y)) xs
+        → AllByRecursion IsOther (pieces_from ends hand (x ∷ xs))
+    in_hand [] xs some low high = absurd (some refl)
+    in_hand (h ∷ hs) xs some low high =
+        let P : X → Type 0 = λ (y : X). IsBelow (key y) (key x) in
+        let Q : X → Type 0 = λ (y : X). IsBelow (key x) (key y) in
+        chosen (λ (ps : List (List X)). AllByRecursion IsOther ps) (ends (length (h ∷ hs) + 1) x) ((h ∷ (hs ++ x ∷ [])) ∷ pieces_from ends [] xs) (pieces_from ends (h ∷ (hs ++ x ∷ [])) xs)
+        (λ _. (begins_below (h ∷ (hs ++ x ∷ [])) low.0, above_all (pieces_from ends [] xs) (pieces_begin Q [] xs tt high)))
+        (λ _. all_either (pieces_from ends (h ∷ (hs ++ x ∷ [])) xs) (first_or_other P Q h (hs ++ x ∷ []) xs low.0 high))
+      where
+        above_all : (ps : List (List X)) → AllByRecursion (Begins (λ (y : X). IsBelow (key x) (key y))) ps → AllByRecursion IsOther ps
+        above_all [] all = tt
+        above_all (p ∷ ps) all = (begins_above p all.0, above_all ps all.1)
+
+    -- Where something is in hand when an old piece comes, this piece is none of the new ones.
+    pub taken_in : (before behind : List X) → hand_after ends [] before ≢ []
+        → AllByRecursion (λ (y : X). IsBelow (key y) (key x)) before → AllByRecursion (λ (y : X). IsBelow (key x) (key y)) behind
+        → AllByRecursion (λ (p : List X). p ≢ x ∷ rest) (pieces ends (before ++ x ∷ behind))
+    taken_in before behind some low high =
+        let parts = done_begin (λ (y : X). IsBelow (key y) (key x)) [] before tt low in
+        subst (λ (ps : List (List X)). AllByRecursion IsOther ps) (sym (pieces_append ends [] before (x ∷ behind)))
+        (all_behind IsOther (done_by ends [] before) (pieces_from ends (hand_after ends [] before) (x ∷ behind))
+        (all_below (done_by ends [] before) parts.0) (in_hand (hand_after ends [] before) behind some parts.1 high))

@@ -1,0 +1,127 @@
+-- How far the cutting of some items has come: what was made of them, and what is in hand.
+use Rattle.std.proofs.Common.{◌≡◌, ℕ, zero, suc, ◌+◌, ◌<◌, ◌≤◌, List, [], ◌∷◌, ◌++◌, length, get_or, drop, map, Bool, true, false, cond, refl, sym, ap, subst, ◌∙◌, append_assoc, add-one, arith}
+use Rattle.std.proofs.lemmas.List.{append-nil, map-append}
+use Rattle.std.proofs.Math.Seq.{drop-cons}
+use Rattle.tree_node.specs.Nodes.{Node}
+use Rattle.tree_node.specs.Trees.{pieces_from}
+use Rattle.tree_node.proofs.shared.PieceLemmas.{join}
+use Rattle.tree_build.specs.declared.piece.NewPiece.{NewPiece}
+use Rattle.tree_build.specs.internal.Cutting.{done_by, hand_after}
+use Rattle.tree_build.specs.internal.Edits.{Each, HaveCome, IsNewNode}
+use Rattle.tree_build.specs.internal.Steps.{HaveGoneOn}
+use Rattle.tree_build.proofs.RecutLemmas.{done_append, hand_append}
+
+-- ---- what is left of a list that a loop goes over
+
+pub next_mapped : {X Y : Type 0} (f : X → Y) (xs : List X) (i : ℕ) (x : X) → i < length xs → x ≡ get_or xs i x → map f (drop i xs) ≡ f x ∷ map f (drop (i + 1) xs)
+next_mapped {X} f xs i x lt is = ap (map f) (drop-cons xs i x lt ∙ ap (λ (y : X). y ∷ drop (suc i) xs) (sym is) ∙ ap (λ n. x ∷ drop n xs) (sym (add-one i)))
+
+pub none_mapped : {X Y : Type 0} (f : X → Y) (xs : List X) (i : ℕ) → length xs ≤ i → map f (drop i xs) ≡ []
+none_mapped f [] zero le = refl
+none_mapped f [] (suc i) le = refl
+none_mapped f (x ∷ xs) zero le = absurd (omega arith)
+none_mapped f (x ∷ xs) (suc i) le = none_mapped f xs i (omega arith)
+
+-- ---- what stands for nodes
+
+pub each_append : {X Y : Type 0} (Stands : X → Y → Type 0) (xs : List X) (ys : List Y) (more : List X) (others : List Y) → Each Stands xs ys → Each Stands more others → Each Stands (xs ++ more) (ys ++ others)
+each_append Stands [] [] more others one two = two
+each_append Stands [] (y ∷ ys) more others one two = absurd one
+each_append Stands (x ∷ xs) [] more others one two = absurd one
+each_append Stands (x ∷ xs) (y ∷ ys) more others one two = (one.0, each_append Stands xs ys more others one.1 two)
+
+-- nothing has come
+pub come_none : (news : List NewPiece) → HaveCome news news []
+come_none news = record { more = []; whole = sym (append-nil news); stand = tt }
+
+-- some have come, and then others
+pub come_then : (old mid new : List NewPiece) (nodes others : List Node) → HaveCome old mid nodes → HaveCome mid new others → HaveCome old new (nodes ++ others)
+come_then old mid new nodes others one two = record {
+  more = one.more ++ two.more;
+  whole = two.whole ∙ ap (λ (ns : List NewPiece). ns ++ two.more) one.whole ∙ append_assoc old one.more two.more;
+  stand = each_append IsNewNode one.more nodes two.more others one.stand two.stand;
+}
+
+module _ {X : Type 0} (Fit : List X → Type 0) (ends : ℕ → X → Bool) (node : List X → Node) where
+  -- what was made, with what the items to come will make
+  pub record IsCutting (first items : List X) (before after : List NewPiece) (hand rest : List X) : Type 0 where
+    pub fit : Fit (hand ++ rest)
+    pub made : List Node
+    pub come : HaveCome before after made
+    pub whole : map node (done_by ends first items) ≡ made ++ map node (done_by ends hand rest)
+    pub hands : hand_after ends first items ≡ hand_after ends hand rest
+
+  pub cutting_start : (first items : List X) (news : List NewPiece) → Fit (first ++ items) → IsCutting first items news news first items
+  cutting_start first items news fit = record { fit = fit; made = []; come = come_none news; whole = refl; hands = refl }
+
+  module _ (parts : (xs ys : List X) → Fit (xs ++ ys) → Fit xs × Fit ys) (first items : List X) (before mid : List NewPiece) (hand : List X) (x : X) (rest : List X) (so : IsCutting first items before mid hand (x ∷ rest)) where
+    fit_all : Fit ((hand ++ x ∷ []) ++ rest)
+    fit_all = subst Fit (sym (append_assoc hand (x ∷ []) rest)) so.fit
+
+    -- the item can be taken in hand
+    pub cutting_fit : Fit (hand ++ x ∷ [])
+    cutting_fit = (parts (hand ++ x ∷ []) rest fit_all).0
+
+    fit_next : Fit (hand_after ends hand (x ∷ []) ++ rest)
+    fit_next = by (ends (length hand + 1) x)
+      where
+        by : (b : Bool) → Fit (cond b [] (hand ++ x ∷ []) ++ rest)
+        by true = (parts (hand ++ x ∷ []) rest fit_all).1
+        by false = fit_all
+
+    -- the item was taken
+    pub cutting_next : (after : List NewPiece) (next : List X) → HaveCome mid after (map node (done_by ends hand (x ∷ []))) → next ≡ hand_after ends hand (x ∷ []) → IsCutting first items before after next rest
+    cutting_next after next come is = subst (λ (h : List X). IsCutting first items before after h rest) (sym is) (record {
+      fit = fit_next;
+      made = so.made ++ map node (done_by ends hand (x ∷ []));
+      come = come_then before mid after so.made (map node (done_by ends hand (x ∷ []))) so.come come;
+      whole = so.whole
+          ∙ ap (λ (ps : List (List X)). so.made ++ map node ps) (done_append ends hand (x ∷ []) rest)
+          ∙ ap (λ (ns : List Node). so.made ++ ns) (map-append node (done_by ends hand (x ∷ [])) (done_by ends (hand_after ends hand (x ∷ [])) rest))
+          ∙ sym (append_assoc so.made (map node (done_by ends hand (x ∷ []))) (map node (done_by ends (hand_after ends hand (x ∷ [])) rest)));
+      hands = so.hands ∙ hand_append ends hand (x ∷ []) rest;
+    })
+
+  -- all were taken
+  pub cutting_done : (first items : List X) (before after : List NewPiece) (hand : List X) → IsCutting first items before after hand [] → HaveCome before after (map node (done_by ends first items))
+  cutting_done first items before after hand so = subst (λ (ns : List Node). HaveCome before after ns) (sym (so.whole ∙ append-nil so.made)) so.come
+
+-- ---- what is in hand behind some items
+
+module _ {X : Type 0} (ends : ℕ → X → Bool) where
+  -- the pieces that ended, and what is in hand, are what there was
+  pub hand_joins : (hand xs : List X) → join (done_by ends hand xs) ++ hand_after ends hand xs ≡ hand ++ xs
+  hand_joins hand [] = sym (append-nil hand)
+  hand_joins hand (x ∷ xs) = step (ends (length hand + 1) x) (hand_joins [] xs) (hand_joins (hand ++ x ∷ []) xs)
+    where
+      step : (b : Bool) → join (done_by ends [] xs) ++ hand_after ends [] xs ≡ xs → join (done_by ends (hand ++ x ∷ []) xs) ++ hand_after ends (hand ++ x ∷ []) xs ≡ (hand ++ x ∷ []) ++ xs
+          → join (cond b ((hand ++ x ∷ []) ∷ done_by ends [] xs) (done_by ends (hand ++ x ∷ []) xs)) ++ cond b (hand_after ends [] xs) (hand_after ends (hand ++ x ∷ []) xs) ≡ hand ++ x ∷ xs
+      step true one two = append_assoc (hand ++ x ∷ []) (join (done_by ends [] xs)) (hand_after ends [] xs) ∙ ap (λ (ys : List X). (hand ++ x ∷ []) ++ ys) one ∙ append_assoc hand (x ∷ []) xs
+      step false one two = two ∙ append_assoc hand (x ∷ []) xs
+
+  module _ (Fit : List X → Type 0) (parts : (xs ys : List X) → Fit (xs ++ ys) → Fit xs × Fit ys) where
+    -- what is in hand fits, where all did
+    pub hand_fits : (hand xs others : List X) → Fit (hand ++ (xs ++ others)) → Fit (hand_after ends hand xs ++ others)
+    hand_fits hand xs others fit =
+        (parts (join (done_by ends hand xs)) (hand_after ends hand xs ++ others)
+        (subst Fit
+        (sym (append_assoc hand xs others) ∙ ap (λ (ys : List X). ys ++ others) (sym (hand_joins hand xs)) ∙ append_assoc (join (done_by ends hand xs)) (hand_after ends hand xs) others)
+        fit)).1
+
+    pub last_fits : (hand xs : List X) → Fit (hand ++ xs) → Fit (hand_after ends hand xs)
+    last_fits hand xs fit = (parts (join (done_by ends hand xs)) (hand_after ends hand xs) (subst Fit (sym (hand_joins hand xs)) fit)).1
+
+  -- the items were cut, and the level closed where they are its last
+  pub gone_on : (over : List X → Node) (is_last : Bool) (hand : List X) (news : List NewPiece) (items others mid_hand next : List X) (mid later : List NewPiece)
+      → HaveCome news mid (map over (done_by ends hand others)) → mid_hand ≡ hand_after ends hand others → others ≡ items
+      → HaveCome mid later (map over (cond is_last (pieces_from ends mid_hand []) [])) → next ≡ cond is_last [] mid_hand → HaveGoneOn ends over is_last hand news items next later
+  gone_on over is_last hand news items others mid_hand next mid later cut hand_is same come next_is =
+      let all : mid_hand ≡ hand_after ends hand items = hand_is ∙ ap (hand_after ends hand) same in
+      let last : HaveCome mid later (map over (cond is_last (pieces_from ends (hand_after ends hand items) []) [])) =
+      subst (λ (h : List X). HaveCome mid later (map over (cond is_last (pieces_from ends h []) []))) all come in
+      let first : HaveCome news mid (map over (done_by ends hand items)) = subst (λ (ys : List X). HaveCome news mid (map over (done_by ends hand ys))) same cut in
+      record {
+        come = subst (λ (ns : List Node). HaveCome news later ns) (sym (map-append over (done_by ends hand items) (cond is_last (pieces_from ends (hand_after ends hand items) []) [])))
+            (come_then news mid later (map over (done_by ends hand items)) (map over (cond is_last (pieces_from ends (hand_after ends hand items) []) [])) first last);
+        hand_is = next_is ∙ ap (λ (h : List X). cond is_last [] h) all;
+      }

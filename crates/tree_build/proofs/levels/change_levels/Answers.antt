@@ -1,0 +1,150 @@
+use Rattle.std.proofs.Common.{vec_len, inl, ◌≡◌, ◌+◌, ◌++◌, ◌∷◌, [], ◌<◌, ◌≤◌, length-append, length, map, refl, sym, ap, subst, ◌∙◌, add-one, arith}
+use Rattle.tree_node.specs.NodeRefs.{binding_of, link_of, number_of}
+use Rattle.std.specs.List.{flat_map}
+use Rattle.std.proofs.lemmas.List.{length-map}
+use Rattle.tree_node.specs.Nodes.{Inner, Link}
+use Rattle.tree_node.specs.Trees.{Two, ends_by, is_marked_link, level_at, levels, links_in, pieces}
+use Rattle.tree_build.specs.Changing.{changed}
+use Rattle.tree_build.specs.internal.Steps.{IsEdit}
+use Rattle.tree_build.specs.Rebuilding.{changes_of}
+use Rattle.tree_build.specs.internal.ItemChanges.{change_meant, changes_meant}
+use Rattle.tree_build.proofs.TreeEdits.{edit_inner, edit_leaves, given_inner, given_leaves, held_of, levels_first, levels_more, next_of, nodes_new, nodes_old, old_then, at_top, none_next, tree_edit}
+use Rattle.tree_build.proofs.ReasonLevels.{has_next, reasoned_first, reasoned_next, reasons_inner, reasons_leaves}
+use Rattle.tree_build.proofs.UsedLemmas.{read_more}
+use Rattle.tree_build.proofs.levels.change_levels.Goals as goal
+
+pub step_leaves-requires : goal.step_leaves-requires
+step_leaves-requires g c = λ k.
+    let (entries, is, height, some) = c.requires in
+    let given : changes_meant binding_of c.as_slice.result.now ≡ changes_of c.args.changes.now = ap (changes_meant binding_of) c.as_slice.ensures.value ∙ c.in_ok-items.ensures in
+    ((refl, tt), (entries, held_of _ _ _ _ _ is, omega arith, given_leaves _ _ c.args.changes.now (number_of c.args.tree) entries _ given some is))
+
+pub levels-init : goal.levels-init
+levels-init g c = record {
+  stays = c.step_leaves.ensures.stays;
+  grows = c.step_leaves.ensures.grows;
+  low = omega arith;
+  count = ap length c.in_ok-push.ensures.items ∙ ap (λ xs. length (xs ++ c.in_ok-leaves.leaves ∷ [])) c.new-edits.ensures.items;
+  used = λ entries is height x h.
+      let now = old_then _ (g.S.Shelf.holds c.step_leaves.new.shelf) _ _ _ _ (λ y k. (c.step_leaves.ensures.stays y).1 k) is in
+      read_more (levels Two (number_of c.args.tree) entries) 0 [] c.push.new.self.items c.in_ok-leaves.leaves x (g.S.Shelf.used c.args.shelf.now x) (g.S.Shelf.used c.args.shelf.now x)
+      (c.in_ok-push.ensures.items ∙ ap (λ xs. xs ++ c.in_ok-leaves.leaves ∷ []) c.new-edits.ensures.items) refl (λ k. inl k)
+      (c.in_ok-leaves.ensures.used entries (held_of _ _ _ _ _ now) (omega arith) x h);
+  state = λ entries is height.
+      let given : changes_meant binding_of c.as_slice.result.now ≡ changes_of c.args.changes.now = ap (changes_meant binding_of) c.as_slice.ensures.value ∙ c.in_ok-items.ensures in
+      let (some_entries, some_is, some_height, some) = c.requires in
+      let now = old_then _ (g.S.Shelf.holds c.step_leaves.new.shelf) _ _ _ _ (λ x h. (c.step_leaves.ensures.stays x).1 h) is in
+      let gives = c.in_ok-leaves.ensures.edited entries (held_of _ _ _ _ _ now) (omega arith) (given_leaves _ _ c.args.changes.now (number_of c.args.tree) entries _ given some is) in
+      let edit = edit_leaves _ _ c.args.changes.now (number_of c.args.tree) entries _ given is c.in_ok-leaves.leaves gives in
+      let next = next_of _ _ c.in_ok-leaves.leaves (changes_meant link_of c.in_ok-next.next.items) edit (nodes_old (number_of c.args.tree) entries (changes_of c.args.changes.now) is.is_tree is.has is.changed_has 0 (omega arith))
+      (nodes_new (number_of c.args.tree) entries (changes_of c.args.changes.now) is.is_tree is.has is.changed_has 0 (omega arith)) c.in_ok-next.ensures in
+      levels_first _ _ _ c.in_ok-leaves.leaves _ (c.in_ok-push.ensures.items ∙ ap (λ xs. xs ++ c.in_ok-leaves.leaves ∷ []) c.new-edits.ensures.items) edit c.in_ok-leaves.ensures.some next;
+  reasons = λ entries is height.
+      let given : changes_meant binding_of c.as_slice.result.now ≡ changes_of c.args.changes.now = ap (changes_meant binding_of) c.as_slice.ensures.value ∙ c.in_ok-items.ensures in
+      let (some_entries, some_is, some_height, some) = c.requires in
+      let now = old_then _ (g.S.Shelf.holds c.step_leaves.new.shelf) _ _ _ _ (λ x h. (c.step_leaves.ensures.stays x).1 h) is in
+      let can = given_leaves _ _ c.args.changes.now (number_of c.args.tree) entries _ given some is in
+      let edit = edit_leaves _ _ c.args.changes.now (number_of c.args.tree) entries _ given is c.in_ok-leaves.leaves (c.in_ok-leaves.ensures.edited entries (held_of _ _ _ _ _ now) (omega arith) can) in
+      let next = has_next _ _ c.in_ok-leaves.leaves (changes_meant link_of c.in_ok-next.next.items) edit (nodes_old (number_of c.args.tree) entries (changes_of c.args.changes.now) is.is_tree is.has is.changed_has 0 (omega arith))
+      (nodes_new (number_of c.args.tree) entries (changes_of c.args.changes.now) is.is_tree is.has is.changed_has 0 (omega arith)) c.in_ok-next.ensures in
+      reasoned_first _ _ _ _ c.in_ok-leaves.leaves _ (c.in_ok-push.ensures.items ∙ ap (λ xs. xs ++ c.in_ok-leaves.leaves ∷ []) c.new-edits.ensures.items)
+      (reasons_leaves _ _ c.args.changes.now (number_of c.args.tree) entries _ given is c.in_ok-leaves.leaves.olds.items (c.in_ok-leaves.ensures.reasons entries (held_of _ _ _ _ _ now) (omega arith) can)) next;
+}
+
+pub step_inner-requires : goal.step_inner-requires
+step_inner-requires g c = λ k.
+    let (entries, is, height, some) = c.requires in
+    let on = c.goes_on.ensures.0 c.levels-test.true in
+    let state = c.levels.invariant.state entries is height in
+    let given : changes_meant link_of c.as_slice-in-levels-2.result.now ≡ changes_meant link_of c.levels.next.items = ap (changes_meant link_of) c.as_slice-in-levels-2.ensures.value in
+    let has : 1 ≤ length (changes_meant link_of c.levels.next.items) = omega (arith, on.1, ap length c.as_slice-in-levels.ensures.value, length-map c.levels.next.items (change_meant link_of)) in
+    let below : c.levels.level + 1 < length (levels Two (number_of c.args.tree) entries) = omega (arith, on.0) in (
+      (refl, tt),
+      (
+        entries,
+        held_of _ _ _ _ _ (old_then _ (g.S.Shelf.holds c.levels.shelf) _ _ _ _ (λ x h. (c.levels.invariant.stays x).1 h) is),
+        below,
+        given_inner _ _ c.args.changes.now (number_of c.args.tree) entries is c.levels.level (c.levels.level + 1) (add-one c.levels.level) below _ _ given state.next has,
+      ),
+    )
+
+pub levels-preserved : goal.levels-preserved
+levels-preserved g c =
+    let on = c.goes_on.ensures.0 c.levels-test.true in
+    record {
+      stays = λ x. ((λ h. (c.levels.invariant.stays x).0 ((c.step_inner.ensures.stays x).0 h)), (λ h. (c.step_inner.ensures.stays x).1 ((c.levels.invariant.stays x).1 h)));
+      grows = λ x h. c.step_inner.ensures.grows x (c.levels.invariant.grows x h);
+      low = omega (arith, on.0);
+      count = omega (arith, ap length c.in_ok-push-2.ensures.items, length-append c.levels.edits.items (c.in_ok-edit.edit ∷ []), c.levels.invariant.count);
+      used = λ entries is height x h.
+          let below : c.levels.level + 1 < length (levels Two (number_of c.args.tree) entries) = omega (arith, on.0) in
+          let now = old_then _ (g.S.Shelf.holds c.step_inner.new.shelf) _ _ _ _ (λ y k. (c.step_inner.ensures.stays y).1 ((c.levels.invariant.stays y).1 k)) is in
+          read_more (levels Two (number_of c.args.tree) entries) (c.levels.level + 1) c.levels.edits.items c.push-in-levels.new.self.items c.in_ok-edit.edit x (g.S.Shelf.used c.args.shelf.now x) (g.S.Shelf.used c.levels.shelf x)
+          c.in_ok-push-2.ensures.items c.levels.invariant.count (c.levels.invariant.used entries is height x)
+          (c.in_ok-edit.ensures.used entries (held_of _ _ _ _ _ now) below x h);
+      state = λ entries is height.
+          let state = c.levels.invariant.state entries is height in
+          let given : changes_meant link_of c.as_slice-in-levels-2.result.now ≡ changes_meant link_of c.levels.next.items = ap (changes_meant link_of) c.as_slice-in-levels-2.ensures.value in
+          let has : 1 ≤ length (changes_meant link_of c.levels.next.items) = omega (arith, on.1, ap length c.as_slice-in-levels.ensures.value, length-map c.levels.next.items (change_meant link_of)) in
+          let below : c.levels.level + 1 < length (levels Two (number_of c.args.tree) entries) = omega (arith, on.0) in
+          let now = old_then _ (g.S.Shelf.holds c.step_inner.new.shelf) _ _ _ _ (λ x h. (c.step_inner.ensures.stays x).1 ((c.levels.invariant.stays x).1 h)) is in
+          let gives = c.in_ok-edit.ensures.edited entries (held_of _ _ _ _ _ now) below
+          (given_inner _ _ c.args.changes.now (number_of c.args.tree) entries is c.levels.level (c.levels.level + 1) (add-one c.levels.level) below _ _ given state.next has) in
+          let edit = edit_inner _ _ c.args.changes.now (number_of c.args.tree) entries is c.levels.level (c.levels.level + 1) (add-one c.levels.level) below _ state.next c.in_ok-edit.edit
+          (subst (λ cs. IsEdit (level_at (levels Two (number_of c.args.tree) entries) (c.levels.level + 1))
+          (map (Inner (number_of c.args.tree) (c.levels.level + 1)) (pieces (ends_by Two is_marked_link) (changed (λ (link : Link). link.greatest) (flat_map links_in (level_at (levels Two (number_of c.args.tree) entries) (c.levels.level + 1))) cs))) c.in_ok-edit.edit) given gives) in
+          let next = next_of _ _ c.in_ok-edit.edit (changes_meant link_of c.in_ok-next-2.next.items) edit
+          (nodes_old (number_of c.args.tree) entries (changes_of c.args.changes.now) is.is_tree is.has is.changed_has (c.levels.level + 1) below)
+          (nodes_new (number_of c.args.tree) entries (changes_of c.args.changes.now) is.is_tree is.has is.changed_has (c.levels.level + 1) below) c.in_ok-next-2.ensures in
+          levels_more _ _ c.levels.level (c.levels.level + 1) _ _ c.in_ok-edit.edit _ _ state (sym c.levels.invariant.count) c.in_ok-push-2.ensures.items edit c.in_ok-edit.ensures.some next;
+      reasons = λ entries is height.
+          let state = c.levels.invariant.state entries is height in
+          let given : changes_meant link_of c.as_slice-in-levels-2.result.now ≡ changes_meant link_of c.levels.next.items = ap (changes_meant link_of) c.as_slice-in-levels-2.ensures.value in
+          let has : 1 ≤ length (changes_meant link_of c.levels.next.items) = omega (arith, on.1, ap length c.as_slice-in-levels.ensures.value, length-map c.levels.next.items (change_meant link_of)) in
+          let below : c.levels.level + 1 < length (levels Two (number_of c.args.tree) entries) = omega (arith, on.0) in
+          let now = old_then _ (g.S.Shelf.holds c.step_inner.new.shelf) _ _ _ _ (λ x h. (c.step_inner.ensures.stays x).1 ((c.levels.invariant.stays x).1 h)) is in
+          let can = given_inner _ _ c.args.changes.now (number_of c.args.tree) entries is c.levels.level (c.levels.level + 1) (add-one c.levels.level) below _ _ given state.next has in
+          let gives = c.in_ok-edit.ensures.edited entries (held_of _ _ _ _ _ now) below can in
+          let edit = edit_inner _ _ c.args.changes.now (number_of c.args.tree) entries is c.levels.level (c.levels.level + 1) (add-one c.levels.level) below _ state.next c.in_ok-edit.edit
+          (subst (λ cs. IsEdit (level_at (levels Two (number_of c.args.tree) entries) (c.levels.level + 1))
+          (map (Inner (number_of c.args.tree) (c.levels.level + 1)) (pieces (ends_by Two is_marked_link) (changed (λ (link : Link). link.greatest) (flat_map links_in (level_at (levels Two (number_of c.args.tree) entries) (c.levels.level + 1))) cs))) c.in_ok-edit.edit) given gives) in
+          let next = has_next _ _ c.in_ok-edit.edit (changes_meant link_of c.in_ok-next-2.next.items) edit
+          (nodes_old (number_of c.args.tree) entries (changes_of c.args.changes.now) is.is_tree is.has is.changed_has (c.levels.level + 1) below)
+          (nodes_new (number_of c.args.tree) entries (changes_of c.args.changes.now) is.is_tree is.has is.changed_has (c.levels.level + 1) below) c.in_ok-next-2.ensures in
+          reasoned_next _ _ (c.levels.level + 1) _ _ _ _ c.in_ok-edit.edit _ (sym c.levels.invariant.count) c.in_ok-push-2.ensures.items (c.levels.invariant.reasons entries is height)
+          (reasons_inner _ _ c.args.changes.now (number_of c.args.tree) entries is c.levels.level (c.levels.level + 1) (add-one c.levels.level) below _ _ given state.next c.in_ok-edit.edit.olds.items (c.in_ok-edit.ensures.reasons entries (held_of _ _ _ _ _ now) below can)) next;
+    }
+
+pub returns-clause-edited : goal.returns-clause-edited
+returns-clause-edited g c = λ entries is height.
+    let was = old_then _ (g.S.Shelf.holds c.args.shelf.now) _ _ _ _ (λ x h. (c.levels.invariant.stays x).0 h) is in
+    let state = c.levels.invariant.state entries was height in
+    tree_edit _ _ c.args.changes.now (number_of c.args.tree) entries was c.levels.level c.args.top_level c.levels.edits.items _ state height c.levels.invariant.low c.levels.invariant.count
+    (record { edits = c.levels.edits; stays = c.is_empty-stays.result }) refl
+    (none_next (change_meant link_of) c.levels.next.items (vec_len c.levels.next) c.is_empty-stays.result c.levels.next.ok.0 c.is_empty-stays.ensures)
+    (λ some. at_top c.levels.next.items (vec_len c.levels.next) c.levels.level c.args.top_level (length c.as_slice-in-levels.result.now) c.is_empty-stays.result c.goes_on.result c.levels.next.ok.0
+    (ap length c.as_slice-in-levels.ensures.value) c.is_empty-stays.ensures some c.goes_on.ensures.1 c.levels-test.false c.levels.invariant.low)
+
+pub returns-clause-used : goal.returns-clause-used
+returns-clause-used g c = λ entries is height.
+    let was = old_then _ (g.S.Shelf.holds c.args.shelf.now) _ _ _ _ (λ x h. (c.levels.invariant.stays x).0 h) is in
+    c.levels.invariant.used entries was height
+
+pub returns-clause-reasons : goal.returns-clause-reasons
+returns-clause-reasons g c = λ entries is height.
+    let was = old_then _ (g.S.Shelf.holds c.args.shelf.now) _ _ _ _ (λ x h. (c.levels.invariant.stays x).0 h) is in
+    (_, c.levels.invariant.reasons entries was height)
+
+pub returns-in_err-next-2-clause-stays : goal.returns-in_err-next-2-clause-stays
+returns-in_err-next-2-clause-stays g c =
+    λ x. ((λ h. (c.levels.invariant.stays x).0 ((c.step_inner.ensures.stays x).0 h)), (λ h. (c.step_inner.ensures.stays x).1 ((c.levels.invariant.stays x).1 h)))
+
+pub returns-in_err-next-2-clause-grows : goal.returns-in_err-next-2-clause-grows
+returns-in_err-next-2-clause-grows g c = λ x h. c.step_inner.ensures.grows x (c.levels.invariant.grows x h)
+
+pub returns-in_err-push-2-clause-stays : goal.returns-in_err-push-2-clause-stays
+returns-in_err-push-2-clause-stays g c =
+    λ x. ((λ h. (c.levels.invariant.stays x).0 ((c.step_inner.ensures.stays x).0 h)), (λ h. (c.step_inner.ensures.stays x).1 ((c.levels.invariant.stays x).1 h)))
+
+pub returns-in_err-push-2-clause-grows : goal.returns-in_err-push-2-clause-grows
+returns-in_err-push-2-clause-grows g c = λ x h. c.step_inner.ensures.grows x (c.levels.invariant.grows x h)

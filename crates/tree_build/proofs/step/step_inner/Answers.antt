@@ -1,0 +1,121 @@
+use Rattle.std.proofs.Common.{List, ◌⊎◌, inl, length, map, refl, sym, ap, subst, arith}
+use Rattle.std.specs.List.{flat_map}
+use Rattle.tree_node.specs.NodeRefs.{link_of, node_read, number_of}
+use Rattle.tree_node.specs.Nodes.{Inner, Link}
+use Rattle.tree_node.specs.Trees.{Two, ends_by, is_marked_link, level_at, levels, links_in, pieces}
+use Rattle.tree_build.specs.internal.Building.{AreWithin}
+use Rattle.tree_build.specs.internal.FitLaws.{links_parts}
+use Rattle.tree_build.proofs.DescentLemmas.{level_some_at}
+use Rattle.tree_build.proofs.SeekStates.{held_then}
+use Rattle.tree_build.specs.Changing.{changed}
+use Rattle.tree_build.specs.internal.ItemChanges.{changes_meant}
+use Rattle.tree_build.specs.internal.Steps.{HaveReasons, keys_changed}
+use Rattle.tree_build.specs.internal.Holding.{IsOnWayTo}
+use Rattle.tree_build.specs.declared.held.OldNode.{OldNode}
+use Rattle.tree_build.proofs.ReasonLemmas.{first_reasons, last_reasons, next_reasons}
+use Rattle.tree_build.proofs.UsedLemmas.{way_more}
+use Rattle.tree_build.proofs.StepLoops.{edit_of, end_state, falls, some_of, start_state, turn, went_then, within_rest}
+use Rattle.tree_build.proofs.step.step_inner.Goals as goal
+
+pub loop-wanted-init : goal.loop-wanted-init
+loop-wanted-init g c = record {
+  stays = λ x. ((λ h. h), (λ h. h));
+  grows = λ x h. h;
+  used = λ entries is lt x h. inl h;
+  state = λ entries is lt can.
+      start_state link_of (λ (link : Link). link.greatest) (ends_by Two is_marked_link) links_in (Inner (number_of c.args.place.tree) c.args.place.level) AreWithin (level_at (levels Two (number_of c.args.place.tree) entries) c.args.place.level) c.args.changes.now can (level_some_at (number_of c.args.place.tree) entries c.args.place.level lt) _ _ _
+      c.start-work.ensures.olds c.start-work.ensures.news c.start-work.ensures.hand;
+  reasons = λ entries is lt can. first_reasons link_of (λ (link : Link). link.greatest) (ends_by Two is_marked_link) links_in (Inner (number_of c.args.place.tree) c.args.place.level) AreWithin (level_at (levels Two (number_of c.args.place.tree) entries) c.args.place.level) c.args.changes.now can (λ p. refl) c.start-work.result.olds.items c.start-work.ensures.olds;
+  few = omega (arith, ap length c.start-work.ensures.hand);
+  within = omega arith;
+}
+
+pub seek-requires : goal.seek-requires
+seek-requires g c = λ k.
+    let (entries, is, lt, can) = c.requires in (
+      (refl, tt),
+      record {
+        tree = number_of c.args.place.tree;
+        entries = entries;
+        is = held_then (g.S.Shelf.holds c.args.shelf.now) (g.S.Shelf.holds c.loop-wanted.shelf) c.args.place.top.0 (number_of c.args.place.tree) entries (λ x h. (c.loop-wanted.invariant.stays x).1 h) is;
+        has_level = lt;
+      },
+    )
+
+pub take-requires : goal.take-requires
+take-requires g c κs =
+    let (entries, is, lt, can) = c.requires in
+    let held_now = held_then (g.S.Shelf.holds c.args.shelf.now) (g.S.Shelf.holds c.seek.new.shelf) c.args.place.top.0 (number_of c.args.place.tree) entries
+    (λ x h. (c.seek.ensures.stays x).1 ((c.loop-wanted.invariant.stays x).1 h)) is in
+    let t = turn link_of (λ (link : Link). link.greatest) (ends_by Two is_marked_link) links_in (Inner (number_of c.args.place.tree) c.args.place.level) AreWithin (level_at (levels Two (number_of c.args.place.tree) entries) c.args.place.level) c.args.changes.now can links_parts _ _ c.loop-wanted.work.hand.items c.loop-wanted.done (c.loop-wanted.invariant.state entries is lt can) (c.in-Some.wanted, c.in-Some.above) c.in-Some.ensures
+    (levels Two (number_of c.args.place.tree) entries) c.args.place.level refl (node_read c.in_ok-found.found.node) c.in_ok-found.is_last (c.in_ok-found.ensures.node (number_of c.args.place.tree) entries held_now lt)
+    c.in_ok-found.found.old c.in_ok-found.ensures.old c.count_up_to.result c.count_up_to.ensures.last c.count_up_to.ensures.up_to c.count_up_to.ensures.above in
+    ((refl, tt), (c.loop-wanted.invariant.few, (t.own, t.fit)))
+
+pub loop-wanted-smaller : goal.loop-wanted-smaller
+loop-wanted-smaller g c =
+    let (entries, is, lt, can) = c.requires in
+    let held_now = held_then (g.S.Shelf.holds c.args.shelf.now) (g.S.Shelf.holds c.seek.new.shelf) c.args.place.top.0 (number_of c.args.place.tree) entries
+    (λ x h. (c.seek.ensures.stays x).1 ((c.loop-wanted.invariant.stays x).1 h)) is in
+    let t = turn link_of (λ (link : Link). link.greatest) (ends_by Two is_marked_link) links_in (Inner (number_of c.args.place.tree) c.args.place.level) AreWithin (level_at (levels Two (number_of c.args.place.tree) entries) c.args.place.level) c.args.changes.now can links_parts _ _ c.loop-wanted.work.hand.items c.loop-wanted.done (c.loop-wanted.invariant.state entries is lt can) (c.in-Some.wanted, c.in-Some.above) c.in-Some.ensures
+    (levels Two (number_of c.args.place.tree) entries) c.args.place.level refl (node_read c.in_ok-found.found.node) c.in_ok-found.is_last (c.in_ok-found.ensures.node (number_of c.args.place.tree) entries held_now lt)
+    c.in_ok-found.found.old c.in_ok-found.ensures.old c.count_up_to.result c.count_up_to.ensures.last c.count_up_to.ensures.up_to c.count_up_to.ensures.above in
+    falls link_of (λ (link : Link). link.greatest) (ends_by Two is_marked_link) links_in (Inner (number_of c.args.place.tree) c.args.place.level) AreWithin (level_at (levels Two (number_of c.args.place.tree) entries) c.args.place.level) c.args.changes.now can _ _ _ t.room c.in_ok-take.ensures.olds
+
+pub loop-wanted-preserved : goal.loop-wanted-preserved
+loop-wanted-preserved g c = record {
+  stays = λ x. ((λ h. (c.loop-wanted.invariant.stays x).0 ((c.seek.ensures.stays x).0 h)), (λ h. (c.seek.ensures.stays x).1 ((c.loop-wanted.invariant.stays x).1 h)));
+  grows = λ x h. c.seek.ensures.grows x (c.loop-wanted.invariant.grows x h);
+  used = λ entries is lt x h.
+      let held_now = held_then (g.S.Shelf.holds c.args.shelf.now) (g.S.Shelf.holds c.seek.new.shelf) c.args.place.top.0 (number_of c.args.place.tree) entries
+      (λ y k. (c.seek.ensures.stays y).1 ((c.loop-wanted.invariant.stays y).1 k)) is in
+      way_more (levels Two (number_of c.args.place.tree) entries) c.args.place.level c.loop-wanted.work.olds.items c.take.new.work.olds.items c.in_ok-found.found.old c.in_ok-take.ensures.olds
+      c.in-Some.wanted.now c.in-Some.above (node_read c.in_ok-found.found.node) c.in_ok-found.is_last (c.in_ok-found.ensures.node (number_of c.args.place.tree) entries held_now lt) c.in_ok-found.ensures.old x (g.S.Shelf.used c.args.shelf.now x) (g.S.Shelf.used c.loop-wanted.shelf x)
+      (c.loop-wanted.invariant.used entries is lt x) (c.in_ok-found.ensures.used (number_of c.args.place.tree) entries held_now lt x h);
+  state = λ entries is lt can.
+      let held_now = held_then (g.S.Shelf.holds c.args.shelf.now) (g.S.Shelf.holds c.seek.new.shelf) c.args.place.top.0 (number_of c.args.place.tree) entries
+      (λ x h. (c.seek.ensures.stays x).1 ((c.loop-wanted.invariant.stays x).1 h)) is in
+      let t = turn link_of (λ (link : Link). link.greatest) (ends_by Two is_marked_link) links_in (Inner (number_of c.args.place.tree) c.args.place.level) AreWithin (level_at (levels Two (number_of c.args.place.tree) entries) c.args.place.level) c.args.changes.now can links_parts _ _ c.loop-wanted.work.hand.items c.loop-wanted.done (c.loop-wanted.invariant.state entries is lt can) (c.in-Some.wanted, c.in-Some.above) c.in-Some.ensures
+      (levels Two (number_of c.args.place.tree) entries) c.args.place.level refl (node_read c.in_ok-found.found.node) c.in_ok-found.is_last (c.in_ok-found.ensures.node (number_of c.args.place.tree) entries held_now lt)
+      c.in_ok-found.found.old c.in_ok-found.ensures.old c.count_up_to.result c.count_up_to.ensures.last c.count_up_to.ensures.up_to c.count_up_to.ensures.above in
+      went_then link_of (λ (link : Link). link.greatest) (ends_by Two is_marked_link) links_in (Inner (number_of c.args.place.tree) c.args.place.level) AreWithin (level_at (levels Two (number_of c.args.place.tree) entries) c.args.place.level) c.args.changes.now can _ _ _ _ _ _ _ _ t _ _ c.take.new.work.hand.items c.in_ok-take.ensures.olds c.in_ok-take.ensures.went_on;
+  reasons = λ entries is lt can.
+      let held_now = held_then (g.S.Shelf.holds c.args.shelf.now) (g.S.Shelf.holds c.seek.new.shelf) c.args.place.top.0 (number_of c.args.place.tree) entries
+      (λ x h. (c.seek.ensures.stays x).1 ((c.loop-wanted.invariant.stays x).1 h)) is in
+      next_reasons link_of (λ (link : Link). link.greatest) (ends_by Two is_marked_link) links_in (Inner (number_of c.args.place.tree) c.args.place.level) AreWithin (level_at (levels Two (number_of c.args.place.tree) entries) c.args.place.level) c.args.changes.now can (λ p. refl) links_parts _ _ c.loop-wanted.work.hand.items c.loop-wanted.done (c.loop-wanted.invariant.state entries is lt can) (c.in-Some.wanted, c.in-Some.above) c.in-Some.ensures
+      (levels Two (number_of c.args.place.tree) entries) c.args.place.level refl (node_read c.in_ok-found.found.node) c.in_ok-found.is_last (c.in_ok-found.ensures.node (number_of c.args.place.tree) entries held_now lt)
+      c.in_ok-found.found.old c.in_ok-found.ensures.old c.count_up_to.result c.count_up_to.ensures.last c.count_up_to.ensures.up_to c.count_up_to.ensures.above (c.loop-wanted.invariant.reasons entries is lt can) c.take.new.work.olds.items c.in_ok-take.ensures.olds;
+  few = c.in_ok-take.ensures.few;
+  within = within_rest c.args.changes.now _ _ c.loop-wanted.invariant.within c.count_up_to.ensures.within;
+}
+
+pub returns-clause-edited : goal.returns-clause-edited
+returns-clause-edited g c = λ entries is lt can.
+    let was = held_then (g.S.Shelf.holds c.loop-wanted.shelf) (g.S.Shelf.holds c.args.shelf.now) c.args.place.top.0 (number_of c.args.place.tree) entries (λ x h. (c.loop-wanted.invariant.stays x).0 h) is in
+    let done = end_state link_of (λ (link : Link). link.greatest) (ends_by Two is_marked_link) links_in (Inner (number_of c.args.place.tree) c.args.place.level) AreWithin (level_at (levels Two (number_of c.args.place.tree) entries) c.args.place.level) c.args.changes.now can _ _ c.loop-wanted.work.hand.items c.loop-wanted.done (c.loop-wanted.invariant.state entries was lt can) c.in_default.ensures in
+    edit_of link_of (λ (link : Link). link.greatest) (ends_by Two is_marked_link) links_in (Inner (number_of c.args.place.tree) c.args.place.level) AreWithin (level_at (levels Two (number_of c.args.place.tree) entries) c.args.place.level) c.args.changes.now can _ _ done c.finish.result (ap (λ v. v.items) c.finish.ensures.olds) (ap (λ v. v.items) c.finish.ensures.news)
+
+pub returns-clause-some : goal.returns-clause-some
+returns-clause-some g c =
+    let (entries, is, lt, can) = c.requires in
+    let done = end_state link_of (λ (link : Link). link.greatest) (ends_by Two is_marked_link) links_in (Inner (number_of c.args.place.tree) c.args.place.level) AreWithin (level_at (levels Two (number_of c.args.place.tree) entries) c.args.place.level) c.args.changes.now can _ _ c.loop-wanted.work.hand.items c.loop-wanted.done (c.loop-wanted.invariant.state entries is lt can) c.in_default.ensures in
+    some_of link_of (λ (link : Link). link.greatest) (ends_by Two is_marked_link) links_in (Inner (number_of c.args.place.tree) c.args.place.level) AreWithin (level_at (levels Two (number_of c.args.place.tree) entries) c.args.place.level) c.args.changes.now can _ _ done c.finish.result (ap (λ v. v.items) c.finish.ensures.olds)
+
+pub returns-in_err-take-clause-stays : goal.returns-in_err-take-clause-stays
+returns-in_err-take-clause-stays g c =
+    λ x. ((λ h. (c.loop-wanted.invariant.stays x).0 ((c.seek.ensures.stays x).0 h)), (λ h. (c.seek.ensures.stays x).1 ((c.loop-wanted.invariant.stays x).1 h)))
+
+pub returns-clause-used : goal.returns-clause-used
+returns-clause-used g c = λ entries is lt x h.
+    let was = held_then (g.S.Shelf.holds c.loop-wanted.shelf) (g.S.Shelf.holds c.args.shelf.now) c.args.place.top.0 (number_of c.args.place.tree) entries (λ y k. (c.loop-wanted.invariant.stays y).0 k) is in
+    subst (λ (os : List OldNode). g.S.Shelf.used c.args.shelf.now x ⊎ IsOnWayTo (levels Two (number_of c.args.place.tree) entries) c.args.place.level os x) (sym (ap (λ v. v.items) c.finish.ensures.olds))
+    (c.loop-wanted.invariant.used entries was lt x h)
+
+pub returns-clause-reasons : goal.returns-clause-reasons
+returns-clause-reasons g c = λ entries is lt can.
+    let was = held_then (g.S.Shelf.holds c.loop-wanted.shelf) (g.S.Shelf.holds c.args.shelf.now) c.args.place.top.0 (number_of c.args.place.tree) entries (λ x h. (c.loop-wanted.invariant.stays x).0 h) is in
+    let nodes = level_at (levels Two (number_of c.args.place.tree) entries) c.args.place.level in
+    let keys = keys_changed (changes_meant link_of c.args.changes.now) in
+    let new = map (Inner (number_of c.args.place.tree) c.args.place.level) (pieces (ends_by Two is_marked_link) (changed (λ (link : Link). link.greatest) (flat_map links_in nodes) (changes_meant link_of c.args.changes.now))) in
+    subst (λ (os : List OldNode). HaveReasons nodes new keys keys os) (sym (ap (λ v. v.items) c.finish.ensures.olds))
+    (last_reasons link_of (λ (link : Link). link.greatest) (ends_by Two is_marked_link) links_in (Inner (number_of c.args.place.tree) c.args.place.level) AreWithin (level_at (levels Two (number_of c.args.place.tree) entries) c.args.place.level) c.args.changes.now can (λ p. refl) c.loop-wanted.work.olds.items c.loop-wanted.work.news.items c.loop-wanted.work.hand.items c.loop-wanted.done (c.loop-wanted.invariant.state entries was lt can) c.in_default.ensures (c.loop-wanted.invariant.reasons entries was lt can))

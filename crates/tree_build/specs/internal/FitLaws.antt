@@ -1,0 +1,22 @@
+-- Proofs of the laws of a level's items. They stand among the definitions since the implementations of the items, which
+-- cite them, can cite definitions alone.
+use Rattle.std.proofs.Common.{◌≡◌, ℕ, ◌+◌, ◌≤◌, List, [], ◌∷◌, ◌++◌, length, arith}
+use Rattle.std.specs.Prelude.{sum_by}
+use Rattle.std.specs.List.{AllByRecursion}
+use Rattle.std.proofs.lemmas.List.Sums.{sum_by-append}
+use Rattle.tree_node.specs.Nodes.{Binding, Link}
+use Rattle.tree_node.specs.Trees.{FitsTree}
+use Rattle.tree_build.specs.internal.Building.{AreWithin}
+
+all_parts : {X : Type 0} (P : X → Type 0) (xs ys : List X) → AllByRecursion P (xs ++ ys) → AllByRecursion P xs × AllByRecursion P ys
+all_parts P [] ys all = (tt, all)
+all_parts P (x ∷ xs) ys all = let rest = all_parts P xs ys all.1 in ((all.0, rest.0), rest.1)
+
+pub entries_parts : (entries others : List Binding) → AllByRecursion FitsTree (entries ++ others) → AllByRecursion FitsTree entries × AllByRecursion FitsTree others
+entries_parts = all_parts FitsTree
+
+pub links_parts : (links others : List Link) → AreWithin (links ++ others) → AreWithin links × AreWithin others
+links_parts links others within =
+    let keys = all_parts (λ (link : Link). length link.greatest ≤ 8203) links others within.greatest in
+    let sum = sum_by-append (λ (link : Link). link.number) links others in
+    (record { greatest = keys.0; few = omega (arith, within.few) }, record { greatest = keys.1; few = omega (arith, within.few) })

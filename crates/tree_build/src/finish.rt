@@ -1,0 +1,197 @@
+//! The new tree, from how the levels of the old one change.
+
+ghost use Rattle.std.specs.List.{AllByRecursion};
+ghost use Rattle.std.specs.Prelude.{◌≡◌, ◌⊎◌, ◌<◌, ◌≤◌, ◌-◌, ℕ, List, [], IfOk, IfSome, None, OnOk, length};
+ghost use Rattle.tree_build.specs.Changing.{Change};
+ghost use Rattle.tree_build.specs.Rebuilding.{IsOldTree, IsRebuilt, changed_entries, digests_of, nodes_of};
+ghost use Rattle.tree_build.specs.internal.Edits.{Each, IsNewNode, IsOldNode};
+ghost use Rattle.tree_build.specs.declared.piece.NewPiece.{NewPiece as New};
+ghost use Rattle.tree_build.specs.internal.FoundTops.{HaveGained, IsFound, IsTopRead};
+ghost use Rattle.tree_build.specs.internal.Telling.{node_digest};
+ghost use Rattle.tree_build.specs.internal.Towers.{tower};
+ghost use Rattle.tree_build.specs.internal.TreeEdits.{AreEdits, HaveOpened, IsTreeEdit};
+ghost use Rattle.tree_build.specs.internal.TreeTelling.{HaveTold, IsTold};
+ghost use Rattle.tree_node.specs.NodeRefs.{number_of};
+ghost use Rattle.tree_node.specs.Nodes.{Binding, IsNode, Leaf, Node};
+ghost use Rattle.tree_node.specs.Shelves.{SameNodes};
+ghost use Rattle.tree_node.specs.Trees.{Two, level_at, levels};
+
+use crate::Entry;
+use crate::grow::grow;
+use crate::hand::make_node;
+use crate::levels::TreeEdit;
+use crate::piece::NewPiece;
+use crate::rebuilt::{NewNode, Rebuilt};
+use crate::settle::{Top, settle};
+use crate::step::LevelEdit;
+use crate::tell::{tell_gone, tell_level};
+use std::alloc::{AllocError, Global};
+use tree_node::{Digest, Shelf, Tree};
+
+/// The new tree's top, and what it has gained and lost.
+pub(crate) fn finish<'a, 'c, S: Shelf<'a>>(
+    alloc: Global,
+    shelf: &mut S,
+    tree: Tree,
+    old_top: &Digest,
+    edited: TreeEdit<'c>,
+) -> Result<Rebuilt, AllocError>
+    requires { (changes : List (Change Binding)) × (entries : List Binding)
+        × IsOldTree (S.holds shelf.old) old_top.now.0 changes (number_of tree) entries
+        × IsTreeEdit (levels Two (number_of tree) entries) (tower Two (number_of tree) (changed_entries entries changes)) edited }
+    ensures stays { SameNodes (S.holds shelf.old) (S.holds shelf.new) }
+    ensures grows { (bytes : List ℕ) → S.used shelf.old bytes → S.used shelf.new bytes }
+    ensures rebuilt { (changes : List (Change Binding)) (entries : List Binding)
+        → IsOldTree (S.holds shelf.new) old_top.now.0 changes (number_of tree) entries
+        → IsTreeEdit (levels Two (number_of tree) entries) (tower Two (number_of tree) (changed_entries entries changes)) edited.entry
+        → IfOk result (IsRebuilt (levels Two (number_of tree) entries) (levels Two (number_of tree) (changed_entries entries changes))) }
+    // It reads just nodes that are gone, and, where the tree loses levels, the new top.
+    ensures used { (changes : List (Change Binding)) (entries : List Binding)
+        → IsOldTree (S.holds shelf.new) old_top.now.0 changes (number_of tree) entries
+        → IsTreeEdit (levels Two (number_of tree) entries) (tower Two (number_of tree) (changed_entries entries changes)) edited.entry
+        → IfOk result (λ rebuilt. (bytes : List ℕ) → S.used shelf.new bytes
+        → S.used shelf.old bytes ⊎ IsTopRead (levels Two (number_of tree) entries) (levels Two (number_of tree) (changed_entries entries changes)) bytes) }
+{
+    let TreeEdit { mut edits, stays } = edited;
+    let mut added = Vec::new(alloc);
+    let mut gone = Vec::new(alloc);
+    let old = stays.then_some(*old_top);
+    let top = find_top(alloc, shelf, tree, old, &mut edits, &mut added, &mut gone)?;
+    tell_all(edits, top.level, &mut added, &mut gone)?;
+    Ok(Rebuilt {
+        top: top.digest,
+        added,
+        gone,
+    })
+}
+
+/// The top of the new tree over these levels. It is the old one, where the last of them is as it was. Else
+/// the last has all nodes of its level as new ones: the levels above it are made, or the tree loses levels.
+/// Without entries it gets the leaf without entries.
+fn find_top<'a, 'c, S: Shelf<'a>>(
+    alloc: Global,
+    shelf: &mut S,
+    tree: Tree,
+    old: Option<Digest>,
+    edits: &mut Vec<LevelEdit<'c>>,
+    added: &mut Vec<NewNode>,
+    gone: &mut Vec<Digest>,
+) -> Result<Top, AllocError>
+    requires { (top : List ℕ) × (changes : List (Change Binding)) × (entries : List Binding)
+        × IsOldTree (S.holds shelf.old) top changes (number_of tree) entries
+        × AreEdits (levels Two (number_of tree) entries) (tower Two (number_of tree) (changed_entries entries changes)) 0 edits.old.items
+        × HaveOpened edits.old.items × (1 ≤ length edits.old.items)
+        × (length edits.old.items ≤ length (levels Two (number_of tree) entries))
+        × (old ≡ None → length edits.old.items ≡ length (levels Two (number_of tree) entries)) }
+    ensures stays { SameNodes (S.holds shelf.old) (S.holds shelf.new) }
+    ensures grows { (bytes : List ℕ) → S.used shelf.old bytes → S.used shelf.new bytes }
+    ensures found { (top : List ℕ) (changes : List (Change Binding)) (entries : List Binding)
+        → IsOldTree (S.holds shelf.new) top changes (number_of tree) entries
+        → AreEdits (levels Two (number_of tree) entries) (tower Two (number_of tree) (changed_entries entries changes)) 0 edits.old.items
+        → HaveOpened edits.old.items → 1 ≤ length edits.old.items
+        → length edits.old.items ≤ length (levels Two (number_of tree) entries)
+        → (old ≡ None → length edits.old.items ≡ length (levels Two (number_of tree) entries))
+        → IfSome old (λ digest. (digest.0 ≡ top)
+        × (level_at (levels Two (number_of tree) entries) (length edits.old.items - 1) ≡ tower Two (number_of tree) (changed_entries entries changes) (length edits.old.items - 1)))
+        → IfOk result (λ found. IsFound (levels Two (number_of tree) entries) (levels Two (number_of tree) (changed_entries entries changes)) edits.new.items
+        (nodes_of added.old.items) (nodes_of added.new.items) (digests_of gone.old.items) (digests_of gone.new.items) found.digest.0 found.level) }
+    // It reads just nodes that are gone, and, where the tree loses levels, the new top.
+    ensures used { (top : List ℕ) (changes : List (Change Binding)) (entries : List Binding)
+        → IsOldTree (S.holds shelf.new) top changes (number_of tree) entries
+        → AreEdits (levels Two (number_of tree) entries) (tower Two (number_of tree) (changed_entries entries changes)) 0 edits.old.items
+        → HaveOpened edits.old.items → 1 ≤ length edits.old.items
+        → length edits.old.items ≤ length (levels Two (number_of tree) entries)
+        → (old ≡ None → length edits.old.items ≡ length (levels Two (number_of tree) entries))
+        → IfOk result (λ found. (bytes : List ℕ) → S.used shelf.new bytes
+        → S.used shelf.old bytes ⊎ IsTopRead (levels Two (number_of tree) entries) (levels Two (number_of tree) (changed_entries entries changes)) bytes) }
+{
+    let last = edits.len() - 1;
+    if let Some(digest) = old {
+        return Ok(Top {
+            digest,
+            level: last,
+        });
+    }
+    match edits[last].news.as_slice() {
+        [] => {
+            let digest = put_empty_leaf(alloc, tree, edits)?;
+            Ok(Top { digest, level: 0 })
+        }
+        [one] => {
+            let digest = one.node.digest;
+            settle(shelf, edits.as_slice(), &digest, gone)
+        }
+        news => {
+            let digest = grow(alloc, tree, last as u8, news, added)?;
+            Ok(Top {
+                digest,
+                level: last,
+            })
+        }
+    }
+}
+
+/// Makes the leaf without entries the only new one, and gives its digest.
+fn put_empty_leaf<'c>(
+    alloc: Global,
+    tree: Tree,
+    edits: &mut Vec<LevelEdit<'c>>,
+) -> Result<Digest, AllocError>
+    requires { 1 ≤ length edits.old.items }
+    ensures { IfOk result (λ digest. (digest.0 ≡ node_digest (Leaf (number_of tree) []))
+        × ((leaf : New) × IsNewNode leaf (Leaf (number_of tree) []) × HaveGained leaf edits.old.items edits.new.items)) }
+{
+    let leaf = empty_leaf(alloc, tree)?;
+    let digest = leaf.node.digest;
+    edits[0].news.push(leaf)?;
+    Ok(digest)
+}
+
+/// The leaf without entries.
+fn empty_leaf<'c>(alloc: Global, tree: Tree) -> Result<NewPiece<'c>, AllocError>
+    ensures { IfOk result (λ new. IsNewNode new (Leaf (number_of tree) [])) }
+{
+    let none: [Entry<'c>; 0] = [];
+    make_node(alloc, tree, 0, &none)
+}
+
+/// Tells of the levels up to the top's what each has gained and lost; the opened nodes of the levels above
+/// are gone.
+fn tell_all(
+    edits: Vec<LevelEdit<'_>>,
+    top_level: usize,
+    added: &mut Vec<NewNode>,
+    gone: &mut Vec<Digest>,
+) -> Result<(), AllocError>
+    ensures { (old : List (List Node)) (new : ℕ → List Node) (are : AreEdits old new 0 edits.entry.items)
+        → ((level : ℕ) → level < length edits.entry.items → AllByRecursion IsNode (level_at old level) × AllByRecursion IsNode (new level))
+        → OnOk result (HaveTold old new top_level 0 edits.entry.items are (nodes_of added.old.items) (nodes_of added.new.items)
+        (digests_of gone.old.items) (digests_of gone.new.items)) }
+{
+    let mut level = 0;
+    for edit in edits {
+        tell_edit(edit, level, top_level, added, gone)?;
+        level += 1;
+    }
+    Ok(())
+}
+
+/// The same of one level.
+fn tell_edit(
+    edit: LevelEdit<'_>,
+    level: usize,
+    top_level: usize,
+    added: &mut Vec<NewNode>,
+    gone: &mut Vec<Digest>,
+) -> Result<(), AllocError>
+    ensures { (opened came : List Node) → Each IsOldNode edit.entry.olds.items opened → Each IsNewNode edit.entry.news.items came
+        → AllByRecursion IsNode opened → AllByRecursion IsNode came
+        → OnOk result (IsTold top_level level opened came (nodes_of added.old.items) (nodes_of added.new.items)
+        (digests_of gone.old.items) (digests_of gone.new.items)) }
+{
+    if level <= top_level {
+        tell_level(edit, added, gone)?;
+        return Ok(());
+    }
+    tell_gone(edit.olds.as_slice(), gone)
+}

@@ -1,0 +1,123 @@
+//! Making new nodes: cutting on from what is in hand.
+
+ghost use Rattle.std.specs.Prelude.{◌≡◌, ◌++◌, ◌∷◌, ◌≤◌, ◌<◌, [], IfOk, OnOk, length, map};
+ghost use Rattle.tree_build.specs.internal.Cutting.{done_by, hand_after};
+ghost use Rattle.tree_build.specs.internal.Edits.{HaveCome, IsNewNode};
+ghost use Rattle.tree_node.specs.declared.limits.TheConstants.{ITEM_LIMIT};
+ghost use Rattle.tree_node.specs.NodeRefs.{number_of};
+ghost use Rattle.tree_node.specs.Trees.{Two, ends_by, pieces_from};
+
+use crate::cut::ends_after;
+use crate::level_item::LevelItem;
+use crate::piece::NewPiece;
+use crate::rebuilt::NewNode;
+use crate::shape::Shape;
+use std::alloc::{AllocError, Global};
+use tree_node::{Tree, digest_of};
+
+/// Takes the items in hand, one after the other, and makes the nodes of the pieces that end.
+pub(crate) fn cut<'c, T: LevelItem<'c>>(
+    alloc: Global,
+    tree: Tree,
+    level: u8,
+    items: &[T],
+    hand: &mut Vec<T>,
+    news: &mut Vec<NewPiece<'c>>,
+) -> Result<(), AllocError>
+    requires few { length hand.old.items < ITEM_LIMIT }
+    requires fit { T.Fit (map T.meaning hand.old.items ++ map T.meaning items.now) }
+    ensures news { OnOk result (HaveCome news.old.items news.new.items (map (T.node_over (number_of tree) level)
+        (done_by (ends_by Two T.marked_in) (map T.meaning hand.old.items) (map T.meaning items.now)))) }
+    ensures hand { OnOk result (map T.meaning hand.new.items
+        ≡ hand_after (ends_by Two T.marked_in) (map T.meaning hand.old.items) (map T.meaning items.now)) }
+    ensures few { OnOk result (length hand.new.items < ITEM_LIMIT) }
+{
+    for item in items {
+        cut_one(alloc, tree, level, item, hand, news)?;
+    }
+    Ok(())
+}
+
+/// Takes the item in hand, and makes the node of the piece where it ends there.
+fn cut_one<'c, T: LevelItem<'c>>(
+    alloc: Global,
+    tree: Tree,
+    level: u8,
+    item: &T,
+    hand: &mut Vec<T>,
+    news: &mut Vec<NewPiece<'c>>,
+) -> Result<(), AllocError>
+    requires few { length hand.old.items < ITEM_LIMIT }
+    requires fit { T.Fit (map T.meaning hand.old.items ++ T.meaning item.now ∷ []) }
+    ensures news { OnOk result (HaveCome news.old.items news.new.items (map (T.node_over (number_of tree) level)
+        (done_by (ends_by Two T.marked_in) (map T.meaning hand.old.items) (T.meaning item.now ∷ [])))) }
+    ensures hand { OnOk result (map T.meaning hand.new.items
+        ≡ hand_after (ends_by Two T.marked_in) (map T.meaning hand.old.items) (T.meaning item.now ∷ [])) }
+    ensures few { OnOk result (length hand.new.items < ITEM_LIMIT) }
+{
+    hand.push(*item)?;
+    if ends_after(item, hand.len(), Shape::Two) {
+        push_node(alloc, tree, level, hand, news)?;
+    }
+    Ok(())
+}
+
+/// Makes the node of what is in hand, where something is: the last piece of its level.
+pub(crate) fn close<'c, T: LevelItem<'c>>(
+    alloc: Global,
+    tree: Tree,
+    level: u8,
+    hand: &mut Vec<T>,
+    news: &mut Vec<NewPiece<'c>>,
+) -> Result<(), AllocError>
+    requires few { length hand.old.items < ITEM_LIMIT }
+    requires fit { T.Fit (map T.meaning hand.old.items) }
+    ensures news { OnOk result (HaveCome news.old.items news.new.items (map (T.node_over (number_of tree) level)
+        (pieces_from (ends_by Two T.marked_in) (map T.meaning hand.old.items) []))) }
+    ensures hand { OnOk result (hand.new.items ≡ []) }
+{
+    if hand.is_empty() {
+        return Ok(());
+    }
+    push_node(alloc, tree, level, hand, news)
+}
+
+/// Makes the node of what is in hand, and empties the hand.
+fn push_node<'c, T: LevelItem<'c>>(
+    alloc: Global,
+    tree: Tree,
+    level: u8,
+    hand: &mut Vec<T>,
+    news: &mut Vec<NewPiece<'c>>,
+) -> Result<(), AllocError>
+    requires few { length hand.old.items ≤ ITEM_LIMIT }
+    requires fit { T.Fit (map T.meaning hand.old.items) }
+    ensures news { OnOk result (HaveCome news.old.items news.new.items
+        (T.node_over (number_of tree) level (map T.meaning hand.old.items) ∷ [])) }
+    ensures hand { OnOk result (hand.new.items ≡ []) }
+{
+    news.push(make_node(alloc, tree, level, hand.as_slice())?)?;
+    hand.clear();
+    Ok(())
+}
+
+/// The node of this tree and level with these items.
+pub(crate) fn make_node<'c, T: LevelItem<'c>>(
+    alloc: Global,
+    tree: Tree,
+    level: u8,
+    items: &[T],
+) -> Result<NewPiece<'c>, AllocError>
+    requires few { length items.now ≤ ITEM_LIMIT }
+    requires fit { T.Fit (map T.meaning items.now) }
+    ensures { IfOk result (λ new. IsNewNode new
+        (T.node_over (number_of tree) level (map T.meaning items.now))) }
+{
+    let bytes = T::bytes_of(alloc, tree, level, items)?;
+    let digest = digest_of(bytes.as_slice());
+    Ok(NewPiece {
+        node: NewNode { digest, bytes },
+        greatest: T::greatest(items),
+        number: T::number(items),
+    })
+}

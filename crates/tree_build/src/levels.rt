@@ -1,0 +1,121 @@
+//! Changing a tree from level to level.
+
+ghost use Rattle.std.specs.Prelude.{◌≡◌, ◌⊎◌, ◌+◌, ◌≤◌, ◌<◌, ◌↔◌, ℕ, List, IfOk, IsTrue, length};
+ghost use Rattle.tree_build.specs.Rebuilding.{IsOldTree, change_of, changed_entries, changes_of, keys_of_changes};
+ghost use Rattle.tree_build.specs.internal.ItemChanges.{change_meant, changes_meant};
+ghost use Rattle.tree_build.specs.internal.Towers.{tower};
+ghost use Rattle.tree_build.specs.internal.TreeEdits.{HaveAllReasons, IsRead, IsTreeEdit};
+ghost use Rattle.tree_node.specs.NodeRefs.{binding_of, number_of};
+ghost use Rattle.tree_node.specs.Nodes.{Binding};
+ghost use Rattle.tree_node.specs.Shelves.{SameNodes};
+ghost use Rattle.tree_node.specs.Trees.{Two, levels};
+
+use crate::Entry;
+use crate::change::EntryChange;
+use crate::differ::differ;
+use crate::level_item::ItemChange;
+use crate::step::{LevelEdit, OldLevel, step_inner, step_leaves};
+use std::alloc::{AllocError, Global};
+use tree_node::{Child, Digest, Shelf, Tree};
+
+/// How the levels of a tree change.
+#[derive(Drop)]
+pub(crate) struct TreeEdit<'c> {
+    /// The levels from the leaves up; all above them are as they were.
+    pub(crate) edits: Vec<LevelEdit<'c>>,
+    /// Whether the last of them is as it was.
+    pub(crate) stays: bool,
+}
+
+/// Changes the levels of a tree, from the leaves up to the top's level, or to the first one that is as
+/// it was.
+pub(crate) fn change_levels<'a: 'c, 'c, S: Shelf<'a>>(
+    alloc: Global,
+    shelf: &mut S,
+    tree: Tree,
+    top: &Digest,
+    top_level: u8,
+    changes: &'c [EntryChange],
+) -> Result<TreeEdit<'c>, AllocError>
+    requires { (entries : List Binding) × IsOldTree (S.holds shelf.old) top.now.0 (changes_of changes.now) (number_of tree) entries
+        × (top_level + 1 ≡ length (levels Two (number_of tree) entries)) × (1 ≤ length changes.now) }
+    ensures stays { SameNodes (S.holds shelf.old) (S.holds shelf.new) }
+    ensures grows { (bytes : List ℕ) → S.used shelf.old bytes → S.used shelf.new bytes }
+    ensures edited { (entries : List Binding) → IsOldTree (S.holds shelf.new) top.now.0 (changes_of changes.now) (number_of tree) entries
+        → top_level + 1 ≡ length (levels Two (number_of tree) entries)
+        → IfOk result (IsTreeEdit (levels Two (number_of tree) entries)
+        (tower Two (number_of tree) (changed_entries entries (changes_of changes.now)))) }
+    // It reads just what is on the ways to the nodes that were opened.
+    ensures used { (entries : List Binding) → IsOldTree (S.holds shelf.new) top.now.0 (changes_of changes.now) (number_of tree) entries
+        → top_level + 1 ≡ length (levels Two (number_of tree) entries)
+        → IfOk result (λ edited. (bytes : List ℕ) → S.used shelf.new bytes
+        → S.used shelf.old bytes ⊎ IsRead (levels Two (number_of tree) entries) 0 edited.edits.items bytes) }
+    // Each level opened its nodes for a reason: for a change, of the caller's or of the level below, or as they are gone.
+    ensures reasons { (entries : List Binding) → IsOldTree (S.holds shelf.new) top.now.0 (changes_of changes.now) (number_of tree) entries
+        → top_level + 1 ≡ length (levels Two (number_of tree) entries)
+        → IfOk result (λ edited. HaveAllReasons (levels Two (number_of tree) entries)
+        (tower Two (number_of tree) (changed_entries entries (changes_of changes.now))) (keys_of_changes (changes_of changes.now)) edited.edits.items) }
+{
+    let mut edits = Vec::new(alloc);
+    let items = item_changes(alloc, changes)?;
+    let place = OldLevel {
+        tree,
+        top: *top,
+        level: 0,
+    };
+    let leaves: LevelEdit<'c> = step_leaves(alloc, shelf, place, items.as_slice())?;
+    let mut next = differ(alloc, &leaves)?;
+    edits.push(leaves)?;
+    let mut level = 0;
+    'levels: while goes_on(level, top_level, next.as_slice()) {
+        level += 1;
+        let place = OldLevel {
+            tree,
+            top: *top,
+            level,
+        };
+        let edit: LevelEdit<'c> = step_inner(alloc, shelf, place, next.as_slice())?;
+        next = differ(alloc, &edit)?;
+        edits.push(edit)?;
+    }
+    let stays = next.is_empty();
+    Ok(TreeEdit { edits, stays })
+}
+
+/// Whether the next level changes.
+fn goes_on<'c>(level: u8, top_level: u8, next: &[ItemChange<'c, Child<'c>>]) -> bool
+    ensures { IsTrue result ↔ ((level < top_level) × (1 ≤ length next.now)) }
+{
+    level < top_level && !next.is_empty()
+}
+
+/// The changes of the leaves' items.
+fn item_changes<'c>(
+    alloc: Global,
+    changes: &'c [EntryChange],
+) -> Result<Vec<ItemChange<'c, Entry<'c>>>, AllocError>
+    ensures { IfOk result (λ items. changes_meant binding_of items.items ≡ changes_of changes.now) }
+{
+    let mut items = Vec::with_capacity(alloc, changes.len())?;
+    for change in changes {
+        items.push(item_change(change))?;
+    }
+    Ok(items)
+}
+
+/// The change of a leaf's items.
+fn item_change<'c>(change: &'c EntryChange) -> ItemChange<'c, Entry<'c>>
+    ensures { change_meant binding_of result ≡ change_of change.now }
+{
+    let key = change.key.as_slice();
+    match &change.value {
+        Some(value) => ItemChange {
+            key,
+            put: Some(Entry {
+                key,
+                value: value.as_slice(),
+            }),
+        },
+        None => ItemChange { key, put: None },
+    }
+}

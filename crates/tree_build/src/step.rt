@@ -1,0 +1,274 @@
+//! Changing one level of a tree.
+
+ghost use Rattle.std.specs.List.{AllByRecursion, flat_map};
+ghost use Rattle.std.specs.Prelude.{◌≡◌, ◌<◌, ◌≤◌, ◌⊎◌, ◌++◌, ◌∷◌, [], ℕ, List, IfOk, OnOk, IsTrue, false, drop, if◌then◌else◌, length, map, take};
+ghost use Rattle.tree_build.specs.Changing.{changed};
+ghost use Rattle.tree_build.specs.internal.Edits.{HaveCome};
+ghost use Rattle.tree_build.specs.internal.Holding.{IsHeldTree, IsOnWayTo};
+ghost use Rattle.tree_build.specs.internal.ItemChanges.{changes_meant};
+ghost use Rattle.tree_build.specs.internal.RisingChanges.{AreOwnAndRising, IsUpTo};
+ghost use Rattle.tree_build.specs.internal.Steps.{CanStep, FirstIsAbove, HaveGoneOn, HaveReasons, IsEdit, IsWanted, keys_changed};
+ghost use Rattle.tree_build.specs.internal.Building.{AreWithin};
+ghost use Rattle.tree_node.specs.declared.limits.TheConstants.{ITEM_LIMIT};
+ghost use Rattle.tree_node.specs.NodeRefs.{binding_of, link_of, node_read, number_of};
+ghost use Rattle.tree_node.specs.Nodes.{Binding, Inner, Leaf, Link};
+ghost use Rattle.tree_node.specs.Shelves.{SameNodes};
+ghost use Rattle.tree_node.specs.Trees.{FitsTree, Two, ends_by, entries_in, is_marked_entry, is_marked_link, level_at, levels, links_in, pieces, pieces_from};
+
+use crate::Entry;
+use crate::hand::{close, cut};
+use crate::held::{OldNode, OpenNode};
+use crate::level_item::{ItemChange, LevelItem};
+use crate::merge::merge;
+use crate::piece::NewPiece;
+use crate::seek::seek;
+use std::alloc::{AllocError, Global};
+use tree_node::{Child, Digest, Shelf, Tree, is_below};
+
+/// How one level changes.
+#[derive(Drop)]
+pub(crate) struct LevelEdit<'c> {
+    /// The old nodes that were opened, in order.
+    pub(crate) olds: Vec<OldNode<'c>>,
+    /// The nodes that stand in their place, in order; one may be as an old one is.
+    pub(crate) news: Vec<NewPiece<'c>>,
+}
+
+/// A level of the old tree.
+#[derive(Clone, Copy)]
+pub(crate) struct OldLevel {
+    pub(crate) tree: Tree,
+    /// The digest of the tree's top.
+    pub(crate) top: Digest,
+    pub(crate) level: u8,
+}
+
+/// How far the change of a level has come.
+#[derive(Drop)]
+struct LevelWork<'c, T> {
+    /// The old nodes that were opened.
+    olds: Vec<OldNode<'c>>,
+    /// The nodes that were made.
+    news: Vec<NewPiece<'c>>,
+    /// The items of a piece that hasn't ended yet.
+    hand: Vec<T>,
+}
+
+/// Changes the leaves of a tree: opens those that the changes fall in, and cuts their items anew, each
+/// time from the start of a node until an old cut is met.
+pub(crate) fn step_leaves<'a: 'c, 'c, S: Shelf<'a>>(
+    alloc: Global,
+    shelf: &mut S,
+    place: OldLevel,
+    changes: &[ItemChange<'c, Entry<'c>>],
+) -> Result<LevelEdit<'c>, AllocError>
+    requires { (entries : List Binding) × IsHeldTree (S.holds shelf.old) place.top.0 (number_of place.tree) entries
+        × (place.level < length (levels Two (number_of place.tree) entries))
+        × CanStep (λ (entry : Binding). entry.key) (ends_by Two is_marked_entry) entries_in (Leaf (number_of place.tree)) (AllByRecursion FitsTree)
+        (level_at (levels Two (number_of place.tree) entries) place.level) (changes_meant binding_of changes.now) }
+    ensures stays { SameNodes (S.holds shelf.old) (S.holds shelf.new) }
+    ensures grows { (bytes : List ℕ) → S.used shelf.old bytes → S.used shelf.new bytes }
+    // It has the old nodes and the new ones by which the level and the changed level differ,
+    ensures edited { (entries : List Binding) → IsHeldTree (S.holds shelf.new) place.top.0 (number_of place.tree) entries
+        → place.level < length (levels Two (number_of place.tree) entries)
+        → let nodes = level_at (levels Two (number_of place.tree) entries) place.level in
+        CanStep (λ (entry : Binding). entry.key) (ends_by Two is_marked_entry) entries_in (Leaf (number_of place.tree)) (AllByRecursion FitsTree) nodes (changes_meant binding_of changes.now)
+        → IfOk result (λ edit. IsEdit nodes (map (Leaf (number_of place.tree)) (pieces (ends_by Two is_marked_entry)
+        (changed (λ (entry : Binding). entry.key) (flat_map entries_in nodes) (changes_meant binding_of changes.now)))) edit) }
+    // and one old node or more.
+    ensures some { IfOk result (λ edit. 1 ≤ length edit.olds.items) }
+    // It reads just what is on the ways to these old nodes.
+    ensures used { (entries : List Binding) → IsHeldTree (S.holds shelf.new) place.top.0 (number_of place.tree) entries
+        → place.level < length (levels Two (number_of place.tree) entries)
+        → IfOk result (λ edit. (bytes : List ℕ) → S.used shelf.new bytes
+        → S.used shelf.old bytes ⊎ IsOnWayTo (levels Two (number_of place.tree) entries) place.level edit.olds.items bytes) }
+    // They are sought for a change or are gone, and those that are sought for a change are among them.
+    ensures reasons { (entries : List Binding) → IsHeldTree (S.holds shelf.new) place.top.0 (number_of place.tree) entries
+        → place.level < length (levels Two (number_of place.tree) entries)
+        → let nodes = level_at (levels Two (number_of place.tree) entries) place.level in
+        CanStep (λ (entry : Binding). entry.key) (ends_by Two is_marked_entry) entries_in (Leaf (number_of place.tree)) (AllByRecursion FitsTree) nodes (changes_meant binding_of changes.now)
+        → IfOk result (λ edit. HaveReasons nodes (map (Leaf (number_of place.tree)) (pieces (ends_by Two is_marked_entry)
+        (changed (λ (entry : Binding). entry.key) (flat_map entries_in nodes) (changes_meant binding_of changes.now))))
+        (keys_changed (changes_meant binding_of changes.now)) (keys_changed (changes_meant binding_of changes.now)) edit.olds.items) }
+{
+    let mut work = start(alloc);
+    let mut done = 0;
+    while let Some((wanted, above)) = next_wanted(&work, &changes[done..]) {
+        let (found, is_last) = seek(shelf, &place.top, place.level, wanted, above)?;
+        let end = done + count_up_to(&changes[done..], found.old.greatest, is_last);
+        take(alloc, place, found, is_last, &changes[done..end], &mut work)?;
+        done = end;
+    }
+    Ok(finish(work))
+}
+
+/// Changes a level above the leaves, in the same way.
+pub(crate) fn step_inner<'a: 'c, 'c, S: Shelf<'a>>(
+    alloc: Global,
+    shelf: &mut S,
+    place: OldLevel,
+    changes: &[ItemChange<'c, Child<'c>>],
+) -> Result<LevelEdit<'c>, AllocError>
+    requires { (entries : List Binding) × IsHeldTree (S.holds shelf.old) place.top.0 (number_of place.tree) entries
+        × (place.level < length (levels Two (number_of place.tree) entries))
+        × CanStep (λ (link : Link). link.greatest) (ends_by Two is_marked_link) links_in (Inner (number_of place.tree) place.level) AreWithin
+        (level_at (levels Two (number_of place.tree) entries) place.level) (changes_meant link_of changes.now) }
+    ensures stays { SameNodes (S.holds shelf.old) (S.holds shelf.new) }
+    ensures grows { (bytes : List ℕ) → S.used shelf.old bytes → S.used shelf.new bytes }
+    // It has the old nodes and the new ones by which the level and the changed level differ,
+    ensures edited { (entries : List Binding) → IsHeldTree (S.holds shelf.new) place.top.0 (number_of place.tree) entries
+        → place.level < length (levels Two (number_of place.tree) entries)
+        → let nodes = level_at (levels Two (number_of place.tree) entries) place.level in
+        CanStep (λ (link : Link). link.greatest) (ends_by Two is_marked_link) links_in (Inner (number_of place.tree) place.level) AreWithin nodes (changes_meant link_of changes.now)
+        → IfOk result (λ edit. IsEdit nodes (map (Inner (number_of place.tree) place.level) (pieces (ends_by Two is_marked_link)
+        (changed (λ (link : Link). link.greatest) (flat_map links_in nodes) (changes_meant link_of changes.now)))) edit) }
+    // and one old node or more.
+    ensures some { IfOk result (λ edit. 1 ≤ length edit.olds.items) }
+    // It reads just what is on the ways to these old nodes.
+    ensures used { (entries : List Binding) → IsHeldTree (S.holds shelf.new) place.top.0 (number_of place.tree) entries
+        → place.level < length (levels Two (number_of place.tree) entries)
+        → IfOk result (λ edit. (bytes : List ℕ) → S.used shelf.new bytes
+        → S.used shelf.old bytes ⊎ IsOnWayTo (levels Two (number_of place.tree) entries) place.level edit.olds.items bytes) }
+    // They are sought for a change or are gone, and those that are sought for a change are among them.
+    ensures reasons { (entries : List Binding) → IsHeldTree (S.holds shelf.new) place.top.0 (number_of place.tree) entries
+        → place.level < length (levels Two (number_of place.tree) entries)
+        → let nodes = level_at (levels Two (number_of place.tree) entries) place.level in
+        CanStep (λ (link : Link). link.greatest) (ends_by Two is_marked_link) links_in (Inner (number_of place.tree) place.level) AreWithin nodes (changes_meant link_of changes.now)
+        → IfOk result (λ edit. HaveReasons nodes (map (Inner (number_of place.tree) place.level) (pieces (ends_by Two is_marked_link)
+        (changed (λ (link : Link). link.greatest) (flat_map links_in nodes) (changes_meant link_of changes.now))))
+        (keys_changed (changes_meant link_of changes.now)) (keys_changed (changes_meant link_of changes.now)) edit.olds.items) }
+{
+    let mut work = start(alloc);
+    let mut done = 0;
+    while let Some((wanted, above)) = next_wanted(&work, &changes[done..]) {
+        let (found, is_last) = seek(shelf, &place.top, place.level, wanted, above)?;
+        let end = done + count_up_to(&changes[done..], found.old.greatest, is_last);
+        take(alloc, place, found, is_last, &changes[done..end], &mut work)?;
+        done = end;
+    }
+    Ok(finish(work))
+}
+
+/// Nothing was opened yet.
+fn start<'c, T>(alloc: Global) -> LevelWork<'c, T>
+    ensures olds { result.olds.items ≡ [] }
+    ensures news { result.news.items ≡ [] }
+    ensures hand { result.hand.items ≡ [] }
+{
+    LevelWork {
+        olds: Vec::new(alloc),
+        news: Vec::new(alloc),
+        hand: Vec::new(alloc),
+    }
+}
+
+/// The key that is sought next, and whether a node above it is wanted: while something is in hand, the
+/// node after the last one; else that of the next change.
+fn next_wanted<'c, T>(
+    work: &LevelWork<'c, T>,
+    rest: &[ItemChange<'c, T>],
+) -> Option<(&'c [u8], bool)>
+    ensures { IsWanted work.now.olds.items work.now.hand.items rest.now result }
+{
+    if work.hand.is_empty() {
+        match rest.first() {
+            Some(change) => Some((change.key, false)),
+            None => None,
+        }
+    } else {
+        match work.olds.last() {
+            Some(old) => Some((old.greatest, true)),
+            None => None,
+        }
+    }
+}
+
+/// Takes a node and the changes that fall in it, cuts on, and closes the last piece of the level.
+fn take<'c, T: LevelItem<'c>>(
+    alloc: Global,
+    place: OldLevel,
+    found: OpenNode<'c>,
+    is_last: bool,
+    here: &[ItemChange<'c, T>],
+    work: &mut LevelWork<'c, T>,
+) -> Result<(), AllocError>
+    requires few { length work.old.hand.items < ITEM_LIMIT }
+    requires own { AreOwnAndRising T.key_in (changes_meant T.meaning here.now) }
+    requires fit { T.Fit (map T.meaning work.old.hand.items
+        ++ changed T.key_in (T.items_in (node_read found.node)) (changes_meant T.meaning here.now)) }
+    ensures few { OnOk result (length work.new.hand.items < ITEM_LIMIT) }
+    ensures olds { OnOk result (work.new.olds.items ≡ work.old.olds.items ++ found.entry.old ∷ []) }
+    ensures went_on { OnOk result (HaveGoneOn (ends_by Two T.marked_in) (T.node_over (number_of place.tree) place.level) is_last
+        (map T.meaning work.old.hand.items) work.old.news.items
+        (changed T.key_in (T.items_in (node_read found.entry.node)) (changes_meant T.meaning here.now))
+        (map T.meaning work.new.hand.items) work.new.news.items) }
+{
+    let items = T::items_of(alloc, found.node)?;
+    let merged = merge(alloc, items.as_slice(), here)?;
+    cut(
+        alloc,
+        place.tree,
+        place.level,
+        merged.as_slice(),
+        &mut work.hand,
+        &mut work.news,
+    )?;
+    end_level(alloc, place, is_last, &mut work.hand, &mut work.news)?;
+    work.olds.push(found.old)?;
+    Ok(())
+}
+
+/// Makes the node of what is in hand, where the level ends there.
+fn end_level<'c, T: LevelItem<'c>>(
+    alloc: Global,
+    place: OldLevel,
+    is_last: bool,
+    hand: &mut Vec<T>,
+    news: &mut Vec<NewPiece<'c>>,
+) -> Result<(), AllocError>
+    requires few { length hand.old.items < ITEM_LIMIT }
+    requires fit { T.Fit (map T.meaning hand.old.items) }
+    ensures news { OnOk result (HaveCome news.old.items news.new.items (map (T.node_over (number_of place.tree) place.level)
+        (if is_last then pieces_from (ends_by Two T.marked_in) (map T.meaning hand.old.items) [] else []))) }
+    ensures hand { OnOk result (map T.meaning hand.new.items ≡ (if is_last then [] else map T.meaning hand.old.items)) }
+    ensures few { OnOk result (length hand.new.items < ITEM_LIMIT) }
+{
+    if is_last {
+        return close(alloc, place.tree, place.level, hand, news);
+    }
+    Ok(())
+}
+
+/// What was opened and what was made.
+fn finish<'c, T: Drop>(work: LevelWork<'c, T>) -> LevelEdit<'c>
+    ensures olds { result.olds ≡ work.entry.olds }
+    ensures news { result.news ≡ work.entry.news }
+{
+    let LevelWork {
+        olds,
+        news,
+        hand: _,
+    } = work;
+    LevelEdit { olds, news }
+}
+
+/// How many of the changes are up to this key; all of them, where it is that of the last node.
+fn count_up_to<'c, T>(changes: &[ItemChange<'c, T>], key: &[u8], is_last: bool) -> usize
+    ensures within { result ≤ length changes.now }
+    ensures last { IsTrue is_last → result ≡ length changes.now }
+    ensures up_to { is_last ≡ false
+        → AllByRecursion (λ change. IsUpTo change.key.now key.now) (take result changes.now) }
+    ensures above { is_last ≡ false → FirstIsAbove key.now (drop result changes.now) }
+{
+    if is_last {
+        return changes.len();
+    }
+    let mut count = 0;
+    for change in changes {
+        if is_below(key, change.key) {
+            return count;
+        }
+        count += 1;
+    }
+    count
+}
