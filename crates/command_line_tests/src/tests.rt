@@ -1,3 +1,5 @@
+//! Lines of words, the jobs that they name, and those that name none.
+
 use command_line::{Job, WordsFault, read_words};
 use std::alloc::{AllocError, Global};
 use std::test::Fail;

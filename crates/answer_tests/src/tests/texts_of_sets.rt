@@ -1,5 +1,18 @@
 //! Sets of objects as OPL, over which the rows of queries are answered.
 
+use std::alloc::Global;
+use std::test::Fail;
+
+/// Nodes from 1 to 65, so that the tree of the objects has two leaves, of 64 entries and one, under one node.
+pub(super) fn sixty_five(alloc: Global) -> Result<String, Fail> {
+    let mut text = String::new(alloc);
+    for id in 1..66_u8 {
+        let line = format!(in alloc; "n{id} x0 y0\n")?;
+        text.push_str(line.as_str())?;
+    }
+    Ok(text)
+}
+
 pub(super) const ALL_KINDS: &str = "\
 n1 v1 dV c5 t2020-01-02T03:04:05Z i7 uAnn Thighway=crossing x13.4 y52.5\n\
 n2 x13.4000001 y52.5\n\

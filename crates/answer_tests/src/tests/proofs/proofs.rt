@@ -1,7 +1,7 @@
 //! Proofs as an independent program made them.
 
 use super::rows::Row;
-use super::{larger_rows, proved_over, rows, sixty_five};
+use super::{larger_rows, proved_over, rows};
 use crate::tests::{hex, snapshot_of, texts_of_sets};
 use osm_index::{Edition, Snapshot};
 use osm_prove::{prove, read_proof, write_proof};
@@ -81,7 +81,7 @@ fn proofs_are_those_of_the_rows(rt: HostRuntime) -> Result<(), Fail> {
 #[test]
 fn only_the_leaf_that_is_met_is_listed(rt: HostRuntime) -> Result<(), Fail> {
     let alloc = rt.alloc();
-    let set = sixty_five(alloc)?;
+    let set = texts_of_sets::sixty_five(alloc)?;
     let rows = [
         ("node(64);out ids;", "n64\n", 3),
         ("node(65);out ids;", "n65\n", 3),

@@ -1,7 +1,7 @@
 //! A right proof, spoiled in every way: that of `node(65);out;` over the nodes 1 to 65 in the first edition.
 
 use super::{check_told, flip, proof_of};
-use crate::tests::snapshot_of;
+use crate::tests::{snapshot_of, texts_of_sets};
 use osm_check::{Verdict, check};
 use osm_index::{Edition, Snapshot};
 use osm_prove::{Proved, prove, read_proof};
@@ -14,18 +14,13 @@ const QUERY: &[u8] = b"node(65);out;";
 
 const ANSWER: &[u8] = b"n65 T x0 y0\n";
 
-/// The tree of the objects has two leaves, of 64 entries and one, under one node.
-fn sixty_five(alloc: Global) -> Result<Snapshot, Fail> {
-    let mut text = String::new(alloc);
-    for id in 1..66_u8 {
-        let line = format!(in alloc; "n{id} x0 y0\n")?;
-        text.push_str(line.as_str())?;
-    }
+fn snapshot_of_65(alloc: Global) -> Result<Snapshot, Fail> {
+    let text = texts_of_sets::sixty_five(alloc)?;
     snapshot_of(alloc, text.as_str(), Edition::One)
 }
 
 fn right(alloc: Global) -> Result<Proved, Fail> {
-    Ok(prove(alloc, &sixty_five(alloc)?, QUERY)?)
+    Ok(prove(alloc, &snapshot_of_65(alloc)?, QUERY)?)
 }
 
 #[test]
@@ -83,7 +78,7 @@ fn nodes_are_left_out_doubled_and_swapped(rt: HostRuntime) -> Result<(), Fail> {
 #[test]
 fn a_node_is_added(rt: HostRuntime) -> Result<(), Fail> {
     let alloc = rt.alloc();
-    let snapshot = sixty_five(alloc)?;
+    let snapshot = snapshot_of_65(alloc)?;
     let Proved { root, proof, .. } = prove(alloc, &snapshot, QUERY)?;
     let other = prove(alloc, &snapshot, b"node(64);node(65);out;")?;
     let nodes = read_proof(alloc, &other.proof)?.len();
