@@ -8,7 +8,7 @@ use Rattle.std.specs.List.{AllByRecursion, Contains}
 use Rattle.std.specs.List.Sorted.{IsStrictlySortedBy}
 use Rattle.std.specs.declared.cmp.Ordering.TheVariants.{Equal}
 use Rattle.osm_model.proofs.shared.References.{refs_total}
-use Rattle.osm_model.specs.Elements.{Element, ref_cmp, reference}
+use Rattle.osm_model.specs.Elements.{Element, kind_of, ref_cmp, reference}
 use Rattle.osm_model.specs.Sets.{IsObjectSet}
 use Rattle.osm_model.specs.declared.reference.Ref.{Ref}
 use Rattle.ql_syntax.specs.Filters as tree
@@ -21,7 +21,8 @@ use Rattle.ql_plain.proofs.Stepping.{slice_is_rest}
 use Rattle.ql_plain.specs.Meanings.{IsSetOf}
 use Rattle.ql_plain.specs.Values.{Env, IsOnPath, IsPicked, IsRefOf, IsSelected, Passes}
 use Rattle.ql_plain.specs.ObjectTests.{PassesAlone}
-use Rattle.ql_plain.specs.internal.Tests.{AreNamedBy, IsNamedBy, IsTaken}
+use Rattle.ql_plain.specs.internal.Linked.{IsThere}
+use Rattle.ql_plain.specs.internal.Tests.{AreNamedBy, AreThere, IsNamedBy, IsTaken}
 
 -- a reference names one object of a set
 pub one_object : (objects : List Element) → IsObjectSet objects → (o p : Element) → Contains objects o → Contains objects p → reference o ≡ reference p → o ≡ p
@@ -46,6 +47,18 @@ pub told_of_name : (objects : List Element) → IsObjectSet objects → (P : Ele
 told_of_name objects set P name o there named told = (
   (λ yes. (o, there, named, told.0 yes)),
   (λ of. told.1 (subst P (one_object objects set of.0 o of.1 there (of.2 ∙ sym named)) of.3)),
+)
+
+-- what is so of objects of the list are references of such
+pub are_there : (objects : List Element) {P : Element → Type 0} {refs : List Ref} → IsSetOf refs (IsRefOf objects P) → AreThere objects refs
+are_there objects so = λ r has. let of = (so.members r).0 has in (of.0, of.1, of.2)
+
+-- the filters look at no object, so its kind alone tells
+pub told_of_kind : (objects : List Element) (pick : Pick) (filters : List tree.Filter) (name : Ref) → IsThere objects name → ((o : Element) → AllByRecursion (λ (filter : tree.Filter). PassesAlone filter o) filters)
+    → {Q : Type 0} → ((o : Element) → kind_of o.body ≡ name.kind → Q ↔ IsPicked pick o) → Q ↔ IsRefOf objects (IsTaken pick filters) name
+told_of_kind objects pick filters name there none told = (
+  (λ yes. let o = there.0 in (o, there.1, there.2, ((told o (ap (λ (r : Ref). r.kind) there.2)).0 yes, none o))),
+  (λ of. (told of.0 (ap (λ (r : Ref). r.kind) of.2)).1 of.3.0),
 )
 
 pub all_push : {X : Type 0} (P : X → Type 0) (xs : List X) (x : X) → AllByRecursion P xs → P x → AllByRecursion P (xs ++ x ∷ [])

@@ -1,13 +1,14 @@
 //! Tests of single objects.
 
-ghost use Rattle.std.specs.Prelude.{◌↔◌, IsTrue};
+ghost use Rattle.std.specs.Prelude.{◌≡◌, ◌↔◌, IsTrue, false};
 ghost use Rattle.std.specs.List.{AllByRecursion};
+ghost use Rattle.osm_model.specs.Elements.{kind_of};
 ghost use Rattle.osm_model.specs.Tagged.{HasKeyOf, HasTag};
 ghost use Rattle.ql_syntax.specs.StatementViews.{filter_of, filters_of};
 ghost use Rattle.ql_plain.specs.Values.{IsPicked};
 ghost use Rattle.ql_plain.specs.ObjectTests.{IsWithin, PassesAlone};
 
-use osm_model::{Body, BoxArea, Object};
+use osm_model::{Body, BoxArea, Kind, Object};
 use ql_syntax::{Filter, Pick};
 
 /// Whether an object is of the kind of a query statement, and its filters keep it as far as the object alone tells:
@@ -27,6 +28,42 @@ fn is_picked(pick: Pick, object: &Object) -> bool
         (Pick::Rel, Body::Rel(_)) => true,
         (Pick::Nwr, _) => true,
         _ => false,
+    }
+}
+
+/// Whether an object of a kind is of the kind of a query statement.
+pub fn is_kind_picked(pick: Pick, kind: Kind) -> bool
+    ensures { (o : _) → kind_of o.body ≡ kind → IsTrue result ↔ IsPicked pick o }
+{
+    match (pick, kind) {
+        (Pick::Node, Kind::Node) => true,
+        (Pick::Way, Kind::Way) => true,
+        (Pick::Rel, Kind::Rel) => true,
+        (Pick::Nwr, _) => true,
+        _ => false,
+    }
+}
+
+/// Whether a filter looks at objects alone. If none does, no object needs to be looked at.
+pub fn look_at_objects(filters: &[Filter<'_>]) -> bool
+    ensures { result ≡ false → (o : _) → AllByRecursion (λ filter. PassesAlone filter o) (filters_of filters.now) }
+{
+    for filter in filters {
+        if looks_at_object(filter) {
+            return true;
+        }
+    }
+    false
+}
+
+fn looks_at_object(filter: &Filter<'_>) -> bool
+    ensures { result ≡ false → (o : _) → PassesAlone (filter_of filter.now) o }
+{
+    match filter {
+        Filter::InSet(_) => false,
+        Filter::Ids(_) => false,
+        Filter::Via(_, _) => false,
+        _ => true,
     }
 }
 

@@ -10,7 +10,7 @@ ghost use Rattle.ql_plain.specs.Values.{IsOnPath, IsRefOf};
 ghost use Rattle.ql_plain.specs.Adding.{Adds};
 ghost use Rattle.ql_plain.specs.NamedSets.{lists_of};
 ghost use Rattle.ql_plain.specs.internal.Linked.{IsThereWith};
-ghost use Rattle.ql_plain.specs.internal.Tests.{IsNamedBy};
+ghost use Rattle.ql_plain.specs.internal.Tests.{AreThere, IsNamedBy};
 
 use crate::kept_neighbours::{kept_above, kept_below};
 use crate::neighbours::below;
@@ -29,7 +29,8 @@ pub fn named_outright(
     sets: &Sets<'_>,
     set: &ObjectSet,
 ) -> Result<Option<Vec<Ref>>, AllocError>
-    ensures { IfOk result (λ found. IfSome found (λ names. IsSetOf names.items (IsNamedBy set.now (lists_of sets.now.named.items) (filter_of filter.now)))) }
+    ensures named { IfOk result (λ found. IfSome found (λ names. IsSetOf names.items (IsNamedBy set.now (lists_of sets.now.named.items) (filter_of filter.now)))) }
+    ensures there { IfOk result (λ found. IfSome found (λ names. AreThere set.now names.items)) }
 {
     match filter {
         Filter::Ids(ids) => Ok(Some(with_ids(alloc, ids.as_slice(), set)?)),
@@ -45,7 +46,8 @@ fn led_down(
     from: &[Ref],
     set: &ObjectSet,
 ) -> Result<Option<Vec<Ref>>, AllocError>
-    ensures { IfOk result (λ found. IfSome found (λ names. IsSetOf names.items (IsRefOf set.now (IsOnPath set.now from.now path)))) }
+    ensures named { IfOk result (λ found. IfSome found (λ names. IsSetOf names.items (IsRefOf set.now (IsOnPath set.now from.now path)))) }
+    ensures there { IfOk result (λ found. IfSome found (λ names. AreThere set.now names.items)) }
 {
     match path {
         Path::W => Ok(Some(below(alloc, set, from, Kind::Way)?)),

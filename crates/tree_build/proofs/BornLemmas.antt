@@ -14,7 +14,8 @@ use Rattle.tree_build.specs.internal.Weaving.{IsIn}
 use Rattle.tree_build.proofs.ChangedLaw.{IsPut, changed_holds}
 use Rattle.tree_build.proofs.DifferChanges.{changed_rises}
 use Rattle.tree_build.proofs.LevelsLemmas.{in_all}
-use Rattle.tree_build.proofs.StepItems.{items_above, items_up_to}
+use Rattle.tree_build.proofs.OnceLemmas.{in_append}
+use Rattle.tree_build.proofs.StepItems.{items_above, items_up_to, rise_back}
 use Rattle.tree_build.proofs.WeaveLemmas.{above_low, in_back, in_front}
 
 -- ---- items and nodes
@@ -63,21 +64,12 @@ module _ {X : Type 0} (key : X → List ℕ) where
       pub whole : ns ≡ front ++ node ∷ back
       pub has : IsIn x (items node)
 
-    in_parts : (x : X) (xs ys : List X) → IsIn x (xs ++ ys) → IsIn x xs ⊎ IsIn x ys
-    in_parts x [] ys is = inr is
-    in_parts x (z ∷ xs) ys is = elim is [ inl here ↦ inl (inl here) | inr there ↦ elim (in_parts x xs ys there) [ inl a ↦ inl (inr a) | inr b ↦ inr b ] ]
-
     pub holder : (ns : List Node) (x : X) → IsIn x (flat_map items ns) → HasHolder ns x
     holder [] x is = absurd is
-    holder (n ∷ ns) x is = elim (in_parts x (items n) (flat_map items ns) is) [
+    holder (n ∷ ns) x is = elim (in_append x (items n) (flat_map items ns) is) [
       | inl here ↦ record { front = []; node = n; back = ns; whole = refl; has = here }
       | inr there ↦ let rest = holder ns x there in record { front = n ∷ rest.front; node = rest.node; back = rest.back; whole = ap (λ (ms : List Node). n ∷ ms) rest.whole; has = rest.has }
     ]
-
-    rise_later : (low : Option (List ℕ)) (xs ys : List X) → AreRisingFrom low (map key (xs ++ ys)) → AreRisingFrom None (map key ys)
-    rise_later low [] [] rise = tt
-    rise_later low [] (y ∷ ys) rise = (tt, rise.1)
-    rise_later low (x ∷ xs) ys rise = rise_later (Some (key x)) xs ys rise.1
 
     -- where keys rise, an item is of one node only
     pub one_holder : (ns : List Node) → AreRisingFrom None (map key (flat_map items ns)) → (p q : Node) → IsIn p ns → IsIn q ns → (x : X) → IsIn x (items p) → IsIn x (items q) → p ≡ q
@@ -89,7 +81,7 @@ module _ {X : Type 0} (key : X → List ℕ) where
       ]
       | inr p_later ↦ elim in_q [
         | inl q_is ↦ absurd (apart None (items n) (flat_map items ns) rise x (subst (λ (m : Node). IsIn x (items m)) q_is has_q) (in_items ns p x p_later has_p))
-        | inr q_later ↦ one_holder ns (rise_later None (items n) (flat_map items ns) rise) p q p_later q_later x has_p has_q
+        | inr q_later ↦ one_holder ns (rise_back key None (items n) (flat_map items ns) rise) p q p_later q_later x has_p has_q
       ]
     ]
 
@@ -107,8 +99,8 @@ module _ {X : Type 0} (key : X → List ℕ) (ends : ℕ → X → Bool) (items 
       befores done [] e = tt
       befores done (n ∷ ns) e = (
         subst (λ (l : List ℕ). IsBelow (greatest_of n) l) key_is
-        (in_all (λ (y : X). IsBelow (greatest_of n) (key y)) (flat_map items (ns ++ h.node ∷ h.back)) x (items_above key ends items over nodes level done n (ns ++ h.node ∷ h.back) e)
-        (in_items key items (ns ++ h.node ∷ h.back) h.node x (in_back h.node ns (h.node ∷ h.back) (inl refl)) h.has)),
+            (in_all (λ (y : X). IsBelow (greatest_of n) (key y)) (flat_map items (ns ++ h.node ∷ h.back)) x (items_above key ends items over nodes level done n (ns ++ h.node ∷ h.back) e)
+            (in_items key items (ns ++ h.node ∷ h.back) h.node x (in_back h.node ns (h.node ∷ h.back) (inl refl)) h.has)),
         befores (done ++ n ∷ []) ns (e ∙ sym (append_assoc done (n ∷ []) (ns ++ h.node ∷ h.back))),
       )
 
@@ -136,6 +128,6 @@ module _ {X : Type 0} (key : X → List ℕ) (ends : ℕ → X → Bool) (items 
       elim ((changed_holds key (flat_map items old) cs level.rising own l.item).0 (subst (λ (xs : List X). IsIn l.item xs) joined (in_items key items new m l.item is l.is))) [
         | inl put ↦ inl (subst (λ (k : List ℕ). IsIn k (keys_changed cs)) key_is (put_key key cs own l.item put))
         | inr was ↦
-          let (node, sought, has) = sought_holder key ends items over old level l.item (holder key items old l.item was.0) (greatest_of m) key_is in
-          inr (record { node = node; sought = sought; one = λ in_new. one_holder key items new rises node m in_new is l.item has l.is })
+            let (node, sought, has) = sought_holder key ends items over old level l.item (holder key items old l.item was.0) (greatest_of m) key_is in
+            inr (record { node = node; sought = sought; one = λ in_new. one_holder key items new rises node m in_new is l.item has l.is })
       ]

@@ -1,10 +1,10 @@
 -- The nodes of each new level are born of the changes of its items.
-use Rattle.std.proofs.Common.{◌≡◌, ℕ, suc, ◌+◌, ◌<◌, ◌≤◌, List, [], ◌∷◌, ◌++◌, length, map, refl, sym, ap, subst, ◌∙◌, arith}
+use Rattle.std.proofs.Common.{◌≡◌, ℕ, suc, ◌<◌, ◌≤◌, List, [], length, map, refl, sym, ap, subst, ◌∙◌, arith}
 use Rattle.std.specs.List.{flat_map, AllByRecursion}
 use Rattle.tree_node.specs.Nodes.{Binding, Inner, IsTree, Leaf, Link, Node}
-use Rattle.tree_node.specs.Trees.{HasTree, Two, ends_by, entries_in, greatest_of, is_marked_entry, is_marked_link, last_key, leaves, level_at, levels, link_to, links_in, pieces}
-use Rattle.tree_node.proofs.shared.PieceLaws.{IsSized, pieces_sized}
-use Rattle.tree_node.proofs.shared.PieceLemmas.{join, pieces_join}
+use Rattle.tree_node.specs.Trees.{HasTree, Two, ends_by, entries_in, greatest_of, is_marked_entry, is_marked_link, last_key, level_at, levels, link_to, links_in, pieces}
+use Rattle.tree_node.proofs.shared.PieceLaws.{pieces_sized}
+use Rattle.tree_node.proofs.shared.PieceLemmas.{pieces_join}
 use Rattle.tree_node.proofs.shared.TreeLaws.{leaves_joined, over_joined}
 use Rattle.tree_build.specs.Changing.{Change, changed}
 use Rattle.tree_build.specs.Rebuilding.{changed_entries}
@@ -15,26 +15,12 @@ use Rattle.tree_build.specs.internal.TreeEdits.{HasNext}
 use Rattle.tree_build.specs.declared.step.LevelEdit.{LevelEdit}
 use Rattle.tree_build.proofs.BornLemmas.{AreBorn, all_born}
 use Rattle.tree_build.proofs.LevelsLemmas.{tower_step}
-use Rattle.tree_build.proofs.OldLevels.{inner_level, leaf_level, leaves_at, old_rises, tower_first, tower_next, tower_rises}
+use Rattle.tree_build.proofs.OldLevels.{all_last, all_some, flat_over, inner_level, leaf_level, leaves_at, old_rises, tower_first, tower_next, tower_rises}
 use Rattle.tree_build.proofs.TreeEdits.{NextChanges, items_changed, next_own}
 
 pub next_changes : (old new : List Node) (edit : LevelEdit) (cs : List (Change Link)) → HasNext old new edit cs → NextChanges old new cs
 next_changes old new edit cs next =
     record { kept = next.is.kept; opened = next.is.opened; came = next.is.came; lost = next.lost; gained = next.gained; was = next.is.was; is = next.is.is; differ = next.differ }
-
--- nodes that are made of pieces
-module _ {X : Type 0} (key : X → List ℕ) (items : Node → List X) (over : List X → Node) (back : (p : List X) → items (over p) ≡ p) (last : (p : List X) → greatest_of (over p) ≡ last_key (map key p)) where
-  flat_pieces : (ps : List (List X)) → flat_map items (map over ps) ≡ join ps
-  flat_pieces [] = refl
-  flat_pieces (p ∷ ps) = ap (λ (ys : List X). ys ++ flat_map items (map over ps)) (back p) ∙ ap (λ (ys : List X). p ++ ys) (flat_pieces ps)
-
-  all_last : (ps : List (List X)) → AllByRecursion (λ (n : Node). greatest_of n ≡ last_key (map key (items n))) (map over ps)
-  all_last [] = tt
-  all_last (p ∷ ps) = (last p ∙ ap (λ (q : List X). last_key (map key q)) (sym (back p)), all_last ps)
-
-  all_some : (ps : List (List X)) → AllByRecursion IsSized ps → AllByRecursion (λ (n : Node). 1 ≤ length (items n)) (map over ps)
-  all_some [] sized = tt
-  all_some (p ∷ ps) sized = (subst (λ (q : List X). 1 ≤ length q) (sym (back p)) sized.0.0, all_some ps sized.1)
 
 module _ (tree : ℕ) (entries : List Binding) (changes : List (Change Binding)) (is_tree : IsTree tree) (has : HasTree entries) (changed_has : HasTree (changed_entries entries changes)) where
   abbrev after : List Binding
@@ -49,10 +35,10 @@ module _ (tree : ℕ) (entries : List Binding) (changes : List (Change Binding))
       all_born (λ (entry : Binding). entry.key) (ends_by Two is_marked_entry) entries_in (Leaf tree) (level_at (levels Two tree entries) 0) (tower Two tree after 0) changes
       (subst (λ (ns : List Node). IsLevel (λ (entry : Binding). entry.key) (ends_by Two is_marked_entry) entries_in (Leaf tree) ns) (sym (leaves_at tree entries)) (leaf_level tree entries has))
       own
-      (ap (flat_map entries_in) (tower_first tree after) ∙ flat_pieces (λ (entry : Binding). entry.key) entries_in (Leaf tree) (λ p. refl) (λ p. refl) ps ∙ pieces_join (ends_by Two is_marked_entry) [] after
+      (ap (flat_map entries_in) (tower_first tree after) ∙ flat_over (λ (entry : Binding). entry.key) is_marked_entry entries_in (Leaf tree) (λ p. refl) (λ p. refl) ps ∙ pieces_join (ends_by Two is_marked_entry) [] after
       ∙ ap (λ (es : List Binding). changed (λ (entry : Binding). entry.key) es changes) (sym leaves_entries))
-      (subst (λ (ns : List Node). AllByRecursion (λ (n : Node). greatest_of n ≡ last_key (map (λ (entry : Binding). entry.key) (entries_in n))) ns) (sym (tower_first tree after)) (all_last (λ (entry : Binding). entry.key) entries_in (Leaf tree) (λ p. refl) (λ p. refl) ps))
-      (subst (λ (ns : List Node). AllByRecursion (λ (n : Node). 1 ≤ length (entries_in n)) ns) (sym (tower_first tree after)) (all_some (λ (entry : Binding). entry.key) entries_in (Leaf tree) (λ p. refl) (λ p. refl) ps (pieces_sized Two is_marked_entry after)))
+      (subst (λ (ns : List Node). AllByRecursion (λ (n : Node). greatest_of n ≡ last_key (map (λ (entry : Binding). entry.key) (entries_in n))) ns) (sym (tower_first tree after)) (all_last (λ (entry : Binding). entry.key) is_marked_entry entries_in (Leaf tree) (λ p. refl) (λ p. refl) ps))
+      (subst (λ (ns : List Node). AllByRecursion (λ (n : Node). 1 ≤ length (entries_in n)) ns) (sym (tower_first tree after)) (all_some (λ (entry : Binding). entry.key) is_marked_entry entries_in (Leaf tree) (λ p. refl) (λ p. refl) ps (pieces_sized Two is_marked_entry after)))
 
   pub born_inner : (level : ℕ) → suc level < length (levels Two tree entries) → (cs : List (Change Link)) → NextChanges (level_at (levels Two tree entries) level) (tower Two tree (changed_entries entries changes) level) cs
       → AreBorn (level_at (levels Two tree entries) (suc level)) (tower Two tree (changed_entries entries changes) (suc level)) (keys_changed cs)
@@ -62,5 +48,5 @@ module _ (tree : ℕ) (entries : List Binding) (changes : List (Change Binding))
       (inner_level tree entries has level lt)
       (next_own (level_at (levels Two tree entries) level) (tower Two tree after level) cs next (old_rises tree entries has level (omega arith)) (tower_rises tree after changed_has level))
       (ap (flat_map links_in) (tower_step tree after level) ∙ over_joined Two tree (suc level) (tower Two tree after level) ∙ sym (items_changed tree entries changes is_tree has changed_has level lt cs next))
-      (subst (λ (ns : List Node). AllByRecursion (λ (n : Node). greatest_of n ≡ last_key (map (λ (link : Link). link.greatest) (links_in n))) ns) (sym (tower_next tree after level)) (all_last (λ (link : Link). link.greatest) links_in (Inner tree (suc level)) (λ p. refl) (λ p. refl) ps))
-      (subst (λ (ns : List Node). AllByRecursion (λ (n : Node). 1 ≤ length (links_in n)) ns) (sym (tower_next tree after level)) (all_some (λ (link : Link). link.greatest) links_in (Inner tree (suc level)) (λ p. refl) (λ p. refl) ps (pieces_sized Two is_marked_link (map link_to (tower Two tree after level)))))
+      (subst (λ (ns : List Node). AllByRecursion (λ (n : Node). greatest_of n ≡ last_key (map (λ (link : Link). link.greatest) (links_in n))) ns) (sym (tower_next tree after level)) (all_last (λ (link : Link). link.greatest) is_marked_link links_in (Inner tree (suc level)) (λ p. refl) (λ p. refl) ps))
+      (subst (λ (ns : List Node). AllByRecursion (λ (n : Node). 1 ≤ length (links_in n)) ns) (sym (tower_next tree after level)) (all_some (λ (link : Link). link.greatest) is_marked_link links_in (Inner tree (suc level)) (λ p. refl) (λ p. refl) ps (pieces_sized Two is_marked_link (map link_to (tower Two tree after level)))))

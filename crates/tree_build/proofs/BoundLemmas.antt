@@ -1,5 +1,5 @@
 -- How much is read: beyond what is gone one node a change and level at most.
-use Rattle.std.proofs.Common.{◌≡◌, ℕ, zero, suc, ◌+◌, ◌*◌, ◌-◌, ◌<◌, ◌≤◌, List, [], ◌∷◌, ◌++◌, length, get_or, map, ◌⊎◌, inl, inr, Bool, true, false, refl, sym, ap, subst, ◌∙◌, length-append, arith}
+use Rattle.std.proofs.Common.{◌≡◌, ℕ, zero, suc, ◌+◌, ◌*◌, ◌-◌, ◌<◌, ◌≤◌, List, [], ◌∷◌, ◌++◌, length, get_or, ◌⊎◌, inl, inr, false, refl, sym, ap, subst, ◌∙◌, length-append, arith}
 use Rattle.std.proofs.Math.Nat.{mul-suc}
 use Rattle.std.proofs.lemmas.List.{length-map}
 use Rattle.tree_node.specs.Digests.{digest}
@@ -21,7 +21,7 @@ use Rattle.tree_build.proofs.FinishLemmas.{node_of, not_of}
 use Rattle.tree_build.proofs.LastLemmas.{last_one}
 use Rattle.tree_build.proofs.LevelsLemmas.{in_none, low_or_past, none_past, some_at}
 use Rattle.tree_build.proofs.ReadLemmas.{IsCountedNode, all_read, only_sought}
-use Rattle.tree_build.proofs.SettleLemmas.{lone}
+use Rattle.tree_build.proofs.DescentLemmas.{lone}
 use Rattle.tree_build.proofs.WeaveLemmas.{AreAtMost, in_back, in_front, read_plain, read_traded}
 
 -- ---- the nodes that are sought for keys, one a key and level
@@ -42,8 +42,8 @@ soughts ns some (key ∷ keys) =
       count = ap suc rest.count;
       all = λ k n is sought. elim is [
         | inl same ↦
-          let there = subst (λ (l : List ℕ). IsSoughtFor ns l n) same sought in
-          inl (ap spelling (same_sought greatest_of key false ns there.front here.front there.back here.back n here.item there.sought here.sought))
+            let there = subst (λ (l : List ℕ). IsSoughtFor ns l n) same sought in
+            inl (ap spelling (same_sought greatest_of key false ns there.front here.front there.back here.back n here.item there.sought here.sought))
         | inr there ↦ inr (rest.all k n there sought)
       ];
     }
@@ -132,8 +132,12 @@ module _ (tree : ℕ) (entries : List Binding) (changes : List (Change Binding))
   gone_picked : (bytes : List ℕ) → IsGoneNode old new bytes → IsIn bytes picked.list
   gone_picked bytes g =
       let of_old : IsNodeOf old bytes = subst (λ (bs : List ℕ). IsNodeOf old bs) (sym g.spelled) (node_of tree entries g.level g.node g.is) in
-      let told = (is.gone (digest bytes)).1 (bytes, of_old,
-          (λ of_new. not_of tree is_tree entries after has changed_has g.node (record { level = g.level; is = g.is; not_other = g.not_new }) (subst (λ (bs : List ℕ). IsNodeOf new bs) g.spelled of_new)), refl) in
+      let told = (is.gone (digest bytes)).1 (
+        bytes,
+        of_old,
+        (λ of_new. not_of tree is_tree entries after has changed_has g.node (record { level = g.level; is = g.is; not_other = g.not_new }) (subst (λ (bs : List ℕ). IsNodeOf new bs) g.spelled of_new)),
+        refl,
+      ) in
       let p = picked.all (digest bytes) told in
       let one : bytes ≡ p.bytes = free bytes p.bytes (inl of_old) (inl p.has) p.key_is in
       subst (λ (bs : List ℕ). IsIn bs picked.list) (sym one) p.is

@@ -21,12 +21,12 @@ pub up_to_below : (a b c : List ℕ) → IsUpTo a b → IsBelow b c → IsBelow 
 up_to_below a b c (inl p) q = order_trans a b c p q
 up_to_below a b c (inr e) q = subst (λ (k : List ℕ). IsBelow k c) (sym e) q
 
+pub all_append : {X : Type 0} (P : X → Type 0) (xs ys : List X) → AllByRecursion P xs → AllByRecursion P ys → AllByRecursion P (xs ++ ys)
+all_append P [] ys p q = q
+all_append P (x ∷ xs) ys p q = (p.0, all_append P xs ys p.1 q)
+
 module _ {X : Type 0} (key : X → List ℕ) where
   -- ---- all of some items, all of some changes
-
-  pub all_append : (P : X → Type 0) (xs ys : List X) → AllByRecursion P xs → AllByRecursion P ys → AllByRecursion P (xs ++ ys)
-  all_append P [] ys p q = q
-  all_append P (x ∷ xs) ys p q = (p.0, all_append P xs ys p.1 q)
 
   pub all_of : (P Q : X → Type 0) → ((x : X) → P x → Q x) → (xs : List X) → AllByRecursion P xs → AllByRecursion Q xs
   all_of P Q f [] all = tt

@@ -1,17 +1,17 @@
 -- The nodes that count: those that are sought for a change, and those that are gone. The parent of one counts too.
-use Rattle.std.proofs.Common.{◌≡◌, ℕ, zero, suc, ◌+◌, ◌<◌, ◌≤◌, List, [], ◌∷◌, ◌++◌, length, map, ◌⊎◌, inl, inr, Bool, true, false, None, refl, sym, ap, subst, ◌∙◌, arith}
+use Rattle.std.proofs.Common.{◌≡◌, ℕ, zero, suc, ◌+◌, ◌<◌, ◌≤◌, List, [], ◌∷◌, ◌++◌, length, map, ◌⊎◌, inl, inr, Bool, false, refl, sym, ap, subst, ◌∙◌, arith}
 use Rattle.std.specs.List.{flat_map, AllByRecursion}
 use Rattle.std.proofs.lemmas.List.{map-append}
-use Rattle.tree_node.specs.Nodes.{AreRisingFrom, Binding, IsNode, IsTree, Link, Node, level_of, spelling}
+use Rattle.tree_node.specs.Nodes.{Binding, IsNode, IsTree, Link, Node}
 use Rattle.tree_node.specs.Trees.{HasTree, Two, greatest_of, level_at, levels, links_in, link_to, no_node}
 use Rattle.tree_build.specs.Rebuilding.{AreClashFree}
-use Rattle.tree_build.specs.internal.Seeking.{IsSought, LiesBefore, Reaches}
+use Rattle.tree_build.specs.internal.Seeking.{IsSought, LiesBefore}
 use Rattle.tree_build.specs.internal.Steps.{IsSoughtFor}
 use Rattle.tree_build.specs.internal.Weaving.{IsIn}
 use Rattle.tree_build.proofs.BornLemmas.{one_holder}
 use Rattle.tree_build.proofs.DescentLemmas.{all_bound, all_parts, has_links, last_link}
-use Rattle.tree_build.proofs.FinishLemmas.{IsOnlyIn, node_of, not_of}
-use Rattle.tree_build.proofs.LevelsLemmas.{in_all, level_in, nodes_in, some_at}
+use Rattle.tree_build.proofs.FinishLemmas.{node_of, not_of}
+use Rattle.tree_build.proofs.LevelsLemmas.{level_in, some_at}
 use Rattle.tree_build.proofs.NextLemmas.{either_way, one_place}
 use Rattle.tree_build.proofs.NextSought.{sought_in}
 use Rattle.tree_build.proofs.OldLevels.{inner_level, linked, old_nodes}
@@ -123,9 +123,12 @@ module _ (tree : ℕ) (entries after : List Binding) (is_tree : IsTree tree) (ha
   parent_counts level lt parent child in_parent links (inr (in_child, not_new)) =
       let place = in_place parent (level_at (levels Two tree entries) (suc level)) no_node in_parent in
       let parts = part_at (link_to child) (links_in parent) links in
-      inr (in_parent, λ in_new. not_of tree is_tree entries after has after_has child (record { level = level; is = in_child; not_other = not_new })
-      (child_stays tree entries after is_tree has after_has free level lt parent place.place place.within (sym place.at) parts.front child parts.back parts.whole
-      (node_of tree entries level child in_child) (node_of tree after (suc level) parent in_new)))
+      inr (
+        in_parent,
+        λ in_new. not_of tree is_tree entries after has after_has child (record { level = level; is = in_child; not_other = not_new })
+            (child_stays tree entries after is_tree has after_has free level lt parent place.place place.within (sym place.at) parts.front child parts.back parts.whole
+            (node_of tree entries level child in_child) (node_of tree after (suc level) parent in_new)),
+      )
 
   -- what is on the way to a node that counts, counts
   pub way_counts : (steps at level : ℕ) → at ≡ level + steps → at < length (levels Two tree entries) → (wanted : List ℕ) (above : Bool) (f g b c : List Node) (over node : Node)

@@ -51,6 +51,12 @@ at_front : {X : Type 0} (xs : List X) (x : X) (ys : List X) (d : X) → get_or (
 at_front [] x ys d = refl
 at_front (z ∷ xs) x ys d = at_front xs x ys d
 
+-- the only item of a list of one
+pub lone : {X : Type 0} (xs : List X) (d : X) → length xs ≡ 1 → xs ≡ get_or xs 0 d ∷ []
+lone [] d e = absurd (omega (arith, e))
+lone (x ∷ []) d e = refl
+lone (x ∷ y ∷ xs) d e = absurd (omega (arith, e))
+
 -- ---- a node of a level
 
 -- the links of a node that is a node are up to its greatest key
@@ -152,18 +158,13 @@ module _ (held : List ℕ → Type 0) (top : List ℕ) (tree : ℕ) (entries : L
         };
       }
 
-  one_node : {X : Type 0} (xs : List X) (d : X) → length xs ≡ 1 → xs ≡ get_or xs 0 d ∷ []
-  one_node [] d e = absurd (omega arith)
-  one_node (x ∷ []) d e = refl
-  one_node (x ∷ y ∷ xs) d e = absurd (omega arith)
-
   -- the top is the sought node of its level
   pub sought_top : (wanted : List ℕ) (above : Bool) → IsHeldAt (length (levels Two tree entries) - 1) wanted above top true
   unfolding levels
   sought_top wanted above =
       let ls = whole Two tree entries in
       let one : length (level_at ls (length ls - 1)) ≡ 1 = last_has_one Two tree 1 (leaves Two tree entries) (over Two tree entries) (tree_levels Two tree entries) in
-      let just = one_node (level_at ls (length ls - 1)) no_node one in
+      let just = lone (level_at ls (length ls - 1)) no_node one in
       record {
         node = node_in ls (length ls - 1) 0;
         is_held = held_at (length ls - 1) (omega arith) [] (node_in ls (length ls - 1) 0) [] just top is.is_top;

@@ -1,6 +1,6 @@
 -- The changes that two lists of nodes differ by take the items of the one level to those of the other; the nodes that the
 -- one list has and the other hasn't.
-use Rattle.std.proofs.Common.{◌≡◌, ◌≢◌, ℕ, List, [], ◌∷◌, ◌++◌, map, ◌⊎◌, inl, inr, ◌↔◌, Option, None, Some, refl, sym, ap, subst, ◌∙◌}
+use Rattle.std.proofs.Common.{◌≡◌, ◌≢◌, ℕ, List, [], ◌∷◌, map, ◌⊎◌, inl, inr, Option, None, Some, refl, sym, ap, subst, ◌∙◌}
 use Rattle.std.specs.Prelude.{IfSome}
 use Rattle.std.specs.List.{AllByRecursion}
 use Rattle.tree_node.specs.Nodes.{AreRisingFrom, Link, Node}
@@ -8,11 +8,10 @@ use Rattle.tree_node.specs.Order.{IsBelow}
 use Rattle.tree_node.specs.internal.OrderLemmas.{not_itself, order_trans}
 use Rattle.tree_node.specs.Trees.{greatest_of, link_to}
 use Rattle.tree_build.specs.Changing.{Change, changed, changed_once}
-use Rattle.tree_build.specs.internal.Differing.{Differ, nothing, gone_last, gone, came_last, came, same, replaced, taken, put}
+use Rattle.tree_build.specs.internal.Differing.{Differ, nothing, gone_last, gone, came_last, came, same, replaced}
 use Rattle.tree_build.specs.internal.RisingChanges.{AreOwnAndRising}
 use Rattle.tree_build.specs.internal.Weaving.{IsIn, Woven}
 use Rattle.tree_build.proofs.ChangedLaw.{IsFree, IsPut, changed_holds, once_rises}
-use Rattle.tree_build.proofs.StepItems.{rise_loose}
 use Rattle.tree_build.proofs.WeaveLemmas.{above_low, in_woven, woven_apart, woven_first, woven_second}
 
 abbrev link_key : Link → List ℕ

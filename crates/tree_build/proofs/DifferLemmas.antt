@@ -1,22 +1,17 @@
 -- What two lists of nodes differ by: which are new, which are gone, and the changes of the items that stand for them.
-use Rattle.std.proofs.Common.{◌≡◌, ◌≢◌, ℕ, zero, suc, ◌+◌, ◌<◌, ◌≤◌, List, [], ◌∷◌, ◌++◌, length, get_or, map, take, drop, ◌⊎◌, inl, inr, ◌↔◌, Bool, true, false, not, IsTrue, Option, None, Some, refl, sym, ap, subst, ◌∙◌, append_assoc, add-one, arith}
-use Rattle.std.specs.Prelude.{IfSome}
+use Rattle.std.proofs.Common.{◌≡◌, ◌≢◌, ℕ, zero, suc, ◌+◌, ◌<◌, List, [], ◌∷◌, ◌++◌, length, get_or, map, take, drop, ◌↔◌, Bool, false, not, IsTrue, None, refl, sym, ap, subst, ◌∙◌, append_assoc, add-one}
 use Rattle.std.specs.List.{AllByRecursion}
 use Rattle.std.proofs.Math.Seq.{drop-cons}
-use Rattle.std.proofs.lemmas.List.{append-nil, drop-drop, take-append-drop}
-use Rattle.tree_node.specs.Nodes.{AreRisingFrom, IsNode, Link, Node, spelling}
+use Rattle.std.proofs.lemmas.List.{drop-drop}
+use Rattle.tree_node.specs.Nodes.{IsNode, Link, Node, spelling}
 use Rattle.tree_node.specs.Order.{IsBelow}
-use Rattle.tree_node.specs.internal.OrderLemmas.{not_itself, order_trans}
-use Rattle.tree_node.specs.Trees.{greatest_of, link_to}
-use Rattle.tree_build.specs.Changing.{Change, changed}
+use Rattle.tree_node.specs.Trees.{greatest_of}
+use Rattle.tree_build.specs.Changing.{Change}
 use Rattle.tree_build.specs.internal.Differing.{Differ, nothing, gone_last, gone, came_last, came, same, replaced, taken, put, FirstReaches, GoesOn, IsCounterpart}
 use Rattle.tree_build.specs.internal.Edits.{Each, IsNewNode, IsOldNode}
-use Rattle.tree_build.specs.internal.RisingChanges.{AreOwnAndRising, IsUpTo}
-use Rattle.tree_build.specs.internal.Weaving.{IsIn, Woven, none, left, right}
 use Rattle.tree_build.specs.declared.differ.Counterpart.TheVariants.{Missing, Changed, Same}
 use Rattle.tree_build.specs.declared.held.OldNode.{OldNode}
 use Rattle.tree_build.specs.declared.piece.NewPiece.{NewPiece}
-use Rattle.tree_build.proofs.ChangeLemmas.{merge_above, merge_below, merge_same}
 use Rattle.tree_build.proofs.HandLemmas.{each_append}
 use Rattle.tree_build.proofs.ParentLemmas.{one_spelling}
 use Rattle.tree_build.proofs.SeekLemmas.{not_below}

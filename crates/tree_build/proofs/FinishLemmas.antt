@@ -1,5 +1,5 @@
 -- What is told of a rebuild is what was rebuilt.
-use Rattle.std.proofs.Common.{◌≡◌, ℕ, zero, suc, ◌+◌, ◌<◌, ◌≤◌, List, [], ◌∷◌, ◌++◌, length, get_or, map, ◌⊎◌, inl, inr, ◌↔◌, IsTrue, Bool, true, false, Option, None, Some, refl, sym, ap, subst, ◌∙◌, arith}
+use Rattle.std.proofs.Common.{◌≡◌, ℕ, zero, suc, ◌<◌, List, [], ◌∷◌, ◌++◌, length, get_or, map, inl, inr, ◌↔◌, IsTrue, Bool, true, false, Option, None, Some, refl, sym, ap, subst, ◌∙◌, arith}
 use Rattle.std.proofs.lemmas.List.{map-append}
 use Rattle.std.specs.Bool.{then_some}
 use Rattle.std.specs.Prelude.{IfSome}
@@ -7,7 +7,7 @@ use Rattle.tree_node.specs.declared.digest.Digest.{Digest}
 use Rattle.tree_node.specs.Digests.{digest}
 use Rattle.tree_node.specs.Nodes.{Binding, IsTree, Node, level_of, spelling}
 use Rattle.tree_node.specs.Shelves.{IsClashFree}
-use Rattle.tree_node.specs.Trees.{HasTree, IsNodeOf, Two, level_at, levels, no_node, top_of}
+use Rattle.tree_node.specs.Trees.{HasTree, IsNodeOf, Two, level_at, levels, no_node}
 use Rattle.tree_build.specs.Changing.{Change}
 use Rattle.tree_build.specs.Rebuilding.{AreDifferent, IsAmong, IsOldTree, IsRebuilt, changed_entries, digests_of, nodes_of}
 use Rattle.tree_build.specs.declared.rebuilt.Rebuilt.{Rebuilt}
@@ -92,14 +92,18 @@ module _ (held : List ℕ → Type 0) (old_top : List ℕ) (changes : List (Chan
     (λ here. elim (in_append m found.grown told.gained here) [
       | inl grows ↦ let up = (found.grown_in m).0 grows in record { level = up.level; is = up.is; not_other = up.not_old }
       | inr gains ↦ let g = (told.in_gained m).0 gains in
-        record { level = g.level; is = subst (λ (ns : List Node). IsIn m ns) (found.low g.level g.low (omega (arith, g.to))) g.is; not_other = g.not_old }
+          record { level = g.level; is = subst (λ (ns : List Node). IsIn m ns) (found.low g.level g.low (omega (arith, g.to))) g.is; not_other = g.not_old }
     ]),
     (λ o. elim (low_or_past o.level (length edits)) [
       | inr past ↦ in_front m found.grown told.gained ((found.grown_in m).1 (record { level = o.level; above = past; is = o.is; not_old = o.not_other }))
       | inl lt ↦ elim (low_or_past o.level (suc level)) [
         | inl le ↦ in_back m found.grown told.gained ((told.in_gained m).1 (record {
-          level = o.level; from = omega arith; to = omega (arith, lt); low = omega (arith, le);
-          is = subst (λ (ns : List Node). IsIn m ns) (sym (found.low o.level (omega (arith, le)) lt)) o.is; not_old = o.not_other;
+          level = o.level;
+          from = omega arith;
+          to = omega (arith, lt);
+          low = omega (arith, le);
+          is = subst (λ (ns : List Node). IsIn m ns) (sym (found.low o.level (omega (arith, le)) lt)) o.is;
+          not_old = o.not_other;
         }))
         | inr gt ↦ absurd (in_none m (level_at new o.level) (found.high o.level gt lt) o.is)
       ]
@@ -110,24 +114,27 @@ module _ (held : List ℕ → Type 0) (old_top : List ℕ) (changes : List (Chan
   in_gone m = (
     (λ here. elim (in_append m found.passed told.lost here) [
       | inl passes ↦
-        let p = (found.passed_in m).0 passes in
-        let (from, to, of_old, of_new) = kept_from old found.levels 0 edits found.are p.level m p.kept in
-        record { level = p.level; is = of_old; not_other = λ n. in_none m (level_at new p.level) (found.high p.level p.above (omega (arith, to))) n }
+          let p = (found.passed_in m).0 passes in
+          let (from, to, of_old, of_new) = kept_from old found.levels 0 edits found.are p.level m p.kept in
+          record { level = p.level; is = of_old; not_other = λ n. in_none m (level_at new p.level) (found.high p.level p.above (omega (arith, to))) n }
       | inr loses ↦
-        let g = (told.in_lost m).0 loses in
-        elim g.goes [
-          | inl low ↦ record { level = g.level; is = low.1; not_other = λ n. low.2 (subst (λ (ns : List Node). IsIn m ns) (sym (found.low g.level low.0 (omega (arith, g.to)))) n) }
-          | inr high ↦ record {
-            level = g.level; is = (opened_from old found.levels 0 edits found.are g.level m high.1).2;
-            not_other = λ n. in_none m (level_at new g.level) (found.high g.level high.0 (omega (arith, g.to))) n;
-          }
-        ]
+          let g = (told.in_lost m).0 loses in
+          elim g.goes [
+            | inl low ↦ record { level = g.level; is = low.1; not_other = λ n. low.2 (subst (λ (ns : List Node). IsIn m ns) (sym (found.low g.level low.0 (omega (arith, g.to)))) n) }
+            | inr high ↦ record {
+              level = g.level;
+              is = (opened_from old found.levels 0 edits found.are g.level m high.1).2;
+              not_other = λ n. in_none m (level_at new g.level) (found.high g.level high.0 (omega (arith, g.to))) n;
+            }
+          ]
     ]),
     (λ o. elim (low_or_past o.level (length edits)) [
       | inr past ↦ absurd (o.not_other (found.stays o.level m past o.is))
       | inl lt ↦ elim (low_or_past o.level (suc level)) [
         | inl le ↦ in_back m found.passed told.lost ((told.in_lost m).1 (record {
-          level = o.level; from = omega arith; to = omega (arith, lt);
+          level = o.level;
+          from = omega arith;
+          to = omega (arith, lt);
           goes = inl (omega (arith, le), o.is, λ n. o.not_other (subst (λ (ns : List Node). IsIn m ns) (found.low o.level (omega (arith, le)) lt) n));
         }))
         | inr gt ↦ elim (kept_or_opened old found.levels 0 edits found.are o.level m (omega arith) (omega (arith, lt)) o.is) [
@@ -153,8 +160,8 @@ module _ (held : List ℕ → Type 0) (old_top : List ℕ) (changes : List (Chan
       elim g.goes [
         | inl low ↦ omega (arith, here, level_in tree entries g.level m low.1, low.0, p.above)
         | inr high ↦
-          let there : g.level ≡ p.level = omega (arith, here, level_in tree entries g.level m (opened_from old found.levels 0 edits found.are g.level m high.1).2) in
-          not_both old found.levels (all_rise tree entries is.has) 0 edits found.are p.level m p.kept (subst (λ k. IsOpened old found.levels 0 edits found.are k m) there high.1)
+            let there : g.level ≡ p.level = omega (arith, here, level_in tree entries g.level m (opened_from old found.levels 0 edits found.are g.level m high.1).2) in
+            not_both old found.levels (all_rise tree entries is.has) 0 edits found.are p.level m p.kept (subst (λ k. IsOpened old found.levels 0 edits found.are k m) there high.1)
       ])
 
   added_are : later ≡ map spelling (found.grown ++ told.gained)

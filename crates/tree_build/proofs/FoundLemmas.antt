@@ -1,15 +1,15 @@
 -- The ways to find the new tree's top.
-use Rattle.std.proofs.Common.{◌≡◌, ℕ, zero, suc, ◌+◌, ◌-◌, ◌<◌, ◌≤◌, List, [], ◌∷◌, ◌++◌, length, get_or, map, ◌⊎◌, inl, inr, ◌↔◌, None, Result, Ok, Err, Bool, true, false, cond, eqb, eqb-true, refl, sym, ap, subst, ◌∙◌, arith}
+use Rattle.std.proofs.Common.{◌≡◌, ℕ, zero, suc, ◌+◌, ◌-◌, ◌<◌, ◌≤◌, List, [], ◌∷◌, ◌++◌, length, get_or, ◌⊎◌, inl, inr, ◌↔◌, None, Result, Ok, Err, Bool, true, false, cond, eqb, eqb-true, refl, sym, ap, subst, ◌∙◌, arith}
 use Rattle.std.specs.List.{AllByRecursion}
 use Rattle.std.proofs.lemmas.List.{append-nil}
 use Rattle.std.specs.Prelude.{IfOk, slice_set}
 use Rattle.tree_node.specs.Digests.{digest}
-use Rattle.tree_node.specs.Nodes.{AreRisingFrom, Binding, IsNode, IsTree, Leaf, Node, level_of, spelling}
-use Rattle.tree_node.specs.Trees.{HasTree, Two, greatest_of, level_at, level_over, levels, links_in, no_node, top_of}
+use Rattle.tree_node.specs.Nodes.{Binding, IsNode, IsTree, Leaf, Node, level_of}
+use Rattle.tree_node.specs.Trees.{HasTree, Two, level_at, level_over, levels, no_node, top_of}
 use Rattle.tree_build.specs.internal.Edits.{Each, IsNewNode, IsOldNode}
-use Rattle.tree_build.specs.internal.FoundTops.{AreOnce, HaveGained, IsAbove, IsFound, IsKept, IsPassed}
+use Rattle.tree_build.specs.internal.FoundTops.{AreOnce, HaveGained, IsFound, IsKept}
 use Rattle.tree_build.specs.internal.Growing.{HasGrown, nodes_from}
-use Rattle.tree_build.specs.internal.Settling.{HasSettled, passed, stayed, stayed_at}
+use Rattle.tree_build.specs.internal.Settling.{HasSettled, passed, stayed_at}
 use Rattle.tree_build.specs.internal.Steps.{IsEdit}
 use Rattle.tree_build.specs.internal.Telling.{node_digest}
 use Rattle.tree_build.specs.internal.Towers.{tower}
@@ -21,7 +21,7 @@ use Rattle.tree_build.proofs.LastLemmas.{last_one, woven_count}
 use Rattle.tree_build.proofs.LevelsLemmas.{all_nodes, all_rise, empty_tree, entries_under, height_is, in_none, in_range, level_in, low_or_past, next_is, no_entries, none_past, some_at, tower_in, tower_level, tower_none, tower_step, two_below}
 use Rattle.tree_build.proofs.OldLevels.{old_few, tower_nodes, tower_rises}
 use Rattle.tree_build.proofs.OnceLemmas.{in_append, once_append, rise_once}
-use Rattle.tree_build.proofs.SettleLemmas.{lone}
+use Rattle.tree_build.proofs.DescentLemmas.{lone}
 use Rattle.tree_build.proofs.StepStates.{each_length}
 use Rattle.tree_build.proofs.ToldLemmas.{kept_from}
 use Rattle.tree_build.proofs.TowerLemmas.{one_over}
@@ -59,9 +59,9 @@ module _ (tree : ℕ) (entries after : List Binding) (has : HasTree entries) (af
     same_from (suc n) lt =
         let at : suc (length edits - 1 + n) ≡ length edits - 1 + suc n = omega arith in
         subst (λ k. made k ≡ level_at old k) at (
-          tower_step tree after (length edits - 1 + n)
-          ∙ ap (λ (ns : List Node). level_over Two tree (suc (length edits - 1 + n)) ns) (same_from n (omega (arith, lt)))
-          ∙ sym (next_is tree entries (length edits - 1 + n) (omega (arith, lt)))
+        tower_step tree after (length edits - 1 + n)
+        ∙ ap (λ (ns : List Node). level_over Two tree (suc (length edits - 1 + n)) ns) (same_from n (omega (arith, lt)))
+        ∙ sym (next_is tree entries (length edits - 1 + n) (omega (arith, lt)))
         )
 
     same_at : (l : ℕ) → length edits - 1 ≤ l → l < length old → made l ≡ level_at old l

@@ -7,11 +7,8 @@ use Rattle.tree_node.specs.internal.OrderLemmas.{not_itself}
 use Rattle.tree_node.specs.Trees.{pieces, pieces_from}
 use Rattle.tree_node.proofs.shared.PieceLemmas.{pieces_step, chosen}
 use Rattle.tree_build.specs.internal.Cutting.{hand_after, done_by}
+use Rattle.tree_build.proofs.ChangeLemmas.{all_append}
 use Rattle.tree_build.proofs.RecutLemmas.{pieces_append}
-
-all_behind : {X : Type 0} (P : X → Type 0) (xs ys : List X) → AllByRecursion P xs → AllByRecursion P ys → AllByRecursion P (xs ++ ys)
-all_behind P [] ys p q = q
-all_behind P (x ∷ xs) ys p q = (p.0, all_behind P xs ys p.1 q)
 
 module _ {X : Type 0} (key : X → List ℕ) (ends : ℕ → X → Bool) where
   -- the first item of a piece has the property
@@ -31,11 +28,11 @@ module _ {X : Type 0} (key : X → List ℕ) (ends : ℕ → X → Bool) where
       subst (λ (ps : List (List X)). AllByRecursion (Begins P) ps) (sym (pieces_step ends hand x xs))
       (chosen (λ (ps : List (List X)). AllByRecursion (Begins P) ps) (ends (length hand + 1) x) ((hand ++ x ∷ []) ∷ pieces_from ends [] xs) (pieces_from ends (hand ++ x ∷ []) xs)
       (λ _. (begins_more P hand x in_hand all.0, pieces_begin P [] xs tt all.1))
-      (λ _. pieces_begin P (hand ++ x ∷ []) xs (all_behind P hand (x ∷ []) in_hand (all.0, tt)) all.1))
+      (λ _. pieces_begin P (hand ++ x ∷ []) xs (all_append P hand (x ∷ []) in_hand (all.0, tt)) all.1))
 
   done_begin : (P : X → Type 0) (hand xs : List X) → AllByRecursion P hand → AllByRecursion P xs → AllByRecursion (Begins P) (done_by ends hand xs) × AllByRecursion P (hand_after ends hand xs)
   done_begin P hand [] in_hand all = (tt, in_hand)
-  done_begin P hand (x ∷ xs) in_hand all = step (ends (length hand + 1) x) (done_begin P [] xs tt all.1) (done_begin P (hand ++ x ∷ []) xs (all_behind P hand (x ∷ []) in_hand (all.0, tt)) all.1)
+  done_begin P hand (x ∷ xs) in_hand all = step (ends (length hand + 1) x) (done_begin P [] xs tt all.1) (done_begin P (hand ++ x ∷ []) xs (all_append P hand (x ∷ []) in_hand (all.0, tt)) all.1)
     where
       step : (b : Bool)
           → AllByRecursion (Begins P) (done_by ends [] xs) × AllByRecursion P (hand_after ends [] xs)
@@ -98,5 +95,5 @@ module _ {X : Type 0} (key : X → List ℕ) (ends : ℕ → X → Bool) where
     taken_in before behind some low high =
         let parts = done_begin (λ (y : X). IsBelow (key y) (key x)) [] before tt low in
         subst (λ (ps : List (List X)). AllByRecursion IsOther ps) (sym (pieces_append ends [] before (x ∷ behind)))
-        (all_behind IsOther (done_by ends [] before) (pieces_from ends (hand_after ends [] before) (x ∷ behind))
+        (all_append IsOther (done_by ends [] before) (pieces_from ends (hand_after ends [] before) (x ∷ behind))
         (all_below (done_by ends [] before) parts.0) (in_hand (hand_after ends [] before) behind some parts.1 high))

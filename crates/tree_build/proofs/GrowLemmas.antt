@@ -1,11 +1,11 @@
 -- Levels above others: what is known of their nodes.
-use Rattle.std.proofs.Common.{◌≡◌, ℕ, zero, suc, ◌+◌, ◌-◌, ◌*◌, ◌^◌, ◌<◌, ◌≤◌, List, [], ◌∷◌, ◌++◌, length, get_or, map, drop, ◌⊎◌, inl, inr, refl, sym, ap, subst, ◌∙◌, append_assoc, add-one, arith}
+use Rattle.std.proofs.Common.{◌≡◌, ℕ, zero, suc, ◌+◌, ◌-◌, ◌*◌, ◌^◌, ◌<◌, ◌≤◌, List, [], ◌∷◌, ◌++◌, length, get_or, map, drop, ◌⊎◌, inl, inr, refl, sym, ap, subst, ◌∙◌, append_assoc, arith}
 use Rattle.std.proofs.Math.Nat.{pow-suc}
 use Rattle.std.proofs.lemmas.List.{append-nil, length-map, map-append}
 use Rattle.tree_node.specs.Digests.{digest}
 use Rattle.tree_node.specs.Nodes.{Binding, Leaf, Inner, Link, Node, spelling}
 use Rattle.tree_node.specs.NodeRefs.{link_of, links_of}
-use Rattle.tree_node.specs.Trees.{HasTree, Two, ends_by, is_marked_entry, is_marked_link, leaves, level_over, link_to, no_node, pieces, pieces_from}
+use Rattle.tree_node.specs.Trees.{HasTree, Two, ends_by, is_marked_entry, is_marked_link, level_over, link_to, no_node, pieces, pieces_from}
 use Rattle.tree_node.specs.declared.child.Child.{Child}
 use Rattle.tree_node.proofs.shared.PieceLemmas.{some_pieces}
 use Rattle.tree_node.proofs.shared.TreeLemmas.{leaves_few, level_half, level_some}

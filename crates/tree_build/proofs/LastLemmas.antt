@@ -1,5 +1,5 @@
 -- The last level that a rebuild changes, where it is the old top's: its new nodes are all of its nodes.
-use Rattle.std.proofs.Common.{◌≡◌, ℕ, zero, suc, ◌+◌, ◌-◌, ◌<◌, ◌≤◌, List, [], ◌∷◌, ◌++◌, length, get_or, refl, sym, ap, subst, ◌∙◌, arith}
+use Rattle.std.proofs.Common.{◌≡◌, ℕ, zero, suc, ◌+◌, ◌-◌, ◌<◌, ◌≤◌, List, [], ◌∷◌, length, get_or, refl, sym, ap, subst, ◌∙◌, arith}
 use Rattle.tree_node.specs.Nodes.{Binding, Node}
 use Rattle.tree_node.specs.Trees.{Two, leaves, level_at, levels, no_node}
 use Rattle.tree_node.proofs.shared.TreeLaws.{above as over, last_has_one}
@@ -10,7 +10,6 @@ use Rattle.tree_build.specs.internal.Steps.{IsEdit}
 use Rattle.tree_build.specs.internal.Telling.{node_digest}
 use Rattle.tree_build.specs.internal.TreeEdits.{AreEdits, HaveOpened}
 use Rattle.tree_build.specs.internal.Weaving.{Woven, none, left, right}
-use Rattle.tree_build.specs.declared.held.OldNode.{OldNode}
 use Rattle.tree_build.specs.declared.piece.NewPiece.{NewPiece}
 use Rattle.tree_build.specs.declared.step.LevelEdit.{LevelEdit}
 use Rattle.tree_build.proofs.SettleLemmas.{edit_at}

@@ -1,8 +1,8 @@
 -- All levels of a tree and of a tower, those out of range too, which have no nodes.
-use Rattle.std.proofs.Common.{◌≡◌, ℕ, zero, suc, ◌+◌, ◌-◌, ◌<◌, ◌≤◌, List, [], ◌∷◌, length, get_or, map, ◌⊎◌, inl, inr, None, refl, sym, ap, subst, ◌∙◌, arith}
+use Rattle.std.proofs.Common.{◌≡◌, ℕ, zero, suc, ◌-◌, ◌<◌, ◌≤◌, List, [], ◌∷◌, length, get_or, map, ◌⊎◌, inl, inr, None, refl, sym, ap, subst, arith}
 use Rattle.std.specs.List.{AllByRecursion}
 use Rattle.tree_node.specs.Nodes.{AreRisingFrom, Binding, Inner, IsNode, IsTree, Leaf, Link, Node, level_of, tree_of}
-use Rattle.tree_node.specs.Trees.{HasTree, Two, ends_by, greatest_of, is_marked_entry, is_marked_link, leaves, level_at, level_over, levels, levels_over, link_to, pieces}
+use Rattle.tree_node.specs.Trees.{HasTree, Two, ends_by, greatest_of, is_marked_entry, is_marked_link, level_at, level_over, levels, levels_over, link_to, pieces}
 use Rattle.tree_node.proofs.shared.PieceLemmas.{some_pieces}
 use Rattle.tree_node.proofs.shared.TreeLaws.{has_at, pair_at, whole}
 use Rattle.tree_node.proofs.shared.TreeLemmas.{leaves_some}

@@ -1,5 +1,5 @@
 -- Changes of items, and of what the items are.
-use Rattle.std.proofs.Common.{◌≡◌, ℕ, List, [], ◌∷◌, ◌++◌, map, Option, None, Some, refl, sym, ap, subst, ◌∙◌}
+use Rattle.std.proofs.Common.{◌≡◌, ℕ, List, [], ◌∷◌, ◌++◌, map, Option, None, Some, refl, ap, ◌∙◌}
 use Rattle.std.specs.Prelude.{IfSome}
 use Rattle.std.specs.Option.{option_map}
 use Rattle.std.specs.List.{AllByRecursion}
@@ -9,7 +9,7 @@ use Rattle.std.proofs.lemmas.List.{map-append}
 use Rattle.tree_node.specs.Order.{order, IsBelow}
 use Rattle.tree_build.specs.Changing.{Change, by_order, changed, changed_once, one_or_none}
 use Rattle.tree_build.specs.internal.ItemChanges.{change_in, change_meant, changes_in, changes_meant}
-use Rattle.tree_build.specs.internal.RisingChanges.{AreOwnAndRising, IsOwn}
+use Rattle.tree_build.specs.internal.RisingChanges.{AreOwnAndRising}
 use Rattle.tree_build.specs.declared.level_item.ItemChange.{ItemChange}
 
 module _ {T M : Type 0} (meaning : T → M) (own : T → List ℕ) (key : M → List ℕ) (keys : (x : T) → own x ≡ key (meaning x)) where

@@ -10,7 +10,7 @@ use Rattle.tree_node.specs.Trees.{last_key}
 use Rattle.tree_build.specs.internal.RisingChanges.{IsUpTo}
 use Rattle.tree_build.specs.internal.Seeking.{IsSought, LiesBefore, Reaches}
 use Rattle.tree_build.specs.internal.Weaving.{IsIn}
-use Rattle.tree_build.proofs.SeekLemmas.{all_front}
+use Rattle.tree_build.proofs.ChangeLemmas.{all_append}
 
 -- what lies before a key doesn't reach it
 pub never_both : (wanted : List ℕ) (above : Bool) (k : List ℕ) → LiesBefore wanted above k → Reaches wanted above k → ⊥
@@ -121,7 +121,7 @@ module _ {X : Type 0} (key : X → List ℕ) where
       ∙ ap (λ (zs : List X). front ++ zs) (sym (append_assoc found.front (found.x ∷ found.rest) back) ∙ ap (λ (zs : List X). zs ++ back) (sym found.whole))
       ∙ sought.whole in
       let same = one_place wanted above (front ++ found.front) others found.x y (found.rest ++ back) rest e
-      (all_front (λ (z : X). LiesBefore wanted above (key z)) front found.front low found.before) found.reached sought.before sought.reached in
+      (all_append (λ (z : X). LiesBefore wanted above (key z)) front found.front low found.before) found.reached sought.before sought.reached in
       subst (λ (zs : List X). IsIn y zs) (sym found.whole) (in_middle found.front found.x found.rest (sym same.at))
     where
       in_middle : (xs : List X) (z : X) (zs : List X) → y ≡ z → IsIn y (xs ++ z ∷ zs)

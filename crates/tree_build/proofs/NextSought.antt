@@ -1,9 +1,6 @@
 -- A change of the next level has the greatest key of a node of this one, and what is sought there for it was opened.
-use Rattle.std.proofs.Common.{◌≡◌, ℕ, List, [], ◌∷◌, ◌++◌, map, ◌⊎◌, inl, inr, Option, None, Some, refl, sym, ap, subst, ◌∙◌}
-use Rattle.std.specs.List.{AllByRecursion}
+use Rattle.std.proofs.Common.{◌≡◌, ℕ, List, [], ◌∷◌, map, ◌⊎◌, inl, inr, Option, None, Some, refl, sym, ap, subst}
 use Rattle.tree_node.specs.Nodes.{AreRisingFrom, Link, Node}
-use Rattle.tree_node.specs.Order.{IsBelow}
-use Rattle.tree_node.specs.internal.OrderLemmas.{order_trans}
 use Rattle.tree_node.specs.Trees.{greatest_of}
 use Rattle.tree_build.specs.Changing.{Change}
 use Rattle.tree_build.specs.internal.Differing.{Differ, nothing, gone_last, gone, came_last, came, same, replaced}
@@ -52,12 +49,12 @@ self_sought low [] rise n is = absurd is
 self_sought low (m ∷ ms) rise n is = elim is [
   | inl here ↦ record { front = []; back = ms; sought = record { whole = ap (λ (p : Node). p ∷ ms) (sym here); before = tt; reached = inl (inr refl) } }
   | inr there ↦
-    let rest = self_sought (Some (greatest_of m)) ms rise.1 n there in
-    record {
-      front = m ∷ rest.front;
-      back = rest.back;
-      sought = record { whole = ap (λ (ps : List Node). m ∷ ps) rest.sought.whole; before = (above_low greatest_of (greatest_of m) ms rise.1 n there, rest.sought.before); reached = rest.sought.reached };
-    }
+      let rest = self_sought (Some (greatest_of m)) ms rise.1 n there in
+      record {
+        front = m ∷ rest.front;
+        back = rest.back;
+        sought = record { whole = ap (λ (ps : List Node). m ∷ ps) rest.sought.whole; before = (above_low greatest_of (greatest_of m) ms rise.1 n there, rest.sought.before); reached = rest.sought.reached };
+      }
 ]
 
 -- what is sought is one of the nodes
@@ -83,8 +80,8 @@ module _ (old new kept opened came lost gained : List Node) (cs : List (Change L
       | inr s ↦ elim (in_woven s.node kept opened old was (sought_in old (greatest_of m.node) s.node s.sought)) [
         | inr opens ↦ record { node = s.node; is = opens; sought = s.sought }
         | inl keeps ↦
-          let equal = s.one (woven_first s.node kept came new is keeps) in
-          absurd (woven_apart greatest_of None kept came new is new_rises m.node (subst (λ (p : Node). IsIn p kept) equal keeps) m.is)
+            let equal = s.one (woven_first s.node kept came new is keeps) in
+            absurd (woven_apart greatest_of None kept came new is new_rises m.node (subst (λ (p : Node). IsIn p kept) equal keeps) m.is)
       ]
     ])
   ]

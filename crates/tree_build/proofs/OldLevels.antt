@@ -1,23 +1,22 @@
 -- The levels of a tree as a step takes them: pieces of items whose keys rise.
-use Rattle.std.proofs.Common.{◌≡◌, ℕ, zero, suc, ◌<◌, ◌≤◌, List, [], ◌∷◌, ◌++◌, length, map, ◌⊎◌, inl, inr, Bool, Option, None, Some, refl, sym, ap, subst, ◌∙◌, arith}
+use Rattle.std.proofs.Common.{◌≡◌, ℕ, zero, suc, ◌<◌, ◌≤◌, List, [], ◌∷◌, length, map, inl, inr, Bool, Option, None, Some, refl, sym, ap, subst, ◌∙◌, arith}
 use Rattle.std.specs.List.{flat_map, AllByRecursion}
 use Rattle.std.specs.Option.{option_map}
 use Rattle.std.specs.Global.{Vec}
 use Rattle.std.specs.Prelude.{IfSome}
 use Rattle.tree_node.specs.Nodes.{AreRisingFrom, Binding, IsNode, IsTree, Leaf, Inner, Link, Node, greatests_of}
-use Rattle.tree_node.specs.Order.{IsBelow}
-use Rattle.tree_node.specs.Trees.{FitsTree, HasTree, Two, ends_by, entries_in, greatest_of, is_marked_entry, is_marked_link, last_key, leaves, level_at, level_over, levels, link_to, links_in, pieces}
+use Rattle.tree_node.specs.Trees.{HasTree, Two, ends_by, entries_in, greatest_of, is_marked_entry, is_marked_link, last_key, leaves, level_at, level_over, levels, link_to, links_in, pieces}
 use Rattle.tree_node.proofs.shared.PieceLemmas.{join, pieces_join, some_pieces}
 use Rattle.tree_node.proofs.shared.PieceLaws.{IsSized, lasts, pieces_rise, pieces_sized}
-use Rattle.tree_node.proofs.shared.TreeLaws.{AreLinks, entries_some, has_at, links_at, links_leaves, links_over, leaves_joined, nodes_at, nodes_leaves, over_joined, over_nodes, pair_at, whole, whole_few}
-use Rattle.tree_node.proofs.shared.TreeLemmas.{leaves_few, level_half, level_some}
+use Rattle.tree_node.proofs.shared.TreeLaws.{AreLinks, entries_some, links_at, links_leaves, links_over, nodes_at, nodes_leaves, over_joined, over_nodes, pair_at, whole, whole_few}
+use Rattle.tree_node.proofs.shared.TreeLemmas.{leaves_few, level_half}
 use Rattle.tree_build.specs.Changing.{Change}
-use Rattle.tree_build.specs.Rebuilding.{change_of, changes_of, keys_of_changes}
+use Rattle.tree_build.specs.Rebuilding.{changes_of, keys_of_changes}
 use Rattle.tree_build.specs.declared.change.EntryChange.{EntryChange}
 use Rattle.tree_build.specs.internal.Building.{AreWithin}
 use Rattle.tree_build.specs.internal.Cutting.{ArePieces}
 use Rattle.tree_build.specs.internal.RisingChanges.{AreOwnAndRising}
-use Rattle.tree_build.specs.internal.Steps.{HavePieces, IsLevel}
+use Rattle.tree_build.specs.internal.Steps.{IsLevel}
 use Rattle.tree_build.specs.internal.Towers.{tower}
 use Rattle.tree_build.proofs.RecutLemmas.{pieces_are}
 use Rattle.tree_build.proofs.StepItems.{all_above, join_mapped}
@@ -31,11 +30,11 @@ module _ {X : Type 0} (key : X → List ℕ) (marked : X → Bool) (items : Node
   all_made [] = tt
   all_made (p ∷ ps) = (ap over (back p), all_made ps)
 
-  all_last : (ps : List (List X)) → AllByRecursion (λ (n : Node). greatest_of n ≡ last_key (map key (items n))) (map over ps)
+  pub all_last : (ps : List (List X)) → AllByRecursion (λ (n : Node). greatest_of n ≡ last_key (map key (items n))) (map over ps)
   all_last [] = tt
   all_last (p ∷ ps) = (last p ∙ ap (λ (q : List X). last_key (map key q)) (sym (back p)), all_last ps)
 
-  all_some : (ps : List (List X)) → AllByRecursion IsSized ps → AllByRecursion (λ (n : Node). 1 ≤ length (items n)) (map over ps)
+  pub all_some : (ps : List (List X)) → AllByRecursion IsSized ps → AllByRecursion (λ (n : Node). 1 ≤ length (items n)) (map over ps)
   all_some [] sized = tt
   all_some (p ∷ ps) sized = (subst (λ (q : List X). 1 ≤ length q) (sym (back p)) sized.0.0, all_some ps sized.1)
 
@@ -43,11 +42,15 @@ module _ {X : Type 0} (key : X → List ℕ) (marked : X → Bool) (items : Node
   greatests_are [] = refl
   greatests_are (p ∷ ps) = ap (λ (k : List ℕ). k ∷ map greatest_of (map over ps)) (last p) ∙ ap (λ (ks : List (List ℕ)). last_key (map key p) ∷ ks) (greatests_are ps)
 
+  -- they have the items of the pieces
+  pub flat_over : (ps : List (List X)) → flat_map items (map over ps) ≡ join ps
+  flat_over ps = sym (join_mapped items (map over ps)) ∙ ap join (items_over ps)
+
   pub level_of_pieces : (xs : List X) → AreRisingFrom None (map key xs) → length (map over (pieces (ends_by Two marked) xs)) ≤ 536870912 → IsLevel key (ends_by Two marked) items over (map over (pieces (ends_by Two marked) xs))
   level_of_pieces xs rise few =
       let ps = pieces (ends_by Two marked) xs in
       let sized = pieces_sized Two marked xs in
-      let flat : flat_map items (map over ps) ≡ xs = sym (join_mapped items (map over ps)) ∙ ap join (items_over ps) ∙ pieces_join (ends_by Two marked) [] xs in
+      let flat : flat_map items (map over ps) ≡ xs = flat_over ps ∙ pieces_join (ends_by Two marked) [] xs in
       let rises = pieces_rise key None ps sized (subst (λ (ys : List X). AreRisingFrom None (map key ys)) (sym (pieces_join (ends_by Two marked) [] xs)) rise) in
       record {
         made = all_made ps;

@@ -1,5 +1,5 @@
 -- Lists of nodes without repetition.
-use Rattle.std.proofs.Common.{◌≡◌, ℕ, List, [], ◌∷◌, ◌++◌, map, ◌⊎◌, inl, inr, Option, None, Some, refl, sym, ap, subst, ◌∙◌}
+use Rattle.std.proofs.Common.{◌≡◌, ℕ, List, [], ◌∷◌, ◌++◌, map, ◌⊎◌, inl, inr, Option, Some, refl, sym, ap, subst}
 use Rattle.tree_node.specs.Nodes.{AreRisingFrom, Link, Node}
 use Rattle.tree_node.specs.Trees.{greatest_of}
 use Rattle.tree_build.specs.Changing.{Change}

@@ -1,8 +1,7 @@
 -- What the changing of a tree's levels reads counts: it is on the way to a node that is sought for a change, or gone.
-use Rattle.std.proofs.Common.{◌≡◌, ℕ, zero, suc, ◌+◌, ◌-◌, ◌<◌, ◌≤◌, List, [], ◌∷◌, ◌++◌, length, map, ◌⊎◌, inl, inr, Bool, true, false, None, refl, sym, ap, subst, ◌∙◌, arith}
-use Rattle.std.specs.List.{AllByRecursion}
-use Rattle.tree_node.specs.Nodes.{Binding, IsNode, IsTree, Leaf, Link, Node, spelling}
-use Rattle.tree_node.specs.Trees.{HasTree, Two, ends_by, entries_in, greatest_of, is_marked_entry, leaves, level_at, levels, link_to, links_in}
+use Rattle.std.proofs.Common.{◌≡◌, ℕ, zero, suc, ◌+◌, ◌-◌, ◌<◌, ◌≤◌, List, [], ◌∷◌, length, ◌⊎◌, inl, inr, false, refl, sym, ap, subst, ◌∙◌, arith}
+use Rattle.tree_node.specs.Nodes.{Binding, IsTree, Leaf, Link, Node, spelling}
+use Rattle.tree_node.specs.Trees.{HasTree, Two, entries_in, leaves, level_at, levels}
 use Rattle.tree_build.specs.Changing.{Change}
 use Rattle.tree_build.specs.Rebuilding.{AreClashFree, changed_entries}
 use Rattle.tree_build.specs.internal.Edits.{Each, IsOldNode}
@@ -16,8 +15,8 @@ use Rattle.tree_build.specs.declared.held.OldNode.{OldNode}
 use Rattle.tree_build.specs.declared.step.LevelEdit.{LevelEdit}
 use Rattle.tree_build.proofs.BornLemmas.{AreBorn}
 use Rattle.tree_build.proofs.BornLevels.{born_inner, born_leaves, next_changes}
-use Rattle.tree_build.proofs.CountedLemmas.{IsCounted, counted_in, parent_counts, seek_one, sought_link, way_counts}
-use Rattle.tree_build.proofs.LevelsLemmas.{empty_tree, in_all, in_none, in_range, low_or_past, nodes_in, tower_in}
+use Rattle.tree_build.proofs.CountedLemmas.{IsCounted, parent_counts, sought_link, way_counts}
+use Rattle.tree_build.proofs.LevelsLemmas.{empty_tree, in_all, in_range, nodes_in, tower_in}
 use Rattle.tree_build.proofs.NextSought.{IsFoundIn, next_opened, sought_in}
 use Rattle.tree_build.proofs.OldLevels.{leaf_level, leaves_at, old_rises, tower_rises}
 use Rattle.tree_build.proofs.ParentLemmas.{one_spelling}
@@ -90,8 +89,8 @@ module _ (tree : ℕ) (entries : List Binding) (changes : List (Change Binding))
   no_leaf zero node is two (inl here) = elim (leaf_level tree entries has).cut [
     | inl one ↦ absurd (omega (arith, one, two, ap (length {A = Node}) (leaves_at tree entries)))
     | inr pieces ↦
-      let some = in_all (λ (n : Node). 1 ≤ length (entries_in n)) (leaves Two tree entries) node pieces.some (subst (λ (ns : List Node). IsIn node ns) (leaves_at tree entries) is) in
-      absurd (omega (arith, some, ap (λ (n : Node). length (entries_in n)) here))
+        let some = in_all (λ (n : Node). 1 ≤ length (entries_in n)) (leaves Two tree entries) node pieces.some (subst (λ (ns : List Node). IsIn node ns) (leaves_at tree entries) is) in
+        absurd (omega (arith, some, ap (λ (n : Node). length (entries_in n)) here))
   ]
   no_leaf zero node is two (inr never) = never
   no_leaf (suc level) node is two not = not
@@ -172,11 +171,11 @@ module _ (tree : ℕ) (entries : List Binding) (changes : List (Change Binding))
       elim read [
         | inl way ↦ way_read first lt keys e.olds.items reasons (here lt).0 bytes way
         | inr there ↦ reads_from (suc first) (keys_changed cs) es last (omega (arith, within)) rest
-          (λ lt_next. (
-            next_counts first lt keys e.olds.items reasons (here lt).0 cs e refl next (here lt).1 lt_next,
-            born_inner tree entries changes is_tree has changed_has first lt_next cs (next_changes (level_at old first) (made first) e cs next),
-          ))
-          bytes there
+            (λ lt_next. (
+              next_counts first lt keys e.olds.items reasons (here lt).0 cs e refl next (here lt).1 lt_next,
+              born_inner tree entries changes is_tree has changed_has first lt_next cs (next_changes (level_at old first) (made first) e cs next),
+            ))
+            bytes there
       ]
 
   pub all_read : AreOwnAndRising (λ (entry : Binding). entry.key) changes → (edits : List LevelEdit) → length edits ≤ length (levels Two tree entries)

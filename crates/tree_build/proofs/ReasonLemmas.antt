@@ -7,7 +7,7 @@ use Rattle.std.proofs.lemmas.List.{append-nil, map-append, take-append-drop}
 use Rattle.tree_node.specs.Nodes.{AreRisingFrom, Node}
 use Rattle.tree_node.specs.Order.{IsBelow}
 use Rattle.tree_node.specs.internal.OrderLemmas.{not_itself, order_trans}
-use Rattle.tree_node.specs.Trees.{greatest_of, level_at, pieces, pieces_from}
+use Rattle.tree_node.specs.Trees.{greatest_of, level_at, pieces_from}
 use Rattle.tree_node.proofs.shared.PieceLemmas.{join, pieces_join}
 use Rattle.tree_build.specs.Changing.{Change, changed, changed_once}
 use Rattle.tree_build.specs.internal.Edits.{IsOldNode}
@@ -15,12 +15,13 @@ use Rattle.tree_build.specs.internal.Holding.{IsSoughtNode}
 use Rattle.tree_build.specs.internal.ItemChanges.{change_meant, changes_meant}
 use Rattle.tree_build.specs.internal.RisingChanges.{AreOwnAndRising, IsUpTo}
 use Rattle.tree_build.specs.internal.Seeking.{IsSought}
-use Rattle.tree_build.specs.internal.Steps.{CanStep, FirstIsAbove, HaveReasons, IsCovered, IsOpenedFor, IsReason, IsSoughtFor, IsWanted, keys_changed}
+use Rattle.tree_build.specs.internal.Steps.{CanStep, FirstIsAbove, HaveReasons, IsCovered, IsOpenedFor, IsReason, IsWanted, keys_changed}
 use Rattle.tree_build.specs.internal.Weaving.{IsIn}
 use Rattle.tree_build.specs.declared.held.OldNode.{OldNode}
 use Rattle.tree_build.specs.declared.level_item.ItemChange.{ItemChange}
 use Rattle.tree_build.specs.declared.piece.NewPiece.{NewPiece}
-use Rattle.tree_build.proofs.ChangeLemmas.{all_of, changed_behind, up_to_below}
+use Rattle.tree_build.proofs.DescentLemmas.{all_parts}
+use Rattle.tree_build.proofs.ChangeLemmas.{all_append, all_of, changed_behind, up_to_below}
 use Rattle.tree_build.proofs.ChangedLaw.{once_rises}
 use Rattle.tree_build.proofs.GoneLemmas.{in_hand}
 use Rattle.tree_build.proofs.NextLemmas.{either_way}
@@ -41,19 +42,11 @@ rise_before {X} key (y ∷ ys) x back rise = (above_low key (key y) (ys ++ x ∷
     none_low [] r = tt
     none_low (z ∷ zs) r = (tt, r.1)
 
-all_joined : {X : Type 0} (P : X → Type 0) (xs ys : List X) → AllByRecursion P xs → AllByRecursion P ys → AllByRecursion P (xs ++ ys)
-all_joined P [] ys one two = two
-all_joined P (x ∷ xs) ys one two = (one.0, all_joined P xs ys one.1 two)
-
-all_front : {X : Type 0} (P : X → Type 0) (xs ys : List X) → AllByRecursion P (xs ++ ys) → AllByRecursion P xs × AllByRecursion P ys
-all_front P [] ys all = (tt, all)
-all_front P (x ∷ xs) ys all = let rest = all_front P xs ys all.1 in ((all.0, rest.0), rest.1)
-
 module _ {X : Type 0} (key : X → List ℕ) (x : X) (rest : List X) where
   made_others : (ps : List (List X)) → AllByRecursion (λ (y : X). IsBelow (key y) (key x)) (join ps) → AllByRecursion (λ (p : List X). p ≢ x ∷ rest) ps
   made_others [] all = tt
   made_others ([] ∷ ps) all = ((λ same. cc), made_others ps all)
-  made_others ((y ∷ ys) ∷ ps) all = ((λ same. let head : y ≡ x = cc in not_itself (key y) (key x) all.0 (ap key head)), made_others ps (all_front (λ (z : X). IsBelow (key z) (key x)) ys (join ps) all.1).1)
+  made_others ((y ∷ ys) ∷ ps) all = ((λ same. let head : y ≡ x = cc in not_itself (key y) (key x) all.0 (ap key head)), made_others ps (all_parts (λ (z : X). IsBelow (key z) (key x)) ys (join ps) all.1).1)
 
   none_over : (items : Node → List X) (over : List X → Node) (back : (p : List X) → items (over p) ≡ p) (node : Node) → items node ≡ x ∷ rest → (ps : List (List X)) → AllByRecursion (λ (p : List X). p ≢ x ∷ rest) ps → IsIn node (map over ps) → ⊥
   none_over items over back node has [] all is = is
@@ -78,7 +71,7 @@ module _ {X : Type 0} (key : X → List ℕ) (ends : ℕ → X → Bool) (items 
     some_items : (hand ≡ [] → ⊥) → 1 ≤ length (items node)
     some_items some = elim can.level.cut [
       | inl one ↦ absurd (omega (arith, one, ap (length {A = Node}) so.whole, length-append others (node ∷ behind), some_others some))
-      | inr has ↦ (all_front (λ (n : Node). 1 ≤ length (items n)) others (node ∷ behind) (subst (λ (ns : List Node). AllByRecursion (λ (n : Node). 1 ≤ length (items n)) ns) so.whole has.some)).1.0
+      | inr has ↦ (all_parts (λ (n : Node). 1 ≤ length (items n)) others (node ∷ behind) (subst (λ (ns : List Node). AllByRecursion (λ (n : Node). 1 ≤ length (items n)) ns) so.whole has.some)).1.0
     ]
 
     not_below : (cs : List (Change X)) → AllByRecursion (λ (c : Change X). IsBelow (greatest_of node) c.key) cs → AllByRecursion (λ (c : Change X). AllByRecursion (λ (y : X). IsBelow (key y) c.key) (items node)) cs
@@ -107,11 +100,11 @@ module _ {X : Type 0} (key : X → List ℕ) (ends : ℕ → X → Bool) (items 
             ∙ ap (λ (ys : List X). join so.made ++ ys) (pieces_join ends hand (x ∷ (xs ++ changed key (join (map items behind)) rest)))
             ∙ sym (append_assoc (join so.made) hand (x ∷ (xs ++ changed key (join (map items behind)) rest))) in
             let rise = subst (λ (ys : List X). AreRisingFrom None (map key ys)) joined rises in
-            let low = all_front (λ (y : X). IsBelow (key y) (key x)) (join so.made) hand (rise_before key (join so.made ++ hand) x (xs ++ changed key (join (map items behind)) rest) rise) in
+            let low = all_parts (λ (y : X). IsBelow (key y) (key x)) (join so.made) hand (rise_before key (join so.made ++ hand) x (xs ++ changed key (join (map items behind)) rest) rise) in
             let high = all_above key (key x) (xs ++ changed key (join (map items behind)) rest) (rise_back key None (join so.made ++ hand) (x ∷ (xs ++ changed key (join (map items behind)) rest)) rise).1 in
             none_over key x xs items over back_is node has (wanted_pieces key ends items over Fit nodes changes)
             (subst (λ (ps : List (List X)). AllByRecursion (λ (p : List X). p ≢ x ∷ xs) ps) (sym here)
-            (all_joined (λ (p : List X). p ≢ x ∷ xs) so.made (pieces_from ends hand (x ∷ (xs ++ changed key (join (map items behind)) rest))) (made_others key x xs so.made low.0)
+            (all_append (λ (p : List X). p ≢ x ∷ xs) so.made (pieces_from ends hand (x ∷ (xs ++ changed key (join (map items behind)) rest))) (made_others key x xs so.made low.0)
             (in_hand key ends x xs hand (xs ++ changed key (join (map items behind)) rest) some low.1 high))) is
 
     -- it is sought for one of the changes to come, or gone
@@ -216,16 +209,17 @@ module _ {T X : Type 0} (meaning : T → X) (key : X → List ℕ) (ends : ℕ �
       f.at.own in
       let reason : IsReason nodes (new_nodes key ends items over Fit nodes (changes_meant meaning cs) can back_is) (keys_changed (changes_meant meaning cs)) node = elim wants [
         | inl (empty, change, others, rest_are, key_is, above_is) ↦
-          inl (
-            change.key.now,
-            key_in done cs change.key.now (subst (λ (ds : List (ItemChange T)). IsIn change.key.now (keys_changed (changes_meant meaning ds))) (sym rest_are ∙ rest) (inl refl)),
-            record {
-              front = is.front; back = is.back;
-              sought = subst (λ (ns : List Node). IsSought greatest_of change.key.now false ns is.front node is.back) same
-                  (subst (λ (k : List ℕ). IsSought greatest_of k false (level_at tree level) is.front node is.back) key_is
-                  (subst (λ (b : Bool). IsSought greatest_of wanted.0.now b (level_at tree level) is.front node is.back) above_is is.sought));
-            },
-          )
+            inl (
+              change.key.now,
+              key_in done cs change.key.now (subst (λ (ds : List (ItemChange T)). IsIn change.key.now (keys_changed (changes_meant meaning ds))) (sym rest_are ∙ rest) (inl refl)),
+              record {
+                front = is.front;
+                back = is.back;
+                sought = subst (λ (ns : List Node). IsSought greatest_of change.key.now false ns is.front node is.back) same
+                    (subst (λ (k : List ℕ). IsSought greatest_of k false (level_at tree level) is.front node is.back) key_is
+                    (subst (λ (b : Bool). IsSought greatest_of wanted.0.now b (level_at tree level) is.front node is.back) above_is is.sought));
+              },
+            )
         | inr (some, before, one, olds_are, key_is, above_is) ↦ elim (reason_held key ends items over Fit nodes (changes_meant meaning cs) can back_is olds news (map meaning hand) (changes_meant meaning (drop done cs)) f.others node f.behind f.at (λ none. some (none_meant meaning key ends items over Fit nodes cs can hand none))) [
           | inl here ↦ inl (here.0, key_in done cs here.0 here.1, here.2)
           | inr gone ↦ inr gone
@@ -237,12 +231,12 @@ module _ {T X : Type 0} (meaning : T → X) (key : X → List ℕ) (ends : ℕ �
       (changes_meant meaning (take count (drop done cs))) (changes_meant meaning (drop (done + count) cs)) split old stands later (subst (λ (os : List OldNode). IsIn old os) (sym later_is) opened) in
       record {
         reasons = subst (λ (os : List OldNode). AllByRecursion (IsOpenedFor nodes (new_nodes key ends items over Fit nodes (changes_meant meaning cs) can back_is) (keys_changed (changes_meant meaning cs))) os) (sym later_is)
-            (all_joined (IsOpenedFor nodes (new_nodes key ends items over Fit nodes (changes_meant meaning cs) can back_is) (keys_changed (changes_meant meaning cs))) olds (old ∷ []) so.reasons (record { node = node; among = among; stands = stands; reason = reason }, tt));
+            (all_append (IsOpenedFor nodes (new_nodes key ends items over Fit nodes (changes_meant meaning cs) can back_is) (keys_changed (changes_meant meaning cs))) olds (old ∷ []) so.reasons (record { node = node; among = among; stands = stands; reason = reason }, tt));
         covers = subst (λ (ks : List (List ℕ)). AllByRecursion (IsCovered nodes later) ks)
             (sym (ap (λ (ds : List (ItemChange T)). keys_changed (changes_meant meaning ds)) (take_more cs done count)
             ∙ ap keys_changed (map-append (change_meant meaning) (take done cs) (take count (drop done cs)))
             ∙ map-append (λ (c : Change X). c.key) (changes_meant meaning (take done cs)) (changes_meant meaning (take count (drop done cs)))))
-            (all_joined (IsCovered nodes later) (keys_to done) (keys_changed (changes_meant meaning (take count (drop done cs)))) (more_covered olds later old later_is (keys_to done) so.covers) covered);
+            (all_append (IsCovered nodes later) (keys_to done) (keys_changed (changes_meant meaning (take count (drop done cs)))) (more_covered olds later old later_is (keys_to done) so.covers) covered);
       }
 
   -- at the end all changes were taken

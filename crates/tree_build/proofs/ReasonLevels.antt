@@ -1,5 +1,5 @@
 -- Why nodes were opened, level after level.
-use Rattle.std.proofs.Common.{◌≡◌, ℕ, zero, suc, ◌+◌, ◌<◌, List, [], ◌∷◌, ◌++◌, length, map, refl, sym, ap, subst, ◌∙◌, arith}
+use Rattle.std.proofs.Common.{◌≡◌, ℕ, suc, ◌+◌, ◌<◌, List, [], ◌∷◌, ◌++◌, length, map, refl, sym, subst, arith}
 use Rattle.std.specs.List.{flat_map, AllByRecursion}
 use Rattle.tree_node.specs.Nodes.{Binding, Inner, IsNode, Leaf, Link, Node}
 use Rattle.tree_node.specs.Trees.{Two, ends_by, entries_in, is_marked_entry, is_marked_link, level_at, levels, links_in, pieces}

@@ -1,8 +1,7 @@
 -- The top of the old tree, and a list without changes.
-use Rattle.std.proofs.Common.{inl, inr, ◌≡◌, ℕ, ◌+◌, ◌-◌, ◌<◌, ◌≤◌, eqb, eqb-true, false, List, [], ◌∷◌, ◌++◌, length, true, refl, sym, ap, subst, ◌∙◌, arith}
+use Rattle.std.proofs.Common.{inl, inr, ◌≡◌, ℕ, ◌+◌, ◌-◌, ◌<◌, ◌≤◌, eqb, eqb-true, false, List, [], ◌∷◌, length, true, refl, sym, ap, subst, arith}
 use Rattle.std.specs.List.{AllByRecursion}
 use Rattle.tree_node.specs.Nodes.{Binding, Node, level_of, spelling, tree_of}
-use Rattle.tree_node.specs.Shelves.{SameNodes}
 use Rattle.tree_node.specs.Trees.{Two, level_at, levels, no_node, top_of}
 use Rattle.tree_node.proofs.shared.TreeLaws.{whole}
 use Rattle.tree_node.proofs.shared.TreeParts.{kind_at}
@@ -10,11 +9,10 @@ use Rattle.tree_build.specs.Changing.{Change}
 use Rattle.tree_node.specs.Digests.{digest}
 use Rattle.tree_build.specs.Rebuilding.{AreDifferent, IsAmong, IsOldTree, IsRebuilt, digests_of, nodes_of}
 use Rattle.tree_build.specs.declared.rebuilt.Rebuilt.{Rebuilt}
-use Rattle.tree_build.specs.internal.Holding.{IsHeld, IsSoughtNode}
-use Rattle.tree_build.proofs.DescentLemmas.{all_parts, sought_level, sought_top}
+use Rattle.tree_build.specs.internal.Holding.{IsHeld}
+use Rattle.tree_build.proofs.DescentLemmas.{all_parts, lone, sought_level, sought_top}
 use Rattle.tree_build.specs.internal.Weaving.{IsIn}
 use Rattle.tree_build.proofs.LastLemmas.{last_one}
-use Rattle.tree_build.proofs.SettleLemmas.{lone}
 use Rattle.tree_build.proofs.TreeEdits.{held_of}
 use Rattle.tree_build.proofs.WeaveLemmas.{in_back}
 
@@ -57,9 +55,6 @@ unchanged old rebuilt top none_added none_gone = record {
   gone = λ key. ((λ among. absurd (subst (λ ds. IsAmong (digests_of ds) key) none_gone among)), (λ (bytes, of_old, not_new, is). absurd (not_new of_old)));
   gone_once = subst (λ ds. AreDifferent (digests_of ds)) (sym none_gone) tt;
 }
-
-pub later_held : (held later : List ℕ → Type 0) → SameNodes held later → (key : List ℕ) (node : Node) → IsHeld held key node → IsHeld later key node
-later_held held later same key node is = record { is = is.is; holds = (same (spelling node)).1 is.holds; digest_is = is.digest_is }
 
 pub some_changes : {X : Type 0} (xs : List X) → false ≡ eqb (length xs) 0 → 1 ≤ length xs
 some_changes [] e = absurd cc

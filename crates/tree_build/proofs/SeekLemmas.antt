@@ -8,7 +8,7 @@ use Rattle.tree_node.specs.Order.{order, IsBelow}
 use Rattle.tree_node.specs.internal.OrderLemmas.{not_itself, order_above, order_same, order_trans}
 use Rattle.tree_build.specs.internal.RisingChanges.{IsUpTo}
 use Rattle.tree_build.specs.internal.Seeking.{LiesBefore, Reaches, IsSought}
-use Rattle.tree_build.proofs.ChangeLemmas.{up_to_below}
+use Rattle.tree_build.proofs.ChangeLemmas.{all_append, up_to_below}
 
 pub up_to_trans : (a b c : List ℕ) → IsUpTo a b → IsUpTo b c → IsUpTo a c
 up_to_trans a b c p (inl q) = inl (up_to_below a b c p q)
@@ -18,10 +18,6 @@ up_to_trans a b c p (inr e) = subst (λ (k : List ℕ). IsUpTo a k) e p
 before_up_to : (wanted : List ℕ) (above : Bool) (a b : List ℕ) → IsUpTo a b → LiesBefore wanted above b → LiesBefore wanted above a
 before_up_to wanted false a b up before = up_to_below a b wanted up before
 before_up_to wanted true a b up before = up_to_trans a b wanted up before
-
-pub all_front : {X : Type 0} (P : X → Type 0) (xs ys : List X) → AllByRecursion P xs → AllByRecursion P ys → AllByRecursion P (xs ++ ys)
-all_front P [] ys p q = q
-all_front P (x ∷ xs) ys p q = (p.0, all_front P xs ys p.1 q)
 
 -- Nodes with items below them: the items of each are up to its greatest key.
 module _ {N X : Type 0} (greatest : N → List ℕ) (key : X → List ℕ) (items : N → List X) (wanted : List ℕ) (above : Bool) where
@@ -34,7 +30,7 @@ module _ {N X : Type 0} (greatest : N → List ℕ) (key : X → List ℕ) (item
 
   below_before : (nodes : List N) → AllByRecursion IsBound nodes → AllByRecursion (λ (n : N). LiesBefore wanted above (greatest n)) nodes → AllByRecursion (λ (x : X). LiesBefore wanted above (key x)) (flat_map items nodes)
   below_before [] bound before = tt
-  below_before (n ∷ ns) bound before = all_front (λ (x : X). LiesBefore wanted above (key x)) (items n) (flat_map items ns) (items_before n (items n) bound.0 before.0) (below_before ns bound.1 before.1)
+  below_before (n ∷ ns) bound before = all_append (λ (x : X). LiesBefore wanted above (key x)) (items n) (flat_map items ns) (items_before n (items n) bound.0 before.0) (below_before ns bound.1 before.1)
 
   -- The item that is sought in the sought node is the one that is sought in the whole level below.
   pub sought_down : (nodes front : List N) (node : N) (back : List N) (f : List X) (x : X) (b : List X)
@@ -46,7 +42,7 @@ module _ {N X : Type 0} (greatest : N → List ℕ) (key : X → List ℕ) (item
         ∙ ap (λ (xs : List X). flat_map items front ++ (xs ++ flat_map items back)) here.whole
         ∙ ap (λ (xs : List X). flat_map items front ++ xs) (append_assoc f (x ∷ b) (flat_map items back))
         ∙ sym (append_assoc (flat_map items front) f (x ∷ (b ++ flat_map items back)));
-    before = all_front (λ (y : X). LiesBefore wanted above (key y)) (flat_map items front) f (below_before front bound up.before) here.before;
+    before = all_append (λ (y : X). LiesBefore wanted above (key y)) (flat_map items front) f (below_before front bound up.before) here.before;
     reached = elim here.reached [
       | inl does ↦ inl does
       | inr none ↦ elim up.reached [

@@ -10,6 +10,9 @@ use Rattle.tree_build.proofs.DescentLemmas.{IsHeldAt, sought_child, sought_level
 pub held_then : (old new : List ℕ → Type 0) (top : List ℕ) (tree : ℕ) (entries : List Binding) → ((x : List ℕ) → old x → new x) → IsHeldTree old top tree entries → IsHeldTree new top tree entries
 held_then old new top tree entries more is = record { is_tree = is.is_tree; has = is.has; is_top = is.is_top; holds = λ x of. more x (is.holds x of) }
 
+pub later_held : (held later : List ℕ → Type 0) → SameNodes held later → (key : List ℕ) (node : Node) → IsHeld held key node → IsHeld later key node
+later_held held later same key node is = record { is = is.is; holds = (same (spelling node)).1 is.holds; digest_is = is.digest_is }
+
 -- what is known once a node was opened
 pub record HasOpened (held used later_held later_used : List ℕ → Type 0) (key : List ℕ) (found : Node) : Type 0 where
   pub stays : SameNodes held later_held
@@ -29,9 +32,6 @@ module _ (held0 used0 : List ℕ → Type 0) (top : List ℕ) (level : ℕ) (wan
     pub grows : (x : List ℕ) → used0 x → used x
     pub at : (tree : ℕ) (entries : List Binding) → IsHeldTree held0 top tree entries → level < length (levels Two tree entries) → IsAt tree entries node last
     pub only : (tree : ℕ) (entries : List Binding) → IsHeldTree held0 top tree entries → level < length (levels Two tree entries) → (x : List ℕ) → used x → used0 x ⊎ IsOnWay (levels Two tree entries) level wanted above x
-
-  later_held : (held later : List ℕ → Type 0) → SameNodes held later → (key : List ℕ) (node : Node) → IsHeld held key node → IsHeld later key node
-  later_held held later same key node is = record { is = is.is; holds = (same (spelling node)).1 is.holds; digest_is = is.digest_is }
 
   -- the top was opened
   pub seek_start : (held used : List ℕ → Type 0) (found : Node) → HasOpened held0 used0 held used top found → SeekState held used found true

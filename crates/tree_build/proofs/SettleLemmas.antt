@@ -1,33 +1,28 @@
 -- Coming down from the last level to the first whose one node is a leaf or has two children.
-use Rattle.std.proofs.Common.{◌≡◌, ◌≢◌, ℕ, zero, suc, ◌+◌, ◌-◌, ◌<◌, ◌≤◌, List, [], ◌∷◌, ◌++◌, length, get_or, map, ◌⊎◌, inl, inr, Bool, true, false, cond, eqb, Option, None, Some, refl, sym, ap, subst, ◌∙◌, append_assoc, arith}
+use Rattle.std.proofs.Common.{◌≡◌, ℕ, zero, suc, ◌+◌, ◌-◌, ◌<◌, ◌≤◌, List, [], ◌∷◌, ◌++◌, length, get_or, map, ◌⊎◌, inl, inr, Bool, true, false, cond, eqb, None, Some, refl, sym, ap, subst, ◌∙◌, append_assoc, arith}
 use Rattle.std.specs.List.{flat_map, AllByRecursion}
 use Rattle.std.proofs.lemmas.List.{append-nil, map-append, length-map}
-use Rattle.tree_node.specs.Digests.{digest}
 use Rattle.tree_node.specs.Nodes.{Binding, IsNode, Leaf, Link, Node, spelling}
-use Rattle.tree_node.specs.Trees.{HasTree, IsNodeOf, Two, ends_by, is_marked_entry, pieces, level_at, level_over, levels, link_to, links_in, no_node}
+use Rattle.tree_node.specs.Trees.{Two, ends_by, is_marked_entry, pieces, level_at, level_over, levels, link_to, links_in, no_node}
 use Rattle.tree_node.specs.declared.digest.Digest.{Digest}
 use Rattle.tree_node.proofs.shared.TreeLaws.{over_joined}
 use Rattle.tree_build.specs.Changing.{Change}
 use Rattle.tree_build.specs.Rebuilding.{IsOldTree, changed_entries}
-use Rattle.tree_build.specs.internal.Edits.{Each, IsNewNode, IsOldNode}
-use Rattle.tree_build.specs.internal.Holding.{HoldsNode, IsHeld}
+use Rattle.tree_build.specs.internal.Edits.{Each, IsNewNode}
+use Rattle.tree_build.specs.internal.Holding.{IsHeld}
 use Rattle.tree_build.specs.internal.Settling.{HasSettled, IsOnlyChild, passed, stayed, stayed_at}
 use Rattle.tree_build.specs.internal.Steps.{IsEdit}
 use Rattle.tree_build.specs.internal.Telling.{node_digest}
 use Rattle.tree_build.specs.internal.Towers.{tower}
 use Rattle.tree_build.specs.internal.TreeEdits.{AreEdits}
-use Rattle.tree_build.specs.internal.Weaving.{IsIn, Woven, none, left, right}
+use Rattle.tree_build.specs.internal.Weaving.{IsIn, Woven}
 use Rattle.tree_build.specs.declared.piece.NewPiece.{NewPiece}
 use Rattle.tree_build.specs.declared.step.LevelEdit.{LevelEdit}
-use Rattle.tree_build.proofs.OldLevels.{old_nodes, tower_first, tower_nodes}
+use Rattle.tree_build.proofs.DescentLemmas.{lone}
+use Rattle.tree_build.proofs.OldLevels.{tower_first, tower_nodes}
 use Rattle.tree_build.proofs.WeaveLemmas.{in_woven, woven_first, woven_second}
 
 -- ---- lists
-
-pub lone : {X : Type 0} (xs : List X) (d : X) → length xs ≡ 1 → xs ≡ get_or xs 0 d ∷ []
-lone [] d e = absurd (omega (arith, e))
-lone (x ∷ []) d e = refl
-lone (x ∷ y ∷ xs) d e = absurd (omega (arith, e))
 
 pub record HasPlace {X : Type 0} (n : X) (ns : List X) (d : X) : Type 0 where
   pub place : ℕ

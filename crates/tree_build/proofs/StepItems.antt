@@ -1,5 +1,5 @@
 -- The nodes of a level and their items: what rising keys say of parts of them.
-use Rattle.std.proofs.Common.{◌≡◌, ℕ, ◌≤◌, List, [], ◌∷◌, ◌++◌, length, map, ◌⊎◌, inl, inr, Bool, true, false, Option, None, Some, refl, sym, ap, subst, ◌∙◌, append_assoc, length-append, arith}
+use Rattle.std.proofs.Common.{◌≡◌, ℕ, ◌≤◌, List, [], ◌∷◌, ◌++◌, length, map, inl, inr, Bool, Option, None, Some, refl, sym, ap, subst, ◌∙◌, append_assoc, length-append, arith}
 use Rattle.std.specs.List.{flat_map, AllByRecursion}
 use Rattle.std.proofs.lemmas.Grind.{flat_map-append}
 use Rattle.std.proofs.lemmas.List.{map-append}
@@ -10,8 +10,8 @@ use Rattle.tree_node.specs.Trees.{greatest_of, last_key}
 use Rattle.tree_node.proofs.shared.PieceLemmas.{join}
 use Rattle.tree_build.specs.internal.Cutting.{ArePieces}
 use Rattle.tree_build.specs.internal.RisingChanges.{IsUpTo}
-use Rattle.tree_build.specs.internal.Seeking.{IsSought, LiesBefore, Reaches}
-use Rattle.tree_build.specs.internal.Steps.{HavePieces, IsLevel}
+use Rattle.tree_build.specs.internal.Seeking.{IsSought, LiesBefore}
+use Rattle.tree_build.specs.internal.Steps.{IsLevel}
 use Rattle.tree_build.proofs.ChangeLemmas.{all_of}
 use Rattle.tree_build.proofs.DescentLemmas.{all_parts, all_up_to_last}
 use Rattle.tree_build.proofs.NextLemmas.{never_both}

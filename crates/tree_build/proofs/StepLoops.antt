@@ -1,5 +1,5 @@
 -- A turn of a step's loop, from what its calls give to the next state.
-use Rattle.std.proofs.Common.{◌≡◌, ℕ, ◌+◌, ◌-◌, ◌<◌, ◌≤◌, List, [], ◌∷◌, ◌++◌, length, map, take, drop, ◌⊎◌, inl, inr, Bool, true, false, IsTrue, Some, None, refl, sym, ap, subst, ◌∙◌, length-append, arith}
+use Rattle.std.proofs.Common.{◌≡◌, ℕ, ◌+◌, ◌-◌, ◌<◌, ◌≤◌, List, [], ◌∷◌, ◌++◌, length, map, take, drop, inl, inr, Bool, true, false, IsTrue, Some, None, refl, sym, ap, subst, ◌∙◌, length-append, arith}
 use Rattle.std.specs.List.{flat_map, AllByRecursion}
 use Rattle.std.specs.Borrow.{Bor}
 use Rattle.std.proofs.lemmas.List.{drop-drop, length-drop, map-append, take-append-drop}
@@ -19,7 +19,7 @@ use Rattle.tree_build.specs.declared.held.OldNode.{OldNode}
 use Rattle.tree_build.specs.declared.level_item.ItemChange.{ItemChange}
 use Rattle.tree_build.specs.declared.piece.NewPiece.{NewPiece}
 use Rattle.tree_build.specs.declared.step.LevelEdit.{LevelEdit}
-use Rattle.tree_build.proofs.StepStates.{AreSplit, IsDone, IsNext, StepAt, StepState, next_after, next_sought, step_done, step_room, step_start, step_taken, taken_fit, taken_own}
+use Rattle.tree_build.proofs.StepStates.{AreSplit, IsDone, StepAt, StepState, next_after, next_sought, step_done, step_room, step_start, step_taken, taken_fit, taken_own}
 
 -- the rest of a list, as a slice of it
 pub rest_is : {X : Type 0} (xs : List X) (n : ℕ) → take (length xs - n) (drop n xs) ≡ drop n xs

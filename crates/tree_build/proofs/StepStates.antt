@@ -1,26 +1,25 @@
 -- How far a step has come in its level: the old nodes so far, what stands in their place, what is in hand, and the old
 -- nodes and the changes to come.
-use Rattle.std.proofs.Common.{◌≡◌, ℕ, ◌+◌, ◌<◌, ◌≤◌, List, [], ◌∷◌, ◌++◌, length, map, ◌⊎◌, inl, inr, Bool, true, false, cond, Option, None, Some, refl, sym, ap, subst, ◌∙◌, append_assoc, length-append, arith}
+use Rattle.std.proofs.Common.{◌≡◌, ℕ, ◌+◌, ◌<◌, ◌≤◌, List, [], ◌∷◌, ◌++◌, length, map, ◌⊎◌, inl, inr, Bool, true, false, cond, refl, sym, ap, subst, ◌∙◌, append_assoc, length-append, arith}
 use Rattle.std.specs.List.{flat_map, AllByRecursion}
 use Rattle.std.proofs.lemmas.Grind.{flat_map-append}
-use Rattle.std.proofs.lemmas.List.{append-nil, map-append, length-map}
-use Rattle.tree_node.specs.Nodes.{AreRisingFrom, Node}
+use Rattle.std.proofs.lemmas.List.{append-nil, map-append}
+use Rattle.tree_node.specs.Nodes.{Node}
 use Rattle.tree_node.specs.Order.{IsBelow}
 use Rattle.tree_node.specs.internal.OrderLemmas.{order_trans}
 use Rattle.tree_node.specs.Trees.{greatest_of, pieces, pieces_from}
-use Rattle.tree_node.proofs.shared.PieceLemmas.{join}
 use Rattle.tree_build.specs.Changing.{Change, changed}
 use Rattle.tree_build.specs.internal.Cutting.{done_by, hand_after, ArePieces}
-use Rattle.tree_build.specs.internal.Edits.{Each, HaveCome, IsNewNode, IsOldNode}
-use Rattle.tree_build.specs.internal.RisingChanges.{AreOwnAndRising, IsOwn, IsUpTo}
+use Rattle.tree_build.specs.internal.Edits.{Each, IsNewNode, IsOldNode}
+use Rattle.tree_build.specs.internal.RisingChanges.{AreOwnAndRising, IsUpTo}
 use Rattle.tree_build.specs.internal.Seeking.{IsSought, LiesBefore}
-use Rattle.tree_build.specs.internal.Steps.{CanStep, HaveGoneOn, HavePieces, IsLevel}
+use Rattle.tree_build.specs.internal.Steps.{CanStep, HaveGoneOn}
 use Rattle.tree_build.specs.internal.Weaving.{Woven, none, left, right}
 use Rattle.tree_build.specs.declared.held.OldNode.{OldNode}
 use Rattle.tree_build.specs.declared.piece.NewPiece.{NewPiece}
 use Rattle.tree_build.proofs.ChangeLemmas.{IsUpToOwn, all_of, changed_behind, changed_split}
-use Rattle.tree_build.proofs.HandLemmas.{each_append, hand_fits, last_fits}
-use Rattle.tree_build.proofs.LevelSteps.{IsCutTo, cut_last, cut_open, cut_rest, cut_skip, cut_start}
+use Rattle.tree_build.proofs.HandLemmas.{each_append, hand_fits}
+use Rattle.tree_build.proofs.LevelSteps.{IsCutTo, cut_last, cut_open, cut_rest, cut_skip}
 use Rattle.tree_build.proofs.NextLemmas.{sought_next}
 use Rattle.tree_build.proofs.StepItems.{items_above, items_below, items_up_to, join_mapped, map_made, pieces_after, sought_behind}
 use Rattle.tree_build.proofs.WeaveLemmas.{woven_append, woven_left, woven_right}

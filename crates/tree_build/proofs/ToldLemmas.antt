@@ -24,7 +24,8 @@ module _ (old : List (List Node)) (new : ℕ → List Node) where
   kept_from first [] are l m is = absurd is
   kept_from first (e ∷ es) are l m is = elim is [
     | inl here ↦ (
-      omega (arith, here.0), omega (arith, here.0),
+      omega (arith, here.0),
+      omega (arith, here.0),
       subst (λ k. IsIn m (level_at old k)) (sym here.0) (woven_first m are.0.kept are.0.opened (level_at old first) are.0.was here.1),
       subst (λ k. IsIn m (new k)) (sym here.0) (woven_first m are.0.kept are.0.came (new first) are.0.is here.1),
     )
@@ -35,7 +36,8 @@ module _ (old : List (List Node)) (new : ℕ → List Node) where
   opened_from first [] are l m is = absurd is
   opened_from first (e ∷ es) are l m is = elim is [
     | inl here ↦ (
-      omega (arith, here.0), omega (arith, here.0),
+      omega (arith, here.0),
+      omega (arith, here.0),
       subst (λ k. IsIn m (level_at old k)) (sym here.0) (woven_second m are.0.kept are.0.opened (level_at old first) are.0.was here.1),
     )
     | inr there ↦ let (from, to, one) = opened_from (suc first) es are.1 l m there in (omega (arith, from), omega (arith, to), one)
@@ -134,7 +136,9 @@ module _ (old : List (List Node)) (new : ℕ → List Node) where
           ]),
           (λ g. elim (from_or_above first g.level g.from) [
             | inl here ↦ in_front m one.gained more.gained ((one.in_gained m).1 (
-              omega (arith, here, g.low), subst (λ k. IsIn m (new k)) here g.is, subst (λ k. ¬ IsIn m (level_at old k)) here g.not_old,
+              omega (arith, here, g.low),
+              subst (λ k. IsIn m (new k)) here g.is,
+              subst (λ k. ¬ IsIn m (level_at old k)) here g.not_old,
             ))
             | inr above ↦ in_back m one.gained more.gained ((more.in_gained m).1 (record { level = g.level; from = above; to = omega (arith, g.to); low = g.low; is = g.is; not_old = g.not_old }))
           ]),
@@ -142,11 +146,15 @@ module _ (old : List (List Node)) (new : ℕ → List Node) where
         in_lost = λ m. (
           (λ is. elim (in_append m one.lost more.lost is) [
             | inl here ↦ record {
-              level = first; from = omega arith; to = omega arith;
+              level = first;
+              from = omega arith;
+              to = omega arith;
               goes = elim ((one.in_lost m).0 here) [ inl low ↦ inl low | inr high ↦ inr (high.0, inl (refl, high.1)) ];
             }
             | inr there ↦ let g = (more.in_lost m).0 there in record {
-              level = g.level; from = omega (arith, g.from); to = omega (arith, g.to);
+              level = g.level;
+              from = omega (arith, g.from);
+              to = omega (arith, g.to);
               goes = elim g.goes [ inl low ↦ inl low | inr high ↦ inr (high.0, inr high.1) ];
             }
           ]),
@@ -159,7 +167,9 @@ module _ (old : List (List Node)) (new : ℕ → List Node) where
               ]
             ]))
             | inr above ↦ in_back m one.lost more.lost ((more.in_lost m).1 (record {
-              level = g.level; from = above; to = omega (arith, g.to);
+              level = g.level;
+              from = above;
+              to = omega (arith, g.to);
               goes = elim g.goes [
                 | inl low ↦ inl low
                 | inr high ↦ elim high.1 [
@@ -198,22 +208,22 @@ module _ (old : List (List Node)) (new : ℕ → List Node) where
           told_more first e es are added next later gone lost_next lost_later
           (elim here [
             | inl low ↦
-              let olds_rise = woven_rise are.0.kept are.0.opened (level_at old first) are.0.was (old_rises first) in
-              let news_rise = woven_rise are.0.kept are.0.came (new first) are.0.is (new_rises first) in
-              let tells = low.1 in record {
-                gained = tells.gained;
-                lost = tells.lost;
-                added_are = tells.added_are;
-                gone_are = tells.gone_are;
-                in_gained = λ m.
-                    let so = gained_are are.0.kept are.0.opened are.0.came (level_at old first) (new first) tells.lost tells.gained tells.changes are.0.was are.0.is (old_rises first) (new_rises first) olds_rise news_rise tells.differ m in
-                    ((λ is. let has = so.0 is in (low.0, has.0, has.1)), (λ has. so.1 (has.1, has.2)));
-                in_lost = λ m.
-                    let so = lost_are are.0.kept are.0.opened are.0.came (level_at old first) (new first) tells.lost tells.gained tells.changes are.0.was are.0.is (old_rises first) (new_rises first) olds_rise news_rise tells.differ m in
-                    ((λ is. let has = so.0 is in inl (low.0, has.0, has.1)), (λ has. elim has [ inl goes ↦ so.1 (goes.1, goes.2) | inr high ↦ absurd (omega (arith, low.0, high.0)) ]));
-                gained_once = gained_once are.0.opened are.0.came tells.lost tells.gained tells.changes tells.differ (rise_once None are.0.came news_rise);
-                lost_once = lost_once are.0.opened are.0.came tells.lost tells.gained tells.changes tells.differ (rise_once None are.0.opened olds_rise);
-              }
+                let olds_rise = woven_rise are.0.kept are.0.opened (level_at old first) are.0.was (old_rises first) in
+                let news_rise = woven_rise are.0.kept are.0.came (new first) are.0.is (new_rises first) in
+                let tells = low.1 in record {
+                  gained = tells.gained;
+                  lost = tells.lost;
+                  added_are = tells.added_are;
+                  gone_are = tells.gone_are;
+                  in_gained = λ m.
+                      let so = gained_are are.0.kept are.0.opened are.0.came (level_at old first) (new first) tells.lost tells.gained tells.changes are.0.was are.0.is (old_rises first) (new_rises first) olds_rise news_rise tells.differ m in
+                      ((λ is. let has = so.0 is in (low.0, has.0, has.1)), (λ has. so.1 (has.1, has.2)));
+                  in_lost = λ m.
+                      let so = lost_are are.0.kept are.0.opened are.0.came (level_at old first) (new first) tells.lost tells.gained tells.changes are.0.was are.0.is (old_rises first) (new_rises first) olds_rise news_rise tells.differ m in
+                      ((λ is. let has = so.0 is in inl (low.0, has.0, has.1)), (λ has. elim has [ inl goes ↦ so.1 (goes.1, goes.2) | inr high ↦ absurd (omega (arith, low.0, high.0)) ]));
+                  gained_once = gained_once are.0.opened are.0.came tells.lost tells.gained tells.changes tells.differ (rise_once None are.0.came news_rise);
+                  lost_once = lost_once are.0.opened are.0.came tells.lost tells.gained tells.changes tells.differ (rise_once None are.0.opened olds_rise);
+                }
             | inr high ↦ record {
               gained = [];
               lost = are.0.opened;

@@ -1,10 +1,9 @@
 -- What is read on the way down to the new tree's top.
 use Rattle.std.proofs.Common.{◌≡◌, ℕ, zero, suc, ◌+◌, ◌-◌, ◌<◌, ◌≤◌, List, [], ◌∷◌, length, get_or, ◌⊎◌, inl, inr, Result, Ok, Err, refl, sym, ap, subst, ◌∙◌, arith}
 use Rattle.std.specs.Prelude.{IfOk}
-use Rattle.tree_node.specs.Nodes.{Binding, IsTree, Node, spelling}
-use Rattle.tree_node.specs.Trees.{HasTree, Two, level_at, levels, no_node, top_of}
-use Rattle.tree_build.specs.internal.Edits.{Each, IsNewNode}
-use Rattle.tree_build.specs.internal.FoundTops.{IsGoneNode, IsTopRead}
+use Rattle.tree_node.specs.Nodes.{Binding, Node, spelling}
+use Rattle.tree_node.specs.Trees.{Two, level_at, levels, no_node}
+use Rattle.tree_build.specs.internal.FoundTops.{IsTopRead}
 use Rattle.tree_build.specs.internal.Settling.{HasSettled, IsReadBy}
 use Rattle.tree_build.specs.internal.Steps.{IsEdit}
 use Rattle.tree_build.specs.internal.Towers.{tower}
@@ -13,18 +12,15 @@ use Rattle.tree_build.specs.internal.Weaving.{IsIn}
 use Rattle.tree_build.specs.declared.piece.NewPiece.{NewPiece}
 use Rattle.tree_build.specs.declared.step.LevelEdit.{LevelEdit}
 use Rattle.tree_build.proofs.LevelsLemmas.{entries_under, height_is, in_none, none_past, tower_in}
-use Rattle.tree_build.proofs.SettleLemmas.{edit_at, lone}
+use Rattle.tree_build.proofs.DescentLemmas.{lone}
+use Rattle.tree_build.proofs.FoundLemmas.{none_stand}
+use Rattle.tree_build.proofs.SettleLemmas.{edit_at}
 use Rattle.tree_build.proofs.WeaveLemmas.{in_woven, woven_first}
 
 any_default : {X : Type 0} (xs : List X) (n : ℕ) (a b : X) → n < length xs → get_or xs n a ≡ get_or xs n b
 any_default [] n a b lt = absurd (omega arith)
 any_default (x ∷ xs) zero a b lt = refl
 any_default (x ∷ xs) (suc n) a b lt = any_default xs n a b (omega (arith, lt))
-
-none_stand : (news : List NewPiece) (came : List Node) → Each IsNewNode news came → news ≡ [] → came ≡ []
-none_stand [] [] all e = refl
-none_stand [] (n ∷ ns) all e = absurd all
-none_stand (p ∷ ps) came all e = absurd cc
 
 up_or_here : (level at : ℕ) → level ≤ at → (level < at) ⊎ (at ≡ level)
 up_or_here level at le = grind arith
@@ -60,7 +56,7 @@ module _ (tree : ℕ) (entries after : List Binding) (edits : List LevelEdit) (a
       let is : IsIn node (made by.at) = subst (λ (ns : List Node). IsIn node ns) (sym alone) (inl refl) in
       elim (in_woven node here.kept here.came (made by.at) here.is is) [
         | inl keeps ↦ woven_first node here.kept here.opened (level_at old by.at) here.was keeps
-        | inr comes ↦ absurd (in_none node here.came (none_stand by.edit.news.items here.came here.news_stand by.none_new) comes)
+        | inr comes ↦ absurd (in_none node here.came (none_stand by.edit.news.items here.came here.news_stand (omega (arith, ap (length {A = NewPiece}) by.none_new))) comes)
       ]
 
   -- where the last level has a new node, what is read is gone or the top of a lower tree
@@ -70,14 +66,16 @@ module _ (tree : ℕ) (entries after : List Binding) (edits : List LevelEdit) (a
       let node = get_or (made by.at) 0 no_node in
       elim (up_or_here level by.at by.low) [
         | inl above ↦ inl (record {
-          level = by.at; node = node; is = stays_old bytes by;
+          level = by.at;
+          node = node;
+          is = stays_old bytes by;
           not_new = λ in_new. in_none node (level_at new by.at) (none_past tree after by.at (omega (arith, height, above))) in_new;
           spelled = by.spelled;
         })
         | inr here ↦ inr (
           lower here,
           by.spelled ∙ ap (λ (ns : List Node). spelling (get_or ns 0 no_node)) (ap made here ∙ sym (tower_in tree after some_after level (omega (arith, height))))
-          ∙ ap (λ k. spelling (get_or (level_at new k) 0 no_node)) at_top,
+              ∙ ap (λ k. spelling (get_or (level_at new k) 0 no_node)) at_top,
         )
       ]
     where
@@ -87,7 +85,7 @@ module _ (tree : ℕ) (entries after : List Binding) (edits : List LevelEdit) (a
       not_last : by.at ≡ n → ⊥
       not_last same =
           let equal : by.edit ≡ last = by.edit_is ∙ any_default edits by.at by.edit last by.high ∙ ap (λ k. get_or edits k last) same ∙ sym last_is in
-          never (ap (λ (e : LevelEdit). e.news.items) (sym equal) )
+          never (ap (λ (e : LevelEdit). e.news.items) (sym equal))
         where
           never : last.news.items ≡ by.edit.news.items → ⊥
           never e = let both : piece ∷ [] ≡ [] = sym one ∙ e ∙ by.none_new in cc

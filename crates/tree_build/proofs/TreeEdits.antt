@@ -1,11 +1,11 @@
 -- The edits of a tree's levels, and the changes of the next one.
-use Rattle.std.proofs.Common.{◌≡◌, ℕ, zero, suc, ◌+◌, ◌-◌, ◌<◌, ◌≤◌, IsTrue, Bool, true, false, eqb, eqb-true, List, [], ◌∷◌, ◌++◌, length, map, ◌⊎◌, inl, inr, None, Some, refl, sym, ap, subst, ◌∙◌, arith}
+use Rattle.std.proofs.Common.{◌≡◌, ℕ, zero, suc, ◌+◌, ◌-◌, ◌<◌, ◌≤◌, IsTrue, Bool, true, false, eqb, eqb-true, List, [], ◌∷◌, ◌++◌, length, map, inl, inr, None, Some, refl, sym, ap, subst, ◌∙◌, arith}
 use Rattle.std.specs.List.{flat_map, AllByRecursion}
 use Rattle.std.proofs.lemmas.Bool.{cases_lt}
 use Rattle.std.proofs.lemmas.List.{length-map}
 use Rattle.tree_node.specs.Nodes.{AreRisingFrom, Binding, IsNode, IsTree, Inner, Leaf, Link, Node}
 use Rattle.tree_node.specs.internal.OrderLemmas.{order_trans}
-use Rattle.tree_node.specs.Trees.{FitsTree, HasTree, Two, ends_by, entries_in, greatest_of, is_marked_entry, is_marked_link, leaves, level_at, levels, link_to, links_in, pieces}
+use Rattle.tree_node.specs.Trees.{FitsTree, HasTree, Two, ends_by, entries_in, greatest_of, is_marked_entry, is_marked_link, level_at, levels, link_to, links_in, pieces}
 use Rattle.tree_node.proofs.shared.TreeLaws.{leaves_joined}
 use Rattle.tree_build.specs.Changing.{Change, changed}
 use Rattle.tree_build.specs.Rebuilding.{IsOldTree, change_of, changed_entries, changes_of}

@@ -6,7 +6,6 @@ use Rattle.tree_build.specs.internal.Edits.{IsOldNode}
 use Rattle.tree_build.specs.internal.Holding.{IsOnWay, IsOnWayTo, IsSoughtNode}
 use Rattle.tree_build.specs.internal.Settling.{IsReadBy}
 use Rattle.tree_build.specs.internal.TreeEdits.{IsRead}
-use Rattle.tree_build.specs.internal.Weaving.{IsIn}
 use Rattle.tree_build.specs.declared.held.OldNode.{OldNode}
 use Rattle.tree_build.specs.declared.step.LevelEdit.{LevelEdit}
 use Rattle.tree_build.proofs.WeaveLemmas.{in_back, in_front}

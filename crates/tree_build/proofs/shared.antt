@@ -1,2 +1,3 @@
 -- Lemmas for the crates above.
+pub mod ChangedTrees
 pub mod PieceCuts

@@ -7,6 +7,7 @@ use Rattle.ql_syntax.specs.Filters.{Filter, InSet, HasKey, KeyIs, LacksKey, KeyI
 use Rattle.ql_syntax.specs.declared.pick.Pick.{Pick}
 use Rattle.ql_plain.specs.ObjectTests.{PassesAlone}
 use Rattle.ql_plain.specs.Values.{Env, IsOnPath, IsPicked, IsRefOf}
+use Rattle.ql_plain.specs.internal.Linked.{IsThere}
 
 -- the filter keeps the object with the reference, as far as what the filter names tells
 abbrev pub IsNamedBy : List Element → Env → Filter → Ref → Type 0
@@ -26,3 +27,7 @@ AreNamedBy objects env filters r = AllByRecursion (λ filter. IsNamedBy objects 
 -- the object is of the kind, and all filters keep it as far as the object alone tells
 abbrev pub IsTaken : Pick → List Filter → Element → Type 0
 IsTaken pick filters o = IsPicked pick o × AllByRecursion (λ filter. PassesAlone filter o) filters
+
+-- these are references of objects of the list
+abbrev pub AreThere : List Element → List Ref → Type 0
+AreThere objects refs = (r : Ref) → Contains refs r → IsThere objects r

@@ -1,5 +1,5 @@
 -- Levels above others.
-use Rattle.std.specs.Prelude.{◌≡◌, ℕ, zero, suc, ◌+◌, ◌-◌, ◌<◌, ◌≤◌, List, [], ◌++◌, length, map}
+use Rattle.std.specs.Prelude.{◌≡◌, ℕ, zero, suc, ◌+◌, ◌<◌, ◌≤◌, List, [], ◌++◌, length, map}
 use Rattle.tree_node.specs.Digests.{digest}
 use Rattle.tree_node.specs.Nodes.{Node, spelling}
 use Rattle.tree_node.specs.Trees.{no_node}

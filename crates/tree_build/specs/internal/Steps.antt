@@ -9,7 +9,7 @@ use Rattle.tree_node.specs.Trees.{greatest_of, last_key, pieces_from}
 use Rattle.tree_build.specs.Changing.{Change, changed}
 use Rattle.tree_build.specs.internal.Cutting.{ArePieces, done_by, hand_after}
 use Rattle.tree_build.specs.internal.Edits.{Each, HaveCome, IsNewNode, IsOldNode}
-use Rattle.tree_build.specs.internal.RisingChanges.{AreOwnAndRising, IsUpTo}
+use Rattle.tree_build.specs.internal.RisingChanges.{AreOwnAndRising}
 use Rattle.tree_build.specs.internal.Seeking.{IsSought}
 use Rattle.tree_build.specs.internal.Weaving.{IsIn, Woven}
 use Rattle.tree_build.specs.declared.held.OldNode.{OldNode}

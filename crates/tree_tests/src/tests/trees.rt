@@ -2,4 +2,5 @@
 //! independent program.
 
 mod building;
+mod rebuilding;
 mod rows;

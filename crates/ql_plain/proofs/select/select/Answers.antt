@@ -27,5 +27,5 @@ returns-in-Some c =
     let taken : IsSetOf first (λ r. Contains names r × IsRefOf c.args.set.now (IsTaken c.args.kind all) r) =
     subst (λ (some : List Ref). IsSetOf first (λ r. Contains some r × IsRefOf c.args.set.now (IsTaken c.args.kind all) r)) c.deref.ensures.value c.in_ok-first.ensures in
     if_ok_as c.narrowed-in-Some.result
-    (λ later. from_named c.args.set.now c.as_slice.ensures.set env c.args.kind all (filters_of (take k filters)) (filters_of (take (length filters - (k + 1)) (drop (k + 1) filters))) (filter_of f) (around filters k f c.loop-place-test.true c.index-filters-place.is) named taken c.in_ok-left.ensures)
+    (λ later. from_named c.args.set.now c.as_slice.ensures.set env c.args.kind all (filters_of (take k filters)) (filters_of (take (length filters - (k + 1)) (drop (k + 1) filters))) (filter_of f) (around filters k f c.loop-place-test.true c.index-filters-place.is) named.named taken c.in_ok-left.ensures)
     c.narrowed-in-Some.ensures

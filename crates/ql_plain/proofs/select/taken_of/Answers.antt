@@ -1,4 +1,4 @@
-use Rattle.std.proofs.Common.{Vec, Global, map, get_or, pos, subst, ◌∙◌, ap, refl}
+use Rattle.std.proofs.Common.{Vec, Global, map, get_or, pos, subst, sym, ◌∙◌, ap, refl}
 use Rattle.std.proofs.lemmas.List.{get_or_default}
 use Rattle.std.specs.List.{Contains}
 use Rattle.std.specs.List.Sorted.{IsStrictlySortedBy}
@@ -13,7 +13,15 @@ use Rattle.ql_plain.proofs.select.taken_of.Goals as goal
 use Rattle.ql_plain.proofs.select.taken_of.Goals.{then-is_one+in_ok-push, else-is_one}
 
 pub loop-name-init : goal.loop-name-init
-loop-name-init c = kept_nothing (λ (r : Ref). r) c.args.names.now (rw map_same c.requires) (IsRefOf c.args.set.now (IsTaken c.args.kind (filters_of c.args.filters.now))) _ c.in_ok-refs.ensures.items
+loop-name-init c = kept_nothing (λ (r : Ref). r) c.args.names.now (rw map_same c.requires.rising) (IsRefOf c.args.set.now (IsTaken c.args.kind (filters_of c.args.filters.now))) _ c.in_ok-refs.ensures.items
+
+pub is_taken_there-next-requires-clause-there : goal.is_taken_there-next-requires-clause-there
+is_taken_there-next-requires-clause-there c =
+    let names = c.args.names.now in
+    let k = c.loop-name.name-index in
+    let first : Ref = record { kind = Node; id = pos 0 } in
+    let name = get_or names k first in
+    c.requires.there name (k, c.loop-name-test.true, sym (get_or_default names k first name c.loop-name-test.true))
 
 pub loop-name-preserved : goal.loop-name-preserved
 loop-name-preserved c =
@@ -22,19 +30,19 @@ loop-name-preserved c =
     let first : Ref = record { kind = Node; id = pos 0 } in
     let name = get_or names k first in
     let Is : Ref → Type 0 = IsRefOf c.args.set.now (IsTaken c.args.kind (filters_of c.args.filters.now)) in
-    let rising : IsStrictlySortedBy ref_cmp (map (λ (r : Ref). r) names) = rw map_same c.requires in
+    let rising : IsStrictlySortedBy ref_cmp (map (λ (r : Ref). r) names) = rw map_same c.requires.rising in
     let item = get_or_default names k first name c.loop-name-test.true in
     elim c.if-is_one.branch [
       | then-is_one+in_ok-push w ↦
           kept_more (λ (r : Ref). r) names rising Is k name c.loop-name-test.true item c.loop-name.refs.items c.loop-name.invariant c.if-is_one.refs.items
-          (ap (λ (v : Vec Ref Global). v.items) w.refs-is ∙ w.in_ok-push.ensures.items) (c.is_taken_at-next.ensures.0 w.if-is_one.true)
+          (ap (λ (v : Vec Ref Global). v.items) w.refs-is ∙ w.in_ok-push.ensures.items) (c.is_taken_there-next.ensures.0 w.if-is_one.true)
       | else-is_one w ↦
           kept_same (λ (r : Ref). r) names rising Is k name c.loop-name-test.true item c.loop-name.refs.items c.loop-name.invariant c.if-is_one.refs.items
-          (ap (λ (v : Vec Ref Global). v.items) w.refs-is) (λ is. let found = c.is_taken_at-next.ensures.1 is in let not = w.if-is_one.false in cc)
+          (ap (λ (v : Vec Ref Global). v.items) w.refs-is) (λ is. let found = c.is_taken_there-next.ensures.1 is in let not = w.if-is_one.false in cc)
     ]
 
 pub returns : goal.returns
 returns c =
     let Is : Ref → Type 0 = IsRefOf c.args.set.now (IsTaken c.args.kind (filters_of c.args.filters.now)) in
     set_as (λ r of. (subst (λ (s : Ref). Contains c.args.names.now s) of.2 of.1, subst Is of.2 of.3)) (λ r of. (r, of.0, refl, of.1))
-    (kept_all (λ (r : Ref). r) c.args.names.now (rw map_same c.requires) Is c.loop-name.name-index c.loop-name-test.false _ c.loop-name.invariant)
+    (kept_all (λ (r : Ref). r) c.args.names.now (rw map_same c.requires.rising) Is c.loop-name.name-index c.loop-name-test.false _ c.loop-name.invariant)

@@ -17,7 +17,7 @@ use Rattle.tree_build.specs.declared.step.LevelEdit.{LevelEdit}
 use Rattle.tree_build.specs.declared.piece.NewPiece.{NewPiece}
 use Rattle.tree_build.proofs.LastLemmas.{last_alone, last_digest, last_new}
 use Rattle.tree_build.proofs.OldLevels.{old_few}
-use Rattle.tree_build.proofs.SettleLemmas.{lone}
+use Rattle.tree_build.proofs.DescentLemmas.{lone}
 use Rattle.tree_build.proofs.TopReads.{if_ok_both, settled_read}
 use Rattle.tree_build.proofs.finish.find_top.Goals as goal
 
@@ -42,14 +42,18 @@ settle-requires g c κs =
     let at : last + 1 ≡ length edits = omega (arith, counted, some) in
     let all = whole c.in_default.is in
     let one : c.index.result.now.news.items ≡ c.one-item.result ∷ [] =
-        sym c.as_slice.ensures.value ∙ lone c.as_slice.result.now c.one-item.result (omega (arith, c.in-len1.len_at_least, c.in-len1.len_below)) ∙ ap (λ (p : NewPiece). p ∷ []) (sym c.one-item.is) in
+    sym c.as_slice.ensures.value ∙ lone c.as_slice.result.now c.one-item.result (omega (arith, c.in-len1.len_at_least, c.in-len1.len_below)) ∙ ap (λ (p : NewPiece). p ∷ []) (sym c.one-item.is) in
     let same_last : last ≡ length edits - 1 = ap (λ n. n - 1) counted in
     let alone = subst (λ n. length (new n) ≡ 1) same_last (last_alone tree entries new edits c.index.result.now last are opened at all c.index.ensures c.one-item.result one) in
     let digest_is = subst (λ n. c.one-item.result.node.digest.0 ≡ node_digest (get_or (new n) 0 no_node)) same_last (last_digest tree entries new edits c.index.result.now last are opened at all c.index.ensures c.one-item.result one c.one-item.result.node.own) in
     let back = sym c.as_slice-in-len1.ensures.value in (
       (refl, tt),
       (
-        tree, top, changes, entries, is,
+        tree,
+        top,
+        changes,
+        entries,
+        is,
         subst (λ (es : List LevelEdit). AreEdits (levels Two tree entries) new 0 es) back are,
         subst (λ (es : List LevelEdit). 1 ≤ length es) back some,
         subst (λ (es : List LevelEdit). length es ≤ length (levels Two tree entries)) back high,
@@ -70,11 +74,12 @@ grow-requires g c =
     let edits = c.args.edits.now.items in
     let last = c.len-last.result - 1 in
     let counted : c.len-last.result ≡ length edits = c.len-last.ensures ∙ c.args.edits.now.ok.0 in
-    let at : last + 1 ≡ length edits = omega (arith, counted, some) in
-    (
-      changed_entries entries changes, is.changed_has, omega (arith, c.in_default-as_slice.len_at_least),
+    let at : last + 1 ≡ length edits = omega (arith, counted, some) in (
+      changed_entries entries changes,
+      is.changed_has,
+      omega (arith, c.in_default-as_slice.len_at_least),
       subst (λ (ps : List NewPiece). Each IsNewNode ps (tower Two tree (changed_entries entries changes) last)) (sym c.as_slice.ensures.value)
-      (last_new tree entries (tower Two tree (changed_entries entries changes)) edits c.index.result.now last are opened at (whole c.in_default.is) c.index.ensures),
+          (last_new tree entries (tower Two tree (changed_entries entries changes)) edits c.index.result.now last are opened at (whole c.in_default.is) c.index.ensures),
     )
 
 pub returns-in-Some-clause-found : goal.returns-in-Some-clause-found
@@ -115,22 +120,22 @@ returns-in-len1-clause-found g c = λ top changes entries is are opened some hig
     let at : last + 1 ≡ length edits = omega (arith, counted, some) in
     let all = whole c.in_default.is in
     let one : c.index.result.now.news.items ≡ c.one-item.result ∷ [] =
-        sym c.as_slice.ensures.value ∙ lone c.as_slice.result.now c.one-item.result (omega (arith, c.in-len1.len_at_least, c.in-len1.len_below)) ∙ ap (λ (p : NewPiece). p ∷ []) (sym c.one-item.is) in
+    sym c.as_slice.ensures.value ∙ lone c.as_slice.result.now c.one-item.result (omega (arith, c.in-len1.len_at_least, c.in-len1.len_below)) ∙ ap (λ (p : NewPiece). p ∷ []) (sym c.one-item.is) in
     let same_last : last ≡ length edits - 1 = ap (λ n. n - 1) counted in
     let alone = subst (λ n. length (new n) ≡ 1) same_last (last_alone tree entries new edits c.index.result.now last are opened at all c.index.ensures c.one-item.result one) in
     let digest_is = subst (λ n. c.one-item.result.node.digest.0 ≡ node_digest (get_or (new n) 0 no_node)) same_last (last_digest tree entries new edits c.index.result.now last are opened at all c.index.ensures c.one-item.result one c.one-item.result.node.own) in
     let back = sym c.as_slice-in-len1.ensures.value in
     let settled = c.settle.ensures.settled tree top changes entries is
-        (subst (λ (es : List LevelEdit). AreEdits (levels Two tree entries) new 0 es) back are)
-        (subst (λ (es : List LevelEdit). length es ≤ length (levels Two tree entries)) back high)
-        (subst (λ (es : List LevelEdit). length (new (length es - 1)) ≡ 1) back alone)
-        (subst (λ (es : List LevelEdit). c.one-item.result.node.digest.0 ≡ node_digest (get_or (new (length es - 1)) 0 no_node)) back digest_is) in
+    (subst (λ (es : List LevelEdit). AreEdits (levels Two tree entries) new 0 es) back are)
+    (subst (λ (es : List LevelEdit). length es ≤ length (levels Two tree entries)) back high)
+    (subst (λ (es : List LevelEdit). length (new (length es - 1)) ≡ 1) back alone)
+    (subst (λ (es : List LevelEdit). c.one-item.result.node.digest.0 ≡ node_digest (get_or (new (length es - 1)) 0 no_node)) back digest_is) in
     if_ok
     (λ (found : Top). HasSettled new c.as_slice-in-len1.result.now (digests_of c.args.gone.now.items) (digests_of c.settle.new.gone.items) found.digest.0 found.level)
     (λ (found : Top). IsFound (levels Two tree entries) (levels Two tree after) edits (nodes_of c.args.added.now.items) (nodes_of c.args.added.now.items) (digests_of c.args.gone.now.items) (digests_of c.settle.new.gone.items) found.digest.0 found.level)
     c.settle.result
     (λ found so. found_settled tree entries after is.has is.changed_has is.is_tree edits are some all (nodes_of c.args.added.now.items) (digests_of c.args.gone.now.items) (digests_of c.settle.new.gone.items) found.digest.0 found.level
-        (subst (λ (es : List LevelEdit). HasSettled new es (digests_of c.args.gone.now.items) (digests_of c.settle.new.gone.items) found.digest.0 found.level) c.as_slice-in-len1.ensures.value so))
+    (subst (λ (es : List LevelEdit). HasSettled new es (digests_of c.args.gone.now.items) (digests_of c.settle.new.gone.items) found.digest.0 found.level) c.as_slice-in-len1.ensures.value so))
     settled
 
 pub returns-in-len1-clause-used : goal.returns-in-len1-clause-used
@@ -144,21 +149,21 @@ returns-in-len1-clause-used g c = λ top changes entries is are opened some high
     let at : last + 1 ≡ length edits = omega (arith, counted, some) in
     let all = whole c.in_default.is in
     let one : c.index.result.now.news.items ≡ c.one-item.result ∷ [] =
-        sym c.as_slice.ensures.value ∙ lone c.as_slice.result.now c.one-item.result (omega (arith, c.in-len1.len_at_least, c.in-len1.len_below)) ∙ ap (λ (p : NewPiece). p ∷ []) (sym c.one-item.is) in
+    sym c.as_slice.ensures.value ∙ lone c.as_slice.result.now c.one-item.result (omega (arith, c.in-len1.len_at_least, c.in-len1.len_below)) ∙ ap (λ (p : NewPiece). p ∷ []) (sym c.one-item.is) in
     let same_last : last ≡ length edits - 1 = ap (λ n. n - 1) counted in
     let alone = subst (λ n. length (new n) ≡ 1) same_last (last_alone tree entries new edits c.index.result.now last are opened at all c.index.ensures c.one-item.result one) in
     let digest_is = subst (λ n. c.one-item.result.node.digest.0 ≡ node_digest (get_or (new n) 0 no_node)) same_last (last_digest tree entries new edits c.index.result.now last are opened at all c.index.ensures c.one-item.result one c.one-item.result.node.own) in
     let back = sym c.as_slice-in-len1.ensures.value in
     let settled = c.settle.ensures.settled tree top changes entries is
-        (subst (λ (es : List LevelEdit). AreEdits (levels Two tree entries) new 0 es) back are)
-        (subst (λ (es : List LevelEdit). length es ≤ length (levels Two tree entries)) back high)
-        (subst (λ (es : List LevelEdit). length (new (length es - 1)) ≡ 1) back alone)
-        (subst (λ (es : List LevelEdit). c.one-item.result.node.digest.0 ≡ node_digest (get_or (new (length es - 1)) 0 no_node)) back digest_is) in
+    (subst (λ (es : List LevelEdit). AreEdits (levels Two tree entries) new 0 es) back are)
+    (subst (λ (es : List LevelEdit). length es ≤ length (levels Two tree entries)) back high)
+    (subst (λ (es : List LevelEdit). length (new (length es - 1)) ≡ 1) back alone)
+    (subst (λ (es : List LevelEdit). c.one-item.result.node.digest.0 ≡ node_digest (get_or (new (length es - 1)) 0 no_node)) back digest_is) in
     let reads = c.settle.ensures.used tree top changes entries is
-        (subst (λ (es : List LevelEdit). AreEdits (levels Two tree entries) new 0 es) back are)
-        (subst (λ (es : List LevelEdit). length es ≤ length (levels Two tree entries)) back high)
-        (subst (λ (es : List LevelEdit). length (new (length es - 1)) ≡ 1) back alone)
-        (subst (λ (es : List LevelEdit). c.one-item.result.node.digest.0 ≡ node_digest (get_or (new (length es - 1)) 0 no_node)) back digest_is) in
+    (subst (λ (es : List LevelEdit). AreEdits (levels Two tree entries) new 0 es) back are)
+    (subst (λ (es : List LevelEdit). length es ≤ length (levels Two tree entries)) back high)
+    (subst (λ (es : List LevelEdit). length (new (length es - 1)) ≡ 1) back alone)
+    (subst (λ (es : List LevelEdit). c.one-item.result.node.digest.0 ≡ node_digest (get_or (new (length es - 1)) 0 no_node)) back digest_is) in
     if_ok_both
     (λ (found : Top). HasSettled new c.as_slice-in-len1.result.now (digests_of c.args.gone.now.items) (digests_of c.settle.new.gone.items) found.digest.0 found.level)
     (λ (found : Top). (bytes : List ℕ) → g.S.Shelf.used c.settle.new.shelf bytes → g.S.Shelf.used c.args.shelf.now bytes ⊎ IsReadBy new c.as_slice-in-len1.result.now found.level bytes)

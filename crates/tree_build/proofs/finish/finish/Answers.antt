@@ -19,12 +19,12 @@ returns-clause-rebuilt g c = λ changes entries is edit.
     let edits = c.args.edited.edits.items in
     let same_top : ℕ → Digest → Type 0 = λ (n : ℕ) (d : Digest). (d.0 ≡ c.args.old_top.now.0) × (level_at old n ≡ tower Two tree after n) in
     let gives = c.in_ok-top.ensures.found c.args.old_top.now.0 changes entries is edit.are edit.opened edit.some edit.within
-        (λ none. edit.whole (none_stays c.args.edited.stays c.args.old_top.now c.then_some-old.result c.then_some-old.ensures none))
-        (some_stays (same_top (length edits - 1)) c.args.edited.stays c.args.old_top.now c.then_some-old.result c.then_some-old.ensures (λ stays. (refl, edit.same stays))) in
+    (λ none. edit.whole (none_stays c.args.edited.stays c.args.old_top.now c.then_some-old.result c.then_some-old.ensures none))
+    (some_stays (same_top (length edits - 1)) c.args.edited.stays c.args.old_top.now c.then_some-old.result c.then_some-old.ensures (λ stays. (refl, edit.same stays))) in
     let added_none = subst (λ (ns : List NewNode). IsFound old (levels Two tree after) c.find_top.new.edits.items (nodes_of ns) (nodes_of c.find_top.new.added.items) (digests_of c.new-gone.result.items) (digests_of c.find_top.new.gone.items) c.in_ok-top.top.digest.0 c.in_ok-top.top.level)
-        c.new-added.ensures.items gives in
+    c.new-added.ensures.items gives in
     let found = subst (λ (ds : List Digest). IsFound old (levels Two tree after) c.find_top.new.edits.items [] (nodes_of c.find_top.new.added.items) (digests_of ds) (digests_of c.find_top.new.gone.items) c.in_ok-top.top.digest.0 c.in_ok-top.top.level)
-        c.new-gone.ensures.items added_none in
+    c.new-gone.ensures.items added_none in
     let free : IsClashFree (g.S.Shelf.holds c.find_top.new.shelf) = search (rules, g.met.S.Shelf) in
     let told = c.in_ok-tell_all.ensures old found.levels found.are (λ level lt. (nodes_old tree entries changes is.is_tree is.has is.changed_has level (omega (arith, lt, found.within)), found.nodes level lt)) in
     is_rebuilt (g.S.Shelf.holds c.find_top.new.shelf) c.args.old_top.now.0 changes tree entries is free

@@ -1,4 +1,4 @@
-use Rattle.std.proofs.Common.{◌⊎◌, ℕ, inr, ◌≡◌, ◌+◌, ◌*◌, ◌≤◌, [], List, inl, length, refl, sym, ap, subst, ◌∙◌, arith}
+use Rattle.std.proofs.Common.{◌⊎◌, ℕ, inr, ◌≡◌, ◌+◌, ◌*◌, [], List, inl, length, refl, sym, ap, subst, ◌∙◌, arith}
 use Rattle.tree_node.specs.NodeRefs.{number_of}
 use Rattle.std.proofs.lemmas.List.{length-map}
 use Rattle.tree_node.specs.Nodes.{level_of, spelling, tree_of}
@@ -7,11 +7,10 @@ use Rattle.tree_build.specs.Rebuilding.{AreClashFree, GrownByAtMost, IsOldTree, 
 use Rattle.std.specs.Prelude.{IfOk}
 use Rattle.tree_build.specs.declared.rebuilt.Rebuilt.{Rebuilt}
 use Rattle.tree_build.specs.internal.FoundTops.{IsTopRead}
-use Rattle.tree_build.specs.internal.Towers.{tower}
-use Rattle.tree_build.specs.internal.TreeEdits.{IsTreeEdit}
 use Rattle.tree_build.proofs.BoundLemmas.{grown}
 use Rattle.tree_build.proofs.OldLevels.{own_changes}
-use Rattle.tree_build.proofs.RebuildLemmas.{later_held, no_changes, some_changes, top_says, unchanged}
+use Rattle.tree_build.proofs.RebuildLemmas.{no_changes, some_changes, top_says, unchanged}
+use Rattle.tree_build.proofs.SeekStates.{later_held}
 use Rattle.tree_build.proofs.TopReads.{if_ok_both}
 use Rattle.tree_build.proofs.TreeEdits.{old_then}
 use Rattle.tree_build.proofs.rebuilder.rebuild.Goals as goal
@@ -93,21 +92,21 @@ returns-clause-used g c = λ tree entries after free.
     let new = levels Two (number_of c.tree-tree.result) (changed_entries entries changes) in
     let edit = c.in_ok-edited.ensures.edited entries there high in
     let bounded = if_ok_both
-        (IsRebuilt old new)
-        (λ (rebuilt : Rebuilt). (bytes : List ℕ) → After bytes → g.S.Shelf.used c.change_levels.new.shelf bytes ⊎ IsTopRead old new bytes)
-        (λ (rebuilt : Rebuilt). GrownByAtMost (length rebuilt.gone.items + length c.args.changes.now * length old) Before After)
-        c.finish.result
-        (λ rebuilt told reads. grown (number_of c.tree-tree.result) entries changes end.is_tree end.has end.changed_has no_clash (own_changes c.args.changes.now end.rising)
-            (omega (arith, some_changes c.args.changes.now c.if-is_empty.ensures, length-map c.args.changes.now change_of)) rebuilt told
-            c.in_ok-edited.edited.edits.items edit.within (c.in_ok-edited.ensures.reasons entries there high) Before After
-            (λ bytes h. elim (reads bytes h) [
-              | inr down ↦ inr (inr (inr down))
-              | inl later ↦ elim (c.in_ok-edited.ensures.used entries there high bytes later) [
-                | inr read ↦ inr (inr (inl read))
-                | inl first ↦ elim (c.open.ensures.used says.node held bytes first) [ inl before ↦ inl before | inr top ↦ inr (inl (top ∙ top_is)) ]
-              ]
-            ])
-            (length c.args.changes.now) (length-map c.args.changes.now change_of))
-        (c.finish.ensures.rebuilt changes entries end edit)
-        (c.finish.ensures.used changes entries end edit) in
+    (IsRebuilt old new)
+    (λ (rebuilt : Rebuilt). (bytes : List ℕ) → After bytes → g.S.Shelf.used c.change_levels.new.shelf bytes ⊎ IsTopRead old new bytes)
+    (λ (rebuilt : Rebuilt). GrownByAtMost (length rebuilt.gone.items + length c.args.changes.now * length old) Before After)
+    c.finish.result
+    (λ rebuilt told reads. grown (number_of c.tree-tree.result) entries changes end.is_tree end.has end.changed_has no_clash (own_changes c.args.changes.now end.rising)
+    (omega (arith, some_changes c.args.changes.now c.if-is_empty.ensures, length-map c.args.changes.now change_of)) rebuilt told
+    c.in_ok-edited.edited.edits.items edit.within (c.in_ok-edited.ensures.reasons entries there high) Before After
+    (λ bytes h. elim (reads bytes h) [
+      | inr down ↦ inr (inr (inr down))
+      | inl later ↦ elim (c.in_ok-edited.ensures.used entries there high bytes later) [
+        | inr read ↦ inr (inr (inl read))
+        | inl first ↦ elim (c.open.ensures.used says.node held bytes first) [ inl before ↦ inl before | inr top ↦ inr (inl (top ∙ top_is)) ]
+      ]
+    ])
+    (length c.args.changes.now) (length-map c.args.changes.now change_of))
+    (c.finish.ensures.rebuilt changes entries end edit)
+    (c.finish.ensures.used changes entries end edit) in
     subst (λ t. IfOk c.finish.result (λ (rebuilt : Rebuilt). GrownByAtMost (length rebuilt.gone.items + length c.args.changes.now * length (levels Two t entries)) Before After)) number bounded

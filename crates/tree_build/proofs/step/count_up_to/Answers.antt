@@ -3,7 +3,8 @@ use Rattle.std.specs.List.{AllByRecursion}
 use Rattle.std.proofs.Math.Seq.{take-suc}
 use Rattle.tree_build.specs.declared.level_item.ItemChange.{ItemChange}
 use Rattle.tree_build.specs.internal.RisingChanges.{IsUpTo}
-use Rattle.tree_build.proofs.SeekLemmas.{all_front, not_reached}
+use Rattle.tree_build.proofs.ChangeLemmas.{all_append}
+use Rattle.tree_build.proofs.SeekLemmas.{not_reached}
 use Rattle.tree_build.proofs.step.count_up_to.Goals as goal
 
 pub loop-change-preserved : goal.loop-change-preserved
@@ -19,5 +20,5 @@ loop-change-preserved g c =
     let here : P c.change-item.result = not_reached c.args.key.now true c.change-item.result.key.now c.is_below.result c.is_below.ensures c.if-is_below.false in
     record {
       count = omega arith;
-      up_to = subst (λ (cs : List C). AllByRecursion P cs) (sym next) (all_front P (take at c.args.changes.now) (c.change-item.result ∷ []) c.loop-change.invariant.up_to (here, tt));
+      up_to = subst (λ (cs : List C). AllByRecursion P cs) (sym next) (all_append P (take at c.args.changes.now) (c.change-item.result ∷ []) c.loop-change.invariant.up_to (here, tt));
     }

@@ -21,7 +21,7 @@ fn shown(alloc: Global, digest: &Digest) -> Result<String, AllocError> {
 }
 
 /// Whether the entries have a tree.
-fn has_tree(entries: &[Entry<'_>]) -> bool
+pub(super) fn has_tree(entries: &[Entry<'_>]) -> bool
     ensures { IsTrue result → HasTree (bindings_of entries.now) }
 {
     let mut last: Option<&[u8]> = None;
@@ -38,7 +38,7 @@ fn has_tree(entries: &[Entry<'_>]) -> bool
 }
 
 /// The tree of these entries, which have one.
-fn built(
+pub(super) fn built(
     alloc: Global,
     entries: &[Entry<'_>],
     tree: Tree,
@@ -67,7 +67,11 @@ fn has_top(
 }
 
 /// The entries whose keys are these bytes, cut into keys of this many, without values.
-fn keys_alone(alloc: Global, keys: &[u8], len: usize) -> Result<Vec<Entry<'_>>, AllocError>
+pub(super) fn keys_alone(
+    alloc: Global,
+    keys: &[u8],
+    len: usize,
+) -> Result<Vec<Entry<'_>>, AllocError>
     requires { 0 < len }
 {
     let mut entries = Vec::new(alloc);

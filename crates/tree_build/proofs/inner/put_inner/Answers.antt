@@ -1,6 +1,0 @@
-use Rattle.std.proofs.Common.{arith}
-use Rattle.tree_build.proofs.FitLemmas.{greatest_fits}
-use Rattle.tree_build.proofs.inner.put_inner.Goals as goal
-
-pub write_inner-requires-clause-fit : goal.write_inner-requires-clause-fit
-write_inner-requires-clause-fit c = λ k d lt. let fit = greatest_fits c.args.children.now c.requires.within k d lt in omega arith

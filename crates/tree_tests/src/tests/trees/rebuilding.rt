@@ -1,0 +1,444 @@
+//! Rebuilt trees beside those that are built from nothing, of lists and changes made by chance.
+
+ghost use Rattle.std.specs.List.{AllByRecursion};
+ghost use Rattle.std.specs.Prelude.{None, IfSome, IsTrue};
+ghost use Rattle.tree_build.specs.Rebuilding.{HoldsOldTree, change_of, changed_entries, changes_of, keys_of_changes};
+ghost use Rattle.tree_node.specs.NodeRefs.{bindings_of};
+ghost use Rattle.tree_node.specs.Nodes.{AreRisingFrom};
+ghost use Rattle.tree_node.specs.Recorders.{RecorderHolds};
+ghost use Rattle.tree_node.specs.Trees.{FitsTree, HasTree};
+
+use super::building::{built, has_tree, keys_alone};
+use std::alloc::{AllocError, Global};
+use std::collections::BTreeSet;
+use std::process::Abort;
+use std::test::Fail;
+use tree_build::{Entry, EntryChange, Rebuilt, Shape, build, rebuild};
+use tree_node::{
+    Digest, ENTRY_LIMIT, KEY_LIMIT, NodeRef, Recorder, Shelf, Stock, Tree, VALUE_LIMIT, digest_of,
+    is_above,
+};
+
+/// Numbers by chance, the same in each run.
+#[derive(Drop)]
+struct Chance {
+    state: u64,
+}
+
+impl Chance {
+    /// A number below this one.
+    fn below(&mut self, limit: usize) -> usize {
+        self.state ^= self.state.wrapping_shl(13);
+        self.state ^= self.state.wrapping_shr(7);
+        self.state ^= self.state.wrapping_shl(17);
+        if limit == 0 {
+            return 0;
+        }
+        (self.state.wrapping_shr(8) % (limit as u64)) as usize
+    }
+
+    /// A value, one of three.
+    fn value(&mut self) -> &'static [u8] {
+        match self.below(3) {
+            0 => b"a",
+            1 => b"b",
+            _ => b"",
+        }
+    }
+}
+
+/// Keys of four bytes, in order; the marked ones alone, so that a leaf has two entries, or all.
+fn keys(alloc: Global, count: usize, marked: bool) -> Result<Vec<[u8; 4]>, AllocError> {
+    let mut keys = Vec::new(alloc);
+    for number in 0..u32::MAX {
+        if keys.len() >= count {
+            break;
+        }
+        let key = number.to_be_bytes();
+        if !marked || digest_of(&key).0[0] < 8 {
+            keys.push(key)?;
+        }
+    }
+    Ok(keys)
+}
+
+/// What stands under each of the keys, and what is put or taken away.
+#[derive(Drop)]
+struct Case {
+    old: Vec<Option<&'static [u8]>>,
+    changes: Vec<Option<Option<&'static [u8]>>>,
+}
+
+/// The old list: about as many of the keys as wanted.
+fn old_list(
+    alloc: Global,
+    chance: &mut Chance,
+    count: usize,
+    wanted: usize,
+) -> Result<Vec<Option<&'static [u8]>>, AllocError> {
+    let mut old = Vec::new(alloc);
+    for _ in 0..count {
+        old.push(if chance.below(count) < wanted {
+            Some(chance.value())
+        } else {
+            None
+        })?;
+    }
+    Ok(old)
+}
+
+/// Changes of the keys of a run, or of those outside, each with this chance in ten thousand; of those the
+/// share that is taken away.
+fn chance_changes(
+    alloc: Global,
+    chance: &mut Chance,
+    count: usize,
+    outside: bool,
+    share: usize,
+    taken: usize,
+) -> Result<Vec<Option<Option<&'static [u8]>>>, AllocError> {
+    let low = chance.below(count.saturating_add(1));
+    let rest = count.saturating_sub(low).saturating_add(1);
+    let high = low.saturating_add(chance.below(rest));
+    let mut changes = Vec::new(alloc);
+    for place in 0..count {
+        let inside = place >= low && place <= high;
+        let hit = inside != outside && chance.below(10_000) < share;
+        let none = chance.below(100) < taken;
+        changes.push(match (hit, none) {
+            (false, _) => None,
+            (true, true) => Some(None),
+            (true, false) => Some(Some(chance.value())),
+        })?;
+    }
+    Ok(changes)
+}
+
+/// The lists of a case: the old one, the changes, and the new one.
+#[derive(Drop)]
+struct Lists<'a> {
+    old: Vec<Entry<'a>>,
+    changes: Vec<EntryChange>,
+    new: Vec<Entry<'a>>,
+}
+
+/// The lists of this case over these keys.
+fn lists_of<'a>(alloc: Global, keys: &'a [[u8; 4]], case: &Case) -> Result<Lists<'a>, AllocError> {
+    let mut old = Vec::new(alloc);
+    let mut changes = Vec::new(alloc);
+    let mut new = Vec::new(alloc);
+    for (key, (was, change)) in keys.iter().zip(case.old.iter().zip(&case.changes)) {
+        if let Some(value) = was {
+            old.push(Entry { key, value })?;
+        }
+        let is = match change {
+            Some(put) => *put,
+            None => *was,
+        };
+        if let Some(value) = is {
+            new.push(Entry { key, value })?;
+        }
+        if let Some(put) = change {
+            changes.push(EntryChange {
+                key: key.to_vec(alloc)?,
+                value: match put {
+                    Some(value) => Some(value.to_vec(alloc)?),
+                    None => None,
+                },
+            })?;
+        }
+    }
+    Ok(Lists { old, changes, new })
+}
+
+/// Whether what the change puts is within the limits.
+fn fits(change: &EntryChange) -> bool
+    ensures { IsTrue result → IfSome (change_of change.now).put FitsTree }
+{
+    match &change.value {
+        Some(value) => change.key.len() <= KEY_LIMIT && value.len() <= VALUE_LIMIT,
+        None => true,
+    }
+}
+
+/// Whether the keys of the changes rise and what they put is within the limits.
+fn are_changes(changes: &[EntryChange]) -> bool
+    ensures rising { IsTrue result → AreRisingFrom None (keys_of_changes (changes_of changes.now)) }
+    ensures fit { IsTrue result → AllByRecursion (λ change. IfSome change.put FitsTree) (changes_of changes.now) }
+{
+    let mut last: Option<&[u8]> = None;
+    for change in changes {
+        let key = change.key.as_slice();
+        if !fits(change) || !is_above(last, key) {
+            return false;
+        }
+        last = Some(key);
+    }
+    true
+}
+
+/// Whether the tree of the entries can be changed so.
+fn can_change(entries: &[Entry<'_>], changes: &[EntryChange]) -> bool
+    ensures old { IsTrue result → HasTree (bindings_of entries.now) }
+    ensures rising { IsTrue result → AreRisingFrom None (keys_of_changes (changes_of changes.now)) }
+    ensures new { IsTrue result → HasTree (changed_entries (bindings_of entries.now) (changes_of changes.now)) }
+{
+    if !has_tree(entries) || !are_changes(changes) {
+        return false;
+    }
+    entries.len().saturating_add(changes.len()) <= ENTRY_LIMIT
+}
+
+/// Changes a tree. Where memory is refused it tries again.
+fn rebuilt_at_last(
+    alloc: Global,
+    shelf: &mut Recorder<'_>,
+    top: &Digest,
+    changes: &[EntryChange],
+) -> Result<Rebuilt, AllocError>
+    requires { HoldsOldTree (RecorderHolds shelf.old) top.now.0 (changes_of changes.now) }
+{
+    match rebuild(alloc, shelf, top, changes) {
+        Ok(rebuilt) => Ok(rebuilt),
+        Err(_) => rebuild(alloc, shelf, top, changes),
+    }
+}
+
+/// How a tree was changed.
+#[derive(Drop)]
+struct Change {
+    old_top: Digest,
+    rebuilt: Rebuilt,
+    /// How many nodes were used.
+    used: usize,
+}
+
+/// Builds the tree of these entries in the stock, and changes it.
+fn changed(
+    alloc: Global,
+    entries: &[Entry<'_>],
+    changes: &[EntryChange],
+    stock: &mut Stock,
+) -> Result<Change, Fail> {
+    can_change(entries, changes)
+        .then_some(())
+        .ok_or("the tree can't be changed so")?;
+    let old_top = build(alloc, entries, Tree::Cells, Shape::Two, stock)?;
+    let mut shelf = stock.shelf(alloc);
+    let rebuilt = rebuilt_at_last(alloc, &mut shelf, &old_top, changes)?;
+    let used = shelf.parts()?.len();
+    Ok(Change {
+        old_top,
+        rebuilt,
+        used,
+    })
+}
+
+/// The nodes of a tree.
+#[derive(Drop)]
+struct Nodes {
+    digests: BTreeSet<Digest>,
+    levels: usize,
+}
+
+/// The nodes of the tree with this top.
+fn nodes_of(alloc: Global, stock: &Stock, top: &Digest) -> Result<Nodes, Fail> {
+    let mut shelf = stock.shelf(alloc);
+    let mut digests = BTreeSet::new(alloc);
+    let mut open = vec![in alloc; *top]?;
+    let mut highest = 0;
+    for _ in 0..u64::MAX {
+        let Some(digest) = open.pop() else {
+            break;
+        };
+        let node = NodeRef::read(shelf.fetch(&digest)?)?;
+        if let NodeRef::Inner {
+            level,
+            children,
+            ..
+        } = node
+        {
+            highest = level.max(highest);
+            for child in children {
+                open.push(child.digest)?;
+            }
+        }
+        digests.insert(digest)?;
+    }
+    let levels = usize::from(highest).saturating_add(1);
+    Ok(Nodes { digests, levels })
+}
+
+/// What was rebuilt is what the two trees differ by.
+fn is_difference(
+    rt: &impl Abort,
+    alloc: Global,
+    rebuilt: &Rebuilt,
+    old: &BTreeSet<Digest>,
+    new: &BTreeSet<Digest>,
+) -> Result<(), Fail> {
+    let mut added = BTreeSet::new(alloc);
+    for node in &rebuilt.added {
+        assert_eq!(rt; node.digest, digest_of(node.bytes.as_slice()));
+        assert!(rt; added.insert(node.digest)?, "added twice");
+        assert!(rt;
+            new.contains(&node.digest),
+            "added what isn't in the new tree"
+        );
+        assert!(rt;
+            !old.contains(&node.digest),
+            "added what is in the old tree"
+        );
+    }
+    let mut gone = BTreeSet::new(alloc);
+    for digest in &rebuilt.gone {
+        assert!(rt; gone.insert(*digest)?, "gone twice");
+        assert!(rt; old.contains(digest), "gone what isn't in the old tree");
+        assert!(rt; !new.contains(digest), "gone what is in the new tree");
+    }
+    for digest in new {
+        assert!(rt; old.contains(digest) || added.contains(digest), "not added");
+    }
+    for digest in old {
+        assert!(rt; new.contains(digest) || gone.contains(digest), "not gone");
+    }
+    Ok(())
+}
+
+/// Which kinds of cases there were.
+#[derive(Clone, Copy)]
+struct Seen {
+    grown: bool,
+    lowered: bool,
+    emptied: bool,
+    unchanged: bool,
+}
+
+/// One case: the tree that is rebuilt is the one that is built, and few nodes were used.
+fn one_case(
+    rt: &impl Abort,
+    alloc: Global,
+    keys: &[[u8; 4]],
+    case: &Case,
+    seen: Seen,
+) -> Result<Seen, Fail> {
+    let lists = lists_of(alloc, keys, case)?;
+    let changes = lists.changes.as_slice();
+    let mut stock = Stock::new(alloc);
+    let change = changed(alloc, lists.old.as_slice(), changes, &mut stock)?;
+    let mut new_stock = Stock::new(alloc);
+    let new = lists.new.as_slice();
+    let new_top = built(alloc, new, Tree::Cells, Shape::Two, &mut new_stock)?;
+    assert_eq!(rt; change.rebuilt.top, new_top);
+    let old_nodes = nodes_of(alloc, &stock, &change.old_top)?;
+    let new_nodes = nodes_of(alloc, &new_stock, &new_top)?;
+    is_difference(
+        rt,
+        alloc,
+        &change.rebuilt,
+        &old_nodes.digests,
+        &new_nodes.digests,
+    )?;
+    let ways = changes.len().saturating_mul(old_nodes.levels);
+    assert!(rt;
+        change.used <= change.rebuilt.gone.len().saturating_add(ways),
+        "too many nodes used"
+    );
+    Ok(Seen {
+        grown: seen.grown || new_nodes.levels > old_nodes.levels,
+        lowered: seen.lowered || new_nodes.levels < old_nodes.levels,
+        emptied: seen.emptied || new.is_empty(),
+        unchanged: seen.unchanged || new_top == change.old_top,
+    })
+}
+
+/// A case by chance over this many keys.
+fn chance_case(alloc: Global, chance: &mut Chance, count: usize) -> Result<Case, AllocError> {
+    let wanted = match chance.below(4) {
+        0 => chance.below(4),
+        1 => count,
+        _ => chance.below(count.saturating_add(1)),
+    };
+    let old = old_list(alloc, chance, count, wanted)?;
+    let share = match chance.below(5) {
+        0 => 10_000,
+        1 => 10,
+        2 => 100,
+        3 => 3,
+        _ => 3000,
+    };
+    let taken = match chance.below(4) {
+        0 => 0,
+        1 => 50,
+        _ => 100,
+    };
+    let outside = chance.below(2) == 1;
+    let changes = chance_changes(alloc, chance, count, outside, share, taken)?;
+    Ok(Case { old, changes })
+}
+
+/// Cases by chance over this many keys.
+fn cases(
+    rt: &impl Abort,
+    alloc: Global,
+    count: usize,
+    marked: bool,
+    rounds: usize,
+) -> Result<Seen, Fail> {
+    let keys = keys(alloc, count, marked)?;
+    let mut chance = Chance {
+        state: (count as u64).saturating_add(1),
+    };
+    let mut seen = Seen {
+        grown: false,
+        lowered: false,
+        emptied: false,
+        unchanged: false,
+    };
+    for _ in 0..rounds {
+        let case = chance_case(alloc, &mut chance, count)?;
+        seen = one_case(rt, alloc, keys.as_slice(), &case, seen)?;
+    }
+    Ok(seen)
+}
+
+#[test]
+fn rebuilds_small_trees(rt: HostRuntime) -> Result<(), Fail> {
+    for count in [3, 7, 20] {
+        let seen = cases(&rt, rt.alloc(), count, true, 300)?;
+        assert!(rt;
+            seen.grown && seen.lowered && seen.emptied && seen.unchanged,
+            "a kind of case is missing"
+        );
+    }
+    Ok(())
+}
+
+#[test]
+fn rebuilds_trees(rt: HostRuntime) -> Result<(), Fail> {
+    for (count, marked, rounds) in [(150, true, 60), (500, false, 20), (2000, true, 4)] {
+        cases(&rt, rt.alloc(), count, marked, rounds)?;
+    }
+    Ok(())
+}
+
+/// Where memory is refused, the next call, with ample memory, gives the full result. Run with each
+/// allocation refused in turn.
+#[test]
+fn rebuilds_after_refused_memory(rt: HostRuntime) -> Result<(), Fail> {
+    let alloc = rt.alloc();
+    // The second of these keys is marked, so there are two leaves; without the third the first is alone.
+    let entries = keys_alone(alloc, b"\x09\x0a\x0b", 1)?;
+    let change = EntryChange {
+        key: vec![in alloc; 0x0b]?,
+        value: None,
+    };
+    let mut stock = Stock::new(alloc);
+    let changes = vec![in alloc; change]?;
+    let change = changed(alloc, entries.as_slice(), changes.as_slice(), &mut stock)?;
+    assert_eq!(rt; change.rebuilt.added.len(), 0);
+    assert_eq!(rt; change.rebuilt.gone.len(), 2);
+    // The old top, the leaf that goes, and the new top.
+    assert_eq!(rt; change.used, 3);
+    Ok(())
+}
