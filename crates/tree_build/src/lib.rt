@@ -1,8 +1,9 @@
 //! Trees of sorted lists of entries, built for a publisher.
 //!
 //! [`build`] makes of a list the nodes of its tree and puts them into a stock; the digest that it gives
-//! stands for the whole list. The crate's laws say what a tree is good for: it is that of one list
-//! alone, it is shallow, and each of its nodes reads back.
+//! stands for the whole list. [`rebuild`] tells how the tree of a changed list differs from that of the
+//! old one, and reads few of its nodes. The crate's laws say what a tree is good for: it is that of one
+//! list alone, it is shallow, and each of its nodes reads back.
 #![tactic(auto)]
 
 mod builder;

@@ -102,7 +102,8 @@ pub(crate) fn step_leaves<'a: 'c, 'c, S: Shelf<'a>>(
     Ok(finish(work))
 }
 
-/// Changes a level above the leaves, in the same way.
+/// Changes a level above the leaves, in the same way. The borrow checker doesn't cover a function with a
+/// bound on a shelf and another on items, so there are two.
 pub(crate) fn step_inner<'a: 'c, 'c, S: Shelf<'a>>(
     alloc: Global,
     shelf: &mut S,

@@ -118,12 +118,9 @@ fn lines_are_read(rt: HostRuntime) -> Result<(), Fail> {
         let (name, rest) = row.split_once(": ").ok_or("a mode was expected")?;
         let (line, wanted) = rest.split_once(" => ").ok_or("two texts were expected")?;
         let mode = mode_of(name).ok_or("a mode was expected")?;
-        let text = text_in(rt.alloc(), line.as_bytes(), mode)?;
-        assert_eq!(rt;
-            text.strip_suffix(b"\n"),
-            Some(wanted.as_bytes()),
-            "at {line}"
-        );
+        let mut text = text_in(rt.alloc(), line.as_bytes(), mode)?;
+        assert_eq!(rt; text.pop(), Some(b'\n'), "at {line}");
+        assert_eq!(rt; text.as_slice(), wanted.as_bytes(), "at {line}");
     }
     Ok(())
 }
