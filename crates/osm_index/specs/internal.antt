@@ -4,3 +4,5 @@ pub mod Putting
 pub mod Cells
 pub mod Fronts
 pub mod FrontedEntries
+pub mod Applying
+pub mod EntryChanges
