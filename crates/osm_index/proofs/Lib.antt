@@ -8,3 +8,5 @@ pub mod FitLemmas
 pub mod PutLemmas
 pub mod CellLemmas
 pub mod FrontLemmas
+pub mod NameLemmas
+pub mod PutNames

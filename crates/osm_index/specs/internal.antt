@@ -6,3 +6,4 @@ pub mod Fronts
 pub mod FrontedEntries
 pub mod Applying
 pub mod EntryChanges
+pub mod NodeChanges

@@ -1,10 +1,11 @@
 //! How the entries of a tree change.
 
-ghost use Rattle.std.specs.Prelude.{◌≡◌, IfOk, None, OnOk};
-ghost use Rattle.tree_build.specs.Rebuilding.{changed_entries, changes_of};
-ghost use Rattle.tree_node.specs.NodeRefs.{bindings_of};
+ghost use Rattle.std.specs.Prelude.{◌≡◌, ◌++◌, IfOk, None, OnOk, map};
+ghost use Rattle.std.specs.Option.{option_map};
+ghost use Rattle.tree_build.specs.Rebuilding.{change_of, changes_of};
+ghost use Rattle.tree_node.specs.NodeRefs.{binding_of, bindings_of};
 ghost use Rattle.tree_node.specs.Nodes.{AreRisingFrom, keys_of};
-ghost use Rattle.osm_index.specs.internal.EntryChanges.{TurnEntries};
+ghost use Rattle.osm_index.specs.internal.EntryChanges.{TurnEntries, change_between, parts_at_key, put_of};
 
 use std::alloc::{AllocError, Global};
 use tree_build::{Entry, EntryChange};
@@ -12,10 +13,10 @@ use tree_node::is_below;
 
 /// The changes that turn the old entries into the new ones, by rising key; an entry that stays is none. The
 /// keys of both lists rise. Linear in both.
-pub(crate) fn entry_changes(
+pub(crate) fn entry_changes<'a>(
     alloc: Global,
     old: &[Entry<'_>],
-    new: &[Entry<'_>],
+    new: &[Entry<'a>],
 ) -> Result<Vec<EntryChange>, AllocError>
     requires old { AreRisingFrom None (keys_of (bindings_of old.now)) }
     requires new { AreRisingFrom None (keys_of (bindings_of new.now)) }
@@ -24,45 +25,58 @@ pub(crate) fn entry_changes(
     let mut changes = Vec::new(alloc);
     let mut rest = new;
     for entry in old {
-        let (below, after) = split_below(rest, entry.key);
+        let (below, same, above) = split_at_key(rest, entry.key);
         put_all(alloc, below, &mut changes)?;
-        rest = replace(alloc, entry, after, &mut changes)?;
+        change_entry(alloc, entry, same, &mut changes)?;
+        rest = above;
     }
     put_all(alloc, rest, &mut changes)?;
     Ok(changes)
 }
 
-/// The entries below a key, and the others.
-fn split_below<'a, 'e>(entries: &'e [Entry<'a>], key: &[u8]) -> (&'e [Entry<'a>], &'e [Entry<'a>]) {
+/// The entries below a key, the one with the key, and those above it, where the keys rise.
+fn split_at_key<'a, 'e>(
+    entries: &'e [Entry<'a>],
+    key: &[u8],
+) -> (&'e [Entry<'a>], Option<Entry<'a>>, &'e [Entry<'a>])
+    ensures { (bindings_of result.0.now, (option_map binding_of result.1, bindings_of result.2.now))
+        ≡ parts_at_key key.now (bindings_of entries.now) }
+{
     let mut at = 0;
     for entry in entries {
         if !is_below(entry.key, key) {
-            break;
+            if is_below(key, entry.key) {
+                return (&entries[..at], None, &entries[at..]);
+            }
+            return (&entries[..at], Some(*entry), &entries[at + 1..]);
         }
         at += 1;
     }
-    entries.split_at(at)
+    (entries, None, &[])
 }
 
-/// Changes an old entry into the first of the new ones, where that has its key, or else takes it away. Gives the new
-/// entries that are left.
-fn replace<'a, 'e>(
+/// Changes an old entry into the new one with its key, or takes it away where there is none.
+fn change_entry(
     alloc: Global,
     old: &Entry<'_>,
-    new: &'e [Entry<'a>],
+    new: Option<Entry<'_>>,
     changes: &mut Vec<EntryChange>,
-) -> Result<&'e [Entry<'a>], AllocError> {
-    if let Some((first, rest)) = new.split_first()
-        && first.key == old.key
-    {
-        if first.value != old.value {
-            changes.push(put(alloc, first)?)?;
+) -> Result<(), AllocError>
+    ensures { OnOk result (changes_of changes.new.items
+        ≡ changes_of changes.old.items ++ change_between (binding_of old.now) (option_map binding_of new.entry)) }
+{
+    match new {
+        Some(new) => {
+            if new.value != old.value {
+                changes.push(put(alloc, &new)?)?;
+            }
         }
-        return Ok(rest);
+        None => {
+            let key = Vec::from_slice(alloc, old.key)?;
+            changes.push(EntryChange { key, value: None })?;
+        }
     }
-    let key = Vec::from_slice(alloc, old.key)?;
-    changes.push(EntryChange { key, value: None })?;
-    Ok(new)
+    Ok(())
 }
 
 /// Puts all of these entries.
@@ -70,7 +84,10 @@ fn put_all(
     alloc: Global,
     entries: &[Entry<'_>],
     changes: &mut Vec<EntryChange>,
-) -> Result<(), AllocError> {
+) -> Result<(), AllocError>
+    ensures { OnOk result (changes_of changes.new.items
+        ≡ changes_of changes.old.items ++ map put_of (bindings_of entries.now)) }
+{
     for entry in entries {
         changes.push(put(alloc, entry)?)?;
     }
@@ -78,7 +95,9 @@ fn put_all(
 }
 
 /// The change that puts an entry.
-fn put(alloc: Global, entry: &Entry<'_>) -> Result<EntryChange, AllocError> {
+fn put(alloc: Global, entry: &Entry<'_>) -> Result<EntryChange, AllocError>
+    ensures { IfOk result (λ change. change_of change ≡ put_of (binding_of entry.now)) }
+{
     Ok(EntryChange {
         key: Vec::from_slice(alloc, entry.key)?,
         value: Some(Vec::from_slice(alloc, entry.value)?),

@@ -120,7 +120,7 @@ impl Snapshot {
         ensures too_many { result ≡ Err ApplyFault.TooMany → AreApplicable self.old.set self.old.edition changes.now
             × ((set : List Element) × IsApplied self.old.set changes.now set × HasTooMany set) }
         ensures clash { result ≡ Err ApplyFault.Clash → AreApplicable self.old.set self.old.edition changes.now
-            × ((set : List Element) (p q : Publication) × IsApplied self.old.set changes.now set
+            × ((set : List Element) × (p q : Publication) × IsApplied self.old.set changes.now set
             × HoldsPublication self.old p × IsPublicationOf set (edition_after self.old.edition) q
             × Clash (IsNodeOfEither p q) (IsNodeOfEither p q)) }
     {

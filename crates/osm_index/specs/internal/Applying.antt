@@ -1,21 +1,14 @@
 -- How changes are looked at, and how trees change.
 -- Source: this project.
 use Rattle.std.specs.List.{Contains}
-use Rattle.std.specs.List.Sorted.{IsStrictlySortedBy}
-use Rattle.std.specs.Prelude.{◌↔◌, List, ⊤}
+use Rattle.std.specs.Prelude.{◌↔◌, List, Option, Some, None, ⊤}
 use Rattle.opl_codec.specs.declared.change.Change.{Change}
 use Rattle.opl_codec.specs.declared.change.Change.TheVariants as changes
-use Rattle.osm_model.specs.Elements.{Element, ref_cmp}
+use Rattle.osm_model.specs.Elements.{Element}
 use Rattle.osm_model.specs.Sets.{IsObjectSet}
-use Rattle.osm_model.specs.declared.reference.Ref.{Ref}
-use Rattle.osm_index.specs.Applying.{IsFirstMissing, IsFirstTwice, names_of}
+use Rattle.osm_index.specs.Applying.{IsFirstMissing, IsFirstTwice}
 use Rattle.osm_index.specs.declared.apply_fault.ApplyFault.{ApplyFault}
 use Rattle.osm_index.specs.declared.apply_fault.ApplyFault.TheVariants as faults
-
--- the names are those of the changes, by rising reference
-pub record HasNames (names : List Ref) (all : List Change) : Type 0 where
-  pub rising : IsStrictlySortedBy ref_cmp names
-  pub members : (r : Ref) → Contains names r ↔ Contains (names_of all) r
 
 -- a refusal of the names of changes
 abbrev pub RefusesNames : List Change → ApplyFault → Type 0
@@ -34,6 +27,11 @@ RefusesDeletes objects all (faults.NotThere r) = IsFirstMissing objects all r
 RefusesDeletes objects all faults.TooMany = ⊥
 RefusesDeletes objects all faults.Clash = ⊥
 RefusesDeletes objects all faults.Memory = ⊥
+
+-- the object that a change puts
+abbrev pub put_in : Change → Option Element
+put_in (changes.Put o) = Some o
+put_in (changes.Delete r) = None
 
 -- these are the objects that are put, as a set
 pub record ArePut (all : List Change) (puts : List Element) : Type 0 where

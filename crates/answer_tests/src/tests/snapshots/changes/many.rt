@@ -1,6 +1,8 @@
 //! Each single change of a set of many nodes.
 
-use super::{changes_as_built, changes_of, is_built, second};
+use super::{changes_of, is_built, second};
+use crate::tests::snapshot_of;
+use opl_codec::Change;
 use osm_index::Delta;
 use std::alloc::Global;
 use std::test::Fail;
@@ -26,25 +28,60 @@ fn nodes(alloc: Global, more: u64, without: u64) -> Result<String, Fail> {
     Ok(text)
 }
 
-/// Whether the change of one node of 200 makes what is built.
-fn is_changed(alloc: Global, id: u64) -> Result<bool, Fail> {
-    let set = nodes(alloc, 0, 0)?;
-    if id % 2 == 0 {
-        let change = format!(in alloc; "n{id} dD\n")?;
-        let changed = nodes(alloc, 0, id)?;
-        return changes_as_built(alloc, set.as_str(), change.as_str(), changed.as_str());
+/// The change of the node with this id: it is deleted where it is among the 200, and put where it isn't.
+fn change(alloc: Global, id: u64, is_there: bool) -> Result<Vec<Change>, Fail> {
+    let mut text = String::new(alloc);
+    if is_there {
+        let line = format!(in alloc; "n{id} dD\n")?;
+        text.push_str(line.as_str())?;
+    } else {
+        append_node(alloc, id, &mut text)?;
     }
-    let mut change = String::new(alloc);
-    append_node(alloc, id, &mut change)?;
-    let changed = nodes(alloc, id, 0)?;
-    changes_as_built(alloc, set.as_str(), change.as_str(), changed.as_str())
+    changes_of(alloc, text.as_str())
+}
+
+/// Changes each node with one of these ids, looks at the root, and changes it back.
+fn change_each(alloc: Global, first: u64, last: u64) -> Result<bool, Fail> {
+    let set = nodes(alloc, 0, 0)?;
+    let mut snapshot = second(alloc, set.as_str(), 0)?;
+    for id in first..last {
+        let is_there = id % 2 == 0;
+        let Delta { added: _, gone: _ } = snapshot.apply(alloc, &change(alloc, id, is_there)?)?;
+        let changed = if is_there {
+            nodes(alloc, 0, id)?
+        } else {
+            nodes(alloc, id, 0)?
+        };
+        let built = snapshot_of(alloc, changed.as_str(), snapshot.edition())?;
+        if snapshot.root() != built.root() {
+            return Ok(false);
+        }
+        let Delta { added: _, gone: _ } = snapshot.apply(alloc, &change(alloc, id, !is_there)?)?;
+    }
+    is_built(alloc, &snapshot, set.as_str(), (last - first) * 2)
 }
 
 #[test]
-fn each_single_change_of_200_nodes(rt: HostRuntime) -> Result<(), Fail> {
-    for id in 1..401 {
-        assert!(rt; is_changed(rt.alloc(), id)?);
-    }
+fn each_of_the_first_nodes_changes(rt: HostRuntime) -> Result<(), Fail> {
+    assert!(rt; change_each(rt.alloc(), 1, 101)?);
+    Ok(())
+}
+
+#[test]
+fn each_of_the_second_nodes_changes(rt: HostRuntime) -> Result<(), Fail> {
+    assert!(rt; change_each(rt.alloc(), 101, 201)?);
+    Ok(())
+}
+
+#[test]
+fn each_of_the_third_nodes_changes(rt: HostRuntime) -> Result<(), Fail> {
+    assert!(rt; change_each(rt.alloc(), 201, 301)?);
+    Ok(())
+}
+
+#[test]
+fn each_of_the_last_nodes_changes(rt: HostRuntime) -> Result<(), Fail> {
+    assert!(rt; change_each(rt.alloc(), 301, 402)?);
     Ok(())
 }
 
