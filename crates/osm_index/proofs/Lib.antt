@@ -10,3 +10,5 @@ pub mod CellLemmas
 pub mod FrontLemmas
 pub mod NameLemmas
 pub mod PutNames
+pub mod NodeChangeLemmas
+pub mod EntryChangeLemmas

@@ -13,46 +13,45 @@ use tree_node::is_below;
 
 /// The changes that turn the old entries into the new ones, by rising key; an entry that stays is none. The
 /// keys of both lists rise. Linear in both.
-pub(crate) fn entry_changes<'a>(
+pub(crate) fn entry_changes(
     alloc: Global,
     old: &[Entry<'_>],
-    new: &[Entry<'a>],
+    new: &[Entry<'_>],
 ) -> Result<Vec<EntryChange>, AllocError>
     requires old { AreRisingFrom None (keys_of (bindings_of old.now)) }
     requires new { AreRisingFrom None (keys_of (bindings_of new.now)) }
     ensures { IfOk result (λ changes. TurnEntries (bindings_of old.now) (bindings_of new.now) (changes_of changes.items)) }
 {
     let mut changes = Vec::new(alloc);
-    let mut rest = new;
+    let mut at = 0;
     for entry in old {
-        let (below, same, above) = split_at_key(rest, entry.key);
+        let (below, same) = split_at_key(&new[at..], entry.key);
         put_all(alloc, below, &mut changes)?;
         change_entry(alloc, entry, same, &mut changes)?;
-        rest = above;
+        at += below.len() + usize::from(same.is_some());
     }
-    put_all(alloc, rest, &mut changes)?;
+    put_all(alloc, &new[at..], &mut changes)?;
     Ok(changes)
 }
 
-/// The entries below a key, the one with the key, and those above it, where the keys rise.
+/// The entries below a key, and the one with the key that may follow them, where the keys rise.
 fn split_at_key<'a, 'e>(
     entries: &'e [Entry<'a>],
     key: &[u8],
-) -> (&'e [Entry<'a>], Option<Entry<'a>>, &'e [Entry<'a>])
-    ensures { (bindings_of result.0.now, (option_map binding_of result.1, bindings_of result.2.now))
-        ≡ parts_at_key key.now (bindings_of entries.now) }
+) -> (&'e [Entry<'a>], Option<Entry<'a>>)
+    ensures { (bindings_of result.0.now, option_map binding_of result.1) ≡ parts_at_key key.now (bindings_of entries.now) }
 {
     let mut at = 0;
     for entry in entries {
         if !is_below(entry.key, key) {
             if is_below(key, entry.key) {
-                return (&entries[..at], None, &entries[at..]);
+                return (&entries[..at], None);
             }
-            return (&entries[..at], Some(*entry), &entries[at + 1..]);
+            return (&entries[..at], Some(*entry));
         }
         at += 1;
     }
-    (entries, None, &[])
+    (entries, None)
 }
 
 /// Changes an old entry into the new one with its key, or takes it away where there is none.

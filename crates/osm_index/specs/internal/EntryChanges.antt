@@ -35,8 +35,7 @@ abbrev pub change_between : Binding → Option Binding → List (Change Binding)
 change_between old None = taken old ∷ []
 change_between old (Some new) = if bytes_eq new.value old.value then [] else put_of new ∷ []
 
--- the entries before the first whose key isn't below this one, that one where it has the key, and those after it
-abbrev pub parts_at_key : List ℕ → List Binding → List Binding × (Option Binding × List Binding)
-parts_at_key key [] = ([], (None, []))
-parts_at_key key (b ∷ bs) =
-    by_order (order key b.key) ([], (None, b ∷ bs)) ([], (Some b, bs)) (b ∷ (parts_at_key key bs).0, (parts_at_key key bs).1)
+-- the entries before the first whose key isn't below this one, and that one where it has the key
+abbrev pub parts_at_key : List ℕ → List Binding → List Binding × Option Binding
+parts_at_key key [] = ([], None)
+parts_at_key key (b ∷ bs) = by_order (order key b.key) ([], None) ([], Some b) (b ∷ (parts_at_key key bs).0, (parts_at_key key bs).1)
