@@ -12,3 +12,4 @@ pub mod NameLemmas
 pub mod PutNames
 pub mod NodeChangeLemmas
 pub mod EntryChangeLemmas
+pub mod KeyParts
