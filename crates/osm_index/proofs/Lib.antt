@@ -13,3 +13,4 @@ pub mod PutNames
 pub mod NodeChangeLemmas
 pub mod EntryChangeLemmas
 pub mod KeyParts
+pub mod EntryTurns

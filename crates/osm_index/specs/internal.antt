@@ -7,3 +7,4 @@ pub mod FrontedEntries
 pub mod Applying
 pub mod EntryChanges
 pub mod NodeChanges
+pub mod ChangedTrees

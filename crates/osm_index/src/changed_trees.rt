@@ -1,5 +1,16 @@
 //! Changing the four trees of a set of objects.
 
+ghost use Rattle.std.specs.List.{Contains};
+ghost use Rattle.std.specs.Prelude.{◌≡◌, ◌⊎◌, ◌++◌, ◌∷◌, [], ◌<◌, ◌≤◌, List, All, IfErr, IfOk, MatchOption, None, OnOk, length, ⊤};
+ghost use Rattle.osm_model.specs.Elements.{Element, reference};
+ghost use Rattle.osm_model.specs.Sets.{IsChangedSet};
+ghost use Rattle.tree_build.specs.Rebuilding.{changed_entries, changes_of, keys_of_changes};
+ghost use Rattle.tree_node.specs.Nodes.{AreRisingFrom, Binding};
+ghost use Rattle.tree_node.specs.Stocks.{HasNode};
+ghost use Rattle.osm_index.specs.Applying.{edition_after};
+ghost use Rattle.osm_index.specs.Publications.{HasTooMany, IsPublicationOf, Publication};
+ghost use Rattle.osm_index.specs.internal.ChangedTrees.{AreChangedTrees, AreEntriesAfter, AreHeldTrees, IsChangedTree, IsHeldTree};
+
 use crate::apply_fault::ApplyFault;
 use crate::entry_changes::entry_changes;
 use crate::listing::{entries_named, entries_of};
@@ -38,7 +49,15 @@ pub(crate) fn change_trees(
     changes: ObjectChanges<'_>,
     tops: &[Digest; 4],
     stock: &Stock,
-) -> Result<ChangedTrees, ApplyFault> {
+) -> Result<ChangedTrees, ApplyFault>
+    requires old { (p : Publication) × AreHeldTrees changes.set.now tops.now (HasNode stock.now) p }
+    requires named { All (λ o. Contains changes.names.now.keys (reference o)) changes.puts.now }
+    ensures changed { (p : Publication) (set : List Element) → AreHeldTrees changes.entry.set.now tops.now (HasNode stock.now) p
+        → IsChangedSet changes.entry.set.now changes.entry.names.now.keys changes.entry.puts.now set
+        → IfOk result (λ trees. (q : Publication) × IsPublicationOf set (edition_after p.edition) q × AreChangedTrees p q trees) }
+    ensures refused { IfErr result (λ fault. (fault ≡ ApplyFault.Memory) ⊎ ((fault ≡ ApplyFault.TooMany) × ((set : List Element)
+        → IsChangedSet changes.entry.set.now changes.entry.names.now.keys changes.entry.puts.now set → HasTooMany set))) }
+{
     let objects = change_tree(alloc, changes, Tree::Objects, &tops[0], stock)?;
     let tags = change_tree(alloc, changes, Tree::Tags, &tops[1], stock)?;
     let cells = change_tree(alloc, changes, Tree::Cells, &tops[2], stock)?;
@@ -52,7 +71,13 @@ fn all_of(
     tags: Rebuilt,
     cells: Rebuilt,
     backs: Rebuilt,
-) -> Result<ChangedTrees, AllocError> {
+) -> Result<ChangedTrees, AllocError>
+    ensures tops { IfOk result (λ trees. trees.tops ≡ objects.top ∷ tags.top ∷ cells.top ∷ backs.top ∷ []) }
+    ensures added { IfOk result (λ trees.
+        trees.added.items ≡ ((objects.added.items ++ tags.added.items) ++ cells.added.items) ++ backs.added.items) }
+    ensures gone { IfOk result (λ trees.
+        trees.gone.items ≡ ((objects.gone.items ++ tags.gone.items) ++ cells.gone.items) ++ backs.gone.items) }
+{
     let tops = [objects.top, tags.top, cells.top, backs.top];
     let mut added = objects.added;
     let mut gone = objects.gone;
@@ -69,6 +94,8 @@ fn append(
     added: &mut Vec<NewNode>,
     gone: &mut Vec<Digest>,
 ) -> Result<(), AllocError>
+    ensures added { OnOk result (added.new.items ≡ added.old.items ++ nodes.items) }
+    ensures gone { OnOk result (gone.new.items ≡ gone.old.items ++ digests.items) }
 {
     let mut nodes = nodes;
     added.append(&mut nodes)?;
@@ -82,7 +109,16 @@ fn change_tree(
     tree: Tree,
     top: &Digest,
     stock: &Stock,
-) -> Result<Rebuilt, ApplyFault> {
+) -> Result<Rebuilt, ApplyFault>
+    requires old { (entries : List Binding) × IsHeldTree changes.set.now tree top.now (HasNode stock.now) entries }
+    requires named { All (λ o. Contains changes.names.now.keys (reference o)) changes.puts.now }
+    ensures changed { (old new : List Binding) → IsHeldTree changes.entry.set.now tree top.now (HasNode stock.now) old
+        → AreEntriesAfter changes.entry.set.now changes.entry.names.now.keys changes.entry.puts.now tree new
+        → IfOk result (IsChangedTree tree old new) }
+    ensures refused { IfErr result (λ fault. (fault ≡ ApplyFault.Memory) ⊎ ((fault ≡ ApplyFault.TooMany) × ((new : List Binding)
+        → AreEntriesAfter changes.entry.set.now changes.entry.names.now.keys changes.entry.puts.now tree new
+        → ENTRY_LIMIT < length new))) }
+{
     let Some(changes) = tree_changes(alloc, changes, tree, top, stock)? else {
         return Err(ApplyFault::TooMany);
     };
@@ -96,7 +132,15 @@ fn tree_changes(
     tree: Tree,
     top: &Digest,
     stock: &Stock,
-) -> Result<Option<Vec<EntryChange>>, AllocError> {
+) -> Result<Option<Vec<EntryChange>>, AllocError>
+    requires old { (entries : List Binding) × IsHeldTree changes.set.now tree top.now (HasNode stock.now) entries }
+    requires named { All (λ o. Contains changes.names.now.keys (reference o)) changes.puts.now }
+    ensures rising { IfOk result (λ found. MatchOption found ⊤ (λ all. AreRisingFrom None (keys_of_changes (changes_of all.items)))) }
+    ensures changed { (old new : List Binding) → IsHeldTree changes.entry.set.now tree top.now (HasNode stock.now) old
+        → AreEntriesAfter changes.entry.set.now changes.entry.names.now.keys changes.entry.puts.now tree new
+        → IfOk result (λ found. MatchOption found (ENTRY_LIMIT < length new)
+        (λ all. (length new ≤ ENTRY_LIMIT) × (changed_entries old (changes_of all.items) ≡ new))) }
+{
     let old = entries_named(alloc, changes.set, changes.names, tree)?;
     let new = entries_of(alloc, changes.puts, tree)?;
     let old = old.sorted(alloc)?;
@@ -115,7 +159,11 @@ fn entry_count(
     tree: Tree,
     top: &Digest,
     stock: &Stock,
-) -> Result<u64, AllocError> {
+) -> Result<u64, AllocError>
+    requires { (set : List Element) × (entries : List Binding) × IsHeldTree set tree top.now (HasNode stock.now) entries }
+    ensures { (set : List Element) (entries : List Binding) → IsHeldTree set tree top.now (HasNode stock.now) entries
+        → IfOk result (λ number. number ≡ length entries) }
+{
     let all = KeyRange {
         lo: &[],
         hi: &[],

@@ -135,16 +135,15 @@ impl Snapshot {
             puts: &puts,
         };
         let trees = change_trees(alloc, objects, &self.manifest.tops, &self.stock)?;
-        let manifest = Manifest {
-            edition,
-            tops: trees.tops,
-        };
+        let tops = trees.tops;
+        let manifest = Manifest { edition, tops };
         let node = manifest_node(alloc, &manifest)?;
         let root = node.digest;
         let mut nodes = trees.added;
         nodes.push(node)?;
         let mut gone = trees.gone;
-        gone.push(self.root)?;
+        let old_root = self.root;
+        gone.push(old_root)?;
         let added = digests_of(alloc, &nodes)?;
         put_nodes(&mut self.stock, nodes, &added)?;
         // Nothing refuses from here on.
