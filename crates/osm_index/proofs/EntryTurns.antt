@@ -40,7 +40,9 @@ after_is key (b ∷ bs) = by (order key b.key) (after_is key bs)
         ≡ drop (length (by_order {A = List Binding × Option Binding} o ([], None) ([], Some b) (b ∷ (parts_at_key key bs).0, (parts_at_key key bs).1)).0 + count_of (by_order {A = List Binding × Option Binding} o ([], None) ([], Some b) (b ∷ (parts_at_key key bs).0, (parts_at_key key bs).1)).1) (b ∷ bs)
     by Less rest = refl
     by Equal rest = refl
-    by Greater rest = rest ∙ ap (λ n. drop n (b ∷ bs)) (omega arith)
+    by Greater rest =
+        let n : suc (length (parts_at_key key bs).0 + count_of (parts_at_key key bs).1) ≡ suc (length (parts_at_key key bs).0) + count_of (parts_at_key key bs).1 = omega arith in
+        rest ∙ ap (λ m. drop m (b ∷ bs)) n
 
 pub within : (key : List ℕ) (bs : List Binding) → length (parts_at_key key bs).0 + count_of (parts_at_key key bs).1 ≤ length bs
 within key [] = omega arith
