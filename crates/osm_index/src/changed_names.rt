@@ -17,10 +17,7 @@ use std::collections::BTreeSet;
 
 /// The names of the objects that are changed. Refused with `ChangedTwice` by the earliest change whose
 /// object an earlier one names.
-pub(crate) fn changed_names(
-    alloc: Global,
-    changes: &[Change],
-) -> Result<BTreeSet<Ref>, ApplyFault>
+pub(crate) fn changed_names(alloc: Global, changes: &[Change]) -> Result<BTreeSet<Ref>, ApplyFault>
     ensures names { IfOk result (λ names. HasJust names (names_of changes.now) × AreApart changes.now) }
     ensures refused { IfErr result (RefusesNames changes.now) }
 {

@@ -154,12 +154,7 @@ fn tree_changes(
 
 /// The number of the entries of a tree, whose top has this digest and which the stock holds: read from the
 /// nodes on the way from the top to the first leaf.
-fn entry_count(
-    alloc: Global,
-    tree: Tree,
-    top: &Digest,
-    stock: &Stock,
-) -> Result<u64, AllocError>
+fn entry_count(alloc: Global, tree: Tree, top: &Digest, stock: &Stock) -> Result<u64, AllocError>
     requires { (set : List Element) × (entries : List Binding) × IsHeldTree set tree top.now (HasNode stock.now) entries }
     ensures { (set : List Element) (entries : List Binding) → IsHeldTree set tree top.now (HasNode stock.now) entries
         → IfOk result (λ number. number ≡ length entries) }

@@ -65,8 +65,8 @@ fn append_named(
         (flat_map (entries_from tree) (filter_map (object_at set.now) names.now.keys))) }
 {
     for name in names {
-        if let Some(object) = set.get(*name) {
-            append_entries(object, tree, bytes, spans)?;
+        if let Some(found) = set.get(*name) {
+            append_entries(found, tree, bytes, spans)?;
         }
     }
     Ok(())

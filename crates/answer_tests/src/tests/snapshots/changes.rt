@@ -59,11 +59,13 @@ fn without(alloc: Global, digests: &[Digest], others: &[Digest]) -> Result<Vec<D
 /// Whether the snapshot is as one that is built of the set of this text at this sequence.
 fn is_built(alloc: Global, snapshot: &Snapshot, set: &str, sequence: u64) -> Result<bool, Fail> {
     let built = second(alloc, set, sequence)?;
-    Ok(snapshot.root() == built.root()
-        && snapshot.edition() == built.edition()
-        && snapshot.manifest() == built.manifest()
-        && snapshot.objects().as_slice() == built.objects().as_slice()
-        && nodes_of(alloc, snapshot)?.as_slice() == nodes_of(alloc, &built)?.as_slice())
+    Ok(
+        snapshot.root() == built.root()
+            && snapshot.edition() == built.edition()
+            && snapshot.manifest() == built.manifest()
+            && snapshot.objects().as_slice() == built.objects().as_slice()
+            && nodes_of(alloc, snapshot)?.as_slice() == nodes_of(alloc, &built)?.as_slice(),
+    )
 }
 
 /// Whether the delta is what differs between the nodes before and after, and the snapshot no longer has those that

@@ -6,7 +6,8 @@ use osm_index::Delta;
 use std::test::Fail;
 
 /// `ALL_KINDS` without n1.
-const WITHOUT_N1: &str = "n2 x13.4000001 y52.5\nw10 Thighway=primary,name=A%20%B Nn1,n2,n1\nr100 Ttype=route Mw10@outer,n99@stop,r100@\n";
+const WITHOUT_N1: &str =
+    "n2 x13.4000001 y52.5\nw10 Thighway=primary,name=A%20%B Nn1,n2,n1\nr100 Ttype=route Mw10@outer,n99@stop,r100@\n";
 
 #[test]
 fn a_manifest_alone_changes(rt: HostRuntime) -> Result<(), Fail> {
@@ -43,7 +44,11 @@ fn deltas_are_what_differs(rt: HostRuntime) -> Result<(), Fail> {
         ("", "n1 x0 y0\n", "n1 x0 y0\n"),
         ("n1 x0 y0\n", "n1 dD\n", ""),
         ("", "", ""),
-        ("n1 x0 y0\n", "n1 Ta=b x0.0000001 y-1\n", "n1 Ta=b x0.0000001 y-1\n"),
+        (
+            "n1 x0 y0\n",
+            "n1 Ta=b x0.0000001 y-1\n",
+            "n1 Ta=b x0.0000001 y-1\n",
+        ),
         (
             "n1 x0 y0\nw1 Nn1\nr1 Mn1@\n",
             "w1 dD\nn1 dD\nr1 dD\nr2 Mr2@a,r2@b\n",
