@@ -9,7 +9,6 @@ use Rattle.std.specs.declared.cmp.Ordering.TheVariants.{Less, Equal, Greater}
 use Rattle.std.proofs.lemmas.Cmp.{tied_itself}
 use Rattle.std.proofs.lemmas.Grind.{flat_map-append}
 use Rattle.std.proofs.lemmas.List.{append-nil, take_all, take_more}
-use Rattle.std.proofs.lemmas.List.Elements.{All-contains, All-contains_itself, All-filter, filter_passes}
 use Rattle.osm_model.proofs.shared.References.{refs_total}
 use Rattle.osm_model.specs.Elements.{Element, ref_cmp, reference, references}
 use Rattle.osm_model.specs.Sets.{IsObjectSet}
@@ -22,6 +21,7 @@ use Rattle.tree_node.proofs.shared.OutcomeLaws.{Nodes, outcome_as, outcome_start
 use Rattle.osm_index.proofs.shared.Members.{first_or_in_rest, from_map, here, in_map, in_rest, none}
 use Rattle.osm_index.proofs.shared.OneObject.{object_there, same_reference}
 use Rattle.osm_index.specs.Publications.{Publication}
+use Rattle.ql_plain.proofs.shared.Filtered.{from_filter, in_filter, passes_filter}
 use Rattle.ql_plain.proofs.shared.MeaningLaws.{one_set, printed_rise}
 use Rattle.ql_plain.specs.Adding.{From}
 use Rattle.ql_plain.specs.Meanings.{cut, is_in, printed_of}
@@ -72,27 +72,6 @@ of_set : (refs : List Ref) (o : Element) → is_in refs o ≡ true → Contains 
 of_set refs o is =
     let one = one_from_any (λ (r : Ref). eq_by_cmp ref_cmp r (reference o)) refs is in
     subst (λ (r : Ref). Contains refs r) (same_reference one.0 (reference o) (is_equal (ref_cmp one.0 (reference o)) one.2)) one.1
-
-filtered_case : (test : Element → Bool) (x : Element) (xs : List Element) (b : Bool) → b ≡ true → Contains (if b then x ∷ filter test xs else filter test xs) x
-filtered_case test x xs true e = here x (filter test xs)
-filtered_case test x xs false e = absurd (let no = e in cc)
-
-filtered_later : (test : Element → Bool) (x y : Element) (xs : List Element) (b : Bool) → Contains (filter test xs) y → Contains (if b then x ∷ filter test xs else filter test xs) y
-filtered_later test x y xs true is = in_rest x (filter test xs) y is
-filtered_later test x y xs false is = is
-
-in_filter : (test : Element → Bool) (xs : List Element) (x : Element) → Contains xs x → test x ≡ true → Contains (filter test xs) x
-in_filter test [] x is so = absurd (none x is)
-in_filter test (y ∷ xs) x is so = elim (first_or_in_rest y xs x is) [
-  | inl same ↦ subst (λ (z : Element). Contains (filter test (y ∷ xs)) z) same (filtered_case test y xs (test y) (ap test same ∙ so))
-  | inr later ↦ filtered_later test y x xs (test y) (in_filter test xs x later so)
-]
-
-from_filter : (test : Element → Bool) (xs : List Element) (x : Element) → Contains (filter test xs) x → Contains xs x
-from_filter test xs x is = All-contains (Contains xs) (filter test xs) x (All-filter test (Contains xs) xs (All-contains_itself xs)) is
-
-passes_filter : (test : Element → Bool) (xs : List Element) (x : Element) → Contains (filter test xs) x → test x ≡ true
-passes_filter test xs x is = All-contains (λ (y : Element). test y ≡ true) (filter test xs) x (filter_passes test xs) is
 
 -- the objects of a set have just its references, in their order
 taken_are : (objects : List Element) (refs : List Ref) → IsObjectSet objects → IsStrictlySortedBy ref_cmp refs → AreThere objects refs → references (filter (λ o. is_in refs o) objects) ≡ refs

@@ -1,28 +1,33 @@
 -- Query statements: what filters ask of an object alone, and what they name.
-use Rattle.std.proofs.Common.{◌≡◌, ℕ, ◌+◌, ◌-◌, ◌<◌, ◌≤◌, ◌↔◌, List, [], ◌∷◌, ◌++◌, length, get_or, take, drop, inl, inr, refl, sym, ap, subst, ◌∙◌, arith}
+use Rattle.std.proofs.Common.{◌≡◌, Bool, true, ℕ, ◌+◌, ◌-◌, ◌<◌, ◌≤◌, ◌↔◌, List, [], ◌∷◌, ◌++◌, length, get_or, take, drop, inl, inr, refl, sym, ap, subst, ◌∙◌, arith}
 use Rattle.std.proofs.lemmas.Bool.{cases_lt}
 use Rattle.std.proofs.lemmas.Cmp.{tied_itself}
 use Rattle.std.proofs.lemmas.List.{append_assoc, get_or_default, map-append, take-append-drop, take_all}
 use Rattle.std.proofs.lemmas.List.Elements.{All-contains, All-from_recursion}
-use Rattle.std.specs.List.{AllByRecursion, Contains}
+use Rattle.std.proofs.lemmas.List.Kept.{IsStrictlySortedBy-filter}
+use Rattle.std.specs.List.{AllByRecursion, Contains, filter}
 use Rattle.std.specs.List.Sorted.{IsStrictlySortedBy}
 use Rattle.std.specs.declared.cmp.Ordering.TheVariants.{Equal}
 use Rattle.osm_model.proofs.shared.References.{refs_total}
 use Rattle.osm_model.specs.Elements.{Element, kind_of, ref_cmp, reference}
 use Rattle.osm_model.specs.Sets.{IsObjectSet}
+use Rattle.osm_model.specs.declared.kind.Kind.{Kind}
+use Rattle.osm_model.specs.declared.kind.Kind.TheVariants as kinds
 use Rattle.osm_model.specs.declared.reference.Ref.{Ref}
 use Rattle.ql_syntax.specs.Filters as tree
 use Rattle.ql_syntax.specs.StatementViews.{filter_of, filters_of}
 use Rattle.ql_syntax.specs.declared.filter.Filter.{Filter}
 use Rattle.ql_syntax.specs.declared.pick.Pick.{Pick}
+use Rattle.ql_syntax.specs.declared.pick.Pick.TheVariants as picks
 use Rattle.ql_plain.proofs.shared.Adding.{one_more}
+use Rattle.ql_plain.proofs.shared.Filtered.{from_filter, in_filter, passes_filter}
 use Rattle.ql_plain.proofs.Keeping.{earlier_below, set_as}
 use Rattle.ql_plain.proofs.Stepping.{slice_is_rest}
 use Rattle.ql_plain.specs.Meanings.{IsSetOf}
 use Rattle.ql_plain.specs.Values.{Env, IsOnPath, IsPicked, IsRefOf, IsSelected, Passes}
 use Rattle.ql_plain.specs.ObjectTests.{PassesAlone}
 use Rattle.ql_plain.specs.internal.Linked.{IsThere}
-use Rattle.ql_plain.specs.internal.Tests.{AreNamedBy, AreThere, IsNamedBy, IsTaken}
+use Rattle.ql_plain.specs.internal.Tests.{AreNamedBy, AreThere, IsNamedBy, IsTaken, takes_kind}
 
 -- a reference names one object of a set
 pub one_object : (objects : List Element) → IsObjectSet objects → (o p : Element) → Contains objects o → Contains objects p → reference o ≡ reference p → o ≡ p
@@ -53,13 +58,36 @@ told_of_name objects set P name o there named told = (
 pub are_there : (objects : List Element) {P : Element → Type 0} {refs : List Ref} → IsSetOf refs (IsRefOf objects P) → AreThere objects refs
 are_there objects so = λ r has. let of = (so.members r).0 has in (of.0, of.1, of.2)
 
--- the filters look at no object, so its kind alone tells
-pub told_of_kind : (objects : List Element) (pick : Pick) (filters : List tree.Filter) (name : Ref) → IsThere objects name → ((o : Element) → AllByRecursion (λ (filter : tree.Filter). PassesAlone filter o) filters)
-    → {Q : Type 0} → ((o : Element) → kind_of o.body ≡ name.kind → Q ↔ IsPicked pick o) → Q ↔ IsRefOf objects (IsTaken pick filters) name
-told_of_kind objects pick filters name there none told = (
-  (λ yes. let o = there.0 in (o, there.1, there.2, ((told o (ap (λ (r : Ref). r.kind) there.2)).0 yes, none o))),
-  (λ of. (told of.0 (ap (λ (r : Ref). r.kind) of.2)).1 of.3.0),
-)
+-- a statement takes a kind of which it picks the objects
+takes_is : (pick : Pick) (kind : Kind) (o : Element) → kind_of o.body ≡ kind → (takes_kind pick kind ≡ true) ↔ IsPicked pick o
+takes_is picks.Node kinds.Node o is = ((λ _. is), (λ _. refl))
+takes_is picks.Node kinds.Way o is = ((λ so. cc), (λ so. cc))
+takes_is picks.Node kinds.Rel o is = ((λ so. cc), (λ so. cc))
+takes_is picks.Way kinds.Node o is = ((λ so. cc), (λ so. cc))
+takes_is picks.Way kinds.Way o is = ((λ _. is), (λ _. refl))
+takes_is picks.Way kinds.Rel o is = ((λ so. cc), (λ so. cc))
+takes_is picks.Rel kinds.Node o is = ((λ so. cc), (λ so. cc))
+takes_is picks.Rel kinds.Way o is = ((λ so. cc), (λ so. cc))
+takes_is picks.Rel kinds.Rel o is = ((λ _. is), (λ _. refl))
+takes_is picks.Nwr kind o is = ((λ _. tt), (λ _. refl))
+
+-- the filters look at no object, so of references of objects those of the kind are taken
+module _ (objects : List Element) (pick : Pick) (filters : List tree.Filter) (names : List Ref) (up : IsStrictlySortedBy ref_cmp names) (there : AreThere objects names)
+    (none : (o : Element) → AllByRecursion (λ (filter : tree.Filter). PassesAlone filter o) filters) where
+  abbrev pub is_of_pick : Ref → Bool
+  is_of_pick name = takes_kind pick name.kind
+
+  told : (r : Ref) (is : IsThere objects r) → is_of_pick r ≡ true → IsRefOf objects (IsTaken pick filters) r
+  told r is so = (is.0, is.1, is.2, ((takes_is pick r.kind is.0 (ap (λ (s : Ref). s.kind) is.2)).0 so, none is.0))
+
+  pub picked_set : IsSetOf (filter is_of_pick names) (λ r. Contains names r × IsRefOf objects (IsTaken pick filters) r)
+  picked_set = record {
+    rising = IsStrictlySortedBy-filter ref_cmp is_of_pick names up;
+    members = λ r. (
+      (λ has. let mine = from_filter is_of_pick names r has in (mine, told r (there r mine) (passes_filter is_of_pick names r has))),
+      (λ of. in_filter is_of_pick names r of.0 ((takes_is pick r.kind of.1.0 (ap (λ (s : Ref). s.kind) of.1.2)).1 of.1.3.0)),
+    );
+  }
 
 pub all_push : {X : Type 0} (P : X → Type 0) (xs : List X) (x : X) → AllByRecursion P xs → P x → AllByRecursion P (xs ++ x ∷ [])
 all_push P [] x all p = (p, tt)

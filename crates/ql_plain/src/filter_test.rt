@@ -2,11 +2,11 @@
 
 ghost use Rattle.std.specs.Prelude.{◌≡◌, ◌↔◌, IsTrue, false};
 ghost use Rattle.std.specs.List.{AllByRecursion};
-ghost use Rattle.osm_model.specs.Elements.{kind_of};
 ghost use Rattle.osm_model.specs.Tagged.{HasKeyOf, HasTag};
 ghost use Rattle.ql_syntax.specs.StatementViews.{filter_of, filters_of};
 ghost use Rattle.ql_plain.specs.Values.{IsPicked};
 ghost use Rattle.ql_plain.specs.ObjectTests.{IsWithin, PassesAlone};
+ghost use Rattle.ql_plain.specs.internal.Tests.{takes_kind};
 
 use osm_model::{Body, BoxArea, Kind, Object};
 use ql_syntax::{Filter, Pick};
@@ -33,7 +33,7 @@ fn is_picked(pick: Pick, object: &Object) -> bool
 
 /// Whether an object of a kind is of the kind of a query statement.
 pub fn is_kind_picked(pick: Pick, kind: Kind) -> bool
-    ensures { (o : _) → kind_of o.body ≡ kind → IsTrue result ↔ IsPicked pick o }
+    ensures { result ≡ takes_kind pick kind }
 {
     match (pick, kind) {
         (Pick::Node, Kind::Node) => true,

@@ -28,7 +28,7 @@ pub fn below_by_marks(
 {
     let objects = set.as_slice();
     let nodes = of_kind(objects, Kind::Node).len();
-    // References take a tenth of the room of their objects, so more of them are in the processor's caches.
+    // References take much less room than their objects, so more of them are in the processor's caches.
     let all = references(alloc, objects)?;
     let mut marks = vec![in alloc; false; objects.len()]?;
     let mut listed = Vec::new(alloc);

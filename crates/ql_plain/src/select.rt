@@ -1,7 +1,7 @@
 //! Query statements.
 
-ghost use Rattle.std.specs.Prelude.{◌≡◌, ◌↔◌, IfOk, IsTrue, false};
-ghost use Rattle.std.specs.List.{AllByRecursion, Contains};
+ghost use Rattle.std.specs.Prelude.{◌≡◌, ◌↔◌, IfOk, IsTrue, filter};
+ghost use Rattle.std.specs.List.{Contains};
 ghost use Rattle.std.specs.List.Sorted.{IsStrictlySortedBy};
 ghost use Rattle.osm_model.specs.Elements.{ref_cmp};
 ghost use Rattle.osm_model.specs.Sets.{IsObjectSet};
@@ -9,9 +9,7 @@ ghost use Rattle.ql_syntax.specs.StatementViews.{filter_of, filters_of};
 ghost use Rattle.ql_plain.specs.Meanings.{IsSetOf};
 ghost use Rattle.ql_plain.specs.Values.{IsRefOf, IsSelected};
 ghost use Rattle.ql_plain.specs.NamedSets.{lists_of};
-ghost use Rattle.ql_plain.specs.ObjectTests.{PassesAlone};
-ghost use Rattle.ql_plain.specs.internal.Linked.{IsThere};
-ghost use Rattle.ql_plain.specs.internal.Tests.{AreNamedBy, AreThere, IsNamedBy, IsTaken};
+ghost use Rattle.ql_plain.specs.internal.Tests.{AreNamedBy, AreThere, IsNamedBy, IsTaken, takes_kind};
 
 use crate::filter_test::{is_kind_picked, is_taken, look_at_objects};
 use crate::kinds::of_pick;
@@ -41,7 +39,7 @@ pub fn select(
     let _ = set.as_slice();
     for (place, filter) in filters.iter().enumerate() {
         if let Some(names) = named_outright(alloc, filter, sets, set)? {
-            let first = taken_of(alloc, kind, filters, &names, set)?;
+            let first = taken_of(alloc, kind, filters, names, set)?;
             // All filters but this one, which has named them.
             let left = narrowed(alloc, first, &filters[..place], sets, set)?;
             return narrowed(alloc, left, &filters[place + 1..], sets, set);
@@ -72,53 +70,58 @@ fn taken(
     Ok(refs)
 }
 
-/// Of some references of objects, those of a kind whose objects the filters keep which look at an object alone. Where
-/// there is such a filter, a search for each that starts where the last one ended, so it takes no more than those
-/// references and the way between them.
+/// Of some references of objects, those of a kind whose objects the filters keep which look at an object alone. No
+/// object is looked at where no filter does so, and no memory is taken then.
 fn taken_of(
+    alloc: Global,
+    kind: Pick,
+    filters: &[Filter<'_>],
+    names: Vec<Ref>,
+    set: &ObjectSet,
+) -> Result<Vec<Ref>, AllocError>
+    requires rising { IsStrictlySortedBy ref_cmp names.items }
+    requires there { AreThere set.now names.items }
+    ensures { IfOk result (λ refs. IsSetOf refs.items (λ r. Contains names.items r × IsRefOf set.now (IsTaken kind (filters_of filters.now)) r)) }
+{
+    if look_at_objects(filters) {
+        taken_among(alloc, kind, filters, &names, set)
+    } else {
+        Ok(picked(kind, names))
+    }
+}
+
+/// Of some references, those of a kind.
+fn picked(kind: Pick, names: Vec<Ref>) -> Vec<Ref>
+    ensures { result.items ≡ filter (λ name. takes_kind kind name.kind) names.items }
+{
+    let mut names = names;
+    names.retain(|name| is_kind_picked(kind, name.kind));
+    names
+}
+
+/// Of some references, those of objects of a kind that the filters keep which look at an object alone. A search for
+/// each that starts where the last one ended, so it takes no more than those references and the way between them.
+fn taken_among(
     alloc: Global,
     kind: Pick,
     filters: &[Filter<'_>],
     names: &[Ref],
     set: &ObjectSet,
 ) -> Result<Vec<Ref>, AllocError>
-    requires rising { IsStrictlySortedBy ref_cmp names.now }
-    requires there { AreThere set.now names.now }
+    requires { IsStrictlySortedBy ref_cmp names.now }
     ensures { IfOk result (λ refs. IsSetOf refs.items (λ r. Contains names.now r × IsRefOf set.now (IsTaken kind (filters_of filters.now)) r)) }
 {
-    let looks = look_at_objects(filters);
     // Not more than there are names, so the list never moves as it grows.
     let mut refs = Vec::with_capacity(alloc, names.len())?;
     let mut at = 0;
     for name in names {
-        let (next, is_one) = is_taken_there(kind, filters, looks, set, at, *name);
+        let (next, is_one) = is_taken_at(kind, filters, set, at, *name);
         if is_one {
             refs.push(*name)?;
         }
         at = next;
     }
     Ok(refs)
-}
-
-/// Whether the object with a reference, which is there, is of a kind and kept by the filters that look at it alone,
-/// and where the next one is searched. It isn't looked at where no filter does so.
-fn is_taken_there(
-    kind: Pick,
-    filters: &[Filter<'_>],
-    looks: bool,
-    set: &ObjectSet,
-    at: usize,
-    name: Ref,
-) -> (usize, bool)
-    requires there { IsThere set.now name }
-    requires looks { looks ≡ false → (o : _) → AllByRecursion (λ filter. PassesAlone filter o) (filters_of filters.now) }
-    ensures { IsTrue result.1 ↔ IsRefOf set.now (IsTaken kind (filters_of filters.now)) name }
-{
-    if looks {
-        is_taken_at(kind, filters, set, at, name)
-    } else {
-        (at, is_kind_picked(kind, name.kind))
-    }
 }
 
 /// Whether the object with a reference is there, of a kind, and kept by the filters that look at it alone, and where

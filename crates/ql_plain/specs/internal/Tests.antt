@@ -1,10 +1,13 @@
 -- What a filter asks of references.
-use Rattle.std.specs.Prelude.{List, ⊤}
+use Rattle.std.specs.Prelude.{Bool, true, false, List, ⊤}
 use Rattle.std.specs.List.{AllByRecursion, Contains}
 use Rattle.osm_model.specs.Elements.{Element}
+use Rattle.osm_model.specs.declared.kind.Kind.{Kind}
+use Rattle.osm_model.specs.declared.kind.Kind.TheVariants as kinds
 use Rattle.osm_model.specs.declared.reference.Ref.{Ref}
 use Rattle.ql_syntax.specs.Filters.{Filter, InSet, HasKey, KeyIs, LacksKey, KeyIsNot, Ids, Within, Via}
 use Rattle.ql_syntax.specs.declared.pick.Pick.{Pick}
+use Rattle.ql_syntax.specs.declared.pick.Pick.TheVariants as picks
 use Rattle.ql_plain.specs.ObjectTests.{PassesAlone}
 use Rattle.ql_plain.specs.Values.{Env, IsOnPath, IsPicked, IsRefOf}
 use Rattle.ql_plain.specs.internal.Linked.{IsThere}
@@ -31,3 +34,16 @@ IsTaken pick filters o = IsPicked pick o × AllByRecursion (λ filter. PassesAlo
 -- these are references of objects of the list
 abbrev pub AreThere : List Element → List Ref → Type 0
 AreThere objects refs = (r : Ref) → Contains refs r → IsThere objects r
+
+-- a query statement takes objects of the kind
+abbrev pub takes_kind : Pick → Kind → Bool
+takes_kind picks.Node kinds.Node = true
+takes_kind picks.Node kinds.Way = false
+takes_kind picks.Node kinds.Rel = false
+takes_kind picks.Way kinds.Node = false
+takes_kind picks.Way kinds.Way = true
+takes_kind picks.Way kinds.Rel = false
+takes_kind picks.Rel kinds.Node = false
+takes_kind picks.Rel kinds.Way = false
+takes_kind picks.Rel kinds.Rel = true
+takes_kind picks.Nwr kind = true

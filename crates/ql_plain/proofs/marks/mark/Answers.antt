@@ -1,5 +1,4 @@
 use Rattle.std.proofs.Common.{◌≡◌, true, sym}
-use Rattle.osm_model.specs.declared.reference.Ref.{Ref}
 use Rattle.ql_plain.proofs.shared.Adding.{adds_as}
 use Rattle.ql_plain.proofs.Marking.{marked_set}
 use Rattle.ql_plain.proofs.Seeking.{sought_in}

@@ -1,13 +1,8 @@
-use Rattle.std.proofs.Common.{List, take, drop, length, ◌-◌, ◌+◌, subst}
-use Rattle.std.specs.List.{Contains}
-use Rattle.osm_model.specs.declared.reference.Ref.{Ref}
+use Rattle.std.proofs.Common.{take, drop, length, ◌-◌, ◌+◌}
 use Rattle.ql_syntax.specs.StatementViews.{filter_of, filters_of}
 use Rattle.ql_plain.proofs.FilterSets.{if_ok_as}
 use Rattle.ql_plain.proofs.Selecting.{around, from_named, from_taken}
-use Rattle.ql_plain.specs.Meanings.{IsSetOf}
-use Rattle.ql_plain.specs.Values.{IsRefOf}
 use Rattle.ql_plain.specs.NamedSets.{lists_of}
-use Rattle.ql_plain.specs.internal.Tests.{IsTaken}
 use Rattle.ql_plain.proofs.select.select.Goals as goal
 
 pub returns : goal.returns
@@ -24,8 +19,6 @@ returns-in-Some c =
     let names = c.in-Some.names.items in
     let first = c.in_ok-first.first.items in
     let named = rw c.in-Some.is at c.in_ok-names.ensures in
-    let taken : IsSetOf first (λ r. Contains names r × IsRefOf c.args.set.now (IsTaken c.args.kind all) r) =
-    subst (λ (some : List Ref). IsSetOf first (λ r. Contains some r × IsRefOf c.args.set.now (IsTaken c.args.kind all) r)) c.deref.ensures.value c.in_ok-first.ensures in
     if_ok_as c.narrowed-in-Some.result
-    (λ later. from_named c.args.set.now c.as_slice.ensures.set env c.args.kind all (filters_of (take k filters)) (filters_of (take (length filters - (k + 1)) (drop (k + 1) filters))) (filter_of f) (around filters k f c.loop-place-test.true c.index-filters-place.is) named.named taken c.in_ok-left.ensures)
+    (λ later. from_named c.args.set.now c.as_slice.ensures.set env c.args.kind all (filters_of (take k filters)) (filters_of (take (length filters - (k + 1)) (drop (k + 1) filters))) (filter_of f) (around filters k f c.loop-place-test.true c.index-filters-place.is) named.named c.in_ok-first.ensures c.in_ok-left.ensures)
     c.narrowed-in-Some.ensures

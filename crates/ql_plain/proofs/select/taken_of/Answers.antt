@@ -1,48 +1,20 @@
-use Rattle.std.proofs.Common.{Vec, Global, map, get_or, pos, subst, sym, ◌∙◌, ap, refl}
-use Rattle.std.proofs.lemmas.List.{get_or_default}
+use Rattle.std.proofs.Common.{List, IfOk, sym, subst}
 use Rattle.std.specs.List.{Contains}
-use Rattle.std.specs.List.Sorted.{IsStrictlySortedBy}
-use Rattle.osm_model.specs.Elements.{ref_cmp}
-use Rattle.osm_model.specs.declared.kind.Kind.TheVariants.{Node}
 use Rattle.osm_model.specs.declared.reference.Ref.{Ref}
-use Rattle.ql_plain.proofs.Keeping.{kept_all, kept_more, kept_nothing, kept_same, map_same, set_as}
 use Rattle.ql_syntax.specs.StatementViews.{filters_of}
-use Rattle.ql_plain.specs.internal.Tests.{IsTaken}
+use Rattle.ql_plain.proofs.Selecting.{picked_set}
+use Rattle.ql_plain.specs.Meanings.{IsSetOf}
 use Rattle.ql_plain.specs.Values.{IsRefOf}
+use Rattle.ql_plain.specs.internal.Tests.{IsTaken}
 use Rattle.ql_plain.proofs.select.taken_of.Goals as goal
-use Rattle.ql_plain.proofs.select.taken_of.Goals.{then-is_one+in_ok-push, else-is_one}
 
-pub loop-name-init : goal.loop-name-init
-loop-name-init c = kept_nothing (λ (r : Ref). r) c.args.names.now (rw map_same c.requires.rising) (IsRefOf c.args.set.now (IsTaken c.args.kind (filters_of c.args.filters.now))) _ c.in_ok-refs.ensures.items
-
-pub is_taken_there-next-requires-clause-there : goal.is_taken_there-next-requires-clause-there
-is_taken_there-next-requires-clause-there c =
-    let names = c.args.names.now in
-    let k = c.loop-name.name-index in
-    let first : Ref = record { kind = Node; id = pos 0 } in
-    let name = get_or names k first in
-    c.requires.there name (k, c.loop-name-test.true, sym (get_or_default names k first name c.loop-name-test.true))
-
-pub loop-name-preserved : goal.loop-name-preserved
-loop-name-preserved c =
-    let names = c.args.names.now in
-    let k = c.loop-name.name-index in
-    let first : Ref = record { kind = Node; id = pos 0 } in
-    let name = get_or names k first in
+pub returns-then-look_at_objects : goal.returns-then-look_at_objects
+returns-then-look_at_objects c =
     let Is : Ref → Type 0 = IsRefOf c.args.set.now (IsTaken c.args.kind (filters_of c.args.filters.now)) in
-    let rising : IsStrictlySortedBy ref_cmp (map (λ (r : Ref). r) names) = rw map_same c.requires.rising in
-    let item = get_or_default names k first name c.loop-name-test.true in
-    elim c.if-is_one.branch [
-      | then-is_one+in_ok-push w ↦
-          kept_more (λ (r : Ref). r) names rising Is k name c.loop-name-test.true item c.loop-name.refs.items c.loop-name.invariant c.if-is_one.refs.items
-          (ap (λ (v : Vec Ref Global). v.items) w.refs-is ∙ w.in_ok-push.ensures.items) (c.is_taken_there-next.ensures.0 w.if-is_one.true)
-      | else-is_one w ↦
-          kept_same (λ (r : Ref). r) names rising Is k name c.loop-name-test.true item c.loop-name.refs.items c.loop-name.invariant c.if-is_one.refs.items
-          (ap (λ (v : Vec Ref Global). v.items) w.refs-is) (λ is. let found = c.is_taken_there-next.ensures.1 is in let not = w.if-is_one.false in cc)
-    ]
+    subst (λ (names : List Ref). IfOk c.taken_among.result (λ refs. IsSetOf refs.items (λ r. Contains names r × Is r))) c.deref.ensures.value c.taken_among.ensures
 
-pub returns : goal.returns
-returns c =
+pub returns-else-look_at_objects : goal.returns-else-look_at_objects
+returns-else-look_at_objects c =
     let Is : Ref → Type 0 = IsRefOf c.args.set.now (IsTaken c.args.kind (filters_of c.args.filters.now)) in
-    set_as (λ r of. (subst (λ (s : Ref). Contains c.args.names.now s) of.2 of.1, subst Is of.2 of.3)) (λ r of. (r, of.0, refl, of.1))
-    (kept_all (λ (r : Ref). r) c.args.names.now (rw map_same c.requires.rising) Is c.loop-name.name-index c.loop-name-test.false _ c.loop-name.invariant)
+    subst (λ (refs : List Ref). IsSetOf refs (λ r. Contains c.args.names.items r × Is r)) (sym c.picked.ensures)
+    (picked_set c.args.set.now c.args.kind (filters_of c.args.filters.now) c.args.names.items c.requires.rising c.requires.there (c.look_at_objects.ensures c.if-look_at_objects.false))
