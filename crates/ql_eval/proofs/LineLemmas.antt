@@ -76,12 +76,6 @@ module _ (p : Publication) (r : Ref) (line : Line) where
 pub remembers_later : (p : Publication) (used later : Nodes) (lines : BTreeMap Ref Line) → ((x : List ℕ) → used x → later x) → Remembers p used lines → Remembers p later lines
 remembers_later p used later lines grows known is r line at = known_later p r line used later grows (known is r line at)
 
--- at first nothing is remembered
-pub remembers_none : (p : Publication) (used : Nodes) (lines : BTreeMap Ref Line) → lines.entries ≡ [] → Remembers p used lines
-remembers_none p used lines empty is r line at =
-    let none : None ≡ Some line = ap (λ es. lookup (is_at (ref_cmp r)) es) (sym empty) ∙ at in
-    Prim.cc
-
 equal_is : (o : Ordering) → is_eq o ≡ true → o ≡ Equal
 equal_is Less e = absurd Prim.cc
 equal_is Equal e = refl
