@@ -1,4 +1,4 @@
-use Rattle.std.proofs.Common.{◌≡◌, ℕ, List, Some, None}
+use Rattle.std.proofs.Common.{◌≡◌, ℕ, List, None}
 use Rattle.tree_node.specs.Digests.{digest}
 use Rattle.tree_node.specs.Keys.{owned_at}
 use Rattle.tree_node.specs.declared.digest.Digest.{Digest}
