@@ -12,7 +12,7 @@ use Rattle.std.proofs.lemmas.List.{get_or-map, append-nil}
 use Rattle.std.proofs.lemmas.Map.Views.{Contains-from_lookup, All-after_first}
 use Rattle.std.proofs.lemmas.Map.Keys.{sorted_tail}
 use Rattle.tree_node.specs.Digests.{digest}
-use Rattle.tree_node.specs.Keys.{digest_cmp, key_of, StandsIn}
+use Rattle.tree_node.specs.Keys.{digest_cmp, key_of, lent_at, StandsIn}
 use Rattle.tree_node.specs.Parts.{node_of, HaveNode, HaveRisingDigests}
 use Rattle.tree_node.specs.internal.Pairs.{pair_of}
 use Rattle.tree_node.specs.Shelves.{SameNodes}
@@ -58,7 +58,7 @@ parts_rise parts sorted i j d lt ltj =
 module _ (given : BTreeMap Digest (Bor (List ℕ))) (parts : List Part) (are : map pair_of parts ≡ given.entries)
     (found : All (λ e. get digest_cmp given e.0 ≡ Some e.1) given.entries) where
   -- what a part holds was given
-  held_given : (x : List ℕ) → HaveNode parts x → StandsIn (λ (b : Bor (List ℕ)). b.now) given x
+  held_given : (x : List ℕ) → HaveNode parts x → StandsIn (lent_at given) x
   held_given x (k, p, lt, is, e) =
       let ltk : k < length given.entries = omega (arith, length_same pair_of parts, ap (length {A = Digest × Bor (List ℕ)}) are) in
       let at : get_or given.entries k (pair_of p) ≡ pair_of p = ap (λ (es : List (Digest × Bor (List ℕ))). get_or es k (pair_of p)) (sym are) ∙ get_or-map pair_of parts k p (pair_of p) lt ∙ ap pair_of is in
@@ -78,7 +78,7 @@ module _ (given : BTreeMap Digest (Bor (List ℕ))) (parts : List Part) (are : m
       (k, part.0, ltp, part.1, same)
 
   -- the parts hold exactly what was given
-  pub parts_given : SameNodes (StandsIn (λ (b : Bor (List ℕ)). b.now) given) (HaveNode parts)
+  pub parts_given : SameNodes (StandsIn (lent_at given)) (HaveNode parts)
   parts_given x = (held_given x, some_given x (get digest_cmp given (key_of x)) refl)
 
 -- what holds of each element holds of one with others round it

@@ -1,8 +1,7 @@
 -- What a recorder holds, and which of its nodes were used.
 -- Source: this project.
 use Rattle.std.specs.Prelude.{ℕ, List}
-use Rattle.std.specs.Borrow.{Bor}
-use Rattle.tree_node.specs.Keys.{StandsIn}
+use Rattle.tree_node.specs.Keys.{StandsIn, lent_at}
 use Rattle.tree_node.specs.Stocks.{HasNode}
 use Rattle.tree_node.specs.declared.recorder.Recorder.{Recorder}
 
@@ -12,4 +11,4 @@ RecorderHolds recorder = HasNode recorder.stock.now
 
 -- this node was used
 abbrev pub RecorderUsed : Recorder → List ℕ → Type 0
-RecorderUsed recorder = StandsIn (λ (b : Bor (List ℕ)). b.now) recorder.given
+RecorderUsed recorder = StandsIn (lent_at recorder.given)

@@ -1,10 +1,9 @@
 //! A shelf over a stock that knows which nodes were used.
 
-ghost use Rattle.std.specs.BTreeMap.{get};
-ghost use Rattle.std.specs.Option.{ForSome, option_map};
+ghost use Rattle.std.specs.Option.{ForSome};
 ghost use Rattle.std.specs.Prelude.{◌≡◌, Some, IfOk, IfSome, true};
 ghost use Rattle.tree_node.specs.Digests.{digest as digest_word};
-ghost use Rattle.tree_node.specs.Keys.{digest_cmp};
+ghost use Rattle.tree_node.specs.Keys.{lent_at, owned_at};
 ghost use Rattle.tree_node.specs.Parts.{HaveNode, HaveRisingDigests};
 ghost use Rattle.tree_node.specs.Shelves.{IsEmptySet, SameNodes};
 
@@ -22,8 +21,8 @@ pub struct Recorder<'a> {
     alloc: Global,
     stock: &'a Stock,
     given: BTreeMap<Digest, &'a [u8]>,
-    ghost own: { (key : _) → ForSome (get digest_cmp given key)
-        (λ b. option_map (λ v. v.items) (get digest_cmp stock.now.nodes key) ≡ Some b.now) },
+    ghost own: { (key : _)
+        → ForSome (lent_at given key) (λ node. owned_at stock.now.nodes key ≡ Some node) },
 }
 
 impl<'a> Recorder<'a> {
@@ -80,12 +79,12 @@ impl<'a> Shelf<'a> for Recorder<'a> {
 
     ghost use Rattle.tree_node.specs.internal.RecorderLaws.{stands_once, given_held};
 
-    ghost clash_free = { λ r. stands_once r.stock.now.nodes };
+    ghost clash_free = { λ r. stands_once (owned_at r.stock.now.nodes) };
 
-    ghost used_held = { λ r. given_held r.stock.now.nodes r.given r.own };
+    ghost used_held = { λ r. given_held (owned_at r.stock.now.nodes) (lent_at r.given) r.own };
 
-    /// It takes memory only for a node that was not used before, and is logarithmic in the number of
-    /// nodes; of a node that was used before, in the number of used nodes.
+    /// It takes memory only for a node that was not used before. It is logarithmic in the number of
+    /// used nodes, and on average doesn't depend on the number of nodes.
     fn fetch(&mut self, key: &Digest) -> Result<&'a [u8], ShelfFault> {
         // Walks ask the nodes near a top again and again, and few of a stock's nodes are used.
         if let Some(node) = self.used_node(key) {

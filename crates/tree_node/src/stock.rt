@@ -1,24 +1,22 @@
 //! The nodes of a publisher, owned.
 
-ghost use Rattle.std.specs.BTreeMap.{get};
 ghost use Rattle.std.specs.Option.{ForSome, option_map};
 ghost use Rattle.std.specs.Prelude.{◌≡◌, ◌≢◌, ◌↔◌, ℕ, List, IfOk, IsOk, OnOk, OnErr};
 ghost use Rattle.tree_node.specs.Digests.{digest as digest_word};
-ghost use Rattle.tree_node.specs.Keys.{digest_cmp};
+ghost use Rattle.tree_node.specs.Keys.{owned_at};
 ghost use Rattle.tree_node.specs.Shelves.{GrownBy, IsEmptySet, SameNodes};
 
 use crate::digest::{Digest, digest_of};
 use crate::recorder::Recorder;
 use std::alloc::Global;
-use std::collections::BTreeMap;
+use std::collections::HashMap;
 use thiserror::Error;
 
-/// Owned nodes, found by their digests in logarithmic time. The bytes of each are held once.
+/// Owned nodes, found by their digests in constant time on average. The bytes of each are held once.
 #[derive(Drop)]
 pub struct Stock {
-    nodes: BTreeMap<Digest, Vec<u8>>,
-    ghost own: { (key : _)
-        → ForSome (get digest_cmp nodes key) (λ node. digest_word node.items ≡ key.0) },
+    nodes: HashMap<Digest, Vec<u8>>,
+    ghost own: { (key : _) → ForSome (owned_at nodes key) (λ node. digest_word node ≡ key.0) },
 }
 
 /// Why a node was not put into a stock.
@@ -41,7 +39,7 @@ impl Stock {
         ensures { IsEmptySet (HasNode result) }
     {
         Stock {
-            nodes: BTreeMap::new(alloc),
+            nodes: HashMap::new(alloc),
         }
     }
 
@@ -90,8 +88,7 @@ impl Stock {
 
     /// The node with this digest.
     pub(crate) fn find(&self, key: &Digest) -> Option<&[u8]>
-        ensures { option_map (λ x. x.now) result
-            ≡ option_map (λ v. v.items) (get digest_cmp self.now.nodes key.now) }
+        ensures { option_map (λ x. x.now) result ≡ owned_at self.now.nodes key.now }
     {
         match self.nodes.get(key) {
             Some(node) => Some(node.as_slice()),

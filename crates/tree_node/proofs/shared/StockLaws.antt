@@ -1,4 +1,5 @@
 -- What a stock holds.
+use Rattle.tree_node.specs.Keys.{owned_at}
 use Rattle.tree_node.specs.Shelves.{IsClashFree}
 use Rattle.tree_node.specs.Stocks.{HasNode}
 use Rattle.tree_node.specs.internal.RecorderLaws.{stands_once}
@@ -6,4 +7,4 @@ use Rattle.tree_node.specs.declared.stock.Stock.{Stock}
 
 -- no two nodes of a stock have one digest
 pub stock_free : (stock : Stock) → IsClashFree (HasNode stock)
-stock_free stock = stands_once stock.nodes
+stock_free stock = stands_once (owned_at stock.nodes)

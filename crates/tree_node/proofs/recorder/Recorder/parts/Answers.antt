@@ -1,8 +1,7 @@
-use Rattle.std.proofs.Common.{map}
-use Rattle.std.specs.BTreeMap.{get}
-use Rattle.tree_node.specs.Keys.{digest_cmp}
+use Rattle.std.proofs.Common.{ℕ, List, map, sym, ap}
+use Rattle.std.specs.Borrow.{Bor}
+use Rattle.std.specs.Option.{option_map}
 use Rattle.tree_node.specs.internal.Pairs.{pair_of}
-use Rattle.tree_node.proofs.MapLemmas.{own_digest}
 use Rattle.tree_node.proofs.RecorderLemmas.{parts_rise, parts_given, to_come, one_more, none_more}
 use Rattle.tree_node.proofs.recorder.Recorder.parts.Goals as goal
 
@@ -10,8 +9,8 @@ pub with_digest-requires : goal.with_digest-requires
 with_digest-requires c =
     let there = to_come c.args.self.now.given (map pair_of c.loop-key.parts.items) _ c.next.new.self c.in-Some.key.now c.in-Some.bytes.now
     c.into_iter-key-iterator.ensures.into_iter_gives.6 c.loop-key.invariant c.in-Some.ensures.steps in
-    own_digest _ (get digest_cmp c.args.self.now.stock.now.nodes c.in-Some.key.now) _ (c.args.self.now.own c.in-Some.key.now c.in-Some.bytes.now there)
-    (c.args.self.now.stock.now.own c.in-Some.key.now)
+    let held = c.args.self.now.own c.in-Some.key.now c.in-Some.bytes.now.now (ap (option_map (λ (b : Bor (List ℕ)). b.now)) there) in
+    sym (c.args.self.now.stock.now.own c.in-Some.key.now c.in-Some.bytes.now.now held)
 
 pub loop-key-preserved : goal.loop-key-preserved
 loop-key-preserved c =

@@ -1,67 +1,78 @@
-use Rattle.std.proofs.Common.{◌≡◌, ℕ, sym, ap, ◌∙◌, inl}
+use Rattle.std.proofs.Common.{◌≡◌, ℕ, List, Some, None, sym, ap, ◌∙◌, inl}
 use Rattle.std.specs.Global.{Vec}
+use Rattle.std.specs.Option.{option_map}
 use Rattle.std.proofs.lemmas.Slice.Eq.{bytes_eq-Decides}
 use Rattle.tree_node.specs.Digests.{digest}
-use Rattle.tree_node.proofs.MapLemmas.{put_grows, owns_after, stands, differ, copied_none, none_held}
+use Rattle.tree_node.specs.Keys.{owned_at}
+use Rattle.tree_node.specs.declared.digest.Digest.{Digest}
+use Rattle.tree_node.proofs.MapLemmas.{hash_sets, put_grows, owned_after, stands, differ, copied_none, none_held}
 use Rattle.tree_node.specs.internal.RecorderLaws.{stands_once}
 use Rattle.tree_node.proofs.stock.Stock.put.Goals as goal
 
 pub returns-in-Some-clause-clash : goal.returns-in-Some-clause-clash
 returns-in-Some-clause-clash c =
-    let at = sym c.in-Some.ensures.value in
-    let own = c.args.self.now.own c.digest_of-key.result c.in-Some.node.now at in
-    let same : digest c.in-Some.node.now.items ≡ digest c.args.bytes.items = own ∙ c.digest_of-key.ensures ∙ ap digest c.as_slice.ensures.value in
+    let nodes = owned_at c.args.self.now.nodes in
+    let x = c.in-Some.node.now.items in
+    let at : nodes c.digest_of-key.result ≡ Some x = ap (option_map (λ (v : Vec ℕ). v.items)) (sym c.in-Some.ensures.value) in
+    let own = c.args.self.now.own c.digest_of-key.result x at in
+    let same : digest x ≡ digest c.args.bytes.items = own ∙ c.digest_of-key.ensures ∙ ap digest c.as_slice.ensures.value in
     let decides = bytes_eq-Decides c.as_slice-in-Some.result.now c.as_slice-in-Some-2.result.now in
     λ _. (
-      c.in-Some.node.now.items,
-      stands c.args.self.now.nodes c.digest_of-key.result c.in-Some.node.now at own,
+      x,
+      stands nodes c.digest_of-key.result x at own,
       (λ e. let t = decides.1 (c.as_slice-in-Some.ensures.value ∙ e ∙ sym c.as_slice-in-Some-2.ensures.value) in let f = sym c.eq.ensures ∙ c.if-eq.false in differ _ t f),
       same,
     )
 
 pub invariant_of-self : goal.invariant_of-self
-invariant_of-self c =
-    record { own = owns_after (λ (w : Vec ℕ). w.items) c.args.self.now.nodes c.insert.new.self c.digest_of-key.result c.args.bytes c.insert.result c.insert.ensures.updates c.insert.ensures.err (c.digest_of-key.ensures ∙ ap digest c.as_slice.ensures.value) c.args.self.now.own }
+invariant_of-self c = record {
+  own = owned_after (λ (q : Digest) (x : List ℕ). digest x ≡ q.0) c.args.self.now.nodes c.insert.new.self c.digest_of-key.result c.args.bytes c.insert.result
+      c.insert.ensures.updates c.insert.ensures.err (sym (c.digest_of-key.ensures ∙ ap digest c.as_slice.ensures.value)) c.args.self.now.own;
+}
 
 pub returns-in-Ok-clause-added : goal.returns-in-Ok-clause-added
 returns-in-Ok-clause-added c =
-    put_grows (λ (w : Vec ℕ). w.items) c.args.self.now.nodes c.insert.new.self c.digest_of-key.result c.args.bytes
-    (record { each = c.in-Ok.ensures.updates.0; here = c.in-Ok.ensures.updates.1 })
-    (c.digest_of-key.ensures ∙ ap digest c.as_slice.ensures.value)
-    (inl (sym c.get.ensures.value ∙ copied_none c.get.result c.in_default.not-Some))
+    let none : owned_at c.args.self.now.nodes c.digest_of-key.result ≡ None = ap (option_map (λ (v : Vec ℕ). v.items)) (sym c.get.ensures.value ∙ copied_none c.get.result c.in_default.not-Some) in
+    put_grows (owned_at c.args.self.now.nodes) (owned_at c.insert.new.self) c.digest_of-key.result c.args.bytes.items
+    (hash_sets c.args.self.now.nodes c.insert.new.self c.digest_of-key.result (Some c.args.bytes) c.in-Ok.ensures.updates)
+    (c.digest_of-key.ensures ∙ ap digest c.as_slice.ensures.value) (inl none)
 
 pub returns-then-eq-clause-clashes : goal.returns-then-eq-clause-clashes
 returns-then-eq-clause-clashes c =
-    let at = sym c.in-Some.ensures.value in
-    let own = c.args.self.now.own c.digest_of-key.result c.in-Some.node.now at in
+    let nodes = owned_at c.args.self.now.nodes in
+    let y = c.in-Some.node.now.items in
+    let at : nodes c.digest_of-key.result ≡ Some y = ap (option_map (λ (v : Vec ℕ). v.items)) (sym c.in-Some.ensures.value) in
+    let own = c.args.self.now.own c.digest_of-key.result y at in
     let decides = bytes_eq-Decides c.as_slice-in-Some.result.now c.as_slice-in-Some-2.result.now in
-    let same : c.in-Some.node.now.items ≡ c.args.bytes.items = sym c.as_slice-in-Some.ensures.value ∙ decides.0 (sym c.eq.ensures ∙ c.if-eq.true) ∙ c.as_slice-in-Some-2.ensures.value in
-    λ x is differs clash. absurd (differs (stands_once c.args.self.now.nodes x c.in-Some.node.now.items is (stands c.args.self.now.nodes c.digest_of-key.result c.in-Some.node.now at own) (clash ∙ ap digest (sym same)) ∙ same))
+    let same : y ≡ c.args.bytes.items = sym c.as_slice-in-Some.ensures.value ∙ decides.0 (sym c.eq.ensures ∙ c.if-eq.true) ∙ c.as_slice-in-Some-2.ensures.value in
+    λ x is differs clash. absurd (differs (stands_once nodes x y is (stands nodes c.digest_of-key.result y at own) (clash ∙ ap digest (sym same)) ∙ same))
 
 pub returns-in-Some-clause-there : goal.returns-in-Some-clause-there
 returns-in-Some-clause-there c =
-    let at = sym c.in-Some.ensures.value in
-    let own = c.args.self.now.own c.digest_of-key.result c.in-Some.node.now at in
+    let nodes = owned_at c.args.self.now.nodes in
+    let y = c.in-Some.node.now.items in
+    let at : nodes c.digest_of-key.result ≡ Some y = ap (option_map (λ (v : Vec ℕ). v.items)) (sym c.in-Some.ensures.value) in
+    let own = c.args.self.now.own c.digest_of-key.result y at in
     let key = c.digest_of-key.ensures ∙ ap digest c.as_slice.ensures.value in
     let decides = bytes_eq-Decides c.as_slice-in-Some.result.now c.as_slice-in-Some-2.result.now in
     λ is. absurd (
-    let same = stands_once c.args.self.now.nodes c.in-Some.node.now.items c.args.bytes.items (stands c.args.self.now.nodes c.digest_of-key.result c.in-Some.node.now at own) is (own ∙ key) in
+    let same = stands_once nodes y c.args.bytes.items (stands nodes c.digest_of-key.result y at own) is (own ∙ key) in
     differ _ (decides.1 (c.as_slice-in-Some.ensures.value ∙ same ∙ sym c.as_slice-in-Some-2.ensures.value)) (sym c.eq.ensures ∙ c.if-eq.false))
 
 pub returns-in-Ok-clause-clashes : goal.returns-in-Ok-clause-clashes
 returns-in-Ok-clause-clashes c =
-    let none = sym c.get.ensures.value ∙ copied_none c.get.result c.in_default.not-Some in
+    let none : owned_at c.args.self.now.nodes c.digest_of-key.result ≡ None = ap (option_map (λ (v : Vec ℕ). v.items)) (sym c.get.ensures.value ∙ copied_none c.get.result c.in_default.not-Some) in
     let key = c.digest_of-key.ensures ∙ ap digest c.as_slice.ensures.value in
-    λ x is differs same. absurd (none_held c.args.self.now.nodes c.digest_of-key.result x none (key ∙ sym same) is)
+    λ x is differs same. absurd (none_held (owned_at c.args.self.now.nodes) c.digest_of-key.result x none (key ∙ sym same) is)
 
 pub returns-clause-there : goal.returns-clause-there
 returns-clause-there c =
-    let none = sym c.get.ensures.value ∙ copied_none c.get.result c.in_default.not-Some in
+    let none : owned_at c.args.self.now.nodes c.digest_of-key.result ≡ None = ap (option_map (λ (v : Vec ℕ). v.items)) (sym c.get.ensures.value ∙ copied_none c.get.result c.in_default.not-Some) in
     let key = c.digest_of-key.ensures ∙ ap digest c.as_slice.ensures.value in
-    λ is. absurd (none_held c.args.self.now.nodes c.digest_of-key.result c.args.bytes.items none key is)
+    λ is. absurd (none_held (owned_at c.args.self.now.nodes) c.digest_of-key.result c.args.bytes.items none key is)
 
 pub returns-clause-clashes : goal.returns-clause-clashes
 returns-clause-clashes c =
-    let none = sym c.get.ensures.value ∙ copied_none c.get.result c.in_default.not-Some in
+    let none : owned_at c.args.self.now.nodes c.digest_of-key.result ≡ None = ap (option_map (λ (v : Vec ℕ). v.items)) (sym c.get.ensures.value ∙ copied_none c.get.result c.in_default.not-Some) in
     let key = c.digest_of-key.ensures ∙ ap digest c.as_slice.ensures.value in
-    λ x is differs same. absurd (none_held c.args.self.now.nodes c.digest_of-key.result x none (key ∙ sym same) is)
+    λ x is differs same. absurd (none_held (owned_at c.args.self.now.nodes) c.digest_of-key.result x none (key ∙ sym same) is)
