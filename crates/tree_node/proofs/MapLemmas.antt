@@ -1,36 +1,24 @@
 -- What maps of nodes hold after a change at one digest. A map is seen as the node that it has at each digest.
 use Rattle.std.proofs.Common.{◌≡◌, ◌≢◌, ◌⊎◌, ◌↔◌, ℕ, List, Option, Some, None, Bool, true, false, refl, sym, ap, subst, ◌∙◌, inl, inr, Result, Ok, Err}
 use Rattle.std.specs.Borrow.{Bor}
-use Rattle.std.specs.BTreeMap as tree
-use Rattle.std.specs.Global.{Vec}
-use Rattle.std.specs.HashMap as hash
+use Rattle.std.specs.HashMap.{HashMap, get, IsUnchanged, Updates}
 use Rattle.std.specs.Map.{lookup}
 use Rattle.std.specs.Option.{option_map, ForSome, option_copied}
-use Rattle.std.specs.Ordering.{is_eq}
 use Rattle.std.specs.Prelude.{OnOk, OnErr}
-use Rattle.std.specs.declared.cmp.Ordering.{Ordering}
-use Rattle.std.specs.declared.cmp.Ordering.TheVariants.{Less, Equal, Greater}
 use Rattle.std.proofs.lemmas.Bool.{cases_Bool}
 use Rattle.std.proofs.lemmas.Slice.Eq.{bytes_eq-Decides}
 use Rattle.tree_node.specs.Digests.{digest}
 use Rattle.tree_node.specs.declared.digest.Digest.{Digest}
 use Rattle.tree_node.specs.Shelves.{GrownBy}
-use Rattle.tree_node.specs.Keys.{digest_cmp, digest_eq, key_of, lent_at, owned_at, StandsIn}
-use Rattle.tree_node.specs.internal.OrderLemmas.{order_same}
+use Rattle.tree_node.specs.Keys.{digest_eq, key_of, StandsIn}
 
 -- digests of the same bytes are equal
 same_bytes : (k q : Digest) → k.0 ≡ q.0 → k ≡ q
 same_bytes k q e = ap (λ (d : List ℕ). record { 0 = d }) e
 
--- a comparison that passes for equal is so
-equal_is : (o : Ordering) → is_eq o ≡ true → o ≡ Equal
-equal_is Less e = absurd Prim.cc
-equal_is Equal e = refl
-equal_is Greater e = absurd Prim.cc
-
--- keys that compare equal are equal
-pub at_is : (k q : Digest) → tree.is_at (digest_cmp k) q ≡ true → k ≡ q
-at_is k q e = same_bytes k q (order_same k.0 q.0 (equal_is (digest_cmp k q) e))
+-- digests that compare equal are equal
+pub eq_is : (k q : Digest) → digest_eq k q ≡ true → k ≡ q
+eq_is k q e = same_bytes k q ((bytes_eq-Decides k.0 q.0).0 e)
 
 -- an option has one value
 some_is : {A : Type 0} (a b : A) → Some a ≡ Some b → a ≡ b
@@ -45,25 +33,14 @@ pub record Sets (before after : Digest → Option (List ℕ)) (k : Digest) (node
   pub here : after k ≡ node
   pub others : (q : Digest) → (q ≡ k) ⊎ (after q ≡ before q)
 
--- what an update of a stock's map does
-pub hash_sets : {S : Type 0} (m n : hash.HashMap Digest (Vec ℕ) S) (k : Digest) (w : Option (Vec ℕ)) → hash.Updates digest_eq m n k w
-    → Sets (owned_at m) (owned_at n) k (option_map (λ (v : Vec ℕ). v.items) w)
-hash_sets m n k w up = record {
-  here = ap (option_map (λ (v : Vec ℕ). v.items)) up.1;
+-- what an update of a map does, where `view` sees its values as nodes
+pub update_sets : {V S : Type 0} (view : V → List ℕ) (m n : HashMap Digest V S) (k : Digest) (w : Option V) → Updates digest_eq m n k w
+    → Sets (λ q. option_map view (get digest_eq m q)) (λ q. option_map view (get digest_eq n q)) k (option_map view w)
+update_sets view m n k w up = record {
+  here = ap (option_map view) up.1;
   others = λ q. elim (cases_Bool (digest_eq k q)) [
-    | inl hit ↦ inl (sym (same_bytes k q ((bytes_eq-Decides k.0 q.0).0 hit)))
-    | inr miss ↦ inr (ap (option_map (λ (v : Vec ℕ). v.items)) (up.2 q miss))
-  ];
-}
-
--- what an update of a recorder's map does
-pub tree_sets : (m n : tree.BTreeMap Digest (Bor (List ℕ))) (k : Digest) (w : Option (Bor (List ℕ))) → tree.Updates digest_cmp m n k w
-    → Sets (lent_at m) (lent_at n) k (option_map (λ (b : Bor (List ℕ)). b.now) w)
-tree_sets m n k w up = record {
-  here = ap (option_map (λ (b : Bor (List ℕ)). b.now)) up.1;
-  others = λ q. elim (cases_Bool (tree.is_at (digest_cmp k) q)) [
-    | inl hit ↦ inl (sym (at_is k q hit))
-    | inr miss ↦ inr (ap (option_map (λ (b : Bor (List ℕ)). b.now)) (up.2 q miss))
+    | inl hit ↦ inl (sym (eq_is k q hit))
+    | inr miss ↦ inr (ap (option_map view) (up.2 q miss))
   ];
 }
 
@@ -120,29 +97,22 @@ take_loses before after k sets x = (λ is. (old is, gone is), new)
         ]
 
 -- what is so of the node at k, and was so of each, is so of each
-pub each_after : (P : Digest → List ℕ → Type 0) (before after : Digest → Option (List ℕ)) (k : Digest) (node : Option (List ℕ)) → Sets before after k node
-    → ForSome node (P k) → ((q : Digest) → ForSome (before q) (P q)) → (q : Digest) → ForSome (after q) (P q)
-each_after P before after k node sets new old q x is =
+pub each_after : (P : Digest → List ℕ → Type 0) (before after : Digest → Option (List ℕ)) (k : Digest) (one : Option (List ℕ)) → Sets before after k one
+    → ForSome one (P k) → ((q : Digest) → ForSome (before q) (P q)) → (q : Digest) → ForSome (after q) (P q)
+each_after P before after k one sets new old q x is =
     elim (sets.others q) [
       | inl at ↦ subst (λ (r : Digest). P r x) (sym at) (new x (sym sets.here ∙ ap after (sym at) ∙ is))
       | inr same ↦ old q x (sym same ∙ is)
     ]
 
--- the same after a node was put into a stock's map, or was not
-pub owned_after : {A E S : Type 0} (P : Digest → List ℕ → Type 0) (m n : hash.HashMap Digest (Vec ℕ) S) (k : Digest) (v : Vec ℕ) (r : Result A E)
-    → OnOk r (hash.Updates digest_eq m n k (Some v)) → OnErr r (hash.IsUnchanged m n) → P k v.items
-    → ((q : Digest) → ForSome (owned_at m q) (P q)) → (q : Digest) → ForSome (owned_at n q) (P q)
-owned_after P m n k v (Ok a) up same new old =
-    each_after P (owned_at m) (owned_at n) k (Some v.items) (hash_sets m n k (Some v) up) (λ x e. subst (P k) (some_is v.items x e) new) old
-owned_after P m n k v (Err e) up same new old = λ q x is. old q x (ap (λ es. option_map (λ (w : Vec ℕ). w.items) (lookup (digest_eq q) es)) (sym same) ∙ is)
-
--- and after one was put into a recorder's
-pub lent_after : {A E : Type 0} (P : Digest → List ℕ → Type 0) (m n : tree.BTreeMap Digest (Bor (List ℕ))) (k : Digest) (b : Bor (List ℕ)) (r : Result A E)
-    → OnOk r (tree.Updates digest_cmp m n k (Some b)) → OnErr r (tree.IsUnchanged m n) → P k b.now
-    → ((q : Digest) → ForSome (lent_at m q) (P q)) → (q : Digest) → ForSome (lent_at n q) (P q)
-lent_after P m n k b (Ok a) up same new old =
-    each_after P (lent_at m) (lent_at n) k (Some b.now) (tree_sets m n k (Some b) up) (λ x e. subst (P k) (some_is b.now x e) new) old
-lent_after P m n k b (Err e) up same new old = λ q x is. old q x (ap (λ es. option_map (λ (c : Bor (List ℕ)). c.now) (lookup (tree.is_at (digest_cmp q)) es)) (sym same) ∙ is)
+-- the same after an insert, as it may have failed
+pub each_inserted : {A E V S : Type 0} (P : Digest → List ℕ → Type 0) (view : V → List ℕ) (m n : HashMap Digest V S) (k : Digest) (v : V) (r : Result A E)
+    → OnOk r (Updates digest_eq m n k (Some v)) → OnErr r (IsUnchanged m n) → P k (view v)
+    → ((q : Digest) → ForSome (option_map view (get digest_eq m q)) (P q)) → (q : Digest) → ForSome (option_map view (get digest_eq n q)) (P q)
+each_inserted P view m n k v (Ok a) up same new old =
+    each_after P (λ q. option_map view (get digest_eq m q)) (λ q. option_map view (get digest_eq n q)) k (Some (view v))
+    (update_sets view m n k (Some v) up) (λ x e. subst (P k) (some_is (view v) x e) new) old
+each_inserted P view m n k v (Err e) up same new old = λ q x is. old q x (ap (λ es. option_map view (lookup (digest_eq q) es)) (sym same) ∙ is)
 
 -- a node that stands under its digest is held
 pub stands : (node_at : Digest → Option (List ℕ)) (key : Digest) (x : List ℕ) → node_at key ≡ Some x → digest x ≡ key.0 → StandsIn node_at x

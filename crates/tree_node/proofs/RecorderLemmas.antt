@@ -1,76 +1,109 @@
 -- The parts that a recorder makes of the nodes that it gave.
-use Rattle.std.proofs.Common.{◌≡◌, ℕ, zero, suc, ◌<◌, List, [], ◌∷◌, ◌++◌, map, length, get_or, Option, Some, None, All, refl, sym, ap, subst, ◌∙◌, arith}
-use Rattle.std.specs.List.{AllPairs}
-use Rattle.std.specs.List.Sorted.{IsStrictlySortedBy}
+use Rattle.std.proofs.Common.{◌≡◌, ℕ, suc, ◌<◌, List, [], ◌∷◌, ◌++◌, map, length, get_or, Option, Some, None, false, refl, sym, ap, subst, ◌∙◌, arith}
+use Rattle.std.specs.Borrow.{Bor}
+use Rattle.std.specs.Cmp.{IsEquivalence}
+use Rattle.std.specs.HashMap.{HashMap, IsUnique, get}
+use Rattle.std.specs.List.{Contains, IsDistinct}
+use Rattle.std.specs.List.Sorted.{IsPermutation, IsSortedByKey}
 use Rattle.std.specs.Map.{keys_of}
 use Rattle.std.specs.Option.{option_map}
-use Rattle.std.specs.Borrow.{Bor}
-use Rattle.std.specs.BTreeMap.{BTreeMap, get}
+use Rattle.std.specs.Ordering.{is_lt, nat_cmp}
+use Rattle.std.specs.Cmp.Lexicographic.{slice_cmp}
+use Rattle.std.specs.Str.{bytes_eq}
 use Rattle.std.specs.declared.cmp.Ordering.{Ordering}
-use Rattle.std.specs.declared.cmp.Ordering.TheVariants.{Less}
+use Rattle.std.specs.declared.cmp.Ordering.TheVariants.{Less, Equal, Greater}
+use Rattle.std.proofs.lemmas.Cmp.{nat_list_cmp_total, nat_list_eq_equiv}
 use Rattle.std.proofs.lemmas.List.{get_or-map, append-nil}
-use Rattle.std.proofs.lemmas.Map.Views.{Contains-from_lookup, All-after_first}
-use Rattle.std.proofs.lemmas.Map.Keys.{sorted_tail}
+use Rattle.std.proofs.lemmas.List.Sorted.{Contains-permutation, IsPermutation-map, IsPermutation-sym, ranks_by, sorted_far}
+use Rattle.std.proofs.lemmas.Map.Keys.{IsDistinct-IsPermutation, apart_from_distinct}
+use Rattle.std.proofs.lemmas.Map.Views.{Contains-from_lookup, lookup-from_Contains}
+use Rattle.std.proofs.lemmas.Slice.Eq.{bytes_eq-Decides}
 use Rattle.tree_node.specs.Digests.{digest}
-use Rattle.tree_node.specs.Keys.{digest_cmp, key_of, lent_at, StandsIn}
+use Rattle.tree_node.specs.Keys.{digest_eq, key_of, lent_at, StandsIn}
+use Rattle.tree_node.specs.Order.{order, IsBelow}
 use Rattle.tree_node.specs.Parts.{node_of, HaveNode, HaveRisingDigests}
-use Rattle.tree_node.specs.internal.Pairs.{pair_of}
+use Rattle.tree_node.specs.internal.OrderLemmas.{order_above, order_same}
+use Rattle.tree_node.specs.internal.Pairs.{HaveDistinctDigests, pair_of, part_key}
 use Rattle.tree_node.specs.Shelves.{SameNodes}
 use Rattle.tree_node.specs.declared.digest.Digest.{Digest}
 use Rattle.tree_node.specs.declared.part.Part.{Part}
-use Rattle.tree_node.proofs.MapLemmas.{at_is}
 use Rattle.tree_node.proofs.BagLemmas.{element_at}
-
--- of keys in order, each is below each later one
-pairs_in_order : {K : Type 0} (cmp : K → K → Ordering) (ks : List K) → IsStrictlySortedBy cmp ks → AllPairs (λ a b. cmp a b ≡ Less) ks
-pairs_in_order cmp [] s i j d lt ltj = absurd (omega arith)
-pairs_in_order cmp (k ∷ ks) s zero zero d lt ltj = absurd (omega arith)
-pairs_in_order cmp (k ∷ ks) s zero (suc j) d lt ltj = All-after_first cmp k ks s j d (omega arith)
-pairs_in_order cmp (k ∷ ks) s (suc i) zero d lt ltj = absurd (omega arith)
-pairs_in_order cmp (k ∷ ks) s (suc i) (suc j) d lt ltj = pairs_in_order cmp ks (sorted_tail cmp k ks s) i j d (omega arith) (omega arith)
-
--- the digests of parts
-abbrev digests_of : List Part → List Digest
-digests_of parts = map (λ (p : Part). p.digest) parts
-
--- the keys of parts as entries are their digests
-keys_are : (parts : List Part) → keys_of (map pair_of parts) ≡ digests_of parts
-keys_are [] = refl
-keys_are (p ∷ ps) = ap (λ (ks : List Digest). p.digest ∷ ks) (keys_are ps)
+use Rattle.tree_node.proofs.MapLemmas.{differ, eq_is}
 
 -- a list keeps its length
 length_same : {X Y : Type 0} (f : X → Y) (xs : List X) → length (map f xs) ≡ length xs
 length_same f [] = refl
 length_same f (x ∷ xs) = ap suc (length_same f xs)
 
--- parts made of a map's entries, in order, have rising digests
-pub parts_rise : (parts : List Part) → IsStrictlySortedBy digest_cmp (keys_of (map pair_of parts)) → HaveRisingDigests parts
-parts_rise parts sorted i j d lt ltj =
-    let ltk : j < length (digests_of parts) = omega (arith, length_same (λ (p : Part). p.digest) parts) in
-    let below = pairs_in_order digest_cmp (digests_of parts) (subst (λ (ks : List Digest). IsStrictlySortedBy digest_cmp ks) (keys_are parts) sorted) i j d.digest lt ltk in
-    let ati = get_or-map (λ (p : Part). p.digest) parts i d d.digest (omega arith) in
-    let atj = get_or-map (λ (p : Part). p.digest) parts j d d.digest ltj in
-    let a = get_or parts i d in
-    let b = get_or parts j d in
-    let apart : digest_cmp a.digest b.digest ≡ Less = sym (ap (λ (q : Digest). digest_cmp q (get_or (digests_of parts) j d.digest)) ati ∙ ap (λ (q : Digest). digest_cmp a.digest q) atj) ∙ below in
-    rw (a.own, b.own) at apart
+-- equality of digests is an equivalence
+digest_equiv : IsEquivalence digest_eq
+digest_equiv = record {
+  refl = λ x. nat_list_eq_equiv.refl x.0;
+  symm = λ x y. nat_list_eq_equiv.symm x.0 y.0;
+  congr = λ x y z. nat_list_eq_equiv.congr x.0 y.0 z.0;
+}
 
-module _ (given : BTreeMap Digest (Bor (List ℕ))) (parts : List Part) (are : map pair_of parts ≡ given.entries)
-    (found : All (λ e. get digest_cmp given e.0 ≡ Some e.1) given.entries) where
+-- what isn't above, and differs, is below
+rises : (a b : List ℕ) → is_lt (order b a) ≡ false → bytes_eq a b ≡ false → IsBelow a b
+rises a b up apart = by (order a b) refl
+  where
+    by : (o : Ordering) → order a b ≡ o → IsBelow a b
+    by Less e = e
+    by Equal e = absurd (differ (bytes_eq a b) ((bytes_eq-Decides a b).1 (order_same a b e)) apart)
+    by Greater e = absurd (differ (is_lt (order b a)) (ap is_lt (order_above a b e)) up)
+
+-- parts with distinct digests, once sorted, have rising digests
+pub parts_rise : (parts sorted : List Part) → IsPermutation parts sorted → HaveDistinctDigests parts
+    → IsSortedByKey part_key (λ (a b : Digest). slice_cmp nat_cmp a.0 b.0) sorted → HaveRisingDigests sorted
+parts_rise parts sorted moved once up i j d lt ltj =
+    let distinct = IsDistinct-IsPermutation digest_eq digest_equiv.symm (map part_key parts) (map part_key sorted) (IsPermutation-map part_key parts sorted moved) once in
+    let ltk : j < length (map part_key sorted) = omega (arith, length_same part_key sorted) in
+    let apart = apart_from_distinct digest_eq (map part_key sorted) i j (part_key d) distinct lt ltk in
+    let ati = get_or-map part_key sorted i d (part_key d) (omega arith) in
+    let atj = get_or-map part_key sorted j d (part_key d) ltj in
+    let a = get_or sorted i d in
+    let b = get_or sorted j d in
+    rises (digest (node_of a)) (digest (node_of b))
+    (sorted_far (λ (x y : Part). is_lt (slice_cmp nat_cmp (digest (node_of x)) (digest (node_of y)))) (ranks_by nat_list_cmp_total (λ (p : Part). digest (node_of p))) sorted up i j d (omega arith) ltj)
+    (sym (ap (λ (q : Digest). digest_eq q (get_or (map part_key sorted) j (part_key d))) ati ∙ ap (λ (q : Digest). digest_eq (part_key a) q) atj) ∙ apart)
+
+-- parts hold the same nodes in another order
+keeps_node : (parts others : List Part) → IsPermutation parts others → (x : List ℕ) → HaveNode parts x → HaveNode others x
+keeps_node parts others moved x (k, p, lt, is, e) = let (j, ltj, at) = Contains-permutation parts others p moved (k, lt, is) in (j, p, ltj, at, e)
+
+-- they hold the same nodes as a set, if they did before
+pub same_given : (parts sorted : List Part) → IsPermutation parts sorted → (used : List ℕ → Type 0) → SameNodes used (HaveNode parts) → SameNodes used (HaveNode sorted)
+same_given parts sorted moved used same x = (
+  λ h. (same x).0 (keeps_node sorted parts (IsPermutation-sym parts sorted moved) x h),
+  λ h. keeps_node parts sorted moved x ((same x).1 h),
+)
+
+-- the keys of parts as entries are those of their nodes
+keys_are : (parts : List Part) → keys_of (map pair_of parts) ≡ map part_key parts
+keys_are [] = refl
+keys_are (p ∷ ps) =
+    ap (λ (k : List ℕ). record { 0 = k } ∷ keys_of (map pair_of ps)) p.own ∙ ap (λ (ks : List Digest). part_key p ∷ ks) (keys_are ps)
+
+module _ {S : Type 0} (given : HashMap Digest (Bor (List ℕ)) S) (parts : List Part) (are : map pair_of parts ≡ given.entries) (unique : IsUnique digest_eq given) where
+  -- no two parts have one digest
+  pub parts_distinct : HaveDistinctDigests parts
+  parts_distinct =
+      subst (λ (ks : List Digest). IsDistinct digest_eq ks) (sym (ap (λ (es : List (Digest × Bor (List ℕ))). keys_of es) are) ∙ keys_are parts) unique
+
   -- what a part holds was given
   held_given : (x : List ℕ) → HaveNode parts x → StandsIn (lent_at given) x
   held_given x (k, p, lt, is, e) =
       let ltk : k < length given.entries = omega (arith, length_same pair_of parts, ap (length {A = Digest × Bor (List ℕ)}) are) in
       let at : get_or given.entries k (pair_of p) ≡ pair_of p = ap (λ (es : List (Digest × Bor (List ℕ))). get_or es k (pair_of p)) (sym are) ∙ get_or-map pair_of parts k p (pair_of p) lt ∙ ap pair_of is in
-      let there : get digest_cmp given p.digest ≡ Some p.bytes = subst (λ (q : Digest × Bor (List ℕ)). get digest_cmp given q.0 ≡ Some q.1) at (found k (pair_of p) ltk) in
+      let there : get digest_eq given p.digest ≡ Some p.bytes = lookup-from_Contains digest_equiv p.digest p.bytes given.entries unique (k, ltk, at) in
       let key : p.digest ≡ key_of x = ap (λ (d : List ℕ). record { 0 = d }) (p.own ∙ ap digest e) in
-      ap (λ q. option_map (λ (b : Bor (List ℕ)). b.now) (get digest_cmp given q)) (sym key) ∙ ap (option_map (λ (b : Bor (List ℕ)). b.now)) there ∙ ap (λ (n : List ℕ). Some n) e
+      ap (lent_at given) (sym key) ∙ ap (option_map (λ (b : Bor (List ℕ)). b.now)) there ∙ ap (λ (n : List ℕ). Some n) e
 
   -- what was given, a part holds
-  some_given : (x : List ℕ) (o : Option (Bor (List ℕ))) → get digest_cmp given (key_of x) ≡ o → option_map (λ (b : Bor (List ℕ)). b.now) o ≡ Some x → HaveNode parts x
+  some_given : (x : List ℕ) (o : Option (Bor (List ℕ))) → get digest_eq given (key_of x) ≡ o → option_map (λ (b : Bor (List ℕ)). b.now) o ≡ Some x → HaveNode parts x
   some_given x None is e = absurd cc
   some_given x (Some b) is e =
-      let (k, lt, at) = Contains-from_lookup at_is (key_of x) b given.entries is in
+      let (k, lt, at) = Contains-from_lookup eq_is (key_of x) b given.entries is in
       let ltp : k < length parts = omega (arith, length_same pair_of parts, ap (length {A = Digest × Bor (List ℕ)}) are) in
       let part = element_at parts k ltp in
       let pair : pair_of part.0 ≡ (key_of x, b) = sym (ap (λ (es : List (Digest × Bor (List ℕ))). get_or es k (key_of x, b)) (sym are) ∙ get_or-map pair_of parts k part.0 (key_of x, b) ltp ∙ ap pair_of part.1) ∙ at in
@@ -79,20 +112,19 @@ module _ (given : BTreeMap Digest (Bor (List ℕ))) (parts : List Part) (are : m
 
   -- the parts hold exactly what was given
   pub parts_given : SameNodes (StandsIn (lent_at given)) (HaveNode parts)
-  parts_given x = (held_given x, some_given x (get digest_cmp given (key_of x)) refl)
+  parts_given x = (held_given x, some_given x (get digest_eq given (key_of x)) refl)
 
--- what holds of each element holds of one with others round it
-holds_after : {X : Type 0} (P : X → Type 0) (front : List X) (x : X) (back : List X) → All P (front ++ x ∷ back) → P x
-holds_after P [] x back all = all 0 x (omega arith)
-holds_after P (y ∷ front) x back all = holds_after P front x back (λ k d lt. all (suc k) d (omega arith))
+-- a list has what stands between its parts
+between : {X : Type 0} (front : List X) (x : X) (back : List X) → Contains (front ++ x ∷ back) x
+between [] x back = (0, omega arith, refl)
+between (y ∷ front) x back = let (k, lt, at) = between front x back in (suc k, omega arith, at)
 
 -- a key and a node that are still to come stand in the map so
-pub to_come : (given : BTreeMap Digest (Bor (List ℕ))) (front left back : List (Digest × Bor (List ℕ))) (key : Digest) (node : Bor (List ℕ))
-    → All (λ e. get digest_cmp given e.0 ≡ Some e.1) given.entries → front ++ left ≡ given.entries → left ≡ (key, node) ∷ back
-    → get digest_cmp given key ≡ Some node
-to_come given front left back key node found are is =
-    holds_after (λ (e : Digest × Bor (List ℕ)). get digest_cmp given e.0 ≡ Some e.1) front (key, node) back
-    (subst (λ (es : List (Digest × Bor (List ℕ))). All (λ e. get digest_cmp given e.0 ≡ Some e.1) es) (sym are ∙ ap (λ (l : List (Digest × Bor (List ℕ))). front ++ l) is) found)
+pub to_come : {S : Type 0} (given : HashMap Digest (Bor (List ℕ)) S) (front left back : List (Digest × Bor (List ℕ))) (key : Digest) (node : Bor (List ℕ))
+    → IsUnique digest_eq given → front ++ left ≡ given.entries → left ≡ (key, node) ∷ back → get digest_eq given key ≡ Some node
+to_come given front left back key node unique are is =
+    lookup-from_Contains digest_equiv key node given.entries unique
+    (subst (λ (es : List (Digest × Bor (List ℕ))). Contains es (key, node)) (sym (ap (λ (l : List (Digest × Bor (List ℕ))). front ++ l) is) ∙ are) (between front (key, node) back))
 
 -- the last part as an entry stands before those still to come
 moved : (parts : List Part) (p : Part) (left : List (Digest × Bor (List ℕ))) → map pair_of (parts ++ p ∷ []) ++ left ≡ map pair_of parts ++ pair_of p ∷ left

@@ -2,20 +2,12 @@
 -- Source: this project.
 use Rattle.std.specs.Prelude.{◌≡◌, ℕ, List, Bool, Option, Some}
 use Rattle.std.specs.Option.{option_map}
-use Rattle.std.specs.Ordering.{nat_cmp}
 use Rattle.std.specs.Str.{bytes_eq}
-use Rattle.std.specs.Cmp.Lexicographic.{slice_cmp}
-use Rattle.std.specs.declared.cmp.Ordering.{Ordering}
 use Rattle.std.specs.Borrow.{Bor}
 use Rattle.std.specs.Global.{Vec}
-use Rattle.std.specs.BTreeMap as tree
-use Rattle.std.specs.HashMap as hash
+use Rattle.std.specs.HashMap.{HashMap, get}
 use Rattle.tree_node.specs.Digests.{digest}
 use Rattle.tree_node.specs.declared.digest.Digest.{Digest}
-
--- the order of digests, by their bytes
-abbrev pub digest_cmp : Digest → Digest → Ordering
-digest_cmp a b = slice_cmp nat_cmp a.0 b.0
 
 -- whether two digests have the same bytes
 abbrev pub digest_eq : Digest → Digest → Bool
@@ -26,12 +18,12 @@ abbrev pub key_of : List ℕ → Digest
 key_of x = record { 0 = digest x }
 
 -- the owned node under a digest
-abbrev pub owned_at : {S : Type 0} → hash.HashMap Digest (Vec ℕ) S → Digest → Option (List ℕ)
-owned_at nodes key = option_map (λ v. v.items) (hash.get digest_eq nodes key)
+abbrev pub owned_at : {S : Type 0} → HashMap Digest (Vec ℕ) S → Digest → Option (List ℕ)
+owned_at nodes key = option_map (λ v. v.items) (get digest_eq nodes key)
 
 -- the lent node under a digest
-abbrev pub lent_at : tree.BTreeMap Digest (Bor (List ℕ)) → Digest → Option (List ℕ)
-lent_at nodes key = option_map (λ b. b.now) (tree.get digest_cmp nodes key)
+abbrev pub lent_at : {S : Type 0} → HashMap Digest (Bor (List ℕ)) S → Digest → Option (List ℕ)
+lent_at nodes key = option_map (λ b. b.now) (get digest_eq nodes key)
 
 -- the node stands under its own digest, where `node_at` gives the nodes of a map
 abbrev pub StandsIn : (Digest → Option (List ℕ)) → List ℕ → Type 0

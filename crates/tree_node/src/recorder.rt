@@ -12,7 +12,7 @@ use crate::part::Part;
 use crate::shelf::{Shelf, ShelfFault};
 use crate::stock::Stock;
 use std::alloc::{AllocError, Global};
-use std::collections::BTreeMap;
+use std::collections::HashMap;
 
 /// A shelf over a stock, which keeps the nodes that were used, each beside its digest. It copies no
 /// bytes.
@@ -20,7 +20,7 @@ use std::collections::BTreeMap;
 pub struct Recorder<'a> {
     alloc: Global,
     stock: &'a Stock,
-    given: BTreeMap<Digest, &'a [u8]>,
+    given: HashMap<Digest, &'a [u8]>,
     ghost own: { (key : _)
         → ForSome (lent_at given key) (λ node. owned_at stock.now.nodes key ≡ Some node) },
 }
@@ -28,6 +28,7 @@ pub struct Recorder<'a> {
 impl<'a> Recorder<'a> {
     ghost use Rattle.tree_node.specs.Recorders.{RecorderHolds, RecorderUsed};
     ghost use Rattle.tree_node.specs.Stocks.{HasNode};
+    ghost use Rattle.tree_node.specs.internal.Pairs.{HaveDistinctDigests};
 
     /// A shelf over this stock, no node of it used. It takes no memory yet; what it remembers later
     /// comes from `alloc`.
@@ -38,22 +39,33 @@ impl<'a> Recorder<'a> {
         Recorder {
             alloc,
             stock,
-            given: BTreeMap::new(alloc),
+            given: HashMap::new(alloc),
         }
     }
 
     /// The used nodes, each once, by rising digest. No digest is computed again; the recorder stays
-    /// as it is.
+    /// as it is. It sorts them, so it takes n log n time for n used nodes.
     pub fn parts(&self) -> Result<Vec<Part<'a>>, AllocError>
         ensures rising { IfOk result (λ parts. HaveRisingDigests parts.items) }
         ensures used { IfOk result (λ parts.
             SameNodes (RecorderUsed self.now) (HaveNode parts.items)) }
     {
-        let mut parts = Vec::with_capacity(self.alloc, self.given.len())?;
-        for (key, bytes) in &self.given {
-            parts.push(Part::with_digest(*key, *bytes))?;
-        }
+        let mut parts = self.used_parts()?;
+        parts.sort_unstable_by_key(|part| part.digest());
         Ok(parts)
+    }
+
+    /// The used nodes, each once, in no order that means anything.
+    fn used_parts(&self) -> Result<Vec<Part<'a>>, AllocError>
+        ensures once { IfOk result (λ parts. HaveDistinctDigests parts.items) }
+        ensures used { IfOk result (λ parts.
+            SameNodes (RecorderUsed self.now) (HaveNode parts.items)) }
+    {
+        let mut used = Vec::with_capacity(self.alloc, self.given.len())?;
+        for (key, bytes) in &self.given {
+            used.push(Part::with_digest(*key, *bytes))?;
+        }
+        Ok(used)
     }
 
     /// The node with this digest, if it was used before.
@@ -83,8 +95,7 @@ impl<'a> Shelf<'a> for Recorder<'a> {
 
     ghost used_held = { λ r. given_held (owned_at r.stock.now.nodes) (lent_at r.given) r.own };
 
-    /// It takes memory only for a node that was not used before. It is logarithmic in the number of
-    /// used nodes, and on average doesn't depend on the number of nodes.
+    /// It takes memory only for a node that was not used before, and is constant in time on average.
     fn fetch(&mut self, key: &Digest) -> Result<&'a [u8], ShelfFault> {
         // Walks ask the nodes near a top again and again, and few of a stock's nodes are used.
         if let Some(node) = self.used_node(key) {

@@ -1,27 +1,15 @@
-use Rattle.std.proofs.Common.{ℕ, List, map, sym, ap}
-use Rattle.std.specs.Borrow.{Bor}
-use Rattle.std.specs.Option.{option_map}
-use Rattle.tree_node.specs.internal.Pairs.{pair_of}
-use Rattle.tree_node.proofs.RecorderLemmas.{parts_rise, parts_given, to_come, one_more, none_more}
+use Rattle.std.proofs.Common.{rules}
+use Rattle.std.proofs.lemmas.List.Sorted.{answers_always}
+use Rattle.tree_node.specs.Recorders.{RecorderUsed}
+use Rattle.tree_node.specs.internal.Pairs.{part_key}
+use Rattle.tree_node.proofs.RecorderLemmas.{parts_rise, same_given}
 use Rattle.tree_node.proofs.recorder.Recorder.parts.Goals as goal
-
-pub with_digest-requires : goal.with_digest-requires
-with_digest-requires c =
-    let there = to_come c.args.self.now.given (map pair_of c.loop-key.parts.items) _ c.next.new.self c.in-Some.key.now c.in-Some.bytes.now
-    c.into_iter-key-iterator.ensures.into_iter_gives.6 c.loop-key.invariant c.in-Some.ensures.steps in
-    let held = c.args.self.now.own c.in-Some.key.now c.in-Some.bytes.now.now (ap (option_map (λ (b : Bor (List ℕ)). b.now)) there) in
-    sym (c.args.self.now.stock.now.own c.in-Some.key.now c.in-Some.bytes.now.now held)
-
-pub loop-key-preserved : goal.loop-key-preserved
-loop-key-preserved c =
-    one_more c.loop-key.parts.items c.push.new.self.items c.with_digest.result (c.in-Some.key.now, c.in-Some.bytes.now) _ _ _
-    c.in_ok-push.ensures.items c.with_digest.ensures c.in-Some.ensures.steps c.loop-key.invariant
 
 pub returns : goal.returns
 returns c =
-    let all = none_more c.loop-key.parts.items _ _ c.in-None.ensures.steps.0 c.loop-key.invariant in
-    let ordered = c.into_iter-key-iterator.ensures.into_iter_gives.5 in
+    let moved = c.sort_unstable_by_key.ensures.permutation in
     record {
-      rising = parts_rise c.loop-key.parts.items (rw all ordered);
-      used = parts_given c.args.self.now.given c.loop-key.parts.items all c.into_iter-key-iterator.ensures.into_iter_gives.6;
+      rising = parts_rise c.in_ok-parts.parts.items c.sort_unstable_by_key.new.self.items moved c.in_ok-parts.ensures.once
+          (c.sort_unstable_by_key.ensures.sorted part_key (answers_always _ _ _ (λ f a r g h. search rules)));
+      used = same_given c.in_ok-parts.parts.items c.sort_unstable_by_key.new.self.items moved (RecorderUsed c.args.self.now) c.in_ok-parts.ensures.used;
     }

@@ -5,7 +5,7 @@ use Rattle.std.proofs.lemmas.Slice.Eq.{bytes_eq-Decides}
 use Rattle.tree_node.specs.Digests.{digest}
 use Rattle.tree_node.specs.Keys.{owned_at}
 use Rattle.tree_node.specs.declared.digest.Digest.{Digest}
-use Rattle.tree_node.proofs.MapLemmas.{hash_sets, put_grows, owned_after, stands, differ, copied_none, none_held}
+use Rattle.tree_node.proofs.MapLemmas.{update_sets, put_grows, each_inserted, stands, differ, copied_none, none_held}
 use Rattle.tree_node.specs.internal.RecorderLaws.{stands_once}
 use Rattle.tree_node.proofs.stock.Stock.put.Goals as goal
 
@@ -26,7 +26,7 @@ returns-in-Some-clause-clash c =
 
 pub invariant_of-self : goal.invariant_of-self
 invariant_of-self c = record {
-  own = owned_after (λ (q : Digest) (x : List ℕ). digest x ≡ q.0) c.args.self.now.nodes c.insert.new.self c.digest_of-key.result c.args.bytes c.insert.result
+  own = each_inserted (λ (q : Digest) (x : List ℕ). digest x ≡ q.0) (λ (v : Vec ℕ). v.items) c.args.self.now.nodes c.insert.new.self c.digest_of-key.result c.args.bytes c.insert.result
       c.insert.ensures.updates c.insert.ensures.err (sym (c.digest_of-key.ensures ∙ ap digest c.as_slice.ensures.value)) c.args.self.now.own;
 }
 
@@ -34,7 +34,7 @@ pub returns-in-Ok-clause-added : goal.returns-in-Ok-clause-added
 returns-in-Ok-clause-added c =
     let none : owned_at c.args.self.now.nodes c.digest_of-key.result ≡ None = ap (option_map (λ (v : Vec ℕ). v.items)) (sym c.get.ensures.value ∙ copied_none c.get.result c.in_default.not-Some) in
     put_grows (owned_at c.args.self.now.nodes) (owned_at c.insert.new.self) c.digest_of-key.result c.args.bytes.items
-    (hash_sets c.args.self.now.nodes c.insert.new.self c.digest_of-key.result (Some c.args.bytes) c.in-Ok.ensures.updates)
+    (update_sets (λ (v : Vec ℕ). v.items) c.args.self.now.nodes c.insert.new.self c.digest_of-key.result (Some c.args.bytes) c.in-Ok.ensures.updates)
     (c.digest_of-key.ensures ∙ ap digest c.as_slice.ensures.value) (inl none)
 
 pub returns-then-eq-clause-clashes : goal.returns-then-eq-clause-clashes
