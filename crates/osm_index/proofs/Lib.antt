@@ -8,3 +8,9 @@ pub mod FitLemmas
 pub mod PutLemmas
 pub mod CellLemmas
 pub mod FrontLemmas
+pub mod NameLemmas
+pub mod PutNames
+pub mod NodeChangeLemmas
+pub mod EntryChangeLemmas
+pub mod KeyParts
+pub mod EntryTurns

@@ -4,3 +4,7 @@ pub mod Putting
 pub mod Cells
 pub mod Fronts
 pub mod FrontedEntries
+pub mod Applying
+pub mod EntryChanges
+pub mod NodeChanges
+pub mod ChangedTrees

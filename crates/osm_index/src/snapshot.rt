@@ -1,27 +1,36 @@
 //! A set of objects with its trees and its root.
 
-ghost use Rattle.std.specs.Prelude.{◌≡◌, ◌≢◌, ◌≤◌, ◌⊎◌, ℕ, List, Err, IfOk, MatchResult, OnErr};
+ghost use Rattle.std.specs.Prelude.{◌≡◌, ◌≢◌, ◌≤◌, ◌⊎◌, ◌↔◌, ℕ, List, Err, IfErr, IfOk, MatchResult, OnErr, OnOk};
 ghost use Rattle.std.specs.List.{Contains};
+ghost use Rattle.osm_model.specs.Elements.{Element};
 ghost use Rattle.osm_model.specs.Sets.{IsObjectSet};
+ghost use Rattle.osm_model.specs.declared.reference.Ref.{Ref};
 ghost use Rattle.tree_node.specs.NodeRefs.{bindings_of, number_of};
 ghost use Rattle.tree_node.specs.Outcomes.{Clash};
-ghost use Rattle.tree_node.specs.Shelves.{IsEmptySet};
+ghost use Rattle.tree_node.specs.Shelves.{IsClashFree, IsEmptySet};
 ghost use Rattle.tree_node.specs.Stocks.{HasNode};
 ghost use Rattle.tree_build.specs.Shapes.{shape_of as shape_word};
+ghost use Rattle.osm_index.specs.Applying.{AreApart, AreApplicable, IsApplied, IsDeltaOf, IsFirstMissing, IsFirstTwice, IsLast, IsNodeOfEither, IsSecond, edition_after};
 ghost use Rattle.osm_index.specs.Entries.{AreEntriesOf};
 ghost use Rattle.osm_index.specs.Holdings.{HoldSome};
 ghost use Rattle.osm_index.specs.Manifests.{manifest_bytes, top_among};
 ghost use Rattle.osm_index.specs.Publications.{HasTooMany, IsNodeIn, IsPublicationOf, Publication, shape_of};
 ghost use Rattle.osm_index.specs.internal.Putting.{AreAllFour, EndsTree, EndsTrees};
 
+use crate::apply_fault::ApplyFault;
+use crate::changed_names::{changed_names, copies_of_put, find_deleted};
+use crate::changed_trees::{ObjectChanges, change_trees};
+use crate::delta::Delta;
 use crate::edition::Edition;
 use crate::fault::IndexFault;
 use crate::listing::entries_of;
 use crate::manifest::{Manifest, write_manifest};
-use osm_model::ObjectSet;
+use crate::node_changes::{digests_of, put_nodes, remove_nodes};
+use opl_codec::Change;
+use osm_model::{ObjectSet, Ref};
 use std::alloc::{AllocError, Global};
-use tree_build::{BuildFault, Entry, Shape, build};
-use tree_node::{Digest, ENTRY_LIMIT, PutFault, Stock, Tree};
+use tree_build::{BuildFault, Entry, NewNode, Shape, build};
+use tree_node::{Digest, ENTRY_LIMIT, PutFault, Stock, Tree, digest_of};
 
 /// A set of objects in an edition, with the nodes of its trees, its manifest and its root: the type keeps
 /// that they are those of one publication, and that no two different nodes of it have one digest.
@@ -36,7 +45,7 @@ pub struct Snapshot {
 }
 
 impl Snapshot {
-    ghost use Rattle.osm_index.specs.Snapshots.{HoldsPublication};
+    ghost use Rattle.osm_index.specs.Snapshots.{HoldsPublication, IsAsBefore};
 
     /// Builds the trees of a set of objects (this project's trees, docs/FORMATS.md).
     ///
@@ -73,6 +82,79 @@ impl Snapshot {
         }
     }
 
+    /// Publishes a changed set at the next sequence: without the objects that the changes name, and with those
+    /// put. It tells which nodes come and which go.
+    ///
+    /// The time grows with the changes: with sorting them and their entries, with a binary search in the set for
+    /// each, and with the nodes that change times the levels of the trees. Only moving the objects to a vector with
+    /// room for those put is linear in the set; it copies no text and no list, and takes the memory of that vector
+    /// beside the old one. What the snapshot holds then comes from `alloc`.
+    ///
+    /// Refused by the first of these that holds: `LastSequence` (I5), `ChangedTwice` (I3) by the earliest change
+    /// whose object an earlier one names, `NotThere` (I2) by the earliest delete of an object that isn't in the
+    /// set, `TooMany` (I4) where a tree would have more than 2^29 entries, `Clash` (I1) where two different nodes
+    /// of the old and the new publication together have one digest. Each but the first may be `Memory` instead,
+    /// and so may any answer. After a refusal the snapshot is as before.
+    pub fn apply(&mut self, alloc: Global, changes: &[Change]) -> Result<Delta, ApplyFault>
+        requires { IsSecond self.old.edition }
+        // The snapshot holds a publication of the changed set at the next sequence.
+        ensures applied { OnOk result ((p : Publication) × HoldsPublication self.new p
+            × IsApplied self.old.set changes.now self.new.set × (self.new.edition ≡ edition_after self.old.edition)) }
+        // The delta is of all nodes, the manifests too.
+        ensures delta { IfOk result (λ delta. (p q : Publication)
+            → HoldsPublication self.old p → HoldsPublication self.new q → IsDeltaOf p q delta) }
+        // No refusal holds where it succeeds: no two different nodes of both have one digest, either.
+        ensures applicable { OnOk result (AreApplicable self.old.set self.old.edition changes.now) }
+        ensures no_clash { OnOk result ((p q : Publication)
+            → HoldsPublication self.old p → HoldsPublication self.new q → IsClashFree (IsNodeOfEither p q)) }
+        // After a refusal all is as before.
+        ensures stays { OnErr result (IsAsBefore self.old self.new) }
+        // The sequence is at its greatest where it says so, and only there.
+        ensures last { (result ≡ Err ApplyFault.LastSequence) ↔ IsLast self.old.edition }
+        // Else two changes are of one object where it says so; else a deleted object isn't there;
+        ensures twice { (r : Ref) → result ≡ Err (ApplyFault.ChangedTwice r)
+            → (¬ IsLast self.old.edition) × IsFirstTwice changes.now r }
+        ensures missing { (r : Ref) → result ≡ Err (ApplyFault.NotThere r)
+            → (¬ IsLast self.old.edition) × AreApart changes.now × IsFirstMissing self.old.set changes.now r }
+        // else there are too many entries; else two nodes of the old and the new publication clash.
+        ensures too_many { result ≡ Err ApplyFault.TooMany → AreApplicable self.old.set self.old.edition changes.now
+            × ((set : List Element) × IsApplied self.old.set changes.now set × HasTooMany set) }
+        ensures clash { result ≡ Err ApplyFault.Clash → AreApplicable self.old.set self.old.edition changes.now
+            × ((set : List Element) × (p q : Publication) × IsApplied self.old.set changes.now set
+            × HoldsPublication self.old p × IsPublicationOf set (edition_after self.old.edition) q
+            × Clash (IsNodeOfEither p q) (IsNodeOfEither p q)) }
+    {
+        let edition = edition_after(self.edition)?;
+        let names = changed_names(alloc, changes)?;
+        find_deleted(&self.set, changes)?;
+        let puts = copies_of_put(alloc, changes)?;
+        let room = self.set.room(alloc, puts.as_slice().len())?;
+        let objects = ObjectChanges {
+            set: &self.set,
+            names: &names,
+            puts: &puts,
+        };
+        let trees = change_trees(alloc, objects, &self.manifest.tops, &self.stock)?;
+        let tops = trees.tops;
+        let manifest = Manifest { edition, tops };
+        let node = manifest_node(alloc, &manifest)?;
+        let root = node.digest;
+        let mut nodes = trees.added;
+        nodes.push(node)?;
+        let mut gone = trees.gone;
+        let old_root = self.root;
+        gone.push(old_root)?;
+        let added = digests_of(alloc, &nodes)?;
+        put_nodes(&mut self.stock, nodes, &added)?;
+        // Nothing refuses from here on.
+        self.set.change(&names, puts, room);
+        self.edition = edition;
+        self.manifest = manifest;
+        self.root = root;
+        remove_nodes(&mut self.stock, &gone);
+        Ok(Delta { added, gone })
+    }
+
     /// The root: the digest of the manifest.
     pub fn root(&self) -> &Digest
         ensures { result.now ≡ self.now.root }
@@ -107,6 +189,33 @@ impl Snapshot {
     {
         &self.manifest
     }
+}
+
+/// The second edition at the next sequence.
+fn edition_after(edition: Edition) -> Result<Edition, ApplyFault>
+    requires { IsSecond edition }
+    ensures after { IfOk result (λ next. (next ≡ edition_after edition) × (¬ IsLast edition)) }
+    ensures refused { IfErr result (λ fault. (fault ≡ ApplyFault.LastSequence) × IsLast edition) }
+{
+    match edition {
+        Edition::One => unreachable!("the edition is the second"),
+        Edition::Two { sequence } => match sequence.checked_add(1) {
+            Some(sequence) => Ok(Edition::Two { sequence }),
+            None => Err(ApplyFault::LastSequence),
+        },
+    }
+}
+
+/// A manifest as a node.
+fn manifest_node(alloc: Global, manifest: &Manifest) -> Result<NewNode, AllocError>
+    ensures { IfOk result (λ node. node.bytes.items ≡ manifest_bytes manifest.now) }
+{
+    let mut bytes = Vec::new(alloc);
+    write_manifest(manifest, &mut bytes)?;
+    Ok(NewNode {
+        digest: digest_of(&bytes),
+        bytes,
+    })
 }
 
 /// Puts the nodes of the four trees into a stock without nodes, and gives the digests of their tops;
