@@ -1,7 +1,6 @@
 -- What the parts of a snapshot hold together.
 -- Source: this project's trees and manifests, docs/FORMATS.md.
 use Rattle.std.specs.Prelude.{◌≡◌, ◌↔◌, ℕ, List}
-use Rattle.osm_model.specs.Elements.{Element}
 use Rattle.tree_node.specs.Shelves.{IsClashFree}
 use Rattle.tree_node.specs.Stocks.{HasNode}
 use Rattle.tree_node.specs.declared.digest.Digest.{Digest}
@@ -11,15 +10,15 @@ use Rattle.osm_index.specs.Publications.{IsNodeIn, IsPublicationOf, Publication,
 use Rattle.osm_index.specs.declared.edition.Edition.{Edition}
 use Rattle.osm_index.specs.declared.manifest.Manifest.{Manifest}
 
--- these objects, this edition, this stock, this manifest and this root are those of the publication, and no two
--- different nodes of it have one digest
-pub record AreHeld (objects : List Element) (edition : Edition) (stock : Stock) (found : Manifest) (key : Digest) (p : Publication) : Type 0 where
-  pub is : IsPublicationOf objects edition p
+-- this edition, this stock, this manifest and this root are those of the publication, and no two different nodes of it
+-- have one digest
+pub record AreHeld (edition : Edition) (stock : Stock) (found : Manifest) (key : Digest) (p : Publication) : Type 0 where
+  pub is : IsPublicationOf p.objects edition p
   pub nodes : (bytes : List ℕ) → HasNode stock bytes ↔ IsNodeIn p bytes
   pub manifest : manifest_bytes found ≡ manifest_of p
   pub root : key.0 ≡ root_of p
   pub no_clash : IsClashFree (IsNodeIn p)
 
 -- they are those of some publication
-abbrev pub HoldSome : List Element → Edition → Stock → Manifest → Digest → Type 0
-HoldSome objects edition stock found key = (p : Publication) × AreHeld objects edition stock found key p
+abbrev pub HoldSome : Edition → Stock → Manifest → Digest → Type 0
+HoldSome edition stock found key = (p : Publication) × AreHeld edition stock found key p

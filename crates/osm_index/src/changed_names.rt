@@ -5,8 +5,7 @@ ghost use Rattle.std.specs.List.{Contains, filter_map};
 ghost use Rattle.std.specs.Prelude.{◌≡◌, ◌∷◌, ◌++◌, [], IfErr, IfOk, IsOk, MatchOption, OnOk, not, true};
 ghost use Rattle.osm_model.specs.Elements.{ref_cmp, references};
 ghost use Rattle.opl_codec.specs.declared.change.Change.TheVariants as variants;
-ghost use Rattle.opl_codec.specs.internal.Loading.{HasJust};
-ghost use Rattle.osm_index.specs.Applying.{AreApart, DeleteThere, name_of, names_of};
+ghost use Rattle.osm_index.specs.Applying.{AreApart, DeleteThere, name_of};
 ghost use Rattle.osm_index.specs.internal.Applying.{ArePut, RefusesDeletes, RefusesNames, put_in};
 
 use crate::apply_fault::ApplyFault;
@@ -15,10 +14,9 @@ use osm_model::{Object, ObjectSet, Ref};
 use std::alloc::{AllocError, Global};
 use std::collections::BTreeSet;
 
-/// The names of the objects that are changed. Refused with `ChangedTwice` by the earliest change whose
-/// object an earlier one names.
-pub(crate) fn changed_names(alloc: Global, changes: &[Change]) -> Result<BTreeSet<Ref>, ApplyFault>
-    ensures names { IfOk result (λ names. HasJust names (names_of changes.now) × AreApart changes.now) }
+/// Refuses with `ChangedTwice` the earliest change whose object an earlier one names.
+pub(crate) fn find_twice(alloc: Global, changes: &[Change]) -> Result<(), ApplyFault>
+    ensures apart { IsOk result → AreApart changes.now }
     ensures refused { IfErr result (RefusesNames changes.now) }
 {
     let mut names = BTreeSet::new(alloc);
@@ -28,11 +26,11 @@ pub(crate) fn changed_names(alloc: Global, changes: &[Change]) -> Result<BTreeSe
             return Err(ApplyFault::ChangedTwice(name));
         }
     }
-    Ok(names)
+    Ok(())
 }
 
 /// The name of the object that a change is of.
-fn name_of(change: &Change) -> Ref
+pub(crate) fn name_of(change: &Change) -> Ref
     ensures { result ≡ name_of change.now }
 {
     match change {

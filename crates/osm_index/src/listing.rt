@@ -1,20 +1,18 @@
 //! What the trees of a set of objects hold, listed object by object.
 
-ghost use Rattle.std.specs.List.{All, Contains, filter_map, flat_map};
+ghost use Rattle.std.specs.List.{All, Contains, flat_map};
 ghost use Rattle.std.specs.Prelude.{◌≡◌, ◌↔◌, [], ◌∷◌, ◌++◌, ◌<◌, ◌≤◌, ◌^◌, IfOk, OnOk, length, map};
 ghost use Rattle.osm_model.specs.Elements.{reference};
 ghost use Rattle.osm_model.specs.Limits.{IsShort};
-ghost use Rattle.osm_model.specs.Sets.{object_at};
 ghost use Rattle.tree_node.specs.Nodes.{Binding};
 ghost use Rattle.osm_index.specs.Entries.{IsEntryOfSome, back_entry, cell_entry, object_entry, tag_entry};
-ghost use Rattle.osm_index.specs.internal.Listing.{Gains, IsEntryOfNamed, IsKeyed, backs_of, cells_of, entries_from, member_back, node_back, tag_of};
+ghost use Rattle.osm_index.specs.internal.Listing.{Gains, IsKeyed, backs_of, cells_of, entries_from, member_back, node_back, tag_of};
 
 use crate::entry_list::{EntryList, Span};
 use crate::keys::{append_parts, back_key, cell_key, cell_value, reference_key};
 use opl_codec::{OutMode, write_object};
 use osm_model::{Body, Kind, Member, Object, ObjectSet, Ref, Tag};
 use std::alloc::{AllocError, Global};
-use std::collections::BTreeSet;
 use tree_node::Tree;
 
 /// The entries of a tree of these objects (this project's trees, docs/FORMATS.md), packed in one buffer;
@@ -32,44 +30,6 @@ pub fn entries_of(alloc: Global, set: &ObjectSet, tree: Tree) -> Result<EntryLis
     let mut spans = Vec::new(alloc);
     append_objects(set.as_slice(), tree, &mut bytes, &mut spans)?;
     Ok(EntryList::new(bytes, spans))
-}
-
-/// The entries of a tree for those objects of a set that have one of these names, packed as by `entries_of`.
-///
-/// It takes the time of a binary search a name, and is linear in what it writes.
-pub(crate) fn entries_named(
-    alloc: Global,
-    set: &ObjectSet,
-    names: &BTreeSet<Ref>,
-    tree: Tree,
-) -> Result<EntryList, AllocError>
-    ensures members { IfOk result (λ list.
-        (b : Binding) → Contains list b ↔ IsEntryOfNamed set.now names.now.keys tree b) }
-    ensures keyed { IfOk result (λ list. IsKeyed list) }
-{
-    let mut bytes = Vec::new(alloc);
-    let mut spans = Vec::new(alloc);
-    append_named(set, names, tree, &mut bytes, &mut spans)?;
-    Ok(EntryList::new(bytes, spans))
-}
-
-/// Packs the entries for the objects that have one of these names.
-fn append_named(
-    set: &ObjectSet,
-    names: &BTreeSet<Ref>,
-    tree: Tree,
-    bytes: &mut Vec<u8>,
-    spans: &mut Vec<Span>,
-) -> Result<(), AllocError>
-    ensures { OnOk result (Gains bytes.old.items bytes.new.items spans.old.items spans.new.items
-        (flat_map (entries_from tree) (filter_map (object_at set.now) names.now.keys))) }
-{
-    for name in names {
-        if let Some(found) = set.get(*name) {
-            append_entries(found, tree, bytes, spans)?;
-        }
-    }
-    Ok(())
 }
 
 /// Packs the entries for these objects.

@@ -1,6 +1,6 @@
 //! A set of objects with its trees and its root.
 
-ghost use Rattle.std.specs.Prelude.{◌≡◌, ◌≢◌, ◌≤◌, ◌⊎◌, ◌↔◌, ℕ, List, Err, IfErr, IfOk, MatchResult, OnErr, OnOk};
+ghost use Rattle.std.specs.Prelude.{◌≡◌, ◌≢◌, ◌≤◌, ◌⊎◌, ◌↔◌, ℕ, List, Err, IfErr, IfOk, OnErr, OnOk, length};
 ghost use Rattle.std.specs.List.{Contains};
 ghost use Rattle.osm_model.specs.Elements.{Element};
 ghost use Rattle.osm_model.specs.Sets.{IsObjectSet};
@@ -13,35 +13,36 @@ ghost use Rattle.tree_build.specs.Shapes.{shape_of as shape_word};
 ghost use Rattle.osm_index.specs.Applying.{AreApart, AreApplicable, IsApplied, IsDeltaOf, IsFirstMissing, IsFirstTwice, IsLast, IsNodeOfEither, IsSecond, edition_after};
 ghost use Rattle.osm_index.specs.Entries.{AreEntriesOf};
 ghost use Rattle.osm_index.specs.Holdings.{HoldSome};
-ghost use Rattle.osm_index.specs.Manifests.{manifest_bytes, top_among};
 ghost use Rattle.osm_index.specs.Publications.{HasTooMany, IsNodeIn, IsPublicationOf, Publication, shape_of};
+ghost use Rattle.osm_index.specs.internal.Plans.{PlansChanges, RefusesPlan};
 ghost use Rattle.osm_index.specs.internal.Putting.{AreAllFour, EndsTree, EndsTrees};
 
 use crate::apply_fault::ApplyFault;
-use crate::changed_names::{changed_names, copies_of_put, find_deleted};
-use crate::changed_trees::{ObjectChanges, change_trees};
+use crate::changed_trees::change_trees;
 use crate::delta::Delta;
 use crate::edition::Edition;
+use crate::entry_count::entry_count;
+use crate::exchange::exchange_of;
 use crate::fault::IndexFault;
 use crate::listing::entries_of;
 use crate::manifest::{Manifest, write_manifest};
-use crate::node_changes::{digests_of, put_nodes, remove_nodes};
+use crate::node_changes::{put_nodes, remove_nodes};
+use crate::plan::{Plan, plan_of};
 use opl_codec::Change;
 use osm_model::{ObjectSet, Ref};
 use std::alloc::{AllocError, Global};
-use tree_build::{BuildFault, Entry, NewNode, Shape, build};
-use tree_node::{Digest, ENTRY_LIMIT, PutFault, Stock, Tree, digest_of};
+use tree_build::{BuildFault, Entry, Shape, build};
+use tree_node::{Digest, ENTRY_LIMIT, PutFault, Stock, Tree};
 
 /// A set of objects in an edition, with the nodes of its trees, its manifest and its root: the type keeps
 /// that they are those of one publication, and that no two different nodes of it have one digest.
 #[derive(Drop)]
 pub struct Snapshot {
-    set: ObjectSet,
     edition: Edition,
     stock: Stock,
     manifest: Manifest,
     root: Digest,
-    ghost own: { ∥ HoldSome set edition stock manifest root ∥₁ },
+    ghost own: { ∥ HoldSome edition stock manifest root ∥₁ },
 }
 
 impl Snapshot {
@@ -56,7 +57,7 @@ impl Snapshot {
     /// where two different nodes have one digest; `Memory` may come in place of any answer.
     pub fn build(alloc: Global, set: ObjectSet, edition: Edition) -> Result<Snapshot, IndexFault>
         // The snapshot holds a publication of this set in this edition.
-        ensures made { IfOk result (λ snapshot. (p : Publication) × HoldsPublication snapshot p × (snapshot.set ≡ set) × (snapshot.edition ≡ edition)) }
+        ensures made { IfOk result (λ snapshot. (p : Publication) × HoldsPublication snapshot p × (p.objects ≡ set) × (snapshot.edition ≡ edition)) }
         // There are too many entries where it says so,
         ensures too_many { result ≡ Err IndexFault.TooMany → HasTooMany set }
         // and two nodes of a publication clash where it says so.
@@ -71,7 +72,6 @@ impl Snapshot {
         write_manifest(&manifest, &mut bytes)?;
         match stock.put(bytes) {
             Ok(root) => Ok(Snapshot {
-                set,
                 edition,
                 stock,
                 manifest,
@@ -85,10 +85,9 @@ impl Snapshot {
     /// Publishes a changed set at the next sequence: without the objects that the changes name, and with those
     /// put. It tells which nodes come and which go.
     ///
-    /// The time grows with the changes: with sorting them and their entries, with a binary search in the set for
-    /// each, and with the nodes that change times the levels of the trees. Only moving the objects to a vector with
-    /// room for those put is linear in the set; it copies no text and no list, and takes the memory of that vector
-    /// beside the old one. What the snapshot holds then comes from `alloc`.
+    /// The time grows with the changes: with sorting them and their entries, with a walk down the object tree for
+    /// each, and with the nodes that change times the levels of the trees; of the objects that no change names none
+    /// is looked at. What the snapshot holds then comes from `alloc`.
     ///
     /// Refused by the first of these that holds: `LastSequence` (I5), `ChangedTwice` (I3) by the earliest change
     /// whose object an earlier one names, `NotThere` (I2) by the earliest delete of an object that isn't in the
@@ -98,13 +97,13 @@ impl Snapshot {
     pub fn apply(&mut self, alloc: Global, changes: &[Change]) -> Result<Delta, ApplyFault>
         requires { IsSecond self.old.edition }
         // The snapshot holds a publication of the changed set at the next sequence.
-        ensures applied { OnOk result ((p : Publication) × HoldsPublication self.new p
-            × IsApplied self.old.set changes.now self.new.set × (self.new.edition ≡ edition_after self.old.edition)) }
+        ensures applied { (p : Publication) → HoldsPublication self.old p → OnOk result ((q : Publication) × HoldsPublication self.new q
+            × IsApplied p.objects changes.now q.objects × (q.edition ≡ edition_after p.edition)) }
         // The delta is of all nodes, the manifests too.
         ensures delta { IfOk result (λ delta. (p q : Publication)
             → HoldsPublication self.old p → HoldsPublication self.new q → IsDeltaOf p q delta) }
         // No refusal holds where it succeeds: no two different nodes of both have one digest, either.
-        ensures applicable { OnOk result (AreApplicable self.old.set self.old.edition changes.now) }
+        ensures applicable { (p : Publication) → HoldsPublication self.old p → OnOk result (AreApplicable p.objects p.edition changes.now) }
         ensures no_clash { OnOk result ((p q : Publication)
             → HoldsPublication self.old p → HoldsPublication self.new q → IsClashFree (IsNodeOfEither p q)) }
         // After a refusal all is as before.
@@ -112,47 +111,56 @@ impl Snapshot {
         // The sequence is at its greatest where it says so, and only there.
         ensures last { (result ≡ Err ApplyFault.LastSequence) ↔ IsLast self.old.edition }
         // Else two changes are of one object where it says so; else a deleted object isn't there;
-        ensures twice { (r : Ref) → result ≡ Err (ApplyFault.ChangedTwice r)
+        ensures twice { (p : Publication) → HoldsPublication self.old p → (r : Ref) → result ≡ Err (ApplyFault.ChangedTwice r)
             → (¬ IsLast self.old.edition) × IsFirstTwice changes.now r }
-        ensures missing { (r : Ref) → result ≡ Err (ApplyFault.NotThere r)
-            → (¬ IsLast self.old.edition) × AreApart changes.now × IsFirstMissing self.old.set changes.now r }
+        ensures missing { (p : Publication) → HoldsPublication self.old p → (r : Ref) → result ≡ Err (ApplyFault.NotThere r)
+            → (¬ IsLast self.old.edition) × AreApart changes.now × IsFirstMissing p.objects changes.now r }
         // else there are too many entries; else two nodes of the old and the new publication clash.
-        ensures too_many { result ≡ Err ApplyFault.TooMany → AreApplicable self.old.set self.old.edition changes.now
-            × ((set : List Element) × IsApplied self.old.set changes.now set × HasTooMany set) }
-        ensures clash { result ≡ Err ApplyFault.Clash → AreApplicable self.old.set self.old.edition changes.now
-            × ((set : List Element) × (p q : Publication) × IsApplied self.old.set changes.now set
-            × HoldsPublication self.old p × IsPublicationOf set (edition_after self.old.edition) q
+        ensures too_many { (p : Publication) → HoldsPublication self.old p → result ≡ Err ApplyFault.TooMany
+            → AreApplicable p.objects p.edition changes.now
+            × ((set : List Element) × IsApplied p.objects changes.now set × HasTooMany set) }
+        ensures clash { (p : Publication) → HoldsPublication self.old p → result ≡ Err ApplyFault.Clash
+            → AreApplicable p.objects p.edition changes.now
+            × ((q : Publication) × IsApplied p.objects changes.now q.objects
+            × IsPublicationOf q.objects (edition_after p.edition) q
             × Clash (IsNodeOfEither p q) (IsNodeOfEither p q)) }
     {
-        let edition = edition_after(self.edition)?;
-        let names = changed_names(alloc, changes)?;
-        find_deleted(&self.set, changes)?;
-        let puts = copies_of_put(alloc, changes)?;
-        let room = self.set.room(alloc, puts.as_slice().len())?;
-        let objects = ObjectChanges {
-            set: &self.set,
-            names: &names,
-            puts: &puts,
-        };
-        let trees = change_trees(alloc, objects, &self.manifest.tops, &self.stock)?;
-        let tops = trees.tops;
-        let manifest = Manifest { edition, tops };
-        let node = manifest_node(alloc, &manifest)?;
-        let root = node.digest;
-        let mut nodes = trees.added;
-        nodes.push(node)?;
-        let mut gone = trees.gone;
-        let old_root = self.root;
-        gone.push(old_root)?;
-        let added = digests_of(alloc, &nodes)?;
-        put_nodes(&mut self.stock, nodes, &added)?;
+        let plan = self.plan(alloc, changes)?;
+        let added = plan.added;
+        put_nodes(&mut self.stock, plan.nodes, &added)?;
         // Nothing refuses from here on.
-        self.set.change(&names, puts, room);
-        self.edition = edition;
-        self.manifest = manifest;
-        self.root = root;
+        self.edition = plan.manifest.edition;
+        self.manifest = plan.manifest;
+        self.root = plan.root;
+        let gone = plan.gone;
         remove_nodes(&mut self.stock, &gone);
         Ok(Delta { added, gone })
+    }
+
+    /// What the changes make of the snapshot. It reads the object tree for the objects that they name.
+    fn plan(&self, alloc: Global, changes: &[Change]) -> Result<Plan, ApplyFault>
+        requires { IsSecond self.now.edition }
+        ensures planned { (p : Publication) → HoldsPublication self.now p → IfOk result (PlansChanges p changes.now) }
+        ensures refused { (p : Publication) → HoldsPublication self.now p → IfErr result (RefusesPlan p changes.now) }
+        ensures last { (result ≡ Err ApplyFault.LastSequence) ↔ IsLast self.now.edition }
+    {
+        let edition = edition_after(self.edition)?;
+        let exchange = exchange_of(alloc, changes, &self.manifest.tops[0], &self.stock)?;
+        let trees = change_trees(
+            alloc,
+            &exchange.olds,
+            &exchange.puts,
+            &self.manifest.tops,
+            &self.stock,
+        )?;
+        Ok(plan_of(alloc, edition, trees, &self.root)?)
+    }
+
+    /// The number of objects: read from the nodes on the way from the object tree's top to its first leaf.
+    pub fn object_count(&self, alloc: Global) -> Result<u64, AllocError>
+        ensures { (p : Publication) → HoldsPublication self.now p → IfOk result (λ number. number ≡ length p.objects) }
+    {
+        entry_count(alloc, Tree::Objects, &self.manifest.tops[0], &self.stock)
     }
 
     /// The root: the digest of the manifest.
@@ -176,13 +184,6 @@ impl Snapshot {
         &self.stock
     }
 
-    /// The set.
-    pub fn objects(&self) -> &ObjectSet
-        ensures { result.now ≡ self.now.set }
-    {
-        &self.set
-    }
-
     /// The manifest.
     pub fn manifest(&self) -> &Manifest
         ensures { result.now ≡ self.now.manifest }
@@ -204,18 +205,6 @@ fn edition_after(edition: Edition) -> Result<Edition, ApplyFault>
             None => Err(ApplyFault::LastSequence),
         },
     }
-}
-
-/// A manifest as a node.
-fn manifest_node(alloc: Global, manifest: &Manifest) -> Result<NewNode, AllocError>
-    ensures { IfOk result (λ node. node.bytes.items ≡ manifest_bytes manifest.now) }
-{
-    let mut bytes = Vec::new(alloc);
-    write_manifest(manifest, &mut bytes)?;
-    Ok(NewNode {
-        digest: digest_of(&bytes),
-        bytes,
-    })
 }
 
 /// Puts the nodes of the four trees into a stock without nodes, and gives the digests of their tops;

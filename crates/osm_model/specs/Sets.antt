@@ -1,8 +1,8 @@
 -- Sets of objects, each object once.
 -- Source: ids are unique within a kind (OpenStreetMap API 0.6).
-use Rattle.std.specs.Prelude.{◌↔◌, ◌⊎◌, List, All, Option, find}
+use Rattle.std.specs.Prelude.{List, All, Option, find}
 use Rattle.std.specs.Ordering.{eq_by_cmp}
-use Rattle.std.specs.List.{Contains, IsDistinct}
+use Rattle.std.specs.List.{IsDistinct}
 use Rattle.std.specs.List.Sorted.{IsStrictlySortedBy}
 use Rattle.osm_model.specs.Elements.{Element, reference, references, ref_cmp}
 use Rattle.osm_model.specs.Limits.{IsElement}
@@ -20,8 +20,3 @@ HasDistinctReferences objects = IsDistinct (eq_by_cmp ref_cmp) (references objec
 -- the object with this reference
 abbrev pub object_at : List Element → Ref → Option Element
 object_at objects r = find (λ o. eq_by_cmp ref_cmp (reference o) r) objects
-
--- the set that is left of the old one without the objects of these names, and with those put
-pub record IsChangedSet (old : List Element) (names : List Ref) (puts new : List Element) : Type 0 where
-  pub set : IsObjectSet new
-  pub members : (o : Element) → Contains new o ↔ (Contains puts o ⊎ (Contains old o × ¬ Contains names (reference o)))

@@ -27,7 +27,6 @@ mod node_list;
 mod object;
 mod object_set;
 mod reference;
-mod set_merge;
 mod stamp;
 mod tag;
 mod tag_list;

@@ -1,22 +1,18 @@
 //! Sets of objects.
 
-ghost use Rattle.std.specs.Prelude.{◌≡◌, ◌≤◌, ◌↔◌, ◌+◌, [], ℕ, IsTrue, All, IfOk, IfErr, length, slice_get, vec_capacity, ◌<◌};
+ghost use Rattle.std.specs.Prelude.{◌≡◌, ◌≤◌, ◌↔◌, ℕ, IsTrue, All, IfOk, IfErr, length, slice_get, ◌<◌};
 ghost use Rattle.std.specs.Option.{option_copied};
-ghost use Rattle.std.specs.List.{AllAdjacentBelow, Contains};
+ghost use Rattle.std.specs.List.{AllAdjacentBelow};
 ghost use Rattle.std.specs.List.Sorted.{IsPermutation, IsSortedByKey};
 ghost use Rattle.osm_model.specs.Elements.{reference, ref_cmp, kind_byte};
 ghost use Rattle.osm_model.specs.Limits.{IsElement};
-ghost use Rattle.osm_model.specs.Sets.{IsChangedSet, IsObjectSet, HasDistinctReferences, object_at};
+ghost use Rattle.osm_model.specs.Sets.{IsObjectSet, HasDistinctReferences, object_at};
 
 use crate::fault::ModelFault;
 use crate::object::Object;
 use crate::reference::Ref;
-use crate::set_merge::merge;
-use std::alloc::{AllocError, Global};
 use std::cmp::Ordering;
-use std::collections::BTreeSet;
 use std::marker::Model;
-use std::mem;
 
 /// A set of objects: no two have one reference. Contracts see the list of them by rising reference.
 #[derive(Debug, Drop)]
@@ -74,33 +70,6 @@ impl ObjectSet {
             Ok(at) => Some(&self.objects[at]),
             Err(_) => None,
         }
-    }
-
-    /// Room for `change`: an empty vector that holds as many objects as the set has, and so many more.
-    pub fn room(&self, alloc: Global, more: usize) -> Result<Vec<Object>, AllocError>
-        ensures empty { IfOk result (λ room. room.items ≡ []) }
-        ensures wide { IfOk result (λ room. length self.now + more ≤ vec_capacity room) }
-    {
-        match self.objects.len().checked_add(more) {
-            Some(len) => Vec::with_capacity(alloc, len),
-            None => Err(AllocError),
-        }
-    }
-
-    /// Takes away the objects of these names and puts the others in, each of which has one of the names.
-    /// So an object that is put takes the place of the one with its reference.
-    ///
-    /// The objects move to `room`, which is empty and holds as many as the set and the others together
-    /// (see `room`): it is linear in both, but no text and no list is copied. It takes no memory, and
-    /// nothing refuses it.
-    pub fn change(&mut self, names: &BTreeSet<Ref>, puts: ObjectSet, room: Vec<Object>)
-        requires empty { room.items ≡ [] }
-        requires wide { length self.old + length puts ≤ vec_capacity room }
-        requires named { All (λ object. Contains names.now.keys (reference object)) puts }
-        ensures { IsChangedSet self.old names.now.keys puts self.new }
-    {
-        let objects = mem::replace(&mut self.objects, room);
-        merge(objects, names, puts.objects, &mut self.objects);
     }
 }
 

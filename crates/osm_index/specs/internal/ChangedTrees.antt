@@ -1,56 +1,66 @@
 -- How the four trees of a set of objects change with the set.
 -- Source: this project.
-use Rattle.std.specs.Prelude.{◌≡◌, ◌↔◌, ◌⊎◌, ◌<◌, ◌≤◌, ℕ, List, length}
-use Rattle.osm_model.specs.Elements.{Element}
-use Rattle.osm_model.specs.Sets.{IsChangedSet}
-use Rattle.osm_model.specs.declared.reference.Ref.{Ref}
+use Rattle.std.specs.List.{Contains}
+use Rattle.std.specs.Prelude.{◌≡◌, ◌↔◌, ◌⊎◌, ◌≤◌, ℕ, List, length}
+use Rattle.osm_model.specs.Elements.{Element, reference}
+use Rattle.osm_model.specs.Sets.{IsObjectSet}
 use Rattle.tree_build.specs.Rebuilding.{AreDifferent, IsAmong, IsRebuilt, digests_of, nodes_of}
 use Rattle.tree_build.specs.declared.rebuilt.Rebuilt.{Rebuilt}
 use Rattle.tree_node.specs.Digests.{digest}
 use Rattle.tree_node.specs.NodeRefs.{number_of}
 use Rattle.tree_node.specs.Nodes.{Binding}
-use Rattle.tree_node.specs.Shelves.{IsClashFree}
-use Rattle.tree_node.specs.Trees.{IsNodeOf, Two, levels, top_of}
+use Rattle.tree_node.specs.Trees.{Two, levels}
 use Rattle.tree_node.specs.declared.digest.Digest.{Digest}
 use Rattle.tree_node.specs.declared.limits.TheConstants.{ENTRY_LIMIT}
 use Rattle.tree_node.specs.declared.tree.Tree.{Tree}
 use Rattle.osm_index.specs.Applying.{IsSecond}
 use Rattle.osm_index.specs.Entries.{AreEntriesOf}
 use Rattle.osm_index.specs.Manifests.{top_among}
-use Rattle.osm_index.specs.Publications.{IsPublicationOf, Publication, top_in}
+use Rattle.osm_index.specs.Publications.{IsPublication, Publication, top_in}
 use Rattle.osm_index.specs.declared.changed_trees.ChangedTrees.{ChangedTrees}
+use Rattle.osm_index.specs.internal.HeldTrees.{HoldsTree}
 use Rattle.osm_index.specs.internal.Putting.{IsTreeNode}
+
+-- ---- the set
+
+-- The new set has those put in place of these old ones. Where one that is put has the reference of an object of the set,
+-- that object is one of these old ones.
+pub record IsExchanged (objects olds puts new : List Element) : Type 0 where
+  pub set : IsObjectSet new
+  pub there : (o : Element) → Contains olds o → Contains objects o
+  pub apart : (o x : Element) → Contains puts o → Contains objects x → reference x ≡ reference o → Contains olds x
+  pub members : (o : Element) → Contains new o ↔ (Contains puts o ⊎ (Contains objects o × ¬ Contains olds o))
 
 -- ---- one tree
 
--- the set holds the tree of these entries of the objects, whose top has this digest
-pub record IsHeldTree (objects : List Element) (tree : Tree) (top : Digest) (held : List ℕ → Type 0) (entries : List Binding) : Type 0 where
-  pub are : AreEntriesOf objects tree entries
-  pub few : length entries ≤ ENTRY_LIMIT
-  pub is_top : top.0 ≡ digest (top_of (levels Two (number_of tree) entries))
-  pub nodes : (bytes : List ℕ) → IsNodeOf (levels Two (number_of tree) entries) bytes → held bytes
+-- the set holds a tree of the second edition, and this is what its set of objects becomes
+pub record HoldsChanging (p : Publication) (olds puts set : List Element) (tree : Tree) (top : List ℕ) (held : List ℕ → Type 0) : Type 0 where
+  pub holds : HoldsTree p tree top held
+  pub second : IsSecond p.edition
+  pub exchanged : IsExchanged p.objects olds puts set
 
--- the entries of the changed set
-pub record AreEntriesAfter (objects : List Element) (names : List Ref) (puts : List Element) (tree : Tree) (entries : List Binding) : Type 0 where
-  pub set : List Element
-  pub changed : IsChangedSet objects names puts set
-  pub are : AreEntriesOf set tree entries
+abbrev pub HoldsSomeChanging : List Element → List Element → Tree → List ℕ → (List ℕ → Type 0) → Type 0
+HoldsSomeChanging olds puts tree top held = (p : Publication) × (set : List Element) × HoldsChanging p olds puts set tree top held
 
--- what became of one tree: the tree of the new entries, which are few enough
-pub record IsChangedTree (tree : Tree) (old new : List Binding) (rebuilt : Rebuilt) : Type 0 where
+-- what became of one tree: the tree of the new set, whose entries are few enough
+pub record IsChangedTree (set : List Element) (tree : Tree) (old new : List Binding) (rebuilt : Rebuilt) : Type 0 where
+  pub are : AreEntriesOf set tree new
   pub few : length new ≤ ENTRY_LIMIT
   pub is : IsRebuilt (levels Two (number_of tree) old) (levels Two (number_of tree) new) rebuilt
 
 -- ---- all four
 
--- The set holds the trees of the publication, which is of these objects in the second edition, and whose tops have
--- these digests. No two of their nodes have one digest.
-pub record AreHeldTrees (objects : List Element) (tops : List Digest) (held : List ℕ → Type 0) (p : Publication) : Type 0 where
-  pub is : IsPublicationOf objects p.edition p
+-- The set holds the trees of the publication, which is of the second edition, and whose tops have these digests. This is
+-- what its set of objects becomes.
+pub record AreHeldTrees (p : Publication) (olds puts set : List Element) (tops : List Digest) (held : List ℕ → Type 0) : Type 0 where
+  pub published : IsPublication p
   pub second : IsSecond p.edition
   pub tops_are : (tree : Tree) → top_among tops tree ≡ top_in p tree
   pub nodes : (bytes : List ℕ) → IsTreeNode p bytes → held bytes
-  pub no_clash : IsClashFree (IsTreeNode p)
+  pub exchanged : IsExchanged p.objects olds puts set
+
+abbrev pub AreSomeHeldTrees : List Element → List Element → List Digest → (List ℕ → Type 0) → Type 0
+AreSomeHeldTrees olds puts tops held = (p : Publication) × (set : List Element) × AreHeldTrees p olds puts set tops held
 
 -- what became of them: the tops of the new ones, the nodes that come and the digests of those that go, each once
 pub record AreChangedTrees (p q : Publication) (trees : ChangedTrees) : Type 0 where

@@ -12,7 +12,7 @@ use Rattle.osm_model.specs.declared.tag.Tag.{Tag}
 use Rattle.tree_node.specs.Nodes.{Binding}
 use Rattle.tree_node.specs.declared.tree.Tree.{Tree}
 use Rattle.tree_node.specs.declared.tree.Tree.TheVariants.{Objects, Tags, Cells, Backs}
-use Rattle.osm_index.specs.Entries.{IsEntryOf, back_entry, cell_entry, object_entry, tag_entry}
+use Rattle.osm_index.specs.Entries.{back_entry, cell_entry, object_entry, tag_entry}
 use Rattle.osm_index.specs.declared.entry_list.Span.{Span}
 
 -- ---- the entries of one object
@@ -47,10 +47,6 @@ entries_from Objects o = object_entry o ∷ []
 entries_from Tags o = map (tag_of (reference o)) o.tags
 entries_from Cells o = cells_of o.body o.id
 entries_from Backs o = backs_of o.body (reference o)
-
--- the tree has this entry for one of the objects that have one of these names
-abbrev pub IsEntryOfNamed : List Element → List Ref → Tree → Binding → Type 0
-IsEntryOfNamed objects names tree b = (o : Element) × Contains objects o × Contains names (reference o) × IsEntryOf o tree b
 
 -- ---- packed entries
 

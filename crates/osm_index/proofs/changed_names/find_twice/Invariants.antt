@@ -1,7 +1,7 @@
 use Rattle.std.proofs.Common.{take}
 use Rattle.opl_codec.specs.internal.Loading.{HasJust}
 use Rattle.osm_index.specs.Applying.{AreApart, names_of}
-use Rattle.osm_index.proofs.changed_names.changed_names.Given as goal
+use Rattle.osm_index.proofs.changed_names.find_twice.Given as goal
 
 -- the names so far, no two of them one
 abbrev pub invariant-loop-change : goal.invariant-loop-change

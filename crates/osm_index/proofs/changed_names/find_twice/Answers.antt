@@ -1,12 +1,12 @@
 use Rattle.std.proofs.Common.{◌≡◌, ◌+◌, ◌++◌, ◌∷◌, [], List, take, rules, arith, sym, ap, subst, ◌∙◌}
 use Rattle.std.specs.List.{IsDistinct}
 use Rattle.std.specs.BTreeSet.{Updates, contains}
-use Rattle.std.proofs.lemmas.List.{take_more}
+use Rattle.std.proofs.lemmas.List.{take_all, take_more}
 use Rattle.opl_codec.specs.declared.change.Change.{Change}
 use Rattle.opl_codec.specs.internal.Loading.{HasJust}
 use Rattle.osm_index.specs.Applying.{AreApart, IsFirstTwice, name_of, names_of}
 use Rattle.osm_index.proofs.NameLemmas.{apart_more, first_twice, just_more_names}
-use Rattle.osm_index.proofs.changed_names.changed_names.Goals as goal
+use Rattle.osm_index.proofs.changed_names.find_twice.Goals as goal
 
 pub loop-change-init : goal.loop-change-init
 unfolding IsDistinct
@@ -28,3 +28,6 @@ loop-change-preserved c =
       just = subst (λ (all : List Change). HasJust c.insert.new.names (names_of all)) (sym more) (just_more_names c.loop-change.names c.insert.new.names before item c.loop-change.invariant.just (rw c.name_of-name.ensures at c.in_ok-insert.ensures.updates));
       apart = subst AreApart (sym more) (apart_more c.loop-change.names before item c.in_ok-insert.field-0 c.loop-change.invariant.just c.loop-change.invariant.apart (rw c.name_of-name.ensures at c.in_ok-insert.ensures.new) (cc));
     }
+
+pub returns-clause-apart : goal.returns-clause-apart
+returns-clause-apart c = λ _. rw (take_all c.loop-change.change-index c.args.changes.now c.loop-change-test.false) at c.loop-change.invariant.apart
