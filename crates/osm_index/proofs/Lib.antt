@@ -14,3 +14,8 @@ pub mod NodeChangeLemmas
 pub mod EntryChangeLemmas
 pub mod KeyParts
 pub mod EntryTurns
+pub mod ItemLemmas
+pub mod TurnLemmas
+pub mod OneOwner
+pub mod ExchangeLemmas
+pub mod OldTreeLemmas

@@ -13,7 +13,7 @@ ghost use Rattle.tree_node.specs.declared.tree.Tree.TheVariants.{Objects};
 ghost use Rattle.osm_index.specs.Applying.{AreApart, names_of};
 ghost use Rattle.osm_index.specs.Entries.{object_entry};
 ghost use Rattle.osm_index.specs.Publications.{Publication};
-ghost use Rattle.osm_index.specs.internal.HeldTrees.{AreNamed, HoldsSome, HoldsTree};
+ghost use Rattle.osm_index.specs.internal.HeldTrees.{AreNamed, HoldsSome, HoldsTree, IsLineOfSome};
 
 use crate::changed_names::name_of;
 use crate::keys::reference_key;
@@ -126,7 +126,7 @@ fn entries_under<'a>(
 
 /// The object whose canonical line this is.
 fn read_object(alloc: Global, line: &[u8]) -> Result<Object, AllocError>
-    requires { ∥ (o : Element) × IsElement o × (line.now ≡ canonical_line o) ∥₁ }
+    requires { ∥ IsLineOfSome line.now ∥₁ }
     ensures { (o : Element) → IsElement o → line.now ≡ canonical_line o → IfOk result (λ object. object ≡ o) }
 {
     match read_line(alloc, line) {

@@ -1,7 +1,7 @@
 //! Changing the nodes of a stock.
 
 ghost use Rattle.std.specs.Prelude.{◌≡◌, ◌↔◌, ◌⊎◌, ℕ, List, Err, IfErr, IfOk, OnErr, OnOk, map};
-ghost use Rattle.tree_build.specs.Rebuilding.{AreDifferent, IsAmong, digests_of, nodes_of};
+ghost use Rattle.tree_build.specs.Rebuilding.{IsAmong, digests_of, nodes_of};
 ghost use Rattle.tree_node.specs.Digests.{digest as digest_word};
 ghost use Rattle.tree_node.specs.Outcomes.{Clash, GrownByAll};
 ghost use Rattle.tree_node.specs.Shelves.{SameNodes};
@@ -24,8 +24,8 @@ pub(crate) fn digests_of(alloc: Global, nodes: &[NewNode]) -> Result<Vec<Digest>
     Ok(digests)
 }
 
-/// Puts nodes that differ, none of which is there, and which have these digests. Where one is refused the stock
-/// has the nodes that it had before.
+/// Puts nodes, none of which is there, and which have these digests. Where one is refused the stock has the nodes
+/// that it had before.
 pub(crate) fn put_nodes(
     stock: &mut Stock,
     nodes: Vec<NewNode>,
@@ -33,7 +33,6 @@ pub(crate) fn put_nodes(
 ) -> Result<(), ApplyFault>
     requires same { digests.now ≡ map (λ node. node.digest) nodes.items }
     requires new { (bytes : List ℕ) → IsAmong (nodes_of nodes.items) bytes → ¬ HasNode stock.old bytes }
-    requires once { AreDifferent (nodes_of nodes.items) }
     ensures put { OnOk result (GrownByAll (HasNode stock.old) (HasNode stock.new) (IsAmong (nodes_of nodes.items))) }
     ensures unchanged { OnErr result (SameNodes (HasNode stock.old) (HasNode stock.new)) }
     ensures clash { result ≡ Err ApplyFault.Clash

@@ -1,24 +1,24 @@
 -- The changes that turn the entries of some objects into others.
 -- Source: this project.
-use Rattle.std.specs.List.{Contains}
-use Rattle.std.specs.Prelude.{◌≡◌, ◌↔◌, ◌⊎◌, ℕ, List, [], ◌∷◌, Option, None, Some, bytes_eq, if◌then◌else◌}
+use Rattle.std.specs.Prelude.{◌≡◌, ◌≢◌, ◌↔◌, ◌⊎◌, ℕ, List, [], ◌∷◌, Option, None, Some, bytes_eq, if◌then◌else◌}
 use Rattle.tree_build.specs.Changing.{Change, by_order}
 use Rattle.tree_build.specs.Rebuilding.{keys_of_changes}
-use Rattle.tree_node.specs.Nodes.{AreRisingFrom, Binding, keys_of}
+use Rattle.tree_build.specs.internal.Weaving.{IsIn}
+use Rattle.tree_node.specs.Nodes.{AreRisingFrom, Binding}
 use Rattle.tree_node.specs.Order.{order}
 
 -- the change puts a new entry that isn't an old one
 abbrev pub PutsNew : List Binding → List Binding → Change Binding → Type 0
-PutsNew old new change = (b : Binding) × Contains new b × (¬ Contains old b) × (change ≡ record { key = b.key; put = Some b })
+PutsNew old new change = (b : Binding) × IsIn b new × (¬ IsIn b old) × (change ≡ record { key = b.key; put = Some b })
 
 -- the change takes an old entry away whose key no new one has
 abbrev pub TakesOld : List Binding → List Binding → Change Binding → Type 0
-TakesOld old new change = (b : Binding) × Contains old b × (¬ Contains (keys_of new) b.key) × (change ≡ record { key = b.key; put = None })
+TakesOld old new change = (b : Binding) × IsIn b old × ((n : Binding) → IsIn n new → n.key ≢ b.key) × (change ≡ record { key = b.key; put = None })
 
 -- these are all the changes that turn the old entries into the new ones, by rising key
 pub record TurnEntries (old new : List Binding) (all : List (Change Binding)) : Type 0 where
   pub rising : AreRisingFrom None (keys_of_changes all)
-  pub members : (change : Change Binding) → Contains all change ↔ (PutsNew old new change ⊎ TakesOld old new change)
+  pub members : (change : Change Binding) → IsIn change all ↔ (PutsNew old new change ⊎ TakesOld old new change)
 
 -- ---- one old entry after the other
 

@@ -2,7 +2,9 @@
 -- Source: this project.
 use Rattle.std.specs.List.{Contains}
 use Rattle.std.specs.Prelude.{◌≡◌, ◌↔◌, ℕ, List}
+use Rattle.osm_model.specs.CanonicalLine.{canonical_line}
 use Rattle.osm_model.specs.Elements.{Element, reference}
+use Rattle.osm_model.specs.Limits.{IsElement}
 use Rattle.osm_model.specs.Sets.{IsObjectSet}
 use Rattle.osm_model.specs.declared.reference.Ref.{Ref}
 use Rattle.tree_node.specs.Trees.{IsNodeOf}
@@ -23,3 +25,7 @@ HoldsSome tree top held = (p : Publication) × HoldsTree p tree top held
 pub record AreNamed (objects : List Element) (names : List Ref) (found : List Element) : Type 0 where
   pub set : IsObjectSet found
   pub members : (o : Element) → Contains found o ↔ (Contains objects o × Contains names (reference o))
+
+-- it is the canonical line of some object
+abbrev pub IsLineOfSome : List ℕ → Type 0
+IsLineOfSome line = (o : Element) × IsElement o × (line ≡ canonical_line o)
