@@ -19,3 +19,5 @@ pub mod TurnLemmas
 pub mod OneOwner
 pub mod ExchangeLemmas
 pub mod OldTreeLemmas
+pub mod HeldTreeLemmas
+pub mod NamedLemmas

@@ -1,6 +1,6 @@
 -- A tree that a stock holds is known by the digest of its top, so that it is known where some such tree is.
 use Rattle.std.proofs.Common.{◌≡◌, ℕ, List, [], ◌∷◌, Option, Some, inl, inr, sym, ◌∙◌}
-use Rattle.std.proofs.Math.HLevel.{Σ_prop_path}
+use mathlib.Core.HLevel.{Σ_prop_path}
 use Rattle.std.proofs.Math.Logic.{∥∥₁_elim}
 use Rattle.std.proofs.Props.{props}
 use Rattle.tree_build.specs.Changing.{Change}

@@ -1,7 +1,9 @@
 //! The number of the entries of a tree.
 
 ghost use Rattle.std.specs.Prelude.{◌≡◌, IfOk, length};
+ghost use Rattle.tree_node.specs.Outcomes.{NoMemory};
 ghost use Rattle.tree_node.specs.Stocks.{HasNode};
+ghost use Rattle.tree_walk.specs.Fetches.{cause_of};
 ghost use Rattle.osm_index.specs.Publications.{Publication};
 ghost use Rattle.osm_index.specs.internal.HeldTrees.{HoldsSome, HoldsTree};
 
@@ -30,7 +32,16 @@ pub(crate) fn entry_count(
     let mut tally = Tally::default();
     match count(alloc, &mut shelf, top, tree, &all, &mut tally) {
         Ok(number) => Ok(number),
-        Err(WalkFault::Memory) => Err(AllocError),
-        Err(_) => unreachable!("the stock holds the tree"),
+        Err(fault) => Err(memory_alone(fault)),
+    }
+}
+
+/// The refusal of a walk over a tree that the stock holds: memory alone refuses it.
+pub(crate) fn memory_alone(fault: WalkFault) -> AllocError
+    requires { ∥ cause_of fault ≡ NoMemory ∥₁ }
+{
+    match fault {
+        WalkFault::Memory => AllocError,
+        _ => unreachable!("the stock holds the tree"),
     }
 }

@@ -16,12 +16,13 @@ ghost use Rattle.osm_index.specs.Publications.{Publication};
 ghost use Rattle.osm_index.specs.internal.HeldTrees.{AreNamed, HoldsSome, HoldsTree, IsLineOfSome};
 
 use crate::changed_names::name_of;
+use crate::entry_count::memory_alone;
 use crate::keys::reference_key;
 use opl_codec::{Change, read_line};
 use osm_model::{Object, ObjectSet, Ref};
 use std::alloc::{AllocError, Global};
 use tree_node::{Digest, Stock, Tree};
-use tree_walk::{Item, KeyRange, Tally, WalkFault, range};
+use tree_walk::{Item, KeyRange, Tally, range};
 
 /// The objects of the set that these changes name, read from the object tree, whose top has this digest and which
 /// the stock holds. Each takes one walk from the top to its leaf, and the reading of its line.
@@ -119,8 +120,7 @@ fn entries_under<'a>(
     let mut tally = Tally::default();
     match range(alloc, &mut shelf, top, Tree::Objects, &keys, &mut tally) {
         Ok(found) => Ok(found),
-        Err(WalkFault::Memory) => Err(AllocError),
-        Err(_) => unreachable!("the stock holds the tree"),
+        Err(fault) => Err(memory_alone(fault)),
     }
 }
 
@@ -131,7 +131,8 @@ fn read_object(alloc: Global, line: &[u8]) -> Result<Object, AllocError>
 {
     match read_line(alloc, line) {
         Ok(Some(Change::Put(object))) => Ok(object),
-        Ok(_) => unreachable!("the line puts an object"),
+        Ok(Some(Change::Delete(_))) => unreachable!("the line puts an object"),
+        Ok(None) => unreachable!("the line puts an object"),
         // Such a line is refused out of memory alone.
         Err(_) => Err(AllocError),
     }
