@@ -1,5 +1,5 @@
 -- What a list of entries holds after the changes that turn some of its entries into others.
-use Rattle.std.proofs.Common.{◌≡◌, ◌≢◌, ◌↔◌, ◌⊎◌, inl, inr, ℕ, ◌+◌, List, [], ◌∷◌, length, map, Option, Some, None, refl, sym, ap, subst, ◌∙◌, arith}
+use Rattle.std.proofs.Common.{◌≡◌, ◌≢◌, ◌↔◌, ◌⊎◌, inl, inr, ℕ, ◌+◌, ◌-◌, ◌<◌, ◌≤◌, List, [], ◌∷◌, length, map, Option, Some, None, refl, sym, ap, subst, ◌∙◌, arith}
 use Rattle.std.specs.List.{AllByRecursion, Contains}
 use Rattle.std.specs.Prelude.{IfSome}
 use Rattle.osm_model.specs.Elements.{Element, reference}
@@ -13,10 +13,15 @@ use Rattle.tree_build.proofs.DifferChanges.{changed_rises}
 use Rattle.tree_build.proofs.WeaveLemmas.{above_low}
 use Rattle.tree_node.specs.Nodes.{AreRisingFrom, Binding, keys_of}
 use Rattle.tree_node.specs.Order.{IsBelow}
+use Rattle.tree_node.specs.declared.limits.TheConstants.{ENTRY_LIMIT}
 use Rattle.tree_node.specs.declared.tree.Tree.{Tree}
 use Rattle.osm_index.specs.Entries.{AreEntriesOf, IsEntryOf, IsEntryOfSome}
-use Rattle.osm_index.specs.internal.ChangedTrees.{IsExchanged}
+use Rattle.osm_index.specs.Publications.{HasTooMany, Publication}
+use Rattle.osm_index.specs.internal.ChangedTrees.{HoldsChanging, IsExchanged}
 use Rattle.osm_index.specs.internal.EntryChanges.{PutsNew, TakesOld, TurnEntries, put_of, taken}
+use Rattle.osm_index.specs.internal.Listing.{IsKeyed}
+use Rattle.osm_index.proofs.EntryTurns.{turns}
+use Rattle.osm_index.proofs.TurnLemmas.{turns_turn}
 use Rattle.osm_index.proofs.ItemLemmas.{all_of_each, count_parts, each_of, from_list, from_mapped, in_list, in_mapped, in_or_not, one_with_key, with_key_or_not}
 use Rattle.osm_index.proofs.OneOwner.{one_owner}
 use Rattle.osm_index.proofs.shared.OneObject.{is_element, one_object}
@@ -199,3 +204,39 @@ module _ (objects olds puts set : List Element) (is_set : IsObjectSet objects) (
       ]))),
     );
   }
+
+-- ---- entries that were sorted
+
+pub sorted_are : (objects : List Element) (tree : Tree) (list entries : List Binding) → ((b : Binding) → Contains list b ↔ IsEntryOfSome objects tree b) → IsKeyed list → Rise entries
+    → (IsKeyed list → (b : Binding) → Contains entries b ↔ Contains list b) → AreEntriesOf objects tree entries
+sorted_are objects tree list entries members keyed rising sorted = record {
+  rising = rising;
+  members = λ b. let x = sorted keyed b in let y = members b in ((λ h. y.0 (x.0 h)), (λ h. x.1 (y.1 h)));
+}
+
+module _ (p : Publication) (olds puts set : List Element) (tree : Tree) (top : List ℕ) (held : List ℕ → Type 0) (h : HoldsChanging p olds puts set tree top held)
+    (a b : List Binding) (old : AreEntriesOf olds tree a) (new : AreEntriesOf puts tree b) where
+  turned : AreTurned (p.entries tree) a b
+  turned = are_turned p.objects olds puts set h.holds.published.set h.exchanged tree (p.entries tree) a b (h.holds.published.lists tree) old new
+
+  -- the old ones are some of all
+  pub turned_few : length a ≤ length (p.entries tree)
+  turned_few =
+      let count : length (p.entries tree) ≡ length a + length (left (p.entries tree) a turned.all turned.old turned.within) = count_left (p.entries tree) a turned.all turned.old turned.within in
+      omega arith
+
+  pub all_few : length (p.entries tree) ≤ ENTRY_LIMIT
+  all_few = h.holds.published.few tree
+
+  pub turned_count : (cs : List (Change Binding)) → TurnEntries a b cs → length (changed_entries (p.entries tree) cs) + length a ≡ length (p.entries tree) + length b
+  turned_count cs turn = count_turned (p.entries tree) a b turned cs turn
+
+  pub turned_are : (cs : List (Change Binding)) → TurnEntries a b cs → AreEntriesOf set tree (changed_entries (p.entries tree) cs)
+  turned_are cs turn = exchanged_entries p.objects olds puts set h.holds.published.set h.exchanged tree (p.entries tree) a b (h.holds.published.lists tree) old new cs turn
+
+  pub turned_many : ENTRY_LIMIT < (length (p.entries tree) - length a) + length b → HasTooMany set
+  turned_many many =
+      let cs = turns a b in
+      let turn = turns_turn a b old.rising new.rising in
+      let count : length (changed_entries (p.entries tree) cs) + length a ≡ length (p.entries tree) + length b = turned_count cs turn in
+      (tree, changed_entries (p.entries tree) cs, turned_are cs turn, omega (arith, many, turned_few))

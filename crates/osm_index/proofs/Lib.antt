@@ -21,3 +21,8 @@ pub mod ExchangeLemmas
 pub mod OldTreeLemmas
 pub mod HeldTreeLemmas
 pub mod NamedLemmas
+pub mod TreeNodes
+pub mod ChangeTreeLemmas
+pub mod SetLemmas
+pub mod AppliedLemmas
+pub mod PlanLemmas

@@ -24,14 +24,15 @@ module _ (stock : Stock) (top : List ℕ) (changes : List (Change Binding)) (tre
   old_prop : (entries : List Binding) → IsProp (IsOldTree (HasNode stock) top changes tree entries)
   old_prop entries = hlevel (props, rising_prop)
 
+  same_old : (xs ys : List Binding) → IsOldTree (HasNode stock) top changes tree xs → IsOldTree (HasNode stock) top changes tree ys → xs ≡ ys
+  unfolding levels
+  same_old xs ys is are = elim (one_list Two tree is.is_tree xs ys is.has are.has (sym is.is_top ∙ are.is_top)) [
+    | inl one ↦ one
+    | inr (a, b, in_a, in_b, differ, equal) ↦ absurd (differ (stock_free stock a b (is.holds a in_a) (are.holds b in_b) equal))
+  ]
+
   one_old : IsProp HoldsOld
-  one_old (xs, is) (ys, are) = Σ_prop_path old_prop (same is are)
-    where
-      same : IsOldTree (HasNode stock) top changes tree xs → IsOldTree (HasNode stock) top changes tree ys → xs ≡ ys
-      same is are = elim (one_list Two tree is.is_tree xs ys is.has are.has (sym is.is_top ∙ are.is_top)) [
-        | inl one ↦ one
-        | inr (a, b, in_a, in_b, differ, equal) ↦ absurd (differ (stock_free stock a b (is.holds a in_a) (are.holds b in_b) equal))
-      ]
+  one_old (xs, is) (ys, are) = Σ_prop_path old_prop (same_old xs ys is are)
 
   pub some_old : ∥ HoldsOld ∥₁ → HoldsOldTree (HasNode stock) top changes
   some_old found = let old = ∥∥₁_elim found one_old (λ o. o) in record { tree = tree; entries = old.0; is = old.1 }

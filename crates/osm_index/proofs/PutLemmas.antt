@@ -154,6 +154,7 @@ all_held p set edition is tops put stock bytes written grown key of = record {
   is = record { published = is.published; same_objects = refl; same_edition = is.same_edition };
   nodes = nodes;
   manifest = same;
+  tops = put.0;
   root = of ∙ ap digest (written ∙ same);
   no_clash = stock_has_one stock p nodes;
 }

@@ -5,8 +5,9 @@ use Rattle.tree_node.specs.Shelves.{IsClashFree}
 use Rattle.tree_node.specs.Stocks.{HasNode}
 use Rattle.tree_node.specs.declared.digest.Digest.{Digest}
 use Rattle.tree_node.specs.declared.stock.Stock.{Stock}
-use Rattle.osm_index.specs.Manifests.{manifest_bytes}
-use Rattle.osm_index.specs.Publications.{IsNodeIn, IsPublicationOf, Publication, manifest_of, root_of}
+use Rattle.tree_node.specs.declared.tree.Tree.{Tree}
+use Rattle.osm_index.specs.Manifests.{manifest_bytes, top_among}
+use Rattle.osm_index.specs.Publications.{IsNodeIn, IsPublicationOf, Publication, manifest_of, root_of, top_in}
 use Rattle.osm_index.specs.declared.edition.Edition.{Edition}
 use Rattle.osm_index.specs.declared.manifest.Manifest.{Manifest}
 
@@ -16,6 +17,7 @@ pub record AreHeld (edition : Edition) (stock : Stock) (found : Manifest) (key :
   pub is : IsPublicationOf p.objects edition p
   pub nodes : (bytes : List ℕ) → HasNode stock bytes ↔ IsNodeIn p bytes
   pub manifest : manifest_bytes found ≡ manifest_of p
+  pub tops : (tree : Tree) → top_among found.tops tree ≡ top_in p tree
   pub root : key.0 ≡ root_of p
   pub no_clash : IsClashFree (IsNodeIn p)
 

@@ -1,8 +1,9 @@
 //! What a snapshot becomes by changes.
 
 ghost use Rattle.std.specs.Prelude.{◌≡◌, ◌≢◌, IfOk};
+ghost use Rattle.tree_node.specs.Shelves.{IsClashFree};
 ghost use Rattle.osm_index.specs.Manifests.{manifest_bytes};
-ghost use Rattle.osm_index.specs.Publications.{IsPublicationOf, Publication, manifest_of, root_of};
+ghost use Rattle.osm_index.specs.Publications.{IsNodeIn, IsPublicationOf, Publication, manifest_of, root_of};
 ghost use Rattle.osm_index.specs.internal.ChangedTrees.{AreChangedTrees};
 ghost use Rattle.osm_index.specs.internal.Plans.{IsPlan};
 
@@ -37,7 +38,7 @@ pub(crate) fn plan_of(
     old_root: &Digest,
 ) -> Result<Plan, AllocError>
     ensures { (p q : Publication) → IsPublicationOf q.objects edition q → AreChangedTrees p q trees
-        → old_root.now.0 ≡ root_of p → manifest_of p ≢ manifest_of q → IfOk result (IsPlan p q) }
+        → old_root.now.0 ≡ root_of p → manifest_of p ≢ manifest_of q → IsClashFree (IsNodeIn p) → IfOk result (IsPlan p q) }
 {
     let tops = trees.tops;
     let manifest = Manifest { edition, tops };

@@ -13,6 +13,7 @@ ghost use Rattle.tree_build.specs.Shapes.{shape_of as shape_word};
 ghost use Rattle.osm_index.specs.Applying.{AreApart, AreApplicable, IsApplied, IsDeltaOf, IsFirstMissing, IsFirstTwice, IsLast, IsNodeOfEither, IsSecond, edition_after};
 ghost use Rattle.osm_index.specs.Entries.{AreEntriesOf};
 ghost use Rattle.osm_index.specs.Holdings.{HoldSome};
+ghost use Rattle.osm_index.specs.Manifests.{HasSequence};
 ghost use Rattle.osm_index.specs.Publications.{HasTooMany, IsNodeIn, IsPublicationOf, Publication, shape_of};
 ghost use Rattle.osm_index.specs.internal.Plans.{PlansChanges, RefusesPlan};
 ghost use Rattle.osm_index.specs.internal.Putting.{AreAllFour, EndsTree, EndsTrees};
@@ -196,6 +197,7 @@ impl Snapshot {
 fn edition_after(edition: Edition) -> Result<Edition, ApplyFault>
     requires { IsSecond edition }
     ensures after { IfOk result (λ next. (next ≡ edition_after edition) × (¬ IsLast edition)) }
+    ensures fits { IfOk result (λ next. HasSequence edition × HasSequence next) }
     ensures refused { IfErr result (λ fault. (fault ≡ ApplyFault.LastSequence) × IsLast edition) }
 {
     match edition {
