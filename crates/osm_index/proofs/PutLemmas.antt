@@ -149,11 +149,12 @@ pub all_held : {old : List ℕ → Type 0} (p : Publication) (set : List Element
     → ((tree : Tree) → top_among tops tree ≡ top_in p tree) × GrownByAll (λ _. ⊥) old (IsTreeNode p)
     → (stock : Stock) (bytes : List ℕ) → bytes ≡ manifest edition (top_among tops) → GrownBy old (HasNode stock) bytes
     → (key : Digest) → key.0 ≡ digest bytes
-    → AreHeld set edition stock (record { edition = edition; tops = tops }) key p
+    → AreHeld edition stock (record { edition = edition; tops = tops }) key p
 all_held p set edition is tops put stock bytes written grown key of = record {
-  is = is;
+  is = record { published = is.published; same_objects = refl; same_edition = is.same_edition };
   nodes = nodes;
   manifest = same;
+  tops = put.0;
   root = of ∙ ap digest (written ∙ same);
   no_clash = stock_has_one stock p nodes;
 }

@@ -4,5 +4,6 @@ pub mod Ranges
 pub mod Manifests
 pub mod Publications
 pub mod Holdings
+pub mod Applying
 pub mod Snapshots
 pub mod internal

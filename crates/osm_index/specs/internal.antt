@@ -4,3 +4,9 @@ pub mod Putting
 pub mod Cells
 pub mod Fronts
 pub mod FrontedEntries
+pub mod EntryChanges
+pub mod NodeChanges
+pub mod HeldTrees
+pub mod Applying
+pub mod ChangedTrees
+pub mod Plans

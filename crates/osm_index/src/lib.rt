@@ -1,25 +1,37 @@
 //! What the digest trees of a set of objects hold, how they are built, and the root that stands for them.
 //!
 //! [`entries_of`] lists the entries of one tree, and [`Snapshot::build`] builds all four and makes the
-//! manifest and the root. The key and range writers name the keys in which a question about a set is
-//! answered.
+//! manifest and the root; [`Snapshot::apply`] changes them. The key and range writers name the keys in which
+//! a question about a set is answered.
 #![tactic(auto)]
 
+mod apply_fault;
 mod cells;
+mod changed_names;
+mod changed_trees;
 mod columns;
+mod delta;
 mod edition;
+mod entry_changes;
+mod entry_count;
 mod entry_list;
+mod exchange;
 mod fault;
 mod fronted_entry;
 mod keys;
 mod laws;
 mod listing;
 mod manifest;
+mod named_objects;
+mod node_changes;
+mod plan;
 mod ranges;
 mod read_keys;
 mod snapshot;
 
+pub use apply_fault::ApplyFault;
 pub use cells::cell_ranges;
+pub use delta::Delta;
 pub use edition::Edition;
 pub use entry_list::EntryList;
 pub use fault::IndexFault;

@@ -1,24 +1,36 @@
 //! A set of objects with its trees and its root.
 
-ghost use Rattle.std.specs.Prelude.{◌≡◌, ◌≢◌, ◌≤◌, ◌⊎◌, ℕ, List, Err, IfOk, MatchResult, OnErr};
+ghost use Rattle.std.specs.Prelude.{◌≡◌, ◌≢◌, ◌≤◌, ◌⊎◌, ◌↔◌, ℕ, List, Err, IfErr, IfOk, OnErr, OnOk, length};
 ghost use Rattle.std.specs.List.{Contains};
+ghost use Rattle.osm_model.specs.Elements.{Element};
 ghost use Rattle.osm_model.specs.Sets.{IsObjectSet};
+ghost use Rattle.osm_model.specs.declared.reference.Ref.{Ref};
 ghost use Rattle.tree_node.specs.NodeRefs.{bindings_of, number_of};
 ghost use Rattle.tree_node.specs.Outcomes.{Clash};
-ghost use Rattle.tree_node.specs.Shelves.{IsEmptySet};
+ghost use Rattle.tree_node.specs.Shelves.{IsClashFree, IsEmptySet};
 ghost use Rattle.tree_node.specs.Stocks.{HasNode};
 ghost use Rattle.tree_build.specs.Shapes.{shape_of as shape_word};
+ghost use Rattle.osm_index.specs.Applying.{AreApart, AreApplicable, IsApplied, IsDeltaOf, IsFirstMissing, IsFirstTwice, IsLast, IsNodeOfEither, IsSecond, edition_after};
 ghost use Rattle.osm_index.specs.Entries.{AreEntriesOf};
 ghost use Rattle.osm_index.specs.Holdings.{HoldSome};
-ghost use Rattle.osm_index.specs.Manifests.{manifest_bytes, top_among};
+ghost use Rattle.osm_index.specs.Manifests.{HasSequence};
 ghost use Rattle.osm_index.specs.Publications.{HasTooMany, IsNodeIn, IsPublicationOf, Publication, shape_of};
+ghost use Rattle.osm_index.specs.internal.Plans.{PlansChanges, RefusesPlan};
 ghost use Rattle.osm_index.specs.internal.Putting.{AreAllFour, EndsTree, EndsTrees};
 
+use crate::apply_fault::ApplyFault;
+use crate::changed_trees::change_trees;
+use crate::delta::Delta;
 use crate::edition::Edition;
+use crate::entry_count::entry_count;
+use crate::exchange::exchange_of;
 use crate::fault::IndexFault;
 use crate::listing::entries_of;
 use crate::manifest::{Manifest, write_manifest};
-use osm_model::ObjectSet;
+use crate::node_changes::{put_nodes, remove_nodes};
+use crate::plan::{Plan, plan_of};
+use opl_codec::Change;
+use osm_model::{ObjectSet, Ref};
 use std::alloc::{AllocError, Global};
 use tree_build::{BuildFault, Entry, Shape, build};
 use tree_node::{Digest, ENTRY_LIMIT, PutFault, Stock, Tree};
@@ -27,16 +39,15 @@ use tree_node::{Digest, ENTRY_LIMIT, PutFault, Stock, Tree};
 /// that they are those of one publication, and that no two different nodes of it have one digest.
 #[derive(Drop)]
 pub struct Snapshot {
-    set: ObjectSet,
     edition: Edition,
     stock: Stock,
     manifest: Manifest,
     root: Digest,
-    ghost own: { ∥ HoldSome set edition stock manifest root ∥₁ },
+    ghost own: { ∥ HoldSome edition stock manifest root ∥₁ },
 }
 
 impl Snapshot {
-    ghost use Rattle.osm_index.specs.Snapshots.{HoldsPublication};
+    ghost use Rattle.osm_index.specs.Snapshots.{HoldsPublication, IsAsBefore};
 
     /// Builds the trees of a set of objects (this project's trees, docs/FORMATS.md).
     ///
@@ -47,7 +58,7 @@ impl Snapshot {
     /// where two different nodes have one digest; `Memory` may come in place of any answer.
     pub fn build(alloc: Global, set: ObjectSet, edition: Edition) -> Result<Snapshot, IndexFault>
         // The snapshot holds a publication of this set in this edition.
-        ensures made { IfOk result (λ snapshot. (p : Publication) × HoldsPublication snapshot p × (snapshot.set ≡ set) × (snapshot.edition ≡ edition)) }
+        ensures made { IfOk result (λ snapshot. (p : Publication) × HoldsPublication snapshot p × (p.objects ≡ set) × (snapshot.edition ≡ edition)) }
         // There are too many entries where it says so,
         ensures too_many { result ≡ Err IndexFault.TooMany → HasTooMany set }
         // and two nodes of a publication clash where it says so.
@@ -62,7 +73,6 @@ impl Snapshot {
         write_manifest(&manifest, &mut bytes)?;
         match stock.put(bytes) {
             Ok(root) => Ok(Snapshot {
-                set,
                 edition,
                 stock,
                 manifest,
@@ -71,6 +81,87 @@ impl Snapshot {
             Err(PutFault::Clash) => Err(IndexFault::Clash),
             Err(PutFault::Memory) => Err(IndexFault::Memory),
         }
+    }
+
+    /// Publishes a changed set at the next sequence: without the objects that the changes name, and with those
+    /// put. It tells which nodes come and which go.
+    ///
+    /// The time grows with the changes: with sorting them and their entries, with a walk down the object tree for
+    /// each, and with the nodes that change times the levels of the trees; of the objects that no change names none
+    /// is looked at. What the snapshot holds then comes from `alloc`.
+    ///
+    /// Refused by the first of these that holds: `LastSequence` (I5), `ChangedTwice` (I3) by the earliest change
+    /// whose object an earlier one names, `NotThere` (I2) by the earliest delete of an object that isn't in the
+    /// set, `TooMany` (I4) where a tree would have more than 2^29 entries, `Clash` (I1) where two different nodes
+    /// of the old and the new publication together have one digest. Each but the first may be `Memory` instead,
+    /// and so may any answer. After a refusal the snapshot is as before.
+    pub fn apply(&mut self, alloc: Global, changes: &[Change]) -> Result<Delta, ApplyFault>
+        requires { IsSecond self.old.edition }
+        // The snapshot holds a publication of the changed set at the next sequence.
+        ensures applied { (p : Publication) → HoldsPublication self.old p → OnOk result ((q : Publication) × HoldsPublication self.new q
+            × IsApplied p.objects changes.now q.objects × (q.edition ≡ edition_after p.edition)) }
+        // The delta is of all nodes, the manifests too.
+        ensures delta { IfOk result (λ delta. (p q : Publication)
+            → HoldsPublication self.old p → HoldsPublication self.new q → IsDeltaOf p q delta) }
+        // No refusal holds where it succeeds: no two different nodes of both have one digest, either.
+        ensures applicable { (p : Publication) → HoldsPublication self.old p → OnOk result (AreApplicable p.objects p.edition changes.now) }
+        ensures no_clash { OnOk result ((p q : Publication)
+            → HoldsPublication self.old p → HoldsPublication self.new q → IsClashFree (IsNodeOfEither p q)) }
+        // After a refusal all is as before.
+        ensures stays { OnErr result (IsAsBefore self.old self.new) }
+        // The sequence is at its greatest where it says so, and only there.
+        ensures last { (result ≡ Err ApplyFault.LastSequence) ↔ IsLast self.old.edition }
+        // Else two changes are of one object where it says so; else a deleted object isn't there;
+        ensures twice { (p : Publication) → HoldsPublication self.old p → (r : Ref) → result ≡ Err (ApplyFault.ChangedTwice r)
+            → (¬ IsLast self.old.edition) × IsFirstTwice changes.now r }
+        ensures missing { (p : Publication) → HoldsPublication self.old p → (r : Ref) → result ≡ Err (ApplyFault.NotThere r)
+            → (¬ IsLast self.old.edition) × AreApart changes.now × IsFirstMissing p.objects changes.now r }
+        // else there are too many entries; else two nodes of the old and the new publication clash.
+        ensures too_many { (p : Publication) → HoldsPublication self.old p → result ≡ Err ApplyFault.TooMany
+            → AreApplicable p.objects p.edition changes.now
+            × ((set : List Element) × IsApplied p.objects changes.now set × HasTooMany set) }
+        ensures clash { (p : Publication) → HoldsPublication self.old p → result ≡ Err ApplyFault.Clash
+            → AreApplicable p.objects p.edition changes.now
+            × ((q : Publication) × IsApplied p.objects changes.now q.objects
+            × IsPublicationOf q.objects (edition_after p.edition) q
+            × Clash (IsNodeOfEither p q) (IsNodeOfEither p q)) }
+    {
+        let plan = self.plan(alloc, changes)?;
+        let added = plan.added;
+        put_nodes(&mut self.stock, plan.nodes, &added)?;
+        // Nothing refuses from here on.
+        self.edition = plan.manifest.edition;
+        self.manifest = plan.manifest;
+        self.root = plan.root;
+        let gone = plan.gone;
+        remove_nodes(&mut self.stock, &gone);
+        Ok(Delta { added, gone })
+    }
+
+    /// What the changes make of the snapshot. It reads the object tree for the objects that they name.
+    fn plan(&self, alloc: Global, changes: &[Change]) -> Result<Plan, ApplyFault>
+        requires { IsSecond self.now.edition }
+        ensures planned { (p : Publication) → HoldsPublication self.now p → IfOk result (PlansChanges p changes.now) }
+        ensures refused { (p : Publication) → HoldsPublication self.now p → IfErr result (RefusesPlan p changes.now) }
+        ensures last { (result ≡ Err ApplyFault.LastSequence) ↔ IsLast self.now.edition }
+    {
+        let edition = edition_after(self.edition)?;
+        let exchange = exchange_of(alloc, changes, &self.manifest.tops[0], &self.stock)?;
+        let trees = change_trees(
+            alloc,
+            &exchange.olds,
+            &exchange.puts,
+            &self.manifest.tops,
+            &self.stock,
+        )?;
+        Ok(plan_of(alloc, edition, trees, &self.root)?)
+    }
+
+    /// The number of objects: read from the nodes on the way from the object tree's top to its first leaf.
+    pub fn object_count(&self, alloc: Global) -> Result<u64, AllocError>
+        ensures { (p : Publication) → HoldsPublication self.now p → IfOk result (λ number. number ≡ length p.objects) }
+    {
+        entry_count(alloc, Tree::Objects, &self.manifest.tops[0], &self.stock)
     }
 
     /// The root: the digest of the manifest.
@@ -94,18 +185,27 @@ impl Snapshot {
         &self.stock
     }
 
-    /// The set.
-    pub fn objects(&self) -> &ObjectSet
-        ensures { result.now ≡ self.now.set }
-    {
-        &self.set
-    }
-
     /// The manifest.
     pub fn manifest(&self) -> &Manifest
         ensures { result.now ≡ self.now.manifest }
     {
         &self.manifest
+    }
+}
+
+/// The second edition at the next sequence.
+fn edition_after(edition: Edition) -> Result<Edition, ApplyFault>
+    requires { IsSecond edition }
+    ensures after { IfOk result (λ next. (next ≡ edition_after edition) × (¬ IsLast edition)) }
+    ensures fits { IfOk result (λ next. HasSequence edition × HasSequence next) }
+    ensures refused { IfErr result (λ fault. (fault ≡ ApplyFault.LastSequence) × IsLast edition) }
+{
+    match edition {
+        Edition::One => unreachable!("the edition is the second"),
+        Edition::Two { sequence } => match sequence.checked_add(1) {
+            Some(sequence) => Ok(Edition::Two { sequence }),
+            None => Err(ApplyFault::LastSequence),
+        },
     }
 }
 

@@ -1,6 +1,7 @@
 //! Rows of small sets, computed by an independent program: keys, entries, manifests and roots.
 
 mod cells;
+mod changes;
 mod memory;
 mod reading;
 

@@ -25,7 +25,7 @@ returns-in-Ok-clause-made c =
     let all = c.in_ok-tops.ensures in
     let ended : EndedAll all.0 (HasNode c.put_trees.new.stock) (Some c.in-Some.tops) = subst (λ (o : Option _). EndedAll all.0 (HasNode c.put_trees.new.stock) o) c.in-Some.is all.2 in
     let written = rw c.new-bytes.ensures.items at c.in_ok-write_manifest.ensures.written in
-    (all.0, all_held all.0 c.args.set c.args.edition all.1 c.in-Some.tops ended c.put.new.self c.write_manifest.new.out.items written c.in-Ok.ensures.added c.in-Ok.root c.in-Ok.ensures.key, refl, refl)
+    (all.0, all_held all.0 c.args.set c.args.edition all.1 c.in-Some.tops ended c.put.new.self c.write_manifest.new.out.items written c.in-Ok.ensures.added c.in-Ok.root c.in-Ok.ensures.key, all.1.same_objects, refl)
 
 pub returns-in-Err-Clash-clause-clash : goal.returns-in-Err-Clash-clause-clash
 returns-in-Err-Clash-clause-clash c = λ _.

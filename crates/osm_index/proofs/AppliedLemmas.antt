@@ -1,0 +1,71 @@
+-- What changes exchange in a set of objects makes the changed set.
+use Rattle.std.proofs.Common.{◌≡◌, ◌↔◌, ◌⊎◌, inl, inr, List, [], ◌∷◌, ◌++◌, refl, sym, ap, subst, ◌∙◌}
+use Rattle.std.specs.List.{Contains}
+use Rattle.std.proofs.lemmas.List.Elements.{Contains-append_right}
+use Rattle.osm_model.specs.Elements.{Element, reference, references}
+use Rattle.osm_model.specs.Sets.{IsObjectSet}
+use Rattle.osm_model.specs.declared.reference.Ref.{Ref}
+use Rattle.opl_codec.specs.declared.change.Change.{Change}
+use Rattle.opl_codec.specs.declared.change.Change.TheVariants.{Put, Delete}
+use Rattle.osm_index.specs.Applying.{DeleteThere, IsApplied, IsFirstMissing, name_of, names_of}
+use Rattle.osm_index.specs.declared.exchange.Exchange.{Exchange}
+use Rattle.osm_index.specs.internal.Applying.{IsExchangeOf}
+use Rattle.osm_index.specs.internal.ChangedTrees.{IsExchanged}
+use Rattle.osm_index.specs.internal.HeldTrees.{AreNamed}
+use Rattle.osm_index.proofs.SetLemmas.{exchanged, is_exchanged}
+use Rattle.osm_index.proofs.shared.Members.{from_map, here, in_map}
+
+-- ---- deletes of objects that aren't among those named
+
+module _ (objects : List Element) (all : List Change) (olds : List Element) (named : AreNamed objects (names_of all) olds) where
+  pub named_there : (r : Ref) → Contains (references olds) r → Contains (references objects) r
+  named_there r h =
+      let found = from_map (λ (o : Element). reference o) olds r h in
+      subst (λ (s : Ref). Contains (references objects) s) (sym found.2) (in_map (λ (o : Element). reference o) objects found.0 ((named.members found.0).0 found.1).0)
+
+  pub deletes_there : (some : List Change) → DeleteThere olds some → DeleteThere objects some
+  deletes_there some there = λ r h. named_there r (there r h)
+
+  pub first_missing : (r : Ref) → IsFirstMissing olds all r → IsFirstMissing objects all r
+  first_missing r is = record {
+    before = is.before;
+    after = is.after;
+    cut = is.cut;
+    there = deletes_there is.before is.there;
+    missing = λ h.
+    let found = from_map (λ (o : Element). reference o) objects r h in
+    let deleted : Contains all (Delete r) = subst (λ (cs : List Change). Contains cs (Delete r)) (sym is.cut) (Contains-append_right is.before (Delete r ∷ is.after) (Delete r) (here (Delete r) is.after)) in
+    let name = subst (λ (s : Ref). Contains (names_of all) s) found.2 (in_map name_of all (Delete r) deleted) in
+    is.missing (subst (λ (s : Ref). Contains (references olds) s) (sym found.2) (in_map (λ (o : Element). reference o) olds found.0 ((named.members found.0).1 (found.1, name))));
+  }
+
+-- ---- the exchanged set
+
+module _ (objects : List Element) (set : IsObjectSet objects) (all : List Change) (exchange : Exchange) (is : IsExchangeOf objects all exchange) where
+  there : (o : Element) → Contains exchange.olds o → Contains objects o
+  there o h = ((is.olds.members o).0 h).0
+
+  apart : (o x : Element) → Contains exchange.puts o → Contains objects x → reference x ≡ reference o → Contains exchange.olds x
+  apart o x put was same =
+      let name = in_map name_of all (Put o) ((is.puts.members o).0 put) in
+      (is.olds.members x).1 (was, subst (λ (r : Ref). Contains (names_of all) r) (sym same) name)
+
+  -- there is one,
+  pub some_exchanged : (new : List Element) × IsExchanged objects exchange.olds exchange.puts new
+  some_exchanged = (exchanged objects exchange.olds exchange.puts set is.olds.set is.puts.set there apart, is_exchanged objects exchange.olds exchange.puts set is.olds.set is.puts.set there apart)
+
+  -- and it is the changed set
+  pub applied : (new : List Element) → IsExchanged objects exchange.olds exchange.puts new → IsApplied objects all new
+  applied new has = record {
+    set = has.set;
+    members = λ o. (
+      (λ h. elim ((has.members o).0 h) [
+        | inl put ↦ inl ((is.puts.members o).0 put)
+        | inr (was, isnt) ↦ inr (was, λ name. isnt ((is.olds.members o).1 (was, name)))
+      ]),
+      (λ h. (has.members o).1 (elim h [
+        | inl put ↦ inl ((is.puts.members o).1 put)
+        | inr (was, unnamed) ↦ inr (was, λ old. unnamed ((is.olds.members o).0 old).1)
+      ])),
+    );
+  }

@@ -1,0 +1,56 @@
+-- Walks over trees that a stock holds: memory alone refuses them.
+use Rattle.std.proofs.Common.{◌≡◌, ℕ, List, [], ◌∷◌, length, Result, Ok, Err, inl, inr, suc, refl, sym, ap, subst, ◌∙◌}
+use Rattle.std.specs.List.{AllByRecursion}
+use Rattle.tree_node.specs.NodeRefs.{number_of}
+use Rattle.tree_node.specs.Nodes.{Binding}
+use Rattle.tree_node.specs.Outcomes.{Cause, EndsWell, NoMemory, NodeMissing, OtherCause, Outcome}
+use Rattle.tree_node.specs.Recorders.{RecorderHolds, RecorderUsed}
+use Rattle.tree_node.specs.Shelves.{SameNodes}
+use Rattle.tree_node.specs.Stocks.{HasNode}
+use Rattle.tree_node.specs.Trees.{IsNodeOf}
+use Rattle.tree_node.specs.declared.recorder.Recorder.{Recorder}
+use Rattle.tree_node.specs.declared.stock.Stock.{Stock}
+use Rattle.tree_node.specs.declared.tree.Tree.{Tree}
+use Rattle.tree_node.specs.internal.RecorderLaws.{given_held, stands_once}
+use Rattle.tree_node.proofs.shared.OutcomeLaws.{honest, uses}
+use Rattle.tree_walk.specs.Choices.{IsCount}
+use Rattle.tree_walk.specs.Fetches.{cause_of}
+use Rattle.tree_walk.specs.Ranges.{Range}
+use Rattle.tree_walk.specs.Walks.{IsMet, IsMetCounted, IsTopOf}
+use Rattle.tree_walk.specs.declared.fault.WalkFault.{WalkFault}
+use Rattle.tree_walk.specs.declared.fault.WalkFault.TheVariants as walks
+use Rattle.osm_index.specs.Publications.{Publication, shape_in, tree_in}
+use Rattle.osm_index.specs.internal.HeldTrees.{HoldsTree}
+use Rattle.osm_index.proofs.shared.EntryBytes.{is_top}
+
+-- a call that needs only nodes of the stock ends well
+pub ends_well : {A F : Type 0} {cause : F → Cause} {Is : A → Type 0} {needed : List ℕ → Type 0} {result : Result A F} (stock : Stock) (old new : Recorder)
+    → SameNodes (HasNode stock) (RecorderHolds old) → SameNodes (RecorderHolds old) (RecorderHolds new) → ((x : List ℕ) → needed x → HasNode stock x)
+    → Outcome cause Is needed (uses (RecorderHolds new) (RecorderUsed old) (RecorderUsed new)) result → EndsWell cause Is needed (uses (RecorderHolds new) (RecorderUsed old) (RecorderUsed new)) result
+ends_well stock old new lent stays all so =
+    honest (stands_once new.stock.now.nodes) (λ x needs. (stays x).1 ((lent x).1 (all x needs))) (given_held new.stock.now.nodes new.given new.own) so
+
+pub memory_is : (fault : WalkFault) → cause_of fault ≡ NoMemory → fault ≡ walks.Memory
+memory_is walks.Missing e = Prim.cc
+memory_is (walks.Malformed fault) e = Prim.cc
+memory_is walks.WrongTreeOrLevel e = Prim.cc
+memory_is walks.Disagrees e = Prim.cc
+memory_is walks.Memory e = refl
+
+module _ (p : Publication) (tree : Tree) (top : List ℕ) (held : List ℕ → Type 0) (holds : HoldsTree p tree top held) where
+  -- a walk may begin with its top
+  pub held_top : IsTopOf (shape_in p) (number_of tree) (p.entries tree) top
+  held_top = subst (λ (t : List ℕ). IsTopOf (shape_in p) (number_of tree) (p.entries tree) t) (sym holds.is_top) (is_top p holds.published tree)
+
+  -- what it meets is held
+  pub met_held : (range : Range) (x : List ℕ) → IsMet range (tree_in p tree) x → held x
+  met_held range x (level, place, stands, meets) = holds.nodes x (level, place, stands)
+
+  pub counted_held : (range : Range) (x : List ℕ) → IsMetCounted range (tree_in p tree) x → held x
+  counted_held range x (level, place, stands, meets, uncovered) = holds.nodes x (level, place, stands)
+
+-- what all have is counted
+pub count_all : {X : Type 0} (Has : X → Type 0) (xs : List X) (n : ℕ) → ((x : X) → Has x) → IsCount Has xs n → n ≡ length xs
+count_all Has [] n all is = is
+count_all Has (x ∷ xs) n all (inl (has, (m, e, more))) = e ∙ ap (λ (k : ℕ). suc k) (count_all Has xs m all more)
+count_all Has (x ∷ xs) n all (inr (hasnt, more)) = absurd (hasnt (all x))

@@ -1,0 +1,31 @@
+-- Trees of a publication that a stock holds, and what is read from them.
+-- Source: this project.
+use Rattle.std.specs.List.{Contains}
+use Rattle.std.specs.Prelude.{◌≡◌, ◌↔◌, ℕ, List}
+use Rattle.osm_model.specs.CanonicalLine.{canonical_line}
+use Rattle.osm_model.specs.Elements.{Element, reference}
+use Rattle.osm_model.specs.Limits.{IsElement}
+use Rattle.osm_model.specs.Sets.{IsObjectSet}
+use Rattle.osm_model.specs.declared.reference.Ref.{Ref}
+use Rattle.tree_node.specs.Trees.{IsNodeOf}
+use Rattle.tree_node.specs.declared.tree.Tree.{Tree}
+use Rattle.osm_index.specs.Publications.{IsPublication, Publication, top_in, tree_in}
+
+-- this is a publication, the top of its tree has this digest, and the set holds the tree's nodes
+pub record HoldsTree (p : Publication) (tree : Tree) (top : List ℕ) (held : List ℕ → Type 0) : Type 0 where
+  pub published : IsPublication p
+  pub is_top : top ≡ top_in p tree
+  pub nodes : (bytes : List ℕ) → IsNodeOf (tree_in p tree) bytes → held bytes
+
+-- so it is of some publication
+abbrev pub HoldsSome : Tree → List ℕ → (List ℕ → Type 0) → Type 0
+HoldsSome tree top held = (p : Publication) × HoldsTree p tree top held
+
+-- these are the objects of the set that have one of these names, as a set
+pub record AreNamed (objects : List Element) (names : List Ref) (found : List Element) : Type 0 where
+  pub set : IsObjectSet found
+  pub members : (o : Element) → Contains found o ↔ (Contains objects o × Contains names (reference o))
+
+-- it is the canonical line of some object
+abbrev pub IsLineOfSome : List ℕ → Type 0
+IsLineOfSome line = (o : Element) × IsElement o × (line ≡ canonical_line o)

@@ -1,0 +1,39 @@
+-- What changes make of a publication, before the stock is changed.
+-- Source: this project.
+use Rattle.std.specs.List.{Contains}
+use Rattle.std.specs.Prelude.{◌≡◌, ◌↔◌, ◌⊎◌, ℕ, List, map, ⊤}
+use Rattle.opl_codec.specs.declared.change.Change.{Change}
+use Rattle.osm_model.specs.Elements.{Element}
+use Rattle.tree_build.specs.Rebuilding.{AreDifferent, IsAmong, digests_of, nodes_of}
+use Rattle.tree_build.specs.declared.rebuilt.NewNode.{NewNode}
+use Rattle.tree_node.specs.Digests.{digest}
+use Rattle.osm_index.specs.Applying.{AreApart, AreApplicable, AreDigestsOfOnly, IsApplied, IsFirstMissing, IsFirstTwice, IsLast, edition_after}
+use Rattle.osm_index.specs.Manifests.{manifest_bytes}
+use Rattle.osm_index.specs.Publications.{HasTooMany, IsNodeIn, IsPublicationOf, Publication, manifest_of, root_of}
+use Rattle.osm_index.specs.declared.apply_fault.ApplyFault.{ApplyFault}
+use Rattle.osm_index.specs.declared.apply_fault.ApplyFault.TheVariants as faults
+use Rattle.osm_index.specs.declared.plan.Plan.{Plan}
+
+-- the plan makes of the one publication the other: its manifest, its root, the nodes that come and the digests of those
+-- that go
+pub record IsPlan (p q : Publication) (plan : Plan) : Type 0 where
+  pub is : IsPublicationOf q.objects plan.manifest.edition q
+  pub manifest : manifest_bytes plan.manifest ≡ manifest_of q
+  pub root : plan.root.0 ≡ root_of q
+  pub nodes : (bytes : List ℕ) → IsAmong (nodes_of plan.nodes.items) bytes ↔ (IsNodeIn q bytes × ¬ IsNodeIn p bytes)
+  pub once : AreDifferent (nodes_of plan.nodes.items)
+  pub added : plan.added.items ≡ map (λ (node : NewNode). node.digest) plan.nodes.items
+  pub gone : AreDigestsOfOnly p q (digests_of plan.gone.items)
+
+-- the plan makes of the publication one of the changed set at the next sequence
+abbrev pub PlansChanges : Publication → List Change → Plan → Type 0
+PlansChanges p all plan = (q : Publication) × IsApplied p.objects all q.objects × (q.edition ≡ edition_after p.edition) × IsPlan p q plan × AreApplicable p.objects p.edition all
+
+-- a refusal of the changes, before the stock is changed
+abbrev pub RefusesPlan : Publication → List Change → ApplyFault → Type 0
+RefusesPlan p all faults.LastSequence = IsLast p.edition
+RefusesPlan p all (faults.ChangedTwice r) = (¬ IsLast p.edition) × IsFirstTwice all r
+RefusesPlan p all (faults.NotThere r) = (¬ IsLast p.edition) × AreApart all × IsFirstMissing p.objects all r
+RefusesPlan p all faults.TooMany = AreApplicable p.objects p.edition all × ((set : List Element) × IsApplied p.objects all set × HasTooMany set)
+RefusesPlan p all faults.Clash = ⊥
+RefusesPlan p all faults.Memory = ⊤
