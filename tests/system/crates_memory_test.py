@@ -26,7 +26,6 @@ MODULES = {
     "tree_build": ("tree_tests", "trees"),
     "tree_walk": ("tree_tests", "walks"),
     "ql_plain": ("answer_tests", "plain_answers"),
-    "osm_index": ("answer_tests", "snapshots"),
     "ql_eval": ("answer_tests", "evaluations"),
     "osm_prove": ("answer_tests", "proofs"),
     "osm_check": ("answer_tests", "verdicts"),

@@ -1,4 +1,4 @@
-//! Tests of the crates that answer queries: ql_plain, osm_index, ql_eval, osm_prove, osm_check, osm_gate.
+//! Tests of the crates that answer queries: ql_plain, ql_eval, osm_prove, osm_check, osm_gate.
 //!
 //! They are a crate of their own because a crate that has tests is proved twice, with them and without.
 #![tactic(auto)]

@@ -5,7 +5,6 @@ mod evaluations;
 mod plain_answers;
 mod proofs;
 mod query_rows;
-mod snapshots;
 mod texts_of_sets;
 mod verdicts;
 
@@ -18,14 +17,4 @@ use std::test::Fail;
 fn snapshot_of(alloc: Global, set: &str, edition: Edition) -> Result<Snapshot, Fail> {
     let set = read_set(alloc, &mut set.as_bytes())?;
     Ok(Snapshot::build(alloc, set, edition)?)
-}
-
-/// Bytes in hexadecimal digits.
-fn hex(alloc: Global, bytes: &[u8]) -> Result<String, Fail> {
-    let mut text = String::new(alloc);
-    for byte in bytes {
-        let part = format!(in alloc; "{byte:02x}")?;
-        text.push_str(part.as_str())?;
-    }
-    Ok(text)
 }

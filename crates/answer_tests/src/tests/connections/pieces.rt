@@ -48,16 +48,6 @@ fn filled(alloc: Global, responses: &[&str], root: &str) -> Result<Vec<u8>, Fail
     Ok(filled)
 }
 
-/// Bytes in hexadecimal digits.
-fn hex(alloc: Global, bytes: &[u8]) -> Result<String, Fail> {
-    let mut text = String::new(alloc);
-    for byte in bytes {
-        let part = format!(in alloc; "{byte:02x}")?;
-        text.push_str(part.as_str())?;
-    }
-    Ok(text)
-}
-
 /// Whether a connection came to this.
 fn check_fed(rt: &(impl Abort + AllocGlobal), got: &Seen, responses: &[u8], left: &[u8], end: End) {
     assert_eq!(rt; got.responses.as_slice(), responses);
@@ -128,7 +118,7 @@ fn answers_come_with_their_proofs(rt: HostRuntime) -> Result<(), Fail> {
     ] {
         let snapshot = snapshot_of(alloc, set, edition)?;
         let whole = fed(alloc, &snapshot, checked::SENT.as_bytes(), b"")?;
-        let got = hex(alloc, &whole.responses)?;
+        let got = hex::encode(alloc, &whole.responses)?;
         assert_eq!(rt; got.as_str(), want);
         check_cuts(
             &rt,

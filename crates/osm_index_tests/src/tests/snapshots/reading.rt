@@ -1,8 +1,8 @@
 //! Keys, values and manifests, read.
 
 use super::set_of;
+use crate::tests::snapshot_of;
 use crate::tests::texts_of_sets::ALL_KINDS;
-use crate::tests::{hex, snapshot_of};
 use osm_index::{
     BackKey, CellKey, Edition, Snapshot, TagKey, append_tag_key, back_key, cell_key, cell_value,
     entries_of, read_back_key, read_cell_key, read_cell_value, read_manifest, read_reference_key,
@@ -42,7 +42,7 @@ fn check_manifest(
         write_manifest(&manifest, &mut again)?;
     }
     assert_eq!(rt; &again[..], &bytes[..]);
-    let digits = hex(rt.alloc(), &bytes)?;
+    let digits = hex::encode(rt.alloc(), &bytes)?;
     assert!(rt; digits.as_str().starts_with(front));
     assert!(rt; digits.as_str().ends_with(TOPS));
     Ok(())

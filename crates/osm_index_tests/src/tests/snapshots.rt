@@ -5,7 +5,6 @@ mod changes;
 mod memory;
 mod reading;
 
-use crate::tests::hex;
 use crate::tests::texts_of_sets::{ALL_KINDS, DATELINE};
 use opl_codec::read_set;
 use osm_index::{
@@ -27,9 +26,9 @@ fn shown(alloc: Global, set: &ObjectSet, tree: Tree) -> Result<String, Fail> {
     let list = entries_of(alloc, set, tree)?;
     let mut text = String::new(alloc);
     for entry in list.sorted(alloc)?.iter() {
-        text.push_str(hex(alloc, entry.key)?.as_str())?;
+        text.push_str(hex::encode(alloc, entry.key)?.as_str())?;
         text.push_str(" ")?;
-        text.push_str(hex(alloc, entry.value)?.as_str())?;
+        text.push_str(hex::encode(alloc, entry.value)?.as_str())?;
         text.push_str("\n")?;
     }
     Ok(text)
@@ -82,7 +81,7 @@ fn root_of(alloc: Global, text: &str, sequence: Option<u64>) -> Result<String, F
         Some(sequence) => Edition::Two { sequence },
     };
     let snapshot = Snapshot::build(alloc, set_of(alloc, text)?, edition)?;
-    hex(alloc, &snapshot.root().0)
+    Ok(hex::encode(alloc, &snapshot.root().0)?)
 }
 
 #[test]
@@ -129,9 +128,9 @@ fn roots_are_those_of_the_vectors(rt: HostRuntime) -> Result<(), Fail> {
 /// The two ends of a range in hexadecimal digits, a space between the two.
 fn ends(alloc: Global, range: &OwnedRange) -> Result<String, Fail> {
     let range = range.as_range();
-    let mut text = hex(alloc, range.lo)?;
+    let mut text = hex::encode(alloc, range.lo)?;
     text.push_str(" ")?;
-    text.push_str(hex(alloc, range.hi)?.as_str())?;
+    text.push_str(hex::encode(alloc, range.hi)?.as_str())?;
     Ok(text)
 }
 
