@@ -9,7 +9,7 @@ mod rows;
 use super::set_of;
 use crate::tests::snapshot_of;
 use opl_codec::{Change, read_changes};
-use osm_index::{Delta, Edition, Snapshot};
+use osm_index::{ApplyFault, Delta, Edition, Snapshot};
 use std::alloc::Global;
 use std::test::Fail;
 use tree_node::{Digest, Shelf, Tree};
@@ -23,6 +23,18 @@ fn changes_of(alloc: Global, text: &str) -> Result<Vec<Change>, Fail> {
 /// The snapshot of the set of this text, in the second edition at this sequence.
 fn second(alloc: Global, set: &str, sequence: u64) -> Result<Snapshot, Fail> {
     snapshot_of(alloc, set, Edition::Two { sequence })
+}
+
+/// Applies changes to a snapshot of the second edition.
+fn apply(
+    alloc: Global,
+    snapshot: &mut Snapshot,
+    changes: &[Change],
+) -> Result<Result<Delta, ApplyFault>, Fail> {
+    match snapshot.edition() {
+        Edition::One => Err(Fail::new("the snapshot is of the second edition")),
+        Edition::Two { sequence: _ } => Ok(snapshot.apply(alloc, changes)),
+    }
 }
 
 /// The digests of all nodes that a snapshot needs, by rising digest: those of its trees, and its manifest.
@@ -100,6 +112,6 @@ fn changes_as_built(alloc: Global, set: &str, changes: &str, changed: &str) -> R
     let mut snapshot = second(alloc, set, 0)?;
     let before = nodes_of(alloc, &snapshot)?;
     let changes = changes_of(alloc, changes)?;
-    let delta = snapshot.apply(alloc, &changes)?;
+    let delta = apply(alloc, &mut snapshot, &changes)??;
     Ok(is_built(alloc, &snapshot, changed, 1)? && is_delta(alloc, delta, &before, &snapshot)?)
 }

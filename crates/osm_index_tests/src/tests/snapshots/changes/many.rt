@@ -1,6 +1,6 @@
 //! Each single change of a set of many nodes.
 
-use super::{changes_of, is_built, second};
+use super::{apply, changes_of, is_built, second};
 use crate::tests::snapshot_of;
 use opl_codec::Change;
 use osm_index::Delta;
@@ -46,7 +46,11 @@ fn change_each(alloc: Global, first: u64, last: u64) -> Result<bool, Fail> {
     let mut snapshot = second(alloc, set.as_str(), 0)?;
     for id in first..last {
         let is_there = id % 2 == 0;
-        let Delta { added: _, gone: _ } = snapshot.apply(alloc, &change(alloc, id, is_there)?)?;
+        let Delta { added: _, gone: _ } = apply(
+            alloc,
+            &mut snapshot,
+            &change(alloc, id, is_there)?,
+        )??;
         let changed = if is_there {
             nodes(alloc, 0, id)?
         } else {
@@ -56,7 +60,11 @@ fn change_each(alloc: Global, first: u64, last: u64) -> Result<bool, Fail> {
         if snapshot.root() != built.root() {
             return Ok(false);
         }
-        let Delta { added: _, gone: _ } = snapshot.apply(alloc, &change(alloc, id, !is_there)?)?;
+        let Delta { added: _, gone: _ } = apply(
+            alloc,
+            &mut snapshot,
+            &change(alloc, id, !is_there)?,
+        )??;
     }
     is_built(alloc, &snapshot, set.as_str(), (last - first) * 2)
 }
@@ -95,8 +103,8 @@ fn nodes_come_back_one_by_one(rt: HostRuntime) -> Result<(), Fail> {
     append_node(alloc, 100, &mut back)?;
     let back = changes_of(alloc, back.as_str())?;
     for _ in 0..5 {
-        let Delta { added: _, gone: _ } = snapshot.apply(alloc, &gone)?;
-        let Delta { added: _, gone: _ } = snapshot.apply(alloc, &back)?;
+        let Delta { added: _, gone: _ } = apply(alloc, &mut snapshot, &gone)??;
+        let Delta { added: _, gone: _ } = apply(alloc, &mut snapshot, &back)??;
     }
     assert!(rt; is_built(alloc, &snapshot, set.as_str(), 10)?);
     Ok(())

@@ -1,6 +1,6 @@
 //! Refused memory.
 
-use super::{changes_of, is_built, second};
+use super::{apply, changes_of, is_built, second};
 use crate::tests::texts_of_sets::ALL_KINDS;
 use osm_index::{ApplyFault, Delta};
 use std::test::Fail;
@@ -15,12 +15,12 @@ fn changes_survive_refused_memory(rt: HostRuntime) -> Result<(), Fail> {
     let alloc = rt.alloc();
     let mut snapshot = second(alloc, ALL_KINDS, 0)?;
     let changes = changes_of(alloc, "w10 dD\nn3 Ta=b x0 y0\nn1 x1 y1\n")?;
-    match snapshot.apply(alloc, &changes) {
+    match apply(alloc, &mut snapshot, &changes)? {
         Ok(Delta { added: _, gone: _ }) => {}
         Err(fault) => {
             assert_eq!(rt; fault, ApplyFault::Memory);
             assert!(rt; is_built(alloc, &snapshot, ALL_KINDS, 0)?);
-            let Delta { added: _, gone: _ } = snapshot.apply(alloc, &changes)?;
+            let Delta { added: _, gone: _ } = apply(alloc, &mut snapshot, &changes)??;
         }
     }
     assert!(rt; is_built(alloc, &snapshot, CHANGED, 1)?);

@@ -1,6 +1,6 @@
 //! Changes that are refused.
 
-use super::{changes_of, is_built, second};
+use super::{apply, changes_of, is_built, second};
 use crate::tests::texts_of_sets::ALL_KINDS;
 use osm_index::ApplyFault;
 use osm_model::{Kind, Ref};
@@ -11,7 +11,7 @@ use std::test::Fail;
 fn refusal_of(alloc: Global, changes: &str, sequence: u64) -> Result<Option<ApplyFault>, Fail> {
     let mut snapshot = second(alloc, ALL_KINDS, sequence)?;
     let changes = changes_of(alloc, changes)?;
-    let Err(fault) = snapshot.apply(alloc, &changes) else {
+    let Err(fault) = apply(alloc, &mut snapshot, &changes)? else {
         return Ok(None);
     };
     if !is_built(alloc, &snapshot, ALL_KINDS, sequence)? {

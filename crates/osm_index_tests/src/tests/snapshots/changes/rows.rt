@@ -1,6 +1,6 @@
 //! Rows of changes of a small set.
 
-use super::{changes_as_built, changes_of, is_built, nodes_of, second};
+use super::{apply, changes_as_built, changes_of, is_built, nodes_of, second};
 use crate::tests::texts_of_sets::ALL_KINDS;
 use osm_index::Delta;
 use std::test::Fail;
@@ -16,7 +16,7 @@ fn a_manifest_alone_changes(rt: HostRuntime) -> Result<(), Fail> {
         let mut snapshot = second(alloc, ALL_KINDS, 0)?;
         let old = *snapshot.root();
         let changes = changes_of(alloc, text)?;
-        let Delta { added, gone } = snapshot.apply(alloc, &changes)?;
+        let Delta { added, gone } = apply(alloc, &mut snapshot, &changes)??;
         assert_eq!(rt; added.as_slice(), [*snapshot.root()].as_slice());
         assert_eq!(rt; gone.as_slice(), [old].as_slice());
         assert!(rt; is_built(alloc, &snapshot, ALL_KINDS, 1)?);
@@ -30,7 +30,7 @@ fn a_deleted_node_leaves_its_references(rt: HostRuntime) -> Result<(), Fail> {
     let mut snapshot = second(alloc, ALL_KINDS, 0)?;
     let backs = snapshot.manifest().tops[3];
     let changes = changes_of(alloc, "n1 dD\n")?;
-    let Delta { added: _, gone: _ } = snapshot.apply(alloc, &changes)?;
+    let Delta { added: _, gone: _ } = apply(alloc, &mut snapshot, &changes)??;
     assert_eq!(rt; snapshot.manifest().tops[3], backs);
     assert!(rt; is_built(alloc, &snapshot, WITHOUT_N1, 1)?);
     Ok(())
@@ -71,9 +71,9 @@ fn changes_follow_each_other(rt: HostRuntime) -> Result<(), Fail> {
     let alloc = rt.alloc();
     let mut snapshot = second(alloc, ALL_KINDS, 7)?;
     let first = changes_of(alloc, "n1 dD\n")?;
-    let Delta { added: _, gone: _ } = snapshot.apply(alloc, &first)?;
+    let Delta { added: _, gone: _ } = apply(alloc, &mut snapshot, &first)??;
     let second_list = changes_of(alloc, ALL_KINDS)?;
-    let Delta { added: _, gone: _ } = snapshot.apply(alloc, &second_list)?;
+    let Delta { added: _, gone: _ } = apply(alloc, &mut snapshot, &second_list)??;
     assert!(rt; is_built(alloc, &snapshot, ALL_KINDS, 9)?);
     assert_eq!(rt; nodes_of(alloc, &snapshot)?.len(), 5);
     Ok(())
