@@ -1,0 +1,34 @@
+#!/usr/bin/env bash
+# The time of applying 1, 100 and 10,000 changes to the snapshot of a mixed extract of 1,155,000 objects (SHARE times as
+# many), in process, beside building that snapshot in the same run, with the nodes that came and went; and the peak
+# memory. The program bench/apply_speed.program is built over copies of the crates in a folder outside the repository
+# (WORK, or a new one), so that the gate doesn't prove it.
+#
+#   bench/apply.sh [SHARE]
+set -eu
+share=${1:-1}
+. "$(dirname "$0")/program.sh"
+data=$top/bench/data
+mkdir -p "$data"
+file=$data/extract-$share.opl
+[ -f "$file" ] || { python3 "$top/bench/make_extract.py" --share "$share" >"$file.part"; mv "$file.part" "$file"; }
+
+crates='osm_model opl_codec tree_node tree_build tree_walk osm_index'
+# shellcheck disable=SC2086
+build_program apply_speed "$(grep -E "^(${crates// /|}):" "$top/crates.txt")
+apply_speed: opl_codec osm_index anyhow" $crates
+
+echo "$(rt version)"
+echo "$(nproc) processors, $(sed -n 's/^model name\s*: //p' /proc/cpuinfo | head -n 1), Linux $(uname -r)"
+echo "$(wc -l <"$file") objects, $(stat -c %s "$file") bytes:"
+python3 - "$file" <<'END'
+import os
+import subprocess
+import sys
+
+with open(sys.argv[1], "rb") as stdin:
+    child = subprocess.Popen(["out/apply_speed"], stdin=stdin)
+_, status, usage = os.wait4(child.pid, 0)
+print(f"peak memory {usage.ru_maxrss / 1024:.0f} MiB", flush=True)
+sys.exit(os.waitstatus_to_exitcode(status))
+END
