@@ -15,7 +15,7 @@ def line(random, kind, number):
     tags = ",".join(f"{key}={random.randrange(4)}" for key in "abm" if random.random() < 0.4)
     front = f"{kind}{number} v{random.randrange(3)} T{tags}"
     if kind == "n":
-        return f"{front} x{random.randrange(-180, 180)}.{random.randrange(10**7)} y{random.randrange(-90, 90)}"
+        return f"{front} x{random.randrange(-179, 180)}.{random.randrange(10**7)} y{random.randrange(-90, 90)}"
     if kind == "w":
         return front + " N" + ",".join(f"n{random.randrange(60)}" for _ in range(random.randrange(6)))
     members = (f"{random.choice(KINDS)}{random.randrange(60)}@r{random.randrange(3)}" for _ in range(random.randrange(5)))
