@@ -1,19 +1,32 @@
 -- Marks of objects.
-use Rattle.std.proofs.Common.{◌≡◌, ℕ, zero, suc, ◌+◌, ◌<◌, ◌≤◌, List, [], ◌∷◌, ◌++◌, length, get_or, map, take, drop, Bool, true, false, inl, inr, refl, sym, ap, subst, ◌∙◌, arith}
+use Rattle.std.proofs.Common.{◌≡◌, ℕ, zero, suc, ◌+◌, ◌<◌, ◌≤◌, List, [], ◌∷◌, ◌++◌, length, get_or, map, take, drop, Bool, true, false, inl, inr, ◌↔◌, refl, sym, ap, subst, ◌∙◌, arith}
 use Rattle.std.proofs.Math.ListN.{replicate, set}
 use Rattle.std.proofs.Math.Seq.{take-append_seam}
-use Rattle.std.proofs.lemmas.List.{append-nil, get_or_default, length-take, take_all}
+use Rattle.std.proofs.lemmas.List.{append-nil, get_or-map, get_or_default, length-take, take_all}
 use Rattle.std.specs.List.{AllByRecursion, Contains}
 use Rattle.std.specs.List.Sorted.{IsStrictlySortedBy}
 use Rattle.std.specs.declared.cmp.Ordering.TheVariants.{Less}
-use Rattle.osm_model.specs.Elements.{Element, ref_cmp, reference}
+use Rattle.osm_model.specs.Elements.{Element, kind_of, ref_cmp, reference, references}
+use Rattle.osm_model.specs.Membership.{BodyLists}
+use Rattle.osm_model.specs.declared.body.Body.{Body}
+use Rattle.osm_model.specs.declared.body.Body.TheVariants as bodies
+use Rattle.osm_model.specs.declared.kind.Kind.{Kind}
+use Rattle.osm_model.specs.declared.kind.Kind.TheVariants as kinds
 use Rattle.osm_model.specs.declared.reference.Ref.{Ref}
+use Rattle.ql_plain.proofs.Linking.{same_node}
 use Rattle.ql_plain.proofs.Mapped.{contains_mapped, from_mapped}
-use Rattle.ql_plain.proofs.shared.Adding.{adds_as, first_or_in_rest, here, in_rest, one_more}
+use Rattle.ql_plain.proofs.shared.Adding.{adds_as, adds_to_nothing, first_or_in_rest, here, in_rest, one_more}
 use Rattle.ql_plain.specs.Adding.{Adds, From}
 use Rattle.ql_plain.specs.Meanings.{IsSetOf}
-use Rattle.ql_plain.specs.internal.Linked.{IsThereAs}
-use Rattle.ql_plain.specs.internal.Marks.{IsNamedIn, marked}
+use Rattle.ql_plain.specs.Values.{IsOfKind}
+use Rattle.ql_plain.specs.declared.node_id.NodeId.{NodeId}
+use Rattle.ql_plain.specs.internal.Linked.{IsListedBy, IsThere, IsThereAs}
+use Rattle.ql_plain.specs.internal.Marks.{AreAllListable, IsNamedIn, marked}
+use Rattle.ql_plain.specs.internal.Seeking.{IsAt}
+
+-- the reference of the node with an id
+abbrev pub id_name : NodeId → Ref
+id_name id = record { kind = kinds.Node; id = id.0 }
 
 -- ---- the first of a list
 
@@ -49,6 +62,11 @@ adds_again x xs = record {
 }
 
 -- ---- marks
+
+-- what an item at a place tells of the list of references
+pub named_item : {X : Type 0} (key : X → Ref) (xs : List X) (r : Ref) (p : ℕ) → IsAt key xs r p → (d : Ref) → get_or (map key xs) p d ≡ r
+named_item key [] r p so d = absurd (omega (arith, so.within))
+named_item key (x ∷ xs) r p so d = get_or-map key (x ∷ xs) p x d so.within ∙ so.named x
 
 pub marked_none : (refs : List Ref) (n : ℕ) → marked refs (replicate n false) ≡ []
 marked_none [] n = refl
@@ -103,11 +121,9 @@ module _ (objects : List Ref) (marks : List Bool) (same : length marks ≡ lengt
   marked_next_is k o lt is mark_is = marked_next k o true (omega (arith, same, lt)) is (sym (sym (get_or_default marks k false true lt) ∙ mark_is))
 
   -- a marked reference was put after those before it
-  pub marked_pushed : (k : ℕ) (d : Ref) {refs more : List Ref} → k < length marks → get_or marks k false ≡ true → refs ≡ marked (take k objects) (take k marks)
-      → more ≡ refs ++ get_or objects k d ∷ [] → more ≡ marked (take (k + 1) objects) (take (k + 1) marks)
-  marked_pushed k d lt mark_is are pushed =
-      pushed ∙ ap (λ (rs : List Ref). rs ++ get_or objects k d ∷ []) are
-      ∙ sym (marked_next_is k (get_or objects k d) lt (get_or_default objects k d (get_or objects k d) (omega (arith, same, lt))) mark_is)
+  pub marked_pushed : (k : ℕ) (name : Ref) {refs more : List Ref} → k < length marks → get_or marks k false ≡ true → get_or objects k name ≡ name → refs ≡ marked (take k objects) (take k marks)
+      → more ≡ refs ++ name ∷ [] → more ≡ marked (take (k + 1) objects) (take (k + 1) marks)
+  marked_pushed k name lt mark_is is are pushed = pushed ∙ ap (λ (rs : List Ref). rs ++ name ∷ []) are ∙ sym (marked_next_is k name lt (sym is) mark_is)
 
   pub marked_next_not : (k : ℕ) → k < length marks → get_or marks k false ≡ false → marked (take (k + 1) objects) (take (k + 1) marks) ≡ marked (take k objects) (take k marks)
   marked_next_not k lt mark_is = one objects lt_too (λ o is. marked_next k o false lt_too is (sym mark_is) ∙ append-nil (marked (take k objects) (take k marks)))
@@ -129,16 +145,53 @@ module _ (objects : List Ref) (marks : List Bool) (same : length marks ≡ lengt
 pub written_over : (n : ℕ) (old new : List Bool) → n ≡ length new → take n (new ++ drop (length new) old) ≡ new
 written_over n old new same = ap (λ (k : ℕ). take k (new ++ drop (length new) old)) same ∙ take-append_seam new (drop (length new) old)
 
--- what is named in the list of all references is there
-pub there_named : (objects : List Element) (all names : List Ref) {old new : List Ref} → all ≡ map (λ (o : Element). reference o) objects → Adds old new (From names (IsNamedIn all)) → Adds old new (From names (IsThereAs objects))
-there_named objects all names are so =
+-- ---- what objects of a kind may list
+
+-- an object of the list has its reference among all
+named_there : (objects : List Element) (r : Ref) → IsThere objects r → Contains (references objects) r
+named_there objects r there = subst (λ (s : Ref). Contains (references objects) s) there.2 (contains_mapped (λ (o : Element). reference o) objects there.0 there.1)
+
+-- the references of all objects
+pub all_listable : (set objects : List Element) (kind : Kind) → objects ≡ set → AreAllListable set kind (references objects)
+all_listable set objects kind same = record {
+  there = λ r has. subst (λ (os : List Element). IsThere os r) same (from_mapped (λ (o : Element). reference o) objects r has);
+  all = λ parent r is lists there. named_there objects r (subst (λ (os : List Element). IsThere os r) (sym same) there);
+}
+
+way_lists_nodes : (body : Body) (r : Ref) → kind_of body ≡ kinds.Way → BodyLists body r → r.kind ≡ kinds.Node
+way_lists_nodes (bodies.Node place) r is lists = absurd lists
+way_lists_nodes (bodies.Way nodes) r is lists = lists.0
+way_lists_nodes (bodies.Rel members) r is lists = absurd (cc)
+
+module _ (objects nodes : List Element) (are : (o : Element) → Contains nodes o ↔ (Contains objects o × IsOfKind kinds.Node o)) where
+  -- the references of all nodes
+  pub nodes_listable : AreAllListable objects kinds.Way (references nodes)
+  nodes_listable = record {
+    there = λ r has. let node = from_mapped (λ (o : Element). reference o) nodes r has in (node.0, ((are node.0).0 node.1).0, node.2);
+    all = λ parent r is lists there. named_there nodes r (there.0, (are there.0).1 (there.1, ap (λ (s : Ref). s.kind) there.2 ∙ way_lists_nodes parent.body r is lists), there.2);
+  }
+
+  -- the ids of all nodes stand for these
+  pub nodes_named : (ids : List NodeId) → ids ≡ map (λ (o : Element). record { 0 = o.id }) nodes → map id_name ids ≡ references nodes
+  nodes_named ids same = ap (λ (some : List NodeId). map id_name some) same ∙ each nodes (λ o has. ((are o).0 has).1)
+    where
+      each : (os : List Element) → ((o : Element) → Contains os o → IsOfKind kinds.Node o) → map id_name (map (λ (o : Element). record { 0 = o.id }) os) ≡ references os
+      each [] of = refl
+      each (o ∷ os) of =
+          let name : Ref = record { kind = kinds.Node; id = o.id } in
+          let is : name ≡ reference o = sym (same_node (reference o) (of o (here o os))) in
+          ap (λ (r : Ref). r ∷ map id_name (map (λ (p : Element). record { 0 = p.id }) os)) is ∙ ap (λ (rs : List Ref). reference o ∷ rs) (each os (λ p has. of p (in_rest o os p has)))
+
+-- what objects list is there where it is among all that they may list
+pub there_named : (set : List Element) (kind : Kind) (name : Ref) (all names : List Ref) {old new : List Ref} → AreAllListable set kind all → Adds [] names (IsListedBy set kind name)
+    → Adds old new (From names (IsNamedIn all)) → Adds old new (From names (IsThereAs set))
+there_named set kind name all names are listed so =
     adds_as
     (λ r of.
     let named : IsNamedIn all of.0 r = of.2 in
-    (of.0, of.1, (named.0, from_mapped (λ (o : Element). reference o) objects of.0 (subst (λ (rs : List Ref). Contains rs of.0) are named.1))))
+    (of.0, of.1, (named.0, are.there of.0 named.1)))
     (λ r of.
-    let there : IsThereAs objects of.0 r = of.2 in
-    let o = there.1.0 in
-    let has : Contains (map (λ (o : Element). reference o) objects) (reference o) = contains_mapped (λ (o : Element). reference o) objects o there.1.1 in
-    (of.0, of.1, (there.0, subst (λ (rs : List Ref). Contains rs of.0) (sym are) (subst (λ (s : Ref). Contains (map (λ (o : Element). reference o) objects) s) there.1.2 has))))
+    let there : IsThereAs set of.0 r = of.2 in
+    let by : IsListedBy set kind name of.0 = (adds_to_nothing refl listed of.0).0 of.1 in
+    (of.0, of.1, (there.0, are.all by.0 of.0 by.3 by.4 there.1)))
     so

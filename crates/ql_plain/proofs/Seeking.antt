@@ -11,6 +11,7 @@ use Rattle.osm_model.proofs.shared.References.{refs_total}
 use Rattle.osm_model.specs.Elements.{ref_cmp}
 use Rattle.osm_model.specs.declared.reference.Ref.{Ref}
 use Rattle.ql_plain.proofs.Keeping.{earlier_below}
+use Rattle.ql_plain.proofs.Mapped.{contains_mapped}
 use Rattle.ql_plain.proofs.References.{same_reference}
 use Rattle.ql_plain.specs.internal.Seeking.{AreAfter, AreBefore, IsAround, IsAt, IsSought, Names}
 
@@ -118,6 +119,12 @@ named_in refs r is both = ((λ found. let named = both.0 found in subst (λ (s :
 
 pub sought_in : (refs : List Ref) (r : Ref) (at : ℕ) (is : Bool) → IsSought (λ (s : Ref). s) refs r at is → (is ≡ true) ↔ Contains refs r
 sought_in refs r at is so = named_in refs r is (sought (λ (s : Ref). s) refs r at is so)
+
+-- a reference that was found is one of the items'
+pub found_among : {X : Type 0} (key : X → Ref) (xs : List X) (r : Ref) (at : ℕ) → IsSought key xs r at true → Contains (map key xs) r
+found_among key xs r at so =
+    let named = (sought key xs r at true so).0 refl in
+    subst (λ (s : Ref). Contains (map key xs) s) named.2 (contains_mapped key xs named.0 named.1)
 
 -- the item was looked at
 pub at_by_item : {X : Type 0} (key : X → Ref) (xs : List X) (r : Ref) (p : ℕ) (x : X) → p < length xs → x ≡ get_or xs p x → key x ≡ r → IsAt key xs r p

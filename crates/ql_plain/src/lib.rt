@@ -16,6 +16,7 @@ mod marks;
 mod named;
 mod named_set;
 mod neighbours;
+mod node_id;
 mod one_step;
 mod print;
 mod recurse;

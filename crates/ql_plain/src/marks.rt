@@ -7,17 +7,19 @@ ghost use Rattle.osm_model.specs.Elements.{ref_cmp, reference};
 ghost use Rattle.ql_plain.specs.Adding.{Adds, From};
 ghost use Rattle.ql_plain.specs.Meanings.{IsSetOf};
 ghost use Rattle.ql_plain.specs.Values.{IsBelow, IsRefOf};
-ghost use Rattle.ql_plain.specs.internal.Marks.{IsNamedIn, marked};
+ghost use Rattle.ql_plain.specs.internal.Marks.{AreAllListable, IsNamedIn, marked};
 
 use crate::kinds::of_kind;
 use crate::listed::add_listed;
+use crate::node_id::node_ids;
+use crate::referenced::Referenced;
 use crate::seek::{even_place, seek};
 use osm_model::{Kind, Object, ObjectSet, Ref};
 use std::alloc::{AllocError, Global};
 
 /// What objects of a kind in a set list, as far as it is there. A search for each item, from where the one before it
 /// was found, and one pass over the marks: nothing is sorted. It takes 17 bytes for each object that there is: a mark,
-/// and its reference once more.
+/// and its reference once more. Where ways list it is 9 bytes for each node: a mark, and its id.
 pub fn below_by_marks(
     alloc: Global,
     set: &ObjectSet,
@@ -27,18 +29,39 @@ pub fn below_by_marks(
     ensures { IfOk result (λ refs. IsSetOf refs.items (IsRefOf set.now (IsBelow set.now from.now kind))) }
 {
     let objects = set.as_slice();
-    let nodes = of_kind(objects, Kind::Node).len();
-    // References take much less room than their objects, so more of them are in the processor's caches.
-    let all = references(alloc, objects)?;
-    let mut marks = vec![in alloc; false; objects.len()]?;
+    // What is searched is copied: it takes much less room than the objects, so more of it is in the processor's caches.
+    if kind == Kind::Way {
+        // Ways list nothing but nodes, so ids are enough.
+        let ids = node_ids(alloc, of_kind(objects, Kind::Node))?;
+        return below_among(alloc, set, from, kind, &ids);
+    }
+    let refs = references(alloc, objects)?;
+    below_among(alloc, set, from, kind, &refs)
+}
+
+/// The same, where all that objects of the kind may list is given, as far as it is there: its references, or its ids
+/// where it is nodes.
+fn below_among<T: Referenced>(
+    alloc: Global,
+    set: &ObjectSet,
+    from: &[Ref],
+    kind: Kind,
+    all: &[T],
+) -> Result<Vec<Ref>, AllocError>
+    requires rising { IsStrictlySortedBy ref_cmp (map T.name_of all.now) }
+    requires all { AreAllListable set.now kind (map T.name_of all.now) }
+    ensures { IfOk result (λ refs. IsSetOf refs.items (IsRefOf set.now (IsBelow set.now from.now kind))) }
+{
+    let nodes = of_kind(set.as_slice(), Kind::Node).len();
+    let mut marks = vec![in alloc; false; all.len()]?;
     let mut listed = Vec::new(alloc);
     let mut at = 0;
     for name in from {
         listed.clear();
         at = add_listed(*name, kind, set, at, &mut listed)?;
-        mark_all(&all, first_place(&listed, &all, nodes), &listed, &mut marks);
+        mark_all(all, first_place(&listed, all, nodes), &listed, &mut marks);
     }
-    marked(alloc, &all, &marks)
+    marked(alloc, all, &marks)
 }
 
 /// The references of some objects.
@@ -54,7 +77,7 @@ fn references(alloc: Global, objects: &[Object]) -> Result<Vec<Ref>, AllocError>
 
 /// From where the first of some references is searched among all, of which the first are of nodes: most lists are of
 /// nodes that are near each other.
-fn first_place(names: &[Ref], all: &[Ref], nodes: usize) -> usize
+fn first_place<T: Referenced>(names: &[Ref], all: &[T], nodes: usize) -> usize
     ensures { result ≤ length all.now }
 {
     match names.first() {
@@ -64,11 +87,12 @@ fn first_place(names: &[Ref], all: &[Ref], nodes: usize) -> usize
 }
 
 /// Marks the references that are among all. Each search starts where the last one ended.
-fn mark_all(all: &[Ref], from: usize, names: &[Ref], marks: &mut [bool])
-    requires rising { IsStrictlySortedBy ref_cmp all.now }
+fn mark_all<T: Referenced>(all: &[T], from: usize, names: &[Ref], marks: &mut [bool])
+    requires rising { IsStrictlySortedBy ref_cmp (map T.name_of all.now) }
     requires paired { length marks.old ≡ length all.now }
     ensures paired { length marks.new ≡ length all.now }
-    ensures marked { Adds (marked all.now marks.old) (marked all.now marks.new) (From names.now (IsNamedIn all.now)) }
+    ensures marked { let refs = map T.name_of all.now in
+        Adds (marked refs marks.old) (marked refs marks.new) (From names.now (IsNamedIn refs)) }
 {
     let mut at = from;
     for name in names {
@@ -77,11 +101,12 @@ fn mark_all(all: &[Ref], from: usize, names: &[Ref], marks: &mut [bool])
 }
 
 /// Marks a reference, where it is among all, and gives where it was searched.
-fn mark(all: &[Ref], at: usize, name: Ref, marks: &mut [bool]) -> usize
-    requires rising { IsStrictlySortedBy ref_cmp all.now }
+fn mark<T: Referenced>(all: &[T], at: usize, name: Ref, marks: &mut [bool]) -> usize
+    requires rising { IsStrictlySortedBy ref_cmp (map T.name_of all.now) }
     requires paired { length marks.old ≡ length all.now }
     ensures paired { length marks.new ≡ length all.now }
-    ensures marked { Adds (marked all.now marks.old) (marked all.now marks.new) (IsNamedIn all.now name) }
+    ensures marked { let refs = map T.name_of all.now in
+        Adds (marked refs marks.old) (marked refs marks.new) (IsNamedIn refs name) }
 {
     let (place, is_there) = seek(all, at.min(all.len()), name);
     if !is_there {
@@ -92,17 +117,17 @@ fn mark(all: &[Ref], at: usize, name: Ref, marks: &mut [bool]) -> usize
 }
 
 /// The references that are marked.
-fn marked(alloc: Global, all: &[Ref], marks: &[bool]) -> Result<Vec<Ref>, AllocError>
-    requires rising { IsStrictlySortedBy ref_cmp all.now }
+fn marked<T: Referenced>(alloc: Global, all: &[T], marks: &[bool]) -> Result<Vec<Ref>, AllocError>
+    requires rising { IsStrictlySortedBy ref_cmp (map T.name_of all.now) }
     requires paired { length marks.now ≡ length all.now }
-    ensures { IfOk result (λ refs. IsSetOf refs.items (Contains (marked all.now marks.now))) }
+    ensures { IfOk result (λ refs. IsSetOf refs.items (Contains (marked (map T.name_of all.now) marks.now))) }
 {
     // Counted first, so the list never moves as it grows.
     let count = marks.iter().filter(|is_marked| **is_marked).count();
     let mut refs = Vec::with_capacity(alloc, count)?;
     for (place, is_marked) in marks.iter().enumerate() {
         if *is_marked {
-            refs.push(all[place])?;
+            refs.push(all[place].name())?;
         }
     }
     Ok(refs)

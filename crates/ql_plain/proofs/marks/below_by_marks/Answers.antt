@@ -1,63 +1,30 @@
-use Rattle.std.proofs.Common.{◌≡◌, List, IfOk, Bool, [], false, get_or, length, map, pos, replicate, sym, ap, subst, ◌∙◌}
-use Rattle.std.proofs.lemmas.List.{get_or_default, length-map, length-replicate}
-use Rattle.std.specs.List.{Contains}
-use Rattle.osm_model.specs.Elements.{Element, reference}
-use Rattle.osm_model.specs.declared.kind.Kind.TheVariants.{Node}
+use Rattle.std.proofs.Common.{◌≡◌, List, rules, map, sym, subst, ◌∙◌}
+use Rattle.std.specs.List.Sorted.{IsStrictlySortedBy}
+use Rattle.osm_model.specs.Elements.{Element, ref_cmp}
+use Rattle.osm_model.specs.declared.kind.Kind.{Kind}
+use Rattle.osm_model.specs.declared.kind.Kind.TheVariants.{Way}
 use Rattle.osm_model.specs.declared.reference.Ref.{Ref}
-use Rattle.ql_plain.proofs.shared.Adding.{adds_all, adds_more, adds_start}
-use Rattle.ql_plain.proofs.FilterSets.{if_ok_as}
-use Rattle.ql_plain.proofs.Leading.{below_is_added, there_listed_by}
-use Rattle.ql_plain.proofs.Marking.{marked_none, there_named, written_over}
-use Rattle.ql_plain.specs.Adding.{Adds, From}
-use Rattle.ql_plain.specs.Meanings.{IsSetOf}
-use Rattle.ql_plain.specs.internal.Linked.{IsListedBy, IsThereListedBy}
-use Rattle.ql_plain.specs.internal.Marks.{IsNamedIn, marked}
+use Rattle.ql_plain.proofs.Keeping.{map_same}
+use Rattle.ql_plain.proofs.Marking.{all_listable, id_name, nodes_listable, nodes_named}
+use Rattle.ql_plain.specs.internal.Marks.{AreAllListable}
 use Rattle.ql_plain.proofs.marks.below_by_marks.Goals as goal
 
-pub loop-name-init : goal.loop-name-init
-loop-name-init c =
-    let all = c.in_ok-all.all.items in
-    let marks = c.in_ok-marks.marks.items in
+pub below_among-requires-clause-rising : goal.below_among-requires-clause-rising
+below_among-requires-clause-rising c =
+    let are = nodes_named c.as_slice-objects.result.now c.of_kind.result.now c.of_kind.ensures.members c.deref.result.now (c.deref.ensures.value ∙ c.in_ok-ids.ensures) in
+    subst (λ (refs : List Ref). IsStrictlySortedBy ref_cmp refs) (sym are) c.of_kind.ensures.rising
+
+pub below_among-requires-clause-all : goal.below_among-requires-clause-all
+below_among-requires-clause-all c =
     let objects = c.as_slice-objects.result.now in
-    let n = length objects in
-    let are : marks ≡ replicate n false = c.in_ok-marks.ensures.items_if_clones_equal (λ y same. same) in
-    record {
-      paired = ap (λ (ms : List Bool). length ms) are ∙ length-replicate n false ∙ sym (ap (λ (rs : List Ref). length rs) c.in_ok-all.ensures ∙ length-map objects (λ (o : Element). reference o));
-      added = subst (λ (refs : List Ref). Adds [] refs (From [] (IsThereListedBy c.args.set.now c.args.kind))) (sym (ap (λ (ms : List Bool). marked all ms) are ∙ marked_none all n)) (adds_start c.args.from.now (IsThereListedBy c.args.set.now c.args.kind));
-    }
+    let nodes = c.of_kind.result.now in
+    let ids = c.deref.result.now in
+    let are = nodes_named objects nodes c.of_kind.ensures.members ids (c.deref.ensures.value ∙ c.in_ok-ids.ensures) in
+    let way : c.args.kind ≡ Way = search rules in
+    let listable : AreAllListable objects Way (map id_name ids) = subst (λ (refs : List Ref). AreAllListable objects Way refs) (sym are) (nodes_listable objects nodes c.of_kind.ensures.members) in
+    subst (λ (set : List Element). AreAllListable set c.args.kind (map id_name ids)) c.as_slice-objects.ensures.value (subst (λ (kind : Kind). AreAllListable objects kind (map id_name ids)) (sym way) listable)
 
-pub loop-name-preserved : goal.loop-name-preserved
-loop-name-preserved c =
-    let all = c.in_ok-all.all.items in
-    let set = c.args.set.now in
-    let from = c.args.from.now in
-    let kind = c.args.kind in
-    let k = c.loop-name.name-index in
-    let first : Ref = record { kind = Node; id = pos 0 } in
-    let name = get_or from k first in
-    let old = c.loop-name.marks.items in
-    let new = c.mark_all.new.marks in
-    let names = c.deref-in-loop-name-3.result.now in
-    let len_is : length new ≡ c.loop-name.marks.len = c.mark_all.ensures.paired ∙ ap (λ (rs : List Ref). length rs) c.deref.ensures.value ∙ sym c.loop-name.invariant.paired ∙ sym (ap (λ (ms : List Bool). length ms) c.deref_mut.ensures.value) ∙ c.deref_mut.ensures.len in
-    let written = written_over c.loop-name.marks.len old new (sym len_is) in
-    let listed : Adds [] names (IsListedBy set kind name) =
-    subst (λ (refs : List Ref). Adds [] refs (IsListedBy set kind name)) (sym c.deref-in-loop-name-3.ensures.value)
-    (subst (λ (before : List Ref). Adds before c.add_listed.new.listed.items (IsListedBy set kind name)) c.clear.ensures.items c.in_ok-at.ensures) in
-    let from_old : Adds (marked all old) (marked all new) (From names (IsNamedIn all)) =
-    subst (λ (ms : List Bool). Adds (marked all ms) (marked all new) (From names (IsNamedIn all))) c.deref_mut.ensures.value
-    (subst (λ (rs : List Ref). Adds (marked rs c.deref_mut.result.now) (marked rs new) (From names (IsNamedIn rs))) c.deref.ensures.value c.mark_all.ensures.marked) in
-    let are : all ≡ map (λ (o : Element). reference o) set = c.in_ok-all.ensures ∙ ap (λ (os : List Element). map (λ (o : Element). reference o) os) c.as_slice-objects.ensures.value in
-    let more = there_listed_by set kind name listed (there_named set all names are from_old) in
-    let added = adds_more from (IsThereListedBy set kind) k name c.loop-name-test.true (get_or_default from k first name c.loop-name-test.true) c.loop-name.invariant.added more in
-    record {
-      paired = ap (λ (ms : List Bool). length ms) written ∙ c.mark_all.ensures.paired ∙ ap (λ (rs : List Ref). length rs) c.deref.ensures.value;
-      added = rw written added;
-    }
-
-pub returns : goal.returns
-returns c =
-    let all = c.in_ok-all.all.items in
-    let added = adds_all c.args.from.now (IsThereListedBy c.args.set.now c.args.kind) c.loop-name.name-index c.loop-name-test.false c.loop-name.invariant.added in
-    if_ok_as c.marked.result (λ refs. below_is_added c.args.set.now c.args.from.now c.args.kind added)
-    (subst (λ (ms : List Bool). IfOk c.marked.result (λ refs. IsSetOf refs.items (Contains (marked all ms)))) c.deref-3.ensures.value
-    (subst (λ (rs : List Ref). IfOk c.marked.result (λ refs. IsSetOf refs.items (Contains (marked rs c.deref-3.result.now)))) c.deref-2.ensures.value c.marked.ensures))
+pub below_among-requires-2-clause-all : goal.below_among-requires-2-clause-all
+below_among-requires-2-clause-all c =
+    let are = map_same c.deref-2.result.now ∙ c.deref-2.ensures.value ∙ c.in_ok-refs.ensures in
+    subst (λ (refs : List Ref). AreAllListable c.args.set.now c.args.kind refs) (sym are) (all_listable c.args.set.now c.as_slice-objects.result.now c.args.kind c.as_slice-objects.ensures.value)
