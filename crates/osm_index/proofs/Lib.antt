@@ -26,3 +26,4 @@ pub mod ChangeTreeLemmas
 pub mod SetLemmas
 pub mod AppliedLemmas
 pub mod PlanLemmas
+pub mod SnapshotLemmas
