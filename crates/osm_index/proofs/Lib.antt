@@ -27,3 +27,4 @@ pub mod SetLemmas
 pub mod AppliedLemmas
 pub mod PlanLemmas
 pub mod SnapshotLemmas
+pub mod ApplyLemmas

@@ -59,7 +59,7 @@ module _ (edition : Edition) (stock : Stock) (found : Manifest) (key : Digest) (
     pub set_of : (new : List Element) × IsExchanged p.objects exchange.olds exchange.puts new
     set_of = some_exchanged p.objects held.is.published.set all exchange is
 
-    pub changing : (new : List Element) × AreHeldTrees p exchange.olds exchange.puts new found.tops (HasNode stock)
+    abbrev pub changing : (new : List Element) × AreHeldTrees p exchange.olds exchange.puts new found.tops (HasNode stock)
     changing = (set_of.0, held_trees second exchange.olds exchange.puts set_of.0 set_of.1)
 
     pub applicable : AreApplicable p.objects p.edition all

@@ -19,7 +19,7 @@ pub fn listening_line(
     ensures { (p : Publication) → HoldsPublication snapshot.now p
         → IfOk result (λ line. string_bytes line ≡ listening_text address (length p.objects) (root_of p)) }
 {
-    let count = snapshot.objects().as_slice().len();
+    let count = snapshot.object_count(alloc)?;
     line_over(alloc, address, count, snapshot.root())
 }
 
@@ -27,7 +27,7 @@ pub fn listening_line(
 fn line_over(
     alloc: Global,
     address: SocketAddr,
-    count: usize,
+    count: u64,
     root: &Digest,
 ) -> Result<String, AllocError>
     ensures { IfOk result (λ line. string_bytes line ≡ listening_text address count root.now.0) }

@@ -3,7 +3,9 @@
 use super::rows::Row;
 use super::{larger_rows, proved_over, rows};
 use crate::tests::{hex, snapshot_of, texts_of_sets};
+use opl_codec::read_set;
 use osm_index::{Edition, Snapshot};
+use osm_model::ObjectSet;
 use osm_prove::{prove, read_proof, write_proof};
 use ql_plain::answer_plain;
 use ql_syntax::parse;
@@ -12,15 +14,15 @@ use std::process::Abort;
 use std::test::Fail;
 use tree_node::digest_of;
 
-/// Whether the answer is the plain one.
+/// Whether the answer is the plain one over the set.
 fn check_answer(
     rt: &(impl Abort + AllocGlobal),
-    snapshot: &Snapshot,
+    set: &ObjectSet,
     text: &str,
     answer: &[u8],
 ) -> Result<(), Fail> {
     let query = parse(rt.alloc(), text.as_bytes())?;
-    let plain = answer_plain(rt.alloc(), &query, snapshot.objects())?;
+    let plain = answer_plain(rt.alloc(), &query, set)?;
     assert_eq!(rt; answer, plain.as_slice(), "{text}");
     Ok(())
 }
@@ -47,22 +49,24 @@ fn check_proof(
 /// Whether the answer is the plain one, and its proof the one that is told.
 fn check_row(
     rt: &(impl Abort + AllocGlobal),
+    set: &ObjectSet,
     snapshot: &Snapshot,
     text: &str,
     told: &str,
 ) -> Result<(), Fail> {
     let proved = prove(rt.alloc(), snapshot, text.as_bytes())?;
     assert_eq!(rt; &proved.root, snapshot.root());
-    check_answer(rt, snapshot, text, &proved.answer)?;
+    check_answer(rt, set, text, &proved.answer)?;
     check_proof(rt, text, &proved.proof, told)
 }
 
 fn check_rows(rt: &(impl Abort + AllocGlobal), set: &str, rows: &[Row]) -> Result<(), Fail> {
     let first = snapshot_of(rt.alloc(), set, Edition::One)?;
     let second = snapshot_of(rt.alloc(), set, Edition::Two { sequence: 7 })?;
+    let objects = read_set(rt.alloc(), &mut set.as_bytes())?;
     for (text, told, told_later) in rows {
-        check_row(rt, &first, text, told)?;
-        check_row(rt, &second, text, told_later)?;
+        check_row(rt, &objects, &first, text, told)?;
+        check_row(rt, &objects, &second, text, told_later)?;
     }
     Ok(())
 }

@@ -63,7 +63,7 @@ fn is_built(alloc: Global, snapshot: &Snapshot, set: &str, sequence: u64) -> Res
         snapshot.root() == built.root()
             && snapshot.edition() == built.edition()
             && snapshot.manifest() == built.manifest()
-            && snapshot.objects().as_slice() == built.objects().as_slice()
+            && snapshot.object_count(alloc)? == built.object_count(alloc)?
             && nodes_of(alloc, snapshot)?.as_slice() == nodes_of(alloc, &built)?.as_slice(),
     )
 }

@@ -11,6 +11,7 @@ returns-clause-planned c = λ p q is changed root_is unlike free.
     record {
       is = is;
       manifest = same;
+      tops = changed.tops_are;
       root = c.in_ok-node.node.own ∙ ap digest bytes;
       nodes = nodes_come p q c.args.edition is c.args.trees changed unlike free c.in_ok-node.node bytes c.push.new.self.items c.in_ok-push.ensures.items;
       once = nodes_once p q c.args.edition is c.args.trees changed unlike free c.in_ok-node.node bytes c.push.new.self.items c.in_ok-push.ensures.items;
