@@ -7,9 +7,11 @@ use Rattle.osm_model.specs.Sets.{IsObjectSet}
 use Rattle.osm_model.specs.declared.reference.Ref.{Ref}
 use Rattle.opl_codec.specs.declared.change.Change.{Change}
 use Rattle.opl_codec.specs.declared.change.Change.TheVariants.{Put, Delete}
-use Rattle.osm_index.specs.Applying.{DeleteThere, IsApplied, IsFirstMissing, name_of, names_of}
+use Rattle.osm_index.specs.Applying.{AreApart, DeleteThere, IsApplied, IsFirstMissing, name_of, names_of}
+use Rattle.osm_index.specs.declared.apply_fault.ApplyFault.{ApplyFault}
+use Rattle.osm_index.specs.declared.apply_fault.ApplyFault.TheVariants as faults
 use Rattle.osm_index.specs.declared.exchange.Exchange.{Exchange}
-use Rattle.osm_index.specs.internal.Applying.{IsExchangeOf}
+use Rattle.osm_index.specs.internal.Applying.{IsExchangeOf, RefusesChanges, RefusesDeletes}
 use Rattle.osm_index.specs.internal.ChangedTrees.{IsExchanged}
 use Rattle.osm_index.specs.internal.HeldTrees.{AreNamed}
 use Rattle.osm_index.proofs.SetLemmas.{exchanged, is_exchanged}
@@ -38,6 +40,15 @@ module _ (objects : List Element) (all : List Change) (olds : List Element) (nam
     let name = subst (λ (s : Ref). Contains (names_of all) s) found.2 (in_map name_of all (Delete r) deleted) in
     is.missing (subst (λ (s : Ref). Contains (references olds) s) (sym found.2) (in_map (λ (o : Element). reference o) olds found.0 ((named.members found.0).1 (found.1, name))));
   }
+
+-- a refused delete refuses the changes
+pub refused_deletes : (objects : List Element) (all : List Change) (olds : List Element) → AreNamed objects (names_of all) olds → AreApart all → (fault : ApplyFault) → RefusesDeletes olds all fault → RefusesChanges objects all fault
+refused_deletes objects all olds named apart faults.LastSequence is = is
+refused_deletes objects all olds named apart (faults.ChangedTwice r) is = absurd is
+refused_deletes objects all olds named apart (faults.NotThere r) is = (apart, first_missing objects all olds named r is)
+refused_deletes objects all olds named apart faults.TooMany is = is
+refused_deletes objects all olds named apart faults.Clash is = is
+refused_deletes objects all olds named apart faults.Memory is = tt
 
 -- ---- the exchanged set
 

@@ -26,3 +26,5 @@ pub mod ChangeTreeLemmas
 pub mod SetLemmas
 pub mod AppliedLemmas
 pub mod PlanLemmas
+pub mod SnapshotLemmas
+pub mod ApplyLemmas

@@ -48,11 +48,11 @@ among_taken nodes n x is =
     let whole : nodes_of (take n nodes) ++ nodes_of (drop n nodes) ≡ nodes_of nodes = sym (map-append (λ (node : NewNode). node.bytes.items) (take n nodes) (drop n nodes)) ∙ ap nodes_of (take-append-drop n nodes) in
     subst (λ (ks : List (List ℕ)). IsAmong ks x) whole (among_first (nodes_of (take n nodes)) (nodes_of (drop n nodes)) x is)
 
-digest_among : (ks : List (List ℕ)) (x : List ℕ) → IsAmong ks x → IsAmong (map digest ks) (digest x)
+pub digest_among : (ks : List (List ℕ)) (x : List ℕ) → IsAmong ks x → IsAmong (map digest ks) (digest x)
 digest_among [] x is = is
 digest_among (k ∷ ks) x is = elim is [ inl e ↦ inl (ap digest e) | inr later ↦ inr (digest_among ks x later) ]
 
-among_digests : (ks : List (List ℕ)) (d : List ℕ) → IsAmong (map digest ks) d → (x : List ℕ) × IsAmong ks x × (d ≡ digest x)
+pub among_digests : (ks : List (List ℕ)) (d : List ℕ) → IsAmong (map digest ks) d → (x : List ℕ) × IsAmong ks x × (d ≡ digest x)
 among_digests [] d is = absurd is
 among_digests (k ∷ ks) d is = elim is [ inl e ↦ (k, inl refl, e) | inr later ↦ let found = among_digests ks d later in (found.0, inr found.1, found.2) ]
 

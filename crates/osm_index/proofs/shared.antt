@@ -8,3 +8,4 @@ pub mod OneManifest
 pub mod CellLaws
 pub mod KeyOrder
 pub mod OneKey
+pub mod ChangeLaws

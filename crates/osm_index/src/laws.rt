@@ -3,7 +3,7 @@
 
 ghost use Rattle.std.specs.Int.{w64};
 ghost use Rattle.std.specs.List.{AllByRecursion, Contains};
-ghost use Rattle.std.specs.Prelude.{◌≡◌, ◌↔◌, ◌⊎◌, ◌<◌, ◌≤◌, ℕ, FitsSigned, List, None, Option, Some, length, slice_get};
+ghost use Rattle.std.specs.Prelude.{◌≡◌, ◌++◌, ◌↔◌, ◌⊎◌, ◌<◌, ◌≤◌, ℕ, FitsSigned, List, None, Option, Some, length, slice_get};
 ghost use Rattle.std.specs.declared.cmp.Ordering.TheVariants.{Less};
 ghost use Rattle.osm_model.specs.Boxes.{ExactBox, Holds};
 ghost use Rattle.osm_model.specs.Edges.{IsAbove};
@@ -25,12 +25,18 @@ ghost use Rattle.tree_node.specs.declared.tree.Tree.{Tree};
 ghost use Rattle.tree_walk.specs.Choices.{AreThose};
 ghost use Rattle.tree_walk.specs.Ranges.{IsIn, Range};
 ghost use Rattle.tree_walk.specs.Walks.{IsEntryIn, IsTopOf};
+ghost use Rattle.opl_codec.specs.declared.change.Change.{Change};
+ghost use Rattle.tree_node.specs.Shelves.{SameNodes};
+ghost use Rattle.tree_node.specs.Stocks.{HasNode};
+ghost use Rattle.osm_index.specs.Applying.{IsApplied, names_of};
 ghost use Rattle.osm_index.specs.Entries.{back_entry, cell_entry, object_entry, tag_entry};
 ghost use Rattle.osm_index.specs.Keys.{cell_key, column, ref_key};
 ghost use Rattle.osm_index.specs.Manifests.{HasSequence, HaveWidth, manifest};
 ghost use Rattle.osm_index.specs.Publications.{HasTooMany, IsPublication, IsPublicationOf, Publication, root_of, shape_in, shape_of, top_in};
 ghost use Rattle.osm_index.specs.Ranges.{AreCellRanges, IsKindOf, back_range, kind_range, object_range, tag_key_range, tag_range};
+ghost use Rattle.osm_index.specs.Snapshots.{HoldsPublication};
 ghost use Rattle.osm_index.specs.declared.edition.Edition.{Edition};
+ghost use Rattle.osm_index.specs.declared.snapshot.Snapshot.{Snapshot};
 
 /// The law of publications: a set of objects has one in an edition, and so one root.
 pub fn publication_law()
@@ -43,6 +49,18 @@ pub fn publication_law()
         → IsPublicationOf objects edition p → ¬ HasTooMany objects }
     // and each list of entries has a tree.
     ensures trees { (p : Publication) → IsPublication p → (tree : Tree) → HasTree (p.entries tree) }
+{}
+
+/// The law of changes: they make one set of a set, and what a snapshot holds then is what one that is built of that
+/// set in that edition holds.
+pub fn changes_law()
+    ensures one { (old new other : List Element) (all : List Change) → IsApplied old all new → IsApplied old all other → new ≡ other }
+    // The set after one list and then another is the set after both, where no object is named by both.
+    ensures both { (old mid new : List Element) (first second : List Change) → IsApplied old first mid → IsApplied mid second new
+        → ((r : Ref) → Contains (names_of first) r → ¬ Contains (names_of second) r) → IsApplied old (first ++ second) new }
+    // Two snapshots of one set in one edition hold the same nodes and have one root.
+    ensures snapshots { (a b : Snapshot) (p q : Publication) → HoldsPublication a p → HoldsPublication b q
+        → p.objects ≡ q.objects → p.edition ≡ q.edition → SameNodes (HasNode a.stock) (HasNode b.stock) × (a.root.0 ≡ b.root.0) }
 {}
 
 /// The law of manifests: their bytes determine the four tops, the shape of the trees, and the edition with

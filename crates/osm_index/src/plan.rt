@@ -1,6 +1,6 @@
 //! What a snapshot becomes by changes.
 
-ghost use Rattle.std.specs.Prelude.{◌≡◌, ◌≢◌, IfOk};
+ghost use Rattle.std.specs.Prelude.{◌≡◌, ◌≢◌, IfOk, map};
 ghost use Rattle.tree_node.specs.Shelves.{IsClashFree};
 ghost use Rattle.osm_index.specs.Manifests.{manifest_bytes};
 ghost use Rattle.osm_index.specs.Publications.{IsNodeIn, IsPublicationOf, Publication, manifest_of, root_of};
@@ -37,7 +37,8 @@ pub(crate) fn plan_of(
     trees: ChangedTrees,
     old_root: &Digest,
 ) -> Result<Plan, AllocError>
-    ensures { (p q : Publication) → IsPublicationOf q.objects edition q → AreChangedTrees p q trees
+    ensures listed { IfOk result (λ plan. plan.added.items ≡ map (λ node. node.digest) plan.nodes.items) }
+    ensures planned { (p q : Publication) → IsPublicationOf q.objects edition q → AreChangedTrees p q trees
         → old_root.now.0 ≡ root_of p → manifest_of p ≢ manifest_of q → IsClashFree (IsNodeIn p) → IfOk result (IsPlan p q) }
 {
     let tops = trees.tops;

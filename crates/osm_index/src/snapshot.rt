@@ -1,6 +1,6 @@
 //! A set of objects with its trees and its root.
 
-ghost use Rattle.std.specs.Prelude.{◌≡◌, ◌≢◌, ◌≤◌, ◌⊎◌, ◌↔◌, ℕ, List, Err, IfErr, IfOk, OnErr, OnOk, length};
+ghost use Rattle.std.specs.Prelude.{◌≡◌, ◌≢◌, ◌≤◌, ◌⊎◌, ◌↔◌, ℕ, List, Err, IfErr, IfOk, OnErr, OnOk, length, map};
 ghost use Rattle.std.specs.List.{Contains};
 ghost use Rattle.osm_model.specs.Elements.{Element};
 ghost use Rattle.osm_model.specs.Sets.{IsObjectSet};
@@ -141,6 +141,7 @@ impl Snapshot {
     /// What the changes make of the snapshot. It reads the object tree for the objects that they name.
     fn plan(&self, alloc: Global, changes: &[Change]) -> Result<Plan, ApplyFault>
         requires { IsSecond self.now.edition }
+        ensures listed { IfOk result (λ plan. plan.added.items ≡ map (λ node. node.digest) plan.nodes.items) }
         ensures planned { (p : Publication) → HoldsPublication self.now p → IfOk result (PlansChanges p changes.now) }
         ensures refused { (p : Publication) → HoldsPublication self.now p → IfErr result (RefusesPlan p changes.now) }
         ensures last { (result ≡ Err ApplyFault.LastSequence) ↔ IsLast self.now.edition }

@@ -23,11 +23,9 @@ pub fn read_snapshot<R: Read>(
     input: &mut R,
     edition: Edition,
 ) -> Result<Snapshot, CommandFault>
-    // It holds a publication,
-    ensures held { IfOk result (λ snapshot. (p : Publication) × HoldsPublication snapshot p) }
-    // and each that it holds is one of the set that the file holds.
-    ensures made { IfOk result (λ snapshot. (p : Publication) → HoldsPublication snapshot p
-        → IfSome (R.remaining input.old) (λ file. IsPublicationIn file edition p)) }
+    // It holds a publication, which is one of the set that the file holds.
+    ensures made { IfOk result (λ snapshot. (p : Publication) × HoldsPublication snapshot p
+        × IfSome (R.remaining input.old) (λ file. IsPublicationIn file edition p)) }
     // What holds a set is made, unless memory or a device fails, or its trees can't be made.
     ensures only { IfSome (R.remaining input.old) (λ file. (set : List Element) → HoldsSet file set
         → IfErr result (IsOutsideOrTrees set edition)) }

@@ -7,9 +7,10 @@ use Rattle.osm_model.specs.Elements.{Element}
 use Rattle.tree_build.specs.Rebuilding.{AreDifferent, IsAmong, digests_of, nodes_of}
 use Rattle.tree_build.specs.declared.rebuilt.NewNode.{NewNode}
 use Rattle.tree_node.specs.Digests.{digest}
+use Rattle.tree_node.specs.declared.tree.Tree.{Tree}
 use Rattle.osm_index.specs.Applying.{AreApart, AreApplicable, AreDigestsOfOnly, IsApplied, IsFirstMissing, IsFirstTwice, IsLast, edition_after}
-use Rattle.osm_index.specs.Manifests.{manifest_bytes}
-use Rattle.osm_index.specs.Publications.{HasTooMany, IsNodeIn, IsPublicationOf, Publication, manifest_of, root_of}
+use Rattle.osm_index.specs.Manifests.{manifest_bytes, top_among}
+use Rattle.osm_index.specs.Publications.{HasTooMany, IsNodeIn, IsPublicationOf, Publication, manifest_of, root_of, top_in}
 use Rattle.osm_index.specs.declared.apply_fault.ApplyFault.{ApplyFault}
 use Rattle.osm_index.specs.declared.apply_fault.ApplyFault.TheVariants as faults
 use Rattle.osm_index.specs.declared.plan.Plan.{Plan}
@@ -19,6 +20,7 @@ use Rattle.osm_index.specs.declared.plan.Plan.{Plan}
 pub record IsPlan (p q : Publication) (plan : Plan) : Type 0 where
   pub is : IsPublicationOf q.objects plan.manifest.edition q
   pub manifest : manifest_bytes plan.manifest ≡ manifest_of q
+  pub tops : (tree : Tree) → top_among plan.manifest.tops tree ≡ top_in q tree
   pub root : plan.root.0 ≡ root_of q
   pub nodes : (bytes : List ℕ) → IsAmong (nodes_of plan.nodes.items) bytes ↔ (IsNodeIn q bytes × ¬ IsNodeIn p bytes)
   pub once : AreDifferent (nodes_of plan.nodes.items)

@@ -20,13 +20,13 @@ returns-in_err-proved-clause-only g c =
 pub returns-in_err-proved-clause-refused : goal.returns-in_err-proved-clause-refused
 returns-in_err-proved-clause-refused g c =
     let known = g.R.Read.remaining c.args.input.now in
-    let (p, held) = c.in_ok-snapshot.ensures.held in
+    let (p, held, of_file) = c.in_ok-snapshot.ensures.made in
     explained_unproved known _ ask_edition c.args.query.now c.in_err-proved.field-0.0 c.from_residual-in_err-proved.result c.from_residual-in_err-proved.ensures.1
-    (trees_held known ask_edition c.in_ok-snapshot.snapshot p held (c.in_ok-snapshot.ensures.made p held)) (λ fault told. c.in_err-proved.ensures.told fault (ap Err told))
+    (trees_held known ask_edition c.in_ok-snapshot.snapshot p held of_file) (λ fault told. c.in_err-proved.ensures.told fault (ap Err told))
 
 pub unreachable-requires : goal.unreachable-requires
 unreachable-requires g c =
-    let (p, held) = c.in_ok-snapshot.ensures.held in
+    let (p, held, of_file) = c.in_ok-snapshot.ensures.made in
     let made = c.in_ok-proved.ensures.proved p held in
     let answer = subst (λ (text : List ℕ). IsProved p c.args.query.now text c.in_ok-proved.proved.proof.items) (sym c.deref.ensures.value) made.1 in
     let proved = subst (λ (nodes : List ℕ). IsProved p c.args.query.now c.deref.result.now nodes) (sym c.deref-2.ensures.value) answer in
@@ -36,17 +36,17 @@ unreachable-requires g c =
 pub returns-clause-answered : goal.returns-clause-answered
 returns-clause-answered g c =
     let known = g.R.Read.remaining c.args.input.now in
-    let (p, held) = c.in_ok-snapshot.ensures.held in
+    let (p, held, of_file) = c.in_ok-snapshot.ensures.made in
     let text = c.in_ok-proved.proved.answer.items in
     whole_answer known c.args.query.now c.deref-in-Yes.result.now text _ _ _
-    (answer_is known ask_edition p c.args.query.now text _ (c.in_ok-snapshot.ensures.made p held) (c.in_ok-proved.ensures.proved p held).1)
+    (answer_is known ask_edition p c.args.query.now text _ of_file (c.in_ok-proved.ensures.proved p held).1)
     c.deref-in-Yes.ensures.value c.write_whole.ensures.whole
 
 pub returns-clause-begun : goal.returns-clause-begun
 returns-clause-begun g c =
     let known = g.R.Read.remaining c.args.input.now in
-    let (p, held) = c.in_ok-snapshot.ensures.held in
+    let (p, held, of_file) = c.in_ok-snapshot.ensures.made in
     let text = c.in_ok-proved.proved.answer.items in
     begun_answer known c.args.query.now c.deref-in-Yes.result.now text _ _
-    (answer_is known ask_edition p c.args.query.now text _ (c.in_ok-snapshot.ensures.made p held) (c.in_ok-proved.ensures.proved p held).1)
+    (answer_is known ask_edition p c.args.query.now text _ of_file (c.in_ok-proved.ensures.proved p held).1)
     c.deref-in-Yes.ensures.value c.write_whole.ensures.begun

@@ -30,9 +30,9 @@ returns-in_err-query-clause-only g c =
 
 pub returns-in_err-query-clause-refused : goal.returns-in_err-query-clause-refused
 returns-in_err-query-clause-refused g c =
-    let (p, held) = c.in_ok-snapshot.ensures.held in
+    let (p, held, of_file) = c.in_ok-snapshot.ensures.made in
     explained_unread (g.R.Read.remaining c.args.input.now) _ (g.Q.Read.remaining c.args.query.now) c.args.edition c.in_err-query.field-0.0 c.from_residual-in_err-query.result c.from_residual-in_err-query.ensures.1 c.in_err-query.ensures.refused
-    (trees_held (g.R.Read.remaining c.args.input.now) c.args.edition c.in_ok-snapshot.snapshot p held (c.in_ok-snapshot.ensures.made p held)) c.in_err-query.ensures.endless
+    (trees_held (g.R.Read.remaining c.args.input.now) c.args.edition c.in_ok-snapshot.snapshot p held of_file) c.in_err-query.ensures.endless
 
 pub returns-in_err-query-clause-nothing : goal.returns-in_err-query-clause-nothing
 returns-in_err-query-clause-nothing g c =
@@ -51,10 +51,10 @@ returns-in_err-proved-clause-only g c =
 
 pub returns-in_err-proved-clause-refused : goal.returns-in_err-proved-clause-refused
 returns-in_err-proved-clause-refused g c =
-    let (p, held) = c.in_ok-snapshot.ensures.held in
+    let (p, held, of_file) = c.in_ok-snapshot.ensures.made in
     explained_files (g.R.Read.remaining c.args.input.now) _ (g.Q.Read.remaining c.args.query.now) c.args.edition c.from_residual-in_err-proved.result
     (λ bytes is. explained_unproved (g.R.Read.remaining c.args.input.now) _ c.args.edition bytes c.in_err-proved.field-0.0 c.from_residual-in_err-proved.result c.from_residual-in_err-proved.ensures.1
-    (trees_held (g.R.Read.remaining c.args.input.now) c.args.edition c.in_ok-snapshot.snapshot p held (c.in_ok-snapshot.ensures.made p held))
+    (trees_held (g.R.Read.remaining c.args.input.now) c.args.edition c.in_ok-snapshot.snapshot p held of_file)
     (subst (λ (b : List ℕ). (fault : QlFault) → c.in_err-proved.field-0.0 ≡ refusals.Query fault → HasFault b fault)
     (c.deref.ensures.value ∙ same_read _ c.in_ok-query.query.items bytes is c.in_ok-query.ensures.read) (λ fault told. c.in_err-proved.ensures.told fault (ap Err told))))
 
@@ -92,12 +92,12 @@ returns-in_err-write_whole-clause-refused g c =
 
 pub returns-in_err-write_whole-clause-begun : goal.returns-in_err-write_whole-clause-begun
 returns-in_err-write_whole-clause-begun g c =
-    let (p, held) = c.in_ok-snapshot.ensures.held in
+    let (p, held, of_file) = c.in_ok-snapshot.ensures.made in
     let text = c.in_ok-proved.proved.answer.items in
     let nodes = c.in_ok-proved.proved.proof.items in
     let made = c.in_ok-proved.ensures.proved p held in
     written_in_turn (g.R.Read.remaining c.args.input.now) (g.Q.Read.remaining c.args.query.now) c.args.edition p text nodes _ _ _ _ _ _
-    (proved_files (g.R.Read.remaining c.args.input.now) (g.Q.Read.remaining c.args.query.now) c.args.edition p c.in_ok-query.query.items c.deref.result.now text nodes (c.in_ok-snapshot.ensures.made p held) c.in_ok-query.ensures.read c.deref.ensures.value made.1)
+    (proved_files (g.R.Read.remaining c.args.input.now) (g.Q.Read.remaining c.args.query.now) c.args.edition p c.in_ok-query.query.items c.deref.result.now text nodes of_file c.in_ok-query.ensures.read c.deref.ensures.value made.1)
     (answer_begun c.deref-2.result.now text _ _ _ _ _ _ c.deref-2.ensures.value c.write_whole.ensures.begun)
 
 pub returns-in_err-write_whole-2-clause-only : goal.returns-in_err-write_whole-2-clause-only
@@ -110,12 +110,12 @@ returns-in_err-write_whole-2-clause-refused g c =
 
 pub returns-in_err-write_whole-2-clause-begun : goal.returns-in_err-write_whole-2-clause-begun
 returns-in_err-write_whole-2-clause-begun g c =
-    let (p, held) = c.in_ok-snapshot.ensures.held in
+    let (p, held, of_file) = c.in_ok-snapshot.ensures.made in
     let text = c.in_ok-proved.proved.answer.items in
     let nodes = c.in_ok-proved.proved.proof.items in
     let made = c.in_ok-proved.ensures.proved p held in
     written_in_turn (g.R.Read.remaining c.args.input.now) (g.Q.Read.remaining c.args.query.now) c.args.edition p text nodes _ _ _ _ _ _
-    (proved_files (g.R.Read.remaining c.args.input.now) (g.Q.Read.remaining c.args.query.now) c.args.edition p c.in_ok-query.query.items c.deref.result.now text nodes (c.in_ok-snapshot.ensures.made p held) c.in_ok-query.ensures.read c.deref.ensures.value made.1)
+    (proved_files (g.R.Read.remaining c.args.input.now) (g.Q.Read.remaining c.args.query.now) c.args.edition p c.in_ok-query.query.items c.deref.result.now text nodes of_file c.in_ok-query.ensures.read c.deref.ensures.value made.1)
     (proof_begun c.deref-2.result.now c.deref-3.result.now text _ _ _ _ _ _ _ c.deref-2.ensures.value c.in_ok-write_whole.ensures.whole c.deref-3.ensures.value c.write_whole-2.ensures.begun)
 
 pub returns-clause-only : goal.returns-clause-only
@@ -128,23 +128,23 @@ returns-clause-refused g c =
 
 pub returns-clause-begun : goal.returns-clause-begun
 returns-clause-begun g c =
-    let (p, held) = c.in_ok-snapshot.ensures.held in
+    let (p, held, of_file) = c.in_ok-snapshot.ensures.made in
     let text = c.in_ok-proved.proved.answer.items in
     let nodes = c.in_ok-proved.proved.proof.items in
     let made = c.in_ok-proved.ensures.proved p held in
     written_in_turn (g.R.Read.remaining c.args.input.now) (g.Q.Read.remaining c.args.query.now) c.args.edition p text nodes _ _ _ _ _ _
-    (proved_files (g.R.Read.remaining c.args.input.now) (g.Q.Read.remaining c.args.query.now) c.args.edition p c.in_ok-query.query.items c.deref.result.now text nodes (c.in_ok-snapshot.ensures.made p held) c.in_ok-query.ensures.read c.deref.ensures.value made.1)
+    (proved_files (g.R.Read.remaining c.args.input.now) (g.Q.Read.remaining c.args.query.now) c.args.edition p c.in_ok-query.query.items c.deref.result.now text nodes of_file c.in_ok-query.ensures.read c.deref.ensures.value made.1)
     (root_begun c.deref-2.result.now c.deref-3.result.now c.as_bytes.result.now text _ _ _ _ _ _ _ _
     c.deref-2.ensures.value c.in_ok-write_whole.ensures.whole c.deref-3.ensures.value c.in_ok-write_whole-2.ensures.whole
     (c.as_bytes.ensures.value ∙ c.in_ok-line.ensures ∙ ap digest_line made.0) c.write_whole-3.ensures.begun)
 
 pub returns-clause-proved : goal.returns-clause-proved
 returns-clause-proved g c =
-    let (p, held) = c.in_ok-snapshot.ensures.held in
+    let (p, held, of_file) = c.in_ok-snapshot.ensures.made in
     let text = c.in_ok-proved.proved.answer.items in
     let nodes = c.in_ok-proved.proved.proof.items in
     let made = c.in_ok-proved.ensures.proved p held in
     written_whole (g.R.Read.remaining c.args.input.now) (g.Q.Read.remaining c.args.query.now) c.args.edition p c.deref-2.result.now c.deref-3.result.now c.as_bytes.result.now text nodes _ _ _ _ _ _ _
-    (proved_files (g.R.Read.remaining c.args.input.now) (g.Q.Read.remaining c.args.query.now) c.args.edition p c.in_ok-query.query.items c.deref.result.now text nodes (c.in_ok-snapshot.ensures.made p held) c.in_ok-query.ensures.read c.deref.ensures.value made.1)
+    (proved_files (g.R.Read.remaining c.args.input.now) (g.Q.Read.remaining c.args.query.now) c.args.edition p c.in_ok-query.query.items c.deref.result.now text nodes of_file c.in_ok-query.ensures.read c.deref.ensures.value made.1)
     c.deref-2.ensures.value c.in_ok-write_whole.ensures.whole c.deref-3.ensures.value c.in_ok-write_whole-2.ensures.whole
     (c.as_bytes.ensures.value ∙ c.in_ok-line.ensures ∙ ap digest_line made.0) c.write_whole-3.ensures.whole

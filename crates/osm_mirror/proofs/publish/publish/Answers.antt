@@ -10,14 +10,14 @@ returns-in_err-snapshot-clause-only g c =
 
 pub returns-clause-published : goal.returns-clause-published
 returns-clause-published g c =
-    let (p, held) = c.in_ok-snapshot.ensures.held in
-    whole_tree_root (g.R.Read.remaining c.args.input.now) c.args.edition p c.as_bytes.result.now _ _ _ (c.in_ok-snapshot.ensures.made p held)
+    let (p, held, of_file) = c.in_ok-snapshot.ensures.made in
+    whole_tree_root (g.R.Read.remaining c.args.input.now) c.args.edition p c.as_bytes.result.now _ _ _ of_file
     (c.as_bytes.ensures.value ∙ c.in_ok-line.ensures ∙ ap (λ (d : Digest). digest_line d.0) c.root.ensures ∙ ap digest_line held.root)
     c.write_whole.ensures.whole
 
 pub returns-clause-begun : goal.returns-clause-begun
 returns-clause-begun g c =
-    let (p, held) = c.in_ok-snapshot.ensures.held in
-    begun_tree_root (g.R.Read.remaining c.args.input.now) c.args.edition p c.as_bytes.result.now _ _ (c.in_ok-snapshot.ensures.made p held)
+    let (p, held, of_file) = c.in_ok-snapshot.ensures.made in
+    begun_tree_root (g.R.Read.remaining c.args.input.now) c.args.edition p c.as_bytes.result.now _ _ of_file
     (c.as_bytes.ensures.value ∙ c.in_ok-line.ensures ∙ ap (λ (d : Digest). digest_line d.0) c.root.ensures ∙ ap digest_line held.root)
     c.write_whole.ensures.begun
