@@ -47,20 +47,21 @@ some_below P decide (suc n) = elim (decide n) [
     same_number (suc a) zero = inr (λ e. omega (arith, e))
     same_number (suc a) (suc b) = elim (same_number a b) [ inl e ↦ inl (ap (λ n. suc n) e) | inr differ ↦ inr (λ e. differ (omega (arith, e))) ]
 
+-- a node of this level
+abbrev StandsAt : List (List Node) → List ℕ → ℕ → Type 0
+StandsAt tree x level = (place : ℕ) × (place < length (level_at tree level)) × (x ≡ spelling (node_in tree level place))
+
+stands_or_not : (tree : List (List Node)) (x : List ℕ) (level : ℕ) → StandsAt tree x level ⊎ (¬ StandsAt tree x level)
+stands_or_not tree x level = elim (some_below (λ place. x ≡ spelling (node_in tree level place)) (λ place. same_or_not x (spelling (node_in tree level place))) (length (level_at tree level))) [
+  | inl found ↦ inl found
+  | inr nowhere ↦ inr (λ (place, at, is). nowhere place at is)
+]
+
 node_or_not : (tree : List (List Node)) (x : List ℕ) → IsNodeOf tree x ⊎ (¬ IsNodeOf tree x)
-node_or_not tree x = elim (some_below At each (length tree)) [
-  | inl (level, inside, (place, at, is)) ↦ inl (level, place, inside, at, is)
+node_or_not tree x = elim (some_below (StandsAt tree x) (stands_or_not tree x) (length tree)) [
+  | inl (level, inside, (place, at, is)) ↦ inl (level, place, (inside, at, is))
   | inr nowhere ↦ inr (λ (level, place, (inside, at, is)). nowhere level inside (place, at, is))
 ]
-  where
-    abbrev At : ℕ → Type 0
-    At level = (place : ℕ) × (place < length (level_at tree level)) × (x ≡ spelling (node_in tree level place))
-
-    each : (level : ℕ) → At level ⊎ (¬ At level)
-    each level = elim (some_below (λ place. x ≡ spelling (node_in tree level place)) (λ place. same_or_not x (spelling (node_in tree level place))) (length (level_at tree level))) [
-      | inl found ↦ inl found
-      | inr nowhere ↦ inr (λ (place, at, is). nowhere place at is)
-    ]
 
 in_or_out : (p : Publication) (x : List ℕ) → IsNodeIn p x ⊎ (¬ IsNodeIn p x)
 in_or_out p x =
