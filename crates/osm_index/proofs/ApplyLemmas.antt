@@ -111,9 +111,12 @@ module _ (p q : Publication) (plan : Plan) (is_plan : IsPlan p q plan) (old mid 
               | inr came ↦ ((is_plan.nodes x).0 came).0
             ]
           ]),
-      (λ is. (taken x).1 (new_between x is, λ gone.
-          let (y, was, isnt, e) = (is_plan.gone.members (digest x)).0 gone in
-          isnt (subst (IsNodeIn q) (stock_free mid x y (new_between x is) (old_between y was) e) is))),
+      (λ is. (taken x).1 (
+        new_between x is,
+        λ gone.
+            let (y, was, isnt, e) = (is_plan.gone.members (digest x)).0 gone in
+            isnt (subst (IsNodeIn q) (stock_free mid x y (new_between x is) (old_between y was) e) is),
+      )),
     )
 
     pub held_after : AreHeld plan.manifest.edition new plan.manifest plan.root q

@@ -88,10 +88,13 @@ all_removed old mid new nodes digests put free fresh same left x =
           ]),
       (λ h.
           let here = (put x).1 (inl h) in
-          (left x).1 (here, λ is.
-              let found = among_digests (nodes_of nodes) (digest x) (subst (λ (ks : List (List ℕ)). IsAmong ks (digest x)) keys is) in
-              let one : x ≡ found.0 = free x found.0 here ((put found.0).1 (inr found.1)) found.2 in
-              fresh found.0 found.1 (subst old one h))),
+          (left x).1 (
+            here,
+            λ is.
+                let found = among_digests (nodes_of nodes) (digest x) (subst (λ (ks : List (List ℕ)). IsAmong ks (digest x)) keys is) in
+                let one : x ≡ found.0 = free x found.0 here ((put found.0).1 (inr found.1)) found.2 in
+                fresh found.0 found.1 (subst old one h),
+          )),
     )
 
 -- a node clashes with one that was there or was put before

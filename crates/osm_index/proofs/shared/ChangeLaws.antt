@@ -52,10 +52,13 @@ module _ (old mid new : List Element) (first second : List Change) (one : IsAppl
         | inl put ↦ inl (Contains-append_right first second (Put o) put)
         | inr (was, unnamed) ↦ elim ((one.members o).0 was) [
           | inl put ↦ inl (Contains-append_left first second (Put o) put)
-          | inr (first_was, not_first) ↦ inr (first_was, λ named. elim (Contains-append_cases (names_of first) (names_of second) (reference o) (subst (λ (ns : List Ref). Contains ns (reference o)) names named)) [
-            | inl in_first ↦ not_first in_first
-            | inr in_second ↦ unnamed in_second
-          ])
+          | inr (first_was, not_first) ↦ inr (
+            first_was,
+            λ named. elim (Contains-append_cases (names_of first) (names_of second) (reference o) (subst (λ (ns : List Ref). Contains ns (reference o)) names named)) [
+              | inl in_first ↦ not_first in_first
+              | inr in_second ↦ unnamed in_second
+            ],
+          )
         ]
       ]),
       (λ h. elim h [
