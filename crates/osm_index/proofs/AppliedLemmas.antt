@@ -1,5 +1,5 @@
 -- What changes exchange in a set of objects makes the changed set.
-use Rattle.std.proofs.Common.{◌≡◌, ◌↔◌, ◌⊎◌, inl, inr, List, [], ◌∷◌, ◌++◌, refl, sym, ap, subst, ◌∙◌}
+use Rattle.std.proofs.Common.{◌≡◌, inl, inr, List, ◌∷◌, sym, subst}
 use Rattle.std.specs.List.{Contains}
 use Rattle.std.proofs.lemmas.List.Elements.{Contains-append_right}
 use Rattle.osm_model.specs.Elements.{Element, reference, references}
@@ -35,10 +35,10 @@ module _ (objects : List Element) (all : List Change) (olds : List Element) (nam
     cut = is.cut;
     there = deletes_there is.before is.there;
     missing = λ h.
-    let found = from_map (λ (o : Element). reference o) objects r h in
-    let deleted : Contains all (Delete r) = subst (λ (cs : List Change). Contains cs (Delete r)) (sym is.cut) (Contains-append_right is.before (Delete r ∷ is.after) (Delete r) (here (Delete r) is.after)) in
-    let name = subst (λ (s : Ref). Contains (names_of all) s) found.2 (in_map name_of all (Delete r) deleted) in
-    is.missing (subst (λ (s : Ref). Contains (references olds) s) (sym found.2) (in_map (λ (o : Element). reference o) olds found.0 ((named.members found.0).1 (found.1, name))));
+        let found = from_map (λ (o : Element). reference o) objects r h in
+        let deleted : Contains all (Delete r) = subst (λ (cs : List Change). Contains cs (Delete r)) (sym is.cut) (Contains-append_right is.before (Delete r ∷ is.after) (Delete r) (here (Delete r) is.after)) in
+        let name = subst (λ (s : Ref). Contains (names_of all) s) found.2 (in_map name_of all (Delete r) deleted) in
+        is.missing (subst (λ (s : Ref). Contains (references olds) s) (sym found.2) (in_map (λ (o : Element). reference o) olds found.0 ((named.members found.0).1 (found.1, name))));
   }
 
 -- a refused delete refuses the changes

@@ -1,25 +1,20 @@
 -- What the stock of a snapshot holds once the nodes that come were put and those that go were taken away.
-use Rattle.std.proofs.Common.{◌≡◌, ◌≢◌, ◌↔◌, ◌⊎◌, inl, inr, ℕ, zero, suc, ◌+◌, ◌<◌, List, [], ◌∷◌, ◌++◌, length, map, get_or, refl, sym, ap, subst, ◌∙◌, arith}
-use Rattle.opl_codec.specs.declared.change.Change.{Change}
-use Rattle.osm_model.specs.Elements.{Element}
+use Rattle.std.proofs.Common.{◌≡◌, ◌≢◌, ◌↔◌, ◌⊎◌, inl, inr, ℕ, zero, suc, ◌<◌, List, [], ◌∷◌, length, map, refl, sym, ap, subst, ◌∙◌, arith}
 use Rattle.tree_build.specs.Rebuilding.{AreDifferent, IsAmong, digests_of, nodes_of}
-use Rattle.tree_build.specs.declared.rebuilt.NewNode.{NewNode}
 use Rattle.tree_node.specs.Digests.{digest}
 use Rattle.tree_node.specs.Nodes.{Node, spelling}
-use Rattle.tree_node.specs.Outcomes.{Clash, GrownByAll}
+use Rattle.tree_node.specs.Outcomes.{GrownByAll}
 use Rattle.tree_node.specs.Shelves.{IsClashFree, SameNodes}
 use Rattle.tree_node.specs.Stocks.{HasNode}
 use Rattle.tree_node.specs.Trees.{IsNodeOf, level_at, node_in}
 use Rattle.tree_node.specs.declared.digest.Digest.{Digest}
 use Rattle.tree_node.specs.declared.stock.Stock.{Stock}
-use Rattle.tree_node.specs.declared.tree.Tree.{Tree}
 use Rattle.tree_node.specs.declared.tree.Tree.TheVariants.{Objects, Tags, Cells, Backs}
 use Rattle.tree_node.proofs.shared.StockLaws.{stock_free}
 use Rattle.tree_node.proofs.shared.TreeSame.{same_or_not}
-use Rattle.osm_index.specs.Applying.{AreDigestsOfOnly, IsDeltaOf, IsNodeOfEither}
+use Rattle.osm_index.specs.Applying.{AreDigestsOfOnly, IsNodeOfEither}
 use Rattle.osm_index.specs.Holdings.{AreHeld}
-use Rattle.osm_index.specs.Manifests.{top_among}
-use Rattle.osm_index.specs.Publications.{IsNodeIn, Publication, manifest_of, top_in, tree_in}
+use Rattle.osm_index.specs.Publications.{IsNodeIn, Publication, manifest_of, tree_in}
 use Rattle.osm_index.specs.declared.edition.Edition.{Edition}
 use Rattle.osm_index.specs.declared.manifest.Manifest.{Manifest}
 use Rattle.osm_index.specs.declared.plan.Plan.{Plan}
@@ -111,9 +106,12 @@ module _ (p q : Publication) (plan : Plan) (is_plan : IsPlan p q plan) (old mid 
               | inr came ↦ ((is_plan.nodes x).0 came).0
             ]
           ]),
-      (λ is. (taken x).1 (new_between x is, λ gone.
-          let (y, was, isnt, e) = (is_plan.gone.members (digest x)).0 gone in
-          isnt (subst (IsNodeIn q) (stock_free mid x y (new_between x is) (old_between y was) e) is))),
+      (λ is. (taken x).1 (
+        new_between x is,
+        λ gone.
+            let (y, was, isnt, e) = (is_plan.gone.members (digest x)).0 gone in
+            isnt (subst (IsNodeIn q) (stock_free mid x y (new_between x is) (old_between y was) e) is),
+      )),
     )
 
     pub held_after : AreHeld plan.manifest.edition new plan.manifest plan.root q

@@ -1,21 +1,20 @@
 -- What a list of entries holds after the changes that turn some of its entries into others.
 use Rattle.std.proofs.Common.{◌≡◌, ◌≢◌, ◌↔◌, ◌⊎◌, inl, inr, ℕ, ◌+◌, ◌-◌, ◌<◌, ◌≤◌, List, [], ◌∷◌, length, map, Option, Some, None, refl, sym, ap, subst, ◌∙◌, arith}
 use Rattle.std.specs.List.{AllByRecursion, Contains}
-use Rattle.std.specs.Prelude.{IfSome}
-use Rattle.osm_model.specs.Elements.{Element, reference}
+use Rattle.osm_model.specs.Elements.{Element}
 use Rattle.osm_model.specs.Sets.{IsObjectSet}
 use Rattle.tree_build.specs.Changing.{Change, changed, one_or_none}
 use Rattle.tree_build.specs.Rebuilding.{changed_entries, keys_of_changes}
 use Rattle.tree_build.specs.internal.RisingChanges.{AreOwnAndRising, IsOwn}
 use Rattle.tree_build.specs.internal.Weaving.{IsIn}
-use Rattle.tree_build.proofs.ChangedLaw.{IsFree, IsPut, changed_holds}
+use Rattle.tree_build.proofs.ChangedLaw.{IsPut, changed_holds}
 use Rattle.tree_build.proofs.DifferChanges.{changed_rises}
 use Rattle.tree_build.proofs.WeaveLemmas.{above_low}
 use Rattle.tree_node.specs.Nodes.{AreRisingFrom, Binding, keys_of}
 use Rattle.tree_node.specs.Order.{IsBelow}
 use Rattle.tree_node.specs.declared.limits.TheConstants.{ENTRY_LIMIT}
 use Rattle.tree_node.specs.declared.tree.Tree.{Tree}
-use Rattle.osm_index.specs.Entries.{AreEntriesOf, IsEntryOf, IsEntryOfSome}
+use Rattle.osm_index.specs.Entries.{AreEntriesOf, IsEntryOfSome}
 use Rattle.osm_index.specs.Publications.{HasTooMany, Publication}
 use Rattle.osm_index.specs.internal.ChangedTrees.{HoldsChanging, IsExchanged}
 use Rattle.osm_index.specs.internal.EntryChanges.{PutsNew, TakesOld, TurnEntries, put_of, taken}
@@ -79,16 +78,22 @@ module _ (xs a b : List Binding) (are : AreTurned xs a b) (cs : List (Change Bin
   -- what stays of the list, or is put
   to_turned : (n : Binding) → IsIn n b ⊎ (IsIn n xs × ¬ IsIn n a) → IsIn n (changed_entries xs cs)
   to_turned n (inl is) = elim (in_or_not n a) [
-    | inl old ↦ (changed_holds key_in xs cs are.all turned_own n).1 (inr (are.within n old, all_of_each (λ (c : Change Binding). n.key ≢ c.key) cs (λ c of same. elim ((turn.members c).0 of) [
-      | inl (m, there, isnt, e) ↦ isnt (subst (λ (k : Binding). IsIn k a) (one_with_key key_in None b are.new n m is there (same ∙ ap (λ (d : Change Binding). d.key) e)) old)
-      | inr (m, there, nowhere, e) ↦ nowhere n is (same ∙ ap (λ (d : Change Binding). d.key) e)
-    ])))
+    | inl old ↦ (changed_holds key_in xs cs are.all turned_own n).1 (inr (
+      are.within n old,
+      all_of_each (λ (c : Change Binding). n.key ≢ c.key) cs (λ c of same. elim ((turn.members c).0 of) [
+        | inl (m, there, isnt, e) ↦ isnt (subst (λ (k : Binding). IsIn k a) (one_with_key key_in None b are.new n m is there (same ∙ ap (λ (d : Change Binding). d.key) e)) old)
+        | inr (m, there, nowhere, e) ↦ nowhere n is (same ∙ ap (λ (d : Change Binding). d.key) e)
+      ]),
+    ))
     | inr new ↦ (changed_holds key_in xs cs are.all turned_own n).1 (inl (puts_by key_in cs n (put_of n) ((turn.members (put_of n)).1 (inl (n, is, new, refl))) (inl refl)))
   ]
-  to_turned n (inr (is, isnt)) = (changed_holds key_in xs cs are.all turned_own n).1 (inr (is, all_of_each (λ (c : Change Binding). n.key ≢ c.key) cs (λ c of same. elim ((turn.members c).0 of) [
-    | inl (m, there, new, e) ↦ isnt (are.apart m n there is (same ∙ ap (λ (d : Change Binding). d.key) e))
-    | inr (m, there, nowhere, e) ↦ isnt (subst (λ (k : Binding). IsIn k a) (sym (one_with_key key_in None xs are.all n m is (are.within m there) (same ∙ ap (λ (d : Change Binding). d.key) e))) there)
-  ])))
+  to_turned n (inr (is, isnt)) = (changed_holds key_in xs cs are.all turned_own n).1 (inr (
+    is,
+    all_of_each (λ (c : Change Binding). n.key ≢ c.key) cs (λ c of same. elim ((turn.members c).0 of) [
+      | inl (m, there, new, e) ↦ isnt (are.apart m n there is (same ∙ ap (λ (d : Change Binding). d.key) e))
+      | inr (m, there, nowhere, e) ↦ isnt (subst (λ (k : Binding). IsIn k a) (sym (one_with_key key_in None xs are.all n m is (are.within m there) (same ∙ ap (λ (d : Change Binding). d.key) e))) there)
+    ]),
+  ))
 
   from_turned : (n : Binding) → IsIn n (changed_entries xs cs) → IsIn n b ⊎ (IsIn n xs × ¬ IsIn n a)
   from_turned n is = elim ((changed_holds key_in xs cs are.all turned_own n).0 is) [
@@ -144,9 +149,12 @@ module _ (xs a : List Binding) (all : Rise xs) (old : Rise a) (within : (n : Bin
       | inl put ↦ absurd (none_put n a put)
       | inr stays ↦ (stays.0, λ old_too. each_of (λ (c : Change Binding). n.key ≢ c.key) (map taken a) stays.1 (taken n) (in_mapped taken a n old_too) refl)
     ]),
-    (λ (is, isnt). (changed_holds key_in xs (map taken a) all take_all_own n).1 (inr (is, all_of_each (λ (c : Change Binding). n.key ≢ c.key) (map taken a) (λ c of same.
-        let found = from_mapped taken a c of in
-        isnt (subst (λ (k : Binding). IsIn k a) (sym (one_with_key key_in None xs all n found.0 is (within found.0 found.1) (same ∙ ap (λ (d : Change Binding). d.key) found.2))) found.1))))),
+    (λ (is, isnt). (changed_holds key_in xs (map taken a) all take_all_own n).1 (inr (
+      is,
+      all_of_each (λ (c : Change Binding). n.key ≢ c.key) (map taken a) (λ c of same.
+          let found = from_mapped taken a c of in
+          isnt (subst (λ (k : Binding). IsIn k a) (sym (one_with_key key_in None xs all n found.0 is (within found.0 found.1) (same ∙ ap (λ (d : Change Binding). d.key) found.2))) found.1)),
+    ))),
   )
 
   pub count_left : length xs ≡ length a + length left
@@ -196,11 +204,14 @@ module _ (objects olds puts set : List Element) (is_set : IsObjectSet objects) (
       ]),
       (λ (o, there, e). in_list (changed_entries xs cs) n ((turned_holds xs a b are_turned cs turn n).1 (elim ((exchanged.members o).0 there) [
         | inl put ↦ inl (from_list b n ((new.members n).1 (o, put, e)))
-        | inr (stays, isnt) ↦ inr (from_list xs n ((are.members n).1 (o, stays, e)), λ is.
-            let (x, old_too, e_too) = (old.members n).0 (in_list a n is) in
-            let there_too = exchanged.there x old_too in
-            let owner = one_owner tree x o (is_element objects x is_set there_too) (is_element objects o is_set stays) n n e_too e refl in
-            isnt (subst (λ (y : Element). Contains olds y) (one_object objects x o is_set there_too stays owner) old_too))
+        | inr (stays, isnt) ↦ inr (
+          from_list xs n ((are.members n).1 (o, stays, e)),
+          λ is.
+              let (x, old_too, e_too) = (old.members n).0 (in_list a n is) in
+              let there_too = exchanged.there x old_too in
+              let owner = one_owner tree x o (is_element objects x is_set there_too) (is_element objects o is_set stays) n n e_too e refl in
+              isnt (subst (λ (y : Element). Contains olds y) (one_object objects x o is_set there_too stays owner) old_too),
+        )
       ]))),
     );
   }

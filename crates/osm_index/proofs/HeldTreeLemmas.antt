@@ -1,13 +1,10 @@
 -- Walks over trees that a stock holds: memory alone refuses them.
-use Rattle.std.proofs.Common.{◌≡◌, ℕ, List, [], ◌∷◌, length, Result, Ok, Err, inl, inr, suc, refl, sym, ap, subst, ◌∙◌}
-use Rattle.std.specs.List.{AllByRecursion}
+use Rattle.std.proofs.Common.{◌≡◌, ℕ, List, [], ◌∷◌, length, Result, inl, inr, suc, refl, sym, ap, subst, ◌∙◌}
 use Rattle.tree_node.specs.NodeRefs.{number_of}
-use Rattle.tree_node.specs.Nodes.{Binding}
-use Rattle.tree_node.specs.Outcomes.{Cause, EndsWell, NoMemory, NodeMissing, OtherCause, Outcome}
+use Rattle.tree_node.specs.Outcomes.{Cause, EndsWell, NoMemory, Outcome}
 use Rattle.tree_node.specs.Recorders.{RecorderHolds, RecorderUsed}
 use Rattle.tree_node.specs.Shelves.{SameNodes}
 use Rattle.tree_node.specs.Stocks.{HasNode}
-use Rattle.tree_node.specs.Trees.{IsNodeOf}
 use Rattle.tree_node.specs.declared.recorder.Recorder.{Recorder}
 use Rattle.tree_node.specs.declared.stock.Stock.{Stock}
 use Rattle.tree_node.specs.declared.tree.Tree.{Tree}

@@ -1,6 +1,6 @@
 -- Nodes that are taken away one after the other.
 use Rattle.std.proofs.Common.{◌≡◌, ◌≢◌, ◌↔◌, ◌⊎◌, inl, inr, ℕ, zero, suc, ◌+◌, ◌<◌, List, [], ◌∷◌, ◌++◌, length, get_or, take, drop, map, refl, sym, ap, subst, ◌∙◌, arith}
-use Rattle.std.proofs.lemmas.List.{map-append, take-append-drop, take-map, take_more}
+use Rattle.std.proofs.lemmas.List.{map-append, take-append-drop, take_more}
 use Rattle.tree_build.specs.Rebuilding.{IsAmong, digests_of, nodes_of}
 use Rattle.tree_build.specs.declared.rebuilt.NewNode.{NewNode}
 use Rattle.tree_node.specs.Digests.{digest}
@@ -88,10 +88,13 @@ all_removed old mid new nodes digests put free fresh same left x =
           ]),
       (λ h.
           let here = (put x).1 (inl h) in
-          (left x).1 (here, λ is.
-              let found = among_digests (nodes_of nodes) (digest x) (subst (λ (ks : List (List ℕ)). IsAmong ks (digest x)) keys is) in
-              let one : x ≡ found.0 = free x found.0 here ((put found.0).1 (inr found.1)) found.2 in
-              fresh found.0 found.1 (subst old one h))),
+          (left x).1 (
+            here,
+            λ is.
+                let found = among_digests (nodes_of nodes) (digest x) (subst (λ (ks : List (List ℕ)). IsAmong ks (digest x)) keys is) in
+                let one : x ≡ found.0 = free x found.0 here ((put found.0).1 (inr found.1)) found.2 in
+                fresh found.0 found.1 (subst old one h),
+          )),
     )
 
 -- a node clashes with one that was there or was put before

@@ -1,21 +1,18 @@
 -- The plan by which one publication comes into the place of another.
-use Rattle.std.proofs.Common.{◌≡◌, ◌≢◌, ◌↔◌, ◌⊎◌, inl, inr, ℕ, ◌+◌, ◌^◌, ◌<◌, List, [], ◌∷◌, ◌++◌, map, refl, sym, ap, subst, ◌∙◌, arith}
+use Rattle.std.proofs.Common.{◌≡◌, ◌≢◌, ◌↔◌, inl, inr, ℕ, ◌+◌, List, [], ◌∷◌, ◌++◌, refl, sym, ap, subst, ◌∙◌, arith}
 use Rattle.std.proofs.lemmas.List.{map-append}
 use Rattle.tree_build.specs.Rebuilding.{AreDifferent, IsAmong, digests_of, nodes_of}
 use Rattle.tree_build.specs.declared.rebuilt.NewNode.{NewNode}
 use Rattle.tree_node.specs.Digests.{digest}
 use Rattle.tree_node.specs.Shelves.{IsClashFree}
 use Rattle.tree_node.specs.declared.digest.Digest.{Digest}
-use Rattle.tree_node.specs.declared.tree.Tree.{Tree}
-use Rattle.osm_index.specs.Applying.{AreDigestsOfOnly, IsLast, IsSecond, edition_after}
-use Rattle.osm_index.specs.Manifests.{HasSequence, manifest, manifest_bytes, top_among}
-use Rattle.osm_index.specs.Publications.{IsNodeIn, IsPublicationOf, Publication, manifest_of, root_of, top_in, tree_in}
+use Rattle.osm_index.specs.Applying.{AreDigestsOfOnly, IsSecond, edition_after}
+use Rattle.osm_index.specs.Manifests.{HasSequence, manifest, top_among}
+use Rattle.osm_index.specs.Publications.{IsNodeIn, IsPublicationOf, Publication, manifest_of, root_of, top_in}
 use Rattle.osm_index.specs.declared.changed_trees.ChangedTrees.{ChangedTrees}
 use Rattle.osm_index.specs.declared.edition.Edition.{Edition}
 use Rattle.osm_index.specs.declared.edition.Edition.TheVariants as editions
-use Rattle.osm_index.specs.declared.plan.Plan.{Plan}
 use Rattle.osm_index.specs.internal.ChangedTrees.{AreChangedTrees}
-use Rattle.osm_index.specs.internal.Plans.{IsPlan}
 use Rattle.osm_index.specs.internal.Putting.{IsTreeNode}
 use Rattle.osm_index.proofs.ChangeTreeLemmas.{different_parts}
 use Rattle.osm_index.proofs.NodeChangeLemmas.{among_push}
@@ -67,25 +64,25 @@ module _ (p q : Publication) (edition : Edition) (is : IsPublicationOf q.objects
     pub digests_go : AreDigestsOfOnly p q (digests_of digests)
     digests_go = record {
       members = λ key.
-      let among = among_push (digests_of trees.gone.items) (root_of p) key in (
-        (λ h. elim (among.0 (subst (λ (ks : List (List ℕ)). IsAmong ks key) digests_listed h)) [
-          | inl gone ↦
-              let (x, was, isnt, e) = (changed.gone key).0 gone in
-              (x, inr was, (λ new. elim new [ inl f ↦ not_new x was f | inr tree ↦ isnt tree ]), e)
-          | inr e ↦ (manifest_of p, inl refl, (λ new. elim new [ inl f ↦ unlike f | inr tree ↦ not_old (manifest_of p) tree refl ]), e)
-        ]),
-        (λ (x, was, isnt, e). subst (λ (ks : List (List ℕ)). IsAmong ks key) (sym digests_listed) (among.1 (elim was [
-          | inl f ↦ inr (e ∙ ap digest f)
-          | inr tree ↦ inl ((changed.gone key).1 (x, tree, (λ new. isnt (inr new)), e))
-        ]))),
-      );
+          let among = among_push (digests_of trees.gone.items) (root_of p) key in (
+            (λ h. elim (among.0 (subst (λ (ks : List (List ℕ)). IsAmong ks key) digests_listed h)) [
+              | inl gone ↦
+                  let (x, was, isnt, e) = (changed.gone key).0 gone in
+                  (x, inr was, (λ new. elim new [ inl f ↦ not_new x was f | inr tree ↦ isnt tree ]), e)
+              | inr e ↦ (manifest_of p, inl refl, (λ new. elim new [ inl f ↦ unlike f | inr tree ↦ not_old (manifest_of p) tree refl ]), e)
+            ]),
+            (λ (x, was, isnt, e). subst (λ (ks : List (List ℕ)). IsAmong ks key) (sym digests_listed) (among.1 (elim was [
+              | inl f ↦ inr (e ∙ ap digest f)
+              | inr tree ↦ inl ((changed.gone key).1 (x, tree, (λ new. isnt (inr new)), e))
+            ]))),
+          );
       once = subst AreDifferent (sym digests_listed) (different_parts (digests_of trees.gone.items) (root_of p ∷ []) changed.gone_once ((λ never. never), tt)
-      (λ key gone last. elim last [
-        | inl e ↦
-            let (x, was, isnt, f) = (changed.gone key).0 gone in
-            own_manifest x was (free x (manifest_of p) (inr was) (inl refl) (sym f ∙ e))
-        | inr never ↦ never
-      ]));
+          (λ key gone last. elim last [
+            | inl e ↦
+                let (x, was, isnt, f) = (changed.gone key).0 gone in
+                own_manifest x was (free x (manifest_of p) (inr was) (inl refl) (sym f ∙ e))
+            | inr never ↦ never
+          ]));
     }
 
 -- ---- the manifest of the next sequence is another

@@ -11,11 +11,10 @@ use Rattle.osm_model.specs.declared.reference.Ref.{Ref}
 use Rattle.tree_build.specs.Changing.{Change, changed, one_or_none}
 use Rattle.tree_build.specs.internal.RisingChanges.{AreOwnAndRising, IsOwn}
 use Rattle.tree_build.specs.internal.Weaving.{IsIn}
-use Rattle.tree_build.proofs.ChangedLaw.{IsFree, IsPut, changed_holds}
+use Rattle.tree_build.proofs.ChangedLaw.{IsPut, changed_holds}
 use Rattle.tree_build.proofs.DifferChanges.{changed_rises}
 use Rattle.tree_build.proofs.WeaveLemmas.{above_low}
 use Rattle.tree_node.specs.Nodes.{AreRisingFrom}
-use Rattle.tree_node.specs.Order.{IsBelow}
 use Rattle.osm_index.specs.Keys.{ref_key}
 use Rattle.osm_index.specs.internal.ChangedTrees.{IsExchanged}
 use Rattle.osm_index.proofs.ExchangeLemmas.{own_and_rising, put_by, puts_by}
@@ -55,7 +54,7 @@ unfolding IsStrictlySortedBy
 sorted_of low [] are rise = tt
 sorted_of low (o ∷ objects) are rise = (
   all_refs (λ (r : Ref). ref_cmp (reference o) r ≡ Less) objects
-  (λ x is. (keys_as_refs (reference o) (reference x) are.0.in_range (each_of IsElement objects are.1 x is).in_range).1 (above_low key_at (key_at o) objects rise.1 x is)),
+      (λ x is. (keys_as_refs (reference o) (reference x) are.0.in_range (each_of IsElement objects are.1 x is).in_range).1 (above_low key_at (key_at o) objects rise.1 x is)),
   sorted_of (Some (key_at o)) objects are.1 rise.1,
 )
 
@@ -117,10 +116,13 @@ module _ (objects olds puts : List Element) (set : IsObjectSet objects) (old : I
       | inl put ↦ absurd (none_put n olds put)
       | inr stays ↦ (stays.0, λ was. each_of (λ (c : Change Element). key_at n ≢ c.key) (map take_of olds) stays.1 (take_of n) (in_mapped take_of olds n was) refl)
     ]),
-    (λ (is, isnt). (changed_holds key_at objects (map take_of olds) (set_rises objects set) takes n).1 (inr (is, all_of_each (λ (c : Change Element). key_at n ≢ c.key) (map take_of olds) (λ c of same.
-        let found = from_mapped take_of olds c of in
-        let was = from_list objects found.0 (there found.0 (in_list olds found.0 found.1)) in
-        isnt (subst (λ (k : Element). IsIn k olds) (sym (one_with_key key_at None objects (set_rises objects set) n found.0 is was (same ∙ ap (λ (d : Change Element). d.key) found.2))) found.1))))),
+    (λ (is, isnt). (changed_holds key_at objects (map take_of olds) (set_rises objects set) takes n).1 (inr (
+      is,
+      all_of_each (λ (c : Change Element). key_at n ≢ c.key) (map take_of olds) (λ c of same.
+          let found = from_mapped take_of olds c of in
+          let was = from_list objects found.0 (there found.0 (in_list olds found.0 found.1)) in
+          isnt (subst (λ (k : Element). IsIn k olds) (sym (one_with_key key_at None objects (set_rises objects set) n found.0 is was (same ∙ ap (λ (d : Change Element). d.key) found.2))) found.1)),
+    ))),
   )
 
   put_from : (n : Element) → IsPut key_at (map put_at puts) n → IsIn n puts
@@ -140,19 +142,22 @@ module _ (objects olds puts : List Element) (set : IsObjectSet objects) (old : I
     ]),
     (λ is. elim is [
       | inl put ↦ (changed_holds key_at rest (map put_at puts) rest_rises puttings n).1 (inl (puts_by key_at (map put_at puts) n (put_at n) (in_mapped put_at puts n put) (inl refl)))
-      | inr (was, isnt) ↦ (changed_holds key_at rest (map put_at puts) rest_rises puttings n).1 (inr ((rest_holds n).1 (was, isnt), all_of_each (λ (c : Change Element). key_at n ≢ c.key) (map put_at puts) (λ c of same.
-          let found = from_mapped put_at puts c of in
-          let put = in_list puts found.0 found.1 in
-          let here = in_list objects n was in
-          let one = one_reference n found.0 (is_element objects n set here) (is_element puts found.0 new put) (same ∙ ap (λ (d : Change Element). d.key) found.2) in
-          isnt (from_list olds n (apart found.0 n put here one)))))
+      | inr (was, isnt) ↦ (changed_holds key_at rest (map put_at puts) rest_rises puttings n).1 (inr (
+        (rest_holds n).1 (was, isnt),
+        all_of_each (λ (c : Change Element). key_at n ≢ c.key) (map put_at puts) (λ c of same.
+            let found = from_mapped put_at puts c of in
+            let put = in_list puts found.0 found.1 in
+            let here = in_list objects n was in
+            let one = one_reference n found.0 (is_element objects n set here) (is_element puts found.0 new put) (same ∙ ap (λ (d : Change Element). d.key) found.2) in
+            isnt (from_list olds n (apart found.0 n put here one))),
+      ))
     ]),
   )
 
   pub is_exchanged : IsExchanged objects olds puts exchanged
   is_exchanged = record {
     set = set_of exchanged (λ n is. elim ((exchanged_holds n).0 is) [ inl put ↦ is_element puts n new (in_list puts n put) | inr stays ↦ is_element objects n set (in_list objects n stays.0) ])
-    (changed_rises key_at rest (map put_at puts) rest_rises puttings);
+        (changed_rises key_at rest (map put_at puts) rest_rises puttings);
     there = there;
     apart = apart;
     members = λ n. (

@@ -16,8 +16,8 @@ pub put_nodes-requires : goal.put_nodes-requires
 put_nodes-requires c = record {
   same = c.deref.ensures.value ∙ c.in_ok-plan.ensures.listed;
   new = λ bytes is has. ∥∥₁_elim c.args.self.now.own ⊥_prop (λ (p, held).
-  let (q, applied, edition, is_plan, applicable) = c.in_ok-plan.ensures.planned p held in
-  ((is_plan.nodes bytes).0 is).1 ((held.nodes bytes).0 has));
+      let (q, applied, edition, is_plan, applicable) = c.in_ok-plan.ensures.planned p held in
+      ((is_plan.nodes bytes).0 is).1 ((held.nodes bytes).0 has));
 }
 
 pub invariant_of-self : goal.invariant_of-self
@@ -50,8 +50,8 @@ invariant_of-self-2 c =
     subst (λ (ds : List Digest). (x : List ℕ) → HasNode new x ↔ (HasNode mid x × ¬ IsAmong (digests_of ds) (digest x))) c.deref-2.ensures.value c.remove_nodes.ensures in
     record {
       own = ∥∥₁_map s.own (λ (p, held).
-      let (q, applied, edition, is_plan, applicable) = c.in_ok-plan.ensures.planned p held in
-      (q, held_after p q plan is_plan s.stock mid held.nodes c.in_ok-put_nodes.ensures.put new taken));
+          let (q, applied, edition, is_plan, applicable) = c.in_ok-plan.ensures.planned p held in
+          (q, held_after p q plan is_plan s.stock mid held.nodes c.in_ok-put_nodes.ensures.put new taken));
     }
 
 pub returns-clause-applied : goal.returns-clause-applied
