@@ -1,25 +1,20 @@
 -- What the stock of a snapshot holds once the nodes that come were put and those that go were taken away.
-use Rattle.std.proofs.Common.{◌≡◌, ◌≢◌, ◌↔◌, ◌⊎◌, inl, inr, ℕ, zero, suc, ◌+◌, ◌<◌, List, [], ◌∷◌, ◌++◌, length, map, get_or, refl, sym, ap, subst, ◌∙◌, arith}
-use Rattle.opl_codec.specs.declared.change.Change.{Change}
-use Rattle.osm_model.specs.Elements.{Element}
+use Rattle.std.proofs.Common.{◌≡◌, ◌≢◌, ◌↔◌, ◌⊎◌, inl, inr, ℕ, zero, suc, ◌<◌, List, [], ◌∷◌, length, map, refl, sym, ap, subst, ◌∙◌, arith}
 use Rattle.tree_build.specs.Rebuilding.{AreDifferent, IsAmong, digests_of, nodes_of}
-use Rattle.tree_build.specs.declared.rebuilt.NewNode.{NewNode}
 use Rattle.tree_node.specs.Digests.{digest}
 use Rattle.tree_node.specs.Nodes.{Node, spelling}
-use Rattle.tree_node.specs.Outcomes.{Clash, GrownByAll}
+use Rattle.tree_node.specs.Outcomes.{GrownByAll}
 use Rattle.tree_node.specs.Shelves.{IsClashFree, SameNodes}
 use Rattle.tree_node.specs.Stocks.{HasNode}
 use Rattle.tree_node.specs.Trees.{IsNodeOf, level_at, node_in}
 use Rattle.tree_node.specs.declared.digest.Digest.{Digest}
 use Rattle.tree_node.specs.declared.stock.Stock.{Stock}
-use Rattle.tree_node.specs.declared.tree.Tree.{Tree}
 use Rattle.tree_node.specs.declared.tree.Tree.TheVariants.{Objects, Tags, Cells, Backs}
 use Rattle.tree_node.proofs.shared.StockLaws.{stock_free}
 use Rattle.tree_node.proofs.shared.TreeSame.{same_or_not}
-use Rattle.osm_index.specs.Applying.{AreDigestsOfOnly, IsDeltaOf, IsNodeOfEither}
+use Rattle.osm_index.specs.Applying.{AreDigestsOfOnly, IsNodeOfEither}
 use Rattle.osm_index.specs.Holdings.{AreHeld}
-use Rattle.osm_index.specs.Manifests.{top_among}
-use Rattle.osm_index.specs.Publications.{IsNodeIn, Publication, manifest_of, top_in, tree_in}
+use Rattle.osm_index.specs.Publications.{IsNodeIn, Publication, manifest_of, tree_in}
 use Rattle.osm_index.specs.declared.edition.Edition.{Edition}
 use Rattle.osm_index.specs.declared.manifest.Manifest.{Manifest}
 use Rattle.osm_index.specs.declared.plan.Plan.{Plan}

@@ -1,5 +1,5 @@
 -- How one tree changes, and all four.
-use Rattle.std.proofs.Common.{◌≡◌, ◌≢◌, ◌↔◌, ◌⊎◌, inl, inr, ℕ, ◌≤◌, List, [], ◌∷◌, ◌++◌, None, Result, Ok, Err, length, map, refl, sym, ap, subst, ◌∙◌}
+use Rattle.std.proofs.Common.{◌≡◌, ◌↔◌, ◌⊎◌, inl, inr, ℕ, ◌≤◌, List, [], ◌∷◌, ◌++◌, None, Result, Ok, Err, length, refl, sym, ap, subst, ◌∙◌}
 use Rattle.std.proofs.lemmas.List.{map-append}
 use Rattle.std.specs.Prelude.{IfErr}
 use Rattle.std.specs.Result.{IsErrAnd}
@@ -10,17 +10,17 @@ use Rattle.tree_build.specs.declared.rebuilt.NewNode.{NewNode}
 use Rattle.tree_build.specs.declared.rebuilt.Rebuilt.{Rebuilt}
 use Rattle.tree_node.specs.Digests.{digest}
 use Rattle.tree_node.specs.NodeRefs.{number_of}
-use Rattle.tree_node.specs.Nodes.{AreRisingFrom, Binding, Node}
+use Rattle.tree_node.specs.Nodes.{AreRisingFrom, Binding}
 use Rattle.tree_node.specs.Shelves.{IsClashFree}
 use Rattle.tree_node.specs.Trees.{IsNodeOf, Shape, Two, levels, top_of}
 use Rattle.tree_node.specs.declared.digest.Digest.{Digest}
 use Rattle.tree_node.specs.declared.limits.TheConstants.{ENTRY_LIMIT}
 use Rattle.tree_node.specs.declared.tree.Tree.{Tree}
 use Rattle.tree_node.specs.declared.tree.Tree.TheVariants.{Objects, Tags, Cells, Backs}
-use Rattle.osm_index.specs.Applying.{IsSecond, edition_after}
+use Rattle.osm_index.specs.Applying.{edition_after}
 use Rattle.osm_index.specs.Entries.{AreEntriesOf}
 use Rattle.osm_index.specs.Manifests.{top_among}
-use Rattle.osm_index.specs.Publications.{IsPublicationOf, Publication, shape_in, shape_of, top_in, tree_in}
+use Rattle.osm_index.specs.Publications.{IsPublicationOf, Publication, shape_in, top_in, tree_in}
 use Rattle.osm_index.specs.declared.apply_fault.ApplyFault.{ApplyFault}
 use Rattle.osm_index.specs.declared.changed_trees.ChangedTrees.{ChangedTrees}
 use Rattle.osm_index.specs.internal.ChangedTrees.{AreChangedTrees, AreHeldTrees, HoldsChanging, IsChangedTree}

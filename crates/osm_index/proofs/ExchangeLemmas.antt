@@ -1,21 +1,20 @@
 -- What a list of entries holds after the changes that turn some of its entries into others.
 use Rattle.std.proofs.Common.{◌≡◌, ◌≢◌, ◌↔◌, ◌⊎◌, inl, inr, ℕ, ◌+◌, ◌-◌, ◌<◌, ◌≤◌, List, [], ◌∷◌, length, map, Option, Some, None, refl, sym, ap, subst, ◌∙◌, arith}
 use Rattle.std.specs.List.{AllByRecursion, Contains}
-use Rattle.std.specs.Prelude.{IfSome}
-use Rattle.osm_model.specs.Elements.{Element, reference}
+use Rattle.osm_model.specs.Elements.{Element}
 use Rattle.osm_model.specs.Sets.{IsObjectSet}
 use Rattle.tree_build.specs.Changing.{Change, changed, one_or_none}
 use Rattle.tree_build.specs.Rebuilding.{changed_entries, keys_of_changes}
 use Rattle.tree_build.specs.internal.RisingChanges.{AreOwnAndRising, IsOwn}
 use Rattle.tree_build.specs.internal.Weaving.{IsIn}
-use Rattle.tree_build.proofs.ChangedLaw.{IsFree, IsPut, changed_holds}
+use Rattle.tree_build.proofs.ChangedLaw.{IsPut, changed_holds}
 use Rattle.tree_build.proofs.DifferChanges.{changed_rises}
 use Rattle.tree_build.proofs.WeaveLemmas.{above_low}
 use Rattle.tree_node.specs.Nodes.{AreRisingFrom, Binding, keys_of}
 use Rattle.tree_node.specs.Order.{IsBelow}
 use Rattle.tree_node.specs.declared.limits.TheConstants.{ENTRY_LIMIT}
 use Rattle.tree_node.specs.declared.tree.Tree.{Tree}
-use Rattle.osm_index.specs.Entries.{AreEntriesOf, IsEntryOf, IsEntryOfSome}
+use Rattle.osm_index.specs.Entries.{AreEntriesOf, IsEntryOfSome}
 use Rattle.osm_index.specs.Publications.{HasTooMany, Publication}
 use Rattle.osm_index.specs.internal.ChangedTrees.{HoldsChanging, IsExchanged}
 use Rattle.osm_index.specs.internal.EntryChanges.{PutsNew, TakesOld, TurnEntries, put_of, taken}

@@ -7,7 +7,7 @@ use Rattle.tree_build.specs.Changing.{Change}
 use Rattle.tree_build.specs.Rebuilding.{HoldsOldTree, IsOldTree}
 use Rattle.tree_node.specs.Nodes.{AreRisingFrom, Binding}
 use Rattle.tree_node.specs.Stocks.{HasNode}
-use Rattle.tree_node.specs.Trees.{HasTree, Two, levels}
+use Rattle.tree_node.specs.Trees.{Two, levels}
 use Rattle.tree_node.specs.declared.stock.Stock.{Stock}
 use Rattle.tree_node.proofs.shared.StockLaws.{stock_free}
 use Rattle.tree_node.proofs.shared.TreeSame.{one_list}

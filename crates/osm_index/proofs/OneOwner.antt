@@ -1,5 +1,5 @@
 -- The key of an entry is that of one object.
-use Rattle.std.proofs.Common.{◌≡◌, ℕ, List, refl, sym, ap, ◌∙◌}
+use Rattle.std.proofs.Common.{◌≡◌, refl, sym, ap, ◌∙◌}
 use Rattle.osm_model.specs.Elements.{Element, reference}
 use Rattle.osm_model.specs.Limits.{IsElement}
 use Rattle.tree_node.specs.Nodes.{Binding}

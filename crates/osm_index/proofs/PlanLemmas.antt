@@ -1,21 +1,18 @@
 -- The plan by which one publication comes into the place of another.
-use Rattle.std.proofs.Common.{◌≡◌, ◌≢◌, ◌↔◌, ◌⊎◌, inl, inr, ℕ, ◌+◌, ◌^◌, ◌<◌, List, [], ◌∷◌, ◌++◌, map, refl, sym, ap, subst, ◌∙◌, arith}
+use Rattle.std.proofs.Common.{◌≡◌, ◌≢◌, ◌↔◌, inl, inr, ℕ, ◌+◌, List, [], ◌∷◌, ◌++◌, refl, sym, ap, subst, ◌∙◌, arith}
 use Rattle.std.proofs.lemmas.List.{map-append}
 use Rattle.tree_build.specs.Rebuilding.{AreDifferent, IsAmong, digests_of, nodes_of}
 use Rattle.tree_build.specs.declared.rebuilt.NewNode.{NewNode}
 use Rattle.tree_node.specs.Digests.{digest}
 use Rattle.tree_node.specs.Shelves.{IsClashFree}
 use Rattle.tree_node.specs.declared.digest.Digest.{Digest}
-use Rattle.tree_node.specs.declared.tree.Tree.{Tree}
-use Rattle.osm_index.specs.Applying.{AreDigestsOfOnly, IsLast, IsSecond, edition_after}
-use Rattle.osm_index.specs.Manifests.{HasSequence, manifest, manifest_bytes, top_among}
-use Rattle.osm_index.specs.Publications.{IsNodeIn, IsPublicationOf, Publication, manifest_of, root_of, top_in, tree_in}
+use Rattle.osm_index.specs.Applying.{AreDigestsOfOnly, IsSecond, edition_after}
+use Rattle.osm_index.specs.Manifests.{HasSequence, manifest, top_among}
+use Rattle.osm_index.specs.Publications.{IsNodeIn, IsPublicationOf, Publication, manifest_of, root_of, top_in}
 use Rattle.osm_index.specs.declared.changed_trees.ChangedTrees.{ChangedTrees}
 use Rattle.osm_index.specs.declared.edition.Edition.{Edition}
 use Rattle.osm_index.specs.declared.edition.Edition.TheVariants as editions
-use Rattle.osm_index.specs.declared.plan.Plan.{Plan}
 use Rattle.osm_index.specs.internal.ChangedTrees.{AreChangedTrees}
-use Rattle.osm_index.specs.internal.Plans.{IsPlan}
 use Rattle.osm_index.specs.internal.Putting.{IsTreeNode}
 use Rattle.osm_index.proofs.ChangeTreeLemmas.{different_parts}
 use Rattle.osm_index.proofs.NodeChangeLemmas.{among_push}

@@ -1,5 +1,5 @@
 -- The objects that changes put, and the deletes of objects that are there.
-use Rattle.std.proofs.Common.{◌≡◌, ◌↔◌, inl, inr, false, List, [], ◌∷◌, ◌++◌, None, Some, refl, sym, ap, subst, ◌∙◌}
+use Rattle.std.proofs.Common.{◌≡◌, ◌↔◌, inl, inr, false, List, [], ◌∷◌, ◌++◌, None, Some, refl, ap, subst}
 use Rattle.std.specs.List.{AllByRecursion, Contains, IsDistinct, filter_map}
 use Rattle.std.specs.Ordering.{eq_by_cmp}
 use Rattle.std.proofs.lemmas.List.Elements.{Contains-append_cases}
@@ -8,7 +8,7 @@ use Rattle.osm_model.specs.Sets.{HasDistinctReferences, IsObjectSet, object_at}
 use Rattle.osm_model.specs.declared.reference.Ref.{Ref}
 use Rattle.opl_codec.specs.declared.change.Change.{Change}
 use Rattle.opl_codec.specs.declared.change.Change.TheVariants.{Put, Delete}
-use Rattle.osm_index.specs.Applying.{AreApart, DeleteThere, IsFirstMissing, names_of}
+use Rattle.osm_index.specs.Applying.{AreApart, DeleteThere, names_of}
 use Rattle.osm_index.specs.internal.Applying.{put_in}
 use Rattle.osm_index.proofs.shared.Members.{first_or_in_rest, from_map, here, in_map, in_rest, none}
 use Rattle.osm_index.proofs.shared.OneObject.{object_found, object_there}

@@ -11,11 +11,10 @@ use Rattle.osm_model.specs.declared.reference.Ref.{Ref}
 use Rattle.tree_build.specs.Changing.{Change, changed, one_or_none}
 use Rattle.tree_build.specs.internal.RisingChanges.{AreOwnAndRising, IsOwn}
 use Rattle.tree_build.specs.internal.Weaving.{IsIn}
-use Rattle.tree_build.proofs.ChangedLaw.{IsFree, IsPut, changed_holds}
+use Rattle.tree_build.proofs.ChangedLaw.{IsPut, changed_holds}
 use Rattle.tree_build.proofs.DifferChanges.{changed_rises}
 use Rattle.tree_build.proofs.WeaveLemmas.{above_low}
 use Rattle.tree_node.specs.Nodes.{AreRisingFrom}
-use Rattle.tree_node.specs.Order.{IsBelow}
 use Rattle.osm_index.specs.Keys.{ref_key}
 use Rattle.osm_index.specs.internal.ChangedTrees.{IsExchanged}
 use Rattle.osm_index.proofs.ExchangeLemmas.{own_and_rising, put_by, puts_by}

@@ -1,31 +1,29 @@
 -- What a snapshot holds, and what it becomes by changes.
-use Rattle.std.proofs.Common.{◌≡◌, ◌≢◌, ◌↔◌, ◌⊎◌, inl, inr, ℕ, ◌+◌, List, [], ◌∷◌, Option, Some, None, Result, Ok, Err, length, map, refl, sym, ap, subst, ◌∙◌}
+use Rattle.std.proofs.Common.{◌≡◌, ◌≢◌, inr, ℕ, List, [], ◌∷◌, Option, Some, None, Result, Ok, Err, length, map, refl, sym, ap, subst, ◌∙◌}
 use Rattle.std.specs.List.{Contains}
 use Rattle.std.specs.Prelude.{IfOk}
 use Rattle.std.proofs.lemmas.List.{length-map}
 use Rattle.opl_codec.specs.declared.change.Change.{Change}
 use Rattle.osm_model.specs.Elements.{Element}
-use Rattle.osm_model.specs.Sets.{IsObjectSet}
 use Rattle.tree_node.specs.Nodes.{AreRisingFrom, keys_of}
 use Rattle.tree_node.specs.Stocks.{HasNode}
 use Rattle.tree_node.specs.declared.digest.Digest.{Digest}
 use Rattle.tree_node.specs.declared.stock.Stock.{Stock}
 use Rattle.tree_node.specs.declared.tree.Tree.{Tree}
 use Rattle.tree_node.specs.declared.tree.Tree.TheVariants.{Objects}
-use Rattle.osm_index.specs.Applying.{AreApart, AreApplicable, IsApplied, IsLast, IsSecond, edition_after}
+use Rattle.osm_index.specs.Applying.{AreApplicable, IsApplied, IsLast, IsSecond, edition_after}
 use Rattle.osm_index.specs.Entries.{object_entry}
 use Rattle.osm_index.specs.Holdings.{AreHeld}
 use Rattle.osm_index.specs.Manifests.{HasSequence, top_among}
-use Rattle.osm_index.specs.Publications.{HasTooMany, IsNodeIn, IsPublication, IsPublicationOf, Publication, manifest_of, root_of}
+use Rattle.osm_index.specs.Publications.{HasTooMany, IsPublication, IsPublicationOf, Publication, manifest_of}
 use Rattle.osm_index.specs.declared.apply_fault.ApplyFault.{ApplyFault}
 use Rattle.osm_index.specs.declared.apply_fault.ApplyFault.TheVariants as faults
-use Rattle.osm_index.specs.declared.changed_trees.ChangedTrees.{ChangedTrees}
 use Rattle.osm_index.specs.declared.edition.Edition.{Edition}
 use Rattle.osm_index.specs.declared.exchange.Exchange.{Exchange}
 use Rattle.osm_index.specs.declared.manifest.Manifest.{Manifest}
 use Rattle.osm_index.specs.declared.plan.Plan.{Plan}
 use Rattle.osm_index.specs.internal.Applying.{IsExchangeOf, RefusesChanges}
-use Rattle.osm_index.specs.internal.ChangedTrees.{AreChangedTrees, AreHeldTrees, IsExchanged}
+use Rattle.osm_index.specs.internal.ChangedTrees.{AreHeldTrees, IsExchanged}
 use Rattle.osm_index.specs.internal.HeldTrees.{HoldsTree}
 use Rattle.osm_index.specs.internal.Plans.{IsPlan, PlansChanges, RefusesPlan}
 use Rattle.osm_index.proofs.AppliedLemmas.{applied, some_exchanged}

@@ -1,12 +1,10 @@
 -- The changes that are found one old entry after the other are those that turn the old entries into the new ones.
-use Rattle.std.proofs.Common.{◌≡◌, ◌≢◌, ◌↔◌, ◌⊎◌, inl, inr, ℕ, Bool, true, false, cond, List, [], ◌∷◌, ◌++◌, map, Option, Some, None, refl, sym, ap, subst, ◌∙◌}
-use Rattle.std.proofs.lemmas.Bool.{cases_Bool}
+use Rattle.std.proofs.Common.{◌≡◌, ◌⊎◌, inl, inr, ℕ, Bool, true, false, cond, List, [], ◌∷◌, ◌++◌, map, Option, Some, None, refl, sym, ap, subst, ◌∙◌}
 use Rattle.std.proofs.lemmas.Slice.Eq.{bytes_eq-Decides}
-use Rattle.std.specs.List.{AllByRecursion}
 use Rattle.std.specs.Prelude.{IfSome, bytes_eq}
 use Rattle.std.specs.declared.cmp.Ordering.{Ordering}
 use Rattle.std.specs.declared.cmp.Ordering.TheVariants.{Less, Equal, Greater}
-use Rattle.tree_build.specs.Changing.{Change, by_order, one_or_none}
+use Rattle.tree_build.specs.Changing.{Change, by_order}
 use Rattle.tree_build.specs.Rebuilding.{keys_of_changes}
 use Rattle.tree_build.specs.internal.Weaving.{IsIn}
 use Rattle.tree_build.proofs.WeaveLemmas.{above_low}

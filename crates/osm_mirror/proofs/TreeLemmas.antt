@@ -7,7 +7,7 @@ use Rattle.opl_codec.specs.LineReads.{no_memory}
 use Rattle.opl_codec.specs.declared.cause.OplCause.{OplCause}
 use Rattle.opl_codec.specs.declared.cause.OplCause.TheVariants as causes
 use Rattle.opl_codec.specs.declared.fault.LoadFault.{LoadFault}
-use Rattle.osm_index.specs.Publications.{HasTooMany, Publication}
+use Rattle.osm_index.specs.Publications.{HasTooMany, IsPublicationOf, Publication}
 use Rattle.osm_index.specs.declared.edition.Edition.{Edition}
 use Rattle.osm_index.specs.declared.fault.IndexFault.{IndexFault}
 use Rattle.osm_index.specs.declared.fault.IndexFault.TheVariants as indexes
@@ -102,3 +102,8 @@ pub whole_tree_root : (known : Option (List ℕ)) (edition : Edition) (p : Publi
 whole_tree_root known edition p line old new (Err fault) is same whole = tt
 whole_tree_root None edition p line old new (Ok done) is same whole = tt
 whole_tree_root (Some file) edition p line old new (Ok done) is same whole = (p, is, subst (λ (t : List ℕ). Appends old new t) same whole)
+
+-- a publication of the set that the file holds
+pub made_in : (known : Option (List ℕ)) (set : List Element) (edition : Edition) (p : Publication) → IfSome known (λ file. HoldsSet file set) → IsPublicationOf set edition p → IfSome known (λ file. IsPublicationIn file edition p)
+made_in None set edition p holds is = tt
+made_in (Some file) set edition p holds is = record { set = set; holds = holds; published = is }

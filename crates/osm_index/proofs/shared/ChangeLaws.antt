@@ -1,10 +1,10 @@
 -- Changes make one set of a set, and two snapshots of one set and edition hold the same nodes and the same root.
-use Rattle.std.proofs.Common.{◌≡◌, ◌≢◌, ◌↔◌, ◌⊎◌, inl, inr, ℕ, List, [], ◌∷◌, ◌++◌, map, None, refl, sym, ap, subst, ◌∙◌}
+use Rattle.std.proofs.Common.{◌≡◌, ◌↔◌, inl, inr, ℕ, List, ◌++◌, None, sym, ap, subst, ◌∙◌}
 use Rattle.std.specs.List.{Contains}
 use Rattle.std.proofs.lemmas.List.{map-append}
 use Rattle.std.proofs.lemmas.List.Elements.{Contains-append_cases, Contains-append_left, Contains-append_right}
 use Rattle.opl_codec.specs.declared.change.Change.{Change}
-use Rattle.opl_codec.specs.declared.change.Change.TheVariants.{Put, Delete}
+use Rattle.opl_codec.specs.declared.change.Change.TheVariants.{Put}
 use Rattle.osm_model.specs.Elements.{Element, reference}
 use Rattle.osm_model.specs.Sets.{IsObjectSet}
 use Rattle.osm_model.specs.declared.reference.Ref.{Ref}
@@ -24,7 +24,7 @@ use Rattle.osm_index.specs.Manifests.{manifest}
 use Rattle.osm_index.proofs.ItemLemmas.{from_list, in_list}
 use Rattle.osm_index.proofs.PutLemmas.{manifest_same}
 use Rattle.osm_index.proofs.SetLemmas.{key_at, set_rises}
-use Rattle.osm_index.proofs.shared.Members.{from_map, in_map}
+use Rattle.osm_index.proofs.shared.Members.{in_map}
 use Rattle.osm_index.proofs.shared.OnePublication.{same_entries, same_root}
 use Rattle.tree_node.specs.Digests.{digest}
 use Rattle.tree_node.specs.Trees.{top_of}

@@ -1,8 +1,4 @@
-use Rattle.std.proofs.Common.{sym, subst}
-use Rattle.std.specs.List.{Contains}
 use Rattle.std.proofs.lemmas.List.Sorted.{Contains-permutation, IsPermutation-sym}
-use Rattle.osm_model.specs.Elements.{Element}
-use Rattle.osm_model.specs.Sets.{HasDistinctReferences}
 use Rattle.osm_index.proofs.PutNames.{put_members, puts_apart}
 use Rattle.osm_index.proofs.changed_names.copies_of_put.Goals as goal
 

@@ -1,7 +1,7 @@
 use Rattle.std.proofs.Common.{◌≡◌, ◌+◌, ◌++◌, ◌∷◌, [], List, take, drop, arith, sym, ap, subst, ◌∙◌}
 use Rattle.std.proofs.lemmas.List.{take_more, take_all}
 use Rattle.opl_codec.specs.declared.change.Change.{Change}
-use Rattle.osm_index.specs.Applying.{DeleteThere, IsFirstMissing}
+use Rattle.osm_index.specs.Applying.{DeleteThere}
 use Rattle.osm_index.proofs.NameLemmas.{cut_here}
 use Rattle.osm_index.proofs.PutNames.{there_more}
 use Rattle.osm_index.proofs.changed_names.find_deleted.Goals as goal

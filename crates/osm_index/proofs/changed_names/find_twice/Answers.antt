@@ -1,10 +1,9 @@
 use Rattle.std.proofs.Common.{◌≡◌, ◌+◌, ◌++◌, ◌∷◌, [], List, take, rules, arith, sym, ap, subst, ◌∙◌}
 use Rattle.std.specs.List.{IsDistinct}
-use Rattle.std.specs.BTreeSet.{Updates, contains}
 use Rattle.std.proofs.lemmas.List.{take_all, take_more}
 use Rattle.opl_codec.specs.declared.change.Change.{Change}
 use Rattle.opl_codec.specs.internal.Loading.{HasJust}
-use Rattle.osm_index.specs.Applying.{AreApart, IsFirstTwice, name_of, names_of}
+use Rattle.osm_index.specs.Applying.{AreApart, names_of}
 use Rattle.osm_index.proofs.NameLemmas.{apart_more, first_twice, just_more_names}
 use Rattle.osm_index.proofs.changed_names.find_twice.Goals as goal
 

@@ -1,5 +1,5 @@
 use Rattle.std.proofs.Common.{sym}
-use Rattle.osm_index.proofs.PutNames.{found_there, none_there, put_there}
+use Rattle.osm_index.proofs.PutNames.{found_there, none_there}
 use Rattle.osm_index.proofs.changed_names.missing.Goals as goal
 
 pub returns-in-Some : goal.returns-in-Some

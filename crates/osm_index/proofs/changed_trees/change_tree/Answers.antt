@@ -1,4 +1,4 @@
-use Rattle.std.proofs.Common.{◌≡◌, ℕ, List, refl, sym, ap, subst}
+use Rattle.std.proofs.Common.{List, refl, sym, subst}
 use Rattle.std.proofs.Math.Logic.{∥∥₁_map}
 use Rattle.tree_build.specs.Rebuilding.{HoldsOldTree, changed_entries, changes_of}
 use Rattle.tree_build.specs.declared.change.EntryChange.{EntryChange}

@@ -1,15 +1,13 @@
-use Rattle.std.proofs.Common.{◌≡◌, ◌≤◌, ◌<◌, List, length, arith}
+use Rattle.std.proofs.Common.{◌≤◌, arith}
 use Rattle.std.proofs.Math.Bridge.{le_prop}
 use Rattle.std.proofs.Math.Logic.{∥∥₁_elim, ∥∥₁_map}
 use Rattle.std.proofs.lemmas.List.{length-map}
-use Rattle.tree_build.specs.Rebuilding.{changed_entries, changes_of}
+use Rattle.tree_build.specs.Rebuilding.{changes_of}
 use Rattle.tree_node.specs.NodeRefs.{binding_of, bindings_of}
-use Rattle.tree_node.specs.Nodes.{Binding}
 use Rattle.tree_node.specs.Stocks.{HasNode}
 use Rattle.tree_node.specs.declared.limits.TheConstants.{ENTRY_LIMIT}
-use Rattle.osm_index.specs.Entries.{AreEntriesOf}
 use Rattle.osm_index.specs.internal.EntryChanges.{TurnEntries}
-use Rattle.osm_index.proofs.ExchangeLemmas.{all_few, sorted_are, turned_are, turned_count, turned_few, turned_many}
+use Rattle.osm_index.proofs.ExchangeLemmas.{sorted_are, turned_are, turned_count, turned_few, turned_many}
 use Rattle.osm_index.proofs.changed_trees.tree_changes.Goals as goal
 
 pub entry_count-requires : goal.entry_count-requires

@@ -1,8 +1,6 @@
-use Rattle.std.proofs.Common.{◌≡◌, ℕ, List, [], true, refl, sym, subst}
+use Rattle.std.proofs.Common.{[], refl}
 use Rattle.std.proofs.Math.Logic.{∥∥₁_map}
-use Rattle.tree_node.specs.Nodes.{Binding}
 use Rattle.tree_node.specs.Stocks.{HasNode}
-use Rattle.tree_walk.specs.Ranges.{Range}
 use Rattle.tree_walk.specs.Walks.{IsEntryIn}
 use Rattle.osm_index.specs.Publications.{shape_in}
 use Rattle.osm_index.specs.Ranges.{under_all}

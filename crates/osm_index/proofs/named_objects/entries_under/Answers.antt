@@ -1,7 +1,6 @@
-use Rattle.std.proofs.Common.{◌≡◌, ℕ, List, FitsSigned, w64, false, refl, sym, subst, rules}
+use Rattle.std.proofs.Common.{ℕ, List, FitsSigned, w64, false, subst, rules}
 use Rattle.std.proofs.Math.Logic.{∥∥₁_map}
 use Rattle.tree_node.specs.NodeRefs.{bindings_of}
-use Rattle.tree_node.specs.Nodes.{Binding}
 use Rattle.tree_node.specs.Stocks.{HasNode}
 use Rattle.tree_node.specs.declared.tree.Tree.TheVariants.{Objects}
 use Rattle.tree_walk.specs.Choices.{AreThose}

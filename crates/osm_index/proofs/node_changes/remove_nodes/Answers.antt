@@ -1,4 +1,3 @@
-use Rattle.std.proofs.Common.{arith}
 use Rattle.tree_node.specs.Stocks.{HasNode}
 use Rattle.osm_index.proofs.NodeChangeLemmas.{removed_more}
 use Rattle.osm_index.proofs.node_changes.remove_nodes.Goals as goal

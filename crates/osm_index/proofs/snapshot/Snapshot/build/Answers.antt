@@ -1,5 +1,4 @@
-use Rattle.std.proofs.Common.{◌≡◌, ◌∙◌, ap, refl, Option, None, Some, subst}
-use Rattle.tree_node.specs.Digests.{digest}
+use Rattle.std.proofs.Common.{◌≡◌, ◌∙◌, refl, Option, None, Some, subst}
 use Rattle.tree_node.specs.Stocks.{HasNode}
 use Rattle.osm_index.specs.Publications.{manifest_of}
 use Rattle.osm_index.specs.internal.Putting.{EndedAll}

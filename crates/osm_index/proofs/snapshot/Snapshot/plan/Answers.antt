@@ -1,5 +1,5 @@
-use Rattle.std.proofs.Common.{◌≡◌, inl, inr, sym, ap, subst, ◌∙◌}
-use Rattle.std.proofs.Math.Logic.{∥∥₁_elim, ∥∥₁_map}
+use Rattle.std.proofs.Common.{inl, inr, sym, subst}
+use Rattle.std.proofs.Math.Logic.{∥∥₁_map}
 use Rattle.tree_node.specs.declared.tree.Tree.TheVariants.{Objects}
 use Rattle.osm_index.specs.internal.Plans.{RefusesPlan}
 use Rattle.osm_index.proofs.ChangeTreeLemmas.{refused_as}
