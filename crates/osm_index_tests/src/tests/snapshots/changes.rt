@@ -5,6 +5,7 @@ mod memory;
 mod random;
 mod refused;
 mod rows;
+mod thousands;
 
 use super::set_of;
 use crate::tests::snapshot_of;
