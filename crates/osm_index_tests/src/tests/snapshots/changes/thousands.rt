@@ -5,11 +5,11 @@ use osm_index::{Delta, Snapshot};
 use std::alloc::Global;
 use std::test::Fail;
 
-/// The snapshot of the nodes from 1 to 4,000.
+/// The snapshot of the nodes from 1 to 4,000, each of which takes memory of its own for its tag.
 fn four_thousand(alloc: Global) -> Result<Snapshot, Fail> {
     let mut text = String::new(alloc);
     for id in 1..4001_u16 {
-        let line = format!(in alloc; "n{id} x0 y0\n")?;
+        let line = format!(in alloc; "n{id} Ta=b x0 y0\n")?;
         text.push_str(line.as_str())?;
     }
     second(alloc, text.as_str(), 0)
