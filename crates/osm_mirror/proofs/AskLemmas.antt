@@ -85,6 +85,24 @@ outside_unproved (Some file) edition query refusal (Ok done) told only = λ text
 outside_unproved (Some file) edition query refusal (Err other) told only = λ text answer.
     subst (IsOutsideOrTrees answer.set edition) (sym (told ∙ ap fault_of_prove (only answer.statements answer.reads))) tt
 
+-- ---- an answer that isn't written
+
+-- where a writer fails, a device has failed
+pub explained_unwritten : (known left : Option (List ℕ)) (edition : Edition) (query : List ℕ) (result : Result (Unit {0}) CommandFault)
+    → IfErr result (λ fault. fault ≡ Device)
+    → IfSome known (λ file. IfErr result (Explains file left edition query))
+explained_unwritten None left edition query result device = tt
+explained_unwritten (Some file) left edition query (Ok done) device = tt
+explained_unwritten (Some file) left edition query (Err fault) device = subst (Explains file left edition query) (sym device) tt
+
+-- and that lies outside
+pub outside_unwritten : (known : Option (List ℕ)) (edition : Edition) (query : List ℕ) (result : Result (Unit {0}) CommandFault)
+    → IfErr result (λ fault. fault ≡ Device)
+    → IfSome known (λ file. (text : List ℕ) (answer : IsAnswer file query text) → IfErr result (IsOutsideOrTrees answer.set edition))
+outside_unwritten None edition query result device = tt
+outside_unwritten (Some file) edition query (Ok done) device = λ text answer. tt
+outside_unwritten (Some file) edition query (Err fault) device = λ text answer. subst (IsOutsideOrTrees answer.set edition) (sym device) tt
+
 -- ---- the answer
 
 -- what is proved over a publication of the file's set is the answer

@@ -1,7 +1,7 @@
 use Rattle.std.proofs.Common.{List, ℕ, Err, ap, sym, subst}
 use Rattle.osm_prove.specs.Proved.{IsProved}
 use Rattle.osm_mirror.specs.Ask.{ask_edition}
-use Rattle.osm_mirror.proofs.AskLemmas.{answer_is, explained_unmade, explained_unproved, outside_unmade, outside_unproved, trees_held}
+use Rattle.osm_mirror.proofs.AskLemmas.{answer_is, explained_unmade, explained_unproved, explained_unwritten, outside_unmade, outside_unproved, outside_unwritten, trees_held}
 use Rattle.osm_mirror.proofs.BegunLemmas.{begun_answer, whole_answer}
 use Rattle.osm_mirror.proofs.ask.ask.Goals as goal
 
@@ -50,3 +50,9 @@ returns-clause-begun g c =
     begun_answer known c.args.query.now c.deref-in-Yes.result.now text _ _
     (answer_is known ask_edition p c.args.query.now text _ of_file (c.in_ok-proved.ensures.proved p held).1)
     c.deref-in-Yes.ensures.value c.write_whole.ensures.begun
+
+pub returns-clause-only : goal.returns-clause-only
+returns-clause-only g c = outside_unwritten (g.R.Read.remaining c.args.input.now) ask_edition c.args.query.now c.write_whole.result c.write_whole.ensures.device
+
+pub returns-clause-refused : goal.returns-clause-refused
+returns-clause-refused g c = explained_unwritten (g.R.Read.remaining c.args.input.now) _ ask_edition c.args.query.now c.write_whole.result c.write_whole.ensures.device
