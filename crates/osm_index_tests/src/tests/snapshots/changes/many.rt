@@ -9,8 +9,8 @@ use std::test::Fail;
 
 /// A node: its id, its location and a tag by rule.
 fn append_node(alloc: Global, id: u64, text: &mut String) -> Result<(), Fail> {
-    let lon = id * 37 % 180;
-    let lat = id * 11 % 90;
+    let lon = id.wrapping_mul(37) % 180;
+    let lat = id.wrapping_mul(11) % 90;
     let value = id % 5;
     let line = format!(in alloc; "n{id} Tk={value} x{lon} y{lat}\n")?;
     text.push_str(line.as_str())?;
@@ -66,7 +66,12 @@ fn change_each(alloc: Global, first: u64, last: u64) -> Result<bool, Fail> {
             &change(alloc, id, !is_there)?,
         )??;
     }
-    is_built(alloc, &snapshot, set.as_str(), (last - first) * 2)
+    is_built(
+        alloc,
+        &snapshot,
+        set.as_str(),
+        last.wrapping_sub(first).wrapping_mul(2),
+    )
 }
 
 #[test]

@@ -17,13 +17,13 @@ impl Numbers {
             .state
             .wrapping_mul(6364136223846793005)
             .wrapping_add(1442695040888963407);
-        (self.state >> 33) % limit
+        (self.state >> 33).checked_rem(limit).unwrap_or(0)
     }
 }
 
 /// Appends the line of an object of this index: its kind and its id by the index, all else by the form.
 fn append_line(alloc: Global, index: u64, form: u64, text: &mut String) -> Result<(), Fail> {
-    let id = index / 3 * 7 % 50;
+    let id = (index / 3).wrapping_mul(7) % 50;
     let (a, b, c) = (form % 4, form / 4 % 5, form / 20 % 3);
     let line = match index % 3 {
         0 => format!(in alloc; "n{id} v{c} Tk{a}={b},m={c} x{a}.{b} y-{c}\n")?,
@@ -36,7 +36,7 @@ fn append_line(alloc: Global, index: u64, form: u64, text: &mut String) -> Resul
 
 /// Appends the line that deletes the object of this index.
 fn append_delete(alloc: Global, index: u64, text: &mut String) -> Result<(), Fail> {
-    let id = index / 3 * 7 % 50;
+    let id = (index / 3).wrapping_mul(7) % 50;
     let letter = match index % 3 {
         0 => "n",
         1 => "w",
