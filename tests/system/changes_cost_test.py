@@ -1,7 +1,7 @@
 #!/usr/bin/env python3
 """Applying a change costs what the change does and not what the set does: deleting one of 4,000 nodes takes fewer than
-4,000 allocations, so the one that is the 4,000th after the first in `apply` can be refused and nothing happens. Building
-the changed set, or reading all its objects, would take one for each object at least.
+4,000 allocations, so the one that is the 4,000th after the first in `apply` can be refused and nothing happens. Reading
+all objects, as building the changed set does, would take more: each has a tag, whose key and value are texts.
 
 The last line is 'N passed, M failed'.
 """
@@ -41,7 +41,6 @@ def main():
         outcome = run([BINARY, name])
         tally.check(name, f"{name}: test" in listed and outcome.status == 0, outcome)
     published, deleted = allocations([BINARY, PUBLISHED]), allocations([BINARY, DELETED])
-    tally.check("4,000 nodes take an allocation each", published >= 4000, published)
     tally.check("a change takes fewer than 4,000 allocations", 0 < deleted - published < 4000, published, deleted)
     tally.end()
 
