@@ -1,12 +1,14 @@
 -- Change files, and their faults.
 -- Source: this project.
-use Rattle.std.specs.Prelude.{◌≡◌, ◌⊎◌, ◌+◌, ◌^◌, ◌==◌, ◌∷◌, ℕ, List, Ok, if◌then◌else◌, suc, zero}
+use Rattle.std.specs.Prelude.{◌≡◌, ◌⊎◌, ◌+◌, ◌^◌, ◌==◌, ◌∷◌, ℕ, List, Ok, Option, Some, None, if◌then◌else◌, suc, zero}
 use Rattle.opl_codec.specs.Files.{HoldsChanges}
 use Rattle.opl_codec.specs.declared.cause.OplCause.{OplCause}
 use Rattle.opl_codec.specs.declared.cause.OplCause.TheVariants as causes
 use Rattle.opl_codec.specs.declared.change.Change.{Change}
 use Rattle.opl_codec.specs.declared.fault.LoadFault.{LoadFault}
 use Rattle.osm_index.specs.Publications.{Publication}
+use Rattle.osm_index.specs.Snapshots.{HoldsPublication}
+use Rattle.osm_index.specs.declared.snapshot.Snapshot.{Snapshot}
 use Rattle.osm_index.specs.declared.edition.Edition.{Edition}
 use Rattle.osm_index.specs.declared.edition.Edition.TheVariants as editions
 use Rattle.osm_desk.specs.Made.{IsMade}
@@ -32,6 +34,11 @@ abbrev pub asked_after : Edition → List ℕ → List ℕ
 asked_after editions.One before = before
 asked_after (editions.Two sequence) before = if sequence + 1 == 2 ^ 64 then before else (sequence + 1) ∷ before
 
+-- the sequence number after that of the edition; none where it is at its greatest, and in the first edition
+abbrev pub IsNext : Edition → Option ℕ → Type 0
+IsNext edition None = (before : List ℕ) → asked_after edition before ≡ before
+IsNext edition (Some next) = (before : List ℕ) → asked_after edition before ≡ next ∷ before
+
 -- ---- what is in force
 
 -- changes that a file holds make the one publication of the other
@@ -42,3 +49,7 @@ IsPublishedFrom p q = (file : List ℕ) × (changes : List Change) × HoldsChang
 abbrev pub IsReachedBy : ℕ → Publication → Publication → Type 0
 IsReachedBy zero p q = q ≡ p
 IsReachedBy (suc n) p q = IsReachedBy n p q ⊎ ((m : Publication) × IsReachedBy n p m × IsPublishedFrom m q)
+
+-- the snapshot holds what was in force, or what a change file makes of it
+abbrev pub HasPublished : Publication → Snapshot → Type 0
+HasPublished p snapshot = (q : Publication) × HoldsPublication snapshot q × ((q ≡ p) ⊎ IsPublishedFrom p q)

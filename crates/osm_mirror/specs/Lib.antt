@@ -1,4 +1,5 @@
 pub mod Ask
+pub mod ChangeFiles
 pub mod Editions
 pub mod Faults
 pub mod Files

@@ -1,5 +1,10 @@
 //! Publishing the next change file.
 
+ghost use Rattle.std.specs.Prelude.{◌≡◌, ◌∷◌, ◌⊎◌, IfSome, OnErr, OnOk, Option, Some, suc};
+ghost use Rattle.osm_index.specs.Publications.{Publication};
+ghost use Rattle.osm_index.specs.Snapshots.{HoldsPublication};
+ghost use Rattle.osm_mirror.specs.ChangeFiles.{HasPublished, IsNext, asked_after};
+
 use crate::changes_fault::ChangesFault;
 use crate::command_fault::CommandFault;
 use crate::drawer::Drawer;
@@ -17,7 +22,12 @@ pub(crate) fn publish_next<D: Drawer, E: Write>(
     desk: &mut Desk,
     drawer: &mut D,
     errors: &mut E,
-) {
+)
+    ensures asked { IfSome (D.asked drawer.old) (λ before. D.asked drawer.new ≡ Some (asked_after desk.old.snapshot.edition before)) }
+    // What is in force is as before, or what changes that a file holds make of it.
+    ensures in_force { (p : Publication) → HoldsPublication desk.old.snapshot p → HasPublished p desk.new.snapshot }
+    ensures connections { desk.new.connections ≡ desk.old.connections }
+{
     let Some(sequence) = next_sequence(desk.snapshot().edition()) else {
         return;
     };
@@ -33,7 +43,11 @@ fn publish_file<D: Drawer>(
     desk: &mut Desk,
     drawer: &mut D,
     sequence: u64,
-) -> Result<(), ChangesFault> {
+) -> Result<(), ChangesFault>
+    ensures asked { IfSome (D.asked drawer.old) (λ before. D.asked drawer.new ≡ Some (sequence ∷ before)) }
+    ensures in_force { (p : Publication) → HoldsPublication desk.old.snapshot p → HasPublished p desk.new.snapshot }
+    ensures connections { desk.new.connections ≡ desk.old.connections }
+{
     let mut file = match drawer.change_file(sequence) {
         Ok(Some(file)) => file,
         Ok(None) => return Ok(()),
@@ -50,7 +64,9 @@ fn publish_file<D: Drawer>(
 }
 
 /// The sequence number after that of the edition; none where it is at its greatest.
-fn next_sequence(edition: Edition) -> Option<u64> {
+fn next_sequence(edition: Edition) -> Option<u64>
+    ensures { IsNext edition result }
+{
     match edition {
         Edition::One => None,
         Edition::Two { sequence } => sequence.checked_add(1),

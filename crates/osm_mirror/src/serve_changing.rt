@@ -1,6 +1,10 @@
 //! The command `serve` in the second edition, with or without `--changes DIR`.
 
-ghost use Rattle.std.specs.Prelude.{◌≡◌, ◌⊎◌, ◌+◌, ◌<◌, ℕ, IfErr, IfSome, OnErr, OnOk, Some};
+ghost use Rattle.std.specs.FinMap.{empty};
+ghost use Rattle.std.specs.Prelude.{◌≡◌, ◌⊎◌, ◌++◌, ◌+◌, ◌<◌, ◌≤◌, ℕ, IfErr, IfSome, List, OnErr, OnOk, Some, length};
+ghost use Rattle.osm_index.specs.Publications.{Publication};
+ghost use Rattle.osm_index.specs.Snapshots.{HoldsPublication};
+ghost use Rattle.osm_mirror.specs.ChangeFiles.{IsReachedBy};
 
 use crate::command_fault::CommandFault;
 use crate::door::Door;
@@ -27,11 +31,20 @@ pub fn serve_changing<D: Door, R: Drawer, E: Write>(
     connections: u32,
     errors: &mut E,
 ) -> Result<(), CommandFault>
+    requires { desk.old.connections ≡ empty }
     // So many connections were taken,
     ensures all { OnOk result (IfSome (D.given door.old) (λ n. D.given door.new ≡ Some (n + connections))) }
     // and fewer where the door fails.
     ensures fewer { OnErr result (IfSome (D.given door.old) (λ n. (k : ℕ) × (k < connections) × (D.given door.new ≡ Some (n + k)))) }
     ensures outside { IfErr result (λ fault. (fault ≡ CommandFault.Memory) ⊎ (fault ≡ CommandFault.Device)) }
+    // What is in force has been made of what was by one change file after the other, at most one a connection.
+    ensures reached { (p : Publication) → HoldsPublication desk.old.snapshot p
+        → (q : Publication) × HoldsPublication desk.new.snapshot q × IsReachedBy connections p q }
+    // The drawer was asked at most once a connection.
+    ensures asked { IfSome (R.asked drawer.old) (λ before. (more : List ℕ)
+        × (R.asked drawer.new ≡ Some (more ++ before)) × (length more ≤ connections)) }
+    // No connection is open.
+    ensures none_open { desk.new.connections ≡ empty }
 {
     let mut taken = 0;
     while taken < connections {
