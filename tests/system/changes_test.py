@@ -3,6 +3,7 @@ allocations, and a soak: 100,000 requests while 1,000 change files come, each an
 
 import os
 import random
+import shutil
 import tempfile
 from concurrent.futures import ThreadPoolExecutor
 from contextlib import contextmanager
@@ -89,6 +90,28 @@ def check_files(tally):
             outcome = running.ended()
             want = Outcome(b"", b"".join(lines) + b"I2 n99\n", 0)
             tally.check("refused files are told", outcome == want, outcome)
+
+
+def check_osmium(tally):
+    """A change file as `osmium derive-changes` (1.15) writes it of two extracts: the root is that of the newer one."""
+    old = b"n1 v1 dV Thighway=crossing x13.4 y52.5\nn2 v1 dV x13.4000001 y52.5\nn3 v1 dV x1 y1\n"
+    new = b"n1 v2 dV Thighway=bus_stop x13.4 y52.5\nn2 v1 dV x13.4000001 y52.5\nn4 v1 dV x2 y2\n"
+    written = (
+        b"n1 v2 dV c0 t i0 u Thighway=bus_stop x13.4 y52.5\nn3 v1 dD c0 t i0 u T x y\nn4 v1 dV c0 t i0 u T x2 y2\n"
+    )
+    with folders() as (changes, ready):
+        for name, text in (("old.opl", old), ("new.opl", new)):
+            (ready / name).write_bytes(text)
+        if shutil.which("osmium") is not None:
+            words = ["osmium", "derive-changes", ready / "old.opl", ready / "new.opl", "-f", "opl", "-o", ready / "is.opl"]
+            outcome = run(words)
+            is_written = (ready / "is.opl").read_bytes() if outcome.status == 0 else outcome
+            tally.check("osmium writes it", is_written == written, is_written)
+        (changes / "1.opl").write_bytes(written)
+        with server(ready / "old.opl", "--connections", 1, "--changes", changes) as running:
+            tally.check("osmium's changes", root_at(running) == published(ready / "new.opl", 1))
+            outcome = running.ended()
+            tally.check("osmium's changes are taken", outcome == Outcome(b"", b"", 0), outcome)
 
 
 def check_words(tally):
@@ -229,6 +252,7 @@ def main():
     built_library()
     check_words(tally)
     check_files(tally)
+    check_osmium(tally)
     check_allocations(tally)
     check_soak(tally)
     tally.end()

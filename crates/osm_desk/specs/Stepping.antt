@@ -62,9 +62,9 @@ IsRefusal d event NoRoom = RefusesStep d event NoRoom
 IsRefusal d event (Refused fault) = RefusesStep d event (Refused fault)
 IsRefusal d event Memory = MayRunOut d event
 
--- only a publication changes the snapshot
-abbrev pub LeavesSnapshot : Event → Snapshot → Snapshot → Type 0
-LeavesSnapshot (Open n) old new = new ≡ old
-LeavesSnapshot (Arrive n piece) old new = new ≡ old
-LeavesSnapshot (End n) old new = new ≡ old
-LeavesSnapshot (Publish changes) old new = ⊤
+-- only a publication changes the snapshot, and it leaves the connections
+abbrev pub LeavesTheRest : Event → Contents → Contents → Type 0
+LeavesTheRest (Open n) old new = new.snapshot ≡ old.snapshot
+LeavesTheRest (Arrive n piece) old new = new.snapshot ≡ old.snapshot
+LeavesTheRest (End n) old new = new.snapshot ≡ old.snapshot
+LeavesTheRest (Publish changes) old new = new.connections ≡ old.connections

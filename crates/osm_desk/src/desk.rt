@@ -8,7 +8,7 @@ ghost use Rattle.osm_index.specs.Publications.{Publication};
 ghost use Rattle.osm_index.specs.Snapshots.{HoldsPublication, IsAsBefore};
 ghost use Rattle.osm_desk.specs.Contents.{desk_over, fresh_contents};
 ghost use Rattle.osm_desk.specs.Made.{IsMade};
-ghost use Rattle.osm_desk.specs.Stepping.{HasStepped, IsRefusal, LeavesSnapshot, texts_of};
+ghost use Rattle.osm_desk.specs.Stepping.{HasStepped, IsRefusal, LeavesTheRest, texts_of};
 ghost use Rattle.osm_desk.specs.internal.Serving.{HasArrived, IsFree, RefusesChanges, RefusesOpening, RefusesPiece, rest_of, with_rest, without};
 
 use crate::desk_fault::DeskFault;
@@ -85,8 +85,8 @@ impl Desk {
         ensures refused { (p : Publication) → HoldsPublication self.old.snapshot p → IfErr result (IsRefusal (desk_over self.old p) event) }
         // A refusal changes nothing,
         ensures unchanged { OnErr result ((self.new.connections ≡ self.old.connections) × IsAsBefore self.old.snapshot self.new.snapshot) }
-        // and only changes that are published change the snapshot.
-        ensures snapshot { LeavesSnapshot event self.old.snapshot self.new.snapshot }
+        // and only changes that are published change the snapshot, and nothing else.
+        ensures rest { LeavesTheRest event self.old self.new }
     {
         match event {
             Event::Open(number) => self.open(number)?,

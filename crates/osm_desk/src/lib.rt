@@ -10,6 +10,7 @@ mod desk_fault;
 mod event;
 mod laws;
 mod limits;
+mod serving;
 
 pub use desk::Desk;
 pub use desk_fault::DeskFault;

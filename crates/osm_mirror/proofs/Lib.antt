@@ -1,4 +1,5 @@
 pub mod AskLemmas
 pub mod BegunLemmas
+pub mod ChangeLemmas
 pub mod FileLemmas
 pub mod TreeLemmas

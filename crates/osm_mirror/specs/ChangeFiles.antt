@@ -9,22 +9,36 @@ use Rattle.opl_codec.specs.declared.fault.LoadFault.{LoadFault}
 use Rattle.osm_index.specs.Publications.{Publication}
 use Rattle.osm_index.specs.Snapshots.{HoldsPublication}
 use Rattle.osm_index.specs.declared.snapshot.Snapshot.{Snapshot}
+use Rattle.osm_index.specs.declared.apply_fault.ApplyFault.{ApplyFault}
+use Rattle.osm_index.specs.declared.apply_fault.ApplyFault.TheVariants as refusals
 use Rattle.osm_index.specs.declared.edition.Edition.{Edition}
 use Rattle.osm_index.specs.declared.edition.Edition.TheVariants as editions
 use Rattle.osm_desk.specs.Made.{IsMade}
 use Rattle.osm_mirror.specs.declared.changes_fault.ChangesFault.{ChangesFault}
-use Rattle.osm_mirror.specs.declared.changes_fault.ChangesFault.TheVariants.{Opl, Memory, Device}
+use Rattle.osm_mirror.specs.declared.changes_fault.ChangesFault.TheVariants.{Apply, Opl, Memory, Device}
+use Rattle.osm_mirror.specs.declared.command_fault.CommandFault.{CommandFault}
+use Rattle.osm_mirror.specs.declared.command_fault.CommandFault.TheVariants as commands
 
 -- ---- faults
 
 -- what a file that isn't read is to a site: a failed reader is a device
-abbrev pub changes_fault_of_cause : LoadFault → OplCause → ChangesFault
-changes_fault_of_cause load causes.ReaderFailed = Device
-changes_fault_of_cause load causes.Memory = Memory
-changes_fault_of_cause load _ = Opl load
+abbrev pub fault_of_cause : LoadFault → OplCause → ChangesFault
+fault_of_cause load causes.ReaderFailed = Device
+fault_of_cause load causes.Memory = Memory
+fault_of_cause load _ = Opl load
 
-abbrev pub changes_fault_of_load : LoadFault → ChangesFault
-changes_fault_of_load load = changes_fault_of_cause load load.fault.cause
+abbrev pub fault_of_reading : LoadFault → ChangesFault
+fault_of_reading load = fault_of_cause load load.fault.cause
+
+-- what changes that can't be made are to a site
+abbrev pub fault_of_apply : ApplyFault → ChangesFault
+fault_of_apply refusals.Memory = Memory
+fault_of_apply refused = Apply refused
+
+-- what a drawer that gives no file is to a site
+abbrev pub fault_of_drawer : CommandFault → ChangesFault
+fault_of_drawer commands.Memory = Memory
+fault_of_drawer refused = Device
 
 -- ---- what is asked for
 

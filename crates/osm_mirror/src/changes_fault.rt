@@ -1,8 +1,9 @@
 //! Why a change file isn't published.
 
 ghost use Rattle.std.specs.Prelude.{◌≡◌};
-ghost use Rattle.osm_mirror.specs.ChangeFiles.{changes_fault_of_load};
+ghost use Rattle.osm_mirror.specs.ChangeFiles.{fault_of_apply, fault_of_drawer, fault_of_reading};
 
+use crate::command_fault::CommandFault;
 use opl_codec::{LoadFault, OplCause};
 use osm_index::ApplyFault;
 use thiserror::Error;
@@ -25,7 +26,7 @@ pub enum ChangesFault {
 }
 
 impl From<LoadFault> for ChangesFault {
-    ghost from_gives = { λ load fault. fault ≡ changes_fault_of_load load };
+    ghost from_gives = { λ load fault. fault ≡ fault_of_reading load };
 
     /// A reader that failed is a device, and out of memory stays out of memory; else the file is refused.
     fn from(load: LoadFault) -> ChangesFault {
@@ -33,6 +34,29 @@ impl From<LoadFault> for ChangesFault {
             OplCause::ReaderFailed => ChangesFault::Device,
             OplCause::Memory => ChangesFault::Memory,
             _ => ChangesFault::Opl(load),
+        }
+    }
+}
+
+impl From<ApplyFault> for ChangesFault {
+    ghost from_gives = { λ refused fault. fault ≡ fault_of_apply refused };
+
+    fn from(refused: ApplyFault) -> ChangesFault {
+        match refused {
+            ApplyFault::Memory => ChangesFault::Memory,
+            _ => ChangesFault::Apply(refused),
+        }
+    }
+}
+
+impl From<CommandFault> for ChangesFault {
+    ghost from_gives = { λ refused fault. fault ≡ fault_of_drawer refused };
+
+    /// What refuses a drawer is out of memory, or a device.
+    fn from(refused: CommandFault) -> ChangesFault {
+        match refused {
+            CommandFault::Memory => ChangesFault::Memory,
+            _ => ChangesFault::Device,
         }
     }
 }

@@ -1,15 +1,14 @@
 //! Publishing the next change file.
 
-ghost use Rattle.std.specs.Prelude.{◌≡◌, ◌∷◌, ◌⊎◌, IfSome, OnErr, OnOk, Option, Some, suc};
+ghost use Rattle.std.specs.Prelude.{◌≡◌, ◌∷◌, IfSome, Some};
 ghost use Rattle.osm_index.specs.Publications.{Publication};
 ghost use Rattle.osm_index.specs.Snapshots.{HoldsPublication};
 ghost use Rattle.osm_mirror.specs.ChangeFiles.{HasPublished, IsNext, asked_after};
 
 use crate::changes_fault::ChangesFault;
-use crate::command_fault::CommandFault;
 use crate::drawer::Drawer;
 use opl_codec::read_changes;
-use osm_desk::{Desk, DeskFault, Event};
+use osm_desk::Desk;
 use osm_index::Edition;
 use std::alloc::Global;
 use std::io::Write;
@@ -48,19 +47,12 @@ fn publish_file<D: Drawer>(
     ensures in_force { (p : Publication) → HoldsPublication desk.old.snapshot p → HasPublished p desk.new.snapshot }
     ensures connections { desk.new.connections ≡ desk.old.connections }
 {
-    let mut file = match drawer.change_file(sequence) {
-        Ok(Some(file)) => file,
-        Ok(None) => return Ok(()),
-        Err(CommandFault::Memory) => return Err(ChangesFault::Memory),
-        Err(_) => return Err(ChangesFault::Device),
+    let Some(mut file) = drawer.change_file(sequence)? else {
+        return Ok(());
     };
     let changes = read_changes(alloc, &mut file)?;
-    match desk.step(Event::Publish(changes)) {
-        Ok(_) => Ok(()),
-        Err(DeskFault::Refused(fault)) => Err(ChangesFault::Apply(fault)),
-        Err(DeskFault::Memory) => Err(ChangesFault::Memory),
-        Err(_) => unreachable!("a publication opens and ends no connection"),
-    }
+    desk.publish(&changes)?;
+    Ok(())
 }
 
 /// The sequence number after that of the edition; none where it is at its greatest.
