@@ -94,11 +94,11 @@ def check_files(tally):
 
 def check_osmium(tally):
     """A change file as `osmium derive-changes` (1.15) writes it of two extracts: the root is that of the newer one."""
-    old = b"n1 v1 dV Thighway=crossing x13.4 y52.5\nn2 v1 dV x13.4000001 y52.5\nn3 v1 dV x1 y1\n"
-    new = b"n1 v2 dV Thighway=bus_stop x13.4 y52.5\nn2 v1 dV x13.4000001 y52.5\nn4 v1 dV x2 y2\n"
-    written = (
-        b"n1 v2 dV c0 t i0 u Thighway=bus_stop x13.4 y52.5\nn3 v1 dD c0 t i0 u T x y\nn4 v1 dV c0 t i0 u T x2 y2\n"
-    )
+    moved, kept = b"n1 v2 dV c0 t i0 u Thighway=bus_stop x13.4 y52.5\n", b"n2 v1 dV c0 t i0 u T x13.4000001 y52.5\n"
+    came = b"n4 v1 dV c0 t i0 u T x2 y2\n"
+    old = b"n1 v1 dV c0 t i0 u Thighway=crossing x13.4 y52.5\n" + kept + b"n3 v1 dV c0 t i0 u T x1 y1\n"
+    new = moved + kept + came
+    written = moved + b"n3 v1 dD c0 t i0 u T x y\n" + came
     with folders() as (changes, ready):
         for name, text in (("old.opl", old), ("new.opl", new)):
             (ready / name).write_bytes(text)
