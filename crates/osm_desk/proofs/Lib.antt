@@ -4,3 +4,5 @@ pub mod RunLemmas
 pub mod RefusalLemmas
 pub mod MadeLemmas
 pub mod TableLemmas
+pub mod StepLemmas
+pub mod PublishLemmas

@@ -16,7 +16,7 @@ use crate::event::Event;
 use crate::limits::CONNECTION_LIMIT;
 use opl_codec::Change;
 use osm_gate::Gate;
-use osm_index::{ApplyFault, Snapshot};
+use osm_index::Snapshot;
 use std::alloc::{AllocError, Global};
 use std::collections::BTreeMap;
 use std::marker::Model;
@@ -191,10 +191,7 @@ impl Desk {
         ensures connections { self.new.connections ≡ self.old.connections }
         ensures unchanged { OnErr result (IsAsBefore self.old.snapshot self.new.snapshot) }
     {
-        match self.snapshot.apply(self.alloc, changes) {
-            Ok(_delta) => Ok(()),
-            Err(ApplyFault::Memory) => Err(DeskFault::Memory),
-            Err(fault) => Err(DeskFault::Refused(fault)),
-        }
+        self.snapshot.apply(self.alloc, changes)?;
+        Ok(())
     }
 }
