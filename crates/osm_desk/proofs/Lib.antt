@@ -6,3 +6,5 @@ pub mod MadeLemmas
 pub mod TableLemmas
 pub mod StepLemmas
 pub mod PublishLemmas
+pub mod ServingLemmas
+pub mod TestLemmas

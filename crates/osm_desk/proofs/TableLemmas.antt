@@ -5,13 +5,13 @@ use Rattle.std.specs.BTreeMap.{BTreeMap}
 use Rattle.std.specs.FinMap.{from_entries, get, insert, len, remove}
 use Rattle.std.specs.Ordering.{nat_cmp}
 use Rattle.std.specs.Prelude.{Some, None, Result, Ok, Err, IfOk, OnErr, OnOk}
-use Rattle.osm_gate.specs.Connections.{Rest, heard_next}
+use Rattle.osm_gate.specs.Connections.{Rest, closed_rest, heard_next}
 use Rattle.osm_index.specs.Publications.{Publication}
 use Rattle.osm_index.specs.Snapshots.{HoldsPublication}
 use Rattle.osm_index.specs.declared.snapshot.Snapshot.{Snapshot}
 use Rattle.osm_desk.specs.Contents.{Contents}
 use Rattle.osm_desk.specs.internal.Serving.{rest_if, rest_of, with_rest, without}
-use Rattle.osm_desk.proofs.MapLemmas.{get-view, len-view, view-insert, view-kept, view-remove}
+use Rattle.osm_desk.proofs.MapLemmas.{get-put_same, get-view, len-view, removed-put, view-insert, view-kept, view-remove}
 
 abbrev pub view_of : Snapshot → BTreeMap ℕ Rest → Contents
 view_of snapshot m = record { snapshot = snapshot; connections = from_entries m.entries }
@@ -38,9 +38,22 @@ module _ (d : Contents) (snapshot : Snapshot) (m : BTreeMap ℕ Rest) (is : view
     pub rest_is : rest_of d n ≡ r
     rest_is = ap rest_if (found ∙ some)
 
+    put_in : view_of snapshot m' ≡ with_rest d n r'
+    put_in = put r' m' (written.3 (rw some refl))
+
+    pub others_in : without (view_of snapshot m') n ≡ without d n
+    others_in = ap (λ (d : Contents). without d n) put_in ∙ ap (λ c. let d : Contents = record { snapshot = d.snapshot; connections = c } in d) (removed-put d.connections n r')
+
+    pub left_in : (piece : List ℕ) → r' ≡ (heard_next r piece).rest → rest_of (view_of snapshot m') n ≡ (heard_next (rest_of d n) piece).rest
+    left_in piece next =
+        ap (λ (d : Contents). rest_of d n) put_in
+        ∙ ap rest_if (get-put_same d.connections n r')
+        ∙ next
+        ∙ ap (λ (r : Rest). (heard_next r piece).rest) (sym rest_is)
+
     pub heard_in : (piece : List ℕ) → r' ≡ (heard_next r piece).rest → view_of snapshot m' ≡ with_rest d n (heard_next (rest_of d n) piece).rest
     heard_in piece next =
-        put r' m' (written.3 (rw some refl))
+        put_in
         ∙ ap (with_rest d n) (next ∙ ap (λ (r : Rest). (heard_next r piece).rest) (sym rest_is))
 
     pub kept_in : r' ≡ r → view_of snapshot m' ≡ d
@@ -48,6 +61,12 @@ module _ (d : Contents) (snapshot : Snapshot) (m : BTreeMap ℕ Rest) (is : view
         ap (λ c. let d : Contents = record { snapshot = snapshot; connections = c } in d)
         (view-kept m m' n r some (subst (λ r. tree.WritesThrough nat_cmp (nat_cmp n) m r m') same written))
         ∙ is
+
+-- a connection that isn't open takes nothing
+pub closed_rest_in : (d : Contents) (n : ℕ) (piece : List ℕ) → get d.connections n ≡ None → rest_of d n ≡ (heard_next (rest_of d n) piece).rest
+closed_rest_in d n piece none =
+    let is : rest_of d n ≡ closed_rest = ap rest_if none in
+    is ∙ ap (λ (r : Rest). (heard_next r piece).rest) (sym is)
 
 pub held_inside : (d : Contents) (snapshot : Snapshot) (m : BTreeMap ℕ Rest) (p : Publication) → view_of snapshot m ≡ d → HoldsPublication d.snapshot p → HoldsPublication snapshot p
 held_inside d snapshot m p is holds = subst (λ (s : Snapshot). HoldsPublication s p) (sym (ap (λ (d : Contents). d.snapshot) is)) holds
