@@ -4,3 +4,7 @@ pub mod RunLemmas
 pub mod RefusalLemmas
 pub mod MadeLemmas
 pub mod TableLemmas
+pub mod StepLemmas
+pub mod PublishLemmas
+pub mod ServingLemmas
+pub mod TestLemmas

@@ -1,15 +1,17 @@
 -- The code's table of gates, as the map of what is left of each connection.
-use Rattle.std.proofs.Common.{◌≡◌, ◌∙◌, ◌<◌, ◌≤◌, ℕ, true, false, ap, sym, refl, length}
+use Rattle.std.proofs.Common.{◌≡◌, ◌∙◌, ℕ, List, ap, sym, refl, length, subst}
 use Rattle.std.specs.BTreeMap as tree
 use Rattle.std.specs.BTreeMap.{BTreeMap}
 use Rattle.std.specs.FinMap.{from_entries, get, insert, len, remove}
 use Rattle.std.specs.Ordering.{nat_cmp}
-use Rattle.std.specs.Prelude.{Option, Some, None, is_some}
-use Rattle.osm_gate.specs.Connections.{Rest}
+use Rattle.std.specs.Prelude.{Some, None, Result, Ok, Err, IfOk, OnErr, OnOk}
+use Rattle.osm_gate.specs.Connections.{Rest, closed_rest, heard_next}
+use Rattle.osm_index.specs.Publications.{Publication}
+use Rattle.osm_index.specs.Snapshots.{HoldsPublication}
 use Rattle.osm_index.specs.declared.snapshot.Snapshot.{Snapshot}
 use Rattle.osm_desk.specs.Contents.{Contents}
-use Rattle.osm_desk.specs.internal.Serving.{with_rest, without}
-use Rattle.osm_desk.proofs.MapLemmas.{get-view, len-view, view-insert, view-remove}
+use Rattle.osm_desk.specs.internal.Serving.{rest_if, rest_of, with_rest, without}
+use Rattle.osm_desk.proofs.MapLemmas.{get-put_same, get-view, len-view, removed-put, view-insert, view-kept, view-remove}
 
 abbrev pub view_of : Snapshot → BTreeMap ℕ Rest → Contents
 view_of snapshot m = record { snapshot = snapshot; connections = from_entries m.entries }
@@ -30,3 +32,49 @@ module _ (d : Contents) (snapshot : Snapshot) (m : BTreeMap ℕ Rest) (is : view
   taken m' u =
       ap (λ c. let d : Contents = record { snapshot = snapshot; connections = c } in d) (view-remove m m' n u)
       ∙ ap (λ (d : Contents). without d n) is
+
+  -- a piece was taken, or not
+  module _ (r r' : Rest) (m' : BTreeMap ℕ Rest) (some : tree.get_by (nat_cmp n) m ≡ Some r) (written : tree.WritesThrough nat_cmp (nat_cmp n) m r' m') where
+    pub rest_is : rest_of d n ≡ r
+    rest_is = ap rest_if (found ∙ some)
+
+    put_in : view_of snapshot m' ≡ with_rest d n r'
+    put_in = put r' m' (written.3 (rw some refl))
+
+    pub others_in : without (view_of snapshot m') n ≡ without d n
+    others_in = ap (λ (d : Contents). without d n) put_in ∙ ap (λ c. let d : Contents = record { snapshot = d.snapshot; connections = c } in d) (removed-put d.connections n r')
+
+    pub left_in : (piece : List ℕ) → r' ≡ (heard_next r piece).rest → rest_of (view_of snapshot m') n ≡ (heard_next (rest_of d n) piece).rest
+    left_in piece next =
+        ap (λ (d : Contents). rest_of d n) put_in
+        ∙ ap rest_if (get-put_same d.connections n r')
+        ∙ next
+        ∙ ap (λ (r : Rest). (heard_next r piece).rest) (sym rest_is)
+
+    pub heard_in : (piece : List ℕ) → r' ≡ (heard_next r piece).rest → view_of snapshot m' ≡ with_rest d n (heard_next (rest_of d n) piece).rest
+    heard_in piece next =
+        put_in
+        ∙ ap (with_rest d n) (next ∙ ap (λ (r : Rest). (heard_next r piece).rest) (sym rest_is))
+
+    pub kept_in : r' ≡ r → view_of snapshot m' ≡ d
+    kept_in same =
+        ap (λ c. let d : Contents = record { snapshot = snapshot; connections = c } in d)
+        (view-kept m m' n r some (subst (λ r. tree.WritesThrough nat_cmp (nat_cmp n) m r m') same written))
+        ∙ is
+
+-- a connection that isn't open takes nothing
+pub closed_rest_in : (d : Contents) (n : ℕ) (piece : List ℕ) → get d.connections n ≡ None → rest_of d n ≡ (heard_next (rest_of d n) piece).rest
+closed_rest_in d n piece none =
+    let is : rest_of d n ≡ closed_rest = ap rest_if none in
+    is ∙ ap (λ (r : Rest). (heard_next r piece).rest) (sym is)
+
+pub held_inside : (d : Contents) (snapshot : Snapshot) (m : BTreeMap ℕ Rest) (p : Publication) → view_of snapshot m ≡ d → HoldsPublication d.snapshot p → HoldsPublication snapshot p
+held_inside d snapshot m p is holds = subst (λ (s : Snapshot). HoldsPublication s p) (sym (ap (λ (d : Contents). d.snapshot) is)) holds
+
+pub on_ok : {A E : Type 0} {P Q : Type 0} (result : Result A E) → IfOk result (λ _. P) → (P → Q) → OnOk result Q
+on_ok (Ok value) is then = then is
+on_ok (Err error) is then = tt
+
+pub on_err : {A E : Type 0} {P Q : Type 0} (result : Result A E) → OnErr result P → (P → Q) → OnErr result Q
+on_err (Ok value) is then = tt
+on_err (Err error) is then = then is

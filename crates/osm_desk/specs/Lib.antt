@@ -1,5 +1,6 @@
 pub mod Contents
 pub mod Desks
+pub mod Faults
 pub mod Happenings
 pub mod Made
 pub mod Runs

@@ -1,11 +1,10 @@
 -- What a step of the code may answer.
 -- Source: this project.
 use Rattle.std.specs.Global.{Vec}
-use Rattle.std.specs.Prelude.{◌≡◌, ℕ, List, [], ◌∷◌, map, Result, Ok, Err, IsOk, ⊤}
+use Rattle.std.specs.Prelude.{◌≡◌, ℕ, List, [], ◌∷◌, map, Result, Ok, Err, IsOk}
 use Rattle.osm_gate.specs.Connections.{Responds}
 use Rattle.osm_index.specs.Applying.{IsLast}
 use Rattle.osm_index.specs.Publications.{Publication}
-use Rattle.osm_index.specs.declared.snapshot.Snapshot.{Snapshot}
 use Rattle.osm_desk.specs.Contents.{Contents, StandsFor}
 use Rattle.osm_desk.specs.Desks.{Desk, Told, step}
 use Rattle.osm_desk.specs.Happenings.{Happening, arrived, ended, opened, published}
@@ -62,9 +61,9 @@ IsRefusal d event NoRoom = RefusesStep d event NoRoom
 IsRefusal d event (Refused fault) = RefusesStep d event (Refused fault)
 IsRefusal d event Memory = MayRunOut d event
 
--- only a publication changes the snapshot, and it leaves the connections
-abbrev pub LeavesTheRest : Event → Contents → Contents → Type 0
-LeavesTheRest (Open n) old new = new.snapshot ≡ old.snapshot
-LeavesTheRest (Arrive n piece) old new = new.snapshot ≡ old.snapshot
-LeavesTheRest (End n) old new = new.snapshot ≡ old.snapshot
-LeavesTheRest (Publish changes) old new = new.connections ≡ old.connections
+-- an event of a connection leaves the snapshot, and a publication the connections
+abbrev pub LeavesRest : Event → Contents → Contents → Type 0
+LeavesRest (Open n) old new = new.snapshot ≡ old.snapshot
+LeavesRest (Arrive n piece) old new = new.snapshot ≡ old.snapshot
+LeavesRest (End n) old new = new.snapshot ≡ old.snapshot
+LeavesRest (Publish changes) old new = new.connections ≡ old.connections

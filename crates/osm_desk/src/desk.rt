@@ -1,14 +1,15 @@
 //! Connections that share a snapshot.
 
-ghost use Rattle.std.specs.FinMap.{get};
-ghost use Rattle.std.specs.Prelude.{◌≡◌, IfErr, IfOk, IsSome, OnErr, OnOk, [], is_some};
+ghost use Rattle.std.specs.Bool.{OnFalse};
+ghost use Rattle.std.specs.FinMap.{get, len};
+ghost use Rattle.std.specs.Prelude.{◌≡◌, ◌<◌, ◌≤◌, ◌↔◌, IfErr, IfOk, IsSome, IsTrue, None, OnErr, OnOk, [], is_some};
 ghost use Rattle.osm_gate.specs.Connections.{Responds, heard_next, open_rest};
 ghost use Rattle.osm_index.specs.Applying.{IsSecond};
 ghost use Rattle.osm_index.specs.Publications.{Publication};
 ghost use Rattle.osm_index.specs.Snapshots.{HoldsPublication, IsAsBefore};
 ghost use Rattle.osm_desk.specs.Contents.{desk_over, fresh_contents};
 ghost use Rattle.osm_desk.specs.Made.{IsMade};
-ghost use Rattle.osm_desk.specs.Stepping.{HasStepped, IsRefusal, LeavesTheRest, texts_of};
+ghost use Rattle.osm_desk.specs.Stepping.{HasStepped, IsRefusal, LeavesRest, texts_of};
 ghost use Rattle.osm_desk.specs.internal.Serving.{HasArrived, IsFree, RefusesChanges, RefusesOpening, RefusesPiece, rest_of, with_rest, without};
 
 use crate::desk_fault::DeskFault;
@@ -16,7 +17,7 @@ use crate::event::Event;
 use crate::limits::CONNECTION_LIMIT;
 use opl_codec::Change;
 use osm_gate::Gate;
-use osm_index::{ApplyFault, Snapshot};
+use osm_index::Snapshot;
 use std::alloc::{AllocError, Global};
 use std::collections::BTreeMap;
 use std::marker::Model;
@@ -68,6 +69,22 @@ impl Desk {
         &self.snapshot
     }
 
+    /// Whether the connection is open. It takes no memory.
+    pub fn is_open(&self, number: u32) -> bool
+        ensures open { IsTrue result ↔ IsSome (get self.now.connections number) }
+        ensures free { OnFalse result (get self.now.connections number ≡ None) }
+    {
+        self.gates.contains_key(&number)
+    }
+
+    /// Whether 64 connections are open, so that no further one is opened. It takes no memory.
+    pub fn is_full(&self) -> bool
+        ensures full { IsTrue result ↔ (CONNECTION_LIMIT ≤ len self.now.connections) }
+        ensures room { OnFalse result (len self.now.connections < CONNECTION_LIMIT) }
+    {
+        self.gates.len() >= CONNECTION_LIMIT
+    }
+
     /// Takes an event, and gives the bytes for each connection that has some to get: for a piece those of its own
     /// connection, which may be none, and for any other event nothing.
     ///
@@ -85,8 +102,8 @@ impl Desk {
         ensures refused { (p : Publication) → HoldsPublication self.old.snapshot p → IfErr result (IsRefusal (desk_over self.old p) event) }
         // A refusal changes nothing,
         ensures unchanged { OnErr result ((self.new.connections ≡ self.old.connections) × IsAsBefore self.old.snapshot self.new.snapshot) }
-        // and only changes that are published change the snapshot, and nothing else.
-        ensures rest { LeavesTheRest event self.old self.new }
+        // and an event of a connection leaves the snapshot, a publication the connections.
+        ensures leaves { LeavesRest event self.old self.new }
     {
         match event {
             Event::Open(number) => self.open(number)?,
@@ -99,13 +116,6 @@ impl Desk {
             Event::Publish(changes) => self.publish(&changes)?,
         }
         Ok(Vec::new(self.alloc))
-    }
-
-    /// Whether the connection is open. It takes no memory.
-    fn is_open(&self, number: u32) -> bool
-        ensures { result ≡ is_some (get self.now.connections number) }
-    {
-        self.gates.contains_key(&number)
     }
 
     /// Whether the connection takes nothing more. It takes no memory.
@@ -127,7 +137,7 @@ impl Desk {
         if self.is_open(number) {
             return Err(DeskFault::AlreadyOpen);
         }
-        if self.gates.len() >= CONNECTION_LIMIT {
+        if self.is_full() {
             return Err(DeskFault::NoRoom);
         }
         let Ok(gate) = Gate::new(self.alloc) else {
@@ -139,16 +149,19 @@ impl Desk {
         Ok(())
     }
 
-    /// Takes a piece of an open connection, and gives the responses to the requests that it completes.
+    /// Takes a piece of a connection, and gives the responses to the requests that it completes. A connection that isn't
+    /// open takes nothing.
     pub(crate) fn hear(&mut self, number: u32, piece: &[u8]) -> Result<Vec<u8>, AllocError>
-        requires { IsSome (get self.old.connections number) }
         ensures responses { (p : Publication) → HoldsPublication self.old.snapshot p
             → IfOk result (λ text. Responds p (heard_next (rest_of self.old number) piece.now).outcomes text.items) }
-        ensures rest { OnOk result (self.new ≡ with_rest self.old number (heard_next (rest_of self.old number) piece.now).rest) }
+        ensures rest { OnOk result (rest_of self.new number ≡ (heard_next (rest_of self.old number) piece.now).rest) }
+        ensures open { IsSome (get self.old.connections number)
+            → OnOk result (self.new ≡ with_rest self.old number (heard_next (rest_of self.old number) piece.now).rest) }
+        ensures others { without self.new number ≡ without self.old number }
         ensures unchanged { OnErr result (self.new ≡ self.old) }
     {
         let Some(gate) = self.gates.get_mut(&number) else {
-            unreachable!("the connection is open")
+            return Ok(Vec::new(self.alloc));
         };
         gate.feed(piece, &self.snapshot)
     }
@@ -191,10 +204,7 @@ impl Desk {
         ensures connections { self.new.connections ≡ self.old.connections }
         ensures unchanged { OnErr result (IsAsBefore self.old.snapshot self.new.snapshot) }
     {
-        match self.snapshot.apply(self.alloc, changes) {
-            Ok(_delta) => Ok(()),
-            Err(ApplyFault::Memory) => Err(DeskFault::Memory),
-            Err(fault) => Err(DeskFault::Refused(fault)),
-        }
+        self.snapshot.apply(self.alloc, changes)?;
+        Ok(())
     }
 }

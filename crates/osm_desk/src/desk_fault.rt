@@ -22,3 +22,17 @@ pub enum DeskFault {
     #[error("no memory")]
     Memory,
 }
+
+impl From<ApplyFault> for DeskFault {
+    ghost use Rattle.std.specs.Prelude.{◌≡◌};
+    ghost use Rattle.osm_desk.specs.Faults.{fault_of};
+
+    ghost from_gives = { λ fault told. told ≡ fault_of fault };
+
+    fn from(fault: ApplyFault) -> DeskFault {
+        match fault {
+            ApplyFault::Memory => DeskFault::Memory,
+            fault => DeskFault::Refused(fault),
+        }
+    }
+}

@@ -10,6 +10,7 @@ mod desk_fault;
 mod event;
 mod laws;
 mod limits;
+mod open_connection;
 mod serving;
 
 pub use desk::Desk;

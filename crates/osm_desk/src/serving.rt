@@ -1,25 +1,33 @@
-//! A connection of the desk over a reader and a writer (stub).
+//! A connection of a desk over a reader and a writer.
 
 ghost use Rattle.std.specs.FinMap.{get, len};
-ghost use Rattle.std.specs.Prelude.{◌≡◌, ◌<◌, ◌⊎◌, IsErrOf, OnOk, None};
+ghost use Rattle.std.specs.Prelude.{◌≡◌, ◌<◌, IsErrOf, None, OnOk};
+ghost use Rattle.osm_gate.specs.Serving.{HasBegun, HasGivenUp, HasResponded, HasRespondedToMany, HasServed};
 ghost use Rattle.osm_index.specs.Publications.{Publication};
 ghost use Rattle.osm_index.specs.Snapshots.{HoldsPublication};
-ghost use Rattle.osm_gate.specs.Serving.{HasBegun, HasGivenUp, HasResponded, HasRespondedToMany, HasServed};
 ghost use Rattle.osm_desk.specs.declared.limits.TheConstants.{CONNECTION_LIMIT};
 
 use crate::desk::Desk;
-use osm_gate::GateFault;
+use crate::open_connection::OpenConnection;
+use osm_gate::{GateFault, give_up, serve_connection};
 use std::io::{Read, Write};
 
 impl Desk {
-    /// Serves one connection, and forgets it.
+    /// Responds to the requests of a new connection of this number, until its input ends or the connection does, as
+    /// [`osm_gate::serve`] does over the desk's snapshot. The number has to be free, and fewer than 64 connections open.
+    /// Afterwards, after a refusal too, the connection is forgotten and the desk as before.
+    ///
+    /// # Errors
+    ///
+    /// Those of [`osm_gate::serve`]: `Reader` (G1), `Writer` (G2), `Memory` (G3) and `Endless` (G4), each with what was
+    /// written by then.
     pub fn serve_on<R: Read, W: Write>(
         &mut self,
         number: u32,
         reader: &mut R,
         writer: &mut W,
     ) -> Result<(), GateFault>
-        requires unknown { get self.old.connections number ≡ None }
+        requires free { get self.old.connections number ≡ None }
         requires room { len self.old.connections < CONNECTION_LIMIT }
         // What was written responds to the whole input.
         ensures done { (p : Publication) → HoldsPublication self.old.snapshot p
@@ -33,33 +41,18 @@ impl Desk {
         // Where memory ran out, it responds to what was read before the last piece, and then says so.
         ensures memory { (p : Publication) → HoldsPublication self.old.snapshot p → IsErrOf result GateFault.Memory
             → HasGivenUp p (record { unread = R.remaining reader.old; left = R.remaining reader.new; before = W.contents writer.old; after = W.contents writer.new }) }
-        // Whatever happened, no more than a beginning of these was written.
+        // Whatever happened, no more than a beginning of these was written,
         ensures begun { (p : Publication) → HoldsPublication self.old.snapshot p
             → HasBegun p (record { unread = R.remaining reader.old; left = R.remaining reader.new; before = W.contents writer.old; after = W.contents writer.new }) }
+        // and the desk is as before.
         ensures forgotten { self.new ≡ self.old }
     {
-        if self.open(number).is_err() {
-            return Err(GateFault::Memory);
-        }
-        let mut piece = [0; 8192];
-        for _ in 0..1_048_576 {
-            let Ok(n) = reader.read(&mut piece) else {
-                let _ = self.forget(number);
-                return Err(GateFault::Reader);
-            };
-            if n == 0 {
-                break;
-            }
-            let Ok(text) = self.hear(number, &piece[..n]) else {
-                let _ = self.forget(number);
-                return Err(GateFault::Memory);
-            };
-            let _ = osm_gate::write_whole(writer, &text);
-            if self.is_closed(number) {
-                break;
-            }
-        }
-        let _ = self.forget(number);
-        Ok(())
+        let Ok(()) = self.open(number) else {
+            return Err(give_up(writer));
+        };
+        let mut connection = OpenConnection { desk: &mut *self, number };
+        let served = serve_connection(&mut connection, reader, writer);
+        self.forget(number);
+        served
     }
 }

@@ -6,18 +6,16 @@ use Rattle.std.proofs.KnownBytes.{Appends-trans}
 use Rattle.std.proofs.lemmas.List.{length-take-le, take_all}
 use Rattle.std.proofs.Math.Seq.{take-append-add}
 use Rattle.osm_index.specs.Publications.{Publication}
-use Rattle.osm_index.specs.Snapshots.{HoldsPublication}
-use Rattle.osm_index.specs.declared.snapshot.Snapshot.{Snapshot}
 use Rattle.osm_gate.specs.Connections.{Heard, Responds, RespondsTo, Rest, heard, heard_next}
 use Rattle.osm_gate.specs.Written.{AppendsFront}
 use Rattle.osm_gate.proofs.ConnectionLemmas.{cut}
 use Rattle.osm_gate.proofs.RespondingLemmas.{responds-append}
 
 -- the front of the input has been read, a byte a read at least, the gate holds its rest, and what was written responds
--- to it, over whatever publication the snapshot holds
-abbrev pub Served : Snapshot → Option (List ℕ) → Option (List ℕ) → Option (List ℕ) → Option (List ℕ) → Rest → ℕ → Type 0
-Served snapshot unread left before after gate reads = (front : List ℕ) × (reads ≤ length front) × Consumes unread left front × (gate ≡ (heard front).rest)
-    × ((p : Publication) → HoldsPublication snapshot p → (text : List ℕ) × RespondsTo p front text × Appends before after text)
+-- to it, over whatever publication the connection is over
+abbrev pub Served : (Publication → Type 0) → Option (List ℕ) → Option (List ℕ) → Option (List ℕ) → Option (List ℕ) → Rest → ℕ → Type 0
+Served over unread left before after gate reads = (front : List ℕ) × (reads ≤ length front) × Consumes unread left front × (gate ≡ (heard front).rest)
+    × ((p : Publication) → over p → (text : List ℕ) × RespondsTo p front text × Appends before after text)
 
 -- a read that gave a byte is one more
 pub one_more : (reads n : ℕ) (front buf : List ℕ) → reads ≤ length front → ¬ (n ≡ 0) → n ≤ length buf → reads + 1 ≤ length (front ++ take n buf)

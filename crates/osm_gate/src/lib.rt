@@ -1,9 +1,10 @@
 //! HTTP: a connection is fed bytes and gives responses.
 //!
 //! A [`Gate`] is one connection: it is fed pieces of bytes, and gives the responses to the requests that they
-//! complete. [`serve`] drives one over a reader and a writer.
+//! complete. [`serve`] drives one over a reader and a writer, and [`serve_connection`] any [`Connection`].
 #![tactic(auto)]
 
+mod connection;
 mod decision;
 mod fields;
 mod gate;
@@ -12,6 +13,7 @@ mod head;
 mod head_end;
 mod laws;
 mod limits;
+mod lone_connection;
 mod method;
 mod place;
 mod query_text;
@@ -25,11 +27,12 @@ mod target;
 mod told;
 mod writing;
 
+pub use connection::Connection;
 pub use gate::Gate;
 pub use gate_fault::GateFault;
 pub use laws::{
     head_is_the_grammars, nothing_after_the_end, one_response, pieces_ask_the_same,
     responses_stand_in_order, rests_are_short,
 };
-pub use serving::serve;
+pub use serving::{give_up, serve, serve_connection};
 pub use writing::write_whole;

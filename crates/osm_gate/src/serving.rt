@@ -1,15 +1,18 @@
 //! A connection over a reader and a writer.
 
-ghost use Rattle.std.specs.Prelude.{◌≡◌, ◌⊎◌, IsErrOf, OnOk};
+ghost use Rattle.std.specs.Prelude.{◌≡◌, ◌⊎◌, IsErrOf, OnOk, []};
 ghost use Rattle.std.specs.Io.KnownBytes.{Appends};
 ghost use Rattle.osm_index.specs.Publications.{Publication};
 ghost use Rattle.osm_index.specs.Snapshots.{HoldsPublication};
+ghost use Rattle.osm_gate.specs.Connections.{open_rest};
 ghost use Rattle.osm_gate.specs.Serving.{HasBegun, HasGivenUp, HasResponded, HasRespondedToMany, HasServed, no_memory};
 ghost use Rattle.osm_gate.specs.Written.{AppendsFront};
 
+use crate::connection::Connection;
 use crate::gate::Gate;
 use crate::gate_fault::GateFault;
 use crate::limits::{PIECE_LIMIT, READ_LIMIT};
+use crate::lone_connection::LoneConnection;
 use crate::writing::write_whole;
 use osm_index::Snapshot;
 use std::alloc::Global;
@@ -48,9 +51,43 @@ pub fn serve<R: Read, W: Write>(
     ensures begun { (p : Publication) → HoldsPublication snapshot.now p
         → HasBegun p (record { unread = R.remaining reader.old; left = R.remaining reader.new; before = W.contents writer.old; after = W.contents writer.new }) }
 {
-    let Ok(mut gate) = Gate::new(alloc) else {
+    let Ok(gate) = Gate::new(alloc) else {
         return Err(give_up(writer));
     };
+    let mut connection = LoneConnection { gate, snapshot };
+    serve_connection(&mut connection, reader, writer)
+}
+
+/// Responds to the requests of a new connection, as [`serve`] does: it is the loop of `serve`, for a connection of any
+/// kind.
+///
+/// # Errors
+///
+/// Those of [`serve`].
+pub fn serve_connection<C: Connection, R: Read, W: Write>(
+    connection: &mut C,
+    reader: &mut R,
+    writer: &mut W,
+) -> Result<(), GateFault>
+    requires { C.rest connection.old ≡ open_rest [] }
+    // What was written responds to the whole input.
+    ensures done { (p : Publication) → C.over connection.old p
+        → OnOk result (HasServed p (record { unread = R.remaining reader.old; left = R.remaining reader.new; before = W.contents writer.old; after = W.contents writer.new })) }
+    // Where the reader failed, it responds to what was read.
+    ensures reader { (p : Publication) → C.over connection.old p → IsErrOf result GateFault.Reader
+        → HasResponded p (record { unread = R.remaining reader.old; left = R.remaining reader.new; before = W.contents writer.old; after = W.contents writer.new }) }
+    // Where it had no end, too, and that is 2^20 bytes at least.
+    ensures endless { (p : Publication) → C.over connection.old p → IsErrOf result GateFault.Endless
+        → HasRespondedToMany p (record { unread = R.remaining reader.old; left = R.remaining reader.new; before = W.contents writer.old; after = W.contents writer.new }) }
+    // Where memory ran out, it responds to what was read before the last piece, and then says so.
+    ensures memory { (p : Publication) → C.over connection.old p → IsErrOf result GateFault.Memory
+        → HasGivenUp p (record { unread = R.remaining reader.old; left = R.remaining reader.new; before = W.contents writer.old; after = W.contents writer.new }) }
+    // Whatever happened, no more than a beginning of these was written,
+    ensures begun { (p : Publication) → C.over connection.old p
+        → HasBegun p (record { unread = R.remaining reader.old; left = R.remaining reader.new; before = W.contents writer.old; after = W.contents writer.new }) }
+    // and it is the same connection.
+    ensures later { C.later connection.old connection.new }
+{
     let mut piece = [0; PIECE_LIMIT];
     let mut reads = 0;
     while reads < READ_LIMIT {
@@ -60,11 +97,11 @@ pub fn serve<R: Read, W: Write>(
         if n == 0 {
             return Ok(());
         }
-        let Ok(responses) = gate.feed(&piece[..n], snapshot) else {
+        let Ok(responses) = connection.feed(&piece[..n]) else {
             return Err(give_up(writer));
         };
         write_whole(writer, &responses)?;
-        if gate.closed() {
+        if connection.closed() {
             return Ok(());
         }
         reads += 1;
@@ -72,8 +109,9 @@ pub fn serve<R: Read, W: Write>(
     Err(GateFault::Endless)
 }
 
-/// Tells the client that memory has run out. It takes none.
-fn give_up<W: Write>(writer: &mut W) -> GateFault
+/// Tells the client that memory has run out. It takes none. The fault is `Memory`, or `Writer` where a write failed or
+/// took nothing.
+pub fn give_up<W: Write>(writer: &mut W) -> GateFault
     // The fixed response is written, unless the writer fails,
     ensures whole { result ≡ GateFault.Memory → Appends (W.contents writer.old) (W.contents writer.new) no_memory }
     // and whatever happens, no more than a beginning of it.

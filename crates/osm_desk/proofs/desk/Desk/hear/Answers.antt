@@ -1,0 +1,56 @@
+use Rattle.std.proofs.Common.{ap, refl, rules, sym, subst, ◌∙◌, ◌≡◌}
+use Rattle.std.specs.Option.{option_copied_mut}
+use Rattle.std.specs.Prelude.{IfOk, is_some}
+use Rattle.osm_gate.specs.Connections.{Responds, Rest, heard_next}
+use Rattle.osm_desk.specs.Contents.{Contents}
+use Rattle.osm_desk.specs.internal.Serving.{rest_if, rest_of}
+use Rattle.osm_desk.proofs.StepLemmas.{none_lent}
+use Rattle.osm_desk.proofs.TableLemmas.{closed_rest_in, found, heard_in, left_in, others_in, held_inside, kept_in, on_err, on_ok, rest_is, view_of}
+use Rattle.osm_desk.proofs.desk.Desk.hear.Goals as goal
+
+pub returns-in_default-clause-responses : goal.returns-in_default-clause-responses
+returns-in_default-clause-responses c = λ p holds.
+    let none = found _ c.self.inside.snapshot c.self.inside.gates c.self.view_is c.args.number ∙ sym c.get_mut.ensures.value ∙ none_lent _ c.in_default.not-Some in
+    subst (λ (r : Rest). Responds p (heard_next r c.args.piece.now).outcomes c.new.result.items) (sym (ap rest_if none)) c.new.ensures.items
+
+pub returns-in_default-clause-rest : goal.returns-in_default-clause-rest
+returns-in_default-clause-rest c =
+    let none = found _ c.self.inside.snapshot c.self.inside.gates c.self.view_is c.args.number ∙ sym c.get_mut.ensures.value ∙ none_lent _ c.in_default.not-Some in
+    let same : view_of c.self.inside.snapshot c.get_mut.follows.lender-at-none ≡ c.args.self.now = search rules in
+    ap (λ (d : Contents). rest_of d c.args.number) same ∙ closed_rest_in c.args.self.now c.args.number c.args.piece.now none
+
+pub returns-in_default-clause-open : goal.returns-in_default-clause-open
+returns-in_default-clause-open c = λ is_open.
+    let none = found _ c.self.inside.snapshot c.self.inside.gates c.self.view_is c.args.number ∙ sym c.get_mut.ensures.value ∙ none_lent _ c.in_default.not-Some in
+    let no = sym is_open ∙ ap is_some none in
+    cc
+
+pub returns-clause-responses : goal.returns-clause-responses
+returns-clause-responses c = λ p holds.
+    let some = sym c.get_mut.ensures.value ∙ ap option_copied_mut c.in-Some.is in
+    let is = rest_is _ c.self.inside.snapshot c.self.inside.gates c.self.view_is c.args.number c.in-Some.gate.now c.feed.new.self (c.get_mut.follows.lender c.feed.new.self) some (c.get_mut.follows.holds c.feed.new.self) in
+    subst (λ (r : Rest). IfOk c.feed.result (λ text. Responds p (heard_next r c.args.piece.now).outcomes text.items)) (sym is)
+    (c.feed.ensures.responses p (held_inside _ c.self.inside.snapshot c.self.inside.gates p c.self.view_is holds))
+
+pub returns-clause-rest : goal.returns-clause-rest
+returns-clause-rest c =
+    let some = sym c.get_mut.ensures.value ∙ ap option_copied_mut c.in-Some.is in
+    on_ok c.feed.result c.feed.ensures.rest
+    (left_in _ c.self.inside.snapshot c.self.inside.gates c.self.view_is c.args.number c.in-Some.gate.now c.feed.new.self (c.get_mut.follows.lender c.feed.new.self) some (c.get_mut.follows.holds c.feed.new.self) c.args.piece.now)
+
+pub returns-clause-open : goal.returns-clause-open
+returns-clause-open c = λ is_open.
+    let some = sym c.get_mut.ensures.value ∙ ap option_copied_mut c.in-Some.is in
+    on_ok c.feed.result c.feed.ensures.rest
+    (heard_in _ c.self.inside.snapshot c.self.inside.gates c.self.view_is c.args.number c.in-Some.gate.now c.feed.new.self (c.get_mut.follows.lender c.feed.new.self) some (c.get_mut.follows.holds c.feed.new.self) c.args.piece.now)
+
+pub returns-clause-others : goal.returns-clause-others
+returns-clause-others c =
+    let some = sym c.get_mut.ensures.value ∙ ap option_copied_mut c.in-Some.is in
+    others_in _ c.self.inside.snapshot c.self.inside.gates c.self.view_is c.args.number c.in-Some.gate.now c.feed.new.self (c.get_mut.follows.lender c.feed.new.self) some (c.get_mut.follows.holds c.feed.new.self)
+
+pub returns-clause-unchanged : goal.returns-clause-unchanged
+returns-clause-unchanged c =
+    let some = sym c.get_mut.ensures.value ∙ ap option_copied_mut c.in-Some.is in
+    on_err c.feed.result c.feed.ensures.unchanged
+    (kept_in _ c.self.inside.snapshot c.self.inside.gates c.self.view_is c.args.number c.in-Some.gate.now c.feed.new.self (c.get_mut.follows.lender c.feed.new.self) some (c.get_mut.follows.holds c.feed.new.self))

@@ -1,0 +1,29 @@
+use Rattle.std.proofs.Common.{refl}
+use Rattle.osm_desk.proofs.PublishLemmas.{refuses, second_next}
+use Rattle.osm_desk.proofs.StepLemmas.{refused_by}
+use Rattle.osm_desk.proofs.TableLemmas.{held_inside}
+use Rattle.osm_desk.proofs.desk.Desk.publish.Goals as goal
+
+pub returns-in_err-apply-clause-refused : goal.returns-in_err-apply-clause-refused
+returns-in_err-apply-clause-refused c = λ p holds.
+    let held = held_inside _ c.self.inside.snapshot c.self.inside.gates p c.self.view_is holds in
+    refused_by _ c.from_residual.result _ c.from_residual.ensures.1
+    (refuses p c.self.inside.snapshot held c.args.changes.now c.apply.result c.apply.ensures.last (c.apply.ensures.twice p held) (c.apply.ensures.missing p held)
+    (c.apply.ensures.too_many p held) (c.apply.ensures.clash p held) c.in_err-apply.field-0.0 c.in_err-apply.was)
+
+pub invariant_of-self-2 : goal.invariant_of-self-2
+invariant_of-self-2 c =
+    second_next c.self.inside.snapshot c.apply.new.self c.self.invariant (λ p held. let (q, holds, applied, edition) = c.in_ok-apply.ensures.applied p held in (q, holds, edition))
+
+pub returns-clause-made : goal.returns-clause-made
+returns-clause-made c = λ p holds.
+    let held = held_inside _ c.self.inside.snapshot c.self.inside.gates p c.self.view_is holds in
+    let (q, now, applied, edition) = c.in_ok-apply.ensures.applied p held in (
+      q,
+      (
+        c.in_ok-apply.ensures.applicable p held,
+        record { applied = applied; published = record { published = now.is.published; same_objects = refl; same_edition = edition } },
+        c.in_ok-apply.ensures.no_clash p q held now,
+      ),
+      now,
+    )

@@ -1,0 +1,22 @@
+use Rattle.std.proofs.Common.{[], arith, inr, refl, rules, sym, ◌≡◌}
+use Rattle.std.proofs.lemmas.Grind.{common_steps}
+use Rattle.osm_desk.specs.internal.Serving.{without}
+use Rattle.osm_desk.proofs.ServingLemmas.{forgotten, opened_rest}
+use Rattle.osm_desk.proofs.desk.Desk.serve_on.Goals as goal
+
+pub returns-in_default-clause-memory : goal.returns-in_default-clause-memory
+returns-in_default-clause-memory g c = λ p holds is. ([], [], [], search rules, refl, c.give_up.ensures.whole (cc))
+
+pub returns-in_default-clause-begun : goal.returns-in_default-clause-begun
+returns-in_default-clause-begun g c = λ p holds. inr ([], [], [], search rules, refl, c.give_up.ensures.begun)
+
+pub serve_connection-served-requires : goal.serve_connection-served-requires
+serve_connection-served-requires g c = opened_rest c.args.self.now c.open.new.self c.args.number _ c.in-Ok.ensures.opened.1
+
+pub returns-clause-forgotten : goal.returns-clause-forgotten
+returns-clause-forgotten g c =
+    let served = c.serve_connection-served.new.connection.desk.now in
+    let same = c.serve_connection-served.ensures.later in
+    let name = sym same.1 in
+    let left : c.forget.new.self ≡ without served c.args.number = search rules in
+    forgotten c.args.self.now c.open.new.self served c.forget.new.self c.args.number _ c.requires.free c.in-Ok.ensures.opened.1 same.2 left

@@ -1,0 +1,104 @@
+//! Desks over small sets of objects.
+
+mod interleavings;
+mod memory;
+mod refusals;
+mod rows;
+mod serving;
+
+use opl_codec::{read_changes, read_set};
+use osm_desk::{Desk, DeskFault, Event};
+use osm_index::{Edition, Snapshot};
+use std::alloc::Global;
+use std::test::Fail;
+
+/// Objects of all kinds.
+const ALL_KINDS: &str = "\
+n1 v1 dV c5 t2020-01-02T03:04:05Z i7 uAnn Thighway=crossing x13.4 y52.5\n\
+n2 x13.4000001 y52.5\n\
+w10 Thighway=primary,name=A%20%B Nn1,n2,n1\n\
+r100 Ttype=route Mw10@outer,n99@stop,r100@\n\
+";
+
+/// Those without n1.
+const WITHOUT_N1: &str = "\
+n2 x13.4000001 y52.5\n\
+w10 Thighway=primary,name=A%20%B Nn1,n2,n1\n\
+r100 Ttype=route Mw10@outer,n99@stop,r100@\n\
+";
+
+/// A request for n1.
+const ASKED: &[u8] =
+    b"GET /api/interpreter?data=node%281%29%3Bout%20ids%3B HTTP/1.1\r\nHost: h\r\n\r\n";
+
+/// Its response over `ALL_KINDS` at sequence 0, whose root an independent program made.
+const RESPONSE: &[u8] = b"\
+HTTP/1.1 200 OK\r\n\
+Content-Type: text/plain; charset=utf-8\r\n\
+Content-Length: 3\r\n\
+Osm-Root: e66900236b879ef283a337e2d57ae34c0a3a919610d5dc475f092354538f6732\r\n\
+\r\n\
+n1\n";
+
+/// The snapshot of the set of this text, in the second edition at this sequence.
+fn snapshot_of(alloc: Global, set: &str, sequence: u64) -> Result<Snapshot, Fail> {
+    let set = read_set(alloc, &mut set.as_bytes())?;
+    Ok(Snapshot::build(alloc, set, Edition::Two { sequence })?)
+}
+
+/// A desk over the set of this text at sequence 0.
+fn desk_of(alloc: Global, set: &str) -> Result<Desk, Fail> {
+    let snapshot = snapshot_of(alloc, set, 0)?;
+    match snapshot.edition() {
+        Edition::One => Err(Fail::new("the snapshot is of the second edition")),
+        Edition::Two { sequence: _ } => Ok(Desk::new(alloc, snapshot)),
+    }
+}
+
+/// The arrival of a piece.
+fn arrival(alloc: Global, number: u32, piece: &[u8]) -> Result<Event, Fail> {
+    Ok(Event::Arrive(number, piece.to_vec(alloc)?))
+}
+
+/// The publication of the changes of this text.
+fn publication(alloc: Global, changes: &str) -> Result<Event, Fail> {
+    Ok(Event::Publish(read_changes(
+        alloc,
+        &mut changes.as_bytes(),
+    )?))
+}
+
+/// Whether a step gave these bytes to this connection, and nothing else.
+fn gives(got: &Result<Vec<(u32, Vec<u8>)>, DeskFault>, number: u32, bytes: &[u8]) -> bool {
+    match got {
+        Ok(answers) => match answers.first() {
+            Some((to, responses)) => {
+                answers.len() == 1 && *to == number && responses.as_slice() == bytes
+            }
+            None => false,
+        },
+        Err(_) => false,
+    }
+}
+
+/// Whether a step gave nothing.
+fn gives_nothing(got: &Result<Vec<(u32, Vec<u8>)>, DeskFault>) -> bool {
+    match got {
+        Ok(answers) => answers.is_empty(),
+        Err(_) => false,
+    }
+}
+
+/// The root of the snapshot that is in force, in hexadecimal digits.
+fn root_of(alloc: Global, snapshot: &Snapshot) -> Result<String, Fail> {
+    Ok(hex::encode(alloc, snapshot.root().0.as_slice())?)
+}
+
+/// The response of status 200 with this root and this body of text.
+fn found(alloc: Global, snapshot: &Snapshot, body: &str) -> Result<String, Fail> {
+    let root = root_of(alloc, snapshot)?;
+    let len = body.len();
+    Ok(format!(in alloc;
+        "HTTP/1.1 200 OK\r\nContent-Type: text/plain; charset=utf-8\r\nContent-Length: {len}\r\nOsm-Root: {root}\r\n\r\n{body}"
+    )?)
+}
