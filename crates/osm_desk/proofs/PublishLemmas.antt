@@ -16,8 +16,7 @@ use Rattle.osm_index.specs.declared.delta.Delta.{Delta}
 use Rattle.osm_index.specs.declared.edition.Edition.{Edition}
 use Rattle.osm_index.specs.declared.edition.Edition.TheVariants as editions
 use Rattle.osm_index.specs.declared.snapshot.Snapshot.{Snapshot}
-use Rattle.osm_desk.specs.Faults.{fault_of}
-use Rattle.osm_desk.specs.internal.Serving.{RefusesChanges}
+use Rattle.osm_desk.specs.Made.{RefusesChanges}
 
 -- ---- refusals
 
@@ -31,7 +30,7 @@ module _ (p : Publication) (old : Snapshot) (held : HoldsPublication old p) (all
   was_last : IsLast p.edition → IsLast old.edition
   was_last is = subst IsLast held.is.same_edition is
 
-  pub refuses : (fault : ApplyFault) → result ≡ Err fault → RefusesChanges p all (fault_of fault)
+  pub refuses : (fault : ApplyFault) → result ≡ Err fault → RefusesChanges p all fault
   refuses faults.LastSequence is = subst IsLast (sym held.is.same_edition) (last.0 is)
   refuses (faults.ChangedTwice r) is = let told = twice r is in ((λ h. told.0 (was_last h)), told.1)
   refuses (faults.NotThere r) is = let told = missing r is in ((λ h. told.0 (was_last h)), told.1, told.2)

@@ -10,12 +10,15 @@ use Rattle.opl_codec.specs.declared.change.Change.{Change}
 use Rattle.osm_gate.specs.Connections.{Responds, Rest, heard_next, open_rest}
 use Rattle.osm_index.specs.Applying.{IsLast}
 use Rattle.osm_index.specs.Publications.{Publication}
+use Rattle.osm_index.specs.declared.apply_fault.ApplyFault.{ApplyFault}
+use Rattle.osm_index.specs.declared.apply_fault.ApplyFault.TheVariants as refusals
 use Rattle.osm_index.specs.Snapshots.{HoldsPublication, IsAsBefore}
 use Rattle.osm_index.specs.declared.snapshot.Snapshot.{Snapshot}
 use Rattle.osm_desk.specs.Contents.{Contents, StandsFor, desk_over}
 use Rattle.osm_desk.specs.Desks.{Desk, Step, Told, arrive_step, end_step, open_step, publish_step, quietly, refuse, step}
 use Rattle.osm_desk.specs.Happenings.{Happening, arrived, ended, opened, published}
-use Rattle.osm_desk.specs.Made.{IsMade}
+use Rattle.osm_desk.specs.Faults.{fault_of}
+use Rattle.osm_desk.specs.Made.{IsMade, RefusesChanges}
 use Rattle.osm_desk.specs.Stepping.{Gives, HasStepped, IsRefusal, texts_of}
 use Rattle.osm_desk.specs.declared.desk_fault.DeskFault.{DeskFault}
 use Rattle.osm_desk.specs.declared.desk_fault.DeskFault.TheVariants.{AlreadyOpen, Memory, NoRoom, NotOpen, Refused}
@@ -23,7 +26,7 @@ use Rattle.osm_desk.specs.declared.event.Event.{Event}
 use Rattle.osm_desk.specs.declared.event.Event.TheVariants.{Arrive, End, Open, Publish}
 use Rattle.osm_desk.specs.declared.limits.TheConstants.{CONNECTION_LIMIT}
 use Rattle.osm_desk.proofs.MapLemmas.{removed-none}
-use Rattle.osm_desk.specs.internal.Serving.{HasArrived, IsFree, RefusesChanges, RefusesOpening, RefusesPiece, rest_if, rest_of, with_rest, without}
+use Rattle.osm_desk.specs.internal.Serving.{HasArrived, IsFree, RefusesOpening, RefusesPiece, rest_if, rest_of, with_rest, without}
 
 pub none_by : {A : Type 0} → (o : Option A) → is_some o ≡ false → o ≡ None
 none_by None e = refl
@@ -130,7 +133,7 @@ pub quiet_steps : (d : Desk) (event same : Event) (items : List (ℕ × Vec ℕ)
     → HasStepped d event (texts_of items) new
 quiet_steps d event same items new left is none left_is steps = rw (is, none, left_is) steps
 
-pub refused_by : {A : Type 0} (P : DeskFault → Type 0) (result : Result A DeskFault) (fault : DeskFault) → IsErrAnd result (λ f. f ≡ fault) → P fault → IfErr result P
+pub refused_by : {A E : Type 0} (P : E → Type 0) (result : Result A E) (fault : E) → IsErrAnd result (λ f. f ≡ fault) → P fault → IfErr result P
 refused_by P (Ok value) fault is refused = absurd is
 refused_by P (Err f) fault is refused = subst P (sym is) refused
 
@@ -149,9 +152,10 @@ module _ (d : Contents) (p : Publication) where
       → HasStepped (desk_over d p) (Publish changes) [] new
   publish_steps changes new q made holds same = (published (Ok q), (Ok q, made, refl), tt, (holds, same))
 
-  pub publish_refused : (changes : Vec Change) (fault : DeskFault) → RefusesChanges p changes.items fault → IsRefusal (desk_over d p) (Publish changes) fault
-  publish_refused changes AlreadyOpen is = absurd is
-  publish_refused changes NotOpen is = absurd is
-  publish_refused changes NoRoom is = absurd is
-  publish_refused changes (Refused fault) is = (published (Err fault), (Err fault, is, refl), refl)
-  publish_refused changes Memory is = is
+  pub publish_refused : (changes : Vec Change) (fault : ApplyFault) → RefusesChanges p changes.items fault → IsRefusal (desk_over d p) (Publish changes) (fault_of fault)
+  publish_refused changes refusals.Memory is = is
+  publish_refused changes refusals.LastSequence is = (published (Err refusals.LastSequence), (Err refusals.LastSequence, is, refl), refl)
+  publish_refused changes (refusals.ChangedTwice r) is = (published (Err (refusals.ChangedTwice r)), (Err (refusals.ChangedTwice r), is, refl), refl)
+  publish_refused changes (refusals.NotThere r) is = (published (Err (refusals.NotThere r)), (Err (refusals.NotThere r), is, refl), refl)
+  publish_refused changes refusals.TooMany is = (published (Err refusals.TooMany), (Err refusals.TooMany, is, refl), refl)
+  publish_refused changes refusals.Clash is = (published (Err refusals.Clash), (Err refusals.Clash, is, refl), refl)

@@ -31,3 +31,9 @@ IsRefused p all faults.Memory = ⊥
 abbrev pub IsMade : Publication → List Change → Result Publication ApplyFault → Type 0
 IsMade p all (Ok q) = AreApplicable p.objects p.edition all × IsChanged p all q × IsClashFree (IsNodeOfEither p q)
 IsMade p all (Err fault) = IsRefused p all fault
+
+-- how publishing them may be refused: as what they make says, or memory ran out, but not where the sequence is at its
+-- greatest
+abbrev pub RefusesChanges : Publication → List Change → ApplyFault → Type 0
+RefusesChanges p all faults.Memory = ¬ IsLast p.edition
+RefusesChanges p all fault = IsMade p all (Err fault)

@@ -8,16 +8,16 @@ ghost use Rattle.osm_index.specs.Applying.{IsSecond};
 ghost use Rattle.osm_index.specs.Publications.{Publication};
 ghost use Rattle.osm_index.specs.Snapshots.{HoldsPublication, IsAsBefore};
 ghost use Rattle.osm_desk.specs.Contents.{desk_over, fresh_contents};
-ghost use Rattle.osm_desk.specs.Made.{IsMade};
+ghost use Rattle.osm_desk.specs.Made.{IsMade, RefusesChanges};
 ghost use Rattle.osm_desk.specs.Stepping.{HasStepped, IsRefusal, LeavesRest, texts_of};
-ghost use Rattle.osm_desk.specs.internal.Serving.{HasArrived, IsFree, RefusesChanges, RefusesOpening, RefusesPiece, rest_of, with_rest, without};
+ghost use Rattle.osm_desk.specs.internal.Serving.{HasArrived, IsFree, RefusesOpening, RefusesPiece, rest_of, with_rest, without};
 
 use crate::desk_fault::DeskFault;
 use crate::event::Event;
 use crate::limits::CONNECTION_LIMIT;
 use opl_codec::Change;
 use osm_gate::Gate;
-use osm_index::Snapshot;
+use osm_index::{ApplyFault, Snapshot};
 use std::alloc::{AllocError, Global};
 use std::collections::BTreeMap;
 use std::marker::Model;
@@ -196,8 +196,10 @@ impl Desk {
         self.gates.remove(&number).is_some()
     }
 
-    /// Changes the snapshot.
-    fn publish(&mut self, changes: &[Change]) -> Result<(), DeskFault>
+    /// Publishes changes, as the event `Publish`: what the snapshot holds afterwards is the changed set at the next
+    /// sequence. All connections stay. What it costs, and what refuses it, is that of [`Snapshot::apply`]; after a
+    /// refusal all is as before.
+    pub fn publish(&mut self, changes: &[Change]) -> Result<(), ApplyFault>
         ensures made { (p : Publication) → HoldsPublication self.old.snapshot p
             → OnOk result ((q : Publication) × IsMade p changes.now (Ok q) × HoldsPublication self.new.snapshot q) }
         ensures refused { (p : Publication) → HoldsPublication self.old.snapshot p → IfErr result (RefusesChanges p changes.now) }

@@ -1,14 +1,11 @@
 -- One connection of the desk, and how the parts of a step are refused.
 use Rattle.std.specs.FinMap.{get, insert, len, remove}
 use Rattle.std.specs.Prelude.{◌≡◌, ◌<◌, ◌≤◌, ℕ, List, Option, Some, None, Result, Err, IsSome}
-use Rattle.opl_codec.specs.declared.change.Change.{Change}
 use Rattle.osm_gate.specs.Connections.{Rest, closed_rest}
-use Rattle.osm_index.specs.Applying.{IsLast}
 use Rattle.osm_index.specs.Publications.{Publication}
 use Rattle.osm_desk.specs.Contents.{Contents, StandsFor}
 use Rattle.osm_desk.specs.Desks.{Desk, step}
 use Rattle.osm_desk.specs.Happenings.{arrived}
-use Rattle.osm_desk.specs.Made.{IsMade}
 use Rattle.osm_desk.specs.Stepping.{Gives}
 use Rattle.osm_desk.specs.declared.desk_fault.DeskFault.{DeskFault}
 use Rattle.osm_desk.specs.declared.desk_fault.DeskFault.TheVariants.{AlreadyOpen, Memory, NoRoom, NotOpen, Refused}
@@ -49,10 +46,3 @@ RefusesPiece d n NotOpen = get d.connections n ≡ None
 RefusesPiece d n NoRoom = ⊥
 RefusesPiece d n (Refused fault) = ⊥
 RefusesPiece d n Memory = IsSome (get d.connections n)
-
-abbrev pub RefusesChanges : Publication → List Change → DeskFault → Type 0
-RefusesChanges p all AlreadyOpen = ⊥
-RefusesChanges p all NotOpen = ⊥
-RefusesChanges p all NoRoom = ⊥
-RefusesChanges p all (Refused fault) = IsMade p all (Err fault)
-RefusesChanges p all Memory = ¬ IsLast p.edition

@@ -1,11 +1,11 @@
 use Rattle.std.proofs.Common.{ap, refl, rules, subst, sym, ◌∙◌}
 use Rattle.std.specs.Prelude.{IfErr, IfOk, Ok}
 use Rattle.osm_desk.specs.Contents.{Contents, desk_over}
-use Rattle.osm_desk.specs.Made.{IsMade}
+use Rattle.osm_desk.specs.Faults.{fault_of}
+use Rattle.osm_desk.specs.Made.{IsMade, RefusesChanges}
 use Rattle.osm_desk.specs.Stepping.{HasStepped, IsRefusal, texts_of}
 use Rattle.osm_desk.specs.declared.desk_fault.DeskFault.TheVariants.{NotOpen}
 use Rattle.osm_desk.specs.declared.event.Event.{Event}
-use Rattle.osm_desk.specs.internal.Serving.{RefusesChanges}
 use Rattle.osm_desk.proofs.StepLemmas.{arrive_refused, arrived_steps, end_refused, end_steps, ended_none, if_err, if_ok, none_by, open_refused, open_steps, publish_refused, publish_steps, quiet_steps, refused_by}
 use Rattle.osm_desk.proofs.desk.Desk.step.Goals as goal
 use Rattle.osm_desk.proofs.desk.Desk.step.Goals.{in-Open+in_ok-open-in-Open, in-End+else-not-forget, in-Publish+in_ok-publish-in-Publish}
@@ -41,7 +41,7 @@ pub returns-in_err-publish-in-Publish-clause-refused :
 returns-in_err-publish-in-Publish-clause-refused c = λ p holds.
     let fault = c.in_err-publish-in-Publish.field-0.0 in
     subst (λ (e : Event). IfErr c.from_residual-in_err-publish-in-Publish.result (IsRefusal (desk_over c.args.self.now p) e)) (sym c.in-Publish.is)
-    (refused_by _ c.from_residual-in_err-publish-in-Publish.result fault c.from_residual-in_err-publish-in-Publish.ensures.1
+    (refused_by _ c.from_residual-in_err-publish-in-Publish.result (fault_of fault) c.from_residual-in_err-publish-in-Publish.ensures.1
     (publish_refused c.args.self.now p c.in-Publish.changes fault
     (subst (λ all. RefusesChanges p all fault) c.deref-in-Publish.ensures.value (c.in_err-publish-in-Publish.ensures.refused p holds))))
 
