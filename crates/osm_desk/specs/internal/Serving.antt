@@ -1,6 +1,6 @@
 -- One connection of the desk, and how the parts of a step are refused.
 use Rattle.std.specs.FinMap.{get, insert, len, remove}
-use Rattle.std.specs.Prelude.{◌≡◌, ◌<◌, ◌≤◌, ℕ, List, Option, Some, None, Result, Err, IsSome}
+use Rattle.std.specs.Prelude.{◌≡◌, ◌<◌, ◌≤◌, ℕ, List, Option, Some, None, Err, IsSome}
 use Rattle.opl_codec.specs.declared.change.Change.{Change}
 use Rattle.osm_gate.specs.Connections.{Rest, closed_rest}
 use Rattle.osm_index.specs.Applying.{IsLast}
