@@ -1,19 +1,18 @@
 -- What changes make of a publication is one.
-use Rattle.std.proofs.Common.{◌≡◌, ◌∙◌, inl, inr, ℕ, List, ◌++◌, ap, sym, refl, subst}
-use Rattle.std.specs.Prelude.{Result, Ok, Err}
+use Rattle.std.proofs.Common.{◌≡◌, ◌∙◌, inl, inr, ℕ, List, ap, sym, refl, subst}
+use Rattle.std.specs.Prelude.{Ok}
 use Rattle.opl_codec.specs.declared.change.Change.{Change}
 use Rattle.osm_model.specs.Elements.{Element}
 use Rattle.osm_model.specs.declared.reference.Ref.{Ref}
 use Rattle.tree_node.specs.Digests.{digest}
 use Rattle.tree_node.specs.NodeRefs.{number_of}
 use Rattle.tree_node.specs.Nodes.{Binding}
-use Rattle.tree_node.specs.Shelves.{IsClashFree}
 use Rattle.tree_node.specs.Trees.{IsNodeOf, levels, top_of}
 use Rattle.tree_node.specs.declared.tree.Tree.{Tree}
 use Rattle.tree_node.specs.declared.tree.Tree.TheVariants.{Backs, Cells, Objects, Tags}
 use Rattle.osm_index.proofs.shared.ChangeLaws.{one_applied}
 use Rattle.osm_index.proofs.shared.OnePublication.{not_too_many, same_entries, same_root}
-use Rattle.osm_index.specs.Applying.{AreApplicable, IsApplied, IsNodeOfEither, edition_after}
+use Rattle.osm_index.specs.Applying.{IsApplied, IsNodeOfEither, edition_after}
 use Rattle.osm_index.specs.Manifests.{manifest}
 use Rattle.osm_index.specs.Publications.{HasTooMany, IsNodeIn, IsPublication, Publication, manifest_of, root_of, shape_of, top_in, tree_in}
 use Rattle.osm_index.specs.declared.apply_fault.ApplyFault.{ApplyFault}

@@ -1,7 +1,6 @@
 -- What the clauses of a snapshot's changes say of a desk.
-use Rattle.std.proofs.Common.{◌≡◌, ◌↔◌, ◌∙◌, List, Result, Ok, Err, sym, refl, subst}
+use Rattle.std.proofs.Common.{◌≡◌, ◌↔◌, ◌∙◌, List, Result, Err, sym, refl, subst}
 use Rattle.std.proofs.Math.Logic.{∥∥₁_elim}
-use Rattle.std.specs.Prelude.{OnErr, OnOk, ⊤}
 use mathlib.Core.HLevel.{⊥_prop}
 use Rattle.opl_codec.specs.declared.change.Change.{Change}
 use Rattle.osm_model.specs.Elements.{Element}
@@ -26,7 +25,7 @@ module _ (p : Publication) (old : Snapshot) (held : HoldsPublication old p) (all
     (missing : (r : Ref) → result ≡ Err (faults.NotThere r) → (¬ IsLast old.edition) × AreApart all × IsFirstMissing p.objects all r)
     (too_many : result ≡ Err faults.TooMany → AreApplicable p.objects p.edition all × ((set : List Element) × IsApplied p.objects all set × HasTooMany set))
     (clash : result ≡ Err faults.Clash → AreApplicable p.objects p.edition all
-        × ((q : Publication) × IsApplied p.objects all q.objects × IsPublicationOf q.objects (edition_after p.edition) q × Clash (IsNodeOfEither p q) (IsNodeOfEither p q))) where
+    × ((q : Publication) × IsApplied p.objects all q.objects × IsPublicationOf q.objects (edition_after p.edition) q × Clash (IsNodeOfEither p q) (IsNodeOfEither p q))) where
   was_last : IsLast p.edition → IsLast old.edition
   was_last is = subst IsLast held.is.same_edition is
 
@@ -52,9 +51,9 @@ pub second_next : (old new : Snapshot) → IsSecond old.edition
     → ((p : Publication) → HoldsPublication old p → (q : Publication) × HoldsPublication new q × (q.edition ≡ edition_after p.edition))
     → IsSecond new.edition
 second_next old new second applied = not_first new.edition (λ first. ∥∥₁_elim old.own ⊥_prop (λ (p, held).
-  let (q, holds, edition) = applied p held in
-  let was : IsSecond p.edition = subst IsSecond (sym held.is.same_edition) second in
-  subst IsSecond (sym edition ∙ holds.is.same_edition ∙ first) (after_second p.edition was)))
+    let (q, holds, edition) = applied p held in
+    let was : IsSecond p.edition = subst IsSecond (sym held.is.same_edition) second in
+    subst IsSecond (sym edition ∙ holds.is.same_edition ∙ first) (after_second p.edition was)))
 
 pub second_still : (old new : Snapshot) → IsSecond old.edition → IsAsBefore old new → IsSecond new.edition
 second_still old new second same = subst IsSecond (sym same.edition) second

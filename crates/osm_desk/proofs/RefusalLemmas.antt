@@ -1,5 +1,5 @@
 -- The earliest change of an object that an earlier one names, and the earliest delete of an object that isn't there.
-use Rattle.std.proofs.Common.{◌≡◌, ◌∙◌, ◌<◌, inl, inr, ℕ, zero, suc, Bool, true, false, List, [], ◌∷◌, ◌++◌, ap, sym, refl, arith, length, get_or, map, subst}
+use Rattle.std.proofs.Common.{◌≡◌, ◌∙◌, ◌<◌, inl, inr, ℕ, zero, suc, Bool, true, false, List, [], ◌∷◌, ◌++◌, ap, sym, refl, arith, length, get_or, subst}
 use Rattle.std.proofs.Math.ListN.{get_or-append}
 use Rattle.std.proofs.Math.Seq.{get_or-append_seam}
 use Rattle.std.proofs.lemmas.Bool.{cases_order}
@@ -11,7 +11,7 @@ use Rattle.std.specs.Ordering.{eq_by_cmp}
 use Rattle.opl_codec.specs.declared.change.Change.{Change}
 use Rattle.opl_codec.specs.declared.change.Change.TheVariants as changes
 use Rattle.osm_model.proofs.shared.References.{refs_total}
-use Rattle.osm_model.specs.Elements.{Element, ref_cmp, references}
+use Rattle.osm_model.specs.Elements.{Element, ref_cmp}
 use Rattle.osm_model.specs.declared.reference.Ref.{Ref}
 use Rattle.osm_index.specs.Applying.{AreApart, DeleteThere, IsFirstMissing, IsFirstTwice, name_of, names_of}
 

@@ -1,8 +1,8 @@
 -- A connection that is opened, served and forgotten.
-use Rattle.std.proofs.Common.{◌≡◌, ◌∙◌, ℕ, [], ap}
+use Rattle.std.proofs.Common.{◌≡◌, ◌∙◌, ℕ, ap}
 use Rattle.std.specs.FinMap.{get}
 use Rattle.std.specs.Prelude.{None}
-use Rattle.osm_gate.specs.Connections.{Rest, open_rest}
+use Rattle.osm_gate.specs.Connections.{Rest}
 use Rattle.osm_desk.specs.Contents.{Contents}
 use Rattle.osm_desk.specs.internal.Serving.{rest_if, rest_of, with_rest, without}
 use Rattle.osm_desk.proofs.MapLemmas.{get-put_same, put-removed}

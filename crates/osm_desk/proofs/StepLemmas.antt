@@ -1,5 +1,5 @@
 -- The parts of a step, over the definition of a step.
-use Rattle.std.proofs.Common.{◌≡◌, ◌∙◌, ◌<◌, ◌≤◌, ℕ, true, false, List, [], ◌∷◌, ap, sym, refl, subst, MutBor}
+use Rattle.std.proofs.Common.{◌≡◌, ◌∙◌, ℕ, true, false, List, [], ◌∷◌, ap, sym, refl, subst, MutBor}
 use Rattle.std.proofs.lemmas.Bool.{le-ltb, lt-ltb}
 use Rattle.std.specs.FinMap.{get, insert, len, remove}
 use Rattle.std.specs.Global.{Vec}
@@ -8,14 +8,13 @@ use Rattle.std.specs.Result.{IsErrAnd}
 use Rattle.std.specs.Prelude.{Option, Some, None, Result, Ok, Err, IfErr, IfOk, IsSome, is_ok, is_some, if◌then◌else◌}
 use Rattle.opl_codec.specs.declared.change.Change.{Change}
 use Rattle.osm_gate.specs.Connections.{Responds, Rest, heard_next, open_rest}
-use Rattle.osm_index.specs.Applying.{IsLast}
 use Rattle.osm_index.specs.Publications.{Publication}
 use Rattle.osm_index.specs.declared.apply_fault.ApplyFault.{ApplyFault}
 use Rattle.osm_index.specs.declared.apply_fault.ApplyFault.TheVariants as refusals
 use Rattle.osm_index.specs.Snapshots.{HoldsPublication, IsAsBefore}
 use Rattle.osm_index.specs.declared.snapshot.Snapshot.{Snapshot}
 use Rattle.osm_desk.specs.Contents.{Contents, StandsFor, desk_over}
-use Rattle.osm_desk.specs.Desks.{Desk, Step, Told, arrive_step, end_step, open_step, publish_step, quietly, refuse, step}
+use Rattle.osm_desk.specs.Desks.{Desk, Step, arrive_step, end_step, open_step, quietly, refuse, step}
 use Rattle.osm_desk.specs.Happenings.{Happening, arrived, ended, opened, published}
 use Rattle.osm_desk.specs.Faults.{fault_of}
 use Rattle.osm_desk.specs.Made.{IsMade, RefusesChanges}
@@ -74,7 +73,7 @@ module _ (d : Contents) (n : ℕ) (p : Publication) where
     opened n,
     refl,
     ap (λ o. (open_step over n o).reply) none
-    ∙ ap (λ b. (if b then quietly p (insert d.connections n (open_rest [])) else refuse over NoRoom).reply) (le-ltb (len d.connections) CONNECTION_LIMIT full),
+        ∙ ap (λ b. (if b then quietly p (insert d.connections n (open_rest [])) else refuse over NoRoom).reply) (le-ltb (len d.connections) CONNECTION_LIMIT full),
   )
   open_refused (Refused fault) is = absurd is
   open_refused Memory free = ap (λ (s : Step). is_ok s.reply) (opens free)

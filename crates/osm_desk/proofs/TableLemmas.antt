@@ -2,7 +2,7 @@
 use Rattle.std.proofs.Common.{◌≡◌, ◌∙◌, ℕ, List, ap, sym, refl, length, subst}
 use Rattle.std.specs.BTreeMap as tree
 use Rattle.std.specs.BTreeMap.{BTreeMap}
-use Rattle.std.specs.FinMap.{from_entries, get, insert, len, remove}
+use Rattle.std.specs.FinMap.{from_entries, get, len}
 use Rattle.std.specs.Ordering.{nat_cmp}
 use Rattle.std.specs.Prelude.{Some, None, Result, Ok, Err, IfOk, OnErr, OnOk}
 use Rattle.osm_gate.specs.Connections.{Rest, closed_rest, heard_next}

@@ -162,8 +162,8 @@ arrive-own c piece d (Some bytes) h =
       gives = ap (λ b. if b then given_now ∷ [] else []) (own c);
       keeps = get-put_same d.connections c (heard_next (rest_after bytes) piece).rest ∙ ap (λ (r : Rest). Some r) (sym (rest-next bytes piece));
       tells = λ es.
-      ap (λ b. if b then told_piece d.publication (Some bytes) piece (told_from c d.publication (Some (bytes ++ piece)) es) else told_from c d.publication (Some bytes) es) (own c)
-      ∙ ap (λ os. (let t : Told = record { outcomes = os; publication = d.publication } in t) ∷ told_from c d.publication (Some (bytes ++ piece)) es) (ending-next bytes piece);
+          ap (λ b. if b then told_piece d.publication (Some bytes) piece (told_from c d.publication (Some (bytes ++ piece)) es) else told_from c d.publication (Some bytes) es) (own c)
+          ∙ ap (λ os. (let t : Told = record { outcomes = os; publication = d.publication } in t) ∷ told_from c d.publication (Some (bytes ++ piece)) es) (ending-next bytes piece);
     })
 
 end-own : (c : ℕ) (d : Desk) (life : Option (List ℕ)) → get d.connections c ≡ kept life → MovesTo c d life (ended c) (step d (ended c))

@@ -36,9 +36,9 @@ impl<'a> Connection for OpenConnection<'a> {
     ghost itself = { λ s. (refl, refl, refl) };
 
     ghost chained = { λ s t u first second. (
-        second.0 ∙ first.0,
-        second.1 ∙ first.1,
-        ap (without u.desk.now) (sym first.0) ∙ second.2 ∙ ap (without t.desk.now) first.0 ∙ first.2,
+      second.0 ∙ first.0,
+      second.1 ∙ first.1,
+      ap (without u.desk.now) (sym first.0) ∙ second.2 ∙ ap (without t.desk.now) first.0 ∙ first.2,
     ) };
 
     ghost same_over = { λ s t p same held. subst (λ (snapshot : Snapshot). HoldsPublication snapshot p)

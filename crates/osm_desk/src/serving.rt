@@ -50,7 +50,10 @@ impl Desk {
         let Ok(()) = self.open(number) else {
             return Err(give_up(writer));
         };
-        let mut connection = OpenConnection { desk: &mut *self, number };
+        let mut connection = OpenConnection {
+            desk: &mut *self,
+            number,
+        };
         let served = serve_connection(&mut connection, reader, writer);
         self.forget(number);
         served

@@ -1,6 +1,6 @@
 -- One connection of the desk, and how the parts of a step are refused.
 use Rattle.std.specs.FinMap.{get, insert, len, remove}
-use Rattle.std.specs.Prelude.{◌≡◌, ◌<◌, ◌≤◌, ℕ, List, Option, Some, None, Result, Err, IsSome}
+use Rattle.std.specs.Prelude.{◌≡◌, ◌<◌, ◌≤◌, ℕ, List, Option, Some, None, IsSome}
 use Rattle.osm_gate.specs.Connections.{Rest, closed_rest}
 use Rattle.osm_index.specs.Publications.{Publication}
 use Rattle.osm_desk.specs.Contents.{Contents, StandsFor}

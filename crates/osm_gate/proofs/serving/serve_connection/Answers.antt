@@ -1,4 +1,4 @@
-use Rattle.std.proofs.Common.{◌≡◌, ◌≤◌, ◌^◌, ◌∙◌, ◌++◌, [], List, ℕ, rules, length, take, append-nil, sym, true, inl, inr}
+use Rattle.std.proofs.Common.{◌≡◌, ◌≤◌, ◌^◌, ◌∙◌, ◌++◌, List, ℕ, rules, length, take, append-nil, sym, true, inl, inr}
 use Rattle.std.proofs.KnownBytes.{Appends-trans, Consumes-trans, Consumes-kept}
 use Rattle.osm_gate.specs.Connections.{Responds, Rest, heard, heard_next}
 use Rattle.osm_gate.proofs.ServeLemmas.{all_front, closed_whole, more_front, one_more, responds_on, rest_on}

@@ -9,7 +9,7 @@ invariant-loop-reads g l = record {
   few : l.reads ≤ READ_LIMIT;
   later : g.C.Connection.later l.initial.connection l.connection;
   served : Served (g.C.Connection.over l.initial.connection) (g.R.Read.remaining l.initial.reader) (g.R.Read.remaining l.reader)
-    (g.W.Write.contents l.initial.writer) (g.W.Write.contents l.writer) (g.C.Connection.rest l.connection) l.reads;
+      (g.W.Write.contents l.initial.writer) (g.W.Write.contents l.writer) (g.C.Connection.rest l.connection) l.reads;
 }
 
 abbrev pub decreases-loop-reads : goal.decreases-loop-reads

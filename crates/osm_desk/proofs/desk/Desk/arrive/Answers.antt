@@ -1,4 +1,4 @@
-use Rattle.std.proofs.Common.{ap, refl, rules, sym, ◌∙◌, ◌≡◌, [], ◌∷◌}
+use Rattle.std.proofs.Common.{ap, rules, ◌≡◌, [], ◌∷◌}
 use Rattle.std.specs.FinMap.{get}
 use Rattle.std.specs.Prelude.{IsSome}
 use Rattle.osm_desk.specs.Stepping.{texts_of}

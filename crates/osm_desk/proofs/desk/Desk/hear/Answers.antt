@@ -1,4 +1,4 @@
-use Rattle.std.proofs.Common.{ap, refl, rules, sym, subst, ◌∙◌, ◌≡◌}
+use Rattle.std.proofs.Common.{ap, rules, sym, subst, ◌∙◌, ◌≡◌}
 use Rattle.std.specs.Option.{option_copied_mut}
 use Rattle.std.specs.Prelude.{IfOk, is_some}
 use Rattle.osm_gate.specs.Connections.{Responds, Rest, heard_next}

@@ -1,5 +1,4 @@
-use Rattle.std.proofs.Common.{[], arith, inr, refl, rules, sym, ◌≡◌}
-use Rattle.std.proofs.lemmas.Grind.{common_steps}
+use Rattle.std.proofs.Common.{[], inr, refl, rules, sym, ◌≡◌}
 use Rattle.osm_desk.specs.internal.Serving.{without}
 use Rattle.osm_desk.proofs.ServingLemmas.{forgotten, opened_rest}
 use Rattle.osm_desk.proofs.desk.Desk.serve_on.Goals as goal

@@ -1,6 +1,6 @@
-use Rattle.std.proofs.Common.{ap, refl, rules, subst, sym, ◌∙◌}
+use Rattle.std.proofs.Common.{subst, sym, ◌∙◌}
 use Rattle.std.specs.Prelude.{IfErr, IfOk, Ok}
-use Rattle.osm_desk.specs.Contents.{Contents, desk_over}
+use Rattle.osm_desk.specs.Contents.{desk_over}
 use Rattle.osm_desk.specs.Faults.{fault_of}
 use Rattle.osm_desk.specs.Made.{IsMade, RefusesChanges}
 use Rattle.osm_desk.specs.Stepping.{HasStepped, IsRefusal, texts_of}
