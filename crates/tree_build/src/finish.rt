@@ -16,9 +16,9 @@ ghost use Rattle.tree_node.specs.Nodes.{Binding, IsNode, Leaf, Node};
 ghost use Rattle.tree_node.specs.Shelves.{SameNodes};
 ghost use Rattle.tree_node.specs.Trees.{Two, level_at, levels};
 
-use crate::Entry;
 use crate::grow::grow;
 use crate::hand::make_node;
+use crate::leaf_item::LeafItem;
 use crate::levels::TreeEdit;
 use crate::piece::NewPiece;
 use crate::rebuilt::{NewNode, Rebuilt};
@@ -151,7 +151,7 @@ fn put_empty_leaf<'c>(
 fn empty_leaf<'c>(alloc: Global, tree: Tree) -> Result<NewPiece<'c>, AllocError>
     ensures { IfOk result (λ new. IsNewNode new (Leaf (number_of tree) [])) }
 {
-    let none: [Entry<'c>; 0] = [];
+    let none: [LeafItem<'c>; 0] = [];
     make_node(alloc, tree, 0, &none)
 }
 

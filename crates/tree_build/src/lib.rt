@@ -18,6 +18,7 @@ mod held;
 mod inner;
 mod laws;
 mod leaf;
+mod leaf_item;
 mod level_item;
 mod levels;
 mod merge;
