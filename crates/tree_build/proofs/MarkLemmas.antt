@@ -1,5 +1,5 @@
 -- The marks of the items that an old node has: between its first and its last none is marked.
-use Rattle.std.proofs.Common.{◌≡◌, ℕ, zero, suc, ◌+◌, ◌<◌, ◌≤◌, List, [], ◌∷◌, ◌++◌, length, map, Bool, false, sym, subst, length-append, arith}
+use Rattle.std.proofs.Common.{◌≡◌, ℕ, zero, suc, ◌+◌, ◌<◌, ◌≤◌, List, [], ◌∷◌, ◌++◌, length, get_or, map, Bool, false, sym, ap, subst, ◌∙◌, arith}
 use Rattle.std.specs.List.{AllByRecursion}
 use Rattle.std.proofs.Math.Seq.{get_or-append_seam}
 use Rattle.tree_node.specs.Nodes.{Binding, Inner, Leaf, Link, Node}
@@ -11,9 +11,9 @@ use Rattle.tree_build.proofs.DescentLemmas.{all_parts}
 use Rattle.tree_build.proofs.shared.PieceCuts.{is_cut}
 
 -- an item with others before and after it isn't marked
-pub unmarked_between : {X : Type 0} (marked : X → Bool) (front : List X) (x : X) (back : List X) → EndsNoSooner Two marked (front ++ x ∷ back) → 1 ≤ length front → 1 ≤ length back → marked x ≡ false
-unmarked_between {X} marked front x back no_sooner some more =
-    subst (λ (y : X). marked y ≡ false) (get_or-append_seam front x back x) (no_sooner (length front) some (omega (arith, length-append front (x ∷ back))) x)
+pub unmarked_between : {X : Type 0} (marked : X → Bool) (front : List X) (x : X) (back items : List X) → EndsNoSooner Two marked items → front ++ x ∷ back ≡ items → 1 ≤ length front → length front + 1 < length items → marked x ≡ false
+unmarked_between {X} marked front x back items no_sooner whole some more =
+    subst (λ (y : X). marked y ≡ false) (ap (λ (ys : List X). get_or ys (length front) x) (sym whole) ∙ get_or-append_seam front x back x) (no_sooner (length front) some more x)
 
 none_between : {X : Type 0} (marked : X → Bool) → EndsNoSooner Two marked []
 none_between marked = λ k some lt. absurd (omega (arith, lt))
