@@ -13,6 +13,7 @@ mod digest;
 mod entries;
 mod fault;
 mod fields;
+mod given;
 mod item;
 mod laws;
 mod limits;
