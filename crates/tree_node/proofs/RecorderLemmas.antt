@@ -127,7 +127,7 @@ module _ {S : Type 0} (given : HashMap Digest Given S) (unique : IsUnique digest
         let part = element_at parts k ltp in
         let lent : Digest × Bor (List ℕ) = (key_of x, g.bytes) in
         let pair : pair_of part.0 ≡ lent = sym (get_or-map pair_of parts k part.0 lent ltp ∙ ap pair_of part.1) ∙ ap (λ (es : List (Digest × Bor (List ℕ))). get_or es k lent) are
-                ∙ get_or-map lent_of given.entries k (key_of x, g) lent lt ∙ ap lent_of at in
+        ∙ get_or-map lent_of given.entries k (key_of x, g) lent lt ∙ ap lent_of at in
         let same : node_of part.0 ≡ x = ap (λ (q : Digest × Bor (List ℕ)). q.1.now) pair ∙ cc in
         (k, part.0, ltp, part.1, same)
 

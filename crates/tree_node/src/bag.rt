@@ -102,10 +102,7 @@ impl<'a> Shelf<'a> for Bag<'a> {
     }
 
     /// It takes no memory. It reads the node each time.
-    fn fetch_node(
-        &mut self,
-        key: &Digest,
-    ) -> Result<Result<NodeRef<'a>, NodeFault>, ShelfFault> {
+    fn fetch_node(&mut self, key: &Digest) -> Result<Result<NodeRef<'a>, NodeFault>, ShelfFault> {
         match self.fetch(key) {
             Ok(bytes) => Ok(NodeRef::read(bytes)),
             Err(fault) => Err(fault),

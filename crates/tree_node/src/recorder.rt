@@ -143,10 +143,7 @@ impl<'a> Shelf<'a> for Recorder<'a> {
 
     /// It takes memory only for a node that was not used before. A node that was read before isn't read
     /// again: then it is constant in time on average.
-    fn fetch_node(
-        &mut self,
-        key: &Digest,
-    ) -> Result<Result<NodeRef<'a>, NodeFault>, ShelfFault> {
+    fn fetch_node(&mut self, key: &Digest) -> Result<Result<NodeRef<'a>, NodeFault>, ShelfFault> {
         if let Some(node) = self.read_node(key) {
             return Ok(Ok(node));
         }

@@ -55,10 +55,7 @@ pub trait Shelf<'a> {
     /// The node with this digest, as `NodeRef::read` reads it: the node of a tree that its bytes spell,
     /// or why they are none. It is used in both cases. Otherwise as `fetch`; a shelf may remember what it
     /// read, so that a node that is fetched again isn't read again.
-    fn fetch_node(
-        &mut self,
-        key: &Digest,
-    ) -> Result<Result<NodeRef<'a>, NodeFault>, ShelfFault>
+    fn fetch_node(&mut self, key: &Digest) -> Result<Result<NodeRef<'a>, NodeFault>, ShelfFault>
         // What is read is held, and has the digest asked. The used nodes grow by just that one.
         ensures given { IfOk result (GivesRead
             (record { held = holds self.new; before = used self.old; after = used self.new }) key.now.0) }

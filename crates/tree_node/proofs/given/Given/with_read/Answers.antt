@@ -17,9 +17,9 @@ spelled bytes read node is found = subst (λ (r : Result NodeRef NodeFault). IfO
 pub invariant_of-result : goal.invariant_of-result
 invariant_of-result c = record {
   own = λ node is. (
-      (λ i. omega (arith, c.type_inv.bytes i)),
-      node_again c.args.bytes.now (node_read node)
-      (subst (λ (n : NodeRef). Spells c.args.bytes.now (node_read n)) (sym c.again.ensures ∙ same_node c.again.result node is)
-      (spelled c.args.bytes.now c.args.read.now c.in-Ok.node c.in-Ok.is c.requires.found)),
+    (λ i. omega (arith, c.type_inv.bytes i)),
+    node_again c.args.bytes.now (node_read node)
+        (subst (λ (n : NodeRef). Spells c.args.bytes.now (node_read n)) (sym c.again.ensures ∙ same_node c.again.result node is)
+        (spelled c.args.bytes.now c.args.read.now c.in-Ok.node c.in-Ok.is c.requires.found)),
   );
 }
