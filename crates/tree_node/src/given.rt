@@ -1,0 +1,53 @@
+//! A node that a recorder gave.
+
+ghost use Rattle.std.specs.Option.{ForSome};
+ghost use Rattle.std.specs.Prelude.{◌≡◌, IfSome, Ok};
+ghost use Rattle.tree_node.specs.Fetches.{ReadsAs};
+ghost use Rattle.tree_node.specs.NodeRefs.{node_read};
+ghost use Rattle.tree_node.specs.Nodes.{AreBytes};
+ghost use Rattle.tree_node.specs.internal.Reading.{node_at};
+
+use crate::fault::NodeFault;
+use crate::node::NodeRef;
+
+/// A node that was used: its bytes, and the node of a tree that they spell, where they were read as one.
+/// So a node that walks meet again and again is read once.
+#[derive(Drop)]
+pub(crate) struct Given<'a> {
+    pub(crate) bytes: &'a [u8],
+    node: Option<NodeRef<'a>>,
+    ghost own: { ForSome node (λ found. AreBytes bytes.now × (node_at bytes.now ≡ Ok (node_read found))) },
+}
+
+impl<'a> Given<'a> {
+    /// Bytes that weren't read as a node.
+    pub(crate) fn unread(bytes: &'a [u8]) -> Given<'a>
+        ensures { result.bytes ≡ bytes.entry }
+    {
+        Given { bytes, node: None }
+    }
+
+    /// Bytes with what reading them gave. Of bytes that are no node no more is known.
+    pub(crate) fn with_read(bytes: &'a [u8], read: &Result<NodeRef<'a>, NodeFault>) -> Given<'a>
+        requires { ReadsAs bytes.now read.now }
+        ensures { result.bytes ≡ bytes.entry }
+    {
+        if let Ok(node) = read {
+            return Given {
+                bytes,
+                node: Some(node.again()),
+            };
+        }
+        Given::unread(bytes)
+    }
+
+    /// The node that the bytes spell, where they were read.
+    pub(crate) fn node(&self) -> Option<NodeRef<'a>>
+        ensures { IfSome result (λ found. ReadsAs self.now.bytes.now (Ok found)) }
+    {
+        match &self.node {
+            Some(node) => Some(node.again()),
+            None => None,
+        }
+    }
+}
