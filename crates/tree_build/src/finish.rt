@@ -21,12 +21,12 @@ use crate::hand::make_node;
 use crate::leaf_item::LeafItem;
 use crate::levels::TreeEdit;
 use crate::piece::NewPiece;
-use crate::rebuilt::{NewNode, Rebuilt};
+use crate::rebuilt::Rebuilt;
 use crate::settle::{Top, settle};
 use crate::step::LevelEdit;
 use crate::tell::{tell_gone, tell_level};
 use std::alloc::{AllocError, Global};
-use tree_node::{Digest, Shelf, Tree};
+use tree_node::{Digest, NewNode, Shelf, Tree};
 
 /// The new tree's top, and what it has gained and lost.
 pub(crate) fn finish<'a, 'c, S: Shelf<'a>>(

@@ -36,6 +36,6 @@ pub use change::EntryChange;
 pub use fault::BuildFault;
 pub use laws::{cuts_law, determines_law, entries_law, levels_law, nodes_law, pieces_law};
 pub use rebuilder::rebuild;
-pub use rebuilt::{NewNode, Rebuilt};
+pub use rebuilt::Rebuilt;
 pub use shape::Shape;
 pub use tree_node::Item as Entry;

@@ -4,7 +4,7 @@ use std::alloc::{AllocError, Global};
 use std::process::Abort;
 use std::test::Fail;
 use tree_node::{
-    Bag, Child, Children, Digest, Entries, Item, NodeFault, NodeRef, Part, PutFault, Shelf,
+    Bag, Child, Children, Digest, Entries, Item, NewNode, NodeFault, NodeRef, Part, PutFault, Shelf,
     ShelfFault, Stock, Tree, digest_of, is_below, write_inner, write_leaf,
 };
 
@@ -288,6 +288,15 @@ fn fetches_a_node_after_refused_memory(rt: HostRuntime) -> Result<(), Fail> {
         fetched = fetch_greatest(&mut shelf, &digest_of(LEAF));
     }
     assert_eq!(rt; fetched, Ok(Ok(KEY)));
+    Ok(())
+}
+
+#[test]
+fn puts_a_digested_node(rt: HostRuntime) -> Result<(), Fail> {
+    let mut stock = Stock::new(rt.alloc());
+    let key = stock.put_new(NewNode::new(Vec::from_slice(rt.alloc(), LEAF)?))?;
+    assert_eq!(rt; key, digest_of(LEAF));
+    assert_eq!(rt; stock.shelf(rt.alloc()).fetch(&key), Ok(LEAF));
     Ok(())
 }
 
