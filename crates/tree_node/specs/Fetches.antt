@@ -8,6 +8,7 @@ use Rattle.tree_node.specs.Nodes.{Node, Spells}
 use Rattle.tree_node.specs.Outcomes.{ShelfUse}
 use Rattle.tree_node.specs.Shelves.{GrownBy}
 use Rattle.tree_node.specs.declared.fault.NodeFault.{NodeFault}
+use Rattle.tree_node.specs.declared.fetched.Fetched.{Fetched}
 use Rattle.tree_node.specs.declared.node.NodeRef.{NodeRef}
 
 -- what reading these bytes gives: the one node that they spell, or the first thing that is at fault
@@ -17,11 +18,10 @@ pub record ReadsAs (bytes : List ℕ) (read : Result NodeRef NodeFault) : Type 0
   pub refused : IfErr read (λ fault. IsFault bytes fault)
   pub fault : (fault : NodeFault) → IsFault bytes fault → read ≡ Err fault
 
--- The shelf gave a node with this digest, and this is what reading it gives. The bytes are held, and the used nodes grow by
--- just these.
-pub record GivesRead (shelf : ShelfUse) (key : List ℕ) (read : Result NodeRef NodeFault) : Type 0 where
-  pub bytes : List ℕ
-  pub is_held : shelf.held bytes
-  pub has_digest : digest bytes ≡ key
-  pub grown : GrownBy shelf.before shelf.after bytes
-  pub reads : ReadsAs bytes read
+-- The shelf gave this node, which has this digest: it holds the bytes, the used nodes grow by just these, and what was read
+-- is what reading them gives.
+pub record GivesNode (shelf : ShelfUse) (key : List ℕ) (node : Fetched) : Type 0 where
+  pub is_held : shelf.held node.bytes.now
+  pub has_digest : digest node.bytes.now ≡ key
+  pub grown : GrownBy shelf.before shelf.after node.bytes.now
+  pub reads : ReadsAs node.bytes.now node.read

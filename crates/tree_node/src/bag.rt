@@ -8,7 +8,7 @@ ghost use Rattle.tree_node.specs.Parts.{HaveNode, HaveRisingDigests, node_of};
 ghost use Rattle.tree_node.specs.Shelves.{IsEmptySet, SameNodes};
 
 use crate::digest::Digest;
-use crate::fault::NodeFault;
+use crate::fetched::Fetched;
 use crate::node::NodeRef;
 use crate::order::order_of;
 use crate::part::Part;
@@ -102,9 +102,12 @@ impl<'a> Shelf<'a> for Bag<'a> {
     }
 
     /// It takes no memory. It reads the node each time.
-    fn fetch_node(&mut self, key: &Digest) -> Result<Result<NodeRef<'a>, NodeFault>, ShelfFault> {
+    fn fetch_node(&mut self, key: &Digest) -> Result<Fetched<'a>, ShelfFault> {
         match self.fetch(key) {
-            Ok(bytes) => Ok(NodeRef::read(bytes)),
+            Ok(bytes) => Ok(Fetched {
+                bytes,
+                read: NodeRef::read(bytes),
+            }),
             Err(fault) => Err(fault),
         }
     }

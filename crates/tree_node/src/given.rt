@@ -8,6 +8,7 @@ ghost use Rattle.tree_node.specs.Nodes.{AreBytes};
 ghost use Rattle.tree_node.specs.internal.Reading.{node_at};
 
 use crate::fault::NodeFault;
+use crate::fetched::Fetched;
 use crate::node::NodeRef;
 
 /// A node that was used: its bytes, and the node of a tree that they spell, where they were read as one.
@@ -41,12 +42,15 @@ impl<'a> Given<'a> {
         Given::unread(bytes)
     }
 
-    /// The node that the bytes spell, where they were read.
-    pub(crate) fn node(&self) -> Option<NodeRef<'a>>
-        ensures { IfSome result (λ found. ReadsAs self.now.bytes.now (Ok found)) }
+    /// The bytes with the node that they spell, where they were read as one.
+    pub(crate) fn fetched(&self) -> Option<Fetched<'a>>
+        ensures { IfSome result (λ node. (node.bytes ≡ self.now.bytes) × ReadsAs node.bytes.now node.read) }
     {
         match &self.node {
-            Some(node) => Some(node.again()),
+            Some(node) => Some(Fetched {
+                bytes: self.bytes,
+                read: Ok(node.again()),
+            }),
             None => None,
         }
     }

@@ -1,7 +1,7 @@
 //! A shelf over a stock that knows which nodes were used.
 
 ghost use Rattle.std.specs.Option.{ForSome};
-ghost use Rattle.std.specs.Prelude.{◌≡◌, ℕ, List, Ok, Some, IfOk, IfSome, OnErr, OnOk, true};
+ghost use Rattle.std.specs.Prelude.{◌≡◌, Some, IfOk, IfSome, OnErr, OnOk, true};
 ghost use Rattle.tree_node.specs.Digests.{digest as digest_word};
 ghost use Rattle.tree_node.specs.Fetches.{ReadsAs};
 ghost use Rattle.tree_node.specs.Keys.{lent_at, owned_at};
@@ -9,7 +9,7 @@ ghost use Rattle.tree_node.specs.Parts.{HaveNode, HaveRisingDigests};
 ghost use Rattle.tree_node.specs.Shelves.{GrownBy, IsEmptySet, SameNodes};
 
 use crate::digest::Digest;
-use crate::fault::NodeFault;
+use crate::fetched::Fetched;
 use crate::given::Given;
 use crate::node::NodeRef;
 use crate::part::Part;
@@ -84,13 +84,13 @@ impl<'a> Recorder<'a> {
     }
 
     /// The node of a tree with this digest, if it was read before.
-    fn read_node(&self, key: &Digest) -> Option<NodeRef<'a>>
-        ensures { IfSome result (λ node. (bytes : List ℕ)
-            × RecorderUsed self.now bytes × RecorderHolds self.now bytes × (digest_word bytes ≡ key.now.0)
-            × ReadsAs bytes (Ok node)) }
+    fn read_node(&self, key: &Digest) -> Option<Fetched<'a>>
+        ensures { IfSome result (λ node.
+            RecorderUsed self.now node.bytes.now × RecorderHolds self.now node.bytes.now
+            × (digest_word node.bytes.now ≡ key.now.0) × ReadsAs node.bytes.now node.read) }
     {
         match self.given.get(key) {
-            Some(given) => given.node(),
+            Some(given) => given.fetched(),
             None => None,
         }
     }
@@ -143,16 +143,16 @@ impl<'a> Shelf<'a> for Recorder<'a> {
 
     /// It takes memory only for a node that was not used before. A node that was read before isn't read
     /// again: then it is constant in time on average.
-    fn fetch_node(&mut self, key: &Digest) -> Result<Result<NodeRef<'a>, NodeFault>, ShelfFault> {
+    fn fetch_node(&mut self, key: &Digest) -> Result<Fetched<'a>, ShelfFault> {
         if let Some(node) = self.read_node(key) {
-            return Ok(Ok(node));
+            return Ok(node);
         }
         let stock = self.stock;
         match stock.find(key) {
             Some(bytes) => {
                 let read = NodeRef::read(bytes);
                 match self.remember(key, Given::with_read(bytes, &read)) {
-                    Ok(()) => Ok(read),
+                    Ok(()) => Ok(Fetched { bytes, read }),
                     Err(fault) => Err(fault),
                 }
             }

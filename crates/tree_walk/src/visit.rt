@@ -37,7 +37,7 @@ pub(crate) fn open<'a, S: Shelf<'a>>(
         → Outcome cause_of (λ found. node_read found ≡ node) (λ bytes. bytes ≡ spelling node)
         (record { held = S.holds shelf.new; before = S.used shelf.old; after = S.used shelf.new }) result }
 {
-    let read = shelf.fetch_node(key)?;
+    let read = shelf.fetch_node(key)?.read;
     tally.count_fetch();
     match read {
         Ok(node) if node.tree() == tree => Ok(node),

@@ -236,7 +236,7 @@ fn fetch_greatest<'a, S: Shelf<'a>>(
     shelf: &mut S,
     key: &Digest,
 ) -> Result<Result<&'a [u8], NodeFault>, ShelfFault> {
-    match shelf.fetch_node(key)? {
+    match shelf.fetch_node(key)?.read {
         Ok(NodeRef::Leaf { entries, .. }) => Ok(Ok(entries.greatest())),
         Ok(NodeRef::Inner { children, .. }) => Ok(Ok(children.greatest())),
         Err(fault) => Ok(Err(fault)),
