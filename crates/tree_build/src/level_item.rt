@@ -1,10 +1,10 @@
 //! Items of a level of a tree, and changes of them.
 
 ghost use Rattle.std.specs.Prelude.{◌≡◌, ◌≤◌, ◌++◌, ℕ, List, Bool, IfOk, length, map, refl};
+ghost use Rattle.tree_build.specs.Cuts.{EndsNoSooner};
 ghost use Rattle.tree_node.specs.declared.limits.TheConstants.{ITEM_LIMIT};
 ghost use Rattle.tree_node.specs.NodeRefs.{node_read, number_of};
 ghost use Rattle.tree_node.specs.Nodes.{Node, spelling};
-ghost use Rattle.tree_build.specs.Cuts.{EndsNoSooner};
 ghost use Rattle.tree_node.specs.Trees.{Two, entry_count, greatest_of};
 
 use crate::cut::Cut;
@@ -71,7 +71,7 @@ pub(crate) trait LevelItem<'x>: NodeItem {
         ensures { (tree level : ℕ)
             → result.now ≡ greatest_of (Self.node_over tree level (map Self.meaning items.now)) };
 
-    /// The items of a node of the level, which none but its first and its last can end.
+    /// The items of a node of the level, of which none between the first and the last is marked.
     fn items_of(alloc: Global, node: NodeRef<'x>) -> Result<Vec<Self>, AllocError>
         requires { EndsNoSooner Two Self.marked_in (Self.items_in (node_read node)) }
         ensures { IfOk result (λ items.

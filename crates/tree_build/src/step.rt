@@ -186,7 +186,7 @@ fn next_wanted<'c, T>(
     }
 }
 
-/// Takes a node and the changes that fall in it, cuts on, and closes the last piece of the level.
+/// Takes an old node and the changes that fall in it, cuts on, and closes the last piece of the level.
 fn take<'c, T: LevelItem<'c>>(
     alloc: Global,
     place: OldLevel,
@@ -199,7 +199,7 @@ fn take<'c, T: LevelItem<'c>>(
     requires own { AreOwnAndRising T.key_in (changes_meant T.meaning here.now) }
     requires fit { T.Fit (map T.meaning work.old.hand.items
         ++ changed T.key_in (T.items_in (node_read found.node)) (changes_meant T.meaning here.now)) }
-    requires inside { EndsNoSooner Two T.marked_in (T.items_in (node_read found.node)) }
+    requires no_sooner { EndsNoSooner Two T.marked_in (T.items_in (node_read found.node)) }
     ensures few { OnOk result (length work.new.hand.items < ITEM_LIMIT) }
     ensures olds { OnOk result (work.new.olds.items ≡ work.old.olds.items ++ found.entry.old ∷ []) }
     ensures went_on { OnOk result (HaveGoneOn (ends_by Two T.marked_in) (T.node_over (number_of place.tree) place.level) is_last
