@@ -1,6 +1,6 @@
 -- What a job says of clap's matches.
 -- Source: this project; the digits of a root are decoded as `hex` decodes them.
-use Rattle.std.specs.Prelude.{◌≡◌, ◌⊎◌, List, Ok, Option, Some, None, codes}
+use Rattle.std.specs.Prelude.{◌≡◌, ◌⊎◌, List, Ok, Option, Some, None, codes, option_map}
 use Rattle.std.specs.String.{string_bytes}
 use Rattle.clap.specs.Words.{Row, Text, first_of, one_of}
 use Rattle.hex.specs.Hex.{decode_of}
@@ -11,7 +11,7 @@ use Rattle.command_line.specs.PublishCommand.{publish_name}
 use Rattle.command_line.specs.ProveCommand.{prove_name}
 use Rattle.command_line.specs.CheckCommand.{IsRootText, check_name}
 use Rattle.command_line.specs.Numbers.{IsNumber}
-use Rattle.command_line.specs.ServeCommand.{serve_name}
+use Rattle.command_line.specs.ServeCommand.{CantServe, MayTake, serve_name}
 use Rattle.command_line.specs.declared.job.Job.{Job}
 use Rattle.command_line.specs.declared.job.Job.TheVariants.{Ask, Publish, Prove, Check, Serve}
 
@@ -32,11 +32,13 @@ Gives (Check root query answer proof) name rows = (name ≡ check_name)
     × (string_bytes query ≡ text_of (codes "QUERYFILE") rows)
     × (string_bytes answer ≡ text_of (codes "ANSWERFILE") rows)
     × (string_bytes proof ≡ text_of (codes "PROOFFILE") rows)
-Gives (Serve file port connections edition) name rows = (name ≡ serve_name)
+Gives (Serve file port connections edition changes) name rows = (name ≡ serve_name)
     × (string_bytes file ≡ text_of (codes "FILE") rows)
     × IsNumber 16 0 (one_of (codes "PORT") rows) port
     × IsNumber 32 4294967295 (one_of (codes "connections") rows) connections
     × AsksForEdition (first_of (codes "edition") rows) (one_of (codes "sequence") rows) edition
+    × (option_map string_bytes changes ≡ first_of (codes "changes") rows)
+    × MayTake changes edition
 
 -- the job is that of the command that was matched
 abbrev pub GivesMatch : Job → Option (Text × List Row) → Type 0
@@ -48,7 +50,9 @@ abbrev pub HasBadRoot : Option (Text × List Row) → Type 0
 HasBadRoot None = ⊥
 HasBadRoot (Some matched) = (matched.0 ≡ check_name) × ¬ (IsRootText (text_of (codes "ROOT") matched.1))
 
--- the command `publish`, `prove` or `serve` was matched, with a word for the edition that is neither `1` nor `2`
+-- the command `publish`, `prove` or `serve` was matched, with a word for the edition that is neither `1` nor `2`; or
+-- `serve`, with the first edition and a folder of changes
 abbrev pub HasBadEdition : Option (Text × List Row) → Type 0
 HasBadEdition None = ⊥
-HasBadEdition (Some matched) = ((matched.0 ≡ publish_name) ⊎ ((matched.0 ≡ prove_name) ⊎ (matched.0 ≡ serve_name))) × IsBadEdition (first_of (codes "edition") matched.1)
+HasBadEdition (Some matched) = (((matched.0 ≡ publish_name) ⊎ (matched.0 ≡ prove_name)) × IsBadEdition (first_of (codes "edition") matched.1))
+    ⊎ ((matched.0 ≡ serve_name) × CantServe (first_of (codes "edition") matched.1) (first_of (codes "changes") matched.1))

@@ -44,7 +44,7 @@ pub enum Job {
         /// The file whose bytes are the proof.
         proof_file: String,
     },
-    /// `serve FILE PORT [--connections N] [--edition 1|2] [--sequence N]`: answer queries over HTTP.
+    /// `serve FILE PORT [--connections N] [--changes DIR] [--edition 1|2] [--sequence N]`: answer queries over HTTP.
     Serve {
         /// The OPL file with the set's objects.
         file: String,
@@ -52,7 +52,9 @@ pub enum Job {
         port: u16,
         /// The number of connections to serve.
         connections: u32,
-        /// The edition of the root.
+        /// The edition of the root; the second where there is a folder of changes.
         edition: Edition,
+        /// The folder in which change files are looked for, if any.
+        changes: Option<String>,
     },
 }

@@ -1,14 +1,15 @@
-//! The command `serve FILE PORT [--connections N] [--edition 1|2] [--sequence N]`.
+//! The command `serve FILE PORT [--connections N] [--changes DIR] [--edition 1|2] [--sequence N]`.
 
-ghost use Rattle.std.specs.Prelude.{◌≡◌, ◌⊎◌, IfErr, IfOk, codes, false};
+ghost use Rattle.std.specs.Prelude.{◌≡◌, ◌⊎◌, IfErr, IfOk, codes, false, is_some, option_map, true};
+ghost use Rattle.std.specs.String.{string_bytes};
 ghost use Rattle.clap.specs.Words.{first_of, found_of, one_of, rows_of, rule_of};
-ghost use Rattle.command_line.specs.EditionOptions.{IsBadEdition};
 ghost use Rattle.command_line.specs.internal.Commands.{IsCommand};
 ghost use Rattle.command_line.specs.Jobs.{Gives};
 ghost use Rattle.command_line.specs.Numbers.{IsNumber};
-ghost use Rattle.command_line.specs.ServeCommand.{connections_rule, port_rule, serve_app, serve_name};
+ghost use Rattle.command_line.specs.ServeCommand.{CantServe, MayTake, changes_rule, connections_rule, port_rule, serve_app, serve_name};
 
 use crate::arguments::{FILE, and_option, and_wanted, text_of};
+use crate::edition::Edition;
 use crate::edition_options::{and_edition_options, edition_of};
 use crate::job::Job;
 use crate::words_fault::WordsFault;
@@ -30,6 +31,11 @@ const CONNECTIONS: &str = "connections";
 const CONNECTIONS_HELP: &str =
     "Number of connections to serve, one after the other; 4294967295 if it isn't given";
 
+const CHANGES: &str = "changes";
+
+const CHANGES_HELP: &str =
+    "Folder of change files: before a connection, DIR/<sequence + 1>.opl is applied if it is there";
+
 /// The command, as `clap` is told of it.
 pub fn serve_command<'a>(alloc: Global) -> Result<Command<'a>, AllocError>
     ensures { IfOk result (IsCommand serve_app) }
@@ -37,6 +43,7 @@ pub fn serve_command<'a>(alloc: Global) -> Result<Command<'a>, AllocError>
     let command = and_wanted(alloc, Command::new(alloc, SERVE).about(ABOUT), FILE)?;
     let command = and_option(command, port_argument(alloc))?;
     let command = and_option(command, connections_option(alloc))?;
+    let command = and_option(command, changes_option(alloc))?;
     and_edition_options(alloc, command)
 }
 
@@ -61,20 +68,54 @@ fn connections_option<'a>(alloc: Global) -> Arg<'a>
         .help(CONNECTIONS_HELP)
 }
 
-/// What the matches of this command ask for. `BadEdition` where the word after `--edition` is neither `1` nor `2`.
+fn changes_option<'a>(alloc: Global) -> Arg<'a>
+    ensures rule { rule_of result ≡ changes_rule }
+    ensures local { result.global ≡ false }
+{
+    Arg::new(alloc, CHANGES)
+        .long(CHANGES)
+        .value_name("DIR")
+        .help(CHANGES_HELP)
+}
+
+/// What the matches of this command ask for. `BadEdition` where the word after `--edition` is neither `1` nor `2`, and
+/// where it is `1` and a folder of changes is named: only the second edition has a next sequence.
 pub fn serve_job(alloc: Global, matches: &ArgMatches<'_>) -> Result<Job, WordsFault>
     ensures given { IfOk result (λ job. Gives job serve_name (rows_of (found_of matches.now))) }
     ensures refused { IfErr result (λ fault. (fault ≡ WordsFault.Memory) ⊎ ((fault ≡ WordsFault.BadEdition)
-        × IsBadEdition (first_of (codes "edition") (rows_of (found_of matches.now))))) }
+        × CantServe (first_of (codes "edition") (rows_of (found_of matches.now))) (first_of (codes "changes") (rows_of (found_of matches.now))))) }
 {
-    let file = text_of(alloc, matches, FILE)?;
     let edition = edition_of(matches)?;
+    let changes = changes_of(alloc, matches, edition)?;
+    let file = text_of(alloc, matches, FILE)?;
     Ok(Job::Serve {
         file,
         port: port_of(matches),
         connections: connections_of(matches),
         edition,
+        changes,
     })
+}
+
+/// A copy of the name of the folder of changes, where the matches have one. `BadEdition` where they do, and the edition
+/// is the first.
+fn changes_of(
+    alloc: Global,
+    matches: &ArgMatches<'_>,
+    edition: Edition,
+) -> Result<Option<String>, WordsFault>
+    ensures given { IfOk result (λ changes. option_map string_bytes changes ≡ first_of (codes "changes") (rows_of (found_of matches.now))) }
+    ensures may { IfOk result (λ changes. MayTake changes edition) }
+    ensures refused { IfErr result (λ fault. (fault ≡ WordsFault.Memory) ⊎ ((fault ≡ WordsFault.BadEdition)
+        × (edition ≡ Edition.One) × (is_some (first_of (codes "changes") (rows_of (found_of matches.now))) ≡ true))) }
+{
+    match matches.get_str(CHANGES) {
+        None => Ok(None),
+        Some(folder) => match edition {
+            Edition::One => Err(WordsFault::BadEdition),
+            Edition::Two { sequence: _ } => Ok(Some(String::from_str(alloc, folder)?)),
+        },
+    }
 }
 
 /// The port in the matches.

@@ -28,7 +28,8 @@ use std::alloc::{AllocError, Global};
 ///
 /// `Usage` with `clap`'s text, where the words are none of this command line, or ask for help. `BadRoot`
 /// where the word ROOT of `check` isn't 64 hexadecimal digits. `BadEdition` where the word after `--edition` of
-/// `publish`, `prove` or `serve` is neither `1` nor `2`. `Memory` where an allocation was refused.
+/// `publish`, `prove` or `serve` is neither `1` nor `2`, and where `serve` is asked to take changes in edition 1.
+/// `Memory` where an allocation was refused.
 pub fn read_words(alloc: Global, words: Vec<String>) -> Result<Job, WordsFault>
     ensures read { IfOk result (λ job. GivesMatch job (subcommand_of program_app (map string_bytes words.items))) }
     ensures accepted { OnOk result (fault_of program_app (map string_bytes words.items) ≡ []) }

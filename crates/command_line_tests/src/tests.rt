@@ -119,19 +119,27 @@ fn reads_serve(rt: HostRuntime) -> Result<(), Fail> {
     for (words, want) in [
         (
             "80",
-            "Serve { file: \"a.opl\", port: 80, connections: 4294967295, edition: Two { sequence: 0 } }",
+            "Serve { file: \"a.opl\", port: 80, connections: 4294967295, edition: Two { sequence: 0 }, changes: None }",
         ),
         (
             "65535 --connections 1 --edition 2 --sequence 7",
-            "Serve { file: \"a.opl\", port: 65535, connections: 1, edition: Two { sequence: 7 } }",
+            "Serve { file: \"a.opl\", port: 65535, connections: 1, edition: Two { sequence: 7 }, changes: None }",
         ),
         (
             "0 --edition=1 --connections=4294967295",
-            "Serve { file: \"a.opl\", port: 0, connections: 4294967295, edition: One }",
+            "Serve { file: \"a.opl\", port: 0, connections: 4294967295, edition: One, changes: None }",
         ),
         (
             "+8080 --connections 0",
-            "Serve { file: \"a.opl\", port: 8080, connections: 0, edition: Two { sequence: 0 } }",
+            "Serve { file: \"a.opl\", port: 8080, connections: 0, edition: Two { sequence: 0 }, changes: None }",
+        ),
+        (
+            "80 --changes new --sequence 7",
+            "Serve { file: \"a.opl\", port: 80, connections: 4294967295, edition: Two { sequence: 7 }, changes: Some(\"new\") }",
+        ),
+        (
+            "80 --changes= --edition 2",
+            "Serve { file: \"a.opl\", port: 80, connections: 4294967295, edition: Two { sequence: 0 }, changes: Some(\"\") }",
         ),
     ] {
         let line = format!(in alloc; "m serve a.opl {words}")?;
@@ -149,6 +157,13 @@ fn refuses_bad_editions(rt: HostRuntime) -> Result<(), Fail> {
             let told = refusal(alloc, &line)?;
             assert_eq!(rt; told.as_str(), "bad edition", "{line}");
         }
+    }
+    for line in [
+        "m serve a.opl 80 --changes new --edition 1",
+        "m serve --edition=1 a.opl --changes= 80",
+    ] {
+        let told = refusal(alloc, line)?;
+        assert_eq!(rt; told.as_str(), "bad edition", "{line}");
     }
     Ok(())
 }
@@ -274,7 +289,7 @@ fn refuses_with_the_text_of_clap(rt: HostRuntime) -> Result<(), Fail> {
         ),
         (
             "osm_mirror serve -h",
-            "Answers queries over HTTP, with proofs, on 127.0.0.1\n\nUsage: osm_mirror serve [OPTIONS] <FILE> <PORT>\n\nArguments:\n  <FILE>  OPL file with the objects of the set\n  <PORT>  Port to listen on; 0 takes any that is free\n\nOptions:\n      --connections <N>    Number of connections to serve, one after the other; 4294967295 if it isn't given\n      --edition <EDITION>  Edition of the root: 1, or 2 with a sequence number; 2 if it isn't given\n      --sequence <N>       Sequence number of an edition 2 root, 0 if it isn't given; has no effect with '--edition 1'\n  -h, --help               Print help\n",
+            "Answers queries over HTTP, with proofs, on 127.0.0.1\n\nUsage: osm_mirror serve [OPTIONS] <FILE> <PORT>\n\nArguments:\n  <FILE>  OPL file with the objects of the set\n  <PORT>  Port to listen on; 0 takes any that is free\n\nOptions:\n      --connections <N>    Number of connections to serve, one after the other; 4294967295 if it isn't given\n      --changes <DIR>      Folder of change files: before a connection, DIR/<sequence + 1>.opl is applied if it is there\n      --edition <EDITION>  Edition of the root: 1, or 2 with a sequence number; 2 if it isn't given\n      --sequence <N>       Sequence number of an edition 2 root, 0 if it isn't given; has no effect with '--edition 1'\n  -h, --help               Print help\n",
         ),
         (
             "osm_mirror check -h",

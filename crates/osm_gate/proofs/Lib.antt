@@ -1,3 +1,4 @@
+pub mod shared
 pub mod BreakLemmas
 pub mod ConnectionLemmas
 pub mod FeedLemmas

@@ -1,25 +1,31 @@
 //! The program `osm_mirror`: an Overpass query server whose answers can be checked.
 //!
 //! Each command is a function over readers and writers that it is lent: [`ask`](ask::ask),
-//! [`publish`](publish::publish), [`prove`](prove::prove), [`check`](check::check), [`serve`](serve::serve). What
+//! [`publish`](publish::publish), [`prove`](prove::prove), [`check`](check::check), [`serve`](serve::serve) in the first
+//! edition and [`serve_changing`](serve_changing::serve_changing) in the second. What
 //! stands here fetches the words, lends the command that they ask for its files and its socket, tells of a fault and
 //! ends with the status.
 #![tactic(auto)]
 
 pub mod ask;
+pub mod changes_fault;
 pub mod check;
 pub mod command_fault;
 pub mod door;
+pub mod drawer;
+pub mod folder_drawer;
 pub mod input_file;
 pub mod listening_line;
 pub mod outlet;
 pub mod output_file;
 pub mod prove;
 pub mod publish;
+pub mod publish_next;
 pub mod read_snapshot;
 pub mod read_whole;
 pub mod root_line;
 pub mod serve;
+pub mod serve_changing;
 pub mod socket_door;
 pub mod status;
 #[cfg(test)]
@@ -31,6 +37,7 @@ pub mod write_whole;
 use crate::ask::ask;
 use crate::check::check;
 use crate::command_fault::CommandFault;
+use crate::folder_drawer::FolderDrawer;
 use crate::input_file::InputFile;
 use crate::listening_line::listening_line;
 use crate::output_file::OutputFile;
@@ -38,10 +45,12 @@ use crate::prove::prove;
 use crate::publish::publish;
 use crate::read_snapshot::read_snapshot;
 use crate::serve::serve;
+use crate::serve_changing::serve_changing;
 use crate::socket_door::SocketDoor;
 use crate::status::Status;
 use crate::tree_edition::tree_edition;
 use command_line::{Job, WordsFault, read_words};
+use osm_desk::Desk;
 use osm_index::Edition;
 use std::env;
 use std::io::{ErrorKind, Write};
@@ -117,20 +126,24 @@ fn done(rt: &HostRuntime, job: Job) -> Status {
             port,
             connections,
             edition,
+            changes,
         } => {
             let edition = tree_edition(edition);
-            ended(rt, serve_file(rt, &file, port, connections, edition))
+            let drawer = FolderDrawer::new(rt, changes.as_deref());
+            ended(rt, serve_file(rt, &file, port, connections, edition, drawer))
         }
     }
 }
 
-/// Serves the set of this file on this port. Once it listens, it says where and over what.
+/// Serves the set of this file on this port, in the second edition with the changes of this drawer. Once it listens, it
+/// says where and over what.
 fn serve_file(
     rt: &HostRuntime,
     file: &str,
     port: u16,
     connections: u32,
     edition: Edition,
+    mut drawer: FolderDrawer<'_>,
 ) -> Result<(), CommandFault> {
     let alloc = rt.alloc();
     let snapshot = read_snapshot(alloc, &mut InputFile::new(rt, file), edition)?;
@@ -139,7 +152,13 @@ fn serve_file(
     let errors = &mut rt.stderr();
     // Where standard error takes nothing, it serves all the same.
     let _ = write!(errors, "{line}");
-    serve(alloc, &snapshot, &mut door, connections, errors)
+    match edition {
+        Edition::One => serve(alloc, &snapshot, &mut door, connections, errors),
+        Edition::Two { sequence: _ } => {
+            let mut desk = Desk::new(alloc, snapshot);
+            serve_changing(alloc, &mut desk, &mut drawer, &mut door, connections, errors)
+        }
+    }
 }
 
 /// How the program ends after a command; a fault is told in one line.

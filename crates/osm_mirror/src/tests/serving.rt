@@ -25,10 +25,10 @@ const REQUEST: &str =
 
 /// A door that gives these inputs, one a connection, and then fails; what is written is kept.
 #[derive(Drop)]
-struct Inputs {
-    alloc: Global,
-    left: VecDeque<Vec<u8>>,
-    written: Vec<u8>,
+pub(super) struct Inputs {
+    pub(super) alloc: Global,
+    pub(super) left: VecDeque<Vec<u8>>,
+    pub(super) written: Vec<u8>,
 }
 
 impl Door for Inputs {

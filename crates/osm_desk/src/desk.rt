@@ -1,0 +1,200 @@
+//! Connections that share a snapshot.
+
+ghost use Rattle.std.specs.FinMap.{get};
+ghost use Rattle.std.specs.Prelude.{◌≡◌, IfErr, IfOk, IsSome, OnErr, OnOk, [], is_some};
+ghost use Rattle.osm_gate.specs.Connections.{Responds, heard_next, open_rest};
+ghost use Rattle.osm_index.specs.Applying.{IsSecond};
+ghost use Rattle.osm_index.specs.Publications.{Publication};
+ghost use Rattle.osm_index.specs.Snapshots.{HoldsPublication, IsAsBefore};
+ghost use Rattle.osm_desk.specs.Contents.{desk_over, fresh_contents};
+ghost use Rattle.osm_desk.specs.Made.{IsMade};
+ghost use Rattle.osm_desk.specs.Stepping.{HasStepped, IsRefusal, LeavesSnapshot, texts_of};
+ghost use Rattle.osm_desk.specs.internal.Serving.{HasArrived, IsFree, RefusesChanges, RefusesOpening, RefusesPiece, rest_of, with_rest, without};
+
+use crate::desk_fault::DeskFault;
+use crate::event::Event;
+use crate::limits::CONNECTION_LIMIT;
+use opl_codec::Change;
+use osm_gate::Gate;
+use osm_index::{ApplyFault, Snapshot};
+use std::alloc::{AllocError, Global};
+use std::collections::BTreeMap;
+use std::marker::Model;
+
+/// The connections that are open over one snapshot of the second edition. Contracts see it as that snapshot, and what is
+/// left of each connection.
+#[derive(Drop)]
+pub struct Desk {
+    alloc: Global,
+    snapshot: Snapshot,
+    gates: BTreeMap<u32, Gate>,
+}
+
+impl Model for Desk {
+    ghost use Rattle.std.specs.Coded.{codes};
+    ghost use Rattle.std.specs.FinMap.{code, from_entries};
+    ghost use Rattle.osm_index.specs.Applying.{IsSecond};
+    ghost use Rattle.osm_index.specs.contracts.snapshot.Snapshot as snapshots;
+    ghost use Rattle.osm_desk.specs.Contents.{Contents};
+
+    ghost Value = { Contents };
+
+    ghost coded = { Prim.hlevel (codes, code, snapshots.the_row.coded) };
+
+    ghost view = { λ d. record { snapshot = d.snapshot; connections = from_entries d.gates.entries } };
+
+    ghost invariant = { λ d. IsSecond d.snapshot.edition };
+}
+
+impl Desk {
+    /// A desk over the snapshot, without connections. It takes no memory.
+    pub fn new(alloc: Global, snapshot: Snapshot) -> Desk
+        requires { IsSecond snapshot.edition }
+        ensures { result ≡ fresh_contents snapshot }
+    {
+        Desk {
+            alloc,
+            snapshot,
+            gates: BTreeMap::new(alloc),
+        }
+    }
+
+    /// The snapshot that is in force.
+    pub fn snapshot(&self) -> &Snapshot
+        ensures value { result.now ≡ self.now.snapshot }
+        // It is of the second edition, as long as there is the desk.
+        ensures second { IsSecond result.now.edition }
+    {
+        &self.snapshot
+    }
+
+    /// Takes an event, and gives the bytes for each connection that has some to get: for a piece those of its own
+    /// connection, which may be none, and for any other event nothing.
+    ///
+    /// # Errors
+    ///
+    /// `AlreadyOpen` (D1) where an open connection is opened, else `NoRoom` (D3) where 64 are open. `NotOpen` (D2) where
+    /// a piece arrives of a connection that isn't open, or one ends that isn't. `Refused` (D4) with the reason where
+    /// changes are refused. `Memory` where an allocation was refused: not at an end, and not in place of D1 to D3.
+    /// After a refusal all is as before.
+    pub fn step(&mut self, event: Event) -> Result<Vec<(u32, Vec<u8>)>, DeskFault>
+        // It does what the definition of a step says, over whatever publication the snapshot holds.
+        ensures steps { (p : Publication) → HoldsPublication self.old.snapshot p
+            → IfOk result (λ answers. HasStepped (desk_over self.old p) event (texts_of answers.items) self.new) }
+        // It is refused as that says, and out of memory only where it may be.
+        ensures refused { (p : Publication) → HoldsPublication self.old.snapshot p → IfErr result (IsRefusal (desk_over self.old p) event) }
+        // A refusal changes nothing,
+        ensures unchanged { OnErr result ((self.new.connections ≡ self.old.connections) × IsAsBefore self.old.snapshot self.new.snapshot) }
+        // and only changes that are published change the snapshot.
+        ensures snapshot { LeavesSnapshot event self.old.snapshot self.new.snapshot }
+    {
+        match event {
+            Event::Open(number) => self.open(number)?,
+            Event::Arrive(number, piece) => return self.arrive(number, &piece),
+            Event::End(number) => {
+                if !self.forget(number) {
+                    return Err(DeskFault::NotOpen);
+                }
+            }
+            Event::Publish(changes) => self.publish(&changes)?,
+        }
+        Ok(Vec::new(self.alloc))
+    }
+
+    /// Whether the connection is open. It takes no memory.
+    fn is_open(&self, number: u32) -> bool
+        ensures { result ≡ is_some (get self.now.connections number) }
+    {
+        self.gates.contains_key(&number)
+    }
+
+    /// Whether the connection takes nothing more. It takes no memory.
+    pub(crate) fn is_closed(&self, number: u32) -> bool
+        ensures { result ≡ (rest_of self.now number).is_closed }
+    {
+        match self.gates.get(&number) {
+            Some(gate) => gate.closed(),
+            None => true,
+        }
+    }
+
+    /// Opens a connection.
+    pub(crate) fn open(&mut self, number: u32) -> Result<(), DeskFault>
+        ensures opened { OnOk result (IsFree self.old number × (self.new ≡ with_rest self.old number (open_rest []))) }
+        ensures refused { IfErr result (RefusesOpening self.old number) }
+        ensures unchanged { OnErr result (self.new ≡ self.old) }
+    {
+        if self.is_open(number) {
+            return Err(DeskFault::AlreadyOpen);
+        }
+        if self.gates.len() >= CONNECTION_LIMIT {
+            return Err(DeskFault::NoRoom);
+        }
+        let Ok(gate) = Gate::new(self.alloc) else {
+            return Err(DeskFault::Memory);
+        };
+        let Ok(_) = self.gates.insert(number, gate) else {
+            return Err(DeskFault::Memory);
+        };
+        Ok(())
+    }
+
+    /// Takes a piece of an open connection, and gives the responses to the requests that it completes.
+    pub(crate) fn hear(&mut self, number: u32, piece: &[u8]) -> Result<Vec<u8>, AllocError>
+        requires { IsSome (get self.old.connections number) }
+        ensures responses { (p : Publication) → HoldsPublication self.old.snapshot p
+            → IfOk result (λ text. Responds p (heard_next (rest_of self.old number) piece.now).outcomes text.items) }
+        ensures rest { OnOk result (self.new ≡ with_rest self.old number (heard_next (rest_of self.old number) piece.now).rest) }
+        ensures unchanged { OnErr result (self.new ≡ self.old) }
+    {
+        let Some(gate) = self.gates.get_mut(&number) else {
+            unreachable!("the connection is open")
+        };
+        gate.feed(piece, &self.snapshot)
+    }
+
+    /// Takes a piece of a connection, and gives the responses with its number.
+    fn arrive(&mut self, number: u32, piece: &[u8]) -> Result<Vec<(u32, Vec<u8>)>, DeskFault>
+        ensures responses { (p : Publication) → HoldsPublication self.old.snapshot p
+            → IfOk result (λ answers. HasArrived (desk_over self.old p) number piece.now (texts_of answers.items) self.new) }
+        ensures refused { IfErr result (RefusesPiece self.old number) }
+        ensures unchanged { OnErr result (self.new ≡ self.old) }
+        ensures snapshot { self.new.snapshot ≡ self.old.snapshot }
+    {
+        if !self.is_open(number) {
+            return Err(DeskFault::NotOpen);
+        }
+        // Room for the answer comes first: after the piece is taken nothing may be refused.
+        let Ok(mut answers) = Vec::with_capacity(self.alloc, 1) else {
+            return Err(DeskFault::Memory);
+        };
+        let Ok(responses) = self.hear(number, piece) else {
+            return Err(DeskFault::Memory);
+        };
+        answers.push((number, responses)).unwrap();
+        Ok(answers)
+    }
+
+    /// Forgets a connection, and tells whether it was open. It takes no memory.
+    pub(crate) fn forget(&mut self, number: u32) -> bool
+        ensures was { result ≡ is_some (get self.old.connections number) }
+        ensures forgotten { self.new ≡ without self.old number }
+    {
+        self.gates.remove(&number).is_some()
+    }
+
+    /// Changes the snapshot.
+    fn publish(&mut self, changes: &[Change]) -> Result<(), DeskFault>
+        ensures made { (p : Publication) → HoldsPublication self.old.snapshot p
+            → OnOk result ((q : Publication) × IsMade p changes.now (Ok q) × HoldsPublication self.new.snapshot q) }
+        ensures refused { (p : Publication) → HoldsPublication self.old.snapshot p → IfErr result (RefusesChanges p changes.now) }
+        ensures connections { self.new.connections ≡ self.old.connections }
+        ensures unchanged { OnErr result (IsAsBefore self.old.snapshot self.new.snapshot) }
+    {
+        match self.snapshot.apply(self.alloc, changes) {
+            Ok(_delta) => Ok(()),
+            Err(ApplyFault::Memory) => Err(DeskFault::Memory),
+            Err(fault) => Err(DeskFault::Refused(fault)),
+        }
+    }
+}

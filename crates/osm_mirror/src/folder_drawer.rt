@@ -1,0 +1,44 @@
+//! A folder of change files.
+
+ghost use Rattle.std.specs.Prelude.{◌≡◌, ◌⊎◌, IfErr, None};
+
+use crate::command_fault::CommandFault;
+use crate::drawer::Drawer;
+use std::fs::File;
+use std::io::ErrorKind;
+
+/// The folder in which a site puts the change files of its publications, each as `<sequence>.opl`; or no folder at all,
+/// in which no file is found.
+#[derive(Drop)]
+pub(crate) struct FolderDrawer<'a> {
+    rt: &'a HostRuntime,
+    folder: Option<&'a str>,
+}
+
+impl<'a> FolderDrawer<'a> {
+    /// The folder of this name, which isn't looked at yet.
+    pub(crate) fn new(rt: &'a HostRuntime, folder: Option<&'a str>) -> FolderDrawer<'a> {
+        FolderDrawer { rt, folder }
+    }
+}
+
+impl Drawer for FolderDrawer<'_> {
+    type Reader = File;
+
+    ghost asked = { λ _. None };
+
+    fn change_file(&mut self, sequence: u64) -> Result<Option<File>, CommandFault> {
+        let Some(folder) = self.folder else {
+            return Ok(None);
+        };
+        let path = format!(in self.rt.alloc(); "{folder}/{sequence}.opl")?;
+        match File::open(self.rt, &path) {
+            Ok(file) => Ok(Some(file)),
+            Err(error) => match error.kind() {
+                ErrorKind::NotFound => Ok(None),
+                ErrorKind::OutOfMemory => Err(CommandFault::Memory),
+                _ => Err(CommandFault::Device),
+            },
+        }
+    }
+}

@@ -1,0 +1,238 @@
+"""`serve --changes DIR` over loopback sockets: change files that come while a mirror serves, files that are refused, refused
+allocations, and a soak: 100,000 requests while 1,000 change files come, each answer checked."""
+
+import os
+import random
+import tempfile
+from concurrent.futures import ThreadPoolExecutor
+from contextlib import contextmanager
+from itertools import count
+from pathlib import Path
+
+from lines_rows_test import set_file
+from runs import PROGRAM, Outcome, Tally, built_library, run
+from serve_test import root_of, server, told
+
+ROOT_REQUEST = b"GET /api/root HTTP/1.1\r\nConnection: close\r\n\r\n"
+
+DELETE_WAY = b"w10 v2 dD\n"
+
+CONNECTIONS, REQUESTS = 1_000, 100
+
+QUERIES = [b"node(1);out;", b'node["k"="v1"];out;', b"way(bn);out ids;", b"node(50,10,50.1,10.1);way(bn);out;"]
+
+
+def published(file, sequence):
+    """The root of a set at a sequence, built from nothing by a publisher."""
+    outcome = run([PROGRAM, "publish", file, "--sequence", str(sequence)])
+    return outcome.stdout.strip()
+
+
+def root_at(running):
+    """The root that the next connection is told."""
+    got = told(running, [ROOT_REQUEST])
+    return got.rsplit(b"\r\n\r\n", 1)[-1].strip()
+
+
+@contextmanager
+def folders():
+    """A folder of change files, and one in which they are made ready."""
+    with tempfile.TemporaryDirectory() as room:
+        changes, ready = Path(room) / "changes", Path(room) / "ready"
+        changes.mkdir()
+        ready.mkdir()
+        yield changes, ready
+
+
+def without(text, start):
+    """A set without the lines that begin so."""
+    return b"".join(line for line in text.splitlines(keepends=True) if not line.startswith(start))
+
+
+def check_files(tally):
+    """Files that come while a mirror serves: the next connection has the changed set; refused ones are told, and stay."""
+    with folders() as (changes, ready):
+        whole = set_file(b"F").read_bytes()
+        first, second = ready / "first.opl", ready / "second.opl"
+        first.write_bytes(without(whole, b"w10 "))
+        second.write_bytes(without(first.read_bytes(), b"n1 "))
+        roots = [published(set_file(b"F"), 0), published(first, 1), published(second, 2)]
+        with server(set_file(b"F"), "--connections", 9, "--changes", changes) as running:
+            tally.check("begins with the set", root_at(running) == roots[0] and roots[0] == root_of(b"F", b"2").encode())
+            (changes / "1.opl").write_bytes(DELETE_WAY)
+            got = told(running, [b"POST /api/interpreter HTTP/1.1\r\nConnection: close\r\nContent-Length: 24\r\n\r\n"
+                                 b"node(1);way(bn);out ids;"])
+            want = b"Content-Length: 0\r\nOsm-Root: " + roots[1] + b"\r\nConnection: close\r\n\r\n"
+            tally.check("the way is gone", got.startswith(b"HTTP/1.1 200 ") and got.endswith(want), got)
+            lines = []
+            for text, line in [
+                (DELETE_WAY, b"I2 w10\n"),
+                (b"n3 x1 y1\nn1 x13.4\n", b"O9 line 2 byte 8\n"),
+                (b"n5 x0 y0\nn5 dD\n", b"I3 n5\n"),
+                (None, b"device\n"),
+            ]:
+                file = changes / "2.opl"
+                if text is None:
+                    file.unlink()
+                    file.mkdir()
+                else:
+                    file.write_bytes(text)
+                tally.check(f"after {line}", root_at(running) == roots[1])
+                lines.append(line)
+            (changes / "2.opl").rmdir()
+            tally.check("no file", root_at(running) == roots[1])
+            (changes / "2.opl").write_bytes(b"n1 v3 dD\n")
+            # The one after it isn't looked for at the same connection.
+            (changes / "3.opl").write_bytes(b"n99 dD\n")
+            tally.check("the mended file", root_at(running) == roots[2])
+            tally.check("one more", root_at(running) == roots[2])
+            outcome = running.ended()
+            want = Outcome(b"", b"".join(lines) + b"I2 n99\n", 0)
+            tally.check("refused files are told", outcome == want, outcome)
+
+
+def check_words(tally):
+    """Changes are for edition 2; a folder that isn't there has no file; after the last sequence none is looked for."""
+    outcome = run([PROGRAM, "serve", set_file(b"F"), "0", "--edition", "1", "--changes", "."])
+    tally.check("edition 1", outcome == Outcome(b"", b"bad edition\n", 2), outcome)
+    with server(set_file(b"F"), "--connections", 1, "--changes", "no-such-folder") as running:
+        tally.check("no folder", root_at(running) == root_of(b"F", b"2").encode())
+        outcome = running.ended()
+        tally.check("no folder is told of", outcome == Outcome(b"", b"", 0), outcome)
+    last = 2**64 - 1
+    with folders() as (changes, ready):
+        (changes / f"{last}.opl").write_bytes(DELETE_WAY)
+        (changes / f"{last + 1}.opl").write_bytes(DELETE_WAY)
+        (ready / "set.opl").write_bytes(without(set_file(b"F").read_bytes(), b"w10 "))
+        words = ["--sequence", last - 1, "--connections", 2, "--changes", changes]
+        with server(set_file(b"F"), *words) as running:
+            root = published(ready / "set.opl", last)
+            tally.check("the last sequence", [root_at(running), root_at(running)] == [root, root])
+            outcome = running.ended()
+            tally.check("none after the last", outcome == Outcome(b"", b"", 0), outcome)
+
+
+def check_allocations(tally):
+    """Each allocation refused in turn in a connection with a change file: the old set or the new one, and a line where a
+    refusal is told; the connection after it has the new set in any case."""
+    with folders() as (changes, ready):
+        (changes / "1.opl").write_bytes(DELETE_WAY)
+        (ready / "set.opl").write_bytes(without(set_file(b"F").read_bytes(), b"w10 "))
+        roots = [root_of(b"F", b"2").encode(), published(ready / "set.opl", 1)]
+        met = 0
+        for number in count(1):
+            with tempfile.TemporaryDirectory() as room:
+                mark = Path(room) / "refused"
+                refusing = {"REFUSE_ALLOCATION": number, "REFUSE_MARK": mark}
+                words = ["--connections", 2, "--changes", changes]
+                with server(set_file(b"F"), *words, refusing=refusing) as running:
+                    if running.port is None:
+                        continue
+                    first, second = root_at(running), root_at(running)
+                    rest = running.ended()
+                if not mark.exists():
+                    break
+            met += 1
+            holds = (
+                (first, second, rest) == (roots[1], roots[1], Outcome(b"", b"", 0))
+                or (first, second, rest) == (roots[0], roots[1], Outcome(b"", b"no memory\n", 0))
+                or (first, second, rest) == (b"no memory", roots[1], Outcome(b"", b"G3\n", 0))
+                or (first, second, rest) == (roots[1], b"no memory", Outcome(b"", b"G3\n", 0))
+                or (first, second, rest) == (roots[1], roots[1], Outcome(b"", b"no memory\n", 0))
+                or rest == Outcome(b"", b"no memory\n", 3)
+            )
+            tally.check(f"allocation {number} with changes", holds, first, second, rest)
+        tally.check("allocations of a publication were refused", met > 50, met)
+
+
+def soak_sets(ready, random_numbers):
+    """Change files for the soak, and the root after each as a publisher builds it from nothing."""
+    nodes = {number: b"n%d Tk=v%d x10.%03d y50.%03d\n" % (number, number % 7, number, number) for number in range(1, 201)}
+    ways = b"".join(b"w%d Thighway=x Nn%d,n%d\n" % (number, number, number + 1) for number in range(1, 100))
+
+    def write(name):
+        file = ready / name
+        file.write_bytes(b"".join(nodes[number] for number in sorted(nodes)) + ways)
+        return file
+
+    files = [write("0.set")]
+    for sequence in range(1, CONNECTIONS + 1):
+        number = random_numbers.randrange(1, 201)
+        nodes[number] = b"n%d Tk=v%d x10.%03d y50.%03d\n" % (
+            number, random_numbers.randrange(7), random_numbers.randrange(1_000), random_numbers.randrange(1_000))
+        (ready / f"{sequence}.opl").write_bytes(nodes[number])
+        files.append(write(f"{sequence}.set"))
+    with ThreadPoolExecutor(len(os.sched_getaffinity(0))) as workers:
+        roots = list(workers.map(published, files, range(CONNECTIONS + 1)))
+    return files[0], roots
+
+
+def responses_in(text):
+    """The head's lines and the body of each response of a connection."""
+    at = 0
+    while at < len(text):
+        end = text.index(b"\r\n\r\n", at)
+        head = text[at:end].split(b"\r\n")
+        length = next(int(line[16:]) for line in head if line.startswith(b"Content-Length: "))
+        yield head, text[end + 4:end + 4 + length]
+        at = end + 4 + length
+
+
+def check_soak(tally):
+    """100,000 requests while 1,000 change files come: no more memory, and each answer is right by `check` under the root
+    that it names, which is the one that the publisher published."""
+    queries = [QUERIES[number % len(QUERIES)] for number in range(REQUESTS)]
+    asked = b"".join(
+        b"POST /api/checked HTTP/1.1\r\nContent-Length: %d\r\n%s\r\n%s"
+        % (len(query), b"Connection: close\r\n" if number + 1 == REQUESTS else b"", query)
+        for number, query in enumerate(queries)
+    )
+    distinct, met, early = {}, 0, None
+    with folders() as (changes, ready):
+        base, roots = soak_sets(ready, random.Random(23))
+        with server(base, "--connections", CONNECTIONS, "--changes", changes) as running:
+            for sequence in range(1, CONNECTIONS + 1):
+                (ready / f"{sequence}.opl").rename(changes / f"{sequence}.opl")
+                got = list(responses_in(told(running, [asked])))
+                for query, (head, body) in zip(queries, got):
+                    root, length = body[:32], int.from_bytes(body[32:40], "big")
+                    named = b"Osm-Root: " + roots[sequence] in head and root.hex().encode() == roots[sequence]
+                    met += head[0] == b"HTTP/1.1 200 OK" and named
+                    distinct[roots[sequence], query, body[40:40 + length], body[40 + length:]] = None
+                if sequence == CONNECTIONS // 10:
+                    early = running.peak_kib()
+            late = running.peak_kib()
+            outcome = running.ended()
+        tally.check("the requests of the soak", met == CONNECTIONS * REQUESTS, met)
+        tally.check("the soak ends", outcome == Outcome(b"", b"", 0), outcome)
+        tally.check("no more memory", late <= early + 256, early, late)
+        tally.check("one answer a root and query", len(distinct) == CONNECTIONS * len(QUERIES), len(distinct))
+
+        def verdict(numbered):
+            number, (root, query, answer, proof) = numbered
+            files = [ready / f"{number}.{kind}" for kind in ("query", "answer", "proof")]
+            for file, text in zip(files, (query, answer, proof)):
+                file.write_bytes(text)
+            outcome = run([PROGRAM, "check", root.decode(), *files])
+            for file in files:
+                file.unlink()
+            return outcome
+
+        with ThreadPoolExecutor(len(os.sched_getaffinity(0))) as workers:
+            verdicts = list(workers.map(verdict, enumerate(distinct)))
+        right = sum(outcome == Outcome(b"yes\n", b"", 0) for outcome in verdicts)
+        tally.check("each answer is right", right == len(distinct), right, len(distinct))
+
+
+def main():
+    tally = Tally()
+    built_library()
+    check_words(tally)
+    check_files(tally)
+    check_allocations(tally)
+    check_soak(tally)
+    tally.end()
+
+
+if __name__ == "__main__":
+    main()
