@@ -101,7 +101,8 @@ impl<'a> Shelf<'a> for Bag<'a> {
         }
     }
 
-    /// It takes no memory. It reads the node each time.
+    /// It takes no memory, and reads the node each time. It is linear in the bytes, and logarithmic in the
+    /// number of parts.
     fn fetch_node(&mut self, key: &Digest) -> Result<Fetched<'a>, ShelfFault> {
         match self.fetch(key) {
             Ok(bytes) => Ok(Fetched {

@@ -28,7 +28,7 @@ impl<'a> Given<'a> {
         Given { bytes, node: None }
     }
 
-    /// Bytes with what reading them gave. Of bytes that are no node no more is known.
+    /// Bytes with the node that was read of them. Where they are no node, they are as unread.
     pub(crate) fn with_read(bytes: &'a [u8], read: &Result<NodeRef<'a>, NodeFault>) -> Given<'a>
         requires { ReadsAs bytes.now read.now }
         ensures { result.bytes ≡ bytes.entry }

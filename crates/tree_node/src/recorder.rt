@@ -127,7 +127,7 @@ impl<'a> Shelf<'a> for Recorder<'a> {
 
     /// It takes memory only for a node that was not used before, and is constant in time on average.
     fn fetch(&mut self, key: &Digest) -> Result<&'a [u8], ShelfFault> {
-        // Walks ask the nodes near a top again and again, and few of a stock's nodes are used.
+        // Few of a stock's nodes are used, so they are found sooner.
         if let Some(node) = self.used_node(key) {
             return Ok(node);
         }
@@ -141,9 +141,10 @@ impl<'a> Shelf<'a> for Recorder<'a> {
         }
     }
 
-    /// It takes memory only for a node that was not used before. A node that was read before isn't read
-    /// again: then it is constant in time on average.
+    /// It takes memory only for a node that was not used before. A node of a tree that was read before
+    /// isn't read again: then it is constant in time on average, else linear in the bytes.
     fn fetch_node(&mut self, key: &Digest) -> Result<Fetched<'a>, ShelfFault> {
+        // Walks ask for the nodes near a top again and again.
         if let Some(node) = self.read_node(key) {
             return Ok(node);
         }
