@@ -4,8 +4,8 @@ use std::alloc::{AllocError, Global};
 use std::process::Abort;
 use std::test::Fail;
 use tree_node::{
-    Bag, Child, Children, Digest, Entries, Item, NewNode, NodeFault, NodeRef, Part, PutFault, Shelf,
-    ShelfFault, Stock, Tree, digest_of, is_below, write_inner, write_leaf,
+    Bag, Child, Children, Digest, Entries, Item, NewNode, NodeFault, NodeRef, Part, PutFault,
+    Shelf, ShelfFault, Stock, Tree, digest_of, is_below, write_inner, write_leaf,
 };
 
 /// The leaf of the one object `n1 x0 y0`.
@@ -252,7 +252,10 @@ fn fetches_nodes<'a, S: Shelf<'a>>(rt: &impl Abort, shelf: &mut S) {
             Ok(Err(NodeFault::CutShort))
         );
     }
-    assert_eq!(rt; fetch_greatest(shelf, &digest_of(b"d")), Err(ShelfFault::Missing));
+    assert_eq!(rt;
+        fetch_greatest(shelf, &digest_of(b"d")),
+        Err(ShelfFault::Missing)
+    );
 }
 
 #[test]
