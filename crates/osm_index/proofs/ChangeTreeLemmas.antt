@@ -6,7 +6,7 @@ use Rattle.std.specs.Result.{IsErrAnd}
 use Rattle.osm_model.specs.Elements.{Element}
 use Rattle.tree_build.specs.Changing.{Change}
 use Rattle.tree_build.specs.Rebuilding.{AreDifferent, HoldsOldTree, IsAmong, IsOldTree, IsRebuilt, changed_entries, digests_of, keys_of_changes, nodes_of}
-use Rattle.tree_build.specs.declared.rebuilt.NewNode.{NewNode}
+use Rattle.tree_node.specs.declared.new_node.NewNode.{NewNode}
 use Rattle.tree_build.specs.declared.rebuilt.Rebuilt.{Rebuilt}
 use Rattle.tree_node.specs.Digests.{digest}
 use Rattle.tree_node.specs.NodeRefs.{number_of}

@@ -57,7 +57,7 @@ count_map : (o : Option Item) → count_of (option_map binding_of o) ≡ count_o
 count_map None = refl
 count_map (Some x) = refl
 
--- what is left of the new entries behind an old one
+-- what is left of the new entries after an old one
 left_behind : (key : List ℕ) (new : List Item) (at : ℕ) (below : List Item) (same : Option Item) → (bindings_of below, option_map binding_of same) ≡ parts_at_key key (bindings_of (drop at new))
     → after_key key (bindings_of (drop at new)) ≡ bindings_of (drop (at + (length below + count_of same)) new)
 left_behind key new at below same parts =

@@ -1,6 +1,5 @@
 -- Walks over trees that a stock holds: memory alone refuses them.
 use Rattle.std.proofs.Common.{◌≡◌, ℕ, List, [], ◌∷◌, length, Result, inl, inr, suc, refl, sym, ap, subst, ◌∙◌}
-use Rattle.tree_node.specs.Keys.{lent_at, owned_at}
 use Rattle.tree_node.specs.NodeRefs.{number_of}
 use Rattle.tree_node.specs.Outcomes.{Cause, EndsWell, NoMemory, Outcome}
 use Rattle.tree_node.specs.Recorders.{RecorderHolds, RecorderUsed}
@@ -9,8 +8,8 @@ use Rattle.tree_node.specs.Stocks.{HasNode}
 use Rattle.tree_node.specs.declared.recorder.Recorder.{Recorder}
 use Rattle.tree_node.specs.declared.stock.Stock.{Stock}
 use Rattle.tree_node.specs.declared.tree.Tree.{Tree}
-use Rattle.tree_node.specs.internal.RecorderLaws.{given_held, stands_once}
 use Rattle.tree_node.proofs.shared.OutcomeLaws.{honest, uses}
+use Rattle.tree_node.proofs.shared.StockLaws.{recorder_used, stock_free}
 use Rattle.tree_walk.specs.Choices.{IsCount}
 use Rattle.tree_walk.specs.Fetches.{cause_of}
 use Rattle.tree_walk.specs.Ranges.{Range}
@@ -26,7 +25,7 @@ pub ends_well : {A F : Type 0} {cause : F → Cause} {Is : A → Type 0} {needed
     → SameNodes (HasNode stock) (RecorderHolds old) → SameNodes (RecorderHolds old) (RecorderHolds new) → ((x : List ℕ) → needed x → HasNode stock x)
     → Outcome cause Is needed (uses (RecorderHolds new) (RecorderUsed old) (RecorderUsed new)) result → EndsWell cause Is needed (uses (RecorderHolds new) (RecorderUsed old) (RecorderUsed new)) result
 ends_well stock old new lent stays all so =
-    honest (stands_once (owned_at new.stock.now.nodes)) (λ x needs. (stays x).1 ((lent x).1 (all x needs))) (given_held (owned_at new.stock.now.nodes) (lent_at new.given) new.own) so
+    honest (stock_free new.stock.now) (λ x needs. (stays x).1 ((lent x).1 (all x needs))) (recorder_used new) so
 
 pub memory_is : (fault : WalkFault) → cause_of fault ≡ NoMemory → fault ≡ walks.Memory
 memory_is walks.Missing e = Prim.cc

@@ -2,7 +2,7 @@
 use Rattle.std.proofs.Common.{◌≡◌, ◌≢◌, ◌↔◌, ◌⊎◌, inl, inr, ℕ, zero, suc, ◌+◌, ◌<◌, List, [], ◌∷◌, ◌++◌, length, get_or, take, drop, map, refl, sym, ap, subst, ◌∙◌, arith}
 use Rattle.std.proofs.lemmas.List.{map-append, take-append-drop, take_more}
 use Rattle.tree_build.specs.Rebuilding.{IsAmong, digests_of, nodes_of}
-use Rattle.tree_build.specs.declared.rebuilt.NewNode.{NewNode}
+use Rattle.tree_node.specs.declared.new_node.NewNode.{NewNode}
 use Rattle.tree_node.specs.Digests.{digest}
 use Rattle.tree_node.specs.Outcomes.{Clash, GrownByAll}
 use Rattle.tree_node.specs.Shelves.{GrownBy, IsClashFree, SameNodes}

@@ -16,8 +16,8 @@ use crate::entry_count::entry_count;
 use crate::listing::entries_of;
 use osm_model::ObjectSet;
 use std::alloc::{AllocError, Global};
-use tree_build::{EntryChange, NewNode, Rebuilt, rebuild};
-use tree_node::{Digest, ENTRY_LIMIT, Stock, Tree};
+use tree_build::{EntryChange, Rebuilt, rebuild};
+use tree_node::{Digest, ENTRY_LIMIT, NewNode, Stock, Tree};
 
 /// What changing the four trees gives.
 #[derive(Drop)]

@@ -10,8 +10,7 @@ ghost use Rattle.osm_index.specs.internal.NodeChanges.{fault_of_put};
 
 use crate::apply_fault::ApplyFault;
 use std::alloc::{AllocError, Global};
-use tree_build::NewNode;
-use tree_node::{Digest, PutFault, Stock};
+use tree_node::{Digest, NewNode, PutFault, Stock};
 
 /// The digests of nodes, in their order.
 pub(crate) fn digests_of(alloc: Global, nodes: &[NewNode]) -> Result<Vec<Digest>, AllocError>
@@ -41,7 +40,7 @@ pub(crate) fn put_nodes(
 {
     let mut number = 0;
     for node in nodes {
-        if let Err(fault) = stock.put(node.bytes) {
+        if let Err(fault) = stock.put_new(node) {
             remove_nodes(stock, &digests[..number]);
             return Err(fault_of(fault));
         }

@@ -12,8 +12,7 @@ use crate::edition::Edition;
 use crate::manifest::{Manifest, write_manifest};
 use crate::node_changes::digests_of;
 use std::alloc::{AllocError, Global};
-use tree_build::NewNode;
-use tree_node::{Digest, digest_of};
+use tree_node::{Digest, NewNode};
 
 /// What a snapshot becomes by changes, and the nodes that come and go; all that takes memory, but for the stock.
 #[derive(Drop)]
@@ -65,8 +64,5 @@ fn manifest_node(alloc: Global, manifest: &Manifest) -> Result<NewNode, AllocErr
 {
     let mut bytes = Vec::new(alloc);
     write_manifest(manifest, &mut bytes)?;
-    Ok(NewNode {
-        digest: digest_of(&bytes),
-        bytes,
-    })
+    Ok(NewNode::new(bytes))
 }

@@ -21,6 +21,7 @@ pub mod LengthLemmas
 pub mod LevelLemmas
 pub mod LevelSteps
 pub mod LevelsLemmas
+pub mod MarkLemmas
 pub mod MeaningLemmas
 pub mod NextLemmas
 pub mod NextSought

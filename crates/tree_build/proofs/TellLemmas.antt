@@ -9,7 +9,7 @@ use Rattle.tree_build.specs.internal.Edits.{Each, IsNewNode, IsOldNode}
 use Rattle.tree_build.specs.internal.Telling.{HasTold, node_digest}
 use Rattle.tree_build.specs.declared.held.OldNode.{OldNode}
 use Rattle.tree_build.specs.declared.piece.NewPiece.{NewPiece}
-use Rattle.tree_build.specs.declared.rebuilt.NewNode.{NewNode}
+use Rattle.tree_node.specs.declared.new_node.NewNode.{NewNode}
 use Rattle.tree_build.specs.Rebuilding.{nodes_of}
 use Rattle.tree_build.proofs.DifferLemmas.{all_gone}
 

@@ -8,7 +8,7 @@ use Rattle.tree_node.specs.Trees.{Two, HasTree, IsNodeOf, levels, top_of}
 use Rattle.tree_node.specs.declared.digest.Digest.{Digest}
 use Rattle.tree_build.specs.Changing.{Change, changed}
 use Rattle.tree_build.specs.declared.change.EntryChange.{EntryChange}
-use Rattle.tree_build.specs.declared.rebuilt.NewNode.{NewNode}
+use Rattle.tree_node.specs.declared.new_node.NewNode.{NewNode}
 use Rattle.tree_build.specs.declared.rebuilt.Rebuilt.{Rebuilt}
 
 -- the change that it is

@@ -8,6 +8,7 @@ pub mod FoundTops
 pub mod Growing
 pub mod Holding
 pub mod ItemChanges
+pub mod LeafItems
 pub mod RisingChanges
 pub mod Seeking
 pub mod Settling

@@ -16,17 +16,17 @@ ghost use Rattle.tree_node.specs.Nodes.{Binding, IsNode, Leaf, Node};
 ghost use Rattle.tree_node.specs.Shelves.{SameNodes};
 ghost use Rattle.tree_node.specs.Trees.{Two, level_at, levels};
 
-use crate::Entry;
 use crate::grow::grow;
 use crate::hand::make_node;
+use crate::leaf_item::LeafItem;
 use crate::levels::TreeEdit;
 use crate::piece::NewPiece;
-use crate::rebuilt::{NewNode, Rebuilt};
+use crate::rebuilt::Rebuilt;
 use crate::settle::{Top, settle};
 use crate::step::LevelEdit;
 use crate::tell::{tell_gone, tell_level};
 use std::alloc::{AllocError, Global};
-use tree_node::{Digest, Shelf, Tree};
+use tree_node::{Digest, NewNode, Shelf, Tree};
 
 /// The new tree's top, and what it has gained and lost.
 pub(crate) fn finish<'a, 'c, S: Shelf<'a>>(
@@ -151,7 +151,7 @@ fn put_empty_leaf<'c>(
 fn empty_leaf<'c>(alloc: Global, tree: Tree) -> Result<NewPiece<'c>, AllocError>
     ensures { IfOk result (λ new. IsNewNode new (Leaf (number_of tree) [])) }
 {
-    let none: [Entry<'c>; 0] = [];
+    let none: [LeafItem<'c>; 0] = [];
     make_node(alloc, tree, 0, &none)
 }
 

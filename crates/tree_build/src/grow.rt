@@ -12,9 +12,8 @@ ghost use Rattle.tree_node.specs.Trees.{HasTree, Two, ends_by, is_marked_link, l
 
 use crate::hand::{close, cut};
 use crate::piece::NewPiece;
-use crate::rebuilt::NewNode;
 use std::alloc::{AllocError, Global};
-use tree_node::{Child, Digest, Tree};
+use tree_node::{Child, Digest, NewNode, Tree};
 
 /// Makes the levels over these nodes, of which the first has the number after this one, until one node is
 /// left. It appends the new nodes to those that were added, and gives the digest of the top.

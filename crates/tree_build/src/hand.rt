@@ -10,10 +10,9 @@ ghost use Rattle.tree_node.specs.Trees.{Two, ends_by, pieces_from};
 use crate::cut::ends_after;
 use crate::level_item::LevelItem;
 use crate::piece::NewPiece;
-use crate::rebuilt::NewNode;
 use crate::shape::Shape;
 use std::alloc::{AllocError, Global};
-use tree_node::{Tree, digest_of};
+use tree_node::{NewNode, Tree};
 
 /// Takes the items in hand, one after the other, and makes the nodes of the pieces that end.
 pub(crate) fn cut<'c, T: LevelItem<'c>>(
@@ -114,9 +113,8 @@ pub(crate) fn make_node<'c, T: LevelItem<'c>>(
         (T.node_over (number_of tree) level (map T.meaning items.now))) }
 {
     let bytes = T::bytes_of(alloc, tree, level, items)?;
-    let digest = digest_of(bytes.as_slice());
     Ok(NewPiece {
-        node: NewNode { digest, bytes },
+        node: NewNode::new(bytes),
         greatest: T::greatest(items),
         number: T::number(items),
     })

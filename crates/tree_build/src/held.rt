@@ -9,7 +9,7 @@ ghost use Rattle.tree_node.specs.Shelves.{SameNodes};
 ghost use Rattle.tree_node.specs.Trees.{greatest_of};
 
 use std::alloc::AllocError;
-use tree_node::{Digest, NodeRef, Shelf, ShelfFault};
+use tree_node::{Digest, Fetched, NodeRef, Shelf, ShelfFault};
 
 /// A node of the old tree.
 #[derive(Clone, Copy)]
@@ -43,8 +43,8 @@ pub(crate) fn open<'a, S: Shelf<'a>>(
     ensures used { (node : Node) → IsHeld (S.holds shelf.new) key.now.0 node
         → (bytes : List ℕ) → S.used shelf.new bytes → S.used shelf.old bytes ⊎ (bytes ≡ spelling node) }
 {
-    match shelf.fetch(key) {
-        Ok(bytes) => match NodeRef::read(bytes) {
+    match shelf.fetch_node(key) {
+        Ok(Fetched { bytes, read }) => match read {
             Ok(node) => {
                 let old = OldNode {
                     digest: *key,

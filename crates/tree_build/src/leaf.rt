@@ -80,7 +80,7 @@ pub(crate) fn leaf_bytes(
 }
 
 /// The last key of these entries; of none the empty one.
-pub(crate) fn last_key<'a>(entries: &[Entry<'a>]) -> &'a [u8]
+fn last_key<'a>(entries: &[Entry<'a>]) -> &'a [u8]
     ensures { result.now ≡ key_at_end (keys_of (bindings_of entries.now)) }
 {
     match entries.last() {

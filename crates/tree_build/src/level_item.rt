@@ -1,15 +1,16 @@
 //! Items of a level of a tree, and changes of them.
 
 ghost use Rattle.std.specs.Prelude.{◌≡◌, ◌≤◌, ◌++◌, ℕ, List, Bool, IfOk, length, map, refl};
+ghost use Rattle.tree_build.specs.Cuts.{EndsNoSooner};
 ghost use Rattle.tree_node.specs.declared.limits.TheConstants.{ITEM_LIMIT};
 ghost use Rattle.tree_node.specs.NodeRefs.{node_read, number_of};
 ghost use Rattle.tree_node.specs.Nodes.{Node, spelling};
-ghost use Rattle.tree_node.specs.Trees.{entry_count, greatest_of};
+ghost use Rattle.tree_node.specs.Trees.{Two, entry_count, greatest_of};
 
-use crate::Entry;
 use crate::cut::Cut;
 use crate::inner::{entries_below, inner_bytes, last_greatest};
-use crate::leaf::{last_key, leaf_bytes};
+use crate::leaf::leaf_bytes;
+use crate::leaf_item::{LeafItem, entries_of, old_items};
 use std::alloc::{AllocError, Global};
 use tree_node::{Child, NodeRef, Tree};
 
@@ -70,24 +71,25 @@ pub(crate) trait LevelItem<'x>: NodeItem {
         ensures { (tree level : ℕ)
             → result.now ≡ greatest_of (Self.node_over tree level (map Self.meaning items.now)) };
 
-    /// The items of a node of the level.
+    /// The items of a node of the level, of which none between the first and the last is marked.
     fn items_of(alloc: Global, node: NodeRef<'x>) -> Result<Vec<Self>, AllocError>
+        requires { EndsNoSooner Two Self.marked_in (Self.items_in (node_read node)) }
         ensures { IfOk result (λ items.
             map Self.meaning items.items ≡ Self.items_in (node_read node.entry)) };
 }
 
-impl<'x> NodeItem for Entry<'x> {
+impl<'x> NodeItem for LeafItem<'x> {
     ghost use Rattle.std.specs.List.{AllByRecursion};
     ghost use Rattle.tree_build.specs.internal.FitLaws.{entries_parts};
-    ghost use Rattle.tree_node.specs.NodeRefs.{binding_of};
+    ghost use Rattle.tree_build.specs.internal.LeafItems.{entry_of};
     ghost use Rattle.tree_node.specs.Nodes.{Binding, Leaf};
     ghost use Rattle.tree_node.specs.Trees.{FitsTree, entries_in, is_marked_entry};
 
     ghost Meaning = { Binding };
 
-    ghost meaning = { binding_of };
+    ghost meaning = { entry_of };
 
-    ghost key_of = { λ item. item.key.now };
+    ghost key_of = { λ item. item.entry.key.now };
 
     ghost key_in = { λ (entry : Binding). entry.key };
 
@@ -111,7 +113,8 @@ impl<'x> NodeItem for Entry<'x> {
         _level: u8,
         items: &[Self],
     ) -> Result<Vec<u8>, AllocError> {
-        leaf_bytes(alloc, tree, items)
+        let entries = entries_of(alloc, items)?;
+        leaf_bytes(alloc, tree, entries.as_slice())
     }
 
     fn number(items: &[Self]) -> u64 {
@@ -119,23 +122,23 @@ impl<'x> NodeItem for Entry<'x> {
     }
 }
 
-impl<'x> LevelItem<'x> for Entry<'x> {
+impl<'x> LevelItem<'x> for LeafItem<'x> {
     fn key(&self) -> &'x [u8] {
-        self.key
+        self.entry.key
     }
 
     fn greatest(items: &[Self]) -> &'x [u8] {
-        last_key(items)
+        match items.last() {
+            Some(item) => item.entry.key,
+            None => b"",
+        }
     }
 
     fn items_of(alloc: Global, node: NodeRef<'x>) -> Result<Vec<Self>, AllocError> {
-        let mut items = Vec::new(alloc);
-        if let NodeRef::Leaf { entries, .. } = node {
-            for entry in entries {
-                items.push(entry)?;
-            }
+        match node {
+            NodeRef::Leaf { entries, .. } => old_items(alloc, entries),
+            NodeRef::Inner { .. } => Ok(Vec::new(alloc)),
         }
-        Ok(items)
     }
 }
 

@@ -3,9 +3,10 @@
 ghost use Rattle.std.specs.Prelude.{◌≡◌, ◌⊎◌, ◌+◌, ◌≤◌, ◌<◌, ◌↔◌, ℕ, List, IfOk, IsTrue, length};
 ghost use Rattle.tree_build.specs.Rebuilding.{IsOldTree, change_of, changed_entries, changes_of, keys_of_changes};
 ghost use Rattle.tree_build.specs.internal.ItemChanges.{change_meant, changes_meant};
+ghost use Rattle.tree_build.specs.internal.LeafItems.{entry_of};
 ghost use Rattle.tree_build.specs.internal.Towers.{tower};
 ghost use Rattle.tree_build.specs.internal.TreeEdits.{HaveAllReasons, IsRead, IsTreeEdit};
-ghost use Rattle.tree_node.specs.NodeRefs.{binding_of, number_of};
+ghost use Rattle.tree_node.specs.NodeRefs.{number_of};
 ghost use Rattle.tree_node.specs.Nodes.{Binding};
 ghost use Rattle.tree_node.specs.Shelves.{SameNodes};
 ghost use Rattle.tree_node.specs.Trees.{Two, levels};
@@ -13,6 +14,7 @@ ghost use Rattle.tree_node.specs.Trees.{Two, levels};
 use crate::Entry;
 use crate::change::EntryChange;
 use crate::differ::differ;
+use crate::leaf_item::LeafItem;
 use crate::level_item::ItemChange;
 use crate::step::{LevelEdit, OldLevel, step_inner, step_leaves};
 use std::alloc::{AllocError, Global};
@@ -93,8 +95,8 @@ fn goes_on<'c>(level: u8, top_level: u8, next: &[ItemChange<'c, Child<'c>>]) -> 
 fn item_changes<'c>(
     alloc: Global,
     changes: &'c [EntryChange],
-) -> Result<Vec<ItemChange<'c, Entry<'c>>>, AllocError>
-    ensures { IfOk result (λ items. changes_meant binding_of items.items ≡ changes_of changes.now) }
+) -> Result<Vec<ItemChange<'c, LeafItem<'c>>>, AllocError>
+    ensures { IfOk result (λ items. changes_meant entry_of items.items ≡ changes_of changes.now) }
 {
     let mut items = Vec::with_capacity(alloc, changes.len())?;
     for change in changes {
@@ -104,17 +106,17 @@ fn item_changes<'c>(
 }
 
 /// The change of a leaf's items.
-fn item_change<'c>(change: &'c EntryChange) -> ItemChange<'c, Entry<'c>>
-    ensures { change_meant binding_of result ≡ change_of change.now }
+fn item_change<'c>(change: &'c EntryChange) -> ItemChange<'c, LeafItem<'c>>
+    ensures { change_meant entry_of result ≡ change_of change.now }
 {
     let key = change.key.as_slice();
     match &change.value {
         Some(value) => ItemChange {
             key,
-            put: Some(Entry {
+            put: Some(LeafItem::new(Entry {
                 key,
                 value: value.as_slice(),
-            }),
+            })),
         },
         None => ItemChange { key, put: None },
     }

@@ -55,10 +55,10 @@ pub(crate) fn merge<'x, T: LevelItem<'x>>(
     let mut merged = Vec::new(alloc);
     let mut rest = items;
     for change in changes {
-        let (before, behind) = split_at_key(rest, change.key);
+        let (before, after) = split_at_key(rest, change.key);
         merged.extend_from_slice(before)?;
         push_some(&mut merged, change.put)?;
-        rest = behind;
+        rest = after;
     }
     merged.extend_from_slice(rest)?;
     Ok(merged)

@@ -2,8 +2,7 @@
 
 ghost use Rattle.std.specs.Prelude.{◌≡◌};
 
-use crate::rebuilt::NewNode;
-use tree_node::Child;
+use tree_node::{Child, NewNode};
 
 /// A node that was made of a piece of a level's items, and what its parent says of it.
 #[derive(Drop)]

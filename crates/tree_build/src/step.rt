@@ -3,21 +3,23 @@
 ghost use Rattle.std.specs.List.{AllByRecursion, flat_map};
 ghost use Rattle.std.specs.Prelude.{◌≡◌, ◌<◌, ◌≤◌, ◌⊎◌, ◌++◌, ◌∷◌, [], ℕ, List, IfOk, OnOk, IsTrue, false, drop, if◌then◌else◌, length, map, take};
 ghost use Rattle.tree_build.specs.Changing.{changed};
+ghost use Rattle.tree_build.specs.Cuts.{EndsNoSooner};
 ghost use Rattle.tree_build.specs.internal.Edits.{HaveCome};
 ghost use Rattle.tree_build.specs.internal.Holding.{IsHeldTree, IsOnWayTo};
 ghost use Rattle.tree_build.specs.internal.ItemChanges.{changes_meant};
+ghost use Rattle.tree_build.specs.internal.LeafItems.{entry_of};
 ghost use Rattle.tree_build.specs.internal.RisingChanges.{AreOwnAndRising, IsUpTo};
 ghost use Rattle.tree_build.specs.internal.Steps.{CanStep, FirstIsAbove, HaveGoneOn, HaveReasons, IsEdit, IsWanted, keys_changed};
 ghost use Rattle.tree_build.specs.internal.Building.{AreWithin};
 ghost use Rattle.tree_node.specs.declared.limits.TheConstants.{ITEM_LIMIT};
-ghost use Rattle.tree_node.specs.NodeRefs.{binding_of, link_of, node_read, number_of};
+ghost use Rattle.tree_node.specs.NodeRefs.{link_of, node_read, number_of};
 ghost use Rattle.tree_node.specs.Nodes.{Binding, Inner, Leaf, Link};
 ghost use Rattle.tree_node.specs.Shelves.{SameNodes};
 ghost use Rattle.tree_node.specs.Trees.{FitsTree, Two, ends_by, entries_in, is_marked_entry, is_marked_link, level_at, levels, links_in, pieces, pieces_from};
 
-use crate::Entry;
 use crate::hand::{close, cut};
 use crate::held::{OldNode, OpenNode};
+use crate::leaf_item::LeafItem;
 use crate::level_item::{ItemChange, LevelItem};
 use crate::merge::merge;
 use crate::piece::NewPiece;
@@ -60,21 +62,21 @@ pub(crate) fn step_leaves<'a: 'c, 'c, S: Shelf<'a>>(
     alloc: Global,
     shelf: &mut S,
     place: OldLevel,
-    changes: &[ItemChange<'c, Entry<'c>>],
+    changes: &[ItemChange<'c, LeafItem<'c>>],
 ) -> Result<LevelEdit<'c>, AllocError>
     requires { (entries : List Binding) × IsHeldTree (S.holds shelf.old) place.top.0 (number_of place.tree) entries
         × (place.level < length (levels Two (number_of place.tree) entries))
         × CanStep (λ (entry : Binding). entry.key) (ends_by Two is_marked_entry) entries_in (Leaf (number_of place.tree)) (AllByRecursion FitsTree)
-        (level_at (levels Two (number_of place.tree) entries) place.level) (changes_meant binding_of changes.now) }
+        (level_at (levels Two (number_of place.tree) entries) place.level) (changes_meant entry_of changes.now) }
     ensures stays { SameNodes (S.holds shelf.old) (S.holds shelf.new) }
     ensures grows { (bytes : List ℕ) → S.used shelf.old bytes → S.used shelf.new bytes }
     // It has the old nodes and the new ones by which the level and the changed level differ,
     ensures edited { (entries : List Binding) → IsHeldTree (S.holds shelf.new) place.top.0 (number_of place.tree) entries
         → place.level < length (levels Two (number_of place.tree) entries)
         → let nodes = level_at (levels Two (number_of place.tree) entries) place.level in
-        CanStep (λ (entry : Binding). entry.key) (ends_by Two is_marked_entry) entries_in (Leaf (number_of place.tree)) (AllByRecursion FitsTree) nodes (changes_meant binding_of changes.now)
+        CanStep (λ (entry : Binding). entry.key) (ends_by Two is_marked_entry) entries_in (Leaf (number_of place.tree)) (AllByRecursion FitsTree) nodes (changes_meant entry_of changes.now)
         → IfOk result (λ edit. IsEdit nodes (map (Leaf (number_of place.tree)) (pieces (ends_by Two is_marked_entry)
-        (changed (λ (entry : Binding). entry.key) (flat_map entries_in nodes) (changes_meant binding_of changes.now)))) edit) }
+        (changed (λ (entry : Binding). entry.key) (flat_map entries_in nodes) (changes_meant entry_of changes.now)))) edit) }
     // and one old node or more.
     ensures some { IfOk result (λ edit. 1 ≤ length edit.olds.items) }
     // It reads just what is on the ways to these old nodes.
@@ -86,10 +88,10 @@ pub(crate) fn step_leaves<'a: 'c, 'c, S: Shelf<'a>>(
     ensures reasons { (entries : List Binding) → IsHeldTree (S.holds shelf.new) place.top.0 (number_of place.tree) entries
         → place.level < length (levels Two (number_of place.tree) entries)
         → let nodes = level_at (levels Two (number_of place.tree) entries) place.level in
-        CanStep (λ (entry : Binding). entry.key) (ends_by Two is_marked_entry) entries_in (Leaf (number_of place.tree)) (AllByRecursion FitsTree) nodes (changes_meant binding_of changes.now)
+        CanStep (λ (entry : Binding). entry.key) (ends_by Two is_marked_entry) entries_in (Leaf (number_of place.tree)) (AllByRecursion FitsTree) nodes (changes_meant entry_of changes.now)
         → IfOk result (λ edit. HaveReasons nodes (map (Leaf (number_of place.tree)) (pieces (ends_by Two is_marked_entry)
-        (changed (λ (entry : Binding). entry.key) (flat_map entries_in nodes) (changes_meant binding_of changes.now))))
-        (keys_changed (changes_meant binding_of changes.now)) (keys_changed (changes_meant binding_of changes.now)) edit.olds.items) }
+        (changed (λ (entry : Binding). entry.key) (flat_map entries_in nodes) (changes_meant entry_of changes.now))))
+        (keys_changed (changes_meant entry_of changes.now)) (keys_changed (changes_meant entry_of changes.now)) edit.olds.items) }
 {
     let mut work = start(alloc);
     let mut done = 0;
@@ -184,7 +186,7 @@ fn next_wanted<'c, T>(
     }
 }
 
-/// Takes a node and the changes that fall in it, cuts on, and closes the last piece of the level.
+/// Takes an old node and the changes that fall in it, cuts on, and closes the last piece of the level.
 fn take<'c, T: LevelItem<'c>>(
     alloc: Global,
     place: OldLevel,
@@ -197,6 +199,7 @@ fn take<'c, T: LevelItem<'c>>(
     requires own { AreOwnAndRising T.key_in (changes_meant T.meaning here.now) }
     requires fit { T.Fit (map T.meaning work.old.hand.items
         ++ changed T.key_in (T.items_in (node_read found.node)) (changes_meant T.meaning here.now)) }
+    requires no_sooner { EndsNoSooner Two T.marked_in (T.items_in (node_read found.node)) }
     ensures few { OnOk result (length work.new.hand.items < ITEM_LIMIT) }
     ensures olds { OnOk result (work.new.olds.items ≡ work.old.olds.items ++ found.entry.old ∷ []) }
     ensures went_on { OnOk result (HaveGoneOn (ends_by Two T.marked_in) (T.node_over (number_of place.tree) place.level) is_last

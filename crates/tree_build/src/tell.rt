@@ -12,10 +12,9 @@ ghost use Rattle.tree_node.specs.Nodes.{IsNode, Link, Node, spelling};
 use crate::differ::{Counterpart, count_below, counterpart_of};
 use crate::held::OldNode;
 use crate::piece::NewPiece;
-use crate::rebuilt::NewNode;
 use crate::step::LevelEdit;
 use std::alloc::AllocError;
-use tree_node::Digest;
+use tree_node::{Digest, NewNode};
 
 /// Appends what a level of the new tree has gained and lost.
 pub(crate) fn tell_level(

@@ -1,6 +1,7 @@
 pub mod BagLemmas
 pub mod DigestLemmas
 pub mod FaultLemmas
+pub mod FetchLemmas
 pub mod FrontLemmas
 pub mod HeldLemmas
 pub mod ItemFaults

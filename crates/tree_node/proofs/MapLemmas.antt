@@ -9,7 +9,7 @@ use Rattle.std.proofs.lemmas.Bool.{cases_Bool}
 use Rattle.std.proofs.lemmas.Slice.Eq.{bytes_eq-Decides}
 use Rattle.tree_node.specs.Digests.{digest}
 use Rattle.tree_node.specs.declared.digest.Digest.{Digest}
-use Rattle.tree_node.specs.Shelves.{GrownBy}
+use Rattle.tree_node.specs.Shelves.{GrownBy, HasNone}
 use Rattle.tree_node.specs.Keys.{digest_eq, key_of, StandsIn}
 
 -- digests of the same bytes are equal
@@ -121,6 +121,10 @@ stands node_at key x is own = ap node_at (same_bytes (key_of x) key own) ∙ is
 -- where nothing stands under a digest, no held node has it
 pub none_held : (node_at : Digest → Option (List ℕ)) (key : Digest) (x : List ℕ) → node_at key ≡ None → key.0 ≡ digest x → StandsIn node_at x → ⊥
 none_held node_at key x none same is = some_or_none (node_at (key_of x)) x (ap node_at (sym (same_bytes key (key_of x) same)) ∙ none) is
+
+-- where a node stands under a digest, some held node has it
+pub not_missing : (node_at : Digest → Option (List ℕ)) (key : Digest) (x : List ℕ) → node_at key ≡ Some x → ForSome (node_at key) (λ y. digest y ≡ key.0) → HasNone (StandsIn node_at) key.0 → ⊥
+not_missing node_at key x is owned none = let has = owned x is in none x (stands node_at key x is has) has
 
 -- what was given under a digest is used and held, and has it, where each given node is what the stock has
 pub given_used : (node_at given_at : Digest → Option (List ℕ)) (key : Digest) (x : List ℕ) → given_at key ≡ Some x

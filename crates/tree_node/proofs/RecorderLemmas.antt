@@ -23,9 +23,10 @@ use Rattle.tree_node.specs.Keys.{digest_eq, key_of, lent_at, StandsIn}
 use Rattle.tree_node.specs.Order.{order, IsBelow}
 use Rattle.tree_node.specs.Parts.{node_of, HaveNode, HaveRisingDigests}
 use Rattle.tree_node.specs.internal.OrderLemmas.{order_above, order_same}
-use Rattle.tree_node.specs.internal.Pairs.{HaveDistinctDigests, pair_of, part_key}
+use Rattle.tree_node.specs.internal.Pairs.{HaveDistinctDigests, lent_of, pair_of, part_key}
 use Rattle.tree_node.specs.Shelves.{SameNodes}
 use Rattle.tree_node.specs.declared.digest.Digest.{Digest}
+use Rattle.tree_node.specs.declared.given.Given.{Given}
 use Rattle.tree_node.specs.declared.part.Part.{Part}
 use Rattle.tree_node.proofs.BagLemmas.{element_at}
 use Rattle.tree_node.proofs.MapLemmas.{differ, eq_is}
@@ -84,35 +85,55 @@ keys_are [] = refl
 keys_are (p ∷ ps) =
     ap (λ (k : List ℕ). record { 0 = k } ∷ keys_of (map pair_of ps)) p.own ∙ ap (λ (ks : List Digest). part_key p ∷ ks) (keys_are ps)
 
-module _ {S : Type 0} (given : HashMap Digest (Bor (List ℕ)) S) (parts : List Part) (are : map pair_of parts ≡ given.entries) (unique : IsUnique digest_eq given) where
-  -- no two parts have one digest
-  pub parts_distinct : HaveDistinctDigests parts
-  parts_distinct =
-      subst (λ (ks : List Digest). IsDistinct digest_eq ks) (sym (ap (λ (es : List (Digest × Bor (List ℕ))). keys_of es) are) ∙ keys_are parts) unique
+-- entries have the same keys without what was read
+keys_lent : (entries : List (Digest × Given)) → keys_of (map lent_of entries) ≡ keys_of entries
+keys_lent [] = refl
+keys_lent (e ∷ es) = ap (λ (ks : List Digest). e.0 ∷ ks) (keys_lent es)
 
-  -- what a part holds was given
-  held_given : (x : List ℕ) → HaveNode parts x → StandsIn (lent_at given) x
-  held_given x (k, p, lt, is, e) =
-      let ltk : k < length given.entries = omega (arith, length_same pair_of parts, ap (length {A = Digest × Bor (List ℕ)}) are) in
-      let at : get_or given.entries k (pair_of p) ≡ pair_of p = ap (λ (es : List (Digest × Bor (List ℕ))). get_or es k (pair_of p)) (sym are) ∙ get_or-map pair_of parts k p (pair_of p) lt ∙ ap pair_of is in
-      let there : get digest_eq given p.digest ≡ Some p.bytes = lookup-from_Contains digest_equiv p.digest p.bytes given.entries unique (k, ltk, at) in
-      let key : p.digest ≡ key_of x = ap (λ (d : List ℕ). record { 0 = d }) (p.own ∙ ap digest e) in
-      ap (lent_at given) (sym key) ∙ ap (option_map (λ (b : Bor (List ℕ)). b.now)) there ∙ ap (λ (n : List ℕ). Some n) e
+module _ {S : Type 0} (given : HashMap Digest Given S) (unique : IsUnique digest_eq given) where
+  -- an entry at a place is what the map has under its key
+  lent_there : (k : ℕ) (key : Digest) (node : Bor (List ℕ)) → k < length given.entries → get_or (map lent_of given.entries) k (key, node) ≡ (key, node) → lent_at given key ≡ Some node.now
+  lent_there k key node lt at =
+      let (entry, is) = element_at given.entries k lt in
+      let there : get digest_eq given entry.0 ≡ Some entry.1 = lookup-from_Contains digest_equiv entry.0 entry.1 given.entries unique (k, lt, is) in
+      let pair : lent_of entry ≡ (key, node) = sym (get_or-map lent_of given.entries k entry (key, node) lt ∙ ap lent_of is) ∙ at in
+      ap (lent_at given) (sym (ap (λ (q : Digest × Bor (List ℕ)). q.0) pair)) ∙ ap (option_map (λ (g : Given). g.bytes.now)) there
+      ∙ ap (λ (q : Digest × Bor (List ℕ)). Some q.1.now) pair
 
-  -- what was given, a part holds
-  some_given : (x : List ℕ) (o : Option (Bor (List ℕ))) → get digest_eq given (key_of x) ≡ o → option_map (λ (b : Bor (List ℕ)). b.now) o ≡ Some x → HaveNode parts x
-  some_given x None is e = absurd cc
-  some_given x (Some b) is e =
-      let (k, lt, at) = Contains-from_lookup eq_is (key_of x) b given.entries is in
-      let ltp : k < length parts = omega (arith, length_same pair_of parts, ap (length {A = Digest × Bor (List ℕ)}) are) in
-      let part = element_at parts k ltp in
-      let pair : pair_of part.0 ≡ (key_of x, b) = sym (ap (λ (es : List (Digest × Bor (List ℕ))). get_or es k (key_of x, b)) (sym are) ∙ get_or-map pair_of parts k part.0 (key_of x, b) ltp ∙ ap pair_of part.1) ∙ at in
-      let same : node_of part.0 ≡ x = ap (λ (q : Digest × Bor (List ℕ)). q.1.now) pair ∙ cc in
-      (k, part.0, ltp, part.1, same)
+  module _ (parts : List Part) (are : map pair_of parts ≡ map lent_of given.entries) where
+    -- no two parts have one digest
+    pub parts_distinct : HaveDistinctDigests parts
+    parts_distinct =
+        subst (λ (ks : List Digest). IsDistinct digest_eq ks)
+        (sym (ap (λ (es : List (Digest × Bor (List ℕ))). keys_of es) are ∙ keys_lent given.entries) ∙ keys_are parts) unique
 
-  -- the parts hold exactly what was given
-  pub parts_given : SameNodes (StandsIn (lent_at given)) (HaveNode parts)
-  parts_given x = (held_given x, some_given x (get digest_eq given (key_of x)) refl)
+    as_many : length parts ≡ length given.entries
+    as_many = sym (length_same pair_of parts) ∙ ap (length {A = Digest × Bor (List ℕ)}) are ∙ length_same lent_of given.entries
+
+    -- what a part holds was given
+    held_given : (x : List ℕ) → HaveNode parts x → StandsIn (lent_at given) x
+    held_given x (k, p, lt, is, e) =
+        let at : get_or (map lent_of given.entries) k (pair_of p) ≡ pair_of p = ap (λ (es : List (Digest × Bor (List ℕ))). get_or es k (pair_of p)) (sym are) ∙ get_or-map pair_of parts k p (pair_of p) lt ∙ ap pair_of is in
+        let there : lent_at given p.digest ≡ Some p.bytes.now = lent_there k p.digest p.bytes (omega (arith, as_many)) at in
+        let key : p.digest ≡ key_of x = ap (λ (d : List ℕ). record { 0 = d }) (p.own ∙ ap digest e) in
+        ap (lent_at given) (sym key) ∙ there ∙ ap (λ (n : List ℕ). Some n) e
+
+    -- what was given, a part holds
+    some_given : (x : List ℕ) (o : Option Given) → get digest_eq given (key_of x) ≡ o → option_map (λ (g : Given). g.bytes.now) o ≡ Some x → HaveNode parts x
+    some_given x None is e = absurd cc
+    some_given x (Some g) is e =
+        let (k, lt, at) = Contains-from_lookup eq_is (key_of x) g given.entries is in
+        let ltp : k < length parts = omega (arith, as_many) in
+        let part = element_at parts k ltp in
+        let lent : Digest × Bor (List ℕ) = (key_of x, g.bytes) in
+        let pair : pair_of part.0 ≡ lent = sym (get_or-map pair_of parts k part.0 lent ltp ∙ ap pair_of part.1) ∙ ap (λ (es : List (Digest × Bor (List ℕ))). get_or es k lent) are
+        ∙ get_or-map lent_of given.entries k (key_of x, g) lent lt ∙ ap lent_of at in
+        let same : node_of part.0 ≡ x = ap (λ (q : Digest × Bor (List ℕ)). q.1.now) pair ∙ cc in
+        (k, part.0, ltp, part.1, same)
+
+    -- the parts hold exactly what was given
+    pub parts_given : SameNodes (StandsIn (lent_at given)) (HaveNode parts)
+    parts_given x = (held_given x, some_given x (get digest_eq given (key_of x)) refl)
 
 -- a list has what stands between its parts
 between : {X : Type 0} (front : List X) (x : X) (back : List X) → Contains (front ++ x ∷ back) x
@@ -120,11 +141,11 @@ between [] x back = (0, omega arith, refl)
 between (y ∷ front) x back = let (k, lt, at) = between front x back in (suc k, omega arith, at)
 
 -- a key and a node that are still to come stand in the map so
-pub to_come : {S : Type 0} (given : HashMap Digest (Bor (List ℕ)) S) (front left back : List (Digest × Bor (List ℕ))) (key : Digest) (node : Bor (List ℕ))
-    → IsUnique digest_eq given → front ++ left ≡ given.entries → left ≡ (key, node) ∷ back → get digest_eq given key ≡ Some node
+pub to_come : {S : Type 0} (given : HashMap Digest Given S) (front : List (Digest × Bor (List ℕ))) (left back : List (Digest × Given)) (key : Digest) (node : Given)
+    → IsUnique digest_eq given → front ++ map lent_of left ≡ map lent_of given.entries → left ≡ (key, node) ∷ back → lent_at given key ≡ Some node.bytes.now
 to_come given front left back key node unique are is =
-    lookup-from_Contains digest_equiv key node given.entries unique
-    (subst (λ (es : List (Digest × Bor (List ℕ))). Contains es (key, node)) (sym (ap (λ (l : List (Digest × Bor (List ℕ))). front ++ l) is) ∙ are) (between front (key, node) back))
+    let (k, lt, at) = subst (λ (es : List (Digest × Bor (List ℕ))). Contains es (key, node.bytes)) (sym (ap (λ (l : List (Digest × Given)). front ++ map lent_of l) is) ∙ are) (between front (key, node.bytes) (map lent_of back)) in
+    lent_there given unique k key node.bytes (omega (arith, length_same lent_of given.entries)) at
 
 -- the last part as an entry stands before those still to come
 moved : (parts : List Part) (p : Part) (left : List (Digest × Bor (List ℕ))) → map pair_of (parts ++ p ∷ []) ++ left ≡ map pair_of parts ++ pair_of p ∷ left

@@ -3,11 +3,11 @@
 use Rattle.std.specs.Prelude.{◌≡◌, ℕ, List, Bool, Option, Some}
 use Rattle.std.specs.Option.{option_map}
 use Rattle.std.specs.Str.{bytes_eq}
-use Rattle.std.specs.Borrow.{Bor}
 use Rattle.std.specs.Global.{Vec}
 use Rattle.std.specs.HashMap.{HashMap, get}
 use Rattle.tree_node.specs.Digests.{digest}
 use Rattle.tree_node.specs.declared.digest.Digest.{Digest}
+use Rattle.tree_node.specs.declared.given.Given.{Given}
 
 -- whether two digests have the same bytes
 abbrev pub digest_eq : Digest → Digest → Bool
@@ -22,8 +22,8 @@ abbrev pub owned_at : {S : Type 0} → HashMap Digest (Vec ℕ) S → Digest →
 owned_at nodes key = option_map (λ v. v.items) (get digest_eq nodes key)
 
 -- the lent node under a digest
-abbrev pub lent_at : {S : Type 0} → HashMap Digest (Bor (List ℕ)) S → Digest → Option (List ℕ)
-lent_at nodes key = option_map (λ b. b.now) (get digest_eq nodes key)
+abbrev pub lent_at : {S : Type 0} → HashMap Digest Given S → Digest → Option (List ℕ)
+lent_at nodes key = option_map (λ given. given.bytes.now) (get digest_eq nodes key)
 
 -- the node stands under its own digest, where `node_at` gives the nodes of a map
 abbrev pub StandsIn : (Digest → Option (List ℕ)) → List ℕ → Type 0

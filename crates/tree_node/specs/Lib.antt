@@ -1,6 +1,7 @@
 pub mod Bags
 pub mod Digests
 pub mod Faults
+pub mod Fetches
 pub mod Fronts
 pub mod Held
 pub mod Keys

@@ -8,6 +8,8 @@ ghost use Rattle.tree_node.specs.Parts.{HaveNode, HaveRisingDigests, node_of};
 ghost use Rattle.tree_node.specs.Shelves.{IsEmptySet, SameNodes};
 
 use crate::digest::Digest;
+use crate::fetched::Fetched;
+use crate::node::NodeRef;
 use crate::order::order_of;
 use crate::part::Part;
 use crate::shelf::{Shelf, ShelfFault};
@@ -96,6 +98,18 @@ impl<'a> Shelf<'a> for Bag<'a> {
                 Ok(self.parts[place].bytes())
             }
             None => Err(ShelfFault::Missing),
+        }
+    }
+
+    /// It takes no memory, and reads the node each time. It is linear in the bytes, and logarithmic in the
+    /// number of parts.
+    fn fetch_node(&mut self, key: &Digest) -> Result<Fetched<'a>, ShelfFault> {
+        match self.fetch(key) {
+            Ok(bytes) => Ok(Fetched {
+                bytes,
+                read: NodeRef::read(bytes),
+            }),
+            Err(fault) => Err(fault),
         }
     }
 }

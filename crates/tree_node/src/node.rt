@@ -76,6 +76,27 @@ impl<'a> NodeRef<'a> {
         }
     }
 
+    /// The same node once more, its items from where these stand.
+    pub(crate) fn again(&self) -> NodeRef<'a>
+        ensures { result ≡ self.now }
+    {
+        match self {
+            NodeRef::Leaf { tree, entries } => NodeRef::Leaf {
+                tree: *tree,
+                entries: entries.again(),
+            },
+            NodeRef::Inner {
+                tree,
+                level,
+                children,
+            } => NodeRef::Inner {
+                tree: *tree,
+                level: *level,
+                children: children.again(),
+            },
+        }
+    }
+
     /// What `read` gives, by the definition that goes through the bytes from the left.
     #[tactic(auto, unfolding(crate::specs::internal::Reading::node_at))]
     fn read_fields(bytes: &'a [u8]) -> Result<NodeRef<'a>, NodeFault>

@@ -1,26 +1,30 @@
 //! A shelf over a stock that knows which nodes were used.
 
 ghost use Rattle.std.specs.Option.{ForSome};
-ghost use Rattle.std.specs.Prelude.{◌≡◌, Some, IfOk, IfSome, true};
+ghost use Rattle.std.specs.Prelude.{◌≡◌, Some, IfOk, IfSome, OnErr, OnOk, true};
 ghost use Rattle.tree_node.specs.Digests.{digest as digest_word};
+ghost use Rattle.tree_node.specs.Fetches.{ReadsAs};
 ghost use Rattle.tree_node.specs.Keys.{lent_at, owned_at};
 ghost use Rattle.tree_node.specs.Parts.{HaveNode, HaveRisingDigests};
-ghost use Rattle.tree_node.specs.Shelves.{IsEmptySet, SameNodes};
+ghost use Rattle.tree_node.specs.Shelves.{GrownBy, IsEmptySet, SameNodes};
 
 use crate::digest::Digest;
+use crate::fetched::Fetched;
+use crate::given::Given;
+use crate::node::NodeRef;
 use crate::part::Part;
 use crate::shelf::{Shelf, ShelfFault};
 use crate::stock::Stock;
 use std::alloc::{AllocError, Global};
 use std::collections::HashMap;
 
-/// A shelf over a stock, which keeps the nodes that were used, each beside its digest. It copies no
-/// bytes.
+/// A shelf over a stock, which keeps the nodes that were used, each beside its digest, and as it was
+/// read where it was fetched as a tree's node. It copies no bytes.
 #[derive(Drop)]
 pub struct Recorder<'a> {
     alloc: Global,
     stock: &'a Stock,
-    given: HashMap<Digest, &'a [u8]>,
+    given: HashMap<Digest, Given<'a>>,
     ghost own: { (key : _)
         → ForSome (lent_at given key) (λ node. owned_at stock.now.nodes key ≡ Some node) },
 }
@@ -62,8 +66,8 @@ impl<'a> Recorder<'a> {
             SameNodes (RecorderUsed self.now) (HaveNode parts.items)) }
     {
         let mut used = Vec::with_capacity(self.alloc, self.given.len())?;
-        for (key, bytes) in &self.given {
-            used.push(Part::with_digest(*key, *bytes))?;
+        for (key, given) in &self.given {
+            used.push(Part::with_digest(*key, given.bytes))?;
         }
         Ok(used)
     }
@@ -74,8 +78,34 @@ impl<'a> Recorder<'a> {
             RecorderUsed self.now node.now × RecorderHolds self.now node.now × (digest_word node.now ≡ key.now.0)) }
     {
         match self.given.get(key) {
-            Some(node) => Some(*node),
+            Some(given) => Some(given.bytes),
             None => None,
+        }
+    }
+
+    /// The node of a tree with this digest, if it was read before.
+    fn read_node(&self, key: &Digest) -> Option<Fetched<'a>>
+        ensures { IfSome result (λ node.
+            RecorderUsed self.now node.bytes.now × RecorderHolds self.now node.bytes.now
+            × (digest_word node.bytes.now ≡ key.now.0) × ReadsAs node.bytes.now node.read) }
+    {
+        match self.given.get(key) {
+            Some(given) => given.fetched(),
+            None => None,
+        }
+    }
+
+    /// Remembers a node of the stock as used.
+    fn remember(&mut self, key: &Digest, given: Given<'a>) -> Result<(), ShelfFault>
+        requires { owned_at self.old.stock.now.nodes key.now ≡ Some given.bytes.now }
+        ensures grown { OnOk result (GrownBy (RecorderUsed self.old) (RecorderUsed self.new) given.entry.bytes.now) }
+        ensures unchanged { OnErr result (SameNodes (RecorderUsed self.old) (RecorderUsed self.new)) }
+        ensures stock { self.new.stock ≡ self.old.stock }
+        ensures memory { OnErr result (result ≡ Err ShelfFault.Memory) }
+    {
+        match self.given.insert(*key, given) {
+            Ok(_) => Ok(()),
+            Err(_) => Err(ShelfFault::Memory),
         }
     }
 }
@@ -97,16 +127,36 @@ impl<'a> Shelf<'a> for Recorder<'a> {
 
     /// It takes memory only for a node that was not used before, and is constant in time on average.
     fn fetch(&mut self, key: &Digest) -> Result<&'a [u8], ShelfFault> {
-        // Walks ask the nodes near a top again and again, and few of a stock's nodes are used.
+        // Few of a stock's nodes are used, so they are found sooner.
         if let Some(node) = self.used_node(key) {
             return Ok(node);
         }
         let stock = self.stock;
         match stock.find(key) {
-            Some(node) => match self.given.insert(*key, node) {
-                Ok(_) => Ok(node),
-                Err(_) => Err(ShelfFault::Memory),
+            Some(node) => match self.remember(key, Given::unread(node)) {
+                Ok(()) => Ok(node),
+                Err(fault) => Err(fault),
             },
+            None => Err(ShelfFault::Missing),
+        }
+    }
+
+    /// It takes memory only for a node that was not used before. A node of a tree that was read before
+    /// isn't read again: then it is constant in time on average, else linear in the bytes.
+    fn fetch_node(&mut self, key: &Digest) -> Result<Fetched<'a>, ShelfFault> {
+        // Walks ask for the nodes near a top again and again.
+        if let Some(node) = self.read_node(key) {
+            return Ok(node);
+        }
+        let stock = self.stock;
+        match stock.find(key) {
+            Some(bytes) => {
+                let read = NodeRef::read(bytes);
+                match self.remember(key, Given::with_read(bytes, &read)) {
+                    Ok(()) => Ok(Fetched { bytes, read }),
+                    Err(fault) => Err(fault),
+                }
+            }
             None => Err(ShelfFault::Missing),
         }
     }

@@ -2,9 +2,11 @@
 
 ghost use Rattle.std.specs.Prelude.{◌≡◌, ℕ, List, Bool, true, IfOk, OnErr};
 ghost use Rattle.tree_node.specs.Digests.{digest};
+ghost use Rattle.tree_node.specs.Fetches.{GivesNode};
 ghost use Rattle.tree_node.specs.Shelves.{GrownBy, HasNone, IsClashFree, SameNodes};
 
 use crate::digest::Digest;
+use crate::fetched::Fetched;
 use thiserror::Error;
 
 /// Why a shelf gave no node.
@@ -40,6 +42,22 @@ pub trait Shelf<'a> {
             holds self.new node.now × (digest node.now ≡ key.now.0)) }
         // The used nodes grow by just that one.
         ensures grown { IfOk result (λ node. GrownBy (used self.old) (used self.new) node.now) }
+        // Whatever the result, what was used stays used.
+        ensures grows { (x : List ℕ) → used self.old x → used self.new x }
+        ensures unchanged { OnErr result (SameNodes (used self.old) (used self.new)) }
+        // The held nodes never change.
+        ensures stays { SameNodes (holds self.old) (holds self.new) }
+        ensures missing { result ≡ Err ShelfFault.Missing → HasNone (holds self.new) key.now.0 }
+        ensures none { HasNone (holds self.new) key.now.0 → result ≡ Err ShelfFault.Missing }
+        ensures memory { result ≡ Err ShelfFault.Memory → takes_memory ≡ true };
+
+    /// The node with this digest, with what reading it as a node of a tree gives. It is used whether it is
+    /// one or not. Otherwise as `fetch`; a shelf may remember what it read, so that a node that is fetched
+    /// again isn't read again.
+    fn fetch_node(&mut self, key: &Digest) -> Result<Fetched<'a>, ShelfFault>
+        // What it gives is held, and has the digest asked. The used nodes grow by just that one.
+        ensures given { IfOk result (GivesNode
+            (record { held = holds self.new; before = used self.old; after = used self.new }) key.now.0) }
         // Whatever the result, what was used stays used.
         ensures grows { (x : List ℕ) → used self.old x → used self.new x }
         ensures unchanged { OnErr result (SameNodes (used self.old) (used self.new)) }

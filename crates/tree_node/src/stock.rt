@@ -6,7 +6,8 @@ ghost use Rattle.tree_node.specs.Digests.{digest as digest_word};
 ghost use Rattle.tree_node.specs.Keys.{owned_at};
 ghost use Rattle.tree_node.specs.Shelves.{GrownBy, IsEmptySet, SameNodes};
 
-use crate::digest::{Digest, digest_of};
+use crate::digest::Digest;
+use crate::new_node::NewNode;
 use crate::recorder::Recorder;
 use std::alloc::Global;
 use std::collections::HashMap;
@@ -57,14 +58,29 @@ impl Stock {
         ensures clashes { (x : List ℕ) → HasNode self.old x → x ≢ bytes.items
             → digest_word x ≡ digest_word bytes.items → result ≡ Err PutFault.Clash }
     {
-        let key = digest_of(bytes.as_slice());
-        if let Some(node) = self.nodes.get(&key) {
-            if node.as_slice() == bytes.as_slice() {
+        self.put_new(NewNode::new(bytes))
+    }
+
+    /// Adds a node that was digested before: as `put`, without computing the digest again.
+    pub fn put_new(&mut self, node: NewNode) -> Result<Digest, PutFault>
+        ensures key { IfOk result (λ key. key.0 ≡ digest_word node.bytes.items) }
+        ensures added { OnOk result (GrownBy (HasNode self.old) (HasNode self.new) node.bytes.items) }
+        ensures unchanged { OnErr result (SameNodes (HasNode self.old) (HasNode self.new)) }
+        ensures clash { result ≡ Err PutFault.Clash
+            → (x : List ℕ) × HasNode self.old x × (x ≢ node.bytes.items)
+            × (digest_word x ≡ digest_word node.bytes.items) }
+        ensures there { HasNode self.old node.bytes.items → IsOk result }
+        ensures clashes { (x : List ℕ) → HasNode self.old x → x ≢ node.bytes.items
+            → digest_word x ≡ digest_word node.bytes.items → result ≡ Err PutFault.Clash }
+    {
+        let key = node.digest;
+        if let Some(held) = self.nodes.get(&key) {
+            if held.as_slice() == node.bytes.as_slice() {
                 return Ok(key);
             }
             return Err(PutFault::Clash);
         }
-        match self.nodes.insert(key, bytes) {
+        match self.nodes.insert(key, node.bytes) {
             Ok(_) => Ok(key),
             Err(_) => Err(PutFault::Memory),
         }

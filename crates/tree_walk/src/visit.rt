@@ -37,9 +37,9 @@ pub(crate) fn open<'a, S: Shelf<'a>>(
         → Outcome cause_of (λ found. node_read found ≡ node) (λ bytes. bytes ≡ spelling node)
         (record { held = S.holds shelf.new; before = S.used shelf.old; after = S.used shelf.new }) result }
 {
-    let bytes = shelf.fetch(key)?;
+    let read = shelf.fetch_node(key)?.read;
     tally.count_fetch();
-    match NodeRef::read(bytes) {
+    match read {
         Ok(node) if node.tree() == tree => Ok(node),
         Ok(_) => Err(WalkFault::WrongTreeOrLevel),
         Err(fault) => Err(WalkFault::Malformed(fault)),

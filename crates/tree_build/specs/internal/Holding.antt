@@ -33,7 +33,7 @@ pub record HoldsTree (held : List ℕ → Type 0) (top : List ℕ) (level : ℕ)
   pub is : IsHeldTree held top tree entries
   pub has_level : level < length (levels Two tree entries)
 
--- the node of the level that is sought, with those before and behind it
+-- the node of the level that is sought, with those before and after it
 pub record IsSoughtNode (tree : List (List Node)) (level : ℕ) (wanted : List ℕ) (above : Bool) (node : Node) (last : Bool) : Type 0 where
   pub front : List Node
   pub back : List Node

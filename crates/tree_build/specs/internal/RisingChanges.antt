@@ -11,7 +11,7 @@ IsOwn key change = IfSome change.put (λ x. key x ≡ change.key)
 abbrev pub IsUpTo : List ℕ → List ℕ → Type 0
 IsUpTo a b = IsBelow a b ⊎ (a ≡ b)
 
--- each change is below those behind it, and what it puts has its key
+-- each change is below those after it, and what it puts has its key
 abbrev pub AreOwnAndRising : {X : Type 0} → (X → List ℕ) → List (Change X) → Type 0
 AreOwnAndRising key [] = ⊤
 AreOwnAndRising key (change ∷ changes) = IsOwn key change × AllByRecursion (λ c. IsBelow change.key c.key) changes × AreOwnAndRising key changes

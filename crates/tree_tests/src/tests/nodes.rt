@@ -1,10 +1,11 @@
 //! Worked values from outside: the bytes and codes of docs/FORMATS.md, and FIPS 180-4's two messages.
 
 use std::alloc::{AllocError, Global};
+use std::process::Abort;
 use std::test::Fail;
 use tree_node::{
-    Bag, Child, Children, Digest, Entries, Item, NodeFault, NodeRef, Part, PutFault, Shelf,
-    ShelfFault, Stock, Tree, digest_of, is_below, write_inner, write_leaf,
+    Bag, Child, Children, Digest, Entries, Item, NewNode, NodeFault, NodeRef, Part, PutFault,
+    Shelf, ShelfFault, Stock, Tree, digest_of, is_below, write_inner, write_leaf,
 };
 
 /// The leaf of the one object `n1 x0 y0`.
@@ -227,6 +228,78 @@ fn records_and_lends_what_was_used(rt: HostRuntime) -> Result<(), Fail> {
     let lent = fetch_two(&mut bag, &digest_of(b"b"), &digest_of(b"a"))?;
     assert_eq!(rt; lent, (b"b".as_slice(), b"a".as_slice()));
     assert!(rt; bag.all_used());
+    Ok(())
+}
+
+/// The greatest key below the node with this digest, over any shelf, or why its bytes are no node.
+fn fetch_greatest<'a, S: Shelf<'a>>(
+    shelf: &mut S,
+    key: &Digest,
+) -> Result<Result<&'a [u8], NodeFault>, ShelfFault> {
+    match shelf.fetch_node(key)?.read {
+        Ok(NodeRef::Leaf { entries, .. }) => Ok(Ok(entries.greatest())),
+        Ok(NodeRef::Inner { children, .. }) => Ok(Ok(children.greatest())),
+        Err(fault) => Ok(Err(fault)),
+    }
+}
+
+/// Fetches twice, as nodes, a leaf and bytes that are no node, and then a node that isn't held.
+fn fetches_nodes<'a, S: Shelf<'a>>(rt: &impl Abort, shelf: &mut S) {
+    for _ in 0..2 {
+        assert_eq!(rt; fetch_greatest(shelf, &digest_of(LEAF)), Ok(Ok(KEY)));
+        assert_eq!(rt;
+            fetch_greatest(shelf, &digest_of(b"")),
+            Ok(Err(NodeFault::CutShort))
+        );
+    }
+    assert_eq!(rt;
+        fetch_greatest(shelf, &digest_of(b"d")),
+        Err(ShelfFault::Missing)
+    );
+}
+
+#[test]
+fn gives_nodes_as_read(rt: HostRuntime) -> Result<(), Fail> {
+    let alloc = rt.alloc();
+    let stock = stock_of(alloc, &[LEAF, b"", b"a"])?;
+    let mut shelf = stock.shelf(alloc);
+    // A node may be fetched as bytes before and after.
+    assert_eq!(rt; shelf.fetch(&digest_of(LEAF)), Ok(LEAF));
+    fetches_nodes(&rt, &mut shelf);
+    assert_eq!(rt; shelf.fetch(&digest_of(LEAF)), Ok(LEAF));
+    let parts = shelf.parts()?;
+    assert_eq!(rt; parts.len(), 2);
+    let mut bag = Bag::new(alloc, parts)?;
+    fetches_nodes(&rt, &mut bag);
+    assert!(rt; bag.all_used());
+    Ok(())
+}
+
+/// Where memory to remember a node is refused, no node was used, and the next fetch gives it. Run with each
+/// allocation refused in turn.
+#[test]
+fn fetches_a_node_after_refused_memory(rt: HostRuntime) -> Result<(), Fail> {
+    let alloc = rt.alloc();
+    let mut stock = Stock::new(alloc);
+    if stock.put(owned(alloc, LEAF)?).is_err() {
+        stock.put(owned(alloc, LEAF)?)?;
+    }
+    let mut shelf = stock.shelf(alloc);
+    let mut fetched = fetch_greatest(&mut shelf, &digest_of(LEAF));
+    if fetched == Err(ShelfFault::Memory) {
+        assert!(rt; shelf.parts()?.is_empty());
+        fetched = fetch_greatest(&mut shelf, &digest_of(LEAF));
+    }
+    assert_eq!(rt; fetched, Ok(Ok(KEY)));
+    Ok(())
+}
+
+#[test]
+fn puts_a_digested_node(rt: HostRuntime) -> Result<(), Fail> {
+    let mut stock = Stock::new(rt.alloc());
+    let key = stock.put_new(NewNode::new(Vec::from_slice(rt.alloc(), LEAF)?))?;
+    assert_eq!(rt; key, digest_of(LEAF));
+    assert_eq!(rt; stock.shelf(rt.alloc()).fetch(&key), Ok(LEAF));
     Ok(())
 }
 

@@ -6,7 +6,7 @@ use ql_eval::{Report, evaluate};
 use ql_syntax::parse;
 use std::process::Abort;
 use std::test::Fail;
-use tree_node::{Digest, Shelf, ShelfFault};
+use tree_node::{Digest, Fetched, Shelf, ShelfFault};
 
 /// A query, how many walks it makes, and how many nodes they fetch.
 type Row = (&'static str, u64, u64);
@@ -80,5 +80,10 @@ impl<'a, S: Shelf<'a>> Shelf<'a> for Counting<S> {
     fn fetch(&mut self, key: &Digest) -> Result<&'a [u8], ShelfFault> {
         self.fetches = self.fetches.saturating_add(1);
         self.shelf.fetch(key)
+    }
+
+    fn fetch_node(&mut self, key: &Digest) -> Result<Fetched<'a>, ShelfFault> {
+        self.fetches = self.fetches.saturating_add(1);
+        self.shelf.fetch_node(key)
     }
 }

@@ -4,7 +4,7 @@ use Rattle.tree_node.specs.Trees.{Two, level_at, levels}
 use Rattle.tree_node.specs.Shelves.{IsClashFree}
 use Rattle.tree_node.specs.declared.digest.Digest.{Digest}
 use Rattle.tree_build.specs.Rebuilding.{changed_entries, digests_of, nodes_of}
-use Rattle.tree_build.specs.declared.rebuilt.NewNode.{NewNode}
+use Rattle.tree_node.specs.declared.new_node.NewNode.{NewNode}
 use Rattle.tree_build.specs.internal.FoundTops.{IsFound}
 use Rattle.tree_build.specs.internal.Towers.{tower}
 use Rattle.tree_build.proofs.FinishLemmas.{is_rebuilt, none_stays, some_stays}

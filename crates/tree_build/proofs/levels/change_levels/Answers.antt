@@ -1,5 +1,5 @@
 use Rattle.std.proofs.Common.{vec_len, inl, ◌≡◌, ◌+◌, ◌++◌, ◌∷◌, [], ◌<◌, ◌≤◌, length-append, length, map, refl, sym, ap, subst, ◌∙◌, add-one, arith}
-use Rattle.tree_node.specs.NodeRefs.{binding_of, link_of, number_of}
+use Rattle.tree_node.specs.NodeRefs.{link_of, number_of}
 use Rattle.std.specs.List.{flat_map}
 use Rattle.std.proofs.lemmas.List.{length-map}
 use Rattle.tree_node.specs.Nodes.{Inner, Link}
@@ -8,6 +8,7 @@ use Rattle.tree_build.specs.Changing.{changed}
 use Rattle.tree_build.specs.internal.Steps.{IsEdit}
 use Rattle.tree_build.specs.Rebuilding.{changes_of}
 use Rattle.tree_build.specs.internal.ItemChanges.{change_meant, changes_meant}
+use Rattle.tree_build.specs.internal.LeafItems.{entry_of}
 use Rattle.tree_build.proofs.TreeEdits.{edit_inner, edit_leaves, given_inner, given_leaves, held_of, levels_first, levels_more, next_of, nodes_new, nodes_old, old_then, at_top, none_next, tree_edit}
 use Rattle.tree_build.proofs.ReasonLevels.{has_next, reasoned_first, reasoned_next, reasons_inner, reasons_leaves}
 use Rattle.tree_build.proofs.UsedLemmas.{read_more}
@@ -16,7 +17,7 @@ use Rattle.tree_build.proofs.levels.change_levels.Goals as goal
 pub step_leaves-requires : goal.step_leaves-requires
 step_leaves-requires g c = λ k.
     let (entries, is, height, some) = c.requires in
-    let given : changes_meant binding_of c.as_slice.result.now ≡ changes_of c.args.changes.now = ap (changes_meant binding_of) c.as_slice.ensures.value ∙ c.in_ok-items.ensures in
+    let given : changes_meant entry_of c.as_slice.result.now ≡ changes_of c.args.changes.now = ap (changes_meant entry_of) c.as_slice.ensures.value ∙ c.in_ok-items.ensures in
     ((refl, tt), (entries, held_of _ _ _ _ _ is, omega arith, given_leaves _ _ c.args.changes.now (number_of c.args.tree) entries _ given some is))
 
 pub levels-init : goal.levels-init
@@ -31,7 +32,7 @@ levels-init g c = record {
       (c.in_ok-push.ensures.items ∙ ap (λ xs. xs ++ c.in_ok-leaves.leaves ∷ []) c.new-edits.ensures.items) refl (λ k. inl k)
       (c.in_ok-leaves.ensures.used entries (held_of _ _ _ _ _ now) (omega arith) x h);
   state = λ entries is height.
-      let given : changes_meant binding_of c.as_slice.result.now ≡ changes_of c.args.changes.now = ap (changes_meant binding_of) c.as_slice.ensures.value ∙ c.in_ok-items.ensures in
+      let given : changes_meant entry_of c.as_slice.result.now ≡ changes_of c.args.changes.now = ap (changes_meant entry_of) c.as_slice.ensures.value ∙ c.in_ok-items.ensures in
       let (some_entries, some_is, some_height, some) = c.requires in
       let now = old_then _ (g.S.Shelf.holds c.step_leaves.new.shelf) _ _ _ _ (λ x h. (c.step_leaves.ensures.stays x).1 h) is in
       let gives = c.in_ok-leaves.ensures.edited entries (held_of _ _ _ _ _ now) (omega arith) (given_leaves _ _ c.args.changes.now (number_of c.args.tree) entries _ given some is) in
@@ -40,7 +41,7 @@ levels-init g c = record {
       (nodes_new (number_of c.args.tree) entries (changes_of c.args.changes.now) is.is_tree is.has is.changed_has 0 (omega arith)) c.in_ok-next.ensures in
       levels_first _ _ _ c.in_ok-leaves.leaves _ (c.in_ok-push.ensures.items ∙ ap (λ xs. xs ++ c.in_ok-leaves.leaves ∷ []) c.new-edits.ensures.items) edit c.in_ok-leaves.ensures.some next;
   reasons = λ entries is height.
-      let given : changes_meant binding_of c.as_slice.result.now ≡ changes_of c.args.changes.now = ap (changes_meant binding_of) c.as_slice.ensures.value ∙ c.in_ok-items.ensures in
+      let given : changes_meant entry_of c.as_slice.result.now ≡ changes_of c.args.changes.now = ap (changes_meant entry_of) c.as_slice.ensures.value ∙ c.in_ok-items.ensures in
       let (some_entries, some_is, some_height, some) = c.requires in
       let now = old_then _ (g.S.Shelf.holds c.step_leaves.new.shelf) _ _ _ _ (λ x h. (c.step_leaves.ensures.stays x).1 h) is in
       let can = given_leaves _ _ c.args.changes.now (number_of c.args.tree) entries _ given some is in

@@ -13,6 +13,7 @@ use Rattle.tree_build.specs.internal.Steps.{HaveReasons, keys_changed}
 use Rattle.tree_build.specs.internal.Holding.{IsOnWayTo}
 use Rattle.tree_build.specs.declared.held.OldNode.{OldNode}
 use Rattle.tree_build.proofs.ReasonLemmas.{first_reasons, last_reasons, next_reasons}
+use Rattle.tree_build.proofs.MarkLemmas.{sought_inside}
 use Rattle.tree_build.proofs.UsedLemmas.{way_more}
 use Rattle.tree_build.proofs.StepLoops.{edit_of, end_state, falls, some_of, start_state, turn, went_then, within_rest}
 use Rattle.tree_build.proofs.step.step_inner.Goals as goal
@@ -50,7 +51,8 @@ take-requires g c κs =
     let t = turn link_of (λ (link : Link). link.greatest) (ends_by Two is_marked_link) links_in (Inner (number_of c.args.place.tree) c.args.place.level) AreWithin (level_at (levels Two (number_of c.args.place.tree) entries) c.args.place.level) c.args.changes.now can links_parts _ _ c.loop-wanted.work.hand.items c.loop-wanted.done (c.loop-wanted.invariant.state entries is lt can) (c.in-Some.wanted, c.in-Some.above) c.in-Some.ensures
     (levels Two (number_of c.args.place.tree) entries) c.args.place.level refl (node_read c.in_ok-found.found.node) c.in_ok-found.is_last (c.in_ok-found.ensures.node (number_of c.args.place.tree) entries held_now lt)
     c.in_ok-found.found.old c.in_ok-found.ensures.old c.count_up_to.result c.count_up_to.ensures.last c.count_up_to.ensures.up_to c.count_up_to.ensures.above in
-    ((refl, tt), (c.loop-wanted.invariant.few, (t.own, t.fit)))
+    let inside = sought_inside (number_of c.args.place.tree) entries c.args.place.level lt _ _ (node_read c.in_ok-found.found.node) c.in_ok-found.is_last (c.in_ok-found.ensures.node (number_of c.args.place.tree) entries held_now lt) in
+    ((refl, tt), (c.loop-wanted.invariant.few, (t.own, (t.fit, inside.links))))
 
 pub loop-wanted-smaller : goal.loop-wanted-smaller
 loop-wanted-smaller g c =

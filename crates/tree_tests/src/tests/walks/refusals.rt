@@ -4,7 +4,7 @@ use super::by_hand::{all, child, keys, put_inner, put_leaf, walked};
 use std::alloc::Global;
 use std::process::Abort;
 use std::test::Fail;
-use tree_node::{Child, Digest, NodeFault, Shelf, ShelfFault, Stock, Tree, digest_of};
+use tree_node::{Child, Digest, Fetched, NodeFault, Shelf, ShelfFault, Stock, Tree, digest_of};
 use tree_walk::{Tally, WalkFault};
 
 /// A walk over all of the stock is refused so, after this many fetches.
@@ -151,5 +151,10 @@ impl<'a, S: Shelf<'a>> Shelf<'a> for Counting<S> {
     fn fetch(&mut self, key: &Digest) -> Result<&'a [u8], ShelfFault> {
         self.fetches = self.fetches.saturating_add(1);
         self.shelf.fetch(key)
+    }
+
+    fn fetch_node(&mut self, key: &Digest) -> Result<Fetched<'a>, ShelfFault> {
+        self.fetches = self.fetches.saturating_add(1);
+        self.shelf.fetch_node(key)
     }
 }
