@@ -1,6 +1,6 @@
 //! Laws of desks: what a connection is told, over what happens alone. There is nothing to do when they run.
 
-ghost use Rattle.std.specs.Prelude.{◌≡◌, ◌≢◌, ℕ, List, Some, Ok, Err};
+ghost use Rattle.std.specs.Prelude.{◌≡◌, ℕ, List, Some, Ok, Err};
 ghost use Rattle.opl_codec.specs.declared.change.Change.{Change};
 ghost use Rattle.osm_gate.specs.Requests.{Asked};
 ghost use Rattle.osm_gate.specs.ResponseTexts.{Response};

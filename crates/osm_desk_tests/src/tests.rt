@@ -62,15 +62,17 @@ fn arrival(alloc: Global, number: u32, piece: &[u8]) -> Result<Event, Fail> {
 
 /// The publication of the changes of this text.
 fn publication(alloc: Global, changes: &str) -> Result<Event, Fail> {
-    Ok(Event::Publish(read_changes(
-        alloc,
-        &mut changes.as_bytes(),
-    )?))
+    Ok(Event::Publish(read_changes(alloc, &mut changes.as_bytes())?))
 }
 
-/// Whether a step gave these bytes to this connection, and nothing else.
-fn gives(got: &Result<Vec<(u32, Vec<u8>)>, DeskFault>, number: u32, bytes: &[u8]) -> bool {
-    match got {
+/// Takes an event. It has no clauses, so that the proofs of the tests carry none of those of a step.
+fn step(desk: &mut Desk, event: Event) -> Result<Vec<(u32, Vec<u8>)>, DeskFault> {
+    desk.step(event)
+}
+
+/// Whether an event gives these bytes to this connection, and nothing else.
+fn gives(desk: &mut Desk, event: Event, number: u32, bytes: &[u8]) -> bool {
+    match step(desk, event) {
         Ok(answers) => match answers.first() {
             Some((to, responses)) => {
                 answers.len() == 1 && *to == number && responses.as_slice() == bytes
@@ -81,12 +83,35 @@ fn gives(got: &Result<Vec<(u32, Vec<u8>)>, DeskFault>, number: u32, bytes: &[u8]
     }
 }
 
-/// Whether a step gave nothing.
-fn gives_nothing(got: &Result<Vec<(u32, Vec<u8>)>, DeskFault>) -> bool {
-    match got {
+/// Whether an event gives nothing.
+fn gives_nothing(desk: &mut Desk, event: Event) -> bool {
+    match step(desk, event) {
         Ok(answers) => answers.is_empty(),
         Err(_) => false,
     }
+}
+
+/// Why an event is refused, if it is.
+fn refusal_of(desk: &mut Desk, event: Event) -> Option<DeskFault> {
+    step(desk, event).err()
+}
+
+/// Whether a connection takes a piece, and gets these bytes.
+fn hears(
+    alloc: Global,
+    desk: &mut Desk,
+    number: u32,
+    piece: &[u8],
+    bytes: &[u8],
+) -> Result<bool, Fail> {
+    let event = arrival(alloc, number, piece)?;
+    Ok(gives(desk, event, number, bytes))
+}
+
+/// Whether changes are published.
+fn publishes(alloc: Global, desk: &mut Desk, changes: &str) -> Result<bool, Fail> {
+    let event = publication(alloc, changes)?;
+    Ok(gives_nothing(desk, event))
 }
 
 /// The root of the snapshot that is in force, in hexadecimal digits.

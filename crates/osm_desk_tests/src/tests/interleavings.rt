@@ -1,7 +1,7 @@
 //! Five connections whose events come in any order, with publications between, beside a gate for each that has a
 //! snapshot for itself, which is built anew of the set that is in force.
 
-use super::{desk_of, gives, gives_nothing, publication, snapshot_of};
+use super::{arrival, desk_of, gives_nothing, hears, publishes, refusal_of, snapshot_of};
 use osm_desk::{Desk, DeskFault, Event};
 use osm_gate::Gate;
 use osm_index::Snapshot;
@@ -56,11 +56,7 @@ fn set_text(there: [bool; 2]) -> &'static str {
 }
 
 /// Publishes that n1 or n2 comes or goes.
-fn publish(
-    rt: &(impl Abort + AllocGlobal),
-    beside: &mut Beside,
-    second: bool,
-) -> Result<(), Fail> {
+fn publish(rt: &(impl Abort + AllocGlobal), beside: &mut Beside, second: bool) -> Result<(), Fail> {
     let [one, two] = beside.there;
     let (changes, there) = match (second, one, two) {
         (false, true, _) => ("n1 dD\n", [false, two]),
@@ -68,8 +64,7 @@ fn publish(
         (true, _, true) => ("n2 dD\n", [one, false]),
         (true, _, false) => ("n2 x2 y2\n", [one, true]),
     };
-    let event = publication(rt.alloc(), changes)?;
-    assert!(rt; gives_nothing(&beside.desk.step(event)));
+    assert!(rt; publishes(rt.alloc(), &mut beside.desk, changes)?);
     beside.there = there;
     beside.sequence = beside.sequence.saturating_add(1);
     beside.snapshot = snapshot_of(rt.alloc(), set_text(there), beside.sequence)?;
@@ -79,14 +74,22 @@ fn publish(
 
 /// Opens a connection, or finds it open.
 fn open(rt: &(impl Abort + AllocGlobal), beside: &mut Beside, number: u32) -> Result<(), Fail> {
-    let got = beside.desk.step(Event::Open(number));
     if beside.gates.contains_key(&number) {
-        assert!(rt; matches!(got, Err(DeskFault::AlreadyOpen)));
+        let refusal = refusal_of(&mut beside.desk, Event::Open(number));
+        assert_eq!(rt; refusal, Some(DeskFault::AlreadyOpen));
         return Ok(());
     }
-    assert!(rt; gives_nothing(&got));
+    assert!(rt; gives_nothing(&mut beside.desk, Event::Open(number)));
     beside.gates.insert(number, Gate::new(rt.alloc())?)?;
     Ok(())
+}
+
+/// What the gate of a connection responds to a piece; none where it has no gate.
+fn expected(beside: &mut Beside, number: u32, piece: &[u8]) -> Result<Option<Vec<u8>>, Fail> {
+    match beside.gates.get_mut(&number) {
+        Some(gate) => Ok(Some(gate.feed(piece, &beside.snapshot)?)),
+        None => Ok(None),
+    }
 }
 
 /// Sends a piece, which the connection takes as its gate does.
@@ -96,24 +99,28 @@ fn send(
     number: u32,
     piece: &[u8],
 ) -> Result<(), Fail> {
-    let event = Event::Arrive(number, piece.to_vec(rt.alloc())?);
-    let got = beside.desk.step(event);
-    match beside.gates.get_mut(&number) {
-        Some(gate) => {
-            let want = gate.feed(piece, &beside.snapshot)?;
-            assert!(rt; gives(&got, number, &want));
+    match expected(beside, number, piece)? {
+        Some(want) => {
+            assert!(rt; hears(rt.alloc(), &mut beside.desk, number, piece, &want)?);
         }
-        None => assert!(rt; matches!(got, Err(DeskFault::NotOpen))),
+        None => {
+            let event = arrival(rt.alloc(), number, piece)?;
+            assert_eq!(rt;
+                refusal_of(&mut beside.desk, event),
+                Some(DeskFault::NotOpen)
+            );
+        }
     }
     Ok(())
 }
 
 /// Ends a connection, or finds it ended.
 fn end(rt: &impl Abort, beside: &mut Beside, number: u32) {
-    let got = beside.desk.step(Event::End(number));
-    match beside.gates.remove(&number) {
-        Some(_) => assert!(rt; gives_nothing(&got)),
-        None => assert!(rt; matches!(got, Err(DeskFault::NotOpen))),
+    if beside.gates.remove(&number).is_some() {
+        assert!(rt; gives_nothing(&mut beside.desk, Event::End(number)));
+    } else {
+        let refusal = refusal_of(&mut beside.desk, Event::End(number));
+        assert_eq!(rt; refusal, Some(DeskFault::NotOpen));
     }
 }
 
@@ -157,21 +164,32 @@ fn step(
     Ok(())
 }
 
+/// A desk over no objects.
+fn no_objects(alloc: Global) -> Result<Beside, Fail> {
+    Ok(Beside {
+        desk: desk_of(alloc, "")?,
+        gates: BTreeMap::new(alloc),
+        snapshot: snapshot_of(alloc, "", 0)?,
+        there: [false, false],
+        sequence: 0,
+    })
+}
+
+/// Takes 400 steps.
+fn steps(rt: &(impl Abort + AllocGlobal), beside: &mut Beside, seed: u64) -> Result<(), Fail> {
+    let mut places = [0; 5];
+    let mut numbers = Numbers { state: seed };
+    for _ in 0..400 {
+        step(rt, beside, &mut places, &mut numbers)?;
+    }
+    Ok(())
+}
+
 #[test]
 fn each_is_as_if_alone(rt: HostRuntime) -> Result<(), Fail> {
     for seed in 1..4 {
-        let mut beside = Beside {
-            desk: desk_of(rt.alloc(), "")?,
-            gates: BTreeMap::new(rt.alloc()),
-            snapshot: snapshot_of(rt.alloc(), "", 0)?,
-            there: [false, false],
-            sequence: 0,
-        };
-        let mut places = [0; 5];
-        let mut numbers = Numbers { state: seed };
-        for _ in 0..400 {
-            step(&rt, &mut beside, &mut places, &mut numbers)?;
-        }
+        let mut beside = no_objects(rt.alloc())?;
+        steps(&rt, &mut beside, seed)?;
     }
     Ok(())
 }

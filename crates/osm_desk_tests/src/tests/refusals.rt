@@ -1,9 +1,13 @@
 //! Events that are refused.
 
-use super::{ALL_KINDS, arrival, desk_of, found, gives, gives_nothing, publication, snapshot_of};
+use super::{
+    ALL_KINDS, arrival, desk_of, found, gives_nothing, hears, publication, refusal_of, root_of,
+    snapshot_of,
+};
 use osm_desk::{Desk, DeskFault, Event};
 use osm_index::ApplyFault;
 use osm_model::{Kind, Ref};
+use std::alloc::Global;
 use std::process::Abort;
 use std::test::Fail;
 
@@ -14,7 +18,7 @@ fn is_refused(
     event: Event,
     text: &str,
 ) -> Result<(), Fail> {
-    let Err(fault) = desk.step(event) else {
+    let Some(fault) = refusal_of(desk, event) else {
         return Err(Fail::new("it is refused"));
     };
     let found = format!(in rt.alloc(); "{fault}")?;
@@ -25,7 +29,7 @@ fn is_refused(
 /// Opens the connections of these numbers.
 fn opens(rt: &impl Abort, desk: &mut Desk, first: u32, after: u32) {
     for number in first..after {
-        assert!(rt; gives_nothing(&desk.step(Event::Open(number))));
+        assert!(rt; gives_nothing(desk, Event::Open(number)));
     }
 }
 
@@ -51,24 +55,36 @@ fn sixty_four_are_open_at_most(rt: HostRuntime) -> Result<(), Fail> {
     assert!(rt; desk.is_full());
     is_refused(&rt, &mut desk, Event::Open(64), "D3")?;
     is_refused(&rt, &mut desk, Event::Open(3), "D1")?;
-    assert!(rt; gives_nothing(&desk.step(Event::End(5))));
+    assert!(rt; gives_nothing(&mut desk, Event::End(5)));
     opens(&rt, &mut desk, 64, 65);
     is_refused(&rt, &mut desk, Event::Open(5), "D3")?;
     Ok(())
 }
 
+/// The response that tells the root of the set of all kinds of objects.
+fn root_response(alloc: Global) -> Result<String, Fail> {
+    let snapshot = snapshot_of(alloc, ALL_KINDS, 0)?;
+    let root = root_of(alloc, &snapshot)?;
+    let body = format!(in alloc; "{root}\n")?;
+    found(alloc, &snapshot, body.as_str())
+}
+
 #[test]
 fn refused_changes_change_nothing(rt: HostRuntime) -> Result<(), Fail> {
-    let alloc = rt.alloc();
-    let mut desk = desk_of(alloc, ALL_KINDS)?;
+    let want = root_response(rt.alloc())?;
+    let mut desk = desk_of(rt.alloc(), ALL_KINDS)?;
     opens(&rt, &mut desk, 1, 2);
-    let changes = publication(alloc, "n2 dD\nn99 dD\n")?;
+    let changes = publication(rt.alloc(), "n2 dD\nn99 dD\n")?;
     is_refused(&rt, &mut desk, changes, "D4 I2 n99")?;
-    let snapshot = snapshot_of(alloc, ALL_KINDS, 0)?;
-    let body = format!(in alloc; "{}\n", super::root_of(alloc, &snapshot)?)?;
-    let want = found(alloc, &snapshot, body.as_str())?;
-    let asked = arrival(alloc, 1, b"GET /api/root HTTP/1.1\r\n\r\n")?;
-    assert!(rt; gives(&desk.step(asked), 1, want.as_bytes()));
+    assert!(rt;
+        hears(
+            rt.alloc(),
+            &mut desk,
+            1,
+            b"GET /api/root HTTP/1.1\r\n\r\n",
+            want.as_bytes()
+        )?
+    );
     Ok(())
 }
 
@@ -84,7 +100,10 @@ fn refusals_show_their_codes(rt: HostRuntime) -> Result<(), Fail> {
         (DeskFault::NotOpen, "D2"),
         (DeskFault::NoRoom, "D3"),
         (DeskFault::Refused(ApplyFault::LastSequence), "D4 I5"),
-        (DeskFault::Refused(ApplyFault::ChangedTwice(way)), "D4 I3 w10"),
+        (
+            DeskFault::Refused(ApplyFault::ChangedTwice(way)),
+            "D4 I3 w10",
+        ),
         (DeskFault::Refused(ApplyFault::Clash), "D4 I1"),
         (DeskFault::Memory, "no memory"),
     ];

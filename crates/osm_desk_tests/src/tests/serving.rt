@@ -1,6 +1,6 @@
 //! Connections of a desk over readers and writers that are slow, or fail.
 
-use super::{ALL_KINDS, ASKED, RESPONSE, arrival, desk_of, gives, gives_nothing};
+use super::{ALL_KINDS, ASKED, RESPONSE, desk_of, gives_nothing, hears};
 use osm_desk::{Desk, Event};
 use osm_gate::GateFault;
 use std::alloc::Global;
@@ -21,14 +21,14 @@ Connection: close\r\n\
 not found\n";
 
 /// One text after the other.
-fn both(alloc: Global, first: &[u8], second: &[u8]) -> Result<Vec<u8>, Fail> {
+pub(super) fn both(alloc: Global, first: &[u8], second: &[u8]) -> Result<Vec<u8>, Fail> {
     let mut text = first.to_vec(alloc)?;
     text.extend_from_slice(second)?;
     Ok(text)
 }
 
 /// Serves a connection, where the number is free and there is room.
-fn serve_on<R: Read, W: Write>(
+pub(super) fn serve_on<R: Read, W: Write>(
     desk: &mut Desk,
     number: u32,
     reader: &mut R,
@@ -43,17 +43,16 @@ fn serve_on<R: Read, W: Write>(
 /// A desk on which connection 1 has sent half a request.
 fn with_half(rt: &(impl Abort + AllocGlobal)) -> Result<Desk, Fail> {
     let mut desk = desk_of(rt.alloc(), ALL_KINDS)?;
-    assert!(rt; gives_nothing(&desk.step(Event::Open(1))));
     let (first, _) = ASKED.split_at(40);
-    assert!(rt; gives(&desk.step(arrival(rt.alloc(), 1, first)?), 1, b""));
+    assert!(rt; gives_nothing(&mut desk, Event::Open(1)));
+    assert!(rt; hears(rt.alloc(), &mut desk, 1, first, b"")?);
     Ok(desk)
 }
 
 /// Whether connection 2 is forgotten, and connection 1 goes on.
 fn is_as_before(alloc: Global, desk: &mut Desk) -> Result<bool, Fail> {
     let (_, second) = ASKED.split_at(40);
-    let got = desk.step(arrival(alloc, 1, second)?);
-    Ok(!desk.is_open(2) && gives(&got, 1, RESPONSE))
+    Ok(!desk.is_open(2) && hears(alloc, desk, 1, second, RESPONSE)?)
 }
 
 /// Serves two requests from a reader that fails at a call, and has written the responses to what was read before.
