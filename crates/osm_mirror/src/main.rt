@@ -130,7 +130,10 @@ fn done(rt: &HostRuntime, job: Job) -> Status {
         } => {
             let edition = tree_edition(edition);
             let drawer = FolderDrawer::new(rt, changes.as_deref());
-            ended(rt, serve_file(rt, &file, port, connections, edition, drawer))
+            ended(
+                rt,
+                serve_file(rt, &file, port, connections, edition, drawer),
+            )
         }
     }
 }
@@ -156,7 +159,14 @@ fn serve_file(
         Edition::One => serve(alloc, &snapshot, &mut door, connections, errors),
         Edition::Two { sequence: _ } => {
             let mut desk = Desk::new(alloc, snapshot);
-            serve_changing(alloc, &mut desk, &mut drawer, &mut door, connections, errors)
+            serve_changing(
+                alloc,
+                &mut desk,
+                &mut drawer,
+                &mut door,
+                connections,
+                errors,
+            )
         }
     }
 }

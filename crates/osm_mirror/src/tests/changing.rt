@@ -172,7 +172,9 @@ fn refused_files_are_told_and_change_nothing(rt: HostRuntime) -> Result<(), Fail
     let last = root_of(alloc, &again, 2)?;
     let want = responses(
         alloc,
-        &[&changed, &changed, &changed, &changed, &changed, &changed, &last],
+        &[
+            &changed, &changed, &changed, &changed, &changed, &changed, &last,
+        ],
     )?;
     assert_eq!(rt; written.as_slice(), want.as_bytes());
     assert_eq!(rt;
