@@ -155,7 +155,7 @@ fn serve_file(
     let errors = &mut rt.stderr();
     // Where standard error takes nothing, it serves all the same.
     let _ = write!(errors, "{line}");
-    match edition {
+    match snapshot.edition() {
         Edition::One => serve(alloc, &snapshot, &mut door, connections, errors),
         Edition::Two { sequence: _ } => {
             let mut desk = Desk::new(alloc, snapshot);
