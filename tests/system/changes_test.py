@@ -18,7 +18,7 @@ ROOT_REQUEST = b"GET /api/root HTTP/1.1\r\nConnection: close\r\n\r\n"
 
 DELETE_WAY = b"w10 v2 dD\n"
 
-CONNECTIONS, REQUESTS = 1_000, 100
+CONNECTIONS, REQUESTS, BATCH = 1_000, 100, 10
 
 QUERIES = [b"node(1);out;", b'node["k"="v1"];out;', b"way(bn);out ids;", b"node(50,10,50.1,10.1);way(bn);out;"]
 
@@ -190,41 +190,51 @@ def soak_sets(ready, random_numbers):
     return files[0], roots
 
 
-def responses_in(text):
-    """The head's lines and the body of each response of a connection."""
-    at = 0
-    while at < len(text):
-        end = text.index(b"\r\n\r\n", at)
-        head = text[at:end].split(b"\r\n")
-        length = next(int(line[16:]) for line in head if line.startswith(b"Content-Length: "))
-        yield head, text[end + 4:end + 4 + length]
-        at = end + 4 + length
+def response(file):
+    """The head's lines and the body of the next response of a connection."""
+    head = []
+    while (line := file.readline()) not in (b"\r\n", b""):
+        head.append(line.rstrip(b"\r\n"))
+    length = next((int(line[16:]) for line in head if line.startswith(b"Content-Length: ")), 0)
+    return head, file.read(length)
+
+
+def responses(running, batches):
+    """The responses of one connection that sends each batch of requests once those before it are answered."""
+    got = []
+    with running.connect() as connection, connection.makefile("rb") as file:
+        for batch in batches:
+            connection.sendall(batch)
+            got += [response(file) for _ in range(BATCH)]
+    return got
 
 
 def check_soak(tally):
     """100,000 requests while 1,000 change files come: no more memory, and each answer is right by `check` under the root
     that it names, which is the one that the publisher published."""
     queries = [QUERIES[number % len(QUERIES)] for number in range(REQUESTS)]
-    asked = b"".join(
+    asked = [
         b"POST /api/checked HTTP/1.1\r\nContent-Length: %d\r\n%s\r\n%s"
         % (len(query), b"Connection: close\r\n" if number + 1 == REQUESTS else b"", query)
         for number, query in enumerate(queries)
-    )
+    ]
+    batches = [b"".join(asked[first:first + BATCH]) for first in range(0, REQUESTS, BATCH)]
     distinct, met, early = {}, 0, None
     with folders() as (changes, ready):
         base, roots = soak_sets(ready, random.Random(23))
-        with server(base, "--connections", CONNECTIONS, "--changes", changes) as running:
+        # The last connection comes once the memory has been looked at.
+        with server(base, "--connections", CONNECTIONS + 1, "--changes", changes) as running:
             for sequence in range(1, CONNECTIONS + 1):
                 (ready / f"{sequence}.opl").rename(changes / f"{sequence}.opl")
-                got = list(responses_in(told(running, [asked])))
-                for query, (head, body) in zip(queries, got):
+                for query, (head, body) in zip(queries, responses(running, batches)):
                     root, length = body[:32], int.from_bytes(body[32:40], "big")
                     named = b"Osm-Root: " + roots[sequence] in head and root.hex().encode() == roots[sequence]
-                    met += head[0] == b"HTTP/1.1 200 OK" and named
+                    met += head[:1] == [b"HTTP/1.1 200 OK"] and named
                     distinct[roots[sequence], query, body[40:40 + length], body[40 + length:]] = None
                 if sequence == CONNECTIONS // 10:
                     early = running.peak_kib()
             late = running.peak_kib()
+            tally.check("the last root", root_at(running) == roots[CONNECTIONS])
             outcome = running.ended()
         tally.check("the requests of the soak", met == CONNECTIONS * REQUESTS, met)
         tally.check("the soak ends", outcome == Outcome(b"", b"", 0), outcome)
