@@ -23,7 +23,8 @@ const ROOT_REQUEST: &str = "GET /api/root HTTP/1.1\r\nConnection: close\r\n\r\n"
 enum Found {
     File(&'static str),
     Nothing,
-    Fault(CommandFault),
+    BrokenFile,
+    NoMemory,
 }
 
 /// A drawer that says these things, one a question, and then has nothing more; it keeps what it was asked for.
@@ -55,7 +56,8 @@ impl Drawer for Answers {
         }
         match self.left.pop_front() {
             Some(Found::File(text)) => Ok(Some(Cursor::new(text.as_bytes().to_vec(self.alloc)?))),
-            Some(Found::Fault(fault)) => Err(fault),
+            Some(Found::BrokenFile) => Err(CommandFault::Device),
+            Some(Found::NoMemory) => Err(CommandFault::Memory),
             Some(Found::Nothing) | None => Ok(None),
         }
     }
@@ -88,6 +90,9 @@ fn told(
     drawer: &mut Answers,
 ) -> Result<(Vec<u8>, Vec<u8>), Fail> {
     let snapshot = read_snapshot(alloc, &mut ALL_KINDS.as_bytes(), Edition::Two { sequence })?;
+    let Edition::Two { sequence: _ } = snapshot.edition() else {
+        return Err(Fail::new("the snapshot is of the second edition"));
+    };
     let mut desk = Desk::new(alloc, snapshot);
     let mut door = clients(alloc, number as usize)?;
     let mut errors = Vec::new(alloc);
@@ -160,8 +165,8 @@ fn refused_files_are_told_and_change_nothing(rt: HostRuntime) -> Result<(), Fail
         Found::File(DELETE_WAY),
         Found::File("n3 x1 y1\nn1 x13.4\n"),
         Found::File("n5 x0 y0\nn5 dD\n"),
-        Found::Fault(CommandFault::Device),
-        Found::Fault(CommandFault::Memory),
+        Found::BrokenFile,
+        Found::NoMemory,
         Found::File("n2 v2 dD\n"),
     ] {
         drawer.left.push_back(found)?;
