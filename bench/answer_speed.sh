@@ -7,17 +7,8 @@
 #   bench/answer_speed.sh
 set -eu
 . "$(dirname "$0")/program.sh"
-data=$top/bench/data
-mkdir -p "$data"
+. "$(dirname "$0")/extract.sh"
 
-# An extract, made once: extract NAME SHARE.
-extract() {
-    local file=$data/$1.opl
-    [ -f "$file" ] || { python3 "$top/bench/make_extract.py" --share "$2" >"$file.part"; mv "$file.part" "$file"; }
-}
-
-extract extract-tenth 0.1
-extract extract 1
 build_program answer_speed 'osm_model: arrayvec itoa thiserror
 opl_codec: osm_model itoa memchr simdutf8 thiserror
 ql_syntax: osm_model opl_codec simdutf8 smallvec thiserror
@@ -25,6 +16,8 @@ ql_plain: osm_model opl_codec ql_syntax
 answer_speed: opl_codec ql_plain ql_syntax osm_model anyhow' osm_model opl_codec ql_syntax ql_plain
 
 echo "$(rt version)"
-echo "$(nproc) processors, $(sed -n 's/^model name\s*: //p' /proc/cpuinfo | head -n 1), Linux $(uname -r)"
-out/answer_speed <"$data/extract-tenth.opl"
-out/answer_speed <"$data/extract.opl"
+tell_machine
+for share in 0.1 1; do
+    extract "$share"
+    out/answer_speed <"$file"
+done

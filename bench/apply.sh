@@ -8,10 +8,8 @@
 set -eu
 share=${1:-1}
 . "$(dirname "$0")/program.sh"
-data=$top/bench/data
-mkdir -p "$data"
-file=$data/extract-$share.opl
-[ -f "$file" ] || { python3 "$top/bench/make_extract.py" --share "$share" >"$file.part"; mv "$file.part" "$file"; }
+. "$(dirname "$0")/extract.sh"
+extract "$share"
 
 crates='osm_model opl_codec tree_node tree_build tree_walk osm_index'
 # shellcheck disable=SC2086
@@ -19,7 +17,7 @@ build_program apply_speed "$(grep -E "^(${crates// /|}):" "$top/crates.txt")
 apply_speed: opl_codec osm_index anyhow" $crates
 
 echo "$(rt version)"
-echo "$(nproc) processors, $(sed -n 's/^model name\s*: //p' /proc/cpuinfo | head -n 1), Linux $(uname -r)"
+tell_machine
 echo "$(wc -l <"$file") objects, $(stat -c %s "$file") bytes:"
 python3 - "$file" <<'END'
 import os

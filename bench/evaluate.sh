@@ -8,10 +8,8 @@
 set -eu
 share=${1:-1}
 . "$(dirname "$0")/program.sh"
-data=$top/bench/data
-mkdir -p "$data"
-file=$data/extract-marked-$share.opl
-[ -f "$file" ] || { python3 "$top/bench/make_extract.py" --marked --share "$share" >"$file.part"; mv "$file.part" "$file"; }
+. "$(dirname "$0")/extract.sh"
+extract "$share" --marked
 
 crates='osm_model opl_codec ql_syntax ql_plain ql_plan tree_node tree_build tree_walk osm_index ql_eval osm_prove'
 # shellcheck disable=SC2086
@@ -19,7 +17,7 @@ build_program evaluate_speed "$(grep -E "^(${crates// /|}):" "$top/crates.txt")
 evaluate_speed: opl_codec osm_index osm_prove ql_eval ql_syntax tree_node anyhow" $crates
 
 echo "$(rt version); SQLite $(python3 -c 'import sqlite3; print(sqlite3.sqlite_version)')"
-echo "$(nproc) processors, $(sed -n 's/^model name\s*: //p' /proc/cpuinfo | head -n 1), Linux $(uname -r)"
+tell_machine
 echo "osm_mirror, $(wc -l <"$file") objects:"
 out/evaluate_speed <"$file"
 echo "SQLite, the same:"

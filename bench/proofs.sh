@@ -10,15 +10,8 @@
 set -eu
 cd "$(dirname -- "$(readlink -f -- "$0")")"
 runs=${1:-5}
-data=data
-mkdir -p "$data"
+. ./extract.sh
 program=../crates/osm_mirror/out/osm_mirror
-
-# An extract of this share, made once.
-extract() {
-    local file=$data/extract-$1.opl
-    [ -f "$file" ] || { python3 make_extract.py --share "$1" >"$file.part"; mv "$file.part" "$file"; }
-}
 
 # The sizes of a query's answer and proof over an extract, and the time to check them.
 proved() {
@@ -36,13 +29,12 @@ command -v osmium >/dev/null || { echo "osmium isn't installed" >&2; exit 1; }
 # The first call builds; help has the status 2.
 built=$(../osm_mirror --help 2>&1) || [ $? -eq 2 ] || { echo "$built" >&2; exit 1; }
 echo "$(rt version); $(osmium --version | head -n 1)"
-echo "$(nproc) processors, $(sed -n 's/^model name\s*: //p' /proc/cpuinfo | head -n 1), Linux $(uname -r)"
+tell_machine
 echo "median of $runs runs"
 # The box's half edge in 1e-4 degree, so that it holds about as many nodes in each extract.
 for row in '0.01 11550 1000' '0.1 115500 316' '1 1155000 100'; do
     read -r share objects half <<<"$row"
     extract "$share"
-    file=$data/extract-$share.opl
     edge=$(printf '%04d' "$half")
     proved "$file" "$objects" 'an id' 'node(4998);out;'
     proved "$file" "$objects" 'a box' "node(51.$((10000 - half)),12.$((10000 - half)),52.$edge,13.$edge);out;"

@@ -10,14 +10,7 @@
 set -eu
 runs=${1:-3}
 . "$(dirname "$0")/program.sh"
-data=$top/bench/data
-mkdir -p "$data"
-
-# An extract, made once: extract NAME SHARE.
-extract() {
-    local file=$data/$1.opl
-    [ -f "$file" ] || { python3 "$top/bench/make_extract.py" --share "$2" >"$file.part"; mv "$file.part" "$file"; }
-}
+. "$(dirname "$0")/extract.sh"
 
 # The nodes of an extract and what they take, from the program: nodes_of FILE EDITION.
 nodes_of() {
@@ -51,9 +44,10 @@ print(words[3])
 END
 }
 
-# Measures the programs over an extract of so many objects.
+# Measures the programs over the extract of so many objects and this share: side_by_side OBJECTS SHARE.
 side_by_side() {
-    local objects=$1 file=$data/$2.opl edition bytes
+    local objects=$1 edition bytes
+    extract "$2"
     echo "$(stat -c %s "$file") bytes:"
     for edition in 1 2; do
         bytes=$(nodes_of "$file" "$edition")
@@ -67,8 +61,6 @@ side_by_side() {
 
 # The first call builds; help has the status 2.
 built=$("$top/osm_mirror" --help 2>&1) || [ $? -eq 2 ] || { echo "$built" >&2; exit 1; }
-extract extract-tenth 0.1
-extract extract 1
 build_program publish_trees 'osm_model: arrayvec itoa thiserror
 opl_codec: osm_model itoa memchr simdutf8 thiserror
 tree_node: sha2 thiserror
@@ -78,7 +70,7 @@ osm_index: osm_model opl_codec tree_node tree_build tree_walk simdutf8 thiserror
 publish_trees: osm_index opl_codec tree_node anyhow' osm_model opl_codec tree_node tree_build tree_walk osm_index
 
 echo "$(rt version); $(osmium --version | head -n 1)"
-echo "$(nproc) processors, $(sed -n 's/^model name\s*: //p' /proc/cpuinfo | head -n 1), Linux $(uname -r)"
+tell_machine
 echo "median of $runs runs"
-side_by_side 115500 extract-tenth
-side_by_side 1155000 extract
+side_by_side 115500 0.1
+side_by_side 1155000 1

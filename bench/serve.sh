@@ -7,11 +7,10 @@
 #   bench/serve.sh [REQUESTS]
 set -eu
 cd "$(dirname -- "$(readlink -f -- "$0")")"
-mkdir -p data
-file=data/extract-1.opl
-[ -f "$file" ] || { python3 make_extract.py --share 1 >"$file.part"; mv "$file.part" "$file"; }
+. ./extract.sh
+extract 1
 # The first call builds; help has the status 2.
 built=$(../osm_mirror --help 2>&1) || [ $? -eq 2 ] || { echo "$built" >&2; exit 1; }
 echo "$(rt version); $(nginx -v 2>&1)"
-echo "$(nproc) processors, $(sed -n 's/^model name\s*: //p' /proc/cpuinfo | head -n 1), Linux $(uname -r)"
+tell_machine
 exec python3 -B serve.py "$file" "${1:-20000}"
