@@ -11,9 +11,6 @@ use std::cmp::Ordering;
 /// How many bytes at the front of two keys are compared as one number.
 const FRONT: usize = 8;
 
-/// The length of the keys of objects.
-const OBJECT_KEY: usize = 9;
-
 /// Whether a key is above this one, where there is one: above the key before it, or above a left bound.
 #[inline(always)]
 pub fn is_above(low: Option<&[u8]>, key: &[u8]) -> bool
@@ -30,13 +27,13 @@ pub fn is_above(low: Option<&[u8]>, key: &[u8]) -> bool
 ///
 /// The first eight bytes of each are compared as one number, since the keys of a tree mostly differ
 /// after some equal bytes: std's order of slices, which ends byte by byte, took more than four times the
-/// instructions at keys of nine bytes. Two keys of objects go the same way, without a look at what their
-/// lengths leave after the front.
+/// instructions at keys of nine bytes. Keys that differ there, and those of objects, are compared without
+/// a call.
 #[inline(always)]
 pub fn is_below(low: &[u8], high: &[u8]) -> bool
     ensures { IsTrue result ↔ IsBelow low.now high.now }
 {
-    if low.len() == OBJECT_KEY && high.len() == OBJECT_KEY {
+    if low.len() >= FRONT && high.len() >= FRONT {
         return is_long_below(low, high);
     }
     is_other_below(low, high)
@@ -77,7 +74,19 @@ fn is_long_below(low: &[u8], high: &[u8]) -> bool
     if low_number != high_number {
         return low_number < high_number;
     }
-    is_rest_below(low_rest, high_rest)
+    is_tail_below(low_rest, high_rest)
+}
+
+/// Whether what follows the front of the low key is below what follows that of the high one. One byte of each is compared
+/// without a call: that is all that is left of the keys of objects.
+#[inline(always)]
+fn is_tail_below(low: &[u8], high: &[u8]) -> bool
+    ensures { IsTrue result ↔ IsBelow low.now high.now }
+{
+    match (low, high) {
+        ([low], [high]) => low < high,
+        _ => is_other_below(low, high),
+    }
 }
 
 /// The order of two digests, which their fronts mostly decide.
@@ -93,8 +102,7 @@ pub(crate) fn order_of(left: &Digest, right: &Digest) -> Ordering
     Ordering::Equal
 }
 
-/// Whether the low bytes are below the high ones. One byte of each is compared without a call: that is
-/// all that is left of the keys of objects.
+/// Whether the low bytes are below the high ones. One byte of each is compared without a call.
 #[inline(always)]
 fn is_rest_below(low: &[u8], high: &[u8]) -> bool
     ensures { IsTrue result ↔ IsBelow low.now high.now }

@@ -17,4 +17,4 @@ returns c =
     c.number-low_number.result c.number-high_number.result (c.number-low_number.ensures ∙ ap (from_be_bytes w64) c.split_at.ensures.front) (c.number-high_number.ensures ∙ ap (from_be_bytes w64) c.split_at-2.ensures.front)
     c.if-low_number-high_number.false
     ∙ (λ i. order (sym c.split_at.ensures.back i) (sym c.split_at-2.ensures.back i)) in
-    ((λ is. same ∙ c.is_rest_below.ensures.0 is), (λ below. c.is_rest_below.ensures.1 (sym same ∙ below)))
+    ((λ is. same ∙ c.is_tail_below.ensures.0 is), (λ below. c.is_tail_below.ensures.1 (sym same ∙ below)))
