@@ -10,7 +10,7 @@ use Rattle.tree_node.specs.declared.stock.Stock.{Stock}
 use Rattle.tree_node.specs.declared.tree.Tree.{Tree}
 use Rattle.tree_node.proofs.shared.OutcomeLaws.{honest, uses}
 use Rattle.tree_node.proofs.shared.StockLaws.{recorder_used, stock_free}
-use Rattle.tree_walk.specs.Choices.{IsCount}
+use Rattle.tree_walk.specs.Choices.{AreThose, IsCount}
 use Rattle.tree_walk.specs.Fetches.{cause_of}
 use Rattle.tree_walk.specs.Ranges.{Range}
 use Rattle.tree_walk.specs.Walks.{IsMet, IsMetCounted, IsTopOf}
@@ -51,3 +51,9 @@ pub count_all : {X : Type 0} (Has : X → Type 0) (xs : List X) (n : ℕ) → ((
 count_all Has [] n all is = is
 count_all Has (x ∷ xs) n all (inl (has, (m, e, more))) = e ∙ ap (λ (k : ℕ). suc k) (count_all Has xs m all more)
 count_all Has (x ∷ xs) n all (inr (hasnt, more)) = absurd (hasnt (all x))
+
+-- what all have is found
+pub all_those : {X : Type 0} (Has : X → Type 0) (xs found : List X) → ((x : X) → Has x) → AreThose Has xs found → found ≡ xs
+all_those Has [] found all is = is
+all_those {X} Has (x ∷ xs) found all (inl (has, (others, e, more))) = e ∙ ap (λ (ys : List X). x ∷ ys) (all_those Has xs others all more)
+all_those Has (x ∷ xs) found all (inr (hasnt, more)) = absurd (hasnt (all x))

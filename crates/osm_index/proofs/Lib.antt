@@ -28,3 +28,4 @@ pub mod AppliedLemmas
 pub mod PlanLemmas
 pub mod SnapshotLemmas
 pub mod ApplyLemmas
+pub mod EntryObjects

@@ -91,16 +91,19 @@ entries_rise : (low : Option (List ℕ)) (objects : List Element) → RiseAt low
 entries_rise low [] rise = tt
 entries_rise low (o ∷ objects) rise = (rise.0, entries_rise (Some (object_entry o).key) objects rise.1)
 
-pub objects_counted : (p : Publication) → IsPublication p → length (p.entries Objects) ≡ length p.objects
-objects_counted p is =
-    ap length (one_entry_list p.objects Objects (p.entries Objects) (map object_entry p.objects) (is.lists Objects) (record {
+-- the entries of the object tree, one for each object
+pub objects_listed : (p : Publication) → IsPublication p → p.entries Objects ≡ map object_entry p.objects
+objects_listed p is =
+    one_entry_list p.objects Objects (p.entries Objects) (map object_entry p.objects) (is.lists Objects) (record {
       rising = entries_rise None p.objects (set_rises p.objects is.set);
       members = λ b. (
         (λ h. let found = from_map object_entry p.objects b h in (found.0, found.1, found.2)),
         (λ (o, there, e). subst (λ (x : _). Contains (map object_entry p.objects) x) (sym e) (in_map object_entry p.objects o there)),
       );
-    }))
-    ∙ length-map p.objects object_entry
+    })
+
+pub objects_counted : (p : Publication) → IsPublication p → length (p.entries Objects) ≡ length p.objects
+objects_counted p is = ap length (objects_listed p is) ∙ length-map p.objects object_entry
 
 pub if_ok : {A E : Type 0} {P Q : A → Type 0} (result : Result A E) → IfOk result P → ((value : A) → P value → Q value) → IfOk result Q
 if_ok (Ok value) is then = then value is

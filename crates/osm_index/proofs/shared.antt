@@ -9,3 +9,4 @@ pub mod CellLaws
 pub mod KeyOrder
 pub mod OneKey
 pub mod ChangeLaws
+pub mod OneHeld

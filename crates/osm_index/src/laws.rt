@@ -63,6 +63,15 @@ pub fn changes_law()
         → p.objects ≡ q.objects → p.edition ≡ q.edition → SameNodes (HasNode a.stock) (HasNode b.stock) × (a.root.0 ≡ b.root.0) }
 {}
 
+/// The law of snapshots: what one holds is one set of objects in one edition, since no two different nodes of it have
+/// one digest.
+pub fn snapshot_law()
+    ensures objects { (snapshot : Snapshot) (p q : Publication) → HoldsPublication snapshot p → HoldsPublication snapshot q
+        → p.objects ≡ q.objects }
+    ensures edition { (snapshot : Snapshot) (p q : Publication) → HoldsPublication snapshot p → HoldsPublication snapshot q
+        → p.edition ≡ q.edition }
+{}
+
 /// The law of manifests: their bytes determine the four tops, the shape of the trees, and the edition with
 /// its sequence.
 pub fn manifest_law()

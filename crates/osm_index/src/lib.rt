@@ -38,7 +38,7 @@ pub use fault::IndexFault;
 pub use keys::{append_tag_key, back_key, cell_key, cell_value, reference_key};
 pub use laws::{
     back_law, cell_law, changes_law, entries_are_bytes, key_order_law, kind_law, manifest_law,
-    object_law, publication_law, tag_key_law, tag_law,
+    object_law, publication_law, snapshot_law, tag_key_law, tag_law,
 };
 pub use listing::entries_of;
 pub use manifest::{Manifest, read_manifest, write_manifest};

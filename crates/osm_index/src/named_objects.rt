@@ -1,7 +1,7 @@
 //! The objects of some names, read from the object tree.
 
 ghost use Rattle.std.specs.List.{Contains, filter_map};
-ghost use Rattle.std.specs.Prelude.{◌≡◌, ◌↔◌, ◌∷◌, ◌++◌, [], IfOk, OnOk, Some};
+ghost use Rattle.std.specs.Prelude.{◌≡◌, ◌↔◌, ◌∷◌, ◌++◌, [], IfOk, List, OnOk, Some};
 ghost use Rattle.osm_model.specs.CanonicalLine.{canonical_line};
 ghost use Rattle.osm_model.specs.Elements.{Element};
 ghost use Rattle.osm_model.specs.Limits.{IsElement};
@@ -13,7 +13,7 @@ ghost use Rattle.tree_node.specs.declared.tree.Tree.TheVariants.{Objects};
 ghost use Rattle.osm_index.specs.Applying.{AreApart, names_of};
 ghost use Rattle.osm_index.specs.Entries.{object_entry};
 ghost use Rattle.osm_index.specs.Publications.{Publication};
-ghost use Rattle.osm_index.specs.internal.HeldTrees.{AreNamed, HoldsSome, HoldsTree, IsLineOfSome};
+ghost use Rattle.osm_index.specs.internal.HeldTrees.{AreEntriesOfSome, AreNamed, AreObjectEntries, HoldsSome, HoldsTree, IsLineOfSome};
 
 use crate::changed_names::name_of;
 use crate::entry_count::memory_alone;
@@ -122,6 +122,61 @@ fn entries_under<'a>(
         Ok(found) => Ok(found),
         Err(fault) => Err(memory_alone(fault)),
     }
+}
+
+/// All objects of the set, read from the object tree, whose top has this digest and which the stock holds. Linear
+/// in the lines, beside the sorting, which finds them sorted.
+pub(crate) fn all_objects(
+    alloc: Global,
+    top: &Digest,
+    stock: &Stock,
+) -> Result<ObjectSet, AllocError>
+    requires { ∥ HoldsSome Objects top.now.0 (HasNode stock.now) ∥₁ }
+    ensures { (p : Publication) → HoldsTree p Objects top.now.0 (HasNode stock.now)
+        → IfOk result (λ set. set ≡ p.objects) }
+{
+    let entries = all_entries(alloc, top, stock)?;
+    let objects = read_objects(alloc, &entries)?;
+    match ObjectSet::from_objects(objects) {
+        Ok(set) => Ok(set),
+        Err(_) => unreachable!("no two objects of a set have one reference"),
+    }
+}
+
+/// All entries of the object tree.
+fn all_entries<'a>(
+    alloc: Global,
+    top: &Digest,
+    stock: &'a Stock,
+) -> Result<Vec<Item<'a>>, AllocError>
+    requires { ∥ HoldsSome Objects top.now.0 (HasNode stock.now) ∥₁ }
+    ensures { (p : Publication) → HoldsTree p Objects top.now.0 (HasNode stock.now)
+        → IfOk result (λ found. bindings_of found.items ≡ p.entries Objects) }
+{
+    let all = KeyRange {
+        lo: &[],
+        hi: &[],
+        under: true,
+    };
+    let mut shelf = stock.shelf(alloc);
+    let mut tally = Tally::default();
+    match range(alloc, &mut shelf, top, Tree::Objects, &all, &mut tally) {
+        Ok(found) => Ok(found),
+        Err(fault) => Err(memory_alone(fault)),
+    }
+}
+
+/// The objects of these entries, in their order.
+fn read_objects(alloc: Global, entries: &[Item<'_>]) -> Result<Vec<Object>, AllocError>
+    requires { ∥ AreEntriesOfSome (bindings_of entries.now) ∥₁ }
+    ensures { (objects : List Element) → AreObjectEntries objects (bindings_of entries.now)
+        → IfOk result (λ found. found.items ≡ objects) }
+{
+    let mut objects = Vec::new(alloc);
+    for entry in entries {
+        objects.push(read_object(alloc, entry.value)?)?;
+    }
+    Ok(objects)
 }
 
 /// The object whose canonical line this is.

@@ -27,6 +27,7 @@ use crate::exchange::exchange_of;
 use crate::fault::IndexFault;
 use crate::listing::entries_of;
 use crate::manifest::{Manifest, write_manifest};
+use crate::named_objects::all_objects;
 use crate::node_changes::{put_nodes, remove_nodes};
 use crate::plan::{Plan, plan_of};
 use opl_codec::Change;
@@ -184,6 +185,13 @@ impl Snapshot {
         ensures { result.now ≡ self.now.stock }
     {
         &self.stock
+    }
+
+    /// The set, read back from the object tree. Linear in the objects' lines.
+    pub fn objects(&self, alloc: Global) -> Result<ObjectSet, AllocError>
+        ensures { (p : Publication) → HoldsPublication self.now p → IfOk result (λ set. set ≡ p.objects) }
+    {
+        all_objects(alloc, &self.manifest.tops[0], &self.stock)
     }
 
     /// The manifest.

@@ -1,14 +1,16 @@
 -- Trees of a publication that a stock holds, and what is read from them.
 -- Source: this project.
 use Rattle.std.specs.List.{Contains}
-use Rattle.std.specs.Prelude.{◌≡◌, ◌↔◌, ℕ, List}
+use Rattle.std.specs.Prelude.{◌≡◌, ◌↔◌, ℕ, All, List, map}
 use Rattle.osm_model.specs.CanonicalLine.{canonical_line}
 use Rattle.osm_model.specs.Elements.{Element, reference}
 use Rattle.osm_model.specs.Limits.{IsElement}
 use Rattle.osm_model.specs.Sets.{IsObjectSet}
 use Rattle.osm_model.specs.declared.reference.Ref.{Ref}
+use Rattle.tree_node.specs.Nodes.{Binding}
 use Rattle.tree_node.specs.Trees.{IsNodeOf}
 use Rattle.tree_node.specs.declared.tree.Tree.{Tree}
+use Rattle.osm_index.specs.Entries.{object_entry}
 use Rattle.osm_index.specs.Publications.{IsPublication, Publication, top_in, tree_in}
 
 -- this is a publication, the top of its tree has this digest, and the set holds the tree's nodes
@@ -29,3 +31,12 @@ pub record AreNamed (objects : List Element) (names : List Ref) (found : List El
 -- it is the canonical line of some object
 abbrev pub IsLineOfSome : List ℕ → Type 0
 IsLineOfSome line = (o : Element) × IsElement o × (line ≡ canonical_line o)
+
+-- these are the entries of these objects in the object tree, in their order
+pub record AreObjectEntries (objects : List Element) (entries : List Binding) : Type 0 where
+  pub elements : All IsElement objects
+  pub entries_are : entries ≡ map object_entry objects
+
+-- so it is of some objects
+abbrev pub AreEntriesOfSome : List Binding → Type 0
+AreEntriesOfSome entries = (objects : List Element) × AreObjectEntries objects entries

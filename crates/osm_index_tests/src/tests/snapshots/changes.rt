@@ -2,6 +2,7 @@
 
 mod many;
 mod memory;
+mod objects;
 mod random;
 mod refused;
 mod rows;
