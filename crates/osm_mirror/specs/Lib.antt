@@ -1,5 +1,6 @@
 pub mod Ask
 pub mod ChangeFiles
+pub mod Drawers
 pub mod Editions
 pub mod Faults
 pub mod Files

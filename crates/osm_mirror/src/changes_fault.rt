@@ -1,10 +1,11 @@
 //! Why a change file isn't published.
 
 ghost use Rattle.std.specs.Prelude.{◌≡◌};
-ghost use Rattle.osm_mirror.specs.ChangeFiles.{fault_of_apply, fault_of_drawer, fault_of_reading};
+ghost use Rattle.osm_mirror.specs.ChangeFiles.{fault_of_apply, fault_of_command};
+ghost use Rattle.osm_mirror.specs.Faults.{fault_of_load};
 
 use crate::command_fault::CommandFault;
-use opl_codec::{LoadFault, OplCause};
+use opl_codec::LoadFault;
 use osm_index::ApplyFault;
 use thiserror::Error;
 
@@ -25,16 +26,24 @@ pub enum ChangesFault {
     Device,
 }
 
-impl From<LoadFault> for ChangesFault {
-    ghost from_gives = { λ load fault. fault ≡ fault_of_reading load };
+impl From<CommandFault> for ChangesFault {
+    ghost from_gives = { λ refused fault. fault ≡ fault_of_command refused };
 
-    /// A reader that failed is a device, and out of memory stays out of memory; else the file is refused.
-    fn from(load: LoadFault) -> ChangesFault {
-        match load.fault.cause {
-            OplCause::ReaderFailed => ChangesFault::Device,
-            OplCause::Memory => ChangesFault::Memory,
-            _ => ChangesFault::Opl(load),
+    /// A drawer or a reader is refused by out of memory, by a device, or by what the file says.
+    fn from(refused: CommandFault) -> ChangesFault {
+        match refused {
+            CommandFault::Opl(load) => ChangesFault::Opl(load),
+            CommandFault::Memory => ChangesFault::Memory,
+            _ => ChangesFault::Device,
         }
+    }
+}
+
+impl From<LoadFault> for ChangesFault {
+    ghost from_gives = { λ load fault. fault ≡ fault_of_command (fault_of_load load) };
+
+    fn from(load: LoadFault) -> ChangesFault {
+        ChangesFault::from(CommandFault::from(load))
     }
 }
 
@@ -45,18 +54,6 @@ impl From<ApplyFault> for ChangesFault {
         match refused {
             ApplyFault::Memory => ChangesFault::Memory,
             _ => ChangesFault::Apply(refused),
-        }
-    }
-}
-
-impl From<CommandFault> for ChangesFault {
-    ghost from_gives = { λ refused fault. fault ≡ fault_of_drawer refused };
-
-    /// What refuses a drawer is out of memory, or a device.
-    fn from(refused: CommandFault) -> ChangesFault {
-        match refused {
-            CommandFault::Memory => ChangesFault::Memory,
-            _ => ChangesFault::Device,
         }
     }
 }

@@ -1,23 +1,36 @@
 //! A folder of change files.
 
+ghost use Rattle.std.specs.Option.{option_copied};
 ghost use Rattle.std.specs.Prelude.{◌≡◌, ◌⊎◌, IfErr, None};
 
 use crate::command_fault::CommandFault;
 use crate::drawer::Drawer;
 use std::fs::File;
 use std::io::ErrorKind;
+use std::marker::Model;
 
 /// The folder in which a site puts the change files of its publications, each as `<sequence>.opl`; or no folder at all,
-/// in which no file is found.
+/// in which no file is found. Contracts see the folder's name.
 #[derive(Drop)]
 pub(crate) struct FolderDrawer<'a> {
     rt: &'a HostRuntime,
     folder: Option<&'a str>,
 }
 
+impl<'a> Model for FolderDrawer<'a> {
+    ghost use Rattle.std.specs.Option.{option_copied};
+    ghost use Rattle.std.specs.Prelude.{List, Option, ℕ};
+
+    ghost Value = { Option (List ℕ) };
+
+    ghost view = { λ d. option_copied d.folder };
+}
+
 impl<'a> FolderDrawer<'a> {
     /// The folder of this name, which isn't looked at yet.
-    pub(crate) fn new(rt: &'a HostRuntime, folder: Option<&'a str>) -> FolderDrawer<'a> {
+    pub(crate) fn new(rt: &'a HostRuntime, folder: Option<&'a str>) -> FolderDrawer<'a>
+        ensures { result ≡ option_copied folder.entry }
+    {
         FolderDrawer { rt, folder }
     }
 }
@@ -26,6 +39,8 @@ impl Drawer for FolderDrawer<'_> {
     type Reader = File;
 
     ghost asked = { λ _. None };
+
+    ghost found = { λ _. None };
 
     fn change_file(&mut self, sequence: u64) -> Result<Option<File>, CommandFault> {
         let Some(folder) = self.folder else {

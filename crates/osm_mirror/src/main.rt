@@ -20,6 +20,7 @@ pub mod outlet;
 pub mod output_file;
 pub mod prove;
 pub mod publish;
+pub mod publish_changes;
 pub mod publish_next;
 pub mod read_snapshot;
 pub mod read_whole;

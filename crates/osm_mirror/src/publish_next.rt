@@ -1,13 +1,14 @@
 //! Publishing the next change file.
 
-ghost use Rattle.std.specs.Prelude.{◌≡◌, ◌∷◌, IfSome, Some};
+ghost use Rattle.std.specs.Prelude.{◌≡◌, ◌∷◌, IfSome, MatchResult, OnErr, Some};
 ghost use Rattle.osm_index.specs.Publications.{Publication};
-ghost use Rattle.osm_index.specs.Snapshots.{HoldsPublication};
-ghost use Rattle.osm_mirror.specs.ChangeFiles.{HasPublished, IsNext, asked_after};
+ghost use Rattle.osm_index.specs.Snapshots.{HoldsPublication, IsAsBefore};
+ghost use Rattle.osm_mirror.specs.ChangeFiles.{ExplainsFound, HasPublished, HasTaken, IsNext, TakesFound, asked_after};
+ghost use Rattle.osm_mirror.specs.Drawers.{Found};
 
 use crate::changes_fault::ChangesFault;
 use crate::drawer::Drawer;
-use opl_codec::read_changes;
+use crate::publish_changes::publish_changes;
 use osm_desk::Desk;
 use osm_index::Edition;
 use std::alloc::Global;
@@ -23,8 +24,10 @@ pub(crate) fn publish_next<D: Drawer, E: Write>(
     errors: &mut E,
 )
     ensures asked { IfSome (D.asked drawer.old) (λ before. D.asked drawer.new ≡ Some (asked_after desk.old.snapshot.edition before)) }
-    // What is in force is as before, or what changes that a file holds make of it.
+    // What is in force is as before, or what changes that a file holds make of it:
     ensures in_force { (p : Publication) → HoldsPublication desk.old.snapshot p → HasPublished p desk.new.snapshot }
+    // those of the file that the drawer gave.
+    ensures found { TakesFound (D.found drawer.old) (D.found drawer.new) desk.old.snapshot desk.new.snapshot }
     ensures connections { desk.new.connections ≡ desk.old.connections }
 {
     let Some(sequence) = next_sequence(desk.snapshot().edition()) else {
@@ -45,14 +48,17 @@ fn publish_file<D: Drawer>(
 ) -> Result<(), ChangesFault>
     ensures asked { IfSome (D.asked drawer.old) (λ before. D.asked drawer.new ≡ Some (sequence ∷ before)) }
     ensures in_force { (p : Publication) → HoldsPublication desk.old.snapshot p → HasPublished p desk.new.snapshot }
+    // The changes of the file that the drawer gave are published, where it gave one, or it is told why not.
+    ensures found { IfSome (D.found drawer.old) (λ before. (found : Found) × (D.found drawer.new ≡ Some (found ∷ before))
+        × ((p : Publication) → HoldsPublication desk.old.snapshot p
+        → MatchResult result (λ _. HasTaken found p desk.new.snapshot) (ExplainsFound found p))) }
+    ensures unchanged { OnErr result (IsAsBefore desk.old.snapshot desk.new.snapshot) }
     ensures connections { desk.new.connections ≡ desk.old.connections }
 {
     let Some(mut file) = drawer.change_file(sequence)? else {
         return Ok(());
     };
-    let changes = read_changes(alloc, &mut file)?;
-    desk.publish(&changes)?;
-    Ok(())
+    publish_changes(alloc, desk, &mut file)
 }
 
 /// The sequence number after that of the edition; none where it is at its greatest.

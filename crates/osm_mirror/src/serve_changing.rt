@@ -4,7 +4,7 @@ ghost use Rattle.std.specs.FinMap.{empty};
 ghost use Rattle.std.specs.Prelude.{◌≡◌, ◌⊎◌, ◌++◌, ◌+◌, ◌<◌, ◌≤◌, ℕ, IfErr, IfSome, List, OnErr, OnOk, Some, length};
 ghost use Rattle.osm_index.specs.Publications.{Publication};
 ghost use Rattle.osm_index.specs.Snapshots.{HoldsPublication};
-ghost use Rattle.osm_mirror.specs.ChangeFiles.{IsReachedBy};
+ghost use Rattle.osm_mirror.specs.ChangeFiles.{IsReachedBy, TakesFound};
 
 use crate::command_fault::CommandFault;
 use crate::door::Door;
@@ -43,6 +43,8 @@ pub fn serve_changing<D: Door, R: Drawer, E: Write>(
     // The drawer was asked at most once a connection.
     ensures asked { IfSome (R.asked drawer.old) (λ before. (more : List ℕ)
         × (R.asked drawer.new ≡ Some (more ++ before)) × (length more ≤ connections)) }
+    // It has been made by the files that the drawer gave, one after the other, but those that were refused.
+    ensures found { TakesFound (R.found drawer.old) (R.found drawer.new) desk.old.snapshot desk.new.snapshot }
     // No connection is open.
     ensures none_open { desk.new.connections ≡ empty }
 {

@@ -6,6 +6,7 @@ use Rattle.osm_gate.specs.Connections.{Rest}
 use Rattle.osm_desk.specs.Contents.{Contents}
 use Rattle.osm_desk.specs.Desks.{Connections}
 use Rattle.osm_mirror.proofs.ChangeLemmas.{asked_more, reached_end, reached_next}
+use Rattle.osm_mirror.proofs.ReadingLemmas.{found_after, found_kept}
 use Rattle.osm_mirror.proofs.serve_changing.serve_changing.Goals as goal
 
 pub returns-in_err-reader-clause-reached : goal.returns-in_err-reader-clause-reached
@@ -30,9 +31,18 @@ loop-taken-preserved g c =
       reached = λ p holds. reached_next c.loop-taken.taken p c.loop-taken.desk c.publish_next.new.desk c.serve_on.new.self (c.loop-taken.invariant.reached p holds) c.publish_next.ensures.in_force c.serve_on.ensures.forgotten;
       asked = asked_more (g.R.Drawer.asked c.args.drawer.now) (g.R.Drawer.asked c.loop-taken.drawer) (g.R.Drawer.asked c.publish_next.new.drawer) c.loop-taken.desk.snapshot.edition c.loop-taken.taken
           c.loop-taken.invariant.asked c.publish_next.ensures.asked;
+      found = found_after (g.R.Drawer.found c.args.drawer.now) (g.R.Drawer.found c.loop-taken.drawer) (g.R.Drawer.found c.publish_next.new.drawer) c.args.desk.now.snapshot c.loop-taken.desk.snapshot c.serve_on.new.self.snapshot
+          c.loop-taken.invariant.found (found_kept (g.R.Drawer.found c.loop-taken.drawer) (g.R.Drawer.found c.publish_next.new.drawer) c.loop-taken.desk.snapshot c.publish_next.new.desk.snapshot c.serve_on.new.self.snapshot
+          (ap (λ (d : Contents). d.snapshot) c.serve_on.ensures.forgotten) c.publish_next.ensures.found);
       none_open = ap (λ (d : Contents). d.connections) c.serve_on.ensures.forgotten ∙ (c.publish_next.ensures.connections ∙ c.loop-taken.invariant.none_open);
     }
 
 pub returns-clause-reached : goal.returns-clause-reached
 returns-clause-reached g c = λ p holds.
     reached_end c.loop-taken.taken c.args.connections p c.loop-taken.desk.snapshot c.loop-taken.invariant.few (c.loop-taken.invariant.reached p holds)
+
+pub returns-in_err-reader-clause-found : goal.returns-in_err-reader-clause-found
+returns-in_err-reader-clause-found g c = c.loop-taken.invariant.found
+
+pub returns-clause-found : goal.returns-clause-found
+returns-clause-found g c = c.loop-taken.invariant.found

@@ -4,7 +4,7 @@ use Rattle.std.specs.FinMap.{empty}
 use Rattle.std.specs.Prelude.{IfSome}
 use Rattle.osm_index.specs.Publications.{Publication}
 use Rattle.osm_index.specs.Snapshots.{HoldsPublication}
-use Rattle.osm_mirror.specs.ChangeFiles.{IsReachedBy}
+use Rattle.osm_mirror.specs.ChangeFiles.{IsReachedBy, TakesFound}
 use Rattle.osm_mirror.proofs.serve_changing.serve_changing.Given as goal
 
 abbrev pub invariant-loop-taken : goal.invariant-loop-taken
@@ -13,6 +13,7 @@ invariant-loop-taken g l = record {
   given : IfSome (g.D.Door.given l.initial.door) (λ n. g.D.Door.given l.door ≡ Some (n + l.taken));
   reached : (p : Publication) → HoldsPublication l.initial.desk.snapshot p → (q : Publication) × HoldsPublication l.desk.snapshot q × IsReachedBy l.taken p q;
   asked : IfSome (g.R.Drawer.asked l.initial.drawer) (λ before. (more : List ℕ) × (g.R.Drawer.asked l.drawer ≡ Some (more ++ before)) × (length more ≤ l.taken));
+  found : TakesFound (g.R.Drawer.found l.initial.drawer) (g.R.Drawer.found l.drawer) l.initial.desk.snapshot l.desk.snapshot;
   none_open : l.desk.connections ≡ empty;
 }
 
