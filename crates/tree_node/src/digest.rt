@@ -19,7 +19,7 @@ impl Hash for Digest {
 
     ghost respects_eq = { Prim.search (hashing, rules) };
 
-    /// All bytes at once: an array gives them one by one, and a hasher took more than four times as long for them.
+    /// All bytes at once: an array gives them one by one, and look-ups took more than three times as long.
     fn hash<H: Hasher>(&self, state: &mut H) {
         state.write(&self.0);
     }
