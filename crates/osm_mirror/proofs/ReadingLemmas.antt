@@ -7,8 +7,6 @@ use Rattle.opl_codec.specs.declared.cause.OplCause.{OplCause}
 use Rattle.opl_codec.specs.declared.cause.OplCause.TheVariants as causes
 use Rattle.opl_codec.specs.declared.change.Change.{Change}
 use Rattle.opl_codec.specs.declared.fault.LoadFault.{LoadFault}
-use Rattle.tree_node.specs.Shelves.{SameNodes}
-use Rattle.tree_node.specs.Stocks.{HasNode}
 use Rattle.osm_index.specs.Publications.{Publication}
 use Rattle.osm_index.specs.Snapshots.{HoldsPublication, IsAsBefore}
 use Rattle.osm_index.specs.declared.apply_fault.ApplyFault.{ApplyFault}
@@ -131,16 +129,6 @@ pub made_of_all : (known : Option (List ℕ)) (p : Publication) (changes now : L
 made_of_all None p changes now new same only makes = tt
 made_of_all (Some text) p changes now new same only (q, makes, held) = λ all holds.
     (q, held, subst (λ (xs : List Change). IsMade p xs (Ok q)) (same ∙ only all holds) makes)
-
--- ---- nothing changes
-
-pub as_before : (old new : Snapshot) → new ≡ old → IsAsBefore old new
-as_before old new same = record {
-  edition = ap (λ (s : Snapshot). s.edition) same;
-  manifest = ap (λ (s : Snapshot). s.manifest) same;
-  root = ap (λ (s : Snapshot). s.root) same;
-  nodes = subst (λ (s : Snapshot). SameNodes (HasNode old.stock) (HasNode s.stock)) (sym same) (λ bytes. ((λ h. h), (λ h. h)));
-}
 
 -- ---- what a drawer found, one after the other
 
