@@ -42,5 +42,5 @@ for pair in id tag; do
     [ "$found" = "$(names "$osmium")" ] || { echo "$ask: other objects than $osmium gives" >&2; exit 1; }
     echo "$(wc -l <<<"$found") objects by $pair:"
     python3 measure.py "$objects" "$runs" "$file" "osm_mirror ask" "$ask" "$name" "$osmium" \
-        "osm_mirror publish" "$program publish -"
+        "osm_mirror publish" "$program publish $file"
 done

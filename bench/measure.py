@@ -3,7 +3,8 @@
 
 Runs each command (a text for `sh`) in turn, RUNS times over, with the file INPUT on standard input. Prints a line
 for each: objects, name, processor seconds (user and system, of all threads; the median), peak memory in MiB (the
-greatest), and bytes of peak memory an object.
+greatest), and bytes of peak memory an object; and then how the first compares with each other one: the median of the
+ratios of their processor seconds in one run, with the least and the greatest.
 """
 
 import os
@@ -37,6 +38,10 @@ def main():
         seconds = statistics.median(seconds for seconds, _ in figures)
         peak = max(peak for _, peak in figures)
         print(f"{objects:>9}  {name:<16} {seconds:8.3f} s {peak / 2**20:9.1f} MiB {peak / objects:8.0f} bytes an object")
+    first, *others = taken
+    for name in others:
+        ratios = [ours / theirs for (ours, _), (theirs, _) in zip(taken[first], taken[name])]
+        print(f"{first} takes {statistics.median(ratios):.2f} times {name} ({min(ratios):.2f} to {max(ratios):.2f})")
 
 
 if __name__ == "__main__":
