@@ -4,13 +4,14 @@ use Rattle.std.specs.Int.{from_be_bytes, to_be_bytes, w64}
 use Rattle.std.specs.Ordering.{nat_cmp, ordering_reverse, ordering_then}
 use Rattle.std.specs.Cmp.{nat_cmp_is}
 use Rattle.std.specs.declared.cmp.Ordering.TheVariants.{Less, Equal, Greater}
-use Rattle.std.proofs.lemmas.Bool.{cases_order, lt-ltb}
+use Rattle.std.proofs.lemmas.Bool.{cases_eq, cases_order, lt-ltb}
 use Rattle.std.proofs.lemmas.Cmp.{nat_list_cmp_total}
 use Rattle.std.proofs.lemmas.List.{get_or-drop}
 use Rattle.tree_node.specs.Nodes.{AreBytes}
 use Rattle.tree_node.specs.Order.{IsBelow, order}
-use Rattle.tree_node.proofs.shared.FieldLemmas.{wide64}
+use Rattle.tree_node.proofs.shared.FieldLemmas.{AreBytes-drop, wide64}
 use Rattle.tree_node.proofs.shared.WordOrder.{unequal_words}
+use Rattle.osm_index.specs.internal.FrontedEntries.{StartsWith}
 use Rattle.osm_index.specs.internal.Fronts.{front_number}
 
 -- the first n bytes, with zeros after a shorter key
@@ -102,3 +103,78 @@ compares_as m n xs ys apart below above =
       | inr (inl less) ↦ sym (nat_cmp_is m n Less less) ∙ sym (below less)
       | inr (inr more) ↦ sym (nat_cmp_is m n Greater more) ∙ sym (nat_list_cmp_total.antisymm xs ys ∙ ap ordering_reverse (above more))
     ]
+
+-- numbers in front that differ decide
+pub decided : (m n : ℕ) (xs ys : List ℕ) → m ≢ n → order (m ∷ xs) (n ∷ ys) ≡ nat_cmp m n
+decided m n xs ys apart =
+    elim (cases_order m n) [
+      | inl e ↦ absurd (apart e)
+      | inr (inl less) ↦ lower_head m n xs ys less ∙ nat_cmp_is m n Less less
+      | inr (inr more) ↦ higher_head m n xs ys more ∙ nat_cmp_is m n Greater more
+    ]
+
+-- equal numbers in front leave it to what follows
+pub left : (m n : ℕ) (xs ys : List ℕ) → m ≡ n → order (m ∷ xs) (n ∷ ys) ≡ order xs ys
+left m n xs ys e = equal_heads m n xs ys e
+
+-- a key that starts with lower numbers is below
+pub lower_start : (high low high' low' : ℕ) (xs ys : List ℕ) → StartsWith high low xs → StartsWith high' low' ys → AreBytes xs → AreBytes ys
+    → IsBelow (high ∷ low ∷ []) (high' ∷ low' ∷ []) → IsBelow xs ys
+lower_start high low high' low' xs ys start other fits others below =
+    elim (cases_order high high') [
+      | inl e ↦
+          let lows : IsBelow (low ∷ []) (low' ∷ []) = sym (equal_heads high high' (low ∷ []) (low' ∷ []) e) ∙ below in
+          elim (cases_order low low') [
+            | inl f ↦ let same : order (low ∷ []) (low' ∷ []) ≡ Equal = equal_heads low low' [] [] f in absurd (cc)
+            | inr (inl less) ↦
+                lower_next xs ys fits others (sym start.first ∙ e ∙ other.first)
+                (lower_front (drop 8 xs) (drop 8 ys) (AreBytes-drop 8 xs fits) (AreBytes-drop 8 ys others) (rw (← start.next, ← other.next) less))
+            | inr (inr more) ↦ let high = higher_head low low' [] [] more in absurd (cc)
+          ]
+      | inr (inl less) ↦ lower_front xs ys fits others (rw (← start.first, ← other.first) less)
+      | inr (inr more) ↦ let above = higher_head high high' (low ∷ []) (low' ∷ []) more in absurd (cc)
+    ]
+
+-- keys with one start compare as the numbers after it, and then as they are
+module _ (high low : ℕ) where
+  below_next : (xs ys : List ℕ) → StartsWith high low xs → StartsWith high low ys → AreBytes xs → AreBytes ys
+      → IsBelow (drop 8 (drop 8 xs)) (drop 8 (drop 8 ys)) → IsBelow xs ys
+  below_next xs ys start other fits others below =
+      lower_next xs ys fits others (sym start.first ∙ other.first)
+      (lower_next (drop 8 xs) (drop 8 ys) (AreBytes-drop 8 xs fits) (AreBytes-drop 8 ys others) (sym start.next ∙ other.next) below)
+
+  after : (xs : List ℕ) → AreBytes xs → AreBytes (drop 8 (drop 8 xs))
+  after xs fits = AreBytes-drop 8 (drop 8 xs) (AreBytes-drop 8 xs fits)
+
+  lower_high : (m l n k : ℕ) (xs ys : List ℕ) → StartsWith high low xs → StartsWith high low ys → AreBytes xs → AreBytes ys
+      → StartsWith m l (drop 8 (drop 8 xs)) → StartsWith n k (drop 8 (drop 8 ys)) → m < n → IsBelow xs ys
+  lower_high m l n k xs ys start other fits others second seconds less =
+      below_next xs ys start other fits others (lower_front (drop 8 (drop 8 xs)) (drop 8 (drop 8 ys)) (after xs fits) (after ys others) (rw (← second.first, ← seconds.first) less))
+
+  lower_low : (m l n k : ℕ) (xs ys : List ℕ) → StartsWith high low xs → StartsWith high low ys → AreBytes xs → AreBytes ys
+      → StartsWith m l (drop 8 (drop 8 xs)) → StartsWith n k (drop 8 (drop 8 ys)) → m ≡ n → l < k → IsBelow xs ys
+  lower_low m l n k xs ys start other fits others second seconds same less =
+      below_next xs ys start other fits others
+      (lower_next (drop 8 (drop 8 xs)) (drop 8 (drop 8 ys)) (after xs fits) (after ys others) (sym second.first ∙ same ∙ seconds.first)
+      (lower_front (drop 8 (drop 8 (drop 8 xs))) (drop 8 (drop 8 (drop 8 ys))) (AreBytes-drop 8 _ (after xs fits)) (AreBytes-drop 8 _ (after ys others)) (rw (← second.next, ← seconds.next) less)))
+
+  pub second_order : (m l n k : ℕ) (xs ys : List ℕ) → StartsWith high low xs → StartsWith high low ys → AreBytes xs → AreBytes ys
+      → StartsWith m l (drop 8 (drop 8 xs)) → StartsWith n k (drop 8 (drop 8 ys)) → order (m ∷ l ∷ xs) (n ∷ k ∷ ys) ≡ order xs ys
+  second_order m l n k xs ys start other fits others second seconds =
+      elim (cases_eq m n) [
+        | inl e ↦
+            equal_heads m n (l ∷ xs) (k ∷ ys) e
+            ∙ elim (cases_eq l k) [
+              | inl f ↦ equal_heads l k xs ys f
+              | inr apart ↦
+                  decided l k xs ys apart
+                  ∙ compares_as l k xs ys apart
+                  (λ less. lower_low m l n k xs ys start other fits others second seconds e less)
+                  (λ less. lower_low n k m l ys xs other start others fits seconds second (sym e) less)
+            ]
+        | inr apart ↦
+            decided m n (l ∷ xs) (k ∷ ys) apart
+            ∙ compares_as m n xs ys apart
+            (λ less. lower_high m l n k xs ys start other fits others second seconds less)
+            (λ less. lower_high n k m l ys xs other start others fits seconds second less)
+      ]

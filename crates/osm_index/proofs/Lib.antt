@@ -8,6 +8,7 @@ pub mod FitLemmas
 pub mod PutLemmas
 pub mod CellLemmas
 pub mod FrontLemmas
+pub mod KeyOrderLemmas
 pub mod NameLemmas
 pub mod PutNames
 pub mod NodeChangeLemmas

@@ -1,24 +1,15 @@
 -- Entries that are sorted by their keys, each once.
-use Rattle.std.proofs.Common.{◌≡◌, ◌↔◌, ◌+◌, ◌<◌, ℕ, zero, suc, get_or, arith, Bool, List, [], ◌∷◌, length, map, None, Some, refl, sym, ap, ◌∙◌, subst}
-use Rattle.std.specs.List.{AllAdjacentBelow, AllByRecursion, Contains, dedup}
-use Rattle.std.specs.List.Sorted.{IsPermutation, IsSortedByKey, IsStrictlySortedBy}
-use Rattle.std.specs.Cmp.{IsEquivalence}
-use Rattle.std.specs.Prelude.{bytes_eq}
+use Rattle.std.proofs.Common.{◌≡◌, ◌↔◌, ℕ, List, [], ◌∷◌, length, map, None, Some, refl, sym, ap, ◌∙◌, subst}
+use Rattle.std.specs.List.{AllAdjacentBelow, AllByRecursion, Contains}
+use Rattle.std.specs.List.Sorted.{IsStrictlySortedBy}
 use Rattle.std.specs.declared.cmp.Ordering.TheVariants.{Less}
-use Rattle.std.proofs.lemmas.Cmp.{nat_list_cmp_total, on_total}
-use Rattle.std.proofs.lemmas.List.Kept.{Any-dedup, Contains-from_dedup, IsStrictlySortedBy-dedup}
-use Rattle.std.proofs.lemmas.List.{length-map}
-use Rattle.std.proofs.lemmas.List.Sorted.{Contains-permutation, IsPermutation-sym}
-use Rattle.std.proofs.lemmas.Map.Text.{is_eq-slice_cmp}
-use Rattle.std.proofs.lemmas.Slice.Eq.{bytes_eq-Decides}
-use Rattle.std.specs.Cmp.Lexicographic.{nat_list_eq_equiv}
+use Rattle.std.proofs.lemmas.Cmp.{nat_list_cmp_total}
 use Rattle.osm_model.proofs.shared.RisingKeys.{rising}
 use Rattle.tree_node.specs.Nodes.{AreRisingFrom, Binding, keys_of}
 use Rattle.tree_node.specs.NodeRefs.{binding_of, bindings_of}
 use Rattle.tree_node.specs.Order.{IsBelow, order}
 use Rattle.tree_node.specs.declared.item.Item.{Item}
-use Rattle.osm_index.specs.declared.fronted_entry.FrontedEntry.{FrontedEntry}
-use Rattle.osm_index.specs.internal.FrontedEntries.{items_of}
+use Rattle.osm_index.specs.internal.KeyOrder.{IsInOrder}
 use Rattle.osm_index.specs.internal.Listing.{IsKeyed}
 use Rattle.osm_index.proofs.shared.Members.{from_map, in_map}
 
@@ -43,17 +34,6 @@ rises (k ∷ ks) s = (tt, from_above k ks s.0 s.1)
 pub rises_as_given : (entries : List Item) → AllAdjacentBelow (λ first second. IsBelow first.key.now second.key.now) entries (length entries) → AreRisingFrom None (keys_of (bindings_of entries))
 rises_as_given entries h = rises _ (subst (λ (ks : List (List ℕ)). IsStrictlySortedBy order ks) (keys_same entries) (rising key nat_list_cmp_total entries h))
 
--- two entries have one key
-abbrev pub same_key : Item → Item → Bool
-same_key second first = bytes_eq second.key.now first.key.now
-
-same_equiv : IsEquivalence same_key
-same_equiv = record {
-  refl = λ x. nat_list_eq_equiv.refl x.key.now;
-  symm = λ x y. nat_list_eq_equiv.symm x.key.now y.key.now;
-  congr = λ x y z. nat_list_eq_equiv.congr x.key.now y.key.now z.key.now;
-}
-
 keys_of_all : (x : Item) (xs : List Item) → AllByRecursion (λ y. order x.key.now (key y) ≡ Less) xs → AllByRecursion (λ k. order x.key.now k ≡ Less) (map key xs)
 keys_of_all x [] h = tt
 keys_of_all x (y ∷ ys) h = (h.0, keys_of_all x ys h.1)
@@ -63,46 +43,24 @@ unfolding IsStrictlySortedBy
 by_keys [] h = tt
 by_keys (x ∷ xs) h = (keys_of_all x xs h.0, by_keys xs h.1)
 
-pub rises_sorted : (sorted : List Item) → IsSortedByKey (λ entry. entry.key.now) order sorted → AreRisingFrom None (keys_of (bindings_of (dedup same_key sorted)))
-rises_sorted sorted h =
-    let apart = IsStrictlySortedBy-dedup (on_total key nat_list_cmp_total) {E = same_key} (λ x y. sym (is_eq-slice_cmp x.key.now y.key.now)) sorted h in
-    rises _ (subst (λ (ks : List (List ℕ)). IsStrictlySortedBy order ks) (keys_same (dedup same_key sorted)) (by_keys (dedup same_key sorted) apart))
+-- entries in the order of their keys rise
+pub rises_in_order : (old new : List Item) → IsInOrder old new → AreRisingFrom None (keys_of (bindings_of new))
+rises_in_order old new ordered = rises _ (subst (λ (ks : List (List ℕ)). IsStrictlySortedBy order ks) (keys_same new) (by_keys new ordered.rising))
 
--- sorting and dropping repeats keeps the members, where entries with one key are equal
-pub members_sorted : (old sorted : List Item) → IsPermutation old sorted → IsKeyed (bindings_of old) → (b : Binding) → Contains (bindings_of (dedup same_key sorted)) b ↔ Contains (bindings_of old) b
-members_sorted old sorted p keyed b = (
+-- putting entries in order keeps the members, where those with one key are equal
+pub members_then : (old new : List Item) (list : List Binding) → bindings_of old ≡ list → IsInOrder old new → IsKeyed list → (b : Binding) → Contains (bindings_of new) b ↔ Contains list b
+members_then old new list e ordered keyed b = (
   (λ h.
-      let found = from_map binding_of (dedup same_key sorted) b h in
-      let there = Contains-permutation sorted old found.0 (IsPermutation-sym _ _ p) (Contains-from_dedup same_key sorted found.0 found.1) in
-      subst (λ (x : Binding). Contains (bindings_of old) x) (sym found.2) (in_map binding_of old found.0 there)),
+      let found = from_map binding_of new b h in
+      let there = in_map binding_of old found.0 (ordered.drawn found.0 found.1) in
+      subst (λ (l : List Binding). Contains l b) e (subst (λ (x : Binding). Contains (bindings_of old) x) (sym found.2) there)),
   (λ h.
-      let found = from_map binding_of old b h in
-      let there = Contains-permutation old sorted found.0 p found.1 in
-      let kept = Any-dedup same_equiv sorted found.0 there in
-      let item = kept.1 in
-      let is_kept : Contains (dedup same_key sorted) item = (kept.0, kept.2, kept.3) in
-      let was = Contains-permutation sorted old item (IsPermutation-sym _ _ p) (Contains-from_dedup same_key sorted item is_kept) in
-      let one_key : found.0.key.now ≡ item.key.now = (bytes_eq-Decides found.0.key.now item.key.now).0 kept.4 in
-      let one = keyed (binding_of found.0) (binding_of item) (in_map binding_of old found.0 found.1) (in_map binding_of old item was) one_key in
-      subst (λ (x : Binding). Contains (bindings_of (dedup same_key sorted)) x) (sym (found.2 ∙ one)) (in_map binding_of (dedup same_key sorted) item is_kept)),
+      let found = from_map binding_of old b (subst (λ (l : List Binding). Contains l b) (sym e) h) in
+      let kept = ordered.kept found.0 found.1 in
+      let was = in_map binding_of old kept.0 (ordered.drawn kept.0 kept.1) in
+      let one = subst IsKeyed (sym e) keyed (binding_of found.0) (binding_of kept.0) (in_map binding_of old found.0 found.1) was kept.2 in
+      subst (λ (x : Binding). Contains (bindings_of new) x) (sym (found.2 ∙ one)) (in_map binding_of new kept.0 kept.1)),
 )
-
-pub members_then : (old sorted : List Item) (list : List Binding) → bindings_of old ≡ list → IsPermutation old sorted → IsKeyed list → (b : Binding) → Contains (bindings_of (dedup same_key sorted)) b ↔ Contains list b
-members_then old sorted list e p keyed b =
-    subst (λ (l : List Binding). Contains (bindings_of (dedup same_key sorted)) b ↔ Contains l b) e (members_sorted old sorted p (subst IsKeyed (sym e) keyed) b)
 
 pub members_else : (old : List Item) (list : List Binding) → bindings_of old ≡ list → (b : Binding) → Contains (bindings_of old) b ↔ Contains list b
 members_else old list e b = subst (λ (l : List Binding). Contains (bindings_of old) b ↔ Contains l b) e ((λ h. h), (λ h. h))
-
--- ---- entries that were sorted beside the fronts of their keys
-
-item_at : (fronted : List FrontedEntry) (k : ℕ) (d : Item) (e : FrontedEntry) → k < length fronted → get_or (items_of fronted) k d ≡ (get_or fronted k e).item
-item_at [] k d e inside = absurd (omega arith)
-item_at (f ∷ fronted) zero d e inside = refl
-item_at (f ∷ fronted) (suc k) d e inside = item_at fronted k d e (omega arith)
-
-pub items_sorted : (fronted : List FrontedEntry) → IsSortedByKey (λ entry. entry.item.key.now) order fronted → IsSortedByKey (λ entry. entry.key.now) order (items_of fronted)
-items_sorted [] sorted = λ k d low high. absurd (omega arith)
-items_sorted (f ∷ fronted) sorted = λ k d low high.
-    let inside : k + 1 < length (f ∷ fronted) = omega (arith, length-map (f ∷ fronted) (λ (entry : FrontedEntry). entry.item)) in
-    rw (item_at (f ∷ fronted) (k + 1) d f inside, item_at (f ∷ fronted) k d f (omega arith)) (sorted k f low inside)

@@ -4,6 +4,7 @@ pub mod Putting
 pub mod Cells
 pub mod Fronts
 pub mod FrontedEntries
+pub mod KeyOrder
 pub mod EntryChanges
 pub mod NodeChanges
 pub mod HeldTrees

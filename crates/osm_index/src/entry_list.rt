@@ -1,15 +1,13 @@
 //! The entries of a tree, packed.
 
-ghost use Rattle.std.specs.List.{AllAdjacentBelow, Contains, dedup};
-ghost use Rattle.std.specs.List.Sorted.{IsPermutation, IsSortedByKey};
-ghost use Rattle.std.specs.Prelude.{◌≡◌, ◌↔◌, ℕ, List, IfOk, IsTrue, OnOk, length, bytes_eq};
-ghost use Rattle.tree_node.specs.NodeRefs.{binding_of, bindings_of};
+ghost use Rattle.std.specs.List.{AllAdjacentBelow, Contains};
+ghost use Rattle.std.specs.Prelude.{◌≡◌, ◌↔◌, IfOk, IsTrue, length};
+ghost use Rattle.tree_node.specs.NodeRefs.{bindings_of};
 ghost use Rattle.tree_node.specs.Nodes.{AreRisingFrom, Binding, keys_of};
-ghost use Rattle.tree_node.specs.Order.{IsBelow, order};
-ghost use Rattle.osm_index.specs.internal.FrontedEntries.{items_of};
+ghost use Rattle.tree_node.specs.Order.{IsBelow};
 ghost use Rattle.osm_index.specs.internal.Listing.{IsKeyed, cut, packed_len};
 
-use crate::fronted_entry::FrontedEntry;
+use crate::sort::sort_entries;
 use std::alloc::{AllocError, Global};
 use std::marker::Model;
 use tree_build::Entry;
@@ -52,8 +50,8 @@ impl EntryList {
     }
 
     /// The entries by rising key, each once, as slices of this list. They are sorted in n log n where
-    /// they don't rise already; equal entries come once. It takes the memory of two slices an entry, and 48
-    /// bytes more an entry while it sorts.
+    /// they don't rise already; equal entries come once. It takes the memory of two slices an entry, and while it
+    /// sorts 48 bytes more an entry, and as much again for those of the longest run of keys with one start.
     pub fn sorted(&self, alloc: Global) -> Result<Vec<Entry<'_>>, AllocError>
         // The keys strictly rise,
         ensures rising { IfOk result (λ entries. AreRisingFrom None (keys_of (bindings_of entries.items))) }
@@ -64,7 +62,6 @@ impl EntryList {
         let mut entries = lend(alloc, &self.bytes, &self.spans)?;
         if !keys_rise(&entries) {
             sort_entries(alloc, &mut entries)?;
-            drop_repeats(&mut entries);
         }
         Ok(entries)
     }
@@ -96,39 +93,4 @@ fn keys_rise(entries: &[Entry<'_>]) -> bool
         }
     }
     true
-}
-
-/// Sorts entries by their keys.
-fn sort_entries(alloc: Global, entries: &mut Vec<Entry<'_>>) -> Result<(), AllocError>
-    ensures permutation { OnOk result (IsPermutation entries.old.items entries.new.items) }
-    ensures sorted { OnOk result (IsSortedByKey (λ entry. entry.key.now) order entries.new.items) }
-{
-    let mut fronted = with_fronts(alloc, entries)?;
-    fronted.sort_unstable_by(|first, second| first.compare(second));
-    entries.clear();
-    for entry in &fronted {
-        entries.push(entry.item)?;
-    }
-    Ok(())
-}
-
-/// Each entry with the front of its key.
-fn with_fronts<'a>(
-    alloc: Global,
-    entries: &[Entry<'a>],
-) -> Result<Vec<FrontedEntry<'a>>, AllocError>
-    ensures { IfOk result (λ fronted. items_of fronted.items ≡ entries.now) }
-{
-    let mut fronted = Vec::with_capacity(alloc, entries.len())?;
-    for entry in entries {
-        fronted.push(FrontedEntry::new(*entry))?;
-    }
-    Ok(fronted)
-}
-
-/// Drops each entry that has the key of the one before it.
-fn drop_repeats(entries: &mut Vec<Entry<'_>>)
-    ensures { entries.new.items ≡ dedup (λ second first. bytes_eq second.key.now first.key.now) entries.old.items }
-{
-    entries.dedup_by(|second, first| second.key == first.key);
 }

@@ -1,8 +1,9 @@
 //! Entries as they are sorted.
 
-ghost use Rattle.std.specs.Prelude.{◌≡◌, drop, slice_index};
+ghost use Rattle.std.specs.Prelude.{◌≡◌, ◌↔◌, IsTrue, drop, slice_index};
 ghost use Rattle.tree_node.specs.Nodes.{AreBytes};
 ghost use Rattle.tree_node.specs.Order.{order};
+ghost use Rattle.osm_index.specs.internal.FrontedEntries.{IsFirst, IsSecond, StartsWith, numbers_and_key, numbers_of};
 ghost use Rattle.osm_index.specs.internal.Fronts.{front_number};
 
 use std::cmp::Ordering;
@@ -12,41 +13,70 @@ use tree_node::is_below;
 /// How many bytes one number holds.
 const FRONT: usize = 8;
 
-/// An entry beside the first sixteen bytes of its key, as two numbers. They mostly decide the order of two
-/// entries, without a look at keys that lie far apart in memory.
+/// An entry beside sixteen bytes of its key, as two numbers: the first sixteen, or those after them. They mostly
+/// decide the order of two entries, without a look at keys that lie far apart in memory.
 #[derive(Clone, Copy)]
 pub(crate) struct FrontedEntry<'a> {
     high: u64,
     low: u64,
     pub item: Entry<'a>,
-    ghost high_is: { high ≡ front_number item.key.now },
-    ghost low_is: { low ≡ front_number (drop 8 item.key.now) },
-    ghost bytes: { AreBytes item.key.now },
 }
 
 impl<'a> FrontedEntry<'a> {
-    /// This entry with the front of its key.
-    pub fn new(item: Entry<'a>) -> FrontedEntry<'a>
-        ensures { result.item ≡ item.entry }
+    /// This entry beside the first sixteen bytes of its key.
+    pub fn first(item: Entry<'a>) -> FrontedEntry<'a>
+        ensures item { result.item ≡ item.entry }
+        ensures numbers { IsFirst result }
+    {
+        FrontedEntry::beside(item, item.key)
+    }
+
+    /// This entry beside the sixteen bytes after those.
+    pub fn second(item: Entry<'a>) -> FrontedEntry<'a>
+        ensures item { result.item ≡ item.entry }
+        ensures numbers { IsSecond result }
+    {
+        FrontedEntry::beside(item, after_front(after_front(item.key)))
+    }
+
+    /// This entry beside the first sixteen bytes of a part of its key.
+    fn beside(item: Entry<'a>, part: &[u8]) -> FrontedEntry<'a>
+        ensures item { result.item ≡ item.entry }
+        ensures numbers { StartsWith result.high result.low part.now }
+        ensures bytes { AreBytes part.now }
     {
         FrontedEntry {
-            high: front_number(item.key),
-            low: front_number(after_front(item.key)),
+            high: front_number(part),
+            low: front_number(after_front(part)),
             item,
         }
     }
 
-    /// How the keys of two entries compare.
-    pub fn compare(&self, other: &FrontedEntry<'_>) -> Ordering
-        ensures { result ≡ order self.now.item.key.now other.now.item.key.now }
+    /// Whether the numbers of two entries are the same.
+    pub fn has_numbers_of(&self, other: &FrontedEntry<'_>) -> bool
+        ensures { IsTrue result ↔ (numbers_of self.now ≡ numbers_of other.now) }
+    {
+        self.high == other.high && self.low == other.low
+    }
+
+    /// How the numbers of two entries compare.
+    pub fn compare_numbers(&self, other: &FrontedEntry<'_>) -> Ordering
+        ensures { result ≡ order (numbers_of self.now) (numbers_of other.now) }
     {
         if self.high != other.high {
             return self.high.cmp(&other.high);
         }
-        if self.low != other.low {
-            return self.low.cmp(&other.low);
+        self.low.cmp(&other.low)
+    }
+
+    /// How two entries compare by their numbers, and after equal ones by their keys.
+    pub fn compare(&self, other: &FrontedEntry<'_>) -> Ordering
+        ensures { result ≡ order (numbers_and_key self.now) (numbers_and_key other.now) }
+    {
+        match self.compare_numbers(other) {
+            Ordering::Equal => compare_keys(self.item.key, other.item.key),
+            decided => decided,
         }
-        compare_keys(self.item.key, other.item.key)
     }
 }
 

@@ -28,6 +28,7 @@ mod plan;
 mod ranges;
 mod read_keys;
 mod snapshot;
+mod sort;
 
 pub use apply_fault::ApplyFault;
 pub use cells::cell_ranges;
