@@ -3,7 +3,7 @@
 use opl_codec::{Change, LoadFault, OplCause, OplFault, read_changes};
 use osm_model::{Kind, Ref};
 use std::alloc::Global;
-use std::test::Fail;
+use std::io::Read;
 use test_devices::SlowReader;
 
 const FILE: &str = "n1 x1 y1\n# a comment\nw10 v2 dD\n\nn1 v2 x2 y2\r\nr-2 dD\nn1 dD";
@@ -49,45 +49,58 @@ fn fault(line: u64, cause: OplCause, byte: usize) -> LoadFault {
     }
 }
 
-fn refusal(alloc: Global, file: &str) -> Option<LoadFault> {
-    read_changes(alloc, &mut file.as_bytes()).err()
+fn refusal<R: Read>(alloc: Global, file: &mut R) -> Option<LoadFault> {
+    read_changes(alloc, file).err()
 }
 
 #[test]
-fn changes_are_read_in_order(rt: HostRuntime) -> Result<(), Fail> {
+fn changes_are_read_in_order(rt: HostRuntime) -> Result<(), LoadFault> {
     for at_once in [1, 7, 4096] {
         let changes = read_changes(rt.alloc(), &mut slow(at_once, 0))?;
         assert!(rt; are_wanted(&changes), "{at_once}");
     }
     let none = read_changes(rt.alloc(), &mut "\n# nothing\n".as_bytes())?;
-    assert_eq!(rt; none.len(), 0);
+    assert!(rt; none.is_empty());
     Ok(())
 }
 
+/// Files, and the line, the cause and the byte of their fault.
+const REFUSED: [(&str, u64, OplCause, usize); 4] = [
+    ("n1 x1 y1\nn1 dD\nc5\n", 3, OplCause::UnknownObject, 0),
+    ("n1 dD\n\nn1 q dD", 3, OplCause::UnknownField, 3),
+    ("n1 dD q\nc5\n", 1, OplCause::UnknownField, 6),
+    ("n1 x1\nn2 dD\n", 1, OplCause::NoLocation, 5),
+];
+
 #[test]
 fn the_line_that_is_no_change_is_told(rt: HostRuntime) {
-    let rows = [
-        ("n1 x1 y1\nn1 dD\nc5\n", 3, OplCause::UnknownObject, 0),
-        ("n1 dD\n\nn1 q dD", 3, OplCause::UnknownField, 3),
-        ("n1 dD q\nc5\n", 1, OplCause::UnknownField, 6),
-        ("n1 x1\nn2 dD\n", 1, OplCause::NoLocation, 5),
-    ];
-    for (file, line, cause, byte) in rows {
-        let told = refusal(rt.alloc(), file);
-        assert_eq!(rt; told, Some(fault(line, cause, byte)), "{file:?}");
+    for (file, line, cause, byte) in &REFUSED {
+        let told = refusal(rt.alloc(), &mut file.as_bytes());
+        assert!(rt;
+            told == Some(fault(*line, *cause, *byte)),
+            "{file:?}: {told:?}"
+        );
     }
     // The third line begins at byte 21: the 22nd call, of one byte each, reads its first.
-    let told = read_changes(rt.alloc(), &mut slow(1, 22)).err();
-    assert_eq!(rt; told, Some(fault(3, OplCause::ReaderFailed, 0)));
+    let told = refusal(rt.alloc(), &mut slow(1, 22));
+    assert!(rt;
+        told == Some(fault(3, OplCause::ReaderFailed, 0)),
+        "{told:?}"
+    );
+}
+
+/// Whether the changes of the file are read, unless memory runs out.
+fn are_read_within_memory(alloc: Global) -> bool {
+    match read_changes(alloc, &mut slow(5, 0)) {
+        Ok(changes) => are_wanted(&changes),
+        Err(told) => told == fault(0, OplCause::Memory, 0),
+    }
 }
 
 /// Run with each allocation refused in turn: all changes, or out of memory and then all changes.
 #[test]
-fn memory_changes_no_list(rt: HostRuntime) -> Result<(), Fail> {
-    match read_changes(rt.alloc(), &mut slow(5, 0)) {
-        Ok(changes) => assert!(rt; are_wanted(&changes)),
-        Err(told) => assert_eq!(rt; told, fault(0, OplCause::Memory, 0)),
-    }
+fn memory_changes_no_list(rt: HostRuntime) -> Result<(), LoadFault> {
+    assert!(rt; are_read_within_memory(rt.alloc()));
     let changes = read_changes(rt.alloc(), &mut slow(5, 0))?;
     assert!(rt; are_wanted(&changes));
     Ok(())

@@ -3,6 +3,7 @@
 use opl_codec::{Change, OplCause, OplFault, OutMode, read_line, write_object};
 use osm_model::{Kind, Ref};
 use std::alloc::Global;
+use std::process::Abort;
 use std::test::Fail;
 
 /// An out mode, a line, and what is written of it in that mode.
@@ -93,7 +94,7 @@ const REFUSED_BYTES: [(&str, &[u8]); 5] = [
 ];
 
 /// The text, in a mode, of what the line puts, or nothing.
-pub(super) fn text_in(alloc: Global, line: &[u8], mode: OutMode) -> Result<Vec<u8>, Fail> {
+fn text_in(alloc: Global, line: &[u8], mode: OutMode) -> Result<Vec<u8>, Fail> {
     let mut out = Vec::new(alloc);
     if let Some(Change::Put(object)) = read_line(alloc, line)? {
         write_object(&object, mode, &mut out)?;
@@ -112,84 +113,129 @@ fn mode_of(name: &str) -> Option<OutMode> {
     }
 }
 
-#[test]
-fn lines_are_read(rt: HostRuntime) -> Result<(), Fail> {
-    for row in READ.lines() {
+/// The line is written so in this mode.
+fn is_read(
+    rt: &impl Abort,
+    alloc: Global,
+    line: &str,
+    mode: OutMode,
+    wanted: &str,
+) -> Result<(), Fail> {
+    let mut text = text_in(alloc, line.as_bytes(), mode)?;
+    assert!(rt; text.pop() == Some(b'\n'), "at {line}");
+    assert!(rt; text.as_slice() == wanted.as_bytes(), "at {line}: {text:?}");
+    Ok(())
+}
+
+/// Each row is an out mode, a line, and what is written of it in that mode.
+pub(super) fn are_read(rt: &impl Abort, alloc: Global, rows: &str) -> Result<(), Fail> {
+    for row in rows.lines() {
         let (name, rest) = row.split_once(": ").ok_or("a mode was expected")?;
         let (line, wanted) = rest.split_once(" => ").ok_or("two texts were expected")?;
         let mode = mode_of(name).ok_or("a mode was expected")?;
-        let mut text = text_in(rt.alloc(), line.as_bytes(), mode)?;
-        assert_eq!(rt; text.pop(), Some(b'\n'), "at {line}");
-        assert_eq!(rt; text.as_slice(), wanted.as_bytes(), "at {line}");
+        is_read(rt, alloc, line, mode, wanted)?;
     }
     Ok(())
 }
 
 #[test]
+fn lines_are_read(rt: HostRuntime) -> Result<(), Fail> {
+    are_read(&rt, rt.alloc(), READ)
+}
+
+const SKIPPED: [&[u8]; 7] = [b"", b"\r", b" ", b"\t \r", b"# x", b"#n1 x1 y1\r", b"#\xff"];
+
+/// Whether the line says nothing.
+fn is_skipped(alloc: Global, line: &[u8]) -> bool {
+    matches!(read_line(alloc, line), Ok(None))
+}
+
+#[test]
 fn lines_that_say_nothing_are_skipped(rt: HostRuntime) {
-    let rows: [&[u8]; 7] = [b"", b"\r", b" ", b"\t \r", b"# x", b"#n1 x1 y1\r", b"#\xff"];
-    for line in rows {
-        assert!(rt;
-            matches!(read_line(rt.alloc(), line), Ok(None)),
-            "at {line:?}"
-        );
+    for line in &SKIPPED {
+        assert!(rt; is_skipped(rt.alloc(), line), "at {line:?}");
+    }
+}
+
+/// Lines that delete an object, and which.
+const DELETED: [(&str, Kind, i64); 3] = [
+    ("w10 v2 dD", Kind::Way, 10),
+    ("n1 dD", Kind::Node, 1),
+    ("r-2 Mn1@stop dD v1", Kind::Rel, -2),
+];
+
+/// The object that the line deletes.
+fn deleted(alloc: Global, line: &str) -> Result<Option<Ref>, OplFault> {
+    match read_line(alloc, line.as_bytes())? {
+        Some(Change::Delete(name)) => Ok(Some(name)),
+        _ => Ok(None),
     }
 }
 
 #[test]
-fn deleted_objects_are_named(rt: HostRuntime) -> Result<(), Fail> {
-    let rows = [
-        ("w10 v2 dD", Kind::Way, 10),
-        ("n1 dD", Kind::Node, 1),
-        ("r-2 Mn1@stop dD v1", Kind::Rel, -2),
-    ];
-    for (line, kind, id) in rows {
-        let named = match read_line(rt.alloc(), line.as_bytes())? {
-            Some(Change::Delete(name)) => name == Ref { kind, id },
-            _ => false,
+fn deleted_objects_are_named(rt: HostRuntime) -> Result<(), OplFault> {
+    for (line, kind, id) in &DELETED {
+        let name = Ref {
+            kind: *kind,
+            id: *id,
         };
-        assert!(rt; named, "at {line}");
+        assert!(rt; deleted(rt.alloc(), line)? == Some(name), "at {line}");
     }
     Ok(())
 }
 
 /// The text of what is told of a line.
-pub(super) fn refusal(alloc: Global, line: &[u8]) -> Result<String, Fail> {
+fn refusal(alloc: Global, line: &[u8]) -> Result<String, Fail> {
     let fault = read_line(alloc, line).err().ok_or("a fault was expected")?;
     Ok(fault.to_string(alloc)?)
 }
 
-#[test]
-fn lines_are_refused_at_their_places(rt: HostRuntime) -> Result<(), Fail> {
-    for row in REFUSED.lines() {
+/// The line is refused, and this is told.
+fn is_refused(rt: &impl Abort, alloc: Global, line: &[u8], told: &str) -> Result<(), Fail> {
+    let refusal = refusal(alloc, line)?;
+    assert_eq!(rt; refusal.as_str(), told, "at {line:?}");
+    Ok(())
+}
+
+/// Each row is how and at which byte a line is refused, and the line.
+pub(super) fn are_refused(rt: &impl Abort, alloc: Global, rows: &str) -> Result<(), Fail> {
+    for row in rows.lines() {
         let (told, line) = row.split_once(": ").ok_or("a row was expected")?;
-        let refusal = refusal(rt.alloc(), line.as_bytes())?;
-        assert_eq!(rt; refusal.as_str(), told, "at {line:?}");
+        is_refused(rt, alloc, line.as_bytes(), told)?;
     }
-    for (told, line) in REFUSED_BYTES {
-        let refusal = refusal(rt.alloc(), line)?;
-        assert_eq!(rt; refusal.as_str(), told, "at {line:?}");
+    Ok(())
+}
+
+/// The same of lines that no text can hold.
+pub(super) fn are_refused_bytes(
+    rt: &impl Abort,
+    alloc: Global,
+    rows: &[(&str, &[u8])],
+) -> Result<(), Fail> {
+    for (told, line) in rows {
+        is_refused(rt, alloc, line, told)?;
     }
     Ok(())
 }
 
 #[test]
-fn memory_is_refused_or_all_is_read(rt: HostRuntime) -> Result<(), Fail> {
-    let line = b"r1 uAnn Tb=2,a=1 Mn1@stop,w2@";
-    match read_line(rt.alloc(), line) {
-        Ok(found) => assert!(rt; found.is_some()),
-        Err(fault) => assert_eq!(rt;
-            fault,
-            OplFault {
-                cause: OplCause::Memory,
-                byte: 0
-            }
-        ),
+fn lines_are_refused_at_their_places(rt: HostRuntime) -> Result<(), Fail> {
+    are_refused(&rt, rt.alloc(), REFUSED)?;
+    are_refused_bytes(&rt, rt.alloc(), &REFUSED_BYTES)
+}
+
+/// Whether the line is read, unless memory runs out.
+fn is_read_within_memory(alloc: Global, line: &[u8]) -> bool {
+    match read_line(alloc, line) {
+        Ok(found) => found.is_some(),
+        Err(fault) => fault.cause == OplCause::Memory && fault.byte == 0,
     }
-    let out = text_in(rt.alloc(), line, OutMode::Meta)?;
-    assert_eq!(rt;
-        out.as_slice(),
-        b"r1 v0 dV c0 t i0 uAnn Ta=1,b=2 Mn1@stop,w2@\n".as_slice()
-    );
-    Ok(())
+}
+
+#[test]
+fn memory_is_refused_or_all_is_read(rt: HostRuntime) -> Result<(), Fail> {
+    let line = "r1 uAnn Tb=2,a=1 Mn1@stop,w2@";
+    assert!(rt; is_read_within_memory(rt.alloc(), line.as_bytes()));
+    let wanted = "r1 v0 dV c0 t i0 uAnn Ta=1,b=2 Mn1@stop,w2@";
+    is_read(&rt, rt.alloc(), line, OutMode::Meta, wanted)
 }

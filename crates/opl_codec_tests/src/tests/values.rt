@@ -1,44 +1,43 @@
 //! Rows of the values of fields: each in a line, which is written again, or refused at its place.
 
-use super::lines::{refusal, text_in};
-use opl_codec::OutMode;
+use super::lines::{are_read, are_refused, are_refused_bytes};
 use std::test::Fail;
 
-/// Lines, and the same objects with all their metadata.
+/// An out mode, a line, and what is written of it in that mode.
 const READ: &str = "\
-n007 x0 y0 => n7 v0 dV c0 t i0 u T x0 y0
-n1 v4294967295 x0 y0 => n1 v4294967295 dV c0 t i0 u T x0 y0
-n1 v0001 x0 y0 => n1 v1 dV c0 t i0 u T x0 y0
-n1 c9223372036854775807 x0 y0 => n1 v0 dV c9223372036854775807 t i0 u T x0 y0
-n1 i-9223372036854775808 x0 y0 => n1 v0 dV c0 t i-9223372036854775808 u T x0 y0
-n1 t2020-02-31T23:59:60Z x0 y0 => n1 v0 dV c0 t2020-02-31T23:59:60Z i0 u T x0 y0
-n1 t0000-01-01T00:00:00Z x0 y0 => n1 v0 dV c0 t0000-01-01T00:00:00Z i0 u T x0 y0
-n1 t9999-12-31T00:00:00Z x0 y0 => n1 v0 dV c0 t9999-12-31T00:00:00Z i0 u T x0 y0
-n1 x180 y-0.0000001 => n1 v0 dV c0 t i0 u T x180 y-0.0000001
-w1 N => w1 v0 dV c0 t i0 u T N
-w1 Nn1 => w1 v0 dV c0 t i0 u T Nn1
-w1 Nn1,n-2,n1 => w1 v0 dV c0 t i0 u T Nn1,n-2,n1
-w1 Nn007 => w1 v0 dV c0 t i0 u T Nn7
-w1 Ta=b => w1 v0 dV c0 t i0 u Ta=b N
-w1 Ta=1,b= => w1 v0 dV c0 t i0 u Ta=1,b= N
-w1 Tb=2,a=1 => w1 v0 dV c0 t i0 u Ta=1,b=2 N
-w1 T%20%=%3d% => w1 v0 dV c0 t i0 u T%20%=%3d% N
-r1 Mn1@ => r1 v0 dV c0 t i0 u T Mn1@
-r1 Mw-2@outer => r1 v0 dV c0 t i0 u T Mw-2@outer
-r1 Mr3@a%40%@,n1@@ => r1 v0 dV c0 t i0 u T Mr3@a%40%%40%,n1@%40%
-w1 uhighway => w1 v0 dV c0 t i0 uhighway T N
-w1 ustra\u{df}e => w1 v0 dV c0 t i0 ustra%df%e T N
-w1 u!@~\u{1}\u{7f} => w1 v0 dV c0 t i0 u!%40%~%01%%7f% T N
-w1 u%20% => w1 v0 dV c0 t i0 u%20% T N
-w1 u%0020% => w1 v0 dV c0 t i0 u%20% T N
-w1 u%e9% => w1 v0 dV c0 t i0 u%e9% T N
-w1 u%E9% => w1 v0 dV c0 t i0 u%e9% T N
-w1 u%1f600% => w1 v0 dV c0 t i0 u%1f600% T N
-w1 u%10ffff% => w1 v0 dV c0 t i0 u%10ffff% T N
-w1 u%d7ff%%e000% => w1 v0 dV c0 t i0 u%d7ff%%e000% T N
-w1 ua%2c%b%3D%c => w1 v0 dV c0 t i0 ua%2c%b%3d%c T N
-w1 ust%72%a\u{df}e%9% => w1 v0 dV c0 t i0 ustra%df%e%09% T N
-w1 u%74%%77%%6F%%a% => w1 v0 dV c0 t i0 utwo%0a% T N
+meta: n007 x0 y0 => n7 v0 dV c0 t i0 u T x0 y0
+meta: n1 v4294967295 x0 y0 => n1 v4294967295 dV c0 t i0 u T x0 y0
+meta: n1 v0001 x0 y0 => n1 v1 dV c0 t i0 u T x0 y0
+meta: n1 c9223372036854775807 x0 y0 => n1 v0 dV c9223372036854775807 t i0 u T x0 y0
+meta: n1 i-9223372036854775808 x0 y0 => n1 v0 dV c0 t i-9223372036854775808 u T x0 y0
+meta: n1 t2020-02-31T23:59:60Z x0 y0 => n1 v0 dV c0 t2020-02-31T23:59:60Z i0 u T x0 y0
+meta: n1 t0000-01-01T00:00:00Z x0 y0 => n1 v0 dV c0 t0000-01-01T00:00:00Z i0 u T x0 y0
+meta: n1 t9999-12-31T00:00:00Z x0 y0 => n1 v0 dV c0 t9999-12-31T00:00:00Z i0 u T x0 y0
+meta: n1 x180 y-0.0000001 => n1 v0 dV c0 t i0 u T x180 y-0.0000001
+meta: w1 N => w1 v0 dV c0 t i0 u T N
+meta: w1 Nn1 => w1 v0 dV c0 t i0 u T Nn1
+meta: w1 Nn1,n-2,n1 => w1 v0 dV c0 t i0 u T Nn1,n-2,n1
+meta: w1 Nn007 => w1 v0 dV c0 t i0 u T Nn7
+meta: w1 Ta=b => w1 v0 dV c0 t i0 u Ta=b N
+meta: w1 Ta=1,b= => w1 v0 dV c0 t i0 u Ta=1,b= N
+meta: w1 Tb=2,a=1 => w1 v0 dV c0 t i0 u Ta=1,b=2 N
+meta: w1 T%20%=%3d% => w1 v0 dV c0 t i0 u T%20%=%3d% N
+meta: r1 Mn1@ => r1 v0 dV c0 t i0 u T Mn1@
+meta: r1 Mw-2@outer => r1 v0 dV c0 t i0 u T Mw-2@outer
+meta: r1 Mr3@a%40%@,n1@@ => r1 v0 dV c0 t i0 u T Mr3@a%40%%40%,n1@%40%
+meta: w1 uhighway => w1 v0 dV c0 t i0 uhighway T N
+meta: w1 ustra\u{df}e => w1 v0 dV c0 t i0 ustra%df%e T N
+meta: w1 u!@~\u{1}\u{7f} => w1 v0 dV c0 t i0 u!%40%~%01%%7f% T N
+meta: w1 u%20% => w1 v0 dV c0 t i0 u%20% T N
+meta: w1 u%0020% => w1 v0 dV c0 t i0 u%20% T N
+meta: w1 u%e9% => w1 v0 dV c0 t i0 u%e9% T N
+meta: w1 u%E9% => w1 v0 dV c0 t i0 u%e9% T N
+meta: w1 u%1f600% => w1 v0 dV c0 t i0 u%1f600% T N
+meta: w1 u%10ffff% => w1 v0 dV c0 t i0 u%10ffff% T N
+meta: w1 u%d7ff%%e000% => w1 v0 dV c0 t i0 u%d7ff%%e000% T N
+meta: w1 ua%2c%b%3D%c => w1 v0 dV c0 t i0 ua%2c%b%3d%c T N
+meta: w1 ust%72%a\u{df}e%9% => w1 v0 dV c0 t i0 ustra%df%e%09% T N
+meta: w1 u%74%%77%%6F%%a% => w1 v0 dV c0 t i0 utwo%0a% T N
 ";
 
 /// How and at which byte a line is refused, and the line.
@@ -115,33 +114,19 @@ O7 byte 5: w1 ua%2,
 ";
 
 /// The same of lines that hold control characters.
-const REFUSED_CONTROLS: [(&str, &str); 3] = [
-    ("O6 byte 3", "w1 ua\nb"),
-    ("O6 byte 3", "w1 u\r\r"),
-    ("O6 byte 3", "w1 u\0"),
+const REFUSED_CONTROLS: [(&str, &[u8]); 3] = [
+    ("O6 byte 3", b"w1 ua\nb"),
+    ("O6 byte 3", b"w1 u\r\r"),
+    ("O6 byte 3", b"w1 u\0"),
 ];
 
 #[test]
 fn values_are_read(rt: HostRuntime) -> Result<(), Fail> {
-    for row in READ.lines() {
-        let (line, spelled) = row.split_once(" => ").ok_or("a row was expected")?;
-        let mut text = text_in(rt.alloc(), line.as_bytes(), OutMode::Meta)?;
-        assert_eq!(rt; text.pop(), Some(b'\n'), "at {line}");
-        assert_eq!(rt; text.as_slice(), spelled.as_bytes(), "at {line}");
-    }
-    Ok(())
+    are_read(&rt, rt.alloc(), READ)
 }
 
 #[test]
 fn values_are_refused_at_their_places(rt: HostRuntime) -> Result<(), Fail> {
-    for row in REFUSED.lines() {
-        let (told, line) = row.split_once(": ").ok_or("a row was expected")?;
-        let refusal = refusal(rt.alloc(), line.as_bytes())?;
-        assert_eq!(rt; refusal.as_str(), told, "at {line:?}");
-    }
-    for (told, line) in REFUSED_CONTROLS {
-        let refusal = refusal(rt.alloc(), line.as_bytes())?;
-        assert_eq!(rt; refusal.as_str(), told, "at {line:?}");
-    }
-    Ok(())
+    are_refused(&rt, rt.alloc(), REFUSED)?;
+    are_refused_bytes(&rt, rt.alloc(), &REFUSED_CONTROLS)
 }

@@ -1,8 +1,8 @@
 //! Rows of texts and their faults: each cause at its place.
 
 use ql_syntax::{QlCause, QlFault, parse};
-use std::alloc::Global;
-use std::test::Fail;
+use std::alloc::{AllocError, Global};
+use std::process::Abort;
 
 /// Texts, and the cause and the byte of their fault; queries of every production have none.
 const FAULTS: [(&str, Option<(QlCause, usize)>); 183] = [
@@ -277,35 +277,35 @@ fn fault(alloc: Global, text: &[u8]) -> Option<(QlCause, usize)> {
 #[test]
 fn tells_faults(rt: HostRuntime) {
     for (text, wanted) in &FAULTS {
-        assert_eq!(rt; fault(rt.alloc(), text.as_bytes()), *wanted);
+        let told = fault(rt.alloc(), text.as_bytes());
+        assert!(rt; told == *wanted, "{text}: {told:?}");
     }
+}
+
+/// This is told of the text.
+fn is_told(rt: &impl Abort, alloc: Global, text: &[u8], wanted: Option<(QlCause, usize)>) {
+    assert_eq!(rt; fault(alloc, text), wanted);
 }
 
 #[test]
 fn takes_the_first_fault_from_the_left(rt: HostRuntime) {
-    assert_eq!(rt;
-        fault(rt.alloc(), b"node;\xff"),
-        Some((QlCause::NotUtf8, 5))
+    let alloc = rt.alloc();
+    is_told(&rt, alloc, b"node;\xff", Some((QlCause::NotUtf8, 5)));
+    is_told(&rt, alloc, b"~\xff", Some((QlCause::NotUtf8, 1)));
+    is_told(&rt, alloc, &[b'('; 33], Some((QlCause::TooDeep, 32)));
+    is_told(&rt, alloc, &[b'('; 32], Some((QlCause::UnexpectedEnd, 32)));
+    is_told(
+        &rt,
+        alloc,
+        &[0xff; 65_537],
+        Some((QlCause::TooLong, 65_536)),
     );
-    assert_eq!(rt; fault(rt.alloc(), b"~\xff"), Some((QlCause::NotUtf8, 1)));
-    assert_eq!(rt;
-        fault(rt.alloc(), &[b'('; 33]),
-        Some((QlCause::TooDeep, 32))
-    );
-    assert_eq!(rt;
-        fault(rt.alloc(), &[b'('; 32]),
-        Some((QlCause::UnexpectedEnd, 32))
-    );
-    assert_eq!(rt;
-        fault(rt.alloc(), &[0xff; 65_537]),
-        Some((QlCause::TooLong, 65_536))
-    );
-    assert_eq!(rt; fault(rt.alloc(), &[b' '; 65_536]), None);
+    is_told(&rt, alloc, &[b' '; 65_536], None);
 }
 
 /// The text of a fault is its code and its place.
 #[test]
-fn shows_faults(rt: HostRuntime) -> Result<(), Fail> {
+fn shows_faults(rt: HostRuntime) -> Result<(), AllocError> {
     let fault = QlFault {
         cause: QlCause::OutsideProfile,
         byte: 5,

@@ -4,21 +4,13 @@ ghost use Rattle.std.specs.Prelude.{◌<◌, IsTrue};
 ghost use Rattle.tree_node.specs.NodeRefs.{bindings_of};
 ghost use Rattle.tree_node.specs.Trees.{HasTree};
 
-use super::rows::{BYTES, MARKED, NUMBERS, VALUES, row_of};
+use super::super::digests::shown;
+use super::rows::{BYTES, MARKED, NUMBERS, Row, VALUES, row_of};
 use std::alloc::{AllocError, Global};
 use std::process::Abort;
 use std::test::Fail;
 use tree_build::{BuildFault, Entry, Shape, build};
 use tree_node::{Digest, ENTRY_LIMIT, KEY_LIMIT, Stock, Tree, VALUE_LIMIT, is_above};
-
-/// The digest in lower-case hexadecimal.
-fn shown(alloc: Global, digest: &Digest) -> Result<String, AllocError> {
-    let mut text = String::new(alloc);
-    for byte in digest.0 {
-        text.push_str(format!(in alloc; "{byte:02x}")?.as_str())?;
-    }
-    Ok(text)
-}
 
 /// Whether the entries have a tree.
 pub(super) fn has_tree(entries: &[Entry<'_>]) -> bool
@@ -101,8 +93,55 @@ fn squares(alloc: Global, count: usize) -> Result<Vec<String>, AllocError> {
     Ok(squares)
 }
 
-/// Builds the trees of the rows, from keys of this many bytes, with the digits of squares as their values
-/// or without values.
+/// The entries of these keys, cut into keys of this many bytes, with these values; without a value where there are
+/// fewer.
+fn entries_of<'a>(
+    alloc: Global,
+    keys: &'a [u8],
+    len: usize,
+    values: &'a [String],
+) -> Result<Vec<Entry<'a>>, AllocError>
+    requires { 0 < len }
+{
+    let mut entries = keys_alone(alloc, keys, len)?;
+    for (entry, value) in entries.iter_mut().zip(values) {
+        entry.value = value.as_bytes();
+    }
+    Ok(entries)
+}
+
+/// Builds the tree of the row, from these keys and values.
+fn builds(
+    rt: &impl Abort,
+    alloc: Global,
+    row: &Row<'_>,
+    keys: &[u8],
+    len: usize,
+    values: &[String],
+) -> Result<(), Fail>
+    requires { 0 < len }
+{
+    let entries = entries_of(alloc, keys, len, values)?;
+    has_top(rt, alloc, entries.as_slice(), row.tree, row.shape, row.top)
+}
+
+/// Builds the tree of the row, from keys of this many bytes, with the digits of squares as their values or
+/// without values.
+fn build_row(
+    rt: &impl Abort,
+    alloc: Global,
+    row: &Row<'_>,
+    len: usize,
+    valued: bool,
+) -> Result<(), Fail>
+    requires { 0 < len }
+{
+    let keys = numbers(alloc, row.entries, len)?;
+    let values = squares(alloc, if valued { row.entries } else { 0 })?;
+    builds(rt, alloc, row, keys.as_slice(), len, values.as_slice())
+}
+
+/// Builds the trees of these rows.
 fn build_rows(
     rt: &impl Abort,
     alloc: Global,
@@ -114,13 +153,7 @@ fn build_rows(
 {
     for line in rows.lines() {
         let row = row_of(line).ok_or("a row was expected")?;
-        let keys = numbers(alloc, row.entries, len)?;
-        let values = squares(alloc, if valued { row.entries } else { 0 })?;
-        let mut entries = keys_alone(alloc, keys.as_slice(), len)?;
-        for (entry, value) in entries.iter_mut().zip(&values) {
-            entry.value = value.as_bytes();
-        }
-        has_top(rt, alloc, entries.as_slice(), row.tree, row.shape, row.top)?;
+        build_row(rt, alloc, &row, len, valued)?;
     }
     Ok(())
 }
@@ -143,19 +176,22 @@ fn builds_trees_of_entries_with_values(rt: HostRuntime) -> Result<(), Fail> {
 #[test]
 fn cuts_the_second_shape_at_marks(rt: HostRuntime) -> Result<(), Fail> {
     let alloc = rt.alloc();
-    for (tree, keys, top) in MARKED {
+    for (tree, keys, top) in &MARKED {
         let entries = keys_alone(alloc, keys, 1)?;
-        has_top(&rt, alloc, entries.as_slice(), tree, Shape::Two, top)?;
+        has_top(&rt, alloc, entries.as_slice(), *tree, Shape::Two, top)?;
     }
     Ok(())
 }
 
-#[test]
-fn shows_the_faults(rt: HostRuntime) -> Result<(), Fail> {
-    let alloc = rt.alloc();
-    let faults = format!(in alloc; "{}, {}", BuildFault::Clash, BuildFault::Memory)?;
-    assert_eq!(rt; faults.as_str(), "N6, no memory");
-    Ok(())
+/// The tree of objects in the second shape. Where memory is refused it is built again.
+fn built_at_last(alloc: Global, entries: &[Entry<'_>], stock: &mut Stock) -> Result<Digest, Fail> {
+    has_tree(entries)
+        .then_some(())
+        .ok_or("the entries have no tree")?;
+    match build(alloc, entries, Tree::Objects, Shape::Two, stock) {
+        Err(BuildFault::Memory) => Ok(build(alloc, entries, Tree::Objects, Shape::Two, stock)?),
+        built => Ok(built?),
+    }
 }
 
 /// Where memory is refused, the next call, with ample memory, gives the full result. Run with each
@@ -165,28 +201,10 @@ fn stands_after_refused_memory(rt: HostRuntime) -> Result<(), Fail> {
     let alloc = rt.alloc();
     // The second of these keys is marked: in the second shape there are two leaves.
     let entries = keys_alone(alloc, b"\x09\x0a\x0b", 1)?;
-    if !has_tree(entries.as_slice()) {
-        return Err(Fail::from("the entries have no tree"));
-    }
     let mut stock = Stock::new(alloc);
-    let mut top = build(
-        alloc,
-        entries.as_slice(),
-        Tree::Objects,
-        Shape::Two,
-        &mut stock,
-    );
-    if top == Err(BuildFault::Memory) {
-        top = build(
-            alloc,
-            entries.as_slice(),
-            Tree::Objects,
-            Shape::Two,
-            &mut stock,
-        );
-    }
+    let top = built_at_last(alloc, entries.as_slice(), &mut stock)?;
     assert_eq!(rt;
-        shown(alloc, &top?)?.as_str(),
+        shown(alloc, &top)?.as_str(),
         "fc4cfbb8206c1c9fc900051898370a35d77951a3ee2009605d817b556281fd3a"
     );
     Ok(())

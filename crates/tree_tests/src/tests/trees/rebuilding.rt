@@ -122,32 +122,85 @@ struct Lists<'a> {
     new: Vec<Entry<'a>>,
 }
 
-/// The lists of this case over these keys.
-fn lists_of<'a>(alloc: Global, keys: &'a [[u8; 4]], case: &Case) -> Result<Lists<'a>, AllocError> {
+/// Puts the entry of this key into the list, if it has a value.
+fn push_entry<'a>(
+    entries: &mut Vec<Entry<'a>>,
+    key: &'a [u8; 4],
+    value: Option<&'static [u8]>,
+) -> Result<(), AllocError> {
+    if let Some(value) = value {
+        entries.push(Entry { key, value })?;
+    }
+    Ok(())
+}
+
+/// The list before the changes.
+fn old_entries<'a>(
+    alloc: Global,
+    keys: &'a [[u8; 4]],
+    case: &Case,
+) -> Result<Vec<Entry<'a>>, AllocError> {
     let mut old = Vec::new(alloc);
-    let mut changes = Vec::new(alloc);
+    for (key, was) in keys.iter().zip(&case.old) {
+        push_entry(&mut old, key, *was)?;
+    }
+    Ok(old)
+}
+
+/// The list after the changes.
+fn new_entries<'a>(
+    alloc: Global,
+    keys: &'a [[u8; 4]],
+    case: &Case,
+) -> Result<Vec<Entry<'a>>, AllocError> {
     let mut new = Vec::new(alloc);
     for (key, (was, change)) in keys.iter().zip(case.old.iter().zip(&case.changes)) {
-        if let Some(value) = was {
-            old.push(Entry { key, value })?;
-        }
-        let is = match change {
-            Some(put) => *put,
-            None => *was,
-        };
-        if let Some(value) = is {
-            new.push(Entry { key, value })?;
-        }
+        push_entry(&mut new, key, change.unwrap_or(*was))?;
+    }
+    Ok(new)
+}
+
+/// What is put, owned.
+fn owned_value(alloc: Global, value: Option<&[u8]>) -> Result<Option<Vec<u8>>, AllocError> {
+    match value {
+        Some(value) => Ok(Some(value.to_vec(alloc)?)),
+        None => Ok(None),
+    }
+}
+
+/// The change of this key.
+fn entry_change(
+    alloc: Global,
+    key: &[u8; 4],
+    put: Option<&[u8]>,
+) -> Result<EntryChange, AllocError> {
+    let value = owned_value(alloc, put)?;
+    Ok(EntryChange {
+        key: key.to_vec(alloc)?,
+        value,
+    })
+}
+
+/// The changes.
+fn entry_changes(
+    alloc: Global,
+    keys: &[[u8; 4]],
+    case: &Case,
+) -> Result<Vec<EntryChange>, AllocError> {
+    let mut changes = Vec::new(alloc);
+    for (key, change) in keys.iter().zip(&case.changes) {
         if let Some(put) = change {
-            changes.push(EntryChange {
-                key: key.to_vec(alloc)?,
-                value: match put {
-                    Some(value) => Some(value.to_vec(alloc)?),
-                    None => None,
-                },
-            })?;
+            changes.push(entry_change(alloc, key, *put)?)?;
         }
     }
+    Ok(changes)
+}
+
+/// The lists of this case over these keys.
+fn lists_of<'a>(alloc: Global, keys: &'a [[u8; 4]], case: &Case) -> Result<Lists<'a>, AllocError> {
+    let old = old_entries(alloc, keys, case)?;
+    let changes = entry_changes(alloc, keys, case)?;
+    let new = new_entries(alloc, keys, case)?;
     Ok(Lists { old, changes, new })
 }
 
@@ -241,6 +294,26 @@ struct Nodes {
     levels: usize,
 }
 
+/// Reads the node and puts the digests of its children into the list; gives its level.
+fn open_node(
+    shelf: &mut Recorder<'_>,
+    digest: &Digest,
+    open: &mut Vec<Digest>,
+) -> Result<u8, Fail> {
+    let NodeRef::Inner {
+        level,
+        children,
+        ..
+    } = NodeRef::read(shelf.fetch(digest)?)?
+    else {
+        return Ok(0);
+    };
+    for child in children {
+        open.push(child.digest)?;
+    }
+    Ok(level)
+}
+
 /// The nodes of the tree with this top.
 fn nodes_of(alloc: Global, stock: &Stock, top: &Digest) -> Result<Nodes, Fail> {
     let mut shelf = stock.shelf(alloc);
@@ -251,22 +324,56 @@ fn nodes_of(alloc: Global, stock: &Stock, top: &Digest) -> Result<Nodes, Fail> {
         let Some(digest) = open.pop() else {
             break;
         };
-        let node = NodeRef::read(shelf.fetch(&digest)?)?;
-        if let NodeRef::Inner {
-            level,
-            children,
-            ..
-        } = node
-        {
-            highest = level.max(highest);
-            for child in children {
-                open.push(child.digest)?;
-            }
-        }
+        highest = open_node(&mut shelf, &digest, &mut open)?.max(highest);
         digests.insert(digest)?;
     }
     let levels = usize::from(highest).saturating_add(1);
     Ok(Nodes { digests, levels })
+}
+
+/// The digests of the nodes that were added, each once: of nodes of the new tree, and not of the old one.
+fn added_nodes(
+    rt: &impl Abort,
+    alloc: Global,
+    rebuilt: &Rebuilt,
+    old: &BTreeSet<Digest>,
+    new: &BTreeSet<Digest>,
+) -> Result<BTreeSet<Digest>, AllocError> {
+    let mut added = BTreeSet::new(alloc);
+    for node in &rebuilt.added {
+        assert!(rt; node.digest == digest_of(node.bytes.as_slice()));
+        assert!(rt; new.contains(&node.digest) && !old.contains(&node.digest));
+        assert!(rt; added.insert(node.digest)?, "added twice");
+    }
+    Ok(added)
+}
+
+/// The digests of the nodes that are gone, each once: of nodes of the old tree, and not of the new one.
+fn gone_nodes(
+    rt: &impl Abort,
+    alloc: Global,
+    rebuilt: &Rebuilt,
+    old: &BTreeSet<Digest>,
+    new: &BTreeSet<Digest>,
+) -> Result<BTreeSet<Digest>, AllocError> {
+    let mut gone = BTreeSet::new(alloc);
+    for digest in &rebuilt.gone {
+        assert!(rt; old.contains(digest) && !new.contains(digest));
+        assert!(rt; gone.insert(*digest)?, "gone twice");
+    }
+    Ok(gone)
+}
+
+/// Each of these is in one of the two.
+fn are_in(
+    rt: &impl Abort,
+    these: &BTreeSet<Digest>,
+    one: &BTreeSet<Digest>,
+    other: &BTreeSet<Digest>,
+) {
+    for digest in these {
+        assert!(rt; one.contains(digest) || other.contains(digest));
+    }
 }
 
 /// What was rebuilt is what the two trees differ by.
@@ -276,32 +383,11 @@ fn is_difference(
     rebuilt: &Rebuilt,
     old: &BTreeSet<Digest>,
     new: &BTreeSet<Digest>,
-) -> Result<(), Fail> {
-    let mut added = BTreeSet::new(alloc);
-    for node in &rebuilt.added {
-        assert_eq!(rt; node.digest, digest_of(node.bytes.as_slice()));
-        assert!(rt; added.insert(node.digest)?, "added twice");
-        assert!(rt;
-            new.contains(&node.digest),
-            "added what isn't in the new tree"
-        );
-        assert!(rt;
-            !old.contains(&node.digest),
-            "added what is in the old tree"
-        );
-    }
-    let mut gone = BTreeSet::new(alloc);
-    for digest in &rebuilt.gone {
-        assert!(rt; gone.insert(*digest)?, "gone twice");
-        assert!(rt; old.contains(digest), "gone what isn't in the old tree");
-        assert!(rt; !new.contains(digest), "gone what is in the new tree");
-    }
-    for digest in new {
-        assert!(rt; old.contains(digest) || added.contains(digest), "not added");
-    }
-    for digest in old {
-        assert!(rt; new.contains(digest) || gone.contains(digest), "not gone");
-    }
+) -> Result<(), AllocError> {
+    let added = added_nodes(rt, alloc, rebuilt, old, new)?;
+    are_in(rt, new, old, &added);
+    let gone = gone_nodes(rt, alloc, rebuilt, old, new)?;
+    are_in(rt, old, new, &gone);
     Ok(())
 }
 
@@ -314,41 +400,57 @@ struct Seen {
     unchanged: bool,
 }
 
-/// One case: the tree that is rebuilt is the one that is built, and few nodes were used.
-fn one_case(
+/// A tree that was built from nothing.
+#[derive(Drop)]
+struct Built {
+    top: Digest,
+    nodes: Nodes,
+}
+
+/// Builds the tree of these entries.
+fn built_from_nothing(alloc: Global, entries: &[Entry<'_>]) -> Result<Built, Fail> {
+    let mut stock = Stock::new(alloc);
+    let top = built(alloc, entries, Tree::Cells, Shape::Two, &mut stock)?;
+    let nodes = nodes_of(alloc, &stock, &top)?;
+    Ok(Built { top, nodes })
+}
+
+/// A change of a tree of these nodes to the other one: it is the tree that is built, and few nodes were used.
+fn is_change(
     rt: &impl Abort,
     alloc: Global,
-    keys: &[[u8; 4]],
-    case: &Case,
-    seen: Seen,
-) -> Result<Seen, Fail> {
-    let lists = lists_of(alloc, keys, case)?;
-    let changes = lists.changes.as_slice();
-    let mut stock = Stock::new(alloc);
-    let change = changed(alloc, lists.old.as_slice(), changes, &mut stock)?;
-    let mut new_stock = Stock::new(alloc);
-    let new = lists.new.as_slice();
-    let new_top = built(alloc, new, Tree::Cells, Shape::Two, &mut new_stock)?;
-    assert_eq!(rt; change.rebuilt.top, new_top);
-    let old_nodes = nodes_of(alloc, &stock, &change.old_top)?;
-    let new_nodes = nodes_of(alloc, &new_stock, &new_top)?;
-    is_difference(
-        rt,
-        alloc,
-        &change.rebuilt,
-        &old_nodes.digests,
-        &new_nodes.digests,
-    )?;
-    let ways = changes.len().saturating_mul(old_nodes.levels);
+    change: &Change,
+    changes: usize,
+    old: &Nodes,
+    new: &Built,
+) -> Result<(), AllocError> {
+    assert!(rt; change.rebuilt.top == new.top);
+    let ways = changes.saturating_mul(old.levels);
     assert!(rt;
         change.used <= change.rebuilt.gone.len().saturating_add(ways),
         "too many nodes used"
     );
+    is_difference(rt, alloc, &change.rebuilt, &old.digests, &new.nodes.digests)
+}
+
+/// The lists of one case: the tree that is rebuilt is the one that is built.
+fn lists_agree(
+    rt: &impl Abort,
+    alloc: Global,
+    lists: &Lists<'_>,
+    seen: Seen,
+) -> Result<Seen, Fail> {
+    let changes = lists.changes.as_slice();
+    let mut stock = Stock::new(alloc);
+    let change = changed(alloc, lists.old.as_slice(), changes, &mut stock)?;
+    let old = nodes_of(alloc, &stock, &change.old_top)?;
+    let new = built_from_nothing(alloc, lists.new.as_slice())?;
+    is_change(rt, alloc, &change, changes.len(), &old, &new)?;
     Ok(Seen {
-        grown: seen.grown || new_nodes.levels > old_nodes.levels,
-        lowered: seen.lowered || new_nodes.levels < old_nodes.levels,
-        emptied: seen.emptied || new.is_empty(),
-        unchanged: seen.unchanged || new_top == change.old_top,
+        grown: seen.grown || new.nodes.levels > old.levels,
+        lowered: seen.lowered || new.nodes.levels < old.levels,
+        emptied: seen.emptied || lists.new.is_empty(),
+        unchanged: seen.unchanged || new.top == change.old_top,
     })
 }
 
@@ -377,6 +479,16 @@ fn chance_case(alloc: Global, chance: &mut Chance, count: usize) -> Result<Case,
     Ok(Case { old, changes })
 }
 
+/// The lists of a case by chance over these keys.
+fn chance_lists<'a>(
+    alloc: Global,
+    chance: &mut Chance,
+    keys: &'a [[u8; 4]],
+) -> Result<Lists<'a>, AllocError> {
+    let case = chance_case(alloc, chance, keys.len())?;
+    lists_of(alloc, keys, &case)
+}
+
 /// Cases by chance over this many keys.
 fn cases(
     rt: &impl Abort,
@@ -396,8 +508,8 @@ fn cases(
         unchanged: false,
     };
     for _ in 0..rounds {
-        let case = chance_case(alloc, &mut chance, count)?;
-        seen = one_case(rt, alloc, keys.as_slice(), &case, seen)?;
+        let lists = chance_lists(alloc, &mut chance, keys.as_slice())?;
+        seen = lists_agree(rt, alloc, &lists, seen)?;
     }
     Ok(seen)
 }
@@ -422,6 +534,15 @@ fn rebuilds_trees(rt: HostRuntime) -> Result<(), Fail> {
     Ok(())
 }
 
+/// The change that takes this key away.
+fn removal(alloc: Global, key: u8) -> Result<Vec<EntryChange>, AllocError> {
+    let change = EntryChange {
+        key: vec![in alloc; key]?,
+        value: None,
+    };
+    Ok(vec![in alloc; change]?)
+}
+
 /// Where memory is refused, the next call, with ample memory, gives the full result. Run with each
 /// allocation refused in turn.
 #[test]
@@ -429,16 +550,11 @@ fn rebuilds_after_refused_memory(rt: HostRuntime) -> Result<(), Fail> {
     let alloc = rt.alloc();
     // The second of these keys is marked, so there are two leaves; without the third the first is alone.
     let entries = keys_alone(alloc, b"\x09\x0a\x0b", 1)?;
-    let change = EntryChange {
-        key: vec![in alloc; 0x0b]?,
-        value: None,
-    };
+    let changes = removal(alloc, 0x0b)?;
     let mut stock = Stock::new(alloc);
-    let changes = vec![in alloc; change]?;
     let change = changed(alloc, entries.as_slice(), changes.as_slice(), &mut stock)?;
-    assert_eq!(rt; change.rebuilt.added.len(), 0);
-    assert_eq!(rt; change.rebuilt.gone.len(), 2);
+    assert!(rt; change.rebuilt.added.is_empty() && change.rebuilt.gone.len() == 2);
     // The old top, the leaf that goes, and the new top.
-    assert_eq!(rt; change.used, 3);
+    assert!(rt; change.used == 3);
     Ok(())
 }

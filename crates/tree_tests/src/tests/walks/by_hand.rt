@@ -16,14 +16,9 @@ pub(super) fn range_of<'a>(lo: &'a [u8], hi: &'a [u8], under: bool) -> KeyRange<
     KeyRange { lo, hi, under }
 }
 
-/// The key alone, or with `under` all keys that it begins.
-pub(super) fn at(key: &[u8], under: bool) -> KeyRange<'_> {
-    range_of(key, key, under)
-}
-
 /// The whole of a tree.
 pub(super) fn all<'a>() -> KeyRange<'a> {
-    at(b"", true)
+    range_of(b"", b"", true)
 }
 
 /// What a walk gave, and its tally.
@@ -137,34 +132,36 @@ pub(super) fn child<'a>(greatest: &'a [u8], number: u64, digest: Digest) -> Chil
     }
 }
 
+/// Puts the leaf of the tree of tags whose keys are the front and one byte more, from the first to the last.
+fn put_run(
+    alloc: Global,
+    stock: &mut Stock,
+    front: &[u8],
+    first: u8,
+    last: u8,
+) -> Result<Digest, Fail> {
+    let keys = keys(alloc, front, first, last)?;
+    let len = front.len().saturating_add(1);
+    put_leaf(alloc, stock, Tree::Tags, keys.as_slice(), len)
+}
+
 /// Puts the tree of the 65 keys 00 to 40, whose two leaves lie below one top.
 pub(super) fn put_65_keys(alloc: Global, stock: &mut Stock) -> Result<Digest, Fail> {
-    let first = put_leaf(
-        alloc,
-        stock,
-        Tree::Tags,
-        keys(alloc, b"", 0, 0x3f)?.as_slice(),
-        1,
-    )?;
-    let last = put_leaf(alloc, stock, Tree::Tags, b"\x40", 1)?;
+    let first = put_run(alloc, stock, b"", 0, 0x3f)?;
+    let last = put_run(alloc, stock, b"", 0x40, 0x40)?;
     let children = [child(b"\x3f", 64, first), child(b"\x40", 1, last)];
     put_inner(alloc, stock, Tree::Tags, 1, &children)
 }
 
 /// Puts the tree of the 130 keys 610000 to 610081, whose three leaves lie below one top.
 pub(super) fn put_130_keys(alloc: Global, stock: &mut Stock) -> Result<Digest, Fail> {
-    let mut leaves = Vec::new(alloc);
-    for (first, last) in [(0x00, 0x3f), (0x40, 0x7f), (0x80, 0x81)] {
-        let keys = keys(alloc, b"\x61\x00", first, last)?;
-        leaves.push(put_leaf(alloc, stock, Tree::Tags, keys.as_slice(), 3)?)?;
-    }
-    let [one, two, three] = leaves.as_slice() else {
-        return Err(Fail::from("three leaves were expected"));
-    };
+    let one = put_run(alloc, stock, b"\x61\x00", 0x00, 0x3f)?;
+    let two = put_run(alloc, stock, b"\x61\x00", 0x40, 0x7f)?;
+    let three = put_run(alloc, stock, b"\x61\x00", 0x80, 0x81)?;
     let children = [
-        child(b"\x61\x00\x3f", 64, *one),
-        child(b"\x61\x00\x7f", 64, *two),
-        child(b"\x61\x00\x81", 2, *three),
+        child(b"\x61\x00\x3f", 64, one),
+        child(b"\x61\x00\x7f", 64, two),
+        child(b"\x61\x00\x81", 2, three),
     ];
     put_inner(alloc, stock, Tree::Tags, 1, &children)
 }

@@ -1,6 +1,6 @@
 //! Ends of ranges, told by hand: the rows of docs/FORMATS.md.
 
-use super::by_hand::{at, range_of};
+use super::by_hand::range_of;
 use std::test::Fail;
 use tree_node::is_above;
 use tree_walk::KeyRange;
@@ -22,39 +22,56 @@ fn count_told(range: &KeyRange<'_>, greatest: &[&[u8]]) -> Result<(usize, usize)
     Ok((met, covered))
 }
 
-/// The two leaves of the 65 keys from 00 to 40, and the three of the 130 keys from 610000 to 610081.
+/// The greatest keys of the leaves of the 65 keys from 00 to 40.
+const OF_65: &[&[u8]] = &[b"\x3f", b"\x40"];
+
+/// Those of the 130 keys from 610000 to 610081.
+const OF_130: &[&[u8]] = &[b"\x61\x00\x3f", b"\x61\x00\x7f", b"\x61\x00\x81"];
+
+/// The leaves; the ends of a range, and whether it holds what its last key begins; how many of the leaves a walk
+/// opens, and how many it covers.
+type Row = (
+    &'static [&'static [u8]],
+    (&'static [u8], &'static [u8], bool),
+    usize,
+    usize,
+);
+
+const ROWS: [Row; 7] = [
+    (OF_65, (b"\x3f", b"\x3f", false), 1, 0),
+    (OF_65, (b"\x40", b"\x40", false), 1, 0),
+    (OF_65, (b"\x41", b"\x41", false), 0, 0),
+    (OF_65, (b"\x3f\x00", b"\x3f\x00", false), 1, 0),
+    (OF_65, (b"\x3f", b"\x40", false), 2, 1),
+    (OF_65, (b"", b"", true), 2, 1),
+    (OF_130, (b"\x61\x00", b"\x61\x00", true), 3, 2),
+];
+
 #[test]
 fn tells_which_leaves_a_walk_opens(rt: HostRuntime) -> Result<(), Fail> {
-    let leaves: [&[u8]; 2] = [b"\x3f", b"\x40"];
-    for (range, met, covered) in [
-        (at(b"\x3f", false), 1, 0),
-        (at(b"\x40", false), 1, 0),
-        (at(b"\x41", false), 0, 0),
-        (at(b"\x3f\x00", false), 1, 0),
-        (range_of(b"\x3f", b"\x40", false), 2, 1),
-        (at(b"", true), 2, 1),
-    ] {
-        assert_eq!(rt; count_told(&range, &leaves)?, (met, covered), "{range:?}");
+    for (leaves, (lo, hi, under), met, covered) in &ROWS {
+        let range = range_of(lo, hi, *under);
+        let told = count_told(&range, leaves)?;
+        assert!(rt; told == (*met, *covered), "{range:?}: {told:?}");
     }
-    let leaves: [&[u8]; 3] = [b"\x61\x00\x3f", b"\x61\x00\x7f", b"\x61\x00\x81"];
-    assert_eq!(rt; count_told(&at(b"\x61\x00", true), &leaves)?, (3, 2));
     Ok(())
 }
 
-/// Where `lo` is above `hi`, all that is left is what `hi` begins from `lo` on.
+/// Ranges whose `lo` is above `hi`, each with a key and whether it is in them: all that is left is what `hi`
+/// begins from `lo` on.
+const BELOW_START: [(&[u8], &[u8], &[u8], bool); 4] = [
+    (b"\x40", b"\x3f", b"\x40", false),
+    (b"\x3f\x01", b"\x3f", b"\x3f\x01", true),
+    (b"\x3f\x01", b"\x3f", b"\x3f\xff", true),
+    (b"\x3f\x01", b"\x3f", b"\x3f\x00\xff", false),
+];
+
 #[test]
 fn tells_what_lies_below_its_start(rt: HostRuntime) {
-    for (lo, hi, key, contained) in [
-        (
-            b"\x40".as_slice(),
-            b"\x3f".as_slice(),
-            b"\x40".as_slice(),
-            false,
-        ),
-        (b"\x3f\x01", b"\x3f", b"\x3f\x01", true),
-        (b"\x3f\x01", b"\x3f", b"\x3f\xff", true),
-        (b"\x3f\x01", b"\x3f", b"\x3f\x00\xff", false),
-    ] {
-        assert_eq!(rt; range_of(lo, hi, true).contains(key), contained, "{key:?}");
+    for (lo, hi, key, contained) in &BELOW_START {
+        assert!(rt;
+            range_of(lo, hi, true).contains(key) == *contained,
+            "{key:?}"
+        );
     }
 }
