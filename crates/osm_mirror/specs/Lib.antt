@@ -1,11 +1,1 @@
-pub mod Ask
-pub mod ChangeFiles
-pub mod Drawers
 pub mod Editions
-pub mod Faults
-pub mod Files
-pub mod ListeningLines
-pub mod RootLines
-pub mod Statuses
-pub mod TreeRoots
-pub mod Written

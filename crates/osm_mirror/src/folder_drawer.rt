@@ -3,8 +3,8 @@
 ghost use Rattle.std.specs.Option.{option_copied};
 ghost use Rattle.std.specs.Prelude.{◌≡◌, ◌⊎◌, IfErr, None};
 
-use crate::command_fault::CommandFault;
-use crate::drawer::Drawer;
+use osm_commands::command_fault::CommandFault;
+use osm_commands::drawer::Drawer;
 use std::fs::File;
 use std::io::ErrorKind;
 use std::marker::Model;

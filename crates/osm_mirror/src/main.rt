@@ -1,56 +1,30 @@
 //! The program `osm_mirror`: an Overpass query server whose answers can be checked.
 //!
-//! Each command is a function over readers and writers that it is lent: [`ask`](ask::ask),
-//! [`publish`](publish::publish), [`prove`](prove::prove), [`check`](check::check), [`serve`](serve::serve) in the first
-//! edition and [`serve_changing`](serve_changing::serve_changing) in the second. What
-//! stands here fetches the words, lends the command that they ask for its files and its socket, tells of a fault and
-//! ends with the status.
+//! Its commands are those of `osm_commands`. What stands here fetches the words, lends the command that they ask for its
+//! files and its socket, tells of a fault and ends with the status.
 #![tactic(auto)]
 
-pub mod ask;
-pub mod changes_fault;
-pub mod check;
-pub mod command_fault;
-pub mod door;
-pub mod drawer;
-pub mod folder_drawer;
-pub mod input_file;
-pub mod listening_line;
-pub mod outlet;
-pub mod output_file;
-pub mod prove;
-pub mod publish;
-pub mod publish_changes;
-pub mod publish_next;
-pub mod read_snapshot;
-pub mod read_whole;
-pub mod root_line;
-pub mod serve;
-pub mod serve_changing;
-pub mod socket_door;
-pub mod status;
-#[cfg(test)]
-mod tests;
+mod folder_drawer;
+mod input_file;
+mod output_file;
 pub mod tree_edition;
-pub mod verdict_line;
-pub mod write_whole;
 
-use crate::ask::ask;
-use crate::check::check;
-use crate::command_fault::CommandFault;
 use crate::folder_drawer::FolderDrawer;
 use crate::input_file::InputFile;
-use crate::listening_line::listening_line;
 use crate::output_file::OutputFile;
-use crate::prove::prove;
-use crate::publish::publish;
-use crate::read_snapshot::read_snapshot;
-use crate::serve::serve;
-use crate::serve_changing::serve_changing;
-use crate::socket_door::SocketDoor;
-use crate::status::Status;
 use crate::tree_edition::tree_edition;
 use command_line::{Job, WordsFault, read_words};
+use osm_commands::ask::ask;
+use osm_commands::check::check;
+use osm_commands::command_fault::CommandFault;
+use osm_commands::listening_line::listening_line;
+use osm_commands::prove::prove;
+use osm_commands::publish::publish;
+use osm_commands::read_snapshot::read_snapshot;
+use osm_commands::serve::serve;
+use osm_commands::serve_changing::serve_changing;
+use osm_commands::socket_door::SocketDoor;
+use osm_commands::status::Status;
 use osm_desk::Desk;
 use osm_index::Edition;
 use std::env;

@@ -1,7 +1,9 @@
 //! A file that is made when it is first written.
 
-ghost use Rattle.std.specs.Prelude.{◌≡◌};
+ghost use Rattle.std.specs.Prelude.{◌≡◌, true};
 
+use osm_commands::command_fault::CommandFault;
+use osm_commands::outlet::{Outlet, told};
 use std::fs::File;
 use std::io;
 use std::io::Write;
@@ -60,5 +62,13 @@ impl Write for OutputFile<'_> {
             Some(file) => file.flush(),
             None => Ok(()),
         }
+    }
+}
+
+impl Outlet for OutputFile<'_> {
+    ghost is_flushed = { λ _. true };
+
+    fn hand_on(&mut self) -> Result<(), CommandFault> {
+        told(self.flush())
     }
 }

@@ -1,0 +1,118 @@
+-- Faults of `ask` from the faults of the calls that it makes, and its answer from what they make.
+use Rattle.std.proofs.Common.{◌≡◌, ℕ, List, Option, None, Some, Result, Ok, Err, IfSome, IfErr, IsErrAnd, refl, sym, subst, ap, ◌∙◌}
+use Rattle.osm_model.specs.Elements.{Element}
+use Rattle.opl_codec.specs.Files.{HoldsSet}
+use Rattle.osm_index.specs.Publications.{Publication}
+use Rattle.osm_index.specs.Snapshots.{HoldsPublication}
+use Rattle.osm_index.specs.declared.edition.Edition.{Edition}
+use Rattle.osm_index.specs.declared.snapshot.Snapshot.{Snapshot}
+use Rattle.ql_syntax.specs.Queries.{HasFault, Reads}
+use Rattle.ql_syntax.specs.Statements.{Statements}
+use Rattle.ql_syntax.specs.declared.fault.QlFault.{QlFault}
+use Rattle.ql_plain.specs.Meanings.{Means}
+use Rattle.osm_prove.specs.Proved.{IsProved}
+use Rattle.osm_prove.specs.declared.prove_fault.ProveFault.{ProveFault}
+use Rattle.osm_prove.specs.declared.prove_fault.ProveFault.TheVariants as refusals
+use Rattle.osm_commands.specs.Ask.{Explains, HoldsTrees, IsAnswer}
+use Rattle.osm_commands.specs.Faults.{fault_of_prove}
+use Rattle.osm_commands.specs.TreeRoots.{ExplainsTrees, IsOutsideOrTrees, IsPublicationIn}
+use Rattle.osm_commands.specs.declared.command_fault.CommandFault.{CommandFault}
+use Rattle.osm_commands.specs.declared.command_fault.CommandFault.TheVariants.{Opl, Query, Endless, Clash, TooMany, Memory, Device}
+
+-- ---- no trees
+
+-- what explains that there are no trees explains it for `ask`
+explains : (file : List ℕ) (left : Option (List ℕ)) (edition : Edition) (query : List ℕ) (fault : CommandFault) → ExplainsTrees file left edition fault
+    → Explains file left edition query fault
+explains file left edition query (Opl load) why = why
+explains file left edition query (Query refused) why = absurd why
+explains file left edition query Endless why = absurd why
+explains file left edition query Clash why = why
+explains file left edition query TooMany why = why
+explains file left edition query Memory why = tt
+explains file left edition query Device why = tt
+
+pub explained_unmade : (known left : Option (List ℕ)) (edition : Edition) (query : List ℕ) (fault : CommandFault) (result : Result (Unit {0}) CommandFault)
+    → IsErrAnd result (λ told. told ≡ fault)
+    → IfSome known (λ file. ExplainsTrees file left edition fault)
+    → IfSome known (λ file. IfErr result (Explains file left edition query))
+explained_unmade None left edition query fault result told why = tt
+explained_unmade (Some file) left edition query fault (Ok done) told why = tt
+explained_unmade (Some file) left edition query fault (Err other) told why =
+    subst (Explains file left edition query) (sym told) (explains file left edition query fault why)
+
+-- where there is an answer, the fault lies outside, or in the trees
+pub outside_unmade : (known : Option (List ℕ)) (edition : Edition) (query : List ℕ) (fault : CommandFault) (result : Result (Unit {0}) CommandFault)
+    → IsErrAnd result (λ told. told ≡ fault)
+    → IfSome known (λ file. (set : List Element) → HoldsSet file set → IsOutsideOrTrees set edition fault)
+    → IfSome known (λ file. (text : List ℕ) (answer : IsAnswer file query text) → IfErr result (IsOutsideOrTrees answer.set edition))
+outside_unmade None edition query fault result told only = tt
+outside_unmade (Some file) edition query fault (Ok done) told only = λ text answer. tt
+outside_unmade (Some file) edition query fault (Err other) told only = λ text answer.
+    subst (IsOutsideOrTrees answer.set edition) (sym told) (only answer.set answer.holds)
+
+-- ---- trees, and no answer
+
+-- the file's trees are there
+pub trees_held : (known : Option (List ℕ)) (edition : Edition) (snapshot : Snapshot) (p : Publication)
+    → HoldsPublication snapshot p → IfSome known (λ file. IsPublicationIn file edition p) → IfSome known (λ file. HoldsTrees file edition)
+trees_held None edition snapshot p held is = tt
+trees_held (Some file) edition snapshot p held is = record { p = p; published = is; no_clash = held.no_clash }
+
+refusal_explained : (file : List ℕ) (left : Option (List ℕ)) (edition : Edition) (query : List ℕ) (refusal : ProveFault) → HoldsTrees file edition
+    → ((fault : QlFault) → refusal ≡ refusals.Query fault → HasFault query fault) → Explains file left edition query (fault_of_prove refusal)
+refusal_explained file left edition query (refusals.Query fault) holds why = (holds, why fault refl)
+refusal_explained file left edition query refusals.Memory holds why = tt
+
+-- the query is refused for its fault
+pub explained_unproved : (known left : Option (List ℕ)) (edition : Edition) (query : List ℕ) (refusal : ProveFault) (result : Result (Unit {0}) CommandFault)
+    → IsErrAnd result (λ told. told ≡ fault_of_prove refusal)
+    → IfSome known (λ file. HoldsTrees file edition)
+    → ((fault : QlFault) → refusal ≡ refusals.Query fault → HasFault query fault)
+    → IfSome known (λ file. IfErr result (Explains file left edition query))
+explained_unproved None left edition query refusal result told holds why = tt
+explained_unproved (Some file) left edition query refusal (Ok done) told holds why = tt
+explained_unproved (Some file) left edition query refusal (Err other) told holds why =
+    subst (Explains file left edition query) (sym told) (refusal_explained file left edition query refusal holds why)
+
+-- where the query reads, the fault lies outside
+pub outside_unproved : (known : Option (List ℕ)) (edition : Edition) (query : List ℕ) (refusal : ProveFault) (result : Result (Unit {0}) CommandFault)
+    → IsErrAnd result (λ told. told ≡ fault_of_prove refusal)
+    → ((statements : Statements) → Reads query statements → refusal ≡ refusals.Memory)
+    → IfSome known (λ file. (text : List ℕ) (answer : IsAnswer file query text) → IfErr result (IsOutsideOrTrees answer.set edition))
+outside_unproved None edition query refusal result told only = tt
+outside_unproved (Some file) edition query refusal (Ok done) told only = λ text answer. tt
+outside_unproved (Some file) edition query refusal (Err other) told only = λ text answer.
+    subst (IsOutsideOrTrees answer.set edition) (sym (told ∙ ap fault_of_prove (only answer.statements answer.reads))) tt
+
+-- ---- an answer that isn't written
+
+-- where a writer fails, a device has failed
+pub explained_unwritten : (known left : Option (List ℕ)) (edition : Edition) (query : List ℕ) (result : Result (Unit {0}) CommandFault)
+    → IfErr result (λ fault. fault ≡ Device)
+    → IfSome known (λ file. IfErr result (Explains file left edition query))
+explained_unwritten None left edition query result device = tt
+explained_unwritten (Some file) left edition query (Ok done) device = tt
+explained_unwritten (Some file) left edition query (Err fault) device = subst (Explains file left edition query) (sym device) tt
+
+-- and that lies outside
+pub outside_unwritten : (known : Option (List ℕ)) (edition : Edition) (query : List ℕ) (result : Result (Unit {0}) CommandFault)
+    → IfErr result (λ fault. fault ≡ Device)
+    → IfSome known (λ file. (text : List ℕ) (answer : IsAnswer file query text) → IfErr result (IsOutsideOrTrees answer.set edition))
+outside_unwritten None edition query result device = tt
+outside_unwritten (Some file) edition query (Ok done) device = λ text answer. tt
+outside_unwritten (Some file) edition query (Err fault) device = λ text answer. subst (IsOutsideOrTrees answer.set edition) (sym device) tt
+
+-- ---- the answer
+
+-- what is proved over a publication of the file's set is the answer
+pub answer_is : (known : Option (List ℕ)) (edition : Edition) (p : Publication) (query text nodes : List ℕ)
+    → IfSome known (λ file. IsPublicationIn file edition p) → IsProved p query text nodes → IfSome known (λ file. IsAnswer file query text)
+answer_is None edition p query text nodes is proved = tt
+answer_is (Some file) edition p query text nodes is proved = record {
+  set = is.set;
+  holds = is.holds;
+  statements = proved.statements;
+  reads = proved.reads;
+  means = subst (λ (objects : List Element). Means objects proved.statements text) is.published.same_objects proved.means;
+}

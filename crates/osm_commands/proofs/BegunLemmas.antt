@@ -1,0 +1,158 @@
+-- What `prove`, `ask` and `check` have written where they end.
+use Rattle.std.proofs.Common.{◌≡◌, ◌≢◌, ◌⊎◌, ℕ, List, Option, None, Some, Result, Ok, Err, IfErr, IfSome, OnOk, ap, inl, inr, subst, ◌∙◌}
+use Rattle.std.specs.declared.alloc.AllocError.{AllocError}
+use Rattle.std.proofs.KnownBytes.{Keeps-refl}
+use Rattle.std.specs.Io.KnownBytes.{Appends, Keeps}
+use Rattle.tree_node.specs.Outcomes.{Clash}
+use Rattle.osm_index.specs.Publications.{IsNodeIn, IsPublication, Publication, root_of}
+use Rattle.osm_index.specs.declared.edition.Edition.{Edition}
+use Rattle.osm_prove.specs.Proved.{IsProved}
+use Rattle.ql_eval.specs.declared.evaluation.Report.{Report}
+use Rattle.osm_check.specs.Verdicts.{IsVerdict, StandsIn}
+use Rattle.osm_check.specs.declared.verdict.Verdict.{Verdict}
+use Rattle.osm_check.specs.declared.verdict.Verdict.TheVariants.{Yes}
+use Rattle.osm_commands.specs.Ask.{IsAnswer, IsBegun}
+use Rattle.osm_commands.specs.Files.{IfBoth, IfThree, IsBegunProof, IsBegunVerdict, IsProvedIn}
+use Rattle.osm_commands.specs.RootLines.{verdict_line}
+use Rattle.osm_commands.specs.TreeRoots.{IsPublicationIn, publication_line}
+use Rattle.osm_gate.specs.Written.{AppendsFront}
+use Rattle.osm_commands.specs.Written.{AppendInTurn, Output, UpToFirst, UpToSecond, UpToThird, Writing}
+use Rattle.osm_commands.specs.declared.command_fault.CommandFault.{CommandFault}
+use Rattle.osm_commands.specs.declared.command_fault.CommandFault.TheVariants.{Device}
+
+-- ---- `prove`
+
+-- a writer that wasn't written to
+abbrev same : Option (List ℕ) → Output
+same output = record { before = output; after = output }
+
+abbrev pub writing : List ℕ → Option (List ℕ) → Option (List ℕ) → Writing
+writing text old new = record { text = text; output = record { before = old; after = new } }
+
+-- nothing is written
+pub unwritten : (first second : Option (List ℕ)) (edition : Edition) (answer proof root : Option (List ℕ)) → IfBoth first second (λ file bytes. IsBegunProof file bytes edition (same answer) (same proof) (same root))
+unwritten None second edition answer proof root = tt
+unwritten (Some file) None edition answer proof root = tt
+unwritten (Some file) (Some bytes) edition answer proof root = inl (Keeps-refl answer, Keeps-refl proof, Keeps-refl root)
+
+-- nothing is written, whatever the result
+pub kept : (answer proof root : Option (List ℕ)) (result : Result (Unit {0}) CommandFault)
+    → IfErr result (λ fault. fault ≢ Device → Keeps answer answer × Keeps proof proof × Keeps root root)
+kept answer proof root (Ok done) = tt
+kept answer proof root (Err fault) = λ other. (Keeps-refl answer, Keeps-refl proof, Keeps-refl root)
+
+-- what was read is proved, where the bytes that were read are those that were looked at
+pub proved_files : (first second : Option (List ℕ)) (edition : Edition) (p : Publication) (read query text nodes : List ℕ)
+    → IfSome first (λ file. IsPublicationIn file edition p) → IfSome second (λ left. read ≡ left) → query ≡ read → IsProved p query text nodes
+    → IfBoth first second (λ file bytes. IsProvedIn file bytes edition p text nodes)
+proved_files None second edition p read query text nodes published same is proved = tt
+proved_files (Some file) None edition p read query text nodes published same is proved = tt
+proved_files (Some file) (Some bytes) edition p read query text nodes published same is proved =
+    record { published = published; proved = subst (λ (q : List ℕ). IsProved p q text nodes) (is ∙ same) proved }
+
+-- the answer is begun
+pub answer_begun : (written text proof root : List ℕ) (old_answer new_answer old_proof old_root : Option (List ℕ))
+    → written ≡ text → AppendsFront old_answer new_answer written
+    → AppendInTurn (writing text old_answer new_answer) (writing proof old_proof old_proof) (writing root old_root old_root)
+answer_begun written text proof root a b c e is begun = UpToFirst (subst (λ (t : List ℕ). AppendsFront a b t) is begun) (Keeps-refl c) (Keeps-refl e)
+
+-- the answer is written, and the proof begun
+pub proof_begun : (written written_proof text proof root : List ℕ) (old_answer new_answer old_proof new_proof old_root : Option (List ℕ))
+    → written ≡ text → Appends old_answer new_answer written → written_proof ≡ proof → AppendsFront old_proof new_proof written_proof
+    → AppendInTurn (writing text old_answer new_answer) (writing proof old_proof new_proof) (writing root old_root old_root)
+proof_begun written written_proof text proof root a b c d e is whole proof_is begun =
+    UpToSecond (subst (λ (t : List ℕ). Appends a b t) is whole) (subst (λ (t : List ℕ). AppendsFront c d t) proof_is begun) (Keeps-refl e)
+
+-- both are written, and the root's line begun
+pub root_begun : (written written_proof line text proof root : List ℕ) (old_answer new_answer old_proof new_proof old_root new_root : Option (List ℕ))
+    → written ≡ text → Appends old_answer new_answer written → written_proof ≡ proof → Appends old_proof new_proof written_proof
+    → line ≡ root → AppendsFront old_root new_root line
+    → AppendInTurn (writing text old_answer new_answer) (writing proof old_proof new_proof) (writing root old_root new_root)
+root_begun written written_proof line text proof root a b c d e f is whole proof_is proof_whole root_is begun =
+    UpToThird (subst (λ (t : List ℕ). Appends a b t) is whole) (subst (λ (t : List ℕ). Appends c d t) proof_is proof_whole) (subst (λ (t : List ℕ). AppendsFront e f t) root_is begun)
+
+-- the three texts are written in turn, as far as it went
+pub written_in_turn : (first second : Option (List ℕ)) (edition : Edition) (p : Publication) (text nodes : List ℕ) (old_answer new_answer old_proof new_proof old_root new_root : Option (List ℕ))
+    → IfBoth first second (λ file bytes. IsProvedIn file bytes edition p text nodes)
+    → AppendInTurn (writing text old_answer new_answer) (writing nodes old_proof new_proof) (writing (publication_line p) old_root new_root)
+    → IfBoth first second (λ file bytes. IsBegunProof file bytes edition (record { before = old_answer; after = new_answer }) (record { before = old_proof; after = new_proof }) (record { before = old_root; after = new_root }))
+written_in_turn None second edition p text nodes a b c d e f proved turn = tt
+written_in_turn (Some file) None edition p text nodes a b c d e f proved turn = tt
+written_in_turn (Some file) (Some bytes) edition p text nodes a b c d e f proved turn = inr (p, text, nodes, proved, turn)
+
+-- the three texts are written whole
+pub written_whole : (first second : Option (List ℕ)) (edition : Edition) (p : Publication) (written written_proof line text nodes : List ℕ) (old_answer new_answer old_proof new_proof old_root new_root : Option (List ℕ))
+    (result : Result (Unit {0}) CommandFault)
+    → IfBoth first second (λ file bytes. IsProvedIn file bytes edition p text nodes)
+    → written ≡ text → Appends old_answer new_answer written → written_proof ≡ nodes → Appends old_proof new_proof written_proof
+    → line ≡ publication_line p → OnOk result (Appends old_root new_root line)
+    → OnOk result (IfBoth first second (λ file bytes. (p : Publication) × (text : List ℕ) × (nodes : List ℕ) × IsProvedIn file bytes edition p text nodes
+    × Appends old_answer new_answer text × Appends old_proof new_proof nodes × Appends old_root new_root (publication_line p)))
+written_whole first second edition p w v l text nodes a b c d e f (Err fault) proved is whole proof_is proof_whole root_is root_whole = tt
+written_whole None second edition p w v l text nodes a b c d e f (Ok done) proved is whole proof_is proof_whole root_is root_whole = tt
+written_whole (Some file) None edition p w v l text nodes a b c d e f (Ok done) proved is whole proof_is proof_whole root_is root_whole = tt
+written_whole (Some file) (Some bytes) edition p w v l text nodes a b c d e f (Ok done) proved is whole proof_is proof_whole root_is root_whole = (
+  p,
+  text,
+  nodes,
+  proved,
+  subst (λ (t : List ℕ). Appends a b t) is whole,
+  subst (λ (t : List ℕ). Appends c d t) proof_is proof_whole,
+  subst (λ (t : List ℕ). Appends e f t) root_is root_whole,
+)
+
+-- ---- `ask`
+
+-- a beginning of it is written
+pub begun_answer : (known : Option (List ℕ)) (query written text : List ℕ) (old new : Option (List ℕ))
+    → IfSome known (λ file. IsAnswer file query text) → written ≡ text → AppendsFront old new written → IfSome known (λ file. IsBegun file query old new)
+begun_answer None query written text old new answer is begun = tt
+begun_answer (Some file) query written text old new answer is begun = inr (text, answer, subst (λ (t : List ℕ). AppendsFront old new t) is begun)
+
+-- it is written whole
+pub whole_answer : (known : Option (List ℕ)) (query written text : List ℕ) (old new : Option (List ℕ)) (result : Result (Unit {0}) CommandFault)
+    → IfSome known (λ file. IsAnswer file query text) → written ≡ text → OnOk result (Appends old new written)
+    → OnOk result (IfSome known (λ file. (text : List ℕ) × IsAnswer file query text × Appends old new text))
+whole_answer known query written text old new (Err fault) answer is whole = tt
+whole_answer None query written text old new (Ok done) answer is whole = tt
+whole_answer (Some file) query written text old new (Ok done) answer is whole = (text, answer, subst (λ (t : List ℕ). Appends old new t) is whole)
+
+-- ---- `check`
+
+-- what is said of the bytes that were checked is said of those that the readers told
+pub told_of : (P : List ℕ → List ℕ → List ℕ → Type 0) (first second third : Option (List ℕ)) (query answer proof query_read answer_read proof_read : List ℕ)
+    → query ≡ query_read → answer ≡ answer_read → proof ≡ proof_read
+    → IfSome first (λ left. query_read ≡ left) → IfSome second (λ left. answer_read ≡ left) → IfSome third (λ left. proof_read ≡ left)
+    → P query answer proof → IfThree first second third P
+told_of P None second third query answer proof x y z e f g q a p said = tt
+told_of P (Some _) None third query answer proof x y z e f g q a p said = tt
+told_of P (Some _) (Some _) None query answer proof x y z e f g q a p said = tt
+told_of P (Some u) (Some v) (Some w) query answer proof x y z e f g q a p said =
+    subst (λ (b : List ℕ). P b v w) (e ∙ q) (subst (λ (b : List ℕ). P query b w) (f ∙ a) (subst (λ (b : List ℕ). P query answer b) (g ∙ p) said))
+
+-- what a yes says of the bytes that were checked it says of those that the readers told
+pub headline_told : (first second third : Option (List ℕ)) (root query answer proof query_read answer_read proof_read : List ℕ) (verdict : Verdict)
+    (told : Result Verdict AllocError) (result : Result Verdict CommandFault) → told ≡ Ok verdict → result ≡ Ok verdict
+    → query ≡ query_read → answer ≡ answer_read → proof ≡ proof_read
+    → IfSome first (λ left. query_read ≡ left) → IfSome second (λ left. answer_read ≡ left) → IfSome third (λ left. proof_read ≡ left)
+    → ((p : Publication) (report : Report) → IsPublication p → root ≡ root_of p → told ≡ Ok (Yes report) → IsProved p query answer proof ⊎ Clash (IsNodeIn p) (StandsIn proof))
+    → IfThree first second third (λ q a n. (p : Publication) (report : Report) → IsPublication p → root ≡ root_of p → result ≡ Ok (Yes report) → IsProved p q a n ⊎ Clash (IsNodeIn p) (StandsIn n))
+headline_told first second third root query answer proof x y z verdict told result t r e f g q a n says =
+    told_of (λ b c d. (p : Publication) (report : Report) → IsPublication p → root ≡ root_of p → result ≡ Ok (Yes report) → IsProved p b c d ⊎ Clash (IsNodeIn p) (StandsIn d))
+    first second third query answer proof x y z e f g q a n
+    (λ p report is same yes. let yes_verdict : verdict ≡ Yes report = cc in says p report is same (t ∙ ap (λ (v : Verdict). Ok v) yes_verdict))
+
+-- a beginning of its line is written
+pub begun_verdict : (first second third : Option (List ℕ)) (root line : List ℕ) (verdict : Verdict) (old new : Option (List ℕ))
+    → IfThree first second third (λ q a p. IsVerdict q root a p verdict) → line ≡ verdict_line verdict → AppendsFront old new line
+    → IfThree first second third (λ q a p. IsBegunVerdict q root a p old new)
+begun_verdict None second third root line verdict old new is same begun = tt
+begun_verdict (Some _) None third root line verdict old new is same begun = tt
+begun_verdict (Some _) (Some _) None root line verdict old new is same begun = tt
+begun_verdict (Some u) (Some v) (Some w) root line verdict old new is same begun = inr (verdict, is, subst (λ (l : List ℕ). AppendsFront old new l) same begun)
+
+-- it is written whole
+pub whole_verdict : (first second third : Option (List ℕ)) (root line : List ℕ) (verdict : Verdict) (old new : Option (List ℕ))
+    → IfThree first second third (λ q a p. IsVerdict q root a p verdict) → line ≡ verdict_line verdict → Appends old new line
+    → IfThree first second third (λ q a p. IsVerdict q root a p verdict) × Appends old new (verdict_line verdict)
+whole_verdict first second third root line verdict old new is same whole = (is, subst (λ (l : List ℕ). Appends old new l) same whole)

@@ -1,0 +1,10 @@
+pub mod Ask
+pub mod ChangeFiles
+pub mod Drawers
+pub mod Faults
+pub mod Files
+pub mod ListeningLines
+pub mod RootLines
+pub mod Statuses
+pub mod TreeRoots
+pub mod Written

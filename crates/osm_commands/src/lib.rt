@@ -1,0 +1,29 @@
+//! The commands of the program, as functions over readers and writers that they are lent.
+//!
+//! [`ask`](ask::ask), [`publish`](publish::publish), [`prove`](prove::prove), [`check`](check::check),
+//! [`serve`](serve::serve) in the first edition and [`serve_changing`](serve_changing::serve_changing) in the second.
+//! What refuses them is a [`CommandFault`](command_fault::CommandFault), and how the program ends then a
+//! [`Status`](status::Status).
+#![tactic(auto)]
+
+pub mod ask;
+pub mod changes_fault;
+pub mod check;
+pub mod command_fault;
+pub mod door;
+pub mod drawer;
+pub mod listening_line;
+pub mod outlet;
+pub mod prove;
+pub mod publish;
+pub mod publish_changes;
+mod publish_next;
+pub mod read_snapshot;
+pub mod read_whole;
+pub mod root_line;
+pub mod serve;
+pub mod serve_changing;
+pub mod socket_door;
+pub mod status;
+pub mod verdict_line;
+pub mod write_whole;

@@ -1,0 +1,72 @@
+//! Publishing the next change file.
+
+ghost use Rattle.std.specs.Prelude.{◌≡◌, ◌∷◌, IfSome, MatchResult, OnErr, Some};
+ghost use Rattle.osm_index.specs.Publications.{Publication};
+ghost use Rattle.osm_index.specs.Snapshots.{HoldsPublication, IsAsBefore};
+ghost use Rattle.osm_commands.specs.ChangeFiles.{ExplainsFound, HasPublished, HasTaken, IsNext, TakesFound, asked_after};
+ghost use Rattle.osm_commands.specs.Drawers.{Found};
+
+use crate::changes_fault::ChangesFault;
+use crate::drawer::Drawer;
+use crate::publish_changes::publish_changes;
+use osm_desk::Desk;
+use osm_index::Edition;
+use std::alloc::Global;
+use std::io::Write;
+
+/// Asks the drawer once for the change file of the next sequence number, and publishes the changes where it is there.
+/// A file that is refused changes nothing, and is told in one line of `errors`. Where the sequence is at its greatest,
+/// the drawer isn't asked.
+pub(crate) fn publish_next<D: Drawer, E: Write>(
+    alloc: Global,
+    desk: &mut Desk,
+    drawer: &mut D,
+    errors: &mut E,
+)
+    ensures asked { IfSome (D.asked drawer.old) (λ before. D.asked drawer.new ≡ Some (asked_after desk.old.snapshot.edition before)) }
+    // What is in force is as before, or what changes that a file holds make of it:
+    ensures in_force { (p : Publication) → HoldsPublication desk.old.snapshot p → HasPublished p desk.new.snapshot }
+    // those of the file that the drawer gave.
+    ensures found { TakesFound (D.found drawer.old) (D.found drawer.new) desk.old.snapshot desk.new.snapshot }
+    ensures connections { desk.new.connections ≡ desk.old.connections }
+{
+    let Some(sequence) = next_sequence(desk.snapshot().edition()) else {
+        return;
+    };
+    if let Err(fault) = publish_file(alloc, desk, drawer, sequence) {
+        // Where the line can't be written, connections are served all the same.
+        let _ = writeln!(errors, "{fault}");
+    }
+}
+
+/// Publishes the changes of the file with this sequence number, where it is there.
+fn publish_file<D: Drawer>(
+    alloc: Global,
+    desk: &mut Desk,
+    drawer: &mut D,
+    sequence: u64,
+) -> Result<(), ChangesFault>
+    ensures asked { IfSome (D.asked drawer.old) (λ before. D.asked drawer.new ≡ Some (sequence ∷ before)) }
+    ensures in_force { (p : Publication) → HoldsPublication desk.old.snapshot p → HasPublished p desk.new.snapshot }
+    // The changes of the file that the drawer gave are published, where it gave one, or it is told why not.
+    ensures found { IfSome (D.found drawer.old) (λ before. (found : Found) × (D.found drawer.new ≡ Some (found ∷ before))
+        × ((p : Publication) → HoldsPublication desk.old.snapshot p
+        → MatchResult result (λ _. HasTaken found p desk.new.snapshot) (ExplainsFound found p))) }
+    ensures unchanged { OnErr result (IsAsBefore desk.old.snapshot desk.new.snapshot) }
+    ensures connections { desk.new.connections ≡ desk.old.connections }
+{
+    let Some(mut file) = drawer.change_file(sequence)? else {
+        return Ok(());
+    };
+    publish_changes(alloc, desk, &mut file)
+}
+
+/// The sequence number after that of the edition; none where it is at its greatest.
+fn next_sequence(edition: Edition) -> Option<u64>
+    ensures { IsNext edition result }
+{
+    match edition {
+        Edition::One => None,
+        Edition::Two { sequence } => sequence.checked_add(1),
+    }
+}

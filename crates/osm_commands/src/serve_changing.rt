@@ -1,0 +1,64 @@
+//! The command `serve` in the second edition, with or without `--changes DIR`.
+
+ghost use Rattle.std.specs.FinMap.{empty};
+ghost use Rattle.std.specs.Prelude.{◌≡◌, ◌⊎◌, ◌++◌, ◌+◌, ◌<◌, ◌≤◌, ℕ, IfErr, IfSome, List, OnErr, OnOk, Some, length};
+ghost use Rattle.osm_index.specs.Publications.{Publication};
+ghost use Rattle.osm_index.specs.Snapshots.{HoldsPublication};
+ghost use Rattle.osm_commands.specs.ChangeFiles.{IsReachedBy, TakesFound};
+
+use crate::command_fault::CommandFault;
+use crate::door::Door;
+use crate::drawer::Drawer;
+use crate::publish_next::publish_next;
+use osm_desk::Desk;
+use std::alloc::Global;
+use std::io::Write;
+
+/// Serves this number of connections on the desk, one after the other, numbered from 0. Before it reads from a client
+/// that has come, it asks the drawer once for the change file of the next sequence number, and publishes it: all
+/// responses of the connection are over what is in force then. A file that is refused is told in one line of `errors`,
+/// as `I2 w10` or `O9 line 1 byte 8`; what was in force stays, and the same file is asked for at the next connection. A
+/// connection that ends badly is told in one line too (`G1` to `G4`), and the next is taken.
+///
+/// # Errors
+///
+/// `Device` or `Memory` where the door has no further connection; fewer were taken then.
+pub fn serve_changing<D: Door, R: Drawer, E: Write>(
+    alloc: Global,
+    desk: &mut Desk,
+    drawer: &mut R,
+    door: &mut D,
+    connections: u32,
+    errors: &mut E,
+) -> Result<(), CommandFault>
+    requires { desk.old.connections ≡ empty }
+    // So many connections were taken,
+    ensures all { OnOk result (IfSome (D.given door.old) (λ n. D.given door.new ≡ Some (n + connections))) }
+    // and fewer where the door fails.
+    ensures fewer { OnErr result (IfSome (D.given door.old) (λ n. (k : ℕ) × (k < connections) × (D.given door.new ≡ Some (n + k)))) }
+    ensures outside { IfErr result (λ fault. (fault ≡ CommandFault.Memory) ⊎ (fault ≡ CommandFault.Device)) }
+    // What is in force has been made of what was by one change file after the other, at most one a connection.
+    ensures reached { (p : Publication) → HoldsPublication desk.old.snapshot p
+        → (q : Publication) × HoldsPublication desk.new.snapshot q × IsReachedBy connections p q }
+    // The drawer was asked at most once a connection.
+    ensures asked { IfSome (R.asked drawer.old) (λ before. (more : List ℕ)
+        × (R.asked drawer.new ≡ Some (more ++ before)) × (length more ≤ connections)) }
+    // It has been made by the files that the drawer gave, one after the other, but those that were refused.
+    ensures found { TakesFound (R.found drawer.old) (R.found drawer.new) desk.old.snapshot desk.new.snapshot }
+    // No connection is open.
+    ensures none_open { desk.new.connections ≡ empty }
+{
+    let mut taken = 0;
+    while taken < connections {
+        let (mut reader, mut writer) = door.next()?;
+        // Now and not before the door was waited at: so a file that came while it was is published in time.
+        publish_next(alloc, desk, drawer, errors);
+        if let Err(fault) = desk.serve_on(taken, &mut reader, &mut writer) {
+            // Where the line can't be written, the next connection is served all the same.
+            let _ = writeln!(errors, "{fault}");
+        }
+        taken += 1;
+        door.end(reader, writer);
+    }
+    Ok(())
+}
