@@ -2,5 +2,6 @@
 //! independent program.
 
 mod building;
+mod chance;
 mod rebuilding;
 mod rows;
