@@ -7,10 +7,10 @@ ghost use Rattle.command_line.specs.EditionOptions.{AsksForEdition, IsBadEdition
 ghost use Rattle.command_line.specs.internal.Commands.{IsCommand};
 
 use crate::arguments::and_option;
-use crate::edition::Edition;
 use crate::words_fault::WordsFault;
 use clap::{Arg, ArgMatches, Command, value_parser};
 use std::alloc::{AllocError, Global};
+use tree_node::Edition;
 
 const EDITION: &str = "edition";
 

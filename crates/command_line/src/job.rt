@@ -1,7 +1,6 @@
 //! What the words ask for.
 
-use crate::edition::Edition;
-use tree_node::Digest;
+use tree_node::{Digest, Edition};
 
 /// What the words ask for: a variant a command, with the texts of its arguments. A file is named by the bytes
 /// of its word as they stand.

@@ -7,7 +7,6 @@
 mod arguments;
 mod ask_command;
 mod check_command;
-mod edition;
 mod edition_options;
 mod job;
 mod program_command;
@@ -17,7 +16,7 @@ mod serve_command;
 mod words;
 mod words_fault;
 
-pub use edition::Edition;
 pub use job::Job;
+pub use tree_node::Edition;
 pub use words::read_words;
 pub use words_fault::WordsFault;

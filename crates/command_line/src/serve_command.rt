@@ -9,12 +9,12 @@ ghost use Rattle.command_line.specs.Numbers.{IsNumber};
 ghost use Rattle.command_line.specs.ServeCommand.{CantServe, MayTake, changes_rule, connections_rule, port_rule, serve_app, serve_name};
 
 use crate::arguments::{FILE, and_option, and_wanted, text_of};
-use crate::edition::Edition;
 use crate::edition_options::{and_edition_options, edition_of};
 use crate::job::Job;
 use crate::words_fault::WordsFault;
 use clap::{Arg, ArgMatches, Command, value_parser};
 use std::alloc::{AllocError, Global};
+use tree_node::Edition;
 
 /// The name of the command.
 pub const SERVE: &str = "serve";

@@ -4,8 +4,8 @@ use Rattle.std.specs.Prelude.{IfSome, if◌then◌else◌}
 use Rattle.osm_index.specs.Manifests.{manifest_bytes, top_among}
 use Rattle.osm_index.specs.Publications.{Publication}
 use Rattle.osm_index.specs.Snapshots.{HoldsPublication, IsAsBefore}
-use Rattle.osm_index.specs.declared.edition.Edition.{Edition}
-use Rattle.osm_index.specs.declared.edition.Edition.TheVariants as editions
+use Rattle.tree_node.specs.declared.edition.Edition.{Edition}
+use Rattle.tree_node.specs.declared.edition.Edition.TheVariants as editions
 use Rattle.osm_index.specs.declared.manifest.Manifest.{Manifest}
 use Rattle.osm_index.specs.declared.snapshot.Snapshot.{Snapshot}
 use Rattle.tree_node.specs.declared.tree.Tree.{Tree}

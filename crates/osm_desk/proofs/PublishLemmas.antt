@@ -12,8 +12,8 @@ use Rattle.osm_index.specs.Snapshots.{HoldsPublication, IsAsBefore}
 use Rattle.osm_index.specs.declared.apply_fault.ApplyFault.{ApplyFault}
 use Rattle.osm_index.specs.declared.apply_fault.ApplyFault.TheVariants as faults
 use Rattle.osm_index.specs.declared.delta.Delta.{Delta}
-use Rattle.osm_index.specs.declared.edition.Edition.{Edition}
-use Rattle.osm_index.specs.declared.edition.Edition.TheVariants as editions
+use Rattle.tree_node.specs.declared.edition.Edition.{Edition}
+use Rattle.tree_node.specs.declared.edition.Edition.TheVariants as editions
 use Rattle.osm_index.specs.declared.snapshot.Snapshot.{Snapshot}
 use Rattle.osm_desk.specs.Made.{RefusesChanges}
 

@@ -18,7 +18,7 @@ use Rattle.osm_index.specs.Entries.{AreEntriesOf}
 use Rattle.osm_index.specs.Holdings.{AreHeld}
 use Rattle.osm_index.specs.Manifests.{manifest, top_among}
 use Rattle.osm_index.specs.Publications.{IsNodeIn, IsPublicationOf, Publication, manifest_of, shape_of, top_in, tree_in}
-use Rattle.osm_index.specs.declared.edition.Edition.{Edition}
+use Rattle.tree_node.specs.declared.edition.Edition.{Edition}
 use Rattle.osm_index.specs.internal.Putting.{AreAllFour, Ended, EndedAll, HasPut, IsTreeNode}
 
 abbrev Nodes : Type 1

@@ -18,7 +18,7 @@ use Rattle.osm_index.specs.Manifests.{HasSequence, top_among}
 use Rattle.osm_index.specs.Publications.{HasTooMany, IsPublication, IsPublicationOf, Publication, manifest_of}
 use Rattle.osm_index.specs.declared.apply_fault.ApplyFault.{ApplyFault}
 use Rattle.osm_index.specs.declared.apply_fault.ApplyFault.TheVariants as faults
-use Rattle.osm_index.specs.declared.edition.Edition.{Edition}
+use Rattle.tree_node.specs.declared.edition.Edition.{Edition}
 use Rattle.osm_index.specs.declared.exchange.Exchange.{Exchange}
 use Rattle.osm_index.specs.declared.manifest.Manifest.{Manifest}
 use Rattle.osm_index.specs.declared.plan.Plan.{Plan}

@@ -35,7 +35,7 @@ ghost use Rattle.osm_index.specs.Manifests.{HasSequence, HaveWidth, manifest};
 ghost use Rattle.osm_index.specs.Publications.{HasTooMany, IsPublication, IsPublicationOf, Publication, root_of, shape_in, shape_of, top_in};
 ghost use Rattle.osm_index.specs.Ranges.{AreCellRanges, IsKindOf, back_range, kind_range, object_range, tag_key_range, tag_range};
 ghost use Rattle.osm_index.specs.Snapshots.{HoldsPublication};
-ghost use Rattle.osm_index.specs.declared.edition.Edition.{Edition};
+ghost use Rattle.tree_node.specs.declared.edition.Edition.{Edition};
 ghost use Rattle.osm_index.specs.declared.snapshot.Snapshot.{Snapshot};
 
 /// The law of publications: a set of objects has one in an edition, and so one root.

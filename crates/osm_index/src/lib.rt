@@ -11,7 +11,6 @@ mod changed_names;
 mod changed_trees;
 mod columns;
 mod delta;
-mod edition;
 mod entry_changes;
 mod entry_count;
 mod entry_list;
@@ -33,7 +32,6 @@ mod sort;
 pub use apply_fault::ApplyFault;
 pub use cells::cell_ranges;
 pub use delta::Delta;
-pub use edition::Edition;
 pub use entry_list::EntryList;
 pub use fault::IndexFault;
 pub use keys::{append_tag_key, back_key, cell_key, cell_value, reference_key};
@@ -49,3 +47,4 @@ pub use read_keys::{
     read_tag_key,
 };
 pub use snapshot::Snapshot;
+pub use tree_node::Edition;

@@ -8,11 +8,10 @@ ghost use Rattle.osm_index.specs.internal.ChangedTrees.{AreChangedTrees};
 ghost use Rattle.osm_index.specs.internal.Plans.{IsPlan};
 
 use crate::changed_trees::ChangedTrees;
-use crate::edition::Edition;
 use crate::manifest::{Manifest, write_manifest};
 use crate::node_changes::digests_of;
 use std::alloc::{AllocError, Global};
-use tree_node::{Digest, NewNode};
+use tree_node::{Digest, Edition, NewNode};
 
 /// What a snapshot becomes by changes, and the nodes that come and go; all that takes memory, but for the stock.
 #[derive(Drop)]

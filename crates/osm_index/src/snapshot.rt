@@ -21,7 +21,6 @@ ghost use Rattle.osm_index.specs.internal.Putting.{AreAllFour, EndsTree, EndsTre
 use crate::apply_fault::ApplyFault;
 use crate::changed_trees::change_trees;
 use crate::delta::Delta;
-use crate::edition::Edition;
 use crate::entry_count::entry_count;
 use crate::exchange::exchange_of;
 use crate::fault::IndexFault;
@@ -34,7 +33,7 @@ use opl_codec::Change;
 use osm_model::{ObjectSet, Ref};
 use std::alloc::{AllocError, Global};
 use tree_build::{BuildFault, Entry, Shape, build};
-use tree_node::{Digest, ENTRY_LIMIT, PutFault, Stock, Tree};
+use tree_node::{Digest, ENTRY_LIMIT, Edition, PutFault, Stock, Tree};
 
 /// A set of objects in an edition, with the nodes of its trees, its manifest and its root: the type keeps
 /// that they are those of one publication, and that no two different nodes of it have one digest.

@@ -7,12 +7,10 @@
 mod folder_drawer;
 mod input_file;
 mod output_file;
-pub mod tree_edition;
 
 use crate::folder_drawer::FolderDrawer;
 use crate::input_file::InputFile;
 use crate::output_file::OutputFile;
-use crate::tree_edition::tree_edition;
 use command_line::{Job, WordsFault, read_words};
 use osm_commands::ask::ask;
 use osm_commands::check::check;
@@ -63,7 +61,7 @@ fn done(rt: &HostRuntime, job: Job) -> Status {
         Job::Ask { query } => ended(rt, ask(alloc, query.as_bytes(), &mut rt.stdin(), output)),
         Job::Publish { file, edition } => {
             let input = &mut InputFile::new(rt, &file);
-            ended(rt, publish(alloc, input, tree_edition(edition), output))
+            ended(rt, publish(alloc, input, edition, output))
         }
         Job::Prove {
             file,
@@ -76,7 +74,6 @@ fn done(rt: &HostRuntime, job: Job) -> Status {
             let query = &mut InputFile::new(rt, &query_file);
             let answer = &mut OutputFile::new(rt, &answer_file);
             let proof = &mut OutputFile::new(rt, &proof_file);
-            let edition = tree_edition(edition);
             ended(
                 rt,
                 prove(alloc, input, query, edition, answer, proof, output),
@@ -103,7 +100,6 @@ fn done(rt: &HostRuntime, job: Job) -> Status {
             edition,
             changes,
         } => {
-            let edition = tree_edition(edition);
             let drawer = FolderDrawer::new(rt, changes.as_deref());
             ended(
                 rt,

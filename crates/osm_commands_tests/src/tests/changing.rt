@@ -14,7 +14,6 @@ use osm_index::Edition;
 use std::alloc::{AllocError, Global};
 use std::collections::VecDeque;
 use std::io::Cursor;
-use std::process::Abort;
 use std::test::Fail;
 
 /// A GET of the root, after which the connection ends.
@@ -74,31 +73,20 @@ impl Site {
                 left: VecDeque::new(alloc),
                 asked: Vec::new(alloc),
             },
-            door: Inputs {
-                alloc,
-                left: VecDeque::new(alloc),
-                written: Vec::new(alloc),
-            },
+            door: Inputs::new(alloc),
             errors: Vec::new(alloc),
         }
     }
 }
 
-/// Adds a client that asks for the root.
-fn add_client(door: &mut Inputs) -> Result<(), AllocError> {
-    let request = ROOT_REQUEST.as_bytes().to_vec(door.alloc)?;
-    door.left.push_back(request)?;
-    Ok(())
-}
-
-/// Surroundings with this number of clients, whose drawer says these things.
+/// Surroundings with this number of clients who ask for the root, whose drawer says these things.
 fn site_of(alloc: Global, says: &[Found], number: u32) -> Result<Site, AllocError> {
     let mut site = Site::new(alloc);
     for found in says {
         site.drawer.left.push_back(*found)?;
     }
     for _ in 0..number {
-        add_client(&mut site.door)?;
+        site.door.add(ROOT_REQUEST)?;
     }
     Ok(site)
 }
@@ -129,37 +117,21 @@ fn serve_at(alloc: Global, desk: &mut Desk, site: &mut Site, number: u32) -> Res
     Ok(())
 }
 
-/// Serves the set of all kinds at this sequence to the clients of these surroundings.
-fn serve_all(alloc: Global, sequence: u64, site: &mut Site, number: u32) -> Result<(), Fail> {
-    let mut desk = desk_at(alloc, sequence)?;
-    serve_at(alloc, &mut desk, site, number)
-}
-
-/// What comes of serving the set of all kinds at this sequence to this number of clients, where the drawer says these
-/// things.
-fn served(alloc: Global, sequence: u64, says: &[Found], number: u32) -> Result<Site, Fail> {
+/// What comes of serving the set of all kinds to this number of clients, where the drawer says these things.
+fn served(alloc: Global, says: &[Found], number: u32) -> Result<Site, Fail> {
     let mut site = site_of(alloc, says, number)?;
-    serve_all(alloc, sequence, &mut site, number)?;
+    let mut desk = desk_at(alloc, 0)?;
+    serve_at(alloc, &mut desk, &mut site, number)?;
     Ok(site)
 }
 
-/// The root of a set at a sequence, built from nothing.
-fn root_of(alloc: Global, set: &str, sequence: u64) -> Result<String, Fail> {
-    let snapshot = read_snapshot(alloc, &mut set.as_bytes(), Edition::Two { sequence })?;
-    Ok(hex::encode(alloc, snapshot.root().0)?)
-}
-
-/// The response with a root.
-fn response(alloc: Global, root: &str) -> Result<String, AllocError> {
-    format!(in alloc;
-        "HTTP/1.1 200 OK\r\nContent-Type: text/plain; charset=utf-8\r\nContent-Length: 65\r\nOsm-Root: {root}\r\nConnection: close\r\n\r\n{root}\n"
-    )
-}
-
-/// The response with the root of a set at a sequence.
+/// The response with the root of a set at a sequence, built from nothing.
 fn response_of(alloc: Global, set: &str, sequence: u64) -> Result<String, Fail> {
-    let root = root_of(alloc, set, sequence)?;
-    Ok(response(alloc, &root)?)
+    let snapshot = read_snapshot(alloc, &mut set.as_bytes(), Edition::Two { sequence })?;
+    let root = hex::encode(alloc, snapshot.root().0)?;
+    Ok(format!(in alloc;
+        "HTTP/1.1 200 OK\r\nContent-Type: text/plain; charset=utf-8\r\nContent-Length: 65\r\nOsm-Root: {root}\r\nConnection: close\r\n\r\n{root}\n"
+    )?)
 }
 
 /// What clients get who are told the roots of these sets at these sequences, one after the other.
@@ -169,18 +141,6 @@ fn responses(alloc: Global, sets: &[(&str, u64)]) -> Result<String, Fail> {
         all.push_str(&response_of(alloc, set, *sequence)?)?;
     }
     Ok(all)
-}
-
-/// The clients were told the roots of these sets at these sequences, one after the other.
-fn assert_told(
-    rt: &impl Abort,
-    alloc: Global,
-    site: &Site,
-    sets: &[(&str, u64)],
-) -> Result<(), Fail> {
-    let want = responses(alloc, sets)?;
-    assert_eq!(rt; site.door.written.as_slice(), want.as_bytes());
-    Ok(())
 }
 
 /// The set of all kinds without its way.
@@ -198,34 +158,15 @@ r100 Ttype=route Mw10@outer,n99@stop,r100@
 
 const DELETE_WAY: &str = "w10 v2 dD\n";
 
+/// What each client's connection finds in the drawer: a file is published before the client is served; a refused one is
+/// told in a line, the same sequence is asked for again, and what was in force stays.
 #[test]
-fn a_file_that_is_there_is_published_first(rt: HostRuntime) -> Result<(), Fail> {
-    let site = served(rt.alloc(), 0, &[Found::File(DELETE_WAY)], 2)?;
-    assert_told(
-        &rt,
-        rt.alloc(),
-        &site,
-        &[(WITHOUT_WAY, 1), (WITHOUT_WAY, 1)],
-    )?;
-    assert_eq!(rt; site.errors.len(), 0);
-    assert_eq!(rt; site.drawer.asked.as_slice(), [1, 2].as_slice());
-    Ok(())
-}
-
-#[test]
-fn a_file_that_comes_between_connections_changes_the_second(rt: HostRuntime) -> Result<(), Fail> {
-    let says = [Found::Nothing, Found::File(DELETE_WAY)];
-    let site = served(rt.alloc(), 0, &says, 2)?;
-    assert_told(&rt, rt.alloc(), &site, &[(ALL_KINDS, 0), (WITHOUT_WAY, 1)])?;
-    assert_eq!(rt; site.errors.len(), 0);
-    assert_eq!(rt; site.drawer.asked.as_slice(), [1, 1].as_slice());
-    Ok(())
-}
-
-/// A line for each, the same sequence is asked for again, and what was in force stays.
-#[test]
-fn refused_files_are_told_and_change_nothing(rt: HostRuntime) -> Result<(), Fail> {
+fn files_change_what_is_served_and_refused_ones_change_nothing(
+    rt: HostRuntime,
+) -> Result<(), Fail> {
+    let alloc = rt.alloc();
     let says = [
+        Found::Nothing,
         Found::File(DELETE_WAY),
         Found::File(DELETE_WAY),
         Found::File("n3 x1 y1\nn1 x13.4\n"),
@@ -234,31 +175,14 @@ fn refused_files_are_told_and_change_nothing(rt: HostRuntime) -> Result<(), Fail
         Found::NoMemory,
         Found::File("n2 v2 dD\n"),
     ];
-    let site = served(rt.alloc(), 0, &says, 7)?;
-    let mut sets = [(WITHOUT_WAY, 1); 7];
-    sets[6] = (WITHOUT_NODE, 2);
-    assert_told(&rt, rt.alloc(), &site, &sets)?;
-    assert_eq!(rt;
-        site.errors.as_slice(),
-        b"I2 w10\nO9 line 2 byte 8\nI3 n5\ndevice\nno memory\n".as_slice()
+    let mut sets = [(WITHOUT_WAY, 1); 8];
+    sets[0] = (ALL_KINDS, 0);
+    sets[7] = (WITHOUT_NODE, 2);
+    let site = served(alloc, &says, 8)?;
+    assert!(rt; site.door.written.as_slice() == responses(alloc, &sets)?.as_bytes());
+    assert!(rt;
+        site.errors.as_slice() == b"I2 w10\nO9 line 2 byte 8\nI3 n5\ndevice\nno memory\n".as_slice()
     );
-    assert_eq!(rt;
-        site.drawer.asked.as_slice(),
-        [1, 2, 2, 2, 2, 2, 2].as_slice()
-    );
-    Ok(())
-}
-
-#[test]
-fn nothing_is_asked_for_after_the_last_sequence(rt: HostRuntime) -> Result<(), Fail> {
-    let site = served(rt.alloc(), u64::MAX - 1, &[Found::File(DELETE_WAY)], 2)?;
-    assert_told(
-        &rt,
-        rt.alloc(),
-        &site,
-        &[(WITHOUT_WAY, u64::MAX), (WITHOUT_WAY, u64::MAX)],
-    )?;
-    assert_eq!(rt; site.errors.len(), 0);
-    assert_eq!(rt; site.drawer.asked.as_slice(), [u64::MAX].as_slice());
+    assert!(rt; site.drawer.asked.as_slice() == [1, 1, 2, 2, 2, 2, 2, 2].as_slice());
     Ok(())
 }

@@ -10,7 +10,7 @@ use osm_commands::read_snapshot::read_snapshot;
 use osm_commands::serve::serve;
 use osm_commands::socket_door::SocketDoor;
 use osm_index::{Edition, Snapshot};
-use std::alloc::Global;
+use std::alloc::{AllocError, Global};
 use std::collections::VecDeque;
 use std::io::{Cursor, Read, Write};
 use std::net::{Shutdown, TcpStream};
@@ -26,9 +26,27 @@ const REQUEST: &str =
 /// A door that gives these inputs, one a connection, and then fails; what is written is kept.
 #[derive(Drop)]
 pub(super) struct Inputs {
-    pub(super) alloc: Global,
-    pub(super) left: VecDeque<Vec<u8>>,
+    alloc: Global,
+    left: VecDeque<Vec<u8>>,
     pub(super) written: Vec<u8>,
+}
+
+impl Inputs {
+    /// A door without inputs.
+    pub(super) fn new(alloc: Global) -> Inputs {
+        Inputs {
+            alloc,
+            left: VecDeque::new(alloc),
+            written: Vec::new(alloc),
+        }
+    }
+
+    /// One more connection, on which this is asked.
+    pub(super) fn add(&mut self, request: &str) -> Result<(), AllocError> {
+        let request = request.as_bytes().to_vec(self.alloc)?;
+        self.left.push_back(request)?;
+        Ok(())
+    }
 }
 
 impl Door for Inputs {
@@ -55,50 +73,48 @@ fn snapshot(alloc: Global) -> Result<Snapshot, CommandFault> {
     read_snapshot(alloc, &mut ALL_KINDS.as_bytes(), Edition::One)
 }
 
-/// The response to the request.
-fn response(alloc: Global) -> Result<String, Fail> {
-    Ok(format!(in alloc;
-        "HTTP/1.1 200 OK\r\nContent-Type: text/plain; charset=utf-8\r\nContent-Length: 3\r\nOsm-Root: {ROOT}\r\nConnection: close\r\n\r\nn1\n"
-    )?)
+/// So many responses to the request.
+fn responses(alloc: Global, number: usize) -> Result<String, Fail> {
+    let mut all = String::new(alloc);
+    for _ in 0..number {
+        write!(
+            all,
+            "HTTP/1.1 200 OK\r\nContent-Type: text/plain; charset=utf-8\r\nContent-Length: 3\r\nOsm-Root: {ROOT}\r\nConnection: close\r\n\r\nn1\n"
+        )?;
+    }
+    Ok(all)
 }
 
-#[test]
-fn serves_until_the_door_fails(rt: HostRuntime) -> Result<(), Fail> {
-    let alloc = rt.alloc();
-    let snapshot = snapshot(alloc)?;
-    let mut left = VecDeque::new(alloc);
-    left.push_back(REQUEST.as_bytes().to_vec(alloc)?)?;
-    left.push_back(REQUEST.as_bytes().to_vec(alloc)?)?;
-    let mut door = Inputs {
-        alloc,
-        left,
-        written: Vec::new(alloc),
-    };
+/// Serves so many connections, of which two come.
+fn serve_two(
+    alloc: Global,
+    snapshot: &Snapshot,
+    door: &mut Inputs,
+    number: u32,
+) -> Result<Result<(), CommandFault>, AllocError> {
+    door.add(REQUEST)?;
+    door.add(REQUEST)?;
     let mut errors = Vec::new(alloc);
-    let served = serve(alloc, &snapshot, &mut door, 3, &mut errors);
-    assert_eq!(rt; served, Err(CommandFault::Device));
-    let want = format!(in alloc; "{}{}", response(alloc)?, response(alloc)?)?;
-    assert_eq!(rt; door.written.as_slice(), want.as_bytes());
-    assert_eq!(rt; errors.len(), 0);
-    Ok(())
+    Ok(serve(alloc, snapshot, door, number, &mut errors))
 }
 
+/// As many connections are served as are asked for, or as come before the door fails.
 #[test]
-fn serves_as_many_as_it_is_told(rt: HostRuntime) -> Result<(), Fail> {
+fn serves_from_a_door(rt: HostRuntime) -> Result<(), Fail> {
     let alloc = rt.alloc();
     let snapshot = snapshot(alloc)?;
-    let mut left = VecDeque::new(alloc);
-    left.push_back(REQUEST.as_bytes().to_vec(alloc)?)?;
-    left.push_back(REQUEST.as_bytes().to_vec(alloc)?)?;
-    let mut door = Inputs {
-        alloc,
-        left,
-        written: Vec::new(alloc),
-    };
-    let mut errors = Vec::new(alloc);
-    serve(alloc, &snapshot, &mut door, 1, &mut errors)?;
-    assert_eq!(rt; door.written.as_slice(), response(alloc)?.as_bytes());
-    assert_eq!(rt; door.left.len(), 1);
+    for (number, outcome, served) in [(1, Ok(()), 1), (3, Err(CommandFault::Device), 2)] {
+        let mut door = Inputs::new(alloc);
+        let ended = serve_two(alloc, &snapshot, &mut door, number)?;
+        assert!(rt;
+            ended == outcome && door.left.len() == 2 - served,
+            "{number}"
+        );
+        assert!(rt;
+            door.written.as_slice() == responses(alloc, served)?.as_bytes(),
+            "{number}"
+        );
+    }
     Ok(())
 }
 
@@ -110,7 +126,7 @@ fn serves_over_a_socket(rt: HostRuntime) -> Result<(), Fail> {
     let here = door.address()?;
     let line = listening_line(alloc, here, &snapshot)?;
     let want = format!(in alloc; "osm_mirror listens on {here}, over 4 objects, root {ROOT}\n")?;
-    assert_eq!(rt; line.as_str(), want.as_str());
+    assert!(rt; line.as_str() == want.as_str());
     let mut client = TcpStream::connect(&rt, here)?;
     client.write_all(REQUEST.as_bytes())?;
     // What comes after the request that ends the connection isn't read as one.
@@ -120,7 +136,7 @@ fn serves_over_a_socket(rt: HostRuntime) -> Result<(), Fail> {
     serve(alloc, &snapshot, &mut door, 1, &mut errors)?;
     let mut told = Vec::new(alloc);
     client.read_to_end(&mut told)?;
-    assert_eq!(rt; told.as_slice(), response(alloc)?.as_bytes());
-    assert_eq!(rt; errors.len(), 0);
+    assert!(rt; told.as_slice() == responses(alloc, 1)?.as_bytes());
+    assert!(rt; errors.is_empty());
     Ok(())
 }

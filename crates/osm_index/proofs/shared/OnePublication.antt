@@ -11,7 +11,7 @@ use Rattle.tree_node.specs.Trees.{HasTree, levels, top_of}
 use Rattle.tree_node.specs.declared.tree.Tree.{Tree}
 use Rattle.osm_index.specs.Entries.{AreEntriesOf}
 use Rattle.osm_index.specs.Publications.{HasTooMany, IsPublication, IsPublicationOf, Publication, root_of, shape_of, top_in}
-use Rattle.osm_index.specs.declared.edition.Edition.{Edition}
+use Rattle.tree_node.specs.declared.edition.Edition.{Edition}
 use Rattle.osm_index.proofs.FitLemmas.{has_tree}
 use Rattle.osm_index.proofs.PutLemmas.{manifest_same}
 use Rattle.osm_index.specs.Manifests.{manifest}

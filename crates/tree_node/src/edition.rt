@@ -1,0 +1,14 @@
+//! Editions of roots.
+
+/// Under which rules a root was made (this project, docs/FORMATS.md). It stands here, with the digests, for all who name a
+/// root: those who make it, and those who read the words that ask for it.
+#[derive(Clone, Copy, Debug, PartialEq, Eq)]
+pub enum Edition {
+    /// Trees of the first shape, and a manifest without a sequence.
+    One,
+    /// Trees of the second shape, and a sequence in the manifest.
+    Two {
+        /// The number of this root in the publisher's sequence of roots, any `u64`.
+        sequence: u64,
+    },
+}
