@@ -16,7 +16,7 @@ use crate::request::Request;
 use httparse::spans::EMPTY_HEADER_SPAN;
 
 /// What the bytes of a connection begin with.
-#[derive(Clone, Copy, Debug)]
+#[derive(Clone, Copy)]
 pub(crate) enum Decision<'a> {
     /// Less than a head.
     HeadOpen,

@@ -8,7 +8,7 @@ use matchit::{InsertError, Router};
 use std::alloc::Global;
 
 /// What a path leads to.
-#[derive(Clone, Copy, Debug, PartialEq, Eq)]
+#[derive(Clone, Copy)]
 pub(crate) enum Place {
     /// `/api/interpreter`: answers.
     Interpreter,

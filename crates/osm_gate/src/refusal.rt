@@ -6,7 +6,7 @@ ghost use Rattle.osm_gate.specs.Responses.{refusal_status, refusal_text};
 use http::StatusCode;
 
 /// Why a request is refused before its target is looked at. The connection is closed after each.
-#[derive(Clone, Copy, Debug, PartialEq, Eq)]
+#[derive(Clone, Copy)]
 pub enum Refusal {
     /// No complete head within the limit of its bytes, or more lines than it may have.
     HeadTooLarge,

@@ -1,7 +1,7 @@
 //! Complete requests.
 
 /// A complete request, as it stands in the bytes of a connection.
-#[derive(Clone, Copy, Debug)]
+#[derive(Clone, Copy)]
 pub(crate) struct Request<'a> {
     pub(crate) method: &'a [u8],
     pub(crate) target: &'a [u8],

@@ -21,14 +21,14 @@ use std::alloc::{AllocError, Global};
 
 /// Where the bytes after the last complete request begin, and how many of them are needed before one more can
 /// be complete: 0 where their head isn't complete.
-#[derive(Clone, Copy, Debug)]
+#[derive(Clone, Copy)]
 pub(crate) struct Open {
     pub(crate) at: usize,
     pub(crate) needed: usize,
 }
 
 /// What came of the first request.
-#[derive(Clone, Copy, Debug)]
+#[derive(Clone, Copy)]
 pub(crate) enum Step {
     /// It isn't complete.
     Open { needed: usize },

@@ -13,7 +13,7 @@ use std::alloc::{AllocError, Global};
 use tree_node::Digest;
 
 /// What the head of a response says, but for the length of the body.
-#[derive(Clone, Copy, Debug)]
+#[derive(Clone, Copy)]
 pub(crate) struct ResponseHead<'a> {
     pub(crate) status: StatusCode,
     /// The body is bytes, and not text.

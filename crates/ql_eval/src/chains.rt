@@ -22,7 +22,7 @@ use ql_plain::{Found, tidy};
 use std::alloc::{AllocError, Global};
 
 /// Where chains lead.
-#[derive(Clone, Copy, Debug, PartialEq, Eq)]
+#[derive(Clone, Copy)]
 pub(crate) enum Direction {
     /// To what objects list.
     Down,

@@ -12,7 +12,7 @@ use osm_model::{Coord, Kind, Ref};
 use tree_node::Item;
 
 /// A node and where it lies, as an entry of the cell tree says it.
-#[derive(Clone, Copy, Debug, PartialEq, Eq)]
+#[derive(Clone, Copy)]
 pub(crate) struct Placed {
     /// The node.
     pub name: Ref,

@@ -3,7 +3,7 @@
 use osm_model::{Kind, Ref};
 
 /// What one walk over a tree answers: which objects there are of one sort.
-#[derive(Clone, Copy, Debug)]
+#[derive(Clone, Copy)]
 pub(crate) enum Question<'q> {
     /// The objects of a kind.
     OfKind(Kind),

@@ -8,7 +8,7 @@ ghost use Rattle.ql_syntax.specs.internal.EscapeParts.{Finds};
 ghost use Rattle.std.specs.Prelude.{◌∷◌};
 
 /// What follows a `\`.
-#[derive(Clone, Copy, Debug)]
+#[derive(Clone, Copy)]
 pub enum Escape<'a> {
     /// An escape that stands for this character, and what is left after it.
     Character(char, &'a [u8]),
@@ -19,7 +19,7 @@ pub enum Escape<'a> {
 }
 
 /// A number, and how many digits it has.
-#[derive(Clone, Copy, Debug)]
+#[derive(Clone, Copy)]
 struct Hexadecimal {
     value: u32,
     len: usize,

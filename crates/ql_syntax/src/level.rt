@@ -1,7 +1,7 @@
 //! Levels of statements.
 
 /// Where a statement stands.
-#[derive(Clone, Copy, Debug, PartialEq, Eq)]
+#[derive(Clone, Copy)]
 pub enum Level {
     /// In the query itself.
     Top,

@@ -11,7 +11,7 @@ use crate::syntax_error::SyntaxError;
 use osm_model::digits_len;
 
 /// The number at the front of a text, and what is left after it.
-#[derive(Clone, Copy, Debug)]
+#[derive(Clone, Copy)]
 pub struct Number<'a> {
     /// How it is spelled.
     pub text: &'a [u8],
@@ -26,14 +26,14 @@ pub struct Number<'a> {
 }
 
 /// Whether a `-` comes first, and what is left after it.
-#[derive(Clone, Copy, Debug)]
+#[derive(Clone, Copy)]
 struct Signed<'a> {
     negative: bool,
     rest: &'a [u8],
 }
 
 /// The digits after a point, where a point and a digit come first, and what is left after them.
-#[derive(Clone, Copy, Debug)]
+#[derive(Clone, Copy)]
 struct Fraction<'a> {
     digits: Option<&'a [u8]>,
     rest: &'a [u8],

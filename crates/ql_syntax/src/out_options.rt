@@ -16,7 +16,7 @@ use crate::token_readers::{NumberSpot, WordSpot, number_at, word_at};
 use opl_codec::OutMode;
 
 /// What the words and the number after `out` say.
-#[derive(Clone, Copy, Debug)]
+#[derive(Clone, Copy)]
 pub struct OutOptions {
     /// The mode.
     pub mode: Option<OutMode>,

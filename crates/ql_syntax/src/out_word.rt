@@ -6,7 +6,7 @@ ghost use Rattle.ql_syntax.specs.OutWords.{out_word};
 use opl_codec::OutMode;
 
 /// What a word after `out` asks for.
-#[derive(Clone, Copy, Debug, PartialEq, Eq)]
+#[derive(Clone, Copy)]
 pub enum OutWord {
     /// A mode: `ids`, `tags`, `skel`, `body` or `meta`.
     Mode(OutMode),

@@ -14,7 +14,7 @@ use crate::syntax_error::SyntaxError;
 use std::alloc::{AllocError, Global};
 
 /// The text between quotes at the front of a text, and what is left after it.
-#[derive(Debug, Drop)]
+#[derive(Drop)]
 pub struct Quoted<'a> {
     /// The text, with its escapes read.
     pub text: QlText<'a>,

@@ -1,7 +1,7 @@
 //! Rounds of readers that repeat.
 
 /// Whether another round follows.
-#[derive(Clone, Copy, Debug, PartialEq, Eq)]
+#[derive(Clone, Copy)]
 pub enum Round {
     /// Another one follows.
     More,

@@ -7,7 +7,7 @@ use crate::path::Path;
 use crate::pick::Pick;
 
 /// What the first word of a filter in parentheses begins.
-#[derive(Clone, Copy, Debug, PartialEq, Eq)]
+#[derive(Clone, Copy)]
 pub enum SelectorWord {
     /// Ids: `id`.
     Ids,

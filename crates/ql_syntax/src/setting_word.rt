@@ -4,7 +4,7 @@ ghost use Rattle.std.specs.Prelude.{◌≡◌};
 ghost use Rattle.ql_syntax.specs.SettingWords.{setting_of, format_of};
 
 /// What the first word of a setting begins.
-#[derive(Clone, Copy, Debug, PartialEq, Eq)]
+#[derive(Clone, Copy)]
 pub enum SettingWord {
     /// A format: `out`.
     Format,
@@ -17,7 +17,7 @@ pub enum SettingWord {
 }
 
 /// What the word of a format names.
-#[derive(Clone, Copy, Debug, PartialEq, Eq)]
+#[derive(Clone, Copy)]
 pub enum FormatWord {
     /// A format that is read, and has no effect: `json` or `xml`.
     Known,

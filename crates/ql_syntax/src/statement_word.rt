@@ -6,7 +6,7 @@ ghost use Rattle.ql_syntax.specs.StatementWords.{statement_word, known_word, is_
 use crate::pick::Pick;
 
 /// What the first word of a statement begins.
-#[derive(Clone, Copy, Debug, PartialEq, Eq)]
+#[derive(Clone, Copy)]
 pub enum StatementWord {
     /// A query statement: `node`, `way`, `rel` or `relation`, `nwr`.
     Kind(Pick),

@@ -7,7 +7,7 @@ use crate::cause::QlCause;
 use std::alloc::AllocError;
 
 /// A place at which a text can't go on as a query: why, and what is left from there on.
-#[derive(Clone, Copy, Debug)]
+#[derive(Clone, Copy)]
 pub struct SyntaxError<'a> {
     /// Why it can't go on.
     pub cause: QlCause,

@@ -12,7 +12,7 @@ use crate::syntax_error::SyntaxError;
 use crate::token_kind::{TokenKind, token_kind_at};
 
 /// The place of the next token, after blanks and comments.
-#[derive(Clone, Copy, Debug)]
+#[derive(Clone, Copy)]
 pub struct Token<'a> {
     /// What begins there.
     pub kind: TokenKind,

@@ -19,7 +19,7 @@ use crate::whole::{count_of, id_of};
 use crate::word::{split_name, split_run};
 
 /// A word, where it begins, and what is left after it.
-#[derive(Clone, Copy, Debug)]
+#[derive(Clone, Copy)]
 pub struct WordSpot<'a> {
     /// The text from the word on.
     pub place: &'a [u8],
@@ -30,7 +30,7 @@ pub struct WordSpot<'a> {
 }
 
 /// A number, and where it begins.
-#[derive(Clone, Copy, Debug)]
+#[derive(Clone, Copy)]
 pub struct NumberSpot<'a> {
     /// The text from the number on.
     pub place: &'a [u8],

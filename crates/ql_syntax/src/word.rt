@@ -8,7 +8,7 @@ use crate::cause::QlCause;
 use crate::syntax_error::SyntaxError;
 
 /// The letters, digits and `_` at the front of a text, and what is left after them.
-#[derive(Clone, Copy, Debug)]
+#[derive(Clone, Copy)]
 pub struct Run<'a> {
     /// The longest such run, perhaps empty.
     pub run: &'a [u8],

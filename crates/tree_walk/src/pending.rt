@@ -18,7 +18,7 @@ use std::alloc::AllocError;
 use tree_node::{Child, Children, Entries, is_above};
 
 /// A child that is opened, as its parent states it.
-#[derive(Clone, Copy, Debug)]
+#[derive(Clone, Copy)]
 pub(crate) struct Pending<'a> {
     /// The greatest key of its left neighbour; a first child has its parent's left bound.
     pub(crate) left: Option<&'a [u8]>,
