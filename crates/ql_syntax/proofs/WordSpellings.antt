@@ -110,13 +110,14 @@ module _ {text rest : List ℕ} (w : List ℕ) (spelled : IsWordOf (λ (v : List
 
   out_said : At_out (out_word w)
   out_said =
-      by_test At_out (bytes_eq w (codes "ids")) (outs.Mode modes.Ids) _ (is_said (codes "ids"))
+      by_test At_out (out_words.is_left_out w) outs.LeftOut _ (λ t. tt)
+      (by_test At_out (bytes_eq w (codes "ids")) (outs.Mode modes.Ids) _ (is_said (codes "ids"))
       (by_test At_out (bytes_eq w (codes "tags")) (outs.Mode modes.Tags) _ (is_said (codes "tags"))
       (by_test At_out (bytes_eq w (codes "skel")) (outs.Mode modes.Skel) _ (is_said (codes "skel"))
       (by_test At_out (bytes_eq w (codes "body")) (outs.Mode modes.Body) _ (is_said (codes "body"))
       (by_test At_out (bytes_eq w (codes "meta")) (outs.Mode modes.Meta) _ (is_said (codes "meta"))
-      (by_test At_out (bytes_eq w (codes "asc") || bytes_eq w (codes "qt")) outs.Order _ (is_either _ _ (λ t. inl (is_said (codes "asc") t)) (λ t. inr (is_said (codes "qt") t)))
-      (by_test At_out (out_words.is_left_out w) outs.LeftOut outs.Unknown (λ t. tt) tt))))))
+      (by_test At_out (bytes_eq w (codes "asc") || bytes_eq w (codes "qt")) outs.Order outs.Unknown (is_either _ _ (λ t. inl (is_said (codes "asc") t)) (λ t. inr (is_said (codes "qt") t)))
+      tt))))))
 
   pub out_is : (case : OutWord) → out_word w ≡ case → out_spelled case text rest
   out_is case is = subst At_out is out_said
@@ -126,9 +127,10 @@ module _ {text rest : List ℕ} (w : List ℕ) (spelled : IsWordOf (λ (v : List
 
   setting_said : At_setting (setting_of w)
   setting_said =
-      by_test At_setting (bytes_eq w (codes "out")) settings.Format _ (is_said (codes "out"))
-      (by_test At_setting (bytes_eq w (codes "timeout") || bytes_eq w (codes "maxsize")) settings.Count _ (is_either _ _ (λ t. inl (is_said (codes "timeout") t)) (λ t. inr (is_said (codes "maxsize") t)))
-      (by_test At_setting _ settings.LeftOut settings.Unknown (λ t. tt) tt))
+      by_test At_setting _ settings.LeftOut _ (λ t. tt)
+      (by_test At_setting (bytes_eq w (codes "out")) settings.Format _ (is_said (codes "out"))
+      (by_test At_setting (bytes_eq w (codes "timeout") || bytes_eq w (codes "maxsize")) settings.Count settings.Unknown (is_either _ _ (λ t. inl (is_said (codes "timeout") t)) (λ t. inr (is_said (codes "maxsize") t)))
+      tt))
 
   pub setting_is : (case : SettingWord) → setting_of w ≡ case → setting_spelled case text rest
   setting_is case is = subst At_setting is setting_said
@@ -138,8 +140,9 @@ module _ {text rest : List ℕ} (w : List ℕ) (spelled : IsWordOf (λ (v : List
 
   format_said : At_format (format_of w)
   format_said =
-      by_test At_format (bytes_eq w (codes "json") || bytes_eq w (codes "xml")) formats.Known _ (is_either _ _ (λ t. inl (is_said (codes "json") t)) (λ t. inr (is_said (codes "xml") t)))
-      (by_test At_format _ formats.LeftOut formats.Unknown (λ t. tt) tt)
+      by_test At_format _ formats.LeftOut _ (λ t. tt)
+      (by_test At_format (bytes_eq w (codes "json") || bytes_eq w (codes "xml")) formats.Known formats.Unknown (is_either _ _ (λ t. inl (is_said (codes "json") t)) (λ t. inr (is_said (codes "xml") t)))
+      tt)
 
   pub format_is : (case : FormatWord) → format_of w ≡ case → format_spelled case text rest
   format_is case is = subst At_format is format_said

@@ -1,7 +1,8 @@
 -- The words that may begin a filter in parentheses.
 -- Source: the Overpass QL page of the OpenStreetMap wiki, "Filters"; which are left out is this project's.
-use Rattle.std.specs.Prelude.{ℕ, Bool, ◌||◌, if◌then◌else◌, List, codes, bytes_eq, Option, None, Some}
+use Rattle.std.specs.Prelude.{ℕ, Bool, if◌then◌else◌, List, [], ◌∷◌, codes, bytes_eq, Option, None, Some}
 use Rattle.ql_syntax.specs.Picks.{allows}
+use Rattle.ql_syntax.specs.Words.{is_one_of}
 use Rattle.ql_syntax.specs.declared.path.Path.{Path}
 use Rattle.ql_syntax.specs.declared.path.Path.TheVariants as paths
 use Rattle.ql_syntax.specs.declared.pick.Pick.{Pick}
@@ -19,10 +20,9 @@ path_of word =
 
 -- the profile leaves out the filter that this word begins
 abbrev pub is_left_out : List ℕ → Bool
-is_left_out word =
-    bytes_eq word (codes "around") || bytes_eq word (codes "poly") || bytes_eq word (codes "changed")
-    || bytes_eq word (codes "newer") || bytes_eq word (codes "user") || bytes_eq word (codes "uid")
-    || bytes_eq word (codes "area") || bytes_eq word (codes "pivot") || bytes_eq word (codes "if")
+is_left_out word = is_one_of word
+    (codes "around" ∷ codes "poly" ∷ codes "changed" ∷ codes "newer" ∷ codes "user" ∷ codes "uid"
+    ∷ codes "area" ∷ codes "pivot" ∷ codes "if" ∷ [])
 
 -- a path that the kind lacks is left out too
 abbrev pub path_word : Pick → Option Path → SelectorWord

@@ -1,21 +1,30 @@
 -- The words of settings.
 -- Source: the Overpass QL page of the OpenStreetMap wiki, "Settings"; which are left out is this
 -- project's.
-use Rattle.std.specs.Prelude.{ℕ, ◌||◌, if◌then◌else◌, List, codes, bytes_eq}
+use Rattle.std.specs.Prelude.{ℕ, Bool, ◌||◌, if◌then◌else◌, List, [], ◌∷◌, codes, bytes_eq}
+use Rattle.ql_syntax.specs.Words.{is_one_of}
 use Rattle.ql_syntax.specs.declared.setting_word.SettingWord.{SettingWord}
 use Rattle.ql_syntax.specs.declared.setting_word.SettingWord.TheVariants as settings
 use Rattle.ql_syntax.specs.declared.setting_word.FormatWord.{FormatWord}
 use Rattle.ql_syntax.specs.declared.setting_word.FormatWord.TheVariants as formats
 
+-- the profile leaves out the setting that this word begins
+abbrev pub is_left_out_setting : List ℕ → Bool
+is_left_out_setting word = is_one_of word (codes "bbox" ∷ codes "date" ∷ codes "diff" ∷ codes "adiff" ∷ [])
+
 abbrev pub setting_of : List ℕ → SettingWord
 setting_of word =
-    if bytes_eq word (codes "out") then settings.Format
+    if is_left_out_setting word then settings.LeftOut
+    else if bytes_eq word (codes "out") then settings.Format
     else if bytes_eq word (codes "timeout") || bytes_eq word (codes "maxsize") then settings.Count
-    else if bytes_eq word (codes "bbox") || bytes_eq word (codes "date") || bytes_eq word (codes "diff") || bytes_eq word (codes "adiff") then settings.LeftOut
     else settings.Unknown
+
+-- the profile leaves out the format with this name
+abbrev pub is_left_out_format : List ℕ → Bool
+is_left_out_format word = is_one_of word (codes "csv" ∷ codes "custom" ∷ codes "popup" ∷ [])
 
 abbrev pub format_of : List ℕ → FormatWord
 format_of word =
-    if bytes_eq word (codes "json") || bytes_eq word (codes "xml") then formats.Known
-    else if bytes_eq word (codes "csv") || bytes_eq word (codes "custom") || bytes_eq word (codes "popup") then formats.LeftOut
+    if is_left_out_format word then formats.LeftOut
+    else if bytes_eq word (codes "json") || bytes_eq word (codes "xml") then formats.Known
     else formats.Unknown

@@ -1,30 +1,19 @@
 -- The words that may begin a statement.
 -- Source: the Overpass QL page of the OpenStreetMap wiki, "Statements"; which are left out is this
 -- project's.
-use Rattle.std.specs.Prelude.{ℕ, Bool, ◌||◌, if◌then◌else◌, List, codes, bytes_eq, Option, Some, None}
+use Rattle.std.specs.Prelude.{ℕ, Bool, ◌||◌, if◌then◌else◌, List, [], ◌∷◌, codes, bytes_eq, Option, Some, None}
 use Rattle.std.specs.Option.{unwrap_or}
+use Rattle.ql_syntax.specs.Words.{is_one_of}
 use Rattle.ql_syntax.specs.declared.pick.Pick.TheVariants as picks
 use Rattle.ql_syntax.specs.declared.statement_word.StatementWord.{StatementWord}
 use Rattle.ql_syntax.specs.declared.statement_word.StatementWord.TheVariants as words
 
 -- block statements, standalone queries, and kinds of query statements that the profile leaves out
-abbrev pub is_left_out_block : List ℕ → Bool
-is_left_out_block word =
-    bytes_eq word (codes "foreach") || bytes_eq word (codes "for") || bytes_eq word (codes "if")
-    || bytes_eq word (codes "complete") || bytes_eq word (codes "retro") || bytes_eq word (codes "compare")
-
-abbrev pub is_left_out_query : List ℕ → Bool
-is_left_out_query word =
-    bytes_eq word (codes "make") || bytes_eq word (codes "convert") || bytes_eq word (codes "map_to_area")
-    || bytes_eq word (codes "is_in") || bytes_eq word (codes "timeline") || bytes_eq word (codes "local")
-
-abbrev pub is_left_out_kind : List ℕ → Bool
-is_left_out_kind word =
-    bytes_eq word (codes "area") || bytes_eq word (codes "derived")
-    || bytes_eq word (codes "nw") || bytes_eq word (codes "nr") || bytes_eq word (codes "wr")
-
 abbrev pub is_left_out : List ℕ → Bool
-is_left_out word = is_left_out_block word || is_left_out_query word || is_left_out_kind word
+is_left_out word = is_one_of word
+    (codes "foreach" ∷ codes "for" ∷ codes "if" ∷ codes "complete" ∷ codes "retro" ∷ codes "compare"
+    ∷ codes "make" ∷ codes "convert" ∷ codes "map_to_area" ∷ codes "is_in" ∷ codes "timeline" ∷ codes "local"
+    ∷ codes "area" ∷ codes "derived" ∷ codes "nw" ∷ codes "nr" ∷ codes "wr" ∷ [])
 
 abbrev pub known_word : List ℕ → Option StatementWord
 known_word word =

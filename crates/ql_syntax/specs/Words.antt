@@ -2,10 +2,10 @@
 -- Source: the Overpass QL page of the OpenStreetMap wiki: a set's name is a letter or `_` and then
 -- letters, digits and `_`; that these are those of ASCII, and that words are spelled so too, is this
 -- project's.
-use Rattle.std.specs.Prelude.{◌≡◌, ℕ, Bool, true, false, ◌==◌, ◌||◌, List, [], ◌∷◌, ◌++◌}
+use Rattle.std.specs.Prelude.{◌≡◌, ℕ, Bool, true, false, ◌==◌, ◌||◌, List, [], ◌∷◌, ◌++◌, bytes_eq}
 use Rattle.osm_model.specs.Bytes.{underscore}
 use Rattle.std.specs.Char.{is_ascii_alphabetic, is_ascii_alphanumeric}
-use Rattle.std.specs.List.{list_all}
+use Rattle.std.specs.List.{list_all, list_any}
 use Rattle.ql_syntax.specs.declared.cause.QlCause.{QlCause}
 use Rattle.ql_syntax.specs.declared.cause.QlCause.TheVariants as causes
 
@@ -16,6 +16,10 @@ is_run_byte b = is_ascii_alphanumeric b || b == underscore
 -- a letter or `_`
 abbrev pub is_word_start : ℕ → Bool
 is_word_start b = is_ascii_alphabetic b || b == underscore
+
+-- the word is one of these
+abbrev pub is_one_of : List ℕ → List (List ℕ) → Bool
+is_one_of word words = list_any (λ one. bytes_eq one word) words
 
 -- the first byte passes the test, where there is one
 abbrev pub begins_with : (ℕ → Bool) → List ℕ → Bool

@@ -1,7 +1,7 @@
 //! The words after `out`.
 
 ghost use Rattle.std.specs.Prelude.{◌≡◌};
-ghost use Rattle.ql_syntax.specs.OutWords.{out_word};
+ghost use Rattle.ql_syntax.specs.OutWords.{is_left_out, out_word};
 
 use opl_codec::OutMode;
 
@@ -23,13 +23,20 @@ pub fn out_word(word: &[u8]) -> OutWord
     ensures { result ≡ out_word word.now }
 {
     match word {
+        _ if is_left_out(word) => OutWord::LeftOut,
         b"ids" => OutWord::Mode(OutMode::Ids),
         b"tags" => OutWord::Mode(OutMode::Tags),
         b"skel" => OutWord::Mode(OutMode::Skel),
         b"body" => OutWord::Mode(OutMode::Body),
         b"meta" => OutWord::Mode(OutMode::Meta),
         b"asc" | b"qt" => OutWord::Order,
-        b"count" | b"geom" | b"center" | b"bb" | b"noids" => OutWord::LeftOut,
         _ => OutWord::Unknown,
     }
+}
+
+/// Whether the profile leaves out what this word asks for.
+fn is_left_out(word: &[u8]) -> bool
+    ensures { result ≡ is_left_out word.now }
+{
+    [b"count".as_slice(), b"geom", b"center", b"bb", b"noids"].contains(&word)
 }

@@ -52,8 +52,16 @@ fn path_of(word: &[u8]) -> Option<Path>
 fn is_left_out(word: &[u8]) -> bool
     ensures { result ≡ is_left_out word.now }
 {
-    matches!(
-        word,
-        b"around" | b"poly" | b"changed" | b"newer" | b"user" | b"uid" | b"area" | b"pivot" | b"if"
-    )
+    [
+        b"around".as_slice(),
+        b"poly",
+        b"changed",
+        b"newer",
+        b"user",
+        b"uid",
+        b"area",
+        b"pivot",
+        b"if",
+    ]
+    .contains(&word)
 }

@@ -1,7 +1,7 @@
 //! The words of settings.
 
 ghost use Rattle.std.specs.Prelude.{◌≡◌};
-ghost use Rattle.ql_syntax.specs.SettingWords.{setting_of, format_of};
+ghost use Rattle.ql_syntax.specs.SettingWords.{format_of, is_left_out_format, is_left_out_setting, setting_of};
 
 /// What the first word of a setting begins.
 #[derive(Clone, Copy)]
@@ -32,11 +32,18 @@ pub fn setting_of(word: &[u8]) -> SettingWord
     ensures { result ≡ setting_of word.now }
 {
     match word {
+        _ if is_left_out_setting(word) => SettingWord::LeftOut,
         b"out" => SettingWord::Format,
         b"timeout" | b"maxsize" => SettingWord::Count,
-        b"bbox" | b"date" | b"diff" | b"adiff" => SettingWord::LeftOut,
         _ => SettingWord::Unknown,
     }
+}
+
+/// Whether the profile leaves out the setting that this word begins.
+fn is_left_out_setting(word: &[u8]) -> bool
+    ensures { result ≡ is_left_out_setting word.now }
+{
+    [b"bbox".as_slice(), b"date", b"diff", b"adiff"].contains(&word)
 }
 
 /// What this word names as a format.
@@ -44,8 +51,15 @@ pub fn format_of(word: &[u8]) -> FormatWord
     ensures { result ≡ format_of word.now }
 {
     match word {
+        _ if is_left_out_format(word) => FormatWord::LeftOut,
         b"json" | b"xml" => FormatWord::Known,
-        b"csv" | b"custom" | b"popup" => FormatWord::LeftOut,
         _ => FormatWord::Unknown,
     }
+}
+
+/// Whether the profile leaves out the format with this name.
+fn is_left_out_format(word: &[u8]) -> bool
+    ensures { result ≡ is_left_out_format word.now }
+{
+    [b"csv".as_slice(), b"custom", b"popup"].contains(&word)
 }

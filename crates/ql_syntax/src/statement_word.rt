@@ -1,7 +1,7 @@
 //! The words that may begin a statement.
 
 ghost use Rattle.std.specs.Prelude.{◌≡◌};
-ghost use Rattle.ql_syntax.specs.StatementWords.{statement_word, known_word, is_left_out, is_left_out_block, is_left_out_query, is_left_out_kind};
+ghost use Rattle.ql_syntax.specs.StatementWords.{statement_word, known_word, is_left_out};
 
 use crate::pick::Pick;
 
@@ -43,36 +43,29 @@ fn known_word(word: &[u8]) -> Option<StatementWord>
     }
 }
 
-/// Whether the profile leaves out the statement that this word begins.
+/// Whether the profile leaves out the statement that this word begins: a block statement, a standalone query or a kind of
+/// query statement.
 fn is_left_out(word: &[u8]) -> bool
     ensures { result ≡ is_left_out word.now }
 {
-    is_left_out_block(word) || is_left_out_query(word) || is_left_out_kind(word)
-}
-
-/// Whether the word begins a block statement that the profile leaves out.
-fn is_left_out_block(word: &[u8]) -> bool
-    ensures { result ≡ is_left_out_block word.now }
-{
-    matches!(
-        word,
-        b"foreach" | b"for" | b"if" | b"complete" | b"retro" | b"compare"
-    )
-}
-
-/// Whether the word begins a standalone query that the profile leaves out.
-fn is_left_out_query(word: &[u8]) -> bool
-    ensures { result ≡ is_left_out_query word.now }
-{
-    matches!(
-        word,
-        b"make" | b"convert" | b"map_to_area" | b"is_in" | b"timeline" | b"local"
-    )
-}
-
-/// Whether the word is a kind of query statement that the profile leaves out.
-fn is_left_out_kind(word: &[u8]) -> bool
-    ensures { result ≡ is_left_out_kind word.now }
-{
-    matches!(word, b"area" | b"derived" | b"nw" | b"nr" | b"wr")
+    [
+        b"foreach".as_slice(),
+        b"for",
+        b"if",
+        b"complete",
+        b"retro",
+        b"compare",
+        b"make",
+        b"convert",
+        b"map_to_area",
+        b"is_in",
+        b"timeline",
+        b"local",
+        b"area",
+        b"derived",
+        b"nw",
+        b"nr",
+        b"wr",
+    ]
+    .contains(&word)
 }

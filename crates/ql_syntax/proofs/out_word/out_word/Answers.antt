@@ -23,18 +23,3 @@ returns-in-asc c = rw (text_from_reads c.args.word.now (codes "qt") (omega arith
 
 pub returns-in-asc-2 : goal.returns-in-asc-2
 returns-in-asc-2 c = rw (text_from_reads c.args.word.now (codes "asc") (omega arith) (search rules)) refl
-
-pub returns-in-count : goal.returns-in-count
-returns-in-count c = rw (text_from_reads c.args.word.now (codes "bb") (omega arith) (search rules)) refl
-
-pub returns-in-count-2 : goal.returns-in-count-2
-returns-in-count-2 c = rw (text_from_reads c.args.word.now (codes "geom") (omega arith) (search rules)) refl
-
-pub returns-in-count-3 : goal.returns-in-count-3
-returns-in-count-3 c = rw (text_from_reads c.args.word.now (codes "count") (omega arith) (search rules)) refl
-
-pub returns-in-count-4 : goal.returns-in-count-4
-returns-in-count-4 c = rw (text_from_reads c.args.word.now (codes "noids") (omega arith) (search rules)) refl
-
-pub returns-in-count-5 : goal.returns-in-count-5
-returns-in-count-5 c = rw (text_from_reads c.args.word.now (codes "center") (omega arith) (search rules)) refl

@@ -8,12 +8,3 @@ returns-in-json c = rw (text_from_reads c.args.word.now (codes "xml") (omega ari
 
 pub returns-in-json-2 : goal.returns-in-json-2
 returns-in-json-2 c = rw (text_from_reads c.args.word.now (codes "json") (omega arith) (search rules)) refl
-
-pub returns-in-csv : goal.returns-in-csv
-returns-in-csv c = rw (text_from_reads c.args.word.now (codes "csv") (omega arith) (search rules)) refl
-
-pub returns-in-csv-2 : goal.returns-in-csv-2
-returns-in-csv-2 c = rw (text_from_reads c.args.word.now (codes "popup") (omega arith) (search rules)) refl
-
-pub returns-in-csv-3 : goal.returns-in-csv-3
-returns-in-csv-3 c = rw (text_from_reads c.args.word.now (codes "custom") (omega arith) (search rules)) refl

@@ -11,15 +11,3 @@ returns-in-timeout c = rw (text_from_reads c.args.word.now (codes "timeout") (om
 
 pub returns-in-timeout-2 : goal.returns-in-timeout-2
 returns-in-timeout-2 c = rw (text_from_reads c.args.word.now (codes "maxsize") (omega arith) (search rules)) refl
-
-pub returns-in-bbox : goal.returns-in-bbox
-returns-in-bbox c = rw (text_from_reads c.args.word.now (codes "bbox") (omega arith) (search rules)) refl
-
-pub returns-in-bbox-2 : goal.returns-in-bbox-2
-returns-in-bbox-2 c = rw (text_from_reads c.args.word.now (codes "date") (omega arith) (search rules)) refl
-
-pub returns-in-bbox-3 : goal.returns-in-bbox-3
-returns-in-bbox-3 c = rw (text_from_reads c.args.word.now (codes "diff") (omega arith) (search rules)) refl
-
-pub returns-in-bbox-4 : goal.returns-in-bbox-4
-returns-in-bbox-4 c = rw (text_from_reads c.args.word.now (codes "adiff") (omega arith) (search rules)) refl
