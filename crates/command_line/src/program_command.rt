@@ -2,7 +2,7 @@
 
 ghost use Rattle.std.specs.Prelude.{◌≡◌, IfOk, false};
 ghost use Rattle.clap.specs.declared.builder.command.Command.TheViews.{out-Command as fields_of};
-ghost use Rattle.clap.specs.Words.{app_of, with_subcommand};
+ghost use Rattle.clap.specs.Words.{App, app_of, with_subcommand};
 ghost use Rattle.command_line.specs.internal.Commands.{IsCommand};
 ghost use Rattle.command_line.specs.AskCommand.{ask_app};
 ghost use Rattle.command_line.specs.CommandLine.{bare_app, program_app};
@@ -25,17 +25,17 @@ pub fn program_command<'a>(alloc: Global) -> Result<Command<'a>, AllocError>
     ensures { IfOk result (IsCommand program_app) }
 {
     let program = publisher_program(alloc)?;
-    let program = and_command(program, prove_command(alloc)?)?;
-    let program = and_command(program, check_command(alloc)?)?;
-    and_command(program, serve_command(alloc)?)
+    let program = and_command(program, prove_command(alloc))?;
+    let program = and_command(program, check_command(alloc))?;
+    and_command(program, serve_command(alloc))
 }
 
 /// The program with the commands that need no proof: split off, since a long chain of calls is dear to prove.
 fn publisher_program<'a>(alloc: Global) -> Result<Command<'a>, AllocError>
     ensures { IfOk result (IsCommand (with_subcommand (with_subcommand bare_app ask_app.top) publish_app.top)) }
 {
-    let program = and_command(bare_program(alloc), ask_command(alloc)?)?;
-    and_command(program, publish_command(alloc)?)
+    let program = and_command(bare_program(alloc), ask_command(alloc))?;
+    and_command(program, publish_command(alloc))
 }
 
 /// The program without a command.
@@ -48,11 +48,16 @@ fn bare_program<'a>(alloc: Global) -> Command<'a>
         .disable_help_subcommand(true)
 }
 
-/// The program with one more command.
-fn and_command<'a>(program: Command<'a>, command: Command<'a>) -> Result<Command<'a>, AllocError>
+/// The program with one more command, where there was memory for it.
+fn and_command<'a>(
+    program: Command<'a>,
+    command: Result<Command<'a>, AllocError>,
+) -> Result<Command<'a>, AllocError>
     requires program { (fields_of program).has_globals ≡ false }
-    requires command { (fields_of command).has_globals ≡ false }
-    ensures { IfOk result (IsCommand (with_subcommand (app_of program.entry) (app_of command.entry).top)) }
+    requires command { IfOk command (λ command. (fields_of command).has_globals ≡ false) }
+    ensures local { IfOk result (λ program. (fields_of program).has_globals ≡ false) }
+    ensures command { (app : App) → IfOk command.entry (λ command. app_of command ≡ app)
+        → IfOk result (IsCommand (with_subcommand (app_of program.entry) app.top)) }
 {
-    program.subcommand(command)
+    program.subcommand(command?)
 }

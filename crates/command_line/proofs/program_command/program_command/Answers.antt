@@ -1,14 +1,16 @@
-use Rattle.std.proofs.Common.{◌∙◌, ap₂}
+use Rattle.std.proofs.Common.{◌∙◌, ap}
 use Rattle.std.proofs.lemmas.Result.{IfOk-weaker}
 use Rattle.clap.specs.Words.{App, with_subcommand}
+use Rattle.command_line.specs.CheckCommand.{check_app}
+use Rattle.command_line.specs.ProveCommand.{prove_app}
+use Rattle.command_line.specs.ServeCommand.{serve_app}
 use Rattle.command_line.proofs.program_command.program_command.Goals as goal
-
--- a program with one more command
-abbrev joined : App → App → App
-joined program command = with_subcommand program command.top
 
 pub returns : goal.returns
 returns c =
-    let three = c.in_ok-program-2.ensures.0 ∙ ap₂ joined c.in_ok-program.ensures.0 c.in_ok-prove_command.ensures.0 in
-    let four = c.in_ok-program-3.ensures.0 ∙ ap₂ joined three c.in_ok-check_command.ensures.0 in
-    IfOk-weaker c.and_command-3.result _ _ (λ r h. (h.0 ∙ ap₂ joined four c.in_ok-serve_command.ensures.0, h.1)) c.and_command-3.ensures
+    let proves = c.in_ok-program-2.ensures.command prove_app (IfOk-weaker c.prove_command.result _ _ (λ r h. h.0) c.prove_command.ensures) in
+    let three = proves.0 ∙ ap (λ (program : App). with_subcommand program prove_app.top) c.in_ok-program.ensures.0 in
+    let checks = c.in_ok-program-3.ensures.command check_app (IfOk-weaker c.check_command.result _ _ (λ r h. h.0) c.check_command.ensures) in
+    let four = checks.0 ∙ ap (λ (program : App). with_subcommand program check_app.top) three in
+    IfOk-weaker c.and_command-3.result _ _ (λ r h. (h.0 ∙ ap (λ (program : App). with_subcommand program serve_app.top) four, h.1))
+    (c.and_command-3.ensures.command serve_app (IfOk-weaker c.serve_command.result _ _ (λ r h. h.0) c.serve_command.ensures))
