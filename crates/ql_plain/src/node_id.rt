@@ -23,13 +23,20 @@ impl Referenced for NodeId {
     }
 }
 
+/// The id of an object, which is taken for a node.
+fn node_id(node: &Object) -> NodeId
+    ensures { result ≡ record { 0 = node.now.id } }
+{
+    NodeId(node.id())
+}
+
 /// The ids of some objects, which are taken for nodes.
 pub fn node_ids(alloc: Global, nodes: &[Object]) -> Result<Vec<NodeId>, AllocError>
     ensures { IfOk result (λ ids. ids.items ≡ map (λ o. record { 0 = o.id }) nodes.now) }
 {
     let mut ids = Vec::with_capacity(alloc, nodes.len())?;
     for node in nodes {
-        ids.push(NodeId(node.id()))?;
+        ids.push(node_id(node))?;
     }
     Ok(ids)
 }
