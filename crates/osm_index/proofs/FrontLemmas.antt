@@ -113,10 +113,6 @@ decided m n xs ys apart =
       | inr (inr more) ↦ higher_head m n xs ys more ∙ nat_cmp_is m n Greater more
     ]
 
--- equal numbers in front leave it to what follows
-pub left : (m n : ℕ) (xs ys : List ℕ) → m ≡ n → order (m ∷ xs) (n ∷ ys) ≡ order xs ys
-left m n xs ys e = equal_heads m n xs ys e
-
 -- a key that starts with lower numbers is below
 pub lower_start : (high low high' low' : ℕ) (xs ys : List ℕ) → StartsWith high low xs → StartsWith high' low' ys → AreBytes xs → AreBytes ys
     → IsBelow (high ∷ low ∷ []) (high' ∷ low' ∷ []) → IsBelow xs ys

@@ -173,11 +173,6 @@ begins all before = record {
   apart = λ x y x_in y_in. absurd (none x x_in);
 }
 
-pub ends : (all : List FrontedEntry) (before after : List Item) → IsSoFar all [] before after → AppendsInOrder (items_of all) before after
-ends all before after so =
-    let same : so.done ≡ all = sym (append-nil so.done) ∙ sym so.split in
-    subst (λ (entries : List FrontedEntry). AppendsInOrder (items_of entries) before after) same so.appended
-
 sorted_rest : (done rest : List FrontedEntry) → IsSortedByKey numbers_of order (done ++ rest) → IsSortedByKey numbers_of order rest
 sorted_rest done rest sorted = λ k d from within.
     let long = length-append done rest in

@@ -3,7 +3,7 @@ use Rattle.std.proofs.lemmas.List.{drop-drop, length-drop, take_all}
 use Rattle.osm_index.specs.internal.FrontedEntries.{IsRun, items_of}
 use Rattle.osm_index.specs.internal.KeyOrder.{AppendsInOrder, HaveOneStart}
 use Rattle.osm_index.specs.declared.fronted_entry.FrontedEntry.{FrontedEntry}
-use Rattle.osm_index.proofs.KeyOrderLemmas.{IsSoFar, begins, ends, goes_on}
+use Rattle.osm_index.proofs.KeyOrderLemmas.{IsSoFar, begins, goes_on}
 use Rattle.osm_index.proofs.sort.append_runs.Goals as goal
 
 pub runs-init : goal.runs-init
