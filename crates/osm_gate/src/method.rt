@@ -4,7 +4,7 @@ ghost use Rattle.std.specs.Prelude.{◌≡◌};
 ghost use Rattle.osm_gate.specs.Responses.{method_of};
 
 /// The method of a request, as far as the server tells methods apart.
-#[derive(Clone, Copy)]
+#[derive(Clone, Copy, PartialEq, Eq)]
 pub(crate) enum Method {
     Get,
     Post,

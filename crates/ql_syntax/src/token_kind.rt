@@ -7,7 +7,7 @@ ghost use Rattle.ql_syntax.specs.TokenKinds.{token_kind_at, one_byte_kind, kind_
 use crate::word::is_word_start;
 
 /// What begins at a place: punctuation, the longest that stands there, or another token.
-#[derive(Clone, Copy)]
+#[derive(Clone, Copy, PartialEq, Eq)]
 pub enum TokenKind {
     /// The end of the text.
     End,
