@@ -20,6 +20,19 @@ def check_reads(tally, words):
         tally.check(f"{words}, {others}: reads were refused", met > 1)
 
 
+def check_untouched(tally, words, made):
+    """Where a read fails, no file is made."""
+    for number in count(1):
+        for path in made:
+            path.unlink(missing_ok=True)
+        outcome = run_refused([PROGRAM, *words], b"", "REFUSE_READ", number, {})
+        if outcome is None:
+            tally.check(f"{words}: files were left unmade", number > 2)
+            return
+        holds = outcome == Outcome(b"", b"device\n", 3) and not any(path.exists() for path in made)
+        tally.check(f"{words}, read {number}: no file is made", holds, outcome)
+
+
 def check_writes(tally, words, made, texts):
     """A write that fails or takes nothing is told; the texts before its own are whole, its own is begun."""
     for errno in (EIO, ENOSPC, TAKES_NOTHING):
@@ -61,6 +74,7 @@ def main():
         check_writes(tally, ["publish", file], [], [whole.stdout])
         check_writes(tally, ["check", root, query, answer, proof], [], [b"yes\n"])
         made = [Path(room) / "a", Path(room) / "p"]
+        check_untouched(tally, ["prove", file, query, *made], made)
         check_writes(tally, ["prove", file, query, *made], made, texts)
     tally.end()
 
