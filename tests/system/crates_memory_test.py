@@ -22,6 +22,9 @@ OUT_OF_MEMORY = re.compile(r"^[Ee]rror: .*(AllocError|AllocFailed|OutOfMemory|Me
 # Where the tests of a crate stand that has none of its own: in the crate of its name and `_tests`, or in a module of
 # another.
 MODULES = {
+    "osm_model": ("text_tests", "model"),
+    "opl_codec": ("text_tests", "codec"),
+    "ql_syntax": ("text_tests", "syntax"),
     "tree_node": ("tree_tests", "nodes"),
     "tree_build": ("tree_tests", "trees"),
     "tree_walk": ("tree_tests", "walks"),
