@@ -2,6 +2,7 @@
 
 ghost use Rattle.std.specs.Prelude.{◌≡◌, ◌++◌, [], ◌∷◌, length, take, flat_map, OnOk, OnErr};
 ghost use Rattle.std.specs.Fmt.{decimal, signed_decimal};
+ghost use Rattle.osm_model.specs.Bytes.{comma};
 ghost use Rattle.osm_model.specs.CanonicalLine.{name_field, meta_fields, tags_field, tag_text, moment, escaped};
 
 use crate::write_moment::moment_text;
@@ -61,11 +62,27 @@ pub fn append_tags(tags: &[Tag], out: &mut Vec<u8>) -> Result<(), AllocError>
         return Ok(());
     };
     append_tag(first, out)?;
-    for tag in others {
-        out.push(b',')?;
-        append_tag(tag, out)?;
+    append_other_tags(others, out)
+}
+
+/// Appends each of these tags after a comma.
+fn append_other_tags(tags: &[Tag], out: &mut Vec<u8>) -> Result<(), AllocError>
+    ensures ok { OnOk result (out.new.items ≡ out.old.items ++ flat_map (λ x. comma ∷ tag_text x) tags.now) }
+    ensures err { OnErr result (take (length out.old.items) out.new.items ≡ out.old.items) }
+{
+    for tag in tags {
+        append_other_tag(tag, out)?;
     }
     Ok(())
+}
+
+/// Appends a comma and a tag.
+fn append_other_tag(tag: &Tag, out: &mut Vec<u8>) -> Result<(), AllocError>
+    ensures ok { OnOk result (out.new.items ≡ out.old.items ++ comma ∷ tag_text tag.now) }
+    ensures err { OnErr result (take (length out.old.items) out.new.items ≡ out.old.items) }
+{
+    out.push(b',')?;
+    append_tag(tag, out)
 }
 
 fn append_tag(tag: &Tag, out: &mut Vec<u8>) -> Result<(), AllocError>
