@@ -1,7 +1,7 @@
 //! Sets of objects and lists of changes, read from files.
 
 ghost use Rattle.std.specs.Prelude.{[], ◌∷◌, ◌++◌, ◌≡◌, ◌⊎◌, ◌≤◌, ◌^◌, ℕ, IfErr, IfSome, IfOk, List, MatchResult, OnOk, Option, length};
-ghost use Rattle.osm_model.specs.Elements.{Element, references};
+ghost use Rattle.osm_model.specs.Elements.{Element, reference, references};
 ghost use Rattle.opl_codec.specs.Files.{HoldsChanges, HoldsSet, IsReaderOrMemory, PutSet, SpellsChanges, StopsChanges, StopsFile};
 ghost use Rattle.opl_codec.specs.LineReads.{no_memory};
 ghost use Rattle.opl_codec.specs.declared.change.Change.{Change as ChangeWord};
@@ -85,15 +85,51 @@ fn put(
     ensures refused { IfErr result (λ load. (load ≡ no_memory) ⊎ ((load.line ≡ line) × IsUnput objects.old.items change load.fault)) }
 {
     match change {
-        Change::Put(object) => {
-            if !known.add(objects, object.reference())? {
-                return Err(LoadFault::at(line, OplCause::OutsideModel));
-            }
-            objects.push(object).map_err(AllocError::from)?;
-            Ok(())
-        }
+        Change::Put(object) => put_object(objects, known, line, object),
         Change::Delete(_) => Err(LoadFault::at(line, OplCause::Deleted)),
     }
+}
+
+/// Puts the object of this line after these, whose references are known.
+fn put_object(
+    objects: &mut Vec<Object>,
+    known: &mut References,
+    line: u64,
+    object: Object,
+) -> Result<(), LoadFault>
+    requires { Knows known.old (references objects.old.items) }
+    ensures put { OnOk result (objects.new.items ≡ objects.old.items ++ object ∷ []) }
+    ensures known { OnOk result (Knows known.new (references objects.new.items)) }
+    ensures refused { IfErr result (λ load. (load ≡ no_memory) ⊎ ((load.line ≡ line) × IsUnput objects.old.items (Change.Put object) load.fault)) }
+{
+    add_reference(known, objects, line, &object)?;
+    append_object(objects, object)?;
+    Ok(())
+}
+
+/// Adds the reference of the object of this line, which comes after these.
+fn add_reference(
+    known: &mut References,
+    objects: &[Object],
+    line: u64,
+    object: &Object,
+) -> Result<(), LoadFault>
+    requires { Knows known.old (references objects.now) }
+    ensures known { OnOk result (Knows known.new (references objects.now ++ reference object.now ∷ [])) }
+    ensures refused { IfErr result (λ load. (load ≡ no_memory) ⊎ ((load.line ≡ line) × IsUnput objects.now (Change.Put object.now) load.fault)) }
+{
+    if !known.add(objects, object.reference())? {
+        return Err(LoadFault::at(line, OplCause::OutsideModel));
+    }
+    Ok(())
+}
+
+/// Puts an object after these.
+fn append_object(objects: &mut Vec<Object>, object: Object) -> Result<(), AllocError>
+    ensures { OnOk result (objects.new.items ≡ objects.old.items ++ object ∷ []) }
+{
+    objects.push(object)?;
+    Ok(())
 }
 
 /// The changes that a file holds, one a line, in order (see `read_line`). Lines end with LF, which the
