@@ -28,10 +28,17 @@ fn append_place(place: Coord, out: &mut Vec<u8>) -> Result<(), AllocError>
     ensures ok { OnOk result (out.new.items ≡ out.old.items ++ (space ∷ longitude_letter ∷ degrees place.lon) ++ (space ∷ latitude_letter ∷ degrees place.lat)) }
     ensures err { OnErr result (take (length out.old.items) out.new.items ≡ out.old.items) }
 {
-    out.extend_from_slice(b" x")?;
-    out.extend_from_slice(write_degrees(place.lon()).as_bytes())?;
-    out.extend_from_slice(b" y")?;
-    out.extend_from_slice(write_degrees(place.lat()).as_bytes())
+    append_labelled(b" x", place.lon(), out)?;
+    append_labelled(b" y", place.lat(), out)
+}
+
+/// Appends degrees after these letters.
+fn append_labelled(label: &[u8], value: i32, out: &mut Vec<u8>) -> Result<(), AllocError>
+    ensures ok { OnOk result (out.new.items ≡ out.old.items ++ (label.now ++ degrees value)) }
+    ensures err { OnErr result (take (length out.old.items) out.new.items ≡ out.old.items) }
+{
+    out.extend_from_slice(label)?;
+    out.extend_from_slice(write_degrees(value).as_bytes())
 }
 
 fn append_nodes(nodes: &[i64], out: &mut Vec<u8>) -> Result<(), AllocError>

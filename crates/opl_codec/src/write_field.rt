@@ -33,11 +33,8 @@ fn append_change(meta: &Meta, out: &mut Vec<u8>) -> Result<(), AllocError>
     ensures ok { OnOk result (out.new.items ≡ out.old.items ++ ((32 ∷ 118 ∷ decimal meta.now.version) ++ ((32 ∷ 100 ∷ 86 ∷ []) ++ ((32 ∷ 99 ∷ signed_decimal meta.now.changeset) ++ (32 ∷ 116 ∷ moment meta.now.stamp))))) }
     ensures err { OnErr result (take (length out.old.items) out.new.items ≡ out.old.items) }
 {
-    out.extend_from_slice(b" v")?;
-    append_number(i64::from(meta.version), out)?;
-    out.extend_from_slice(b" dV c")?;
-    append_number(meta.changeset, out)?;
-    out.extend_from_slice(b" t")?;
+    append_labelled(b" v", i64::from(meta.version), out)?;
+    append_labelled(b" dV c", meta.changeset, out)?;
     append_moment(meta.stamp, out)
 }
 
@@ -46,10 +43,18 @@ fn append_author(meta: &Meta, out: &mut Vec<u8>) -> Result<(), AllocError>
     ensures ok { OnOk result (out.new.items ≡ out.old.items ++ ((32 ∷ 105 ∷ signed_decimal meta.now.uid) ++ (32 ∷ 117 ∷ escaped meta.now.user))) }
     ensures err { OnErr result (take (length out.old.items) out.new.items ≡ out.old.items) }
 {
-    out.extend_from_slice(b" i")?;
-    append_number(meta.uid, out)?;
+    append_labelled(b" i", meta.uid, out)?;
     out.extend_from_slice(b" u")?;
     append_text(&meta.user, out)
+}
+
+/// Appends a number after these letters.
+fn append_labelled(label: &[u8], number: i64, out: &mut Vec<u8>) -> Result<(), AllocError>
+    ensures ok { OnOk result (out.new.items ≡ out.old.items ++ (label.now ++ signed_decimal number)) }
+    ensures err { OnErr result (take (length out.old.items) out.new.items ≡ out.old.items) }
+{
+    out.extend_from_slice(label)?;
+    append_number(number, out)
 }
 
 /// Appends a space and the field of these tags.
@@ -94,11 +99,13 @@ fn append_tag(tag: &Tag, out: &mut Vec<u8>) -> Result<(), AllocError>
     append_text(&tag.value, out)
 }
 
+/// Appends the field of a moment.
 #[tactic(auto, unfolding(osm_model::specs::CanonicalLine::moment))]
 fn append_moment(stamp: Option<Stamp>, out: &mut Vec<u8>) -> Result<(), AllocError>
-    ensures ok { OnOk result (out.new.items ≡ out.old.items ++ moment stamp) }
-    ensures err { OnErr result (out.new.items ≡ out.old.items) }
+    ensures ok { OnOk result (out.new.items ≡ out.old.items ++ 32 ∷ 116 ∷ moment stamp) }
+    ensures err { OnErr result (take (length out.old.items) out.new.items ≡ out.old.items) }
 {
+    out.extend_from_slice(b" t")?;
     match stamp {
         None => Ok(()),
         Some(stamp) => out.extend_from_slice(&moment_text(stamp)),
