@@ -6,7 +6,8 @@ ghost use Rattle.opl_codec.specs.Files.{HoldsChanges, HoldsSet, IsReaderOrMemory
 ghost use Rattle.opl_codec.specs.LineReads.{no_memory};
 ghost use Rattle.opl_codec.specs.declared.change.Change.{Change as ChangeWord};
 ghost use Rattle.opl_codec.specs.declared.fault.LoadFault.{LoadFault};
-ghost use Rattle.opl_codec.specs.internal.Loading.{IsUnput, Knows, Puts, ReadsAll};
+ghost use Rattle.opl_codec.specs.internal.Buffering.{GoesOn, place};
+ghost use Rattle.opl_codec.specs.internal.Loading.{IsUnput, Knows, Puts, ReadsAll, ReadsTo, start};
 
 use crate::cause::OplCause;
 use crate::change::Change;
@@ -66,10 +67,28 @@ fn read_objects<R: Read>(alloc: Global, reader: &mut R) -> Result<Vec<Object>, L
     let mut buffer = LineBuffer::new(alloc);
     let mut references = References::new(alloc);
     let mut objects = Vec::new(alloc);
-    while let Some((line, change)) = buffer.next_change(reader)? {
-        put(&mut objects, &mut references, line, change)?;
-    }
+    put_all(reader, &mut buffer, &mut references, &mut objects)?;
     Ok(objects)
+}
+
+/// Puts what the lines of a reader say after these objects, whose references are known.
+fn put_all<R: Read>(
+    reader: &mut R,
+    buffer: &mut LineBuffer,
+    known: &mut References,
+    objects: &mut Vec<Object>,
+) -> Result<(), LoadFault>
+    requires goes_on { GoesOn (R.remaining reader.old) buffer.old }
+    requires come { ReadsTo PutSet (start (R.remaining reader.old)) (place (R.remaining reader.old) buffer.old) objects.old.items }
+    requires known { Knows known.old (references objects.old.items) }
+    ensures read { OnOk result (ReadsAll PutSet (R.remaining reader.old) objects.new.items) }
+    ensures refused { IfSome (R.remaining reader.old) (λ file. IfErr result (λ load. (load ≡ no_memory) ⊎ StopsFile file (R.remaining reader.new) load)) }
+    ensures memory { IfErr result (λ load. load.fault.cause ≡ OplCause.Memory → load ≡ no_memory) }
+{
+    while let Some((line, change)) = buffer.next_change(reader)? {
+        put(objects, known, line, change)?;
+    }
+    Ok(())
 }
 
 /// Puts the change of this line after these objects, whose references are known.
