@@ -1,5 +1,5 @@
 -- One line more of a reader, or why there is none.
-use Rattle.std.proofs.Common.{◌≡◌, ℕ, suc, add-one, ◌+◌, ◌-◌, ◌≤◌, List, [], ◌∷◌, ◌++◌, length, length-append, take, drop, arith, Option, Result, Ok, Err, IfOk, IfErr, ◌⊎◌, inl, inr, true, refl, sym, ◌∙◌, ap, subst, append_assoc, append-nil}
+use Rattle.std.proofs.Common.{◌≡◌, ℕ, suc, add-one, ◌+◌, ◌-◌, ◌≤◌, List, [], ◌∷◌, ◌++◌, length, length-append, take, drop, arith, Option, Result, Ok, Err, IfOk, IfErr, ◌⊎◌, inl, inr, Bool, true, false, refl, sym, ◌∙◌, ap, subst, append_assoc, append-nil}
 use Rattle.std.specs.Io.KnownBytes.{Consumes, IsAtEnd, Keeps, prepend_known}
 use Rattle.std.proofs.KnownBytes.{Consumes-trans}
 use Rattle.opl_codec.specs.Fields.{pieces}
@@ -161,3 +161,7 @@ pub last_said : (r : Result Step LoadFault) (line : List ℕ) (lines : ℕ) → 
     → IfOk r (λ step. ((step ≡ steps.End) × (line ≡ []) × (lines + 1 ≡ lines)) ⊎ ((found : Option Change) × (step ≡ steps.Line found) × SaysOrSkipped line found × (lines + 1 ≡ lines + 1)))
 last_said (Ok step) line lines said = inr (said.0, said.1, subst (λ (text : List ℕ). SaysOrSkipped text said.0) (append-nil line) said.2, refl)
 last_said (Err load) line lines said = tt
+
+-- a reader that goes on hasn't ended
+pub not_both : (b : Bool) → b ≡ true → b ≡ false → ⊥
+not_both b e f = cc

@@ -1,4 +1,4 @@
-use Rattle.std.proofs.Common.{◌++◌, ◌≡◌, ℕ, List, append-nil, ◌∷◌, [], ◌∙◌, ap, sym, subst, arith, length, length-append, drop}
+use Rattle.std.proofs.Common.{◌≡◌, ℕ, List, append-nil, ◌∷◌, [], ◌∙◌, ap, sym, subst, arith, length, length-append, drop}
 use Rattle.std.proofs.KnownBytes.{Consumes-trans}
 use Rattle.std.proofs.lemmas.Result.{err_from_is_err_and}
 use Rattle.opl_codec.specs.Fields.{pieces}
@@ -7,7 +7,7 @@ use Rattle.opl_codec.specs.declared.line_buffer.LineBuffer.{LineBuffer}
 use Rattle.opl_codec.specs.PieceReads.{PieceRead}
 use Rattle.opl_codec.specs.internal.Buffering.{unread}
 use Rattle.opl_codec.proofs.LineLemmas.{buffer_filled}
-use Rattle.opl_codec.proofs.StepLemmas.{Comes, kept_line, kept_read, step_ended, step_last, step_long, step_unread}
+use Rattle.opl_codec.proofs.StepLemmas.{Comes, kept_line, kept_read, not_both, step_ended, step_last, step_long, step_unread}
 use Rattle.opl_codec.proofs.line_buffer.LineBuffer.take_line.Goals as goal
 
 pub returns-in-Some-clause-step : goal.returns-in-Some-clause-step
@@ -40,7 +40,7 @@ loop-len-preserved g c =
     let now = c.in_ok-read_piece.ensures in
     let same = c.read_piece.ensures.same in
     let comes : Comes _ _ c.args.self.now c.loop-len.self = record { read = i.read; line = i.line; few = omega (arith, c.requires.sound.counted); fits = omega (arith, i.sound.counted); taken = i.taken; lines = i.lines } in
-    let pending : c.loop-len.self.pending.items ++ unread c.loop-len.self ≡ c.read_piece.new.self.pending.items = sym (same.0 ∙ kept) in
+    let pending = sym (same.0 ∙ kept) in
     let read = kept_read _ _ _ _ c.keep_unread.new.self comes k.none in
     let filled = buffer_filled _ _ _ (unread c.read_piece.new.self) k.none now.read in
     record {
@@ -49,8 +49,8 @@ loop-len-preserved g c =
       line = subst (λ (t : List ℕ). pieces 10 t ≡ t ∷ []) pending (kept_line _ _ _ _ c.keep_unread.new.self comes c.in_default.ensures);
       sound = now.sound;
       taken = omega (arith, i.taken, k.same.1, now.counted.0, ap length pending, length-append c.loop-len.self.pending.items (unread c.loop-len.self));
-      lines = omega (arith, same.1, k.same.2, i.lines);
-      ended = λ was. let now_ended = ap (λ (b : LineBuffer). b.is_ended) (i.ended was).0 ∙ was in let not = c.if-self.false in absurd cc;
+      lines = same.1 ∙ (k.same.2 ∙ i.lines);
+      ended = λ was. absurd (not_both _ (ap (λ (b : LineBuffer). b.is_ended) (i.ended was).0 ∙ was) c.if-self.false);
       end = now.end;
     }
 
