@@ -55,6 +55,7 @@ role_fault spelled text role target place fault parts is at h = by_cause fault h
   where
     there : HasTarget spelled role place
     there = record { target = text; parts = parts; reference = target; target_is = is; at = omega (arith, at, ap length parts, length-append text (at_sign ∷ role)) }
+
     by_cause : (cause : ValueFault) → TextFault role cause → MemberFault spelled (further_by place cause)
     by_cause faults.Form h = inr (role, place, there, h)
     by_cause (faults.Escape byte) h = (role, place, byte, there, h, refl)

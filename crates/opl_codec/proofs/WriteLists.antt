@@ -1,5 +1,5 @@
 -- A field that is a list, written item by item.
-use Rattle.std.proofs.Common.{◌≡◌, ℕ, zero, suc, ◌+◌, ◌<◌, ◌≤◌, List, [], ◌∷◌, ◌++◌, length, take, get_or, map, flat_map, sym, ◌∙◌, ap, arith, append_assoc, append-nil, add-one, Result, Ok, Err, OnOk}
+use Rattle.std.proofs.Common.{◌≡◌, ℕ, zero, suc, ◌+◌, ◌<◌, List, [], ◌∷◌, ◌++◌, length, take, get_or, map, flat_map, sym, ◌∙◌, ap, arith, append_assoc, append-nil, add-one, Result, Ok, Err, OnOk}
 use Rattle.std.specs.List.{join_with_byte}
 use Rattle.osm_model.specs.Bytes.{comma, space}
 use Rattle.opl_codec.proofs.WriteSteps.{join_with_byte-map}

@@ -1,6 +1,6 @@
 use Rattle.std.proofs.Common.{refl, arith, inl}
 use Rattle.std.proofs.lemmas.Str.{IsCharBoundary-after_ascii}
-use Rattle.opl_codec.proofs.ValueTags.{has_key, key_misfit}
+use Rattle.opl_codec.proofs.ValueTags.{key_misfit}
 use Rattle.opl_codec.proofs.tag_item.cut_key.Goals as goal
 
 pub returns-then-not-is_at-clause-refused : goal.returns-then-not-is_at-clause-refused
