@@ -1,5 +1,5 @@
 -- Lines that are passed over, and what comes after them.
-use Rattle.std.proofs.Common.{◌≡◌, ℕ, ◌+◌, List, [], ◌∷◌, ◌++◌, length, length-append, arith, Option, None, Some, Result, Ok, ◌⊎◌, inl, inr, true, refl, sym, ◌∙◌, subst, append_assoc, append-nil}
+use Rattle.std.proofs.Common.{◌≡◌, ℕ, ◌+◌, List, [], ◌∷◌, ◌++◌, length, length-append, arith, Option, None, Some, Result, Ok, Err, ◌⊎◌, inl, inr, true, refl, sym, ◌∙◌, subst, append_assoc, append-nil}
 use Rattle.std.specs.List.{AllByRecursion}
 use Rattle.std.proofs.KnownBytes.{Consumes-trans}
 use Rattle.opl_codec.specs.Fields.{pieces}
@@ -29,6 +29,10 @@ line_after front text lines line rest ended here = pieces_join 10 front text lin
 -- a line isn't the end
 pub not_end : (r : Result Step LoadFault) (step : Step) (found : Option Change) → r ≡ Ok step → step ≡ steps.Line found → r ≡ Ok steps.End → ⊥
 not_end r step found e f g = cc
+
+-- nor is what is refused
+pub not_end_refused : (r : Result Step LoadFault) (load : LoadFault) → r ≡ Err load → r ≡ Ok steps.End → ⊥
+not_end_refused r load e f = cc
 
 pub skip_more : (old mid new : LinePlace) (come : SkippedTo old mid) → (mid.is_ended ≡ true → ⊥) → TakesLine mid new None → SkippedTo old new
 skip_more old mid new come goes_on step = go come.lines step.whole

@@ -1,5 +1,5 @@
 -- A file that is read line by line: what its lines put, and the line at which it stops.
-use Rattle.std.proofs.Common.{◌≡◌, ◌⊎◌, inl, inr, ℕ, ◌+◌, ◌<◌, List, [], ◌∷◌, ◌++◌, length, length-append, arith, Option, None, Some, IfSome, true, false, refl, sym, ◌∙◌, ap, subst, append_assoc, append-nil}
+use Rattle.std.proofs.Common.{◌≡◌, ◌⊎◌, inl, inr, ℕ, ◌+◌, ◌<◌, List, [], ◌∷◌, ◌++◌, length, length-append, arith, Option, None, Some, Result, Ok, Err, IfSome, true, false, refl, sym, ◌∙◌, ap, subst, append_assoc, append-nil}
 use Rattle.std.specs.Io.KnownBytes.{Consumes, IsAtEnd, prepend_known}
 use Rattle.std.specs.List.{AllByRecursion}
 use Rattle.std.proofs.KnownBytes.{Consumes-nil, prepend_known-nil}
@@ -280,3 +280,10 @@ changes_read_all = reads_all SpellsChanges changes_skipped
 pub change_refused : (known left : Option (List ℕ)) (b : LineBuffer) (mid : LinePlace) (load : LoadFault) (changes : List Change) → ReadsTo SpellsChanges (start known) mid changes → (mid.is_ended ≡ true → ⊥)
     → (load ≡ no_memory) ⊎ Stops mid (place left b) load → IsTold b load → IfSome known (λ file. (load ≡ no_memory) ⊎ StopsChanges file left load)
 change_refused = next_stops SpellsChanges changes_skipped IsNoChange no_change
+
+-- what is refused, or says something, isn't the end
+pub not_refused : {A : Type 0} (r : Result (Option A) LoadFault) (load : LoadFault) → r ≡ Err load → r ≡ Ok None → ⊥
+not_refused r load refused end = cc
+
+pub not_over : {A : Type 0} (r : Result (Option A) LoadFault) (found : Option A) (x : A) → r ≡ Ok found → found ≡ Some x → r ≡ Ok None → ⊥
+not_over r found x was is end = cc

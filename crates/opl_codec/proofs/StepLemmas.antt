@@ -1,10 +1,11 @@
 -- One line more of a reader, or why there is none.
-use Rattle.std.proofs.Common.{◌≡◌, ℕ, suc, add-one, ◌+◌, ◌-◌, ◌≤◌, List, [], ◌∷◌, ◌++◌, length, length-append, take, drop, arith, Option, Result, Ok, Err, IfOk, IfErr, ◌⊎◌, inl, inr, true, refl, sym, ◌∙◌, ap, subst, append_assoc, append-nil}
+use Rattle.std.proofs.Common.{◌≡◌, ℕ, suc, add-one, ◌+◌, ◌-◌, ◌≤◌, List, [], ◌∷◌, ◌++◌, length, length-append, take, drop, arith, Option, Result, Ok, Err, IfOk, IfErr, ◌⊎◌, inl, inr, Bool, true, false, refl, sym, ◌∙◌, ap, subst, append_assoc, append-nil}
 use Rattle.std.specs.Io.KnownBytes.{Consumes, IsAtEnd, Keeps, prepend_known}
 use Rattle.std.proofs.KnownBytes.{Consumes-trans}
 use Rattle.opl_codec.specs.Fields.{pieces}
 use Rattle.opl_codec.specs.LineReads.{IsRefused, IsTooLong, IsUnread, Takes, no_memory}
 use Rattle.opl_codec.specs.internal.Buffering.{IsStep, SaysOrSkipped, place, unread}
+use Rattle.opl_codec.specs.internal.Loading.{IsTold}
 use Rattle.opl_codec.specs.declared.change.Change.{Change}
 use Rattle.opl_codec.specs.declared.fault.LoadFault.{LoadFault}
 use Rattle.opl_codec.specs.declared.line_buffer.LineBuffer.{LineBuffer}
@@ -149,3 +150,18 @@ step_unread k0 k m b0 b n h load none still keeps same why = inr (record {
   number_is = omega (arith, why.0, h.lines);
   why = inr (h.line, inr (subst (λ (t : ℕ). IsUnread t load.fault) (let t : b.total ≡ n.total - length (unread n) = omega (arith, same, ap length still) in t) why.1));
 })
+
+-- a refusal that is told of any buffer is told of this one
+pub told_of : (r : Result Step LoadFault) (b : LineBuffer) → IfErr r (λ load. (buffer : LineBuffer) → IsTold buffer load) → IfErr r (IsTold b)
+told_of (Ok step) b told = tt
+told_of (Err load) b told = told b
+
+-- what the last line says, which has no end
+pub last_said : (r : Result Step LoadFault) (line : List ℕ) (lines : ℕ) → IfOk r (λ step. (found : Option Change) × (step ≡ steps.Line found) × SaysOrSkipped (line ++ []) found)
+    → IfOk r (λ step. ((step ≡ steps.End) × (line ≡ []) × (lines + 1 ≡ lines)) ⊎ ((found : Option Change) × (step ≡ steps.Line found) × SaysOrSkipped line found × (lines + 1 ≡ lines + 1)))
+last_said (Ok step) line lines said = inr (said.0, said.1, subst (λ (text : List ℕ). SaysOrSkipped text said.0) (append-nil line) said.2, refl)
+last_said (Err load) line lines said = tt
+
+-- a reader that goes on hasn't ended
+pub not_both : (b : Bool) → b ≡ true → b ≡ false → ⊥
+not_both b e f = cc

@@ -1,5 +1,5 @@
 -- Lists of items between commas.
-use Rattle.std.proofs.Common.{◌≡◌, ◌≢◌, ℕ, ◌+◌, ◌<◌, ◌≤◌, List, [], ◌∷◌, ◌++◌, length, Bool, true, ◌==◌, Option, Some, None, Bor, MatchOption, refl, sym, ◌∙◌, ap, subst, arith, inl, inr, append_assoc, append-nil, length-append}
+use Rattle.std.proofs.Common.{◌≡◌, ◌≢◌, ℕ, ◌+◌, ◌<◌, ◌≤◌, ◌⊎◌, List, [], ◌∷◌, ◌++◌, length, Bool, true, ◌==◌, Option, Some, None, Bor, MatchOption, refl, sym, ◌∙◌, ap, subst, arith, inl, inr, append_assoc, append-nil, length-append}
 use Rattle.std.specs.Bool.{⊤}
 use Rattle.std.specs.List.{AllByRecursion}
 use Rattle.std.proofs.lemmas.Bool.{eqb-true}
@@ -111,3 +111,23 @@ pub item_there : (text rest item : List ℕ) (before : List (List ℕ)) (more : 
     → MatchOption more (pieces comma rest ≡ item ∷ []) (λ m. (pieces comma rest ≡ item ∷ pieces comma m.now) × (length item + 1 + length m.now ≡ length rest)) → items text ≡ before ++ item ∷ pieces_left comma more
 item_there text rest item before None some here cut = items_are text some ∙ (here ∙ ap (λ p. before ++ p) cut)
 item_there text rest item before (Some m) some here cut = items_are text some ∙ (here ∙ ap (λ p. before ++ p) cut.0)
+
+-- the first values are all, where they are no more than a list may have
+pub all_read : {A : Type 0} (spells : List ℕ → A → Type 0) (parts : List (List ℕ)) (list : List A) → AreFirst spells parts list → length list ≤ LIST_LIMIT → Each spells parts list × (length list ≤ LIST_LIMIT)
+all_read spells parts list are few = (whole are.first, few)
+  where
+    whole : (are.others ≡ []) ⊎ (length list ≡ LIST_LIMIT + 1) → Each spells parts list
+    whole (inl none) = subst (Each spells parts) (ap (λ others. list ++ others) none ∙ append-nil list) are.each
+    whole (inr more) = absurd (omega arith)
+
+-- otherwise they are too many
+pub too_many : {A : Type 0} (spells : List ℕ → A → Type 0) (text : List ℕ) (list : List A) → AreFirst spells (items text) list → LIST_LIMIT < length list → IsTooLong spells text
+too_many spells text list are more = (list ++ are.others, are.each, omega (arith, length-append list are.others))
+
+-- the fault of items that are over no limit is that of their list
+pub list_fault : (good : List ℕ → Type 0) (bad : List ℕ → ValueFault → Type 0) (over : Type 0) (text : List ℕ) (fault : ValueFault) → ListFault good bad ⊥ text fault → ListFault good bad over text fault
+list_fault good bad over text faults.Limit h = absurd h
+list_fault good bad over text faults.Memory h = h
+list_fault good bad over text faults.Form h = h
+list_fault good bad over text (faults.Escape at) h = h
+list_fault good bad over text faults.NodeLocation h = h

@@ -1,12 +1,15 @@
 -- Members: where what they refer to ends.
-use Rattle.std.proofs.Common.{◌≡◌, ℕ, suc, ◌+◌, ◌<◌, List, [], ◌∷◌, ◌++◌, length, get_or, drop, false, ◌==◌, refl, sym, ◌∙◌, ap, subst, arith, add-one, length-append}
+use Rattle.std.proofs.Common.{◌≡◌, ℕ, suc, ◌+◌, ◌<◌, List, [], ◌∷◌, ◌++◌, length, get_or, drop, false, ◌==◌, refl, sym, ◌∙◌, ap, subst, arith, add-one, inr, length-append}
 use Rattle.osm_model.specs.Bytes.{at_sign}
 use Rattle.osm_model.specs.CanonicalLine.{kind_letter}
 use Rattle.osm_model.specs.declared.kind.Kind.{Kind}
 use Rattle.osm_model.specs.declared.kind.Kind.TheVariants as kinds
 use Rattle.osm_model.specs.declared.reference.Ref.{Ref}
 use Rattle.opl_codec.specs.Fields.{Lacks}
-use Rattle.opl_codec.specs.Members.{SpellsReference, HasTarget}
+use Rattle.opl_codec.specs.Members.{SpellsReference, HasTarget, MemberFault}
+use Rattle.opl_codec.specs.ValueFaults.{TextFault, further_by}
+use Rattle.opl_codec.specs.declared.value_fault.ValueFault.{ValueFault}
+use Rattle.opl_codec.specs.declared.value_fault.ValueFault.TheVariants as faults
 use Rattle.opl_codec.proofs.ValueNodes.{no_cut, number_lacks, same_cut}
 
 letter_other : (kind : Kind) → (kind_letter kind == at_sign) ≡ false
@@ -44,3 +47,18 @@ at_there spelled text rest parts = (omega (arith, ap length parts, length-append
 
 pub has_target : (spelled text rest : List ℕ) (target : Ref) → spelled ≡ text ++ at_sign ∷ rest → SpellsReference text target → HasTarget spelled rest (length text + 1)
 has_target spelled text rest target parts is = record { target = text; parts = parts; reference = target; target_is = is; at = refl }
+
+-- the fault of a role is that of its member
+pub role_fault : (spelled text role : List ℕ) (target : Ref) (place : ℕ) (fault : ValueFault) → spelled ≡ text ++ at_sign ∷ role → SpellsReference text target → length spelled ≡ place + length role
+    → TextFault role fault → MemberFault spelled (further_by place fault)
+role_fault spelled text role target place fault parts is at h = by_cause fault h
+  where
+    there : HasTarget spelled role place
+    there = record { target = text; parts = parts; reference = target; target_is = is; at = omega (arith, at, ap length parts, length-append text (at_sign ∷ role)) }
+
+    by_cause : (cause : ValueFault) → TextFault role cause → MemberFault spelled (further_by place cause)
+    by_cause faults.Form h = inr (role, place, there, h)
+    by_cause (faults.Escape byte) h = (role, place, byte, there, h, refl)
+    by_cause faults.NodeLocation h = absurd h
+    by_cause faults.Limit h = absurd h
+    by_cause faults.Memory h = λ e. omega (arith, ap length e, ap length parts, length-append text (at_sign ∷ role))

@@ -1,5 +1,5 @@
 -- Tags: where their keys end, and what makes none.
-use Rattle.std.proofs.Common.{◌≡◌, ◌≢◌, ℕ, ◌+◌, ◌<◌, ◌≤◌, List, ◌∷◌, ◌++◌, length, get_or, take, drop, All, refl, sym, ◌∙◌, ap, subst, arith, inl, inr}
+use Rattle.std.proofs.Common.{◌≡◌, ◌≢◌, ℕ, ◌+◌, ◌<◌, ◌≤◌, List, ◌∷◌, ◌++◌, length, length-append, get_or, take, drop, All, refl, sym, ◌∙◌, ap, subst, arith, inl, inr}
 use Rattle.std.proofs.lemmas.Bool.{cases_lt}
 use Rattle.std.proofs.lemmas.List.{take-append-drop, drop_more, take_all, length-take-le}
 use Rattle.osm_model.specs.Bytes.{equals_sign}
@@ -10,7 +10,11 @@ use Rattle.std.proofs.lemmas.List.Sorted.{All-permutation, length_permutation}
 use Rattle.osm_model.specs.declared.tag.Tag.{Tag}
 use Rattle.opl_codec.specs.Texts.{IsText, TextMisfit}
 use Rattle.opl_codec.specs.Values.{SpellsTags, TagsFit}
-use Rattle.opl_codec.specs.ValueFaults.{KeyMisfit, HasKey}
+use Rattle.opl_codec.specs.ValueFaults.{further_by, HasKey, KeyMisfit, TagFault, TextFault}
+use Rattle.opl_codec.specs.declared.value_fault.ValueFault.{ValueFault}
+use Rattle.opl_codec.specs.declared.value_fault.ValueFault.TheVariants as faults
+use Rattle.opl_codec.specs.internal.ItemPlaces.{escape_within}
+use Rattle.opl_codec.specs.internal.ListParts.{place_in}
 use Rattle.opl_codec.specs.internal.TextParts.{IsTextFront, EndsText}
 
 module _ (spelled : List ℕ) (len : ℕ) (front : IsTextFront spelled len) where
@@ -45,6 +49,21 @@ module _ (spelled : List ℕ) (len : ℕ) (front : IsTextFront spelled len) wher
     text = front.text;
     at = let le = front.within in omega (arith, length-take-le len spelled le);
   }
+
+-- ---- a text that stands after something else
+pub text_within : (spelled : List ℕ) (fault : ValueFault) → TextFault spelled fault → place_in fault ≤ length spelled
+text_within spelled faults.Form h = omega arith
+text_within spelled (faults.Escape at) h = escape_within spelled at h
+text_within spelled faults.NodeLocation h = absurd h
+text_within spelled faults.Limit h = absurd h
+text_within spelled faults.Memory h = omega arith
+
+pub value_fault : (spelled key value : List ℕ) (fault : ValueFault) → spelled ≡ key ++ equals_sign ∷ value → IsText key → TextFault value fault → TagFault spelled (further_by (length key + 1) fault)
+value_fault spelled key value faults.Form parts is h = inr (value, length key + 1, record { key = key; parts = parts; text = is; at = refl }, h)
+value_fault spelled key value (faults.Escape at) parts is h = inr (value, length key + 1, at, record { key = key; parts = parts; text = is; at = refl }, h, refl)
+value_fault spelled key value faults.NodeLocation parts is h = absurd h
+value_fault spelled key value faults.Limit parts is h = absurd h
+value_fault spelled key value faults.Memory parts is h = λ e. omega (arith, ap length e, ap length parts, length-append key (equals_sign ∷ value))
 
 -- ---- all tags of a text
 pub tags_made : (text : List ℕ) (written tags : List Tag) → SpellsTags text written → length written ≤ LIST_LIMIT → All (λ tag. IsShort tag.key × IsShort tag.value) written → IsPermutation written tags → HasDistinctKeys tags

@@ -138,10 +138,7 @@ impl LineBuffer {
         self.from = start + len + 1;
         self.lines += 1;
         let end = &self.pieces.last()[start..start + len];
-        match read_joined(self.alloc, &mut self.pending, end) {
-            Ok(found) => Ok(Step::Line(found)),
-            Err(fault) => Err(refusal(self.lines, fault)),
-        }
+        read_numbered(self.alloc, &mut self.pending, end, self.lines)
     }
 
     /// Reads the last line, which lacks its LF.
@@ -159,10 +156,7 @@ impl LineBuffer {
             return Ok(Step::End);
         }
         self.lines += 1;
-        match read_joined(self.alloc, &mut self.pending, &[]) {
-            Ok(found) => Ok(Step::Line(found)),
-            Err(fault) => Err(refusal(self.lines, fault)),
-        }
+        read_numbered(self.alloc, &mut self.pending, &[], self.lines)
     }
 
     /// Keeps the unread bytes: they are the beginning of a line, or more of it.
@@ -212,6 +206,24 @@ impl LineBuffer {
             Err(PieceFault::Failed) => Err(LoadFault::at(line, OplCause::ReaderFailed)),
             Err(PieceFault::Endless) => Err(LoadFault::at(line, OplCause::Endless)),
         }
+    }
+}
+
+/// Reads the line of this number, as `read_joined` does.
+fn read_numbered(
+    alloc: Global,
+    pending: &mut Vec<u8>,
+    end: &[u8],
+    line: u64,
+) -> Result<Step, LoadFault>
+    ensures read { IfOk result (λ step. (found : Option Change) × (step ≡ Step.Line found) × SaysOrSkipped (pending.old.items ++ end.now) found) }
+    ensures refused { IfErr result (λ load. (load ≡ no_memory) ⊎ ((load.line ≡ line) × IsRefused (pending.old.items ++ end.now) load.fault)) }
+    ensures told { IfErr result (λ load. (buffer : LineBuffer) → IsTold buffer load) }
+    ensures empty { OnOk result (pending.new.items ≡ []) }
+{
+    match read_joined(alloc, pending, end) {
+        Ok(found) => Ok(Step::Line(found)),
+        Err(fault) => Err(refusal(line, fault)),
     }
 }
 

@@ -1,12 +1,13 @@
 //! Sets of objects and lists of changes, read from files.
 
 ghost use Rattle.std.specs.Prelude.{[], ◌∷◌, ◌++◌, ◌≡◌, ◌⊎◌, ◌≤◌, ◌^◌, ℕ, IfErr, IfSome, IfOk, List, MatchResult, OnOk, Option, length};
-ghost use Rattle.osm_model.specs.Elements.{Element, references};
+ghost use Rattle.osm_model.specs.Elements.{Element, reference, references};
 ghost use Rattle.opl_codec.specs.Files.{HoldsChanges, HoldsSet, IsReaderOrMemory, PutSet, SpellsChanges, StopsChanges, StopsFile};
 ghost use Rattle.opl_codec.specs.LineReads.{no_memory};
 ghost use Rattle.opl_codec.specs.declared.change.Change.{Change as ChangeWord};
 ghost use Rattle.opl_codec.specs.declared.fault.LoadFault.{LoadFault};
-ghost use Rattle.opl_codec.specs.internal.Loading.{IsUnput, Knows, Puts, ReadsAll};
+ghost use Rattle.opl_codec.specs.internal.Buffering.{GoesOn, place};
+ghost use Rattle.opl_codec.specs.internal.Loading.{IsUnput, Knows, Puts, ReadsAll, ReadsTo, start};
 
 use crate::cause::OplCause;
 use crate::change::Change;
@@ -66,10 +67,28 @@ fn read_objects<R: Read>(alloc: Global, reader: &mut R) -> Result<Vec<Object>, L
     let mut buffer = LineBuffer::new(alloc);
     let mut references = References::new(alloc);
     let mut objects = Vec::new(alloc);
-    while let Some((line, change)) = buffer.next_change(reader)? {
-        put(&mut objects, &mut references, line, change)?;
-    }
+    put_all(reader, &mut buffer, &mut references, &mut objects)?;
     Ok(objects)
+}
+
+/// Puts what the lines of a reader say after these objects, whose references are known.
+fn put_all<R: Read>(
+    reader: &mut R,
+    buffer: &mut LineBuffer,
+    known: &mut References,
+    objects: &mut Vec<Object>,
+) -> Result<(), LoadFault>
+    requires goes_on { GoesOn (R.remaining reader.old) buffer.old }
+    requires come { ReadsTo PutSet (start (R.remaining reader.old)) (place (R.remaining reader.old) buffer.old) objects.old.items }
+    requires known { Knows known.old (references objects.old.items) }
+    ensures read { OnOk result (ReadsAll PutSet (R.remaining reader.old) objects.new.items) }
+    ensures refused { IfSome (R.remaining reader.old) (λ file. IfErr result (λ load. (load ≡ no_memory) ⊎ StopsFile file (R.remaining reader.new) load)) }
+    ensures memory { IfErr result (λ load. load.fault.cause ≡ OplCause.Memory → load ≡ no_memory) }
+{
+    while let Some((line, change)) = buffer.next_change(reader)? {
+        put(objects, known, line, change)?;
+    }
+    Ok(())
 }
 
 /// Puts the change of this line after these objects, whose references are known.
@@ -85,15 +104,51 @@ fn put(
     ensures refused { IfErr result (λ load. (load ≡ no_memory) ⊎ ((load.line ≡ line) × IsUnput objects.old.items change load.fault)) }
 {
     match change {
-        Change::Put(object) => {
-            if !known.add(objects, object.reference())? {
-                return Err(LoadFault::at(line, OplCause::OutsideModel));
-            }
-            objects.push(object).map_err(AllocError::from)?;
-            Ok(())
-        }
+        Change::Put(object) => put_object(objects, known, line, object),
         Change::Delete(_) => Err(LoadFault::at(line, OplCause::Deleted)),
     }
+}
+
+/// Puts the object of this line after these, whose references are known.
+fn put_object(
+    objects: &mut Vec<Object>,
+    known: &mut References,
+    line: u64,
+    object: Object,
+) -> Result<(), LoadFault>
+    requires { Knows known.old (references objects.old.items) }
+    ensures put { OnOk result (objects.new.items ≡ objects.old.items ++ object ∷ []) }
+    ensures known { OnOk result (Knows known.new (references objects.new.items)) }
+    ensures refused { IfErr result (λ load. (load ≡ no_memory) ⊎ ((load.line ≡ line) × IsUnput objects.old.items (Change.Put object) load.fault)) }
+{
+    add_reference(known, objects, line, &object)?;
+    append_object(objects, object)?;
+    Ok(())
+}
+
+/// Adds the reference of the object of this line, which comes after these.
+fn add_reference(
+    known: &mut References,
+    objects: &[Object],
+    line: u64,
+    object: &Object,
+) -> Result<(), LoadFault>
+    requires { Knows known.old (references objects.now) }
+    ensures known { OnOk result (Knows known.new (references objects.now ++ reference object.now ∷ [])) }
+    ensures refused { IfErr result (λ load. (load ≡ no_memory) ⊎ ((load.line ≡ line) × IsUnput objects.now (Change.Put object.now) load.fault)) }
+{
+    if !known.add(objects, object.reference())? {
+        return Err(LoadFault::at(line, OplCause::OutsideModel));
+    }
+    Ok(())
+}
+
+/// Puts an object after these.
+fn append_object(objects: &mut Vec<Object>, object: Object) -> Result<(), AllocError>
+    ensures { OnOk result (objects.new.items ≡ objects.old.items ++ object ∷ []) }
+{
+    objects.push(object)?;
+    Ok(())
 }
 
 /// The changes that a file holds, one a line, in order (see `read_line`). Lines end with LF, which the

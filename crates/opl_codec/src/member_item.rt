@@ -5,14 +5,14 @@ ghost use Rattle.osm_model.specs.Bytes.{at_sign};
 ghost use Rattle.osm_model.specs.Limits.{IsShort};
 ghost use Rattle.osm_model.specs.declared.reference.Ref.{Ref};
 ghost use Rattle.opl_codec.specs.Texts.{IsText};
-ghost use Rattle.opl_codec.specs.Members.{SpellsReference, SpellsMembers, MembersFit, MemberFault, MembersFault};
+ghost use Rattle.opl_codec.specs.Members.{HasTarget, SpellsReference, SpellsMembers, MembersFit, MemberFault, MembersFault};
 
 use crate::kind_letter::kind_of;
-use crate::list_item::{ListItem, read_list};
+use crate::list_item::{ListItem, further, read_list};
 use crate::make_text::make_text;
 use crate::number::read_number;
 use crate::separator::cut;
-use crate::text_len::text_len;
+use crate::text_len::check_text;
 use crate::value_fault::ValueFault;
 use osm_model::{Member, Ref, TEXT_LIMIT};
 use std::alloc::Global;
@@ -64,21 +64,27 @@ fn cut_member(spelled: &str) -> Result<(Ref, &str), ValueFault>
     ensures role { IfOk result (λ parts. IsText parts.1.now) }
     ensures refused { IfErr result (λ fault. MemberFault spelled.now fault) }
 {
-    let Some((text, _)) = cut(spelled.as_bytes(), b'@') else {
+    let Some((target, role)) = cut_target(spelled) else {
         return Err(ValueFault::Form);
+    };
+    match check_text(role.as_bytes()) {
+        Ok(()) => Ok((target, role)),
+        Err(fault) => Err(further(fault, spelled.len() - role.len())),
+    }
+}
+
+/// What a member refers to, and the text after its `@`.
+fn cut_target(spelled: &str) -> Option<(Ref, &str)>
+    ensures { MatchOption result ((role : List ℕ) (place : ℕ) → HasTarget spelled.now role place → ⊥)
+        (λ parts. (target : List ℕ) × (spelled.now ≡ target ++ at_sign ∷ parts.1.now) × SpellsReference target parts.0) }
+{
+    let Some((text, _)) = cut(spelled.as_bytes(), b'@') else {
+        return None;
     };
     let Some(target) = read_reference(text) else {
-        return Err(ValueFault::Form);
+        return None;
     };
-    let role = &spelled[text.len() + 1..];
-    let role_len = match text_len(role.as_bytes()) {
-        Ok(len) => len,
-        Err(at) => return Err(ValueFault::Escape(text.len() + 1 + at)),
-    };
-    if role_len != role.len() {
-        return Err(ValueFault::Form);
-    }
-    Ok((target, role))
+    Some((target, &spelled[text.len() + 1..]))
 }
 
 /// The reference that is spelled so: the letter of a kind and an id.

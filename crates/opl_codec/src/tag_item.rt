@@ -11,9 +11,9 @@ ghost use Rattle.opl_codec.specs.ValueFaults.{TagFault, TagsFault};
 
 use crate::cut_text::is_at;
 use crate::key_order::with_distinct_keys;
-use crate::list_item::{ListItem, read_list};
+use crate::list_item::{ListItem, further, read_list};
 use crate::make_text::make_text;
-use crate::text_len::text_len;
+use crate::text_len::{check_text, text_len};
 use crate::value_fault::ValueFault;
 use osm_model::{TEXT_LIMIT, Tag, TagList};
 use std::alloc::Global;
@@ -70,6 +70,19 @@ fn cut_tag(spelled: &str) -> Result<(&str, &str), ValueFault>
     ensures texts { IfOk result (λ parts. IsText parts.0.now × IsText parts.1.now) }
     ensures refused { IfErr result (λ fault. TagFault spelled.now fault) }
 {
+    let (key, value) = cut_key(spelled)?;
+    match check_text(value.as_bytes()) {
+        Ok(()) => Ok((key, value)),
+        Err(fault) => Err(further(fault, key.len() + 1)),
+    }
+}
+
+/// The key of a tag, as it is spelled, and the text after its `=`.
+fn cut_key(spelled: &str) -> Result<(&str, &str), ValueFault>
+    ensures parts { IfOk result (λ parts. spelled.now ≡ parts.0.now ++ equals_sign ∷ parts.1.now) }
+    ensures key { IfOk result (λ parts. IsText parts.0.now) }
+    ensures refused { IfErr result (λ fault. TagFault spelled.now fault) }
+{
     let key_len = match text_len(spelled.as_bytes()) {
         Ok(len) => len,
         Err(at) => return Err(ValueFault::Escape(at)),
@@ -77,13 +90,5 @@ fn cut_tag(spelled: &str) -> Result<(&str, &str), ValueFault>
     if !is_at(spelled.as_bytes(), key_len, b'=') {
         return Err(ValueFault::Form);
     }
-    let value = &spelled[key_len + 1..];
-    let value_len = match text_len(value.as_bytes()) {
-        Ok(len) => len,
-        Err(at) => return Err(ValueFault::Escape(key_len + 1 + at)),
-    };
-    if value_len != value.len() {
-        return Err(ValueFault::Form);
-    }
-    Ok((&spelled[..key_len], value))
+    Ok((&spelled[..key_len], &spelled[key_len + 1..]))
 }

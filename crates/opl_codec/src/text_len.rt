@@ -1,10 +1,12 @@
 //! How far a text goes.
 
-ghost use Rattle.std.specs.Prelude.{◌≡◌, MatchResult};
-ghost use Rattle.opl_codec.specs.Texts.{is_free, BadEscapeIn};
+ghost use Rattle.std.specs.Prelude.{◌≡◌, IfErr, MatchResult, OnOk};
+ghost use Rattle.opl_codec.specs.Texts.{is_free, BadEscapeIn, IsText};
+ghost use Rattle.opl_codec.specs.ValueFaults.{TextFault};
 ghost use Rattle.opl_codec.specs.internal.TextParts.{IsTextFront};
 
 use crate::escape::read_escape;
+use crate::value_fault::ValueFault;
 
 /// How far a text goes: just so many bytes at the beginning are a text, and no text goes on after
 /// them. An error is the place of a `%` that begins no escape; what stands before it is a text.
@@ -26,6 +28,18 @@ pub fn text_len(bytes: &[u8]) -> Result<usize, usize>
         }
     }
     Ok(len)
+}
+
+/// That the bytes are a text, to the last.
+pub fn check_text(bytes: &[u8]) -> Result<(), ValueFault>
+    ensures text { OnOk result (IsText bytes.now) }
+    ensures refused { IfErr result (λ fault. TextFault bytes.now fault) }
+{
+    match text_len(bytes) {
+        Ok(len) if len == bytes.len() => Ok(()),
+        Ok(_) => Err(ValueFault::Form),
+        Err(at) => Err(ValueFault::Escape(at)),
+    }
 }
 
 /// Whether the byte stands for itself.

@@ -1,7 +1,7 @@
 //! What is particular to a kind, to text.
 
 ghost use Rattle.std.specs.Prelude.{◌≡◌, ◌++◌, ◌∷◌, length, take, flat_map, OnOk, OnErr};
-ghost use Rattle.osm_model.specs.Bytes.{space};
+ghost use Rattle.osm_model.specs.Bytes.{comma, space};
 ghost use Rattle.osm_model.specs.CanonicalDegrees.{degrees};
 ghost use Rattle.osm_model.specs.CanonicalLine.{body_fields, member_text, members_field, node_text, nodes_field};
 ghost use Rattle.osm_model.specs.Letters.{latitude_letter, longitude_letter};
@@ -28,10 +28,17 @@ fn append_place(place: Coord, out: &mut Vec<u8>) -> Result<(), AllocError>
     ensures ok { OnOk result (out.new.items ≡ out.old.items ++ (space ∷ longitude_letter ∷ degrees place.lon) ++ (space ∷ latitude_letter ∷ degrees place.lat)) }
     ensures err { OnErr result (take (length out.old.items) out.new.items ≡ out.old.items) }
 {
-    out.extend_from_slice(b" x")?;
-    out.extend_from_slice(write_degrees(place.lon()).as_bytes())?;
-    out.extend_from_slice(b" y")?;
-    out.extend_from_slice(write_degrees(place.lat()).as_bytes())
+    append_labelled(b" x", place.lon(), out)?;
+    append_labelled(b" y", place.lat(), out)
+}
+
+/// Appends degrees after these letters.
+fn append_labelled(label: &[u8], value: i32, out: &mut Vec<u8>) -> Result<(), AllocError>
+    ensures ok { OnOk result (out.new.items ≡ out.old.items ++ (label.now ++ degrees value)) }
+    ensures err { OnErr result (take (length out.old.items) out.new.items ≡ out.old.items) }
+{
+    out.extend_from_slice(label)?;
+    out.extend_from_slice(write_degrees(value).as_bytes())
 }
 
 fn append_nodes(nodes: &[i64], out: &mut Vec<u8>) -> Result<(), AllocError>
@@ -43,11 +50,27 @@ fn append_nodes(nodes: &[i64], out: &mut Vec<u8>) -> Result<(), AllocError>
         return Ok(());
     };
     append_node(*first, out)?;
-    for node in others {
-        out.push(b',')?;
-        append_node(*node, out)?;
+    append_other_nodes(others, out)
+}
+
+/// Appends each of these nodes after a comma.
+fn append_other_nodes(nodes: &[i64], out: &mut Vec<u8>) -> Result<(), AllocError>
+    ensures ok { OnOk result (out.new.items ≡ out.old.items ++ flat_map (λ x. comma ∷ node_text x) nodes.now) }
+    ensures err { OnErr result (take (length out.old.items) out.new.items ≡ out.old.items) }
+{
+    for node in nodes {
+        append_other_node(*node, out)?;
     }
     Ok(())
+}
+
+/// Appends a comma and a node.
+fn append_other_node(id: i64, out: &mut Vec<u8>) -> Result<(), AllocError>
+    ensures ok { OnOk result (out.new.items ≡ out.old.items ++ comma ∷ node_text id) }
+    ensures err { OnErr result (take (length out.old.items) out.new.items ≡ out.old.items) }
+{
+    out.push(b',')?;
+    append_node(id, out)
 }
 
 fn append_node(id: i64, out: &mut Vec<u8>) -> Result<(), AllocError>
@@ -72,11 +95,27 @@ fn append_members(members: &[Member], out: &mut Vec<u8>) -> Result<(), AllocErro
         return Ok(());
     };
     append_member(first, out)?;
-    for member in others {
-        out.push(b',')?;
-        append_member(member, out)?;
+    append_other_members(others, out)
+}
+
+/// Appends each of these members after a comma.
+fn append_other_members(members: &[Member], out: &mut Vec<u8>) -> Result<(), AllocError>
+    ensures ok { OnOk result (out.new.items ≡ out.old.items ++ flat_map (λ x. comma ∷ member_text x) members.now) }
+    ensures err { OnErr result (take (length out.old.items) out.new.items ≡ out.old.items) }
+{
+    for member in members {
+        append_other_member(member, out)?;
     }
     Ok(())
+}
+
+/// Appends a comma and a member.
+fn append_other_member(member: &Member, out: &mut Vec<u8>) -> Result<(), AllocError>
+    ensures ok { OnOk result (out.new.items ≡ out.old.items ++ comma ∷ member_text member.now) }
+    ensures err { OnErr result (take (length out.old.items) out.new.items ≡ out.old.items) }
+{
+    out.push(b',')?;
+    append_member(member, out)
 }
 
 fn append_member(member: &Member, out: &mut Vec<u8>) -> Result<(), AllocError>

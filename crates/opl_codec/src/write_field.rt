@@ -2,6 +2,7 @@
 
 ghost use Rattle.std.specs.Prelude.{◌≡◌, ◌++◌, [], ◌∷◌, length, take, flat_map, OnOk, OnErr};
 ghost use Rattle.std.specs.Fmt.{decimal, signed_decimal};
+ghost use Rattle.osm_model.specs.Bytes.{comma};
 ghost use Rattle.osm_model.specs.CanonicalLine.{name_field, meta_fields, tags_field, tag_text, moment, escaped};
 
 use crate::write_moment::moment_text;
@@ -32,11 +33,8 @@ fn append_change(meta: &Meta, out: &mut Vec<u8>) -> Result<(), AllocError>
     ensures ok { OnOk result (out.new.items ≡ out.old.items ++ ((32 ∷ 118 ∷ decimal meta.now.version) ++ ((32 ∷ 100 ∷ 86 ∷ []) ++ ((32 ∷ 99 ∷ signed_decimal meta.now.changeset) ++ (32 ∷ 116 ∷ moment meta.now.stamp))))) }
     ensures err { OnErr result (take (length out.old.items) out.new.items ≡ out.old.items) }
 {
-    out.extend_from_slice(b" v")?;
-    append_number(i64::from(meta.version), out)?;
-    out.extend_from_slice(b" dV c")?;
-    append_number(meta.changeset, out)?;
-    out.extend_from_slice(b" t")?;
+    append_labelled(b" v", i64::from(meta.version), out)?;
+    append_labelled(b" dV c", meta.changeset, out)?;
     append_moment(meta.stamp, out)
 }
 
@@ -45,10 +43,18 @@ fn append_author(meta: &Meta, out: &mut Vec<u8>) -> Result<(), AllocError>
     ensures ok { OnOk result (out.new.items ≡ out.old.items ++ ((32 ∷ 105 ∷ signed_decimal meta.now.uid) ++ (32 ∷ 117 ∷ escaped meta.now.user))) }
     ensures err { OnErr result (take (length out.old.items) out.new.items ≡ out.old.items) }
 {
-    out.extend_from_slice(b" i")?;
-    append_number(meta.uid, out)?;
+    append_labelled(b" i", meta.uid, out)?;
     out.extend_from_slice(b" u")?;
     append_text(&meta.user, out)
+}
+
+/// Appends a number after these letters.
+fn append_labelled(label: &[u8], number: i64, out: &mut Vec<u8>) -> Result<(), AllocError>
+    ensures ok { OnOk result (out.new.items ≡ out.old.items ++ (label.now ++ signed_decimal number)) }
+    ensures err { OnErr result (take (length out.old.items) out.new.items ≡ out.old.items) }
+{
+    out.extend_from_slice(label)?;
+    append_number(number, out)
 }
 
 /// Appends a space and the field of these tags.
@@ -61,11 +67,27 @@ pub fn append_tags(tags: &[Tag], out: &mut Vec<u8>) -> Result<(), AllocError>
         return Ok(());
     };
     append_tag(first, out)?;
-    for tag in others {
-        out.push(b',')?;
-        append_tag(tag, out)?;
+    append_other_tags(others, out)
+}
+
+/// Appends each of these tags after a comma.
+fn append_other_tags(tags: &[Tag], out: &mut Vec<u8>) -> Result<(), AllocError>
+    ensures ok { OnOk result (out.new.items ≡ out.old.items ++ flat_map (λ x. comma ∷ tag_text x) tags.now) }
+    ensures err { OnErr result (take (length out.old.items) out.new.items ≡ out.old.items) }
+{
+    for tag in tags {
+        append_other_tag(tag, out)?;
     }
     Ok(())
+}
+
+/// Appends a comma and a tag.
+fn append_other_tag(tag: &Tag, out: &mut Vec<u8>) -> Result<(), AllocError>
+    ensures ok { OnOk result (out.new.items ≡ out.old.items ++ comma ∷ tag_text tag.now) }
+    ensures err { OnErr result (take (length out.old.items) out.new.items ≡ out.old.items) }
+{
+    out.push(b',')?;
+    append_tag(tag, out)
 }
 
 fn append_tag(tag: &Tag, out: &mut Vec<u8>) -> Result<(), AllocError>
@@ -77,11 +99,13 @@ fn append_tag(tag: &Tag, out: &mut Vec<u8>) -> Result<(), AllocError>
     append_text(&tag.value, out)
 }
 
+/// Appends the field of a moment.
 #[tactic(auto, unfolding(osm_model::specs::CanonicalLine::moment))]
 fn append_moment(stamp: Option<Stamp>, out: &mut Vec<u8>) -> Result<(), AllocError>
-    ensures ok { OnOk result (out.new.items ≡ out.old.items ++ moment stamp) }
-    ensures err { OnErr result (out.new.items ≡ out.old.items) }
+    ensures ok { OnOk result (out.new.items ≡ out.old.items ++ 32 ∷ 116 ∷ moment stamp) }
+    ensures err { OnErr result (take (length out.old.items) out.new.items ≡ out.old.items) }
 {
+    out.extend_from_slice(b" t")?;
     match stamp {
         None => Ok(()),
         Some(stamp) => out.extend_from_slice(&moment_text(stamp)),

@@ -1,7 +1,8 @@
 //! Objects to lines.
 
-ghost use Rattle.std.specs.Prelude.{◌≡◌, ◌++◌, length, take, OnOk, OnErr};
+ghost use Rattle.std.specs.Prelude.{◌≡◌, ◌++◌, ◌∷◌, flat_map, length, take, OnOk, OnErr};
 ghost use Rattle.std.specs.List.{join_with_byte};
+ghost use Rattle.osm_model.specs.CanonicalLine.{body_fields, tags_field};
 ghost use Rattle.opl_codec.specs.Text.{fields_of, text_of};
 
 use crate::out_mode::OutMode;
@@ -52,14 +53,19 @@ fn append_fields(object: &Object, mode: OutMode, out: &mut Vec<u8>) -> Result<()
         OutMode::Ids => Ok(()),
         OutMode::Tags => append_tags(object.tags(), out),
         OutMode::Skel => append_body(object.body(), out),
-        OutMode::Body => {
-            append_tags(object.tags(), out)?;
-            append_body(object.body(), out)
-        }
+        OutMode::Body => append_said(object, out),
         OutMode::Meta => {
             append_meta(object.meta(), out)?;
-            append_tags(object.tags(), out)?;
-            append_body(object.body(), out)
+            append_said(object, out)
         }
     }
+}
+
+/// Appends a space, the tags, and the fields of the body, a space before each.
+fn append_said(object: &Object, out: &mut Vec<u8>) -> Result<(), AllocError>
+    ensures ok { OnOk result (out.new.items ≡ out.old.items ++ flat_map (λ f. 32 ∷ f) (tags_field object.now.tags ∷ body_fields object.now.body)) }
+    ensures err { OnErr result (take (length out.old.items) out.new.items ≡ out.old.items) }
+{
+    append_tags(object.tags(), out)?;
+    append_body(object.body(), out)
 }

@@ -1,5 +1,5 @@
 -- The bytes of a character other than NUL are none of them 0.
-use Rattle.std.proofs.Common.{◌≡◌, ◌≢◌, ℕ, ◌+◌, ◌/◌, Bool, true, false, cond, ltb, [], ◌∷◌, arith}
+use Rattle.std.proofs.Common.{◌≢◌, ℕ, ◌+◌, ◌/◌, Bool, true, false, cond, ltb, [], ◌∷◌, arith}
 use Rattle.std.specs.List.{AllByRecursion}
 use lib.Utf8.{encode, next}
 

@@ -1,11 +1,26 @@
-use Rattle.std.proofs.Common.{arith, ◌≡◌, ℕ, List, ◌-◌, ◌+◌, ◌++◌, ap, ◌∙◌, drop, refl, subst, take}
+use Rattle.std.proofs.Common.{arith, ◌≡◌, ℕ, List, ◌-◌, ◌+◌, ◌⊎◌, ◌++◌, ap, ◌∙◌, drop, IfErr, IfOk, Option, subst, take}
+use Rattle.opl_codec.specs.LineReads.{IsRefused, no_memory}
+use Rattle.opl_codec.specs.declared.change.Change.{Change}
+use Rattle.opl_codec.specs.declared.line_buffer.Step.TheVariants as steps
 use Rattle.opl_codec.specs.internal.Buffering.{SaysOrSkipped, unread}
+use Rattle.opl_codec.proofs.StepLemmas.{told_of}
 use Rattle.opl_codec.proofs.line_buffer.LineBuffer.take_ended.Goals as goal
 
-pub returns-in-Ok-clause-read : goal.returns-in-Ok-clause-read
-returns-in-Ok-clause-read c =
+pub returns-clause-read : goal.returns-clause-read
+returns-clause-read c =
     let from = c.args.self.now.from in
     let len : from + c.args.len - from ≡ c.args.len = omega arith in
     let end : take (from + c.args.len - from) (drop from c.last.result.now) ≡ take c.args.len (unread c.args.self.now) =
     ap (λ (n : ℕ). take n (drop from c.last.result.now)) len ∙ ap (λ (bytes : List ℕ). take c.args.len (drop from bytes)) c.last.ensures in
-    (c.in-Ok.found, refl, subst (λ (t : List ℕ). SaysOrSkipped (c.args.self.now.pending.items ++ t) c.in-Ok.found) end c.in-Ok.ensures.read)
+    subst (λ (text : List ℕ). IfOk c.read_numbered.result (λ step. (found : Option Change) × (step ≡ steps.Line found) × SaysOrSkipped (c.args.self.now.pending.items ++ text) found)) end c.read_numbered.ensures.read
+
+pub returns-clause-refused : goal.returns-clause-refused
+returns-clause-refused c =
+    let from = c.args.self.now.from in
+    let len : from + c.args.len - from ≡ c.args.len = omega arith in
+    let end : take (from + c.args.len - from) (drop from c.last.result.now) ≡ take c.args.len (unread c.args.self.now) =
+    ap (λ (n : ℕ). take n (drop from c.last.result.now)) len ∙ ap (λ (bytes : List ℕ). take c.args.len (drop from bytes)) c.last.ensures in
+    subst (λ (text : List ℕ). IfErr c.read_numbered.result (λ load. (load ≡ no_memory) ⊎ ((load.line ≡ c.args.self.now.lines + 1) × IsRefused (c.args.self.now.pending.items ++ text) load.fault))) end c.read_numbered.ensures.refused
+
+pub returns-clause-told : goal.returns-clause-told
+returns-clause-told c = told_of _ _ c.read_numbered.ensures.told

@@ -7,7 +7,7 @@ use Rattle.opl_codec.specs.declared.line_buffer.LineBuffer.{LineBuffer}
 use Rattle.opl_codec.specs.PieceReads.{PieceRead}
 use Rattle.opl_codec.specs.internal.Buffering.{unread}
 use Rattle.opl_codec.proofs.LineLemmas.{buffer_filled}
-use Rattle.opl_codec.proofs.StepLemmas.{Comes, kept_line, kept_read, step_ended, step_last, step_long, step_unread}
+use Rattle.opl_codec.proofs.StepLemmas.{Comes, kept_line, kept_read, not_both, step_ended, step_last, step_long, step_unread}
 use Rattle.opl_codec.proofs.line_buffer.LineBuffer.take_line.Goals as goal
 
 pub returns-in-Some-clause-step : goal.returns-in-Some-clause-step
@@ -50,7 +50,7 @@ loop-len-preserved g c =
       sound = now.sound;
       taken = omega (arith, i.taken, k.same.1, now.counted.0, ap length pending, length-append c.loop-len.self.pending.items (unread c.loop-len.self));
       lines = same.1 ∙ (k.same.2 ∙ i.lines);
-      ended = λ was. let now_ended = ap (λ (b : LineBuffer). b.is_ended) (i.ended was).0 ∙ was in let not = c.if-self.false in absurd cc;
+      ended = λ was. absurd (not_both _ (ap (λ (b : LineBuffer). b.is_ended) (i.ended was).0 ∙ was) c.if-self.false);
       end = now.end;
     }
 
