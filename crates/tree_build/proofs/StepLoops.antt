@@ -1,5 +1,5 @@
 -- A turn of a step's loop, from what its calls give to the next state.
-use Rattle.std.proofs.Common.{◌≡◌, ℕ, ◌+◌, ◌-◌, ◌<◌, ◌≤◌, List, [], ◌∷◌, ◌++◌, length, map, take, drop, inl, inr, Bool, true, false, eqb, ◌≢◌, IsTrue, Some, None, refl, sym, ap, subst, ◌∙◌, length-append, arith}
+use Rattle.std.proofs.Common.{◌≡◌, ℕ, ◌+◌, ◌-◌, ◌<◌, ◌≤◌, List, [], ◌∷◌, ◌++◌, length, map, take, drop, inl, inr, Bool, true, false, ◌≢◌, IsTrue, Some, None, refl, sym, ap, subst, ◌∙◌, length-append, arith}
 use Rattle.std.specs.List.{flat_map, slice_get, AllByRecursion}
 use Rattle.std.specs.Borrow.{Bor}
 use Rattle.std.proofs.lemmas.List.{drop-drop, length-drop, map-append, take-append-drop, take_more}
@@ -210,21 +210,21 @@ pub wanted_none : {T : Type 0} (olds : List OldNode) (hand : List T) (rest : Lis
 wanted_none olds hand [] empty first = inl (empty, refl)
 wanted_none olds hand (c ∷ cs) empty first = absurd cc
 
-not_none : {T : Type 0} (hand : List T) (len : ℕ) (b : Bool) → len ≡ length hand → b ≡ eqb len 0 → b ≡ false → hand ≢ []
-not_none hand len b len_is test off = λ none. let yes : b ≡ true = test ∙ ap (λ n. eqb n 0) (len_is ∙ ap length none) in absurd cc
+not_none : {T : Type 0} (hand : List T) → 1 ≤ length hand → hand ≢ []
+not_none {T} hand some = λ none. absurd (omega (arith, some, ap (length {A = T}) none))
 
 -- what lies above the last node, with something in hand
-pub wanted_after : {T : Type 0} (olds : List OldNode) (hand : List T) (rest : List (ItemChange T)) (old : OldNode) (len : ℕ) (b : Bool) → len ≡ length hand → b ≡ eqb len 0 → b ≡ false → slice_get olds (length olds - 1) ≡ Some old
+pub wanted_after : {T : Type 0} (olds : List OldNode) (hand : List T) (rest : List (ItemChange T)) (old : OldNode) → 1 ≤ length hand → slice_get olds (length olds - 1) ≡ Some old
     → IsWanted olds hand rest (Some (old.greatest, true))
-wanted_after olds hand rest old len b len_is test off last =
+wanted_after olds hand rest old some last =
     let lt = slice_get_within olds (length olds - 1) old last in
     let end : length olds - 1 + 1 ≡ length olds = omega (arith, lt) in
     let olds_are : olds ≡ take (length olds - 1) olds ++ old ∷ [] =
     sym (take-length olds) ∙ ap (λ n. take n olds) (sym end) ∙ take_more olds (length olds - 1) old lt
     ∙ ap (λ (o : OldNode). take (length olds - 1) olds ++ o ∷ []) (get_or_from_slice_get olds (length olds - 1) old old last) in
-    inr (not_none hand len b len_is test off, take (length olds - 1) olds, old, olds_are, refl, refl)
+    inr (not_none hand some, take (length olds - 1) olds, old, olds_are, refl, refl)
 
 -- this never comes
-pub wanted_never : {T : Type 0} (olds : List OldNode) (hand : List T) (rest : List (ItemChange T)) (len : ℕ) (b : Bool) → len ≡ length hand → b ≡ eqb len 0 → b ≡ false → slice_get olds (length olds - 1) ≡ None → IsWanted olds hand rest None
-wanted_never [] hand rest len b len_is test off last = inr (not_none hand len b len_is test off, refl)
-wanted_never (o ∷ os) hand rest len b len_is test off last = let some = slice_get-get_or (o ∷ os) (length (o ∷ os) - 1) o (omega arith) in absurd cc
+pub wanted_never : {T : Type 0} (olds : List OldNode) (hand : List T) (rest : List (ItemChange T)) → 1 ≤ length hand → slice_get olds (length olds - 1) ≡ None → IsWanted olds hand rest None
+wanted_never [] hand rest some last = inr (not_none hand some, refl)
+wanted_never (o ∷ os) hand rest some last = let there = slice_get-get_or (o ∷ os) (length (o ∷ os) - 1) o (omega arith) in absurd cc
