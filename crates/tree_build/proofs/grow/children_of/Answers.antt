@@ -1,4 +1,4 @@
-use Rattle.std.proofs.Common.{◌≡◌, ◌+◌, ◌∷◌, [], ◌<◌, List, length, drop, sym, ap, subst, ◌∙◌}
+use Rattle.std.proofs.Common.{◌+◌, ◌∷◌, [], List, drop, ap, subst, ◌∙◌}
 use Rattle.std.proofs.lemmas.List.{map-append}
 use Rattle.tree_node.specs.NodeRefs.{link_of, links_of}
 use Rattle.tree_build.specs.declared.piece.NewPiece.{NewPiece}

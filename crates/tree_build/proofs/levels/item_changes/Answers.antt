@@ -1,6 +1,6 @@
-use Rattle.std.proofs.Common.{◌≡◌, ◌∷◌, [], take, sym, ap, ◌∙◌}
+use Rattle.std.proofs.Common.{◌∷◌, [], ap, ◌∙◌}
 use Rattle.std.proofs.lemmas.List.{map-append}
-use Rattle.tree_build.specs.Rebuilding.{changes_of, change_of}
+use Rattle.tree_build.specs.Rebuilding.{change_of}
 use Rattle.tree_build.specs.internal.ItemChanges.{change_meant, changes_meant}
 use Rattle.tree_build.specs.internal.LeafItems.{entry_of}
 use Rattle.tree_build.proofs.HandLemmas.{next_taken}
