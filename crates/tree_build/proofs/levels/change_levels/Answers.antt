@@ -244,3 +244,9 @@ returns-in_err-push-2-clause-used g c = λ entries is height. if_err _ c.from_re
 
 pub returns-in_err-push-2-clause-reasons : goal.returns-in_err-push-2-clause-reasons
 returns-in_err-push-2-clause-reasons g c = λ entries is height. if_err _ c.from_residual-in_err-push-2.result c.from_residual-in_err-push-2.ensures.0
+
+pub returns-clause-stays : goal.returns-clause-stays
+returns-clause-stays g c = c.levels.invariant.stays
+
+pub returns-clause-grows : goal.returns-clause-grows
+returns-clause-grows g c = c.levels.invariant.grows

@@ -156,3 +156,9 @@ returns-in_err-take-clause-used g c = λ entries is lt. if_err _ c.from_residual
 
 pub returns-in_err-take-clause-reasons : goal.returns-in_err-take-clause-reasons
 returns-in_err-take-clause-reasons g c = λ entries is lt can. if_err _ c.from_residual-in_err-take.result c.from_residual-in_err-take.ensures.0
+
+pub returns-clause-stays : goal.returns-clause-stays
+returns-clause-stays g c = c.loop-wanted.invariant.stays
+
+pub returns-clause-grows : goal.returns-clause-grows
+returns-clause-grows g c = c.loop-wanted.invariant.grows
