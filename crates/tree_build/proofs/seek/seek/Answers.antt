@@ -3,7 +3,6 @@ use Rattle.tree_node.specs.NodeRefs.{link_of, node_read}
 use Rattle.tree_node.specs.Nodes.{level_of}
 use Rattle.tree_build.proofs.SeekStates.{seek_done, seek_held, seek_links, seek_next, seek_smaller, seek_start, seek_used}
 use Rattle.tree_build.proofs.DescentLemmas.{sought_top}
-use Rattle.tree_build.proofs.ErrLemmas.{if_err}
 use Rattle.tree_build.proofs.seek.seek.Goals as goal
 
 pub open-requires : goal.open-requires
@@ -53,21 +52,3 @@ returns-clause-node g c = λ tree entries is lt. seek_done _ _ _ _ _ _ _ _ _ _ c
 
 pub returns-clause-used : goal.returns-clause-used
 returns-clause-used g c = λ tree entries is lt. seek_used _ _ _ _ _ _ _ _ _ _ c.loop-found.invariant.state tree entries is lt
-
-pub returns-in_err-found-clause-stays : goal.returns-in_err-found-clause-stays
-returns-in_err-found-clause-stays g c = c.open.ensures.stays
-
-pub returns-in_err-found-clause-grows : goal.returns-in_err-found-clause-grows
-returns-in_err-found-clause-grows g c = c.open.ensures.grows
-
-pub returns-in_err-found-clause-node : goal.returns-in_err-found-clause-node
-returns-in_err-found-clause-node g c = λ tree entries is lt. if_err _ c.from_residual.result c.from_residual.ensures.0
-
-pub returns-in_err-found-clause-old : goal.returns-in_err-found-clause-old
-returns-in_err-found-clause-old g c = if_err _ c.from_residual.result c.from_residual.ensures.0
-
-pub returns-in_err-found-2-clause-node : goal.returns-in_err-found-2-clause-node
-returns-in_err-found-2-clause-node g c = λ tree entries is lt. if_err _ c.from_residual-in_err-found-2.result c.from_residual-in_err-found-2.ensures.0
-
-pub returns-in_err-found-2-clause-old : goal.returns-in_err-found-2-clause-old
-returns-in_err-found-2-clause-old g c = if_err _ c.from_residual-in_err-found-2.result c.from_residual-in_err-found-2.ensures.0

@@ -8,7 +8,6 @@ use Rattle.tree_build.proofs.OldLevels.{old_few}
 use Rattle.tree_build.proofs.SettleLemmas.{edit_at, lone_held, lone_is, lone_new, settling_done, settling_lone, settling_low, settling_next, settling_node, settling_start}
 use Rattle.tree_build.proofs.TreeEdits.{old_then}
 use Rattle.tree_build.proofs.UsedLemmas.{read_down}
-use Rattle.tree_build.proofs.ErrLemmas.{if_err}
 use Rattle.tree_build.proofs.settle.settle.Goals as goal
 
 pub down-init : goal.down-init
@@ -149,33 +148,3 @@ returns-clause-used g c = λ tree top changes entries after are high one top_is 
     read_down (tower Two tree (changed_entries entries changes)) c.args.edits.now c.down.level c.down.level c.index-edits-level.result x (omega arith) c.down.invariant.within c.index-edits-level.is (g.S.Shelf.used c.args.shelf.now x) (g.S.Shelf.used c.down.shelf x)
     (c.down.invariant.used tree top changes entries is are high one top_is x)
     (c.only_child_at.ensures.used (settling_node tree (changed_entries entries changes) c.args.edits.now _ _ _ c.down.level so) (λ none_new. lone_held (g.S.Shelf.holds c.only_child_at.new.shelf) top changes tree entries now c.down.level below c.index-edits-level.result edit_here _ alone few none_new c.down.top.0 so.top_is) x h)
-
-pub returns-in_err-below-clause-stays : goal.returns-in_err-below-clause-stays
-returns-in_err-below-clause-stays g c = λ x. ((λ h. (c.down.invariant.stays x).0 ((c.only_child_at.ensures.stays x).0 h)), (λ h. (c.only_child_at.ensures.stays x).1 ((c.down.invariant.stays x).1 h)))
-
-pub returns-in_err-below-clause-grows : goal.returns-in_err-below-clause-grows
-returns-in_err-below-clause-grows g c = λ x h. c.only_child_at.ensures.grows x (c.down.invariant.grows x h)
-
-pub returns-in_err-below-clause-settled : goal.returns-in_err-below-clause-settled
-returns-in_err-below-clause-settled g c = λ tree top changes entries is are high one digest_is. if_err _ c.from_residual.result c.from_residual.ensures.0
-
-pub returns-in_err-below-clause-used : goal.returns-in_err-below-clause-used
-returns-in_err-below-clause-used g c = λ tree top changes entries is are high one digest_is. if_err _ c.from_residual.result c.from_residual.ensures.0
-
-pub returns-in_err-push_stayed-clause-stays : goal.returns-in_err-push_stayed-clause-stays
-returns-in_err-push_stayed-clause-stays g c = λ x. ((λ h. (c.down.invariant.stays x).0 ((c.only_child_at.ensures.stays x).0 h)), (λ h. (c.only_child_at.ensures.stays x).1 ((c.down.invariant.stays x).1 h)))
-
-pub returns-in_err-push_stayed-clause-grows : goal.returns-in_err-push_stayed-clause-grows
-returns-in_err-push_stayed-clause-grows g c = λ x h. c.only_child_at.ensures.grows x (c.down.invariant.grows x h)
-
-pub returns-in_err-push_stayed-clause-settled : goal.returns-in_err-push_stayed-clause-settled
-returns-in_err-push_stayed-clause-settled g c = λ tree top changes entries is are high one digest_is. if_err _ c.from_residual-in_err-push_stayed.result c.from_residual-in_err-push_stayed.ensures.0
-
-pub returns-in_err-push_stayed-clause-used : goal.returns-in_err-push_stayed-clause-used
-returns-in_err-push_stayed-clause-used g c = λ tree top changes entries is are high one digest_is. if_err _ c.from_residual-in_err-push_stayed.result c.from_residual-in_err-push_stayed.ensures.0
-
-pub returns-clause-stays : goal.returns-clause-stays
-returns-clause-stays g c = λ x. ((λ h. (c.down.invariant.stays x).0 ((c.only_child_at.ensures.stays x).0 h)), (λ h. (c.only_child_at.ensures.stays x).1 ((c.down.invariant.stays x).1 h)))
-
-pub returns-clause-grows : goal.returns-clause-grows
-returns-clause-grows g c = λ x h. c.only_child_at.ensures.grows x (c.down.invariant.grows x h)
