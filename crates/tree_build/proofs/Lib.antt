@@ -10,6 +10,7 @@ pub mod DescentLemmas
 pub mod DifferChanges
 pub mod DifferLemmas
 pub mod DifferSets
+pub mod ErrLemmas
 pub mod FinishLemmas
 pub mod FitLemmas
 pub mod FoundLemmas

@@ -1,8 +1,9 @@
 -- A turn of a step's loop, from what its calls give to the next state.
-use Rattle.std.proofs.Common.{◌≡◌, ℕ, ◌+◌, ◌-◌, ◌<◌, ◌≤◌, List, [], ◌∷◌, ◌++◌, length, map, take, drop, inl, inr, Bool, true, false, IsTrue, Some, None, refl, sym, ap, subst, ◌∙◌, length-append, arith}
-use Rattle.std.specs.List.{flat_map, AllByRecursion}
+use Rattle.std.proofs.Common.{◌≡◌, ℕ, ◌+◌, ◌-◌, ◌<◌, ◌≤◌, List, [], ◌∷◌, ◌++◌, length, map, take, drop, inl, inr, Bool, true, false, ◌≢◌, IsTrue, Some, None, refl, sym, ap, subst, ◌∙◌, length-append, arith}
+use Rattle.std.specs.List.{flat_map, slice_get, AllByRecursion}
 use Rattle.std.specs.Borrow.{Bor}
-use Rattle.std.proofs.lemmas.List.{drop-drop, length-drop, map-append, take-append-drop}
+use Rattle.std.proofs.lemmas.List.{drop-drop, length-drop, map-append, take-append-drop, take_more}
+use Rattle.std.proofs.lemmas.Option.{get_or_from_slice_get, slice_get-get_or, slice_get_within}
 use Rattle.std.proofs.Math.Seq.{take-length, drop-length}
 use Rattle.tree_node.specs.Nodes.{Node}
 use Rattle.tree_node.specs.Order.{IsBelow}
@@ -196,3 +197,34 @@ module _ {T X : Type 0} (meaning : T → X) (key : X → List ℕ) (ends : ℕ �
 
 pub within_rest : {X : Type 0} (xs : List X) (done count : ℕ) → done ≤ length xs → count ≤ length (take (length xs - done) (drop done xs)) → done + count ≤ length xs
 within_rest {X} xs done count within few = omega (arith, few, ap (length {A = X}) (rest_is xs done), length-drop done xs)
+
+-- ---- what is wanted next
+
+-- the first change, with nothing in hand
+pub wanted_first : {T : Type 0} (olds : List OldNode) (hand : List T) (rest : List (ItemChange T)) (change : ItemChange T) → hand ≡ [] → slice_get rest 0 ≡ Some change → IsWanted olds hand rest (Some (change.key, false))
+wanted_first olds hand [] change empty first = absurd cc
+wanted_first olds hand (c ∷ cs) change empty first = let same : c ≡ change = cc in inl (empty, change, cs, ap (λ (d : ItemChange _). d ∷ cs) same, refl, refl)
+
+-- nothing, with nothing in hand and no change
+pub wanted_none : {T : Type 0} (olds : List OldNode) (hand : List T) (rest : List (ItemChange T)) → hand ≡ [] → slice_get rest 0 ≡ None → IsWanted olds hand rest None
+wanted_none olds hand [] empty first = inl (empty, refl)
+wanted_none olds hand (c ∷ cs) empty first = absurd cc
+
+not_none : {T : Type 0} (hand : List T) → 1 ≤ length hand → hand ≢ []
+not_none {T} hand some = λ none. absurd (omega (arith, some, ap (length {A = T}) none))
+
+-- what lies above the last node, with something in hand
+pub wanted_after : {T : Type 0} (olds : List OldNode) (hand : List T) (rest : List (ItemChange T)) (old : OldNode) → 1 ≤ length hand → slice_get olds (length olds - 1) ≡ Some old
+    → IsWanted olds hand rest (Some (old.greatest, true))
+wanted_after olds hand rest old some last =
+    let lt = slice_get_within olds (length olds - 1) old last in
+    let end : length olds - 1 + 1 ≡ length olds = omega (arith, lt) in
+    let olds_are : olds ≡ take (length olds - 1) olds ++ old ∷ [] =
+    sym (take-length olds) ∙ ap (λ n. take n olds) (sym end) ∙ take_more olds (length olds - 1) old lt
+    ∙ ap (λ (o : OldNode). take (length olds - 1) olds ++ o ∷ []) (get_or_from_slice_get olds (length olds - 1) old old last) in
+    inr (not_none hand some, take (length olds - 1) olds, old, olds_are, refl, refl)
+
+-- this never comes
+pub wanted_never : {T : Type 0} (olds : List OldNode) (hand : List T) (rest : List (ItemChange T)) → 1 ≤ length hand → slice_get olds (length olds - 1) ≡ None → IsWanted olds hand rest None
+wanted_never [] hand rest some last = inr (not_none hand some, refl)
+wanted_never (o ∷ os) hand rest some last = let there = slice_get-get_or (o ∷ os) (length (o ∷ os) - 1) o (omega arith) in absurd cc

@@ -12,6 +12,7 @@ use Rattle.tree_build.specs.internal.LeafItems.{entry_of}
 use Rattle.tree_build.proofs.TreeEdits.{edit_inner, edit_leaves, given_inner, given_leaves, held_of, levels_first, levels_more, next_of, nodes_new, nodes_old, old_then, at_top, none_next, tree_edit}
 use Rattle.tree_build.proofs.ReasonLevels.{has_next, reasoned_first, reasoned_next, reasons_inner, reasons_leaves}
 use Rattle.tree_build.proofs.UsedLemmas.{read_more}
+use Rattle.tree_build.proofs.ErrLemmas.{if_err}
 use Rattle.tree_build.proofs.levels.change_levels.Goals as goal
 
 pub step_leaves-requires : goal.step_leaves-requires
@@ -149,3 +150,103 @@ returns-in_err-push-2-clause-stays g c =
 
 pub returns-in_err-push-2-clause-grows : goal.returns-in_err-push-2-clause-grows
 returns-in_err-push-2-clause-grows g c = λ x h. c.step_inner.ensures.grows x (c.levels.invariant.grows x h)
+
+pub returns-in_err-items-clause-stays : goal.returns-in_err-items-clause-stays
+returns-in_err-items-clause-stays g c = λ x. ((λ h. h), (λ h. h))
+
+pub returns-in_err-items-clause-grows : goal.returns-in_err-items-clause-grows
+returns-in_err-items-clause-grows g c = λ x h. h
+
+pub returns-in_err-items-clause-edited : goal.returns-in_err-items-clause-edited
+returns-in_err-items-clause-edited g c = λ entries is height. if_err _ c.from_residual.result c.from_residual.ensures.0
+
+pub returns-in_err-items-clause-used : goal.returns-in_err-items-clause-used
+returns-in_err-items-clause-used g c = λ entries is height. if_err _ c.from_residual.result c.from_residual.ensures.0
+
+pub returns-in_err-items-clause-reasons : goal.returns-in_err-items-clause-reasons
+returns-in_err-items-clause-reasons g c = λ entries is height. if_err _ c.from_residual.result c.from_residual.ensures.0
+
+pub returns-in_err-leaves-clause-stays : goal.returns-in_err-leaves-clause-stays
+returns-in_err-leaves-clause-stays g c = c.step_leaves.ensures.stays
+
+pub returns-in_err-leaves-clause-grows : goal.returns-in_err-leaves-clause-grows
+returns-in_err-leaves-clause-grows g c = c.step_leaves.ensures.grows
+
+pub returns-in_err-leaves-clause-edited : goal.returns-in_err-leaves-clause-edited
+returns-in_err-leaves-clause-edited g c = λ entries is height. if_err _ c.from_residual-in_err-leaves.result c.from_residual-in_err-leaves.ensures.0
+
+pub returns-in_err-leaves-clause-used : goal.returns-in_err-leaves-clause-used
+returns-in_err-leaves-clause-used g c = λ entries is height. if_err _ c.from_residual-in_err-leaves.result c.from_residual-in_err-leaves.ensures.0
+
+pub returns-in_err-leaves-clause-reasons : goal.returns-in_err-leaves-clause-reasons
+returns-in_err-leaves-clause-reasons g c = λ entries is height. if_err _ c.from_residual-in_err-leaves.result c.from_residual-in_err-leaves.ensures.0
+
+pub returns-in_err-next-clause-stays : goal.returns-in_err-next-clause-stays
+returns-in_err-next-clause-stays g c = c.step_leaves.ensures.stays
+
+pub returns-in_err-next-clause-grows : goal.returns-in_err-next-clause-grows
+returns-in_err-next-clause-grows g c = c.step_leaves.ensures.grows
+
+pub returns-in_err-next-clause-edited : goal.returns-in_err-next-clause-edited
+returns-in_err-next-clause-edited g c = λ entries is height. if_err _ c.from_residual-in_err-next.result c.from_residual-in_err-next.ensures.0
+
+pub returns-in_err-next-clause-used : goal.returns-in_err-next-clause-used
+returns-in_err-next-clause-used g c = λ entries is height. if_err _ c.from_residual-in_err-next.result c.from_residual-in_err-next.ensures.0
+
+pub returns-in_err-next-clause-reasons : goal.returns-in_err-next-clause-reasons
+returns-in_err-next-clause-reasons g c = λ entries is height. if_err _ c.from_residual-in_err-next.result c.from_residual-in_err-next.ensures.0
+
+pub returns-in_err-push-clause-stays : goal.returns-in_err-push-clause-stays
+returns-in_err-push-clause-stays g c = c.step_leaves.ensures.stays
+
+pub returns-in_err-push-clause-grows : goal.returns-in_err-push-clause-grows
+returns-in_err-push-clause-grows g c = c.step_leaves.ensures.grows
+
+pub returns-in_err-push-clause-edited : goal.returns-in_err-push-clause-edited
+returns-in_err-push-clause-edited g c = λ entries is height. if_err _ c.from_residual-in_err-push.result c.from_residual-in_err-push.ensures.0
+
+pub returns-in_err-push-clause-used : goal.returns-in_err-push-clause-used
+returns-in_err-push-clause-used g c = λ entries is height. if_err _ c.from_residual-in_err-push.result c.from_residual-in_err-push.ensures.0
+
+pub returns-in_err-push-clause-reasons : goal.returns-in_err-push-clause-reasons
+returns-in_err-push-clause-reasons g c = λ entries is height. if_err _ c.from_residual-in_err-push.result c.from_residual-in_err-push.ensures.0
+
+pub returns-in_err-edit-clause-stays : goal.returns-in_err-edit-clause-stays
+returns-in_err-edit-clause-stays g c =
+    λ x. ((λ h. (c.levels.invariant.stays x).0 ((c.step_inner.ensures.stays x).0 h)), (λ h. (c.step_inner.ensures.stays x).1 ((c.levels.invariant.stays x).1 h)))
+
+pub returns-in_err-edit-clause-grows : goal.returns-in_err-edit-clause-grows
+returns-in_err-edit-clause-grows g c = λ x h. c.step_inner.ensures.grows x (c.levels.invariant.grows x h)
+
+pub returns-in_err-edit-clause-edited : goal.returns-in_err-edit-clause-edited
+returns-in_err-edit-clause-edited g c = λ entries is height. if_err _ c.from_residual-in_err-edit.result c.from_residual-in_err-edit.ensures.0
+
+pub returns-in_err-edit-clause-used : goal.returns-in_err-edit-clause-used
+returns-in_err-edit-clause-used g c = λ entries is height. if_err _ c.from_residual-in_err-edit.result c.from_residual-in_err-edit.ensures.0
+
+pub returns-in_err-edit-clause-reasons : goal.returns-in_err-edit-clause-reasons
+returns-in_err-edit-clause-reasons g c = λ entries is height. if_err _ c.from_residual-in_err-edit.result c.from_residual-in_err-edit.ensures.0
+
+pub returns-in_err-next-2-clause-edited : goal.returns-in_err-next-2-clause-edited
+returns-in_err-next-2-clause-edited g c = λ entries is height. if_err _ c.from_residual-in_err-next-2.result c.from_residual-in_err-next-2.ensures.0
+
+pub returns-in_err-next-2-clause-used : goal.returns-in_err-next-2-clause-used
+returns-in_err-next-2-clause-used g c = λ entries is height. if_err _ c.from_residual-in_err-next-2.result c.from_residual-in_err-next-2.ensures.0
+
+pub returns-in_err-next-2-clause-reasons : goal.returns-in_err-next-2-clause-reasons
+returns-in_err-next-2-clause-reasons g c = λ entries is height. if_err _ c.from_residual-in_err-next-2.result c.from_residual-in_err-next-2.ensures.0
+
+pub returns-in_err-push-2-clause-edited : goal.returns-in_err-push-2-clause-edited
+returns-in_err-push-2-clause-edited g c = λ entries is height. if_err _ c.from_residual-in_err-push-2.result c.from_residual-in_err-push-2.ensures.0
+
+pub returns-in_err-push-2-clause-used : goal.returns-in_err-push-2-clause-used
+returns-in_err-push-2-clause-used g c = λ entries is height. if_err _ c.from_residual-in_err-push-2.result c.from_residual-in_err-push-2.ensures.0
+
+pub returns-in_err-push-2-clause-reasons : goal.returns-in_err-push-2-clause-reasons
+returns-in_err-push-2-clause-reasons g c = λ entries is height. if_err _ c.from_residual-in_err-push-2.result c.from_residual-in_err-push-2.ensures.0
+
+pub returns-clause-stays : goal.returns-clause-stays
+returns-clause-stays g c = c.levels.invariant.stays
+
+pub returns-clause-grows : goal.returns-clause-grows
+returns-clause-grows g c = c.levels.invariant.grows

@@ -13,6 +13,7 @@ use Rattle.tree_build.proofs.RebuildLemmas.{no_changes, some_changes, top_says, 
 use Rattle.tree_build.proofs.SeekStates.{later_held}
 use Rattle.tree_build.proofs.TopReads.{if_ok_both}
 use Rattle.tree_build.proofs.TreeEdits.{old_then}
+use Rattle.tree_build.proofs.ErrLemmas.{if_err}
 use Rattle.tree_build.proofs.rebuilder.rebuild.Goals as goal
 
 pub open-requires : goal.open-requires
@@ -110,3 +111,37 @@ returns-clause-used g c = λ tree entries after free.
     (c.finish.ensures.rebuilt changes entries end edit)
     (c.finish.ensures.used changes entries end edit) in
     subst (λ t. IfOk c.finish.result (λ (rebuilt : Rebuilt). GrownByAtMost (length rebuilt.gone.items + length c.args.changes.now * length (levels Two t entries)) Before After)) number bounded
+
+pub returns-in_err-old-clause-stays : goal.returns-in_err-old-clause-stays
+returns-in_err-old-clause-stays g c = c.open.ensures.stays
+
+pub returns-in_err-old-clause-grows : goal.returns-in_err-old-clause-grows
+returns-in_err-old-clause-grows g c = c.open.ensures.grows
+
+pub returns-in_err-old-clause-rebuilt : goal.returns-in_err-old-clause-rebuilt
+returns-in_err-old-clause-rebuilt g c = λ tree entries is. if_err _ c.from_residual.result c.from_residual.ensures.0
+
+pub returns-in_err-old-clause-used : goal.returns-in_err-old-clause-used
+returns-in_err-old-clause-used g c = λ tree entries is free. if_err _ c.from_residual.result c.from_residual.ensures.0
+
+pub returns-in_err-edited-clause-stays : goal.returns-in_err-edited-clause-stays
+returns-in_err-edited-clause-stays g c = λ x. ((λ h. (c.open.ensures.stays x).0 ((c.change_levels.ensures.stays x).0 h)), (λ h. (c.change_levels.ensures.stays x).1 ((c.open.ensures.stays x).1 h)))
+
+pub returns-in_err-edited-clause-grows : goal.returns-in_err-edited-clause-grows
+returns-in_err-edited-clause-grows g c = λ x h. c.change_levels.ensures.grows x (c.open.ensures.grows x h)
+
+pub returns-in_err-edited-clause-rebuilt : goal.returns-in_err-edited-clause-rebuilt
+returns-in_err-edited-clause-rebuilt g c = λ tree entries is. if_err _ c.from_residual-in_err-edited.result c.from_residual-in_err-edited.ensures.0
+
+pub returns-in_err-edited-clause-used : goal.returns-in_err-edited-clause-used
+returns-in_err-edited-clause-used g c = λ tree entries is free. if_err _ c.from_residual-in_err-edited.result c.from_residual-in_err-edited.ensures.0
+
+pub returns-clause-stays : goal.returns-clause-stays
+returns-clause-stays g c =
+    λ x. (
+      (λ h. (c.open.ensures.stays x).0 ((c.change_levels.ensures.stays x).0 ((c.finish.ensures.stays x).0 h))),
+      (λ h. (c.finish.ensures.stays x).1 ((c.change_levels.ensures.stays x).1 ((c.open.ensures.stays x).1 h))),
+    )
+
+pub returns-clause-grows : goal.returns-clause-grows
+returns-clause-grows g c = λ x h. c.finish.ensures.grows x (c.change_levels.ensures.grows x (c.open.ensures.grows x h))

@@ -16,6 +16,7 @@ use Rattle.tree_build.proofs.ReasonLemmas.{first_reasons, last_reasons, next_rea
 use Rattle.tree_build.proofs.MarkLemmas.{sought_inside}
 use Rattle.tree_build.proofs.UsedLemmas.{way_more}
 use Rattle.tree_build.proofs.StepLoops.{edit_of, end_state, falls, some_of, start_state, turn, went_then, within_rest}
+use Rattle.tree_build.proofs.ErrLemmas.{if_err}
 use Rattle.tree_build.proofs.step.step_inner.Goals as goal
 
 pub loop-wanted-init : goal.loop-wanted-init
@@ -121,3 +122,43 @@ returns-clause-reasons g c = λ entries is lt can.
     let new = map (Inner (number_of c.args.place.tree) c.args.place.level) (pieces (ends_by Two is_marked_link) (changed (λ (link : Link). link.greatest) (flat_map links_in nodes) (changes_meant link_of c.args.changes.now))) in
     subst (λ (os : List OldNode). HaveReasons nodes new keys keys os) (sym (ap (λ v. v.items) c.finish.ensures.olds))
     (last_reasons link_of (λ (link : Link). link.greatest) (ends_by Two is_marked_link) links_in (Inner (number_of c.args.place.tree) c.args.place.level) AreWithin (level_at (levels Two (number_of c.args.place.tree) entries) c.args.place.level) c.args.changes.now can (λ p. refl) c.loop-wanted.work.olds.items c.loop-wanted.work.news.items c.loop-wanted.work.hand.items c.loop-wanted.done (c.loop-wanted.invariant.state entries was lt can) c.in_default.ensures (c.loop-wanted.invariant.reasons entries was lt can))
+
+pub returns-in_err-found-clause-edited : goal.returns-in_err-found-clause-edited
+returns-in_err-found-clause-edited g c = λ entries is lt can. if_err _ c.from_residual.result c.from_residual.ensures.0
+
+pub returns-in_err-found-clause-some : goal.returns-in_err-found-clause-some
+returns-in_err-found-clause-some g c = if_err _ c.from_residual.result c.from_residual.ensures.0
+
+pub returns-in_err-found-clause-used : goal.returns-in_err-found-clause-used
+returns-in_err-found-clause-used g c = λ entries is lt. if_err _ c.from_residual.result c.from_residual.ensures.0
+
+pub returns-in_err-found-clause-reasons : goal.returns-in_err-found-clause-reasons
+returns-in_err-found-clause-reasons g c = λ entries is lt can. if_err _ c.from_residual.result c.from_residual.ensures.0
+
+pub returns-in_err-found-clause-stays : goal.returns-in_err-found-clause-stays
+returns-in_err-found-clause-stays g c =
+    λ x. ((λ h. (c.loop-wanted.invariant.stays x).0 ((c.seek.ensures.stays x).0 h)), (λ h. (c.seek.ensures.stays x).1 ((c.loop-wanted.invariant.stays x).1 h)))
+
+pub returns-in_err-found-clause-grows : goal.returns-in_err-found-clause-grows
+returns-in_err-found-clause-grows g c = λ x h. c.seek.ensures.grows x (c.loop-wanted.invariant.grows x h)
+
+pub returns-in_err-take-clause-grows : goal.returns-in_err-take-clause-grows
+returns-in_err-take-clause-grows g c = λ x h. c.seek.ensures.grows x (c.loop-wanted.invariant.grows x h)
+
+pub returns-in_err-take-clause-edited : goal.returns-in_err-take-clause-edited
+returns-in_err-take-clause-edited g c = λ entries is lt can. if_err _ c.from_residual-in_err-take.result c.from_residual-in_err-take.ensures.0
+
+pub returns-in_err-take-clause-some : goal.returns-in_err-take-clause-some
+returns-in_err-take-clause-some g c = if_err _ c.from_residual-in_err-take.result c.from_residual-in_err-take.ensures.0
+
+pub returns-in_err-take-clause-used : goal.returns-in_err-take-clause-used
+returns-in_err-take-clause-used g c = λ entries is lt. if_err _ c.from_residual-in_err-take.result c.from_residual-in_err-take.ensures.0
+
+pub returns-in_err-take-clause-reasons : goal.returns-in_err-take-clause-reasons
+returns-in_err-take-clause-reasons g c = λ entries is lt can. if_err _ c.from_residual-in_err-take.result c.from_residual-in_err-take.ensures.0
+
+pub returns-clause-stays : goal.returns-clause-stays
+returns-clause-stays g c = c.loop-wanted.invariant.stays
+
+pub returns-clause-grows : goal.returns-clause-grows
+returns-clause-grows g c = c.loop-wanted.invariant.grows

@@ -6,6 +6,7 @@ use Rattle.tree_build.specs.internal.Differing.{IsCounterpart, put}
 use Rattle.tree_build.proofs.DifferLemmas.{adds_changed, adds_missing, adds_same, gone_changes}
 use Rattle.tree_build.proofs.StepLoops.{rest_is}
 use Rattle.tree_build.proofs.TellLemmas.{pushed_node}
+use Rattle.tree_build.proofs.ErrLemmas.{if_err}
 use Rattle.tree_build.proofs.tell.tell_one.Goals as goal
 
 pub returns-in_ok-push-in-Missing-clause-goes_on : goal.returns-in_ok-push-in-Missing-clause-goes_on
@@ -30,3 +31,33 @@ returns-in_ok-tell_gone-in-Same-clause-goes_on c = λ nodes node stand stands ar
     let beside = subst (λ os. IsCounterpart os c.args.new Same) (rest_is c.args.olds.now n) c.in-Same.ensures in
     let a = adds_same c.args.olds.now c.args.new n nodes node stand stands are is c.count_below-below.ensures.below [] (gone_changes (take n c.args.olds.now)) refl beside in
     (a.lost, [], a.more, c.in_ok-tell_gone-in-Same.ensures a.lost a.lost_stand, sym (append-nil (nodes_of c.args.added.now.items)), a.goes)
+
+pub returns-in_err-tell_gone-in-Missing-clause-within : goal.returns-in_err-tell_gone-in-Missing-clause-within
+returns-in_err-tell_gone-in-Missing-clause-within c = if_err _ c.from_residual.result c.from_residual.ensures.0
+
+pub returns-in_err-tell_gone-in-Missing-clause-goes_on : goal.returns-in_err-tell_gone-in-Missing-clause-goes_on
+returns-in_err-tell_gone-in-Missing-clause-goes_on c = λ nodes node olds_are new_is are is. if_err _ c.from_residual.result c.from_residual.ensures.0
+
+pub returns-in_err-push-in-Missing-clause-within : goal.returns-in_err-push-in-Missing-clause-within
+returns-in_err-push-in-Missing-clause-within c = if_err _ c.from_residual-in_err-push-in-Missing.result c.from_residual-in_err-push-in-Missing.ensures.0
+
+pub returns-in_err-push-in-Missing-clause-goes_on : goal.returns-in_err-push-in-Missing-clause-goes_on
+returns-in_err-push-in-Missing-clause-goes_on c = λ nodes node olds_are new_is are is. if_err _ c.from_residual-in_err-push-in-Missing.result c.from_residual-in_err-push-in-Missing.ensures.0
+
+pub returns-in_err-tell_gone-in-Changed-clause-within : goal.returns-in_err-tell_gone-in-Changed-clause-within
+returns-in_err-tell_gone-in-Changed-clause-within c = if_err _ c.from_residual-in_err-tell_gone-in-Changed.result c.from_residual-in_err-tell_gone-in-Changed.ensures.0
+
+pub returns-in_err-tell_gone-in-Changed-clause-goes_on : goal.returns-in_err-tell_gone-in-Changed-clause-goes_on
+returns-in_err-tell_gone-in-Changed-clause-goes_on c = λ nodes node olds_are new_is are is. if_err _ c.from_residual-in_err-tell_gone-in-Changed.result c.from_residual-in_err-tell_gone-in-Changed.ensures.0
+
+pub returns-in_err-push-in-Changed-clause-within : goal.returns-in_err-push-in-Changed-clause-within
+returns-in_err-push-in-Changed-clause-within c = if_err _ c.from_residual-in_err-push-in-Changed.result c.from_residual-in_err-push-in-Changed.ensures.0
+
+pub returns-in_err-push-in-Changed-clause-goes_on : goal.returns-in_err-push-in-Changed-clause-goes_on
+returns-in_err-push-in-Changed-clause-goes_on c = λ nodes node olds_are new_is are is. if_err _ c.from_residual-in_err-push-in-Changed.result c.from_residual-in_err-push-in-Changed.ensures.0
+
+pub returns-in_err-tell_gone-in-Same-clause-within : goal.returns-in_err-tell_gone-in-Same-clause-within
+returns-in_err-tell_gone-in-Same-clause-within c = if_err _ c.from_residual-in_err-tell_gone-in-Same.result c.from_residual-in_err-tell_gone-in-Same.ensures.0
+
+pub returns-in_err-tell_gone-in-Same-clause-goes_on : goal.returns-in_err-tell_gone-in-Same-clause-goes_on
+returns-in_err-tell_gone-in-Same-clause-goes_on c = λ nodes node olds_are new_is are is. if_err _ c.from_residual-in_err-tell_gone-in-Same.result c.from_residual-in_err-tell_gone-in-Same.ensures.0
