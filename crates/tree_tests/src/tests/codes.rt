@@ -23,31 +23,37 @@ const OF_WALKS: [(WalkFault, &str); 5] = [
     (WalkFault::Memory, "no memory"),
 ];
 
-/// The fault is shown so.
-fn is_shown<F: Display>(
+const OF_PUTS: [(PutFault, &str); 2] = [(PutFault::Clash, "N6"), (PutFault::Memory, "no memory")];
+
+const OF_SHELVES: [(ShelfFault, &str); 2] = [
+    (ShelfFault::Missing, "N7"),
+    (ShelfFault::Memory, "no memory"),
+];
+
+const OF_BUILDS: [(BuildFault, &str); 2] = [
+    (BuildFault::Clash, "N6"),
+    (BuildFault::Memory, "no memory"),
+];
+
+/// Each fault is shown so.
+fn are_shown<F: Display>(
     rt: &impl Abort,
     alloc: Global,
-    fault: &F,
-    code: &str,
+    codes: &[(F, &str)],
 ) -> Result<(), AllocError> {
-    let text = format!(in alloc; "{fault}")?;
-    assert_eq!(rt; text.as_str(), code);
+    for (fault, code) in codes {
+        let text = format!(in alloc; "{fault}")?;
+        assert!(rt; text.as_str() == *code, "{code}");
+    }
     Ok(())
 }
 
 #[test]
 fn shows_the_codes(rt: HostRuntime) -> Result<(), AllocError> {
     let alloc = rt.alloc();
-    for (fault, code) in &OF_NODES {
-        is_shown(&rt, alloc, fault, code)?;
-    }
-    for (fault, code) in &OF_WALKS {
-        is_shown(&rt, alloc, fault, code)?;
-    }
-    is_shown(&rt, alloc, &PutFault::Clash, "N6")?;
-    is_shown(&rt, alloc, &PutFault::Memory, "no memory")?;
-    is_shown(&rt, alloc, &ShelfFault::Missing, "N7")?;
-    is_shown(&rt, alloc, &ShelfFault::Memory, "no memory")?;
-    is_shown(&rt, alloc, &BuildFault::Clash, "N6")?;
-    is_shown(&rt, alloc, &BuildFault::Memory, "no memory")
+    are_shown(&rt, alloc, &OF_NODES)?;
+    are_shown(&rt, alloc, &OF_WALKS)?;
+    are_shown(&rt, alloc, &OF_PUTS)?;
+    are_shown(&rt, alloc, &OF_SHELVES)?;
+    are_shown(&rt, alloc, &OF_BUILDS)
 }

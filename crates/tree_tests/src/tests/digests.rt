@@ -1,7 +1,6 @@
 //! Digests: FIPS 180-4's empty message and its message `abc`.
 
-use std::alloc::{AllocError, Global};
-use tree_node::{Digest, digest_of};
+use tree_node::{Digest, Part, digest_of};
 
 const DIGESTS: [(&[u8], &str); 2] = [
     (
@@ -14,22 +13,27 @@ const DIGESTS: [(&[u8], &str); 2] = [
     ),
 ];
 
-/// The digest in lower-case hexadecimal.
-pub(super) fn shown(alloc: Global, digest: &Digest) -> Result<String, AllocError> {
-    let mut text = String::new(alloc);
+/// Whether the text is the digest in lower-case hexadecimal.
+pub(super) fn is_shown(digest: &Digest, text: &str) -> bool {
+    let mut digits = text.chars();
     for byte in digest.0 {
-        text.push_str(format!(in alloc; "{byte:02x}")?.as_str())?;
+        for number in [byte / 16, byte % 16] {
+            if digits.next() != char::from_digit(u32::from(number), 16) {
+                return false;
+            }
+        }
     }
-    Ok(text)
+    digits.next().is_none()
 }
 
 #[test]
-fn digests(rt: HostRuntime) -> Result<(), AllocError> {
+fn digests(rt: HostRuntime) {
     for (message, wanted) in &DIGESTS {
         let digest = digest_of(message);
-        assert_eq!(rt; shown(rt.alloc(), &digest)?.as_str(), *wanted);
+        assert!(rt; is_shown(&digest, wanted), "{wanted}");
+        let part = Part::new(message);
+        assert!(rt; part.digest() == digest && part.bytes() == *message);
         assert!(rt; Digest::from_slice(&digest.0) == Some(digest));
     }
     assert!(rt; Digest::from_slice(b"abc").is_none());
-    Ok(())
 }

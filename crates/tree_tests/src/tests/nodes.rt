@@ -4,8 +4,8 @@ use std::alloc::{AllocError, Global};
 use std::process::Abort;
 use std::test::Fail;
 use tree_node::{
-    Bag, Child, Children, Digest, Entries, Item, NewNode, NodeFault, NodeRef, Part, PutFault,
-    Recorder, Shelf, ShelfFault, Stock, Tree, digest_of, is_below, write_inner, write_leaf,
+    Bag, Child, Children, Digest, Entries, Item, NewNode, NodeFault, NodeRef, PutFault, Recorder,
+    Shelf, ShelfFault, Stock, Tree, digest_of, write_inner, write_leaf,
 };
 
 /// The leaf of the one object `n1 x0 y0`.
@@ -25,8 +25,9 @@ const ITEM: Item<'static> = Item {
 };
 
 /// The inner node of the tree of tags with one child, whose greatest key is 3f, below which there are 2^40
-/// entries, and which is named by the digest of `abc`: the bytes before that digest.
-const INNER: &[u8] = b"\x02\x01\x00\x01\x00\x01\x3f\x00\x00\x01\x00\x00\x00\x00\x00";
+/// entries, and which is named by the digest of `abc`.
+const INNER: &[u8] =
+    b"\x02\x01\x00\x01\x00\x01\x3f\x00\x00\x01\x00\x00\x00\x00\x00\xba\x78\x16\xbf\x8f\x01\xcf\xea\x41\x41\x40\xde\x5d\xae\x22\x23\xb0\x03\x61\xa3\x96\x17\x7a\x9c\xb4\x10\xff\x61\xf2\x00\x15\xad";
 
 /// Bytes that are no node, and why.
 const NO_NODES: [(&[u8], NodeFault); 14] = [
@@ -72,31 +73,31 @@ fn fault_of(bytes: &[u8]) -> Option<NodeFault> {
 #[test]
 fn refuses_bytes_that_are_no_node(rt: HostRuntime) {
     for (bytes, fault) in &NO_NODES {
-        assert_eq!(rt; fault_of(bytes), Some(*fault), "{bytes:?}");
+        assert!(rt; fault_of(bytes) == Some(*fault), "{bytes:?}");
     }
 }
 
 #[test]
 fn reads_the_leaf_of_one_object(rt: HostRuntime) -> Result<(), Fail> {
-    let node = NodeRef::read(LEAF)?;
-    assert!(rt; node.tree() == Tree::Objects);
-    let mut entries = entries_of(node).ok_or("a leaf was expected")?;
+    let Some(mut entries) = entries_of(NodeRef::read(LEAF)?) else {
+        return Err(Fail::from("a leaf was expected"));
+    };
     assert!(rt; entries.number() == 1 && entries.greatest() == KEY);
-    assert!(rt; entries.again().skip_below(KEY).number() == 1);
-    let item = entries.next().ok_or("an entry was expected")?;
+    let Some(item) = entries.next() else {
+        return Err(Fail::from("an entry was expected"));
+    };
     assert!(rt; item.key == KEY && item.value == LINE);
-    assert!(rt; is_below(b"\x01\x80", item.key));
     Ok(())
 }
 
-/// A leaf without entries and the leaf of one object, after what was in the vector before.
+/// A leaf without entries, and the leaf of one object after it.
 #[test]
 fn writes_leaves(rt: HostRuntime) -> Result<(), AllocError> {
-    let mut out = b"before".to_vec(rt.alloc())?;
+    let mut out = Vec::new(rt.alloc());
     write_leaf(Tree::Objects, &[], &mut out)?;
     write_leaf(Tree::Objects, &[ITEM], &mut out)?;
-    assert!(rt; out.as_slice().get(..10) == Some(b"before\x01\x00\x00\x00".as_slice()));
-    assert!(rt; out.as_slice().get(10..) == Some(LEAF));
+    let (front, back) = (out.as_slice().get(..4), out.as_slice().get(4..));
+    assert!(rt; front == Some(b"\x01\x00\x00\x00".as_slice()) && back == Some(LEAF));
     Ok(())
 }
 
@@ -127,57 +128,36 @@ fn children_of(node: NodeRef<'_>) -> Option<Children<'_>> {
     }
 }
 
-/// The bytes are the inner node of one child.
-fn is_inner_node(rt: &impl Abort, bytes: &[u8]) -> Result<(), Fail> {
-    let number = 1 << 40;
-    let digest = digest_of(b"abc");
-    let children = children_of(NodeRef::read(bytes)?).ok_or("an inner node was expected")?;
-    assert!(rt; children.number() == number && children.greatest() == b"\x3f".as_slice());
-    let (before, mut found) = children.skip_below(b"\x3f");
-    assert!(rt; before.is_none() && found.number() == number);
-    let child = found.next().ok_or("a child was expected")?;
-    assert!(rt; child.number == number && child.digest == digest);
+/// The bytes are the inner node of that child alone.
+fn reads_as(rt: &impl Abort, bytes: &[u8], wanted: &Child<'_>) -> Result<(), Fail> {
+    let Some(mut children) = children_of(NodeRef::read(bytes)?) else {
+        return Err(Fail::from("an inner node was expected"));
+    };
+    assert!(rt; children.number() == wanted.number && children.greatest() == wanted.greatest);
+    let Some(child) = children.next() else {
+        return Err(Fail::from("a child was expected"));
+    };
+    assert!(rt; child.number == wanted.number && child.digest == wanted.digest);
     Ok(())
 }
 
 #[test]
 fn reads_and_writes_an_inner_node(rt: HostRuntime) -> Result<(), Fail> {
-    let mut out = Vec::new(rt.alloc());
     let child = Child {
         greatest: b"\x3f",
         number: 1 << 40,
         digest: digest_of(b"abc"),
     };
+    reads_as(&rt, INNER, &child)?;
+    let mut out = Vec::new(rt.alloc());
     write_inner(Tree::Tags, 1, &[child], &mut out)?;
-    let (front, back) = out.as_slice().split_at(15);
-    assert!(rt; front == INNER && back == child.digest.0.as_slice());
-    is_inner_node(&rt, out.as_slice())
+    assert!(rt; out.as_slice() == INNER);
+    Ok(())
 }
 
-/// The two nodes with these digests, over any shelf; the first outlives the second fetch.
-fn fetch_two<'a, S: Shelf<'a>>(
-    shelf: &mut S,
-    one: &Digest,
-    two: &Digest,
-) -> Result<(&'a [u8], &'a [u8]), ShelfFault> {
-    let first = shelf.fetch(one)?;
-    let second = shelf.fetch(two)?;
-    Ok((first, second))
-}
-
-/// A stock of these nodes.
-fn stock_of(alloc: Global, nodes: &[&[u8]]) -> Result<Stock, Fail> {
-    let mut stock = Stock::new(alloc);
-    for node in nodes {
-        stock.put(Vec::from_slice(alloc, *node)?)?;
-    }
-    Ok(stock)
-}
-
-/// A shelf gives these two nodes, of which the first outlives the second fetch.
-fn gives_both<'a, S: Shelf<'a>>(rt: &impl Abort, shelf: &mut S, one: &[u8], two: &[u8]) {
-    let given = fetch_two(shelf, &digest_of(one), &digest_of(two));
-    assert!(rt; given == Ok((one, two)));
+/// Puts these bytes into the stock.
+fn put(alloc: Global, stock: &mut Stock, node: &[u8]) -> Result<Digest, Fail> {
+    Ok(stock.put(node.to_vec(alloc)?)?)
 }
 
 /// A shelf hasn't this node.
@@ -185,23 +165,11 @@ fn lacks<'a, S: Shelf<'a>>(rt: &impl Abort, shelf: &mut S, node: &[u8]) {
     assert!(rt; shelf.fetch(&digest_of(node)) == Err(ShelfFault::Missing));
 }
 
-#[test]
-fn records_and_lends_what_was_used(rt: HostRuntime) -> Result<(), Fail> {
-    let alloc = rt.alloc();
-    // Their digests begin with ca (`a`), 3e (`b`), 2e (`c`) and 18 (`d`).
-    let stock = stock_of(alloc, &[b"a", b"b", b"c", b"a"])?;
-    let mut shelf = stock.shelf(alloc);
-    gives_both(&rt, &mut shelf, b"a", b"b");
-    lacks(&rt, &mut shelf, b"d");
-    let parts = shelf.parts()?;
-    assert!(rt; parts.len() == 2 && parts[0].bytes() == b"b".as_slice());
-    assert!(rt; parts[0].digest() == Part::new(b"b").digest());
-    let mut bag = Bag::new(alloc, parts)?;
-    lacks(&rt, &mut bag, b"c");
-    assert!(rt; !bag.all_used());
-    gives_both(&rt, &mut bag, b"b", b"a");
-    assert!(rt; bag.all_used());
-    Ok(())
+/// A shelf gives the leaf and the empty bytes; the first outlives the second fetch.
+fn gives_both<'a, S: Shelf<'a>>(rt: &impl Abort, shelf: &mut S) {
+    let first = shelf.fetch(&digest_of(LEAF));
+    let second = shelf.fetch(&digest_of(b""));
+    assert!(rt; first == Ok(LEAF) && second == Ok(b"".as_slice()));
 }
 
 /// The greatest key below the node with this digest, over any shelf, or why its bytes are no node.
@@ -216,73 +184,86 @@ fn fetch_greatest<'a, S: Shelf<'a>>(
     }
 }
 
-/// Fetches twice, as nodes, a leaf and bytes that are no node, and then a node that isn't held.
-fn fetches_nodes<'a, S: Shelf<'a>>(rt: &impl Abort, shelf: &mut S) {
-    for _ in 0..2 {
-        assert!(rt; fetch_greatest(shelf, &digest_of(LEAF)) == Ok(Ok(KEY)));
-        assert!(rt; fetch_greatest(shelf, &digest_of(b"")) == Ok(Err(NodeFault::CutShort)));
+/// A shelf gives, as nodes, the leaf and bytes that are no node.
+fn gives_read<'a, S: Shelf<'a>>(rt: &impl Abort, shelf: &mut S) {
+    let leaf = fetch_greatest(shelf, &digest_of(LEAF));
+    let other = fetch_greatest(shelf, &digest_of(b""));
+    assert!(rt; leaf == Ok(Ok(KEY)) && other == Ok(Err(NodeFault::CutShort)));
+}
+
+/// A shelf gives nodes as bytes before and after it gives them as read.
+fn gives_nodes<'a, S: Shelf<'a>>(rt: &impl Abort, shelf: &mut S) {
+    gives_both(rt, shelf);
+    gives_read(rt, shelf);
+    gives_read(rt, shelf);
+    gives_both(rt, shelf);
+    lacks(rt, shelf, b"d");
+}
+
+/// Puts the leaf, twice, and bytes that are no nodes.
+fn put_nodes(alloc: Global, stock: &mut Stock) -> Result<(), Fail> {
+    for node in [LEAF, b"", b"a", LEAF] {
+        put(alloc, stock, node)?;
     }
-    assert!(rt; fetch_greatest(shelf, &digest_of(b"d")) == Err(ShelfFault::Missing));
+    Ok(())
 }
 
-/// A shelf gives the leaf as bytes.
-fn gives_leaf<'a, S: Shelf<'a>>(rt: &impl Abort, shelf: &mut S) {
-    assert!(rt; shelf.fetch(&digest_of(LEAF)) == Ok(LEAF));
-}
-
-#[test]
-fn gives_nodes_as_read(rt: HostRuntime) -> Result<(), Fail> {
-    let alloc = rt.alloc();
-    let stock = stock_of(alloc, &[LEAF, b"", b"a"])?;
-    let mut shelf = stock.shelf(alloc);
-    // A node may be fetched as bytes before and after.
-    gives_leaf(&rt, &mut shelf);
-    fetches_nodes(&rt, &mut shelf);
-    gives_leaf(&rt, &mut shelf);
+/// A bag of the two nodes that the shelf has given.
+fn bag_of<'a>(rt: &impl Abort, alloc: Global, shelf: &Recorder<'a>) -> Result<Bag<'a>, AllocError> {
     let parts = shelf.parts()?;
     assert!(rt; parts.len() == 2);
-    let mut bag = Bag::new(alloc, parts)?;
-    fetches_nodes(&rt, &mut bag);
+    Bag::new(alloc, parts)
+}
+
+/// A bag of the leaf and the empty bytes, which the shelf has given, gives them.
+fn lends(rt: &impl Abort, alloc: Global, shelf: &Recorder<'_>) -> Result<(), AllocError> {
+    let mut bag = bag_of(rt, alloc, shelf)?;
+    gives_nodes(rt, &mut bag);
     assert!(rt; bag.all_used());
     Ok(())
 }
 
 #[test]
-fn puts_a_digested_node(rt: HostRuntime) -> Result<(), Fail> {
+fn records_and_lends_what_was_used(rt: HostRuntime) -> Result<(), Fail> {
     let alloc = rt.alloc();
-    let node = NewNode::new(Vec::from_slice(alloc, LEAF)?);
     let mut stock = Stock::new(alloc);
-    let key = stock.put_new(node)?;
-    assert!(rt; key == digest_of(LEAF));
-    gives_leaf(&rt, &mut stock.shelf(alloc));
-    Ok(())
+    put_nodes(alloc, &mut stock)?;
+    let mut shelf = stock.shelf(alloc);
+    gives_nodes(&rt, &mut shelf);
+    Ok(lends(&rt, alloc, &shelf)?)
 }
 
 #[test]
-fn takes_one_node_away(rt: HostRuntime) -> Result<(), Fail> {
-    let mut stock = stock_of(rt.alloc(), &[b"a", b"b"])?;
-    stock.remove(&digest_of(b"a"));
-    stock.remove(&digest_of(b"c"));
-    let mut shelf = stock.shelf(rt.alloc());
-    assert!(rt; shelf.fetch(&digest_of(b"a")).is_err() && shelf.fetch(&digest_of(b"b")).is_ok());
+fn puts_a_digested_node_and_takes_it_away(rt: HostRuntime) -> Result<(), Fail> {
+    let alloc = rt.alloc();
+    let node = NewNode::new(LEAF.to_vec(alloc)?);
+    let mut stock = Stock::new(alloc);
+    let key = stock.put_new(node)?;
+    assert!(rt; key == digest_of(LEAF));
+    stock.remove(&key);
+    lacks(&rt, &mut stock.shelf(alloc), LEAF);
     Ok(())
-}
-
-/// These bytes, owned; asked for once more where memory was refused.
-fn owned(alloc: Global, bytes: &[u8]) -> Result<Vec<u8>, AllocError> {
-    match bytes.to_vec(alloc) {
-        Ok(copy) => Ok(copy),
-        Err(AllocError) => bytes.to_vec(alloc),
-    }
 }
 
 /// Puts the node. Where memory is refused the stock is as before, and it is put again.
 fn put_at_last(rt: &impl Abort, alloc: Global, stock: &mut Stock, node: &[u8]) -> Result<(), Fail> {
-    if stock.put(owned(alloc, node)?) == Err(PutFault::Memory) {
+    if stock.put(node.to_vec(alloc)?) == Err(PutFault::Memory) {
         lacks(rt, &mut stock.shelf(alloc), node);
-        let key = stock.put(owned(alloc, node)?)?;
+        let key = put(alloc, stock, node)?;
         assert!(rt; key == digest_of(node));
     }
+    Ok(())
+}
+
+/// Fetches the leaf as a node. Where memory is refused no node was used, and it is fetched again.
+fn read_at_last(rt: &impl Abort, shelf: &mut Recorder<'_>) -> Result<(), AllocError> {
+    let key = digest_of(LEAF);
+    let mut fetched = fetch_greatest(shelf, &key);
+    if fetched == Err(ShelfFault::Memory) {
+        assert!(rt; shelf.parts()?.is_empty());
+        fetched = fetch_greatest(shelf, &key);
+    }
+    assert!(rt; fetched == Ok(Ok(KEY)));
     Ok(())
 }
 
@@ -293,14 +274,7 @@ fn fetches_a_node_after_refused_memory(rt: HostRuntime) -> Result<(), Fail> {
     let alloc = rt.alloc();
     let mut stock = Stock::new(alloc);
     put_at_last(&rt, alloc, &mut stock, LEAF)?;
-    let mut shelf = stock.shelf(alloc);
-    let mut fetched = fetch_greatest(&mut shelf, &digest_of(LEAF));
-    if fetched == Err(ShelfFault::Memory) {
-        assert!(rt; shelf.parts()?.is_empty());
-        fetched = fetch_greatest(&mut shelf, &digest_of(LEAF));
-    }
-    assert!(rt; fetched == Ok(Ok(KEY)));
-    Ok(())
+    Ok(read_at_last(&rt, &mut stock.shelf(alloc))?)
 }
 
 /// Fetches the node. Where memory is refused as many nodes are used as before, and it is fetched again.
@@ -309,22 +283,25 @@ fn fetch_at_last(
     shelf: &mut Recorder<'_>,
     node: &[u8],
     used: usize,
-) -> Result<(), Fail> {
+) -> Result<(), AllocError> {
     let key = digest_of(node);
     let mut fetched = shelf.fetch(&key);
     if fetched == Err(ShelfFault::Memory) {
         assert!(rt; shelf.parts()?.len() == used);
         fetched = shelf.fetch(&key);
     }
-    assert!(rt; fetched? == node);
+    assert!(rt; fetched == Ok(node));
     Ok(())
 }
 
-/// A bag of the two nodes that the shelf has given.
-fn bag_of<'a>(rt: &impl Abort, alloc: Global, shelf: &Recorder<'a>) -> Result<Bag<'a>, AllocError> {
-    let parts = shelf.parts()?;
-    assert!(rt; parts.len() == 2);
-    Bag::new(alloc, parts)
+/// Makes a bag, none of whose nodes is used. Where memory is refused it is made again.
+fn lend_at_last(rt: &impl Abort, alloc: Global, shelf: &Recorder<'_>) -> Result<(), AllocError> {
+    let mut bag = bag_of(rt, alloc, shelf);
+    if bag.is_err() {
+        bag = bag_of(rt, alloc, shelf);
+    }
+    assert!(rt; !bag?.all_used());
+    Ok(())
 }
 
 /// Where memory is refused, a stock, a recorder and what a bag is made of are as before, and the next
@@ -339,12 +316,7 @@ fn stands_after_refused_memory(rt: HostRuntime) -> Result<(), Fail> {
     let mut shelf = stock.shelf(alloc);
     fetch_at_last(&rt, &mut shelf, b"a", 0)?;
     fetch_at_last(&rt, &mut shelf, b"b", 1)?;
-    let bag = match bag_of(&rt, alloc, &shelf) {
-        Ok(bag) => bag,
-        Err(AllocError) => bag_of(&rt, alloc, &shelf)?,
-    };
-    assert!(rt; !bag.all_used());
-    Ok(())
+    Ok(lend_at_last(&rt, alloc, &shelf)?)
 }
 
 /// Where memory is refused, a lent vector is as before, and the next call, with ample memory, writes the

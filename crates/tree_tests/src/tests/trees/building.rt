@@ -4,7 +4,7 @@ ghost use Rattle.std.specs.Prelude.{◌<◌, IsTrue};
 ghost use Rattle.tree_node.specs.NodeRefs.{bindings_of};
 ghost use Rattle.tree_node.specs.Trees.{HasTree};
 
-use super::super::digests::shown;
+use super::super::digests::is_shown;
 use super::rows::{BYTES, MARKED, NUMBERS, Row, VALUES, row_of};
 use std::alloc::{AllocError, Global};
 use std::process::Abort;
@@ -37,9 +37,9 @@ pub(super) fn built(
     shape: Shape,
     stock: &mut Stock,
 ) -> Result<Digest, Fail> {
-    has_tree(entries)
-        .then_some(())
-        .ok_or("the entries have no tree")?;
+    if !has_tree(entries) {
+        return Err(Fail::from("the entries have no tree"));
+    }
     Ok(build(alloc, entries, tree, shape, stock)?)
 }
 
@@ -54,7 +54,7 @@ fn has_top(
 ) -> Result<(), Fail> {
     let mut stock = Stock::new(alloc);
     let built = built(alloc, entries, tree, shape, &mut stock)?;
-    assert_eq!(rt; shown(alloc, &built)?.as_str(), top);
+    assert!(rt; is_shown(&built, top), "{top}");
     Ok(())
 }
 
@@ -110,21 +110,6 @@ fn entries_of<'a>(
     Ok(entries)
 }
 
-/// Builds the tree of the row, from these keys and values.
-fn builds(
-    rt: &impl Abort,
-    alloc: Global,
-    row: &Row<'_>,
-    keys: &[u8],
-    len: usize,
-    values: &[String],
-) -> Result<(), Fail>
-    requires { 0 < len }
-{
-    let entries = entries_of(alloc, keys, len, values)?;
-    has_top(rt, alloc, entries.as_slice(), row.tree, row.shape, row.top)
-}
-
 /// Builds the tree of the row, from keys of this many bytes, with the digits of squares as their values or
 /// without values.
 fn build_row(
@@ -138,7 +123,8 @@ fn build_row(
 {
     let keys = numbers(alloc, row.entries, len)?;
     let values = squares(alloc, if valued { row.entries } else { 0 })?;
-    builds(rt, alloc, row, keys.as_slice(), len, values.as_slice())
+    let entries = entries_of(alloc, keys.as_slice(), len, values.as_slice())?;
+    has_top(rt, alloc, entries.as_slice(), row.tree, row.shape, row.top)
 }
 
 /// Builds the trees of these rows.
@@ -152,7 +138,9 @@ fn build_rows(
     requires { 0 < len }
 {
     for line in rows.lines() {
-        let row = row_of(line).ok_or("a row was expected")?;
+        let Some(row) = row_of(line) else {
+            return Err(Fail::from("a row was expected"));
+        };
         build_row(rt, alloc, &row, len, valued)?;
     }
     Ok(())
@@ -185,9 +173,9 @@ fn cuts_the_second_shape_at_marks(rt: HostRuntime) -> Result<(), Fail> {
 
 /// The tree of objects in the second shape. Where memory is refused it is built again.
 fn built_at_last(alloc: Global, entries: &[Entry<'_>], stock: &mut Stock) -> Result<Digest, Fail> {
-    has_tree(entries)
-        .then_some(())
-        .ok_or("the entries have no tree")?;
+    if !has_tree(entries) {
+        return Err(Fail::from("the entries have no tree"));
+    }
     match build(alloc, entries, Tree::Objects, Shape::Two, stock) {
         Err(BuildFault::Memory) => Ok(build(alloc, entries, Tree::Objects, Shape::Two, stock)?),
         built => Ok(built?),
@@ -203,9 +191,11 @@ fn stands_after_refused_memory(rt: HostRuntime) -> Result<(), Fail> {
     let entries = keys_alone(alloc, b"\x09\x0a\x0b", 1)?;
     let mut stock = Stock::new(alloc);
     let top = built_at_last(alloc, entries.as_slice(), &mut stock)?;
-    assert_eq!(rt;
-        shown(alloc, &top)?.as_str(),
-        "fc4cfbb8206c1c9fc900051898370a35d77951a3ee2009605d817b556281fd3a"
+    assert!(rt;
+        is_shown(
+            &top,
+            "fc4cfbb8206c1c9fc900051898370a35d77951a3ee2009605d817b556281fd3a"
+        )
     );
     Ok(())
 }

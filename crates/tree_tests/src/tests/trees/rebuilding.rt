@@ -1,23 +1,22 @@
 //! Rebuilt trees beside those that are built from nothing, of lists and changes made by chance.
 
 ghost use Rattle.std.specs.List.{AllByRecursion};
-ghost use Rattle.std.specs.Prelude.{None, IfSome, IsTrue};
+ghost use Rattle.std.specs.Prelude.{None, IfOk, IfSome, IsTrue};
 ghost use Rattle.tree_build.specs.Rebuilding.{HoldsOldTree, change_of, changed_entries, changes_of, keys_of_changes};
 ghost use Rattle.tree_node.specs.NodeRefs.{bindings_of};
 ghost use Rattle.tree_node.specs.Nodes.{AreRisingFrom};
 ghost use Rattle.tree_node.specs.Recorders.{RecorderHolds};
+ghost use Rattle.tree_node.specs.Stocks.{HasNode};
 ghost use Rattle.tree_node.specs.Trees.{FitsTree, HasTree};
 
 use super::building::{built, has_tree, keys_alone};
-use super::chance::{Chance, Lists, chance_lists, keys};
+use super::chance::{Case, case_of, entries_of, entry_change, entry_changes, keys};
 use std::alloc::{AllocError, Global};
-use std::collections::BTreeSet;
 use std::process::Abort;
 use std::test::Fail;
-use tree_build::{Entry, EntryChange, Rebuilt, Shape, build, rebuild};
+use tree_build::{Entry, EntryChange, Shape, build, rebuild};
 use tree_node::{
-    Digest, ENTRY_LIMIT, KEY_LIMIT, NodeRef, Recorder, Shelf, Stock, Tree, VALUE_LIMIT, digest_of,
-    is_above,
+    Digest, ENTRY_LIMIT, KEY_LIMIT, Recorder, Shelf, ShelfFault, Stock, Tree, VALUE_LIMIT, is_above,
 };
 
 /// Whether what the change puts is within the limits.
@@ -58,153 +57,67 @@ fn can_change(entries: &[Entry<'_>], changes: &[EntryChange]) -> bool
     entries.len().saturating_add(changes.len()) <= ENTRY_LIMIT
 }
 
-/// Changes a tree. Where memory is refused it tries again.
-fn rebuilt_at_last(
-    alloc: Global,
-    shelf: &mut Recorder<'_>,
-    top: &Digest,
-    changes: &[EntryChange],
-) -> Result<Rebuilt, AllocError>
-    requires { HoldsOldTree (RecorderHolds shelf.old) top.now.0 (changes_of changes.now) }
-{
-    match rebuild(alloc, shelf, top, changes) {
-        Ok(rebuilt) => Ok(rebuilt),
-        Err(_) => rebuild(alloc, shelf, top, changes),
-    }
-}
-
-/// How a tree was changed.
-#[derive(Drop)]
-struct Change {
-    old_top: Digest,
-    rebuilt: Rebuilt,
-    /// How many nodes were used.
-    used: usize,
-}
-
-/// Builds the tree of these entries in the stock, and changes it.
-fn changed(
+/// Builds in the stock the tree of these entries, which can be changed so.
+fn build_old(
     alloc: Global,
     entries: &[Entry<'_>],
     changes: &[EntryChange],
     stock: &mut Stock,
-) -> Result<Change, Fail> {
-    can_change(entries, changes)
-        .then_some(())
-        .ok_or("the tree can't be changed so")?;
-    let old_top = build(alloc, entries, Tree::Cells, Shape::Two, stock)?;
-    let mut shelf = stock.shelf(alloc);
-    let rebuilt = rebuilt_at_last(alloc, &mut shelf, &old_top, changes)?;
-    let used = shelf.parts()?.len();
-    Ok(Change {
-        old_top,
-        rebuilt,
-        used,
-    })
-}
-
-/// The nodes of a tree.
-#[derive(Drop)]
-struct Nodes {
-    digests: BTreeSet<Digest>,
-    levels: usize,
-}
-
-/// Reads the node and puts the digests of its children into the list; gives its level.
-fn open_node(
-    shelf: &mut Recorder<'_>,
-    digest: &Digest,
-    open: &mut Vec<Digest>,
-) -> Result<u8, Fail> {
-    let NodeRef::Inner {
-        level,
-        children,
-        ..
-    } = NodeRef::read(shelf.fetch(digest)?)?
-    else {
-        return Ok(0);
-    };
-    for child in children {
-        open.push(child.digest)?;
+) -> Result<Digest, Fail>
+    ensures { IfOk result (λ top. HoldsOldTree (HasNode stock.new) top.0 (changes_of changes.now)) }
+{
+    if !can_change(entries, changes) {
+        return Err(Fail::from("the tree can't be changed so"));
     }
-    Ok(level)
+    Ok(build(alloc, entries, Tree::Cells, Shape::Two, stock)?)
 }
 
-/// The nodes of the tree with this top.
-fn nodes_of(alloc: Global, stock: &Stock, top: &Digest) -> Result<Nodes, Fail> {
-    let mut shelf = stock.shelf(alloc);
-    let mut digests = BTreeSet::new(alloc);
-    let mut open = vec![in alloc; *top]?;
-    let mut highest = 0;
-    for _ in 0..u64::MAX {
-        let Some(digest) = open.pop() else {
-            break;
-        };
-        highest = open_node(&mut shelf, &digest, &mut open)?.max(highest);
-        digests.insert(digest)?;
-    }
-    let levels = usize::from(highest).saturating_add(1);
-    Ok(Nodes { digests, levels })
+/// The level of the node with this digest, which is the second of its bytes.
+fn level_of(alloc: Global, stock: &Stock, digest: &Digest) -> Result<u8, ShelfFault> {
+    let node = stock.shelf(alloc).fetch(digest)?;
+    Ok(node.get(1).copied().unwrap_or(0))
 }
 
-/// The digests of the nodes that were added, each once: of nodes of the new tree, and not of the old one.
-fn added_nodes(
-    rt: &impl Abort,
+/// The top of a tree, and its level.
+#[derive(Clone, Copy)]
+struct Top {
+    digest: Digest,
+    level: u8,
+}
+
+/// The top of the tree of these entries, and the digest of that of the changed ones, which is rebuilt.
+fn rebuilt(
     alloc: Global,
-    rebuilt: &Rebuilt,
-    old: &BTreeSet<Digest>,
-    new: &BTreeSet<Digest>,
-) -> Result<BTreeSet<Digest>, AllocError> {
-    let mut added = BTreeSet::new(alloc);
-    for node in &rebuilt.added {
-        assert!(rt; node.digest == digest_of(node.bytes.as_slice()));
-        assert!(rt; new.contains(&node.digest) && !old.contains(&node.digest));
-        assert!(rt; added.insert(node.digest)?, "added twice");
-    }
-    Ok(added)
+    entries: &[Entry<'_>],
+    changes: &[EntryChange],
+) -> Result<(Top, Digest), Fail> {
+    let mut stock = Stock::new(alloc);
+    let digest = build_old(alloc, entries, changes, &mut stock)?;
+    let level = level_of(alloc, &stock, &digest)?;
+    let rebuilt = rebuild(alloc, &mut stock.shelf(alloc), &digest, changes)?;
+    Ok((Top { digest, level }, rebuilt.top))
 }
 
-/// The digests of the nodes that are gone, each once: of nodes of the old tree, and not of the new one.
-fn gone_nodes(
-    rt: &impl Abort,
-    alloc: Global,
-    rebuilt: &Rebuilt,
-    old: &BTreeSet<Digest>,
-    new: &BTreeSet<Digest>,
-) -> Result<BTreeSet<Digest>, AllocError> {
-    let mut gone = BTreeSet::new(alloc);
-    for digest in &rebuilt.gone {
-        assert!(rt; old.contains(digest) && !new.contains(digest));
-        assert!(rt; gone.insert(*digest)?, "gone twice");
-    }
-    Ok(gone)
+/// The top of the old tree of the case, and the digest of that of the new one, which is rebuilt.
+fn rebuilt_of(alloc: Global, keys: &[[u8; 4]], case: &Case) -> Result<(Top, Digest), Fail> {
+    let entries = entries_of(alloc, keys, case, false)?;
+    let changes = entry_changes(alloc, keys, case)?;
+    rebuilt(alloc, entries.as_slice(), changes.as_slice())
 }
 
-/// Each of these is in one of the two.
-fn are_in(
-    rt: &impl Abort,
-    these: &BTreeSet<Digest>,
-    one: &BTreeSet<Digest>,
-    other: &BTreeSet<Digest>,
-) {
-    for digest in these {
-        assert!(rt; one.contains(digest) || other.contains(digest));
-    }
-}
-
-/// What was rebuilt is what the two trees differ by.
-fn is_difference(
-    rt: &impl Abort,
-    alloc: Global,
-    rebuilt: &Rebuilt,
-    old: &BTreeSet<Digest>,
-    new: &BTreeSet<Digest>,
-) -> Result<(), AllocError> {
-    let added = added_nodes(rt, alloc, rebuilt, old, new)?;
-    are_in(rt, new, old, &added);
-    let gone = gone_nodes(rt, alloc, rebuilt, old, new)?;
-    are_in(rt, old, new, &gone);
-    Ok(())
+/// The top of the new tree of the case, which is built from nothing, and whether it has no entries.
+fn built_of(alloc: Global, keys: &[[u8; 4]], case: &Case) -> Result<(Top, bool), Fail> {
+    let entries = entries_of(alloc, keys, case, true)?;
+    let mut stock = Stock::new(alloc);
+    let digest = built(
+        alloc,
+        entries.as_slice(),
+        Tree::Cells,
+        Shape::Two,
+        &mut stock,
+    )?;
+    let level = level_of(alloc, &stock, &digest)?;
+    Ok((Top { digest, level }, entries.is_empty()))
 }
 
 /// Which kinds of cases there were.
@@ -216,57 +129,22 @@ struct Seen {
     unchanged: bool,
 }
 
-/// A tree that was built from nothing.
-#[derive(Drop)]
-struct Built {
-    top: Digest,
-    nodes: Nodes,
-}
-
-/// Builds the tree of these entries.
-fn built_from_nothing(alloc: Global, entries: &[Entry<'_>]) -> Result<Built, Fail> {
-    let mut stock = Stock::new(alloc);
-    let top = built(alloc, entries, Tree::Cells, Shape::Two, &mut stock)?;
-    let nodes = nodes_of(alloc, &stock, &top)?;
-    Ok(Built { top, nodes })
-}
-
-/// A change of a tree of these nodes to the other one: it is the tree that is built, and few nodes were used.
-fn is_change(
+/// The tree of the case that is rebuilt is the one that is built; what is seen with this case, too.
+fn agrees(
     rt: &impl Abort,
     alloc: Global,
-    change: &Change,
-    changes: usize,
-    old: &Nodes,
-    new: &Built,
-) -> Result<(), AllocError> {
-    assert!(rt; change.rebuilt.top == new.top);
-    let ways = changes.saturating_mul(old.levels);
-    assert!(rt;
-        change.used <= change.rebuilt.gone.len().saturating_add(ways),
-        "too many nodes used"
-    );
-    is_difference(rt, alloc, &change.rebuilt, &old.digests, &new.nodes.digests)
-}
-
-/// The lists of one case: the tree that is rebuilt is the one that is built.
-fn lists_agree(
-    rt: &impl Abort,
-    alloc: Global,
-    lists: &Lists<'_>,
+    keys: &[[u8; 4]],
+    case: &Case,
     seen: Seen,
 ) -> Result<Seen, Fail> {
-    let changes = lists.changes.as_slice();
-    let mut stock = Stock::new(alloc);
-    let change = changed(alloc, lists.old.as_slice(), changes, &mut stock)?;
-    let old = nodes_of(alloc, &stock, &change.old_top)?;
-    let new = built_from_nothing(alloc, lists.new.as_slice())?;
-    is_change(rt, alloc, &change, changes.len(), &old, &new)?;
+    let (old, rebuilt) = rebuilt_of(alloc, keys, case)?;
+    let (new, empty) = built_of(alloc, keys, case)?;
+    assert!(rt; rebuilt == new.digest);
     Ok(Seen {
-        grown: seen.grown || new.nodes.levels > old.levels,
-        lowered: seen.lowered || new.nodes.levels < old.levels,
-        emptied: seen.emptied || lists.new.is_empty(),
-        unchanged: seen.unchanged || new.top == change.old_top,
+        grown: seen.grown | (new.level > old.level),
+        lowered: seen.lowered | (new.level < old.level),
+        emptied: seen.emptied | empty,
+        unchanged: seen.unchanged | (new.digest == old.digest),
     })
 }
 
@@ -276,21 +154,17 @@ fn cases(
     alloc: Global,
     count: usize,
     marked: bool,
-    rounds: usize,
+    rounds: u64,
 ) -> Result<Seen, Fail> {
     let keys = keys(alloc, count, marked)?;
-    let mut chance = Chance {
-        state: (count as u64).saturating_add(1),
-    };
     let mut seen = Seen {
         grown: false,
         lowered: false,
         emptied: false,
         unchanged: false,
     };
-    for _ in 0..rounds {
-        let lists = chance_lists(alloc, &mut chance, keys.as_slice())?;
-        seen = lists_agree(rt, alloc, &lists, seen)?;
+    for round in 0..rounds {
+        seen = agrees(rt, alloc, keys.as_slice(), &case_of(round, count), seen)?;
     }
     Ok(seen)
 }
@@ -315,13 +189,39 @@ fn rebuilds_trees(rt: HostRuntime) -> Result<(), Fail> {
     Ok(())
 }
 
-/// The change that takes this key away.
-fn removal(alloc: Global, key: u8) -> Result<Vec<EntryChange>, AllocError> {
-    let change = EntryChange {
-        key: vec![in alloc; key]?,
-        value: None,
-    };
-    Ok(vec![in alloc; change]?)
+/// Changes a tree, and tells how many nodes were added and how many are gone. Where memory is refused it tries
+/// again.
+fn rebuilt_at_last(
+    alloc: Global,
+    shelf: &mut Recorder<'_>,
+    top: &Digest,
+    changes: &[EntryChange],
+) -> Result<(usize, usize), AllocError>
+    requires { HoldsOldTree (RecorderHolds shelf.old) top.now.0 (changes_of changes.now) }
+{
+    let mut rebuilt = rebuild(alloc, shelf, top, changes);
+    if rebuilt.is_err() {
+        rebuilt = rebuild(alloc, shelf, top, changes);
+    }
+    let rebuilt = rebuilt?;
+    Ok((rebuilt.added.len(), rebuilt.gone.len()))
+}
+
+/// Two leaves and a top are changed into a leaf that is there.
+fn is_lowered(
+    rt: &impl Abort,
+    alloc: Global,
+    entries: &[Entry<'_>],
+    changes: &[EntryChange],
+) -> Result<(), Fail> {
+    let mut stock = Stock::new(alloc);
+    let top = build_old(alloc, entries, changes, &mut stock)?;
+    let mut shelf = stock.shelf(alloc);
+    let (added, gone) = rebuilt_at_last(alloc, &mut shelf, &top, changes)?;
+    let used = shelf.parts()?.len();
+    // The old top, the leaf that goes, and the new top were used.
+    assert!(rt; added == 0 && gone == 2 && used == 3);
+    Ok(())
 }
 
 /// Where memory is refused, the next call, with ample memory, gives the full result. Run with each
@@ -331,11 +231,6 @@ fn rebuilds_after_refused_memory(rt: HostRuntime) -> Result<(), Fail> {
     let alloc = rt.alloc();
     // The second of these keys is marked, so there are two leaves; without the third the first is alone.
     let entries = keys_alone(alloc, b"\x09\x0a\x0b", 1)?;
-    let changes = removal(alloc, 0x0b)?;
-    let mut stock = Stock::new(alloc);
-    let change = changed(alloc, entries.as_slice(), changes.as_slice(), &mut stock)?;
-    assert!(rt; change.rebuilt.added.is_empty() && change.rebuilt.gone.len() == 2);
-    // The old top, the leaf that goes, and the new top.
-    assert!(rt; change.used == 3);
-    Ok(())
+    let changes = vec![in alloc; entry_change(alloc, b"\x0b", None)?]?;
+    is_lowered(&rt, alloc, entries.as_slice(), changes.as_slice())
 }

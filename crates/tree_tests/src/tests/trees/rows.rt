@@ -4,7 +4,7 @@ use tree_build::Shape;
 use tree_node::Tree;
 
 /// The tree of a list made by rule.
-#[derive(Drop)]
+#[derive(Clone, Copy)]
 pub(super) struct Row<'a> {
     pub(super) tree: Tree,
     pub(super) shape: Shape,
@@ -133,23 +133,35 @@ pub(super) const MARKED: [(Tree, &[u8], &str); 9] = [
     ),
 ];
 
+/// The tree of this number.
+fn tree_of(number: &str) -> Option<Tree> {
+    match number {
+        "1" => Some(Tree::Objects),
+        "2" => Some(Tree::Tags),
+        "3" => Some(Tree::Cells),
+        "4" => Some(Tree::Backs),
+        _ => None,
+    }
+}
+
+/// The shape of this number.
+fn shape_of(number: &str) -> Option<Shape> {
+    match number {
+        "1" => Some(Shape::One),
+        "2" => Some(Shape::Two),
+        _ => None,
+    }
+}
+
 /// The row that this line has.
 pub(super) fn row_of(line: &str) -> Option<Row<'_>> {
-    let mut words = line.split(' ');
+    let (tree, rest) = line.split_once(' ')?;
+    let (shape, rest) = rest.split_once(' ')?;
+    let (entries, top) = rest.split_once(' ')?;
     Some(Row {
-        tree: match words.next()? {
-            "1" => Tree::Objects,
-            "2" => Tree::Tags,
-            "3" => Tree::Cells,
-            "4" => Tree::Backs,
-            _ => return None,
-        },
-        shape: match words.next()? {
-            "1" => Shape::One,
-            "2" => Shape::Two,
-            _ => return None,
-        },
-        entries: words.next()?.parse().ok()?,
-        top: words.next()?,
+        tree: tree_of(tree)?,
+        shape: shape_of(shape)?,
+        entries: entries.parse().ok()?,
+        top,
     })
 }

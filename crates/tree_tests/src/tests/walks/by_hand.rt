@@ -8,8 +8,8 @@ ghost use Rattle.tree_node.specs.declared.limits.TheConstants.{ITEM_LIMIT};
 
 use std::alloc::{AllocError, Global};
 use std::test::Fail;
-use tree_node::{Child, Digest, ITEM_LIMIT, Shelf, Stock, Tree, write_inner, write_leaf};
-use tree_walk::{Item, KeyRange, Tally, WalkFault, count, range};
+use tree_node::{Child, Digest, ITEM_LIMIT, Item, Shelf, Stock, Tree, write_inner, write_leaf};
+use tree_walk::{KeyRange, Tally, WalkFault, count, range};
 
 /// The keys from the first to the last, and where `under` holds those that the last begins.
 pub(super) fn range_of<'a>(lo: &'a [u8], hi: &'a [u8], under: bool) -> KeyRange<'a> {
@@ -21,35 +21,38 @@ pub(super) fn all<'a>() -> KeyRange<'a> {
     range_of(b"", b"", true)
 }
 
-/// What a walk gave, and its tally.
+/// How many entries a walk or a count gave, or its fault, and its tally.
+pub(super) type Answer = (Result<u64, WalkFault>, Tally);
+
+/// What a walk gave.
 pub(super) fn walked<'a, S: Shelf<'a>>(
     alloc: Global,
     shelf: &mut S,
     top: &Digest,
-    tree: Tree,
     keys: &KeyRange<'_>,
-) -> Result<(Result<Vec<Item<'a>>, WalkFault>, Tally), Fail> {
+) -> Result<Answer, Fail> {
     if !keys.contains(keys.lo) {
         return Err(Fail::from("the range is empty"));
     }
     let mut tally = Tally::default();
-    let found = range(alloc, shelf, top, tree, keys, &mut tally);
-    Ok((found, tally))
+    match range(alloc, shelf, top, Tree::Tags, keys, &mut tally) {
+        Ok(items) => Ok((Ok(items.len() as u64), tally)),
+        Err(fault) => Ok((Err(fault), tally)),
+    }
 }
 
-/// What a count gave, and its tally.
+/// What a count gave.
 pub(super) fn counted<'a, S: Shelf<'a>>(
     alloc: Global,
     shelf: &mut S,
     top: &Digest,
-    tree: Tree,
     keys: &KeyRange<'_>,
-) -> Result<(Result<u64, WalkFault>, Tally), Fail> {
+) -> Result<Answer, Fail> {
     if !keys.contains(keys.lo) {
         return Err(Fail::from("the range is empty"));
     }
     let mut tally = Tally::default();
-    let number = count(alloc, shelf, top, tree, keys, &mut tally);
+    let number = count(alloc, shelf, top, Tree::Tags, keys, &mut tally);
     Ok((number, tally))
 }
 
@@ -68,17 +71,39 @@ pub(super) fn keys(
     Ok(bytes)
 }
 
-/// The entry of this key, with itself as its value.
-fn entry_of(key: &[u8]) -> Result<Item<'_>, Fail>
-    ensures { IfOk result (λ item. FitsEntry (binding_of item)) }
+/// The entry of this key, of which at most 65,535 bytes are taken, with itself as its value.
+fn entry_of(key: &[u8]) -> Item<'_>
+    ensures { FitsEntry (binding_of result) }
 {
-    if key.len() < 65_536 {
-        return Ok(Item { key, value: key });
-    }
-    Err(Fail::from("the key is too long"))
+    let key = &key[..key.len().min(65_535)];
+    Item { key, value: key }
 }
 
-/// Puts the leaf of these keys, cut into keys of this many bytes.
+/// The entries of these keys, which are cut into keys of this many bytes.
+fn entries_of(alloc: Global, keys: &[u8], len: usize) -> Result<Vec<Item<'_>>, AllocError>
+    requires { 0 < len }
+    ensures { IfOk result (λ items. All (λ item. FitsEntry (binding_of item)) items.items) }
+{
+    let mut items = Vec::new(alloc);
+    for key in keys.chunks(len) {
+        items.push(entry_of(key))?;
+    }
+    Ok(items)
+}
+
+/// The bytes of the leaf of these keys, cut into keys of this many bytes.
+fn leaf_of(alloc: Global, tree: Tree, keys: &[u8], len: usize) -> Result<Vec<u8>, AllocError>
+    requires { 0 < len }
+{
+    let items = entries_of(alloc, keys, len)?;
+    let mut bytes = Vec::new(alloc);
+    if items.len() <= ITEM_LIMIT {
+        write_leaf(tree, items.as_slice(), &mut bytes)?;
+    }
+    Ok(bytes)
+}
+
+/// Puts that leaf.
 pub(super) fn put_leaf(
     alloc: Global,
     stock: &mut Stock,
@@ -88,15 +113,7 @@ pub(super) fn put_leaf(
 ) -> Result<Digest, Fail>
     requires { 0 < len }
 {
-    let mut items = Vec::new(alloc);
-    for key in keys.chunks(len) {
-        items.push(entry_of(key)?)?;
-    }
-    let mut bytes = Vec::new(alloc);
-    if items.len() <= ITEM_LIMIT {
-        write_leaf(tree, items.as_slice(), &mut bytes)?;
-    }
-    Ok(stock.put(bytes)?)
+    Ok(stock.put(leaf_of(alloc, tree, keys, len)?)?)
 }
 
 /// Whether an inner node with these children can be written.

@@ -17,11 +17,10 @@ fn is_refused(
     fetches: u64,
 ) -> Result<(), Fail> {
     let mut shelf = stock.shelf(alloc);
-    let (found, tally) = walked(alloc, &mut shelf, top, Tree::Tags, &all())?;
-    assert!(rt; found.err() == Some(fault), "{fault:?}");
+    let answer = walked(alloc, &mut shelf, top, &all())?;
     assert!(rt;
-        tally == Tally { calls: 1, fetches },
-        "{fault:?}: {tally:?}"
+        answer == (Err(fault), Tally { calls: 1, fetches }),
+        "{fault:?}"
     );
     Ok(())
 }
@@ -34,41 +33,56 @@ fn refuses_a_top(rt: HostRuntime) -> Result<(), Fail> {
     let junk = stock.put(b"\x05\x00\x00\x00".to_vec(alloc)?)?;
     let other = put_named(alloc, &mut stock, OTHER)?;
     let malformed = WalkFault::Malformed(NodeFault::BadTreeOrLevel);
-    is_refused(
-        &rt,
-        alloc,
-        &stock,
-        &digest_of(b"nothing"),
-        WalkFault::Missing,
-        0,
-    )?;
-    is_refused(&rt, alloc, &stock, &junk, malformed, 1)?;
-    is_refused(&rt, alloc, &stock, &other, WalkFault::WrongTreeOrLevel, 1)
+    let tops = [
+        (digest_of(b"nothing"), WalkFault::Missing, 0),
+        (junk, malformed, 1),
+        (other, WalkFault::WrongTreeOrLevel, 1),
+    ];
+    for (top, fault, fetches) in &tops {
+        is_refused(&rt, alloc, &stock, top, *fault, *fetches)?;
+    }
+    Ok(())
 }
-
-/// A leaf that the rows name: its tree, and its keys of one byte each. Of none there is a digest alone.
-type Leaf = Option<(Tree, &'static [u8])>;
 
 /// A child as its parent states it: the greatest key below it, the number of entries, and which node it is.
 type Stated<Node> = (&'static [u8], u64, Node);
 
-const EMPTY: Leaf = Some((Tree::Tags, b""));
+/// A node that the rows name.
+#[derive(Clone, Copy)]
+enum Named {
+    /// A leaf: its tree, and its keys of one byte each.
+    Leaf(Tree, &'static [u8]),
+    /// An inner node of level 1, and the keys of the leaves below it.
+    Inner(&'static [Stated<&'static [u8]>]),
+    /// A digest that nothing has.
+    Missing,
+}
 
-const ONE: Leaf = Some((Tree::Tags, b"a"));
+const ONE: Named = Named::Leaf(Tree::Tags, b"a");
 
-const FIRST: Leaf = Some((Tree::Tags, b"bc"));
+const FIRST: Named = Named::Leaf(Tree::Tags, b"bc");
 
-const LAST: Leaf = Some((Tree::Tags, b"cd"));
+/// A leaf that begins with the last key of the first one.
+const LAST: Named = Named::Leaf(Tree::Tags, b"cd");
 
-const OTHER: Leaf = Some((Tree::Backs, b"a"));
+const OTHER: Named = Named::Leaf(Tree::Backs, b"a");
 
-/// Two leaves of which the second begins with the last key of the first.
-const BOTH: &[Stated<Leaf>] = &[(b"c", 2, FIRST), (b"d", 2, LAST)];
+const OVER_ONE: Named = Named::Inner(&[(b"a", 1, b"a")]);
 
-/// Tops over leaves: their level and their children, how a walk is refused, and the fetches.
-const OVER_LEAVES: [(u8, &[Stated<Leaf>], WalkFault, u64); 10] = [
-    (1, &[(b"a", 1, ONE), (b"b", 1, None)], WalkFault::Missing, 2),
-    (1, &[(b"b", 2, None)], WalkFault::Missing, 1),
+const OVER_FIRST: Named = Named::Inner(&[(b"c", 2, b"bc")]);
+
+/// A node over leaves of which the second begins with the last key of the first.
+const OVER_BOTH: Named = Named::Inner(&[(b"c", 2, b"bc"), (b"d", 2, b"cd")]);
+
+/// Tops: their level and their children, how a walk is refused, and the fetches.
+const TOPS: [(u8, &[Stated<Named>], WalkFault, u64); 13] = [
+    (
+        1,
+        &[(b"a", 1, ONE), (b"b", 1, Named::Missing)],
+        WalkFault::Missing,
+        2,
+    ),
+    (1, &[(b"b", 2, Named::Missing)], WalkFault::Missing, 1),
     // A leaf where an inner node has to be, and a leaf of another tree.
     (2, &[(b"a", 1, ONE)], WalkFault::WrongTreeOrLevel, 2),
     (1, &[(b"a", 1, OTHER)], WalkFault::WrongTreeOrLevel, 2),
@@ -78,89 +92,75 @@ const OVER_LEAVES: [(u8, &[Stated<Leaf>], WalkFault, u64); 10] = [
     (1, &[(b"c", 3, FIRST)], WalkFault::Disagrees, 2),
     (1, &[(b"c", 1, FIRST)], WalkFault::Disagrees, 2),
     // A leaf without entries, which no number fits.
-    (1, &[(b"", 1, EMPTY)], WalkFault::Disagrees, 2),
-    // A leaf whose first key is its left bound.
-    (1, BOTH, WalkFault::Disagrees, 3),
-];
-
-/// The same of tops over inner nodes of level 1, which are told by their children.
-const OVER_NODES: [(u8, &[Stated<&[Stated<Leaf>]>], WalkFault, u64); 3] = [
-    // A child of the parent's own level, and one two levels below.
     (
         1,
-        &[(b"a", 1, &[(b"a", 1, ONE)])],
-        WalkFault::WrongTreeOrLevel,
+        &[(b"", 1, Named::Leaf(Tree::Tags, b""))],
+        WalkFault::Disagrees,
         2,
     ),
+    // A leaf whose first key is its left bound.
     (
+        1,
+        &[(b"c", 2, FIRST), (b"d", 2, LAST)],
+        WalkFault::Disagrees,
         3,
-        &[(b"a", 1, &[(b"a", 1, ONE)])],
-        WalkFault::WrongTreeOrLevel,
-        2,
     ),
+    // A child of the parent's own level, and one two levels below.
+    (1, &[(b"a", 1, OVER_ONE)], WalkFault::WrongTreeOrLevel, 2),
+    (3, &[(b"a", 1, OVER_ONE)], WalkFault::WrongTreeOrLevel, 2),
     // An inner node whose first key is its left bound.
     (
         2,
-        &[(b"c", 2, &[(b"c", 2, FIRST)]), (b"d", 4, BOTH)],
+        &[(b"c", 2, OVER_FIRST), (b"d", 4, OVER_BOTH)],
         WalkFault::Disagrees,
         3,
     ),
 ];
 
-/// Puts the leaf; of none it gives a digest that nothing has.
-fn put_named(alloc: Global, stock: &mut Stock, leaf: Leaf) -> Result<Digest, Fail> {
-    match leaf {
-        Some((tree, keys)) => put_leaf(alloc, stock, tree, keys, 1),
-        None => Ok(digest_of(b"nothing")),
-    }
-}
-
-/// Puts a node over these leaves, and the leaves.
+/// Puts a node of level 1 over leaves of these keys, and the leaves.
 fn put_over_leaves(
     alloc: Global,
     stock: &mut Stock,
-    level: u8,
-    stated: &[Stated<Leaf>],
+    stated: &[Stated<&[u8]>],
 ) -> Result<Digest, Fail> {
     let mut children = Vec::new(alloc);
-    for (greatest, number, leaf) in stated {
-        children.push(child(greatest, *number, put_named(alloc, stock, *leaf)?))?;
+    for (greatest, number, keys) in stated {
+        let leaf = put_leaf(alloc, stock, Tree::Tags, keys, 1)?;
+        children.push(child(greatest, *number, leaf))?;
     }
-    put_inner(alloc, stock, Tree::Tags, level, children.as_slice())
+    put_inner(alloc, stock, Tree::Tags, 1, children.as_slice())
 }
 
-/// Puts a node over nodes of level 1 over these leaves, and all below it.
-fn put_over_nodes(
+/// Puts the node, and what is below it.
+fn put_named(alloc: Global, stock: &mut Stock, node: Named) -> Result<Digest, Fail> {
+    match node {
+        Named::Leaf(tree, keys) => put_leaf(alloc, stock, tree, keys, 1),
+        Named::Inner(stated) => put_over_leaves(alloc, stock, stated),
+        Named::Missing => Ok(digest_of(b"nothing")),
+    }
+}
+
+/// Puts a node over these nodes, and all below it.
+fn put_top(
     alloc: Global,
     stock: &mut Stock,
     level: u8,
-    stated: &[Stated<&[Stated<Leaf>]>],
+    stated: &[Stated<Named>],
 ) -> Result<Digest, Fail> {
     let mut children = Vec::new(alloc);
-    for (greatest, number, leaves) in stated {
-        let node = put_over_leaves(alloc, stock, 1, leaves)?;
+    for (greatest, number, node) in stated {
+        let node = put_named(alloc, stock, *node)?;
         children.push(child(greatest, *number, node))?;
     }
     put_inner(alloc, stock, Tree::Tags, level, children.as_slice())
 }
 
 #[test]
-fn refuses_leaves_that_arent_as_stated(rt: HostRuntime) -> Result<(), Fail> {
+fn refuses_nodes_that_arent_as_stated(rt: HostRuntime) -> Result<(), Fail> {
     let alloc = rt.alloc();
     let mut stock = Stock::new(alloc);
-    for (level, stated, fault, fetches) in &OVER_LEAVES {
-        let top = put_over_leaves(alloc, &mut stock, *level, stated)?;
-        is_refused(&rt, alloc, &stock, &top, *fault, *fetches)?;
-    }
-    Ok(())
-}
-
-#[test]
-fn refuses_inner_nodes_that_arent_as_stated(rt: HostRuntime) -> Result<(), Fail> {
-    let alloc = rt.alloc();
-    let mut stock = Stock::new(alloc);
-    for (level, stated, fault, fetches) in &OVER_NODES {
-        let top = put_over_nodes(alloc, &mut stock, *level, stated)?;
+    for (level, stated, fault, fetches) in &TOPS {
+        let top = put_top(alloc, &mut stock, *level, stated)?;
         is_refused(&rt, alloc, &stock, &top, *fault, *fetches)?;
     }
     Ok(())
@@ -212,8 +212,8 @@ fn refuses_one_child_named_64_times(rt: HostRuntime) -> Result<(), Fail> {
         shelf: stock.shelf(alloc),
         fetches: 0,
     };
-    let (found, tally) = walked(alloc, &mut shelf, &top, Tree::Tags, &all())?;
-    assert!(rt; found.err() == Some(WalkFault::Disagrees));
+    let (number, tally) = walked(alloc, &mut shelf, &top, &all())?;
+    assert!(rt; number == Err(WalkFault::Disagrees));
     assert!(rt; tally.fetches == 2 && shelf.fetches == 2);
     Ok(())
 }

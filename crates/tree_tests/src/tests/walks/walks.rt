@@ -1,13 +1,13 @@
 //! Walks and counts over trees written by hand: the rows of docs/FORMATS.md.
 
 use super::by_hand::{
-    all, child, counted, put_65_keys, put_130_keys, put_inner, put_leaf, range_of, walked,
+    Answer, all, child, counted, put_65_keys, put_130_keys, put_inner, put_leaf, range_of, walked,
 };
 use std::alloc::Global;
 use std::process::Abort;
 use std::test::Fail;
 use tree_node::{Digest, Recorder, Stock, Tree, digest_of};
-use tree_walk::{KeyRange, Tally, WalkFault};
+use tree_walk::{Tally, WalkFault};
 
 /// A tree that the rows ask.
 #[derive(Clone, Copy)]
@@ -26,7 +26,7 @@ enum Asked {
 
 /// The tree that is asked; the ends of the range, and whether it holds what its last key begins; the number of
 /// entries; the fetches of a walk and of a count.
-type Row = (Asked, (&'static [u8], &'static [u8], bool), usize, u64, u64);
+type Row = (Asked, (&'static [u8], &'static [u8], bool), u64, u64, u64);
 
 const ROWS: [Row; 10] = [
     (Asked::Of65, (b"\x3f", b"\x3f", false), 1, 2, 2),
@@ -43,6 +43,11 @@ const ROWS: [Row; 10] = [
     // Only first children, which have no left bound.
     (Asked::Deep, (b"", b"", true), 1, 64, 64),
 ];
+
+/// So many entries after so many fetches, in one call.
+fn answer(entries: u64, fetches: u64) -> Answer {
+    (Ok(entries), Tally { calls: 1, fetches })
+}
 
 /// Puts a leaf of the key 61 and a top over it, with a second child that isn't put.
 fn put_half(alloc: Global, stock: &mut Stock) -> Result<Digest, Fail> {
@@ -71,37 +76,21 @@ fn put_asked(alloc: Global, stock: &mut Stock, asked: Asked) -> Result<Digest, F
     }
 }
 
-/// A walk gives so many entries, after so many fetches.
-fn is_walked(
+/// A walk and a count from this top give what the row says.
+fn is_asked(
     rt: &impl Abort,
     alloc: Global,
-    shelf: &mut Recorder<'_>,
+    stock: &Stock,
     top: &Digest,
-    keys: &KeyRange<'_>,
-    entries: usize,
-    fetches: u64,
+    row: &Row,
 ) -> Result<(), Fail> {
-    let (found, tally) = walked(alloc, shelf, top, Tree::Tags, keys)?;
-    assert!(rt; tally == Tally { calls: 1, fetches }, "{keys:?}: {tally:?}");
-    assert!(rt; found?.len() == entries, "{keys:?}");
-    Ok(())
-}
-
-/// A count gives this number, after so many fetches.
-fn is_counted(
-    rt: &impl Abort,
-    alloc: Global,
-    shelf: &mut Recorder<'_>,
-    top: &Digest,
-    keys: &KeyRange<'_>,
-    entries: usize,
-    fetches: u64,
-) -> Result<(), Fail> {
-    let (number, tally) = counted(alloc, shelf, top, Tree::Tags, keys)?;
-    assert!(rt;
-        number? == entries as u64 && tally.fetches == fetches,
-        "{keys:?}: {tally:?}"
-    );
+    let (_, (lo, hi, under), entries, fetches, count_fetches) = row;
+    let keys = range_of(lo, hi, *under);
+    let mut shelf = stock.shelf(alloc);
+    let walk = walked(alloc, &mut shelf, top, &keys)?;
+    let count = counted(alloc, &mut shelf, top, &keys)?;
+    let wanted = (answer(*entries, *fetches), answer(*entries, *count_fetches));
+    assert!(rt; (walk, count) == wanted, "{keys:?}");
     Ok(())
 }
 
@@ -109,64 +98,41 @@ fn is_counted(
 fn walks_and_counts(rt: HostRuntime) -> Result<(), Fail> {
     let alloc = rt.alloc();
     let mut stock = Stock::new(alloc);
-    for (asked, (lo, hi, under), entries, fetches, count_fetches) in &ROWS {
-        let top = put_asked(alloc, &mut stock, *asked)?;
-        let keys = range_of(lo, hi, *under);
-        let mut shelf = stock.shelf(alloc);
-        is_walked(&rt, alloc, &mut shelf, &top, &keys, *entries, *fetches)?;
-        is_counted(
-            &rt,
-            alloc,
-            &mut shelf,
-            &top,
-            &keys,
-            *entries,
-            *count_fetches,
-        )?;
+    for row in &ROWS {
+        let top = put_asked(alloc, &mut stock, row.0)?;
+        is_asked(&rt, alloc, &stock, &top, row)?;
     }
     Ok(())
 }
 
-/// Counts all. Where memory is refused it counts again.
-fn is_counted_at_last(
+/// What a walk over all gives, or a count of all.
+fn ask_all(
+    alloc: Global,
+    shelf: &mut Recorder<'_>,
+    top: &Digest,
+    counts: bool,
+) -> Result<Answer, Fail> {
+    if counts {
+        return counted(alloc, shelf, top, &all());
+    }
+    walked(alloc, shelf, top, &all())
+}
+
+/// Walks over all or counts all, with so many fetches at most. Where memory is refused it does so again.
+fn is_answered_at_last(
     rt: &impl Abort,
     alloc: Global,
     shelf: &mut Recorder<'_>,
     top: &Digest,
+    counts: bool,
+    most: u64,
 ) -> Result<(), Fail> {
-    let (mut number, tally) = counted(alloc, shelf, top, Tree::Tags, &all())?;
-    assert!(rt; tally.calls == 1 && tally.fetches <= 2);
+    let (mut number, tally) = ask_all(alloc, shelf, top, counts)?;
+    assert!(rt; tally.calls == 1 && tally.fetches <= most);
     if number == Err(WalkFault::Memory) {
-        number = counted(alloc, shelf, top, Tree::Tags, &all())?.0;
+        number = ask_all(alloc, shelf, top, counts)?.0;
     }
-    assert!(rt; number? == 65);
-    Ok(())
-}
-
-/// How many entries a walk over all gives, or its fault.
-fn walk_all(
-    rt: &impl Abort,
-    alloc: Global,
-    shelf: &mut Recorder<'_>,
-    top: &Digest,
-) -> Result<Result<usize, WalkFault>, Fail> {
-    let (found, tally) = walked(alloc, shelf, top, Tree::Tags, &all())?;
-    assert!(rt; tally.calls == 1 && tally.fetches <= 3);
-    Ok(found.map(|items| items.len()))
-}
-
-/// Walks over all. Where memory is refused it walks again.
-fn is_walked_at_last(
-    rt: &impl Abort,
-    alloc: Global,
-    shelf: &mut Recorder<'_>,
-    top: &Digest,
-) -> Result<(), Fail> {
-    let mut found = walk_all(rt, alloc, shelf, top)?;
-    if found == Err(WalkFault::Memory) {
-        found = walk_all(rt, alloc, shelf, top)?;
-    }
-    assert!(rt; found? == 65);
+    assert!(rt; number == Ok(65));
     Ok(())
 }
 
@@ -178,6 +144,6 @@ fn calls_stand_after_refused_memory(rt: HostRuntime) -> Result<(), Fail> {
     let mut stock = Stock::new(alloc);
     let top = put_65_keys(alloc, &mut stock)?;
     let mut shelf = stock.shelf(alloc);
-    is_counted_at_last(&rt, alloc, &mut shelf, &top)?;
-    is_walked_at_last(&rt, alloc, &mut shelf, &top)
+    is_answered_at_last(&rt, alloc, &mut shelf, &top, true, 2)?;
+    is_answered_at_last(&rt, alloc, &mut shelf, &top, false, 3)
 }
