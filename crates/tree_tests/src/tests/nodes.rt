@@ -5,7 +5,7 @@ use std::process::Abort;
 use std::test::Fail;
 use tree_node::{
     Bag, Child, Children, Digest, Entries, Item, NewNode, NodeFault, NodeRef, PutFault, Recorder,
-    Shelf, ShelfFault, Stock, Tree, digest_of, write_inner, write_leaf,
+    Shelf, ShelfFault, Stock, Tree, digest_of, is_below, write_inner, write_leaf,
 };
 
 /// The leaf of the one object `n1 x0 y0`.
@@ -79,10 +79,13 @@ fn refuses_bytes_that_are_no_node(rt: HostRuntime) {
 
 #[test]
 fn reads_the_leaf_of_one_object(rt: HostRuntime) -> Result<(), Fail> {
-    let Some(mut entries) = entries_of(NodeRef::read(LEAF)?) else {
+    let node = NodeRef::read(LEAF)?;
+    assert!(rt; node.tree() == Tree::Objects);
+    let Some(mut entries) = entries_of(node) else {
         return Err(Fail::from("a leaf was expected"));
     };
     assert!(rt; entries.number() == 1 && entries.greatest() == KEY);
+    assert!(rt; entries.again().skip_below(KEY).number() == 1 && is_below(b"\x01\x80", KEY));
     let Some(item) = entries.next() else {
         return Err(Fail::from("an entry was expected"));
     };
@@ -90,14 +93,11 @@ fn reads_the_leaf_of_one_object(rt: HostRuntime) -> Result<(), Fail> {
     Ok(())
 }
 
-/// A leaf without entries, and the leaf of one object after it.
 #[test]
-fn writes_leaves(rt: HostRuntime) -> Result<(), AllocError> {
+fn writes_a_leaf_without_entries(rt: HostRuntime) -> Result<(), AllocError> {
     let mut out = Vec::new(rt.alloc());
     write_leaf(Tree::Objects, &[], &mut out)?;
-    write_leaf(Tree::Objects, &[ITEM], &mut out)?;
-    let (front, back) = (out.as_slice().get(..4), out.as_slice().get(4..));
-    assert!(rt; front == Some(b"\x01\x00\x00\x00".as_slice()) && back == Some(LEAF));
+    assert!(rt; out.as_slice() == b"\x01\x00\x00\x00".as_slice());
     Ok(())
 }
 
@@ -130,10 +130,12 @@ fn children_of(node: NodeRef<'_>) -> Option<Children<'_>> {
 
 /// The bytes are the inner node of that child alone.
 fn reads_as(rt: &impl Abort, bytes: &[u8], wanted: &Child<'_>) -> Result<(), Fail> {
-    let Some(mut children) = children_of(NodeRef::read(bytes)?) else {
+    let Some(children) = children_of(NodeRef::read(bytes)?) else {
         return Err(Fail::from("an inner node was expected"));
     };
     assert!(rt; children.number() == wanted.number && children.greatest() == wanted.greatest);
+    let (before, mut children) = children.skip_below(wanted.greatest);
+    assert!(rt; before.is_none());
     let Some(child) = children.next() else {
         return Err(Fail::from("a child was expected"));
     };
@@ -191,20 +193,22 @@ fn gives_read<'a, S: Shelf<'a>>(rt: &impl Abort, shelf: &mut S) {
     assert!(rt; leaf == Ok(Ok(KEY)) && other == Ok(Err(NodeFault::CutShort)));
 }
 
-/// A shelf gives nodes as bytes before and after it gives them as read.
+/// A shelf gives nodes as bytes before and after it gives them as read, and not the node that was taken away.
 fn gives_nodes<'a, S: Shelf<'a>>(rt: &impl Abort, shelf: &mut S) {
     gives_both(rt, shelf);
     gives_read(rt, shelf);
     gives_read(rt, shelf);
     gives_both(rt, shelf);
-    lacks(rt, shelf, b"d");
+    lacks(rt, shelf, b"a");
 }
 
-/// Puts the leaf, twice, and bytes that are no nodes.
+/// Puts the leaf, which was digested before, and puts it again, and other bytes, of which it takes one away.
 fn put_nodes(alloc: Global, stock: &mut Stock) -> Result<(), Fail> {
-    for node in [LEAF, b"", b"a", LEAF] {
+    stock.put_new(NewNode::new(LEAF.to_vec(alloc)?))?;
+    for node in [LEAF, b"", b"a"] {
         put(alloc, stock, node)?;
     }
+    stock.remove(&digest_of(b"a"));
     Ok(())
 }
 
@@ -231,18 +235,6 @@ fn records_and_lends_what_was_used(rt: HostRuntime) -> Result<(), Fail> {
     let mut shelf = stock.shelf(alloc);
     gives_nodes(&rt, &mut shelf);
     Ok(lends(&rt, alloc, &shelf)?)
-}
-
-#[test]
-fn puts_a_digested_node_and_takes_it_away(rt: HostRuntime) -> Result<(), Fail> {
-    let alloc = rt.alloc();
-    let node = NewNode::new(LEAF.to_vec(alloc)?);
-    let mut stock = Stock::new(alloc);
-    let key = stock.put_new(node)?;
-    assert!(rt; key == digest_of(LEAF));
-    stock.remove(&key);
-    lacks(&rt, &mut stock.shelf(alloc), LEAF);
-    Ok(())
 }
 
 /// Puts the node. Where memory is refused the stock is as before, and it is put again.

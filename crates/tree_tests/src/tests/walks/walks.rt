@@ -90,7 +90,7 @@ fn is_asked(
     let walk = walked(alloc, &mut shelf, top, &keys)?;
     let count = counted(alloc, &mut shelf, top, &keys)?;
     let wanted = (answer(*entries, *fetches), answer(*entries, *count_fetches));
-    assert!(rt; (walk, count) == wanted, "{keys:?}");
+    assert!(rt; (walk, count) == wanted, "{lo:?}");
     Ok(())
 }
 
@@ -105,20 +105,25 @@ fn walks_and_counts(rt: HostRuntime) -> Result<(), Fail> {
     Ok(())
 }
 
-/// What a walk over all gives, or a count of all.
+/// How many entries a walk over all gives, or a count of all, or its fault; with so many fetches at most.
 fn ask_all(
+    rt: &impl Abort,
     alloc: Global,
     shelf: &mut Recorder<'_>,
     top: &Digest,
     counts: bool,
-) -> Result<Answer, Fail> {
-    if counts {
-        return counted(alloc, shelf, top, &all());
-    }
-    walked(alloc, shelf, top, &all())
+    most: u64,
+) -> Result<Result<u64, WalkFault>, Fail> {
+    let (number, tally) = if counts {
+        counted(alloc, shelf, top, &all())?
+    } else {
+        walked(alloc, shelf, top, &all())?
+    };
+    assert!(rt; tally.calls == 1 && tally.fetches <= most);
+    Ok(number)
 }
 
-/// Walks over all or counts all, with so many fetches at most. Where memory is refused it does so again.
+/// Walks over all or counts all. Where memory is refused it does so again.
 fn is_answered_at_last(
     rt: &impl Abort,
     alloc: Global,
@@ -127,10 +132,9 @@ fn is_answered_at_last(
     counts: bool,
     most: u64,
 ) -> Result<(), Fail> {
-    let (mut number, tally) = ask_all(alloc, shelf, top, counts)?;
-    assert!(rt; tally.calls == 1 && tally.fetches <= most);
+    let mut number = ask_all(rt, alloc, shelf, top, counts, most)?;
     if number == Err(WalkFault::Memory) {
-        number = ask_all(alloc, shelf, top, counts)?.0;
+        number = ask_all(rt, alloc, shelf, top, counts, most)?;
     }
     assert!(rt; number == Ok(65));
     Ok(())
