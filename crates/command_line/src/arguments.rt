@@ -4,7 +4,7 @@ ghost use Rattle.std.specs.Prelude.{◌≡◌, IfOk, false};
 ghost use Rattle.std.specs.String.{string_bytes};
 ghost use Rattle.clap.specs.declared.builder.command.Command.TheViews.{out-Command as fields_of};
 ghost use Rattle.clap.specs.Words.{app_of, found_of, rows_of, rule_of, with_rule};
-ghost use Rattle.command_line.specs.Arguments.{text_of, wanted};
+ghost use Rattle.command_line.specs.Arguments.{text_of, wanted, with_wanted};
 ghost use Rattle.command_line.specs.internal.Commands.{IsCommand};
 
 use clap::{Arg, ArgMatches, Command};
@@ -30,6 +30,22 @@ pub const QUERY_FILE: Argument = Argument {
     name: "QUERYFILE",
     help: "File whose bytes are the query",
 };
+
+/// The command with these positional arguments, in order, each of which has to be there.
+pub fn and_all_wanted<'a>(
+    alloc: Global,
+    command: Command<'a>,
+    arguments: &[Argument],
+) -> Result<Command<'a>, AllocError>
+    requires { (fields_of command).has_globals ≡ false }
+    ensures { IfOk result (IsCommand (with_wanted (app_of command.entry) arguments.now)) }
+{
+    let mut command = command;
+    for argument in arguments {
+        command = and_wanted(alloc, command, *argument)?;
+    }
+    Ok(command)
+}
 
 /// The command with one more positional argument, which has to be there.
 pub fn and_wanted<'a>(

@@ -8,7 +8,7 @@ ghost use Rattle.command_line.specs.internal.Commands.{IsCommand};
 ghost use Rattle.command_line.specs.CheckCommand.{IsRootText, check_app, check_name};
 ghost use Rattle.command_line.specs.Jobs.{Gives};
 
-use crate::arguments::{Argument, QUERY_FILE, and_wanted, text_of};
+use crate::arguments::{Argument, QUERY_FILE, and_all_wanted, text_of};
 use crate::job::Job;
 use crate::words_fault::WordsFault;
 use clap::{ArgMatches, Command};
@@ -41,10 +41,9 @@ const PROOF_FILE: Argument = Argument {
 pub fn check_command<'a>(alloc: Global) -> Result<Command<'a>, AllocError>
     ensures { IfOk result (IsCommand check_app) }
 {
-    let command = and_wanted(alloc, Command::new(alloc, CHECK).about(ABOUT), ROOT)?;
-    let command = and_wanted(alloc, command, QUERY_FILE)?;
-    let command = and_wanted(alloc, command, ANSWER_FILE)?;
-    and_wanted(alloc, command, PROOF_FILE)
+    let arguments = [ROOT, QUERY_FILE, ANSWER_FILE, PROOF_FILE];
+    let command = Command::new(alloc, CHECK).about(ABOUT);
+    and_all_wanted(alloc, command, &arguments)
 }
 
 /// What the matches of this command ask for. `BadRoot` where ROOT isn't 64 hexadecimal digits.

@@ -7,7 +7,7 @@ ghost use Rattle.command_line.specs.internal.Commands.{IsCommand};
 ghost use Rattle.command_line.specs.Jobs.{Gives};
 ghost use Rattle.command_line.specs.ProveCommand.{prove_app, prove_name};
 
-use crate::arguments::{Argument, FILE, QUERY_FILE, and_wanted, text_of};
+use crate::arguments::{Argument, FILE, QUERY_FILE, and_all_wanted, text_of};
 use crate::edition_options::{and_edition_options, edition_of};
 use crate::job::Job;
 use crate::words_fault::WordsFault;
@@ -34,10 +34,9 @@ const PROOF_FILE: Argument = Argument {
 pub fn prove_command<'a>(alloc: Global) -> Result<Command<'a>, AllocError>
     ensures { IfOk result (IsCommand prove_app) }
 {
-    let command = and_wanted(alloc, Command::new(alloc, PROVE).about(ABOUT), FILE)?;
-    let command = and_wanted(alloc, command, QUERY_FILE)?;
-    let command = and_wanted(alloc, command, ANSWER_FILE)?;
-    let command = and_wanted(alloc, command, PROOF_FILE)?;
+    let arguments = [FILE, QUERY_FILE, ANSWER_FILE, PROOF_FILE];
+    let command = Command::new(alloc, PROVE).about(ABOUT);
+    let command = and_all_wanted(alloc, command, &arguments)?;
     and_edition_options(alloc, command)
 }
 

@@ -1,0 +1,16 @@
+use Rattle.std.proofs.Common.{◌≡◌, ◌∙◌, ap, rules}
+use Rattle.std.specs.Prelude.{codes}
+use Rattle.std.proofs.lemmas.Result.{IfOk-weaker}
+use Rattle.clap.specs.Words.{App, app_of, new_app, with_rule}
+use Rattle.command_line.specs.Arguments.{wanted}
+use Rattle.command_line.specs.CheckCommand.{check_name}
+use Rattle.command_line.proofs.check_command.check_command.Goals as goal
+
+-- a command with the arguments of this one
+abbrev with_arguments : App → App
+with_arguments app = with_rule (with_rule (with_rule (with_rule app (wanted (codes "ROOT"))) (wanted (codes "QUERYFILE"))) (wanted (codes "ANSWERFILE"))) (wanted (codes "PROOFFILE"))
+
+pub returns : goal.returns
+returns c =
+    let begun : app_of c.about-command.result ≡ new_app check_name = search rules in
+    IfOk-weaker c.and_all_wanted.result _ _ (λ r h. (h.0 ∙ ap with_arguments begun, h.1)) c.and_all_wanted.ensures
