@@ -53,12 +53,21 @@ fn refusal<R: Read>(alloc: Global, file: &mut R) -> Option<LoadFault> {
     read_changes(alloc, file).err()
 }
 
+/// Whether the changes of the file are read, so many bytes a call.
+fn are_read(alloc: Global, at_once: usize) -> Result<bool, LoadFault> {
+    Ok(are_wanted(&read_changes(alloc, &mut slow(at_once, 0))?))
+}
+
 #[test]
 fn changes_are_read_in_order(rt: HostRuntime) -> Result<(), LoadFault> {
     for at_once in [1, 7, 4096] {
-        let changes = read_changes(rt.alloc(), &mut slow(at_once, 0))?;
-        assert!(rt; are_wanted(&changes), "{at_once}");
+        assert!(rt; are_read(rt.alloc(), at_once)?, "{at_once}");
     }
+    Ok(())
+}
+
+#[test]
+fn a_file_of_no_change_has_none(rt: HostRuntime) -> Result<(), LoadFault> {
     let none = read_changes(rt.alloc(), &mut "\n# nothing\n".as_bytes())?;
     assert!(rt; none.is_empty());
     Ok(())
@@ -101,7 +110,6 @@ fn are_read_within_memory(alloc: Global) -> bool {
 #[test]
 fn memory_changes_no_list(rt: HostRuntime) -> Result<(), LoadFault> {
     assert!(rt; are_read_within_memory(rt.alloc()));
-    let changes = read_changes(rt.alloc(), &mut slow(5, 0))?;
-    assert!(rt; are_wanted(&changes));
+    assert!(rt; are_read(rt.alloc(), 5)?);
     Ok(())
 }

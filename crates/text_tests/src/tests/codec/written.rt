@@ -97,11 +97,18 @@ const ESCAPED: [(&str, &str); 3] = [
     ),
 ];
 
+/// A node with this tag is written as this line.
+fn assert_tag(rt: &(impl Abort + AllocGlobal), value: &str, line: &str) -> Result<(), Fail> {
+    let Some(object) = node(rt.alloc(), &[("k", value)], Coord::new(0, 0))? else {
+        return Err(Fail::from("over a limit"));
+    };
+    Ok(assert_line(rt, &object, OutMode::Tags, line.as_bytes())?)
+}
+
 #[test]
 fn other_characters_are_escaped(rt: HostRuntime) -> Result<(), Fail> {
     for (value, line) in &ESCAPED {
-        let object = node(rt.alloc(), &[("k", *value)], Coord::new(0, 0))?.ok_or("over a limit")?;
-        assert_line(&rt, &object, OutMode::Tags, line.as_bytes())?;
+        assert_tag(&rt, value, line)?;
     }
     Ok(())
 }
