@@ -24,10 +24,10 @@ use osm_commands::serve_changing::serve_changing;
 use osm_commands::socket_door::SocketDoor;
 use osm_commands::status::Status;
 use osm_desk::Desk;
-use osm_index::Edition;
 use std::env;
 use std::io::{ErrorKind, Write};
 use std::process::ExitCode;
+use tree_node::{Digest, Edition};
 
 /// What `clap` says of a word that isn't UTF-8. Such a word never gets as far as `clap` here.
 const NOT_TEXT: &str = "error: invalid UTF-8 was detected in one or more arguments\n";
@@ -55,44 +55,25 @@ fn run(rt: &HostRuntime) -> Status {
 
 /// Runs the command with its files.
 fn done(rt: &HostRuntime, job: Job) -> Status {
-    let alloc = rt.alloc();
-    let output = &mut rt.stdout();
     match job {
-        Job::Ask { query } => ended(rt, ask(alloc, query.as_bytes(), &mut rt.stdin(), output)),
-        Job::Publish { file, edition } => {
-            let input = &mut InputFile::new(rt, &file);
-            ended(rt, publish(alloc, input, edition, output))
-        }
+        Job::Ask { query } => ended(rt, ask_input(rt, &query)),
+        Job::Publish { file, edition } => ended(rt, publish_file(rt, &file, edition)),
         Job::Prove {
             file,
             query_file,
             answer_file,
             proof_file,
             edition,
-        } => {
-            let input = &mut InputFile::new(rt, &file);
-            let query = &mut InputFile::new(rt, &query_file);
-            let answer = &mut OutputFile::new(rt, &answer_file);
-            let proof = &mut OutputFile::new(rt, &proof_file);
-            ended(
-                rt,
-                prove(alloc, input, query, edition, answer, proof, output),
-            )
-        }
+        } => ended(
+            rt,
+            prove_files(rt, &file, &query_file, &answer_file, &proof_file, edition),
+        ),
         Job::Check {
             root,
             query_file,
             answer_file,
             proof_file,
-        } => {
-            let query = &mut InputFile::new(rt, &query_file);
-            let answer = &mut InputFile::new(rt, &answer_file);
-            let proof = &mut InputFile::new(rt, &proof_file);
-            match check(alloc, &root, query, answer, proof, output) {
-                Ok(verdict) => Status::from(verdict),
-                Err(fault) => ended(rt, Err(fault)),
-            }
-        }
+        } => check_files(rt, &root, &query_file, &answer_file, &proof_file),
         Job::Serve {
             file,
             port,
@@ -106,6 +87,56 @@ fn done(rt: &HostRuntime, job: Job) -> Status {
                 serve_file(rt, &file, port, connections, edition, drawer),
             )
         }
+    }
+}
+
+/// Answers the query over the objects that standard input holds.
+fn ask_input(rt: &HostRuntime, query: &str) -> Result<(), CommandFault> {
+    ask(
+        rt.alloc(),
+        query.as_bytes(),
+        &mut rt.stdin(),
+        &mut rt.stdout(),
+    )
+}
+
+/// Tells the root of the set of this file.
+fn publish_file(rt: &HostRuntime, file: &str, edition: Edition) -> Result<(), CommandFault> {
+    let input = &mut InputFile::new(rt, file);
+    publish(rt.alloc(), input, edition, &mut rt.stdout())
+}
+
+/// Writes the answer to the query of a file over the set of a file, and its proof, and tells the root.
+fn prove_files(
+    rt: &HostRuntime,
+    file: &str,
+    query_file: &str,
+    answer_file: &str,
+    proof_file: &str,
+    edition: Edition,
+) -> Result<(), CommandFault> {
+    let input = &mut InputFile::new(rt, file);
+    let query = &mut InputFile::new(rt, query_file);
+    let answer = &mut OutputFile::new(rt, answer_file);
+    let proof = &mut OutputFile::new(rt, proof_file);
+    let output = &mut rt.stdout();
+    prove(rt.alloc(), input, query, edition, answer, proof, output)
+}
+
+/// Tells whether the answer of a file is right.
+fn check_files(
+    rt: &HostRuntime,
+    root: &Digest,
+    query_file: &str,
+    answer_file: &str,
+    proof_file: &str,
+) -> Status {
+    let query = &mut InputFile::new(rt, query_file);
+    let answer = &mut InputFile::new(rt, answer_file);
+    let proof = &mut InputFile::new(rt, proof_file);
+    match check(rt.alloc(), root, query, answer, proof, &mut rt.stdout()) {
+        Ok(verdict) => Status::from(verdict),
+        Err(fault) => ended(rt, Err(fault)),
     }
 }
 
