@@ -28,12 +28,12 @@ fn append_place(place: Coord, out: &mut Vec<u8>) -> Result<(), AllocError>
     ensures ok { OnOk result (out.new.items ≡ out.old.items ++ (space ∷ longitude_letter ∷ degrees place.lon) ++ (space ∷ latitude_letter ∷ degrees place.lat)) }
     ensures err { OnErr result (take (length out.old.items) out.new.items ≡ out.old.items) }
 {
-    append_labelled(b" x", place.lon(), out)?;
-    append_labelled(b" y", place.lat(), out)
+    append_labelled_degrees(b" x", place.lon(), out)?;
+    append_labelled_degrees(b" y", place.lat(), out)
 }
 
 /// Appends degrees after these letters.
-fn append_labelled(label: &[u8], value: i32, out: &mut Vec<u8>) -> Result<(), AllocError>
+fn append_labelled_degrees(label: &[u8], value: i32, out: &mut Vec<u8>) -> Result<(), AllocError>
     ensures ok { OnOk result (out.new.items ≡ out.old.items ++ (label.now ++ degrees value)) }
     ensures err { OnErr result (take (length out.old.items) out.new.items ≡ out.old.items) }
 {

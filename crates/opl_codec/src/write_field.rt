@@ -33,8 +33,8 @@ fn append_change(meta: &Meta, out: &mut Vec<u8>) -> Result<(), AllocError>
     ensures ok { OnOk result (out.new.items ≡ out.old.items ++ ((32 ∷ 118 ∷ decimal meta.now.version) ++ ((32 ∷ 100 ∷ 86 ∷ []) ++ ((32 ∷ 99 ∷ signed_decimal meta.now.changeset) ++ (32 ∷ 116 ∷ moment meta.now.stamp))))) }
     ensures err { OnErr result (take (length out.old.items) out.new.items ≡ out.old.items) }
 {
-    append_labelled(b" v", i64::from(meta.version), out)?;
-    append_labelled(b" dV c", meta.changeset, out)?;
+    append_labelled_number(b" v", i64::from(meta.version), out)?;
+    append_labelled_number(b" dV c", meta.changeset, out)?;
     append_moment(meta.stamp, out)
 }
 
@@ -43,13 +43,13 @@ fn append_author(meta: &Meta, out: &mut Vec<u8>) -> Result<(), AllocError>
     ensures ok { OnOk result (out.new.items ≡ out.old.items ++ ((32 ∷ 105 ∷ signed_decimal meta.now.uid) ++ (32 ∷ 117 ∷ escaped meta.now.user))) }
     ensures err { OnErr result (take (length out.old.items) out.new.items ≡ out.old.items) }
 {
-    append_labelled(b" i", meta.uid, out)?;
+    append_labelled_number(b" i", meta.uid, out)?;
     out.extend_from_slice(b" u")?;
     append_text(&meta.user, out)
 }
 
 /// Appends a number after these letters.
-fn append_labelled(label: &[u8], number: i64, out: &mut Vec<u8>) -> Result<(), AllocError>
+fn append_labelled_number(label: &[u8], number: i64, out: &mut Vec<u8>) -> Result<(), AllocError>
     ensures ok { OnOk result (out.new.items ≡ out.old.items ++ (label.now ++ signed_decimal number)) }
     ensures err { OnErr result (take (length out.old.items) out.new.items ≡ out.old.items) }
 {
