@@ -296,6 +296,13 @@ fn lend_at_last(rt: &impl Abort, alloc: Global, shelf: &Recorder<'_>) -> Result<
     Ok(())
 }
 
+/// Fetches two nodes and makes a bag of them.
+fn use_at_last(rt: &impl Abort, alloc: Global, mut shelf: Recorder<'_>) -> Result<(), AllocError> {
+    fetch_at_last(rt, &mut shelf, b"a", 0)?;
+    fetch_at_last(rt, &mut shelf, b"b", 1)?;
+    lend_at_last(rt, alloc, &shelf)
+}
+
 /// Where memory is refused, a stock, a recorder and what a bag is made of are as before, and the next
 /// call, with ample memory, gives the full result. Run with each allocation refused in turn.
 #[test]
@@ -305,10 +312,7 @@ fn stands_after_refused_memory(rt: HostRuntime) -> Result<(), Fail> {
     for node in [b"a", b"b", b"c"] {
         put_at_last(&rt, alloc, &mut stock, node)?;
     }
-    let mut shelf = stock.shelf(alloc);
-    fetch_at_last(&rt, &mut shelf, b"a", 0)?;
-    fetch_at_last(&rt, &mut shelf, b"b", 1)?;
-    Ok(lend_at_last(&rt, alloc, &shelf)?)
+    Ok(use_at_last(&rt, alloc, stock.shelf(alloc))?)
 }
 
 /// Where memory is refused, a lent vector is as before, and the next call, with ample memory, writes the

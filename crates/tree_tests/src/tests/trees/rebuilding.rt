@@ -14,7 +14,7 @@ use super::chance::{Case, case_of, entries_of, entry_change, entry_changes, keys
 use std::alloc::{AllocError, Global};
 use std::process::Abort;
 use std::test::Fail;
-use tree_build::{Entry, EntryChange, Shape, build, rebuild};
+use tree_build::{Entry, EntryChange, Rebuilt, Shape, build, rebuild};
 use tree_node::{
     Digest, ENTRY_LIMIT, KEY_LIMIT, Recorder, Shelf, ShelfFault, Stock, Tree, VALUE_LIMIT, is_above,
 };
@@ -189,6 +189,11 @@ fn rebuilds_trees(rt: HostRuntime) -> Result<(), Fail> {
     Ok(())
 }
 
+/// How many nodes were added, and how many are gone.
+fn counts_of(rebuilt: &Rebuilt) -> (usize, usize) {
+    (rebuilt.added.len(), rebuilt.gone.len())
+}
+
 /// Changes a tree, and tells how many nodes were added and how many are gone. Where memory is refused it tries
 /// again.
 fn rebuilt_at_last(
@@ -199,12 +204,23 @@ fn rebuilt_at_last(
 ) -> Result<(usize, usize), AllocError>
     requires { HoldsOldTree (RecorderHolds shelf.old) top.now.0 (changes_of changes.now) }
 {
-    let mut rebuilt = rebuild(alloc, shelf, top, changes);
-    if rebuilt.is_err() {
-        rebuilt = rebuild(alloc, shelf, top, changes);
+    match rebuild(alloc, shelf, top, changes) {
+        Ok(rebuilt) => Ok(counts_of(&rebuilt)),
+        Err(_) => Ok(counts_of(&rebuild(alloc, shelf, top, changes)?)),
     }
-    let rebuilt = rebuilt?;
-    Ok((rebuilt.added.len(), rebuilt.gone.len()))
+}
+
+/// Changes a tree, and tells how many nodes were added, how many are gone and how many the shelf has given.
+fn counted(
+    alloc: Global,
+    mut shelf: Recorder<'_>,
+    top: &Digest,
+    changes: &[EntryChange],
+) -> Result<(usize, usize, usize), AllocError>
+    requires { HoldsOldTree (RecorderHolds shelf) top.now.0 (changes_of changes.now) }
+{
+    let (added, gone) = rebuilt_at_last(alloc, &mut shelf, top, changes)?;
+    Ok((added, gone, shelf.parts()?.len()))
 }
 
 /// Two leaves and a top are changed into a leaf that is there.
@@ -216,11 +232,8 @@ fn is_lowered(
 ) -> Result<(), Fail> {
     let mut stock = Stock::new(alloc);
     let top = build_old(alloc, entries, changes, &mut stock)?;
-    let mut shelf = stock.shelf(alloc);
-    let (added, gone) = rebuilt_at_last(alloc, &mut shelf, &top, changes)?;
-    let used = shelf.parts()?.len();
-    // The old top, the leaf that goes, and the new top were used.
-    assert!(rt; added == 0 && gone == 2 && used == 3);
+    // None is added and two are gone. The old top, the leaf that goes, and the new top were given.
+    assert!(rt; counted(alloc, stock.shelf(alloc), &top, changes)? == (0, 2, 3));
     Ok(())
 }
 

@@ -74,8 +74,10 @@ const OVER_FIRST: Named = Named::Inner(&[(b"c", 2, b"bc")]);
 /// A node over leaves of which the second begins with the last key of the first.
 const OVER_BOTH: Named = Named::Inner(&[(b"c", 2, b"bc"), (b"d", 2, b"cd")]);
 
-/// Tops: their level and their children, how a walk is refused, and the fetches.
-const TOPS: [(u8, &[Stated<Named>], WalkFault, u64); 13] = [
+/// A top: its level and its children, how a walk is refused, and the fetches.
+type Top = (u8, &'static [Stated<Named>], WalkFault, u64);
+
+const TOPS: [Top; 13] = [
     (
         1,
         &[(b"a", 1, ONE), (b"b", 1, Named::Missing)],
@@ -155,13 +157,18 @@ fn put_top(
     put_inner(alloc, stock, Tree::Tags, level, children.as_slice())
 }
 
+/// A walk from the top of the row is refused as the row says.
+fn is_told(rt: &impl Abort, alloc: Global, row: &Top) -> Result<(), Fail> {
+    let (level, stated, fault, fetches) = row;
+    let mut stock = Stock::new(alloc);
+    let top = put_top(alloc, &mut stock, *level, stated)?;
+    is_refused(rt, alloc, &stock, &top, *fault, *fetches)
+}
+
 #[test]
 fn refuses_nodes_that_arent_as_stated(rt: HostRuntime) -> Result<(), Fail> {
-    let alloc = rt.alloc();
-    let mut stock = Stock::new(alloc);
-    for (level, stated, fault, fetches) in &TOPS {
-        let top = put_top(alloc, &mut stock, *level, stated)?;
-        is_refused(&rt, alloc, &stock, &top, *fault, *fetches)?;
+    for row in &TOPS {
+        is_told(&rt, rt.alloc(), row)?;
     }
     Ok(())
 }

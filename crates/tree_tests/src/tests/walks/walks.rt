@@ -7,7 +7,7 @@ use std::alloc::Global;
 use std::process::Abort;
 use std::test::Fail;
 use tree_node::{Digest, Recorder, Stock, Tree, digest_of};
-use tree_walk::{Tally, WalkFault};
+use tree_walk::{KeyRange, Tally, WalkFault};
 
 /// A tree that the rows ask.
 #[derive(Clone, Copy)]
@@ -76,31 +76,32 @@ fn put_asked(alloc: Global, stock: &mut Stock, asked: Asked) -> Result<Digest, F
     }
 }
 
-/// A walk and a count from this top give what the row says.
-fn is_asked(
-    rt: &impl Abort,
+/// What a walk and a count from this top give.
+fn answers(
     alloc: Global,
-    stock: &Stock,
+    mut shelf: Recorder<'_>,
     top: &Digest,
-    row: &Row,
-) -> Result<(), Fail> {
-    let (_, (lo, hi, under), entries, fetches, count_fetches) = row;
-    let keys = range_of(lo, hi, *under);
-    let mut shelf = stock.shelf(alloc);
-    let walk = walked(alloc, &mut shelf, top, &keys)?;
-    let count = counted(alloc, &mut shelf, top, &keys)?;
+    keys: &KeyRange<'_>,
+) -> Result<(Answer, Answer), Fail> {
+    let walk = walked(alloc, &mut shelf, top, keys)?;
+    Ok((walk, counted(alloc, &mut shelf, top, keys)?))
+}
+
+/// A walk and a count give what the row says.
+fn is_asked(rt: &impl Abort, alloc: Global, row: &Row) -> Result<(), Fail> {
+    let (asked, (lo, hi, under), entries, fetches, count_fetches) = row;
+    let mut stock = Stock::new(alloc);
+    let top = put_asked(alloc, &mut stock, *asked)?;
+    let given = answers(alloc, stock.shelf(alloc), &top, &range_of(lo, hi, *under))?;
     let wanted = (answer(*entries, *fetches), answer(*entries, *count_fetches));
-    assert!(rt; (walk, count) == wanted, "{lo:?}");
+    assert!(rt; given == wanted, "{lo:?}");
     Ok(())
 }
 
 #[test]
 fn walks_and_counts(rt: HostRuntime) -> Result<(), Fail> {
-    let alloc = rt.alloc();
-    let mut stock = Stock::new(alloc);
     for row in &ROWS {
-        let top = put_asked(alloc, &mut stock, row.0)?;
-        is_asked(&rt, alloc, &stock, &top, row)?;
+        is_asked(&rt, rt.alloc(), row)?;
     }
     Ok(())
 }
