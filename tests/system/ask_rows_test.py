@@ -49,15 +49,6 @@ REFUSED = [
     (b"c5\n", "node(1)", b"O1 line 1 byte 0\n"),
 ]
 
-# Words that clap refuses, with the beginning of its text.
-NO_JOB = [
-    ([], b"error: 'osm_mirror' requires a subcommand but one was not provided\n"),
-    (["ask"], b"error: the following required arguments were not provided:\n"),
-    (["ask", "node(1);out;", "more"], b"error: unexpected argument 'more' found\n"),
-    (["answer", "node(1);out;"], b"error: unrecognized subcommand 'answer'\n"),
-    (["--help"], b"Answers OpenStreetMap queries, and proves and checks the answers\n\nUsage: osm_mirror <COMMAND>\n"),
-]
-
 
 def main():
     tally = Tally()
@@ -67,10 +58,6 @@ def main():
     for stdin, query, stderr in REFUSED:
         outcome = run([PROGRAM, "ask", query], stdin)
         tally.check(f"{stdin[:80]} {query[:80]}", outcome == Outcome(b"", stderr, 2), outcome)
-    for words, beginning in NO_JOB:
-        outcome = run([PROGRAM, *words], TWO_NODES)
-        holds = outcome.stdout == b"" and outcome.status == 2 and outcome.stderr.startswith(beginning)
-        tally.check(f"words {words}", holds, outcome)
     # A query that begins with `-` comes after `--`.
     outcome = run([PROGRAM, "ask", "--", "-x"], TWO_NODES)
     tally.check("ask -- -x", outcome == Outcome(b"", b"Q2 byte 0\n", 2), outcome)

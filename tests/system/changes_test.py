@@ -58,7 +58,7 @@ def check_files(tally):
         first.write_bytes(without(whole, b"w10 "))
         second.write_bytes(without(first.read_bytes(), b"n1 "))
         roots = [published(set_file(b"F"), 0), published(first, 1), published(second, 2)]
-        with server(set_file(b"F"), "--connections", 9, "--changes", changes) as running:
+        with server(set_file(b"F"), "--connections", 13, "--changes", changes) as running:
             tally.check("begins with the set", root_at(running) == roots[0] and roots[0] == root_of(b"F", b"2").encode())
             (changes / "1.opl").write_bytes(DELETE_WAY)
             got = told(running, [b"POST /api/interpreter HTTP/1.1\r\nConnection: close\r\nContent-Length: 24\r\n\r\n"
@@ -69,6 +69,10 @@ def check_files(tally):
             for text, line in [
                 (DELETE_WAY, b"I2 w10\n"),
                 (b"n3 x1 y1\nn1 x13.4\n", b"O9 line 2 byte 8\n"),
+                (b"n1 x1 y1\nn1 dD\nc5\n", b"O1 line 3 byte 0\n"),
+                (b"n1 dD\n\nn1 q dD", b"O3 line 3 byte 3\n"),
+                (b"n1 dD q\nc5\n", b"O3 line 1 byte 6\n"),
+                (b"n1 x1\nn2 dD\n", b"O9 line 1 byte 5\n"),
                 (b"n5 x0 y0\nn5 dD\n", b"I3 n5\n"),
                 (None, b"device\n"),
             ]:

@@ -17,9 +17,9 @@ def unescaped(field):
     return re.sub(code, lambda m: escapes.get(m[1]) or bytes([int(m[1][1:], 16)]), field)
 
 
-def rows(name):
-    """The rows of a file of vectors, each as a list of bytes; the first line names the columns."""
-    lines = (VECTORS / name).read_bytes().split(b"\n")[1:]
+def rows(name, folder=VECTORS):
+    """The rows of a file, each as a list of bytes; the first line names the columns."""
+    lines = (folder / name).read_bytes().split(b"\n")[1:]
     return [[unescaped(field) for field in line.split(b"\t")] for line in lines if line]
 
 

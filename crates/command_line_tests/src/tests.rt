@@ -1,4 +1,5 @@
-//! Lines of words, the jobs that they name, and those that name none.
+//! Lines of words and the jobs that they name. What is told of those that name none is shown by the program, in
+//! tests/system/words_rows_test.py.
 
 use command_line::{Job, WordsFault, read_words};
 use std::alloc::{AllocError, Global};
@@ -27,21 +28,6 @@ fn are_shown(rt: &impl Abort, alloc: Global, rows: &[(&str, &str)]) -> Result<()
         let job = shown(alloc, line)?;
         assert_eq!(rt; job.as_str(), *want, "{line}");
     }
-    Ok(())
-}
-
-/// What is told of a line that is refused; nothing of one that is read.
-fn refusal(alloc: Global, line: &str) -> Result<String, AllocError> {
-    match read_words(alloc, words_of(alloc, line)?) {
-        Ok(_) => Ok(String::new(alloc)),
-        Err(fault) => Ok(format!(in alloc; "{fault}")?),
-    }
-}
-
-/// The line is refused, and this is told.
-fn is_refused(rt: &impl Abort, alloc: Global, line: &str, want: &str) -> Result<(), AllocError> {
-    let told = refusal(alloc, line)?;
-    assert_eq!(rt; told.as_str(), want, "{line}");
     Ok(())
 }
 
@@ -161,34 +147,6 @@ fn reads_serve(rt: HostRuntime) -> Result<(), Fail> {
     are_shown(&rt, rt.alloc(), &SERVE)
 }
 
-/// The command with this word as its edition is refused.
-fn refuses_edition(
-    rt: &impl Abort,
-    alloc: Global,
-    command: &str,
-    word: &str,
-) -> Result<(), AllocError> {
-    let line = format!(in alloc; "m {command} --edition {word}")?;
-    is_refused(rt, alloc, &line, "bad edition")
-}
-
-#[test]
-fn refuses_bad_editions(rt: HostRuntime) -> Result<(), AllocError> {
-    let alloc = rt.alloc();
-    for command in ["publish a.opl", "prove a.opl b c d", "serve a.opl 80"] {
-        for word in ["3", "", "two", "0", "01", "+1", "12", "1.0"] {
-            refuses_edition(&rt, alloc, command, word)?;
-        }
-    }
-    for line in [
-        "m serve a.opl 80 --changes new --edition 1",
-        "m serve --edition=1 a.opl --changes= 80",
-    ] {
-        is_refused(&rt, alloc, line, "bad edition")?;
-    }
-    Ok(())
-}
-
 /// The job is to check the files `b`, `c` and `d`, by the digest of the empty message.
 fn is_check(rt: &impl Abort, job: &Job) {
     match job {
@@ -216,129 +174,6 @@ fn read_check(alloc: Global) -> Result<Result<Job, WordsFault>, AllocError> {
 fn reads_check(rt: HostRuntime) -> Result<(), Fail> {
     let job = read_check(rt.alloc())??;
     is_check(&rt, &job);
-    Ok(())
-}
-
-/// The beginning of the root of so many digits, with this after it, is refused.
-fn refuses_root(rt: &impl Abort, alloc: Global, digits: usize, end: &str) -> Result<(), Fail> {
-    let begun = ROOT.get(..digits).ok_or("more digits were expected")?;
-    let line = format!(in alloc; "m check {begun}{end} b c d")?;
-    is_refused(rt, alloc, &line, "bad root")?;
-    Ok(())
-}
-
-#[test]
-fn refuses_bad_roots(rt: HostRuntime) -> Result<(), Fail> {
-    for digits in [0, 1, 62, 63] {
-        for end in ["", "g", "0x", "00a"] {
-            refuses_root(&rt, rt.alloc(), digits, end)?;
-        }
-    }
-    Ok(())
-}
-
-/// Lines, and how the text begins that is told of them.
-const OF_CLAP: [(&str, &str); 23] = [
-    (
-        "osm_mirror",
-        "error: 'osm_mirror' requires a subcommand but one was not provided\n",
-    ),
-    (
-        "osm_mirror ask",
-        "error: the following required arguments were not provided:\n",
-    ),
-    (
-        "osm_mirror check 00 b c",
-        "error: the following required arguments were not provided:\n",
-    ),
-    (
-        "osm_mirror ask a b",
-        "error: unexpected argument 'b' found\n",
-    ),
-    (
-        "osm_mirror publish a b",
-        "error: unexpected argument 'b' found\n",
-    ),
-    (
-        "osm_mirror ask -x",
-        "error: unexpected argument '-x' found\n",
-    ),
-    (
-        "osm_mirror publish a --edition",
-        "error: a value is required for '--edition <EDITION>' but none was supplied\n",
-    ),
-    (
-        "osm_mirror publish a --edition 1 --edition 2",
-        "error: the argument '--edition <EDITION>' cannot be used multiple times\n",
-    ),
-    (
-        "osm_mirror prove a b c d --sequence x",
-        "error: invalid value 'x' for '--sequence <N>': invalid digit found in string\n",
-    ),
-    (
-        "osm_mirror publish a --edition 2 --sequence 18446744073709551616",
-        "error: invalid value '18446744073709551616' for '--sequence <N>': number too large to fit in target type\n",
-    ),
-    (
-        "osm_mirror publish a --edition 2 --sequence -1",
-        "error: unexpected argument '-1' found\n",
-    ),
-    (
-        "osm_mirror publish a --edition 2 --sequence=-1",
-        "error: invalid value '-1' for '--sequence <N>': invalid digit found in string\n",
-    ),
-    (
-        "osm_mirror serve a",
-        "error: the following required arguments were not provided:\n",
-    ),
-    (
-        "osm_mirror serve a 65536",
-        "error: invalid value '65536' for '<PORT>': 65536 is not in 0..=65535\n",
-    ),
-    (
-        "osm_mirror serve a http",
-        "error: invalid value 'http' for '<PORT>': invalid digit found in string\n",
-    ),
-    (
-        "osm_mirror serve a 80 --connections 4294967296",
-        "error: invalid value '4294967296' for '--connections <N>': 4294967296 is not in 0..=4294967295\n",
-    ),
-    ("osm_mirror help", "error: unrecognized subcommand 'help'\n"),
-    (
-        "osm_mirror --help",
-        "Answers OpenStreetMap queries, and proves and checks the answers\n\nUsage: osm_mirror <COMMAND>\n\nCommands:\n  ask      Answers a query over the OPL text on standard input, after checking the answer\n  publish  Prints the root of a set, by which clients check answers\n  prove    Writes the answer to a query and its proof, and prints the root of the set\n  check    Checks an answer by its proof and a root: prints 'yes', or 'no' and why\n  serve    Answers queries over HTTP, with proofs, on 127.0.0.1\n",
-    ),
-    (
-        "osm_mirror ask -h",
-        "Answers a query over the OPL text on standard input, after checking the answer\n\nUsage: osm_mirror ask <QUERY>\n\nArguments:\n  <QUERY>  The query, as 'node(1);out;'; after '--' where it begins with '-'\n",
-    ),
-    (
-        "osm_mirror publish -h",
-        "Prints the root of a set, by which clients check answers\n\nUsage: osm_mirror publish [OPTIONS] <FILE>\n\nArguments:\n  <FILE>  OPL file with the objects of the set\n\nOptions:\n      --edition <EDITION>  Edition of the root: 1, or 2 with a sequence number; 2 if it isn't given\n      --sequence <N>       Sequence number of an edition 2 root, 0 if it isn't given; has no effect with '--edition 1'\n  -h, --help               Print help\n",
-    ),
-    (
-        "osm_mirror prove -h",
-        "Writes the answer to a query and its proof, and prints the root of the set\n\nUsage: osm_mirror prove [OPTIONS] <FILE> <QUERYFILE> <ANSWERFILE> <PROOFFILE>\n\nArguments:\n  <FILE>        OPL file with the objects of the set\n  <QUERYFILE>   File whose bytes are the query\n  <ANSWERFILE>  File that the answer is written to\n  <PROOFFILE>   File that the proof is written to\n\nOptions:\n      --edition <EDITION>  Edition of the root: 1, or 2 with a sequence number; 2 if it isn't given\n      --sequence <N>       Sequence number of an edition 2 root, 0 if it isn't given; has no effect with '--edition 1'\n  -h, --help               Print help\n",
-    ),
-    (
-        "osm_mirror serve -h",
-        "Answers queries over HTTP, with proofs, on 127.0.0.1\n\nUsage: osm_mirror serve [OPTIONS] <FILE> <PORT>\n\nArguments:\n  <FILE>  OPL file with the objects of the set\n  <PORT>  Port to listen on; 0 takes any that is free\n\nOptions:\n      --connections <N>    Number of connections to serve, one after the other; 4294967295 if it isn't given\n      --changes <DIR>      Folder of change files: before a connection, DIR/<sequence + 1>.opl is applied if it is there\n      --edition <EDITION>  Edition of the root: 1, or 2 with a sequence number; 2 if it isn't given\n      --sequence <N>       Sequence number of an edition 2 root, 0 if it isn't given; has no effect with '--edition 1'\n  -h, --help               Print help\n",
-    ),
-    (
-        "osm_mirror check -h",
-        "Checks an answer by its proof and a root: prints 'yes', or 'no' and why\n\nUsage: osm_mirror check <ROOT> <QUERYFILE> <ANSWERFILE> <PROOFFILE>\n\nArguments:\n  <ROOT>        Root of the set: 64 hexadecimal digits, from the publisher\n  <QUERYFILE>   File whose bytes are the query\n  <ANSWERFILE>  File whose bytes are the answer\n  <PROOFFILE>   File whose bytes are the proof\n",
-    ),
-];
-
-#[test]
-fn refuses_with_the_text_of_clap(rt: HostRuntime) -> Result<(), AllocError> {
-    for (line, want) in &OF_CLAP {
-        let told = refusal(rt.alloc(), line)?;
-        assert!(rt;
-            told.starts_with(*want) && told.ends_with('\n'),
-            "{line}: {told}"
-        );
-    }
     Ok(())
 }
 

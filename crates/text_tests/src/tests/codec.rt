@@ -1,7 +1,7 @@
-//! Rows: lines that are read, files, changes, and lines that are written.
+//! Lines and files that are read, and lines that are written. Most rows are read and written by the program, in
+//! tests/system.
 
 mod changes;
 mod files;
 mod lines;
-mod values;
 mod written;

@@ -1,7 +1,6 @@
-//! Rows of degrees, moments, objects and sets.
+//! Degrees, moments, boxes, objects and sets. The rows of their limits are read by the program, in tests/system.
 
-mod edges;
-mod limits;
+mod boxes;
 mod made;
 mod objects;
 mod sets;

@@ -1,4 +1,3 @@
-//! Rows, with values that were worked out by hand.
+//! Queries: their trees. Queries that are refused are rows of tests/system/text_rows_test.py.
 
-mod faults;
 mod queries;

@@ -1,9 +1,9 @@
-//! Files as lists of changes: puts and deletes, in order, also of one object.
+//! Files as lists of changes: puts and deletes, in order, also of one object. Files that are refused are rows of
+//! tests/system/changes_test.py.
 
 use opl_codec::{Change, LoadFault, OplCause, OplFault, read_changes};
 use osm_model::{Kind, Ref};
 use std::alloc::Global;
-use std::io::Read;
 use test_devices::SlowReader;
 
 const FILE: &str = "n1 x1 y1\n# a comment\nw10 v2 dD\n\nn1 v2 x2 y2\r\nr-2 dD\nn1 dD";
@@ -49,53 +49,11 @@ fn fault(line: u64, cause: OplCause, byte: usize) -> LoadFault {
     }
 }
 
-fn refusal<R: Read>(alloc: Global, file: &mut R) -> Option<LoadFault> {
-    read_changes(alloc, file).err()
-}
-
-/// Whether the changes of the file are read, so many bytes a call.
-fn are_read(alloc: Global, at_once: usize) -> Result<bool, LoadFault> {
-    Ok(are_wanted(&read_changes(alloc, &mut slow(at_once, 0))?))
-}
-
 #[test]
-fn changes_are_read_in_order(rt: HostRuntime) -> Result<(), LoadFault> {
-    for at_once in [1, 7, 4096] {
-        assert!(rt; are_read(rt.alloc(), at_once)?, "{at_once}");
-    }
-    Ok(())
-}
-
-#[test]
-fn a_file_of_no_change_has_none(rt: HostRuntime) -> Result<(), LoadFault> {
-    let none = read_changes(rt.alloc(), &mut "\n# nothing\n".as_bytes())?;
-    assert!(rt; none.is_empty());
-    Ok(())
-}
-
-/// Files, and the line, the cause and the byte of their fault.
-const REFUSED: [(&str, u64, OplCause, usize); 4] = [
-    ("n1 x1 y1\nn1 dD\nc5\n", 3, OplCause::UnknownObject, 0),
-    ("n1 dD\n\nn1 q dD", 3, OplCause::UnknownField, 3),
-    ("n1 dD q\nc5\n", 1, OplCause::UnknownField, 6),
-    ("n1 x1\nn2 dD\n", 1, OplCause::NoLocation, 5),
-];
-
-#[test]
-fn the_line_that_is_no_change_is_told(rt: HostRuntime) {
-    for (file, line, cause, byte) in &REFUSED {
-        let told = refusal(rt.alloc(), &mut file.as_bytes());
-        assert!(rt;
-            told == Some(fault(*line, *cause, *byte)),
-            "{file:?}: {told:?}"
-        );
-    }
+fn a_failing_reader_names_the_line(rt: HostRuntime) {
     // The third line begins at byte 21: the 22nd call, of one byte each, reads its first.
-    let told = refusal(rt.alloc(), &mut slow(1, 22));
-    assert!(rt;
-        told == Some(fault(3, OplCause::ReaderFailed, 0)),
-        "{told:?}"
-    );
+    let told = read_changes(rt.alloc(), &mut slow(1, 22)).err();
+    assert!(rt; told == Some(fault(3, OplCause::ReaderFailed, 0)));
 }
 
 /// Whether the changes of the file are read, unless memory runs out.
@@ -110,6 +68,6 @@ fn are_read_within_memory(alloc: Global) -> bool {
 #[test]
 fn memory_changes_no_list(rt: HostRuntime) -> Result<(), LoadFault> {
     assert!(rt; are_read_within_memory(rt.alloc()));
-    assert!(rt; are_read(rt.alloc(), 5)?);
+    assert!(rt; are_wanted(&read_changes(rt.alloc(), &mut slow(1, 0))?));
     Ok(())
 }

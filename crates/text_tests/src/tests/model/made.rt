@@ -8,11 +8,6 @@ pub(super) fn text(alloc: Global, content: &str) -> Result<Text, Fail> {
     Ok(Text::from_str(alloc, content)?)
 }
 
-/// The same text so many times.
-pub(super) fn long_text(alloc: Global, content: &str, times: usize) -> Result<Text, Fail> {
-    Ok(Text::new(content.repeat(alloc, times)?))
-}
-
 pub(super) fn meta(alloc: Global, version: u32) -> Meta {
     Meta {
         version,

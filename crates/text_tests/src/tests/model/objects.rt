@@ -1,7 +1,7 @@
-//! Objects: their copies, their parts and when they are equal.
+//! Objects: their copies, their parts, when they are equal and when there is none.
 
-use super::made::{Parts, RELATION, object};
-use osm_model::{Body, Kind, Object};
+use super::made::{Parts, RELATION, meta, object, tag_list};
+use osm_model::{Body, Coord, Kind, ModelFault, Object};
 use std::alloc::{AllocError, Global};
 use std::process::Abort;
 use std::test::Fail;
@@ -104,5 +104,25 @@ fn objects_are_equal_part_by_part(rt: HostRuntime) -> Result<(), Fail> {
     }
     assert!(rt; are_equal(alloc, WAY, WAY)?);
     assert!(rt; !are_equal(alloc, WAY, Parts { node: 8, ..WAY })?);
+    Ok(())
+}
+
+/// Tags that no object has, and why.
+const REFUSED: [(&[(&str, &str)], ModelFault); 2] = [
+    (&[("a", "1"), ("b", "2"), ("a", "3")], ModelFault::KeyTwice),
+    (&[("a", "\0")], ModelFault::NulInText),
+];
+
+/// Why a node with these tags is refused.
+fn fault_of(alloc: Global, tags: &[(&str, &str)]) -> Result<Option<ModelFault>, Fail> {
+    let body = Body::Node(Coord::new(0, 0));
+    Ok(Object::new(1, meta(alloc, 0), tag_list(alloc, tags)?, body).err())
+}
+
+#[test]
+fn objects_are_refused(rt: HostRuntime) -> Result<(), Fail> {
+    for (tags, fault) in &REFUSED {
+        assert!(rt; fault_of(rt.alloc(), tags)? == Some(*fault), "{tags:?}");
+    }
     Ok(())
 }

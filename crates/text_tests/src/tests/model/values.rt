@@ -1,4 +1,4 @@
-//! Rows of texts, codes, degrees and moments.
+//! Texts, codes, degrees and moments. Rows of degrees and moments are read by the program, in tests/system.
 
 use super::made::text;
 use osm_model::{
@@ -36,57 +36,18 @@ const CODES: [(ModelFault, &str); 9] = [
 #[test]
 fn faults_print_their_codes(rt: HostRuntime) -> Result<(), AllocError> {
     for (fault, code) in &CODES {
-        assert_eq!(rt; format!(in rt.alloc(); "{fault}")?.as_str(), *code);
+        assert_eq!(rt; fault.to_string(rt.alloc())?.as_str(), *code);
     }
     Ok(())
 }
 
-/// Texts, and the degrees that they are or why they are none.
-const READ: [(&str, Axis, Result<i32, ModelFault>); 16] = [
-    ("13.4", Axis::Lon, Ok(134_000_000)),
-    ("-0.0000001", Axis::Lon, Ok(-1)),
-    ("-90", Axis::Lat, Ok(-900_000_000)),
-    ("0000000000000000000000180", Axis::Lon, Ok(1_800_000_000)),
-    ("-0", Axis::Lat, Ok(0)),
-    ("52.5000000", Axis::Lat, Ok(525_000_000)),
-    ("", Axis::Lon, Err(ModelFault::EmptyNumber)),
-    ("-", Axis::Lon, Err(ModelFault::NotDecimal)),
-    ("1.", Axis::Lon, Err(ModelFault::NotDecimal)),
-    (".5", Axis::Lon, Err(ModelFault::NotDecimal)),
-    ("1e2", Axis::Lon, Err(ModelFault::NotDecimal)),
-    ("+1", Axis::Lon, Err(ModelFault::NotDecimal)),
-    ("1.12345678", Axis::Lon, Err(ModelFault::TooManyDecimals)),
-    ("999.12345678", Axis::Lon, Err(ModelFault::TooManyDecimals)),
-    ("180.0000001", Axis::Lon, Err(ModelFault::OutOfRange)),
-    ("-90.0000001", Axis::Lat, Err(ModelFault::OutOfRange)),
-];
-
+/// The least degree that isn't 0, and one that no axis has.
 #[test]
-fn degrees_are_read(rt: HostRuntime) {
-    for (text, axis, wanted) in &READ {
-        let read = read_degrees(text.as_bytes(), *axis);
-        assert!(rt; read == *wanted, "{text} is {read:?}");
-    }
-}
-
-/// Degrees, and their texts.
-const WRITTEN: [(i32, &str); 6] = [
-    (134_000_000, "13.4"),
-    (134_000_001, "13.4000001"),
-    (-1, "-0.0000001"),
-    (-900_000_000, "-90"),
-    (0, "0"),
-    (i32::MIN, "-214.7483648"),
-];
-
-#[test]
-fn degrees_are_written(rt: HostRuntime) {
-    for (value, text) in &WRITTEN {
-        assert!(rt;
-            write_degrees(*value).as_bytes() == text.as_bytes(),
-            "at {text}"
-        );
-    }
+fn degrees_are_read_and_written(rt: HostRuntime) {
+    assert!(rt; read_degrees(b"-0.0000001", Axis::Lon) == Ok(-1));
+    assert!(rt; read_degrees(b"999.12345678", Axis::Lon) == Err(ModelFault::TooManyDecimals));
+    assert!(rt; write_degrees(-1).as_bytes() == b"-0.0000001".as_slice());
+    assert!(rt; write_degrees(i32::MIN).as_bytes() == b"-214.7483648".as_slice());
 }
 
 #[test]
