@@ -1,7 +1,7 @@
 #!/usr/bin/env bash
-# Processor minutes of the tests, crate by crate: proofs, tests' proofs, edits. Runs ./test, writes what it
-# printed to bench/data/gate.log and the time of each process of the prover to bench/data/gate.times, and puts
-# the table into docs/HACKING.md. Ends as ./test does.
+# Processor minutes of the tests, crate by crate: proofs, tests' proofs, edits; as they were taken, and at the
+# processors' full speed. Runs ./test, writes what it printed to bench/data/gate.log and the seconds of each crate's
+# proofs, tests and edits to bench/data/gate.times, and puts the table into docs/HACKING.md. Ends as ./test does.
 #
 #   bench/gate.sh              runs ./test (half an hour and more)
 #   bench/gate.sh --table      writes the table of the last run again
