@@ -7,6 +7,7 @@ use Rattle.command_line.specs.PublishCommand.{publish_app}
 use Rattle.command_line.specs.ProveCommand.{prove_app}
 use Rattle.command_line.specs.CheckCommand.{check_app}
 use Rattle.command_line.specs.ServeCommand.{serve_app}
+use Rattle.command_line.specs.ExplainCommand.{explain_app}
 
 -- the program, of which a command is required; its help is no command
 abbrev pub bare_app : App
@@ -15,4 +16,6 @@ bare_app = let app = new_app (codes "osm_mirror") in
 
 -- one level of commands
 abbrev pub program_app : App
-program_app = with_subcommand (with_subcommand (with_subcommand (with_subcommand (with_subcommand bare_app ask_app.top) publish_app.top) prove_app.top) check_app.top) serve_app.top
+program_app =
+    with_subcommand (with_subcommand (with_subcommand (with_subcommand (with_subcommand (with_subcommand bare_app
+    ask_app.top) publish_app.top) prove_app.top) check_app.top) serve_app.top) explain_app.top

@@ -10,10 +10,11 @@ use Rattle.command_line.specs.EditionOptions.{AsksForEdition, IsBadEdition}
 use Rattle.command_line.specs.PublishCommand.{publish_name}
 use Rattle.command_line.specs.ProveCommand.{prove_name}
 use Rattle.command_line.specs.CheckCommand.{IsRootText, check_name}
+use Rattle.command_line.specs.ExplainCommand.{explain_name}
 use Rattle.command_line.specs.Numbers.{IsNumber}
 use Rattle.command_line.specs.ServeCommand.{CantServe, MayTake, serve_name}
 use Rattle.command_line.specs.declared.job.Job.{Job}
-use Rattle.command_line.specs.declared.job.Job.TheVariants.{Ask, Publish, Prove, Check, Serve}
+use Rattle.command_line.specs.declared.job.Job.TheVariants.{Ask, Publish, Prove, Check, Serve, Explain}
 
 -- the job is that of the command of this name with these matches
 abbrev pub Gives : Job → Text → List Row → Type 0
@@ -39,6 +40,7 @@ Gives (Serve file port connections edition changes) name rows = (name ≡ serve_
     × AsksForEdition (first_of (codes "edition") rows) (one_of (codes "sequence") rows) edition
     × (option_map string_bytes changes ≡ first_of (codes "changes") rows)
     × MayTake changes edition
+Gives (Explain code) name rows = (name ≡ explain_name) × (string_bytes code ≡ text_of (codes "CODE") rows)
 
 -- the job is that of the command that was matched
 abbrev pub GivesMatch : Job → Option (Text × List Row) → Type 0

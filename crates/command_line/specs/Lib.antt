@@ -9,3 +9,4 @@ pub mod ProveCommand
 pub mod PublishCommand
 pub mod ServeCommand
 pub mod internal
+pub mod ExplainCommand

@@ -56,4 +56,9 @@ pub enum Job {
         /// The folder in which change files are looked for, if any.
         changes: Option<String>,
     },
+    /// `explain CODE`: say what a code means.
+    Explain {
+        /// The bytes of the word CODE as they stand.
+        code: String,
+    },
 }

@@ -8,6 +8,7 @@ mod arguments;
 mod ask_command;
 mod check_command;
 mod edition_options;
+mod explain_command;
 mod job;
 mod program_command;
 mod prove_command;

@@ -10,6 +10,7 @@ ghost use Rattle.command_line.specs.PublishCommand.{publish_app};
 
 use crate::ask_command::ask_command;
 use crate::check_command::check_command;
+use crate::explain_command::explain_command;
 use crate::prove_command::prove_command;
 use crate::publish_command::publish_command;
 use crate::serve_command::serve_command;
@@ -27,7 +28,8 @@ pub fn program_command<'a>(alloc: Global) -> Result<Command<'a>, AllocError>
     let program = publisher_program(alloc)?;
     let program = and_command(program, prove_command(alloc))?;
     let program = and_command(program, check_command(alloc))?;
-    and_command(program, serve_command(alloc))
+    let program = and_command(program, serve_command(alloc))?;
+    and_command(program, explain_command(alloc))
 }
 
 /// The program with the commands that need no proof: split off, since a long chain of calls is dear to prove.

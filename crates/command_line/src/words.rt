@@ -9,6 +9,7 @@ ghost use Rattle.command_line.specs.internal.Commands.{IsCommandName};
 
 use crate::ask_command::{ASK, ask_job};
 use crate::check_command::{CHECK, check_job};
+use crate::explain_command::{EXPLAIN, explain_job};
 use crate::job::Job;
 use crate::program_command::program_command;
 use crate::prove_command::{PROVE, prove_job};
@@ -62,6 +63,7 @@ fn job_of(alloc: Global, name: &str, matches: &ArgMatches<'_>) -> Result<Job, Wo
         PROVE => prove_job(alloc, matches),
         CHECK => check_job(alloc, matches),
         SERVE => serve_job(alloc, matches),
+        EXPLAIN => Ok(explain_job(alloc, matches)?),
         _ => unreachable!("each command has its arm"),
     }
 }

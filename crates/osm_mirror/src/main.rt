@@ -5,13 +5,20 @@
 #![tactic(auto)]
 
 mod folder_drawer;
+mod in_words;
 mod input_file;
 mod output_file;
+mod progress;
+mod watched;
 
 use crate::folder_drawer::FolderDrawer;
+use crate::in_words::{Subject, Trouble, tell_in_words};
 use crate::input_file::InputFile;
 use crate::output_file::OutputFile;
+use crate::progress::Progress;
+use crate::watched::Watched;
 use command_line::{Job, WordsFault, read_words};
+use osm_codes::explain;
 use osm_commands::ask::ask;
 use osm_commands::check::check;
 use osm_commands::command_fault::CommandFault;
@@ -24,8 +31,10 @@ use osm_commands::serve_changing::serve_changing;
 use osm_commands::socket_door::SocketDoor;
 use osm_commands::status::Status;
 use osm_desk::Desk;
+use osm_index::Snapshot;
 use std::env;
-use std::io::{ErrorKind, Write};
+use std::fs;
+use std::io::{ErrorKind, IsTerminal, Write};
 use std::process::ExitCode;
 use tree_node::{Digest, Edition};
 
@@ -49,25 +58,22 @@ fn run(rt: &HostRuntime) -> Status {
             let _ = writeln!(rt.stderr(), "{fault}");
             Status::Refused
         }
-        Err(WordsFault::Memory) => ended(rt, Err(CommandFault::Memory)),
+        Err(WordsFault::Memory) => ended(rt, Err(CommandFault::Memory), &NOTHING),
     }
 }
 
 /// Runs the command with its files.
 fn done(rt: &HostRuntime, job: Job) -> Status {
     match job {
-        Job::Ask { query } => ended(rt, ask_input(rt, &query)),
-        Job::Publish { file, edition } => ended(rt, publish_file(rt, &file, edition)),
+        Job::Ask { query } => ask_input(rt, &query),
+        Job::Publish { file, edition } => publish_file(rt, &file, edition),
         Job::Prove {
             file,
             query_file,
             answer_file,
             proof_file,
             edition,
-        } => ended(
-            rt,
-            prove_files(rt, &file, &query_file, &answer_file, &proof_file, edition),
-        ),
+        } => prove_files(rt, &file, &query_file, &answer_file, &proof_file, edition),
         Job::Check {
             root,
             query_file,
@@ -82,28 +88,58 @@ fn done(rt: &HostRuntime, job: Job) -> Status {
             changes,
         } => {
             let drawer = FolderDrawer::new(rt, changes.as_deref());
-            ended(
-                rt,
-                serve_file(rt, &file, port, connections, edition, drawer),
-            )
+            serve_file(rt, &file, port, connections, edition, drawer)
         }
+        Job::Explain { code } => explain_code(rt, &code),
     }
 }
 
 /// Answers the query over the objects that standard input holds.
-fn ask_input(rt: &HostRuntime, query: &str) -> Result<(), CommandFault> {
-    ask(
+fn ask_input(rt: &HostRuntime, query: &str) -> Status {
+    if rt.stdin().is_terminal() {
+        let _ = writeln!(rt.stderr(), "waiting for OPL on standard input");
+    }
+    let mut input = Watched::new(rt.stdin(), Progress::of_stream(rt));
+    let outcome = ask(
         rt.alloc(),
         query.as_bytes(),
-        &mut rt.stdin(),
+        &mut input,
         &mut rt.stdout(),
+    );
+    input.clear();
+    let troubles = &[Trouble {
+        name: "standard input",
+        error: input.error(),
+    }];
+    ended(
+        rt,
+        outcome,
+        &Subject {
+            front: input.front(),
+            query: query.as_bytes(),
+            troubles,
+        },
     )
 }
 
 /// Tells the root of the set of this file.
-fn publish_file(rt: &HostRuntime, file: &str, edition: Edition) -> Result<(), CommandFault> {
-    let input = &mut InputFile::new(rt, file);
-    publish(rt.alloc(), input, edition, &mut rt.stdout())
+fn publish_file(rt: &HostRuntime, file: &str, edition: Edition) -> Status {
+    let mut input = watched_file(rt, file);
+    let outcome = publish(rt.alloc(), &mut input, edition, &mut rt.stdout());
+    input.clear();
+    let troubles = &[Trouble {
+        name: file,
+        error: input.error(),
+    }];
+    ended(
+        rt,
+        outcome,
+        &Subject {
+            front: input.front(),
+            query: &[],
+            troubles,
+        },
+    )
 }
 
 /// Writes the answer to the query of a file over the set of a file, and its proof, and tells the root.
@@ -114,13 +150,43 @@ fn prove_files(
     answer_file: &str,
     proof_file: &str,
     edition: Edition,
-) -> Result<(), CommandFault> {
-    let input = &mut InputFile::new(rt, file);
-    let query = &mut InputFile::new(rt, query_file);
-    let answer = &mut OutputFile::new(rt, answer_file);
-    let proof = &mut OutputFile::new(rt, proof_file);
-    let output = &mut rt.stdout();
-    prove(rt.alloc(), input, query, edition, answer, proof, output)
+) -> Status {
+    let mut input = watched_file(rt, file);
+    let mut query = quiet_file(rt, query_file);
+    let mut answer = OutputFile::new(rt, answer_file);
+    let mut proof = OutputFile::new(rt, proof_file);
+    let outcome = prove(
+        rt.alloc(),
+        &mut input,
+        &mut query,
+        edition,
+        &mut answer,
+        &mut proof,
+        &mut rt.stdout(),
+    );
+    input.clear();
+    let text = text_of_query(rt, query_file, &outcome);
+    let troubles = &[
+        Trouble {
+            name: file,
+            error: input.error(),
+        },
+        Trouble {
+            name: query_file,
+            error: query.error(),
+        },
+        answer.trouble(),
+        proof.trouble(),
+    ];
+    ended(
+        rt,
+        outcome,
+        &Subject {
+            front: input.front(),
+            query: &text,
+            troubles,
+        },
+    )
 }
 
 /// Tells whether the answer of a file is right.
@@ -131,27 +197,85 @@ fn check_files(
     answer_file: &str,
     proof_file: &str,
 ) -> Status {
-    let query = &mut InputFile::new(rt, query_file);
-    let answer = &mut InputFile::new(rt, answer_file);
-    let proof = &mut InputFile::new(rt, proof_file);
-    match check(rt.alloc(), root, query, answer, proof, &mut rt.stdout()) {
+    let mut query = quiet_file(rt, query_file);
+    let mut answer = quiet_file(rt, answer_file);
+    let mut proof = quiet_file(rt, proof_file);
+    let outcome = check(
+        rt.alloc(),
+        root,
+        &mut query,
+        &mut answer,
+        &mut proof,
+        &mut rt.stdout(),
+    );
+    let troubles = &[
+        Trouble {
+            name: query_file,
+            error: query.error(),
+        },
+        Trouble {
+            name: answer_file,
+            error: answer.error(),
+        },
+        Trouble {
+            name: proof_file,
+            error: proof.error(),
+        },
+    ];
+    match outcome {
         Ok(verdict) => Status::from(verdict),
-        Err(fault) => ended(rt, Err(fault)),
+        Err(fault) => ended(
+            rt,
+            Err(fault),
+            &Subject {
+                front: &[],
+                query: &[],
+                troubles,
+            },
+        ),
     }
 }
 
-/// Serves the set of this file on this port, in the second edition with the changes of this drawer. Once it listens, it
-/// says where and over what.
+/// Serves the set of this file on this port, in the second edition with the changes of this drawer.
 fn serve_file(
     rt: &HostRuntime,
     file: &str,
     port: u16,
     connections: u32,
     edition: Edition,
+    drawer: FolderDrawer<'_>,
+) -> Status {
+    let mut input = watched_file(rt, file);
+    let read = read_snapshot(rt.alloc(), &mut input, edition);
+    input.clear();
+    let outcome = match read {
+        Ok(snapshot) => serve_snapshot(rt, snapshot, port, connections, drawer),
+        Err(fault) => Err(fault),
+    };
+    let troubles = &[Trouble {
+        name: file,
+        error: input.error(),
+    }];
+    ended(
+        rt,
+        outcome,
+        &Subject {
+            front: input.front(),
+            query: &[],
+            troubles,
+        },
+    )
+}
+
+/// Serves a snapshot on this port. Once it listens, it says where and over what.
+fn serve_snapshot(
+    rt: &HostRuntime,
+    snapshot: Snapshot,
+    port: u16,
+    connections: u32,
     mut drawer: FolderDrawer<'_>,
 ) -> Result<(), CommandFault> {
     let alloc = rt.alloc();
-    let snapshot = read_snapshot(alloc, &mut InputFile::new(rt, file), edition)?;
     let mut door = SocketDoor::open(rt, port)?;
     let line = listening_line(alloc, door.address()?, &snapshot)?;
     let errors = &mut rt.stderr();
@@ -173,13 +297,56 @@ fn serve_file(
     }
 }
 
-/// How the program ends after a command; a fault is told in one line.
-fn ended(rt: &HostRuntime, outcome: Result<(), CommandFault>) -> Status {
+/// Says what a code means.
+fn explain_code(rt: &HostRuntime, code: &str) -> Status {
+    match explain(code) {
+        Some(row) => match writeln!(rt.stdout(), "{row}") {
+            Ok(()) => Status::Done,
+            Err(_) => ended(rt, Err(CommandFault::Device), &NOTHING),
+        },
+        None => {
+            let _ = writeln!(rt.stderr(), "no such code");
+            Status::Refused
+        }
+    }
+}
+
+/// A file whose reading is shown on a terminal.
+fn watched_file<'a>(rt: &'a HostRuntime, path: &'a str) -> Watched<'a, InputFile<'a>> {
+    Watched::new(InputFile::new(rt, path), Progress::of_file(rt, path))
+}
+
+/// A file whose reading isn't shown.
+fn quiet_file<'a>(rt: &'a HostRuntime, path: &'a str) -> Watched<'a, InputFile<'a>> {
+    Watched::new(InputFile::new(rt, path), Progress::none(rt))
+}
+
+/// The text of a query that was refused, read once more from its file; nothing where another fault is told.
+fn text_of_query(rt: &HostRuntime, path: &str, outcome: &Result<(), CommandFault>) -> Vec<u8> {
+    match outcome {
+        Err(CommandFault::Query(_)) => match fs::read(rt, rt.alloc(), path) {
+            Ok(text) => text,
+            Err(_) => Vec::new(rt.alloc()),
+        },
+        _ => Vec::new(rt.alloc()),
+    }
+}
+
+/// No input, no query, no file.
+const NOTHING: Subject<'static> = Subject {
+    front: &[],
+    query: &[],
+    troubles: &[],
+};
+
+/// How the program ends after a command. A fault is told in one line, and then in words where somebody looks.
+fn ended(rt: &HostRuntime, outcome: Result<(), CommandFault>, subject: &Subject<'_>) -> Status {
     match outcome {
         Ok(()) => Status::Done,
         Err(fault) => {
             // Where standard error takes nothing, the status still tells.
             let _ = writeln!(rt.stderr(), "{fault}");
+            tell_in_words(rt, fault, subject);
             fault.status()
         }
     }

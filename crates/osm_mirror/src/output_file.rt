@@ -2,6 +2,7 @@
 
 ghost use Rattle.std.specs.Prelude.{◌≡◌, true};
 
+use crate::in_words::Trouble;
 use osm_commands::command_fault::CommandFault;
 use osm_commands::outlet::{Outlet, told};
 use std::fs::File;
@@ -16,6 +17,8 @@ pub(crate) struct OutputFile<'a> {
     rt: &'a HostRuntime,
     path: &'a str,
     file: Option<File>,
+    /// The system's number of the last failure.
+    error: Option<i32>,
 }
 
 impl<'a> Model for OutputFile<'a> {
@@ -35,33 +38,53 @@ impl<'a> OutputFile<'a> {
             rt,
             path,
             file: None,
+            error: None,
+        }
+    }
+
+    /// What the system said of the file's last failure.
+    pub(crate) fn trouble(&self) -> Trouble<'a> {
+        Trouble {
+            name: self.path,
+            error: self.error,
         }
     }
 
     /// Makes the file, where it isn't made yet.
     fn make(&mut self) -> io::Result<()> {
         if self.file.is_none() {
-            self.file = Some(File::create(self.rt, self.path)?);
+            let made = File::create(self.rt, self.path);
+            self.file = Some(self.noted(made)?);
         }
         Ok(())
+    }
+
+    /// The same outcome; a failure is kept.
+    fn noted<T>(&mut self, outcome: io::Result<T>) -> io::Result<T> {
+        if let Err(error) = &outcome {
+            self.error = error.raw_os_error();
+        }
+        outcome
     }
 }
 
 impl Write for OutputFile<'_> {
     fn write(&mut self, buf: &[u8]) -> io::Result<usize> {
         self.make()?;
-        match &mut self.file {
+        let written = match &mut self.file {
             Some(file) => file.write(buf),
             None => Ok(0),
-        }
+        };
+        self.noted(written)
     }
 
     fn flush(&mut self) -> io::Result<()> {
         self.make()?;
-        match &mut self.file {
+        let flushed = match &mut self.file {
             Some(file) => file.flush(),
             None => Ok(()),
-        }
+        };
+        self.noted(flushed)
     }
 }
 

@@ -8,6 +8,7 @@ use Rattle.command_line.specs.PublishCommand.{publish_name}
 use Rattle.command_line.specs.ProveCommand.{prove_name}
 use Rattle.command_line.specs.CheckCommand.{check_name}
 use Rattle.command_line.specs.ServeCommand.{serve_name}
+use Rattle.command_line.specs.ExplainCommand.{explain_name}
 
 -- the command is this one to clap, and has no argument that its subcommands share
 abbrev pub IsCommand : App → Command → Type 0
@@ -15,4 +16,5 @@ IsCommand app c = (app_of c ≡ app) × ((fields_of c).has_globals ≡ false)
 
 -- the name of a command
 abbrev pub IsCommandName : Text → Type 0
-IsCommandName name = (name ≡ ask_name) ⊎ ((name ≡ publish_name) ⊎ ((name ≡ prove_name) ⊎ ((name ≡ check_name) ⊎ (name ≡ serve_name))))
+IsCommandName name =
+    (name ≡ ask_name) ⊎ ((name ≡ publish_name) ⊎ ((name ≡ prove_name) ⊎ ((name ≡ check_name) ⊎ ((name ≡ serve_name) ⊎ (name ≡ explain_name)))))

@@ -1,0 +1,38 @@
+//! The command `explain CODE`.
+
+ghost use Rattle.std.specs.Prelude.{◌≡◌, IfOk};
+ghost use Rattle.clap.specs.Words.{found_of, rows_of};
+ghost use Rattle.command_line.specs.internal.Commands.{IsCommand};
+ghost use Rattle.command_line.specs.ExplainCommand.{explain_app, explain_name};
+ghost use Rattle.command_line.specs.Jobs.{Gives};
+
+use crate::arguments::{Argument, and_wanted, text_of};
+use crate::job::Job;
+use clap::{ArgMatches, Command};
+use std::alloc::{AllocError, Global};
+
+/// The name of the command.
+pub const EXPLAIN: &str = "explain";
+
+/// What the program's help says of the command.
+const ABOUT: &str = "Prints what a code means, where it is told and what to do about it";
+
+const CODE: Argument = Argument {
+    name: "CODE",
+    help: "The code, as 'O9', or another line that the program prints, as 'bad root'",
+};
+
+/// The command, as `clap` is told of it.
+pub fn explain_command<'a>(alloc: Global) -> Result<Command<'a>, AllocError>
+    ensures { IfOk result (IsCommand explain_app) }
+{
+    and_wanted(alloc, Command::new(alloc, EXPLAIN).about(ABOUT), CODE)
+}
+
+/// What the matches of this command ask for.
+pub fn explain_job(alloc: Global, matches: &ArgMatches<'_>) -> Result<Job, AllocError>
+    ensures { IfOk result (λ job. Gives job explain_name (rows_of (found_of matches.now))) }
+{
+    let code = text_of(alloc, matches, CODE)?;
+    Ok(Job::Explain { code })
+}

@@ -1,0 +1,31 @@
+//! Codes: lines that are no codes.
+
+use crate::explanation::Explanation;
+
+/// Lines that are no codes.
+pub(crate) const LINES: [Explanation; 4] = [
+    Explanation {
+        code: "bad root",
+        meaning: "ROOT isn't 64 hexadecimal digits",
+        place: "standard error, status 2",
+        advice: "Copy the whole root from the publisher: 64 digits 0 to 9 and a to f.",
+    },
+    Explanation {
+        code: "bad edition",
+        meaning: "the edition is neither 1 nor 2, or it is 1 beside --changes",
+        place: "standard error, status 2",
+        advice: "Leave --edition out, or give 2.",
+    },
+    Explanation {
+        code: "no memory",
+        meaning: "an allocation was refused",
+        place: "standard error, status 3",
+        advice: "Give the program more memory: some five times the size of the OPL file while it builds.",
+    },
+    Explanation {
+        code: "device",
+        meaning: "a file or a port can't be used, or reading or writing failed",
+        place: "standard error, status 3",
+        advice: "Is there such a file, may it be read or written, is the disk full, is the port taken?",
+    },
+];
