@@ -48,7 +48,8 @@ OF_CLAP = [
         "  publish  Prints the root of a set, by which clients check answers\n"
         "  prove    Writes the answer to a query and its proof, and prints the root of the set\n"
         "  check    Checks an answer by its proof and a root: prints 'yes', or 'no' and why\n"
-        "  serve    Answers queries over HTTP, with proofs, on 127.0.0.1\n",
+        "  serve    Answers queries over HTTP, with proofs, on 127.0.0.1\n"
+        "  explain  Prints what a code means, where it is told and what to do about it\n",
     ),
     (
         "ask -h",
