@@ -8,4 +8,5 @@ pub mod Numbers
 pub mod ProveCommand
 pub mod PublishCommand
 pub mod ServeCommand
+pub mod TakenWords
 pub mod internal

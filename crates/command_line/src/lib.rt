@@ -9,6 +9,7 @@ mod ask_command;
 mod check_command;
 mod edition_options;
 mod job;
+mod laws;
 mod program_command;
 mod prove_command;
 mod publish_command;
@@ -17,6 +18,7 @@ mod words;
 mod words_fault;
 
 pub use job::Job;
+pub use laws::each_command_takes_words;
 pub use tree_node::Edition;
 pub use words::read_words;
 pub use words_fault::WordsFault;
