@@ -8,5 +8,6 @@ pub mod Numbers
 pub mod ProveCommand
 pub mod PublishCommand
 pub mod ServeCommand
+pub mod TakenWords
 pub mod internal
 pub mod ExplainCommand

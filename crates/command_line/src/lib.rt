@@ -10,6 +10,7 @@ mod check_command;
 mod edition_options;
 mod explain_command;
 mod job;
+mod laws;
 mod program_command;
 mod prove_command;
 mod publish_command;
@@ -18,6 +19,7 @@ mod words;
 mod words_fault;
 
 pub use job::Job;
+pub use laws::each_command_takes_words;
 pub use tree_node::Edition;
 pub use words::read_words;
 pub use words_fault::WordsFault;

@@ -1,0 +1,23 @@
+use Rattle.std.proofs.Common.{refl}
+use Rattle.clap.proofs.OnLiterals.{clap_on_literals}
+use Rattle.command_line.proofs.laws.each_command_takes_words.Goals as goal
+
+pub returns-clause-ask : goal.returns-clause-ask
+unfolding clap_on_literals
+returns-clause-ask c = λ program query. (refl, (refl, refl))
+
+pub returns-clause-publish : goal.returns-clause-publish
+unfolding clap_on_literals
+returns-clause-publish c = λ program file. (refl, (refl, refl))
+
+pub returns-clause-prove : goal.returns-clause-prove
+unfolding clap_on_literals
+returns-clause-prove c = λ program file query answer proof. (refl, (refl, (refl, refl, refl, refl)))
+
+pub returns-clause-check : goal.returns-clause-check
+unfolding clap_on_literals
+returns-clause-check c = λ program root query answer proof. (refl, (refl, (refl, refl, refl, refl)))
+
+pub returns-clause-serve : goal.returns-clause-serve
+unfolding clap_on_literals
+returns-clause-serve c = λ program file. (refl, (refl, (refl, refl, refl, refl, refl, refl)))

@@ -1,0 +1,28 @@
+-- Words that the command line takes.
+-- Source: this project; what `clap` takes, and what it matches, is its own.
+use Rattle.std.specs.Prelude.{◌≡◌, [], ◌∷◌, List, Option, Some, None, codes, true}
+use Rattle.clap.specs.Words.{Row, Text, subcommand_of, takes}
+use Rattle.command_line.specs.CommandLine.{program_app}
+use Rattle.command_line.specs.ServeCommand.{serve_name}
+
+-- the command of this name was matched, with rows of which this is so
+abbrev pub IsMatchOf : Text → (List Row → Type 0) → Option (Text × List Row) → Type 0
+IsMatchOf name P None = ⊥
+IsMatchOf name P (Some matched) = (matched.0 ≡ name) × P matched.1
+
+-- `clap` takes the words, and matches the command of this name, with rows of which this is so
+abbrev pub AreTaken : List Text → Text → (List Row → Type 0) → Type 0
+AreTaken words name P = (takes program_app words ≡ true) × IsMatchOf name P (subcommand_of program_app words)
+
+-- the word after which each word is a text, also one that begins with `-`
+abbrev pub texts_follow : Text
+texts_follow = codes "--"
+
+-- the program's own name, the name of a command, and its texts
+abbrev pub command_words : (program command : Text) → (texts : List Text) → List Text
+command_words program command texts = program ∷ command ∷ texts_follow ∷ texts
+
+-- the same of `serve`, with each of its options
+abbrev pub serve_words : (program file : Text) → List Text
+serve_words program file = program ∷ serve_name ∷ codes "--connections" ∷ codes "9" ∷ codes "--changes" ∷ codes "new"
+    ∷ codes "--edition" ∷ codes "2" ∷ codes "--sequence" ∷ codes "7" ∷ texts_follow ∷ file ∷ codes "65535" ∷ []
