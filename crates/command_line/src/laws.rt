@@ -5,6 +5,7 @@ ghost use Rattle.clap.specs.Words.{Text, first_of, one_of};
 ghost use Rattle.command_line.specs.Arguments.{text_of};
 ghost use Rattle.command_line.specs.AskCommand.{ask_name};
 ghost use Rattle.command_line.specs.CheckCommand.{check_name};
+ghost use Rattle.command_line.specs.ExplainCommand.{explain_name};
 ghost use Rattle.command_line.specs.ProveCommand.{prove_name};
 ghost use Rattle.command_line.specs.PublishCommand.{publish_name};
 ghost use Rattle.command_line.specs.ServeCommand.{serve_name};
@@ -25,6 +26,8 @@ pub fn each_command_takes_words()
         → AreTaken (command_words program check_name (root ∷ query ∷ answer ∷ proof ∷ [])) check_name (λ rows.
         (text_of (codes "ROOT") rows ≡ root) × (text_of (codes "QUERYFILE") rows ≡ query)
         × (text_of (codes "ANSWERFILE") rows ≡ answer) × (text_of (codes "PROOFFILE") rows ≡ proof)) }
+    ensures explain { (program code : Text) → AreTaken (command_words program explain_name (code ∷ [])) explain_name
+        (λ rows. text_of (codes "CODE") rows ≡ code) }
     // An option may come before that word.
     ensures serve { (program file : Text) → AreTaken (serve_words program file) serve_name (λ rows.
         (text_of (codes "FILE") rows ≡ file) × (one_of (codes "PORT") rows ≡ Some (codes "65535"))

@@ -31,7 +31,7 @@ fn are_shown(rt: &impl Abort, alloc: Global, rows: &[(&str, &str)]) -> Result<()
     Ok(())
 }
 
-const ASK: [(&str, &str); 6] = [
+const ASK: [(&str, &str); 7] = [
     (
         "osm_mirror ask node(1);out;",
         "Ask { query: \"node(1);out;\" }",
@@ -44,10 +44,11 @@ const ASK: [(&str, &str); 6] = [
     ("osm_mirror ask -- --help", "Ask { query: \"--help\" }"),
     ("osm_mirror ask ", "Ask { query: \"\" }"),
     ("osm_mirror ask ask", "Ask { query: \"ask\" }"),
+    ("osm_mirror explain O9", "Explain { code: \"O9\" }"),
 ];
 
 #[test]
-fn reads_ask(rt: HostRuntime) -> Result<(), Fail> {
+fn reads_ask_and_explain(rt: HostRuntime) -> Result<(), Fail> {
     are_shown(&rt, rt.alloc(), &ASK)
 }
 
