@@ -6,7 +6,8 @@ use Rattle.tree_node.specs.declared.item.Item.{Item}
 use Rattle.tree_walk.specs.Choices.{AreThose, IsCount}
 use Rattle.tree_walk.specs.Ranges.{Range}
 use Rattle.tree_walk.specs.Walks.{IsEntryIn, IsMet, IsMetCounted}
-use Rattle.tree_walk.specs.internal.Accounts.{Account, capped, sum_stated}
+use Rattle.tree_walk.specs.internal.Accounts.{Account}
+use Rattle.tree_walk.specs.Given.{capped, sum_stated}
 use Rattle.tree_walk.specs.internal.Openings.{IsOpened}
 use Rattle.tree_walk.proofs.AccountLemmas.{count_is, count_those}
 

@@ -54,7 +54,7 @@ top_then_refused {A} result fault node held old new from to is fetched =
     subst (λ (r : Result A WalkFault). Fetches r (record { held = held; before = old; after = new }) from to) (sym is)
     (fetched.bytes ∷ [], [], rw fetched.counted (fetched_one held old new from fetched.bytes fetched.is_held fetched.grown), ((λ none. none), tt), ((node, fetched.spells), tt), omega arith)
 
-text_of : (low high : ℕ) (bytes : List ℕ) → IsBetweenLevels low high bytes → IsNodeText bytes
+pub text_of : (low high : ℕ) (bytes : List ℕ) → IsBetweenLevels low high bytes → IsNodeText bytes
 text_of low high bytes is = (is.0, is.1)
 
 -- the top, and what is below it

@@ -1,4 +1,5 @@
 -- Lemmas for the crates above.
 pub mod FoundLemmas
+pub mod GivenLaws
 pub mod KeyLemmas
 pub mod WalkedLaws
