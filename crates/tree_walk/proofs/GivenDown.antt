@@ -1,15 +1,15 @@
 -- What a walk gives from the top down: of each level what those of its nodes give that are entered, after what stayed
 -- closed above.
-use Rattle.std.proofs.Common.{◌≡◌, ℕ, suc, ◌<◌, List, [], ◌∷◌, ◌++◌, map, Option, None, Result, Ok, Err, inl, inr, refl, sym, subst, append_assoc, arith}
+use Rattle.std.proofs.Common.{◌≡◌, ℕ, suc, ◌<◌, List, [], ◌∷◌, ◌++◌, map, Option, None, Result, Ok, Err, inr, refl, sym, subst, append_assoc, arith}
 use Rattle.std.specs.Prelude.{OnOk}
 use Rattle.std.proofs.lemmas.List.{append-nil}
-use Rattle.tree_node.specs.Nodes.{Binding, Inner, Leaf, Link, Node}
+use Rattle.tree_node.specs.Nodes.{Binding, Inner, Leaf, Link}
 use Rattle.tree_node.specs.Shelves.{SameNodes}
 use Rattle.tree_walk.specs.Choices.{AreThose}
 use Rattle.tree_walk.specs.Fetches.{IsAmong, IsNodeText}
 use Rattle.tree_walk.specs.Given.{FromInner, FromLeaves, GivesFrom, IsEntered, wanted_of}
 use Rattle.tree_walk.specs.Ranges.{Range}
-use Rattle.tree_walk.specs.Reasons.{IsAccepted, Top, Wanted}
+use Rattle.tree_walk.specs.Reasons.{IsAccepted, Top}
 use Rattle.tree_walk.specs.Spans.{children_placed}
 use Rattle.tree_walk.specs.Walks.{IsEntryIn}
 use Rattle.tree_walk.specs.internal.Accounts.{Gains}

@@ -3,3 +3,4 @@ pub mod FoundLemmas
 pub mod GivenLaws
 pub mod KeyLemmas
 pub mod WalkedLaws
+pub mod WalksGivenLaws

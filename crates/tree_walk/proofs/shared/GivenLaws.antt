@@ -1,8 +1,8 @@
 -- What the nodes that a walk read give.
-use Rattle.std.proofs.Common.{◌≡◌, ◌+◌, ◌<◌, ◌≤◌, ℕ, zero, suc, List, [], ◌∷◌, ◌++◌, length, map, Option, None, ◌⊎◌, inl, inr, refl, sym, ap, subst, ◌∙◌, arith}
+use Rattle.std.proofs.Common.{◌≡◌, ◌≤◌, ℕ, suc, List, [], ◌∷◌, ◌++◌, length, map, Option, inl, inr, refl, sym, ap, subst, ◌∙◌, arith}
 use Rattle.std.specs.List.{AllByRecursion, Contains}
 use Rattle.tree_node.specs.NodeRefs.{number_of}
-use Rattle.tree_node.specs.Nodes.{Binding, Inner, Leaf, Link, Node, Spells, level_of, spelling}
+use Rattle.tree_node.specs.Nodes.{Binding, Inner, Leaf, Link, Node, Spells, spelling}
 use Rattle.tree_node.specs.Outcomes.{ShelfUse}
 use Rattle.tree_node.specs.Trees.{entries_in, links_in}
 use Rattle.tree_node.specs.declared.tree.Tree.{Tree}
@@ -10,7 +10,7 @@ use Rattle.tree_node.proofs.shared.OutcomeLaws.{Nodes}
 use Rattle.tree_walk.specs.Choices.{AreThose}
 use Rattle.tree_walk.specs.Fetches.{IsAmong}
 use Rattle.tree_walk.specs.Given.{Answer, AreAccepted, FromInner, FromLeaves, Gives, GivesFrom, IsEntered, IsGivenEntry, IsNever, IsWalk, SoMany, These, entries_of_all, wanted_of}
-use Rattle.tree_walk.specs.Ranges.{IsAboveLeft, IsAtMost, IsIn, Range}
+use Rattle.tree_walk.specs.Ranges.{IsIn, Range}
 use Rattle.tree_walk.specs.Reasons.{Child, FromParent, FromTop, IsAccepted, IsOfKind, IsWanted, Top, Wanted, left_wanted}
 use Rattle.tree_walk.specs.Spans.{children_of_all, children_placed}
 use Rattle.tree_walk.specs.Walks.{IsEntryIn}
