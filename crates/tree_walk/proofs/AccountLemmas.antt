@@ -4,7 +4,8 @@ use Rattle.std.proofs.lemmas.List.{append-nil}
 use Rattle.std.proofs.lemmas.List.Sums.{sum_by-append, sum_by-cons}
 use Rattle.tree_node.specs.Nodes.{Binding, Link}
 use Rattle.tree_walk.specs.Choices.{AreThose, IsCount}
-use Rattle.tree_walk.specs.internal.Accounts.{Gains, capped, sum_stated}
+use Rattle.tree_walk.specs.internal.Accounts.{Gains}
+use Rattle.tree_walk.specs.Given.{capped, sum_stated}
 
 -- ---- what is gathered
 

@@ -12,7 +12,7 @@ use Rattle.tree_walk.specs.Choices.{AreThose}
 use Rattle.tree_walk.specs.internal.Accounts.{Account, AreBelow}
 use Rattle.tree_walk.specs.internal.Openings.{IsClosed, IsClosedChild, IsOpen, IsOpenNode}
 use Rattle.tree_walk.specs.Spans.{children_of_all, children_placed, placed}
-use Rattle.tree_walk.specs.internal.Pendings.{entries_of_all}
+use Rattle.tree_walk.specs.Given.{entries_of_all}
 use Rattle.tree_walk.specs.Ranges.{IsAtMost, IsCovered, IsNoHigher, Range}
 use Rattle.tree_walk.specs.Walks.{IsEntryIn}
 use Rattle.tree_walk.proofs.ChoiceLemmas.{those_append, those_split}

@@ -1,12 +1,19 @@
 -- From what a walk gathers to what the two calls promise.
-use Rattle.std.proofs.Common.{◌≡◌, ◌+◌, ◌^◌, ◌≤◌, ℕ, true, false, List, length, Option, ◌↔◌, refl, sym, ap, subst, ◌∙◌}
-use Rattle.tree_node.specs.NodeRefs.{bindings_of}
+use Rattle.std.proofs.Common.{◌≡◌, ◌+◌, ◌^◌, ◌≤◌, ℕ, true, false, List, [], ◌∷◌, length, Option, ◌↔◌, refl, sym, ap, subst, ◌∙◌}
+use Rattle.std.specs.List.{AllByRecursion}
+use Rattle.tree_node.specs.NodeRefs.{bindings_of, number_of}
+use Rattle.tree_node.specs.Outcomes.{ShelfUse}
+use Rattle.tree_node.specs.declared.tree.Tree.{Tree}
 use Rattle.tree_node.specs.Nodes.{Binding, Link, Node}
 use Rattle.tree_node.specs.declared.item.Item.{Item}
 use Rattle.tree_walk.specs.Choices.{AreThose, IsCount}
 use Rattle.tree_walk.specs.Ranges.{Range}
 use Rattle.tree_walk.specs.Walks.{IsEntryIn, IsMet, IsMetCounted}
-use Rattle.tree_walk.specs.internal.Accounts.{Account, capped, sum_stated}
+use Rattle.tree_walk.specs.internal.Accounts.{Account}
+use Rattle.tree_walk.specs.Fetches.{AreDifferent, HasFetched, IsAmong, IsNodeText}
+use Rattle.tree_walk.specs.Given.{GivesFrom, IsCoveredChild, IsNever, IsWalk, SoMany, These, capped, sum_stated}
+use Rattle.tree_walk.specs.Reasons.{Top}
+use Rattle.tree_walk.proofs.shared.GivenLaws.{never_closed}
 use Rattle.tree_walk.specs.internal.Openings.{IsOpened}
 use Rattle.tree_walk.proofs.AccountLemmas.{count_is, count_those}
 
@@ -28,3 +35,20 @@ pub counted_all : (range : Range) (entries found all : List Binding) (closed : L
     → AreThose (IsEntryIn range) entries all → IsCount (IsEntryIn range) entries number
 counted_all range entries found all closed number few gathered account those =
     count_is (IsEntryIn range) entries (length all) number few (gathered ∙ ap capped (sym account.number)) (count_those (IsEntryIn range) entries all those)
+
+-- the nodes that were fetched give the entries
+pub walk_found : (shelf : ShelfUse) (from to : ℕ) (tree : Tree) (top : List ℕ) (range : Range) (nodes : List (List ℕ)) (closed : List (Option (List ℕ) × Link)) (found : List Binding) (items : List Item) → HasFetched shelf from to nodes → AreDifferent nodes → AllByRecursion IsNodeText nodes
+    → GivesFrom IsNever (IsAmong nodes) (number_of tree) range (Top top ∷ []) closed found → bindings_of items ≡ found → IsWalk shelf from to tree top range (These (bindings_of items))
+walk_found shelf from to tree top range nodes closed found items fetched differ texts gives gathered = record {
+  nodes = nodes;
+  fetched = fetched;
+  differ = differ;
+  texts = texts;
+  gives = subst (λ (es : List Binding). GivesFrom IsNever (IsAmong nodes) (number_of tree) range (Top top ∷ []) [] es) (sym gathered)
+      (subst (λ (cs : List (Option (List ℕ) × Link)). GivesFrom IsNever (IsAmong nodes) (number_of tree) range (Top top ∷ []) cs found) (never_closed (IsAmong nodes) (number_of tree) range (Top top ∷ []) closed found gives) gives);
+}
+
+-- and their number
+pub walk_counted : (shelf : ShelfUse) (from to : ℕ) (tree : Tree) (top : List ℕ) (range : Range) (nodes : List (List ℕ)) (closed : List (Option (List ℕ) × Link)) (found : List Binding) (number : ℕ) → HasFetched shelf from to nodes → AreDifferent nodes → AllByRecursion IsNodeText nodes
+    → GivesFrom (IsCoveredChild range) (IsAmong nodes) (number_of tree) range (Top top ∷ []) closed found → number ≡ capped (sum_stated closed + length found) → IsWalk shelf from to tree top range (SoMany number)
+walk_counted shelf from to tree top range nodes closed found number fetched differ texts gives gathered = record { nodes = nodes; fetched = fetched; differ = differ; texts = texts; gives = (closed, found, gives, gathered) }

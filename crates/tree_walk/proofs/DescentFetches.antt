@@ -41,22 +41,22 @@ levels_apart low high level xs ys lt above of_level bytes is_x is_y =
     let no : ⊥ = absurd (omega (arith, lt, x.2, y.3, same)) in
     no
 
-between_of : (level : ℕ) (bytes : List ℕ) → IsOfLevel level bytes → IsBetweenLevels 0 (suc level) bytes
+pub between_of : (level : ℕ) (bytes : List ℕ) → IsOfLevel level bytes → IsBetweenLevels 0 (suc level) bytes
 between_of level bytes is = (is.0, is.1, omega arith, omega (arith, is.2))
 
-between_from : (level high : ℕ) → level < high → (bytes : List ℕ) → IsOfLevel level bytes → IsBetweenLevels level high bytes
+pub between_from : (level high : ℕ) → level < high → (bytes : List ℕ) → IsOfLevel level bytes → IsBetweenLevels level high bytes
 between_from level high lt bytes is = (is.0, is.1, omega (arith, is.2), omega (arith, is.2, lt))
 
-lower : (low level high : ℕ) → low ≤ level → (bytes : List ℕ) → IsBetweenLevels level high bytes → IsBetweenLevels low high bytes
+pub lower : (low level high : ℕ) → low ≤ level → (bytes : List ℕ) → IsBetweenLevels level high bytes → IsBetweenLevels low high bytes
 lower low level high le bytes is = (is.0, is.1, omega (arith, is.2, le), is.3)
 
 module _ (high : ℕ) (old : List ℕ → Type 0) (from : ℕ) where
   -- at the start
-  pub down_start : (held : List ℕ → Type 0) → FetchingDown high high (record { held = held; before = old; after = old }) from from
+  unfoldable pub down_start : (held : List ℕ → Type 0) → FetchingDown high high (record { held = held; before = old; after = old }) from from
   down_start held = record { done = []; fetched = fetched_none held old old from (λ bytes. ((λ is. is), (λ is. is))); differ = tt; so_far = tt }
 
   -- one more level
-  pub down_step : {A : Type 0} (value : A) (level : ℕ) (held after mid new : List ℕ → Type 0) (via to : ℕ) → level < high → FetchingDown (suc level) high (record { held = held; before = old; after = mid }) from via → SameNodes held after
+  unfoldable pub down_step : {A : Type 0} (value : A) (level : ℕ) (held after mid new : List ℕ → Type 0) (via to : ℕ) → level < high → FetchingDown (suc level) high (record { held = held; before = old; after = mid }) from via → SameNodes held after
       → FetchesLevel level (Ok value) (record { held = after; before = mid; after = new }) via to → FetchingDown level high (record { held = after; before = old; after = new }) from to
   down_step value level held after mid new via to lt so stays last = record {
     done = so.done ++ last.0;

@@ -9,7 +9,8 @@ use Rattle.tree_node.specs.Trees.{Shape, Stands, greatest_of, level_at, levels}
 use Rattle.tree_walk.specs.Choices.{AreThose}
 use Rattle.tree_walk.specs.internal.Accounts.{Account, AreBelowLevel, Gains}
 use Rattle.tree_walk.specs.internal.Openings.{IsClosedChild, IsOpenChild, IsOpenNode, IsOpenedIn, IsReached, OpensAt}
-use Rattle.tree_walk.specs.internal.Pendings.{AreStated, IsOneOf, entries_of_all}
+use Rattle.tree_walk.specs.internal.Pendings.{AreStated, IsOneOf}
+use Rattle.tree_walk.specs.Given.{entries_of_all}
 use Rattle.tree_walk.specs.Spans.{children_of_all, placed}
 use Rattle.tree_walk.specs.Ranges.{Range}
 use Rattle.tree_walk.specs.Walks.{IsEntryIn}

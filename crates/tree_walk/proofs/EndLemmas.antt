@@ -6,7 +6,8 @@ use Rattle.tree_walk.specs.Choices.{AreThose}
 use Rattle.tree_walk.specs.internal.Openings.{IsClosed, IsClosedChild, IsOpenChild}
 use Rattle.tree_walk.specs.Spans.{children_placed}
 use Rattle.tree_walk.specs.Ranges.{IsAboveLeft, IsAtMost, IsCovered, Range}
-use Rattle.tree_walk.specs.internal.Reaching.{GoesOnAbove, Reaches, ReachesAbove}
+use Rattle.tree_walk.specs.Given.{GoesOnAbove, IsEntered, ReachesAbove}
+use Rattle.tree_walk.specs.internal.Reaching.{Reaches}
 use Rattle.tree_walk.specs.Walks.{IsEntryIn}
 use Rattle.tree_walk.proofs.shared.KeyLemmas.{below_at_most, below_or, between_begins}
 use Rattle.tree_walk.proofs.MeetLemmas.{goes_on_from_meets}
@@ -68,6 +69,10 @@ closed_goes_on false range left greatest above closed = absurd closed
 -- so none is opened,
 pub none_open : (closing : Bool) (range : Range) (bound : Option (List ℕ)) (links : List Link) → ¬ GoesOnAbove range bound → AreRisingFrom bound (greatests_of links) → AreThose (IsOpenChild closing range) (children_placed bound links) []
 none_open closing range bound links ended rise = none_ended range (IsOpenChild closing range) (λ left link above opens. goes_on_from_meets range left link.greatest opens.0) bound links ended rise
+
+-- none is entered,
+pub none_entered : (Closed : Option (List ℕ) × Link → Type 0) (range : Range) (bound : Option (List ℕ)) (links : List Link) → ¬ GoesOnAbove range bound → AreRisingFrom bound (greatests_of links) → AreThose (IsEntered Closed range) (children_placed bound links) []
+none_entered Closed range bound links ended rise = none_ended range (IsEntered Closed range) (λ left link above entered. entered.high) bound links ended rise
 
 -- and none stays closed
 pub none_closed : (closing : Bool) (range : Range) (bound : Option (List ℕ)) (links : List Link) → ¬ GoesOnAbove range bound → AreRisingFrom bound (greatests_of links) → AreThose (IsClosedChild closing range) (children_placed bound links) []

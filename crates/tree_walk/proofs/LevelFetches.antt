@@ -67,7 +67,7 @@ new_one level low left (n ∷ ns) bytes node up no_higher above is (inl here) =
 new_one level low left (n ∷ ns) bytes node up no_higher above is (inr there) = new_one level low left ns bytes node up.1 no_higher above is there
 
 -- a higher bound
-higher : (level : ℕ) (low left : Option (List ℕ)) (greatest : List ℕ) → IsNoHigher low left → IsAboveLeft left greatest
+pub higher : (level : ℕ) (low left : Option (List ℕ)) (greatest : List ℕ) → IsNoHigher low left → IsAboveLeft left greatest
     → (bytes : List ℕ) → IsFetchedUpTo level low bytes → IsFetchedUpTo level (Some greatest) bytes
 higher level None left greatest no_higher above bytes is = absurd is.3
 higher level (Some l) None greatest no_higher above bytes is = absurd no_higher
@@ -78,7 +78,7 @@ higher level (Some l) (Some k) greatest no_higher above bytes is =
 
 module _ (level : ℕ) (old : List ℕ → Type 0) (from : ℕ) where
   -- at the start
-  pub level_start : (held : List ℕ → Type 0) (spots : List (Option (List ℕ) × Link)) → AreInOrder None spots → FetchingLevel level None (record { held = held; before = old; after = old }) from from spots
+  unfoldable pub level_start : (held : List ℕ → Type 0) (spots : List (Option (List ℕ) × Link)) → AreInOrder None spots → FetchingLevel level None (record { held = held; before = old; after = old }) from from spots
   level_start held spots order = record {
     done = [];
     fetched = fetched_none held old old from (λ bytes. ((λ is. is), (λ is. is)));
@@ -88,7 +88,7 @@ module _ (level : ℕ) (old : List ℕ → Type 0) (from : ℕ) where
   }
 
   -- one more
-  pub level_step : (low : Option (List ℕ)) (held after mid new : List ℕ → Type 0) (via to : ℕ) (spot : Option (List ℕ) × Link) (rest : List (Option (List ℕ) × Link)) (node : Node)
+  unfoldable pub level_step : (low : Option (List ℕ)) (held after mid new : List ℕ → Type 0) (via to : ℕ) (spot : Option (List ℕ) × Link) (rest : List (Option (List ℕ) × Link)) (node : Node)
       → FetchingLevel level low (record { held = held; before = old; after = mid }) from via (spot ∷ rest) → SameNodes held after → FetchedNode node (record { held = after; before = mid; after = new }) via to
       → level_of node ≡ level → greatest_of node ≡ spot.1.greatest → FetchingLevel level (Some spot.1.greatest) (record { held = after; before = old; after = new }) from to rest
   level_step low held after mid new via to spot rest node so stays is at_level greatest =
@@ -103,7 +103,7 @@ module _ (level : ℕ) (old : List ℕ → Type 0) (from : ℕ) where
         order = so.order.2;
       }
 
-  of_level : (low : Option (List ℕ)) (bytes : List ℕ) → IsFetchedUpTo level low bytes → IsOfLevel level bytes
+  pub of_level : (low : Option (List ℕ)) (bytes : List ℕ) → IsFetchedUpTo level low bytes → IsOfLevel level bytes
   of_level low bytes is = (is.0, is.1, is.2)
 
   -- at the end

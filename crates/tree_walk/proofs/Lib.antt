@@ -7,6 +7,8 @@ pub mod DescentFetches
 pub mod DescentLemmas
 pub mod EndLemmas
 pub mod FetchLemmas
+pub mod GivenDown
+pub mod GivenLevels
 pub mod HonestLemmas
 pub mod LevelFetches
 pub mod LevelLemmas

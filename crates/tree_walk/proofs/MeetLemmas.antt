@@ -4,7 +4,7 @@ use Rattle.std.specs.Prelude.{IfSome}
 use Rattle.tree_node.specs.Nodes.{AreBytes}
 use Rattle.tree_node.specs.Order.{IsBelow}
 use Rattle.tree_walk.specs.Ranges.{IsAboveLeft, IsAtMost, IsCovered, IsIn, IsNoHigher, Meets, Range}
-use Rattle.tree_walk.specs.internal.Reaching.{GoesOnAbove, ReachesAbove}
+use Rattle.tree_walk.specs.Given.{GoesOnAbove, ReachesAbove}
 use Rattle.tree_walk.proofs.shared.KeyLemmas.{at_most_below, at_most_trans, below_at_most, below_next, below_or, between_begins, next_at_most}
 
 -- what meets the range has a greatest key that isn't below lo,

@@ -11,7 +11,8 @@ use Rattle.tree_node.proofs.shared.TreeParts.{counts_at, joined_at, kind_at, num
 use Rattle.tree_walk.specs.Choices.{AreThose}
 use Rattle.tree_walk.specs.internal.Accounts.{Account, AreBelow, AreBelowLevel}
 use Rattle.tree_walk.specs.internal.Openings.{IsClosedChild, IsOpenChild, IsOpenNode, OpensAt}
-use Rattle.tree_walk.specs.internal.Pendings.{AreStated, IsOneOf, entries_of_all}
+use Rattle.tree_walk.specs.internal.Pendings.{AreStated, IsOneOf}
+use Rattle.tree_walk.specs.Given.{entries_of_all}
 use Rattle.tree_walk.specs.Spans.{children_of_all, children_placed, placed}
 use Rattle.tree_walk.specs.Ranges.{Range}
 use Rattle.tree_walk.specs.Walks.{IsEntryIn}

@@ -6,14 +6,15 @@ use Rattle.tree_node.specs.Nodes.{Inner, Link, Node, spelling}
 use Rattle.tree_walk.specs.Choices.{AreThose}
 use Rattle.tree_walk.specs.Reasons.{Child, FromParent, FromTop, HasReason, IsAccepted, IsReason, IsWanted, Top, Wanted, left_wanted}
 use Rattle.tree_walk.specs.Spans.{children_placed}
-use Rattle.tree_walk.specs.internal.Pendings.{AreWanted, spot_of, spots_of, wanted_of}
+use Rattle.tree_walk.specs.internal.Pendings.{AreWanted, spot_of, spots_of}
+use Rattle.tree_walk.specs.Given.{wanted_of}
 use Rattle.tree_walk.specs.declared.pending.Pending.{Pending}
 use Rattle.tree_walk.specs.declared.fault.WalkFault.{WalkFault}
 use Rattle.tree_walk.specs.declared.fault.WalkFault.TheVariants as faults
 
 -- ---- more used nodes
 
-accepted_more : (used later : List ℕ → Type 0) (tree : ℕ) (wanted : Wanted) (node : Node) → ((x : List ℕ) → used x → later x) → IsAccepted used tree wanted node → IsAccepted later tree wanted node
+pub accepted_more : (used later : List ℕ → Type 0) (tree : ℕ) (wanted : Wanted) (node : Node) → ((x : List ℕ) → used x → later x) → IsAccepted used tree wanted node → IsAccepted later tree wanted node
 accepted_more used later tree wanted node grows is = record { read = (is.read.0, (grows (spelling node) is.read.1.0, is.read.1.1)); kind = is.kind; stated = is.stated }
 
 pub wanted_more : (used later : List ℕ → Type 0) (tree : ℕ) (top : List ℕ) (wanted : Wanted) → ((x : List ℕ) → used x → later x) → IsWanted used tree top wanted → IsWanted later tree top wanted
@@ -28,7 +29,7 @@ all_wanted_more used later tree top level (spot ∷ spots) grows all = (wanted_m
 -- ---- children of a node that was accepted
 
 -- what holds of each item that a list contains holds of all
-all_of : {X : Type 0} (P : X → Type 0) (xs : List X) → ((x : X) → Contains xs x → P x) → AllByRecursion P xs
+pub all_of : {X : Type 0} (P : X → Type 0) (xs : List X) → ((x : X) → Contains xs x → P x) → AllByRecursion P xs
 all_of P [] each = tt
 all_of P (x ∷ xs) each = (each x (zero, omega arith, refl), all_of P xs (λ y is. each y (suc is.0, omega (arith, is.1), is.2)))
 

@@ -1,5 +1,5 @@
 -- A walk that begins at the top of a tree.
-use Rattle.std.proofs.Common.{◌≡◌, Bool, true, false, ℕ, zero, suc, ◌<◌, refl, ◌-◌, List, [], ◌∷◌, ◌++◌, length, map, Option, None, ◌⊎◌, inl, inr, Result, Ok, Err, sym, ap, subst, ◌∙◌, arith}
+use Rattle.std.proofs.Common.{◌≡◌, Bool, true, false, ℕ, zero, suc, ◌<◌, ◌≤◌, refl, ◌-◌, List, [], ◌∷◌, ◌++◌, length, map, Option, None, ◌⊎◌, inl, inr, Result, Ok, Err, sym, ap, subst, ◌∙◌, arith}
 use Rattle.std.specs.List.{AllByRecursion}
 use Rattle.std.proofs.lemmas.Bool.{cases_order}
 use Rattle.tree_node.specs.Nodes.{AreBytes, Binding, Inner, IsTree, Leaf, Link, Node, level_of}
@@ -44,9 +44,9 @@ top_refused {A} result fault held old new from to is few =
 
 -- one node alone
 pub top_fetched : (node : Node) (held old new : List ℕ → Type 0) (from to : ℕ) → FetchedNode node (record { held = held; before = old; after = new }) from to
-    → (nodes : List (List ℕ)) × HasFetched (record { held = held; before = old; after = new }) from to nodes × AreDifferent nodes × AllByRecursion IsNodeText nodes
+    → (nodes : List (List ℕ)) × HasFetched (record { held = held; before = old; after = new }) from to nodes × AreDifferent nodes × AllByRecursion IsNodeText nodes × (1 ≤ length nodes)
 top_fetched node held old new from to is =
-    (is.bytes ∷ [], rw is.counted (fetched_one held old new from is.bytes is.is_held is.grown), ((λ none. none), tt), ((node, is.spells), tt))
+    (is.bytes ∷ [], rw is.counted (fetched_one held old new from is.bytes is.is_held is.grown), ((λ none. none), tt), ((node, is.spells), tt), omega arith)
 
 -- the top, and then memory was refused
 pub top_then_refused : {A : Type 0} (result : Result A WalkFault) (fault : WalkFault) (node : Node) (held old new : List ℕ → Type 0) (from to : ℕ) → result ≡ Err fault → FetchedNode node (record { held = held; before = old; after = new }) from to → Fetches result (record { held = held; before = old; after = new }) from to
@@ -54,7 +54,7 @@ top_then_refused {A} result fault node held old new from to is fetched =
     subst (λ (r : Result A WalkFault). Fetches r (record { held = held; before = old; after = new }) from to) (sym is)
     (fetched.bytes ∷ [], [], rw fetched.counted (fetched_one held old new from fetched.bytes fetched.is_held fetched.grown), ((λ none. none), tt), ((node, fetched.spells), tt), omega arith)
 
-text_of : (low high : ℕ) (bytes : List ℕ) → IsBetweenLevels low high bytes → IsNodeText bytes
+pub text_of : (low high : ℕ) (bytes : List ℕ) → IsBetweenLevels low high bytes → IsNodeText bytes
 text_of low high bytes is = (is.0, is.1)
 
 -- the top, and what is below it
@@ -67,6 +67,7 @@ top_then_down (Ok value) tree level links held after old mid new from via to top
       differ_append (top.bytes ∷ []) down.0 ((λ none. none), tt) down.2
           (levels_apart (suc level) (suc (suc level)) level (top.bytes ∷ []) down.0 (omega arith) ((node, top.spells, omega arith, omega arith), tt) down.3),
       ((node, top.spells), all_weaker (IsBetweenLevels 0 (suc level)) IsNodeText down.0 (text_of 0 (suc level)) down.3),
+      omega arith,
     )
 top_then_down (Err fault) tree level links held after old mid new from via to top stays down =
     let node = Inner tree (suc level) links in (

@@ -1,9 +1,11 @@
 pub mod Choices
 pub mod Fetches
+pub mod Given
 pub mod Ranges
 pub mod Reasons
 pub mod Refusals
 pub mod Spans
 pub mod Walked
+pub mod WalksGiven
 pub mod Walks
 pub mod internal

@@ -1,17 +1,19 @@
 //! The way down a tree, level by level.
 
-ghost use Rattle.std.specs.Prelude.{[], ◌≡◌, ◌≤◌, ◌++◌, ◌-◌, ℕ, suc, None, List, OnOk, IfErr, IfOk, Option};
+ghost use Rattle.std.specs.Prelude.{[], ◌≡◌, ◌≤◌, ◌++◌, ◌-◌, ◌∷◌, ℕ, suc, None, List, OnOk, IfErr, IfOk, Option, map};
 ghost use Rattle.tree_node.specs.NodeRefs.{number_of};
 ghost use Rattle.tree_node.specs.Nodes.{AreRisingFrom, Binding, Link, Node, keys_of};
 ghost use Rattle.tree_node.specs.Outcomes.{Outcome};
 ghost use Rattle.tree_node.specs.Shelves.{HasNone, SameNodes};
 ghost use Rattle.tree_node.specs.Trees.{Shape, levels};
 ghost use Rattle.tree_walk.specs.Choices.{AreThose};
-ghost use Rattle.tree_walk.specs.Fetches.{Fetches, cause_of, counted_up};
+ghost use Rattle.tree_walk.specs.Fetches.{Fetches, IsNodeText, cause_of, counted_up};
 ghost use Rattle.tree_walk.specs.internal.Accounts.{Account, AreBelowLevel, Gains, GathersAll};
 ghost use Rattle.tree_walk.specs.internal.Openings.{IsClosedChild, IsOpenChild, IsOpened, IsOpenedIn, IsReached};
-ghost use Rattle.tree_walk.specs.internal.Pendings.{AreInOrder, AreStated, AreWanted, FetchesBelow, FetchesLevel, IsOneOf, entries_of_all, spots_of};
-ghost use Rattle.tree_walk.specs.Reasons.{HasReason};
+ghost use Rattle.tree_walk.specs.internal.Pendings.{AreInOrder, AreStated, AreWanted, FetchesBelow, FetchesLevel, IsBetweenLevels, IsOfLevel, IsOneOf, spots_of};
+ghost use Rattle.tree_walk.specs.internal.Gatherings.{GathersFrom, ReadsLevel};
+ghost use Rattle.tree_walk.specs.Given.{entries_of_all, wanted_of};
+ghost use Rattle.tree_walk.specs.Reasons.{HasReason, Top};
 ghost use Rattle.tree_walk.specs.Spans.{children_of_all};
 ghost use Rattle.tree_walk.specs.Ranges.{IsIn, range_of};
 ghost use Rattle.tree_walk.specs.Walks.{IsEntryIn, IsTopOf};
@@ -52,6 +54,9 @@ pub(crate) fn gather<'a, S: Shelf<'a>, G: Gather<'a>>(
         tally.old.fetches tally.new.fetches }
     ensures told { IfErr result (HasReason (number_of tree) top.now.0 (S.holds shelf.new) (S.used shelf.new)) }
     ensures none { HasNone (S.holds shelf.new) top.now.0 → result ≡ Err WalkFault.Missing }
+    ensures gives { OnOk result (GathersFrom G.gathers (IsClosedChild G.closing (range_of range.now)) IsNodeText
+        (record { held = S.holds shelf.new; before = S.used shelf.old; after = S.used shelf.new })
+        tally.old.fetches tally.new.fetches (number_of tree) (range_of range.now) (Top top.now.0 ∷ []) gathered.old gathered.new) }
     ensures answer { (shape : Shape) (entries : List Binding)
         → IsTopOf shape (number_of tree) entries top.now.0
         → Outcome cause_of (λ _. GathersAll G.gathers G.closing (range_of range.now) entries gathered.old gathered.new)
@@ -97,6 +102,10 @@ fn descend<'a, S: Shelf<'a>, G: Gather<'a>>(
     ensures told { (top : List ℕ)
         → AreWanted (S.used shelf.old) (number_of way.now.tree) top level (spots_of pending.entry.items)
         → IfErr result (HasReason (number_of way.now.tree) top (S.holds shelf.new) (S.used shelf.new)) }
+    ensures gives { OnOk result (GathersFrom G.gathers (IsClosedChild G.closing (range_of way.now.range.now)) (IsBetweenLevels 0 (suc level))
+        (record { held = S.holds shelf.new; before = S.used shelf.old; after = S.used shelf.new })
+        tally.old.fetches tally.new.fetches (number_of way.now.tree) (range_of way.now.range.now)
+        (map (wanted_of level) (spots_of pending.entry.items)) gathered.old gathered.new) }
     ensures answer { (shape : Shape) (entries : List Binding)
         → IsReached G.closing shape (number_of way.now.tree) entries (range_of way.now.range.now) level (spots_of pending.entry.items)
         → Outcome cause_of (λ _. (closed : List (Option (List ℕ) × Link)) × (found all : List Binding)
@@ -139,6 +148,10 @@ fn open_level<'a, S: Shelf<'a>, G: Gather<'a>>(
         → IfErr result (HasReason (number_of way.now.tree) top (S.holds shelf.new) (S.used shelf.new)) }
     ensures wanted { (top : List ℕ) → AreWanted (S.used shelf.old) (number_of way.now.tree) top level (spots_of nodes.now)
         → IfOk result (λ pending. AreWanted (S.used shelf.new) (number_of way.now.tree) top (level - 1) (spots_of pending.items)) }
+    ensures gives { IfOk result (λ pending. ReadsLevel G.gathers (IsClosedChild G.closing (range_of way.now.range.now))
+        (record { held = S.holds shelf.new; before = S.used shelf.old; after = S.used shelf.new })
+        tally.old.fetches tally.new.fetches (number_of way.now.tree) level (range_of way.now.range.now)
+        (spots_of nodes.now) (spots_of pending.items) gathered.old gathered.new) }
     ensures answer { (spots : List (Option (List ℕ) × Node)) → AreStated (number_of way.now.tree) level (spots_of nodes.now) spots
         → Outcome cause_of (λ pending. AreThose (IsOpenChild G.closing (range_of way.now.range.now)) (children_of_all spots) (spots_of pending.items)
         × ((closed : List (Option (List ℕ) × Link)) × AreThose (IsClosedChild G.closing (range_of way.now.range.now)) (children_of_all spots) closed
@@ -171,6 +184,10 @@ fn take_leaves<'a, S: Shelf<'a>, G: Gather<'a>>(
         tally.old.fetches tally.new.fetches }
     ensures told { (top : List ℕ) → AreWanted (S.used shelf.old) (number_of way.now.tree) top 0 (spots_of nodes.now)
         → IfErr result (HasReason (number_of way.now.tree) top (S.holds shelf.new) (S.used shelf.new)) }
+    ensures gives { OnOk result (GathersFrom G.gathers (IsClosedChild G.closing (range_of way.now.range.now)) (IsOfLevel 0)
+        (record { held = S.holds shelf.new; before = S.used shelf.old; after = S.used shelf.new })
+        tally.old.fetches tally.new.fetches (number_of way.now.tree) (range_of way.now.range.now)
+        (map (wanted_of 0) (spots_of nodes.now)) gathered.old gathered.new) }
     ensures answer { (spots : List (Option (List ℕ) × Node)) → AreStated (number_of way.now.tree) 0 (spots_of nodes.now) spots
         → Outcome cause_of (λ _. (found : List Binding) × AreThose (IsEntryIn (range_of way.now.range.now)) (entries_of_all spots) found
         × Gains G.gathers gathered.old gathered.new [] found)

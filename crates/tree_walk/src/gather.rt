@@ -5,7 +5,8 @@ ghost use Rattle.std.specs.Prelude.{[], ◌≡◌, ◌+◌, ◌↔◌, ◌∷◌
 ghost use Rattle.tree_node.specs.NodeRefs.{binding_of, bindings_of, link_of};
 ghost use Rattle.tree_node.specs.Nodes.{Binding, Link};
 ghost use Rattle.tree_walk.specs.Ranges.{range_of};
-ghost use Rattle.tree_walk.specs.internal.Accounts.{Gains, capped, sum_stated};
+ghost use Rattle.tree_walk.specs.internal.Accounts.{Gains};
+ghost use Rattle.tree_walk.specs.Given.{capped, sum_stated};
 ghost use Rattle.tree_walk.specs.internal.Openings.{IsClosed};
 
 use crate::key_range::KeyRange;

@@ -4,7 +4,8 @@ ghost use Rattle.std.specs.Option.{option_copied};
 ghost use Rattle.std.specs.Prelude.{◌↔◌, IfSome, IsTrue};
 ghost use Rattle.tree_node.specs.Nodes.{AreBytes};
 ghost use Rattle.tree_node.specs.Order.{IsBelow};
-ghost use Rattle.tree_walk.specs.internal.Reaching.{GoesOnAbove, Reaches, ReachesAbove};
+ghost use Rattle.tree_walk.specs.Given.{GoesOnAbove, ReachesAbove};
+ghost use Rattle.tree_walk.specs.internal.Reaching.{Reaches};
 ghost use Rattle.tree_walk.specs.Ranges.{Begins, IsAboveLeft, IsAtMost, IsCovered, IsIn, Meets, range_of};
 
 use tree_node::is_below;

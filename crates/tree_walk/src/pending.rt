@@ -5,6 +5,7 @@ ghost use Rattle.std.specs.Prelude.{[], ◌≡◌, ◌++◌, ◌↔◌, IsTrue, 
 ghost use Rattle.tree_node.specs.NodeRefs.{binding_of, bindings_of, link_of};
 ghost use Rattle.tree_node.specs.Nodes.{AreRisingFrom, Inner, Leaf, Link, greatests_of};
 ghost use Rattle.tree_walk.specs.Choices.{AreThose};
+ghost use Rattle.tree_walk.specs.Given.{IsEntered};
 ghost use Rattle.tree_walk.specs.internal.Accounts.{Gains};
 ghost use Rattle.tree_walk.specs.internal.Openings.{IsClosedChild, IsOpenChild};
 ghost use Rattle.tree_walk.specs.internal.Pendings.{spot_of, spots_of};
@@ -67,7 +68,8 @@ pub(crate) fn pick<'a, G: Gather<'a>>(
         × (spots_of pending.new.items ≡ spots_of pending.old.items ++ picked)
         × AreThose (IsOpenChild G.closing (range_of range.now)) (children_placed (option_copied left.entry) children.entry) picked
         × AreThose (IsClosedChild G.closing (range_of range.now)) (children_placed (option_copied left.entry) children.entry) closed
-        × Gains G.gathers gathered.old gathered.new closed []) }
+        × Gains G.gathers gathered.old gathered.new closed []
+        × AreThose (IsEntered (IsClosedChild G.closing (range_of range.now)) (range_of range.now)) (children_placed (option_copied left.entry) children.entry) picked) }
 {
     let (before, children) = children.skip_below(range.lo);
     let mut bound = before.or(left);

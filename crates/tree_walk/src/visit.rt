@@ -7,7 +7,8 @@ ghost use Rattle.tree_node.specs.Nodes.{IsNode, Inner, Leaf, Node, spelling, tre
 ghost use Rattle.tree_node.specs.Shelves.{HasNone, SameNodes};
 ghost use Rattle.tree_walk.specs.Fetches.{cause_of};
 ghost use Rattle.tree_node.specs.Outcomes.{Outcome};
-ghost use Rattle.tree_walk.specs.internal.Pendings.{IsStated, Opens, spot_of, wanted_of};
+ghost use Rattle.tree_walk.specs.internal.Pendings.{IsStated, Opens, spot_of};
+ghost use Rattle.tree_walk.specs.Given.{wanted_of};
 ghost use Rattle.tree_walk.specs.Reasons.{Agrees, IsAccepted, IsReason, Top};
 
 use crate::fault::WalkFault;
@@ -102,6 +103,8 @@ pub(crate) fn open_leaf<'a, S: Shelf<'a>>(
         (record { held = S.holds shelf.new; before = S.used shelf.old; after = S.used shelf.new })
         tally.old.fetches tally.new.fetches }
     ensures agrees { IfOk result (λ entries. Agrees (spot_of pending.now) (Leaf (number_of tree) entries)) }
+    ensures accepted { IfOk result (λ entries. IsAccepted (S.used shelf.new) (number_of tree)
+        (wanted_of 0 (spot_of pending.now)) (Leaf (number_of tree) entries)) }
     ensures told { IfErr result (IsReason (number_of tree) (S.holds shelf.new) (S.used shelf.new) (wanted_of 0 (spot_of pending.now))) }
     ensures memory { result ≡ Err WalkFault.Memory → S.takes_memory ≡ true }
     ensures answer { (node : Node) → IsStated (number_of tree) 0 (spot_of pending.now) node

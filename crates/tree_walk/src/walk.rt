@@ -1,6 +1,6 @@
 //! The two calls: the entries of a tree in a range of keys, and their number.
 
-ghost use Rattle.std.specs.Prelude.{◌≡◌, ℕ, List, IfErr};
+ghost use Rattle.std.specs.Prelude.{◌≡◌, ℕ, List, IfErr, IfOk};
 ghost use Rattle.tree_node.specs.NodeRefs.{bindings_of, number_of};
 ghost use Rattle.tree_node.specs.Nodes.{Binding};
 ghost use Rattle.tree_node.specs.Outcomes.{Outcome};
@@ -8,6 +8,7 @@ ghost use Rattle.tree_node.specs.Shelves.{HasNone, SameNodes};
 ghost use Rattle.tree_node.specs.Trees.{Shape, levels};
 ghost use Rattle.tree_walk.specs.Choices.{AreThose, IsCount};
 ghost use Rattle.tree_walk.specs.Fetches.{Fetches, cause_of, counted_up};
+ghost use Rattle.tree_walk.specs.Given.{IsWalk, SoMany, These};
 ghost use Rattle.tree_walk.specs.Ranges.{IsIn, range_of};
 ghost use Rattle.tree_walk.specs.Reasons.{HasReason};
 ghost use Rattle.tree_walk.specs.Walks.{IsEntryIn, IsMet, IsMetCounted, IsTopOf};
@@ -55,6 +56,11 @@ pub fn range<'a, S: Shelf<'a>>(
     ensures told { IfErr result (HasReason (number_of tree) top.now.0 (S.holds shelf.new) (S.used shelf.new)) }
     // and it is V1 where the top isn't held.
     ensures none { HasNone (S.holds shelf.new) top.now.0 → result ≡ Err WalkFault.Missing }
+    // Whatever the nodes are: those that it fetched, one at least, and no others give these entries.
+    ensures gives { IfOk result (λ found. IsWalk
+        (record { held = S.holds shelf.new; before = S.used shelf.old; after = S.used shelf.new })
+        tally.old.fetches tally.new.fetches
+        tree top.now.0 (range_of range.now) (These (bindings_of found.items))) }
     // Under the top of a tree: exactly the entries in the range, from exactly the nodes that meet it.
     ensures answer { (shape : Shape) (entries : List Binding)
         → IsTopOf shape (number_of tree) entries top.now.0
@@ -98,6 +104,11 @@ pub fn count<'a, S: Shelf<'a>>(
     ensures told { IfErr result (HasReason (number_of tree) top.now.0 (S.holds shelf.new) (S.used shelf.new)) }
     // and it is V1 where the top isn't held.
     ensures none { HasNone (S.holds shelf.new) top.now.0 → result ≡ Err WalkFault.Missing }
+    // Whatever the nodes are: those that it fetched, one at least, and no others give this number.
+    ensures gives { IfOk result (λ number. IsWalk
+        (record { held = S.holds shelf.new; before = S.used shelf.old; after = S.used shelf.new })
+        tally.old.fetches tally.new.fetches
+        tree top.now.0 (range_of range.now) (SoMany number)) }
     // Under the top of a tree: the number of the entries in the range, from exactly the nodes that meet it and that it
     // doesn't cover.
     ensures answer { (shape : Shape) (entries : List Binding)

@@ -55,7 +55,15 @@ here x xs = (zero, omega arith, refl)
 there : {X : Type 0} (x : X) (xs : List X) (y : X) → Contains xs y → Contains (x ∷ xs) y
 there x xs y is = (suc is.0, omega (arith, is.1), is.2)
 
-none : {X : Type 0} (y : X) → Contains [] y → ⊥
+-- what two lists contain together, one of them does
+pub contains_parts : {X : Type 0} (xs ys : List X) (y : X) → Contains (xs ++ ys) y → Contains xs y ⊎ Contains ys y
+contains_parts [] ys y is = inr is
+contains_parts (x ∷ xs) ys y is = elim (first_or x (xs ++ ys) y is) [
+  | inl same ↦ inl (subst (λ (z : _). Contains (x ∷ xs) z) same (here x xs))
+  | inr after ↦ elim (contains_parts xs ys y after) [ inl first ↦ inl (there x xs y first) | inr last ↦ inr last ]
+]
+
+pub none : {X : Type 0} (y : X) → Contains [] y → ⊥
 none y is = absurd (omega (arith, is.1))
 
 pub those_among : {X : Type 0} (Has : X → Type 0) (xs found : List X) → AreThose Has xs found → (y : X) → Contains found y → Contains xs y × Has y

@@ -16,7 +16,7 @@ use Rattle.tree_walk.proofs.DescentFetches.{holds_of}
 
 -- no walk was made
 pub walked_none : (held used : Nodes) (calls from : ℕ) → HasWalked (uses held used used) calls calls from from
-walked_none held used calls from = record { walks = []; fetched = fetched_none held used used from (λ x. ((λ is. is), (λ is. is))); called = refl; each = tt }
+walked_none held used calls from = record { walks = []; fetched = fetched_none held used used from (λ x. ((λ is. is), (λ is. is))); called = refl; each = tt; some = tt }
 
 -- one walk was, and ended well
 pub walked_one : {A : Type 0} (value : A) (held old new : Nodes) (calls later from to : ℕ) → later ≡ counted_up calls 1 → Fetches {A = A} (Ok value) (uses held old new) from to → HasWalked (uses held old new) calls later from to
@@ -25,6 +25,7 @@ walked_one value held old new calls later from to called fetches = record {
   fetched = subst (λ (ns : List (List ℕ)). HasFetched (uses held old new) from to ns) (sym (append-nil fetches.0)) fetches.1;
   called = called;
   each = ((fetches.2, fetches.3), tt);
+  some = (fetches.4, tt);
 }
 
 -- some walks were made, and then others
@@ -36,6 +37,7 @@ walked_then held after old mid new calls via later from at to stays one two = re
       (fetched_then held after old mid new from at to (fetched_in one.walks) (fetched_in two.walks) stays one.fetched two.fetched);
   called = two.called ∙ ap (λ n. counted_up n (length two.walks)) one.called ∙ counted_then calls (length one.walks) (length two.walks) ∙ ap (counted_up calls) (sym (length-append one.walks two.walks));
   each = all_append (λ (nodes : List (List ℕ)). AreDifferent nodes × AllByRecursion IsNodeText nodes) one.walks two.walks one.each two.each;
+  some = all_append (λ (nodes : List (List ℕ)). 1 ≤ length nodes) one.walks two.walks one.some two.some;
 }
 
 -- walks that began when one more node was used, as a manifest
@@ -52,6 +54,7 @@ walked_from held old mid new node calls later from to grown walked = record {
   };
   called = walked.called;
   each = walked.each;
+  some = walked.some;
 }
 
 -- ---- how many different nodes there can be
@@ -105,7 +108,7 @@ fewer held all nodes odd among is_held no_node are_held differ texts =
 -- fewer than there are.
 pub fetched_fewer : {A : Type 0} (value : A) (held old new : Nodes) (from to : ℕ) (all : List (List ℕ)) (odd : List ℕ) → ((x : List ℕ) → held x → IsAmong all x) → held odd → ¬ IsNodeText odd
     → Fetches {A = A} (Ok value) (uses held old new) from to → (count : ℕ) × (to ≡ counted_up from count) × (count < length all)
-fetched_fewer value held old new from to all odd among is_held no_node (nodes, fetched, differ, texts) =
+fetched_fewer value held old new from to all odd among is_held no_node (nodes, fetched, differ, texts, some) =
     (length nodes, fetched.counted, fewer held all nodes odd among is_held no_node fetched.all_held differ texts)
 
 -- One that was refused fetched at most as many.

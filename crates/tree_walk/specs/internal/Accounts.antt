@@ -1,19 +1,12 @@
 -- What a walk has gathered, and how it accounts for the entries in the range.
-use Rattle.std.specs.Prelude.{◌≡◌, ℕ, ◌+◌, ◌-◌, ◌^◌, min, sum_by, Bool, false, List, [], ◌∷◌, ◌++◌, ◌⊎◌, length, map, Option, Some, None}
+use Rattle.std.specs.Prelude.{◌≡◌, ℕ, ◌+◌, Bool, false, List, [], ◌∷◌, ◌++◌, ◌⊎◌, length, map, Option, Some, None}
 use Rattle.tree_node.specs.Nodes.{Binding, Link, Node}
 use Rattle.tree_node.specs.Trees.{entries_at, level_at, link_to}
 use Rattle.tree_walk.specs.Choices.{AreThose}
+use Rattle.tree_walk.specs.Given.{sum_stated}
 use Rattle.tree_walk.specs.Ranges.{Range}
 use Rattle.tree_walk.specs.Walks.{IsEntryIn}
 use Rattle.tree_walk.specs.internal.Openings.{IsOpen}
-
--- a number of 64 bits: a greater one is the greatest of them
-abbrev pub capped : ℕ → ℕ
-capped n = min n (2 ^ 64 - 1)
-
--- the entries that are stated of these children, together
-abbrev pub sum_stated : List (Option (List ℕ) × Link) → ℕ
-sum_stated spots = sum_by (λ (spot : Option (List ℕ) × Link). spot.1.number) spots
 
 -- what was gathered has gained these closed children and these entries, whatever it had before
 abbrev pub Gains : {G : Type 0} → (G → List (Option (List ℕ) × Link) → List Binding → Type 0) → G → G → List (Option (List ℕ) × Link) → List Binding → Type 0

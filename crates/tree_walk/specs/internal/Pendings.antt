@@ -1,15 +1,16 @@
 -- What a walk keeps of the nodes that it will fetch, and what it asks of a node that it fetched.
 use Rattle.std.specs.Prelude.{◌≡◌, ℕ, List, [], ◌∷◌, map, Option, Some, Result, Ok, Err, ⊤, ◌<◌, ◌≤◌, length, ◌++◌, ◌⊎◌}
 use Rattle.std.specs.Option.{option_copied}
-use Rattle.std.specs.List.{AllByRecursion, flat_map}
-use Rattle.tree_node.specs.Nodes.{Binding, Link, Node, IsNode, Spells, spelling, level_of, tree_of}
+use Rattle.std.specs.List.{AllByRecursion}
+use Rattle.tree_node.specs.Nodes.{Link, Node, IsNode, Spells, spelling, level_of, tree_of}
 use Rattle.tree_node.specs.NodeRefs.{link_of}
 use Rattle.tree_node.specs.Outcomes.{ShelfUse}
 use Rattle.tree_node.specs.Shelves.{GrownBy}
-use Rattle.tree_node.specs.Trees.{entries_in, link_to}
+use Rattle.tree_node.specs.Trees.{link_to}
 use Rattle.tree_walk.specs.Fetches.{AreDifferent, HasFetched, counted_up}
 use Rattle.tree_walk.specs.Ranges.{IsAboveLeft, IsNoHigher}
-use Rattle.tree_walk.specs.Reasons.{Child, IsWanted, StartAbove, Wanted, node_keys}
+use Rattle.tree_walk.specs.Given.{wanted_of}
+use Rattle.tree_walk.specs.Reasons.{IsWanted, StartAbove, node_keys}
 use Rattle.tree_walk.specs.declared.fault.WalkFault.{WalkFault}
 use Rattle.tree_walk.specs.declared.pending.Pending.{Pending}
 
@@ -25,10 +26,6 @@ spots_of pendings = map spot_of pendings
 -- what the parent of a node states of it
 abbrev pub stated_of : Option (List ℕ) × Node → Option (List ℕ) × Link
 stated_of spot = (spot.0, link_to spot.1)
-
--- what a walk wants that fetches a pending child at this level
-abbrev pub wanted_of : ℕ → Option (List ℕ) × Link → Wanted
-wanted_of level spot = Child level spot.0 spot.1
 
 -- a walk from this top came to want these pending children
 abbrev pub AreWanted : (List ℕ → Type 0) → ℕ → List ℕ → ℕ → List (Option (List ℕ) × Link) → Type 0
@@ -95,10 +92,6 @@ FetchesBelow level (Err fault) shelf from to =
 abbrev pub IsOneOf : List (Option (List ℕ) × Node) → List ℕ → Type 0
 IsOneOf [] bytes = ⊥
 IsOneOf (spot ∷ spots) bytes = (bytes ≡ spelling spot.1) ⊎ IsOneOf spots bytes
-
--- the entries of these nodes
-abbrev pub entries_of_all : List (Option (List ℕ) × Node) → List Binding
-entries_of_all spots = flat_map (λ (spot : Option (List ℕ) × Node). entries_in spot.1) spots
 
 -- these are the nodes that honest parents state so, one for each pending child
 abbrev pub AreStated : ℕ → ℕ → List (Option (List ℕ) × Link) → List (Option (List ℕ) × Node) → Type 0

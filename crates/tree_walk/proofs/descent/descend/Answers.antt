@@ -1,13 +1,16 @@
-use Rattle.std.proofs.Common.{◌≡◌, ℕ, suc, ◌-◌, List, Option, Result, refl, sym, subst, ◌∙◌, arith}
+use Rattle.std.proofs.Common.{◌≡◌, ℕ, suc, ◌-◌, List, Option, map, Result, refl, sym, subst, ◌∙◌, arith}
 use Rattle.std.specs.Global.{Vec}
 use Rattle.tree_node.specs.NodeRefs.{number_of}
 use Rattle.tree_node.specs.Nodes.{Binding, Link}
 use Rattle.tree_node.specs.Trees.{levels}
 use Rattle.tree_walk.specs.internal.Accounts.{Account, AreBelowLevel, Gains}
-use Rattle.tree_walk.specs.internal.Openings.{IsOpenedIn}
+use Rattle.tree_walk.specs.internal.Openings.{IsClosedChild, IsOpenedIn}
+use Rattle.tree_walk.specs.internal.Gatherings.{GathersFrom}
+use Rattle.tree_walk.specs.Given.{wanted_of}
+use Rattle.tree_walk.proofs.GivenDown.{GatheringDown, gathering_end, gathering_start, gathering_step, on_ok}
 use Rattle.tree_walk.specs.Fetches.{cause_of}
 use Rattle.tree_node.specs.Outcomes.{Outcome}
-use Rattle.tree_walk.specs.internal.Pendings.{AreWanted, FetchesBelow, spots_of}
+use Rattle.tree_walk.specs.internal.Pendings.{AreWanted, FetchesBelow, IsBetweenLevels, IsOfLevel, spots_of}
 use Rattle.tree_walk.specs.Ranges.{range_of}
 use Rattle.tree_walk.specs.declared.fault.WalkFault.{WalkFault}
 use Rattle.tree_walk.specs.declared.pending.Pending.{Pending}
@@ -55,6 +58,9 @@ loop-level-preserved g c =
       honest = honest_down_step g.G.Gather.gathers g.G.Gather.closing (number_of c.args.way.now.tree) (range_of c.args.way.now.range.now) c.args.level (spots_of c.args.pending.items) c.args.gathered.now (λ (pending : Vec Pending). spots_of pending.items) cause_of c.in_ok-pending.pending (c.loop-level.level - 1)
           (spots_of c.loop-level.pending.items) c.loop-level.gathered c.open_level.new.gathered (g.S.Shelf.holds c.open_level.new.shelf) (g.S.Shelf.used c.args.shelf.now) (g.S.Shelf.used c.loop-level.shelf) (g.S.Shelf.used c.open_level.new.shelf) (omega (arith, same, c.loop-level.invariant.within))
           (rw same c.loop-level.invariant.honest) c.open_level.ensures.grows (rw (same, sym c.as_slice.ensures.value) c.in_ok-pending.ensures.answer);
+      gives = gathering_step g.G.Gather.gathers (IsClosedChild g.G.Gather.closing (range_of c.args.way.now.range.now)) (number_of c.args.way.now.tree) (range_of c.args.way.now.range.now) c.args.level (spots_of c.args.pending.items) c.args.gathered.now (g.S.Shelf.used c.args.shelf.now) c.args.tally.now.fetches
+          (c.loop-level.level - 1) (g.S.Shelf.holds c.loop-level.shelf) (g.S.Shelf.holds c.open_level.new.shelf) (g.S.Shelf.used c.loop-level.shelf) (g.S.Shelf.used c.open_level.new.shelf) c.loop-level.tally.fetches c.open_level.new.tally.fetches (spots_of c.loop-level.pending.items) (spots_of c.in_ok-pending.pending.items)
+          c.loop-level.gathered c.open_level.new.gathered (omega (arith, same, c.loop-level.invariant.within)) (rw same c.loop-level.invariant.gives) c.open_level.ensures.stays (rw (same, sym c.as_slice.ensures.value) c.in_ok-pending.ensures.gives);
     }
 
 pub returns-clause-fetches : goal.returns-clause-fetches
@@ -83,6 +89,7 @@ loop-level-init g c = record {
   wanted = λ top all. all;
   fetches = down_start (suc c.args.level) (g.S.Shelf.used c.args.shelf.now) c.args.tally.now.fetches (g.S.Shelf.holds c.args.shelf.now);
   honest = honest_down_start g.G.Gather.gathers g.G.Gather.closing (number_of c.args.way.now.tree) (range_of c.args.way.now.range.now) c.args.level (spots_of c.args.pending.items) c.args.gathered.now (g.S.Shelf.used c.args.shelf.now);
+  gives = gathering_start g.G.Gather.gathers (IsClosedChild g.G.Gather.closing (range_of c.args.way.now.range.now)) (number_of c.args.way.now.tree) (range_of c.args.way.now.range.now) c.args.level (spots_of c.args.pending.items) c.args.gathered.now (g.S.Shelf.used c.args.shelf.now) c.args.tally.now.fetches (g.S.Shelf.holds c.args.shelf.now);
 }
 
 pub returns-in_err-pending-clause-told : goal.returns-in_err-pending-clause-told
@@ -95,3 +102,24 @@ returns-clause-told g c = λ top all.
     let last : c.loop-level.level ≡ 0 = omega (arith, c.loop-level-test.false) in
     c.take_leaves.ensures.told top (subst (λ (ps : List Pending). AreWanted (g.S.Shelf.used c.loop-level.shelf) (number_of c.args.way.now.tree) top 0 (spots_of ps)) (sym c.as_slice-2.ensures.value)
     (subst (λ (n : ℕ). AreWanted (g.S.Shelf.used c.loop-level.shelf) (number_of c.args.way.now.tree) top n (spots_of c.loop-level.pending.items)) last (c.loop-level.invariant.wanted top all)))
+
+pub returns-clause-gives : goal.returns-clause-gives
+returns-clause-gives g c =
+    let gathers = g.G.Gather.gathers in
+    let range = range_of c.args.way.now.range.now in
+    let closes = IsClosedChild g.G.Gather.closing range in
+    let tree = number_of c.args.way.now.tree in
+    let old = g.S.Shelf.used c.args.shelf.now in
+    let from = c.args.tally.now.fetches in
+    let mid = g.S.Shelf.used c.loop-level.shelf in
+    let new = g.S.Shelf.used c.take_leaves.new.shelf in
+    let after = g.S.Shelf.holds c.take_leaves.new.shelf in
+    let pending = spots_of c.loop-level.pending.items in
+    let last : c.loop-level.level ≡ 0 = omega (arith, c.loop-level-test.false) in
+    let so = subst (λ (n : ℕ). GatheringDown gathers closes tree range c.args.level (spots_of c.args.pending.items) c.args.gathered.now old from n (g.S.Shelf.holds c.loop-level.shelf) mid c.loop-level.tally.fetches pending c.loop-level.gathered) last c.loop-level.invariant.gives in
+    on_ok c.take_leaves.result
+    (GathersFrom gathers closes (IsOfLevel 0) (record { held = after; before = mid; after = new }) c.loop-level.tally.fetches c.take_leaves.new.tally.fetches tree range (map (wanted_of 0) pending) c.loop-level.gathered c.take_leaves.new.gathered)
+    (GathersFrom gathers closes (IsBetweenLevels 0 (suc c.args.level)) (record { held = after; before = old; after = new }) from c.take_leaves.new.tally.fetches tree range (map (wanted_of c.args.level) (spots_of c.args.pending.items)) c.args.gathered.now c.take_leaves.new.gathered)
+    (λ leaves. gathering_end gathers closes tree range c.args.level (spots_of c.args.pending.items) c.args.gathered.now old from (g.S.Shelf.holds c.loop-level.shelf) after mid new c.loop-level.tally.fetches c.take_leaves.new.tally.fetches pending c.loop-level.gathered c.take_leaves.new.gathered
+    so c.take_leaves.ensures.stays leaves)
+    (rw (sym c.as_slice-2.ensures.value) c.take_leaves.ensures.gives)

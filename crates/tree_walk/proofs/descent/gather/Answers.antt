@@ -1,12 +1,16 @@
-use Rattle.std.proofs.Common.{◌≡◌, ◌++◌, ℕ, suc, ◌-◌, List, None, Option, Result, Err, inl, inr, refl, sym, ap, subst, ◌∙◌, arith, length}
+use Rattle.std.specs.Prelude.{OnOk}
+use Rattle.std.proofs.Common.{◌≡◌, ◌++◌, ◌∷◌, [], map, ℕ, suc, ◌-◌, List, None, Option, Result, Err, inl, inr, refl, sym, ap, subst, ◌∙◌, arith, length}
 use Rattle.tree_node.specs.NodeRefs.{node_read, number_of}
 use Rattle.tree_node.specs.Nodes.{Binding, Inner, Link, Node, spelling}
 use Rattle.tree_node.specs.Trees.{levels, node_in}
-use Rattle.tree_walk.specs.Fetches.{cause_of}
+use Rattle.tree_walk.specs.Fetches.{IsNodeText, cause_of}
 use Rattle.tree_node.specs.Outcomes.{Outcome}
-use Rattle.tree_walk.specs.internal.Pendings.{AreWanted, FetchedNode, spots_of, wanted_of}
+use Rattle.tree_walk.specs.internal.Pendings.{AreWanted, FetchedNode, IsBetweenLevels, spots_of}
+use Rattle.tree_walk.specs.Given.{wanted_of}
 use Rattle.tree_walk.specs.internal.Accounts.{Account, AreBelowLevel, Gains, GathersAll}
-use Rattle.tree_walk.specs.internal.Openings.{IsOpenChild, IsOpened}
+use Rattle.tree_walk.specs.internal.Openings.{IsClosedChild, IsOpenChild, IsOpened}
+use Rattle.tree_walk.specs.internal.Gatherings.{GathersFrom}
+use Rattle.tree_walk.proofs.GivenDown.{gathers_top_inner, gathers_top_leaf, on_ok}
 use Rattle.tree_walk.specs.Ranges.{range_of}
 use Rattle.tree_walk.specs.declared.fault.WalkFault.{WalkFault}
 use Rattle.tree_walk.specs.declared.pending.Pending.{Pending}
@@ -157,3 +161,38 @@ returns-in_ok-pick-in-Inner-clause-told g c =
     let children = children_wanted used tree c.args.top.now.0 (Top c.args.top.now.0) (number_of c.in-Inner.tree) (c.in-Inner.level - 1) c.in-Inner.children FromTop accepted in
     let those = all_those (IsOpenChild g.G.Gather.closing (range_of c.args.range.now)) (λ (spot : Option (List ℕ) × Link). IsWanted used tree c.args.top.now.0 (wanted_of (c.in-Inner.level - 1) spot)) (children_placed None c.in-Inner.children) picked.0 children picked.3 in
     c.descend.ensures.told c.args.top.now.0 (subst (λ (spots : List (Option (List ℕ) × Link)). AreWanted used tree c.args.top.now.0 (c.in-Inner.level - 1) spots) (sym are) those)
+
+pub returns-in_ok-take-in-Leaf-clause-gives : goal.returns-in_ok-take-in-Leaf-clause-gives
+returns-in_ok-take-in-Leaf-clause-gives g c =
+    let range = range_of c.args.range.now in
+    let used = g.S.Shelf.used c.open.new.shelf in
+    let taken = c.in_ok-take-in-Leaf.ensures in
+    let top = subst (λ (n : Node). FetchedNode n (record { held = g.S.Shelf.holds c.open.new.shelf; before = g.S.Shelf.used c.args.shelf.now; after = used }) c.count_call.new.self.fetches c.open.new.tally.fetches) (ap node_read c.in-Leaf.is) c.in_ok-entries.ensures.opens in
+    let accepted = subst (λ (n : Node). IsAccepted used (number_of c.args.tree) (Top c.args.top.now.0) n) (ap node_read c.in-Leaf.is) c.in_ok-entries.ensures.accepted in
+    rw (sym c.count_call.ensures.fetches) (gathers_top_leaf g.G.Gather.gathers (IsClosedChild g.G.Gather.closing range) (number_of c.args.tree) range c.args.top.now.0 (number_of c.in-Leaf.tree) c.in-Leaf.entries taken.0
+    (g.S.Shelf.holds c.open.new.shelf) (g.S.Shelf.used c.args.shelf.now) used c.count_call.new.self.fetches c.open.new.tally.fetches c.args.gathered.now c.take.new.gathered top accepted taken.1 taken.2)
+
+pub returns-in_ok-pick-in-Inner-clause-gives : goal.returns-in_ok-pick-in-Inner-clause-gives
+returns-in_ok-pick-in-Inner-clause-gives g c =
+    let gathers = g.G.Gather.gathers in
+    let range = range_of c.args.range.now in
+    let closes = IsClosedChild g.G.Gather.closing range in
+    let tree = number_of c.args.tree in
+    let low = c.in-Inner.level - 1 in
+    let held = g.S.Shelf.holds c.open.new.shelf in
+    let after = g.S.Shelf.holds c.descend.new.shelf in
+    let old = g.S.Shelf.used c.args.shelf.now in
+    let mid = g.S.Shelf.used c.open.new.shelf in
+    let new = g.S.Shelf.used c.descend.new.shelf in
+    let picked = c.in_ok-pick-in-Inner.ensures in
+    let are : spots_of c.pick.new.pending.items ≡ picked.0 = picked.2 ∙ ap (λ (ps : List Pending). spots_of ps ++ picked.0) c.new-pending.ensures.items in
+    let is_top = subst (λ (n : Node). FetchedNode n (record { held = held; before = old; after = mid }) c.count_call.new.self.fetches c.open.new.tally.fetches) (ap node_read c.in-Inner.is) c.in_ok-entries.ensures.opens in
+    let level : suc low ≡ c.in-Inner.level = omega (arith, is_top.spells.0.1) in
+    let top = subst (λ (l : ℕ). FetchedNode (Inner (number_of c.in-Inner.tree) l c.in-Inner.children) (record { held = held; before = old; after = mid }) c.count_call.new.self.fetches c.open.new.tally.fetches) (sym level) is_top in
+    let accepted = subst (λ (n : Node). IsAccepted mid tree (Top c.args.top.now.0) n) (ap node_read c.in-Inner.is ∙ ap (λ (l : ℕ). Inner (number_of c.in-Inner.tree) l c.in-Inner.children) (sym level)) c.in_ok-entries.ensures.accepted in
+    let from_top = λ (spots : List (Option (List ℕ) × Link)). GathersFrom gathers closes (IsBetweenLevels 0 (suc low)) (record { held = after; before = mid; after = new }) c.open.new.tally.fetches c.descend.new.tally.fetches tree range (map (wanted_of low) spots) c.pick.new.gathered c.descend.new.gathered in
+    rw (sym c.count_call.ensures.fetches) (on_ok c.descend.result (from_top picked.0)
+    (GathersFrom gathers closes IsNodeText (record { held = after; before = old; after = new }) c.count_call.new.self.fetches c.descend.new.tally.fetches tree range (Top c.args.top.now.0 ∷ []) c.args.gathered.now c.descend.new.gathered)
+    (λ down. gathers_top_inner gathers closes tree range c.args.top.now.0 (number_of c.in-Inner.tree) low c.in-Inner.children picked.0 picked.1 held after old mid new c.count_call.new.self.fetches c.open.new.tally.fetches c.descend.new.tally.fetches
+    c.args.gathered.now c.pick.new.gathered c.descend.new.gathered top accepted picked.6 picked.4 picked.5 c.descend.ensures.stays down)
+    (subst (λ (spots : List (Option (List ℕ) × Link)). OnOk c.descend.result (from_top spots)) are c.descend.ensures.gives))

@@ -1,4 +1,4 @@
-use Rattle.std.proofs.Common.{◌≡◌, ◌++◌, ℕ, ◌+◌, ◌-◌, List, [], Option, None, Some, drop, Result, inl, inr, refl, sym, ap, subst, ◌∙◌}
+use Rattle.std.proofs.Common.{◌≡◌, ◌++◌, ◌∷◌, ℕ, ◌+◌, ◌-◌, List, [], Option, None, Some, drop, Result, inl, inr, refl, sym, ap, subst, ◌∙◌}
 use Rattle.std.specs.Global.{Vec}
 use Rattle.std.proofs.Math.ListN.{drop_of_length-le}
 use Rattle.tree_node.specs.NodeRefs.{number_of}
@@ -17,6 +17,8 @@ use Rattle.tree_walk.specs.declared.fault.WalkFault.TheVariants.{Memory}
 use Rattle.tree_walk.specs.declared.pending.Pending.{Pending}
 use Rattle.tree_walk.proofs.AccountLemmas.{gains_none, gains_then}
 use Rattle.tree_walk.proofs.FetchLemmas.{same_then}
+use Rattle.tree_walk.specs.Given.{IsEntered}
+use Rattle.tree_walk.proofs.GivenLevels.{ReadingLevel, reading_end, reading_start, reading_step, reading_texts, those_of_next}
 use Rattle.tree_walk.proofs.HonestLemmas.{HonestSoFar, honest_end, honest_start, honest_step, honest_stop}
 use Rattle.tree_walk.proofs.LevelFetches.{FetchingLevel, level_end, level_refused, level_start, level_step, level_stopped}
 use Rattle.tree_node.proofs.shared.Results.{err_is}
@@ -85,6 +87,11 @@ loop-node-preserved g c =
     (rest_is c.args.nodes.now c.loop-node.node-index _ c.loop-node-test.true) closed.2 in
     let closed_more = honest_step items closes (number_of c.args.way.now.tree) c.args.level (Inner (number_of c.args.way.now.tree) c.args.level) c.in_ok-children.children spots rest _ closed.0 picked.1
     (g.S.Shelf.used c.args.shelf.now) (g.S.Shelf.used c.loop-node.shelf) (g.S.Shelf.used c.open_inner.new.shelf) closed_before c.open_inner.ensures.grows (λ node is. (c.in_ok-children.ensures.answer node is).ends) picked.4 in
+    let enters = IsEntered closes (range_of c.args.way.now.range.now) in
+    let so_given = c.loop-node.invariant.gives in
+    let spot : Option (List ℕ) × Node = (_, node) in
+    let reading = subst (λ (rest : List (Option (List ℕ) × Link)). ReadingLevel (number_of c.args.way.now.tree) c.args.level spots (g.S.Shelf.used c.args.shelf.now) c.args.tally.now.fetches so_given.0 (g.S.Shelf.holds c.loop-node.shelf) (g.S.Shelf.used c.loop-node.shelf) c.loop-node.tally.fetches rest so_given.1)
+    (rest_is c.args.nodes.now c.loop-node.node-index _ c.loop-node-test.true) so_given.2 in
     record {
       calls = c.open_inner.ensures.calls ∙ c.loop-node.invariant.calls;
       stays = same_then _ _ _ c.loop-node.invariant.stays c.open_inner.ensures.stays;
@@ -100,6 +107,16 @@ loop-node-preserved g c =
           (all_wanted_append used tree top (c.args.level - 1) found picked.0 (all_wanted_more (g.S.Shelf.used c.loop-node.shelf) used tree top (c.args.level - 1) found c.open_inner.ensures.grows (c.loop-node.invariant.wanted top all)) those);
       honest = subst (λ (ss : List (Option (List ℕ) × Link)). HonestSoFar items has (number_of c.args.way.now.tree) c.args.level spots rest ss (g.S.Shelf.used c.args.shelf.now) (g.S.Shelf.used c.open_inner.new.shelf)) (sym picked.2) honest;
       closed = (closed.0 ++ picked.1, gains_then g.G.Gather.gathers c.args.gathered.now c.loop-node.gathered c.pick.new.gathered closed.0 picked.1 [] [] closed.1 picked.5, closed_more);
+      gives = (
+        Some _,
+        so_given.1 ++ spot ∷ [],
+        reading_step (number_of c.args.way.now.tree) c.args.level spots (g.S.Shelf.used c.args.shelf.now) c.args.tally.now.fetches so_given.0 (g.S.Shelf.holds c.loop-node.shelf) (g.S.Shelf.holds c.open_inner.new.shelf) (g.S.Shelf.used c.loop-node.shelf) (g.S.Shelf.used c.open_inner.new.shelf)
+            c.loop-node.tally.fetches c.open_inner.new.tally.fetches _ rest so_given.1 node reading c.open_inner.ensures.stays c.in_ok-children.ensures.opens refl c.in_ok-children.ensures.agrees.1.0 c.in_ok-children.ensures.accepted,
+        subst (λ (ss : List (Option (List ℕ) × Link)). AreThose enters (children_of_all (so_given.1 ++ spot ∷ [])) ss) (sym picked.2) (those_of_next items enters so_given.1 spot found picked.0 so_given.3 picked.6),
+        so_given.4 ++ picked.1,
+        those_of_next items closes so_given.1 spot so_given.4 picked.1 so_given.5 picked.4,
+        gains_then g.G.Gather.gathers c.args.gathered.now c.loop-node.gathered c.pick.new.gathered so_given.4 picked.1 [] [] so_given.6 picked.5,
+      );
     }
 
 pub returns-clause-fetches : goal.returns-clause-fetches
@@ -147,6 +164,7 @@ loop-node-init g c =
       honest = subst (λ (found : List (Option (List ℕ) × Link)). HonestSoFar items opens (number_of c.args.way.now.tree) c.args.level spots spots found used used) (sym none)
           (honest_start items opens (number_of c.args.way.now.tree) c.args.level spots used);
       closed = ([], gains_none g.G.Gather.gathers c.args.gathered.now, honest_start items closes (number_of c.args.way.now.tree) c.args.level spots used);
+      gives = (None, [], reading_start (number_of c.args.way.now.tree) c.args.level spots used c.args.tally.now.fetches (g.S.Shelf.holds c.args.shelf.now) c.requires.order, none, [], refl, gains_none g.G.Gather.gathers c.args.gathered.now);
     }
 
 pub returns-in_err-children-clause-told : goal.returns-in_err-children-clause-told
@@ -160,3 +178,25 @@ returns-in_err-children-clause-told g c = λ top all.
 pub returns-in_err-pick-clause-told : goal.returns-in_err-pick-clause-told
 returns-in_err-pick-clause-told g c = λ top all.
     refused_memory _ _ _ _ c.from_residual-in_err-pick.result (err_is c.from_residual-in_err-pick.result Memory c.from_residual-in_err-pick.ensures.1)
+
+pub returns-clause-gives : goal.returns-clause-gives
+returns-clause-gives g c =
+    let tree = number_of c.args.way.now.tree in
+    let spots = spots_of c.args.nodes.now in
+    let old = g.S.Shelf.used c.args.shelf.now in
+    let held = g.S.Shelf.holds c.loop-node.shelf in
+    let used = g.S.Shelf.used c.loop-node.shelf in
+    let so = c.loop-node.invariant.gives in
+    let reading = subst (λ (rest : List Pending). ReadingLevel tree c.args.level spots old c.args.tally.now.fetches so.0 held used c.loop-node.tally.fetches (spots_of rest) so.1) (drop_of_length-le c.args.nodes.now c.loop-node-test.false) so.2 in
+    record {
+      nodes = reading.so_far.done;
+      fetched = reading.so_far.fetched;
+      differ = reading.so_far.differ;
+      texts = reading_texts tree c.args.level spots old c.args.tally.now.fetches so.0 held used c.loop-node.tally.fetches [] so.1 reading;
+      read = so.1;
+      accepted = reading_end tree c.args.level spots old c.args.tally.now.fetches so.0 held used c.loop-node.tally.fetches so.1 reading;
+      enters = so.3;
+      closed = so.4;
+      closes = so.5;
+      gains = so.6;
+    }

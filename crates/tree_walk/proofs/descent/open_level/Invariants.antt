@@ -5,9 +5,12 @@ use Rattle.tree_node.specs.Shelves.{SameNodes}
 use Rattle.tree_node.specs.Trees.{links_in}
 use Rattle.tree_walk.specs.internal.Accounts.{Gains}
 use Rattle.tree_walk.specs.internal.Openings.{IsClosedChild, IsOpenChild}
-use Rattle.tree_walk.specs.Spans.{children_placed}
+use Rattle.tree_walk.specs.Choices.{AreThose}
+use Rattle.tree_walk.specs.Given.{IsEntered}
+use Rattle.tree_walk.specs.Spans.{children_of_all, children_placed}
 use Rattle.tree_walk.specs.internal.Pendings.{AreWanted, spots_of}
 use Rattle.tree_walk.specs.Ranges.{range_of}
+use Rattle.tree_walk.proofs.GivenLevels.{ReadingLevel}
 use Rattle.tree_walk.proofs.HonestLemmas.{HonestSoFar}
 use Rattle.tree_walk.proofs.LevelFetches.{FetchingLevel}
 use Rattle.tree_walk.proofs.SpotOrder.{IsOrderedUpTo}
@@ -29,4 +32,8 @@ invariant-loop-node g l = record {
   closed : (closed : List (Option (List ℕ) × Link)) × Gains g.G.Gather.gathers l.fn.gathered l.gathered closed []
       × HonestSoFar (λ (spot : Option (List ℕ) × Node). children_placed spot.0 (links_in spot.1)) (IsClosedChild g.G.Gather.closing (range_of l.way.range.now)) (number_of l.way.tree) l.level
       (spots_of l.nodes) (spots_of (drop l.node-index l.nodes)) closed (g.S.Shelf.used l.fn.shelf) (g.S.Shelf.used l.shelf);
+  gives : (low : Option (List ℕ)) × (read : List (Option (List ℕ) × Node))
+      × ReadingLevel (number_of l.way.tree) l.level (spots_of l.nodes) (g.S.Shelf.used l.fn.shelf) l.fn.tally.fetches low (g.S.Shelf.holds l.shelf) (g.S.Shelf.used l.shelf) l.tally.fetches (spots_of (drop l.node-index l.nodes)) read
+      × AreThose (IsEntered (IsClosedChild g.G.Gather.closing (range_of l.way.range.now)) (range_of l.way.range.now)) (children_of_all read) (spots_of l.pending.items)
+      × (closed : List (Option (List ℕ) × Link)) × AreThose (IsClosedChild g.G.Gather.closing (range_of l.way.range.now)) (children_of_all read) closed × Gains g.G.Gather.gathers l.fn.gathered l.gathered closed [];
 }

@@ -1,4 +1,4 @@
-use Rattle.std.proofs.Common.{◌++◌, ℕ, ◌+◌, List, [], None, Option, Some, drop, Result, inl, inr, refl, sym, subst, ◌∙◌}
+use Rattle.std.proofs.Common.{◌++◌, ◌∷◌, map, ℕ, ◌+◌, List, [], None, Option, Some, drop, Result, inl, inr, refl, sym, subst, ◌∙◌}
 use Rattle.std.proofs.Math.ListN.{drop_of_length-le}
 use Rattle.tree_node.specs.NodeRefs.{number_of}
 use Rattle.tree_node.specs.Nodes.{Binding, Leaf, Link, Node}
@@ -7,7 +7,8 @@ use Rattle.tree_walk.specs.Choices.{AreThose}
 use Rattle.tree_walk.specs.internal.Accounts.{Gains}
 use Rattle.tree_walk.specs.Fetches.{cause_of}
 use Rattle.tree_node.specs.Outcomes.{Outcome}
-use Rattle.tree_walk.specs.internal.Pendings.{IsOneOf, entries_of_all, spots_of}
+use Rattle.tree_walk.specs.internal.Pendings.{IsOneOf, spots_of}
+use Rattle.tree_walk.specs.Given.{entries_of_all}
 use Rattle.tree_walk.specs.Ranges.{range_of}
 use Rattle.tree_walk.specs.Walks.{IsEntryIn}
 use Rattle.tree_walk.specs.declared.fault.WalkFault.{WalkFault}
@@ -15,6 +16,8 @@ use Rattle.tree_walk.specs.declared.fault.WalkFault.TheVariants.{Memory}
 use Rattle.tree_walk.specs.declared.pending.Pending.{Pending}
 use Rattle.tree_walk.proofs.AccountLemmas.{gains_none, gains_then}
 use Rattle.tree_walk.proofs.FetchLemmas.{same_then}
+use Rattle.tree_walk.specs.Given.{FromLeaves, wanted_of}
+use Rattle.tree_walk.proofs.GivenLevels.{ReadingLevel, reading_end, reading_start, reading_step, reading_texts, those_of_next}
 use Rattle.tree_walk.proofs.HonestLemmas.{HonestSoFar, honest_end, honest_start, honest_step, honest_stop}
 use Rattle.tree_walk.proofs.LevelFetches.{FetchingLevel, level_end, level_refused, level_start, level_step, level_stopped}
 use Rattle.tree_node.proofs.shared.Results.{err_is}
@@ -71,6 +74,7 @@ loop-node-init g c =
       grows = λ bytes was. was;
       level = (None, level_start 0 used c.args.tally.now.fetches (g.S.Shelf.holds c.args.shelf.now) spots c.requires.order);
       honest = ([], gains_none g.G.Gather.gathers c.args.gathered.now, honest_start items has (number_of c.args.way.now.tree) 0 spots used);
+      gives = (None, [], reading_start (number_of c.args.way.now.tree) 0 spots used c.args.tally.now.fetches (g.S.Shelf.holds c.args.shelf.now) c.requires.order, [], refl, gains_none g.G.Gather.gathers c.args.gathered.now);
     }
 
 pub loop-node-preserved : goal.loop-node-preserved
@@ -91,12 +95,25 @@ loop-node-preserved g c =
     (rest_is c.args.nodes.now c.loop-node.node-index _ c.loop-node-test.true) c.loop-node.invariant.honest.2 in
     let honest = honest_step items has (number_of c.args.way.now.tree) 0 (Leaf (number_of c.args.way.now.tree)) c.in_ok-entries.entries spots rest _ found picked.0
     (g.S.Shelf.used c.args.shelf.now) (g.S.Shelf.used c.loop-node.shelf) (g.S.Shelf.used c.open_leaf.new.shelf) honest_before c.open_leaf.ensures.grows (λ node is. (c.in_ok-entries.ensures.answer node is).ends) picked.1 in
+    let so_given = c.loop-node.invariant.gives in
+    let spot : Option (List ℕ) × Node = (_, node) in
+    let reading = subst (λ (rest : List (Option (List ℕ) × Link)). ReadingLevel (number_of c.args.way.now.tree) 0 spots (g.S.Shelf.used c.args.shelf.now) c.args.tally.now.fetches so_given.0 (g.S.Shelf.holds c.loop-node.shelf) (g.S.Shelf.used c.loop-node.shelf) c.loop-node.tally.fetches rest so_given.1)
+    (rest_is c.args.nodes.now c.loop-node.node-index _ c.loop-node-test.true) so_given.2 in
     record {
       calls = c.open_leaf.ensures.calls ∙ c.loop-node.invariant.calls;
       stays = same_then _ _ _ c.loop-node.invariant.stays c.open_leaf.ensures.stays;
       grows = λ bytes was. c.open_leaf.ensures.grows bytes (c.loop-node.invariant.grows bytes was);
       level = (Some _, next);
       honest = (found ++ picked.0, gains_then g.G.Gather.gathers c.args.gathered.now c.loop-node.gathered c.take.new.gathered [] [] found picked.0 c.loop-node.invariant.honest.1 picked.2, honest);
+      gives = (
+        Some _,
+        so_given.1 ++ spot ∷ [],
+        reading_step (number_of c.args.way.now.tree) 0 spots (g.S.Shelf.used c.args.shelf.now) c.args.tally.now.fetches so_given.0 (g.S.Shelf.holds c.loop-node.shelf) (g.S.Shelf.holds c.open_leaf.new.shelf) (g.S.Shelf.used c.loop-node.shelf) (g.S.Shelf.used c.open_leaf.new.shelf)
+            c.loop-node.tally.fetches c.open_leaf.new.tally.fetches _ rest so_given.1 node reading c.open_leaf.ensures.stays c.in_ok-entries.ensures.opens refl c.in_ok-entries.ensures.agrees.1.0 c.in_ok-entries.ensures.accepted,
+        so_given.3 ++ picked.0,
+        those_of_next items has so_given.1 spot so_given.3 picked.0 so_given.4 picked.1,
+        gains_then g.G.Gather.gathers c.args.gathered.now c.loop-node.gathered c.take.new.gathered [] [] so_given.3 picked.0 so_given.5 picked.2,
+      );
     }
 
 pub returns-clause-fetches : goal.returns-clause-fetches
@@ -132,3 +149,23 @@ returns-in_err-entries-clause-told g c = λ top all.
 pub returns-in_err-take-clause-told : goal.returns-in_err-take-clause-told
 returns-in_err-take-clause-told g c = λ top all.
     refused_memory _ _ _ _ c.from_residual-in_err-take.result (err_is c.from_residual-in_err-take.result Memory c.from_residual-in_err-take.ensures.1)
+
+pub returns-clause-gives : goal.returns-clause-gives
+returns-clause-gives g c =
+    let tree = number_of c.args.way.now.tree in
+    let spots = spots_of c.args.nodes.now in
+    let old = g.S.Shelf.used c.args.shelf.now in
+    let held = g.S.Shelf.holds c.loop-node.shelf in
+    let used = g.S.Shelf.used c.loop-node.shelf in
+    let so = c.loop-node.invariant.gives in
+    let reading = subst (λ (rest : List Pending). ReadingLevel tree 0 spots old c.args.tally.now.fetches so.0 held used c.loop-node.tally.fetches (spots_of rest) so.1) (drop_of_length-le c.args.nodes.now c.loop-node-test.false) so.2 in
+    record {
+      nodes = reading.so_far.done;
+      fetched = reading.so_far.fetched;
+      differ = reading.so_far.differ;
+      texts = reading_texts tree 0 spots old c.args.tally.now.fetches so.0 held used c.loop-node.tally.fetches [] so.1 reading;
+      closed = [];
+      found = so.3;
+      gives = FromLeaves (map (wanted_of 0) spots) so.1 so.3 (reading_end tree 0 spots old c.args.tally.now.fetches so.0 held used c.loop-node.tally.fetches so.1 reading) so.4;
+      gains = so.5;
+    }

@@ -5,8 +5,11 @@ use Rattle.tree_node.specs.Shelves.{SameNodes}
 use Rattle.tree_node.specs.Trees.{entries_in}
 use Rattle.tree_walk.specs.internal.Accounts.{Gains}
 use Rattle.tree_walk.specs.internal.Pendings.{spots_of}
+use Rattle.tree_walk.specs.Choices.{AreThose}
+use Rattle.tree_walk.specs.Given.{entries_of_all}
 use Rattle.tree_walk.specs.Ranges.{range_of}
 use Rattle.tree_walk.specs.Walks.{IsEntryIn}
+use Rattle.tree_walk.proofs.GivenLevels.{ReadingLevel}
 use Rattle.tree_walk.proofs.HonestLemmas.{HonestSoFar}
 use Rattle.tree_walk.proofs.LevelFetches.{FetchingLevel}
 use Rattle.tree_walk.proofs.descent.take_leaves.Given as goal
@@ -21,4 +24,7 @@ invariant-loop-node g l = record {
   honest : (those : List Binding) × Gains g.G.Gather.gathers l.fn.gathered l.gathered [] those
       × HonestSoFar (λ (spot : Option (List ℕ) × Node). entries_in spot.1) (IsEntryIn (range_of l.way.range.now)) (number_of l.way.tree) 0 (spots_of l.nodes) (spots_of (drop l.node-index l.nodes)) those
       (g.S.Shelf.used l.fn.shelf) (g.S.Shelf.used l.shelf);
+  gives : (low : Option (List ℕ)) × (read : List (Option (List ℕ) × Node))
+      × ReadingLevel (number_of l.way.tree) 0 (spots_of l.nodes) (g.S.Shelf.used l.fn.shelf) l.fn.tally.fetches low (g.S.Shelf.holds l.shelf) (g.S.Shelf.used l.shelf) l.tally.fetches (spots_of (drop l.node-index l.nodes)) read
+      × (found : List Binding) × AreThose (IsEntryIn (range_of l.way.range.now)) (entries_of_all read) found × Gains g.G.Gather.gathers l.fn.gathered l.gathered [] found;
 }

@@ -2,7 +2,8 @@ use Rattle.std.proofs.Common.{◌≡◌, ◌∙◌, ℕ, inl, inr, refl, sym, su
 use Rattle.tree_node.specs.NodeRefs.{node_read, number_of}
 use Rattle.tree_node.specs.declared.node.NodeRef.{NodeRef}
 use Rattle.tree_node.specs.Nodes.{Inner, Link, Node, tree_of}
-use Rattle.tree_walk.specs.internal.Pendings.{spot_of, wanted_of}
+use Rattle.tree_walk.specs.internal.Pendings.{spot_of}
+use Rattle.tree_walk.specs.Given.{wanted_of}
 use Rattle.tree_walk.specs.Reasons.{Agrees, IsRead}
 use Rattle.tree_walk.proofs.ChoiceLemmas.{fails_not}
 use Rattle.tree_walk.proofs.VisitLemmas.{agrees_stated, few_from_node}

@@ -2,7 +2,7 @@ use Rattle.std.proofs.Common.{[], Err, refl, ap}
 use Rattle.tree_node.specs.NodeRefs.{bindings_of, number_of}
 use Rattle.tree_node.specs.Trees.{levels}
 use Rattle.tree_walk.specs.Ranges.{range_of}
-use Rattle.tree_walk.proofs.CallLemmas.{found_all, met_is}
+use Rattle.tree_walk.proofs.CallLemmas.{found_all, met_is, walk_found}
 use Rattle.tree_node.proofs.shared.OutcomeLaws.{outcome_as, outcome_stops}
 use Rattle.tree_node.proofs.shared.Results.{err_is}
 use Rattle.tree_walk.proofs.ReasonLemmas.{refused_as, refused_missing}
@@ -25,3 +25,9 @@ returns-clause-answer g c = λ shape entries is.
     outcome_as (λ x. (met_is (range_of c.args.range.now) (levels shape (number_of c.args.tree) entries) x).0) (λ _ x. (met_is (range_of c.args.range.now) (levels shape (number_of c.args.tree) entries) x).1)
     (λ gathered. found_all (range_of c.args.range.now) entries gathered.1 gathered.2 gathered.0 c.gather.new.gathered.items.items (gathered.3 [] [] (ap bindings_of c.new.ensures.items)) gathered.4 gathered.5)
     (c.in_ok-gather.ensures.answer shape entries is)
+
+pub returns-clause-gives : goal.returns-clause-gives
+returns-clause-gives g c =
+    let given = c.in_ok-gather.ensures.gives in
+    walk_found (record { held = g.S.Shelf.holds c.gather.new.shelf; before = g.S.Shelf.used c.args.shelf.now; after = g.S.Shelf.used c.gather.new.shelf }) c.args.tally.now.fetches c.gather.new.tally.fetches c.args.tree c.args.top.now.0 (range_of c.args.range.now)
+    given.nodes given.closed given.found c.gather.new.gathered.items.items given.fetched given.differ given.texts given.gives (given.gains [] [] (ap bindings_of c.new.ensures.items))

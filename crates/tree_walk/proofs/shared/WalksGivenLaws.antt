@@ -1,0 +1,102 @@
+-- Several walks over one shelf, one after the other, and what each gave.
+use Rattle.std.proofs.Common.{◌≡◌, ◌≤◌, ℕ, List, [], ◌∷◌, ◌++◌, length, map, ◌⊎◌, inl, inr, Result, Ok, Err, refl, sym, ap, subst, ◌∙◌, length-append}
+use Rattle.std.specs.List.{AllByRecursion}
+use Rattle.std.specs.Prelude.{IfOk, OnOk}
+use Rattle.std.proofs.lemmas.Grind.{flat_map-append}
+use Rattle.std.proofs.lemmas.List.{append-nil, length-map}
+use Rattle.std.proofs.lemmas.List.Folds.{flat_map-map}
+use Rattle.tree_node.specs.Nodes.{Binding}
+use Rattle.tree_node.specs.Shelves.{GrownBy, SameNodes}
+use Rattle.tree_node.specs.declared.tree.Tree.{Tree}
+use Rattle.tree_node.proofs.shared.OutcomeLaws.{Nodes, uses}
+use Rattle.tree_walk.specs.Fetches.{AreDifferent, HasFetched, IsNodeText, counted_up}
+use Rattle.tree_walk.specs.Given.{Answer, IsWalk, SoMany, These}
+use Rattle.tree_walk.specs.Ranges.{Range}
+use Rattle.tree_walk.specs.Walked.{HasWalked}
+use Rattle.tree_walk.specs.WalksGiven.{HasGiven, IsFine, IsMade, Walk, nodes_of}
+use Rattle.tree_walk.proofs.FetchLemmas.{all_append, all_weaker, counted_then, fetched_none, fetched_then}
+use Rattle.tree_walk.proofs.shared.GivenLaws.{gives_some}
+
+module _ (top_of : Tree → List ℕ) (Fine : Tree → List Binding → Type 0) where
+  -- no walk was made
+  pub given_none : (held used : Nodes) (calls from : ℕ) → HasGiven top_of Fine (uses held used used) calls calls from from
+  given_none held used calls from = record { walks = []; fetched = fetched_none held used used from (λ x. ((λ is. is), (λ is. is))); called = refl; each = tt }
+
+  -- one walk was, and ended well
+  pub given_one : (held old new : Nodes) (calls later from to : ℕ) (tree : Tree) (range : Range) (answer : Answer) → later ≡ counted_up calls 1
+      → IsWalk (uses held old new) from to tree (top_of tree) range answer → IsFine (Fine tree) answer → HasGiven top_of Fine (uses held old new) calls later from to
+  given_one held old new calls later from to tree range answer called walk fine = record {
+    walks = record { tree = tree; range = range; nodes = walk.nodes; answer = answer } ∷ [];
+    fetched = subst (λ (ns : List (List ℕ)). HasFetched (uses held old new) from to ns) (sym (append-nil walk.nodes)) walk.fetched;
+    called = called;
+    each = (record { differ = walk.differ; texts = walk.texts; gives = walk.gives; fine = fine }, tt);
+  }
+
+  -- the same of a call that perhaps was refused
+  pub given_call : {A F : Type 0} (result : Result A F) (answer_of : A → Answer) (held old new : Nodes) (calls later from to : ℕ) (tree : Tree) (range : Range) → later ≡ counted_up calls 1
+      → IfOk result (λ value. IsWalk (uses held old new) from to tree (top_of tree) range (answer_of value)) → IfOk result (λ value. IsFine (Fine tree) (answer_of value)) → OnOk result (HasGiven top_of Fine (uses held old new) calls later from to)
+  given_call (Ok value) answer_of held old new calls later from to tree range called walk fine = given_one held old new calls later from to tree range (answer_of value) called walk fine
+  given_call (Err fault) answer_of held old new calls later from to tree range called walk fine = tt
+
+  -- some walks were made, and then others
+  pub given_then : (held after old mid new : Nodes) (calls via later from at to : ℕ) → SameNodes held after
+      → HasGiven top_of Fine (uses held old mid) calls via from at → HasGiven top_of Fine (uses after mid new) via later at to → HasGiven top_of Fine (uses after old new) calls later from to
+  given_then held after old mid new calls via later from at to stays one two = record {
+    walks = one.walks ++ two.walks;
+    fetched = subst (λ (ns : List (List ℕ)). HasFetched (uses after old new) from to ns) (sym (flat_map-append (λ (walk : Walk). walk.nodes) one.walks two.walks))
+        (fetched_then held after old mid new from at to (nodes_of one.walks) (nodes_of two.walks) stays one.fetched two.fetched);
+    called = two.called ∙ ap (λ n. counted_up n (length two.walks)) one.called ∙ counted_then calls (length one.walks) (length two.walks) ∙ ap (counted_up calls) (sym (length-append one.walks two.walks));
+    each = all_append (IsMade top_of Fine) one.walks two.walks one.each two.each;
+  }
+
+  -- walks that began when one more node was used, as a manifest
+  pub given_from : (held old mid new : Nodes) (node : List ℕ) (calls later from to : ℕ) → GrownBy old mid node → HasGiven top_of Fine (uses held mid new) calls later from to
+      → HasGiven top_of Fine (uses held (λ x. old x ⊎ (x ≡ node)) new) calls later from to
+  given_from held old mid new node calls later from to grown given = record {
+    walks = given.walks;
+    fetched = record {
+      gained = λ x. (
+        (λ has. elim ((given.fetched.gained x).0 has) [ inl was ↦ inl ((grown x).0 was) | inr is ↦ inr is ]),
+        (λ has. elim has [ inl was ↦ (given.fetched.gained x).1 (inl ((grown x).1 was)) | inr is ↦ (given.fetched.gained x).1 (inr is) ]),
+      );
+      all_held = given.fetched.all_held;
+      counted = given.fetched.counted;
+    };
+    called = given.called;
+    each = given.each;
+  }
+
+  differ_each : (walks : List Walk) → AllByRecursion (IsMade top_of Fine) walks → AllByRecursion (λ (nodes : List (List ℕ)). AreDifferent nodes × AllByRecursion IsNodeText nodes) (map (λ (walk : Walk). walk.nodes) walks)
+  differ_each [] all = tt
+  differ_each (walk ∷ walks) all = ((all.0.differ, all.0.texts), differ_each walks all.1)
+
+  some_each : (walks : List Walk) → AllByRecursion (IsMade top_of Fine) walks → AllByRecursion (λ (nodes : List (List ℕ)). 1 ≤ length nodes) (map (λ (walk : Walk). walk.nodes) walks)
+  some_each [] all = tt
+  some_each (walk ∷ walks) all = (gives_some walk.nodes walk.tree (top_of walk.tree) walk.range walk.answer all.0.gives, some_each walks all.1)
+
+  -- They were made, whatever they gave.
+  pub given_walked : (held old new : Nodes) (calls later from to : ℕ) → HasGiven top_of Fine (uses held old new) calls later from to → HasWalked (uses held old new) calls later from to
+  given_walked held old new calls later from to given = record {
+    walks = map (λ (walk : Walk). walk.nodes) given.walks;
+    fetched = subst (λ (ns : List (List ℕ)). HasFetched (uses held old new) from to ns) (sym (flat_map-map (λ (ns : List (List ℕ)). ns) (λ (walk : Walk). walk.nodes) given.walks)) given.fetched;
+    called = given.called ∙ ap (counted_up calls) (sym (length-map given.walks (λ (walk : Walk). walk.nodes)));
+    each = differ_each given.walks given.each;
+    some = some_each given.walks given.each;
+  }
+
+-- ---- what is asked of entries
+
+fine_weaker : (Fine More : List Binding → Type 0) (answer : Answer) → ((found : List Binding) → Fine found → More found) → IsFine Fine answer → IsFine More answer
+fine_weaker Fine More (These found) so is = so found is
+fine_weaker Fine More (SoMany number) so is = tt
+
+-- Entries of which more is known are fine where less is asked.
+pub given_weaker : (top_of : Tree → List ℕ) (Fine More : Tree → List Binding → Type 0) (held old new : Nodes) (calls later from to : ℕ) → ((tree : Tree) (found : List Binding) → Fine tree found → More tree found)
+    → HasGiven top_of Fine (uses held old new) calls later from to → HasGiven top_of More (uses held old new) calls later from to
+given_weaker top_of Fine More held old new calls later from to so given = record {
+  walks = given.walks;
+  fetched = given.fetched;
+  called = given.called;
+  each = all_weaker (IsMade top_of Fine) (IsMade top_of More) given.walks
+      (λ walk made. record { differ = made.differ; texts = made.texts; gives = made.gives; fine = fine_weaker (Fine walk.tree) (More walk.tree) walk.answer (so walk.tree) made.fine }) given.each;
+}
