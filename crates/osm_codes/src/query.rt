@@ -18,7 +18,7 @@ pub(crate) const QUERY: [Explanation; 11] = [
     },
     Explanation {
         code: "Q3",
-        meaning: "a text or a comment isn't closed",
+        meaning: "a text or a comment that isn't closed",
         place: "byte where it begins",
         advice: "Close it with the quote that opened it, or with */.",
     },
@@ -60,7 +60,7 @@ pub(crate) const QUERY: [Explanation; 11] = [
     },
     Explanation {
         code: "Q10",
-        meaning: "a box that is none",
+        meaning: "a box that isn't valid",
         place: "byte of its first number",
         advice: "A box is (south,west,north,east): latitudes from -90 to 90, longitudes from -180 to 180, south not above north.",
     },
