@@ -9,7 +9,7 @@ use Rattle.opl_codec.specs.Fields.{Each, pieces}
 use Rattle.opl_codec.specs.Files.{IsAtFault, IsNoChange, PutSet, SpellsChanges, StopsAt, StopsChanges, StopsFile, spoken_of}
 use Rattle.opl_codec.specs.LineReads.{AreEnded, AreSkipped, Ends, IsEnd, IsRefused, IsUnread, IsWholeLine, LinePlace, Says, Stops, StopsLine, Takes, no_memory}
 use Rattle.opl_codec.specs.LineChanges.{IsSkipped, Spells, SpellsObject}
-use Rattle.opl_codec.specs.internal.Buffering.{place, unread}
+use Rattle.opl_codec.specs.LineReaders.{place, unread}
 use Rattle.opl_codec.specs.internal.Loading.{IsReader, IsTold, IsUnput, Puts, ReadsAll, ReadsTo, start}
 use Rattle.opl_codec.specs.declared.cause.OplCause.TheVariants as causes
 use Rattle.opl_codec.specs.declared.change.Change.{Change}

@@ -4,7 +4,8 @@ use Rattle.std.specs.Io.KnownBytes.{Consumes, IsAtEnd, Keeps, prepend_known}
 use Rattle.std.proofs.KnownBytes.{Consumes-trans}
 use Rattle.opl_codec.specs.Fields.{pieces}
 use Rattle.opl_codec.specs.LineReads.{IsRefused, IsTooLong, IsUnread, Takes, no_memory}
-use Rattle.opl_codec.specs.internal.Buffering.{IsStep, SaysOrSkipped, place, unread}
+use Rattle.opl_codec.specs.LineReaders.{place, unread}
+use Rattle.opl_codec.specs.internal.Buffering.{IsStep, SaysOrSkipped}
 use Rattle.opl_codec.specs.internal.Loading.{IsTold}
 use Rattle.opl_codec.specs.declared.change.Change.{Change}
 use Rattle.opl_codec.specs.declared.fault.LoadFault.{LoadFault}

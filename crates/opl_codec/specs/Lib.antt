@@ -4,6 +4,7 @@ pub mod Refusals
 pub mod Text
 pub mod PieceReads
 pub mod LineReads
+pub mod LineReaders
 pub mod internal
 pub mod Texts
 pub mod Values

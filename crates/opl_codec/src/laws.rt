@@ -1,4 +1,4 @@
-//! Laws: what reading and writing say of one another.
+//! Laws: what reading and writing say of one another, and what the limits are.
 
 ghost use Rattle.std.specs.Prelude.{◌≡◌, ◌++◌, ℕ, ◌<◌, ◌^◌, ℤ, FitsSigned, List, [], ◌∷◌};
 ghost use Rattle.std.specs.Fmt.{decimal, signed_decimal};
@@ -11,6 +11,8 @@ ghost use Rattle.opl_codec.specs.Canonical.{IsCanonicalNumber, IsCanonicalText, 
 ghost use Rattle.opl_codec.specs.Fields.{pieces};
 ghost use Rattle.opl_codec.specs.LineChanges.{Spells};
 ghost use Rattle.opl_codec.specs.Text.{text_of};
+ghost use Rattle.opl_codec.specs.declared.line.TheConstants.{LONGEST_LINE};
+ghost use Rattle.opl_codec.specs.declared.piece_reader.TheConstants.{PIECE_LIMIT, READ_LIMIT};
 
 use crate::change::Change;
 use crate::out_mode::OutMode;
@@ -45,4 +47,12 @@ pub fn one_number_text()
 pub fn one_escaped_text()
     ensures canonical { (text : List ℕ) → IsUtf8 text → HasNoNul text → IsCanonicalText (escaped text) text }
     ensures only { (spelled text : List ℕ) → IsCanonicalText spelled text → spelled ≡ escaped text }
+{}
+
+/// A law: the limits of a line and of reading a file, as numbers: the bytes of a line without its LF, the bytes of
+/// a piece, and the reads of a file.
+pub fn limits_law()
+    ensures line { LONGEST_LINE ≡ 2 ^ 25 }
+    ensures piece { PIECE_LIMIT ≡ 65536 }
+    ensures reads { READ_LIMIT ≡ 2 ^ 32 }
 {}

@@ -47,7 +47,7 @@ mod write_text;
 pub use cause::OplCause;
 pub use change::Change;
 pub use fault::{LoadFault, OplFault};
-pub use laws::{one_escaped_text, one_line, one_number_text, text_is_read};
+pub use laws::{limits_law, one_escaped_text, one_line, one_number_text, text_is_read};
 pub use line::{one_change, read_line};
 pub use line_reader::LineReader;
 pub use load::{one_change_list, one_set, read_changes, read_set, stopped_holds_none};

@@ -4,7 +4,8 @@ ghost use Rattle.std.specs.Prelude.{◌≡◌, ◌≢◌, ◌+◌, ◌<◌, ◌�
 ghost use Rattle.std.specs.Io.KnownBytes.{Consumes, IsAtEnd, Keeps};
 ghost use Rattle.opl_codec.specs.Fields.{pieces};
 ghost use Rattle.opl_codec.specs.LineReads.{IsNext, IsRefused, IsTooLong, IsUnread, no_memory};
-ghost use Rattle.opl_codec.specs.internal.Buffering.{GoesOn, IsFaultOf, IsSound, IsStep, SaysOrSkipped, place, unread};
+ghost use Rattle.opl_codec.specs.LineReaders.{place, unread};
+ghost use Rattle.opl_codec.specs.internal.Buffering.{GoesOn, IsFaultOf, IsSound, IsStep, SaysOrSkipped};
 ghost use Rattle.opl_codec.specs.internal.Loading.{IsTold};
 ghost use Rattle.opl_codec.specs.declared.line.TheConstants.{LONGEST_LINE};
 

@@ -29,7 +29,8 @@ impl<R: Read> Model for LineReader<R> {
 
     ghost Value = { LineRead };
 
-    ghost use Rattle.opl_codec.specs.internal.Buffering.{GoesOnUnless, place};
+    ghost use Rattle.opl_codec.specs.LineReaders.{place};
+    ghost use Rattle.opl_codec.specs.internal.Buffering.{GoesOnUnless};
 
     ghost view = { λ r. record { at = place (R.remaining r.reader) r.buffer; fault = r.fault } };
 

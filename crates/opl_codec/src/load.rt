@@ -6,7 +6,8 @@ ghost use Rattle.opl_codec.specs.Files.{HoldsChanges, HoldsSet, IsReaderOrMemory
 ghost use Rattle.opl_codec.specs.LineReads.{no_memory};
 ghost use Rattle.opl_codec.specs.declared.change.Change.{Change as ChangeWord};
 ghost use Rattle.opl_codec.specs.declared.fault.LoadFault.{LoadFault};
-ghost use Rattle.opl_codec.specs.internal.Buffering.{GoesOn, place};
+ghost use Rattle.opl_codec.specs.LineReaders.{place};
+ghost use Rattle.opl_codec.specs.internal.Buffering.{GoesOn};
 ghost use Rattle.opl_codec.specs.internal.Loading.{IsUnput, Knows, Puts, ReadsAll, ReadsTo, start};
 
 use crate::cause::OplCause;

@@ -18,7 +18,7 @@ use Rattle.osm_index.specs.Entries.{AreEntriesOf, IsEntryOfSome}
 use Rattle.osm_index.specs.Publications.{HasTooMany, Publication}
 use Rattle.osm_index.specs.internal.ChangedTrees.{HoldsChanging, IsExchanged}
 use Rattle.osm_index.specs.internal.EntryChanges.{PutsNew, TakesOld, TurnEntries, put_of, taken}
-use Rattle.osm_index.specs.internal.Listing.{IsKeyed}
+use Rattle.osm_index.specs.EntryLists.{IsKeyed}
 use Rattle.osm_index.proofs.EntryTurns.{turns}
 use Rattle.osm_index.proofs.TurnLemmas.{turns_turn}
 use Rattle.osm_index.proofs.ItemLemmas.{all_of_each, count_parts, each_of, from_list, from_mapped, in_list, in_mapped, in_or_not, one_with_key, with_key_or_not}

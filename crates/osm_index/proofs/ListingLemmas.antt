@@ -20,7 +20,8 @@ use Rattle.tree_node.specs.declared.tree.Tree.TheVariants.{Objects, Tags, Cells,
 use Rattle.osm_index.specs.Entries.{IsEntryOf, IsEntryOfSome, back_entry, cell_entry}
 use Rattle.osm_index.specs.Keys.{cell_bytes, column, id_bytes, ref_key, row, tag_key, tag_prefix}
 use Rattle.osm_index.specs.declared.entry_list.Span.{Span}
-use Rattle.osm_index.specs.internal.Listing.{Gains, IsKeyed, backs_of, cells_of, cut, entries_from, member_back, node_back, packed_len, span_of, tag_of, text_of}
+use Rattle.osm_index.specs.EntryLists.{IsKeyed, cut, packed_len}
+use Rattle.osm_index.specs.internal.Listing.{Gains, backs_of, cells_of, entries_from, member_back, node_back, span_of, tag_of, text_of}
 use Rattle.osm_index.proofs.shared.Members.{from_all, from_map, here, in_all, in_map, none, first_or_in_rest}
 use Rattle.osm_index.proofs.shared.OneObject.{is_element, one_object, ref_of_parts, same_id, same_ref}
 

@@ -4,7 +4,7 @@ use Rattle.std.proofs.Math.Seq.{drop-cons}
 use Rattle.std.proofs.lemmas.List.{length-drop}
 use Rattle.tree_node.specs.Nodes.{Binding}
 use Rattle.osm_index.specs.declared.entry_list.Span.{Span}
-use Rattle.osm_index.specs.internal.Listing.{cut, packed_len}
+use Rattle.osm_index.specs.EntryLists.{cut, packed_len}
 
 -- so many entries of a packed list have been lent, and the rest is packed in what is left
 pub record IsLent (spans : List Span) (bytes : List ℕ) (lent : List Binding) (k : ℕ) (rest : List ℕ) : Type 0 where

@@ -10,7 +10,7 @@ use Rattle.tree_node.specs.NodeRefs.{binding_of, bindings_of}
 use Rattle.tree_node.specs.Order.{IsBelow, order}
 use Rattle.tree_node.specs.declared.item.Item.{Item}
 use Rattle.osm_index.specs.internal.KeyOrder.{IsInOrder}
-use Rattle.osm_index.specs.internal.Listing.{IsKeyed}
+use Rattle.osm_index.specs.EntryLists.{IsKeyed}
 use Rattle.osm_index.proofs.shared.Members.{from_map, in_map}
 
 abbrev key : Item → List ℕ

@@ -1,5 +1,6 @@
 pub mod Keys
 pub mod Entries
+pub mod EntryLists
 pub mod Ranges
 pub mod Manifests
 pub mod Publications

@@ -5,7 +5,7 @@ ghost use Rattle.std.specs.Prelude.{◌≡◌, ◌↔◌, IfOk, IsTrue, length};
 ghost use Rattle.tree_node.specs.NodeRefs.{bindings_of};
 ghost use Rattle.tree_node.specs.Nodes.{AreRisingFrom, Binding, keys_of};
 ghost use Rattle.tree_node.specs.Order.{IsBelow};
-ghost use Rattle.osm_index.specs.internal.Listing.{IsKeyed, cut, packed_len};
+ghost use Rattle.osm_index.specs.EntryLists.{IsKeyed, cut, packed_len};
 
 use crate::sort::sort_entries;
 use std::alloc::{AllocError, Global};
@@ -31,7 +31,7 @@ pub struct EntryList {
 impl Model for EntryList {
     ghost use Rattle.std.specs.Prelude.{◌≡◌, List, length};
     ghost use Rattle.tree_node.specs.Nodes.{Binding};
-    ghost use Rattle.osm_index.specs.internal.Listing.{cut, packed_len};
+    ghost use Rattle.osm_index.specs.EntryLists.{cut, packed_len};
 
     ghost Value = { List Binding };
 

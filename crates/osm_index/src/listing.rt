@@ -6,7 +6,8 @@ ghost use Rattle.osm_model.specs.Elements.{reference};
 ghost use Rattle.osm_model.specs.Limits.{IsShort};
 ghost use Rattle.tree_node.specs.Nodes.{Binding};
 ghost use Rattle.osm_index.specs.Entries.{IsEntryOfSome, back_entry, cell_entry, object_entry, tag_entry};
-ghost use Rattle.osm_index.specs.internal.Listing.{Gains, IsKeyed, backs_of, cells_of, entries_from, member_back, node_back, tag_of};
+ghost use Rattle.osm_index.specs.EntryLists.{IsKeyed};
+ghost use Rattle.osm_index.specs.internal.Listing.{Gains, backs_of, cells_of, entries_from, member_back, node_back, tag_of};
 
 use crate::entry_list::{EntryList, Span};
 use crate::keys::{append_parts, back_key, cell_key, cell_value, reference_key};

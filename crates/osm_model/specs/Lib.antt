@@ -13,4 +13,6 @@ pub mod Membership
 pub mod Tagged
 pub mod Edges
 pub mod Boxes
+pub mod DecimalParts
+pub mod StoredTexts
 pub mod internal

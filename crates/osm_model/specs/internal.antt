@@ -1,6 +1,4 @@
 -- Words that only private clauses cite: nothing that a reader of the promises must believe.
 pub mod EdgeUnits
-pub mod DecimalParts
 pub mod LineLength
 pub mod Comparisons
-pub mod StoredTexts

@@ -3,7 +3,7 @@
 ghost use Rattle.std.specs.Prelude.{◌≡◌, ◌≤◌, ℕ, IsTrue, ◌↔◌, length, take, drop, Option, IfSome, IfNone, List, ◌++◌};
 ghost use Rattle.std.specs.Str.Parse.{AllDigits};
 ghost use Rattle.osm_model.specs.Degrees.{Decimal, Spells, BeginsOtherwise, decimals, IsDigits, IsFraction, point};
-ghost use Rattle.osm_model.specs.internal.DecimalParts.{decimal_of, fraction_of};
+ghost use Rattle.osm_model.specs.DecimalParts.{decimal_of, fraction_of};
 
 /// The parts of a decimal, in its text.
 #[derive(Clone, Copy, Debug)]

@@ -6,7 +6,7 @@ ghost use Rattle.std.specs.Str.Parse.{AllDigits, digits_value};
 ghost use Rattle.std.specs.Ordering.{nat_cmp};
 ghost use Rattle.osm_model.specs.Bytes.{digit_zero};
 ghost use Rattle.osm_model.specs.Degrees.{IsDecimal};
-ghost use Rattle.osm_model.specs.internal.DecimalParts.{decimal_of};
+ghost use Rattle.osm_model.specs.DecimalParts.{decimal_of};
 ghost use Rattle.osm_model.specs.Edges.{size, scale};
 
 use crate::decimal::Parts;

@@ -34,7 +34,7 @@ impl<'a> Model for Edge<'a> {
 
     ghost Value = { ExactEdge };
 
-    ghost use Rattle.osm_model.specs.internal.DecimalParts.{decimal_of};
+    ghost use Rattle.osm_model.specs.DecimalParts.{decimal_of};
 
     ghost view = { λ a. record { axis = a.axis; value = decimal_of a.parts } };
 

@@ -46,7 +46,7 @@ pub use edge::{Edge, compares_as_degrees, one_decimal};
 pub use escape::{hex_places, is_literal};
 pub use fault::ModelFault;
 pub use kind::Kind;
-pub use laws::one_degrees_text;
+pub use laws::{limits_law, one_degrees_text};
 pub use limits::{LINE_LIMIT, LIST_LIMIT, TEXT_LIMIT};
 pub use member::Member;
 pub use member_list::MemberList;

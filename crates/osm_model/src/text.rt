@@ -23,7 +23,7 @@ pub struct Text {
 
 impl Model for Text {
     ghost use Rattle.std.specs.Prelude.{List, ℕ};
-    ghost use Rattle.osm_model.specs.internal.StoredTexts.{stored_bytes};
+    ghost use Rattle.osm_model.specs.StoredTexts.{stored_bytes};
 
     ghost Value = { List ℕ };
 

@@ -2,7 +2,7 @@
 
 ghost use Rattle.std.specs.Prelude.{◌≡◌, IfOk, string_bytes};
 ghost use Rattle.std.specs.Str.{IsUtf8};
-ghost use Rattle.osm_model.specs.internal.StoredTexts.{stored_bytes};
+ghost use Rattle.osm_model.specs.StoredTexts.{stored_bytes};
 
 use arrayvec::ArrayString;
 use std::alloc::{AllocError, Global};

@@ -16,4 +16,6 @@ pub mod Stepping
 pub mod Founding
 pub mod Paths
 pub mod Printing
+pub mod Deciding
+pub mod HavingMeaning
 pub mod shared

@@ -20,7 +20,8 @@ use Rattle.ql_plain.specs.declared.step.Step.{Step}
 use Rattle.ql_plain.specs.Adding.{Adds, From}
 use Rattle.ql_plain.specs.Founds.{IsClosure}
 use Rattle.ql_plain.specs.internal.Linked.{AreLinks}
-use Rattle.ql_plain.specs.internal.Steps.{AreSteps, IsPath, IsStep, More, One}
+use Rattle.ql_plain.specs.Paths.{IsPath, IsStep, More, One}
+use Rattle.ql_plain.specs.internal.Steps.{AreSteps}
 
 -- ---- paths
 

@@ -4,5 +4,6 @@ pub mod NamedSets
 pub mod Adding
 pub mod ObjectTests
 pub mod Runs
+pub mod Paths
 pub mod Founds
 pub mod internal

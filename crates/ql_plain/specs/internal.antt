@@ -4,3 +4,4 @@ pub mod Tests
 pub mod Steps
 pub mod Seeking
 pub mod Marks
+pub mod NamedSetPlaces

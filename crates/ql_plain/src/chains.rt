@@ -8,7 +8,7 @@ ghost use Rattle.osm_model.specs.declared.reference.Ref.{Ref};
 ghost use Rattle.ql_syntax.specs.declared.recursion.Recursion.TheVariants as recursions;
 ghost use Rattle.ql_plain.specs.Meanings.{IsSetOf};
 ghost use Rattle.ql_plain.specs.Values.{IsReached, IsRefOf};
-ghost use Rattle.ql_plain.specs.internal.Steps.{IsPath};
+ghost use Rattle.ql_plain.specs.Paths.{IsPath};
 
 use crate::found::Found;
 use crate::links::links;

@@ -47,3 +47,8 @@ pub fn order_is_no_matter()
     ensures { (first second : List Element) (statements : Statements) (text : List ℕ) → IsObjectSet first → IsObjectSet second → ((o : Element) → Contains first o ↔ Contains second o)
         → Means first statements text → Means second statements text }
 {}
+
+/// A law: a query has a meaning over every list of objects. By `one_meaning` it is the only one over a set.
+pub fn has_meaning()
+    ensures { (objects : List Element) (statements : Statements) → (text : List ℕ) × Means objects statements text }
+{}

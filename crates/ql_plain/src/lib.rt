@@ -35,8 +35,8 @@ pub use found::Found;
 pub use given::written_by;
 pub use items::add_items;
 pub use laws::{
-    chains_link_by_link, nwr_is_all_kinds, one_meaning, order_is_no_matter, out_number_cuts,
-    printed_once_in_order,
+    chains_link_by_link, has_meaning, nwr_is_all_kinds, one_meaning, order_is_no_matter,
+    out_number_cuts, printed_once_in_order,
 };
 pub use named_set::NamedSet;
 pub use ref_sets::{is_in, kept, tidy, unite};

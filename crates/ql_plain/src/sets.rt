@@ -4,7 +4,8 @@ ghost use Rattle.std.specs.Prelude.{◌≡◌, ◌<◌, ℕ, IfNone, IfSome, OnO
 ghost use Rattle.std.specs.List.Sorted.{IsStrictlySortedBy};
 ghost use Rattle.osm_model.specs.Elements.{ref_cmp};
 ghost use Rattle.ql_plain.specs.Meanings.{nothing_named, put};
-ghost use Rattle.ql_plain.specs.NamedSets.{IsPlaceOf, lists_of};
+ghost use Rattle.ql_plain.specs.internal.NamedSetPlaces.{IsPlaceOf};
+ghost use Rattle.ql_plain.specs.NamedSets.{lists_of};
 
 use crate::named_set::NamedSet;
 use osm_model::Ref;

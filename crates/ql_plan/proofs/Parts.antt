@@ -8,7 +8,7 @@ use Rattle.ql_syntax.specs.Filters.{Filter, LacksKey}
 use Rattle.ql_syntax.specs.StatementViews.{filter_of, filters_of}
 use Rattle.ql_syntax.specs.declared.filter.Filter as declared
 use Rattle.ql_plan.specs.Plans.{IsChosen, IsFirstBase, IsLeastCount, IsPlan, IsScan, Planned, filters_in, is_counted, rivals_among, rivals_of}
-use Rattle.ql_plan.specs.internal.Parted.{parted}
+use Rattle.ql_plan.specs.Parted.{parted}
 use Rattle.ql_plan.specs.internal.Places.{IsCountedPlace}
 
 module _ (filters : List declared.Filter) (base : Option ℕ) (at : ℕ) (plan : Planned) (view : parted (filters_of filters) base ≡ plan) (is : base ≡ Some at) where

@@ -4,7 +4,7 @@ ghost use Rattle.std.specs.Prelude.{◌≡◌, ◌<◌, ◌↔◌, ◌≢◌, []
 ghost use Rattle.std.specs.Option.{ForSome, option_map};
 ghost use Rattle.ql_syntax.specs.StatementViews.{filter_of, filters_of};
 ghost use Rattle.ql_plan.specs.Plans.{IsChosen, rivals_of};
-ghost use Rattle.ql_plan.specs.internal.Parted.{parted};
+ghost use Rattle.ql_plan.specs.Parted.{parted};
 
 use crate::counting::{counted, counted_len, counted_place, is_counted, least_place};
 use ql_syntax::Filter;
@@ -28,7 +28,7 @@ impl<'q, 's> Model for Plan<'q, 's> {
     ghost use Rattle.std.specs.Option.{ForSome};
     ghost use Rattle.ql_syntax.specs.StatementViews.{filters_of};
     ghost use Rattle.ql_plan.specs.Plans.{Planned};
-    ghost use Rattle.ql_plan.specs.internal.Parted.{parted};
+    ghost use Rattle.ql_plan.specs.Parted.{parted};
 
     ghost Value = { Planned };
 

@@ -1,4 +1,4 @@
-//! Laws: bytes are one query at most, or have one fault.
+//! Laws: bytes are one query at most, or have one fault; and what the limits are.
 
 ghost use Rattle.std.specs.Prelude.{◌≡◌, ◌≢◌, ◌≤◌, ◌⊎◌, ◌-◌, ℕ, List, [], length, drop};
 ghost use Rattle.ql_syntax.specs.Grammar as grammar;
@@ -8,6 +8,8 @@ ghost use Rattle.ql_syntax.specs.Statements.{Statements};
 ghost use Rattle.ql_syntax.specs.declared.cause.QlCause.{QlCause};
 ghost use Rattle.ql_syntax.specs.declared.cause.QlCause.TheVariants as causes;
 ghost use Rattle.ql_syntax.specs.declared.fault.QlFault.{QlFault};
+ghost use Rattle.ql_syntax.specs.declared.parser.TheConstants.{TEXT_LIMIT};
+ghost use Rattle.ql_syntax.specs.declared.statements.TheConstants.{NESTING_LIMIT};
 
 /// A law: bytes read as one query at most.
 pub fn one_query()
@@ -54,4 +56,10 @@ pub fn one_language()
 /// A law: the place at which the rules stop is what is left of the text after some of its bytes.
 pub fn stops_within()
     ensures { (bytes : List ℕ) (cause : QlCause) (place : List ℕ) → query.stops bytes cause place → drop (length bytes - length place) bytes ≡ place }
+{}
+
+/// A law: the limits of a query, as numbers: its bytes, and how deep unions and differences stand in one another.
+pub fn limits_law()
+    ensures text { TEXT_LIMIT ≡ 65536 }
+    ensures nesting { NESTING_LIMIT ≡ 32 }
 {}

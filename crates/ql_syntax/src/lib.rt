@@ -45,8 +45,8 @@ pub use cause::QlCause;
 pub use fault::QlFault;
 pub use filter::Filter;
 pub use laws::{
-    fault_place, faults_are_not_memory, lawful_queries, never_both, one_fault, one_language,
-    one_of_both, one_query, stops_within,
+    fault_place, faults_are_not_memory, lawful_queries, limits_law, never_both, one_fault,
+    one_language, one_of_both, one_query, stops_within,
 };
 pub use name::Name;
 pub use parser::parse;

@@ -3,6 +3,7 @@ pub mod BornLevels
 pub mod BoundLemmas
 pub mod BuildLemmas
 pub mod ChangeLemmas
+pub mod ChangedEntries
 pub mod ChangedLaw
 pub mod CountedLemmas
 pub mod CutLemmas

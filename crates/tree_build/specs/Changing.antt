@@ -1,6 +1,7 @@
 -- Lists that are changed by key.
 -- Source: this project.
-use Rattle.std.specs.Prelude.{ℕ, List, [], ◌∷◌, ◌++◌, Option, Some, None}
+use Rattle.std.specs.List.{Contains}
+use Rattle.std.specs.Prelude.{◌≡◌, ℕ, List, [], ◌∷◌, ◌++◌, Option, Some, None}
 use Rattle.std.specs.declared.cmp.Ordering.{Ordering}
 use Rattle.std.specs.declared.cmp.Ordering.TheVariants.{Less, Equal, Greater}
 use Rattle.tree_node.specs.Order.{order}
@@ -31,3 +32,7 @@ changed_once key (x ∷ xs) change =
 abbrev pub changed : {X : Type 0} → (X → List ℕ) → List X → List (Change X) → List X
 changed key xs [] = xs
 changed key xs (change ∷ changes) = changed key (changed_once key xs change) changes
+
+-- one of the changes puts this item
+abbrev pub IsPutBy : {X : Type 0} → List (Change X) → X → Type 0
+IsPutBy {X} changes x = (change : Change X) × Contains changes change × (change.put ≡ Some x)

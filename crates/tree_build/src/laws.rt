@@ -1,10 +1,13 @@
 //! Laws of trees, over their definitions alone. There is nothing to do when they run.
 
-ghost use Rattle.std.specs.List.{flat_map};
-ghost use Rattle.std.specs.Prelude.{◌≡◌, ◌≢◌, ◌+◌, ◌-◌, ◌*◌, ◌<◌, ◌≤◌, ◌⊎◌, [], ◌∷◌, ℕ, List, length, map};
+ghost use Rattle.std.specs.List.{Contains, flat_map};
+ghost use Rattle.std.specs.Prelude.{◌≡◌, ◌≢◌, ◌+◌, ◌-◌, ◌*◌, ◌<◌, ◌≤◌, ◌⊎◌, ◌↔◌, [], ◌∷◌, ℕ, List, None, length, map};
+ghost use Rattle.tree_build.specs.Changing.{IsPutBy};
 ghost use Rattle.tree_build.specs.Cuts.{IsCut};
+ghost use Rattle.tree_build.specs.Rebuilding.{changed_entries, changes_of, keys_of_changes};
+ghost use Rattle.tree_build.specs.declared.change.EntryChange.{EntryChange};
 ghost use Rattle.tree_node.specs.Digests.{digest};
-ghost use Rattle.tree_node.specs.Nodes.{Binding, IsNode, IsTree, Leaf, Link, keys_of, level_of, tree_of};
+ghost use Rattle.tree_node.specs.Nodes.{AreRisingFrom, Binding, IsNode, IsTree, Leaf, Link, keys_of, level_of, tree_of};
 ghost use Rattle.tree_node.specs.Outcomes.{Clash};
 ghost use Rattle.tree_node.specs.Trees.{HasTree, IsNodeOf, Shape};
 ghost use Rattle.tree_node.specs.Trees.{entries_at, entries_below, entries_in, entry_count, greatest_of};
@@ -130,4 +133,19 @@ pub fn determines_law()
         → digest (top_of (levels shape tree entries)) ≡ digest (top_of (levels shape tree others))
         → (entries ≡ others)
         ⊎ Clash (IsNodeOf (levels shape tree entries)) (IsNodeOf (levels shape tree others)) }
+{}
+
+/// The law of changed lists: what the entries of a list are after changes whose keys rise.
+pub fn changed_list_law()
+    // An entry is there afterwards where a change puts it, or where it was there and no change names its key,
+    // and nowhere else.
+    ensures members { (entries : List Binding) (changes : List EntryChange)
+        → AreRisingFrom None (keys_of entries) → AreRisingFrom None (keys_of_changes (changes_of changes))
+        → (entry : Binding) → Contains (changed_entries entries (changes_of changes)) entry
+        ↔ (IsPutBy (changes_of changes) entry
+        ⊎ (Contains entries entry × ¬ Contains (keys_of_changes (changes_of changes)) entry.key)) }
+    // The keys strictly rise.
+    ensures rising { (entries : List Binding) (changes : List EntryChange)
+        → AreRisingFrom None (keys_of entries) → AreRisingFrom None (keys_of_changes (changes_of changes))
+        → AreRisingFrom None (keys_of (changed_entries entries (changes_of changes))) }
 {}

@@ -34,7 +34,9 @@ mod tell;
 pub use builder::build;
 pub use change::EntryChange;
 pub use fault::BuildFault;
-pub use laws::{cuts_law, determines_law, entries_law, levels_law, nodes_law, pieces_law};
+pub use laws::{
+    changed_list_law, cuts_law, determines_law, entries_law, levels_law, nodes_law, pieces_law,
+};
 pub use rebuilder::rebuild;
 pub use rebuilt::Rebuilt;
 pub use shape::Shape;

@@ -1,5 +1,6 @@
 pub mod BagLemmas
 pub mod DigestLemmas
+pub mod DigestWord
 pub mod FaultLemmas
 pub mod FetchLemmas
 pub mod FrontLemmas

@@ -3,8 +3,6 @@
 -- Source: this project.
 use Rattle.std.specs.Prelude.{◌≡◌, ◌≢◌, ℕ, List, ◌⊎◌, ◌↔◌, Result, Ok, Err, ⊤}
 use Rattle.tree_node.specs.Digests.{digest}
-use Rattle.tree_node.specs.declared.shelf.ShelfFault.{ShelfFault}
-use Rattle.tree_node.specs.declared.shelf.ShelfFault.TheVariants as shelves
 
 -- a clash, which is a SHA-256 collision: two different byte strings with one digest, one of each set
 abbrev pub Clash : (List ℕ → Type 0) → (List ℕ → Type 0) → Type 0
@@ -26,11 +24,6 @@ pub data Cause : Type 0 where
   NoMemory : Cause
   NodeMissing : Cause
   OtherCause : Cause
-
--- what a refused fetch says of the shelf
-abbrev pub cause_of_fetch : ShelfFault → Cause
-cause_of_fetch shelves.Missing = NodeMissing
-cause_of_fetch shelves.Memory = NoMemory
 
 -- A refusal over honest nodes: memory, or a node that is needed isn't held.
 abbrev pub RefusedFor : (List ℕ → Type 0) → (List ℕ → Type 0) → Cause → Type 0

@@ -26,7 +26,7 @@ impl Hash for Digest {
 }
 
 /// The SHA-256 digest of these bytes. It takes no memory.
-#[tactic(auto, using(crate::specs::Digests::digest_is))]
+#[tactic(auto, using(crate::proofs::DigestWord::digest_is))]
 pub fn digest_of(bytes: &[u8]) -> Digest
     ensures { result.0 ≡ digest bytes.now }
 {

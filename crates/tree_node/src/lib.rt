@@ -39,7 +39,7 @@ pub use entries::Entries;
 pub use fault::NodeFault;
 pub use fetched::Fetched;
 pub use item::Item;
-pub use laws::{one_order_law, stock_law};
+pub use laws::{limits_law, one_order_law, stock_law};
 pub use limits::{ENTRY_LIMIT, ITEM_LIMIT, KEY_LIMIT, LEVEL_LIMIT, NUMBER_LIMIT, VALUE_LIMIT};
 pub use new_node::NewNode;
 pub use node::NodeRef;

@@ -1,11 +1,12 @@
 -- A reader's bytes that were read and not yet told.
 -- Source: this project.
-use Rattle.std.specs.Prelude.{◌≡◌, ℕ, ◌+◌, ◌-◌, ◌*◌, ◌≤◌, ◌⊎◌, true, false, List, [], Option, Some, None, Result, ⊤, Ok, Err, MatchOption, drop, length}
+use Rattle.std.specs.Prelude.{◌≡◌, ℕ, ◌+◌, ◌*◌, ◌≤◌, ◌⊎◌, true, false, List, [], Option, Some, None, Result, ⊤, Ok, Err, MatchOption, length}
 use Rattle.std.specs.List.{AllByRecursion}
-use Rattle.std.specs.Io.KnownBytes.{IsAtEnd, prepend_known}
+use Rattle.std.specs.Io.KnownBytes.{IsAtEnd}
 use Rattle.osm_model.specs.Bytes.{line_feed}
 use Rattle.opl_codec.specs.Fields.{pieces}
 use Rattle.opl_codec.specs.LineChanges.{IsSkipped, Spells}
+use Rattle.opl_codec.specs.LineReaders.{unread}
 use Rattle.opl_codec.specs.LineReads.{AreEnded, IsEnd, IsRefused, IsWholeLine, LinePlace, StopsLine, Takes, no_memory}
 use Rattle.opl_codec.specs.declared.change.Change.{Change}
 use Rattle.opl_codec.specs.declared.fault.LoadFault.{LoadFault}
@@ -14,14 +15,6 @@ use Rattle.opl_codec.specs.declared.line_buffer.LineBuffer.{LineBuffer}
 use Rattle.opl_codec.specs.declared.line_buffer.Step.{Step}
 use Rattle.opl_codec.specs.declared.piece_reader.TheConstants.{PIECE_LIMIT, READ_LIMIT}
 use Rattle.opl_codec.specs.declared.line_buffer.Step.TheVariants as steps
-
--- the bytes of the last piece that no line has yet
-abbrev pub unread : LineBuffer → List ℕ
-unread b = drop b.from b.pieces.last
-
--- the place that the buffer has reached, where the reader has these bytes left
-abbrev pub place : Option (List ℕ) → LineBuffer → LinePlace
-place known b = record { lines = b.lines; taken = b.total - length (unread b); left = prepend_known (unread b) known; is_ended = b.is_ended }
 
 -- what always holds of a buffer that goes on
 pub record IsSound (b : LineBuffer) : Type 0 where

@@ -13,7 +13,7 @@ use Rattle.osm_model.specs.Sets.{HasDistinctReferences}
 use Rattle.osm_model.specs.declared.reference.Ref.{Ref}
 use Rattle.opl_codec.specs.Fields.{pieces}
 use Rattle.opl_codec.specs.LineReads.{AreEnded, IsEnd, LinePlace, Takes, no_memory}
-use Rattle.opl_codec.specs.internal.Buffering.{unread}
+use Rattle.opl_codec.specs.LineReaders.{unread}
 use Rattle.opl_codec.specs.declared.cause.OplCause.{OplCause}
 use Rattle.opl_codec.specs.declared.cause.OplCause.TheVariants as causes
 use Rattle.opl_codec.specs.declared.change.Change.{Change}

@@ -1,7 +1,7 @@
--- Entries as they are packed: the texts of all keys and values one after the other, and the lengths of each.
+-- Entries as they are met, object by object, and as they are packed.
 -- Source: this project.
-use Rattle.std.specs.List.{Contains, flat_map}
-use Rattle.std.specs.Prelude.{◌≡◌, ℕ, ◌+◌, ℤ, List, [], ◌∷◌, ◌++◌, length, map, take, drop}
+use Rattle.std.specs.List.{flat_map}
+use Rattle.std.specs.Prelude.{◌≡◌, ℕ, ℤ, List, [], ◌∷◌, ◌++◌, length, map}
 use Rattle.osm_model.specs.Elements.{Element, reference}
 use Rattle.osm_model.specs.declared.body.Body.{Body}
 use Rattle.osm_model.specs.declared.body.Body.TheVariants as bodies
@@ -60,18 +60,3 @@ span_of b = record { key = length b.key; value = length b.value }
 pub record Gains (bytes more_bytes : List ℕ) (spans more_spans : List Span) (entries : List Binding) : Type 0 where
   pub texts : more_bytes ≡ bytes ++ flat_map text_of entries
   pub lengths : more_spans ≡ spans ++ map span_of entries
-
--- the entries of these lengths that are packed in the bytes
-abbrev pub cut : List Span → List ℕ → List Binding
-cut [] bytes = []
-cut (span ∷ spans) bytes =
-    record { key = take span.key bytes; value = take span.value (drop span.key bytes) } ∷ cut spans (drop span.value (drop span.key bytes))
-
--- how many bytes entries of these lengths take
-abbrev pub packed_len : List Span → ℕ
-packed_len [] = 0
-packed_len (span ∷ spans) = (span.key + span.value) + packed_len spans
-
--- no two of the entries have one key
-abbrev pub IsKeyed : List Binding → Type 0
-IsKeyed entries = (a b : Binding) → Contains entries a → Contains entries b → a.key ≡ b.key → a ≡ b

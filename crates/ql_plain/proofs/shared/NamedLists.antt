@@ -4,7 +4,8 @@ use Rattle.std.proofs.lemmas.Slice.Eq.{bytes_eq-Decides}
 use Rattle.std.specs.Str.{bytes_eq}
 use Rattle.ql_plain.specs.Meanings.{put}
 use Rattle.ql_plain.specs.declared.named_set.NamedSet.{NamedSet}
-use Rattle.ql_plain.specs.NamedSets.{IsPlaceOf, lists_of}
+use Rattle.ql_plain.specs.internal.NamedSetPlaces.{IsPlaceOf}
+use Rattle.ql_plain.specs.NamedSets.{lists_of}
 
 pub same_bytes : (xs ys : List ℕ) → bytes_eq xs ys ≡ true → xs ≡ ys
 same_bytes xs ys = (bytes_eq-Decides xs ys).0

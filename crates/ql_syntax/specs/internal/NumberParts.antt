@@ -2,7 +2,7 @@
 use Rattle.std.specs.Prelude.{◌≡◌, ℕ, List, ◌∷◌, ◌++◌, None}
 use Rattle.osm_model.specs.Bytes.{dot}
 use Rattle.osm_model.specs.Degrees.{Decimal, IsFraction, BeginsOtherwise, point, spelling}
-use Rattle.osm_model.specs.internal.DecimalParts.{fraction_of}
+use Rattle.osm_model.specs.DecimalParts.{fraction_of}
 use Rattle.ql_syntax.specs.declared.number.Number.{Number}
 use Rattle.ql_syntax.specs.declared.number.Fraction.{Fraction}
 use Rattle.ql_syntax.specs.Numbers.{IsNumber}

@@ -1,14 +1,10 @@
 -- How calls are joined that read nodes from one shelf, one after the other: from the outcome of each to the outcome of
 -- all. In a loop the first call is the state so far.
-use Rattle.std.proofs.Common.{◌≡◌, ℕ, List, ◌⊎◌, inl, inr, Result, Ok, Err, refl, sym, subst, ◌∙◌}
-use Rattle.std.specs.Borrow.{Bor}
-use Rattle.std.specs.Prelude.{IfOk}
+use Rattle.std.proofs.Common.{◌≡◌, ℕ, List, ◌⊎◌, inl, inr, Result, Ok, Err, refl, sym, subst}
 use Rattle.std.specs.Result.{IsErrAnd}
 use Rattle.tree_node.specs.Digests.{digest}
-use Rattle.tree_node.specs.Outcomes.{Clash, GrownByAll, Cause, NoMemory, NodeMissing, OtherCause, RefusedFor, Outcome, ShelfUse, EndsWell, cause_of_fetch}
-use Rattle.tree_node.specs.Shelves.{GrownBy, HasNone, IsClashFree, IsEmptySet, SameNodes}
-use Rattle.tree_node.specs.declared.shelf.ShelfFault.{ShelfFault}
-use Rattle.tree_node.specs.declared.shelf.ShelfFault.TheVariants as shelves
+use Rattle.tree_node.specs.Outcomes.{Clash, GrownByAll, Cause, NoMemory, NodeMissing, OtherCause, RefusedFor, Outcome, ShelfUse, EndsWell}
+use Rattle.tree_node.specs.Shelves.{IsClashFree, IsEmptySet, SameNodes}
 use Rattle.tree_node.proofs.shared.Results.{err_is}
 use Rattle.tree_node.proofs.shared.TreeSame.{same_or_not}
 
@@ -195,16 +191,3 @@ known_or_clash known bytes is same = elim (same_or_not bytes known) [
   | inl equal ↦ inl equal
   | inr differ ↦ inr (known, bytes, refl, is, (λ e. differ (sym e)), sym same)
 ]
-
--- the outcome of a fetch by the digest of known bytes, from what `Shelf::fetch` promises: it gives just these
-pub fetch_outcome : {held old new : Nodes} (known key : List ℕ) (result : Result (Bor (List ℕ)) ShelfFault) → key ≡ digest known
-    → IfOk result (λ bytes. held bytes.now × (digest bytes.now ≡ key)) → IfOk result (λ bytes. GrownBy old new bytes.now) → (result ≡ Err shelves.Missing → HasNone held key)
-    → Outcome cause_of_fetch (λ bytes. bytes.now ≡ known) (λ x. x ≡ known) (uses held old new) result
-fetch_outcome {old = old} {new = new} known key (Ok bytes) asked given grown missing = record {
-  ends = elim (known_or_clash known bytes.now ((grown bytes.now).1 (inr refl)) (given.1 ∙ asked)) [
-    | inl same ↦ inr (same, subst (λ (b : List ℕ). GrownBy old new b) same grown)
-    | inr clash ↦ inl clash
-  ];
-}
-fetch_outcome known key (Err shelves.Missing) asked given grown missing = record { ends = inr (known, refl, λ is. missing refl known is (sym asked)) }
-fetch_outcome known key (Err shelves.Memory) asked given grown missing = record { ends = inr tt }

@@ -1,6 +1,7 @@
 use Rattle.std.proofs.Common.{◌+◌, ◌-◌, ◌^◌}
 use Rattle.opl_codec.specs.Files.{SpellsChanges}
-use Rattle.opl_codec.specs.internal.Buffering.{GoesOn, place}
+use Rattle.opl_codec.specs.LineReaders.{place}
+use Rattle.opl_codec.specs.internal.Buffering.{GoesOn}
 use Rattle.opl_codec.specs.internal.Loading.{ReadsTo, start}
 use Rattle.opl_codec.proofs.load.list_changes.Given as goal
 

@@ -1,7 +1,8 @@
 use Rattle.std.proofs.Common.{◌+◌, ◌-◌, ◌^◌}
 use Rattle.osm_model.specs.Elements.{references}
 use Rattle.opl_codec.specs.Files.{PutSet}
-use Rattle.opl_codec.specs.internal.Buffering.{GoesOn, place}
+use Rattle.opl_codec.specs.LineReaders.{place}
+use Rattle.opl_codec.specs.internal.Buffering.{GoesOn}
 use Rattle.opl_codec.specs.internal.Loading.{Knows, ReadsTo, start}
 use Rattle.opl_codec.proofs.load.put_all.Given as goal
 

@@ -1,6 +1,7 @@
 use Rattle.std.proofs.Common.{◌≡◌, subst, sym, ◌∙◌}
 use Rattle.std.specs.List.{flat_map}
-use Rattle.osm_index.specs.internal.Listing.{IsKeyed, entries_from}
+use Rattle.osm_index.specs.EntryLists.{IsKeyed}
+use Rattle.osm_index.specs.internal.Listing.{entries_from}
 use Rattle.osm_index.proofs.ListingLemmas.{cut_as_packed, keyed, long_as_packed, members_are}
 use Rattle.osm_index.proofs.listing.entries_of.Goals as goal
 

@@ -1,5 +1,5 @@
 use Rattle.std.proofs.Common.{◌≡◌, arith, sym, ◌∙◌}
-use Rattle.osm_model.specs.internal.DecimalParts.{decimal_of}
+use Rattle.osm_model.specs.DecimalParts.{decimal_of}
 use Rattle.osm_model.proofs.Leading.{same_order}
 use Rattle.osm_model.proofs.EdgeOrder.{all_digits, by_wholes, by_fractions, equal_of, unequal}
 use Rattle.osm_model.proofs.decimal_order.compare_sizes.Goals as goal

@@ -1,6 +1,6 @@
 use Rattle.std.proofs.Common.{◌≤◌, FitsSigned, w32, arith, rules}
 use Rattle.std.proofs.lemmas.Int.{to_z-of_z}
-use Rattle.osm_model.specs.internal.DecimalParts.{fraction_of}
+use Rattle.osm_model.specs.DecimalParts.{fraction_of}
 use Rattle.osm_model.proofs.EdgeSizes.{edge_of}
 use Rattle.osm_model.proofs.edge.read_edge.Goals as goal
 

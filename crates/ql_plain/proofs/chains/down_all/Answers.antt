@@ -9,7 +9,8 @@ use Rattle.ql_plain.specs.Values.{IsBelow, IsRefOf}
 use Rattle.ql_plain.specs.declared.links.Link.{Link}
 use Rattle.ql_plain.specs.declared.step.Step.{Step}
 use Rattle.ql_plain.specs.Adding.{Adds}
-use Rattle.ql_plain.specs.internal.Steps.{AreSteps, IsPath}
+use Rattle.ql_plain.specs.Paths.{IsPath}
+use Rattle.ql_plain.specs.internal.Steps.{AreSteps}
 use Rattle.ql_plain.proofs.chains.down_all.Goals as goal
 
 pub returns : goal.returns

@@ -4,7 +4,7 @@ use Rattle.osm_model.specs.declared.kind.Kind.TheVariants.{Node}
 use Rattle.osm_model.specs.declared.reference.Ref.{Ref}
 use Rattle.ql_plain.proofs.shared.Adding.{adds_all, adds_more, adds_start}
 use Rattle.ql_plain.proofs.Paths.{paths_are}
-use Rattle.ql_plain.specs.internal.Steps.{IsStep}
+use Rattle.ql_plain.specs.Paths.{IsStep}
 use Rattle.ql_plain.proofs.chains.reached.Goals as goal
 
 pub loop-name-init : goal.loop-name-init

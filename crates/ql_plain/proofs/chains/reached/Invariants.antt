@@ -1,7 +1,7 @@
 use Rattle.std.proofs.Common.{[], take}
 use Rattle.ql_plain.specs.Adding.{Adds, From}
 use Rattle.ql_plain.specs.Founds.{IsTold}
-use Rattle.ql_plain.specs.internal.Steps.{IsStep}
+use Rattle.ql_plain.specs.Paths.{IsStep}
 use Rattle.ql_plain.proofs.chains.reached.Given as goal
 
 abbrev pub invariant-loop-name : goal.invariant-loop-name

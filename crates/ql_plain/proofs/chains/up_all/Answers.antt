@@ -7,7 +7,8 @@ use Rattle.ql_plain.specs.Meanings.{IsSetOf}
 use Rattle.ql_plain.specs.declared.links.Link.{Link}
 use Rattle.ql_plain.specs.declared.step.Step.{Step}
 use Rattle.ql_plain.specs.Adding.{Adds}
-use Rattle.ql_plain.specs.internal.Steps.{AreSteps, IsPath}
+use Rattle.ql_plain.specs.Paths.{IsPath}
+use Rattle.ql_plain.specs.internal.Steps.{AreSteps}
 use Rattle.ql_plain.proofs.chains.up_all.Goals as goal
 
 pub returns : goal.returns

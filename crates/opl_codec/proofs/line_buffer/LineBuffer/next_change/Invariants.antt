@@ -1,5 +1,6 @@
 use Rattle.std.proofs.Common.{◌≡◌, true, ◌+◌, ◌-◌, ◌^◌}
-use Rattle.opl_codec.specs.internal.Buffering.{GoesOn, SkippedTo, place}
+use Rattle.opl_codec.specs.LineReaders.{place}
+use Rattle.opl_codec.specs.internal.Buffering.{GoesOn, SkippedTo}
 use Rattle.opl_codec.proofs.line_buffer.LineBuffer.next_change.Given as goal
 
 abbrev pub invariant-loop-change : goal.invariant-loop-change

@@ -2,7 +2,8 @@ use Rattle.std.proofs.Common.{arith, ◌≡◌, ℕ, List, ◌-◌, ◌+◌, ◌
 use Rattle.opl_codec.specs.LineReads.{IsRefused, no_memory}
 use Rattle.opl_codec.specs.declared.change.Change.{Change}
 use Rattle.opl_codec.specs.declared.line_buffer.Step.TheVariants as steps
-use Rattle.opl_codec.specs.internal.Buffering.{SaysOrSkipped, unread}
+use Rattle.opl_codec.specs.LineReaders.{unread}
+use Rattle.opl_codec.specs.internal.Buffering.{SaysOrSkipped}
 use Rattle.opl_codec.proofs.StepLemmas.{told_of}
 use Rattle.opl_codec.proofs.line_buffer.LineBuffer.take_ended.Goals as goal
 

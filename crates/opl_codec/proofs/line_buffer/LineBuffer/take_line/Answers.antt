@@ -5,7 +5,7 @@ use Rattle.opl_codec.specs.Fields.{pieces}
 use Rattle.std.specs.Io.KnownBytes.{Consumes, prepend_known}
 use Rattle.opl_codec.specs.declared.line_buffer.LineBuffer.{LineBuffer}
 use Rattle.opl_codec.specs.PieceReads.{PieceRead}
-use Rattle.opl_codec.specs.internal.Buffering.{unread}
+use Rattle.opl_codec.specs.LineReaders.{unread}
 use Rattle.opl_codec.proofs.LineLemmas.{buffer_filled}
 use Rattle.opl_codec.proofs.StepLemmas.{Comes, kept_line, kept_read, not_both, step_ended, step_last, step_long, step_unread}
 use Rattle.opl_codec.proofs.line_buffer.LineBuffer.take_line.Goals as goal

@@ -1,7 +1,8 @@
 use Rattle.std.proofs.Common.{◌≡◌, ◌+◌, ◌-◌, ◌^◌, ◌∷◌, [], length, true}
 use Rattle.std.specs.Io.KnownBytes.{Consumes, IsAtEnd, prepend_known}
 use Rattle.opl_codec.specs.Fields.{pieces}
-use Rattle.opl_codec.specs.internal.Buffering.{IsSound, unread}
+use Rattle.opl_codec.specs.LineReaders.{unread}
+use Rattle.opl_codec.specs.internal.Buffering.{IsSound}
 use Rattle.opl_codec.proofs.line_buffer.LineBuffer.take_line.Given as goal
 
 abbrev pub invariant-loop-len : goal.invariant-loop-len

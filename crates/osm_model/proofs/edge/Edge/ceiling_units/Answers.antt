@@ -1,4 +1,4 @@
-use Rattle.osm_model.specs.internal.DecimalParts.{decimal_of}
+use Rattle.osm_model.specs.DecimalParts.{decimal_of}
 use Rattle.osm_model.proofs.EdgeUnits.{ceiling_within, same_number}
 use Rattle.osm_model.proofs.edge.Edge.ceiling_units.Goals as goal
 

@@ -1,4 +1,4 @@
-use Rattle.osm_model.specs.internal.DecimalParts.{decimal_of}
+use Rattle.osm_model.specs.DecimalParts.{decimal_of}
 use Rattle.osm_model.proofs.EdgeUnits.{floor_within, same_number}
 use Rattle.osm_model.proofs.edge.Edge.floor_units.Goals as goal
 

@@ -2,7 +2,7 @@ use Rattle.std.proofs.Common.{ℕ, ◌+◌, ◌-◌, ◌<◌, ◌⊎◌, get_or,
 use Rattle.std.specs.List.{Contains}
 use Rattle.osm_model.specs.declared.reference.Ref.{Ref}
 use Rattle.ql_plain.specs.Founds.{IsTold, missing}
-use Rattle.ql_plain.specs.internal.Steps.{IsPath, IsStep}
+use Rattle.ql_plain.specs.Paths.{IsPath, IsStep}
 use Rattle.ql_plain.proofs.found.Found.follow_found.Given as goal
 
 abbrev pub invariant-loop-at : goal.invariant-loop-at
