@@ -1,19 +1,19 @@
 -- The definitions of spans that meet a range or are covered by one, against what the code compares.
 use Rattle.std.proofs.Common.{ℕ, zero, suc, List, [], ◌∷◌, ◌++◌, refl, ap, subst, ◌∙◌, inl, inr, arith, Option, Some, None, append_assoc}
 use Rattle.std.specs.Prelude.{IfSome}
-use Rattle.tree_node.specs.Nodes.{AreBytes}
+use Rattle.tree_node.specs.Nodes.{AreBytes, Link}
 use Rattle.tree_node.specs.Order.{IsBelow}
 use Rattle.tree_walk.specs.Ranges.{IsAboveLeft, IsAtMost, IsCovered, IsIn, IsNoHigher, Meets, Range}
-use Rattle.tree_walk.specs.Given.{GoesOnAbove, ReachesAbove}
+use Rattle.tree_walk.specs.Given.{GoesOnAbove, IsEntered, IsNever, ReachesAbove}
 use Rattle.tree_walk.proofs.shared.KeyLemmas.{at_most_below, at_most_trans, below_at_most, below_next, below_or, between_begins, next_at_most}
 
 -- what meets the range has a greatest key that isn't below lo,
 pub low_from_meets : (range : Range) (left : Option (List ℕ)) (greatest : List ℕ) → Meets range left greatest → IsAtMost range.lo greatest
 low_from_meets range left greatest (key, bytes, above, below, is) = at_most_trans range.lo key greatest is.0 below
 
--- and a left bound above which the range goes on
-reaches_from_meets : (range : Range) (l greatest : List ℕ) → Meets range (Some l) greatest → ReachesAbove range l
-reaches_from_meets range l greatest (key, bytes, above, below, is) =
+-- and a left bound above which the range goes on: it does above whatever is below a key of it
+reaches_from_key : (range : Range) (l key : List ℕ) → IsBelow l key → IsIn range key → ReachesAbove range l
+reaches_from_key range l key above is =
     elim is.1 [
       | inl h ↦ inl (below_at_most l key range.hi above h)
       | inr u ↦ elim (below_or l range.hi) [
@@ -21,6 +21,9 @@ reaches_from_meets range l greatest (key, bytes, above, below, is) =
         | inr h ↦ inr (u.0, between_begins range.hi l u.1.0 h (inl (subst (λ (x : List ℕ). IsBelow l x) u.1.1 above)))
       ]
     ]
+
+reaches_from_meets : (range : Range) (l greatest : List ℕ) → Meets range (Some l) greatest → ReachesAbove range l
+reaches_from_meets range l greatest (key, bytes, above, below, is) = reaches_from_key range l key above is
 
 -- bytes followed by 0 are bytes
 zero_bytes : (l : List ℕ) → AreBytes l → AreBytes (l ++ 0 ∷ [])
@@ -58,6 +61,14 @@ meets_from_reaches range l greatest lo_bytes lo_in bytes below low high =
 pub goes_on_from_meets : (range : Range) (left : Option (List ℕ)) (greatest : List ℕ) → Meets range left greatest → GoesOnAbove range left
 goes_on_from_meets range None greatest meets = tt
 goes_on_from_meets range (Some l) greatest meets = reaches_from_meets range l greatest meets
+
+goes_on_from_key : (range : Range) (left : Option (List ℕ)) (key : List ℕ) → IsAboveLeft left key → IsIn range key → GoesOnAbove range left
+goes_on_from_key range None key above is = tt
+goes_on_from_key range (Some l) key above is = reaches_from_key range l key above is
+
+-- so what has a key of the range in its span is entered
+pub entered_from_key : (range : Range) (child : Option (List ℕ) × Link) (key : List ℕ) → IsAboveLeft child.0 key → IsAtMost key child.1.greatest → IsIn range key → IsEntered IsNever range child
+entered_from_key range child key above below is = record { low = at_most_trans range.lo key child.1.greatest is.0 below; high = goes_on_from_key range child.0 key above is; opened = λ never. never }
 
 -- what ends no lower than lo, and has a left bound above which the range goes on, meets it
 pub meets_from_both : (range : Range) (left : Option (List ℕ)) (greatest : List ℕ) → AreBytes range.lo → IsIn range range.lo → IfSome left AreBytes → IsAboveLeft left greatest

@@ -2,9 +2,10 @@
 
 ghost use Rattle.std.specs.List.{AllByRecursion, Contains};
 ghost use Rattle.std.specs.Prelude.{◌≡◌, ◌<◌, ◌↔◌, None, false, true, ℕ, suc, List, Option, length, map, slice_index_or};
-ghost use Rattle.tree_node.specs.Nodes.{AreBytes, AreRisingFrom, Binding, Node, keys_of};
+ghost use Rattle.tree_node.specs.Nodes.{AreBytes, AreRisingFrom, Binding, Link, Node, keys_of};
 ghost use Rattle.tree_node.specs.Trees.{HasTree, Shape, greatest_of, left_at, level_at, levels, link_to, no_node};
 ghost use Rattle.tree_walk.specs.Choices.{AreThose};
+ghost use Rattle.tree_walk.specs.Given.{IsEntered, IsNever};
 ghost use Rattle.tree_walk.specs.Spans.{children_of_all, children_placed, placed, HasChildrenWithin};
 ghost use Rattle.tree_walk.specs.Ranges.{Begins, IsAboveLeft, IsAtMost, IsCovered, IsIn, IsNoHigher, Meets, Range};
 ghost use Rattle.tree_walk.specs.Walks.{IsEntryIn};
@@ -71,6 +72,14 @@ pub fn wider_law()
     ensures { (range : Range) (left outer : Option (List ℕ)) (greatest last : List ℕ)
         → Meets range left greatest → IsNoHigher outer left → IsAtMost greatest last
         → Meets range outer last }
+{}
+
+/// The law of entered children: where any key that can be below a child is in the range, a walk that gives
+/// entries enters the child. So nothing in the range is below a child that it passes by.
+pub fn entered_law()
+    ensures { (range : Range) (child : Option (List ℕ) × Link) (key : List ℕ)
+        → IsAboveLeft child.0 key → IsAtMost key child.1.greatest → IsIn range key
+        → IsEntered IsNever range child }
 {}
 
 /// The law of spans: a node's left bound is taken from its whole level, and the range is asked of each

@@ -19,8 +19,8 @@ mod walk;
 pub use fault::WalkFault;
 pub use key_range::KeyRange;
 pub use laws::{
-    covered_law, empty_law, found_law, inside_law, left_edge_law, point_law, prefix_law, spans_law,
-    wider_law,
+    covered_law, empty_law, entered_law, found_law, inside_law, left_edge_law, point_law,
+    prefix_law, spans_law, wider_law,
 };
 pub use tally::Tally;
 pub use tree_node::Item;
