@@ -51,6 +51,8 @@ OF_CLAP = [
         "  serve    Answers queries over HTTP, with proofs, on 127.0.0.1\n"
         "  explain  Prints what a code means, where it is told and what to do about it\n",
     ),
+    ("--version", "osm_mirror 0.1.0 (edition 2, rattle-kit-"),
+    ("-V", "osm_mirror 0.1.0 (edition 2, rattle-kit-"),
     (
         "ask -h",
         "Answers a query over the OPL text on standard input, after checking the answer\n"

@@ -9,10 +9,10 @@ use Rattle.command_line.specs.CheckCommand.{check_app}
 use Rattle.command_line.specs.ServeCommand.{serve_app}
 use Rattle.command_line.specs.ExplainCommand.{explain_app}
 
--- the program, of which a command is required; its help is no command
+-- the program, which has a version, and of which a command is required; its help is no command
 abbrev pub bare_app : App
 bare_app = let app = new_app (codes "osm_mirror") in
-    record app { top = record app.top { subcommand_required = true; disable_help_subcommand = true } }
+    record app { top = record app.top { has_version = true; subcommand_required = true; disable_help_subcommand = true } }
 
 -- one level of commands
 abbrev pub program_app : App

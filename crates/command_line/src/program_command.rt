@@ -20,8 +20,12 @@ use std::alloc::{AllocError, Global};
 /// What the help says of the program.
 const ABOUT: &str = "Answers OpenStreetMap queries, and proves and checks the answers";
 
-/// The command line of the program: one level of commands, of which one has to be there. `--help` and `-h`
-/// are `clap`'s; there is no command `help`.
+/// What `--version` prints after the program's name: the version, the edition that commands take unless told otherwise,
+/// and the kit that the program is proved with.
+const VERSION: &str = "0.1.0 (edition 2, rattle-kit-13f logic dac8208d650f15bf)";
+
+/// The command line of the program: one level of commands, of which one has to be there. `--help`, `-h`,
+/// `--version` and `-V` are `clap`'s; there is no command `help`.
 pub fn program_command<'a>(alloc: Global) -> Result<Command<'a>, AllocError>
     ensures { IfOk result (IsCommand program_app) }
 {
@@ -46,6 +50,7 @@ fn bare_program<'a>(alloc: Global) -> Command<'a>
 {
     Command::new(alloc, "osm_mirror")
         .about(ABOUT)
+        .version(VERSION)
         .subcommand_required(true)
         .disable_help_subcommand(true)
 }
