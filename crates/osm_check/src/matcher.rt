@@ -1,6 +1,6 @@
 //! A sink that compares.
 
-ghost use Rattle.std.specs.Prelude.{◌≡◌, ◌+◌, ◌-◌, ◌^◌, ◌<◌, ◌≤◌, ◌++◌, ◌⊎◌, ℕ, List, [], IfSome, MatchOption, None, Some, drop, length};
+ghost use Rattle.std.specs.Prelude.{◌≡◌, ◌+◌, ◌-◌, ◌^◌, ◌<◌, ◌≤◌, ◌++◌, ◌⊎◌, ℕ, List, [], IfSome, MatchOption, None, Some, drop, false, length};
 ghost use Rattle.osm_check.specs.Matching.{IsFirstDifference, IsParted, Matches, common};
 
 use ql_eval::Sink;
@@ -53,6 +53,8 @@ impl Sink for Matcher<'_> {
     ghost stands = { StandsFor };
 
     ghost kept = { expected_of };
+
+    ghost takes_memory = { false };
 
     fn put(&mut self, bytes: &[u8]) -> Result<(), AllocError> {
         let first = parting(self.expected, self.len, self.first, bytes);

@@ -35,9 +35,9 @@ use Rattle.ql_eval.specs.Asks.{IsAskedInBox, IsInBox}
 use Rattle.ql_eval.specs.Faults.{cause_of_evaluation}
 use Rattle.ql_eval.specs.Questions.{NeededBy}
 use Rattle.ql_eval.specs.declared.fault.EvalFault.{EvalFault}
-use Rattle.ql_eval.specs.declared.fault.EvalFault.TheVariants as faults
 use Rattle.ql_eval.specs.internal.Boxes.{IsCellsAsk, IsFoundIn}
-use Rattle.ql_eval.specs.internal.Entries.{HasUnread, IsSaid, Names, PlacesIn, SaysIn, SaysPlace}
+use Rattle.ql_eval.specs.Forms.{HasForm, SaysPlace}
+use Rattle.ql_eval.specs.internal.Entries.{AreMisread, IsSaid, PlacesIn, SaysIn}
 use Rattle.ql_eval.proofs.EachLemmas.{needed_as}
 use Rattle.ql_eval.proofs.EntryLemmas.{entry_names, never_unread, set_as}
 use Rattle.ql_eval.proofs.NameLemmas.{one_placed}
@@ -61,9 +61,9 @@ nodes_added area found names more so = adds_as
     (λ r (b, among, says, fits). let (item, has, e) = from_map binding_of found b among in (item, has, subst (λ (c : Binding). PlacesIn area c r) e (says, fits)))
     so
 
--- an item that places nothing
-pub unread_item : (found : List Item) (item : Item) → Contains found item → ((name : Ref) → FitsSigned w64 name.id → ¬ Names Cells (binding_of item) name) → HasUnread Cells (bindings_of found)
-unread_item found item among nothing = (binding_of item, in_map binding_of found item among, nothing)
+-- the entry of a node that lies somewhere is of its form
+pub placed_form : (b : Binding) (r : Ref) (place : Place) → SaysPlace b r place → FitsSigned w64 r.id → HasForm Cells b
+placed_form b r place says fits = (r, fits, (place, says))
 
 -- ---- a box meets one list of cells
 
@@ -139,7 +139,7 @@ module _ (p : Publication) (is : IsPublication p) (area : ExactBox) where
 
   -- reading what one range found adds its nodes, or is refused for memory
   pub range_added : (range : Range) (found : List Binding) (names more : List Ref) → AreThose (IsEntryIn range) (p.entries Cells) found → (result : Result (Unit {0}) EvalFault)
-      → OnOk result (Adds names more (IsSaid (SaysIn area) found)) → IfErr result (λ fault. (fault ≡ faults.Memory) ⊎ ((fault ≡ faults.Form) × HasUnread Cells found))
+      → OnOk result (Adds names more (IsSaid (SaysIn area) found)) → IfErr result (AreMisread Cells found)
       → MatchResult result (λ _. Adds names more (IsFoundIn p.objects area range)) (λ fault. cause_of_evaluation fault ≡ NoMemory)
   range_added range found names more those (Ok value) added refused = adds_as (λ r. (said_in_box range found those r).0) (λ r. (said_in_box range found those r).1) added
   range_added range found names more those (Err fault) added refused = elim refused [

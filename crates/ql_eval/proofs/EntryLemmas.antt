@@ -30,9 +30,10 @@ use Rattle.ql_plain.specs.Values.{IsRefOf}
 use Rattle.ql_eval.specs.Faults.{cause_of_evaluation}
 use Rattle.ql_eval.specs.Questions.{Answers, HasNoNulIn, OfKind, Question, ThatList, WithKey, WithTag, range_asked, tree_asked}
 use Rattle.ql_eval.specs.declared.fault.EvalFault.{EvalFault}
-use Rattle.ql_eval.specs.declared.fault.EvalFault.TheVariants as faults
-use Rattle.ql_eval.specs.internal.Entries.{HasUnread, IsSaid, Names, TargetFits}
+use Rattle.ql_eval.specs.Forms.{Names}
+use Rattle.ql_eval.specs.internal.Entries.{AreMisread, HasUnread, IsSaid, TargetFits}
 use Rattle.ql_eval.proofs.NameLemmas.{one_named}
+use Rattle.ql_eval.proofs.ObjectLemmas.{line_puts}
 
 -- ---- each entry names the object that it is of
 
@@ -44,7 +45,7 @@ tag_texts o tag is has =
     (record { utf8 = utf8.0; no_nul = clean.0; short = short.0 }, record { utf8 = utf8.1; no_nul = clean.1; short = short.1 })
 
 pub entry_names : (o : Element) (tree : Tree) (b : Binding) → IsElement o → IsEntryOf o tree b → Names tree b (reference o)
-entry_names o Objects b is e = ap (λ (c : Binding). c.key) e
+entry_names o Objects b is e = (o, record { key = ap (λ (c : Binding). c.key) e; line = line_puts b.value o is (ap (λ (c : Binding). c.value) e) }, refl)
 entry_names o Tags b is (tag, has, e) =
     let texts = tag_texts o tag is has in
     (tag.key, tag.value, texts.0, texts.1, ap (λ (c : Binding). c.key) e, ap (λ (c : Binding). c.value) e)
@@ -71,7 +72,7 @@ module _ (p : Publication) (is : IsPublication p) (tree : Tree) (found : List Bi
       let have = those_among (IsEntryIn range) (p.entries tree) found those b among in
       let (o, there, of) = ((is.lists tree).members b).0 have.0 in
       let element = is_element p.objects o is.set there in
-      nothing (reference o) element.in_range (entry_names o tree b element of)
+      nothing (reference o, element.in_range, entry_names o tree b element of)
 
   -- where a range finds just the entries of some objects, these are the ones that are named
   pub said_as : (Has : Element → Type 0) → ((b : Binding) → Contains found b → (o : Element) × Contains p.objects o × Has o × IsEntryOf o tree b)
@@ -144,7 +145,7 @@ named p is (ThatList target kind) clean fits found those = list_named p is found
 -- the names that a question's range has, read
 pub answered : (p : Publication) → IsPublication p → (question : Question) → HasNoNulIn question → TargetFits question → (found : List Binding)
     → AreThose (IsEntryIn (range_asked question)) (p.entries (tree_asked question)) found → (result : Result (Vec Ref Global) EvalFault)
-    → IfOk result (λ names. IsSetOf names.items (IsSaid (Names (tree_asked question)) found)) → IfErr result (λ fault. (fault ≡ faults.Memory) ⊎ ((fault ≡ faults.Form) × HasUnread (tree_asked question) found))
+    → IfOk result (λ names. IsSetOf names.items (IsSaid (Names (tree_asked question)) found)) → IfErr result (AreMisread (tree_asked question) found)
     → MatchResult result (λ names. IsSetOf names.items (IsRefOf p.objects (Answers question))) (λ fault. cause_of_evaluation fault ≡ NoMemory)
 answered p is question clean fits found those (Ok names) read refused =
     set_as names.items (IsSaid (Names (tree_asked question)) found) (IsRefOf p.objects (Answers question)) (named p is question clean fits found those) read

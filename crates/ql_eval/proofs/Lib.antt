@@ -1,7 +1,7 @@
 pub mod Openings
 pub mod WalkLemmas
 pub mod ObjectLemmas
-pub mod LineLemmas
+pub mod KnownLemmas
 pub mod NameLemmas
 pub mod StepLemmas
 pub mod EachLemmas

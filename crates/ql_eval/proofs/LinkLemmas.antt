@@ -1,7 +1,8 @@
 -- What objects list, and what lists them.
-use Rattle.std.proofs.Common.{◌≡◌, ◌≢◌, ◌↔◌, ◌⊎◌, inl, inr, ℕ, List, [], ◌∷◌, ◌++◌, Some, Bool, true, false, refl, sym, ap, subst, ◌∙◌}
+use Rattle.std.proofs.Common.{◌≡◌, ◌≢◌, ◌↔◌, ◌⊎◌, inl, inr, ℕ, List, [], ◌∷◌, ◌++◌, Option, Some, None, true, false, refl, sym, ap, subst, ◌∙◌}
 use Rattle.std.specs.List.{Contains}
-use Rattle.std.specs.Prelude.{IsTrue}
+use Rattle.std.specs.Borrow.{Bor}
+use Rattle.std.specs.Option.{is_some, option_copied}
 use Rattle.osm_model.specs.Elements.{Element, kind_of}
 use Rattle.osm_model.specs.Membership.{BodyLists}
 use Rattle.osm_model.specs.Sets.{IsObjectSet, object_at}
@@ -21,6 +22,7 @@ use Rattle.ql_eval.proofs.EachLemmas.{needed_as, needed_one, needed_or}
 use Rattle.ql_eval.specs.internal.Kinds.{IsBetween}
 use Rattle.ql_eval.specs.internal.Links.{IsBelowAsk, IsListedIn, IsListedOf, IsObjectAsk, IsParentAsk, IsThereAs}
 use Rattle.ql_eval.proofs.EntryLemmas.{set_as}
+use Rattle.ql_eval.proofs.ObjectLemmas.{none_there}
 
 -- what was added to nothing, sorted, is a set
 pub set_of_added : {Gives : Ref → Type 0} {names sorted : List Ref} → Adds [] names Gives → IsSetOf sorted (Contains names) → IsSetOf sorted Gives
@@ -44,11 +46,15 @@ object_lists objects name o list more set found so =
     adds_as (λ r lists. (o, there, named, lists)) (λ r (other, there_too, named_too, lists). subst (λ (e : Element). BodyLists e.body r) (one_object objects other o set there_too there (named_too ∙ sym named)) lists) so
 
 -- a reference whose object is there
-pub there_added : (objects : List Element) (name : Ref) (list more : List Ref) (b : Bool) → IsTrue b ↔ IsThere objects name → b ≡ true → more ≡ list ++ name ∷ [] → Adds list more (IsThereAs objects name)
-there_added objects name list more b is t e = adds_one name e (refl, is.0 t) (λ r has. has.0)
+pub there_added : (objects : List Element) (name : Ref) (list more : List Ref) (known : Option (Bor Element)) → IsObjectSet objects → option_copied known ≡ object_at objects name → is_some known ≡ true
+    → more ≡ list ++ name ∷ [] → Adds list more (IsThereAs objects name)
+there_added objects name list more (Some o) set is t e = let found = object_found objects name o.now (sym is) in adds_one name e (refl, (o.now, found.0, found.1)) (λ r has. has.0)
+there_added objects name list more None set is t e = absurd cc
 
-pub absent_added : (objects : List Element) (name : Ref) (list : List Ref) (b : Bool) → IsTrue b ↔ IsThere objects name → b ≡ false → Adds list list (IsThereAs objects name)
-absent_added objects name list b is e = adds_nothing (λ r has. let yes : b ≡ true = is.1 has.1 in cc)
+pub absent_added : (objects : List Element) (name : Ref) (list : List Ref) (known : Option (Bor Element)) → IsObjectSet objects → option_copied known ≡ object_at objects name → is_some known ≡ false
+    → Adds list list (IsThereAs objects name)
+absent_added objects name list (Some o) set is e = absurd cc
+absent_added objects name list None set is e = adds_nothing (λ r has. none_there objects name set (sym is) has.1)
 
 -- what a set has
 pub set_added : {Gives : Ref → Type 0} (set list more : List Ref) → IsSetOf set Gives → more ≡ list ++ set → Adds list more Gives

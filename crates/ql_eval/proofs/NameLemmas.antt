@@ -1,8 +1,9 @@
 -- Which objects entries name, entry by entry.
-use Rattle.std.proofs.Common.{◌≡◌, ◌↔◌, ◌⊎◌, inl, inr, ℕ, ◌+◌, ◌<◌, List, [], ◌∷◌, ◌++◌, length, take, get_or, FitsSigned, w64, sym, ap, subst, ◌∙◌}
+use Rattle.std.proofs.Common.{◌≡◌, ◌↔◌, ◌⊎◌, inl, inr, ℕ, ◌+◌, ◌<◌, List, [], ◌∷◌, ◌++◌, length, take, get_or, FitsSigned, w64, Some, sym, ap, subst, ◌∙◌}
 use Rattle.std.specs.List.{Contains}
 use Rattle.std.proofs.lemmas.List.{map-append, take_more}
 use Rattle.std.proofs.lemmas.List.Elements.{Contains-append_cases, Contains-append_left, Contains-append_right, Contains-get_or}
+use Rattle.osm_model.specs.Elements.{Element}
 use Rattle.osm_model.specs.Places.{Place}
 use Rattle.osm_model.specs.declared.reference.Ref.{Ref}
 use Rattle.tree_node.specs.NodeRefs.{binding_of, bindings_of}
@@ -14,7 +15,10 @@ use Rattle.osm_index.proofs.shared.Members.{first_or_in_rest, here, in_map, none
 use Rattle.osm_index.proofs.shared.OneKey.{one_in_cell, one_referrer, one_tagged}
 use Rattle.osm_index.proofs.shared.OneObject.{ref_of_parts, same_ref}
 use Rattle.ql_plain.specs.Meanings.{IsSetOf}
-use Rattle.ql_eval.specs.internal.Entries.{HasUnread, IsSaid, Names, SaysPlace}
+use Rattle.osm_index.specs.Keys.{ref_key}
+use Rattle.ql_eval.specs.Forms.{HasForm, HaveForm, Names, SaysObject, SaysPlace}
+use Rattle.ql_eval.specs.internal.Entries.{AreMisread, IsMisread, IsPutBy, IsSaid}
+use Rattle.ql_eval.specs.declared.fault.EvalFault.{EvalFault}
 
 -- ---- an entry names one object
 
@@ -23,7 +27,7 @@ one_placed b r s p q fits fits_too x y =
     ref_of_parts r s (x.node ∙ sym y.node) (one_in_cell x.row x.column y.row y.column r.id s.id fits fits_too (sym x.key ∙ y.key))
 
 pub one_named : (tree : Tree) (b : Binding) (r s : Ref) → FitsSigned w64 r.id → FitsSigned w64 s.id → Names tree b r → Names tree b s → r ≡ s
-one_named Objects b r s fits fits_too x y = same_ref r s fits fits_too (sym x ∙ y)
+one_named Objects b r s fits fits_too (o, x, e) (q, y, f) = same_ref r s fits fits_too (ap ref_key (sym e) ∙ sym x.key ∙ y.key ∙ ap ref_key f)
 one_named Tags b r s fits fits_too (k, v, _, _, x, _) (l, w, _, _, y, _) = one_tagged r s fits fits_too k v l w (sym x ∙ y)
 one_named Cells b r s fits fits_too (p, x) (q, y) = one_placed b r s p q fits fits_too x y
 one_named Backs b r s fits fits_too (t, _, x, _) (u, _, y, _) = one_referrer r s fits fits_too t u (sym x ∙ y)
@@ -64,9 +68,22 @@ module _ (Says : Binding → Ref → Type 0) (names : List Ref) (found : List It
     ]),
   )
 
--- one of the entries names nothing
-pub unread_at : (tree : Tree) (found : List Item) (k : ℕ) (d : Item) → k < length found → ((r : Ref) → FitsSigned w64 r.id → ¬ Names tree (binding_of (get_or found k d)) r) → HasUnread tree (bindings_of found)
-unread_at tree found k d lt nothing = (binding_of (get_or found k d), in_map binding_of found (get_or found k d) (Contains-get_or found k d lt), nothing)
+-- why one of the entries couldn't be read
+pub misread_one : (tree : Tree) (found : List Item) (k : ℕ) (d : Item) (fault : EvalFault) → k < length found → IsMisread tree (binding_of (get_or found k d)) fault → AreMisread tree (bindings_of found) fault
+misread_one tree found k d fault lt is = elim is [
+  | inl memory ↦ inl memory
+  | inr form ↦ inr (form.0, (binding_of (get_or found k d), in_map binding_of found (get_or found k d) (Contains-get_or found k d lt), form.1))
+]
+
+-- one more entry is of its form
+pub form_more : (tree : Tree) (found : List Item) (k : ℕ) (d : Item) → k < length found → HaveForm tree (bindings_of (take k found)) → HasForm tree (binding_of (get_or found k d)) → HaveForm tree (bindings_of (take (k + 1) found))
+form_more tree found k d lt before one = subst (λ (all : List Binding). HaveForm tree all) (sym (front_more found k d lt))
+    (λ b among. elim (last_or_before (bindings_of (take k found)) (binding_of (get_or found k d)) b among) [ inl was ↦ before b was | inr last ↦ subst (HasForm tree) last one ])
+
+-- the object of the last entry
+pub put_last : (found : List Item) (k : ℕ) (d : Item) (o : Element) → k < length found → SaysObject (binding_of (get_or found k d)) o → IsPutBy (bindings_of (take (k + 1) found)) (Some o)
+put_last found k d o lt says = subst (λ (all : List Binding). IsPutBy all (Some o)) (sym (front_more found k d lt))
+    (binding_of (get_or found k d), Contains-append_right (bindings_of (take k found)) (binding_of (get_or found k d) ∷ []) (binding_of (get_or found k d)) (here (binding_of (get_or found k d)) []), says)
 
 -- all entries were looked at, and the names sorted
 pub set_of_said : (Says : Binding → Ref → Type 0) (names sorted : List Ref) (some found : List Item) → some ≡ found → ((r : Ref) → Contains names r ↔ IsSaid Says (bindings_of some) r) → IsSetOf sorted (Contains names)

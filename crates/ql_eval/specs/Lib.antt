@@ -1,7 +1,9 @@
 pub mod Lengths
 pub mod Openings
 pub mod Faults
+pub mod Refusals
 pub mod Questions
+pub mod Forms
 pub mod Asks
 pub mod Written
 pub mod internal

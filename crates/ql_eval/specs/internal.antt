@@ -12,4 +12,4 @@ pub mod Lawful
 pub mod Narrowing
 pub mod Counting
 pub mod Printing
-pub mod Lines
+pub mod Objects

@@ -1,10 +1,8 @@
 //! The nodes in a box, asked of a shelf under a manifest.
 
-ghost use Rattle.std.specs.Int.{w64};
-ghost use Rattle.std.specs.Prelude.{◌≡◌, ◌⊎◌, ℕ, FitsSigned, IfErr, IfOk, List, OnOk};
+ghost use Rattle.std.specs.Prelude.{ℕ, IfErr, IfOk, List, OnOk};
 ghost use Rattle.std.specs.List.Sorted.{IsStrictlySortedBy};
 ghost use Rattle.osm_model.specs.Elements.{ref_cmp};
-ghost use Rattle.osm_model.specs.declared.reference.Ref.{Ref};
 ghost use Rattle.tree_node.specs.NodeRefs.{binding_of, bindings_of};
 ghost use Rattle.tree_node.specs.Outcomes.{Outcome};
 ghost use Rattle.tree_node.specs.Shelves.{SameNodes};
@@ -19,7 +17,8 @@ ghost use Rattle.ql_eval.specs.Faults.{cause_of_evaluation};
 ghost use Rattle.ql_eval.specs.Openings.{IsUnder};
 ghost use Rattle.ql_eval.specs.Questions.{NeededBy};
 ghost use Rattle.ql_eval.specs.internal.Boxes.{IsCellsAsk, IsFoundIn};
-ghost use Rattle.ql_eval.specs.internal.Entries.{HasUnread, IsSaid, Names, PlacesIn, SaysIn};
+ghost use Rattle.ql_eval.specs.Forms.{HasForm, HaveForm};
+ghost use Rattle.ql_eval.specs.internal.Entries.{AreMisread, IsMisread, IsSaid, PlacesIn, SaysIn};
 
 use crate::fault::EvalFault;
 use crate::placed::placed_by;
@@ -86,7 +85,8 @@ fn add_range<'a, S: Shelf<'a>>(
 /// Adds the nodes that entries of the cell tree place in a box. `Form` where an entry isn't of its form.
 fn add_nodes(area: &BoxArea<'_>, found: &[Item<'_>], names: &mut Vec<Ref>) -> Result<(), EvalFault>
     ensures added { OnOk result (Adds names.old.items names.new.items (IsSaid (SaysIn area.now) (bindings_of found.now))) }
-    ensures refused { IfErr result (λ fault. (fault ≡ EvalFault.Memory) ⊎ ((fault ≡ EvalFault.Form) × HasUnread Cells (bindings_of found.now))) }
+    ensures formed { OnOk result (HaveForm Cells (bindings_of found.now)) }
+    ensures refused { IfErr result (AreMisread Cells (bindings_of found.now)) }
 {
     for item in found {
         add_node(area, item, names)?;
@@ -97,8 +97,8 @@ fn add_nodes(area: &BoxArea<'_>, found: &[Item<'_>], names: &mut Vec<Ref>) -> Re
 /// Adds the node that an entry places, where that is in the box.
 fn add_node(area: &BoxArea<'_>, item: &Item<'_>, names: &mut Vec<Ref>) -> Result<(), EvalFault>
     ensures added { OnOk result (Adds names.old.items names.new.items (PlacesIn area.now (binding_of item.now))) }
-    ensures refused { IfErr result (λ fault. (fault ≡ EvalFault.Memory) ⊎ ((fault ≡ EvalFault.Form)
-        × ((name : Ref) → FitsSigned w64 name.id → ¬ Names Cells (binding_of item.now) name))) }
+    ensures formed { OnOk result (HasForm Cells (binding_of item.now)) }
+    ensures refused { IfErr result (IsMisread Cells (binding_of item.now)) }
 {
     match placed_by(item) {
         Some(node) => {

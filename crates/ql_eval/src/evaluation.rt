@@ -18,7 +18,7 @@ ghost use Rattle.ql_eval.specs.Written.{HasWritten};
 
 use crate::answering::answer_all;
 use crate::fault::EvalFault;
-use crate::lines::Lines;
+use crate::known::Known;
 use crate::opening::{ManifestFault, open_manifest};
 use crate::over::Over;
 use crate::sink::Sink;
@@ -40,8 +40,8 @@ pub struct Report {
 
 /// Writes the answer to a query into a sink, from the nodes under a root.
 ///
-/// Each object is looked up once, however often the query asks for it. Its reference and a borrow of its line, or that it
-/// isn't there, are kept until the query ends.
+/// Each entry that a walk gives is read, whether the answer needs it or not. Each object is looked up and its line read
+/// once, however often the query asks for it: the object, or that it isn't there, is kept until the query ends.
 ///
 /// A refusal leaves the text of the sink as it was. The nodes that were fetched until then stay used.
 pub fn evaluate<'a, S: Shelf<'a>, T: Sink>(
@@ -116,7 +116,7 @@ fn run_over<'a, S: Shelf<'a>, T: Sink>(
         (NeededBy p (AskedByAll p (statements_of statements.now) nothing_named))
         (record { held = S.holds shelf.new; before = S.used shelf.old; after = S.used shelf.new }) result }
 {
-    let mut lines = Lines::new(alloc);
+    let mut objects = Known::new(alloc);
     let mut source = Over {
         alloc,
         shelf,
@@ -125,7 +125,8 @@ fn run_over<'a, S: Shelf<'a>, T: Sink>(
             calls: 0,
             fetches: 0,
         },
-        lines: &mut lines,
+        objects: &mut objects,
+        nodes: b"",
     };
     let ran = answer_all(alloc, statements, &mut source, sink);
     *tally = source.tally;
@@ -134,7 +135,8 @@ fn run_over<'a, S: Shelf<'a>, T: Sink>(
         shelf: _,
         manifest: _,
         tally: _,
-        lines: _,
+        objects: _,
+        nodes: _,
     } = source;
     ran
 }

@@ -1,33 +1,45 @@
 //! Why an evaluation was refused.
 
-ghost use Rattle.std.specs.Prelude.{◌≡◌};
+ghost use Rattle.std.specs.Prelude.{◌≡◌, Some};
 ghost use Rattle.ql_eval.specs.Faults.{fault_of_opening, fault_of_walk};
+ghost use Rattle.ql_eval.specs.Refusals.{code_text};
 ghost use Rattle.ql_eval.specs.declared.fault.EvalFault.TheVariants.{Memory};
 
 use crate::opening::ManifestFault;
 use std::alloc::{AllocError, AllocFailed};
-use thiserror::Error;
+use std::fmt;
 use tree_walk::WalkFault;
 
-/// Why an evaluation was refused. Its text is its code, from `E1` to `E4`.
-#[derive(Clone, Copy, Debug, PartialEq, Eq, Error)]
+/// Why an evaluation was refused. Its text is its code, from `E1` to `E4`, or `no memory`.
+#[derive(Clone, Copy, Debug, PartialEq, Eq)]
 pub enum EvalFault {
     /// E1: a walk was refused, by this fault (V1 to V4), which isn't memory.
-    #[error("E1")]
     Walk(WalkFault),
     /// E2: an entry isn't of the form of its tree's entries.
-    #[error("E2")]
     Form,
     /// E3: something says of an object that it is there, and it isn't.
-    #[error("E3")]
     Absent,
     /// E4: the manifest is missing or malformed.
-    #[error("E4")]
     Manifest(ManifestFault),
     /// Memory for sets, for objects, for the answer or on the shelf was refused.
-    #[error("no memory")]
     Memory,
 }
+
+impl fmt::Display for EvalFault {
+    ghost output = { λ fault. Some (code_text fault) };
+
+    fn fmt<W: fmt::Write>(&self, f: &mut fmt::Formatter<W>) -> fmt::Result {
+        f.write_str(match self {
+            EvalFault::Walk(_) => "E1",
+            EvalFault::Form => "E2",
+            EvalFault::Absent => "E3",
+            EvalFault::Manifest(_) => "E4",
+            EvalFault::Memory => "no memory",
+        })
+    }
+}
+
+impl std::error::Error for EvalFault {}
 
 impl From<WalkFault> for EvalFault {
     ghost from_gives = { λ walk fault. fault ≡ fault_of_walk walk };

@@ -11,7 +11,7 @@ mod chains;
 mod evaluation;
 mod fault;
 mod kinds;
-mod lines;
+mod known;
 mod links;
 mod lists_in;
 mod lookups;

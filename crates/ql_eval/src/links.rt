@@ -13,6 +13,7 @@ ghost use Rattle.ql_eval.specs.Faults.{cause_of_evaluation};
 ghost use Rattle.ql_eval.specs.Questions.{NeededBy};
 ghost use Rattle.ql_eval.specs.internal.Entries.{IsThere};
 ghost use Rattle.ql_eval.specs.internal.Links.{AreThere, IsBackAsk, IsBelowAsk, IsListedIn, IsListedOf, IsObjectAsk, IsParentAsk, IsThereAs, ListsIt};
+ghost use Rattle.ql_eval.specs.internal.Objects.{AreKnownParents, IsKnownParent};
 
 use crate::fault::EvalFault;
 use crate::kinds::between;
@@ -31,6 +32,7 @@ pub(crate) fn listed_by<W: Source>(
 ) -> Result<Vec<Ref>, EvalFault>
     ensures later { W.later source.old source.new }
     ensures walked { OnOk result (W.walked source.old source.new) }
+    ensures there { OnOk result (AreKnownParents (W.knows source.new) names.now) }
     ensures rising { IfOk result (λ refs. IsStrictlySortedBy ref_cmp refs.items) }
     ensures answer { (p : Publication) → IsPublication p → W.under source.old p → AreThere p.objects names.now
         → Outcome cause_of_evaluation (λ refs. IsSetOf refs.items (From names.now (IsListedOf p.objects))) (NeededBy p (From names.now IsParentAsk))
@@ -48,6 +50,7 @@ pub(crate) fn listed_by<W: Source>(
 fn add_listed<W: Source>(source: &mut W, name: Ref, listed: &mut Vec<Ref>) -> Result<(), EvalFault>
     ensures later { W.later source.old source.new }
     ensures walked { OnOk result (W.walked source.old source.new) }
+    ensures there { OnOk result (IsKnownParent (W.knows source.new) name) }
     ensures answer { (p : Publication) → IsPublication p → W.under source.old p → IsThere p.objects name
         → Outcome cause_of_evaluation (λ _. Adds listed.old.items listed.new.items (IsListedOf p.objects name)) (NeededBy p (IsParentAsk name))
         (record { held = W.holds source.new; before = W.used source.old; after = W.used source.new }) result }
@@ -55,9 +58,10 @@ fn add_listed<W: Source>(source: &mut W, name: Ref, listed: &mut Vec<Ref>) -> Re
     if name.kind == Kind::Node {
         return Ok(());
     }
-    match source.object(name)? {
+    source.look_up(name)?;
+    match source.known(name) {
         Some(object) => {
-            add_items(&object, listed)?;
+            add_items(object, listed)?;
             Ok(())
         }
         None => Err(EvalFault::Absent),
@@ -93,7 +97,8 @@ fn add_there<W: Source>(source: &mut W, name: Ref, there: &mut Vec<Ref>) -> Resu
         → Outcome cause_of_evaluation (λ _. Adds there.old.items there.new.items (IsThereAs p.objects name)) (NeededBy p (IsObjectAsk name))
         (record { held = W.holds source.new; before = W.used source.old; after = W.used source.new }) result }
 {
-    if source.has(name)? {
+    source.look_up(name)?;
+    if source.known(name).is_some() {
         there.push(name)?;
     }
     Ok(())

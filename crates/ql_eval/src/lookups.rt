@@ -1,10 +1,9 @@
 //! Questions, asked of a shelf under a manifest.
 
 ghost use Rattle.std.specs.Int.{w64};
-ghost use Rattle.std.specs.Prelude.{◌≡◌, ◌↔◌, ℕ, FitsSigned, IfOk, IsTrue, List, OnOk};
+ghost use Rattle.std.specs.Prelude.{◌≡◌, ℕ, FitsSigned, IfOk, List, OnOk};
 ghost use Rattle.std.specs.List.Sorted.{IsStrictlySortedBy};
 ghost use Rattle.osm_model.specs.Elements.{ref_cmp};
-ghost use Rattle.osm_model.specs.Sets.{object_at};
 ghost use Rattle.tree_node.specs.Outcomes.{Outcome};
 ghost use Rattle.tree_node.specs.Shelves.{SameNodes};
 ghost use Rattle.tree_walk.specs.Walked.{HasWalked};
@@ -13,80 +12,19 @@ ghost use Rattle.ql_plain.specs.Meanings.{IsSetOf};
 ghost use Rattle.ql_plain.specs.Values.{IsRefOf};
 ghost use Rattle.ql_eval.specs.Faults.{cause_of_evaluation};
 ghost use Rattle.ql_eval.specs.Openings.{IsUnder};
-ghost use Rattle.ql_eval.specs.Questions.{Answers, HasNoNulIn, IsCountOf, NeedsAsk, count_ask, names_ask, object_ask, range_asked, tree_asked};
-ghost use Rattle.ql_eval.specs.internal.Entries.{IsThere, TargetFits};
-ghost use Rattle.ql_eval.specs.internal.Lines.{Remembers};
+ghost use Rattle.ql_eval.specs.Questions.{Answers, HasNoNulIn, IsCountOf, NeedsAsk, count_ask, names_ask, range_asked, tree_asked};
+ghost use Rattle.ql_eval.specs.internal.Entries.{TargetFits};
 ghost use Rattle.ql_eval.specs.internal.Views.{question_of};
 
 use crate::fault::EvalFault;
-use crate::lines::{Lines, line_of};
 use crate::names::names_in;
-use crate::objects::read_object;
 use crate::question::Question;
 use crate::walks::{count_in, entries_in};
 use osm_index::{Manifest, OwnedRange, back_range, kind_range, tag_key_range, tag_range};
-use osm_model::{Object, Ref};
+use osm_model::Ref;
 use std::alloc::{AllocError, Global};
 use tree_node::{Shelf, Tree};
 use tree_walk::Tally;
-
-/// The object of this name, if it is there (docs/FORMATS.md). Its line is looked up once in a query, and read at each
-/// call.
-///
-/// Refused where the walk is (E1), where what it found isn't the line of that object (E2), and where memory runs
-/// out. Over the trees of a publisher only a missing node and memory refuse it, unless two nodes have one digest. What
-/// was used until then stays used.
-pub(crate) fn find_object<'a, S: Shelf<'a>>(
-    alloc: Global,
-    shelf: &mut S,
-    manifest: &Manifest,
-    name: Ref,
-    tally: &mut Tally,
-    lines: &mut Lines<'a>,
-) -> Result<Option<Object>, EvalFault>
-    ensures stays { SameNodes (S.holds shelf.old) (S.holds shelf.new) }
-    ensures grows { (bytes : List ℕ) → S.used shelf.old bytes → S.used shelf.new bytes }
-    ensures walked { OnOk result (HasWalked
-        (record { held = S.holds shelf.new; before = S.used shelf.old; after = S.used shelf.new })
-        tally.old.calls tally.new.calls tally.old.fetches tally.new.fetches) }
-    ensures remembers { (p : Publication) → IsUnder p manifest.now → Remembers p (S.used shelf.old) lines.old → Remembers p (S.used shelf.new) lines.new }
-    ensures answer { (p : Publication) → IsPublication p → IsUnder p manifest.now → Remembers p (S.used shelf.old) lines.old
-        → Outcome cause_of_evaluation (λ object. object ≡ object_at p.objects name) (NeedsAsk p (object_ask name))
-        (record { held = S.holds shelf.new; before = S.used shelf.old; after = S.used shelf.new }) result }
-{
-    match line_of(alloc, shelf, manifest, name, tally, lines)? {
-        Some(line) => {
-            let object = read_object(alloc, name, line)?;
-            Ok(Some(object))
-        }
-        None => Ok(None),
-    }
-}
-
-/// Whether the object of this name is there. Its line is looked up once in a query, and what it says isn't read.
-pub(crate) fn has_object<'a, S: Shelf<'a>>(
-    alloc: Global,
-    shelf: &mut S,
-    manifest: &Manifest,
-    name: Ref,
-    tally: &mut Tally,
-    lines: &mut Lines<'a>,
-) -> Result<bool, EvalFault>
-    ensures stays { SameNodes (S.holds shelf.old) (S.holds shelf.new) }
-    ensures grows { (bytes : List ℕ) → S.used shelf.old bytes → S.used shelf.new bytes }
-    ensures walked { OnOk result (HasWalked
-        (record { held = S.holds shelf.new; before = S.used shelf.old; after = S.used shelf.new })
-        tally.old.calls tally.new.calls tally.old.fetches tally.new.fetches) }
-    ensures remembers { (p : Publication) → IsUnder p manifest.now → Remembers p (S.used shelf.old) lines.old → Remembers p (S.used shelf.new) lines.new }
-    ensures answer { (p : Publication) → IsPublication p → IsUnder p manifest.now → Remembers p (S.used shelf.old) lines.old
-        → Outcome cause_of_evaluation (λ there. IsTrue there ↔ IsThere p.objects name) (NeedsAsk p (object_ask name))
-        (record { held = S.holds shelf.new; before = S.used shelf.old; after = S.used shelf.new }) result }
-{
-    match line_of(alloc, shelf, manifest, name, tally, lines)? {
-        Some(_) => Ok(true),
-        None => Ok(false),
-    }
-}
 
 /// The objects that a question is after, by rising kind and id, each once: one walk over one tree (docs/FORMATS.md).
 ///

@@ -1,16 +1,16 @@
-//! A shelf as a source, with the lines that were looked up in it.
+//! A shelf as a source, with the objects that were looked up in it.
 
 ghost use Rattle.std.specs.Prelude.{◌≡◌, ℕ, List};
 ghost use Rattle.tree_node.specs.Shelves.{SameNodes};
 ghost use Rattle.tree_walk.specs.Walked.{HasWalked};
 ghost use Rattle.osm_index.specs.Publications.{Publication};
 ghost use Rattle.ql_eval.specs.Openings.{IsUnder};
-ghost use Rattle.ql_eval.specs.internal.Lines.{Remembers};
+ghost use Rattle.ql_eval.specs.internal.Objects.{Remembers};
 
 use crate::boxes::find_in_box;
 use crate::fault::EvalFault;
-use crate::lines::Lines;
-use crate::lookups::{count_names, find_names, find_object, has_object};
+use crate::known::{Known, look_up};
+use crate::lookups::{count_names, find_names};
 use crate::question::Question;
 use crate::source::Source;
 use osm_index::Manifest;
@@ -25,35 +25,43 @@ pub(crate) struct Over<'s, 'a, S: Shelf<'a>> {
     pub(crate) shelf: &'s mut S,
     pub(crate) manifest: Manifest,
     pub(crate) tally: Tally,
-    /// The lines that were looked up. The caller owns them, so that a source has nothing to free.
-    pub(crate) lines: &'s mut Lines<'a>,
+    /// The objects that were looked up. The caller owns them, so that a source has nothing to free.
+    pub(crate) objects: &'s mut Known,
+    /// Nothing: it carries the lifetime of the nodes, without which nothing is known of the shelf once the source is gone.
+    pub(crate) nodes: &'a [u8],
 }
 
 impl<'s, 'a, S: Shelf<'a>> Source for Over<'s, 'a, S> {
-    ghost use Rattle.std.specs.Prelude.{◌≡◌, ℕ, List, refl};
+    ghost use Rattle.std.specs.Prelude.{◌≡◌, ℕ, List, Option, Some, refl};
+    ghost use Rattle.std.specs.BTreeMap.{get};
+    ghost use Rattle.osm_model.specs.Elements.{Element, ref_cmp};
+    ghost use Rattle.osm_model.specs.declared.reference.Ref.{Ref};
     ghost use Rattle.std.proofs.Common.{◌∙◌, subst};
     ghost use Rattle.osm_index.specs.declared.manifest.Manifest.{Manifest};
     ghost use Rattle.tree_node.specs.Shelves.{SameNodes};
     ghost use Rattle.tree_walk.specs.Walked.{HasWalked};
     ghost use Rattle.osm_index.specs.Publications.{Publication};
     ghost use Rattle.ql_eval.specs.Openings.{IsUnder};
-    ghost use Rattle.ql_eval.specs.internal.Lines.{Remembers};
+    ghost use Rattle.ql_eval.specs.internal.Objects.{Remembers};
     ghost use Rattle.tree_walk.proofs.shared.WalkedLaws.{walked_none, walked_then};
 
     ghost holds = { λ o. S.holds o.shelf.now };
 
     ghost used = { λ o. S.used o.shelf.now };
 
-    ghost under = { λ o p. IsUnder p o.manifest × Remembers p (S.used o.shelf.now) o.lines.now };
+    ghost under = { λ o p. IsUnder p o.manifest × Remembers p (S.used o.shelf.now) o.objects.now };
+
+    ghost knows = { λ o r object. get ref_cmp o.objects.now r ≡ Some object };
 
     ghost later = { λ o n. (o.shelf.ghost_name ≡ n.shelf.ghost_name) × (o.manifest ≡ n.manifest)
         × SameNodes (S.holds o.shelf.now) (S.holds n.shelf.now) × ((bytes : List ℕ) → S.used o.shelf.now bytes → S.used n.shelf.now bytes)
-        × ((p : Publication) → IsUnder p o.manifest → Remembers p (S.used o.shelf.now) o.lines.now → Remembers p (S.used n.shelf.now) n.lines.now) };
+        × ((p : Publication) → IsUnder p o.manifest → Remembers p (S.used o.shelf.now) o.objects.now → Remembers p (S.used n.shelf.now) n.objects.now)
+        × ((r : Ref) (object : Option Element) → get ref_cmp o.objects.now r ≡ Some object → get ref_cmp n.objects.now r ≡ Some object) };
 
     ghost walked = { λ o n. HasWalked (record { held = S.holds n.shelf.now; before = S.used o.shelf.now; after = S.used n.shelf.now })
         o.tally.calls n.tally.calls o.tally.fetches n.tally.fetches };
 
-    ghost itself = { λ o. (refl, refl, (λ x. ((λ has. has), (λ has. has))), (λ x has. has), (λ p under known. known)) };
+    ghost itself = { λ o. (refl, refl, (λ x. ((λ has. has), (λ has. has))), (λ x has. has), (λ p under known. known), (λ r object known. known)) };
 
     ghost chained = { λ o n m first second. (
       first.0 ∙ second.0,
@@ -61,6 +69,7 @@ impl<'s, 'a, S: Shelf<'a>> Source for Over<'s, 'a, S> {
       (λ x. ((λ has. (first.2 x).0 ((second.2 x).0 has)), (λ has. (second.2 x).1 ((first.2 x).1 has)))),
       (λ x has. second.3 x (first.3 x has)),
       (λ p under known. second.4 p (subst (λ (m : Manifest). IsUnder p m) first.1 under) (first.4 p under known)),
+      (λ r object known. second.5 r object (first.5 r object known)),
     ) };
 
     ghost stays = { λ o n later. later.2 };
@@ -69,30 +78,28 @@ impl<'s, 'a, S: Shelf<'a>> Source for Over<'s, 'a, S> {
 
     ghost same_under = { λ o n p later under. (subst (λ (m : Manifest). IsUnder p m) later.1 under.0, later.4 p under.0 under.1) };
 
+    ghost same_known = { λ o n r object later known. later.5 r object known };
+
     ghost no_walk = { λ o. walked_none (S.holds o.shelf.now) (S.used o.shelf.now) o.tally.calls o.tally.fetches };
 
     ghost more_walks = { λ o n m first second one two. walked_then _ _ _ _ _ _ _ _ _ _ _ second.2 one two };
 
-    fn object(&mut self, name: Ref) -> Result<Option<Object>, EvalFault> {
-        find_object(
+    fn look_up(&mut self, name: Ref) -> Result<(), EvalFault> {
+        look_up(
             self.alloc,
             &mut *self.shelf,
             &self.manifest,
             name,
             &mut self.tally,
-            &mut *self.lines,
+            &mut *self.objects,
         )
     }
 
-    fn has(&mut self, name: Ref) -> Result<bool, EvalFault> {
-        has_object(
-            self.alloc,
-            &mut *self.shelf,
-            &self.manifest,
-            name,
-            &mut self.tally,
-            &mut *self.lines,
-        )
+    fn known(&self, name: Ref) -> Option<&Object> {
+        match self.objects.get(&name) {
+            Some(object) => object.as_ref(),
+            None => None,
+        }
     }
 
     fn names(&mut self, question: &Question<'_>) -> Result<Vec<Ref>, EvalFault> {

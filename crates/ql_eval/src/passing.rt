@@ -13,6 +13,7 @@ ghost use Rattle.ql_eval.specs.Faults.{cause_of_evaluation};
 ghost use Rattle.ql_eval.specs.Questions.{NeededBy};
 ghost use Rattle.ql_eval.specs.internal.Entries.{IsThere};
 ghost use Rattle.ql_eval.specs.internal.Links.{AreThere, IsObjectAsk};
+ghost use Rattle.ql_eval.specs.internal.Objects.{AreKnownThere, IsKnownThere};
 ghost use Rattle.ql_eval.specs.internal.Narrowing.{IsPassingAs, PassesAll, PassesItself, PassesPath};
 
 use crate::fault::EvalFault;
@@ -35,6 +36,7 @@ pub(crate) fn passing<W: Source>(
 ) -> Result<Vec<Ref>, EvalFault>
     ensures later { W.later source.old source.new }
     ensures walked { OnOk result (W.walked source.old source.new) }
+    ensures there { OnOk result (AreKnownThere (W.knows source.new) candidates.now) }
     ensures rising { IfOk result (λ refs. IsStrictlySortedBy ref_cmp refs.items) }
     ensures answer { (p : Publication) → IsPublication p → W.under source.old p → AreThere p.objects candidates.now
         → Outcome cause_of_evaluation (λ refs. IsSetOf refs.items (From candidates.now (IsPassingAs p.objects (lists_of sets.now.named.items) (filters_of before.now ++ filters_of after.now))))
@@ -60,14 +62,16 @@ fn add_passing<W: Source>(
 ) -> Result<(), EvalFault>
     ensures later { W.later source.old source.new }
     ensures walked { OnOk result (W.walked source.old source.new) }
+    ensures there { OnOk result (IsKnownThere (W.knows source.new) name) }
     ensures answer { (p : Publication) → IsPublication p → W.under source.old p → IsThere p.objects name
         → Outcome cause_of_evaluation (λ _. Adds refs.old.items refs.new.items (IsPassingAs p.objects (lists_of sets.now.named.items) (filters_of before.now ++ filters_of after.now) name))
         (NeededBy p (IsObjectAsk name))
         (record { held = W.holds source.new; before = W.used source.old; after = W.used source.new }) result }
 {
-    match source.object(name)? {
+    source.look_up(name)?;
+    match source.known(name) {
         Some(object) => {
-            if passes_both(before, after, &object, sets) {
+            if passes_both(before, after, object, sets) {
                 refs.push(name)?;
             }
             Ok(())

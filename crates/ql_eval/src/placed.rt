@@ -5,7 +5,7 @@ ghost use Rattle.std.specs.Prelude.{FitsSigned, IfNone, IfSome};
 ghost use Rattle.osm_model.specs.declared.reference.Ref.{Ref};
 ghost use Rattle.tree_node.specs.NodeRefs.{binding_of};
 ghost use Rattle.tree_node.specs.declared.tree.Tree.TheVariants.{Cells};
-ghost use Rattle.ql_eval.specs.internal.Entries.{Names, SaysPlace};
+ghost use Rattle.ql_eval.specs.Forms.{Names, SaysPlace};
 
 use osm_index::{read_cell_key, read_cell_value};
 use osm_model::{Coord, Kind, Ref};

@@ -15,6 +15,7 @@ ghost use Rattle.ql_eval.specs.Questions.{NeededBy};
 ghost use Rattle.ql_eval.specs.Written.{HasWritten};
 ghost use Rattle.ql_eval.specs.internal.Entries.{IsThere};
 ghost use Rattle.ql_eval.specs.internal.Links.{AreThere, IsObjectAsk};
+ghost use Rattle.ql_eval.specs.internal.Objects.{AreKnownThere, IsKnownThere};
 ghost use Rattle.ql_eval.specs.internal.Printing.{line_at, lines_at, name_line, name_lines};
 
 use crate::fault::EvalFault;
@@ -39,6 +40,7 @@ pub(crate) fn print<W: Source, T: Sink>(
     ensures walked { OnOk result (W.walked source.old source.new) }
     ensures kept { T.kept sink.new ≡ T.kept sink.old }
     ensures wrote { (text : List ℕ) × HasWritten (T.stands sink.old) (T.stands sink.new) text }
+    ensures there { OnOk result (mode ≢ OutMode.Ids → AreKnownThere (W.knows source.new) (cut limit refs.now)) }
     ensures answer { (p : Publication) → IsPublication p → W.under source.old p → AreThere p.objects refs.now
         → Outcome cause_of_evaluation (λ _. HasWritten (T.stands sink.old) (T.stands sink.new) (printed_of p.objects refs.now mode limit))
         (NeededBy p (AskedByOut refs.now mode limit))
@@ -99,6 +101,7 @@ fn print_objects<W: Source, T: Sink>(
     ensures walked { OnOk result (W.walked source.old source.new) }
     ensures kept { T.kept sink.new ≡ T.kept sink.old }
     ensures wrote { (text : List ℕ) × HasWritten (T.stands sink.old) (T.stands sink.new) text }
+    ensures there { OnOk result (AreKnownThere (W.knows source.new) names.now) }
     ensures answer { (p : Publication) → IsPublication p → W.under source.old p → AreThere p.objects names.now
         → Outcome cause_of_evaluation (λ _. HasWritten (T.stands sink.old) (T.stands sink.new) (lines_at p.objects mode names.now))
         (NeededBy p (From names.now IsObjectAsk))
@@ -123,14 +126,16 @@ fn print_object<W: Source, T: Sink>(
     ensures walked { OnOk result (W.walked source.old source.new) }
     ensures kept { T.kept sink.new ≡ T.kept sink.old }
     ensures wrote { (text : List ℕ) × HasWritten (T.stands sink.old) (T.stands sink.new) text }
+    ensures there { OnOk result (IsKnownThere (W.knows source.new) name) }
     ensures answer { (p : Publication) → IsPublication p → W.under source.old p → IsThere p.objects name
         → Outcome cause_of_evaluation (λ _. HasWritten (T.stands sink.old) (T.stands sink.new) (line_at p.objects mode name))
         (NeededBy p (IsObjectAsk name))
         (record { held = W.holds source.new; before = W.used source.old; after = W.used source.new }) result }
 {
-    match source.object(name)? {
+    source.look_up(name)?;
+    match source.known(name) {
         Some(object) => {
-            put_object(&object, mode, line, sink)?;
+            put_object(object, mode, line, sink)?;
             Ok(())
         }
         None => Err(EvalFault::Absent),

@@ -1,6 +1,6 @@
 //! Sinks of answers.
 
-ghost use Rattle.std.specs.Prelude.{◌≡◌, ◌≤◌, ◌++◌, ℕ, List, [], length, take, OnErr, OnOk};
+ghost use Rattle.std.specs.Prelude.{◌≡◌, ◌≤◌, ◌++◌, ℕ, Bool, List, [], length, take, true, OnErr, OnOk};
 ghost use Rattle.ql_eval.specs.Lengths.{capped};
 
 use std::alloc::AllocError;
@@ -15,12 +15,16 @@ pub trait Sink {
     /// What the sink keeps whatever is written, such as the text that is expected.
     ghost kept: { Self → List ℕ };
 
-    /// Writes these bytes at the end of the text. Refused where memory runs out, and then the text is what it
-    /// was.
+    /// Whether the sink takes memory for what is written to it, which may be refused.
+    ghost takes_memory: { Bool };
+
+    /// Writes these bytes at the end of the text. Refused where memory runs out, and so only by a sink that takes
+    /// memory; then the text is what it was.
     fn put(&mut self, bytes: &[u8]) -> Result<(), AllocError>
         ensures kept { kept self.new ≡ kept self.old }
         ensures put { OnOk result ((text : List ℕ) → stands self.old text → stands self.new (text ++ bytes.now)) }
-        ensures refused { OnErr result ((text : List ℕ) → stands self.old text → stands self.new text) };
+        ensures refused { OnErr result ((text : List ℕ) → stands self.old text → stands self.new text) }
+        ensures memory { OnErr result (takes_memory ≡ true) };
 
     /// Cuts a text that has this many bytes to its first ones. Of a shorter text nothing is said. It takes no
     /// memory.
@@ -38,6 +42,8 @@ impl Sink for Vec<u8> {
     ghost stands = { λ v text. v.items ≡ text };
 
     ghost kept = { λ v. [] };
+
+    ghost takes_memory = { true };
 
     fn put(&mut self, bytes: &[u8]) -> Result<(), AllocError> {
         self.extend_from_slice(bytes)

@@ -1,9 +1,11 @@
 //! What an evaluation asks.
 
-ghost use Rattle.std.specs.Prelude.{◌≡◌, ◌↔◌, ℕ, IfOk, IsTrue, List, OnOk};
+ghost use Rattle.std.specs.Prelude.{◌≡◌, ℕ, IfOk, List, OnOk, Option};
 ghost use Rattle.std.specs.List.Sorted.{IsStrictlySortedBy};
-ghost use Rattle.osm_model.specs.Elements.{ref_cmp};
+ghost use Rattle.std.specs.Option.{option_copied};
+ghost use Rattle.osm_model.specs.Elements.{Element, ref_cmp};
 ghost use Rattle.osm_model.specs.Sets.{object_at};
+ghost use Rattle.osm_model.specs.declared.reference.Ref.{Ref};
 ghost use Rattle.tree_node.specs.Outcomes.{Outcome};
 ghost use Rattle.tree_node.specs.Shelves.{SameNodes};
 ghost use Rattle.osm_index.specs.Publications.{IsPublication, Publication};
@@ -12,7 +14,6 @@ ghost use Rattle.ql_plain.specs.Values.{IsRefOf};
 ghost use Rattle.ql_eval.specs.Asks.{IsAskedInBox, IsInBox};
 ghost use Rattle.ql_eval.specs.Faults.{cause_of_evaluation};
 ghost use Rattle.ql_eval.specs.Questions.{Answers, HasNoNulIn, IsCountOf, NeededBy, NeedsAsk, count_ask, names_ask, object_ask};
-ghost use Rattle.ql_eval.specs.internal.Entries.{IsThere};
 ghost use Rattle.ql_eval.specs.internal.Views.{question_of};
 
 use crate::fault::EvalFault;
@@ -37,21 +38,21 @@ pub(crate) trait Source {
     /// From one moment to a later one nodes were used by walks alone, and all walks are counted.
     ghost walked: { Self → Self → Type 0 };
 
-    /// The object with this reference, if it is there.
-    fn object(&mut self, name: Ref) -> Result<Option<Object>, EvalFault>
+    /// What the source knows of a reference that was looked up: its object, or none where there is none.
+    ghost knows: { Self → Ref → Option Element → Type 0 };
+
+    /// Looks up the object with this reference, unless that was done before. Afterwards it is known.
+    fn look_up(&mut self, name: Ref) -> Result<(), EvalFault>
         ensures later { later self.old self.new }
         ensures walked { OnOk result (walked self.old self.new) }
+        ensures known { OnOk result ((object : Option Element) × knows self.new name object) }
         ensures answer { (p : Publication) → IsPublication p → under self.old p
-            → Outcome cause_of_evaluation (λ object. object ≡ object_at p.objects name) (NeedsAsk p (object_ask name))
+            → Outcome cause_of_evaluation (λ _. knows self.new name (object_at p.objects name)) (NeedsAsk p (object_ask name))
             (record { held = holds self.new; before = used self.old; after = used self.new }) result };
 
-    /// Whether the object with this reference is there.
-    fn has(&mut self, name: Ref) -> Result<bool, EvalFault>
-        ensures later { later self.old self.new }
-        ensures walked { OnOk result (walked self.old self.new) }
-        ensures answer { (p : Publication) → IsPublication p → under self.old p
-            → Outcome cause_of_evaluation (λ there. IsTrue there ↔ IsThere p.objects name) (NeedsAsk p (object_ask name))
-            (record { held = holds self.new; before = used self.old; after = used self.new }) result };
+    /// The object with a reference that was looked up, if it is there.
+    fn known(&self, name: Ref) -> Option<&Object>
+        ensures { (object : Option Element) → knows self.now name object → option_copied result ≡ object };
 
     /// The objects that a question is after, as a set.
     fn names(&mut self, question: &Question<'_>) -> Result<Vec<Ref>, EvalFault>
@@ -90,6 +91,8 @@ pub(crate) trait Source {
     ghost grows: { (s t : Self) (bytes : List ℕ) → later s t → used s bytes → used t bytes };
 
     ghost same_under: { (s t : Self) (p : Publication) → later s t → under s p → under t p };
+
+    ghost same_known: { (s t : Self) (r : Ref) (object : Option Element) → later s t → knows s r object → knows t r object };
 
     ghost no_walk: { (s : Self) → walked s s };
 

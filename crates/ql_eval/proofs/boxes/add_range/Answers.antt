@@ -1,4 +1,4 @@
-use Rattle.std.proofs.Common.{◌≡◌, ◌⊎◌, List, sym, subst}
+use Rattle.std.proofs.Common.{List, sym, subst}
 use Rattle.std.specs.Prelude.{IfErr, OnOk}
 use Rattle.tree_node.specs.NodeRefs.{bindings_of}
 use Rattle.tree_node.specs.declared.item.Item.{Item}
@@ -9,8 +9,7 @@ use Rattle.tree_walk.specs.Ranges.{Range}
 use Rattle.tree_walk.specs.Walks.{IsEntryIn}
 use Rattle.ql_plain.specs.Adding.{Adds}
 use Rattle.ql_eval.specs.Questions.{Listed, NeedsAsk}
-use Rattle.ql_eval.specs.declared.fault.EvalFault.TheVariants as faults
-use Rattle.ql_eval.specs.internal.Entries.{HasUnread, IsSaid, SaysIn}
+use Rattle.ql_eval.specs.internal.Entries.{AreMisread, IsSaid, SaysIn}
 use Rattle.ql_eval.proofs.BoxLemmas.{range_added}
 use Rattle.ql_eval.proofs.EachLemmas.{needed_one, one_needed}
 use Rattle.ql_eval.proofs.StepLemmas.{then_read, walk_cause}
@@ -32,5 +31,5 @@ returns-clause-answer g c = λ p is under.
     (λ those.
     range_added p is c.args.area.now c.args.keys.now (bindings_of items) _ _ (subst (λ (range : Range). AreThose (IsEntryIn range) (p.entries Cells) (bindings_of items)) c.as_range.ensures.value those) c.add_nodes.result
     (subst (λ (all : List Item). OnOk c.add_nodes.result (Adds c.args.names.now.items c.add_nodes.new.names.items (IsSaid (SaysIn c.args.area.now) (bindings_of all)))) c.deref.ensures.value c.add_nodes.ensures.added)
-    (subst (λ (all : List Item). IfErr c.add_nodes.result (λ fault. (fault ≡ faults.Memory) ⊎ ((fault ≡ faults.Form) × HasUnread Cells (bindings_of all)))) c.deref.ensures.value c.add_nodes.ensures.refused))
+    (subst (λ (all : List Item). IfErr c.add_nodes.result (AreMisread Cells (bindings_of all))) c.deref.ensures.value c.add_nodes.ensures.refused))
     (c.in_ok-found.ensures.answer p is under)

@@ -1,5 +1,6 @@
-use Rattle.std.proofs.Common.{◌≢◌, sym, ◌∙◌, rules}
+use Rattle.std.proofs.Common.{◌≢◌, ap, sym, ◌∙◌, rules}
 use Rattle.osm_model.specs.declared.kind.Kind.TheVariants as kinds
+use Rattle.std.specs.Option.{option_copied}
 use Rattle.tree_node.proofs.shared.OutcomeLaws.{never_stops, outcome_as}
 use Rattle.ql_eval.proofs.LinkLemmas.{needs_parent, object_lists, parent_needs}
 use Rattle.ql_eval.proofs.ObjectLemmas.{none_there}
@@ -9,9 +10,9 @@ pub returns-in_ok-add_items-in-Some-clause-answer : goal.returns-in_ok-add_items
 returns-in_ok-add_items-in-Some-clause-answer g c = λ p is under there.
     let other : c.args.name.kind ≢ kinds.Node = search rules in
     outcome_as (parent_needs c.args.name other) (λ so. needs_parent c.args.name)
-    (λ so. object_lists p.objects c.args.name c.in-Some.object _ _ is.set (sym c.in-Some.is ∙ so) c.in_ok-add_items-in-Some.ensures) (c.in_ok-object.ensures.answer p is under)
+    (λ so. object_lists p.objects c.args.name c.in-Some.object.now _ _ is.set (sym (ap option_copied c.in-Some.is) ∙ c.known.ensures _ so) c.in_ok-add_items-in-Some.ensures) (c.in_ok-look_up.ensures.answer p is under)
 
 pub returns-in-None-clause-answer : goal.returns-in-None-clause-answer
 returns-in-None-clause-answer g c = λ p is under there.
     let other : c.args.name.kind ≢ kinds.Node = search rules in
-    never_stops (parent_needs c.args.name other) (λ so. none_there p.objects c.args.name is.set (sym (sym c.in-None.is ∙ so)) there) (c.in_ok-object.ensures.answer p is under)
+    never_stops (parent_needs c.args.name other) (λ so. none_there p.objects c.args.name is.set (sym (sym (ap option_copied c.in-None.is) ∙ c.known.ensures _ so)) there) (c.in_ok-look_up.ensures.answer p is under)

@@ -1,4 +1,4 @@
-use Rattle.std.proofs.Common.{◌≡◌, ◌⊎◌, List, ap, sym, subst, ◌∙◌}
+use Rattle.std.proofs.Common.{List, ap, sym, subst, ◌∙◌}
 use Rattle.std.specs.Prelude.{IfErr, IfOk}
 use Rattle.tree_node.specs.NodeRefs.{bindings_of}
 use Rattle.tree_node.specs.declared.item.Item.{Item}
@@ -9,8 +9,8 @@ use Rattle.tree_walk.specs.Ranges.{Range}
 use Rattle.tree_walk.specs.Walks.{IsEntryIn}
 use Rattle.ql_plain.specs.Meanings.{IsSetOf}
 use Rattle.ql_eval.specs.Questions.{Ask, Listed, NeedsAsk, range_asked}
-use Rattle.ql_eval.specs.declared.fault.EvalFault.TheVariants as faults
-use Rattle.ql_eval.specs.internal.Entries.{HasUnread, IsSaid, Names}
+use Rattle.ql_eval.specs.Forms.{Names}
+use Rattle.ql_eval.specs.internal.Entries.{AreMisread, IsSaid}
 use Rattle.ql_eval.specs.internal.Views.{question_of}
 use Rattle.ql_eval.proofs.EntryLemmas.{answered}
 use Rattle.ql_eval.proofs.StepLemmas.{then_read, walk_cause}
@@ -38,6 +38,6 @@ returns-clause-answer g c = λ p is under clean.
     c.names_in.result
     (subst (λ (t : Tree). IfOk c.names_in.result (λ names. IsSetOf names.items (IsSaid (Names t) (bindings_of c.in_ok-found.found.items)))) c.tree_of-tree.ensures
     (subst (λ (all : List Item). IfOk c.names_in.result (λ names. IsSetOf names.items (IsSaid (Names c.tree_of-tree.result) (bindings_of all)))) c.deref.ensures.value c.names_in.ensures.read))
-    (subst (λ (t : Tree). IfErr c.names_in.result (λ fault. (fault ≡ faults.Memory) ⊎ ((fault ≡ faults.Form) × HasUnread t (bindings_of c.in_ok-found.found.items)))) c.tree_of-tree.ensures
-    (subst (λ (all : List Item). IfErr c.names_in.result (λ fault. (fault ≡ faults.Memory) ⊎ ((fault ≡ faults.Form) × HasUnread c.tree_of-tree.result (bindings_of all)))) c.deref.ensures.value c.names_in.ensures.refused)))
+    (subst (λ (t : Tree). IfErr c.names_in.result (AreMisread t (bindings_of c.in_ok-found.found.items))) c.tree_of-tree.ensures
+    (subst (λ (all : List Item). IfErr c.names_in.result (AreMisread c.tree_of-tree.result (bindings_of all))) c.deref.ensures.value c.names_in.ensures.refused)))
     (c.in_ok-found.ensures.answer p is under)

@@ -1,4 +1,5 @@
-use Rattle.std.proofs.Common.{Option, refl, subst, sym, ◌∙◌}
+use Rattle.std.proofs.Common.{Option, ap, refl, subst, sym, ◌∙◌}
+use Rattle.std.specs.Option.{option_copied}
 use Rattle.tree_node.proofs.shared.OutcomeLaws.{never_stops, outcome_as}
 use Rattle.osm_model.specs.Elements.{Element}
 use Rattle.ql_eval.specs.Questions.{object_ask}
@@ -11,9 +12,9 @@ use Rattle.ql_eval.proofs.print.print_object.Goals as goal
 pub returns-in_ok-put_object-in-Some-clause-answer : goal.returns-in_ok-put_object-in-Some-clause-answer
 returns-in_ok-put_object-in-Some-clause-answer g c = λ p is under there.
     outcome_as (needed_one (object_ask c.args.name) refl) (λ so. one_needed (object_ask c.args.name))
-    (λ so. subst (λ (o : Option Element). HasWritten (g.T.Sink.stands c.args.sink.now) (g.T.Sink.stands c.put_object.new.sink) (line_of c.args.mode o)) (sym c.in-Some.is ∙ so) c.in_ok-put_object-in-Some.ensures.written)
-    (c.in_ok-object.ensures.answer p is under)
+    (λ so. subst (λ (o : Option Element). HasWritten (g.T.Sink.stands c.args.sink.now) (g.T.Sink.stands c.put_object.new.sink) (line_of c.args.mode o)) (sym (ap option_copied c.in-Some.is) ∙ c.known.ensures _ so) c.in_ok-put_object-in-Some.ensures.written)
+    (c.in_ok-look_up.ensures.answer p is under)
 
 pub returns-in-None-clause-answer : goal.returns-in-None-clause-answer
 returns-in-None-clause-answer g c = λ p is under there.
-    never_stops (needed_one (object_ask c.args.name) refl) (λ so. none_there p.objects c.args.name is.set (sym (sym c.in-None.is ∙ so)) there) (c.in_ok-object.ensures.answer p is under)
+    never_stops (needed_one (object_ask c.args.name) refl) (λ so. none_there p.objects c.args.name is.set (sym (sym (ap option_copied c.in-None.is) ∙ c.known.ensures _ so)) there) (c.in_ok-look_up.ensures.answer p is under)

@@ -1,5 +1,8 @@
-use Rattle.std.proofs.Common.{◌++◌, ◌∙◌}
-use Rattle.std.proofs.lemmas.List.{get_or_default}
+use Rattle.std.proofs.Common.{◌++◌, ◌∙◌, List, subst}
+use Rattle.std.proofs.lemmas.List.{get_or_default, take_all}
+use Rattle.osm_model.specs.declared.reference.Ref.{Ref}
+use Rattle.ql_eval.specs.internal.Objects.{AreKnownThere, IsKnownThere}
+use Rattle.ql_eval.proofs.KnownLemmas.{known_more, there_later}
 use Rattle.std.proofs.lemmas.List.Elements.{Contains-get_or}
 use Rattle.ql_eval.specs.internal.Links.{IsObjectAsk}
 use Rattle.ql_eval.specs.internal.Printing.{line_at}
@@ -22,6 +25,7 @@ loop-name-preserved g c = record {
   walked = g.met.W.Source.more_walks _ _ _ c.loop-name.invariant.later c.print_object.ensures.later c.loop-name.invariant.walked c.in_ok-print_object.ensures.walked;
   kept = c.print_object.ensures.kept ∙ c.loop-name.invariant.kept;
   wrote = (c.loop-name.invariant.wrote.0 ++ c.print_object.ensures.wrote.0, written_then c.loop-name.invariant.wrote.1 c.print_object.ensures.wrote.1);
+  there = known_more IsKnownThere there_later _ _ c.args.names.now c.loop-name.name-index _ c.loop-name-test.true (λ r o. g.met.W.Source.same_known _ _ r o c.print_object.ensures.later) c.loop-name.invariant.there c.in_ok-print_object.ensures.there;
   answer = λ p is under there.
       printed_next p c.args.names.now IsObjectAsk (line_at p.objects c.args.mode) c.loop-name.name-index _ c.loop-name-test.true (get_or_default c.args.names.now c.loop-name.name-index _ _ c.loop-name-test.true)
       (λ x. g.met.W.Source.grows _ _ x c.print_object.ensures.later) (c.loop-name.invariant.answer p is under there) (c.in_ok-print_object.ensures.answer p is (g.met.W.Source.same_under _ _ p c.loop-name.invariant.later under) (there _ (Contains-get_or c.args.names.now c.loop-name.name-index _ c.loop-name-test.true)));
@@ -30,3 +34,6 @@ loop-name-preserved g c = record {
 pub returns-clause-answer : goal.returns-clause-answer
 returns-clause-answer g c = λ p is under there.
     printed_all p c.args.names.now IsObjectAsk (line_at p.objects c.args.mode) c.loop-name.name-index c.loop-name-test.false (c.loop-name.invariant.answer p is under there)
+
+pub returns-clause-there : goal.returns-clause-there
+returns-clause-there g c = subst (λ (names : List Ref). AreKnownThere (g.W.Source.knows c.loop-name.source) names) (take_all _ _ c.loop-name-test.false) c.loop-name.invariant.there

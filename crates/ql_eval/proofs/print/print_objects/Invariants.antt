@@ -1,7 +1,8 @@
-use Rattle.std.proofs.Common.{◌≡◌, ℕ, List}
+use Rattle.std.proofs.Common.{◌≡◌, ℕ, List, take}
 use Rattle.tree_node.proofs.shared.OutcomeLaws.{uses}
 use Rattle.osm_index.specs.Publications.{IsPublication, Publication}
 use Rattle.ql_eval.specs.Written.{HasWritten}
+use Rattle.ql_eval.specs.internal.Objects.{AreKnownThere}
 use Rattle.ql_eval.specs.internal.Links.{AreThere, IsObjectAsk}
 use Rattle.ql_eval.specs.internal.Printing.{line_at}
 use Rattle.ql_eval.proofs.PrintLemmas.{HasPrinted}
@@ -13,6 +14,7 @@ invariant-loop-name g l = record {
   walked : g.W.Source.walked l.fn.source l.source;
   kept : g.T.Sink.kept l.sink ≡ g.T.Sink.kept l.fn.sink;
   wrote : (text : List ℕ) × HasWritten (g.T.Sink.stands l.fn.sink) (g.T.Sink.stands l.sink) text;
+  there : AreKnownThere (g.W.Source.knows l.source) (take l.name-index l.names);
   answer : (p : Publication) → IsPublication p → g.W.Source.under l.fn.source p → AreThere p.objects l.names
       → HasPrinted p l.names IsObjectAsk (line_at p.objects l.mode) l.name-index (g.T.Sink.stands l.fn.sink) (g.T.Sink.stands l.sink)
       (uses (g.W.Source.holds l.source) (g.W.Source.used l.fn.source) (g.W.Source.used l.source));

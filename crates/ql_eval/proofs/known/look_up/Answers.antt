@@ -1,0 +1,55 @@
+use Rattle.std.proofs.Common.{◌≡◌, true, false, Some, Option, OnOk, sym, ap, subst, ◌∙◌}
+use Rattle.std.specs.BTreeMap.{Updates, get}
+use Rattle.std.specs.Option.{is_some}
+use Rattle.std.specs.declared.cmp.Ordering.{Ordering}
+use Rattle.osm_model.specs.Elements.{Element, ref_cmp}
+use Rattle.osm_model.specs.declared.reference.Ref.{Ref}
+use Rattle.tree_node.proofs.shared.OutcomeLaws.{outcome_as}
+use Rattle.ql_plain.proofs.References.{same_order}
+use Rattle.ql_eval.proofs.KnownLemmas.{added_known, keeps_known, known_again, known_now, known_there, remembers_later, remembers_one_more}
+use Rattle.ql_eval.proofs.known.look_up.Goals as goal
+
+pub returns-then-contains_key-clause-known : goal.returns-then-contains_key-clause-known
+returns-then-contains_key-clause-known g c = known_there c.args.objects.now c.args.name
+    (subst (λ (cmp : Ref → Ref → Ordering). is_some (get cmp c.args.objects.now c.args.name) ≡ true) same_order (sym c.contains_key.ensures ∙ c.if-contains_key.true))
+
+pub returns-then-contains_key-clause-answer : goal.returns-then-contains_key-clause-answer
+returns-then-contains_key-clause-answer g c = λ p is under known.
+    let there = known_there c.args.objects.now c.args.name
+    (subst (λ (cmp : Ref → Ref → Ordering). is_some (get cmp c.args.objects.now c.args.name) ≡ true) same_order (sym c.contains_key.ensures ∙ c.if-contains_key.true)) in
+    known_again p c.args.name there.0 (λ o. get ref_cmp c.args.objects.now c.args.name ≡ Some o) there.1 (known is c.args.name there.0 there.1)
+
+pub returns-in_err-object-clause-remembers : goal.returns-in_err-object-clause-remembers
+returns-in_err-object-clause-remembers g c = λ p under known. remembers_later p _ _ c.args.objects.now c.find_object.ensures.grows known
+
+pub returns-in_err-insert-clause-remembers : goal.returns-in_err-insert-clause-remembers
+returns-in_err-insert-clause-remembers g c = λ p under known.
+    let updated = subst (λ (cmp : Ref → Ref → Ordering). OnOk c.insert.result (Updates cmp c.args.objects.now c.insert.new.self c.args.name (Some c.in_ok-object.object))) same_order c.insert.ensures.updates in
+    remembers_one_more p _ c.args.objects.now c.insert.new.self c.args.name c.in_ok-object.object c.insert.result updated c.insert.ensures.err
+    (λ is. known_now p c.args.name c.in_ok-object.object (c.in_ok-object.ensures.answer p is under))
+    (remembers_later p _ _ c.args.objects.now c.in_ok-object.ensures.grows known)
+
+pub returns-clause-remembers : goal.returns-clause-remembers
+returns-clause-remembers g c = λ p under known.
+    let updated = subst (λ (cmp : Ref → Ref → Ordering). OnOk c.insert.result (Updates cmp c.args.objects.now c.insert.new.self c.args.name (Some c.in_ok-object.object))) same_order c.insert.ensures.updates in
+    remembers_one_more p _ c.args.objects.now c.insert.new.self c.args.name c.in_ok-object.object c.insert.result updated c.insert.ensures.err
+    (λ is. known_now p c.args.name c.in_ok-object.object (c.in_ok-object.ensures.answer p is under))
+    (remembers_later p _ _ c.args.objects.now c.in_ok-object.ensures.grows known)
+
+pub returns-clause-keeps : goal.returns-clause-keeps
+returns-clause-keeps g c =
+    let updated = subst (λ (cmp : Ref → Ref → Ordering). OnOk c.insert.result (Updates cmp c.args.objects.now c.insert.new.self c.args.name (Some c.in_ok-object.object))) same_order c.insert.ensures.updates in
+    keeps_known c.args.objects.now c.insert.new.self c.args.name c.in_ok-object.object c.insert.result updated c.insert.ensures.err
+    (subst (λ (cmp : Ref → Ref → Ordering). is_some (get cmp c.args.objects.now c.args.name) ≡ false) same_order (sym c.contains_key.ensures ∙ c.if-contains_key.false))
+
+pub returns-clause-known : goal.returns-clause-known
+returns-clause-known g c =
+    let updated = subst (λ (cmp : Ref → Ref → Ordering). Updates cmp c.args.objects.now c.insert.new.self c.args.name (Some c.in_ok-object.object)) same_order c.in_ok-insert.ensures.updates in
+    (c.in_ok-object.object, added_known c.args.objects.now c.insert.new.self c.args.name c.in_ok-object.object updated)
+
+pub returns-clause-answer : goal.returns-clause-answer
+returns-clause-answer g c = λ p is under known.
+    let updated = subst (λ (cmp : Ref → Ref → Ordering). Updates cmp c.args.objects.now c.insert.new.self c.args.name (Some c.in_ok-object.object)) same_order c.in_ok-insert.ensures.updates in
+    outcome_as (λ x needs. needs) (λ so x needs. needs)
+    (λ so. added_known c.args.objects.now c.insert.new.self c.args.name c.in_ok-object.object updated ∙ ap (λ (o : Option Element). Some o) so)
+    (c.in_ok-object.ensures.answer p is under)

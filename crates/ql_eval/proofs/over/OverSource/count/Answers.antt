@@ -1,0 +1,7 @@
+use Rattle.std.proofs.Common.{refl}
+use Rattle.ql_eval.proofs.KnownLemmas.{remembers_later}
+use Rattle.ql_eval.proofs.over.OverSource.count.Goals as goal
+
+pub returns-clause-later : goal.returns-clause-later
+returns-clause-later g c =
+    (refl, refl, c.count_names.ensures.stays, c.count_names.ensures.grows, (λ p under known. remembers_later p _ _ c.args.self.now.objects.now c.count_names.ensures.grows known), (λ r object known. known))

@@ -1,0 +1,43 @@
+-- What reading a line gives, and what is known of the objects that were looked up.
+use Rattle.std.specs.BTreeMap.{BTreeMap, get}
+use Rattle.std.specs.List.{Contains}
+use Rattle.std.specs.Prelude.{◌≡◌, ◌≢◌, ◌⊎◌, ℕ, List, Option, Some, Result, Err}
+use Rattle.opl_codec.specs.declared.cause.OplCause.TheVariants as causes
+use Rattle.opl_codec.specs.declared.change.Change.{Change}
+use Rattle.opl_codec.specs.declared.fault.OplFault.{OplFault}
+use Rattle.osm_model.specs.Elements.{Element, ref_cmp}
+use Rattle.osm_model.specs.Sets.{object_at}
+use Rattle.osm_model.specs.declared.kind.Kind.TheVariants as kinds
+use Rattle.osm_model.specs.declared.reference.Ref.{Ref}
+use Rattle.osm_index.specs.Publications.{IsPublication, Publication}
+use Rattle.tree_node.specs.Outcomes.{Clash}
+use Rattle.ql_eval.specs.Questions.{NeedsAsk, object_ask}
+
+-- reading the line ran out of memory
+abbrev pub IsForMemory : Result (Option Change) OplFault → Type 0
+IsForMemory read = (fault : OplFault) × (read ≡ Err fault) × (fault.cause ≡ causes.Memory)
+
+-- it is the object with this reference, or none where there is none, and all nodes that looking it up needs were used,
+-- unless one of them and a different used node have one digest
+abbrev pub IsKnownObject : Publication → (List ℕ → Type 0) → Ref → Option Element → Type 0
+IsKnownObject p used r object =
+    Clash (NeedsAsk p (object_ask r)) used ⊎ ((object ≡ object_at p.objects r) × ((bytes : List ℕ) → NeedsAsk p (object_ask r) bytes → used bytes))
+
+-- so is each object that is remembered
+abbrev pub Remembers : Publication → (List ℕ → Type 0) → BTreeMap Ref (Option Element) → Type 0
+Remembers p used objects = IsPublication p → (r : Ref) (object : Option Element) → get ref_cmp objects r ≡ Some object → IsKnownObject p used r object
+
+-- what is known of the reference is its object
+abbrev pub IsKnownThere : (Ref → Option Element → Type 0) → Ref → Type 0
+IsKnownThere knows r = (o : Element) × knows r (Some o)
+
+-- and so it is of each of these
+abbrev pub AreKnownThere : (Ref → Option Element → Type 0) → List Ref → Type 0
+AreKnownThere knows names = (r : Ref) → Contains names r → IsKnownThere knows r
+
+-- nodes list nothing, and needn't be known
+abbrev pub IsKnownParent : (Ref → Option Element → Type 0) → Ref → Type 0
+IsKnownParent knows r = r.kind ≢ kinds.Node → IsKnownThere knows r
+
+abbrev pub AreKnownParents : (Ref → Option Element → Type 0) → List Ref → Type 0
+AreKnownParents knows names = (r : Ref) → Contains names r → IsKnownParent knows r
