@@ -32,10 +32,9 @@ use osm_commands::socket_door::SocketDoor;
 use osm_commands::status::Status;
 use osm_desk::Desk;
 use osm_index::Snapshot;
-use std::env;
-use std::fs;
 use std::io::{ErrorKind, IsTerminal, Write};
 use std::process::ExitCode;
+use std::{env, fs};
 use tree_node::{Digest, Edition};
 
 /// What `clap` says of a word that isn't UTF-8. Such a word never gets as far as `clap` here.
@@ -100,12 +99,7 @@ fn ask_input(rt: &HostRuntime, query: &str) -> Status {
         let _ = writeln!(rt.stderr(), "waiting for OPL on standard input");
     }
     let mut input = Watched::new(rt.stdin(), Progress::of_stream(rt));
-    let outcome = ask(
-        rt.alloc(),
-        query.as_bytes(),
-        &mut input,
-        &mut rt.stdout(),
-    );
+    let outcome = ask(rt.alloc(), query.as_bytes(), &mut input, &mut rt.stdout());
     input.clear();
     let troubles = &[Trouble {
         name: "standard input",
@@ -324,7 +318,7 @@ fn quiet_file<'a>(rt: &'a HostRuntime, path: &'a str) -> Watched<'a, InputFile<'
 /// The text of a query that was refused, read once more from its file; nothing where another fault is told.
 fn text_of_query(rt: &HostRuntime, path: &str, outcome: &Result<(), CommandFault>) -> Vec<u8> {
     match outcome {
-        Err(CommandFault::Query(_)) => match fs::read(rt, rt.alloc(), path) {
+        Err(CommandFault::Query(_)) => match fs::read(rt, path) {
             Ok(text) => text,
             Err(_) => Vec::new(rt.alloc()),
         },

@@ -92,6 +92,9 @@ impl<'a> Progress<'a> {
             return;
         }
         let percent = self.read / (self.len / 100 + 1);
-        let _ = write!(self.rt.stderr(), "\r\x1b[2K{percent} % read, {megabytes} MB");
+        let _ = write!(
+            self.rt.stderr(),
+            "\r\x1b[2K{percent} % read, {megabytes} MB"
+        );
     }
 }
