@@ -11,6 +11,7 @@
  *   SHORT_WRITES=K       each write and send hands on K bytes at most
  *   REFUSE_MARK=FILE     this file is made as soon as a call is refused, so that who started the program can
  *                        tell a run in which the Nth call came from one that has fewer
+ *   COUNT_FILE=FILE      when the program ends, the number of its allocations is written there
  *
  * The program is one thread, so plain counters serve.
  */
@@ -18,6 +19,7 @@
 #include <dlfcn.h>
 #include <errno.h>
 #include <fcntl.h>
+#include <stdio.h>
 #include <stdlib.h>
 #include <string.h>
 #include <sys/socket.h>
@@ -38,7 +40,7 @@ struct calls {
 static struct calls allocations, reads, writes, recvs, sends, accepts, sockets, binds, listens, names;
 static unsigned long most_read, most_written;
 static int refused_with = EIO;
-static const char *mark;
+static const char *mark, *count_file;
 static int is_counting;
 
 static unsigned long number(const char *name) {
@@ -144,6 +146,17 @@ int getsockname(int socket, struct sockaddr *address, socklen_t *len) {
     return (int)syscall(SYS_getsockname, socket, address, len);
 }
 
+/* Tells how many allocations the program made. */
+__attribute__((destructor)) static void tell_count(void) {
+    unsigned long made = allocations.made;
+    is_counting = 0;
+    FILE *file = count_file == NULL ? NULL : fopen(count_file, "w");
+    if (file == NULL)
+        return;
+    fprintf(file, "%lu\n", made);
+    fclose(file);
+}
+
 typedef int main_type(int, char **, char **);
 typedef int start_type(main_type *, int, char **, void (*)(void), void (*)(void), void (*)(void), void *);
 
@@ -174,5 +187,6 @@ int __libc_start_main(main_type *main, int count, char **words, void (*init)(voi
     if (getenv("REFUSE_ERRNO") != NULL)
         refused_with = (int)number("REFUSE_ERRNO");
     mark = getenv("REFUSE_MARK");
+    count_file = getenv("COUNT_FILE");
     return start(counted_main, count, words, init, fini, linker_fini, stack_end);
 }
