@@ -12,7 +12,6 @@ import tempfile
 from pathlib import Path
 
 from runs import SECONDS, TOP, Outcome, Tally
-from serve_test import Server
 
 INSTALLED = {
     "bin/osm_mirror": 0o755,
@@ -23,6 +22,7 @@ INSTALLED = {
     "share/doc/osm-mirror/LICENSE": 0o644,
     "share/doc/osm-mirror/PROOFS.md": 0o644,
     "share/doc/osm-mirror/README.md": 0o644,
+    "share/doc/osm-mirror/THIRD-PARTY": 0o644,
     "share/doc/osm-mirror/examples/8081.conf": 0o644,
     "share/doc/osm-mirror/examples/fetch-and-check": 0o755,
     "share/doc/osm-mirror/examples/four-objects.opl": 0o644,
@@ -95,12 +95,14 @@ def check_job(tally, name, prefix, room):
     step(check, Outcome(b"no C4\n", b"", 1))
 
     if is_there("curl"):
-        server = Server(objects, ["--connections", "1"], dict(os.environ), program)
-        words = [examples / "fetch-and-check", ROOT, f"http://127.0.0.1:{server.port}", "node(1);out;"]
-        outcome = outcome_of(words, room, PATH=f"{prefix}/bin:{os.environ['PATH']}")
-        tally.check(f"{name}: fetch-and-check", outcome == Outcome(ANSWER, b"yes\n", 0), outcome)
-        ended = server.ended()
-        tally.check(f"{name}: serve ends", ended == Outcome(b"", b"", 0), ended)
+        words = [program, "serve", objects, "0", "--connections", "1"]
+        with subprocess.Popen(words, stderr=subprocess.PIPE) as serving:
+            line = serving.stderr.readline()
+            port = line.split(b",")[0].split(b":")[-1].decode()
+            words = [examples / "fetch-and-check", ROOT, f"http://127.0.0.1:{port}", "node(1);out;"]
+            outcome = outcome_of(words, room, PATH=f"{prefix}/bin:{os.environ['PATH']}")
+            tally.check(f"{name}: fetch-and-check", outcome == Outcome(ANSWER, b"yes\n", 0), line, outcome)
+            serving.terminate()
 
 
 def check_installation(tally, room):

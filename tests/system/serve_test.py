@@ -40,8 +40,8 @@ def root_of(name, edition):
 class Server:
     """A server that runs, and the line that it began with."""
 
-    def __init__(self, file, words, environment, program=PROGRAM):
-        command = [program, "serve", file, "0", *words]
+    def __init__(self, file, words, environment):
+        command = [PROGRAM, "serve", file, "0", *words]
         # Unbuffered: what follows the first line has to stay in the pipe for `communicate`, which reads past a buffer.
         self.process = subprocess.Popen(
             command, bufsize=0, stdout=subprocess.PIPE, stderr=subprocess.PIPE, env=environment
