@@ -26,6 +26,8 @@ for line in (crates.parent / "crates.txt").read_text().splitlines():
     if not line.startswith("#"):
         crate, _, others = line.partition(":")
         direct[crate] = [other for other in others.split() if other != "kit_crate"]
+        if not (crates / crate / "src").exists():
+            sys.exit(f"crates.txt: there is no {crate}")
 def below(crate):
     return sorted({found for other in direct[crate] for found in (other, *below(other))})
 def log(word):
