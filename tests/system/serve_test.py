@@ -337,7 +337,8 @@ def check_fetch(tally, site, name, environment=None):
     outcome = fetched(root, QUERY)
     tally.check(f"fetch-and-check at {site}", outcome == Outcome(ANSWER, b"yes\n", 0), outcome)
     outcome = fetched(root_of(b"town", b"2"), QUERY)
-    tally.check(f"fetch-and-check at {site}, another root", outcome == Outcome(b"", b"no C4\n", 1), outcome)
+    told = f"no C4\nthe mirror says that it answers under another root: {root}\n".encode()
+    tally.check(f"fetch-and-check at {site}, another root", outcome == Outcome(b"", told, 1), outcome)
     outcome = fetched(root, "node(1)")
     tally.check(f"fetch-and-check at {site}, a bad query", outcome.status == 2 and b"400: Q" in outcome.stderr, outcome)
 
