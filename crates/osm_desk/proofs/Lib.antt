@@ -8,3 +8,5 @@ pub mod StepLemmas
 pub mod PublishLemmas
 pub mod ServingLemmas
 pub mod TestLemmas
+pub mod shared
+pub mod EventLemmas

@@ -1,5 +1,6 @@
 pub mod Contents
 pub mod Desks
+pub mod Events
 pub mod Faults
 pub mod Happenings
 pub mod Made

@@ -8,6 +8,7 @@ ghost use Rattle.osm_index.specs.Applying.{IsSecond};
 ghost use Rattle.osm_index.specs.Publications.{Publication};
 ghost use Rattle.osm_index.specs.Snapshots.{HoldsPublication, IsAsBefore};
 ghost use Rattle.osm_desk.specs.Contents.{desk_over, fresh_contents};
+ghost use Rattle.osm_desk.specs.Events.{IsTurn, answer_of};
 ghost use Rattle.osm_desk.specs.Made.{IsMade, RefusesChanges};
 ghost use Rattle.osm_desk.specs.Stepping.{HasStepped, IsRefusal, LeavesRest, texts_of};
 ghost use Rattle.osm_desk.specs.internal.Serving.{HasArrived, IsFree, RefusesOpening, RefusesPiece, rest_of, with_rest, without};
@@ -95,7 +96,17 @@ impl Desk {
     /// changes are refused. `Memory` where an allocation was refused: not at an end, and not in place of D1 to D3.
     /// After a refusal all is as before.
     pub fn step(&mut self, event: Event) -> Result<Vec<(u32, Vec<u8>)>, DeskFault>
-        // It does what the definition of a step says, over whatever publication the snapshot holds.
+        // It does what the definition of a step says, or is refused as that says; the law of events is about such turns.
+        ensures turn { IsTurn self.old (record { event = event; answer = answer_of result; after = self.new }) }
+        // An event of a connection leaves the snapshot, a publication the connections.
+        ensures leaves { LeavesRest event self.old self.new }
+    {
+        self.take(event)
+    }
+
+    /// Takes an event, as `step` does.
+    fn take(&mut self, event: Event) -> Result<Vec<(u32, Vec<u8>)>, DeskFault>
+        // As the definition of a step says, over whatever publication the snapshot holds.
         ensures steps { (p : Publication) → HoldsPublication self.old.snapshot p
             → IfOk result (λ answers. HasStepped (desk_over self.old p) event (texts_of answers.items) self.new) }
         // It is refused as that says, and out of memory only where it may be.

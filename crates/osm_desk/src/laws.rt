@@ -1,17 +1,41 @@
-//! Laws of desks: what a connection is told, over what happens alone. There is nothing to do when they run.
+//! Laws of desks: what a connection is told, over events and over what happens, and the limit. There is nothing to do when
+//! they run.
 
-ghost use Rattle.std.specs.Prelude.{◌≡◌, ℕ, List, Some, Ok, Err};
+ghost use Rattle.std.specs.FinMap.{empty};
+ghost use Rattle.std.specs.Prelude.{◌≡◌, ◌↔◌, ℕ, List, Some, Ok, Err};
 ghost use Rattle.opl_codec.specs.declared.change.Change.{Change};
 ghost use Rattle.osm_gate.specs.Requests.{Asked};
 ghost use Rattle.osm_gate.specs.ResponseTexts.{Response};
 ghost use Rattle.osm_gate.specs.Responses.{IsResponse};
 ghost use Rattle.osm_index.specs.Publications.{Publication, root_of};
+ghost use Rattle.osm_index.specs.Snapshots.{HoldsPublication};
 ghost use Rattle.osm_index.specs.declared.apply_fault.ApplyFault.{ApplyFault};
+ghost use Rattle.osm_desk.specs.Contents.{Contents};
 ghost use Rattle.osm_desk.specs.Desks.{fresh, replies};
+ghost use Rattle.osm_desk.specs.Events.{AreTurns, HasRoom, IsTold, Turn, events_of, own_events, texts_to};
 ghost use Rattle.osm_desk.specs.Happenings.{Happening};
 ghost use Rattle.osm_desk.specs.Made.{IsMade};
 ghost use Rattle.osm_desk.specs.Runs.{Done, Ran, RespondAll, got, stood};
 ghost use Rattle.osm_desk.specs.Told.{FindsRoom, alone, given, told};
+ghost use Rattle.osm_desk.specs.declared.event.Event.{Event};
+ghost use Rattle.osm_desk.specs.declared.limits.TheConstants.{CONNECTION_LIMIT};
+
+/// A law: whatever events a desk takes, one after the other, from none of its connections open, what a connection gets
+/// are, piece by piece, the responses to the requests of its own bytes, over what the changes that were published by then
+/// have made. Each turn is what clause `turn` of [`crate::Desk::step`] says of one event; events that were refused out of
+/// memory are left out. That holds where the connection never is opened while 64 others are open.
+pub fn events_tell_each_its_own()
+    ensures told { (c : ℕ) (before : Contents) (turns : List Turn) (p : Publication) → before.connections ≡ empty → HoldsPublication before.snapshot p
+        → AreTurns before turns → HasRoom c before turns → IsTold c (events_of turns) p (texts_to c turns) }
+    // The events of the other connections have no part in it.
+    ensures alone { (c : ℕ) (events : List Event) (p : Publication) (texts : List (List ℕ))
+        → IsTold c events p texts ↔ IsTold c (own_events c events) p texts }
+{}
+
+/// A law: so many connections are open at most, as a number.
+pub fn limits_law()
+    ensures { CONNECTION_LIMIT ≡ 64 }
+{}
 
 /// A law: whatever happens, a desk tells a connection what that one's own bytes ask, over the publication that is in
 /// force when each request is complete. That holds where the connection never is opened while 64 others are open.

@@ -17,7 +17,7 @@ pub use desk::Desk;
 pub use desk_fault::DeskFault;
 pub use event::Event;
 pub use laws::{
-    each_is_told_its_own, one_outcome, others_change_nothing, runs_tell_each_its_own,
-    success_carries_the_root,
+    each_is_told_its_own, events_tell_each_its_own, limits_law, one_outcome, others_change_nothing,
+    runs_tell_each_its_own, success_carries_the_root,
 };
 pub use limits::CONNECTION_LIMIT;

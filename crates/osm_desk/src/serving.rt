@@ -1,8 +1,8 @@
 //! A connection of a desk over a reader and a writer.
 
 ghost use Rattle.std.specs.FinMap.{get, len};
-ghost use Rattle.std.specs.Prelude.{◌≡◌, ◌<◌, IsErrOf, None, OnOk};
-ghost use Rattle.osm_gate.specs.Serving.{HasBegun, HasGivenUp, HasResponded, HasRespondedToMany, HasServed};
+ghost use Rattle.std.specs.Prelude.{◌≡◌, ◌<◌, None, OnOk};
+ghost use Rattle.osm_gate.specs.Serving.{HasEnded, HasServed};
 ghost use Rattle.osm_index.specs.Publications.{Publication};
 ghost use Rattle.osm_index.specs.Snapshots.{HoldsPublication};
 ghost use Rattle.osm_desk.specs.declared.limits.TheConstants.{CONNECTION_LIMIT};
@@ -29,22 +29,13 @@ impl Desk {
     ) -> Result<(), GateFault>
         requires free { get self.old.connections number ≡ None }
         requires room { len self.old.connections < CONNECTION_LIMIT }
-        // What was written responds to the whole input.
+        // What was read, piece by piece, and what was written, whichever way it ended.
+        ensures ended { (p : Publication) → HoldsPublication self.old.snapshot p
+            → HasEnded p (record { unread = R.remaining reader.old; left = R.remaining reader.new; before = W.contents writer.old; after = W.contents writer.new }) result }
+        // So what was written responds to the whole input, where nothing broke off.
         ensures done { (p : Publication) → HoldsPublication self.old.snapshot p
             → OnOk result (HasServed p (record { unread = R.remaining reader.old; left = R.remaining reader.new; before = W.contents writer.old; after = W.contents writer.new })) }
-        // Where the reader failed, it responds to what was read.
-        ensures reader { (p : Publication) → HoldsPublication self.old.snapshot p → IsErrOf result GateFault.Reader
-            → HasResponded p (record { unread = R.remaining reader.old; left = R.remaining reader.new; before = W.contents writer.old; after = W.contents writer.new }) }
-        // Where it had no end, too, and that is 2^20 bytes at least.
-        ensures endless { (p : Publication) → HoldsPublication self.old.snapshot p → IsErrOf result GateFault.Endless
-            → HasRespondedToMany p (record { unread = R.remaining reader.old; left = R.remaining reader.new; before = W.contents writer.old; after = W.contents writer.new }) }
-        // Where memory ran out, it responds to what was read before the last piece, and then says so.
-        ensures memory { (p : Publication) → HoldsPublication self.old.snapshot p → IsErrOf result GateFault.Memory
-            → HasGivenUp p (record { unread = R.remaining reader.old; left = R.remaining reader.new; before = W.contents writer.old; after = W.contents writer.new }) }
-        // Whatever happened, no more than a beginning of these was written,
-        ensures begun { (p : Publication) → HoldsPublication self.old.snapshot p
-            → HasBegun p (record { unread = R.remaining reader.old; left = R.remaining reader.new; before = W.contents writer.old; after = W.contents writer.new }) }
-        // and the desk is as before.
+        // The desk is as before.
         ensures forgotten { self.new ≡ self.old }
     {
         let Ok(()) = self.open(number) else {

@@ -1,25 +1,82 @@
 -- What a reader gave, a writer got and a gate holds, from one piece to the next.
-use Rattle.std.proofs.Common.{◌≡◌, ◌≤◌, ◌∙◌, ◌+◌, ℕ, true, List, ◌++◌, ap, sym, refl, arith, length, take, append-nil, length-append}
-use Rattle.std.specs.Prelude.{Option, Some, None, IfSome}
-use Rattle.std.specs.Io.KnownBytes.{Appends, Consumes}
-use Rattle.std.proofs.KnownBytes.{Appends-trans}
+use Rattle.std.proofs.Common.{◌≡◌, ◌≤◌, ◌<◌, ◌∙◌, ◌+◌, ◌-◌, ◌⊎◌, ℕ, true, false, List, [], ◌∷◌, ◌++◌, ap, sym, refl, arith, subst, inl, inr, length, take, append-nil, length-append}
+use Rattle.std.specs.Prelude.{Option, Some, None, IfSome, Result, Ok, Err}
+use Rattle.std.specs.Io.KnownBytes.{Appends, Consumes, IsAtEnd, Keeps}
+use Rattle.std.specs.List.{All, concat, slice_index_or}
+use Rattle.std.specs.Result.{IsErrAnd}
+use Rattle.std.proofs.KnownBytes.{Appends-trans, Consumes-kept, Consumes-nil, Consumes-trans}
 use Rattle.std.proofs.lemmas.List.{length-take-le, take_all}
-use Rattle.std.proofs.Math.Seq.{take-append-add}
+use Rattle.std.proofs.lemmas.List.Elements.{All-append}
+use Rattle.std.proofs.lemmas.List.Folds.{concat-append}
+use Rattle.std.proofs.Math.Seq.{take-append-add, take-append_seam}
 use Rattle.osm_index.specs.Publications.{Publication}
 use Rattle.osm_gate.specs.Connections.{Heard, Responds, RespondsTo, Rest, heard, heard_next}
+use Rattle.osm_gate.specs.Serving.{AreRead, Exchange, HasBegun, HasBrokenOff, HasEnded, HasGivenUp, IsPiece, but_last, is_closed_by, longest_piece, most_reads}
 use Rattle.osm_gate.specs.Written.{AppendsFront}
+use Rattle.osm_gate.specs.declared.gate_fault.GateFault.{GateFault}
+use Rattle.osm_gate.specs.declared.gate_fault.GateFault.TheVariants.{Memory, Writer}
 use Rattle.osm_gate.proofs.ConnectionLemmas.{cut}
 use Rattle.osm_gate.proofs.RespondingLemmas.{responds-append}
 
--- the front of the input has been read, a byte a read at least, the gate holds its rest, and what was written responds
--- to it, over whatever publication the connection is over
-abbrev pub Served : (Publication → Type 0) → Option (List ℕ) → Option (List ℕ) → Option (List ℕ) → Option (List ℕ) → Rest → ℕ → Type 0
-Served over unread left before after gate reads = (front : List ℕ) × (reads ≤ length front) × Consumes unread left front × (gate ≡ (heard front).rest)
-    × ((p : Publication) → over p → (text : List ℕ) × RespondsTo p front text × Appends before after text)
+-- ---- one more piece
 
--- a read that gave a byte is one more
-pub one_more : (reads n : ℕ) (front buf : List ℕ) → reads ≤ length front → ¬ (n ≡ 0) → n ≤ length buf → reads + 1 ≤ length (front ++ take n buf)
-one_more reads n front buf so_far some within = omega (arith, so_far, some, within, length-append front (take n buf), length-take-le n buf within)
+concat-more : (pieces : List (List ℕ)) (piece : List ℕ) → concat (pieces ++ piece ∷ []) ≡ concat pieces ++ piece
+concat-more pieces piece = concat-append pieces (piece ∷ []) ∙ ap (λ l. concat pieces ++ l) (append-nil piece)
+
+but_last-more : (pieces : List (List ℕ)) (piece : List ℕ) → but_last (pieces ++ piece ∷ []) ≡ pieces
+but_last-more pieces piece =
+    let one : length (pieces ++ piece ∷ []) - 1 ≡ length pieces = omega (arith, length-append pieces (piece ∷ [])) in
+    ap (λ n. take n (pieces ++ piece ∷ [])) one ∙ take-append_seam pieces (piece ∷ [])
+
+one_piece : (piece : List ℕ) → IsPiece piece → All IsPiece (piece ∷ [])
+one_piece piece is = λ k d inside.
+    let first : k ≡ 0 = omega arith in
+    subst (λ (k : ℕ). IsPiece (slice_index_or (piece ∷ []) k d)) (sym first) is
+
+pub one_longer : (pieces : List (List ℕ)) (piece : List ℕ) (reads : ℕ) → length pieces ≡ reads → length (pieces ++ piece ∷ []) ≡ reads + 1
+one_longer pieces piece reads number = omega (arith, number, length-append pieces (piece ∷ []))
+
+-- nothing was read yet
+pub read-none : (unread : Option (List ℕ)) → AreRead unread unread []
+read-none unread = record {
+  sized = λ k d inside. absurd (omega arith);
+  few = omega arith;
+  still_open = refl;
+  consumed = Consumes-nil unread;
+}
+
+-- one piece more was read
+pub read-more : (unread mid left : Option (List ℕ)) (pieces : List (List ℕ)) (piece : List ℕ) → AreRead unread mid pieces
+    → is_closed_by pieces ≡ false → length pieces < most_reads → IsPiece piece → Consumes mid left piece → AreRead unread left (pieces ++ piece ∷ [])
+read-more unread mid left pieces piece are opened few is consumes = record {
+  sized = All-append IsPiece pieces (piece ∷ []) are.sized (one_piece piece is);
+  few = omega (arith, few, length-append pieces (piece ∷ []));
+  still_open = ap is_closed_by (but_last-more pieces piece) ∙ opened;
+  consumed = subst (Consumes unread left) (sym (concat-more pieces piece)) (Consumes-trans unread mid left (concat pieces) piece are.consumed consumes);
+}
+
+-- a read that gave nothing, or failed, left what was read
+pub read-kept : (unread mid left : Option (List ℕ)) (pieces : List (List ℕ)) → AreRead unread mid pieces → Keeps mid left → AreRead unread left pieces
+read-kept unread mid left pieces are kept = record {
+  sized = are.sized;
+  few = are.few;
+  still_open = are.still_open;
+  consumed = Consumes-kept unread mid left (concat pieces) are.consumed kept;
+}
+
+pub read-end : (unread mid left : Option (List ℕ)) (pieces : List (List ℕ)) → AreRead unread mid pieces → Consumes mid left [] → AreRead unread left pieces
+read-end unread mid left pieces are none = record {
+  sized = are.sized;
+  few = are.few;
+  still_open = are.still_open;
+  consumed = subst (Consumes unread left) (append-nil (concat pieces)) (Consumes-trans unread mid left (concat pieces) [] are.consumed none);
+}
+
+-- what a read put into a buffer is a piece
+pub is_piece : (n : ℕ) (buf : List ℕ) → ¬ (n ≡ 0) → n ≤ length buf → length buf ≤ longest_piece → IsPiece (take n buf)
+is_piece n buf some within small = let long = length-take-le n buf within in (omega (arith, some, long), omega (arith, within, small, long))
+
+-- ---- what was written
 
 -- all of a text is a beginning of it
 pub all_front : (old new : Option (List ℕ)) (text : List ℕ) → Appends old new text → AppendsFront old new text
@@ -37,16 +94,46 @@ asked_on front piece gate is =
     ap (λ (s : Heard). s.outcomes) (cut front piece)
     ∙ ap (λ (r : Rest). (heard front).outcomes ++ (heard_next r piece).outcomes) (sym is)
 
-pub rest_on : (front piece : List ℕ) (gate : Rest) → gate ≡ (heard front).rest
-    → (heard_next gate piece).rest ≡ (heard (front ++ piece)).rest
-rest_on front piece gate is =
+pub rest-on : (pieces : List (List ℕ)) (piece : List ℕ) (gate : Rest) → gate ≡ (heard (concat pieces)).rest
+    → (heard_next gate piece).rest ≡ (heard (concat (pieces ++ piece ∷ []))).rest
+rest-on pieces piece gate is =
     ap (λ (r : Rest). (heard_next r piece).rest) is
-    ∙ sym (ap (λ (s : Heard). s.rest) (cut front piece))
+    ∙ sym (ap (λ (s : Heard). s.rest) (cut (concat pieces) piece))
+    ∙ ap (λ (bytes : List ℕ). (heard bytes).rest) (sym (concat-more pieces piece))
 
-pub responds_on : (p : Publication) (front piece x y : List ℕ) (gate : Rest) → gate ≡ (heard front).rest
-    → RespondsTo p front x → Responds p (heard_next gate piece).outcomes y → RespondsTo p (front ++ piece) (x ++ y)
-responds_on p front piece x y gate is one two =
-    rw (asked_on front piece gate is) (responds-append p (heard front).outcomes (heard_next gate piece).outcomes x y one two)
+pub responds-on : (p : Publication) (pieces : List (List ℕ)) (piece x y : List ℕ) (gate : Rest) → gate ≡ (heard (concat pieces)).rest
+    → RespondsTo p (concat pieces) x → Responds p (heard_next gate piece).outcomes y → RespondsTo p (concat (pieces ++ piece ∷ [])) (x ++ y)
+responds-on p pieces piece x y gate is one two =
+    let front = concat pieces in
+    rw (concat-more pieces piece, asked_on front piece gate is) (responds-append p (heard front).outcomes (heard_next gate piece).outcomes x y one two)
+
+-- what was read before one piece more has its responses
+pub responds-before : (p : Publication) (pieces : List (List ℕ)) (piece x : List ℕ) → RespondsTo p (concat pieces) x
+    → RespondsTo p (concat (but_last (pieces ++ piece ∷ []))) x
+responds-before p pieces piece x is = subst (λ (ps : List (List ℕ)). RespondsTo p (concat ps) x) (sym (but_last-more pieces piece)) is
+
+-- ---- how it breaks off
+
+-- a writer fails
+pub broken_writer : (p : Publication) (e : Exchange) (result : Result (Unit {0}) GateFault) (fault : GateFault) → IsErrAnd result (λ told. told ≡ fault)
+    → fault ≡ Writer → HasBegun p e → HasEnded p e result
+broken_writer p e (Ok done) fault told is begun = absurd told
+broken_writer p e (Err other) fault told is begun = subst (HasBrokenOff p e) (sym (told ∙ is)) begun
+
+-- memory runs out
+pub given_up : (p : Publication) (e : Exchange) (fault : GateFault) → (fault ≡ Memory) ⊎ (fault ≡ Writer) → (fault ≡ Memory → HasGivenUp p e) → HasBegun p e
+    → HasBrokenOff p e fault
+given_up p e fault (inl memory) whole begun = subst (HasBrokenOff p e) (sym memory) (whole memory)
+given_up p e fault (inr writer) whole begun = subst (HasBrokenOff p e) (sym writer) begun
+
+-- ---- the loop
+
+-- these pieces were read, one a round, the connection is open and holds their rest, and what was written responds to them,
+-- over whatever publication the connection is over
+abbrev pub Served : (Publication → Type 0) → Exchange → Rest → ℕ → Type 0
+Served over e gate reads = (pieces : List (List ℕ)) × (length pieces ≡ reads) × AreRead e.unread e.left pieces
+    × (is_closed_by pieces ≡ false) × (gate ≡ (heard (concat pieces)).rest)
+    × ((p : Publication) → over p → (text : List ℕ) × RespondsTo p (concat pieces) text × Appends e.before e.after text)
 
 -- after the end of a connection nothing more is asked
 closed_on : (front more : List ℕ) → (heard front).rest.is_closed ≡ true → (heard (front ++ more)).outcomes ≡ (heard front).outcomes
@@ -62,3 +149,13 @@ closed_whole p None b front text old new consumed is_shut responds h = tt
 closed_whole p (Some input) None front text old new consumed is_shut responds h = absurd consumed
 closed_whole p (Some input) (Some more) front text old new consumed is_shut responds h =
     (text, rw (consumed, closed_on front more is_shut) responds, h)
+
+-- and where the input has ended
+pub ended_whole : (p : Publication) (a b : Option (List ℕ)) (front text : List ℕ) (old new : Option (List ℕ)) → Consumes a b front
+    → IsAtEnd b → RespondsTo p front text → Appends old new text
+    → IfSome a (λ input. (t : List ℕ) × RespondsTo p input t × Appends old new t)
+ended_whole p None b front text old new consumed end responds h = tt
+ended_whole p (Some input) None front text old new consumed end responds h = absurd consumed
+ended_whole p (Some input) (Some more) front text old new consumed end responds h =
+    let all : input ≡ front = consumed ∙ ap (λ l. front ++ l) end ∙ append-nil front in
+    (text, subst (λ (bytes : List ℕ). RespondsTo p bytes text) (sym all) responds, h)

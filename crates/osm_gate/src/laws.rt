@@ -1,12 +1,13 @@
-//! Laws of heads and of connections.
+//! Laws of heads and of connections, and of the limits.
 
-ghost use Rattle.std.specs.Prelude.{◌≡◌, ◌↔◌, ◌++◌, ◌+◌, ◌<◌, ℕ, List, Some, [], length, true};
+ghost use Rattle.std.specs.Prelude.{◌≡◌, ◌↔◌, ◌++◌, ◌+◌, ◌^◌, ◌<◌, ℕ, List, Some, [], length, true};
 ghost use Rattle.httparse.specs.Grammar.{RequestHead};
 ghost use Rattle.osm_index.specs.Publications.{IsPublication, Publication};
 ghost use Rattle.osm_gate.specs.Connections.{Responds, Rest, closed_rest, heard, heard_next, preceded};
 ghost use Rattle.osm_gate.specs.Heads.{IsHead, head_of};
 ghost use Rattle.osm_gate.specs.Requests.{Outcome};
-ghost use Rattle.osm_gate.specs.declared.limits.TheConstants.{BODY_LIMIT, HEAD_LIMIT};
+ghost use Rattle.osm_gate.specs.declared.limits.TheConstants.{BODY_LIMIT, DIGIT_LIMIT, FIELD_LIMIT, HEAD_LIMIT, LINE_LIMIT, PIECE_LIMIT, READ_LIMIT};
+ghost use Rattle.osm_gate.specs.Serving.{longest_piece, most_reads};
 
 /// A law: bytes are found to be a head exactly where httparse's grammar reads them as it.
 pub fn head_is_the_grammars()
@@ -41,4 +42,16 @@ pub fn one_response()
 /// A law: what is left of a connection is shorter than the longest head and the longest body together.
 pub fn rests_are_short()
     ensures { (bytes : List ℕ) → length (heard bytes).rest.bytes < HEAD_LIMIT + BODY_LIMIT }
+{}
+
+/// A law: the limits of a request and of a connection, as numbers: the bytes, the fields and the line feeds of a head, the
+/// bytes of a body, the digits that tell them, the bytes of a piece, and the reads of a connection.
+pub fn limits_law()
+    ensures head { HEAD_LIMIT ≡ 8192 }
+    ensures fields { FIELD_LIMIT ≡ 64 }
+    ensures lines { LINE_LIMIT ≡ 66 }
+    ensures body { BODY_LIMIT ≡ 2 ^ 20 }
+    ensures digits { DIGIT_LIMIT ≡ 19 }
+    ensures pieces { (PIECE_LIMIT ≡ 8192) × (longest_piece ≡ 8192) }
+    ensures reads { (READ_LIMIT ≡ 2 ^ 20) × (most_reads ≡ 2 ^ 20) }
 {}

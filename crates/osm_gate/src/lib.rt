@@ -31,7 +31,7 @@ pub use connection::Connection;
 pub use gate::Gate;
 pub use gate_fault::GateFault;
 pub use laws::{
-    head_is_the_grammars, nothing_after_the_end, one_response, pieces_ask_the_same,
+    head_is_the_grammars, limits_law, nothing_after_the_end, one_response, pieces_ask_the_same,
     responses_stand_in_order, rests_are_short,
 };
 pub use serving::{give_up, serve, serve_connection};

@@ -1,11 +1,11 @@
 //! A connection over a reader and a writer.
 
-ghost use Rattle.std.specs.Prelude.{◌≡◌, ◌⊎◌, IsErrOf, OnOk, []};
+ghost use Rattle.std.specs.Prelude.{◌≡◌, ◌⊎◌, OnOk, []};
 ghost use Rattle.std.specs.Io.KnownBytes.{Appends};
 ghost use Rattle.osm_index.specs.Publications.{Publication};
 ghost use Rattle.osm_index.specs.Snapshots.{HoldsPublication};
 ghost use Rattle.osm_gate.specs.Connections.{open_rest};
-ghost use Rattle.osm_gate.specs.Serving.{HasBegun, HasGivenUp, HasResponded, HasRespondedToMany, HasServed, no_memory};
+ghost use Rattle.osm_gate.specs.Serving.{HasEnded, HasServed, no_memory};
 ghost use Rattle.osm_gate.specs.Written.{AppendsFront};
 
 use crate::connection::Connection;
@@ -18,15 +18,15 @@ use osm_index::Snapshot;
 use std::alloc::Global;
 use std::io::{Read, Write};
 
-/// Responds to the requests of one connection, until its input ends or the connection does. It is read in pieces
-/// of at most 8,192 bytes, and the responses to each piece are written before the next is read.
+/// Responds to the requests of one connection, until its input ends or the connection does: nothing is read after that.
+/// It is read in pieces of at most 8,192 bytes, and the responses to each piece are written before the next is read.
 ///
 /// # Errors
 ///
 /// `Reader` (G1) where a read failed: what was read before has its responses. `Writer` (G2) where a write failed or
 /// took nothing: a beginning of the responses was written. `Memory` (G3) where an allocation was refused: what was
 /// read before the last piece has its responses, and a fixed response of status 503 comes after them. `Endless`
-/// (G4) after 1,048,576 reads without an end.
+/// (G4) after 1,048,576 reads, each of which gave bytes, if the connection is open then: no further read is made.
 ///
 /// Clauses that speak of bytes do so where the reader and the writer tell them.
 pub fn serve<R: Read, W: Write>(
@@ -35,21 +35,12 @@ pub fn serve<R: Read, W: Write>(
     writer: &mut W,
     snapshot: &Snapshot,
 ) -> Result<(), GateFault>
-    // What was written responds to the whole input.
+    // What was read, piece by piece, and what was written, whichever way it ended.
+    ensures ended { (p : Publication) → HoldsPublication snapshot.now p
+        → HasEnded p (record { unread = R.remaining reader.old; left = R.remaining reader.new; before = W.contents writer.old; after = W.contents writer.new }) result }
+    // So what was written responds to the whole input, where nothing broke off.
     ensures done { (p : Publication) → HoldsPublication snapshot.now p
         → OnOk result (HasServed p (record { unread = R.remaining reader.old; left = R.remaining reader.new; before = W.contents writer.old; after = W.contents writer.new })) }
-    // Where the reader failed, it responds to what was read.
-    ensures reader { (p : Publication) → HoldsPublication snapshot.now p → IsErrOf result GateFault.Reader
-        → HasResponded p (record { unread = R.remaining reader.old; left = R.remaining reader.new; before = W.contents writer.old; after = W.contents writer.new }) }
-    // Where it had no end, too, and that is 2^20 bytes at least.
-    ensures endless { (p : Publication) → HoldsPublication snapshot.now p → IsErrOf result GateFault.Endless
-        → HasRespondedToMany p (record { unread = R.remaining reader.old; left = R.remaining reader.new; before = W.contents writer.old; after = W.contents writer.new }) }
-    // Where memory ran out, it responds to what was read before the last piece, and then says so.
-    ensures memory { (p : Publication) → HoldsPublication snapshot.now p → IsErrOf result GateFault.Memory
-        → HasGivenUp p (record { unread = R.remaining reader.old; left = R.remaining reader.new; before = W.contents writer.old; after = W.contents writer.new }) }
-    // Whatever happened, no more than a beginning of these was written.
-    ensures begun { (p : Publication) → HoldsPublication snapshot.now p
-        → HasBegun p (record { unread = R.remaining reader.old; left = R.remaining reader.new; before = W.contents writer.old; after = W.contents writer.new }) }
 {
     let Ok(gate) = Gate::new(alloc) else {
         return Err(give_up(writer));
@@ -70,22 +61,13 @@ pub fn serve_connection<C: Connection, R: Read, W: Write>(
     writer: &mut W,
 ) -> Result<(), GateFault>
     requires { C.rest connection.old ≡ open_rest [] }
-    // What was written responds to the whole input.
+    // What was read, piece by piece, and what was written, whichever way it ended.
+    ensures ended { (p : Publication) → C.over connection.old p
+        → HasEnded p (record { unread = R.remaining reader.old; left = R.remaining reader.new; before = W.contents writer.old; after = W.contents writer.new }) result }
+    // So what was written responds to the whole input, where nothing broke off.
     ensures done { (p : Publication) → C.over connection.old p
         → OnOk result (HasServed p (record { unread = R.remaining reader.old; left = R.remaining reader.new; before = W.contents writer.old; after = W.contents writer.new })) }
-    // Where the reader failed, it responds to what was read.
-    ensures reader { (p : Publication) → C.over connection.old p → IsErrOf result GateFault.Reader
-        → HasResponded p (record { unread = R.remaining reader.old; left = R.remaining reader.new; before = W.contents writer.old; after = W.contents writer.new }) }
-    // Where it had no end, too, and that is 2^20 bytes at least.
-    ensures endless { (p : Publication) → C.over connection.old p → IsErrOf result GateFault.Endless
-        → HasRespondedToMany p (record { unread = R.remaining reader.old; left = R.remaining reader.new; before = W.contents writer.old; after = W.contents writer.new }) }
-    // Where memory ran out, it responds to what was read before the last piece, and then says so.
-    ensures memory { (p : Publication) → C.over connection.old p → IsErrOf result GateFault.Memory
-        → HasGivenUp p (record { unread = R.remaining reader.old; left = R.remaining reader.new; before = W.contents writer.old; after = W.contents writer.new }) }
-    // Whatever happened, no more than a beginning of these was written,
-    ensures begun { (p : Publication) → C.over connection.old p
-        → HasBegun p (record { unread = R.remaining reader.old; left = R.remaining reader.new; before = W.contents writer.old; after = W.contents writer.new }) }
-    // and it is the same connection.
+    // It is the same connection.
     ensures later { C.later connection.old connection.new }
 {
     let mut piece = [0; PIECE_LIMIT];

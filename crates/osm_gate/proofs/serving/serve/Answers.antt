@@ -1,8 +1,6 @@
-use Rattle.std.proofs.Common.{[], refl, rules, inr}
+use Rattle.osm_gate.proofs.shared.GivenUp.{given_up_at_once}
 use Rattle.osm_gate.proofs.serving.serve.Goals as goal
 
-pub returns-in_default-clause-memory : goal.returns-in_default-clause-memory
-returns-in_default-clause-memory g c = λ p holds is. ([], [], [], search rules, refl, c.give_up.ensures.whole (cc))
-
-pub returns-in_default-clause-begun : goal.returns-in_default-clause-begun
-returns-in_default-clause-begun g c = λ p holds. inr ([], [], [], search rules, refl, c.give_up.ensures.begun)
+pub returns-in_default-clause-ended : goal.returns-in_default-clause-ended
+returns-in_default-clause-ended g c = λ p holds.
+    given_up_at_once p (g.R.Read.remaining c.args.reader.now) _ _ c.give_up.result c.give_up.ensures.kinds c.give_up.ensures.whole c.give_up.ensures.begun

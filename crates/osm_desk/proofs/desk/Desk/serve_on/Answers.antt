@@ -1,13 +1,12 @@
 use Rattle.std.proofs.Common.{[], inr, refl, rules, sym, ◌≡◌}
+use Rattle.osm_gate.proofs.shared.GivenUp.{given_up_at_once}
 use Rattle.osm_desk.specs.internal.Serving.{without}
 use Rattle.osm_desk.proofs.ServingLemmas.{forgotten, opened_rest}
 use Rattle.osm_desk.proofs.desk.Desk.serve_on.Goals as goal
 
-pub returns-in_default-clause-memory : goal.returns-in_default-clause-memory
-returns-in_default-clause-memory g c = λ p holds is. ([], [], [], search rules, refl, c.give_up.ensures.whole (cc))
-
-pub returns-in_default-clause-begun : goal.returns-in_default-clause-begun
-returns-in_default-clause-begun g c = λ p holds. inr ([], [], [], search rules, refl, c.give_up.ensures.begun)
+pub returns-in_default-clause-ended : goal.returns-in_default-clause-ended
+returns-in_default-clause-ended g c = λ p holds.
+    given_up_at_once p (g.R.Read.remaining c.args.reader.now) _ _ c.give_up.result c.give_up.ensures.kinds c.give_up.ensures.whole c.give_up.ensures.begun
 
 pub serve_connection-served-requires : goal.serve_connection-served-requires
 serve_connection-served-requires g c = opened_rest c.args.self.now c.open.new.self c.args.number _ c.in-Ok.ensures.opened.1
