@@ -98,7 +98,7 @@ def texts_of(cell):
 
 
 def refusals(page):
-    """Texts of the page with the code and the byte that it says of each: of tables and of paragraphs."""
+    """Texts of the page with the code and the byte that it says of each, in tables and in paragraphs."""
     at = re.compile(rf"({CODE}) at (\d+)")
     for _, row in page.rows_where(lambda heads, row: len(row) == 2 and at.match(row[1])):
         for text in texts_of(row[0]):
@@ -117,7 +117,7 @@ def check_refusals(tally, page):
             tally.check(f"line {text}", outcome == Outcome(b"", f"{code} line 1 byte {byte}\n".encode(), 2), outcome)
         elif text.startswith("data="):
             with server("/dev/null", "--connections", 1) as running:
-                got = told(running, [b"POST /api/interpreter HTTP/1.1\r\nContent-Length: %d\r\n\r\n" % len(text) + text.encode()])
+                got = told(running, [POST + b"Content-Length: %d\r\n\r\n" % len(text) + text.encode()])
             tally.check(f"form {text}", got.endswith(f"\r\n\r\n{code} byte {byte}\n".encode()), got)
         else:
             outcome = asked(text, "")
@@ -161,8 +161,9 @@ def check_modes(tally, page):
 
 def check_escapes(tally, page):
     """`Café` is `Caf%e9%`: what is written of a text; and of a tab, which the page can't show."""
-    pairs = [found for text in page.paragraphs for found in re.findall(r"`([^`%]+)` (?:is )?`([^`]*%[0-9a-f]+%[^`]*)`", text)]
-    pairs += [("%9%", found) for text in page.paragraphs for found in re.findall(r"\btab (?:is )?`([^`]*)`", text) if "%" in found]
+    text = "\n".join(page.paragraphs)
+    pairs = re.findall(r"`([^`%]+)` (?:is )?`([^`]*%[0-9a-f]+%[^`]*)`", text)
+    pairs += [("%9%", found) for found in re.findall(r"\btab (?:is )?`([^`]*)`", text) if "%" in found]
     for text, written in pairs:
         outcome = asked("node(1);out tags;", f"n1 Ta={text} x0 y0")
         tally.check(f"escape {text}", outcome == Outcome(f"n1 Ta={written}\n".encode(), b"", 0), outcome)
@@ -292,8 +293,7 @@ def check_statuses(tally, page):
         for _, row in rows:
             for line in QUOTED.findall(row[0]):
                 if line in runs and line not in met:
-                    if line.startswith("Q11"):
-                        file.write_bytes(b"node(1)")
+                    file.write_bytes(b"node(1)" if line.startswith("Q11") else b"n1 x13.4\n")
                     refusing = {"REFUSE_ALLOCATION": 1} if line == "no memory" else None
                     outcome = run([PROGRAM, *runs[line]], b"", refusing)
                     tally.check(f"status of {line}", outcome == Outcome(b"", f"{line}\n".encode(), int(row[-1])), outcome)
@@ -379,7 +379,8 @@ def check_hexadecimals(tally, page, boxes):
     check_found(tally, "hexadecimal texts", met, 30)
     text = "\n".join(page.paragraphs)
     for root in [it for it in values if len(it) == 64]:
-        tally.check(f"{root} stands on the page", f"`{root}`" in text or any(root in cell for t in page.tables for r in t for cell in r))
+        in_table = any(root in cell for table in page.tables for row in table for cell in row)
+        tally.check(f"{root} stands on the page", in_table or f"`{root}`" in text)
     for lines, of in [(lines, of) for lines in ([], FOUR) for of in ((1,), (2, 0), (2, 7))]:
         words = ["--edition", str(of[0]), "--sequence", str(of[-1] if of[0] == 2 else 0)]
         with tempfile.NamedTemporaryFile() as file:
@@ -453,11 +454,13 @@ def check_ranges(tally, page):
             told_of = 0 if row[2] == "none" else int(row[2])
             tally.check(f"entries of {row[:2]}", len(found) == number == told_of, len(found), number)
             if heads[3].startswith("Fetches"):
-                tally.check(f"fetches of {row[:2]}", [len(fetched), len(counted)] == [int(it) for it in row[3:5]], len(fetched), len(counted))
+                fetches = [len(fetched), len(counted)]
+                tally.check(f"fetches of {row[:2]}", fetches == [int(it) for it in row[3:5]], fetches)
             else:
                 leaves = [levels[0].index(node) for node in fetched[1:]]
                 left_out = [place for place in leaves if levels[0][place] not in counted]
-                tally.check(f"nodes of {row[:2]}", [leaves, left_out] == [places_in(it) for it in row[3:5]], leaves, left_out, covered)
+                holds = [leaves, left_out] == [places_in(it) for it in row[3:5]] and len(left_out) == covered
+                tally.check(f"nodes of {row[:2]}", holds, leaves, left_out, covered)
     check_found(tally, "ranges", met, 14)
 
 

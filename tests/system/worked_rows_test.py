@@ -56,9 +56,9 @@ def check_listed(tally):
         place = place_of(file, where)
         tally.check(f"{name}: {file} has {where}", place is not None)
         if place is not None:
-            # (a row of a table stands on a line of its own, of which the text may be the front)
+            # (a row of a table is a line of its own)
             rows_of = [line.replace("\t", "\\t") for line in place.splitlines()] if file.endswith(".tsv") else []
-            held = any(row.startswith(text) for row in rows_of) or not rows_of and text in place
+            held = text in rows_of or not rows_of and text in place
             tally.check(f"{name}: {text}", held, file, where)
 
 
