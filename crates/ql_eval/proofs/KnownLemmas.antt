@@ -1,5 +1,5 @@
 -- What is known of the objects that were looked up.
-use Rattle.std.proofs.Common.{◌≡◌, inl, inr, ℕ, ◌+◌, ◌<◌, List, length, take, get_or, true, false, cond, Option, Some, None, Result, Ok, Err, refl, sym, ap, subst, ◌∙◌}
+use Rattle.std.proofs.Common.{◌≡◌, inl, inr, ℕ, [], ◌+◌, ◌<◌, List, length, take, get_or, true, false, cond, Option, Some, None, Result, Ok, Err, refl, sym, ap, subst, ◌∙◌}
 use Rattle.std.proofs.lemmas.Bool.{cases_Bool}
 use Rattle.std.proofs.lemmas.List.{take_more}
 use Rattle.std.specs.BTreeMap.{BTreeMap, Updates, get, is_at}
@@ -19,9 +19,16 @@ use Rattle.osm_index.specs.Publications.{IsPublication, Publication}
 use Rattle.osm_index.proofs.shared.OneObject.{same_reference}
 use Rattle.tree_node.specs.Outcomes.{Outcome}
 use Rattle.tree_node.proofs.shared.OutcomeLaws.{Nodes, clash_more, uses}
+use Rattle.osm_index.specs.Manifests.{top_among}
+use Rattle.osm_index.specs.Ranges.{object_range}
+use Rattle.osm_index.specs.declared.manifest.Manifest.{Manifest}
+use Rattle.tree_node.specs.declared.tree.Tree.TheVariants.{Objects}
+use Rattle.tree_walk.specs.Given.{These}
+use Rattle.tree_walk.proofs.shared.GivenLaws.{gives_more}
+use Rattle.ql_eval.specs.internal.Told.{IsAbsent}
 use Rattle.ql_eval.specs.Faults.{cause_of_evaluation}
 use Rattle.ql_eval.specs.Questions.{NeedsAsk, object_ask}
-use Rattle.ql_eval.specs.internal.Objects.{IsKnownObject, IsKnownParent, IsKnownThere, Remembers}
+use Rattle.ql_eval.specs.internal.Objects.{AreAbsent, IsKnownObject, IsKnownParent, IsKnownThere, Remembers}
 use Rattle.ql_eval.proofs.NameLemmas.{last_or_before}
 
 -- ---- what is known of it
@@ -80,6 +87,25 @@ remembers_one_more p used old new name object (Ok a) up same known all is r o at
           let one : object ≡ o = Prim.cc in
           subst (λ (s : Ref). IsKnownObject p used s o) (same_reference name r (equal_is (ref_cmp name r) hit)) (subst (λ (m : Option Element). IsKnownObject p used name m) one (known is))
       | inr miss ↦ all is r o (sym (up.0 r ∙ ap (λ b. cond b (Some object) (get ref_cmp old r)) miss) ∙ at)
+    ]
+
+-- ---- what isn't there
+
+-- more nodes that were used change nothing
+pub absent_later : (used later : Nodes) (m : Manifest) (objects : BTreeMap Ref (Option Element)) → ((x : List ℕ) → used x → later x) → AreAbsent used m objects → AreAbsent later m objects
+absent_later used later m objects grows absent r at = gives_more used later Objects (top_among m.tops Objects) (object_range r) (These []) grows (absent r at)
+
+-- one more was looked up, if memory was not refused
+pub absent_one_more : {A E : Type 0} (used : Nodes) (m : Manifest) (old new : BTreeMap Ref (Option Element)) (name : Ref) (object : Option Element) (result : Result A E)
+    → OnOk result (Updates ref_cmp old new name (Some object)) → OnErr result (new.entries ≡ old.entries) → (object ≡ None → IsAbsent used m name) → AreAbsent used m old → AreAbsent used m new
+absent_one_more used m old new name object (Err e) up same one all r at = all r (ap (λ es. lookup (is_at (ref_cmp r)) es) (sym same) ∙ at)
+absent_one_more used m old new name object (Ok a) up same one all r at =
+    elim (cases_Bool (is_at (ref_cmp name) r)) [
+      | inl hit ↦
+          let here : Some object ≡ Some None = sym (up.0 r ∙ ap (λ b. cond b (Some object) (get ref_cmp old r)) hit) ∙ at in
+          let none : object ≡ None = Prim.cc in
+          subst (λ (s : Ref). IsAbsent used m s) (same_reference name r (equal_is (ref_cmp name r) hit)) (one none)
+      | inr miss ↦ all r (sym (up.0 r ∙ ap (λ b. cond b (Some object) (get ref_cmp old r)) miss) ∙ at)
     ]
 
 -- what was known stays known where something is added that was not

@@ -1,12 +1,80 @@
--- One walk, as a list of walks.
-use Rattle.std.proofs.Common.{◌≡◌, ℕ, Result, Ok, Err}
-use Rattle.std.specs.Prelude.{OnOk}
+-- One walk of an evaluation: what was made of what it gave, and what its refusal tells.
+use Rattle.std.proofs.Common.{◌≡◌, ◌≢◌, inl, inr, ℕ, List, [], Option, Some, None, Result, Ok, Err, refl, sym, subst}
+use Rattle.std.specs.List.{Contains}
+use Rattle.std.specs.Prelude.{IfErr, IfOk, OnOk}
+use Rattle.std.specs.BTreeMap.{BTreeMap}
+use Rattle.osm_model.specs.Elements.{Element}
+use Rattle.osm_model.specs.declared.reference.Ref.{Ref}
+use Rattle.osm_index.specs.Manifests.{top_among}
+use Rattle.osm_index.specs.Ranges.{object_range}
+use Rattle.osm_index.specs.declared.manifest.Manifest.{Manifest}
+use Rattle.tree_node.specs.NodeRefs.{number_of}
+use Rattle.tree_node.specs.Nodes.{Binding}
+use Rattle.tree_node.specs.declared.tree.Tree.{Tree}
+use Rattle.tree_node.specs.declared.tree.Tree.TheVariants.{Objects}
 use Rattle.tree_node.proofs.shared.OutcomeLaws.{Nodes, uses}
-use Rattle.tree_walk.specs.Fetches.{Fetches, counted_up}
-use Rattle.tree_walk.specs.Walked.{HasWalked}
+use Rattle.tree_walk.specs.Fetches.{counted_up}
+use Rattle.tree_walk.specs.Given.{Gives, IsWalk, SoMany, These}
+use Rattle.tree_walk.specs.Ranges.{Range}
+use Rattle.tree_walk.specs.Reasons.{HasReason}
+use Rattle.tree_walk.specs.WalksGiven.{HasGiven}
 use Rattle.tree_walk.specs.declared.fault.WalkFault.{WalkFault}
-use Rattle.tree_walk.proofs.shared.WalkedLaws.{walked_one}
+use Rattle.tree_walk.specs.declared.fault.WalkFault.TheVariants as walks
+use Rattle.tree_walk.proofs.shared.GivenLaws.{given_entry, gives_more}
+use Rattle.tree_walk.proofs.shared.WalksGivenLaws.{given_one}
+use Rattle.ql_eval.specs.Faults.{fault_of_walk}
+use Rattle.ql_eval.specs.Forms.{HaveForm}
+use Rattle.ql_eval.specs.internal.Told.{IsAbsent, IsTold}
+use Rattle.ql_eval.specs.declared.fault.EvalFault.{EvalFault}
+use Rattle.ql_eval.specs.internal.Entries.{AreMisread, IsPutBy}
 
-pub one_walk : {A : Type 0} (result : Result A WalkFault) (held old new : Nodes) (calls later from to : ℕ) → later ≡ counted_up calls 1 → Fetches result (uses held old new) from to → OnOk result (HasWalked (uses held old new) calls later from to)
-one_walk (Ok value) held old new calls later from to called fetches = walked_one value held old new calls later from to called fetches
-one_walk (Err fault) held old new calls later from to called fetches = tt
+-- ---- walks that were made
+
+-- entries that were all read
+pub walk_read : {B G : Type 0} (top_of : Tree → List ℕ) (held old new : Nodes) (calls later from to : ℕ) (tree : Tree) (range : Range) (found : List Binding) (result : Result B G) → later ≡ counted_up calls 1
+    → IsWalk (uses held old new) from to tree (top_of tree) range (These found) → OnOk result (HaveForm tree found) → OnOk result (HasGiven top_of HaveForm (uses held old new) calls later from to)
+walk_read top_of held old new calls later from to tree range found (Ok b) called walk formed = given_one top_of HaveForm held old new calls later from to tree range (These found) called walk formed
+walk_read top_of held old new calls later from to tree range found (Err f) called walk formed = tt
+
+-- a number
+pub walk_counted : {G : Type 0} (top_of : Tree → List ℕ) (held old new : Nodes) (calls later from to : ℕ) (tree : Tree) (range : Range) (result : Result ℕ G) → later ≡ counted_up calls 1
+    → IfOk result (λ number. IsWalk (uses held old new) from to tree (top_of tree) range (SoMany number)) → OnOk result (HasGiven top_of HaveForm (uses held old new) calls later from to)
+walk_counted top_of held old new calls later from to tree range (Ok number) called walk = given_one top_of HaveForm held old new calls later from to tree range (SoMany number) called walk tt
+walk_counted top_of held old new calls later from to tree range (Err f) called walk = tt
+
+-- ---- what is told
+
+-- a refused walk has its reason
+pub walk_told : (held used : Nodes) (m : Manifest) (tree : Tree) (fault : WalkFault) → HasReason (number_of tree) (top_among m.tops tree) held used fault → IsTold held used m (fault_of_walk fault)
+walk_told held used m tree walks.Missing reason = ((λ (e : walks.Missing ≡ walks.Memory). cc), tree, reason)
+walk_told held used m tree (walks.Malformed fault) reason = ((λ (e : walks.Malformed fault ≡ walks.Memory). cc), tree, reason)
+walk_told held used m tree walks.WrongTreeOrLevel reason = ((λ (e : walks.WrongTreeOrLevel ≡ walks.Memory). cc), tree, reason)
+walk_told held used m tree walks.Disagrees reason = ((λ (e : walks.Disagrees ≡ walks.Memory). cc), tree, reason)
+walk_told held used m tree walks.Memory reason = tt
+
+-- entries that couldn't be read are told to be of another form
+pub read_told : {B : Type 0} (held old used : Nodes) (m : Manifest) (from to : ℕ) (tree : Tree) (range : Range) (found : List Binding) (result : Result B EvalFault)
+    → IsWalk (uses held old used) from to tree (top_among m.tops tree) range (These found) → IfErr result (AreMisread tree found) → IfErr result (IsTold held used m)
+read_told held old used m from to tree range found (Ok b) walk refused = tt
+read_told held old used m from to tree range found (Err fault) walk refused = elim refused [
+  | inl memory ↦ subst (IsTold held used m) (sym memory) tt
+  | inr form ↦ subst (IsTold held used m) (sym form.0) (record {
+    tree = tree;
+    range = range;
+    entry = form.1.0;
+    given = given_entry used tree (top_among m.tops tree) range found form.1.0 (walk_gives held old used from to tree (top_among m.tops tree) range found walk) form.1.1;
+    malformed = form.1.2;
+  })
+]
+  where
+    walk_gives : (held old used : Nodes) (from to : ℕ) (tree : Tree) (top : List ℕ) (range : Range) (found : List Binding) → IsWalk (uses held old used) from to tree top range (These found) → Gives used tree top range (These found)
+    walk_gives held old used from to tree top range found walk = gives_more _ used tree top range (These found) (λ x among. (walk.fetched.gained x).1 (inr among)) walk.gives
+
+-- a walk that gave no entry says that there is no object
+pub none_given : (held old used : Nodes) (m : Manifest) (from to : ℕ) (r : Ref) (found : List Binding) (result : Result (Option Element) EvalFault)
+    → IsWalk (uses held old used) from to Objects (top_among m.tops Objects) (object_range r) (These found) → IfOk result (IsPutBy found) → IfOk result (λ object. object ≡ None → IsAbsent used m r)
+none_given held old used m from to r found (Ok (Some o)) walk put = λ (e : Some o ≡ None). absurd cc
+none_given held old used m from to r found (Ok None) walk put = λ e.
+    subst (λ (bs : List Binding). Gives used Objects (top_among m.tops Objects) (object_range r) (These bs)) put
+    (gives_more _ used Objects (top_among m.tops Objects) (object_range r) (These found) (λ x among. (walk.fetched.gained x).1 (inr among)) walk.gives)
+none_given held old used m from to r found (Err fault) walk put = tt

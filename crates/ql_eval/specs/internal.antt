@@ -12,4 +12,5 @@ pub mod Lawful
 pub mod Narrowing
 pub mod Counting
 pub mod Printing
+pub mod Told
 pub mod Objects

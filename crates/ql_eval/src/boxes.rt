@@ -7,7 +7,8 @@ ghost use Rattle.tree_node.specs.NodeRefs.{binding_of, bindings_of};
 ghost use Rattle.tree_node.specs.Outcomes.{Outcome};
 ghost use Rattle.tree_node.specs.Shelves.{SameNodes};
 ghost use Rattle.tree_node.specs.declared.tree.Tree.TheVariants.{Cells};
-ghost use Rattle.tree_walk.specs.Walked.{HasWalked};
+ghost use Rattle.tree_walk.specs.WalksGiven.{HasGiven};
+ghost use Rattle.osm_index.specs.Manifests.{top_among};
 ghost use Rattle.osm_index.specs.Publications.{IsPublication, Publication};
 ghost use Rattle.ql_plain.specs.Meanings.{IsSetOf};
 ghost use Rattle.ql_plain.specs.Values.{IsRefOf};
@@ -15,6 +16,7 @@ ghost use Rattle.ql_plain.specs.Adding.{Adds};
 ghost use Rattle.ql_eval.specs.Asks.{IsAskedInBox, IsInBox};
 ghost use Rattle.ql_eval.specs.Faults.{cause_of_evaluation};
 ghost use Rattle.ql_eval.specs.Openings.{IsUnder};
+ghost use Rattle.ql_eval.specs.internal.Told.{IsTold};
 ghost use Rattle.ql_eval.specs.Questions.{NeededBy};
 ghost use Rattle.ql_eval.specs.internal.Boxes.{IsCellsAsk, IsFoundIn};
 ghost use Rattle.ql_eval.specs.Forms.{HasForm, HaveForm};
@@ -41,9 +43,10 @@ pub(crate) fn find_in_box<'a, S: Shelf<'a>>(
     ensures rising { IfOk result (λ names. IsStrictlySortedBy ref_cmp names.items) }
     ensures stays { SameNodes (S.holds shelf.old) (S.holds shelf.new) }
     ensures grows { (bytes : List ℕ) → S.used shelf.old bytes → S.used shelf.new bytes }
-    ensures walked { OnOk result (HasWalked
+    ensures walked { OnOk result (HasGiven (top_among manifest.now.tops) HaveForm
         (record { held = S.holds shelf.new; before = S.used shelf.old; after = S.used shelf.new })
         tally.old.calls tally.new.calls tally.old.fetches tally.new.fetches) }
+    ensures told { IfErr result (IsTold (S.holds shelf.new) (S.used shelf.new) manifest.now) }
     ensures answer { (p : Publication) → IsPublication p → IsUnder p manifest.now
         → Outcome cause_of_evaluation (λ names. IsSetOf names.items (IsRefOf p.objects (IsInBox area.now)))
         (NeededBy p (IsAskedInBox area.now))
@@ -70,9 +73,10 @@ fn add_range<'a, S: Shelf<'a>>(
 ) -> Result<(), EvalFault>
     ensures stays { SameNodes (S.holds shelf.old) (S.holds shelf.new) }
     ensures grows { (bytes : List ℕ) → S.used shelf.old bytes → S.used shelf.new bytes }
-    ensures walked { OnOk result (HasWalked
+    ensures walked { OnOk result (HasGiven (top_among manifest.now.tops) HaveForm
         (record { held = S.holds shelf.new; before = S.used shelf.old; after = S.used shelf.new })
         tally.old.calls tally.new.calls tally.old.fetches tally.new.fetches) }
+    ensures told { IfErr result (IsTold (S.holds shelf.new) (S.used shelf.new) manifest.now) }
     ensures answer { (p : Publication) → IsPublication p → IsUnder p manifest.now
         → Outcome cause_of_evaluation (λ _. Adds names.old.items names.new.items (IsFoundIn p.objects area.now keys.now))
         (NeededBy p (IsCellsAsk keys.now))

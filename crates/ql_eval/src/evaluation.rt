@@ -5,14 +5,16 @@ ghost use Rattle.tree_node.specs.Digests.{digest};
 ghost use Rattle.tree_node.specs.Outcomes.{EndsWell, Outcome};
 ghost use Rattle.tree_node.specs.Shelves.{HasNone, IsClashFree, SameNodes};
 ghost use Rattle.tree_walk.specs.Walked.{HasWalked};
-ghost use Rattle.osm_index.specs.Manifests.{manifest_bytes};
+ghost use Rattle.tree_walk.specs.WalksGiven.{HasGiven};
+ghost use Rattle.osm_index.specs.Manifests.{manifest_bytes, top_among};
 ghost use Rattle.osm_index.specs.Publications.{IsPublication, Publication, root_of};
 ghost use Rattle.ql_syntax.specs.LawfulQueries.{IsQuery};
 ghost use Rattle.ql_syntax.specs.StatementViews.{statements_of};
 ghost use Rattle.ql_plain.specs.Meanings.{Means, nothing_named};
 ghost use Rattle.ql_eval.specs.Asks.{AskedByAll, IsNeeded};
 ghost use Rattle.ql_eval.specs.Faults.{cause_of_evaluation};
-ghost use Rattle.ql_eval.specs.Openings.{IsUnder};
+ghost use Rattle.ql_eval.specs.Forms.{HaveForm};
+ghost use Rattle.ql_eval.specs.Openings.{HasMalformed, IsUnder};
 ghost use Rattle.ql_eval.specs.Questions.{NeededBy};
 ghost use Rattle.ql_eval.specs.Written.{HasWritten};
 
@@ -60,9 +62,16 @@ pub fn evaluate<'a, S: Shelf<'a>, T: Sink>(
     ensures refused { OnErr result ((text : List ℕ) → T.stands sink.old text → T.stands sink.new text) }
     // E4 with `Missing` where no held node has the root.
     ensures none { HasNone (S.holds shelf.new) root.now.0 → result ≡ Err (EvalFault.Manifest ManifestFault.Missing) }
+    // and with `Malformed` where what is held under it is no manifest, memory apart.
+    ensures malformed { HasMalformed (S.holds shelf.new) root.now.0
+        → (result ≡ Err (EvalFault.Manifest ManifestFault.Malformed)) ⊎ (result ≡ Err EvalFault.Memory) }
     // Whatever the root is of, the report counts the walks and what they fetched.
     ensures report { IfOk result (λ report. (found : Manifest) × S.holds shelf.new (manifest_bytes found) × (digest (manifest_bytes found) ≡ root.now.0)
         × HasWalked (record { held = S.holds shelf.new; before = λ bytes. S.used shelf.old bytes ⊎ (bytes ≡ manifest_bytes found); after = S.used shelf.new }) 0 report.ranges 0 report.fetched) }
+    // These walks are the report's: each gave what its nodes say, from the tops that the manifest names on, and all entries
+    // that they gave are of their trees' forms.
+    ensures walks { IfOk result (λ report. (found : Manifest) × S.holds shelf.new (manifest_bytes found) × (digest (manifest_bytes found) ≡ root.now.0)
+        × HasGiven (top_among found.tops) HaveForm (record { held = S.holds shelf.new; before = λ bytes. S.used shelf.old bytes ⊎ (bytes ≡ manifest_bytes found); after = S.used shelf.new }) 0 report.ranges 0 report.fetched) }
     // Under the root of a publication: its answer, by just the needed nodes.
     ensures answer { (p : Publication) → IsPublication p → root.now.0 ≡ root_of p
         → Outcome cause_of_evaluation (λ _. (text : List ℕ) × Means p.objects (statements_of query.now) text × HasWritten (T.stands sink.old) (T.stands sink.new) text)
@@ -108,7 +117,7 @@ fn run_over<'a, S: Shelf<'a>, T: Sink>(
     // As each shelf: no two held nodes have one digest, and what was used is held.
     ensures unlike { IsClashFree (S.holds shelf.new) }
     ensures held { (bytes : List ℕ) → S.used shelf.new bytes → S.holds shelf.new bytes }
-    ensures walked { OnOk result (HasWalked (record { held = S.holds shelf.new; before = S.used shelf.old; after = S.used shelf.new }) 0 tally.new.calls 0 tally.new.fetches) }
+    ensures walked { OnOk result (HasGiven (top_among manifest.tops) HaveForm (record { held = S.holds shelf.new; before = S.used shelf.old; after = S.used shelf.new }) 0 tally.new.calls 0 tally.new.fetches) }
     ensures kept { T.kept sink.new ≡ T.kept sink.old }
     ensures wrote { (text : List ℕ) × HasWritten (T.stands sink.old) (T.stands sink.new) text }
     ensures answer { (p : Publication) → IsPublication p → IsUnder p manifest → IsQuery (statements_of statements.now)

@@ -1,6 +1,6 @@
 //! The objects that were looked up, each once in a query.
 
-ghost use Rattle.std.specs.Prelude.{◌≡◌, ℕ, IfErr, IfOk, List, OnOk, Option, Some};
+ghost use Rattle.std.specs.Prelude.{◌≡◌, ℕ, IfErr, IfOk, List, None, OnOk, Option, Some};
 ghost use Rattle.std.specs.BTreeMap.{get};
 ghost use Rattle.osm_model.specs.Elements.{Element, ref_cmp};
 ghost use Rattle.osm_model.specs.Sets.{object_at};
@@ -8,14 +8,16 @@ ghost use Rattle.tree_node.specs.NodeRefs.{bindings_of};
 ghost use Rattle.tree_node.specs.Outcomes.{Outcome};
 ghost use Rattle.tree_node.specs.Shelves.{SameNodes};
 ghost use Rattle.tree_node.specs.declared.tree.Tree.TheVariants.{Objects};
-ghost use Rattle.tree_walk.specs.Walked.{HasWalked};
+ghost use Rattle.tree_walk.specs.WalksGiven.{HasGiven};
+ghost use Rattle.osm_index.specs.Manifests.{top_among};
 ghost use Rattle.osm_index.specs.Publications.{IsPublication, Publication};
 ghost use Rattle.ql_eval.specs.Faults.{cause_of_evaluation};
 ghost use Rattle.ql_eval.specs.Forms.{HaveForm};
 ghost use Rattle.ql_eval.specs.Openings.{IsUnder};
+ghost use Rattle.ql_eval.specs.internal.Told.{IsAbsent, IsTold};
 ghost use Rattle.ql_eval.specs.Questions.{NeedsAsk, object_ask};
 ghost use Rattle.ql_eval.specs.internal.Entries.{AreMisread, IsPutBy};
-ghost use Rattle.ql_eval.specs.internal.Objects.{Remembers};
+ghost use Rattle.ql_eval.specs.internal.Objects.{AreAbsent, Remembers};
 
 use crate::fault::EvalFault;
 use crate::objects::object_in;
@@ -46,11 +48,13 @@ pub(crate) fn look_up<'a, S: Shelf<'a>>(
 ) -> Result<(), EvalFault>
     ensures stays { SameNodes (S.holds shelf.old) (S.holds shelf.new) }
     ensures grows { (bytes : List ℕ) → S.used shelf.old bytes → S.used shelf.new bytes }
-    ensures walked { OnOk result (HasWalked
+    ensures walked { OnOk result (HasGiven (top_among manifest.now.tops) HaveForm
         (record { held = S.holds shelf.new; before = S.used shelf.old; after = S.used shelf.new })
         tally.old.calls tally.new.calls tally.old.fetches tally.new.fetches) }
+    ensures told { IfErr result (IsTold (S.holds shelf.new) (S.used shelf.new) manifest.now) }
     ensures keeps { (r : Ref) (object : Option Element) → get ref_cmp objects.old r ≡ Some object → get ref_cmp objects.new r ≡ Some object }
     ensures known { OnOk result ((object : Option Element) × (get ref_cmp objects.new name ≡ Some object)) }
+    ensures absent { AreAbsent (S.used shelf.old) manifest.now objects.old → AreAbsent (S.used shelf.new) manifest.now objects.new }
     ensures remembers { (p : Publication) → IsUnder p manifest.now → Remembers p (S.used shelf.old) objects.old → Remembers p (S.used shelf.new) objects.new }
     ensures answer { (p : Publication) → IsPublication p → IsUnder p manifest.now → Remembers p (S.used shelf.old) objects.old
         → Outcome cause_of_evaluation (λ _. get ref_cmp objects.new name ≡ Some (object_at p.objects name)) (NeedsAsk p (object_ask name))
@@ -74,9 +78,11 @@ fn find_object<'a, S: Shelf<'a>>(
 ) -> Result<Option<Object>, EvalFault>
     ensures stays { SameNodes (S.holds shelf.old) (S.holds shelf.new) }
     ensures grows { (bytes : List ℕ) → S.used shelf.old bytes → S.used shelf.new bytes }
-    ensures walked { OnOk result (HasWalked
+    ensures walked { OnOk result (HasGiven (top_among manifest.now.tops) HaveForm
         (record { held = S.holds shelf.new; before = S.used shelf.old; after = S.used shelf.new })
         tally.old.calls tally.new.calls tally.old.fetches tally.new.fetches) }
+    ensures told { IfErr result (IsTold (S.holds shelf.new) (S.used shelf.new) manifest.now) }
+    ensures absent { IfOk result (λ object. object ≡ None → IsAbsent (S.used shelf.new) manifest.now name) }
     ensures answer { (p : Publication) → IsPublication p → IsUnder p manifest.now
         → Outcome cause_of_evaluation (λ object. object ≡ object_at p.objects name) (NeedsAsk p (object_ask name))
         (record { held = S.holds shelf.new; before = S.used shelf.old; after = S.used shelf.new }) result }

@@ -1,17 +1,20 @@
 //! Questions, asked of a shelf under a manifest.
 
 ghost use Rattle.std.specs.Int.{w64};
-ghost use Rattle.std.specs.Prelude.{◌≡◌, ℕ, FitsSigned, IfOk, List, OnOk};
+ghost use Rattle.std.specs.Prelude.{◌≡◌, ℕ, FitsSigned, IfErr, IfOk, List, OnOk};
 ghost use Rattle.std.specs.List.Sorted.{IsStrictlySortedBy};
 ghost use Rattle.osm_model.specs.Elements.{ref_cmp};
 ghost use Rattle.tree_node.specs.Outcomes.{Outcome};
 ghost use Rattle.tree_node.specs.Shelves.{SameNodes};
-ghost use Rattle.tree_walk.specs.Walked.{HasWalked};
+ghost use Rattle.tree_walk.specs.WalksGiven.{HasGiven};
+ghost use Rattle.osm_index.specs.Manifests.{top_among};
 ghost use Rattle.osm_index.specs.Publications.{IsPublication, Publication};
 ghost use Rattle.ql_plain.specs.Meanings.{IsSetOf};
 ghost use Rattle.ql_plain.specs.Values.{IsRefOf};
 ghost use Rattle.ql_eval.specs.Faults.{cause_of_evaluation};
+ghost use Rattle.ql_eval.specs.Forms.{HaveForm};
 ghost use Rattle.ql_eval.specs.Openings.{IsUnder};
+ghost use Rattle.ql_eval.specs.internal.Told.{IsTold};
 ghost use Rattle.ql_eval.specs.Questions.{Answers, HasNoNulIn, IsCountOf, NeedsAsk, count_ask, names_ask, range_asked, tree_asked};
 ghost use Rattle.ql_eval.specs.internal.Entries.{TargetFits};
 ghost use Rattle.ql_eval.specs.internal.Views.{question_of};
@@ -41,9 +44,10 @@ pub(crate) fn find_names<'a, S: Shelf<'a>>(
     ensures rising { IfOk result (λ names. IsStrictlySortedBy ref_cmp names.items) }
     ensures stays { SameNodes (S.holds shelf.old) (S.holds shelf.new) }
     ensures grows { (bytes : List ℕ) → S.used shelf.old bytes → S.used shelf.new bytes }
-    ensures walked { OnOk result (HasWalked
+    ensures walked { OnOk result (HasGiven (top_among manifest.now.tops) HaveForm
         (record { held = S.holds shelf.new; before = S.used shelf.old; after = S.used shelf.new })
         tally.old.calls tally.new.calls tally.old.fetches tally.new.fetches) }
+    ensures told { IfErr result (IsTold (S.holds shelf.new) (S.used shelf.new) manifest.now) }
     ensures answer { (p : Publication) → IsPublication p → IsUnder p manifest.now → HasNoNulIn (question_of question.now)
         → Outcome cause_of_evaluation (λ names. IsSetOf names.items (IsRefOf p.objects (Answers (question_of question.now))))
         (NeedsAsk p (names_ask (question_of question.now)))
@@ -65,9 +69,10 @@ pub(crate) fn count_names<'a, S: Shelf<'a>>(
 ) -> Result<u64, EvalFault>
     ensures stays { SameNodes (S.holds shelf.old) (S.holds shelf.new) }
     ensures grows { (bytes : List ℕ) → S.used shelf.old bytes → S.used shelf.new bytes }
-    ensures walked { OnOk result (HasWalked
+    ensures walked { OnOk result (HasGiven (top_among manifest.now.tops) HaveForm
         (record { held = S.holds shelf.new; before = S.used shelf.old; after = S.used shelf.new })
         tally.old.calls tally.new.calls tally.old.fetches tally.new.fetches) }
+    ensures told { IfErr result (IsTold (S.holds shelf.new) (S.used shelf.new) manifest.now) }
     ensures answer { (p : Publication) → IsPublication p → IsUnder p manifest.now
         → Outcome cause_of_evaluation (IsCountOf p (question_of question.now)) (NeedsAsk p (count_ask (question_of question.now)))
         (record { held = S.holds shelf.new; before = S.used shelf.old; after = S.used shelf.new }) result }

@@ -1,6 +1,6 @@
 //! The manifest, from which the evaluation of a query starts.
 
-ghost use Rattle.std.specs.Prelude.{◌≡◌, ℕ, Err, IfErr, IfOk, List, OnErr, true};
+ghost use Rattle.std.specs.Prelude.{◌≡◌, ◌⊎◌, ℕ, Err, IfErr, IfOk, List, OnErr, true};
 ghost use Rattle.osm_index.specs.Manifests.{manifest_bytes};
 ghost use Rattle.osm_index.specs.Publications.{Publication, manifest_of, root_of};
 ghost use Rattle.tree_node.specs.Digests.{digest};
@@ -59,6 +59,7 @@ pub fn open_manifest<'a, S: Shelf<'a>>(
     ensures missing { result ≡ Err ManifestFault.Missing → HasNone (S.holds shelf.new) root.now.0 }
     ensures none { HasNone (S.holds shelf.new) root.now.0 → result ≡ Err ManifestFault.Missing }
     ensures malformed { result ≡ Err ManifestFault.Malformed → HasMalformed (S.holds shelf.new) root.now.0 }
+    ensures other { HasMalformed (S.holds shelf.new) root.now.0 → (result ≡ Err ManifestFault.Malformed) ⊎ (result ≡ Err ManifestFault.Memory) }
     ensures memory { result ≡ Err ManifestFault.Memory → S.takes_memory ≡ true }
     // Under the root of a publication: its tops, by its manifest alone.
     ensures answer { (p : Publication) → root.now.0 ≡ root_of p

@@ -2,7 +2,9 @@
 
 ghost use Rattle.std.specs.Prelude.{◌≡◌, ℕ, List};
 ghost use Rattle.tree_node.specs.Shelves.{SameNodes};
-ghost use Rattle.tree_walk.specs.Walked.{HasWalked};
+ghost use Rattle.tree_walk.specs.WalksGiven.{HasGiven};
+ghost use Rattle.osm_index.specs.Manifests.{top_among};
+ghost use Rattle.ql_eval.specs.Forms.{HaveForm};
 ghost use Rattle.osm_index.specs.Publications.{Publication};
 ghost use Rattle.ql_eval.specs.Openings.{IsUnder};
 ghost use Rattle.ql_eval.specs.internal.Objects.{Remembers};
@@ -39,11 +41,13 @@ impl<'s, 'a, S: Shelf<'a>> Source for Over<'s, 'a, S> {
     ghost use Rattle.std.proofs.Common.{◌∙◌, subst};
     ghost use Rattle.osm_index.specs.declared.manifest.Manifest.{Manifest};
     ghost use Rattle.tree_node.specs.Shelves.{SameNodes};
-    ghost use Rattle.tree_walk.specs.Walked.{HasWalked};
+    ghost use Rattle.tree_walk.specs.WalksGiven.{HasGiven};
+    ghost use Rattle.osm_index.specs.Manifests.{top_among};
+    ghost use Rattle.ql_eval.specs.Forms.{HaveForm};
     ghost use Rattle.osm_index.specs.Publications.{Publication};
     ghost use Rattle.ql_eval.specs.Openings.{IsUnder};
     ghost use Rattle.ql_eval.specs.internal.Objects.{Remembers};
-    ghost use Rattle.tree_walk.proofs.shared.WalkedLaws.{walked_none, walked_then};
+    ghost use Rattle.tree_walk.proofs.shared.WalksGivenLaws.{given_none, given_then};
 
     ghost holds = { λ o. S.holds o.shelf.now };
 
@@ -58,7 +62,7 @@ impl<'s, 'a, S: Shelf<'a>> Source for Over<'s, 'a, S> {
         × ((p : Publication) → IsUnder p o.manifest → Remembers p (S.used o.shelf.now) o.objects.now → Remembers p (S.used n.shelf.now) n.objects.now)
         × ((r : Ref) (object : Option Element) → get ref_cmp o.objects.now r ≡ Some object → get ref_cmp n.objects.now r ≡ Some object) };
 
-    ghost walked = { λ o n. HasWalked (record { held = S.holds n.shelf.now; before = S.used o.shelf.now; after = S.used n.shelf.now })
+    ghost walked = { λ o n. HasGiven (top_among n.manifest.tops) HaveForm (record { held = S.holds n.shelf.now; before = S.used o.shelf.now; after = S.used n.shelf.now })
         o.tally.calls n.tally.calls o.tally.fetches n.tally.fetches };
 
     ghost itself = { λ o. (refl, refl, (λ x. ((λ has. has), (λ has. has))), (λ x has. has), (λ p under known. known), (λ r object known. known)) };
@@ -80,9 +84,11 @@ impl<'s, 'a, S: Shelf<'a>> Source for Over<'s, 'a, S> {
 
     ghost same_known = { λ o n r object later known. later.5 r object known };
 
-    ghost no_walk = { λ o. walked_none (S.holds o.shelf.now) (S.used o.shelf.now) o.tally.calls o.tally.fetches };
+    ghost no_walk = { λ o. given_none (top_among o.manifest.tops) HaveForm (S.holds o.shelf.now) (S.used o.shelf.now) o.tally.calls o.tally.fetches };
 
-    ghost more_walks = { λ o n m first second one two. walked_then _ _ _ _ _ _ _ _ _ _ _ second.2 one two };
+    ghost more_walks = { λ o n m first second one two. given_then (top_among m.manifest.tops) HaveForm _ _ _ _ _ _ _ _ _ _ _ second.2
+        (subst (λ (found : Manifest). HasGiven (top_among found.tops) HaveForm
+        (record { held = S.holds n.shelf.now; before = S.used o.shelf.now; after = S.used n.shelf.now }) o.tally.calls n.tally.calls o.tally.fetches n.tally.fetches) second.1 one) two };
 
     fn look_up(&mut self, name: Ref) -> Result<(), EvalFault> {
         look_up(

@@ -1,16 +1,19 @@
 //! Walks over the trees under a manifest.
 
-ghost use Rattle.std.specs.Prelude.{◌≡◌, ℕ, List, OnOk};
+ghost use Rattle.std.specs.Prelude.{◌≡◌, ℕ, IfErr, IfOk, List, OnOk};
 ghost use Rattle.tree_node.specs.NodeRefs.{bindings_of, number_of};
 ghost use Rattle.tree_node.specs.Outcomes.{Outcome};
 ghost use Rattle.tree_node.specs.Shelves.{SameNodes};
 ghost use Rattle.tree_walk.specs.Choices.{AreThose, IsCount};
-ghost use Rattle.tree_walk.specs.Fetches.{cause_of};
+ghost use Rattle.tree_walk.specs.Fetches.{cause_of, counted_up};
+ghost use Rattle.tree_walk.specs.Given.{IsWalk, These};
 ghost use Rattle.tree_walk.specs.Ranges.{IsIn, range_of};
-ghost use Rattle.tree_walk.specs.Walked.{HasWalked};
+ghost use Rattle.tree_walk.specs.Reasons.{HasReason};
+ghost use Rattle.tree_walk.specs.WalksGiven.{HasGiven};
 ghost use Rattle.tree_walk.specs.Walks.{IsEntryIn};
 ghost use Rattle.osm_index.specs.Manifests.{top_among};
 ghost use Rattle.osm_index.specs.Publications.{IsPublication, Publication};
+ghost use Rattle.ql_eval.specs.Forms.{HaveForm};
 ghost use Rattle.ql_eval.specs.Openings.{IsUnder};
 ghost use Rattle.ql_eval.specs.Questions.{Counted, Listed, NeedsAsk};
 
@@ -31,9 +34,12 @@ pub(crate) fn entries_in<'a, S: Shelf<'a>>(
     requires { IsIn (range_of keys.now) keys.now.lo.now }
     ensures stays { SameNodes (S.holds shelf.old) (S.holds shelf.new) }
     ensures grows { (bytes : List ℕ) → S.used shelf.old bytes → S.used shelf.new bytes }
-    ensures walked { OnOk result (HasWalked
+    ensures calls { tally.new.calls ≡ counted_up tally.old.calls 1 }
+    ensures gives { IfOk result (λ found. IsWalk
         (record { held = S.holds shelf.new; before = S.used shelf.old; after = S.used shelf.new })
-        tally.old.calls tally.new.calls tally.old.fetches tally.new.fetches) }
+        tally.old.fetches tally.new.fetches
+        tree (top_among manifest.now.tops tree) (range_of keys.now) (These (bindings_of found.items))) }
+    ensures told { IfErr result (HasReason (number_of tree) (top_among manifest.now.tops tree) (S.holds shelf.new) (S.used shelf.new)) }
     ensures answer { (p : Publication) → IsPublication p → IsUnder p manifest.now
         → Outcome cause_of (λ found. AreThose (IsEntryIn (range_of keys.now)) (p.entries tree) (bindings_of found.items))
         (NeedsAsk p (Listed tree (range_of keys.now)))
@@ -54,9 +60,10 @@ pub(crate) fn count_in<'a, S: Shelf<'a>>(
     requires { IsIn (range_of keys.now) keys.now.lo.now }
     ensures stays { SameNodes (S.holds shelf.old) (S.holds shelf.new) }
     ensures grows { (bytes : List ℕ) → S.used shelf.old bytes → S.used shelf.new bytes }
-    ensures walked { OnOk result (HasWalked
+    ensures walked { OnOk result (HasGiven (top_among manifest.now.tops) HaveForm
         (record { held = S.holds shelf.new; before = S.used shelf.old; after = S.used shelf.new })
         tally.old.calls tally.new.calls tally.old.fetches tally.new.fetches) }
+    ensures told { IfErr result (HasReason (number_of tree) (top_among manifest.now.tops tree) (S.holds shelf.new) (S.used shelf.new)) }
     ensures answer { (p : Publication) → IsPublication p → IsUnder p manifest.now
         → Outcome cause_of (λ number. IsCount (IsEntryIn (range_of keys.now)) (p.entries tree) number)
         (NeedsAsk p (Counted tree (range_of keys.now)))

@@ -1,7 +1,7 @@
 -- What reading a line gives, and what is known of the objects that were looked up.
 use Rattle.std.specs.BTreeMap.{BTreeMap, get}
 use Rattle.std.specs.List.{Contains}
-use Rattle.std.specs.Prelude.{◌≡◌, ◌≢◌, ◌⊎◌, ℕ, List, Option, Some, Result, Err}
+use Rattle.std.specs.Prelude.{◌≡◌, ◌≢◌, ◌⊎◌, ℕ, List, Option, Some, None, Result, Err}
 use Rattle.opl_codec.specs.declared.cause.OplCause.TheVariants as causes
 use Rattle.opl_codec.specs.declared.change.Change.{Change}
 use Rattle.opl_codec.specs.declared.fault.OplFault.{OplFault}
@@ -11,7 +11,9 @@ use Rattle.osm_model.specs.declared.kind.Kind.TheVariants as kinds
 use Rattle.osm_model.specs.declared.reference.Ref.{Ref}
 use Rattle.osm_index.specs.Publications.{IsPublication, Publication}
 use Rattle.tree_node.specs.Outcomes.{Clash}
+use Rattle.osm_index.specs.declared.manifest.Manifest.{Manifest}
 use Rattle.ql_eval.specs.Questions.{NeedsAsk, object_ask}
+use Rattle.ql_eval.specs.internal.Told.{IsAbsent}
 
 -- reading the line ran out of memory
 abbrev pub IsForMemory : Result (Option Change) OplFault → Type 0
@@ -41,3 +43,7 @@ IsKnownParent knows r = r.kind ≢ kinds.Node → IsKnownThere knows r
 
 abbrev pub AreKnownParents : (Ref → Option Element → Type 0) → List Ref → Type 0
 AreKnownParents knows names = (r : Ref) → Contains names r → IsKnownParent knows r
+
+-- where none is remembered there is none
+abbrev pub AreAbsent : (List ℕ → Type 0) → Manifest → BTreeMap Ref (Option Element) → Type 0
+AreAbsent used found objects = (r : Ref) → get ref_cmp objects r ≡ Some None → IsAbsent used found r

@@ -12,7 +12,11 @@ use Rattle.ql_eval.specs.Questions.{Listed, NeedsAsk}
 use Rattle.ql_eval.specs.internal.Entries.{AreMisread, IsSaid, SaysIn}
 use Rattle.ql_eval.proofs.BoxLemmas.{range_added}
 use Rattle.ql_eval.proofs.EachLemmas.{needed_one, one_needed}
-use Rattle.ql_eval.proofs.StepLemmas.{then_read, walk_cause}
+use Rattle.osm_index.specs.Manifests.{top_among}
+use Rattle.ql_eval.specs.Forms.{HaveForm}
+use Rattle.ql_eval.specs.internal.Told.{IsTold}
+use Rattle.ql_eval.proofs.StepLemmas.{refused_as, then_read, walk_cause}
+use Rattle.ql_eval.proofs.WalkLemmas.{read_told, walk_read, walk_told}
 use Rattle.std.proofs.Common.{refl}
 use Rattle.ql_eval.proofs.boxes.add_range.Goals as goal
 
@@ -33,3 +37,16 @@ returns-clause-answer g c = λ p is under.
     (subst (λ (all : List Item). OnOk c.add_nodes.result (Adds c.args.names.now.items c.add_nodes.new.names.items (IsSaid (SaysIn c.args.area.now) (bindings_of all)))) c.deref.ensures.value c.add_nodes.ensures.added)
     (subst (λ (all : List Item). IfErr c.add_nodes.result (AreMisread Cells (bindings_of all))) c.deref.ensures.value c.add_nodes.ensures.refused))
     (c.in_ok-found.ensures.answer p is under)
+
+pub returns-in_err-found-clause-told : goal.returns-in_err-found-clause-told
+returns-in_err-found-clause-told g c =
+    refused_as (IsTold (g.S.Shelf.holds c.entries_in.new.shelf) (g.S.Shelf.used c.entries_in.new.shelf) c.args.manifest.now) c.from_residual.result _ c.from_residual.ensures.1
+    (walk_told _ _ c.args.manifest.now Cells _ c.in_err-found.ensures.told)
+
+pub returns-clause-walked : goal.returns-clause-walked
+returns-clause-walked g c = walk_read (top_among c.args.manifest.now.tops) _ _ _ _ _ _ _ Cells _ (bindings_of c.in_ok-found.found.items) c.add_nodes.result c.entries_in.ensures.calls c.in_ok-found.ensures.gives
+    (subst (λ (all : List Item). OnOk c.add_nodes.result (HaveForm Cells (bindings_of all))) c.deref.ensures.value c.add_nodes.ensures.formed)
+
+pub returns-clause-told : goal.returns-clause-told
+returns-clause-told g c = read_told _ _ _ c.args.manifest.now _ _ Cells _ (bindings_of c.in_ok-found.found.items) c.add_nodes.result c.in_ok-found.ensures.gives
+    (subst (λ (all : List Item). IfErr c.add_nodes.result (AreMisread Cells (bindings_of all))) c.deref.ensures.value c.add_nodes.ensures.refused)

@@ -1,6 +1,6 @@
 use Rattle.std.proofs.Common.{List, sym, subst}
 use Rattle.tree_walk.specs.Ranges.{Range}
-use Rattle.tree_walk.proofs.shared.WalkedLaws.{walked_none, walked_then}
+use Rattle.tree_walk.proofs.shared.WalksGivenLaws.{given_none, given_then}
 use Rattle.osm_index.specs.Ranges.{AreCellRanges}
 use Rattle.ql_eval.specs.internal.Boxes.{IsCellsAsk, IsFoundIn}
 use Rattle.ql_eval.proofs.BoxLemmas.{box_needs, box_set, needs_box}
@@ -11,7 +11,7 @@ pub loop-keys-init : goal.loop-keys-init
 loop-keys-init g c = record {
   stays = λ x. ((λ has. has), (λ has. has));
   grows = λ x has. has;
-  walked = walked_none _ _ _ _;
+  walked = given_none _ _ _ _ _ _;
   answer = λ p is under. rw c.new-names.ensures.items (gone_none p c.deref-keys-items.result.now (IsFoundIn p.objects c.args.area.now) IsCellsAsk);
 }
 
@@ -25,7 +25,7 @@ pub loop-keys-preserved : goal.loop-keys-preserved
 loop-keys-preserved g c = record {
   stays = λ x. ((λ has. (c.loop-keys.invariant.stays x).0 ((c.add_range.ensures.stays x).0 has)), (λ has. (c.add_range.ensures.stays x).1 ((c.loop-keys.invariant.stays x).1 has)));
   grows = λ x has. c.add_range.ensures.grows x (c.loop-keys.invariant.grows x has);
-  walked = walked_then _ _ _ _ _ _ _ _ _ _ _ c.add_range.ensures.stays c.loop-keys.invariant.walked c.in_ok-add_range.ensures.walked;
+  walked = given_then _ _ _ _ _ _ _ _ _ _ _ _ _ c.add_range.ensures.stays c.loop-keys.invariant.walked c.in_ok-add_range.ensures.walked;
   answer = λ p is under.
       gone_next p c.deref-keys-items.result.now (IsFoundIn p.objects c.args.area.now) IsCellsAsk c.loop-keys.keys-index c.keys-item.result c.loop-keys-test.true c.keys-item.is
       c.add_range.ensures.grows (c.loop-keys.invariant.answer p is under) (c.in_ok-add_range.ensures.answer p is under);

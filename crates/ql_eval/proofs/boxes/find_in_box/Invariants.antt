@@ -1,7 +1,9 @@
 use Rattle.std.proofs.Common.{ℕ, List, []}
 use Rattle.tree_node.specs.Shelves.{SameNodes}
 use Rattle.tree_node.proofs.shared.OutcomeLaws.{uses}
-use Rattle.tree_walk.specs.Walked.{HasWalked}
+use Rattle.tree_walk.specs.WalksGiven.{HasGiven}
+use Rattle.osm_index.specs.Manifests.{top_among}
+use Rattle.ql_eval.specs.Forms.{HaveForm}
 use Rattle.osm_index.specs.Publications.{IsPublication, Publication}
 use Rattle.ql_eval.specs.Openings.{IsUnder}
 use Rattle.ql_eval.specs.internal.Boxes.{IsCellsAsk, IsFoundIn}
@@ -12,7 +14,7 @@ abbrev pub invariant-loop-keys : goal.invariant-loop-keys
 invariant-loop-keys g l = record {
   stays : SameNodes (g.S.Shelf.holds l.fn.shelf) (g.S.Shelf.holds l.shelf);
   grows : (bytes : List ℕ) → g.S.Shelf.used l.fn.shelf bytes → g.S.Shelf.used l.shelf bytes;
-  walked : HasWalked (uses (g.S.Shelf.holds l.shelf) (g.S.Shelf.used l.fn.shelf) (g.S.Shelf.used l.shelf)) l.fn.tally.calls l.tally.calls l.fn.tally.fetches l.tally.fetches;
+  walked : HasGiven (top_among l.manifest.tops) HaveForm (uses (g.S.Shelf.holds l.shelf) (g.S.Shelf.used l.fn.shelf) (g.S.Shelf.used l.shelf)) l.fn.tally.calls l.tally.calls l.fn.tally.fetches l.tally.fetches;
   answer : (p : Publication) → IsPublication p → IsUnder p l.manifest
       → HasGone p l.keys-items (IsFoundIn p.objects l.area) IsCellsAsk l.keys-index [] l.names.items (uses (g.S.Shelf.holds l.shelf) (g.S.Shelf.used l.fn.shelf) (g.S.Shelf.used l.shelf));
 }

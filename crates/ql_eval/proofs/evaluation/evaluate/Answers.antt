@@ -1,11 +1,15 @@
 use Rattle.std.proofs.Common.{List, inl, inr, refl, subst, sym}
-use Rattle.tree_node.proofs.shared.OutcomeLaws.{honest, outcome_then, outcome_then_stops}
+use Rattle.tree_node.proofs.shared.OutcomeLaws.{honest, outcome_stops, outcome_then, outcome_then_stops}
 use Rattle.ql_syntax.specs.LawfulQueries.{IsQuery}
 use Rattle.ql_syntax.specs.StatementViews.{statements_of}
 use Rattle.ql_syntax.specs.declared.statement.Stmt.{Stmt}
 use Rattle.ql_plain.specs.Meanings.{Means, nothing_named}
 use Rattle.ql_eval.specs.Asks.{AskedByAll}
+use Rattle.osm_index.specs.Manifests.{top_among}
+use Rattle.tree_walk.proofs.shared.WalksGivenLaws.{given_from, given_walked}
+use Rattle.ql_eval.specs.Forms.{HaveForm}
 use Rattle.ql_eval.specs.Questions.{NeededBy}
+use Rattle.ql_eval.proofs.Openings.{opening_cause}
 use Rattle.ql_eval.proofs.evaluation.evaluate.Goals as goal
 
 pub returns-in-Ok-clause-answer : goal.returns-in-Ok-clause-answer
@@ -30,3 +34,24 @@ returns-in-Ok-clause-served g c = λ p is root all.
 pub returns-in-Err-clause-served : goal.returns-in-Err-clause-served
 returns-in-Err-clause-served g c = λ p is root all.
     honest c.run_over.ensures.unlike all c.run_over.ensures.held (returns-in-Err-clause-answer g c p is root)
+
+pub returns-in-Ok-clause-walks : goal.returns-in-Ok-clause-walks
+returns-in-Ok-clause-walks g c = (
+  c.in_ok-manifest.manifest,
+  (c.run_over.ensures.stays _).1 c.in_ok-manifest.ensures.held.0,
+  c.in_ok-manifest.ensures.held.1,
+  given_from (top_among c.in_ok-manifest.manifest.tops) HaveForm _ _ _ _ _ _ _ _ _ c.in_ok-manifest.ensures.grown c.in-Ok.ensures.walked,
+)
+
+pub returns-in-Ok-clause-report : goal.returns-in-Ok-clause-report
+returns-in-Ok-clause-report g c = (
+  c.in_ok-manifest.manifest,
+  (c.run_over.ensures.stays _).1 c.in_ok-manifest.ensures.held.0,
+  c.in_ok-manifest.ensures.held.1,
+  given_walked (top_among c.in_ok-manifest.manifest.tops) HaveForm _ _ _ _ _ _ _
+      (given_from (top_among c.in_ok-manifest.manifest.tops) HaveForm _ _ _ _ _ _ _ _ _ c.in_ok-manifest.ensures.grown c.in-Ok.ensures.walked),
+)
+
+pub returns-in_err-manifest-clause-answer : goal.returns-in_err-manifest-clause-answer
+returns-in_err-manifest-clause-answer g c = λ p is root.
+    outcome_stops _ c.from_residual.ensures.1 (opening_cause c.in_err-manifest.field-0.0) (λ x needs. inl needs) (c.in_err-manifest.ensures.answer p root)

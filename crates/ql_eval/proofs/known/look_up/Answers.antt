@@ -6,7 +6,9 @@ use Rattle.osm_model.specs.Elements.{Element, ref_cmp}
 use Rattle.osm_model.specs.declared.reference.Ref.{Ref}
 use Rattle.tree_node.proofs.shared.OutcomeLaws.{outcome_as}
 use Rattle.ql_plain.proofs.References.{same_order}
-use Rattle.ql_eval.proofs.KnownLemmas.{added_known, keeps_known, known_again, known_now, known_there, remembers_later, remembers_one_more}
+use Rattle.ql_eval.proofs.KnownLemmas.{absent_later, absent_one_more, added_known, keeps_known, known_again, known_now, known_there, remembers_later, remembers_one_more}
+use Rattle.ql_eval.specs.internal.Told.{IsTold}
+use Rattle.ql_eval.proofs.StepLemmas.{refused_as}
 use Rattle.ql_eval.proofs.known.look_up.Goals as goal
 
 pub returns-then-contains_key-clause-known : goal.returns-then-contains_key-clause-known
@@ -53,3 +55,22 @@ returns-clause-answer g c = λ p is under known.
     outcome_as (λ x needs. needs) (λ so x needs. needs)
     (λ so. added_known c.args.objects.now c.insert.new.self c.args.name c.in_ok-object.object updated ∙ ap (λ (o : Option Element). Some o) so)
     (c.in_ok-object.ensures.answer p is under)
+
+pub returns-in_err-object-clause-absent : goal.returns-in_err-object-clause-absent
+returns-in_err-object-clause-absent g c = λ absent. absent_later _ _ c.args.manifest.now c.args.objects.now c.find_object.ensures.grows absent
+
+pub returns-in_err-insert-clause-absent : goal.returns-in_err-insert-clause-absent
+returns-in_err-insert-clause-absent g c = λ absent.
+    let updated = subst (λ (cmp : Ref → Ref → Ordering). OnOk c.insert.result (Updates cmp c.args.objects.now c.insert.new.self c.args.name (Some c.in_ok-object.object))) same_order c.insert.ensures.updates in
+    absent_one_more _ c.args.manifest.now c.args.objects.now c.insert.new.self c.args.name c.in_ok-object.object c.insert.result updated c.insert.ensures.err c.in_ok-object.ensures.absent
+    (absent_later _ _ c.args.manifest.now c.args.objects.now c.in_ok-object.ensures.grows absent)
+
+pub returns-clause-absent : goal.returns-clause-absent
+returns-clause-absent g c = λ absent.
+    let updated = subst (λ (cmp : Ref → Ref → Ordering). OnOk c.insert.result (Updates cmp c.args.objects.now c.insert.new.self c.args.name (Some c.in_ok-object.object))) same_order c.insert.ensures.updates in
+    absent_one_more _ c.args.manifest.now c.args.objects.now c.insert.new.self c.args.name c.in_ok-object.object c.insert.result updated c.insert.ensures.err c.in_ok-object.ensures.absent
+    (absent_later _ _ c.args.manifest.now c.args.objects.now c.in_ok-object.ensures.grows absent)
+
+pub returns-in_err-object-clause-told : goal.returns-in_err-object-clause-told
+returns-in_err-object-clause-told g c =
+    refused_as (IsTold (g.S.Shelf.holds c.find_object.new.shelf) (g.S.Shelf.used c.find_object.new.shelf) c.args.manifest.now) c.from_residual.result _ c.from_residual.ensures.1 c.in_err-object.ensures.told

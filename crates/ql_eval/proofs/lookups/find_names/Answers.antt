@@ -1,5 +1,5 @@
 use Rattle.std.proofs.Common.{List, ap, sym, subst, ◌∙◌}
-use Rattle.std.specs.Prelude.{IfErr, IfOk}
+use Rattle.std.specs.Prelude.{IfErr, IfOk, OnOk}
 use Rattle.tree_node.specs.NodeRefs.{bindings_of}
 use Rattle.tree_node.specs.declared.item.Item.{Item}
 use Rattle.tree_node.specs.declared.tree.Tree.{Tree}
@@ -9,11 +9,14 @@ use Rattle.tree_walk.specs.Ranges.{Range}
 use Rattle.tree_walk.specs.Walks.{IsEntryIn}
 use Rattle.ql_plain.specs.Meanings.{IsSetOf}
 use Rattle.ql_eval.specs.Questions.{Ask, Listed, NeedsAsk, range_asked}
-use Rattle.ql_eval.specs.Forms.{Names}
+use Rattle.ql_eval.specs.Forms.{HaveForm, Names}
 use Rattle.ql_eval.specs.internal.Entries.{AreMisread, IsSaid}
 use Rattle.ql_eval.specs.internal.Views.{question_of}
 use Rattle.ql_eval.proofs.EntryLemmas.{answered}
-use Rattle.ql_eval.proofs.StepLemmas.{then_read, walk_cause}
+use Rattle.osm_index.specs.Manifests.{top_among}
+use Rattle.ql_eval.specs.internal.Told.{IsTold}
+use Rattle.ql_eval.proofs.StepLemmas.{refused_as, then_read, walk_cause}
+use Rattle.ql_eval.proofs.WalkLemmas.{read_told, walk_read, walk_told}
 use Rattle.ql_eval.proofs.lookups.find_names.Goals as goal
 
 pub returns-in_err-found-clause-answer : goal.returns-in_err-found-clause-answer
@@ -41,3 +44,16 @@ returns-clause-answer g c = λ p is under clean.
     (subst (λ (t : Tree). IfErr c.names_in.result (AreMisread t (bindings_of c.in_ok-found.found.items))) c.tree_of-tree.ensures
     (subst (λ (all : List Item). IfErr c.names_in.result (AreMisread c.tree_of-tree.result (bindings_of all))) c.deref.ensures.value c.names_in.ensures.refused)))
     (c.in_ok-found.ensures.answer p is under)
+
+pub returns-in_err-found-clause-told : goal.returns-in_err-found-clause-told
+returns-in_err-found-clause-told g c =
+    refused_as (IsTold (g.S.Shelf.holds c.entries_in.new.shelf) (g.S.Shelf.used c.entries_in.new.shelf) c.args.manifest.now) c.from_residual-in_err-found.result _ c.from_residual-in_err-found.ensures.1
+    (walk_told _ _ c.args.manifest.now c.tree_of-tree.result _ c.in_err-found.ensures.told)
+
+pub returns-clause-walked : goal.returns-clause-walked
+returns-clause-walked g c = walk_read (top_among c.args.manifest.now.tops) _ _ _ _ _ _ _ c.tree_of-tree.result _ (bindings_of c.in_ok-found.found.items) c.names_in.result c.entries_in.ensures.calls c.in_ok-found.ensures.gives
+    (subst (λ (all : List Item). OnOk c.names_in.result (HaveForm c.tree_of-tree.result (bindings_of all))) c.deref.ensures.value c.names_in.ensures.formed)
+
+pub returns-clause-told : goal.returns-clause-told
+returns-clause-told g c = read_told _ _ _ c.args.manifest.now _ _ c.tree_of-tree.result _ (bindings_of c.in_ok-found.found.items) c.names_in.result c.in_ok-found.ensures.gives
+    (subst (λ (all : List Item). IfErr c.names_in.result (AreMisread c.tree_of-tree.result (bindings_of all))) c.deref.ensures.value c.names_in.ensures.refused)
