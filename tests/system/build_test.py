@@ -186,7 +186,8 @@ def check_failure(tally):
     with site() as here:
         outcome = here.call(RT_FAILS="right", RT_ROUNDS="9")
         done = here.done()
-        tally.check("a failure", outcome == Outcome(b"", b"error: right isn't proved\n", 70), outcome)
+        told = b"error: right isn't proved\nosm_mirror: rt ended with status 1 in crates/right\n"
+        tally.check("a failure", outcome == Outcome(b"", told, 70), outcome)
         tally.check("the others are stopped", "ends left" not in done and here.is_clean(), done)
         outcome = here.call(RT_ROUNDS="9")
         done = here.done()
