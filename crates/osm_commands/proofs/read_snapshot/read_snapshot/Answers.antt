@@ -26,5 +26,5 @@ pub returns-clause-trees : goal.returns-clause-trees
 returns-clause-trees g c =
     let known = g.R.Read.remaining c.args.input.now in
     let (p, held, objects, edition) = c.in_ok-build.ensures.made in
-    trees_held known c.args.edition _ p held
+    trees_held known c.args.edition c.in_ok-build.field-0 p held
     (made_in known c.in_ok-set.set c.args.edition p c.in_ok-set.ensures.read (record { published = held.is.published; same_objects = objects; same_edition = held.is.same_edition ∙ edition }))
