@@ -300,6 +300,47 @@ def check_devices(tally):
             check_each_call(tally, kind, code, others, (first, last), (one, whole))
 
 
+def check_editions(tally):
+    """A connection that ends badly is told in one line in either edition, and the next is served."""
+    request = b"GET /api/root HTTP/1.1\r\nConnection: close\r\n\r\n"
+    for edition in ("1", "2"):
+        root = root_of(b"F", edition.encode()).encode() + b"\n"
+        for kind, code in (("REFUSE_RECV", b"G1\n"), ("REFUSE_SEND", b"G2\n")):
+            with server(set_file(b"F"), "--edition", edition, "--connections", 2, refusing={kind: 1}) as running:
+                first, second = told(running, [request]), told(running, [request])
+                rest = running.ended()
+            holds = first == b"" and second.endswith(root) and rest == Outcome(b"", code, 0)
+            tally.check(f"edition {edition}, {kind}", holds, first, second, rest)
+
+
+def check_limits(tally):
+    """A request on each side of each limit: the bytes and the fields of a head, the digits of a length, and a body."""
+    line, end = b"GET /api/root HTTP/1.1\r\n", b"Connection: close\r\n\r\n"
+
+    def head_of(size):
+        return line + b"X: " + (size - len(line) - len(end) - 5) * b"x" + b"\r\n" + end
+
+    def posted(length, body):
+        return b"POST /api/interpreter HTTP/1.1\r\nConnection: close\r\nContent-Length: " + length + b"\r\n\r\n" + body
+
+    rows_of_limits = [
+        ("8,192 bytes of a head", head_of(8192), b"200", root_of(b"F", b"2").encode() + b"\n"),
+        ("8,193 bytes of a head", head_of(8193), b"431", b"head too large\n"),
+        ("64 fields", line + 63 * b"X: x\r\n" + end, b"200", root_of(b"F", b"2").encode() + b"\n"),
+        ("65 fields", line + 64 * b"X: x\r\n" + end, b"431", b"head too large\n"),
+        ("19 digits", posted(b"0000000000000000016", QUERY.encode()), b"200", ANSWER),
+        ("20 digits", posted(b"00000000000000000016", QUERY.encode()), b"400", b"bad length\n"),
+        ("19 digits of a great length", posted(19 * b"9", b""), b"413", b"too large\n"),
+        ("2^20 bytes of a body", posted(b"1048576", (QUERY + (1048576 - 16) * " ").encode()), b"400", b"Q9 byte 65536\n"),
+        ("2^20 + 1 bytes of a body", posted(b"1048577", b""), b"413", b"too large\n"),
+    ]
+    with server(set_file(b"F"), "--connections", len(rows_of_limits)) as running:
+        for name, given, status, body in rows_of_limits:
+            got = told(running, [given])
+            tally.check(name, got.startswith(b"HTTP/1.1 " + status + b" ") and got.endswith(b"\r\n\r\n" + body), got[:300])
+        tally.check("limits end", running.ended() == Outcome(b"", b"", 0))
+
+
 def check_each_call(tally, kind, code, others, requests, responses):
     """Calls of one kind, refused in turn in the first of two connections, until there is none of this number in it."""
     one, whole = responses
@@ -403,6 +444,8 @@ def main():
     check_opening(tally)
     check_accepting(tally)
     check_devices(tally)
+    check_editions(tally)
+    check_limits(tally)
     with server(set_file(b"F")) as running:
         check_fetch(tally, f"http://127.0.0.1:{running.port}", b"F")
     check_nginx(tally)

@@ -4,3 +4,4 @@ pub mod ChangeLemmas
 pub mod FileLemmas
 pub mod ReadingLemmas
 pub mod TreeLemmas
+pub mod WholeFileLemmas

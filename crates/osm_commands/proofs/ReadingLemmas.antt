@@ -14,7 +14,8 @@ use Rattle.osm_index.specs.declared.apply_fault.ApplyFault.TheVariants as refusa
 use Rattle.osm_index.specs.declared.snapshot.Snapshot.{Snapshot}
 use Rattle.osm_desk.specs.Made.{IsMade, RefusesChanges}
 use Rattle.osm_commands.specs.ChangeFiles.{ExplainsChanges, ExplainsFound, GivesChanges, HasMade, HasMadeOf, HasPublished, HasTaken, HoldsNoChanges, IsMadeByAll, IsOutsideOrRefused, TakesFound, fault_of_apply, fault_of_command}
-use Rattle.osm_commands.proofs.ChangeLemmas.{left_in_force, still_held}
+use Rattle.osm_desk.proofs.shared.StillHeld.{still_held}
+use Rattle.osm_commands.proofs.ChangeLemmas.{left_in_force}
 use Rattle.osm_commands.specs.Drawers.{Found}
 use Rattle.osm_commands.specs.Faults.{fault_of_cause, fault_of_load}
 use Rattle.osm_commands.specs.declared.changes_fault.ChangesFault.{ChangesFault}

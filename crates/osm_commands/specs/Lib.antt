@@ -7,4 +7,5 @@ pub mod ListeningLines
 pub mod RootLines
 pub mod Statuses
 pub mod TreeRoots
+pub mod WholeFiles
 pub mod Written

@@ -1,7 +1,7 @@
 //! The command `check ROOT QUERYFILE ANSWERFILE PROOFFILE`.
 
 ghost use Rattle.std.specs.Prelude.{◌≡◌, ◌≢◌, ◌⊎◌, IfErr, IfOk, Ok, OnOk, true};
-ghost use Rattle.std.specs.Io.KnownBytes.{Appends, Keeps};
+ghost use Rattle.std.specs.Io.KnownBytes.{Appends, IsAtEnd, Keeps};
 ghost use Rattle.tree_node.specs.Outcomes.{Clash};
 ghost use Rattle.osm_index.specs.Publications.{IsNodeIn, IsPublication, Publication, root_of};
 ghost use Rattle.osm_prove.specs.Proved.{IsProved};
@@ -59,6 +59,10 @@ pub fn check<Q: Read, A: Read, P: Read, W: Outlet>(
     // Only a file of 2^32 bytes or more is told to have no end.
     ensures endless { IfThree (Q.remaining query.old) (A.remaining answer.old) (P.remaining proof.old)
         (λ query_bytes answer_bytes proof_bytes. IfErr result (ExplainsThree query_bytes answer_bytes proof_bytes)) }
+    // The answer is read only after the query, to its end,
+    ensures answer_later { (answer.new ≡ answer.old) ⊎ IsAtEnd (Q.remaining query.new) }
+    // and the proof after the answer.
+    ensures proof_later { (proof.new ≡ proof.old) ⊎ IsAtEnd (A.remaining answer.new) }
     // Nothing is written but where a device fails,
     ensures nothing { IfErr result (λ fault. fault ≢ CommandFault.Device
         → Keeps (W.contents output.old) (W.contents output.new)) }

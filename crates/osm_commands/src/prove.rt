@@ -1,9 +1,9 @@
 //! The command `prove FILE QUERYFILE ANSWERFILE PROOFFILE [--edition 1|2] [--sequence N]`.
 
-ghost use Rattle.std.specs.Prelude.{◌≡◌, ◌≢◌, IfErr, List, ℕ, OnOk, true};
+ghost use Rattle.std.specs.Prelude.{◌≡◌, ◌≢◌, ◌⊎◌, IfErr, IfSome, List, ℕ, OnOk, true};
 ghost use Rattle.std.specs.Io.KnownBytes.{Appends, Keeps};
 ghost use Rattle.osm_index.specs.Publications.{Publication};
-ghost use Rattle.osm_commands.specs.Ask.{IsAnswer};
+ghost use Rattle.osm_commands.specs.Ask.{HoldsTrees, IsAnswer};
 ghost use Rattle.osm_commands.specs.Files.{ExplainsFiles, IfBoth, IsBegunProof, IsOutsideFiles, IsProvedIn};
 ghost use Rattle.osm_commands.specs.TreeRoots.{publication_line};
 
@@ -53,6 +53,8 @@ pub fn prove<R: Read, Q: Read, A: Outlet, P: Outlet, W: Outlet>(
         → IfErr result (IsOutsideFiles answer.set edition)) }
     // Which fault it is.
     ensures refused { IfBoth (R.remaining input.old) (Q.remaining query.old) (λ file bytes. IfErr result (ExplainsFiles file (R.remaining input.new) edition bytes)) }
+    // The query is read only after the input, and where its trees are made.
+    ensures query_later { (query.new ≡ query.old) ⊎ IfSome (R.remaining input.old) (λ file. HoldsTrees file edition) }
     // Nothing is written but where a device fails,
     ensures nothing { IfErr result (λ fault. fault ≢ CommandFault.Device
         → Keeps (A.contents answer.old) (A.contents answer.new)

@@ -1,10 +1,11 @@
 //! The set that an input holds, with its trees.
 
-ghost use Rattle.std.specs.Prelude.{◌≡◌, IfErr, IfOk, IfSome, List};
+ghost use Rattle.std.specs.Prelude.{◌≡◌, IfErr, IfOk, IfSome, List, OnOk};
 ghost use Rattle.osm_model.specs.Elements.{Element};
 ghost use Rattle.opl_codec.specs.Files.{HoldsSet};
 ghost use Rattle.osm_index.specs.Publications.{Publication};
 ghost use Rattle.osm_index.specs.Snapshots.{HoldsPublication};
+ghost use Rattle.osm_commands.specs.Ask.{HoldsTrees};
 ghost use Rattle.osm_commands.specs.TreeRoots.{ExplainsTrees, IsOutsideOrTrees, IsPublicationIn};
 
 use crate::command_fault::CommandFault;
@@ -26,6 +27,8 @@ pub fn read_snapshot<R: Read>(
     // It holds a publication, which is one of the set that the file holds.
     ensures made { IfOk result (λ snapshot. (p : Publication) × HoldsPublication snapshot p
         × IfSome (R.remaining input.old) (λ file. IsPublicationIn file edition p)) }
+    // So the file holds a set whose trees can be made.
+    ensures trees { OnOk result (IfSome (R.remaining input.old) (λ file. HoldsTrees file edition)) }
     // What holds a set is made, unless memory or a device fails, or its trees can't be made.
     ensures only { IfSome (R.remaining input.old) (λ file. (set : List Element) → HoldsSet file set
         → IfErr result (IsOutsideOrTrees set edition)) }

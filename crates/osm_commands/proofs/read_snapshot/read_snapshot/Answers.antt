@@ -1,4 +1,5 @@
 use Rattle.std.proofs.Common.{Err, ap, ◌∙◌}
+use Rattle.osm_commands.proofs.AskLemmas.{trees_held}
 use Rattle.osm_commands.proofs.TreeLemmas.{explained_unheld, made_in, outside_unheld, outside_unmade}
 use Rattle.osm_commands.proofs.read_snapshot.read_snapshot.Goals as goal
 
@@ -20,3 +21,10 @@ pub returns-clause-made : goal.returns-clause-made
 returns-clause-made g c =
     let (p, held, objects, edition) = c.in_ok-build.ensures.made in
     (p, held, made_in (g.R.Read.remaining c.args.input.now) c.in_ok-set.set c.args.edition p c.in_ok-set.ensures.read (record { published = held.is.published; same_objects = objects; same_edition = held.is.same_edition ∙ edition }))
+
+pub returns-clause-trees : goal.returns-clause-trees
+returns-clause-trees g c =
+    let known = g.R.Read.remaining c.args.input.now in
+    let (p, held, objects, edition) = c.in_ok-build.ensures.made in
+    trees_held known c.args.edition c.in_ok-build.field-0 p held
+    (made_in known c.in_ok-set.set c.args.edition p c.in_ok-set.ensures.read (record { published = held.is.published; same_objects = objects; same_edition = held.is.same_edition ∙ edition }))

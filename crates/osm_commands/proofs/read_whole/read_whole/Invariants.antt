@@ -1,12 +1,16 @@
-use Rattle.std.proofs.Common.{◌≤◌, ◌^◌, ◌-◌, length}
-use Rattle.std.specs.Io.KnownBytes.{Consumes}
+-- The bytes are the pieces that were read so far, one a round.
+use Rattle.std.proofs.Common.{◌≡◌, ◌≤◌, ◌-◌, List, ℕ, length}
+use Rattle.std.specs.List.{concat}
+use Rattle.osm_commands.specs.WholeFiles.{AreRead}
+use Rattle.osm_commands.specs.declared.read_whole.TheConstants.{READ_LIMIT}
 use Rattle.osm_commands.proofs.read_whole.read_whole.Given as goal
 
-abbrev pub invariant-loop-more : goal.invariant-loop-more
-invariant-loop-more g l = record {
-  read : Consumes (g.R.Read.remaining l.initial.reader) (g.R.Read.remaining l.reader) l.bytes.items;
-  counted : l.pieces.reads ≤ length l.bytes.items;
+abbrev pub invariant-loop-reads : goal.invariant-loop-reads
+invariant-loop-reads g l = record {
+  few : l.reads ≤ READ_LIMIT;
+  read : (pieces : List (List ℕ)) × AreRead (g.R.Read.remaining l.initial.reader) (g.R.Read.remaining l.reader) pieces
+      × (length pieces ≡ l.reads) × (l.bytes.items ≡ concat pieces);
 }
 
-abbrev pub decreases-loop-more : goal.decreases-loop-more
-decreases-loop-more g l = 2 ^ 32 - l.pieces.reads
+abbrev pub decreases-loop-reads : goal.decreases-loop-reads
+decreases-loop-reads g l = READ_LIMIT - l.reads
