@@ -60,7 +60,9 @@ impl<'a> OutputFile<'a> {
     }
 
     /// The same outcome; a failure is kept.
-    fn noted<T>(&mut self, outcome: io::Result<T>) -> io::Result<T> {
+    fn noted<T>(&mut self, outcome: io::Result<T>) -> io::Result<T>
+        ensures { result ≡ outcome }
+    {
         if let Err(error) = &outcome {
             self.error = error.raw_os_error();
         }
