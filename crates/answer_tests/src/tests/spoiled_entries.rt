@@ -7,13 +7,12 @@ mod unread_lines;
 
 use osm_check::check;
 use osm_index::{Edition, Manifest, write_manifest};
-use osm_prove::write_proof;
 use ql_eval::evaluate;
 use ql_syntax::parse;
 use std::alloc::Global;
 use std::process::Abort;
 use std::test::Fail;
-use tree_node::{Digest, Shelf, Stock};
+use tree_node::{Digest, Part, Shelf, Stock};
 
 /// The key and the value of an entry.
 type Entry = (&'static [u8], &'static [u8]);
@@ -86,9 +85,20 @@ fn told(alloc: Global, text: &str, tops: [Vec<u8>; 4]) -> Result<(String, String
         Ok(_) => format!(in alloc; "answered")?,
         Err(fault) => format!(in alloc; "{fault}")?,
     };
-    let proof = write_proof(alloc, &shelf.parts()?)?;
+    let proof = proof_of(alloc, &shelf.parts()?)?;
     let verdict = check(alloc, text.as_bytes(), &root, &answer, &proof)?;
     Ok((fault, format!(in alloc; "{verdict}")?))
+}
+
+/// The proof that lists these nodes.
+fn proof_of(alloc: Global, parts: &[Part<'_>]) -> Result<Vec<u8>, Fail> {
+    let mut proof = b"OSMP\x01".to_vec(alloc)?;
+    proof.extend_from_slice(&u32::try_from(parts.len())?.to_be_bytes())?;
+    for part in parts {
+        proof.extend_from_slice(&u32::try_from(part.bytes().len())?.to_be_bytes())?;
+        proof.extend_from_slice(part.bytes())?;
+    }
+    Ok(proof)
 }
 
 /// Whether these are the fault and the verdict on a query over trees of these entries.

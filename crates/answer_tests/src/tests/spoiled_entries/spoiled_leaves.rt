@@ -1,6 +1,6 @@
 //! Trees whose tops are no nodes, or nodes of another tree: refused (E1) at each tree that is asked.
 
-use super::{NODE, leaves, told};
+use super::{NODE, leaf, leaves, told};
 use std::test::Fail;
 
 /// Queries, and the number of the tree whose top they walk, from 0.
@@ -34,7 +34,7 @@ fn tops_are_of_another_tree(rt: HostRuntime) -> Result<(), Fail> {
     let alloc = rt.alloc();
     for (query, tree) in QUERIES {
         let mut tops = leaves(alloc, [&[NODE], &[], &[], &[]])?;
-        tops[tree][0] = tops[tree][0] % 4 + 1;
+        tops[tree] = leaf(alloc, u8::try_from((tree % 4 + 1) % 4 + 1)?, &[])?;
         let (fault, verdict) = told(alloc, query, tops)?;
         assert_eq!(rt; fault.as_str(), "E1", "{query}");
         assert_eq!(rt; verdict.as_str(), "no C6", "{query}");
