@@ -5,7 +5,6 @@ mod evaluations;
 mod plain_answers;
 mod proofs;
 mod query_rows;
-mod spoiled_entries;
 mod texts_of_sets;
 mod verdicts;
 
