@@ -48,8 +48,8 @@ fn words_of(
     match fault {
         CommandFault::Opl(load) => {
             let code = format!(in alloc; "{}", load.fault.cause)?;
-            let hint = match (load.line, load.fault.byte) {
-                (1, 0) => file_hint(subject.front),
+            let hint = match load.line {
+                1 => file_hint(subject.front),
                 _ => None,
             };
             meaning(rt, &code, hint)
