@@ -10,7 +10,7 @@ use crate::outlet::Outlet;
 use crate::read_snapshot::read_snapshot;
 use crate::write_whole::write_whole;
 use osm_check::{Verdict, check};
-use osm_index::Edition;
+use osm_index::{BuildProgress, Edition};
 use osm_prove::prove;
 use std::alloc::Global;
 use std::io::Read;
@@ -30,10 +30,11 @@ use std::io::Read;
 /// left where it stood.
 ///
 /// Clauses that speak of the input's bytes do so where the reader tells them.
-pub fn ask<R: Read, W: Outlet>(
+pub fn ask<R: Read, B: BuildProgress, W: Outlet>(
     alloc: Global,
     query: &[u8],
     input: &mut R,
+    progress: &mut B,
     output: &mut W,
 ) -> Result<(), CommandFault>
     // The output has gained exactly the answer.
@@ -53,7 +54,8 @@ pub fn ask<R: Read, W: Outlet>(
     ensures begun { IfSome (R.remaining input.old) (λ file.
         IsBegun file query.now (W.contents output.old) (W.contents output.new)) }
 {
-    let snapshot = read_snapshot(alloc, input, Edition::Two { sequence: 0 })?;
+    let edition = Edition::Two { sequence: 0 };
+    let snapshot = read_snapshot(alloc, input, edition, progress)?;
     let proved = prove(alloc, &snapshot, query)?;
     match check(alloc, query, &proved.root, &proved.answer, &proved.proof)? {
         Verdict::Yes(_) => write_whole(output, &proved.answer),

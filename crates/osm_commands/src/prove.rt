@@ -13,7 +13,7 @@ use crate::read_snapshot::read_snapshot;
 use crate::read_whole::read_whole;
 use crate::root_line::root_line;
 use crate::write_whole::write_whole;
-use osm_index::Edition;
+use osm_index::{BuildProgress, Edition};
 use std::alloc::Global;
 use std::io::Read;
 
@@ -31,11 +31,12 @@ use std::io::Read;
 /// failed the texts before it and a beginning of its own. The readers are left where they stood.
 ///
 /// Clauses that speak of the readers' bytes do so where they tell them.
-pub fn prove<R: Read, Q: Read, A: Outlet, P: Outlet, W: Outlet>(
+pub fn prove<R: Read, Q: Read, B: BuildProgress, A: Outlet, P: Outlet, W: Outlet>(
     alloc: Global,
     input: &mut R,
     query: &mut Q,
     edition: Edition,
+    progress: &mut B,
     answer: &mut A,
     proof: &mut P,
     output: &mut W,
@@ -66,7 +67,7 @@ pub fn prove<R: Read, Q: Read, A: Outlet, P: Outlet, W: Outlet>(
         (record { before = P.contents proof.old; after = P.contents proof.new })
         (record { before = W.contents output.old; after = W.contents output.new })) }
 {
-    let snapshot = read_snapshot(alloc, input, edition)?;
+    let snapshot = read_snapshot(alloc, input, edition, progress)?;
     let query = read_whole(alloc, query)?;
     let proved = osm_prove::prove(alloc, &snapshot, &query)?;
     let line = root_line(alloc, &proved.root)?;

@@ -12,7 +12,7 @@ use crate::outlet::Outlet;
 use crate::read_snapshot::read_snapshot;
 use crate::root_line::root_line;
 use crate::write_whole::write_whole;
-use osm_index::Edition;
+use osm_index::{BuildProgress, Edition};
 use std::alloc::Global;
 use std::io::Read;
 
@@ -28,10 +28,11 @@ use std::io::Read;
 /// left where it stood.
 ///
 /// Clauses that speak of the input's bytes do so where the reader tells them.
-pub fn publish<R: Read, W: Outlet>(
+pub fn publish<R: Read, B: BuildProgress, W: Outlet>(
     alloc: Global,
     input: &mut R,
     edition: Edition,
+    progress: &mut B,
     output: &mut W,
 ) -> Result<(), CommandFault>
     // The output has gained exactly the line of the root of a publication of the set that the file holds.
@@ -51,7 +52,7 @@ pub fn publish<R: Read, W: Outlet>(
     ensures begun { IfSome (R.remaining input.old) (λ file.
         IsBegunTreeRoot file edition (W.contents output.old) (W.contents output.new)) }
 {
-    let snapshot = read_snapshot(alloc, input, edition)?;
+    let snapshot = read_snapshot(alloc, input, edition, progress)?;
     let line = root_line(alloc, snapshot.root())?;
     write_whole(output, line.as_bytes())
 }

@@ -6,6 +6,7 @@
 #![tactic(auto)]
 
 mod apply_fault;
+mod build_progress;
 mod cells;
 mod changed_names;
 mod changed_trees;
@@ -30,6 +31,7 @@ mod snapshot;
 mod sort;
 
 pub use apply_fault::ApplyFault;
+pub use build_progress::{BuildProgress, Unwatched};
 pub use cells::cell_ranges;
 pub use delta::Delta;
 pub use entry_list::EntryList;

@@ -19,6 +19,7 @@ ghost use Rattle.osm_index.specs.internal.Plans.{PlansChanges, RefusesPlan};
 ghost use Rattle.osm_index.specs.internal.Putting.{AreAllFour, EndsTree, EndsTrees};
 
 use crate::apply_fault::ApplyFault;
+use crate::build_progress::{BuildProgress, Unwatched};
 use crate::changed_trees::change_trees;
 use crate::delta::Delta;
 use crate::entry_count::entry_count;
@@ -64,8 +65,23 @@ impl Snapshot {
         // and two nodes of a publication clash where it says so.
         ensures clash { result ≡ Err IndexFault.Clash → (p : Publication) × IsPublicationOf set edition p × Clash (IsNodeIn p) (IsNodeIn p) }
     {
+        Snapshot::build_watched(alloc, set, edition, &mut Unwatched)
+    }
+
+    /// The same, and tells somebody which tree is begun.
+    pub fn build_watched<B: BuildProgress>(
+        alloc: Global,
+        set: ObjectSet,
+        edition: Edition,
+        progress: &mut B,
+    ) -> Result<Snapshot, IndexFault>
+        // As `build`.
+        ensures made { IfOk result (λ snapshot. (p : Publication) × HoldsPublication snapshot p × (p.objects ≡ set) × (snapshot.edition ≡ edition)) }
+        ensures too_many { result ≡ Err IndexFault.TooMany → HasTooMany set }
+        ensures clash { result ≡ Err IndexFault.Clash → (p : Publication) × IsPublicationOf set edition p × Clash (IsNodeIn p) (IsNodeIn p) }
+    {
         let mut stock = Stock::new(alloc);
-        let Some(tops) = put_trees(alloc, &set, edition, &mut stock)? else {
+        let Some(tops) = put_trees(alloc, &set, edition, &mut stock, progress)? else {
             return Err(IndexFault::Clash);
         };
         let manifest = Manifest { edition, tops };
@@ -219,20 +235,26 @@ fn edition_after(edition: Edition) -> Result<Edition, ApplyFault>
 
 /// Puts the nodes of the four trees into a stock without nodes, and gives the digests of their tops;
 /// none where two nodes clash. All trees are counted before a clash is told.
-fn put_trees(
+fn put_trees<B: BuildProgress>(
     alloc: Global,
     set: &ObjectSet,
     edition: Edition,
     stock: &mut Stock,
+    progress: &mut B,
 ) -> Result<Option<[Digest; 4]>, IndexFault>
     requires set { IsObjectSet set.now }
     requires empty { IsEmptySet (HasNode stock.old) }
     ensures { EndsTrees set.now edition (HasNode stock.new) result }
 {
     let shape = shape_of(edition);
+    let count = set.as_slice().len();
+    progress.begin(Tree::Objects, count);
     let objects = put_tree(alloc, set, Tree::Objects, shape, stock)?;
+    progress.begin(Tree::Tags, count);
     let tags = put_tree(alloc, set, Tree::Tags, shape, stock)?;
+    progress.begin(Tree::Cells, count);
     let cells = put_tree(alloc, set, Tree::Cells, shape, stock)?;
+    progress.begin(Tree::Backs, count);
     let backs = put_tree(alloc, set, Tree::Backs, shape, stock)?;
     Ok(all_four(objects, tags, cells, backs))
 }

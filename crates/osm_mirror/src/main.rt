@@ -4,6 +4,7 @@
 //! files and its socket, tells of a fault and ends with the status.
 #![tactic(auto)]
 
+mod building;
 mod folder_drawer;
 mod in_words;
 mod input_file;
@@ -11,6 +12,7 @@ mod output_file;
 mod progress;
 mod watched;
 
+use crate::building::Building;
 use crate::folder_drawer::FolderDrawer;
 use crate::in_words::{Subject, Trouble, tell_in_words};
 use crate::input_file::InputFile;
@@ -99,8 +101,16 @@ fn ask_input(rt: &HostRuntime, query: &str) -> Status {
         let _ = writeln!(rt.stderr(), "waiting for OPL on standard input");
     }
     let mut input = Watched::new(rt.stdin(), Progress::of_stream(rt));
-    let outcome = ask(rt.alloc(), query.as_bytes(), &mut input, &mut rt.stdout());
+    let mut building = Building::new(rt);
+    let outcome = ask(
+        rt.alloc(),
+        query.as_bytes(),
+        &mut input,
+        &mut building,
+        &mut rt.stdout(),
+    );
     input.clear();
+    building.clear();
     let troubles = &[Trouble {
         name: "standard input",
         error: input.error(),
@@ -119,8 +129,16 @@ fn ask_input(rt: &HostRuntime, query: &str) -> Status {
 /// Tells the root of the set of this file.
 fn publish_file(rt: &HostRuntime, file: &str, edition: Edition) -> Status {
     let mut input = watched_file(rt, file);
-    let outcome = publish(rt.alloc(), &mut input, edition, &mut rt.stdout());
+    let mut building = Building::new(rt);
+    let outcome = publish(
+        rt.alloc(),
+        &mut input,
+        edition,
+        &mut building,
+        &mut rt.stdout(),
+    );
     input.clear();
+    building.clear();
     let troubles = &[Trouble {
         name: file,
         error: input.error(),
@@ -149,16 +167,19 @@ fn prove_files(
     let mut query = quiet_file(rt, query_file);
     let mut answer = OutputFile::new(rt, answer_file);
     let mut proof = OutputFile::new(rt, proof_file);
+    let mut building = Building::new(rt);
     let outcome = prove(
         rt.alloc(),
         &mut input,
         &mut query,
         edition,
+        &mut building,
         &mut answer,
         &mut proof,
         &mut rt.stdout(),
     );
     input.clear();
+    building.clear();
     let text = text_of_query(rt, query_file, &outcome);
     let troubles = &[
         Trouble {
@@ -240,8 +261,10 @@ fn serve_file(
     drawer: FolderDrawer<'_>,
 ) -> Status {
     let mut input = watched_file(rt, file);
-    let read = read_snapshot(rt.alloc(), &mut input, edition);
+    let mut building = Building::new(rt);
+    let read = read_snapshot(rt.alloc(), &mut input, edition, &mut building);
     input.clear();
+    building.clear();
     let outcome = match read {
         Ok(snapshot) => serve_snapshot(rt, snapshot, port, connections, drawer),
         Err(fault) => Err(fault),

@@ -10,7 +10,7 @@ use osm_commands::drawer::Drawer;
 use osm_commands::read_snapshot::read_snapshot;
 use osm_commands::serve_changing::serve_changing;
 use osm_desk::Desk;
-use osm_index::Edition;
+use osm_index::{Edition, Unwatched};
 use std::alloc::{AllocError, Global};
 use std::collections::VecDeque;
 use std::io::Cursor;
@@ -95,7 +95,12 @@ fn site_of(alloc: Global, says: &[Found], number: u32) -> Result<Site, AllocErro
 fn desk_at(alloc: Global, sequence: u64) -> Result<Desk, Fail>
     ensures { IfOk result (λ desk. desk.connections ≡ empty) }
 {
-    let snapshot = read_snapshot(alloc, &mut ALL_KINDS.as_bytes(), Edition::Two { sequence })?;
+    let snapshot = read_snapshot(
+        alloc,
+        &mut ALL_KINDS.as_bytes(),
+        Edition::Two { sequence },
+        &mut Unwatched,
+    )?;
     match snapshot.edition() {
         Edition::One => Err(Fail::new("the snapshot is of the second edition")),
         Edition::Two { sequence: _ } => Ok(Desk::new(alloc, snapshot)),
@@ -127,7 +132,12 @@ fn served(alloc: Global, says: &[Found], number: u32) -> Result<Site, Fail> {
 
 /// The response with the root of a set at a sequence, built from nothing.
 fn response_of(alloc: Global, set: &str, sequence: u64) -> Result<String, Fail> {
-    let snapshot = read_snapshot(alloc, &mut set.as_bytes(), Edition::Two { sequence })?;
+    let snapshot = read_snapshot(
+        alloc,
+        &mut set.as_bytes(),
+        Edition::Two { sequence },
+        &mut Unwatched,
+    )?;
     let root = hex::encode(alloc, snapshot.root().0)?;
     Ok(format!(in alloc;
         "HTTP/1.1 200 OK\r\nContent-Type: text/plain; charset=utf-8\r\nContent-Length: 65\r\nOsm-Root: {root}\r\nConnection: close\r\n\r\n{root}\n"

@@ -8,7 +8,7 @@ use osm_commands::command_fault::CommandFault;
 use osm_commands::prove::prove;
 use osm_commands::publish::publish;
 use osm_commands::status::Status;
-use osm_index::Edition;
+use osm_index::{Edition, Unwatched};
 use std::alloc::Global;
 use std::process::Abort;
 use std::test::Fail;
@@ -21,7 +21,13 @@ const ROOT: &str = "271e49a5432b1f23937721950d20e4003dfb01c994b9332797dac312f4e5
 /// Whether the root is told.
 fn is_published(rt: &impl Abort, alloc: Global) -> bool {
     let mut output = Vec::new(alloc);
-    let outcome = publish(alloc, &mut ALL_KINDS.as_bytes(), SEVENTH, &mut output);
+    let outcome = publish(
+        alloc,
+        &mut ALL_KINDS.as_bytes(),
+        SEVENTH,
+        &mut Unwatched,
+        &mut output,
+    );
     is_done(rt, outcome, &output, ROOT)
 }
 
@@ -54,6 +60,7 @@ fn write_proof(alloc: Global, out: &mut Written) -> Result<(), CommandFault> {
         &mut ALL_KINDS.as_bytes(),
         &mut FIRST.as_bytes(),
         SEVENTH,
+        &mut Unwatched,
         &mut out.answer,
         &mut out.proof,
         &mut out.line,

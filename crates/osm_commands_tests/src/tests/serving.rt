@@ -9,7 +9,7 @@ use osm_commands::listening_line::listening_line;
 use osm_commands::read_snapshot::read_snapshot;
 use osm_commands::serve::serve;
 use osm_commands::socket_door::SocketDoor;
-use osm_index::{Edition, Snapshot};
+use osm_index::{Edition, Snapshot, Unwatched};
 use std::alloc::{AllocError, Global};
 use std::collections::VecDeque;
 use std::io::{Cursor, Read, Write};
@@ -70,7 +70,12 @@ impl Door for Inputs {
 
 /// The snapshot of the set of all kinds in edition 1.
 fn snapshot(alloc: Global) -> Result<Snapshot, CommandFault> {
-    read_snapshot(alloc, &mut ALL_KINDS.as_bytes(), Edition::One)
+    read_snapshot(
+        alloc,
+        &mut ALL_KINDS.as_bytes(),
+        Edition::One,
+        &mut Unwatched,
+    )
 }
 
 /// So many responses to the request.
