@@ -9,7 +9,7 @@ ghost use Rattle.osm_desk.specs.declared.limits.TheConstants.{CONNECTION_LIMIT};
 
 use crate::desk::Desk;
 use crate::open_connection::OpenConnection;
-use osm_gate::{GateFault, give_up, serve_connection};
+use osm_gate::{GateFault, send_out_of_memory, serve_connection};
 use std::io::{Read, Write};
 
 impl Desk {
@@ -39,7 +39,7 @@ impl Desk {
         ensures forgotten { self.new ≡ self.old }
     {
         let Ok(()) = self.open(number) else {
-            return Err(give_up(writer));
+            return Err(send_out_of_memory(writer));
         };
         let mut connection = OpenConnection {
             desk: &mut *self,

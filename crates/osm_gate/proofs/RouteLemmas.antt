@@ -11,8 +11,8 @@ use Rattle.matchit.specs.Rows.{RowsOf}
 use Rattle.matchit.specs.Router.{RouteOf, Refused, nearest}
 use Rattle.matchit.specs.declared.error.InsertError.{InsertError}
 use Rattle.matchit.specs.declared.error.InsertError.TheVariants.{Conflict, OutOfMemory, InvalidParamSegment, InvalidParam, InvalidCatchAll}
-use Rattle.osm_gate.specs.Routes.{path_of, query_part, route_rows, place_of}
-use Rattle.osm_gate.specs.declared.place.Place.{Place}
+use Rattle.osm_gate.specs.Routes.{path_of, query_part, route_of, route_rows}
+use Rattle.osm_gate.specs.declared.route.Route.{Route}
 use Rattle.osm_gate.specs.declared.target.TheConstants.{QUESTION_MARK}
 
 abbrev is_mark : ℕ → Bool
@@ -43,24 +43,24 @@ path-none t e = sym (take_all (position_or_len is_mark t) t (mark-none t e))
 pub part-none : (t : List ℕ) → position is_mark t ≡ None → [] ≡ query_part t
 part-none t e = let past = mark-none t e in sym (drop_all (position_or_len is_mark t + 1) t (omega arith))
 
-pub place-none : (path : List ℕ) → ¬ (IsUtf8 path) → None ≡ place_of path
-unfolding place_of
-place-none path not = go (is_utf8 path) refl
+pub route-none : (path : List ℕ) → ¬ (IsUtf8 path) → None ≡ route_of path
+unfolding route_of
+route-none path not = go (is_utf8 path) refl
   where
     go : (c : Bool) → is_utf8 path ≡ c → None ≡ (if c then option_map (λ route. route.value) (first route_rows path) else None)
     go true hit = absurd (not (IsUtf8-from_is_utf8 path hit))
     go false miss = refl
 
-pub place-some : (path : List ℕ) → IsUtf8 path → option_map (λ route. route.value) (first route_rows path) ≡ place_of path
-unfolding place_of
-place-some path is = rw (is_utf8-from_IsUtf8 path is) refl
+pub route-some : (path : List ℕ) → IsUtf8 path → option_map (λ route. route.value) (first route_rows path) ≡ route_of path
+unfolding route_of
+route-some path is = rw (is_utf8-from_IsUtf8 path is) refl
 
-pub place-found : (rows : RowsOf (RouteOf Place)) (text path : List ℕ) → rows ≡ route_rows → text ≡ path → IsUtf8 path
-    → option_map (λ route. route.value) (first rows text) ≡ place_of path
-place-found rows text path same is utf8 = rw (same, is) (place-some path utf8)
+pub route-found : (rows : RowsOf (RouteOf Route)) (text path : List ℕ) → rows ≡ route_rows → text ≡ path → IsUtf8 path
+    → option_map (λ route. route.value) (first rows text) ≡ route_of path
+route-found rows text path same is utf8 = rw (same, is) (route-some path utf8)
 
 -- where no route conflicts, a route is refused for memory alone
-pub refused-memory : (p : List ℕ) (rows others : RowsOf (RouteOf Place)) (e : InsertError) → rows ≡ others → nearest p others ≡ None
+pub refused-memory : (p : List ℕ) (rows others : RowsOf (RouteOf Route)) (e : InsertError) → rows ≡ others → nearest p others ≡ None
     → Refused p rows e → e ≡ OutOfMemory
 refused-memory p rows others (Conflict with) same none (n, found, _) = let clash : Some n ≡ None = sym found ∙ ap (nearest p) same ∙ none in cc
 refused-memory p rows others OutOfMemory same none refused = refl

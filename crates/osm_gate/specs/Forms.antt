@@ -1,12 +1,14 @@
 -- The query that a request carries.
 -- Source: the Overpass API, which takes a query as the field `data` of a form; what a form is, is
 -- form_urlencoded's (the URL standard). That another body of a POST is the query itself is the API's too.
-use Rattle.std.specs.Prelude.{ℕ, Bool, true, false, List, [], ◌∷◌, take, Option, Some, None, if◌then◌else◌, codes}
+use Rattle.std.specs.Prelude.{ℕ, Bool, List, [], ◌∷◌, take, Option, Some, None, if◌then◌else◌, codes}
 use Rattle.std.specs.Str.{bytes_eq}
 use Rattle.std.specs.Str.Lossy.{utf8_lossy}
 use Rattle.form_urlencoded.specs.Form.{decode, raw_pairs}
 use Rattle.osm_gate.specs.Requests.{Asked}
 use Rattle.osm_gate.specs.Routes.{query_part}
+use Rattle.osm_gate.specs.declared.query_text.QuerySource.{QuerySource}
+use Rattle.osm_gate.specs.declared.query_text.QuerySource.TheVariants.{Body, Target}
 
 -- the text that the bytes of a name or of a value stand for
 abbrev pub form_text : List ℕ → List ℕ
@@ -24,6 +26,6 @@ abbrev pub is_form : List ℕ → Bool
 is_form body = bytes_eq (take 5 body) (codes "data=")
 
 -- of a POST, and of a GET
-abbrev pub query_of : Bool → Asked → Option (List ℕ)
-query_of true a = if is_form a.body then data_of a.body else Some a.body
-query_of false a = data_of (query_part a.target)
+abbrev pub query_of : QuerySource → Asked → Option (List ℕ)
+query_of Body a = if is_form a.body then data_of a.body else Some a.body
+query_of Target a = data_of (query_part a.target)

@@ -14,13 +14,17 @@ use Rattle.ql_syntax.specs.declared.fault.QlFault.{QlFault}
 use Rattle.osm_gate.specs.Forms.{query_of}
 use Rattle.osm_gate.specs.Requests.{Asked}
 use Rattle.osm_gate.specs.ResponseTexts.{Response}
-use Rattle.osm_gate.specs.Routes.{path_of, place_of}
+use Rattle.osm_gate.specs.Routes.{path_of, route_of}
+use Rattle.osm_gate.specs.declared.endpoint.Endpoint.{Endpoint}
+use Rattle.osm_gate.specs.declared.endpoint.Endpoint.TheVariants.{Answer, AnswerWithProof}
 use Rattle.osm_gate.specs.declared.method.Method.{Method}
 use Rattle.osm_gate.specs.declared.method.Method.TheVariants.{Get, Other, Post}
-use Rattle.osm_gate.specs.declared.place.Place.{Place}
-use Rattle.osm_gate.specs.declared.place.Place.TheVariants.{Checked, Interpreter, Root}
+use Rattle.osm_gate.specs.declared.query_text.QuerySource.TheVariants.{Body, Target}
 use Rattle.osm_gate.specs.declared.refusal.Refusal.{Refusal}
 use Rattle.osm_gate.specs.declared.refusal.Refusal.TheVariants.{BadHead, BadLength, HeadTooLarge, LengthRequired, TooLarge, TransferCoding}
+use Rattle.osm_gate.specs.declared.reply.Reply.{Reply}
+use Rattle.osm_gate.specs.declared.route.Route.{Route}
+use Rattle.osm_gate.specs.declared.route.Route.TheVariants.{Query, Root}
 
 -- ---- kinds of responses
 
@@ -46,15 +50,15 @@ found closes root is_binary body = record {
 
 -- ---- queries
 
--- what is told of a query: why it doesn't read, or a root, and the answer and the proof under it
-pub data Told : Type 0 where
-  not_read : QlFault → Told
-  answered : List ℕ → List ℕ → List ℕ → Told
+-- what comes of a query: why it doesn't read, or a root, and the answer and the proof under it
+pub data QueryOutcome : Type 0 where
+  not_read : QlFault → QueryOutcome
+  answered : List ℕ → List ℕ → List ℕ → QueryOutcome
 
 -- it is the query's fault, or the publication's root, the query's meaning over its set, and the one proof
-unfoldable pub Tells : Publication → List ℕ → Told → Type 0
-Tells p query (not_read fault) = HasFault query fault
-Tells p query (answered root answer proof) = (root ≡ root_of p) × IsProved p query answer proof
+unfoldable pub IsOutcomeOf : Publication → List ℕ → QueryOutcome → Type 0
+IsOutcomeOf p query (not_read fault) = HasFault query fault
+IsOutcomeOf p query (answered root answer proof) = (root ≡ root_of p) × IsProved p query answer proof
 
 -- the code of the cause, and the place: `Q7 byte 5`
 abbrev pub fault_text : QlFault → List ℕ
@@ -62,27 +66,33 @@ fault_text fault = code_text fault.cause ++ (codes " byte " ++ decimal fault.byt
 
 -- the answer alone, or what a client can check: the root, the length of the answer in eight bytes, the answer
 -- and the proof
-abbrev pub told_body : Bool → List ℕ → List ℕ → List ℕ → List ℕ
-told_body true root answer proof = root ++ (to_be_bytes w64 (length answer) ++ (answer ++ proof))
-told_body false root answer proof = answer
+abbrev pub answer_body : Endpoint → List ℕ → List ℕ → List ℕ → List ℕ
+answer_body AnswerWithProof root answer proof = root ++ (to_be_bytes w64 (length answer) ++ (answer ++ proof))
+answer_body Answer root answer proof = answer
 
-abbrev pub by_told : Bool → Bool → Told → Response
-by_told closes is_checked (not_read fault) = refusal closes 400 (fault_text fault)
-by_told closes is_checked (answered root answer proof) = found closes root is_checked (told_body is_checked root answer proof)
+-- what a client can check isn't text
+abbrev pub is_binary_at : Endpoint → Bool
+is_binary_at AnswerWithProof = true
+is_binary_at Answer = false
 
-abbrev pub ByQuery : Bool → Bool → Publication → Option (List ℕ) → Response → Type 0
-ByQuery closes is_checked p None r = r ≡ refusal closes 400 (codes "no data")
-ByQuery closes is_checked p (Some query) r = (told : Told) × Tells p query told × (r ≡ by_told closes is_checked told)
+abbrev pub by_outcome : Reply → QueryOutcome → Response
+by_outcome reply (not_read fault) = refusal reply.closes 400 (fault_text fault)
+by_outcome reply (answered root answer proof) =
+    found reply.closes root (is_binary_at reply.endpoint) (answer_body reply.endpoint root answer proof)
 
--- ---- methods and places
+abbrev pub ByQuery : Reply → Publication → Option (List ℕ) → Response → Type 0
+ByQuery reply p None r = r ≡ refusal reply.closes 400 (codes "no data")
+ByQuery reply p (Some query) r = (outcome : QueryOutcome) × IsOutcomeOf p query outcome × (r ≡ by_outcome reply outcome)
+
+-- ---- methods and routes
 
 abbrev pub method_of : List ℕ → Method
 method_of method = if bytes_eq method (codes "GET") then Get else (if bytes_eq method (codes "POST") then Post else Other)
 
-abbrev pub ByMethod : Bool → Bool → Publication → Asked → Method → Response → Type 0
-ByMethod closes is_checked p a Get r = ByQuery closes is_checked p (query_of false a) r
-ByMethod closes is_checked p a Post r = ByQuery closes is_checked p (query_of true a) r
-ByMethod closes is_checked p a Other r = r ≡ not_allowed closes (codes "GET, POST")
+abbrev pub ByMethod : Reply → Publication → Asked → Method → Response → Type 0
+ByMethod reply p a Get r = ByQuery reply p (query_of Target a) r
+ByMethod reply p a Post r = ByQuery reply p (query_of Body a) r
+ByMethod reply p a Other r = r ≡ not_allowed reply.closes (codes "GET, POST")
 
 -- the root in hexadecimal digits
 abbrev pub root_by_method : Bool → List ℕ → Method → Response
@@ -90,11 +100,10 @@ root_by_method closes root Get = found closes root false (encode_lower root ++ l
 root_by_method closes root Post = not_allowed closes (codes "GET")
 root_by_method closes root Other = not_allowed closes (codes "GET")
 
-abbrev pub ByPlace : Bool → Publication → Asked → Option Place → Response → Type 0
-ByPlace closes p a None r = r ≡ refusal closes 404 (codes "not found")
-ByPlace closes p a (Some Interpreter) r = ByMethod closes false p a (method_of a.method) r
-ByPlace closes p a (Some Checked) r = ByMethod closes true p a (method_of a.method) r
-ByPlace closes p a (Some Root) r = r ≡ root_by_method closes (root_of p) (method_of a.method)
+abbrev pub ByRoute : Bool → Publication → Asked → Option Route → Response → Type 0
+ByRoute closes p a None r = r ≡ refusal closes 404 (codes "not found")
+ByRoute closes p a (Some (Query endpoint)) r = ByMethod (record { endpoint = endpoint; closes = closes }) p a (method_of a.method) r
+ByRoute closes p a (Some Root) r = r ≡ root_by_method closes (root_of p) (method_of a.method)
 
 -- the connection ends after the response to this request
 abbrev pub ends : Asked → Bool
@@ -102,7 +111,7 @@ ends a = a.closes || bytes_eq a.method (codes "HEAD")
 
 -- the response to a complete request
 unfoldable pub IsResponse : Publication → Asked → Response → Type 0
-IsResponse p a r = ByPlace (ends a) p a (place_of (path_of a.target)) r
+IsResponse p a r = ByRoute (ends a) p a (route_of (path_of a.target)) r
 
 -- ---- requests that are refused as they stand
 

@@ -6,8 +6,9 @@ use Rattle.form_urlencoded.specs.Form.{split_once}
 use Rattle.matchit.specs.Router.{RouteOf}
 use Rattle.matchit.specs.Rows.{RowsOf}
 use Rattle.matchit.specs.Seek.{first}
-use Rattle.osm_gate.specs.declared.place.Place.{Place}
-use Rattle.osm_gate.specs.declared.place.Place.TheVariants.{Checked, Interpreter, Root}
+use Rattle.osm_gate.specs.declared.route.Route.{Route}
+use Rattle.osm_gate.specs.declared.endpoint.Endpoint.TheVariants.{Answer, AnswerWithProof}
+use Rattle.osm_gate.specs.declared.route.Route.TheVariants.{Query, Root}
 use Rattle.osm_gate.specs.declared.target.TheConstants.{QUESTION_MARK}
 
 -- a target's path and its query part, before and after the first `?`; the path isn't decoded
@@ -18,12 +19,14 @@ abbrev pub query_part : List ℕ → List ℕ
 query_part target = (split_once QUESTION_MARK target).1
 
 -- a route without parameters
-abbrev pub route : List ℕ → Place → List ℕ × RouteOf Place
-route text place = (text, record { pattern = text; text = text; names = []; value = place })
+abbrev pub plain_route : List ℕ → Route → List ℕ × RouteOf Route
+plain_route text leads = (text, record { pattern = text; text = text; names = []; value = leads })
 
 -- the routes, in the order in which the router keeps them
-abbrev pub route_rows : RowsOf (RouteOf Place)
-route_rows = route (codes "/api/checked") Checked ∷ route (codes "/api/interpreter") Interpreter ∷ route (codes "/api/root") Root ∷ []
+abbrev pub route_rows : RowsOf (RouteOf Route)
+route_rows =
+    plain_route (codes "/api/checked") (Query AnswerWithProof) ∷ plain_route (codes "/api/interpreter") (Query Answer)
+    ∷ plain_route (codes "/api/root") Root ∷ []
 
-unfoldable pub place_of : List ℕ → Option Place
-place_of path = if is_utf8 path then option_map (λ route. route.value) (first route_rows path) else None
+unfoldable pub route_of : List ℕ → Option Route
+route_of path = if is_utf8 path then option_map (λ route. route.value) (first route_rows path) else None

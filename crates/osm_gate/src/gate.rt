@@ -6,8 +6,8 @@ ghost use Rattle.osm_index.specs.Snapshots.{HoldsPublication};
 ghost use Rattle.osm_gate.specs.Connections.{Responds, Rest, heard_next, open_rest};
 ghost use Rattle.osm_gate.specs.internal.Kept.{IsKept};
 
-use crate::place::{Place, routes};
 use crate::requests::respond_to_all;
+use crate::route::{Route, routes};
 use matchit::{InsertError, Router};
 use osm_index::Snapshot;
 use std::alloc::{AllocError, Global};
@@ -22,7 +22,7 @@ use std::marker::Model;
 #[derive(Drop)]
 pub struct Gate {
     alloc: Global,
-    router: Router<Place>,
+    router: Router<Route>,
     rest: Vec<u8>,
     /// The rest is no complete request as long as it has fewer bytes; 0 where its head isn't complete.
     needed: usize,

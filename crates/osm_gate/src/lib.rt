@@ -6,6 +6,7 @@
 
 mod connection;
 mod decision;
+mod endpoint;
 mod fields;
 mod gate;
 mod gate_fault;
@@ -13,18 +14,20 @@ mod head;
 mod head_end;
 mod laws;
 mod limits;
-mod lone_connection;
 mod method;
-mod place;
+mod query_outcome;
+mod query_response;
 mod query_text;
 mod refusal;
+mod reply;
 mod request;
 mod requests;
 mod respond;
 mod response;
+mod route;
 mod serving;
+mod snapshot_connection;
 mod target;
-mod told;
 mod writing;
 
 pub use connection::Connection;
@@ -34,5 +37,5 @@ pub use laws::{
     head_is_the_grammars, limits_law, nothing_after_the_end, one_response, pieces_ask_the_same,
     responses_stand_in_order, rests_are_short,
 };
-pub use serving::{give_up, serve, serve_connection};
+pub use serving::{send_out_of_memory, serve, serve_connection};
 pub use writing::write_whole;

@@ -31,22 +31,30 @@ impl<'a> QueryText<'a> {
     }
 }
 
-/// The query of a POST, or else of a GET. None where there is no field `data`.
+/// Where a request has its query.
+#[derive(Clone, Copy)]
+pub(crate) enum QuerySource {
+    /// In the query part of its target, as a GET.
+    Target,
+    /// In its body, as a POST.
+    Body,
+}
+
+/// The query of a request. None where there is no field `data`.
 pub(crate) fn query_of<'a>(
     alloc: Global,
-    is_post: bool,
+    source: QuerySource,
     request: &Request<'a>,
 ) -> Result<Option<QueryText<'a>>, AllocError>
-    ensures { IfOk result (λ query. option_map text_of query ≡ query_of is_post (asked_of request.now)) }
+    ensures { IfOk result (λ query. option_map text_of query ≡ query_of source (asked_of request.now)) }
 {
-    if is_post && !is_form(request.body) {
-        return Ok(Some(QueryText::Body(request.body)));
-    }
-    let form = if is_post {
-        request.body
-    } else {
-        split_target(request.target).1
+    let form = match source {
+        QuerySource::Target => split_target(request.target).1,
+        QuerySource::Body => request.body,
     };
+    if matches!(source, QuerySource::Body) && !is_form(form) {
+        return Ok(Some(QueryText::Body(form)));
+    }
     match data_of(alloc, form)? {
         Some(text) => Ok(Some(QueryText::Form(text))),
         None => Ok(None),

@@ -13,8 +13,8 @@ ghost use Rattle.osm_gate.specs.declared.limits.TheConstants.{HEAD_LIMIT};
 
 use crate::decision::{Decision, first_request};
 use crate::head_end::without_breaks;
-use crate::place::Place;
 use crate::respond::{refuse, respond};
+use crate::route::Route;
 use matchit::Router;
 use osm_index::Snapshot;
 use std::alloc::{AllocError, Global};
@@ -42,7 +42,7 @@ pub(crate) enum Step {
 /// those without CR and LF before them, are known to hold no complete head.
 pub(crate) fn respond_to_all(
     alloc: Global,
-    router: &Router<Place>,
+    router: &Router<Route>,
     snapshot: &Snapshot,
     bytes: &[u8],
     scanned: usize,
@@ -77,7 +77,7 @@ pub(crate) fn respond_to_all(
 fn respond_to_first(
     alloc: Global,
     responses: &mut Vec<u8>,
-    router: &Router<Place>,
+    router: &Router<Route>,
     snapshot: &Snapshot,
     bytes: &[u8],
     scanned: usize,

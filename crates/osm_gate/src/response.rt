@@ -6,6 +6,7 @@ ghost use Rattle.std.specs.String.{string_bytes};
 ghost use Rattle.hex.specs.Hex.{encode_lower};
 ghost use Rattle.http.specs.StatusCode.{status_text};
 ghost use Rattle.osm_gate.specs.ResponseTexts.{close_if, content_type, field_if, field_line, head_text, line_end, response_text};
+ghost use Rattle.osm_gate.specs.Responses.{found, not_allowed, refusal};
 ghost use Rattle.osm_gate.specs.internal.Adding.{joined, parts_of, response_of};
 
 use http::StatusCode;
@@ -23,6 +24,66 @@ pub(crate) struct ResponseHead<'a> {
     pub(crate) allow: Option<&'a str>,
     /// The connection ends after this response.
     pub(crate) closes: bool,
+}
+
+/// Appends a response of status 200.
+pub(crate) fn write_ok(
+    alloc: Global,
+    output: &mut Vec<u8>,
+    closes: bool,
+    root: &Digest,
+    is_binary: bool,
+    body: &[&[u8]],
+) -> Result<(), AllocError>
+    ensures { OnOk result (output.new.items ≡ output.old.items ++ response_text (found closes root.now.0 is_binary (joined body.now))) }
+{
+    let head = ResponseHead {
+        status: StatusCode::OK,
+        is_binary,
+        root: Some(root),
+        allow: None,
+        closes,
+    };
+    write_response(alloc, output, &head, body)
+}
+
+/// Appends a refusal that says this.
+pub(crate) fn write_refusal(
+    alloc: Global,
+    output: &mut Vec<u8>,
+    closes: bool,
+    status: StatusCode,
+    text: &str,
+) -> Result<(), AllocError>
+    ensures { OnOk result (output.new.items ≡ output.old.items ++ response_text (refusal closes status text.now)) }
+{
+    let head = ResponseHead {
+        status,
+        is_binary: false,
+        root: None,
+        allow: None,
+        closes,
+    };
+    write_response(alloc, output, &head, &[text.as_bytes(), b"\n"])
+}
+
+/// Appends the refusal of a method, which names the methods that are allowed.
+pub(crate) fn write_not_allowed(
+    alloc: Global,
+    output: &mut Vec<u8>,
+    closes: bool,
+    methods: &str,
+) -> Result<(), AllocError>
+    ensures { OnOk result (output.new.items ≡ output.old.items ++ response_text (not_allowed closes methods.now)) }
+{
+    let head = ResponseHead {
+        status: StatusCode::METHOD_NOT_ALLOWED,
+        is_binary: false,
+        root: None,
+        allow: Some(methods),
+        closes,
+    };
+    write_response(alloc, output, &head, &[b"method not allowed\n"])
 }
 
 /// Appends a response whose body is made of these parts, each of which is copied once. Out of memory it leaves

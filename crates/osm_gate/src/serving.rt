@@ -12,7 +12,7 @@ use crate::connection::Connection;
 use crate::gate::Gate;
 use crate::gate_fault::GateFault;
 use crate::limits::{PIECE_LIMIT, READ_LIMIT};
-use crate::lone_connection::LoneConnection;
+use crate::snapshot_connection::SnapshotConnection;
 use crate::writing::write_whole;
 use osm_index::Snapshot;
 use std::alloc::Global;
@@ -43,9 +43,9 @@ pub fn serve<R: Read, W: Write>(
         → OnOk result (HasServed p (record { unread = R.remaining reader.old; left = R.remaining reader.new; before = W.contents writer.old; after = W.contents writer.new })) }
 {
     let Ok(gate) = Gate::new(alloc) else {
-        return Err(give_up(writer));
+        return Err(send_out_of_memory(writer));
     };
-    let mut connection = LoneConnection { gate, snapshot };
+    let mut connection = SnapshotConnection { gate, snapshot };
     serve_connection(&mut connection, reader, writer)
 }
 
@@ -80,7 +80,7 @@ pub fn serve_connection<C: Connection, R: Read, W: Write>(
             return Ok(());
         }
         let Ok(responses) = connection.feed(&piece[..n]) else {
-            return Err(give_up(writer));
+            return Err(send_out_of_memory(writer));
         };
         write_whole(writer, &responses)?;
         if connection.closed() {
@@ -93,7 +93,7 @@ pub fn serve_connection<C: Connection, R: Read, W: Write>(
 
 /// Tells the client that memory has run out. It takes none. The fault is `Memory`, or `Writer` where a write failed or
 /// took nothing.
-pub fn give_up<W: Write>(writer: &mut W) -> GateFault
+pub fn send_out_of_memory<W: Write>(writer: &mut W) -> GateFault
     // The fixed response is written, unless the writer fails,
     ensures whole { result ≡ GateFault.Memory → Appends (W.contents writer.old) (W.contents writer.new) no_memory }
     // and whatever happens, no more than a beginning of it.

@@ -6,7 +6,7 @@ use Rattle.osm_gate.specs.HeadEnds.{head_length, skip_breaks}
 use Rattle.osm_gate.specs.Requests.{first_request}
 use Rattle.osm_gate.specs.Routes.{route_rows}
 use Rattle.osm_gate.specs.declared.limits.TheConstants.{HEAD_LIMIT}
-use Rattle.osm_gate.specs.declared.place.Place.{Place}
+use Rattle.osm_gate.specs.declared.route.Route.{Route}
 
 -- the bytes begin with no complete request: their head isn't complete, or no request is with fewer bytes than needed
 pub record IsOpen (needed : ℕ) (bytes : List ℕ) : Type 0 where
@@ -16,7 +16,7 @@ pub record IsOpen (needed : ℕ) (bytes : List ℕ) : Type 0 where
   pub waits : (more : List ℕ) → length (bytes ++ more) < needed → first_request (bytes ++ more) ≡ None
 
 -- nothing once the gate is closed, and else bytes that begin with no complete request
-pub record IsKept (is_closed : Bool) (needed : ℕ) (bytes : List ℕ) (rows : RowsOf (RouteOf Place)) : Type 0 where
+pub record IsKept (is_closed : Bool) (needed : ℕ) (bytes : List ℕ) (rows : RowsOf (RouteOf Route)) : Type 0 where
   pub closed : is_closed ≡ true → bytes ≡ []
   pub is_open : IsOpen needed bytes
   pub routes : rows ≡ route_rows

@@ -45,9 +45,9 @@ returns-in_default-feed-clause-ended g c = λ p over.
     let small : length c.read.new.buf ≤ longest_piece = search rules in
     let more = read-more _ _ _ pieces piece are opened few (is_piece _ _ some within small) c.in-Ok.ensures.bytes.0 in
     let to_front = responds-before p pieces piece text to_all in
-    given_up p _ c.give_up.result c.give_up.ensures.kinds
-    (λ memory. (pieces ++ piece ∷ [], text, more, to_front, Appends-trans _ _ _ _ _ written (c.give_up.ensures.whole memory)))
-    (pieces ++ piece ∷ [], text, more, inr (to_front, more_front _ _ _ _ _ written c.give_up.ensures.begun))
+    given_up p _ c.send_out_of_memory.result c.send_out_of_memory.ensures.kinds
+    (λ memory. (pieces ++ piece ∷ [], text, more, to_front, Appends-trans _ _ _ _ _ written (c.send_out_of_memory.ensures.whole memory)))
+    (pieces ++ piece ∷ [], text, more, inr (to_front, more_front _ _ _ _ _ written c.send_out_of_memory.ensures.begun))
 
 pub returns-in_err-write_whole-clause-ended : goal.returns-in_err-write_whole-clause-ended
 returns-in_err-write_whole-clause-ended g c = λ p over.

@@ -7,12 +7,12 @@ use std::alloc::AllocError;
 
 /// A gate with the snapshot over which it responds.
 #[derive(Drop)]
-pub(crate) struct LoneConnection<'a> {
+pub(crate) struct SnapshotConnection<'a> {
     pub(crate) gate: Gate,
     pub(crate) snapshot: &'a Snapshot,
 }
 
-impl<'a> Connection for LoneConnection<'a> {
+impl<'a> Connection for SnapshotConnection<'a> {
     ghost use Rattle.std.specs.Prelude.{◌≡◌};
     ghost use Rattle.std.proofs.Common.{◌∙◌, refl, subst, sym};
     ghost use Rattle.osm_index.specs.Snapshots.{HoldsPublication};
