@@ -10,15 +10,11 @@ use Rattle.osm_model.specs.declared.kind.Kind.{Kind}
 use Rattle.osm_model.specs.declared.kind.Kind.TheVariants as kinds
 use Rattle.osm_model.specs.declared.member.Member.{Member}
 use Rattle.osm_model.specs.declared.reference.Ref.{Ref}
-use Rattle.ql_plain.proofs.shared.Adding.{adds_as, adds_nothing, adds_to_nothing}
-use Rattle.ql_plain.proofs.Mapped.{contains_mapped, from_mapped}
+use Rattle.ref_sets.proofs.shared.Adding.{adds_as, adds_nothing, adds_to_nothing}
+use Rattle.ref_sets.proofs.shared.Mapped.{contains_mapped, from_mapped}
 use Rattle.ql_plain.specs.declared.links.Link.{Link}
-use Rattle.ql_plain.specs.Adding.{Adds, From}
+use Rattle.ref_sets.specs.Adding.{Adds, From}
 use Rattle.ql_plain.specs.internal.Linked.{AreLinks, IsLinkOf, IsLinkToMember, IsThere}
-
-pub on_ok_as : {T E : Type 0} (r : Result T E) {P Q : Type 0} → (P → Q) → OnOk r P → OnOk r Q
-on_ok_as (Ok x) to p = to p
-on_ok_as (Err e) to p = p
 
 link_from : Ref → Ref → Link
 link_from parent child = record { parent = parent; child = child }
@@ -28,9 +24,6 @@ same_link link parent child p c =
     let by : Ref → Link = λ r. record { parent = r; child = link.child } in
     let to : Ref → Link = λ r. record { parent = parent; child = r } in
     ap by p ∙ ap to c
-
-pub same_node : (r : Ref) → r.kind ≡ kinds.Node → r ≡ record { kind = kinds.Node; id = r.id }
-same_node r is = let of : Kind → Ref = λ k. record { kind = k; id = r.id } in ap of is
 
 module _ (objects : List Element) (o : Element) (parent : Ref) (parent_is : parent ≡ reference o) where
   -- the members of a relation

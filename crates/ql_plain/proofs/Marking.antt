@@ -13,16 +13,16 @@ use Rattle.osm_model.specs.declared.body.Body.TheVariants as bodies
 use Rattle.osm_model.specs.declared.kind.Kind.{Kind}
 use Rattle.osm_model.specs.declared.kind.Kind.TheVariants as kinds
 use Rattle.osm_model.specs.declared.reference.Ref.{Ref}
-use Rattle.ql_plain.proofs.Linking.{same_node}
-use Rattle.ql_plain.proofs.Mapped.{contains_mapped, from_mapped}
-use Rattle.ql_plain.proofs.shared.Adding.{adds_as, adds_to_nothing, first_or_in_rest, here, in_rest, one_more}
-use Rattle.ql_plain.specs.Adding.{Adds, From}
-use Rattle.ql_plain.specs.Meanings.{IsSetOf}
-use Rattle.ql_plain.specs.Values.{IsOfKind}
+use Rattle.ref_sets.proofs.shared.References.{same_node}
+use Rattle.ref_sets.proofs.shared.Mapped.{contains_mapped, from_mapped}
+use Rattle.ref_sets.proofs.shared.Adding.{adds_as, adds_to_nothing, first_or_in_rest, here, in_rest, one_more}
+use Rattle.ref_sets.specs.Adding.{Adds, From}
+use Rattle.ref_sets.specs.Sets.{IsSetOf}
+use Rattle.ql_meaning.specs.Values.{IsOfKind}
 use Rattle.ql_plain.specs.declared.node_id.NodeId.{NodeId}
 use Rattle.ql_plain.specs.internal.Linked.{IsListedBy, IsThere, IsThereAs}
 use Rattle.ql_plain.specs.internal.Marks.{AreAllListable, IsNamedIn, marked}
-use Rattle.ql_plain.specs.internal.Seeking.{IsAt}
+use Rattle.ref_sets.specs.internal.Seeking.{IsAt}
 
 -- the reference of the node with an id
 abbrev pub id_name : NodeId → Ref

@@ -5,11 +5,11 @@ use Rattle.osm_model.specs.Elements.{Element, reference}
 use Rattle.osm_model.specs.Sets.{IsObjectSet}
 use Rattle.osm_model.specs.declared.kind.Kind.TheVariants as kinds
 use Rattle.osm_model.specs.declared.reference.Ref.{Ref}
-use Rattle.ql_plain.proofs.Keeping.{set_as}
+use Rattle.ref_sets.proofs.shared.Keeping.{set_as}
 use Rattle.ql_plain.proofs.Selecting.{one_object}
-use Rattle.ql_plain.specs.Meanings.{IsSetOf}
-use Rattle.ql_plain.specs.Values.{IsAbove, IsBelow, IsDown, IsRefOf, IsUp}
-use Rattle.ql_plain.specs.Adding.{Adds, From}
+use Rattle.ref_sets.specs.Sets.{IsSetOf}
+use Rattle.ql_meaning.specs.Values.{IsAbove, IsBelow, IsDown, IsRefOf, IsUp}
+use Rattle.ref_sets.specs.Adding.{Adds, From}
 use Rattle.ql_plain.specs.internal.Linked.{IsNoRelation}
 
 -- the three parts of what is collected

@@ -9,15 +9,15 @@ use Rattle.osm_model.specs.declared.body.Body.TheVariants as bodies
 use Rattle.osm_model.specs.declared.kind.Kind.{Kind}
 use Rattle.osm_model.specs.declared.kind.Kind.TheVariants as kinds
 use Rattle.osm_model.specs.declared.reference.Ref.{Ref}
-use Rattle.ql_plain.proofs.shared.Adding.{adds_to_nothing}
-use Rattle.ql_plain.proofs.Keeping.{set_as}
+use Rattle.ref_sets.proofs.shared.Adding.{adds_to_nothing}
+use Rattle.ref_sets.proofs.shared.Keeping.{set_as}
 use Rattle.ql_plain.proofs.Selecting.{one_object}
-use Rattle.ql_plain.specs.Meanings.{IsSetOf}
-use Rattle.ql_plain.specs.Values.{IsAbove, IsBelow, IsChain, IsOfKind, IsParent, IsReached, IsRefOf, Link as Last, Longer}
+use Rattle.ref_sets.specs.Sets.{IsSetOf}
+use Rattle.ql_meaning.specs.Values.{IsAbove, IsBelow, IsChain, IsOfKind, IsParent, IsReached, IsRefOf, Link as Last, Longer}
 use Rattle.ql_syntax.specs.declared.recursion.Recursion.TheVariants as recursions
 use Rattle.ql_plain.specs.declared.links.Link.{Link}
 use Rattle.ql_plain.specs.declared.step.Step.{Step}
-use Rattle.ql_plain.specs.Adding.{Adds, From}
+use Rattle.ref_sets.specs.Adding.{Adds, From}
 use Rattle.ql_plain.specs.Founds.{IsClosure}
 use Rattle.ql_plain.specs.internal.Linked.{AreLinks}
 use Rattle.ql_plain.specs.Paths.{IsPath, IsStep, More, One}
@@ -45,32 +45,6 @@ paths_are steps from begun later refs first whole tidied =
     ])
     (λ r of. path_closed steps later (Contains from) (λ s t is step. whole.kept t ((adds_to_nothing refl first t).1 (s, is, step))) whole.closed of.0 r of.1 of.2)
     tidied
-
--- ---- chains
-
-pub chain_after : (objects : List Element) (a b c : Element) → IsChain objects a b → IsParent objects b c → IsChain objects a c
-chain_after objects a b c (Last a' b' parent) last = Longer a' b' c parent (Last b' c last)
-chain_after objects a b c (Longer a' n b' parent chain) last = Longer a' n c parent (chain_after objects n b' c chain last)
-
--- the last link of a chain
-last_link : (objects : List Element) (a n b : Element) → IsParent objects a n → IsParent objects n b ⊎ ((m : Element) × IsChain objects n m × IsParent objects m b) → IsParent objects a b ⊎ ((m : Element) × IsChain objects a m × IsParent objects m b)
-last_link objects a n b parent (inl one) = inr (n, Last a n parent, one)
-last_link objects a n b parent (inr more) = inr (more.0, Longer a n more.0 parent more.1, more.2)
-
-pub by_last_link : (objects : List Element) (a b : Element) → IsChain objects a b → IsParent objects a b ⊎ ((m : Element) × IsChain objects a m × IsParent objects m b)
-by_last_link objects a b (Last a' b' parent) = inl parent
-by_last_link objects a b (Longer a' n b' parent chain) = last_link objects a' n b' parent (by_last_link objects n b' chain)
-
-pub link_by_link : (objects : List Element) (a b : Element) → IsChain objects a b ↔ (IsParent objects a b ⊎ ((m : Element) × IsChain objects a m × IsParent objects m b))
-link_by_link objects a b = (by_last_link objects a b, (λ one. elim one [ inl parent ↦ Last a b parent | inr more ↦ chain_after objects a more.0 b more.1 more.2 ]))
-
-pub last_is_there : (objects : List Element) (a b : Element) → IsChain objects a b → Contains objects b
-last_is_there objects a b (Last a' b' parent) = parent.child_there
-last_is_there objects a b (Longer a' n b' parent chain) = last_is_there objects n b' chain
-
-pub first_is_there : (objects : List Element) (a b : Element) → IsChain objects a b → Contains objects a
-first_is_there objects a b (Last a' b' parent) = parent.there
-first_is_there objects a b (Longer a' n b' parent chain) = parent.there
 
 -- ---- what bodies list
 

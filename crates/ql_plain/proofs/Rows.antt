@@ -10,7 +10,7 @@ use Rattle.osm_model.specs.Elements.{Element, kind_byte, kind_of, ref_cmp, refer
 use Rattle.osm_model.specs.declared.kind.Kind.{Kind}
 use Rattle.osm_model.specs.declared.kind.Kind.TheVariants as kinds
 use Rattle.osm_model.specs.declared.reference.Ref.{Ref}
-use Rattle.ql_plain.proofs.Keeping.{earlier_below}
+use Rattle.ref_sets.proofs.shared.Keeping.{earlier_below}
 use Rattle.ql_plain.proofs.Stepping.{in_back, in_front}
 
 -- ---- kinds by their numbers

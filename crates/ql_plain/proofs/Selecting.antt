@@ -19,13 +19,14 @@ use Rattle.ql_syntax.specs.StatementViews.{filter_of, filters_of}
 use Rattle.ql_syntax.specs.declared.filter.Filter.{Filter}
 use Rattle.ql_syntax.specs.declared.pick.Pick.{Pick}
 use Rattle.ql_syntax.specs.declared.pick.Pick.TheVariants as picks
-use Rattle.ql_plain.proofs.shared.Adding.{one_more}
-use Rattle.ql_plain.proofs.shared.Filtered.{from_filter, in_filter, passes_filter}
-use Rattle.ql_plain.proofs.Keeping.{earlier_below, set_as}
+use Rattle.ref_sets.proofs.shared.Adding.{one_more}
+use Rattle.ref_sets.proofs.shared.Filtered.{from_filter, in_filter, passes_filter}
+use Rattle.ref_sets.proofs.shared.Keeping.{earlier_below, set_as}
 use Rattle.ql_plain.proofs.Stepping.{slice_is_rest}
-use Rattle.ql_plain.specs.Meanings.{IsSetOf}
-use Rattle.ql_plain.specs.Values.{Env, IsOnPath, IsPicked, IsRefOf, IsSelected, Passes}
-use Rattle.ql_plain.specs.ObjectTests.{PassesAlone}
+use Rattle.ref_sets.specs.Sets.{IsSetOf}
+use Rattle.ref_sets.specs.NamedSets.{Env}
+use Rattle.ql_meaning.specs.Values.{IsOnPath, IsPicked, IsRefOf, IsSelected, Passes}
+use Rattle.ql_meaning.specs.ObjectTests.{PassesAlone}
 use Rattle.ql_plain.specs.internal.Linked.{IsThere}
 use Rattle.ql_plain.specs.internal.Tests.{AreNamedBy, AreThere, IsNamedBy, IsTaken, takes_kind}
 

@@ -12,7 +12,7 @@ use Rattle.std.specs.declared.cmp.Ordering.TheVariants.{Less, Equal, Greater}
 use Rattle.osm_model.proofs.shared.References.{refs_total}
 use Rattle.osm_model.specs.Elements.{ref_cmp}
 use Rattle.osm_model.specs.declared.reference.Ref.{Ref}
-use Rattle.ql_plain.proofs.References.{same_reference}
+use Rattle.ref_sets.proofs.shared.References.{same_reference}
 use Rattle.ql_plain.specs.declared.step.Step.{Step}
 
 lower_lt : (a b : Ordering) → ordering_index a ≤ ordering_index b → is_lt b ≡ true → is_lt a ≡ true

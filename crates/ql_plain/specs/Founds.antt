@@ -7,7 +7,7 @@ use Rattle.osm_model.specs.Elements.{ref_cmp}
 use Rattle.osm_model.specs.declared.reference.Ref.{Ref}
 use Rattle.ql_plain.specs.declared.found.Found.{Found}
 use Rattle.ql_plain.specs.declared.step.Step.{Step}
-use Rattle.ql_plain.specs.Adding.{Adds}
+use Rattle.ref_sets.specs.Adding.{Adds}
 use Rattle.ql_plain.specs.Paths.{IsPath, IsStep}
 
 -- what is seen is what is listed

@@ -2,6 +2,4 @@
 pub mod Linked
 pub mod Tests
 pub mod Steps
-pub mod Seeking
 pub mod Marks
-pub mod NamedSetPlaces

@@ -2,13 +2,13 @@
 
 ghost use Rattle.std.specs.Prelude.{◌≡◌, ◌++◌, IfOk, OnOk};
 ghost use Rattle.ql_syntax.specs.StatementViews.{statement_of, statements_of};
-ghost use Rattle.ql_plain.specs.Meanings.{After, Means, told};
-ghost use Rattle.ql_plain.specs.NamedSets.{lists_of};
+ghost use Rattle.ql_meaning.specs.Meanings.{After, Means, told};
+ghost use Rattle.ref_sets.specs.NamedSets.{lists_of};
 
 use crate::print::print;
 use crate::run::run;
-use crate::sets::Sets;
 use osm_model::ObjectSet;
+use ref_sets::Sets;
 use ql_syntax::{Query, Stmt};
 use std::alloc::{AllocError, Global};
 

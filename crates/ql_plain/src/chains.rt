@@ -6,16 +6,16 @@ ghost use Rattle.std.specs.List.Sorted.{IsSortedByKey};
 ghost use Rattle.osm_model.specs.Elements.{ref_cmp};
 ghost use Rattle.osm_model.specs.declared.reference.Ref.{Ref};
 ghost use Rattle.ql_syntax.specs.declared.recursion.Recursion.TheVariants as recursions;
-ghost use Rattle.ql_plain.specs.Meanings.{IsSetOf};
-ghost use Rattle.ql_plain.specs.Values.{IsReached, IsRefOf};
+ghost use Rattle.ref_sets.specs.Sets.{IsSetOf};
+ghost use Rattle.ql_meaning.specs.Values.{IsReached, IsRefOf};
 ghost use Rattle.ql_plain.specs.Paths.{IsPath};
 
 use crate::found::Found;
 use crate::links::links;
 use crate::neighbours::{above, below};
-use crate::ref_sets::{tidy, unite};
 use crate::step::{Step, steps};
 use osm_model::{Kind, ObjectSet, Ref};
+use ref_sets::{tidy, unite};
 use std::alloc::{AllocError, Global};
 
 /// `>>`: what chains lead down to. From relations along the links of relations, and from the ways that are there

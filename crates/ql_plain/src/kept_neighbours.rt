@@ -4,14 +4,13 @@ ghost use Rattle.std.specs.Prelude.{◌↔◌, IfOk, IsTrue};
 ghost use Rattle.std.specs.List.{Contains};
 ghost use Rattle.std.specs.List.Sorted.{IsStrictlySortedBy};
 ghost use Rattle.osm_model.specs.Elements.{ref_cmp};
-ghost use Rattle.ql_plain.specs.Meanings.{IsSetOf};
-ghost use Rattle.ql_plain.specs.Values.{IsAbove, IsBelow, IsRefOf};
+ghost use Rattle.ref_sets.specs.Sets.{IsSetOf};
+ghost use Rattle.ql_meaning.specs.Values.{IsAbove, IsBelow, IsRefOf};
 
 use crate::items::lists_one_of;
 use crate::neighbours::below;
-use crate::ref_sets::kept;
-use crate::seek::seek;
 use osm_model::{Kind, ObjectSet, Ref};
+use ref_sets::{kept, seek};
 use std::alloc::{AllocError, Global};
 
 /// Those that objects of a kind in a set list.

@@ -4,7 +4,7 @@ ghost use Rattle.std.specs.Prelude.{◌≡◌, ◌≤◌, ◌↔◌, map};
 ghost use Rattle.std.specs.List.{Contains};
 ghost use Rattle.std.specs.List.Sorted.{IsStrictlySortedBy};
 ghost use Rattle.osm_model.specs.Elements.{kind_byte, kind_of, ref_cmp, reference};
-ghost use Rattle.ql_plain.specs.Values.{IsOfKind, IsPicked};
+ghost use Rattle.ql_meaning.specs.Values.{IsOfKind, IsPicked};
 
 use osm_model::{Kind, Object};
 use ql_syntax::Pick;

@@ -2,7 +2,7 @@
 
 ghost use Rattle.std.specs.Prelude.{◌≡◌, [], IfOk, OnOk};
 ghost use Rattle.osm_model.specs.Elements.{reference};
-ghost use Rattle.ql_plain.specs.Adding.{Adds, From};
+ghost use Rattle.ref_sets.specs.Adding.{Adds, From};
 ghost use Rattle.ql_plain.specs.internal.Linked.{AreLinks, IsLinkOf, IsLinkTo, IsLinkToMember};
 
 use osm_model::{Body, Member, Object, ObjectSet, Ref};

@@ -1,12 +1,11 @@
 //! What an object of a set lists that is named by its reference.
 
 ghost use Rattle.std.specs.Prelude.{OnOk};
-ghost use Rattle.ql_plain.specs.Adding.{Adds};
+ghost use Rattle.ref_sets.specs.Adding.{Adds};
 ghost use Rattle.ql_plain.specs.internal.Linked.{IsListedBy};
 
-use crate::items::add_items;
-use crate::seek::seek;
 use osm_model::{Kind, ObjectSet, Ref};
+use ref_sets::{add_items, seek};
 use std::alloc::AllocError;
 
 /// Adds what the object with a reference lists, where it is there and of a kind. The search starts near a place, and

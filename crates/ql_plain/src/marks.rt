@@ -4,17 +4,16 @@ ghost use Rattle.std.specs.Prelude.{◌≡◌, ◌≤◌, IfOk, length, map};
 ghost use Rattle.std.specs.List.{Contains};
 ghost use Rattle.std.specs.List.Sorted.{IsStrictlySortedBy};
 ghost use Rattle.osm_model.specs.Elements.{ref_cmp, reference};
-ghost use Rattle.ql_plain.specs.Adding.{Adds, From};
-ghost use Rattle.ql_plain.specs.Meanings.{IsSetOf};
-ghost use Rattle.ql_plain.specs.Values.{IsBelow, IsRefOf};
+ghost use Rattle.ref_sets.specs.Adding.{Adds, From};
+ghost use Rattle.ref_sets.specs.Sets.{IsSetOf};
+ghost use Rattle.ql_meaning.specs.Values.{IsBelow, IsRefOf};
 ghost use Rattle.ql_plain.specs.internal.Marks.{AreAllListable, IsNamedIn, marked};
 
 use crate::kinds::of_kind;
 use crate::listed::add_listed;
 use crate::node_id::node_ids;
-use crate::referenced::Referenced;
-use crate::seek::{even_place, seek};
 use osm_model::{Kind, Object, ObjectSet, Ref};
+use ref_sets::{Referenced, even_place, seek};
 use std::alloc::{AllocError, Global};
 
 /// What objects of a kind in a set list, as far as it is there. A search for each item, from where the one before it

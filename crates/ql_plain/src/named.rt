@@ -5,19 +5,18 @@ ghost use Rattle.std.specs.List.{Contains};
 ghost use Rattle.std.specs.List.Sorted.{IsStrictlySortedBy};
 ghost use Rattle.osm_model.specs.Elements.{ref_cmp};
 ghost use Rattle.ql_syntax.specs.StatementViews.{filter_of};
-ghost use Rattle.ql_plain.specs.Meanings.{IsSetOf};
-ghost use Rattle.ql_plain.specs.Values.{IsOnPath, IsRefOf};
-ghost use Rattle.ql_plain.specs.Adding.{Adds};
-ghost use Rattle.ql_plain.specs.NamedSets.{lists_of};
+ghost use Rattle.ref_sets.specs.Sets.{IsSetOf};
+ghost use Rattle.ql_meaning.specs.Values.{IsOnPath, IsRefOf};
+ghost use Rattle.ref_sets.specs.Adding.{Adds};
+ghost use Rattle.ref_sets.specs.NamedSets.{lists_of};
 ghost use Rattle.ql_plain.specs.internal.Linked.{IsThereWith};
 ghost use Rattle.ql_plain.specs.internal.Tests.{AreThere, IsNamedBy};
 
 use crate::kept_neighbours::{kept_above, kept_below};
 use crate::neighbours::below;
-use crate::ref_sets::tidy;
-use crate::sets::Sets;
 use crate::there::add_there;
 use osm_model::{Kind, ObjectSet, Ref};
+use ref_sets::{Sets, tidy};
 use ql_syntax::{Filter, Path};
 use std::alloc::{AllocError, Global};
 

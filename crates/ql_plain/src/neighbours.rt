@@ -2,8 +2,8 @@
 
 ghost use Rattle.std.specs.Prelude.{IfOk};
 ghost use Rattle.osm_model.specs.Sets.{IsObjectSet};
-ghost use Rattle.ql_plain.specs.Meanings.{IsSetOf};
-ghost use Rattle.ql_plain.specs.Values.{IsAbove, IsBelow, IsRefOf};
+ghost use Rattle.ref_sets.specs.Sets.{IsSetOf};
+ghost use Rattle.ql_meaning.specs.Values.{IsAbove, IsBelow, IsRefOf};
 ghost use Rattle.ql_plain.specs.internal.Linked.{IsThereIn, ListsOneOf};
 ghost use Rattle.std.specs.List.Sorted.{IsStrictlySortedBy};
 ghost use Rattle.osm_model.specs.Elements.{ref_cmp};
@@ -11,9 +11,9 @@ ghost use Rattle.osm_model.specs.Elements.{ref_cmp};
 use crate::items::lists_one_of;
 use crate::listed::add_listed;
 use crate::marks::below_by_marks;
-use crate::ref_sets::tidy;
 use crate::there::those_there;
 use osm_model::{Kind, ObjectSet, Ref};
+use ref_sets::tidy;
 use std::alloc::{AllocError, Global};
 
 /// What objects of a kind in a set list, as far as it is there.

@@ -2,8 +2,8 @@
 
 ghost use Rattle.std.specs.Prelude.{◌≡◌, IfOk, map};
 
-use crate::referenced::Referenced;
 use osm_model::{Kind, Object, Ref};
+use ref_sets::Referenced;
 use std::alloc::{AllocError, Global};
 
 /// A node by its id, which takes half the room of its reference.

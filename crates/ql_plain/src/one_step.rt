@@ -1,14 +1,14 @@
 //! The recursions `>` and `<`.
 
 ghost use Rattle.std.specs.Prelude.{IfOk, OnOk};
-ghost use Rattle.ql_plain.specs.Meanings.{IsSetOf};
-ghost use Rattle.ql_plain.specs.Values.{IsDown, IsRefOf, IsUp};
-ghost use Rattle.ql_plain.specs.Adding.{Adds, From};
+ghost use Rattle.ref_sets.specs.Sets.{IsSetOf};
+ghost use Rattle.ql_meaning.specs.Values.{IsDown, IsRefOf, IsUp};
+ghost use Rattle.ref_sets.specs.Adding.{Adds, From};
 ghost use Rattle.ql_plain.specs.internal.Linked.{IsNoRelation};
 
 use crate::neighbours::{above, below};
-use crate::ref_sets::unite;
 use osm_model::{Kind, ObjectSet, Ref};
+use ref_sets::unite;
 use std::alloc::{AllocError, Global};
 
 /// `>`: nodes of a way of the set; nodes and ways of a relation of the set; nodes of such a way.

@@ -4,11 +4,11 @@ ghost use Rattle.std.specs.Prelude.{◌≡◌, ◌<◌, ◌↔◌, ◌++◌, IsT
 ghost use Rattle.std.specs.List.{Contains};
 ghost use Rattle.std.specs.List.Sorted.{IsStrictlySortedBy};
 ghost use Rattle.osm_model.specs.Elements.{ref_cmp};
-ghost use Rattle.ql_plain.specs.Meanings.{printed_of};
+ghost use Rattle.ql_meaning.specs.Meanings.{printed_of};
 
-use crate::ref_sets::is_in;
 use opl_codec::{OutMode, write_object};
 use osm_model::{ObjectSet, Ref};
+use ref_sets::is_in;
 use std::alloc::AllocError;
 
 /// Appends the objects of a set, by kind and rising id, at most so many.

@@ -1,8 +1,8 @@
 //! Recursions.
 
 ghost use Rattle.std.specs.Prelude.{IfOk};
-ghost use Rattle.ql_plain.specs.Meanings.{IsSetOf};
-ghost use Rattle.ql_plain.specs.Values.{IsReached, IsRefOf};
+ghost use Rattle.ref_sets.specs.Sets.{IsSetOf};
+ghost use Rattle.ql_meaning.specs.Values.{IsReached, IsRefOf};
 
 use crate::chains::{down_all, up_all};
 use crate::one_step::{down, up};

@@ -2,15 +2,14 @@
 
 ghost use Rattle.std.specs.Prelude.{◌≡◌, ◌++◌, IfOk, OnOk};
 ghost use Rattle.ql_syntax.specs.StatementViews.{statement_of, statements_of};
-ghost use Rattle.ql_plain.specs.Meanings.{After, AfterAll};
-ghost use Rattle.ql_plain.specs.NamedSets.{lists_of};
+ghost use Rattle.ql_meaning.specs.Meanings.{After, AfterAll};
+ghost use Rattle.ref_sets.specs.NamedSets.{lists_of};
 
-use crate::given::written_by;
 use crate::recurse::recurse;
-use crate::ref_sets::{kept, unite};
 use crate::select::select;
-use crate::sets::Sets;
 use osm_model::{ObjectSet, Ref};
+use ql_meaning::written_by;
+use ref_sets::{Sets, kept, unite};
 use ql_syntax::Stmt;
 use std::alloc::{AllocError, Global};
 

@@ -6,18 +6,16 @@ ghost use Rattle.std.specs.List.Sorted.{IsStrictlySortedBy};
 ghost use Rattle.osm_model.specs.Elements.{ref_cmp};
 ghost use Rattle.osm_model.specs.Sets.{IsObjectSet};
 ghost use Rattle.ql_syntax.specs.StatementViews.{filter_of, filters_of};
-ghost use Rattle.ql_plain.specs.Meanings.{IsSetOf};
-ghost use Rattle.ql_plain.specs.Values.{IsRefOf, IsSelected};
-ghost use Rattle.ql_plain.specs.NamedSets.{lists_of};
+ghost use Rattle.ref_sets.specs.Sets.{IsSetOf};
+ghost use Rattle.ql_meaning.specs.Values.{IsRefOf, IsSelected};
+ghost use Rattle.ref_sets.specs.NamedSets.{lists_of};
 ghost use Rattle.ql_plain.specs.internal.Tests.{AreNamedBy, AreThere, IsNamedBy, IsTaken, takes_kind};
 
 use crate::filter_test::{is_kind_picked, is_taken, look_at_objects};
 use crate::kinds::of_pick;
 use crate::named::{named_outright, via, with_ids};
-use crate::ref_sets::kept;
-use crate::seek::seek;
-use crate::sets::Sets;
 use osm_model::{ObjectSet, Ref};
+use ref_sets::{Sets, kept, seek};
 use ql_syntax::{Filter, Pick};
 use std::alloc::{AllocError, Global};
 

@@ -1,14 +1,13 @@
 //! Which references are of objects of a set.
 
 ghost use Rattle.std.specs.Prelude.{IfOk, OnOk};
-ghost use Rattle.ql_plain.specs.Meanings.{IsSetOf};
-ghost use Rattle.ql_plain.specs.Values.{IsIn, IsRefOf};
-ghost use Rattle.ql_plain.specs.Adding.{Adds};
+ghost use Rattle.ref_sets.specs.Sets.{IsSetOf};
+ghost use Rattle.ql_meaning.specs.Values.{IsIn, IsRefOf};
+ghost use Rattle.ref_sets.specs.Adding.{Adds};
 ghost use Rattle.ql_plain.specs.internal.Linked.{IsThereAs};
 
-use crate::ref_sets::tidy;
-use crate::seek::step_to;
 use osm_model::{ObjectSet, Ref};
+use ref_sets::{step_to, tidy};
 use std::alloc::{AllocError, Global};
 
 /// The objects whose references are in a list. A search for each that starts where the last one ended, and a sort of

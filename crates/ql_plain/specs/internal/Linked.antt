@@ -8,7 +8,7 @@ use Rattle.osm_model.specs.declared.kind.Kind.{Kind}
 use Rattle.osm_model.specs.declared.kind.Kind.TheVariants as kinds
 use Rattle.osm_model.specs.declared.member.Member.{Member}
 use Rattle.osm_model.specs.declared.reference.Ref.{Ref}
-use Rattle.ql_plain.specs.Values.{IsOfKind, IsParent}
+use Rattle.ql_meaning.specs.Values.{IsOfKind, IsParent}
 use Rattle.ql_plain.specs.declared.links.Link.{Link}
 
 -- an object of the list has the reference
@@ -29,14 +29,6 @@ IsLinkOf objects parent link = (link.parent ≡ reference parent) × IsOfKind ki
 -- the links are all those from relations of the list to objects of the list
 abbrev pub AreLinks : List Element → List Link → Type 0
 AreLinks objects links = (link : Link) → Contains links link ↔ ((parent child : Element) × IsParent objects parent child × IsOfKind kinds.Rel parent × (link ≡ record { parent = reference parent; child = reference child }))
-
--- the reference of a node with this id
-abbrev pub IsNode : ℤ → Ref → Type 0
-IsNode id r = record { kind = kinds.Node; id = id } ≡ r
-
--- the reference of a member
-abbrev pub IsTarget : Member → Ref → Type 0
-IsTarget member r = member.target ≡ r
 
 -- an object of the list with this reference is of this kind, and lists it
 abbrev pub IsListedBy : List Element → Kind → Ref → Ref → Type 0

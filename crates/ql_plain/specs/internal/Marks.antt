@@ -5,7 +5,7 @@ use Rattle.osm_model.specs.Elements.{Element}
 use Rattle.osm_model.specs.Membership.{BodyLists}
 use Rattle.osm_model.specs.declared.kind.Kind.{Kind}
 use Rattle.osm_model.specs.declared.reference.Ref.{Ref}
-use Rattle.ql_plain.specs.Values.{IsOfKind}
+use Rattle.ql_meaning.specs.Values.{IsOfKind}
 use Rattle.ql_plain.specs.internal.Linked.{IsThere}
 
 -- the references that have a mark

@@ -8,8 +8,9 @@ use Rattle.osm_model.specs.declared.reference.Ref.{Ref}
 use Rattle.ql_syntax.specs.Filters.{Filter, InSet, HasKey, KeyIs, LacksKey, KeyIsNot, Ids, Within, Via}
 use Rattle.ql_syntax.specs.declared.pick.Pick.{Pick}
 use Rattle.ql_syntax.specs.declared.pick.Pick.TheVariants as picks
-use Rattle.ql_plain.specs.ObjectTests.{PassesAlone}
-use Rattle.ql_plain.specs.Values.{Env, IsOnPath, IsPicked, IsRefOf}
+use Rattle.ql_meaning.specs.ObjectTests.{PassesAlone}
+use Rattle.ref_sets.specs.NamedSets.{Env}
+use Rattle.ql_meaning.specs.Values.{IsOnPath, IsPicked, IsRefOf}
 use Rattle.ql_plain.specs.internal.Linked.{IsThere}
 
 -- the filter keeps the object with the reference, as far as what the filter names tells

@@ -2,13 +2,13 @@ use Rattle.std.proofs.Common.{◌++◌, List, false, subst, ap, ◌∙◌}
 use Rattle.std.specs.List.{Contains}
 use Rattle.osm_model.specs.declared.kind.Kind.TheVariants as kinds
 use Rattle.osm_model.specs.declared.reference.Ref.{Ref}
-use Rattle.ql_plain.proofs.shared.Adding.{adds_list}
+use Rattle.ref_sets.proofs.shared.Adding.{adds_list}
 use Rattle.ql_plain.proofs.Paths.{down_all}
-use Rattle.ql_plain.specs.Meanings.{IsSetOf}
-use Rattle.ql_plain.specs.Values.{IsBelow, IsRefOf}
+use Rattle.ref_sets.specs.Sets.{IsSetOf}
+use Rattle.ql_meaning.specs.Values.{IsBelow, IsRefOf}
 use Rattle.ql_plain.specs.declared.links.Link.{Link}
 use Rattle.ql_plain.specs.declared.step.Step.{Step}
-use Rattle.ql_plain.specs.Adding.{Adds}
+use Rattle.ref_sets.specs.Adding.{Adds}
 use Rattle.ql_plain.specs.Paths.{IsPath}
 use Rattle.ql_plain.specs.internal.Steps.{AreSteps}
 use Rattle.ql_plain.proofs.chains.down_all.Goals as goal

@@ -1,12 +1,12 @@
 use Rattle.std.proofs.Common.{◌++◌, List, true, subst, ap, ◌∙◌}
 use Rattle.std.specs.List.{Contains}
 use Rattle.osm_model.specs.declared.reference.Ref.{Ref}
-use Rattle.ql_plain.proofs.shared.Adding.{adds_list}
+use Rattle.ref_sets.proofs.shared.Adding.{adds_list}
 use Rattle.ql_plain.proofs.Paths.{up_all}
-use Rattle.ql_plain.specs.Meanings.{IsSetOf}
+use Rattle.ref_sets.specs.Sets.{IsSetOf}
 use Rattle.ql_plain.specs.declared.links.Link.{Link}
 use Rattle.ql_plain.specs.declared.step.Step.{Step}
-use Rattle.ql_plain.specs.Adding.{Adds}
+use Rattle.ref_sets.specs.Adding.{Adds}
 use Rattle.ql_plain.specs.Paths.{IsPath}
 use Rattle.ql_plain.specs.internal.Steps.{AreSteps}
 use Rattle.ql_plain.proofs.chains.up_all.Goals as goal

@@ -4,10 +4,10 @@ use Rattle.std.specs.List.{AllByRecursion}
 use Rattle.ql_syntax.specs.Filters as tree
 use Rattle.ql_syntax.specs.StatementViews.{filter_of, filters_of}
 use Rattle.ql_syntax.specs.declared.filter.Filter.{Filter}
-use Rattle.ql_plain.proofs.shared.Adding.{item_is_in, one_more}
-use Rattle.ql_plain.proofs.Mapped.{contains_mapped}
+use Rattle.ref_sets.proofs.shared.Adding.{item_is_in, one_more}
+use Rattle.ref_sets.proofs.shared.Mapped.{contains_mapped}
 use Rattle.ql_plain.proofs.Selecting.{all_at, all_push}
-use Rattle.ql_plain.specs.ObjectTests.{PassesAlone}
+use Rattle.ql_meaning.specs.ObjectTests.{PassesAlone}
 use Rattle.ql_plain.proofs.filter_test.is_kept.Goals as goal
 
 pub loop-filter-preserved : goal.loop-filter-preserved

@@ -1,7 +1,7 @@
 use Rattle.std.proofs.Common.{take}
 use Rattle.std.specs.List.{AllByRecursion}
 use Rattle.ql_syntax.specs.StatementViews.{filters_of}
-use Rattle.ql_plain.specs.ObjectTests.{PassesAlone}
+use Rattle.ql_meaning.specs.ObjectTests.{PassesAlone}
 use Rattle.ql_plain.proofs.filter_test.is_kept.Given as goal
 
 abbrev pub invariant-loop-filter : goal.invariant-loop-filter

@@ -4,9 +4,9 @@ use Rattle.std.specs.List.{AllByRecursion}
 use Rattle.ql_syntax.specs.Filters as tree
 use Rattle.ql_syntax.specs.StatementViews.{filter_of, filters_of}
 use Rattle.ql_syntax.specs.declared.filter.Filter.{Filter}
-use Rattle.ql_plain.proofs.shared.Adding.{one_more}
+use Rattle.ref_sets.proofs.shared.Adding.{one_more}
 use Rattle.ql_plain.proofs.Selecting.{all_push}
-use Rattle.ql_plain.specs.ObjectTests.{PassesAlone}
+use Rattle.ql_meaning.specs.ObjectTests.{PassesAlone}
 use Rattle.ql_plain.proofs.filter_test.look_at_objects.Goals as goal
 
 pub loop-filter-preserved : goal.loop-filter-preserved

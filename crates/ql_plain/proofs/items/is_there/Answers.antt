@@ -1,6 +1,6 @@
 use Rattle.std.proofs.Common.{◌≡◌, ◌↔◌, List, true, subst}
 use Rattle.osm_model.specs.Elements.{Element, reference}
-use Rattle.ql_plain.proofs.Seeking.{sought}
+use Rattle.ref_sets.proofs.Seeking.{sought}
 use Rattle.ql_plain.specs.internal.Linked.{IsThere}
 use Rattle.ql_plain.proofs.items.is_there.Goals as goal
 

@@ -1,4 +1,4 @@
-use Rattle.ql_plain.proofs.Seeking.{sought_in}
+use Rattle.ref_sets.proofs.Seeking.{sought_in}
 use Rattle.ql_plain.proofs.items.is_there_in.Goals as goal
 
 pub returns-then-is_in-clause-told : goal.returns-then-is_in-clause-told

@@ -3,7 +3,7 @@ use Rattle.std.specs.List.{Contains}
 use Rattle.std.proofs.lemmas.List.{take_all}
 use Rattle.osm_model.specs.declared.member.Member.{Member}
 use Rattle.std.proofs.Common.{List}
-use Rattle.ql_plain.proofs.shared.Adding.{more_cases}
+use Rattle.ref_sets.proofs.shared.Adding.{more_cases}
 use Rattle.ql_plain.specs.internal.Linked.{IsThereIn}
 use Rattle.ql_plain.proofs.items.lists_member_of.Goals as goal
 

@@ -5,8 +5,8 @@ use Rattle.std.specs.List.Sorted.{IsStrictlySortedBy}
 use Rattle.osm_model.specs.Elements.{ref_cmp}
 use Rattle.osm_model.specs.declared.kind.Kind.TheVariants.{Node}
 use Rattle.osm_model.specs.declared.reference.Ref.{Ref}
-use Rattle.ql_plain.proofs.Keeping.{kept_all, kept_more, kept_nothing, kept_same, map_same, set_as}
-use Rattle.ql_plain.specs.Values.{IsAbove, IsRefOf}
+use Rattle.ref_sets.proofs.shared.Keeping.{kept_all, kept_more, kept_nothing, kept_same, map_same, set_as}
+use Rattle.ql_meaning.specs.Values.{IsAbove, IsRefOf}
 use Rattle.ql_plain.proofs.kept_neighbours.kept_above.Goals as goal
 use Rattle.ql_plain.proofs.kept_neighbours.kept_above.Goals.{then-is_above+in_ok-push, else-is_above}
 

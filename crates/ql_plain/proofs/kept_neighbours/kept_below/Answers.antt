@@ -1,9 +1,9 @@
 use Rattle.std.proofs.Common.{List, IfOk, subst}
 use Rattle.std.specs.List.{Contains}
 use Rattle.osm_model.specs.declared.reference.Ref.{Ref}
-use Rattle.ql_plain.proofs.FilterSets.{if_ok_as}
-use Rattle.ql_plain.proofs.Keeping.{set_as}
-use Rattle.ql_plain.specs.Meanings.{IsSetOf}
+use Rattle.ref_sets.proofs.shared.Results.{if_ok_as}
+use Rattle.ref_sets.proofs.shared.Keeping.{set_as}
+use Rattle.ref_sets.specs.Sets.{IsSetOf}
 use Rattle.ql_plain.proofs.kept_neighbours.kept_below.Goals as goal
 
 pub returns : goal.returns

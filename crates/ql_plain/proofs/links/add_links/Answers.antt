@@ -1,5 +1,6 @@
 use Rattle.std.proofs.Common.{sym, ◌∙◌}
-use Rattle.ql_plain.proofs.Linking.{on_ok_as, relation_links, way_links}
+use Rattle.ref_sets.proofs.shared.Results.{on_ok_as}
+use Rattle.ql_plain.proofs.Linking.{relation_links, way_links}
 use Rattle.ql_plain.proofs.links.add_links.Goals as goal
 
 pub returns-in-Way : goal.returns-in-Way

@@ -3,12 +3,12 @@ use Rattle.std.proofs.lemmas.List.{get_or_default, length-replicate}
 use Rattle.std.specs.List.{Contains}
 use Rattle.osm_model.specs.declared.kind.Kind.TheVariants.{Node}
 use Rattle.osm_model.specs.declared.reference.Ref.{Ref}
-use Rattle.ql_plain.proofs.shared.Adding.{adds_all, adds_more, adds_start}
-use Rattle.ql_plain.proofs.FilterSets.{if_ok_as}
+use Rattle.ref_sets.proofs.shared.Adding.{adds_all, adds_more, adds_start}
+use Rattle.ref_sets.proofs.shared.Results.{if_ok_as}
 use Rattle.ql_plain.proofs.Leading.{below_is_added, there_listed_by}
 use Rattle.ql_plain.proofs.Marking.{marked_none, there_named, written_over}
-use Rattle.ql_plain.specs.Adding.{Adds, From}
-use Rattle.ql_plain.specs.Meanings.{IsSetOf}
+use Rattle.ref_sets.specs.Adding.{Adds, From}
+use Rattle.ref_sets.specs.Sets.{IsSetOf}
 use Rattle.ql_plain.specs.internal.Linked.{IsListedBy, IsThereListedBy}
 use Rattle.ql_plain.specs.internal.Marks.{IsNamedIn, marked}
 use Rattle.ql_plain.proofs.marks.below_among.Goals as goal

@@ -4,7 +4,7 @@ use Rattle.osm_model.specs.Elements.{Element, ref_cmp}
 use Rattle.osm_model.specs.declared.kind.Kind.{Kind}
 use Rattle.osm_model.specs.declared.kind.Kind.TheVariants.{Way}
 use Rattle.osm_model.specs.declared.reference.Ref.{Ref}
-use Rattle.ql_plain.proofs.Keeping.{map_same}
+use Rattle.ref_sets.proofs.shared.Keeping.{map_same}
 use Rattle.ql_plain.proofs.Marking.{all_listable, id_name, nodes_listable, nodes_named}
 use Rattle.ql_plain.specs.internal.Marks.{AreAllListable}
 use Rattle.ql_plain.proofs.marks.below_by_marks.Goals as goal

@@ -1,9 +1,9 @@
 use Rattle.std.proofs.Common.{map, sym, ◌∙◌}
 use Rattle.std.proofs.lemmas.List.{length-map}
-use Rattle.ql_plain.proofs.shared.Adding.{adds_as, adds_nothing}
-use Rattle.ql_plain.proofs.Mapped.{from_mapped}
+use Rattle.ref_sets.proofs.shared.Adding.{adds_as, adds_nothing}
+use Rattle.ref_sets.proofs.shared.Mapped.{from_mapped}
 use Rattle.ql_plain.proofs.Marking.{marked_set, named_item}
-use Rattle.ql_plain.proofs.Seeking.{found_among, sought_at}
+use Rattle.ref_sets.proofs.Seeking.{found_among, sought_at}
 use Rattle.ql_plain.proofs.marks.mark.Goals as goal
 
 pub returns-then-not-is_there-clause-marked : goal.returns-then-not-is_there-clause-marked

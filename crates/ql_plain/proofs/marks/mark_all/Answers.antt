@@ -2,7 +2,7 @@ use Rattle.std.proofs.Common.{get_or, map, pos}
 use Rattle.std.proofs.lemmas.List.{get_or_default}
 use Rattle.osm_model.specs.declared.kind.Kind.TheVariants.{Node}
 use Rattle.osm_model.specs.declared.reference.Ref.{Ref}
-use Rattle.ql_plain.proofs.shared.Adding.{adds_all, adds_more, adds_start}
+use Rattle.ref_sets.proofs.shared.Adding.{adds_all, adds_more, adds_start}
 use Rattle.ql_plain.specs.internal.Marks.{IsNamedIn}
 use Rattle.ql_plain.proofs.marks.mark_all.Goals as goal
 

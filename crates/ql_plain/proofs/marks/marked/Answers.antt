@@ -2,7 +2,7 @@ use Rattle.std.proofs.Common.{◌≡◌, Vec, Global, get_or, length, map, sym, 
 use Rattle.std.proofs.lemmas.List.{length-map}
 use Rattle.osm_model.specs.declared.reference.Ref.{Ref}
 use Rattle.ql_plain.proofs.Marking.{marked_next_not, marked_pushed, named_item, set_of_marked}
-use Rattle.ql_plain.proofs.Seeking.{at_by_item}
+use Rattle.ref_sets.proofs.Seeking.{at_by_item}
 use Rattle.ql_plain.proofs.marks.marked.Goals as goal
 use Rattle.ql_plain.proofs.marks.marked.Goals.{then-is_marked+in_ok-push, else-is_marked}
 

@@ -1,9 +1,9 @@
 use Rattle.std.proofs.Common.{FitsSigned, rules, to_z-of_z, w64}
 use Rattle.osm_model.specs.declared.kind.Kind.TheVariants.{Node, Way, Rel}
 use Rattle.std.specs.Prelude.{OnOk}
-use Rattle.ql_plain.proofs.Linking.{on_ok_as}
+use Rattle.ref_sets.proofs.shared.Results.{on_ok_as}
 use Rattle.ql_plain.proofs.Listing.{three_kinds}
-use Rattle.ql_plain.specs.Adding.{Adds}
+use Rattle.ref_sets.specs.Adding.{Adds}
 use Rattle.ql_plain.specs.internal.Linked.{IsThereAs}
 use Rattle.ql_plain.proofs.named.add_with_id.Goals as goal
 

@@ -1,8 +1,8 @@
 use Rattle.std.proofs.Common.{sym, subst}
 use Rattle.ql_syntax.specs.declared.path.Path.{Path}
 use Rattle.ql_plain.proofs.Selecting.{are_there}
-use Rattle.ql_plain.specs.Meanings.{IsSetOf}
-use Rattle.ql_plain.specs.Values.{IsOnPath, IsRefOf}
+use Rattle.ref_sets.specs.Sets.{IsSetOf}
+use Rattle.ql_meaning.specs.Values.{IsOnPath, IsRefOf}
 use Rattle.ql_plain.proofs.named.led_down.Goals as goal
 
 pub returns-in_ok-below-in-W : goal.returns-in_ok-below-in-W

@@ -4,9 +4,9 @@ use Rattle.osm_model.specs.declared.reference.Ref.{Ref}
 use Rattle.ql_syntax.specs.StatementViews.{filter_of}
 use Rattle.ql_syntax.specs.declared.filter.Filter.{Filter}
 use Rattle.ql_plain.proofs.Selecting.{are_there}
-use Rattle.ql_plain.specs.Meanings.{IsSetOf}
-use Rattle.ql_plain.specs.Values.{IsOnPath, IsRefOf}
-use Rattle.ql_plain.specs.NamedSets.{lists_of}
+use Rattle.ref_sets.specs.Sets.{IsSetOf}
+use Rattle.ql_meaning.specs.Values.{IsOnPath, IsRefOf}
+use Rattle.ref_sets.specs.NamedSets.{lists_of}
 use Rattle.ql_plain.specs.internal.Tests.{IsNamedBy}
 use Rattle.ql_plain.proofs.named.named_outright.Goals as goal
 

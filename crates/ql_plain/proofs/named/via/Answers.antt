@@ -1,8 +1,8 @@
 use Rattle.std.proofs.Common.{sym, subst, IfOk}
 use Rattle.std.specs.List.{Contains}
 use Rattle.ql_syntax.specs.declared.path.Path.{Path}
-use Rattle.ql_plain.specs.Meanings.{IsSetOf}
-use Rattle.ql_plain.specs.Values.{IsOnPath, IsRefOf}
+use Rattle.ref_sets.specs.Sets.{IsSetOf}
+use Rattle.ql_meaning.specs.Values.{IsOnPath, IsRefOf}
 use Rattle.ql_plain.proofs.named.via.Goals as goal
 
 pub returns-in-W : goal.returns-in-W

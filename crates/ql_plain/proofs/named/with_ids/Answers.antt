@@ -1,9 +1,9 @@
 use Rattle.std.proofs.Common.{FitsSigned, get_or, pos, rules, to_z-of_z, w64}
 use Rattle.std.proofs.lemmas.List.{get_or_default}
-use Rattle.ql_plain.proofs.shared.Adding.{adds_all, adds_more, adds_start}
+use Rattle.ref_sets.proofs.shared.Adding.{adds_all, adds_more, adds_start}
 use Rattle.ql_plain.proofs.Leading.{set_from_added}
 use Rattle.ql_plain.proofs.Listing.{with_ids_is}
-use Rattle.ql_plain.specs.Adding.{Adds}
+use Rattle.ref_sets.specs.Adding.{Adds}
 use Rattle.ql_plain.specs.internal.Linked.{IsThereWith}
 use Rattle.ql_plain.proofs.named.with_ids.Goals as goal
 

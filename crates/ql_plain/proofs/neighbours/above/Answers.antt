@@ -1,10 +1,10 @@
 use Rattle.std.proofs.Common.{List, IfOk, subst}
 use Rattle.osm_model.specs.Elements.{Element}
 use Rattle.osm_model.specs.declared.reference.Ref.{Ref}
-use Rattle.ql_plain.proofs.FilterSets.{if_ok_as}
+use Rattle.ref_sets.proofs.shared.Results.{if_ok_as}
 use Rattle.ql_plain.proofs.Leading.{above_is}
-use Rattle.ql_plain.specs.Meanings.{IsSetOf}
-use Rattle.ql_plain.specs.Values.{IsRefOf}
+use Rattle.ref_sets.specs.Sets.{IsSetOf}
+use Rattle.ql_meaning.specs.Values.{IsRefOf}
 use Rattle.ql_plain.specs.internal.Linked.{IsThereIn, ListsOneOf}
 use Rattle.ql_plain.proofs.neighbours.above.Goals as goal
 

@@ -2,11 +2,11 @@ use Rattle.std.proofs.Common.{List, IfOk, get_or, pos, subst}
 use Rattle.std.proofs.lemmas.List.{get_or_default}
 use Rattle.osm_model.specs.declared.kind.Kind.TheVariants.{Node}
 use Rattle.osm_model.specs.declared.reference.Ref.{Ref}
-use Rattle.ql_plain.proofs.shared.Adding.{adds_all, adds_more, adds_start}
-use Rattle.ql_plain.proofs.FilterSets.{if_ok_as}
+use Rattle.ref_sets.proofs.shared.Adding.{adds_all, adds_more, adds_start}
+use Rattle.ref_sets.proofs.shared.Results.{if_ok_as}
 use Rattle.ql_plain.proofs.Leading.{below_is, set_from_added}
-use Rattle.ql_plain.specs.Meanings.{IsSetOf}
-use Rattle.ql_plain.specs.Values.{IsIn, IsRefOf}
+use Rattle.ref_sets.specs.Sets.{IsSetOf}
+use Rattle.ql_meaning.specs.Values.{IsIn, IsRefOf}
 use Rattle.ql_plain.specs.internal.Linked.{IsListedBy}
 use Rattle.ql_plain.proofs.neighbours.below_by_sort.Goals as goal
 

@@ -2,9 +2,9 @@ use Rattle.std.proofs.Common.{List, ◌++◌, ◌∷◌, [], Vec, Global, map, a
 use Rattle.std.specs.List.Sorted.{IsStrictlySortedBy}
 use Rattle.osm_model.specs.Elements.{Element, ref_cmp, reference}
 use Rattle.osm_model.specs.declared.reference.Ref.{Ref}
-use Rattle.ql_plain.proofs.Keeping.{kept_all, kept_more, kept_nothing, kept_same}
-use Rattle.ql_plain.specs.Meanings.{IsSetOf}
-use Rattle.ql_plain.specs.Values.{IsRefOf}
+use Rattle.ref_sets.proofs.shared.Keeping.{kept_all, kept_more, kept_nothing, kept_same}
+use Rattle.ref_sets.specs.Sets.{IsSetOf}
+use Rattle.ql_meaning.specs.Values.{IsRefOf}
 use Rattle.ql_plain.specs.internal.Linked.{IsThereIn, ListsOneOf}
 use Rattle.ql_plain.proofs.neighbours.listing.Goals as goal
 use Rattle.ql_plain.proofs.neighbours.listing.Goals.{then-lists_one_of+in_ok-push, else-lists_one_of}

@@ -1,7 +1,7 @@
 use Rattle.std.proofs.Common.{◌≡◌, take}
 use Rattle.std.specs.List.{Contains}
 use Rattle.osm_model.specs.Elements.{Element, reference}
-use Rattle.ql_plain.specs.Meanings.{IsSetOf}
+use Rattle.ref_sets.specs.Sets.{IsSetOf}
 use Rattle.ql_plain.specs.internal.Linked.{IsThereIn, ListsOneOf}
 use Rattle.ql_plain.proofs.neighbours.listing.Given as goal
 

@@ -2,8 +2,8 @@ use Rattle.std.proofs.Common.{◌≡◌, ◌≢◌, Vec, Global, get_or, pos, re
 use Rattle.std.proofs.lemmas.List.{get_or_default}
 use Rattle.osm_model.specs.declared.kind.Kind.TheVariants.{Node, Rel}
 use Rattle.osm_model.specs.declared.reference.Ref.{Ref}
-use Rattle.ql_plain.proofs.shared.Adding.{adds_more, adds_nothing, adds_one}
-use Rattle.ql_plain.specs.Adding.{Adds}
+use Rattle.ref_sets.proofs.shared.Adding.{adds_more, adds_nothing, adds_one}
+use Rattle.ref_sets.specs.Adding.{Adds}
 use Rattle.ql_plain.specs.internal.Linked.{IsNoRelation}
 use Rattle.ql_plain.proofs.one_step.add_all_but_relations.Goals as goal
 use Rattle.ql_plain.proofs.one_step.add_all_but_relations.Goals.{then-ne+in_ok-push, else-ne}

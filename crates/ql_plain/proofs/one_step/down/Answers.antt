@@ -1,11 +1,11 @@
 use Rattle.std.proofs.Common.{List, subst, ◌∙◌, ap, ◌++◌}
 use Rattle.osm_model.specs.declared.reference.Ref.{Ref}
 use Rattle.osm_model.specs.declared.kind.Kind.TheVariants as kinds
-use Rattle.ql_plain.proofs.shared.Adding.{adds_list}
+use Rattle.ref_sets.proofs.shared.Adding.{adds_list}
 use Rattle.ql_plain.proofs.OneLink.{down_is}
-use Rattle.ql_plain.specs.Meanings.{IsSetOf}
-use Rattle.ql_plain.specs.Values.{IsBelow, IsRefOf}
-use Rattle.ql_plain.specs.Adding.{Adds, From}
+use Rattle.ref_sets.specs.Sets.{IsSetOf}
+use Rattle.ql_meaning.specs.Values.{IsBelow, IsRefOf}
+use Rattle.ref_sets.specs.Adding.{Adds, From}
 use Rattle.ql_plain.specs.internal.Linked.{IsNoRelation}
 use Rattle.ql_plain.proofs.one_step.down.Goals as goal
 

@@ -1,10 +1,10 @@
 use Rattle.std.proofs.Common.{List, subst, ◌∙◌, ap, ◌++◌}
 use Rattle.osm_model.specs.declared.reference.Ref.{Ref}
 use Rattle.osm_model.specs.declared.kind.Kind.TheVariants as kinds
-use Rattle.ql_plain.proofs.shared.Adding.{adds_list}
+use Rattle.ref_sets.proofs.shared.Adding.{adds_list}
 use Rattle.ql_plain.proofs.OneLink.{up_is}
-use Rattle.ql_plain.specs.Meanings.{IsSetOf}
-use Rattle.ql_plain.specs.Values.{IsAbove, IsRefOf}
+use Rattle.ref_sets.specs.Sets.{IsSetOf}
+use Rattle.ql_meaning.specs.Values.{IsAbove, IsRefOf}
 use Rattle.ql_plain.proofs.one_step.up.Goals as goal
 
 pub returns : goal.returns

@@ -1,7 +1,7 @@
 use Rattle.std.proofs.Common.{IfOk, subst, sym}
 use Rattle.ql_syntax.specs.declared.recursion.Recursion.{Recursion}
-use Rattle.ql_plain.specs.Meanings.{IsSetOf}
-use Rattle.ql_plain.specs.Values.{IsReached, IsRefOf}
+use Rattle.ref_sets.specs.Sets.{IsSetOf}
+use Rattle.ql_meaning.specs.Values.{IsReached, IsRefOf}
 use Rattle.ql_plain.proofs.recurse.recurse.Goals as goal
 
 pub returns-in-Down : goal.returns-in-Down

@@ -6,11 +6,12 @@ use Rattle.ql_syntax.specs.StatementViews.{filters_of, statement_of, statements_
 use Rattle.ql_syntax.specs.Statements as tree
 use Rattle.ql_syntax.specs.declared.filter.Filter.{Filter}
 use Rattle.ql_syntax.specs.declared.statement.Stmt.{Stmt}
-use Rattle.ql_plain.proofs.Linking.{on_ok_as}
-use Rattle.ql_plain.proofs.shared.Running.{after_next, minus_after}
-use Rattle.ql_plain.specs.Meanings.{After, AfterAll, IsSetOf, given_by, put}
-use Rattle.ql_plain.specs.Values.{IsReached, IsRefOf, IsSelected}
-use Rattle.ql_plain.specs.NamedSets.{lists_of}
+use Rattle.ref_sets.proofs.shared.Results.{on_ok_as}
+use Rattle.ql_meaning.proofs.shared.Running.{after_next, minus_after}
+use Rattle.ql_meaning.specs.Meanings.{After, AfterAll, given_by}
+use Rattle.ref_sets.specs.Sets.{IsSetOf}
+use Rattle.ref_sets.specs.NamedSets.{put, lists_of}
+use Rattle.ql_meaning.specs.Values.{IsReached, IsRefOf, IsSelected}
 use Rattle.ql_plain.proofs.run.+run.Goals as goal
 
 pub run-returns-in_ok-refs-in-Select : goal.run-returns-in_ok-refs-in-Select

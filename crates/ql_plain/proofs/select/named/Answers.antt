@@ -3,12 +3,12 @@ use Rattle.std.specs.List.{Contains}
 use Rattle.osm_model.specs.declared.reference.Ref.{Ref}
 use Rattle.ql_syntax.specs.StatementViews.{filter_of}
 use Rattle.ql_syntax.specs.declared.filter.Filter.{Filter}
-use Rattle.ql_plain.proofs.FilterSets.{if_ok_as}
-use Rattle.ql_plain.proofs.Keeping.{set_as}
+use Rattle.ref_sets.proofs.shared.Results.{if_ok_as}
+use Rattle.ref_sets.proofs.shared.Keeping.{set_as}
 use Rattle.std.proofs.Common.{ℤ}
-use Rattle.ql_plain.specs.Meanings.{IsSetOf}
-use Rattle.ql_plain.specs.Values.{IsOnPath, IsRefOf}
-use Rattle.ql_plain.specs.NamedSets.{lists_of}
+use Rattle.ref_sets.specs.Sets.{IsSetOf}
+use Rattle.ql_meaning.specs.Values.{IsOnPath, IsRefOf}
+use Rattle.ref_sets.specs.NamedSets.{lists_of}
 use Rattle.ql_plain.specs.internal.Tests.{IsNamedBy}
 use Rattle.ql_plain.proofs.select.named.Goals as goal
 

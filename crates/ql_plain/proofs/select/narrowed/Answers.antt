@@ -1,5 +1,5 @@
 use Rattle.ql_plain.proofs.Selecting.{narrowed_all, narrowed_more, narrowed_none}
-use Rattle.ql_plain.specs.NamedSets.{lists_of}
+use Rattle.ref_sets.specs.NamedSets.{lists_of}
 use Rattle.ql_plain.proofs.select.narrowed.Goals as goal
 
 pub loop-filter-init : goal.loop-filter-init

@@ -1,8 +1,8 @@
 use Rattle.std.proofs.Common.{take}
 use Rattle.std.specs.List.{Contains}
 use Rattle.ql_syntax.specs.StatementViews.{filters_of}
-use Rattle.ql_plain.specs.Meanings.{IsSetOf}
-use Rattle.ql_plain.specs.NamedSets.{lists_of}
+use Rattle.ref_sets.specs.Sets.{IsSetOf}
+use Rattle.ref_sets.specs.NamedSets.{lists_of}
 use Rattle.ql_plain.specs.internal.Tests.{AreNamedBy}
 use Rattle.ql_plain.proofs.select.narrowed.Given as goal
 

@@ -1,8 +1,8 @@
 use Rattle.std.proofs.Common.{take, drop, length, ◌-◌, ◌+◌}
 use Rattle.ql_syntax.specs.StatementViews.{filter_of, filters_of}
-use Rattle.ql_plain.proofs.FilterSets.{if_ok_as}
+use Rattle.ref_sets.proofs.shared.Results.{if_ok_as}
 use Rattle.ql_plain.proofs.Selecting.{around, from_named, from_taken}
-use Rattle.ql_plain.specs.NamedSets.{lists_of}
+use Rattle.ref_sets.specs.NamedSets.{lists_of}
 use Rattle.ql_plain.proofs.select.select.Goals as goal
 
 pub returns : goal.returns

@@ -1,12 +1,12 @@
 use Rattle.std.proofs.Common.{List, ◌++◌, ◌∷◌, [], ◌↔◌, Vec, Global, ap, subst, ◌∙◌}
 use Rattle.osm_model.specs.Elements.{Element, reference}
 use Rattle.osm_model.specs.declared.reference.Ref.{Ref}
-use Rattle.ql_plain.proofs.Keeping.{kept_all, kept_more, kept_nothing, kept_same, set_as}
+use Rattle.ref_sets.proofs.shared.Keeping.{kept_all, kept_more, kept_nothing, kept_same, set_as}
 use Rattle.std.specs.List.{AllByRecursion, Contains}
 use Rattle.ql_syntax.specs.Filters as tree
 use Rattle.ql_syntax.specs.StatementViews.{filters_of}
-use Rattle.ql_plain.specs.Values.{IsPicked}
-use Rattle.ql_plain.specs.ObjectTests.{PassesAlone}
+use Rattle.ql_meaning.specs.Values.{IsPicked}
+use Rattle.ql_meaning.specs.ObjectTests.{PassesAlone}
 use Rattle.ql_plain.proofs.select.taken.Goals as goal
 use Rattle.ql_plain.proofs.select.taken.Goals.{then-is_taken+in_ok-push, else-is_taken}
 

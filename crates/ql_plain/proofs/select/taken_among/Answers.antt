@@ -5,10 +5,10 @@ use Rattle.std.specs.List.Sorted.{IsStrictlySortedBy}
 use Rattle.osm_model.specs.Elements.{ref_cmp}
 use Rattle.osm_model.specs.declared.kind.Kind.TheVariants.{Node}
 use Rattle.osm_model.specs.declared.reference.Ref.{Ref}
-use Rattle.ql_plain.proofs.Keeping.{kept_all, kept_more, kept_nothing, kept_same, map_same, set_as}
+use Rattle.ref_sets.proofs.shared.Keeping.{kept_all, kept_more, kept_nothing, kept_same, map_same, set_as}
 use Rattle.ql_syntax.specs.StatementViews.{filters_of}
 use Rattle.ql_plain.specs.internal.Tests.{IsTaken}
-use Rattle.ql_plain.specs.Values.{IsRefOf}
+use Rattle.ql_meaning.specs.Values.{IsRefOf}
 use Rattle.ql_plain.proofs.select.taken_among.Goals as goal
 use Rattle.ql_plain.proofs.select.taken_among.Goals.{then-is_one+in_ok-push, else-is_one}
 

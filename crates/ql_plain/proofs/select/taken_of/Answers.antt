@@ -3,8 +3,8 @@ use Rattle.std.specs.List.{Contains}
 use Rattle.osm_model.specs.declared.reference.Ref.{Ref}
 use Rattle.ql_syntax.specs.StatementViews.{filters_of}
 use Rattle.ql_plain.proofs.Selecting.{picked_set}
-use Rattle.ql_plain.specs.Meanings.{IsSetOf}
-use Rattle.ql_plain.specs.Values.{IsRefOf}
+use Rattle.ref_sets.specs.Sets.{IsSetOf}
+use Rattle.ql_meaning.specs.Values.{IsRefOf}
 use Rattle.ql_plain.specs.internal.Tests.{IsTaken}
 use Rattle.ql_plain.proofs.select.taken_of.Goals as goal
 

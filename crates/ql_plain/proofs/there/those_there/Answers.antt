@@ -3,10 +3,10 @@ use Rattle.std.proofs.lemmas.List.{get_or_default}
 use Rattle.osm_model.specs.Elements.{Element}
 use Rattle.osm_model.specs.declared.kind.Kind.TheVariants.{Node}
 use Rattle.osm_model.specs.declared.reference.Ref.{Ref}
-use Rattle.ql_plain.proofs.shared.Adding.{adds_all, adds_more, adds_nothing, adds_one, adds_start}
+use Rattle.ref_sets.proofs.shared.Adding.{adds_all, adds_more, adds_nothing, adds_one, adds_start}
 use Rattle.ql_plain.proofs.Leading.{set_from_added}
 use Rattle.ql_plain.proofs.Listing.{there_is}
-use Rattle.ql_plain.specs.Adding.{Adds}
+use Rattle.ref_sets.specs.Adding.{Adds}
 use Rattle.ql_plain.specs.internal.Linked.{IsThere, IsThereAs}
 use Rattle.ql_plain.proofs.there.those_there.Goals as goal
 use Rattle.ql_plain.proofs.there.those_there.Goals.{then-is_there+in_ok-push, else-is_there}

@@ -1,5 +1,5 @@
 use Rattle.std.proofs.Common.{◌≤◌, [], length, take}
-use Rattle.ql_plain.specs.Adding.{Adds, From}
+use Rattle.ref_sets.specs.Adding.{Adds, From}
 use Rattle.ql_plain.specs.internal.Linked.{IsThereAs}
 use Rattle.ql_plain.proofs.there.those_there.Given as goal
 

@@ -1,0 +1,5 @@
+pub mod BodyItems
+pub mod Founding
+pub mod NamedLists
+pub mod Seeking
+pub mod shared

@@ -1,0 +1,18 @@
+//! Sets of references, and the named sets of a query.
+#![tactic(auto)]
+
+mod found;
+mod items;
+mod named_set;
+mod referenced;
+mod rising_lists;
+mod search;
+mod sets;
+
+pub use found::Found;
+pub use items::add_items;
+pub use named_set::NamedSet;
+pub use referenced::Referenced;
+pub use rising_lists::{is_in, kept, tidy, unite};
+pub use search::{compare, even_place, seek, step_to};
+pub use sets::Sets;
