@@ -25,7 +25,7 @@ use Rattle.osm_index.specs.declared.manifest.Manifest.{Manifest}
 use Rattle.tree_node.specs.declared.tree.Tree.TheVariants.{Objects}
 use Rattle.tree_walk.specs.Given.{These}
 use Rattle.tree_walk.proofs.shared.GivenLaws.{gives_more}
-use Rattle.ql_eval.specs.internal.Told.{IsAbsent}
+use Rattle.ql_eval.specs.Told.{IsAbsent}
 use Rattle.ql_eval.specs.Faults.{cause_of_evaluation}
 use Rattle.ql_eval.specs.Questions.{NeedsAsk, object_ask}
 use Rattle.ql_eval.specs.internal.Objects.{AreAbsent, IsKnownObject, IsKnownParent, IsKnownThere, Remembers}
@@ -70,6 +70,10 @@ one_known objects name one other at at_too = let same : Some one ≡ Some other 
 -- what is remembered stays known
 pub remembers_later : (p : Publication) (used later : Nodes) (objects : BTreeMap Ref (Option Element)) → ((x : List ℕ) → used x → later x) → Remembers p used objects → Remembers p later objects
 remembers_later p used later objects grows known is r object at = known_later p r object used later grows (known is r object at)
+
+-- nothing was looked up yet
+pub none_remembered : (p : Publication) (used : Nodes) (objects : BTreeMap Ref (Option Element)) → objects.entries ≡ [] → Remembers p used objects
+none_remembered p used objects empty is r object at = absurd (let no : None ≡ Some object = sym (ap (λ es. lookup (is_at (ref_cmp r)) es) empty) ∙ at in Prim.cc)
 
 equal_is : (o : Ordering) → is_eq o ≡ true → o ≡ Equal
 equal_is Less e = absurd Prim.cc
@@ -147,6 +151,11 @@ there_later knows later r grows is = (is.0, grows (Some is.0) is.1)
 
 pub parent_later : (knows later : Ref → Option Element → Type 0) (r : Ref) → ((o : Option Element) → knows r o → later r o) → IsKnownParent knows r → IsKnownParent later r
 parent_later knows later r grows is other = there_later knows later r grows (is other)
+
+-- nothing is known to be there where nothing was lent
+pub known_is_none : (knows : Ref → Option Element → Type 0) (r : Ref) (lent : Option (Bor Element)) → (object : Option Element) × knows r object
+    → ((object : Option Element) → knows r object → option_copied lent ≡ object) → lent ≡ None → knows r None
+known_is_none knows r lent known says is = subst (λ (object : Option Element). knows r object) (sym (says known.0 known.1) ∙ ap option_copied is) known.1
 
 -- what a look-up told is there, where it was lent
 pub known_is_there : (knows : Ref → Option Element → Type 0) (r : Ref) (lent : Option (Bor Element)) (o : Bor Element) → (object : Option Element) × knows r object

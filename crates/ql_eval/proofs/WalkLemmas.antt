@@ -24,7 +24,8 @@ use Rattle.tree_walk.proofs.shared.GivenLaws.{given_entry, gives_more}
 use Rattle.tree_walk.proofs.shared.WalksGivenLaws.{given_one}
 use Rattle.ql_eval.specs.Faults.{fault_of_walk}
 use Rattle.ql_eval.specs.Forms.{HaveForm}
-use Rattle.ql_eval.specs.internal.Told.{IsAbsent, IsTold}
+use Rattle.ql_eval.specs.Told.{IsAbsent}
+use Rattle.ql_eval.specs.internal.Told.{IsTold}
 use Rattle.ql_eval.specs.declared.fault.EvalFault.{EvalFault}
 use Rattle.ql_eval.specs.internal.Entries.{AreMisread, IsPutBy}
 

@@ -1,6 +1,6 @@
 //! What the base of a query statement finds, asked of a source.
 
-ghost use Rattle.std.specs.Prelude.{◌≡◌, ◌↔◌, ◌<◌, ℕ, IfOk, List, OnOk};
+ghost use Rattle.std.specs.Prelude.{◌≡◌, ◌↔◌, ◌<◌, ℕ, IfErr, IfOk, List, OnOk};
 ghost use Rattle.std.specs.List.{Contains};
 ghost use Rattle.std.specs.List.Sorted.{IsStrictlySortedBy};
 ghost use Rattle.std.specs.Option.{ForSome, option_map, option_to_list};
@@ -48,6 +48,7 @@ pub(crate) fn candidates<W: Source>(
     requires { ForSome (option_map (λ f. filter_of f.now) base) (λ base. rank_of base < never) }
     ensures later { W.later source.old source.new }
     ensures walked { OnOk result (W.walked source.old source.new) }
+    ensures told { IfErr result (W.tells source.new) }
     ensures rising { IfOk result (λ refs. IsStrictlySortedBy ref_cmp refs.items) }
     ensures answer { (p : Publication) → IsPublication p → W.under source.old p → AreAllThere p.objects (lists_of sets.now.named.items)
         → ForSome (option_map (λ f. filter_of f.now) base.entry) (Allows pick)
@@ -65,6 +66,7 @@ pub(crate) fn candidates<W: Source>(
 fn of_kinds<W: Source>(alloc: Global, source: &mut W, kinds: &[Kind]) -> Result<Vec<Ref>, EvalFault>
     ensures later { W.later source.old source.new }
     ensures walked { OnOk result (W.walked source.old source.new) }
+    ensures told { IfErr result (W.tells source.new) }
     ensures rising { IfOk result (λ refs. IsStrictlySortedBy ref_cmp refs.items) }
     ensures answer { (p : Publication) → IsPublication p → W.under source.old p
         → Outcome cause_of_evaluation (λ refs. IsSetOf refs.items (From kinds.now (IsOfThisKind p.objects))) (NeededBy p (From kinds.now IsKindAsk))
@@ -82,6 +84,7 @@ fn of_kinds<W: Source>(alloc: Global, source: &mut W, kinds: &[Kind]) -> Result<
 fn add_kind<W: Source>(source: &mut W, kind: Kind, refs: &mut Vec<Ref>) -> Result<(), EvalFault>
     ensures later { W.later source.old source.new }
     ensures walked { OnOk result (W.walked source.old source.new) }
+    ensures told { IfErr result (W.tells source.new) }
     ensures answer { (p : Publication) → IsPublication p → W.under source.old p
         → Outcome cause_of_evaluation (λ _. Adds refs.old.items refs.new.items (IsOfThisKind p.objects kind)) (NeededBy p (IsKindAsk kind))
         (record { held = W.holds source.new; before = W.used source.old; after = W.used source.new }) result }
@@ -102,6 +105,7 @@ fn kept_by<W: Source>(
     requires { rank_of (filter_of filter.now) < never }
     ensures later { W.later source.old source.new }
     ensures walked { OnOk result (W.walked source.old source.new) }
+    ensures told { IfErr result (W.tells source.new) }
     ensures rising { IfOk result (λ refs. IsStrictlySortedBy ref_cmp refs.items) }
     ensures answer { (p : Publication) → IsPublication p → W.under source.old p → AreAllThere p.objects (lists_of sets.now.named.items) → Allows pick (filter_of filter.now)
         → Outcome cause_of_evaluation (λ refs. IsSetOf refs.items (IsKeptOf p.objects (lists_of sets.now.named.items) (kind_picked pick) (filter_of filter.now)))
@@ -133,6 +137,7 @@ fn with_ids<W: Source>(
 ) -> Result<Vec<Ref>, EvalFault>
     ensures later { W.later source.old source.new }
     ensures walked { OnOk result (W.walked source.old source.new) }
+    ensures told { IfErr result (W.tells source.new) }
     ensures rising { IfOk result (λ refs. IsStrictlySortedBy ref_cmp refs.items) }
     ensures answer { (p : Publication) → IsPublication p → W.under source.old p
         → Outcome cause_of_evaluation (λ refs. IsSetOf refs.items (λ r. IsOfIds kind ids.now r × IsThere p.objects r)) (NeededBy p (AskedFor (IsOfIds kind ids.now) object_ask))
@@ -172,6 +177,7 @@ fn with_key<W: Source>(
 ) -> Result<Vec<Ref>, EvalFault>
     ensures later { W.later source.old source.new }
     ensures walked { OnOk result (W.walked source.old source.new) }
+    ensures told { IfErr result (W.tells source.new) }
     ensures rising { IfOk result (λ refs. IsStrictlySortedBy ref_cmp refs.items) }
     ensures answer { (p : Publication) → IsPublication p → W.under source.old p → HasNoNul key.now
         → Outcome cause_of_evaluation (λ refs. IsSetOf refs.items (λ r. IsRefOf p.objects (λ o. HasKeyOf o key.now) r × IsKindOf kind r)) (NeededBy p (λ ask. ask ≡ names_ask (questions.WithKey key.now)))
@@ -190,6 +196,7 @@ fn in_box<W: Source>(
 ) -> Result<Vec<Ref>, EvalFault>
     ensures later { W.later source.old source.new }
     ensures walked { OnOk result (W.walked source.old source.new) }
+    ensures told { IfErr result (W.tells source.new) }
     ensures rising { IfOk result (λ refs. IsStrictlySortedBy ref_cmp refs.items) }
     ensures answer { (p : Publication) → IsPublication p → W.under source.old p
         → Outcome cause_of_evaluation (λ refs. IsSetOf refs.items (λ r. IsRefOf p.objects (IsInBox area.now) r × IsKindOf kind r)) (NeededBy p (IsAskedInBox area.now))

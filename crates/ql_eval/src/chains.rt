@@ -1,6 +1,6 @@
 //! Chains of membership of any length, asked of a source.
 
-ghost use Rattle.std.specs.Prelude.{◌≡◌, ◌++◌, ℕ, IfOk, List, OnOk};
+ghost use Rattle.std.specs.Prelude.{◌≡◌, ◌++◌, ℕ, IfErr, IfOk, List, OnOk};
 ghost use Rattle.std.specs.List.{Contains};
 ghost use Rattle.std.specs.List.Sorted.{IsStrictlySortedBy};
 ghost use Rattle.osm_model.specs.Elements.{ref_cmp};
@@ -40,6 +40,7 @@ pub(crate) fn ends<W: Source>(
 ) -> Result<Vec<Ref>, EvalFault>
     ensures later { W.later source.old source.new }
     ensures walked { OnOk result (W.walked source.old source.new) }
+    ensures told { IfErr result (W.tells source.new) }
     ensures rising { IfOk result (λ refs. IsStrictlySortedBy ref_cmp refs.items) }
     ensures answer { (p : Publication) → IsPublication p → W.under source.old p → AreThere p.objects from.now
         → Outcome cause_of_evaluation (λ refs. IsSetOf refs.items (IsEnd direction p.objects from.now)) (NeededBy p (IsEndAsk direction p.objects from.now))
@@ -68,6 +69,7 @@ fn leads<W: Source>(
 ) -> Result<Vec<Ref>, EvalFault>
     ensures later { W.later source.old source.new }
     ensures walked { OnOk result (W.walked source.old source.new) }
+    ensures told { IfErr result (W.tells source.new) }
     ensures rising { IfOk result (λ refs. IsStrictlySortedBy ref_cmp refs.items) }
     ensures answer { (p : Publication) → IsPublication p → W.under source.old p → AreThere p.objects names.now
         → Outcome cause_of_evaluation (λ refs. IsSetOf refs.items (From names.now (Leads direction p.objects)))

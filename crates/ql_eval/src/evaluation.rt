@@ -1,6 +1,6 @@
 //! The answer to a query, from what a shelf holds.
 
-ghost use Rattle.std.specs.Prelude.{◌≡◌, ◌-◌, ◌^◌, ◌<◌, ◌⊎◌, ℕ, Err, IfOk, List, OnErr, OnOk, length};
+ghost use Rattle.std.specs.Prelude.{◌≡◌, ◌-◌, ◌^◌, ◌<◌, ◌⊎◌, ℕ, Err, IfErr, IfOk, List, OnErr, OnOk, length};
 ghost use Rattle.tree_node.specs.Digests.{digest};
 ghost use Rattle.tree_node.specs.Outcomes.{EndsWell, Outcome};
 ghost use Rattle.tree_node.specs.Shelves.{HasNone, IsClashFree, SameNodes};
@@ -17,7 +17,9 @@ ghost use Rattle.ql_eval.specs.Faults.{cause_of_evaluation};
 ghost use Rattle.ql_eval.specs.Forms.{HaveForm};
 ghost use Rattle.ql_eval.specs.Openings.{HasMalformed, IsUnder};
 ghost use Rattle.ql_eval.specs.Questions.{NeededBy};
+ghost use Rattle.ql_eval.specs.Told.{HasFault};
 ghost use Rattle.ql_eval.specs.Written.{HasWritten};
+ghost use Rattle.ql_eval.specs.internal.Told.{IsTold};
 
 use crate::answering::answer_all;
 use crate::fault::EvalFault;
@@ -66,6 +68,8 @@ pub fn evaluate<'a, S: Shelf<'a>, T: Sink>(
     // and with `Malformed` where what is held under it is no manifest, memory apart.
     ensures malformed { HasMalformed (S.holds shelf.new) root.now.0
         → (result ≡ Err (EvalFault.Manifest ManifestFault.Malformed)) ⊎ (result ≡ Err EvalFault.Memory) }
+    // Each fault is true of the nodes, whoever made them.
+    ensures told { IfErr result (HasFault (S.holds shelf.new) (S.used shelf.new) root.now.0) }
     // Whatever the root is of, the report counts the walks and what they fetched.
     ensures report { IfOk result (λ report. (found : Manifest) × S.holds shelf.new (manifest_bytes found) × (digest (manifest_bytes found) ≡ root.now.0)
         × HasWalked (record { held = S.holds shelf.new; before = λ bytes. S.used shelf.old bytes ⊎ (bytes ≡ manifest_bytes found); after = S.used shelf.new }) 0 report.ranges 0 report.fetched) }
@@ -119,6 +123,7 @@ fn run_over<'a, S: Shelf<'a>, T: Sink>(
     ensures unlike { IsClashFree (S.holds shelf.new) }
     ensures held { (bytes : List ℕ) → S.used shelf.new bytes → S.holds shelf.new bytes }
     ensures walked { OnOk result (HasGiven (top_among manifest.tops) HaveForm (record { held = S.holds shelf.new; before = S.used shelf.old; after = S.used shelf.new }) 0 tally.new.calls 0 tally.new.fetches) }
+    ensures told { IfErr result (IsTold (S.holds shelf.new) (S.used shelf.new) manifest) }
     ensures kept { T.kept sink.new ≡ T.kept sink.old }
     ensures wrote { (text : List ℕ) × HasWritten (T.stands sink.old) (T.stands sink.new) text }
     ensures answer { (p : Publication) → IsPublication p → IsUnder p manifest → IsQuery (statements_of statements.now)

@@ -14,10 +14,11 @@ ghost use Rattle.osm_index.specs.Publications.{IsPublication, Publication};
 ghost use Rattle.ql_eval.specs.Faults.{cause_of_evaluation};
 ghost use Rattle.ql_eval.specs.Forms.{HaveForm};
 ghost use Rattle.ql_eval.specs.Openings.{IsUnder};
-ghost use Rattle.ql_eval.specs.internal.Told.{IsAbsent, IsTold};
 ghost use Rattle.ql_eval.specs.Questions.{NeedsAsk, object_ask};
+ghost use Rattle.ql_eval.specs.Told.{IsAbsent};
 ghost use Rattle.ql_eval.specs.internal.Entries.{AreMisread, IsPutBy};
 ghost use Rattle.ql_eval.specs.internal.Objects.{AreAbsent, Remembers};
+ghost use Rattle.ql_eval.specs.internal.Told.{IsTold};
 
 use crate::fault::EvalFault;
 use crate::objects::object_in;

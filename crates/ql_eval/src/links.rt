@@ -1,6 +1,6 @@
 //! What objects list, and what lists them, asked of a source.
 
-ghost use Rattle.std.specs.Prelude.{◌≡◌, ℕ, IfOk, List, OnOk};
+ghost use Rattle.std.specs.Prelude.{◌≡◌, ℕ, IfErr, IfOk, List, OnOk};
 ghost use Rattle.std.specs.List.{Contains};
 ghost use Rattle.std.specs.List.Sorted.{IsStrictlySortedBy};
 ghost use Rattle.osm_model.specs.Elements.{ref_cmp};
@@ -32,6 +32,7 @@ pub(crate) fn listed_by<W: Source>(
 ) -> Result<Vec<Ref>, EvalFault>
     ensures later { W.later source.old source.new }
     ensures walked { OnOk result (W.walked source.old source.new) }
+    ensures told { IfErr result (W.tells source.new) }
     ensures there { OnOk result (AreKnownParents (W.knows source.new) names.now) }
     ensures rising { IfOk result (λ refs. IsStrictlySortedBy ref_cmp refs.items) }
     ensures answer { (p : Publication) → IsPublication p → W.under source.old p → AreThere p.objects names.now
@@ -50,6 +51,7 @@ pub(crate) fn listed_by<W: Source>(
 fn add_listed<W: Source>(source: &mut W, name: Ref, listed: &mut Vec<Ref>) -> Result<(), EvalFault>
     ensures later { W.later source.old source.new }
     ensures walked { OnOk result (W.walked source.old source.new) }
+    ensures told { IfErr result (W.tells source.new) }
     ensures there { OnOk result (IsKnownParent (W.knows source.new) name) }
     ensures answer { (p : Publication) → IsPublication p → W.under source.old p → IsThere p.objects name
         → Outcome cause_of_evaluation (λ _. Adds listed.old.items listed.new.items (IsListedOf p.objects name)) (NeededBy p (IsParentAsk name))
@@ -76,6 +78,7 @@ pub(crate) fn those_there<W: Source>(
 ) -> Result<Vec<Ref>, EvalFault>
     ensures later { W.later source.old source.new }
     ensures walked { OnOk result (W.walked source.old source.new) }
+    ensures told { IfErr result (W.tells source.new) }
     ensures rising { IfOk result (λ refs. IsStrictlySortedBy ref_cmp refs.items) }
     ensures answer { (p : Publication) → IsPublication p → W.under source.old p
         → Outcome cause_of_evaluation (λ refs. IsSetOf refs.items (From names.now (IsThereAs p.objects))) (NeededBy p (From names.now IsObjectAsk))
@@ -93,6 +96,7 @@ pub(crate) fn those_there<W: Source>(
 fn add_there<W: Source>(source: &mut W, name: Ref, there: &mut Vec<Ref>) -> Result<(), EvalFault>
     ensures later { W.later source.old source.new }
     ensures walked { OnOk result (W.walked source.old source.new) }
+    ensures told { IfErr result (W.tells source.new) }
     ensures answer { (p : Publication) → IsPublication p → W.under source.old p
         → Outcome cause_of_evaluation (λ _. Adds there.old.items there.new.items (IsThereAs p.objects name)) (NeededBy p (IsObjectAsk name))
         (record { held = W.holds source.new; before = W.used source.old; after = W.used source.new }) result }
@@ -113,6 +117,7 @@ pub(crate) fn listing<W: Source>(
 ) -> Result<Vec<Ref>, EvalFault>
     ensures later { W.later source.old source.new }
     ensures walked { OnOk result (W.walked source.old source.new) }
+    ensures told { IfErr result (W.tells source.new) }
     ensures rising { IfOk result (λ refs. IsStrictlySortedBy ref_cmp refs.items) }
     ensures answer { (p : Publication) → IsPublication p → W.under source.old p
         → Outcome cause_of_evaluation (λ refs. IsSetOf refs.items (From names.now (ListsIt p.objects kind))) (NeededBy p (From names.now (IsBackAsk kind)))
@@ -135,6 +140,7 @@ fn add_listing<W: Source>(
 ) -> Result<(), EvalFault>
     ensures later { W.later source.old source.new }
     ensures walked { OnOk result (W.walked source.old source.new) }
+    ensures told { IfErr result (W.tells source.new) }
     ensures answer { (p : Publication) → IsPublication p → W.under source.old p
         → Outcome cause_of_evaluation (λ _. Adds refs.old.items refs.new.items (ListsIt p.objects kind name)) (NeededBy p (IsBackAsk kind name))
         (record { held = W.holds source.new; before = W.used source.old; after = W.used source.new }) result }
@@ -154,6 +160,7 @@ pub(crate) fn below<W: Source>(
 ) -> Result<Vec<Ref>, EvalFault>
     ensures later { W.later source.old source.new }
     ensures walked { OnOk result (W.walked source.old source.new) }
+    ensures told { IfErr result (W.tells source.new) }
     ensures rising { IfOk result (λ refs. IsStrictlySortedBy ref_cmp refs.items) }
     ensures answer { (p : Publication) → IsPublication p → W.under source.old p → AreThere p.objects names.now
         → Outcome cause_of_evaluation (λ refs. IsSetOf refs.items (λ r. IsListedIn p.objects names.now first last r × IsThere p.objects r))

@@ -1,6 +1,6 @@
 //! Filters that look at references alone.
 
-ghost use Rattle.std.specs.Prelude.{◌≢◌, IfOk, OnOk};
+ghost use Rattle.std.specs.Prelude.{◌≢◌, IfErr, IfOk, OnOk};
 ghost use Rattle.std.specs.List.{Contains};
 ghost use Rattle.std.specs.List.Sorted.{IsStrictlySortedBy};
 ghost use Rattle.osm_model.specs.Elements.{ref_cmp};
@@ -38,6 +38,7 @@ pub(crate) fn narrowed<W: Source>(
     requires { IsStrictlySortedBy ref_cmp refs.items }
     ensures later { W.later source.old source.new }
     ensures walked { OnOk result (W.walked source.old source.new) }
+    ensures told { IfErr result (W.tells source.new) }
     ensures rising { IfOk result (λ left. IsStrictlySortedBy ref_cmp left.items) }
     ensures answer { (p : Publication) → IsPublication p → W.under source.old p → AreAllThere p.objects (lists_of sets.now.named.items)
         → Outcome cause_of_evaluation (λ left. IsSetOf left.items (λ r. Contains refs.items r × IsNamedByAll p.objects (lists_of sets.now.named.items) (filters_of filters.now) r))
@@ -62,6 +63,7 @@ fn named<W: Source>(
     requires { IsStrictlySortedBy ref_cmp refs.items }
     ensures later { W.later source.old source.new }
     ensures walked { OnOk result (W.walked source.old source.new) }
+    ensures told { IfErr result (W.tells source.new) }
     ensures rising { IfOk result (λ left. IsStrictlySortedBy ref_cmp left.items) }
     ensures answer { (p : Publication) → IsPublication p → W.under source.old p → AreAllThere p.objects (lists_of sets.now.named.items)
         → Outcome cause_of_evaluation (λ left. IsSetOf left.items (λ r. Contains refs.items r × IsNamedBy p.objects (lists_of sets.now.named.items) r (filter_of filter.now)))
@@ -120,6 +122,7 @@ fn on_path<W: Source>(
     requires from_rising { IsStrictlySortedBy ref_cmp from.now }
     ensures later { W.later source.old source.new }
     ensures walked { OnOk result (W.walked source.old source.new) }
+    ensures told { IfErr result (W.tells source.new) }
     ensures rising { IfOk result (λ left. IsStrictlySortedBy ref_cmp left.items) }
     ensures answer { (p : Publication) → IsPublication p → W.under source.old p → AreThere p.objects from.now
         → Outcome cause_of_evaluation (λ left. IsSetOf left.items (λ r. Contains refs.items r × IsNamedOnPath p.objects from.now path r))
@@ -147,6 +150,7 @@ fn listed_from<W: Source>(
     requires parent { kind ≢ kinds.Node }
     ensures later { W.later source.old source.new }
     ensures walked { OnOk result (W.walked source.old source.new) }
+    ensures told { IfErr result (W.tells source.new) }
     ensures rising { IfOk result (λ left. IsStrictlySortedBy ref_cmp left.items) }
     ensures answer { (p : Publication) → IsPublication p → W.under source.old p → AreThere p.objects from.now
         → Outcome cause_of_evaluation (λ left. IsSetOf left.items (λ r. Contains refs.now r × IsListedBy p.objects (IsOfKindIn from.now kind) r))

@@ -46,7 +46,8 @@ impl<'s, 'a, S: Shelf<'a>> Source for Over<'s, 'a, S> {
     ghost use Rattle.ql_eval.specs.Forms.{HaveForm};
     ghost use Rattle.osm_index.specs.Publications.{Publication};
     ghost use Rattle.ql_eval.specs.Openings.{IsUnder};
-    ghost use Rattle.ql_eval.specs.internal.Objects.{Remembers};
+    ghost use Rattle.ql_eval.specs.internal.Objects.{AreAbsent, Remembers};
+    ghost use Rattle.ql_eval.specs.internal.Told.{IsTold};
     ghost use Rattle.tree_walk.proofs.shared.WalksGivenLaws.{given_none, given_then};
 
     ghost holds = { λ o. S.holds o.shelf.now };
@@ -57,15 +58,18 @@ impl<'s, 'a, S: Shelf<'a>> Source for Over<'s, 'a, S> {
 
     ghost knows = { λ o r object. get ref_cmp o.objects.now r ≡ Some object };
 
+    ghost tells = { λ o fault. AreAbsent (S.used o.shelf.now) o.manifest o.objects.now → IsTold (S.holds o.shelf.now) (S.used o.shelf.now) o.manifest fault };
+
     ghost later = { λ o n. (o.shelf.ghost_name ≡ n.shelf.ghost_name) × (o.manifest ≡ n.manifest)
         × SameNodes (S.holds o.shelf.now) (S.holds n.shelf.now) × ((bytes : List ℕ) → S.used o.shelf.now bytes → S.used n.shelf.now bytes)
         × ((p : Publication) → IsUnder p o.manifest → Remembers p (S.used o.shelf.now) o.objects.now → Remembers p (S.used n.shelf.now) n.objects.now)
-        × ((r : Ref) (object : Option Element) → get ref_cmp o.objects.now r ≡ Some object → get ref_cmp n.objects.now r ≡ Some object) };
+        × ((r : Ref) (object : Option Element) → get ref_cmp o.objects.now r ≡ Some object → get ref_cmp n.objects.now r ≡ Some object)
+        × (AreAbsent (S.used o.shelf.now) o.manifest o.objects.now → AreAbsent (S.used n.shelf.now) n.manifest n.objects.now) };
 
     ghost walked = { λ o n. HasGiven (top_among n.manifest.tops) HaveForm (record { held = S.holds n.shelf.now; before = S.used o.shelf.now; after = S.used n.shelf.now })
         o.tally.calls n.tally.calls o.tally.fetches n.tally.fetches };
 
-    ghost itself = { λ o. (refl, refl, (λ x. ((λ has. has), (λ has. has))), (λ x has. has), (λ p under known. known), (λ r object known. known)) };
+    ghost itself = { λ o. (refl, refl, (λ x. ((λ has. has), (λ has. has))), (λ x has. has), (λ p under known. known), (λ r object known. known), (λ absent. absent)) };
 
     ghost chained = { λ o n m first second. (
       first.0 ∙ second.0,
@@ -74,6 +78,7 @@ impl<'s, 'a, S: Shelf<'a>> Source for Over<'s, 'a, S> {
       (λ x has. second.3 x (first.3 x has)),
       (λ p under known. second.4 p (subst (λ (m : Manifest). IsUnder p m) first.1 under) (first.4 p under known)),
       (λ r object known. second.5 r object (first.5 r object known)),
+      (λ absent. second.6 (first.6 absent)),
     ) };
 
     ghost stays = { λ o n later. later.2 };
@@ -83,6 +88,10 @@ impl<'s, 'a, S: Shelf<'a>> Source for Over<'s, 'a, S> {
     ghost same_under = { λ o n p later under. (subst (λ (m : Manifest). IsUnder p m) later.1 under.0, later.4 p under.0 under.1) };
 
     ghost same_known = { λ o n r object later known. later.5 r object known };
+
+    ghost out_of_memory = { λ o absent. tt };
+
+    ghost not_there = { λ o r known absent. (r, absent r known) };
 
     ghost no_walk = { λ o. given_none (top_among o.manifest.tops) HaveForm (S.holds o.shelf.now) (S.used o.shelf.now) o.tally.calls o.tally.fetches };
 

@@ -1,6 +1,6 @@
 //! Filters that look at an object.
 
-ghost use Rattle.std.specs.Prelude.{◌++◌, ◌↔◌, IfOk, IsTrue, OnOk};
+ghost use Rattle.std.specs.Prelude.{◌++◌, ◌↔◌, IfErr, IfOk, IsTrue, OnOk};
 ghost use Rattle.std.specs.List.Sorted.{IsStrictlySortedBy};
 ghost use Rattle.osm_model.specs.Elements.{ref_cmp};
 ghost use Rattle.tree_node.specs.Outcomes.{Outcome};
@@ -37,6 +37,7 @@ pub(crate) fn passing<W: Source>(
 ) -> Result<Vec<Ref>, EvalFault>
     ensures later { W.later source.old source.new }
     ensures walked { OnOk result (W.walked source.old source.new) }
+    ensures told { IfErr result (W.tells source.new) }
     ensures there { OnOk result (AreKnownThere (W.knows source.new) candidates.now) }
     ensures rising { IfOk result (λ refs. IsStrictlySortedBy ref_cmp refs.items) }
     ensures answer { (p : Publication) → IsPublication p → W.under source.old p → AreThere p.objects candidates.now
@@ -63,6 +64,7 @@ fn add_passing<W: Source>(
 ) -> Result<(), EvalFault>
     ensures later { W.later source.old source.new }
     ensures walked { OnOk result (W.walked source.old source.new) }
+    ensures told { IfErr result (W.tells source.new) }
     ensures there { OnOk result (IsKnownThere (W.knows source.new) name) }
     ensures answer { (p : Publication) → IsPublication p → W.under source.old p → IsThere p.objects name
         → Outcome cause_of_evaluation (λ _. Adds refs.old.items refs.new.items (IsPassingAs p.objects (lists_of sets.now.named.items) (filters_of before.now ++ filters_of after.now) name))

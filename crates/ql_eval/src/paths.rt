@@ -1,6 +1,6 @@
 //! Paths from a set, asked of a source.
 
-ghost use Rattle.std.specs.Prelude.{◌≡◌, ◌≢◌, ℕ, IfOk, List, OnOk};
+ghost use Rattle.std.specs.Prelude.{◌≡◌, ◌≢◌, ℕ, IfErr, IfOk, List, OnOk};
 ghost use Rattle.std.specs.List.Sorted.{IsStrictlySortedBy};
 ghost use Rattle.osm_model.specs.Elements.{ref_cmp};
 ghost use Rattle.osm_model.specs.declared.kind.Kind.TheVariants as kinds;
@@ -33,6 +33,7 @@ pub(crate) fn on_path<W: Source>(
     requires { IsStrictlySortedBy ref_cmp set.now }
     ensures later { W.later source.old source.new }
     ensures walked { OnOk result (W.walked source.old source.new) }
+    ensures told { IfErr result (W.tells source.new) }
     ensures rising { IfOk result (λ refs. IsStrictlySortedBy ref_cmp refs.items) }
     ensures answer { (p : Publication) → IsPublication p → W.under source.old p → AreThere p.objects set.now
         → Outcome cause_of_evaluation (λ refs. IsSetOf refs.items (IsAt p.objects set.now kind path)) (NeededBy p (AskedByPath p.objects set.now kind path))
@@ -58,6 +59,7 @@ fn below_of<W: Source>(
     requires { IsStrictlySortedBy ref_cmp set.now }
     ensures later { W.later source.old source.new }
     ensures walked { OnOk result (W.walked source.old source.new) }
+    ensures told { IfErr result (W.tells source.new) }
     ensures rising { IfOk result (λ refs. IsStrictlySortedBy ref_cmp refs.items) }
     ensures answer { (p : Publication) → IsPublication p → W.under source.old p → AreThere p.objects set.now → from ≢ kinds.Node
         → Outcome cause_of_evaluation (λ refs. IsSetOf refs.items (IsBelowOf p.objects set.now from kind)) (NeededBy p (AskedBelow p.objects set.now from kind))

@@ -1,6 +1,6 @@
 //! Which plan of a query statement is taken.
 
-ghost use Rattle.std.specs.Prelude.{◌≡◌, ◌+◌, ◌<◌, IfOk, OnOk, filter, if◌then◌else◌, length};
+ghost use Rattle.std.specs.Prelude.{◌≡◌, ◌+◌, ◌<◌, IfErr, IfOk, OnOk, filter, if◌then◌else◌, length};
 ghost use Rattle.std.specs.Option.{ForSome};
 ghost use Rattle.tree_node.specs.Outcomes.{Outcome};
 ghost use Rattle.osm_index.specs.Publications.{IsPublication, Publication};
@@ -31,6 +31,7 @@ pub(crate) fn planned<'q, 's, W: Source>(
 ) -> Result<Plan<'q, 's>, EvalFault>
     ensures later { W.later source.old source.new }
     ensures walked { OnOk result (W.walked source.old source.new) }
+    ensures told { IfErr result (W.tells source.new) }
     // Whatever the source tells, the plan has these filters, and its base is one that can be a base.
     ensures written { IfOk result (λ plan. (filters_in plan ≡ filters_of filters.now) × ForSome plan.base (λ base. rank_of base < never)) }
     ensures answer { (p : Publication) → IsPublication p → W.under source.old p
@@ -54,6 +55,7 @@ fn counts_of<W: Source>(
 ) -> Result<Vec<u64>, EvalFault>
     ensures later { W.later source.old source.new }
     ensures walked { OnOk result (W.walked source.old source.new) }
+    ensures told { IfErr result (W.tells source.new) }
     ensures many { IfOk result (λ counts. length counts.items ≡ length (filter is_counted (filters_of filters.now))) }
     ensures answer { (p : Publication) → IsPublication p → W.under source.old p
         → Outcome cause_of_evaluation (λ counts. AreCounts p kind (filter is_counted (filters_of filters.now)) counts.items)
@@ -76,6 +78,7 @@ fn add_count<W: Source>(
 ) -> Result<(), EvalFault>
     ensures later { W.later source.old source.new }
     ensures walked { OnOk result (W.walked source.old source.new) }
+    ensures told { IfErr result (W.tells source.new) }
     ensures many { OnOk result (length counts.new.items ≡ length counts.old.items + (if is_counted (filter_of filter.now) then 1 else 0)) }
     ensures answer { (p : Publication) → IsPublication p → W.under source.old p
         → Outcome cause_of_evaluation (λ _. HasCounted p kind (filter_of filter.now) counts.old.items counts.new.items) (NeededBy p (IsRivalAsk kind (filter_of filter.now)))

@@ -1,6 +1,6 @@
 //! What an out prints.
 
-ghost use Rattle.std.specs.Prelude.{◌≡◌, ◌≢◌, ℕ, List, OnOk};
+ghost use Rattle.std.specs.Prelude.{◌≡◌, ◌≢◌, ℕ, IfErr, List, OnOk};
 ghost use Rattle.std.specs.List.Sorted.{IsStrictlySortedBy};
 ghost use Rattle.osm_model.specs.Elements.{ref_cmp};
 ghost use Rattle.osm_model.specs.Sets.{object_at};
@@ -38,6 +38,7 @@ pub(crate) fn print<W: Source, T: Sink>(
     requires { IsStrictlySortedBy ref_cmp refs.now }
     ensures later { W.later source.old source.new }
     ensures walked { OnOk result (W.walked source.old source.new) }
+    ensures told { IfErr result (W.tells source.new) }
     ensures kept { T.kept sink.new ≡ T.kept sink.old }
     ensures wrote { (text : List ℕ) × HasWritten (T.stands sink.old) (T.stands sink.new) text }
     ensures there { OnOk result (mode ≢ OutMode.Ids → AreKnownThere (W.knows source.new) (cut limit refs.now)) }
@@ -99,6 +100,7 @@ fn print_objects<W: Source, T: Sink>(
 ) -> Result<(), EvalFault>
     ensures later { W.later source.old source.new }
     ensures walked { OnOk result (W.walked source.old source.new) }
+    ensures told { IfErr result (W.tells source.new) }
     ensures kept { T.kept sink.new ≡ T.kept sink.old }
     ensures wrote { (text : List ℕ) × HasWritten (T.stands sink.old) (T.stands sink.new) text }
     ensures there { OnOk result (AreKnownThere (W.knows source.new) names.now) }
@@ -124,6 +126,7 @@ fn print_object<W: Source, T: Sink>(
 ) -> Result<(), EvalFault>
     ensures later { W.later source.old source.new }
     ensures walked { OnOk result (W.walked source.old source.new) }
+    ensures told { IfErr result (W.tells source.new) }
     ensures kept { T.kept sink.new ≡ T.kept sink.old }
     ensures wrote { (text : List ℕ) × HasWritten (T.stands sink.old) (T.stands sink.new) text }
     ensures there { OnOk result (IsKnownThere (W.knows source.new) name) }

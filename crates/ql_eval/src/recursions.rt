@@ -1,6 +1,6 @@
 //! Recursions from a set, asked of a source.
 
-ghost use Rattle.std.specs.Prelude.{◌≡◌, ℕ, IfOk, List, OnOk};
+ghost use Rattle.std.specs.Prelude.{◌≡◌, ℕ, IfErr, IfOk, List, OnOk};
 ghost use Rattle.std.specs.List.Sorted.{IsStrictlySortedBy};
 ghost use Rattle.osm_model.specs.Elements.{ref_cmp};
 ghost use Rattle.tree_node.specs.Outcomes.{Outcome};
@@ -34,6 +34,7 @@ pub(crate) fn recurse<W: Source>(
     requires { IsStrictlySortedBy ref_cmp set.now }
     ensures later { W.later source.old source.new }
     ensures walked { OnOk result (W.walked source.old source.new) }
+    ensures told { IfErr result (W.tells source.new) }
     ensures rising { IfOk result (λ refs. IsStrictlySortedBy ref_cmp refs.items) }
     ensures answer { (p : Publication) → IsPublication p → W.under source.old p → AreThere p.objects set.now
         → Outcome cause_of_evaluation (λ refs. IsSetOf refs.items (IsRefOf p.objects (IsReached p.objects how set.now)))
@@ -53,6 +54,7 @@ fn down<W: Source>(alloc: Global, source: &mut W, set: &[Ref]) -> Result<Vec<Ref
     requires { IsStrictlySortedBy ref_cmp set.now }
     ensures later { W.later source.old source.new }
     ensures walked { OnOk result (W.walked source.old source.new) }
+    ensures told { IfErr result (W.tells source.new) }
     ensures rising { IfOk result (λ refs. IsStrictlySortedBy ref_cmp refs.items) }
     ensures answer { (p : Publication) → IsPublication p → W.under source.old p → AreThere p.objects set.now
         → Outcome cause_of_evaluation (λ refs. IsSetOf refs.items (IsRefOf p.objects (IsReached p.objects recursions.Down set.now)))
@@ -76,6 +78,7 @@ fn add_members<W: Source>(
 ) -> Result<(), EvalFault>
     ensures later { W.later source.old source.new }
     ensures walked { OnOk result (W.walked source.old source.new) }
+    ensures told { IfErr result (W.tells source.new) }
     ensures answer { (p : Publication) → IsPublication p → W.under source.old p → AreThere p.objects relations.now
         → Outcome cause_of_evaluation (λ _. Adds refs.old.items refs.new.items (IsMemberBelow p.objects relations.now))
         (NeededBy p (IsMemberAsk p.objects relations.now))
@@ -94,6 +97,7 @@ fn up<W: Source>(alloc: Global, source: &mut W, set: &[Ref]) -> Result<Vec<Ref>,
     requires { IsStrictlySortedBy ref_cmp set.now }
     ensures later { W.later source.old source.new }
     ensures walked { OnOk result (W.walked source.old source.new) }
+    ensures told { IfErr result (W.tells source.new) }
     ensures rising { IfOk result (λ refs. IsStrictlySortedBy ref_cmp refs.items) }
     ensures answer { (p : Publication) → IsPublication p → W.under source.old p → AreThere p.objects set.now
         → Outcome cause_of_evaluation (λ refs. IsSetOf refs.items (IsRefOf p.objects (IsReached p.objects recursions.Up set.now)))

@@ -1,6 +1,6 @@
 //! Statements that write sets, asked of a source.
 
-ghost use Rattle.std.specs.Prelude.{◌≡◌, ℕ, IfOk, List, OnOk};
+ghost use Rattle.std.specs.Prelude.{◌≡◌, ℕ, IfErr, IfOk, List, OnOk};
 ghost use Rattle.tree_node.specs.Outcomes.{Outcome};
 ghost use Rattle.osm_index.specs.Publications.{IsPublication, Publication};
 ghost use Rattle.ql_syntax.specs.StatementViews.{statement_of, statements_of};
@@ -32,6 +32,7 @@ pub(crate) fn run<'q, W: Source>(
 ) -> Result<(), EvalFault>
     ensures later { W.later source.old source.new }
     ensures walked { OnOk result (W.walked source.old source.new) }
+    ensures told { IfErr result (W.tells source.new) }
     ensures answer { (p : Publication) → IsPublication p → W.under source.old p → AreAllThere p.objects (lists_of sets.old.named.items) → CanRun (statement_of statement.now)
         → Outcome cause_of_evaluation (λ _. After p.objects (statement_of statement.now) (lists_of sets.old.named.items) (lists_of sets.new.named.items))
         (NeededBy p (AskedBy p (statement_of statement.now) (lists_of sets.old.named.items)))
@@ -85,6 +86,7 @@ fn run_all<'q, W: Source>(
 ) -> Result<Vec<Ref>, EvalFault>
     ensures later { W.later source.old source.new }
     ensures walked { OnOk result (W.walked source.old source.new) }
+    ensures told { IfErr result (W.tells source.new) }
     ensures answer { (p : Publication) → IsPublication p → W.under source.old p → AreAllThere p.objects (lists_of sets.old.named.items) → CanRunAll (statements_of parts.now)
         → Outcome cause_of_evaluation (λ given. AfterAll p.objects (statements_of parts.now) (lists_of sets.old.named.items) (lists_of sets.new.named.items) given.items)
         (NeededBy p (AskedByAll p (statements_of parts.now) (lists_of sets.old.named.items)))

@@ -1,6 +1,6 @@
 //! What an evaluation asks.
 
-ghost use Rattle.std.specs.Prelude.{◌≡◌, ℕ, IfOk, List, OnOk, Option};
+ghost use Rattle.std.specs.Prelude.{◌≡◌, ℕ, IfErr, IfOk, List, None, OnOk, Option};
 ghost use Rattle.std.specs.List.Sorted.{IsStrictlySortedBy};
 ghost use Rattle.std.specs.Option.{option_copied};
 ghost use Rattle.osm_model.specs.Elements.{Element, ref_cmp};
@@ -14,6 +14,8 @@ ghost use Rattle.ql_meaning.specs.Values.{IsRefOf};
 ghost use Rattle.ql_eval.specs.Asks.{IsAskedInBox, IsInBox};
 ghost use Rattle.ql_eval.specs.Faults.{cause_of_evaluation};
 ghost use Rattle.ql_eval.specs.Questions.{Answers, HasNoNulIn, IsCountOf, NeededBy, NeedsAsk, count_ask, names_ask, object_ask};
+ghost use Rattle.ql_eval.specs.declared.fault.EvalFault.{EvalFault};
+ghost use Rattle.ql_eval.specs.declared.fault.EvalFault.TheVariants.{Absent, Memory};
 ghost use Rattle.ql_eval.specs.internal.Views.{question_of};
 
 use crate::fault::EvalFault;
@@ -41,10 +43,14 @@ pub(crate) trait Source {
     /// What the source knows of a reference that was looked up: its object, or none where there is none.
     ghost knows: { Self → Ref → Option Element → Type 0 };
 
+    /// What is true of the nodes if this fault is told now.
+    ghost tells: { Self → EvalFault → Type 0 };
+
     /// Looks up the object with this reference, unless that was done before. Afterwards it is known.
     fn look_up(&mut self, name: Ref) -> Result<(), EvalFault>
         ensures later { later self.old self.new }
         ensures walked { OnOk result (walked self.old self.new) }
+        ensures told { IfErr result (tells self.new) }
         ensures known { OnOk result ((object : Option Element) × knows self.new name object) }
         ensures answer { (p : Publication) → IsPublication p → under self.old p
             → Outcome cause_of_evaluation (λ _. knows self.new name (object_at p.objects name)) (NeedsAsk p (object_ask name))
@@ -59,6 +65,7 @@ pub(crate) trait Source {
         ensures rising { IfOk result (λ names. IsStrictlySortedBy ref_cmp names.items) }
         ensures later { later self.old self.new }
         ensures walked { OnOk result (walked self.old self.new) }
+        ensures told { IfErr result (tells self.new) }
         ensures answer { (p : Publication) → IsPublication p → under self.old p → HasNoNulIn (question_of question.now)
             → Outcome cause_of_evaluation (λ names. IsSetOf names.items (IsRefOf p.objects (Answers (question_of question.now))))
             (NeedsAsk p (names_ask (question_of question.now)))
@@ -68,6 +75,7 @@ pub(crate) trait Source {
     fn count(&mut self, question: &Question<'_>) -> Result<u64, EvalFault>
         ensures later { later self.old self.new }
         ensures walked { OnOk result (walked self.old self.new) }
+        ensures told { IfErr result (tells self.new) }
         ensures answer { (p : Publication) → IsPublication p → under self.old p
             → Outcome cause_of_evaluation (IsCountOf p (question_of question.now)) (NeedsAsk p (count_ask (question_of question.now)))
             (record { held = holds self.new; before = used self.old; after = used self.new }) result };
@@ -77,6 +85,7 @@ pub(crate) trait Source {
         ensures rising { IfOk result (λ names. IsStrictlySortedBy ref_cmp names.items) }
         ensures later { later self.old self.new }
         ensures walked { OnOk result (walked self.old self.new) }
+        ensures told { IfErr result (tells self.new) }
         ensures answer { (p : Publication) → IsPublication p → under self.old p
             → Outcome cause_of_evaluation (λ names. IsSetOf names.items (IsRefOf p.objects (IsInBox area.now)))
             (NeededBy p (IsAskedInBox area.now))
@@ -93,6 +102,10 @@ pub(crate) trait Source {
     ghost same_under: { (s t : Self) (p : Publication) → later s t → under s p → under t p };
 
     ghost same_known: { (s t : Self) (r : Ref) (object : Option Element) → later s t → knows s r object → knows t r object };
+
+    ghost out_of_memory: { (s : Self) → tells s Memory };
+
+    ghost not_there: { (s : Self) (r : Ref) → knows s r None → tells s Absent };
 
     ghost no_walk: { (s : Self) → walked s s };
 

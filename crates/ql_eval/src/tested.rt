@@ -1,6 +1,6 @@
 //! Of candidates those that the left-over filters keep.
 
-ghost use Rattle.std.specs.Prelude.{◌++◌, IfOk, OnOk};
+ghost use Rattle.std.specs.Prelude.{◌++◌, IfErr, IfOk, OnOk};
 ghost use Rattle.std.specs.List.{Contains};
 ghost use Rattle.std.specs.List.Sorted.{IsStrictlySortedBy};
 ghost use Rattle.osm_model.specs.Elements.{ref_cmp};
@@ -40,6 +40,7 @@ pub(crate) fn tested<W: Source>(
     requires { IsStrictlySortedBy ref_cmp candidates.now }
     ensures later { W.later source.old source.new }
     ensures walked { OnOk result (W.walked source.old source.new) }
+    ensures told { IfErr result (W.tells source.new) }
     ensures rising { IfOk result (λ refs. IsStrictlySortedBy ref_cmp refs.items) }
     ensures answer { (p : Publication) → IsPublication p → W.under source.old p → AreThere p.objects candidates.now → AreAllThere p.objects (lists_of sets.now.named.items)
         → Outcome cause_of_evaluation (λ refs. IsSetOf refs.items (λ r. Contains candidates.now r × IsKeptBy p.objects (lists_of sets.now.named.items) (filters_of before.now ++ filters_of after.now) r))
@@ -65,6 +66,7 @@ fn narrowed_by_both<W: Source>(
     requires { IsStrictlySortedBy ref_cmp refs.items }
     ensures later { W.later source.old source.new }
     ensures walked { OnOk result (W.walked source.old source.new) }
+    ensures told { IfErr result (W.tells source.new) }
     ensures rising { IfOk result (λ left. IsStrictlySortedBy ref_cmp left.items) }
     ensures answer { (p : Publication) → IsPublication p → W.under source.old p → AreAllThere p.objects (lists_of sets.now.named.items)
         → Outcome cause_of_evaluation (λ left. IsSetOf left.items (λ r. Contains refs.items r × IsNamedByAll p.objects (lists_of sets.now.named.items) (filters_of before.now ++ filters_of after.now) r))

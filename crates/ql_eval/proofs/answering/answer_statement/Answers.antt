@@ -35,6 +35,7 @@ pub returns-in_default : goal.returns-in_default
 returns-in_default g c = record {
   later = c.run.ensures.later;
   walked = c.run.ensures.walked;
+  told = c.run.ensures.told;
   kept = refl;
   wrote = ([], written_none);
   answer = λ p is under there top.

@@ -10,7 +10,10 @@ use Rattle.osm_index.specs.Manifests.{top_among}
 use Rattle.tree_walk.proofs.shared.WalksGivenLaws.{given_from, given_walked}
 use Rattle.ql_eval.specs.Forms.{HaveForm}
 use Rattle.ql_eval.specs.Questions.{NeededBy}
+use Rattle.ql_eval.specs.Told.{HasFault}
 use Rattle.ql_eval.proofs.Openings.{opening_cause}
+use Rattle.ql_eval.proofs.StepLemmas.{refused_as}
+use Rattle.ql_eval.proofs.ToldLemmas.{opening_told, told_under}
 use Rattle.ql_eval.proofs.evaluation.evaluate.Goals as goal
 
 pub returns-in-Ok-clause-answer : goal.returns-in-Ok-clause-answer
@@ -56,3 +59,12 @@ returns-in-Ok-clause-report g c = (
 pub returns-in_err-manifest-clause-answer : goal.returns-in_err-manifest-clause-answer
 returns-in_err-manifest-clause-answer g c = λ p is root.
     outcome_stops _ c.from_residual.ensures.1 (opening_cause c.in_err-manifest.field-0.0) (λ x needs. inl needs) (c.in_err-manifest.ensures.answer p root)
+
+pub returns-in_err-manifest-clause-told : goal.returns-in_err-manifest-clause-told
+returns-in_err-manifest-clause-told g c =
+    refused_as (HasFault (g.S.Shelf.holds c.open_manifest.new.shelf) (g.S.Shelf.used c.open_manifest.new.shelf) c.args.root.now.0) c.from_residual.result _ c.from_residual.ensures.1
+    (opening_told _ _ _ c.open_manifest.result _ c.in_err-manifest.was c.open_manifest.ensures.missing c.open_manifest.ensures.malformed)
+
+pub returns-in-Err-clause-told : goal.returns-in-Err-clause-told
+returns-in-Err-clause-told g c =
+    told_under _ _ _ c.in_ok-manifest.manifest ((c.run_over.ensures.stays _).1 c.in_ok-manifest.ensures.held.0) c.in_ok-manifest.ensures.held.1 c.in-Err.fault c.in-Err.ensures.told

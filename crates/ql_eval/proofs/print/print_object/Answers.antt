@@ -5,6 +5,7 @@ use Rattle.osm_model.specs.Elements.{Element}
 use Rattle.ql_eval.specs.Questions.{object_ask}
 use Rattle.ql_eval.specs.Written.{HasWritten}
 use Rattle.ql_eval.proofs.EachLemmas.{needed_one, one_needed}
+use Rattle.ql_eval.proofs.KnownLemmas.{known_is_none}
 use Rattle.ql_eval.proofs.ObjectLemmas.{none_there}
 use Rattle.ql_eval.specs.internal.Printing.{line_of}
 use Rattle.ql_eval.proofs.print.print_object.Goals as goal
@@ -18,3 +19,7 @@ returns-in_ok-put_object-in-Some-clause-answer g c = λ p is under there.
 pub returns-in-None-clause-answer : goal.returns-in-None-clause-answer
 returns-in-None-clause-answer g c = λ p is under there.
     never_stops (needed_one (object_ask c.args.name) refl) (λ so. none_there p.objects c.args.name is.set (sym (sym (ap option_copied c.in-None.is) ∙ c.known.ensures _ so)) there) (c.in_ok-look_up.ensures.answer p is under)
+
+pub returns-in-None-clause-told : goal.returns-in-None-clause-told
+returns-in-None-clause-told g c =
+    g.met.W.Source.not_there _ c.args.name (known_is_none (g.W.Source.knows c.look_up.new.self) c.args.name c.known.result c.in_ok-look_up.ensures.known c.known.ensures c.in-None.is)

@@ -1,0 +1,19 @@
+use Rattle.std.proofs.Common.{ℕ, List, rules, subst}
+use Rattle.tree_node.specs.Outcomes.{Outcome}
+use Rattle.tree_node.proofs.shared.OutcomeLaws.{uses}
+use Rattle.ql_syntax.specs.StatementViews.{statements_of}
+use Rattle.ql_plain.specs.Meanings.{Means, nothing_named}
+use Rattle.ql_eval.specs.Asks.{AskedByAll}
+use Rattle.ql_eval.specs.Faults.{cause_of_evaluation}
+use Rattle.ql_eval.specs.Questions.{NeededBy}
+use Rattle.ql_eval.specs.Written.{HasWritten}
+use Rattle.ql_eval.proofs.KnownLemmas.{none_remembered}
+use Rattle.ql_eval.proofs.evaluation.run_over.Goals as goal
+
+pub returns-clause-answer : goal.returns-clause-answer
+returns-clause-answer g c = λ p is under query.
+    subst
+    (λ s. Outcome cause_of_evaluation (λ (_ : Unit {0}). (text : List ℕ) × Means p.objects (statements_of c.args.statements.now) text × HasWritten (g.T.Sink.stands c.args.sink.now) (g.T.Sink.stands c.answer_all-ran.new.sink) text)
+    (NeededBy p (AskedByAll p (statements_of c.args.statements.now) nothing_named)) (uses (g.S.Shelf.holds s) (g.S.Shelf.used c.args.shelf.now) (g.S.Shelf.used s)) c.answer_all-ran.result)
+    (search rules)
+    (c.answer_all-ran.ensures.answer p is (under, none_remembered p _ c.new-objects.result c.new-objects.ensures.empty) query)
