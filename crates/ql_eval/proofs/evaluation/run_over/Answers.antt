@@ -2,7 +2,8 @@ use Rattle.std.proofs.Common.{ℕ, List, rules, subst}
 use Rattle.tree_node.specs.Outcomes.{Outcome}
 use Rattle.tree_node.proofs.shared.OutcomeLaws.{uses}
 use Rattle.ql_syntax.specs.StatementViews.{statements_of}
-use Rattle.ql_plain.specs.Meanings.{Means, nothing_named}
+use Rattle.ql_meaning.specs.Meanings.{Means}
+use Rattle.ref_sets.specs.NamedSets.{nothing_named}
 use Rattle.ql_eval.specs.Asks.{AskedByAll}
 use Rattle.ql_eval.specs.Faults.{cause_of_evaluation}
 use Rattle.ql_eval.specs.Questions.{NeededBy}
