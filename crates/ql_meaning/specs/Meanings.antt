@@ -3,14 +3,14 @@
 -- each out prints by kind and rising id, and which sets a union and a difference take, is this project's.
 use Rattle.std.specs.Prelude.{◌≡◌, ℕ, Bool, List, [], ◌++◌, Option, Some, None, bytes_eq, filter, flat_map, take, if◌then◌else◌, ◌↔◌}
 use Rattle.std.specs.List.{Contains, list_any}
-use Rattle.std.specs.List.Sorted.{IsStrictlySortedBy}
 use Rattle.std.specs.Ordering.{eq_by_cmp}
 use Rattle.osm_model.specs.Elements.{Element, ref_cmp, reference}
 use Rattle.osm_model.specs.declared.reference.Ref.{Ref}
 use Rattle.opl_codec.specs.Text.{text_of}
 use Rattle.opl_codec.specs.declared.out_mode.OutMode.{OutMode}
 use Rattle.ql_syntax.specs.Statements.{Statement, Statements, Select, Recurse, Item, Union, Minus, Print, End, Then}
-use Rattle.ref_sets.specs.NamedSets.{Env}
+use Rattle.ref_sets.specs.NamedSets.{Env, nothing_named, put}
+use Rattle.ref_sets.specs.Sets.{IsSetOf}
 use Rattle.ql_meaning.specs.Values.{IsReached, IsRefOf, IsSelected}
 
 -- ---- sets that statements write

@@ -20,6 +20,7 @@ use Rattle.ql_syntax.specs.declared.pick.Pick.{Pick}
 use Rattle.ql_syntax.specs.declared.pick.Pick.TheVariants as picks
 use Rattle.ql_syntax.specs.declared.recursion.Recursion.{Recursion}
 use Rattle.ql_syntax.specs.declared.recursion.Recursion.TheVariants as recursions
+use Rattle.ref_sets.specs.NamedSets.{Env}
 
 abbrev pub IsOfKind : Kind → Element → Type 0
 IsOfKind kind o = kind_of o.body ≡ kind

@@ -3,7 +3,6 @@
 
 mod laws;
 mod object_test;
-
 mod written;
 
 pub use laws::{

@@ -8,9 +8,10 @@ use Rattle.std.specs.Ordering.{eq_by_cmp}
 use Rattle.osm_model.specs.Elements.{ref_cmp}
 use Rattle.osm_model.specs.declared.reference.Ref.{Ref}
 use Rattle.ref_sets.proofs.shared.Adding.{adds_one, in_rest, first_or_in_rest, here, none}
+use Rattle.ref_sets.proofs.shared.Tests.{has_it, it_is_had}
 use Rattle.ref_sets.proofs.shared.References.{equal_is_same, equal_itself}
 use Rattle.ql_plain.specs.declared.step.Step.{Step}
-use Rattle.ql_plain.specs.Founds.{AddsName, has, how_many, missing}
+use Rattle.ql_plain.specs.internal.Founds.{AddsName, has, how_many, missing}
 
 -- ---- counts
 

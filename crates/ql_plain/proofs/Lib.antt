@@ -1,11 +1,7 @@
 pub mod ObjectLists
-pub mod Linking
-pub mod BodyItems
-pub mod Rows
-pub mod Marking
-pub mod Leading
-pub mod Listing
 pub mod Selecting
+pub mod Linking
+pub mod Neighbouring
 pub mod OneLink
 pub mod Stepping
 pub mod Founding

@@ -1,3 +1,1 @@
-pub mod Paths
-pub mod Founds
 pub mod internal

@@ -1,25 +1,21 @@
-//! The plain answer to every query: the reference of faster ones.
+//! The plain answer to every query: slow and simple, to compare faster answers with.
+//!
+//! A set of references is computed for each filter and each recursion, over the list of all objects, as the meaning of
+//! queries says it.
 #![tactic(auto)]
 
 mod answer;
 mod chains;
-mod filter_test;
+mod filter;
 mod found;
-mod items;
-mod kept_neighbours;
-mod kinds;
 mod links;
-mod listed;
-mod marks;
-mod named;
 mod neighbours;
-mod node_id;
-mod one_step;
+mod object_test;
 mod print;
 mod recurse;
 mod run;
 mod select;
 mod step;
-mod there;
+mod written;
 
 pub use answer::answer_plain;

@@ -9,8 +9,8 @@ ghost use Rattle.ql_plain.specs.internal.Steps.{AreSteps, oriented};
 
 use crate::links::Link;
 use osm_model::Ref;
-use ref_sets::compare;
 use std::alloc::{AllocError, Global};
+use std::cmp::Ordering;
 
 /// A link, as a recursion goes along it.
 #[derive(Clone, Copy)]
@@ -48,6 +48,12 @@ fn oriented(link: Link, is_up: bool) -> Step
             to: link.child,
         }
     }
+}
+
+fn compare(first: Ref, second: Ref) -> Ordering
+    ensures { result ≡ ref_cmp first second }
+{
+    first.cmp(&second)
 }
 
 /// The steps that start at a reference. Two binary searches.

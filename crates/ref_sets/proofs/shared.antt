@@ -3,6 +3,7 @@ pub mod Adding
 pub mod Filtered
 pub mod Keeping
 pub mod Mapped
+pub mod Parts
 pub mod References
 pub mod Results
 pub mod Tests

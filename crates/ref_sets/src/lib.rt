@@ -3,7 +3,10 @@
 
 mod found;
 mod items;
+mod kinds;
 mod named_set;
+mod named_sets;
+mod ref_set;
 mod referenced;
 mod rising_lists;
 mod search;
@@ -12,6 +15,8 @@ mod sets;
 pub use found::Found;
 pub use items::add_items;
 pub use named_set::NamedSet;
+pub use named_sets::NamedSets;
+pub use ref_set::RefSet;
 pub use referenced::Referenced;
 pub use rising_lists::{is_in, kept, tidy, unite};
 pub use search::{compare, even_place, seek, step_to};

@@ -7,6 +7,7 @@ ghost use Rattle.ref_sets.specs.NamedSets.{nothing_named, put, lists_of};
 ghost use Rattle.ref_sets.specs.internal.NamedSetPlaces.{IsPlaceOf};
 
 use crate::named_set::NamedSet;
+use crate::ref_set::RefSet;
 use osm_model::Ref;
 use std::alloc::{AllocError, Global};
 
@@ -45,6 +46,7 @@ impl<'q> Sets<'q> {
         requires { IsStrictlySortedBy ref_cmp refs.items }
         ensures { OnOk result (lists_of self.new.named.items ≡ put name.now refs.items (lists_of self.old.named.items)) }
     {
+        let refs = RefSet::from_rising(refs);
         match self.place_of(name) {
             Some(place) => {
                 self.named[place] = NamedSet { name, refs };
