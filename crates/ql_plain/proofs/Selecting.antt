@@ -12,12 +12,14 @@ use Rattle.osm_model.specs.declared.reference.Ref.{Ref}
 use Rattle.ql_syntax.specs.Filters as tree
 use Rattle.ql_syntax.specs.StatementViews.{filter_of, filters_of}
 use Rattle.ql_syntax.specs.declared.filter.Filter.{Filter}
+use Rattle.ql_syntax.specs.declared.filter.Filter.TheVariants as code
 use Rattle.ql_syntax.specs.declared.pick.Pick.{Pick}
 use Rattle.ref_sets.proofs.shared.Adding.{adds_to_nothing, one_more}
 use Rattle.ref_sets.proofs.shared.Keeping.{earlier_below, set_as}
 use Rattle.ref_sets.specs.Adding.{Adds, From}
 use Rattle.ref_sets.specs.NamedSets.{Env}
 use Rattle.ref_sets.specs.Sets.{IsSetOf}
+use Rattle.ql_meaning.specs.ObjectTests.{PassesAlone}
 use Rattle.ql_meaning.specs.Values.{IsPicked, IsRefOf, IsSelected, Passes}
 use Rattle.ql_plain.specs.internal.Keeping.{Keeps}
 
@@ -82,9 +84,9 @@ module _ (objects : List Element) (env : Env) (pick : Pick) where
   selected_none = set_as (λ r of. (of.0, of.1, of.2, (of.3, tt))) (λ r of. (of.0, of.1, of.2, of.3.0))
 
   -- one filter more of a list
-  pub selected_more : (filters : List Filter) (k : ℕ) (f : Filter) → k < length filters → f ≡ get_or filters k f → {refs kept later : List Ref} → IsSetOf refs (IsRefOf objects (IsSelected objects env pick (filters_of (take k filters))))
+  pub selected_more : (filters : List Filter) (k : ℕ) (f : Filter) → k < length filters → f ≡ get_or filters k f → (kept : List Ref) {refs later : List Ref} → IsSetOf refs (IsRefOf objects (IsSelected objects env pick (filters_of (take k filters))))
       → Keeps objects kept (λ o. Passes objects env o (filter_of f)) → IsSetOf later (λ r. Contains refs r × Contains kept r) → IsSetOf later (IsRefOf objects (IsSelected objects env pick (filters_of (take (k + 1) filters))))
-  selected_more filters k f lt is {kept = kept} {later = later} before keeps then =
+  selected_more filters k f lt is kept {later = later} before keeps then =
       let fs = filters_of (take k filters) in
       let more : filters_of (take (k + 1) filters) ≡ fs ++ filter_of f ∷ [] = ap filters_of (one_more filters k f lt is) ∙ map-append filter_of (take k filters) (f ∷ []) in
       subst (λ (some : List tree.Filter). IsSetOf later (IsRefOf objects (IsSelected objects env pick some))) (sym more)
@@ -102,3 +104,15 @@ module _ (objects : List Element) (env : Env) (pick : Pick) where
   -- all filters were asked
   pub selected_all : (filters : List Filter) (k : ℕ) → length filters ≤ k → {refs : List Ref} → IsSetOf refs (IsRefOf objects (IsSelected objects env pick (filters_of (take k filters)))) → IsSetOf refs (IsRefOf objects (IsSelected objects env pick (filters_of filters)))
   selected_all filters k past {refs = refs} so = subst (λ (fs : List Filter). IsSetOf refs (IsRefOf objects (IsSelected objects env pick (filters_of fs)))) (take_all k filters past) so
+
+-- a filter that looks at an object alone
+module _ (objects : List Element) (env : Env) (o : Element) where
+  pub passes_alone : (f : Filter) → ((name : _) → f ≡ code.InSet name → ⊥) → ((ids : _) → f ≡ code.Ids ids → ⊥) → ((path : _) (name : _) → f ≡ code.Via path name → ⊥) → PassesAlone (filter_of f) o ↔ Passes objects env o (filter_of f)
+  passes_alone (code.InSet name) in_set ids via = absurd (in_set name refl)
+  passes_alone (code.HasKey key) in_set ids via = ((λ p. p), (λ p. p))
+  passes_alone (code.KeyIs key value) in_set ids via = ((λ p. p), (λ p. p))
+  passes_alone (code.LacksKey key) in_set ids via = ((λ p. p), (λ p. p))
+  passes_alone (code.KeyIsNot key value) in_set ids via = ((λ p. p), (λ p. p))
+  passes_alone (code.Ids list) in_set ids via = absurd (ids list refl)
+  passes_alone (code.Within area) in_set ids via = ((λ p. p), (λ p. p))
+  passes_alone (code.Via path name) in_set ids via = absurd (via path name refl)

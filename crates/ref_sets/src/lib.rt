@@ -17,7 +17,5 @@ pub use items::add_items;
 pub use named_set::NamedSet;
 pub use named_sets::NamedSets;
 pub use ref_set::RefSet;
-pub use referenced::Referenced;
 pub use rising_lists::{is_in, kept, tidy, unite};
-pub use search::{compare, even_place, seek, step_to};
 pub use sets::Sets;

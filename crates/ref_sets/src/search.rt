@@ -52,22 +52,6 @@ pub fn step_to<T: Referenced>(items: &[T], at: usize, name: Ref) -> (usize, bool
     }
 }
 
-/// Where a reference with this id would be in a list that rises, if its ids were spread evenly: a place from which a
-/// search for it is short, as a rule.
-pub fn even_place<T: Referenced>(items: &[T], id: i64) -> usize
-    ensures { result ≤ length items.now }
-{
-    match (items.first(), items.last()) {
-        (Some(first), Some(last)) if first.name().id < id => {
-            let start = first.name().id;
-            let offset = id.abs_diff(start).saturating_mul(items.len() as u64);
-            let place = offset / last.name().id.abs_diff(start).max(1);
-            items.len().min(place as usize)
-        }
-        _ => 0,
-    }
-}
-
 /// Goes up from a place before which all is below the reference.
 fn rise<T: Referenced>(items: &[T], from: usize, name: Ref) -> (usize, usize)
     requires rising { IsStrictlySortedBy ref_cmp (map T.name_of items.now) }

@@ -1,14 +1,15 @@
 use Rattle.std.proofs.Common.{◌≡◌, ℕ, ℤ, List, IfOk, ◌↔◌, subst, sym, ap, ◌∙◌}
 use Rattle.std.specs.List.{Contains}
-use Rattle.osm_model.specs.Elements.{reference}
+use Rattle.osm_model.specs.Elements.{Element, reference}
 use Rattle.osm_model.specs.declared.reference.Ref.{Ref}
 use Rattle.ql_syntax.specs.StatementViews.{filter_of}
 use Rattle.ql_syntax.specs.declared.filter.Filter.{Filter}
 use Rattle.ref_sets.proofs.shared.Results.{if_ok_as}
 use Rattle.ref_sets.specs.NamedSets.{lists_of}
 use Rattle.ref_sets.specs.Sets.{IsSetOf}
+use Rattle.ql_meaning.specs.ObjectTests.{PassesAlone}
 use Rattle.ql_meaning.specs.Values.{IsOnPath, IsRefOf, Passes}
-use Rattle.ql_plain.proofs.Selecting.{keeps_refs}
+use Rattle.ql_plain.proofs.Selecting.{keeps_refs, passes_alone}
 use Rattle.ql_plain.specs.internal.Keeping.{Keeps}
 use Rattle.ql_plain.proofs.filter.kept_by.Goals as goal
 
@@ -41,3 +42,15 @@ returns-in-Via c =
         (λ refs so. keeps_refs objects c.as_slice.ensures.set (IsOnPath objects (env c.in-Via.name) c.in-Via.path)
             (subst (λ (names : List Ref). IsSetOf refs (IsRefOf objects (IsOnPath objects names c.in-Via.path))) names_are so))
         c.on_path.ensures)
+
+pub returns-in_default : goal.returns-in_default
+returns-in_default c =
+    let objects = c.args.set.now in
+    let env = lists_of c.args.sets.now.named.items in
+    let f = c.args.filter.now in
+    if_ok_as c.passing.result
+    (λ refs so o there.
+    let keeps = keeps_refs objects c.as_slice.ensures.set (λ (p : Element). PassesAlone (filter_of f) p) so o there in
+    let same = passes_alone objects env o f c.in_default.not-InSet c.in_default.not-Ids c.in_default.not-Via in
+    ((λ has. same.0 (keeps.0 has)), (λ p. keeps.1 (same.1 p))))
+    c.passing.ensures

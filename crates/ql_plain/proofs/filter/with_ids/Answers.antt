@@ -34,8 +34,8 @@ loop-id-preserved c =
     let id = get_or c.args.ids.now c.loop-id.id-index (pos 0) in
     let small : FitsSigned w64 id = search rules in
     let node : c.push.new.self.items ≡ c.loop-id.refs.items ++ record { kind = Node; id = id } ∷ [] = simp (to_z-of_z small) at c.in_ok-push.ensures.items in
-    let way : c.push-2.new.self.items ≡ c.push.new.self.items ++ record { kind = Way; id = id } ∷ [] = simp (to_z-of_z small) at c.in_ok-push-2.ensures.items in
-    let relation : c.push-3.new.self.items ≡ c.push-2.new.self.items ++ record { kind = Rel; id = id } ∷ [] = simp (to_z-of_z small) at c.in_ok-push-3.ensures.items in
+    let way : c.push-in-loop-id.new.self.items ≡ c.push.new.self.items ++ record { kind = Way; id = id } ∷ [] = simp (to_z-of_z small) at c.in_ok-push-2.ensures.items in
+    let relation : c.push-in-loop-id-2.new.self.items ≡ c.push-in-loop-id.new.self.items ++ record { kind = Rel; id = id } ∷ [] = simp (to_z-of_z small) at c.in_ok-push-3.ensures.items in
     adds_more c.args.ids.now (λ id (r : Ref). r.id ≡ id) c.loop-id.id-index id c.loop-id-test.true (get_or_default c.args.ids.now c.loop-id.id-index (pos 0) id c.loop-id-test.true) c.loop-id.invariant
     (three_kinds id node way relation)
 

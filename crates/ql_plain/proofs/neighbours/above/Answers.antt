@@ -1,4 +1,4 @@
-use Rattle.std.proofs.Common.{Vec, Global, get_or, pos, refl, sym, ap, subst, ◌∙◌}
+use Rattle.std.proofs.Common.{List, Vec, Global, get_or, pos, refl, sym, ap, subst, ◌∙◌}
 use Rattle.std.proofs.lemmas.List.{get_or_default}
 use Rattle.osm_model.specs.declared.kind.Kind.TheVariants.{Node}
 use Rattle.osm_model.specs.declared.reference.Ref.{Ref}
@@ -6,15 +6,16 @@ use Rattle.ref_sets.proofs.shared.Adding.{adds_all, adds_more, adds_nothing, add
 use Rattle.ref_sets.specs.Adding.{Adds}
 use Rattle.ql_plain.proofs.Neighbouring.{IsParentOf, above_is}
 use Rattle.ql_plain.specs.declared.links.Link.{Link}
+use Rattle.ql_plain.specs.internal.Linked.{AreLinks}
 use Rattle.ql_plain.proofs.neighbours.above.Goals as goal
 use Rattle.ql_plain.proofs.neighbours.above.Goals.{then-is_of_kind_in+in_ok-push, else-is_of_kind_in}
 
 pub loop-link-init : goal.loop-link-init
-loop-link-init c = rw c.new-refs.ensures.items (adds_start c.in_ok-links.links.items (IsParentOf c.args.from.now c.args.kind))
+loop-link-init c = rw c.new-refs.ensures.items (adds_start c.deref-link-items.result.now (IsParentOf c.args.from.now c.args.kind))
 
 pub loop-link-preserved : goal.loop-link-preserved
 loop-link-preserved c =
-    let links = c.in_ok-links.links.items in
+    let links = c.deref-link-items.result.now in
     let k = c.loop-link.link-index in
     let first : Ref = record { kind = Node; id = pos 0 } in
     let none : Link = record { parent = first; child = first } in
@@ -30,5 +31,6 @@ loop-link-preserved c =
 
 pub returns : goal.returns
 returns c =
-    let links = c.in_ok-links.links.items in
-    above_is c.args.set.now links c.in_ok-links.ensures c.args.from.now c.args.kind (adds_all links (IsParentOf c.args.from.now c.args.kind) c.loop-link.link-index c.loop-link-test.false c.loop-link.invariant) c.from_refs.ensures
+    let links = c.deref-link-items.result.now in
+    let are : AreLinks c.args.set.now links = subst (λ (all : List Link). AreLinks c.args.set.now all) (sym c.deref-link-items.ensures.value) c.in_ok-links.ensures in
+    above_is c.args.set.now links are c.args.from.now c.args.kind (adds_all links (IsParentOf c.args.from.now c.args.kind) c.loop-link.link-index c.loop-link-test.false c.loop-link.invariant) c.from_refs.ensures

@@ -4,4 +4,4 @@ use Rattle.ql_plain.proofs.Neighbouring.{IsChildOf}
 use Rattle.ql_plain.proofs.neighbours.below.Given as goal
 
 abbrev pub invariant-loop-link : goal.invariant-loop-link
-invariant-loop-link l = Adds [] l.refs.items (From (take l.link-index l.links.items) (IsChildOf l.from l.kind))
+invariant-loop-link l = Adds [] l.refs.items (From (take l.link-index l.link-items) (IsChildOf l.from l.kind))

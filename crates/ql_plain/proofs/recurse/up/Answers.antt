@@ -4,6 +4,6 @@ use Rattle.ql_plain.proofs.recurse.up.Goals as goal
 
 pub returns : goal.returns
 returns c =
-    if_ok_as c.union.result
+    if_ok_as c.union-2.result
     (λ refs are. up_is c.args.set.now c.as_slice.ensures.set c.args.from.now c.in_ok-of_nodes.ensures c.in_ok-of_ways.ensures c.in_ok-outer.ensures c.in_ok-refs.ensures are)
-    c.union.ensures
+    c.union-2.ensures

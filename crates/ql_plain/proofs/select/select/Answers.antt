@@ -8,7 +8,7 @@ loop-filter-init c = selected_none c.args.set.now (lists_of c.args.sets.now.name
 pub loop-filter-preserved : goal.loop-filter-preserved
 loop-filter-preserved c =
     selected_more c.args.set.now (lists_of c.args.sets.now.named.items) c.args.kind c.args.filters.now c.loop-filter.filter-index c.filter-item.result c.loop-filter-test.true c.filter-item.is
-    c.loop-filter.invariant c.in_ok-kept.ensures c.in_ok-intersection.ensures
+    c.in_ok-kept.kept c.loop-filter.invariant c.in_ok-kept.ensures c.in_ok-refs-2.ensures
 
 pub returns : goal.returns
 returns c = selected_all c.args.set.now (lists_of c.args.sets.now.named.items) c.args.kind c.args.filters.now c.loop-filter.filter-index c.loop-filter-test.false c.loop-filter.invariant

@@ -6,4 +6,4 @@ use Rattle.ql_meaning.specs.Values.{IsRefOf, IsSelected}
 use Rattle.ql_plain.proofs.select.select.Given as goal
 
 abbrev pub invariant-loop-filter : goal.invariant-loop-filter
-invariant-loop-filter l = IsSetOf l.refs (IsRefOf l.set (IsSelected l.set (lists_of l.sets.named.items) l.kind (filters_of (take l.filter-index l.filters))))
+invariant-loop-filter l = IsSetOf l.refs (IsRefOf l.set (IsSelected l.set (lists_of l.sets.named.items) l.fn.kind (filters_of (take l.filter-index l.filters))))
