@@ -4,7 +4,7 @@ use Rattle.std.specs.FinMap.{get}
 use Rattle.std.specs.Prelude.{None}
 use Rattle.osm_gate.specs.Connections.{Rest}
 use Rattle.osm_desk.specs.Contents.{Contents}
-use Rattle.osm_desk.specs.internal.Serving.{rest_if, rest_of, with_rest, without}
+use Rattle.osm_desk.specs.OneConnection.{rest_if, rest_of, with_rest, without}
 use Rattle.osm_desk.proofs.MapLemmas.{get-put_same, put-removed}
 
 pub opened_rest : (d new : Contents) (n : ℕ) (r : Rest) → new ≡ with_rest d n r → rest_of new n ≡ r

@@ -25,7 +25,8 @@ use Rattle.osm_desk.specs.declared.event.Event.{Event}
 use Rattle.osm_desk.specs.declared.event.Event.TheVariants.{Arrive, End, Open, Publish}
 use Rattle.osm_desk.specs.declared.limits.TheConstants.{CONNECTION_LIMIT}
 use Rattle.osm_desk.proofs.MapLemmas.{removed-none}
-use Rattle.osm_desk.specs.internal.Serving.{HasArrived, IsFree, RefusesOpening, RefusesPiece, rest_if, rest_of, with_rest, without}
+use Rattle.osm_desk.specs.OneConnection.{IsFree, RefusesOpening, rest_if, rest_of, with_rest, without}
+use Rattle.osm_desk.specs.internal.Serving.{HasArrived, RefusesPiece}
 
 pub none_by : {A : Type 0} → (o : Option A) → is_some o ≡ false → o ≡ None
 none_by None e = refl

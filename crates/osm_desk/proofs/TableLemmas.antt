@@ -10,7 +10,7 @@ use Rattle.osm_index.specs.Publications.{Publication}
 use Rattle.osm_index.specs.Snapshots.{HoldsPublication}
 use Rattle.osm_index.specs.declared.snapshot.Snapshot.{Snapshot}
 use Rattle.osm_desk.specs.Contents.{Contents}
-use Rattle.osm_desk.specs.internal.Serving.{rest_if, rest_of, with_rest, without}
+use Rattle.osm_desk.specs.OneConnection.{rest_if, rest_of, with_rest, without}
 use Rattle.osm_desk.proofs.MapLemmas.{get-put_same, get-view, len-view, removed-put, view-insert, view-kept, view-remove}
 
 abbrev pub view_of : Snapshot → BTreeMap ℕ Rest → Contents

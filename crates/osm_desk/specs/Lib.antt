@@ -4,6 +4,7 @@ pub mod Events
 pub mod Faults
 pub mod Happenings
 pub mod Made
+pub mod OneConnection
 pub mod Runs
 pub mod Stepping
 pub mod Told

@@ -1,7 +1,7 @@
 //! Connections that share a snapshot.
 
 ghost use Rattle.std.specs.Bool.{OnFalse};
-ghost use Rattle.std.specs.FinMap.{get, len};
+ghost use Rattle.std.specs.FinMap.{empty, get, len};
 ghost use Rattle.std.specs.Prelude.{◌≡◌, ◌<◌, ◌≤◌, ◌↔◌, IfErr, IfOk, IsSome, IsTrue, None, OnErr, OnOk, [], is_some};
 ghost use Rattle.osm_gate.specs.Connections.{Responds, heard_next, open_rest};
 ghost use Rattle.osm_index.specs.Applying.{IsSecond};
@@ -11,7 +11,8 @@ ghost use Rattle.osm_desk.specs.Contents.{desk_over, fresh_contents};
 ghost use Rattle.osm_desk.specs.Events.{IsTurn, answer_of};
 ghost use Rattle.osm_desk.specs.Made.{IsMade, RefusesChanges};
 ghost use Rattle.osm_desk.specs.Stepping.{HasStepped, IsRefusal, LeavesRest, texts_of};
-ghost use Rattle.osm_desk.specs.internal.Serving.{HasArrived, IsFree, RefusesOpening, RefusesPiece, rest_of, with_rest, without};
+ghost use Rattle.osm_desk.specs.OneConnection.{IsFree, RefusesOpening, rest_of, with_rest, without};
+ghost use Rattle.osm_desk.specs.internal.Serving.{HasArrived, RefusesPiece};
 
 use crate::desk_fault::DeskFault;
 use crate::event::Event;
@@ -78,6 +79,13 @@ impl Desk {
         self.gates.contains_key(&number)
     }
 
+    /// Whether no connection is open. It takes no memory.
+    pub fn is_empty(&self) -> bool
+        ensures { IsTrue result ↔ (self.now.connections ≡ empty) }
+    {
+        self.gates.len() == 0
+    }
+
     /// Whether 64 connections are open, so that no further one is opened. It takes no memory.
     pub fn is_full(&self) -> bool
         ensures full { IsTrue result ↔ (CONNECTION_LIMIT ≤ len self.now.connections) }
@@ -129,8 +137,8 @@ impl Desk {
         Ok(Vec::new(self.alloc))
     }
 
-    /// Whether the connection takes nothing more. It takes no memory.
-    pub(crate) fn is_closed(&self, number: u32) -> bool
+    /// Whether the connection takes nothing more: it has ended by what it sent, or isn't open. It takes no memory.
+    pub fn is_closed(&self, number: u32) -> bool
         ensures { result ≡ (rest_of self.now number).is_closed }
     {
         match self.gates.get(&number) {
@@ -139,8 +147,13 @@ impl Desk {
         }
     }
 
-    /// Opens a connection.
-    pub(crate) fn open(&mut self, number: u32) -> Result<(), DeskFault>
+    /// Opens a connection, as the event `Open` does.
+    ///
+    /// # Errors
+    ///
+    /// `AlreadyOpen` (D1) where it is open, else `NoRoom` (D3) where 64 are, else `Memory` where an allocation was refused.
+    /// After a refusal all is as before.
+    pub fn open(&mut self, number: u32) -> Result<(), DeskFault>
         ensures opened { OnOk result (IsFree self.old number × (self.new ≡ with_rest self.old number (open_rest []))) }
         ensures refused { IfErr result (RefusesOpening self.old number) }
         ensures unchanged { OnErr result (self.new ≡ self.old) }
@@ -160,9 +173,10 @@ impl Desk {
         Ok(())
     }
 
-    /// Takes a piece of a connection, and gives the responses to the requests that it completes. A connection that isn't
-    /// open takes nothing.
-    pub(crate) fn hear(&mut self, number: u32, piece: &[u8]) -> Result<Vec<u8>, AllocError>
+    /// Takes a piece of a connection, and gives the responses to the requests that it completes, over the snapshot that
+    /// is in force. A connection that isn't open takes nothing. Refused only where memory runs out, and then no part of
+    /// the piece was taken.
+    pub fn hear(&mut self, number: u32, piece: &[u8]) -> Result<Vec<u8>, AllocError>
         ensures responses { (p : Publication) → HoldsPublication self.old.snapshot p
             → IfOk result (λ text. Responds p (heard_next (rest_of self.old number) piece.now).outcomes text.items) }
         ensures rest { OnOk result (rest_of self.new number ≡ (heard_next (rest_of self.old number) piece.now).rest) }
@@ -199,8 +213,8 @@ impl Desk {
         Ok(answers)
     }
 
-    /// Forgets a connection, and tells whether it was open. It takes no memory.
-    pub(crate) fn forget(&mut self, number: u32) -> bool
+    /// Forgets a connection, as the event `End` does, and tells whether it was open. It takes no memory.
+    pub fn forget(&mut self, number: u32) -> bool
         ensures was { result ≡ is_some (get self.old.connections number) }
         ensures forgotten { self.new ≡ without self.old number }
     {

@@ -17,7 +17,7 @@ impl<'a> Connection for OpenConnection<'a> {
     ghost use Rattle.osm_index.specs.Snapshots.{HoldsPublication};
     ghost use Rattle.osm_index.specs.declared.snapshot.Snapshot.{Snapshot};
     ghost use Rattle.osm_desk.specs.Contents.{Contents};
-    ghost use Rattle.osm_desk.specs.internal.Serving.{rest_of, without};
+    ghost use Rattle.osm_desk.specs.OneConnection.{rest_of, without};
 
     ghost rest = { λ s. rest_of s.desk.now s.number };
 

@@ -3,7 +3,7 @@ use Rattle.std.specs.Option.{option_copied_mut}
 use Rattle.std.specs.Prelude.{IfOk, is_some}
 use Rattle.osm_gate.specs.Connections.{Responds, Rest, heard_next}
 use Rattle.osm_desk.specs.Contents.{Contents}
-use Rattle.osm_desk.specs.internal.Serving.{rest_if, rest_of}
+use Rattle.osm_desk.specs.OneConnection.{rest_if, rest_of}
 use Rattle.osm_desk.proofs.StepLemmas.{none_lent}
 use Rattle.osm_desk.proofs.TableLemmas.{closed_rest_in, found, heard_in, left_in, others_in, held_inside, kept_in, on_err, on_ok, rest_is, view_of}
 use Rattle.osm_desk.proofs.desk.Desk.hear.Goals as goal

@@ -1,6 +1,6 @@
 use Rattle.std.proofs.Common.{ap, sym, ◌∙◌}
 use Rattle.std.specs.Option.{option_copied}
-use Rattle.osm_desk.specs.internal.Serving.{rest_if}
+use Rattle.osm_desk.specs.OneConnection.{rest_if}
 use Rattle.osm_desk.proofs.TableLemmas.{found}
 use Rattle.osm_desk.proofs.desk.Desk.is_closed.Goals as goal
 

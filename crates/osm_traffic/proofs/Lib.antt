@@ -1,0 +1,9 @@
+pub mod NoMemory
+pub mod MapLemmas
+pub mod OutputLemmas
+pub mod PieceLemmas
+pub mod DeedLemmas
+pub mod RunLemmas
+pub mod PastLemmas
+pub mod StandLemmas
+pub mod shared

@@ -1,0 +1,187 @@
+-- Where a piece is cut.
+use Rattle.std.proofs.Common.{◌≡◌, ◌∙◌, ◌<◌, ◌≤◌, ◌+◌, ◌≢◌, get_or, min, ℕ, Bool, true, false, List, [], ◌∷◌, ap, sym, refl, subst, arith, length, drop, take}
+use Rattle.std.specs.Prelude.{Option, Some, None, option_map, ◌⊎◌, if◌then◌else◌, zero, suc, ◌&&◌, ◌==◌, nat_lt}
+use Rattle.std.proofs.lemmas.Bool.{and_parts}
+use Rattle.std.proofs.lemmas.Bool.Decides.{nat_tests}
+use Rattle.std.proofs.lemmas.List.{drop_all, drop_more}
+use Rattle.std.proofs.Math.Seq.{length-take-le, take-take, take_all}
+use Rattle.osm_gate.specs.HeadEnds.{empty_line, head_length}
+use Rattle.osm_traffic.specs.Pieces.{IsCut, cut_length, cut_or}
+
+abbrev here : ℕ → List ℕ → Bool
+here b bytes = b == 10 && nat_lt 0 (empty_line bytes)
+
+-- ---- no head ends before this place
+
+abbrev pub Passed : ℕ → List ℕ → Type 0
+Passed at a = head_length a ≡ option_map (λ n. at + n) (head_length (drop at a))
+
+shift-zero : (o : Option ℕ) → o ≡ option_map (λ n. 0 + n) o
+shift-zero None = refl
+shift-zero (Some n) = ap (λ (k : ℕ). Some k) (omega arith)
+
+shift-more : (at : ℕ) (o : Option ℕ) → option_map (λ n. at + n) (option_map (λ n. suc n) o) ≡ option_map (λ n. (at + 1) + n) o
+shift-more at None = refl
+shift-more at (Some n) = ap (λ (k : ℕ). Some k) (omega arith)
+
+not_here : (x : ℕ) (a : List ℕ) → (x ≢ 10) ⊎ (empty_line a ≡ 0) → here x a ≡ false
+not_here x a h = grind (arith, nat_tests)
+
+is_here : (x : ℕ) (a : List ℕ) → x ≡ 10 → 0 < empty_line a → here x a ≡ true
+is_here x a h some = grind (arith, nat_tests)
+
+pub passed-none : (a : List ℕ) → Passed 0 a
+passed-none a = shift-zero (head_length a)
+
+pub passed-more : (at : ℕ) (a : List ℕ) → at < length a → Passed at a → (get_or a at 0 ≢ 10) ⊎ (empty_line (drop (at + 1) a) ≡ 0) → Passed (at + 1) a
+passed-more at a inside so_far not =
+    let rest = drop (at + 1) a in
+    let first = drop_more a at 0 inside in
+    let is : here (get_or a at 0) rest ≡ false = not_here (get_or a at 0) rest not in
+    so_far ∙ ap (λ (t : List ℕ). option_map (λ n. at + n) (head_length t)) first
+    ∙ rw is (shift-more at (head_length rest))
+
+pub passed-all : (at : ℕ) (a : List ℕ) → length a ≤ at → Passed at a → length a ≡ cut_length a
+passed-all at a all so_far = sym (ap (cut_or (length a)) (so_far ∙ ap (λ (t : List ℕ). option_map (λ n. at + n) (head_length t)) (drop_all at a all)))
+
+pub passed-found : (at : ℕ) (a : List ℕ) → at < length a → Passed at a → get_or a at 0 ≡ 10 → 0 < empty_line (drop (at + 1) a)
+    → (at + 1) + empty_line (drop (at + 1) a) ≡ cut_length a
+passed-found at a inside so_far feed some =
+    let rest = drop (at + 1) a in
+    let first = drop_more a at 0 inside in
+    let is : here (get_or a at 0) rest ≡ true = is_here (get_or a at 0) rest feed some in
+    let found : head_length (get_or a at 0 ∷ rest) ≡ Some (suc (empty_line rest)) = rw is refl in
+    let where_it_ends : head_length a ≡ Some (at + suc (empty_line rest)) =
+    so_far ∙ ap (λ (t : List ℕ). option_map (λ n. at + n) (head_length t)) first ∙ ap (option_map (λ n. at + n)) found in
+    let sum : (at + 1) + empty_line rest ≡ at + suc (empty_line rest) = omega arith in
+    sum ∙ sym (ap (cut_or (length a)) where_it_ends)
+
+-- ---- what was cut ends there
+
+suc-some : (o : Option ℕ) (n : ℕ) → option_map (λ k. suc k) o ≡ Some n → (k : ℕ) × (o ≡ Some k) × (n ≡ suc k)
+suc-some None n e = cc
+suc-some (Some k) n e = (k, refl, cc)
+
+empty_line-fits : (a : List ℕ) → empty_line a ≤ length a
+empty_line-fits [] = omega arith
+empty_line-fits (x ∷ []) = grind (arith, nat_tests)
+empty_line-fits (x ∷ y ∷ a) = grind (arith, nat_tests)
+
+empty_line-own : (a : List ℕ) → empty_line (take (empty_line a) a) ≡ empty_line a
+empty_line-own [] = refl
+empty_line-own (x ∷ []) = by (x == 10) refl
+  where
+    by : (b : Bool) → x == 10 ≡ b → empty_line (take (if b then 1 else 0) (x ∷ [])) ≡ (if b then 1 else 0)
+    by true is = rw is refl
+    by false is = refl
+empty_line-own (x ∷ y ∷ a) = by (x == 10) refl (x == 13 && y == 10) refl
+  where
+    by : (b : Bool) → x == 10 ≡ b → (d : Bool) → (x == 13 && y == 10) ≡ d
+        → empty_line (take (if b then 1 else (if d then 2 else 0)) (x ∷ y ∷ a)) ≡ (if b then 1 else (if d then 2 else 0))
+    by true is d its = rw is refl
+    by false is true its = rw (is, its) refl
+    by false is false its = refl
+
+-- a beginning has no empty line at its front that the whole hasn't
+empty_line-front : (k : ℕ) (a : List ℕ) → 0 < empty_line (take k a) → 0 < empty_line a
+empty_line-front zero a some = absurd (omega arith)
+empty_line-front (suc k) [] some = some
+empty_line-front (suc zero) (x ∷ []) some = some
+empty_line-front (suc zero) (x ∷ y ∷ a) some = grind (arith, nat_tests, some)
+empty_line-front (suc (suc k)) (x ∷ []) some = some
+empty_line-front (suc (suc k)) (x ∷ y ∷ a) some = some
+
+here-front : (x k : ℕ) (a : List ℕ) → here x a ≡ false → here x (take k a) ≡ false
+here-front x k a isnt = by (here x (take k a)) refl
+  where
+    by : (b : Bool) → here x (take k a) ≡ b → here x (take k a) ≡ false
+    by false is = is
+    by true is =
+        let parts = and_parts (x == 10) (nat_lt 0 (empty_line (take k a))) is in
+        let some : 0 < empty_line (take k a) = grind (arith, nat_tests, parts.1) in
+        let more = empty_line-front k a some in
+        absurd (grind (arith, nat_tests, more, parts.0, isnt))
+
+head_length-own : (a : List ℕ) (n : ℕ) → head_length a ≡ Some n → head_length (take n a) ≡ Some n
+head_length-own [] n e = cc
+head_length-own (x ∷ a) n e = go (here x a) refl e (λ k ek. head_length-own a k ek)
+  where
+    go : (c : Bool) → here x a ≡ c
+        → (if c then Some (suc (empty_line a)) else option_map (λ k. suc k) (head_length a)) ≡ Some n
+        → ((k : ℕ) → head_length a ≡ Some k → head_length (take k a) ≡ Some k) → head_length (take n (x ∷ a)) ≡ Some n
+    go true t e later =
+        let is : n ≡ suc (empty_line a) = cc in
+        let parts = and_parts (x == 10) (nat_lt 0 (empty_line a)) t in
+        let some : 0 < empty_line a = grind (arith, nat_tests, parts.1) in
+        let same = empty_line-own a in
+        let still : here x (take (empty_line a) a) ≡ true = rw same t in
+        rw (is, still) (ap (λ (k : ℕ). Some (suc k)) same)
+    go false t e later =
+        let (k, found, nk) = suc-some (head_length a) n e in
+        rw (nk, here-front x k a t) (ap (option_map (λ m. suc m)) (later k found))
+
+head_length-fits : (a : List ℕ) (n : ℕ) → head_length a ≡ Some n → (0 < n) × (n ≤ length a)
+head_length-fits [] n e = cc
+head_length-fits (x ∷ a) n e = go (here x a) refl e (λ k ek. head_length-fits a k ek)
+  where
+    go : (c : Bool) → here x a ≡ c
+        → (if c then Some (suc (empty_line a)) else option_map (λ k. suc k) (head_length a)) ≡ Some n
+        → ((k : ℕ) → head_length a ≡ Some k → (0 < k) × (k ≤ length a)) → (0 < n) × (n ≤ length (x ∷ a))
+    go true t e later = let is : suc (empty_line a) ≡ n = cc in let fits = empty_line-fits a in (omega arith, omega (arith, fits))
+    go false t e later = let (k, is, nk) = suc-some (head_length a) n e in let fits = later k is in (omega arith, omega (arith, fits.1))
+
+pub cut-fits : (a : List ℕ) → cut_length a ≤ length a
+cut-fits a = by (head_length a) refl
+  where
+    by : (o : Option ℕ) → head_length a ≡ o → cut_or (length a) o ≤ length a
+    by None is = omega arith
+    by (Some n) is = (head_length-fits a n is).1
+
+pub cut-some : (a : List ℕ) → 0 < length a → 0 < cut_length a
+cut-some a some = by (head_length a) refl
+  where
+    by : (o : Option ℕ) → head_length a ≡ o → 0 < cut_or (length a) o
+    by None is = some
+    by (Some n) is = (head_length-fits a n is).0
+
+pub cut-is : (a : List ℕ) → IsCut (take (cut_length a) a)
+cut-is a = by (head_length a) refl
+  where
+    by : (o : Option ℕ) → head_length a ≡ o → IsCut (take (cut_or (length a) o) a)
+    by None is = subst IsCut (sym (take_all (length a) a (omega arith))) (ap (cut_or (length a)) is)
+    by (Some n) is =
+        let fits = head_length-fits a n is in
+        ap (cut_or (length (take n a))) (head_length-own a n is) ∙ sym (length-take-le n a fits.1)
+
+-- ---- a piece that is given
+
+module _ (bytes piece : List ℕ) (m n : ℕ) (least : m ≡ min (length bytes) (length piece)) (is : n ≡ cut_length (take m bytes)) where
+  inside : m ≤ length bytes
+  inside = omega arith
+
+  front : length (take m bytes) ≡ m
+  front = length-take-le m bytes inside
+
+  within : n ≤ m
+  within = let fits = cut-fits (take m bytes) in let long = front in omega arith
+
+  pub given-bytes : n ≤ length bytes
+  given-bytes = let fits = within in omega arith
+
+  pub given-room : n ≤ length piece
+  given-room = let fits = within in omega arith
+
+  pub given-some : 0 < length bytes → 0 < length piece → 0 < n
+  given-some some room =
+      let long = front in
+      let cut = cut-some (take m bytes) (omega arith) in
+      omega arith
+
+  pub given-length : n ≡ length (take n bytes)
+  given-length = sym (length-take-le n bytes given-bytes)
+
+  pub room-length : n ≡ length (take n piece)
+  room-length = sym (length-take-le n piece given-room)
+
+  pub given-cut : IsCut (take n bytes)
+  given-cut = subst IsCut (ap (λ (k : ℕ). take k (take m bytes)) (sym is) ∙ take-take n m bytes within) (cut-is (take m bytes))

@@ -1,0 +1,12 @@
+use Rattle.std.proofs.Common.{ap, refl}
+use Rattle.osm_desk.specs.Contents.{Contents}
+use Rattle.osm_traffic.proofs.StandLemmas.{moved, parts}
+use Rattle.osm_traffic.proofs.leaving.part.Goals as goal
+
+pub returns-clause-kept : goal.returns-clause-kept
+returns-clause-kept g c = λ taken d base deeds s.
+    let (more, t) = parts d base deeds _ _ _ _ taken c.args.number c.end.result c.args.whole c.requires c.end.ensures s in
+    (more, moved d base more _ _ _ _ _ _ taken refl c.forget.ensures c.forget-2.ensures.forgotten t)
+
+pub returns-clause-snapshot : goal.returns-clause-snapshot
+returns-clause-snapshot g c = ap (λ (all : Contents). all.snapshot) c.forget-2.ensures.forgotten

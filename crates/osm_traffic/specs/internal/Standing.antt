@@ -1,0 +1,48 @@
+-- How the server stands between two happenings.
+use Rattle.std.specs.FinMap.{FinMap, get}
+use Rattle.std.specs.Ordering.{nat_cmp}
+use Rattle.std.specs.Prelude.{◌≡◌, ◌≤◌, ℕ, true, false, List, [], ◌++◌, Option, Some, None}
+use Rattle.osm_desk.specs.Contents.{Contents, StandsFor}
+use Rattle.osm_desk.specs.Desks.{Desk}
+use Rattle.osm_traffic.specs.Deeds.{AreCut, AreMade, Deed, HasRoom, IsHushed, IsPaced, Runs, arrivals, desk_after, is_fed, log_of, owed, sent}
+use Rattle.osm_traffic.specs.Entries.{Entry}
+
+-- what each connection has coming that its socket hasn't taken yet
+abbrev pub Waiting : Type 0
+Waiting = FinMap nat_cmp (List ℕ)
+
+abbrev pub IsOwed : Option (List ℕ) → List ℕ → List ℕ → Type 0
+IsOwed None given all = (rest : List ℕ) × (given ++ rest ≡ all)
+IsOwed (Some left) given all = given ++ left ≡ all
+
+pub record Stands (d : Desk) (base : List Entry) (deeds : List Deed) (log : Option (List Entry)) (outputs : Waiting) (contents : Contents) (taken : ℕ) : Type 0 where
+  pub logged : log ≡ Some (log_of deeds ++ base)
+  pub ran : Runs d deeds
+  pub desk : StandsFor contents (desk_after d deeds)
+  pub owes : (c : ℕ) → IsOwed (get outputs c) (sent c deeds) (owed c deeds)
+  pub known : (c : ℕ) → taken ≤ c → get outputs c ≡ None
+  pub fresh : (c : ℕ) → taken ≤ c → (sent c deeds ≡ []) × (owed c deeds ≡ []) × (is_fed c deeds ≡ true)
+  pub unopened : (c : ℕ) → taken ≤ c → get contents.connections c ≡ None
+  pub gone : (c : ℕ) → is_fed c deeds ≡ false → get contents.connections c ≡ None
+  pub hushed : IsHushed deeds
+  pub paced : IsPaced deeds
+  pub room : HasRoom d deeds
+  pub made : AreMade d deeds
+  pub cut : AreCut deeds
+  pub count : arrivals deeds ≡ taken
+
+-- however it stood with so many connections taken, it stands again with that many, with more done
+abbrev pub Moves : Option (List Entry) → Option (List Entry) → Waiting → Waiting → Contents → Contents → ℕ → ℕ → Type 0
+Moves log log' outputs outputs' contents contents' taken taken' =
+    (d : Desk) (base : List Entry) (deeds : List Deed) → Stands d base deeds log outputs contents taken
+    → (more : List Deed) × Stands d base more log' outputs' contents' taken'
+
+-- with as many as before
+abbrev pub Keeps : Option (List Entry) → Option (List Entry) → Waiting → Waiting → Contents → Contents → Type 0
+Keeps log log' outputs outputs' contents contents' = (taken : ℕ) → Moves log log' outputs outputs' contents contents' taken taken
+
+-- with any number
+abbrev pub Stops : Option (List Entry) → Option (List Entry) → Waiting → Waiting → Contents → Contents → ℕ → Type 0
+Stops log log' outputs outputs' contents contents' taken =
+    (d : Desk) (base : List Entry) (deeds : List Deed) → Stands d base deeds log outputs contents taken
+    → (more : List Deed) × (taken' : ℕ) × Stands d base more log' outputs' contents' taken'

@@ -1,0 +1,74 @@
+//! What comes in.
+
+ghost use Rattle.std.specs.FinMap.{get};
+ghost use Rattle.std.specs.Prelude.{◌≡◌, IsSome, IsTrue, List, Option, Some, []};
+ghost use Rattle.osm_traffic.specs.Entries.{Entry, noted, brought};
+ghost use Rattle.osm_traffic.specs.Pieces.{IsCut};
+ghost use Rattle.osm_traffic.specs.internal.Standing.{Keeps};
+
+use crate::leaving::{break_off, part, tell};
+use crate::output::Output;
+use crate::outputs::Outputs;
+use crate::traffic::{Reading, Traffic};
+use crate::writing::hand;
+use osm_desk::Desk;
+use osm_gate::GateFault;
+use std::io::Write;
+
+/// Reads a piece of a connection that has nothing coming any more, and answers it.
+pub(crate) fn listen<T: Traffic, E: Write>(
+    desk: &mut Desk,
+    outputs: &mut Outputs,
+    traffic: &mut T,
+    errors: &mut E,
+    number: u32,
+    piece: &mut [u8],
+)
+    ensures kept { Keeps (T.log traffic.old) (T.log traffic.new) outputs.old outputs.new desk.old desk.new }
+    ensures snapshot { desk.new.snapshot ≡ desk.old.snapshot }
+{
+    if !may_read(desk, outputs, number) {
+        return;
+    }
+    match traffic.read(number, piece) {
+        Reading::Got(count) => {
+            hear(desk, outputs, errors, number, &piece[..count]);
+            hand(desk, outputs, traffic, errors, number);
+        }
+        Reading::Later => {}
+        Reading::Ended => part(desk, outputs, traffic, number, true),
+        Reading::Gone => {
+            break_off(desk, outputs, traffic, errors, number, GateFault::Reader);
+        }
+    }
+}
+
+/// Whether the connection is open and has nothing coming.
+fn may_read(desk: &Desk, outputs: &Outputs, number: u32) -> bool
+    ensures idle { IsTrue result → get outputs.now number ≡ Some [] }
+    ensures open { IsTrue result → IsSome (get desk.now.connections number) }
+{
+    match outputs.output(number) {
+        Some(output) => output.bytes().is_empty() && desk.is_open(number),
+        None => false,
+    }
+}
+
+/// Takes a piece that was read.
+fn hear<E: Write>(desk: &mut Desk, outputs: &mut Outputs, errors: &mut E, number: u32, piece: &[u8])
+    requires idle { get outputs.old number ≡ Some [] }
+    requires open { IsSome (get desk.old.connections number) }
+    requires cut { IsCut piece.now }
+    ensures kept { (log : Option (List Entry)) → Keeps log (noted (brought number piece.now) log) outputs.old outputs.new desk.old desk.new }
+    ensures snapshot { desk.new.snapshot ≡ desk.old.snapshot }
+{
+    let Ok(text) = desk.hear(number, piece) else {
+        tell(errors, GateFault::Memory);
+        // Nothing more of it is heard.
+        desk.forget(number);
+        outputs.put(number, Output::apology());
+        return;
+    };
+    let is_last = desk.is_closed(number);
+    outputs.put(number, Output::answers(text, is_last));
+}

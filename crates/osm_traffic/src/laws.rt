@@ -1,0 +1,34 @@
+//! Laws of what the server did. There is nothing to do when they run.
+
+ghost use Rattle.std.specs.Prelude.{◌++◌, ◌∷◌, ℕ, List, Result, true};
+ghost use Rattle.osm_desk.specs.Desks.{Desk, fresh};
+ghost use Rattle.osm_desk.specs.Happenings.{arrived};
+ghost use Rattle.osm_desk.specs.Runs.{Ran, stood};
+ghost use Rattle.osm_desk.specs.Told.{FindsRoom};
+ghost use Rattle.osm_desk.specs.declared.desk_fault.DeskFault.{DeskFault};
+ghost use Rattle.osm_index.specs.Publications.{Publication};
+ghost use Rattle.osm_traffic.specs.Deeds.{Deed, Serves, in_order, parted, stepped};
+ghost use Rattle.osm_traffic.specs.Handed.{IsHandedAll, IsHandedItsOwn};
+
+use osm_desk::runs_tell_each_its_own;
+
+/// A law: what the server did is a run of the desk, and each connection finds room.
+pub fn serving_is_a_run()
+    ensures run { (d : Desk) (deeds : List Deed) → Serves d deeds → Ran d (in_order deeds) }
+    ensures room { (c : ℕ) (d : Desk) (deeds : List Deed) → Serves d deeds → FindsRoom c d (stood (in_order deeds)) }
+{}
+
+/// A law: whatever happens, in whatever order, a connection's socket took a beginning of the responses to what that
+/// connection's own bytes ask, piece by piece, over the publications that were in force; and where memory has run out
+/// for it, of the response that says so, after them.
+pub fn each_is_handed_its_own()
+    ensures own { (c : ℕ) (p : Publication) (deeds : List Deed) → Serves (fresh p) deeds → IsHandedItsOwn c p deeds }
+    // It had taken all of them whenever it was let go as a whole one,
+    ensures whole { (c : ℕ) (p : Publication) (after before : List Deed)
+        → Serves (fresh p) (after ++ parted c true ∷ before) → IsHandedAll c p before }
+    // and whenever it was read.
+    ensures read { (c : ℕ) (p : Publication) (piece : List ℕ) (r : Result (List (ℕ × List ℕ)) DeskFault) (after before : List Deed)
+        → Serves (fresh p) (after ++ stepped (arrived c piece) r ∷ before) → IsHandedAll c p before }
+{
+    runs_tell_each_its_own();
+}

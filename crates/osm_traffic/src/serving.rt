@@ -1,0 +1,132 @@
+//! The loop.
+
+ghost use Rattle.std.specs.FinMap.{empty, len};
+ghost use Rattle.std.specs.Prelude.{◌≡◌, ◌<◌, ◌↔◌, ◌+◌, ◌++◌, IfOk, IsTrue, List, OnErr, OnOk, Option, Some, true, if◌then◌else◌};
+ghost use Rattle.osm_desk.specs.Contents.{StandsFor};
+ghost use Rattle.osm_desk.specs.Desks.{fresh};
+ghost use Rattle.osm_index.specs.Publications.{Publication};
+ghost use Rattle.osm_index.specs.Snapshots.{HoldsPublication};
+ghost use Rattle.osm_traffic.specs.Deeds.{Deed, Serves, arrivals, desk_after, log_of};
+ghost use Rattle.osm_traffic.specs.Entries.{Entry};
+ghost use Rattle.osm_traffic.specs.Published.{TakesFound};
+ghost use Rattle.osm_traffic.specs.internal.Standing.{Moves, Stops};
+
+use crate::hearing::listen;
+use crate::leaving::let_go;
+use crate::lookout::Lookout;
+use crate::outputs::Outputs;
+use crate::traffic::{News, Room, Traffic};
+use crate::traffic_fault::TrafficFault;
+use crate::welcome::welcome;
+use crate::writing::hand;
+use osm_desk::{CONNECTION_LIMIT, Desk};
+use std::alloc::Global;
+use std::io::Write;
+
+/// How many bytes one read takes at most.
+const PIECE_LIMIT: usize = 8192;
+
+/// Serves this number of connections on the desk, up to 64 at a time, numbered from 0 as they come. Each is read only
+/// where it has nothing coming any more, a piece at a time, and gets the responses to the requests that the piece
+/// completes. The lookout is asked at each connection that comes, before its bytes are read, and whenever the traffic says
+/// that it is time. A connection that ends badly is told in one line of `errors` (`G1` to `G3`), and leaves the others.
+///
+/// # Errors
+///
+/// `Device` where the traffic can't be waited at, or gives no further connection. `Memory` where memory runs out for a
+/// connection that comes, or at the traffic. `Endless` after 2^64 happenings. The connections that are open then get
+/// nothing more.
+pub fn serve_many<L: Lookout, T: Traffic, E: Write>(
+    alloc: Global,
+    desk: &mut Desk,
+    lookout: &mut L,
+    traffic: &mut T,
+    connections: u32,
+    errors: &mut E,
+) -> Result<(), TrafficFault>
+    requires { desk.old.connections ≡ empty }
+    // Whatever happens, in whatever order, what went in and out is what a run of the desk says.
+    ensures served { (p : Publication) (base : List Entry) → HoldsPublication desk.old.snapshot p → T.log traffic.old ≡ Some base
+        → (deeds : List Deed) × (T.log traffic.new ≡ Some (log_of deeds ++ base)) × Serves (fresh p) deeds
+        × StandsFor desk.new (desk_after (fresh p) deeds) × OnOk result (arrivals deeds ≡ connections) }
+    // What is in force has been made by what the lookout found, one after the other, but what was refused.
+    ensures found { TakesFound (L.found lookout.old) (L.found lookout.new) desk.old.snapshot desk.new.snapshot }
+    ensures none_open { OnOk result (desk.new.connections ≡ empty) }
+{
+    let mut outputs = Outputs::new(alloc);
+    let mut piece = [0; PIECE_LIMIT];
+    let mut taken = 0;
+    for _ in 0..u64::MAX {
+        if taken == connections && outputs.is_empty() && desk.is_empty() {
+            return Ok(());
+        }
+        let is_wanted = taken < connections;
+        let is_free = is_wanted && has_room(desk, &outputs);
+        let news = traffic.next(room_for(is_wanted, is_free))?;
+        if turn(
+            desk,
+            lookout,
+            &mut outputs,
+            traffic,
+            errors,
+            &mut piece,
+            news,
+            taken,
+            is_free,
+        )? {
+            taken += 1;
+        }
+    }
+    Err(TrafficFault::Endless)
+}
+
+/// What the traffic is told.
+fn room_for(is_wanted: bool, is_free: bool) -> Room {
+    if is_free {
+        Room::Free
+    } else if is_wanted {
+        Room::Full
+    } else {
+        Room::Closed
+    }
+}
+
+/// Whether fewer than 64 connections are open.
+fn has_room(desk: &Desk, outputs: &Outputs) -> bool
+    ensures { IsTrue result ↔ ((len outputs.now < CONNECTION_LIMIT) × (len desk.now.connections < CONNECTION_LIMIT)) }
+{
+    outputs.count() < CONNECTION_LIMIT && !desk.is_full()
+}
+
+/// Does what is next, and tells whether a connection has come.
+fn turn<L: Lookout, T: Traffic, E: Write>(
+    desk: &mut Desk,
+    lookout: &mut L,
+    outputs: &mut Outputs,
+    traffic: &mut T,
+    errors: &mut E,
+    piece: &mut [u8],
+    news: News,
+    number: u32,
+    room: bool,
+) -> Result<bool, TrafficFault>
+    requires room { room ≡ true → len desk.old.connections < CONNECTION_LIMIT }
+    ensures stands { IfOk result (λ is. Moves (T.log traffic.old) (T.log traffic.new) outputs.old outputs.new desk.old desk.new
+        number (if is then number + 1 else number)) }
+    ensures refused { OnErr result (Stops (T.log traffic.old) (T.log traffic.new) outputs.old outputs.new desk.old desk.new number) }
+    ensures only_room { IfOk result (λ is. is ≡ true → room ≡ true) }
+    ensures found { TakesFound (L.found lookout.old) (L.found lookout.new) desk.old.snapshot desk.new.snapshot }
+{
+    match news {
+        News::Waiting => {
+            if room {
+                return welcome(desk, lookout, outputs, traffic, errors, number);
+            }
+        }
+        News::Readable(number) => listen(desk, outputs, traffic, errors, number, piece),
+        News::Writable(number) => hand(desk, outputs, traffic, errors, number),
+        News::Silent(number) => let_go(desk, outputs, traffic, errors, number),
+        News::Look => lookout.look(desk, errors),
+    }
+    Ok(false)
+}
