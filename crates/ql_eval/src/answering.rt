@@ -18,8 +18,8 @@ use crate::print::print;
 use crate::run::run;
 use crate::sink::Sink;
 use crate::source::Source;
-use ref_sets::Sets;
 use ql_syntax::Stmt;
+use ref_sets::Sets;
 use std::alloc::Global;
 
 /// Runs the statements of a query, and writes what they print. No set is named at first.

@@ -33,8 +33,8 @@ use crate::paths::on_path;
 use crate::question::Question;
 use crate::source::Source;
 use osm_model::{BoxArea, Kind, Ref};
-use ref_sets::{Sets, tidy};
 use ql_syntax::{Filter, Pick};
+use ref_sets::{Sets, tidy};
 use std::alloc::{AllocError, Global};
 
 /// The objects of a kind that the base keeps, or all of the kind where there is none, as a set.

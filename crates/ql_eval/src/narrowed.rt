@@ -22,8 +22,8 @@ use crate::kinds::between;
 use crate::links::listed_by;
 use crate::source::Source;
 use osm_model::{Kind, Ref};
-use ref_sets::{Sets, kept, tidy};
 use ql_syntax::{Filter, Path};
+use ref_sets::{Sets, kept, tidy};
 use std::alloc::{AllocError, Global};
 
 /// Of some references those that all filters name, as far as references alone tell. A path down asks for the objects

@@ -21,8 +21,8 @@ use crate::lists_in::lists_in;
 use crate::source::Source;
 use osm_model::{Kind, Object, Ref};
 use ql_meaning::passes_alone;
-use ref_sets::{Sets, tidy};
 use ql_syntax::{Filter, Path};
+use ref_sets::{Sets, tidy};
 use std::alloc::Global;
 
 /// Of candidates those whose objects the filters keep that look at an object: each object is read once. `Absent` where

@@ -20,8 +20,8 @@ use crate::kinds::between;
 use crate::links::{below, listing};
 use crate::source::Source;
 use osm_model::{Kind, Ref};
-use ref_sets::tidy;
 use ql_syntax::Recursion;
+use ref_sets::tidy;
 use std::alloc::Global;
 
 /// What a recursion gives from a set, as a set (the Overpass QL page, "Recurse").

@@ -18,8 +18,8 @@ use crate::select::select;
 use crate::source::Source;
 use osm_model::Ref;
 use ql_meaning::written_by;
-use ref_sets::{Sets, kept, unite};
 use ql_syntax::Stmt;
+use ref_sets::{Sets, kept, unite};
 use std::alloc::Global;
 
 /// Runs a statement: the set that it writes is written. An out writes none.

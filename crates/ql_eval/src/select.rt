@@ -25,9 +25,9 @@ use crate::planned::planned;
 use crate::source::Source;
 use crate::tested::tested;
 use osm_model::Ref;
-use ref_sets::Sets;
 use ql_plan::Plan;
 use ql_syntax::{Filter, Pick};
+use ref_sets::Sets;
 use std::alloc::Global;
 
 /// The objects of a kind that all filters keep, as a set: what the base of the plan finds, of which the other filters

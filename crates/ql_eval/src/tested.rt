@@ -22,8 +22,8 @@ use crate::narrowed::narrowed;
 use crate::passing::passing;
 use crate::source::Source;
 use osm_model::Ref;
-use ref_sets::Sets;
 use ql_syntax::Filter;
+use ref_sets::Sets;
 use std::alloc::Global;
 
 /// Of candidates those that the filters keep which are written before and after the base. With any filter each

@@ -60,12 +60,7 @@ fn with_ids(alloc: Global, ids: &[i64]) -> Result<RefSet, AllocError>
 }
 
 /// Where a path leads from a set.
-fn on_path(
-    alloc: Global,
-    path: Path,
-    from: &RefSet,
-    set: &ObjectSet,
-) -> Result<RefSet, AllocError>
+fn on_path(alloc: Global, path: Path, from: &RefSet, set: &ObjectSet) -> Result<RefSet, AllocError>
     ensures { IfOk result (λ refs. IsSetOf refs (IsRefOf set.now (IsOnPath set.now from.now path))) }
 {
     match path {

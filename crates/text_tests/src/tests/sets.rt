@@ -58,7 +58,11 @@ fn makes_sets(alloc: Global) -> Result<bool, AllocError> {
         id: 1,
     };
     let has_way = set.contains(way) && !again.contains(way);
-    Ok(has_way && has_nodes(&set.of_kind(alloc, Kind::Node)?, &[1, 2, 3]) && has_nodes(&again, &[1, 2, 3]))
+    Ok(
+        has_way
+            && has_nodes(&set.of_kind(alloc, Kind::Node)?, &[1, 2, 3])
+            && has_nodes(&again, &[1, 2, 3]),
+    )
 }
 
 #[test]

@@ -18,5 +18,5 @@ returns c =
     let down : AreSteps false links steps = subst (λ (all : List Link). AreSteps false all steps) c.deref.ensures.value c.in_ok-steps.ensures.steps in
     if_ok_as c.reached.result
     (λ refs are. down_all c.args.set.now c.as_slice.ensures.set links c.in_ok-links.ensures steps down from refs
-        (subst (λ (them : List Step). IsSetOf refs (λ r. (s : Ref) × Contains from s × IsPath them s r)) c.deref-2.ensures.value are))
+    (subst (λ (them : List Step). IsSetOf refs (λ r. (s : Ref) × Contains from s × IsPath them s r)) c.deref-2.ensures.value are))
     c.reached.ensures

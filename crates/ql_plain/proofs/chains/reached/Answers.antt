@@ -32,4 +32,4 @@ returns c =
     let names = c.as_slice-names.result.now in
     subst (λ (from : List Ref). IsSetOf c.from_refs.result (λ r. (s : Ref) × Contains from s × IsPath steps s r)) c.as_slice-names.ensures.value
     (paths_are steps names c.loop-name.found.refs.items c.follow_found.new.self.refs.items c.from_refs.result
-        (adds_all names (IsStep steps) c.loop-name.name-index c.loop-name-test.false c.loop-name.invariant.adds) c.in_ok-follow_found.ensures c.from_refs.ensures)
+    (adds_all names (IsStep steps) c.loop-name.name-index c.loop-name-test.false c.loop-name.invariant.adds) c.in_ok-follow_found.ensures c.from_refs.ensures)

@@ -20,8 +20,8 @@ returns-in-InSet c =
     let names_are : c.get.result.now ≡ env c.in-InSet.name = c.get.ensures ∙ ap (λ (name : List ℕ). env name) c.as_bytes.ensures in
     subst (λ (f : Filter). IfOk c.copy.result (λ refs. Keeps objects refs (λ o. Passes objects env o (filter_of f)))) (sym c.in-InSet.is)
     (if_ok_as c.copy.result
-        (λ refs same o there. subst (λ (names : List Ref). Contains refs (reference o) ↔ Contains names (reference o)) (same ∙ names_are) ((λ has. has), (λ has. has)))
-        c.copy.ensures)
+    (λ refs same o there. subst (λ (names : List Ref). Contains refs (reference o) ↔ Contains names (reference o)) (same ∙ names_are) ((λ has. has), (λ has. has)))
+    c.copy.ensures)
 
 pub returns-in-Ids : goal.returns-in-Ids
 returns-in-Ids c =
@@ -29,8 +29,8 @@ returns-in-Ids c =
     let env = lists_of c.args.sets.now.named.items in
     subst (λ (f : Filter). IfOk c.with_ids.result (λ refs. Keeps objects refs (λ o. Passes objects env o (filter_of f)))) (sym c.in-Ids.is)
     (if_ok_as c.with_ids.result
-        (λ refs so o there. subst (λ (ids : List ℤ). Contains refs (reference o) ↔ Contains ids o.id) c.as_slice-in-Ids.ensures (so.members (reference o)))
-        c.with_ids.ensures)
+    (λ refs so o there. subst (λ (ids : List ℤ). Contains refs (reference o) ↔ Contains ids o.id) c.as_slice-in-Ids.ensures (so.members (reference o)))
+    c.with_ids.ensures)
 
 pub returns-in-Via : goal.returns-in-Via
 returns-in-Via c =
@@ -39,9 +39,9 @@ returns-in-Via c =
     let names_are : c.get-in-Via.result.now ≡ env c.in-Via.name = c.get-in-Via.ensures ∙ ap (λ (name : List ℕ). env name) c.as_bytes-in-Via.ensures in
     subst (λ (f : Filter). IfOk c.on_path.result (λ refs. Keeps objects refs (λ o. Passes objects env o (filter_of f)))) (sym c.in-Via.is)
     (if_ok_as c.on_path.result
-        (λ refs so. keeps_refs objects c.as_slice.ensures.set (IsOnPath objects (env c.in-Via.name) c.in-Via.path)
-            (subst (λ (names : List Ref). IsSetOf refs (IsRefOf objects (IsOnPath objects names c.in-Via.path))) names_are so))
-        c.on_path.ensures)
+    (λ refs so. keeps_refs objects c.as_slice.ensures.set (IsOnPath objects (env c.in-Via.name) c.in-Via.path)
+    (subst (λ (names : List Ref). IsSetOf refs (IsRefOf objects (IsOnPath objects names c.in-Via.path))) names_are so))
+    c.on_path.ensures)
 
 pub returns-in_default : goal.returns-in_default
 returns-in_default c =
