@@ -12,7 +12,7 @@ use Rattle.tree_node.proofs.shared.OutcomeLaws.{Nodes, just_needed, uses}
 use Rattle.tree_walk.specs.declared.fault.WalkFault.TheVariants as walks
 use Rattle.osm_index.specs.Publications.{Publication}
 use Rattle.ql_syntax.specs.Statements.{Statements}
-use Rattle.ql_plain.specs.Meanings.{Means}
+use Rattle.ql_meaning.specs.Meanings.{Means}
 use Rattle.ql_eval.specs.Asks.{IsNeeded}
 use Rattle.ql_eval.specs.Faults.{cause_of_evaluation}
 use Rattle.ql_eval.specs.Written.{HasWritten}

@@ -9,8 +9,8 @@ use Rattle.ql_syntax.specs.Statements.{Statements}
 use Rattle.ql_syntax.specs.declared.cause.QlCause.TheVariants as causes
 use Rattle.ql_syntax.specs.declared.fault.QlFault.{QlFault}
 use Rattle.ql_syntax.proofs.shared.QueryLaws.{one_query, reads_or_not, one_fault}
-use Rattle.ql_plain.specs.Meanings.{Means}
-use Rattle.ql_plain.proofs.shared.Laws.{one_meaning}
+use Rattle.ql_meaning.specs.Meanings.{Means}
+use Rattle.ql_meaning.proofs.shared.Laws.{one_meaning}
 use Rattle.tree_node.specs.Digests.{digest}
 use Rattle.tree_node.specs.Order.{IsBelow}
 use Rattle.tree_node.specs.Outcomes.{Clash}

@@ -9,7 +9,7 @@ use Rattle.tree_walk.specs.Walked.{fetched_in}
 use Rattle.osm_index.specs.Publications.{IsPublication, Publication, root_of}
 use Rattle.ql_syntax.specs.Queries.{HasFault, Reads}
 use Rattle.ql_syntax.specs.Statements.{Statements}
-use Rattle.ql_plain.specs.Meanings.{Means}
+use Rattle.ql_meaning.specs.Meanings.{Means}
 use Rattle.ql_eval.specs.Asks.{IsNeeded}
 use Rattle.ql_eval.specs.declared.evaluation.Report.{Report}
 use Rattle.osm_prove.specs.Proofs.{AreRising, IsProof, Lists}

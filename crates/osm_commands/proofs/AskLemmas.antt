@@ -9,7 +9,7 @@ use Rattle.osm_index.specs.declared.snapshot.Snapshot.{Snapshot}
 use Rattle.ql_syntax.specs.Queries.{HasFault, Reads}
 use Rattle.ql_syntax.specs.Statements.{Statements}
 use Rattle.ql_syntax.specs.declared.fault.QlFault.{QlFault}
-use Rattle.ql_plain.specs.Meanings.{Means}
+use Rattle.ql_meaning.specs.Meanings.{Means}
 use Rattle.osm_prove.specs.Proved.{IsProved}
 use Rattle.osm_prove.specs.declared.prove_fault.ProveFault.{ProveFault}
 use Rattle.osm_prove.specs.declared.prove_fault.ProveFault.TheVariants as refusals

@@ -10,7 +10,7 @@ use Rattle.tree_node.specs.declared.edition.Edition.{Edition}
 use Rattle.tree_node.specs.declared.edition.Edition.TheVariants.{Two}
 use Rattle.ql_syntax.specs.Queries.{HasFault, Reads}
 use Rattle.ql_syntax.specs.Statements.{Statements}
-use Rattle.ql_plain.specs.Meanings.{Means}
+use Rattle.ql_meaning.specs.Meanings.{Means}
 use Rattle.osm_commands.specs.TreeRoots.{ExplainsTrees, IsPublicationIn}
 use Rattle.osm_gate.specs.Written.{AppendsFront}
 use Rattle.osm_commands.specs.declared.command_fault.CommandFault.{CommandFault}

@@ -4,8 +4,8 @@ use Rattle.std.specs.Prelude.{Option, Some, None}
 use Rattle.osm_index.specs.Publications.{IsPublication, Publication}
 use Rattle.osm_prove.specs.Proved.{IsProofOf, IsProved}
 use Rattle.osm_prove.proofs.shared.ProofLaws.{one_proof}
-use Rattle.ql_plain.specs.Meanings.{Means}
-use Rattle.ql_plain.proofs.shared.Laws.{one_meaning}
+use Rattle.ql_meaning.specs.Meanings.{Means}
+use Rattle.ql_meaning.proofs.shared.Laws.{one_meaning}
 use Rattle.ql_syntax.specs.Statements.{Statements}
 use Rattle.ql_syntax.proofs.shared.QueryLaws.{one_fault, one_query, reads_or_not}
 use Rattle.osm_gate.specs.Connections.{Responds, RespondsToOne}

@@ -6,7 +6,7 @@ use Rattle.tree_node.specs.Shelves.{SameNodes}
 use Rattle.osm_index.specs.Publications.{Publication}
 use Rattle.ql_syntax.specs.Queries.{Reads}
 use Rattle.ql_syntax.specs.Statements.{Statements}
-use Rattle.ql_plain.specs.Meanings.{Means}
+use Rattle.ql_meaning.specs.Meanings.{Means}
 use Rattle.ql_eval.specs.Asks.{IsNeeded}
 use Rattle.osm_prove.specs.Proofs.{AreRising, Lists}
 

@@ -8,7 +8,7 @@ ghost use Rattle.ql_syntax.specs.Queries.{HasFault, Reads};
 ghost use Rattle.ql_syntax.specs.StatementViews.{statements_of};
 ghost use Rattle.ql_syntax.specs.Statements.{Statements};
 ghost use Rattle.ql_syntax.specs.declared.fault.QlFault.{QlFault};
-ghost use Rattle.ql_plain.specs.Meanings.{Means};
+ghost use Rattle.ql_meaning.specs.Meanings.{Means};
 ghost use Rattle.ql_eval.specs.Faults.{cause_of_evaluation};
 ghost use Rattle.osm_prove.specs.Proved.{IsProofOf, IsProved};
 

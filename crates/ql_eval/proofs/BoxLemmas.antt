@@ -27,10 +27,10 @@ use Rattle.osm_index.proofs.shared.CellLaws.{cell_found, cell_held}
 use Rattle.osm_index.proofs.shared.Members.{from_map, in_map}
 use Rattle.osm_index.proofs.shared.OneKey.{one_location}
 use Rattle.osm_index.proofs.shared.OneObject.{is_element}
-use Rattle.ql_plain.proofs.shared.Adding.{adds_as, adds_nothing, adds_one, adds_to_nothing}
-use Rattle.ql_plain.specs.Adding.{Adds, From}
-use Rattle.ql_plain.specs.Meanings.{IsSetOf}
-use Rattle.ql_plain.specs.Values.{IsRefOf}
+use Rattle.ref_sets.proofs.shared.Adding.{adds_as, adds_nothing, adds_one, adds_to_nothing}
+use Rattle.ref_sets.specs.Adding.{Adds, From}
+use Rattle.ref_sets.specs.Sets.{IsSetOf}
+use Rattle.ql_meaning.specs.Values.{IsRefOf}
 use Rattle.ql_eval.specs.Asks.{IsAskedInBox, IsInBox}
 use Rattle.ql_eval.specs.Faults.{cause_of_evaluation}
 use Rattle.ql_eval.specs.Questions.{NeededBy}

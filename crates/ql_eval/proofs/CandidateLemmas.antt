@@ -20,10 +20,11 @@ use Rattle.osm_index.proofs.shared.Members.{first_or_in_rest, here, none}
 use Rattle.ql_syntax.specs.Filters.{Filter, HasKey, Ids, InSet, KeyIs, Within}
 use Rattle.ql_syntax.specs.declared.pick.Pick.{Pick}
 use Rattle.ql_syntax.specs.declared.pick.Pick.TheVariants as picks
-use Rattle.ql_plain.proofs.shared.Adding.{adds_to_nothing}
-use Rattle.ql_plain.specs.Adding.{Adds, From}
-use Rattle.ql_plain.specs.Meanings.{IsSetOf}
-use Rattle.ql_plain.specs.Values.{Env, IsPicked, IsRefOf, IsSelected}
+use Rattle.ref_sets.proofs.shared.Adding.{adds_to_nothing}
+use Rattle.ref_sets.specs.Adding.{Adds, From}
+use Rattle.ref_sets.specs.Sets.{IsSetOf}
+use Rattle.ref_sets.specs.NamedSets.{Env}
+use Rattle.ql_meaning.specs.Values.{IsPicked, IsRefOf, IsSelected}
 use Rattle.ql_eval.specs.Asks.{AskedByBase, IsInBox, kind_picked, kinds_of}
 use Rattle.ql_eval.specs.Faults.{cause_of_evaluation}
 use Rattle.ql_eval.specs.Questions.{Answers, NeededBy, WithTag}

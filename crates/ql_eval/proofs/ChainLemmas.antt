@@ -12,10 +12,10 @@ use Rattle.osm_model.specs.declared.reference.Ref.{Ref}
 use Rattle.tree_node.specs.Outcomes.{Outcome, ShelfUse}
 use Rattle.osm_index.specs.Publications.{Publication}
 use Rattle.osm_index.proofs.shared.Members.{none}
-use Rattle.ql_plain.proofs.shared.Adding.{adds_to_nothing}
-use Rattle.ql_plain.specs.Adding.{Adds, From}
-use Rattle.ql_plain.specs.Founds.{Goes}
-use Rattle.ql_plain.specs.Meanings.{IsSetOf}
+use Rattle.ref_sets.proofs.shared.Adding.{adds_to_nothing}
+use Rattle.ref_sets.specs.Adding.{Adds, From}
+use Rattle.ref_sets.specs.Founds.{Goes}
+use Rattle.ref_sets.specs.Sets.{IsSetOf}
 use Rattle.ql_eval.specs.Faults.{cause_of_evaluation}
 use Rattle.ql_eval.specs.Questions.{NeededBy}
 use Rattle.ql_eval.specs.declared.chains.Direction.{Direction}

@@ -10,7 +10,7 @@ use Rattle.ql_syntax.specs.Filters as tree
 use Rattle.ql_syntax.specs.StatementViews.{filter_of, filters_of}
 use Rattle.ql_syntax.specs.declared.filter.Filter.{Filter}
 use Rattle.ql_syntax.specs.declared.filter.Filter.TheVariants as filters
-use Rattle.ql_plain.specs.Adding.{From}
+use Rattle.ref_sets.specs.Adding.{From}
 use Rattle.ql_plan.specs.Plans.{IsPlan, Planned, is_counted, rivals_of}
 use Rattle.ql_plan.proofs.PlanLaws.{one_plan}
 use Rattle.ql_eval.specs.Asks.{AreCounts, AskedByRivals, IsPlanned, IsQuestionOf}

@@ -5,8 +5,8 @@ use Rattle.std.proofs.lemmas.List.{get_or_default, take-append-drop, take_all, t
 use Rattle.std.proofs.lemmas.List.Elements.{Contains-append_left, Contains-append_right}
 use Rattle.osm_index.specs.Publications.{Publication}
 use Rattle.osm_index.proofs.shared.Members.{here, none}
-use Rattle.ql_plain.proofs.shared.Adding.{adds_more}
-use Rattle.ql_plain.specs.Adding.{Adds, From}
+use Rattle.ref_sets.proofs.shared.Adding.{adds_more}
+use Rattle.ref_sets.specs.Adding.{Adds, From}
 use Rattle.ql_eval.specs.Questions.{Ask, NeededBy, NeedsAsk}
 use Rattle.ql_eval.proofs.NameLemmas.{last_or_before}
 

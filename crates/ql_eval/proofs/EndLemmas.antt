@@ -12,8 +12,8 @@ use Rattle.tree_node.specs.Outcomes.{Outcome, ShelfUse}
 use Rattle.osm_index.specs.Publications.{Publication}
 use Rattle.ql_syntax.specs.declared.recursion.Recursion.{Recursion}
 use Rattle.ql_syntax.specs.declared.recursion.Recursion.TheVariants as recursions
-use Rattle.ql_plain.specs.Meanings.{IsSetOf}
-use Rattle.ql_plain.specs.Values.{IsChain, IsParent, IsReached, IsRefOf, Link, Longer}
+use Rattle.ref_sets.specs.Sets.{IsSetOf}
+use Rattle.ql_meaning.specs.Values.{IsChain, IsParent, IsReached, IsRefOf, Link, Longer}
 use Rattle.ql_eval.specs.Asks.{AskedByRecursion}
 use Rattle.ql_eval.specs.Faults.{cause_of_evaluation}
 use Rattle.ql_eval.specs.Questions.{Ask, NeededBy, object_ask}

@@ -25,8 +25,8 @@ use Rattle.osm_index.specs.Ranges.{back_range, kind_range, tag_key_range, tag_ra
 use Rattle.osm_index.proofs.shared.CellLaws.{column_few, row_few}
 use Rattle.osm_index.proofs.shared.OneObject.{is_element}
 use Rattle.osm_index.proofs.shared.RangeLaws.{back_found, fits_of_lists, kind_found, tag_found, tag_key_found}
-use Rattle.ql_plain.specs.Meanings.{IsSetOf}
-use Rattle.ql_plain.specs.Values.{IsRefOf}
+use Rattle.ref_sets.specs.Sets.{IsSetOf}
+use Rattle.ql_meaning.specs.Values.{IsRefOf}
 use Rattle.ql_eval.specs.Faults.{cause_of_evaluation}
 use Rattle.ql_eval.specs.Questions.{Answers, HasNoNulIn, OfKind, Question, ThatList, WithKey, WithTag, range_asked, tree_asked}
 use Rattle.ql_eval.specs.declared.fault.EvalFault.{EvalFault}

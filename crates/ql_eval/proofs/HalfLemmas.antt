@@ -9,9 +9,10 @@ use Rattle.osm_model.specs.declared.reference.Ref.{Ref}
 use Rattle.ql_syntax.specs.Filters.{Filter, InSet, HasKey, KeyIs, LacksKey, KeyIsNot, Ids, Within, Via}
 use Rattle.ql_syntax.specs.declared.path.Path.{Path}
 use Rattle.ql_syntax.specs.declared.path.Path.TheVariants as paths
-use Rattle.ql_plain.specs.Adding.{From}
-use Rattle.ql_plain.specs.Meanings.{IsSetOf}
-use Rattle.ql_plain.specs.Values.{Env, IsAbove, IsBelow, IsOnPath, Passes}
+use Rattle.ref_sets.specs.Adding.{From}
+use Rattle.ref_sets.specs.Sets.{IsSetOf}
+use Rattle.ref_sets.specs.NamedSets.{Env}
+use Rattle.ql_meaning.specs.Values.{IsAbove, IsBelow, IsOnPath, Passes}
 use Rattle.ql_eval.specs.Asks.{IsListedBy, IsOfKindIn}
 use Rattle.ql_eval.specs.internal.Links.{AreAllThere, AreThere}
 use Rattle.ql_eval.specs.internal.Selecting.{IsKeptBy}

@@ -5,8 +5,8 @@ use Rattle.ql_syntax.specs.StatementViews.{statement_of}
 use Rattle.ql_syntax.specs.Statements as tree
 use Rattle.ql_syntax.specs.declared.statement.Out.{Out}
 use Rattle.ql_syntax.specs.declared.statement.Stmt.{Stmt, Select, Recurse, Item, Union', Minus', Print}
-use Rattle.ql_plain.specs.Meanings.{told}
-use Rattle.ql_plain.specs.Values.{Env}
+use Rattle.ql_meaning.specs.Meanings.{told}
+use Rattle.ref_sets.specs.NamedSets.{Env}
 use Rattle.ql_eval.specs.internal.Lawful.{CanRun}
 use Rattle.ql_eval.proofs.StatementLemmas.{IsOut}
 

@@ -9,9 +9,9 @@ use Rattle.osm_index.proofs.shared.OneObject.{object_found, one_object}
 use Rattle.ql_syntax.specs.Filters as tree
 use Rattle.ql_syntax.specs.StatementViews.{filter_of, filters_of}
 use Rattle.ql_syntax.specs.declared.filter.Filter.{Filter}
-use Rattle.ql_plain.proofs.shared.Adding.{adds_nothing, adds_one, one_more}
-use Rattle.ql_plain.specs.Adding.{Adds}
-use Rattle.ql_plain.specs.Values.{Env}
+use Rattle.ref_sets.proofs.shared.Adding.{adds_nothing, adds_one, one_more}
+use Rattle.ref_sets.specs.Adding.{Adds}
+use Rattle.ref_sets.specs.NamedSets.{Env}
 use Rattle.ql_eval.specs.internal.Narrowing.{IsPassingAs, PassesAll}
 use Rattle.ql_eval.proofs.AllLemmas.{all_push}
 

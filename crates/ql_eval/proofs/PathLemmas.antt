@@ -12,9 +12,9 @@ use Rattle.tree_node.specs.Outcomes.{Outcome, ShelfUse}
 use Rattle.osm_index.specs.Publications.{Publication}
 use Rattle.osm_index.specs.Ranges.{IsKindOf}
 use Rattle.ql_syntax.specs.declared.path.Path.{Path}
-use Rattle.ql_plain.specs.Adding.{From}
-use Rattle.ql_plain.specs.Meanings.{IsSetOf}
-use Rattle.ql_plain.specs.Values.{IsAbove, IsRefOf}
+use Rattle.ref_sets.specs.Adding.{From}
+use Rattle.ref_sets.specs.Sets.{IsSetOf}
+use Rattle.ql_meaning.specs.Values.{IsAbove, IsRefOf}
 use Rattle.ql_eval.specs.Asks.{AskedBelow, AskedByPath, AskedFor, IsOfKindIn, back_ask}
 use Rattle.ql_eval.specs.Faults.{cause_of_evaluation}
 use Rattle.ql_eval.specs.Questions.{Ask, NeededBy}

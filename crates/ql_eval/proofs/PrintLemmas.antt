@@ -21,10 +21,10 @@ use Rattle.tree_node.proofs.shared.OutcomeLaws.{Nodes, outcome_as, outcome_start
 use Rattle.osm_index.proofs.shared.Members.{first_or_in_rest, from_map, here, in_map, in_rest, none}
 use Rattle.osm_index.proofs.shared.OneObject.{object_there, same_reference}
 use Rattle.osm_index.specs.Publications.{Publication}
-use Rattle.ql_plain.proofs.shared.Filtered.{from_filter, in_filter, passes_filter}
-use Rattle.ql_plain.proofs.shared.MeaningLaws.{one_set, printed_rise}
-use Rattle.ql_plain.specs.Adding.{From}
-use Rattle.ql_plain.specs.Meanings.{cut, is_in, printed_of}
+use Rattle.ref_sets.proofs.shared.Filtered.{from_filter, in_filter, passes_filter}
+use Rattle.ql_meaning.proofs.shared.MeaningLaws.{one_set, printed_rise}
+use Rattle.ref_sets.specs.Adding.{From}
+use Rattle.ql_meaning.specs.Meanings.{cut, is_in, printed_of}
 use Rattle.ql_eval.specs.Asks.{AskedByOut}
 use Rattle.ql_eval.specs.Faults.{cause_of_evaluation}
 use Rattle.ql_eval.specs.Questions.{Ask, NeededBy}

@@ -11,11 +11,11 @@ use Rattle.ql_syntax.specs.LawfulQueries.{IsQuery, IsTop}
 use Rattle.ql_syntax.specs.StatementViews.{statement_of, statements_of}
 use Rattle.ql_syntax.specs.Statements.{Statements, End, Then}
 use Rattle.ql_syntax.specs.declared.statement.Stmt.{Stmt}
-use Rattle.ql_plain.proofs.shared.Answering.{prints, prints_next}
-use Rattle.ql_plain.proofs.shared.MeaningLaws.{after_once}
-use Rattle.ql_plain.specs.Meanings.{After, Means, nothing_named, told}
-use Rattle.ql_plain.specs.Runs.{PrintsTo}
-use Rattle.ql_plain.specs.Values.{Env}
+use Rattle.ql_meaning.proofs.shared.Answering.{prints, prints_next}
+use Rattle.ql_meaning.proofs.shared.MeaningLaws.{after_once}
+use Rattle.ql_meaning.specs.Meanings.{After, Means, told}
+use Rattle.ref_sets.specs.NamedSets.{nothing_named, Env}
+use Rattle.ql_meaning.specs.Runs.{PrintsTo}
 use Rattle.ql_eval.specs.Asks.{AskedBy, AskedByAll}
 use Rattle.ql_eval.specs.Faults.{cause_of_evaluation}
 use Rattle.ql_eval.specs.Questions.{Ask, NeededBy}

@@ -10,10 +10,10 @@ use Rattle.osm_model.specs.declared.kind.Kind.TheVariants as kinds
 use Rattle.osm_model.specs.declared.reference.Ref.{Ref}
 use Rattle.osm_index.specs.Publications.{Publication}
 use Rattle.ql_syntax.specs.declared.recursion.Recursion.TheVariants as recursions
-use Rattle.ql_plain.proofs.shared.Adding.{adds_as, adds_list, adds_then}
-use Rattle.ql_plain.specs.Adding.{Adds, From}
-use Rattle.ql_plain.specs.Meanings.{IsSetOf}
-use Rattle.ql_plain.specs.Values.{IsAbove, IsBelow, IsDown, IsParent, IsReached, IsRefOf, IsUp}
+use Rattle.ref_sets.proofs.shared.Adding.{adds_as, adds_list, adds_then}
+use Rattle.ref_sets.specs.Adding.{Adds, From}
+use Rattle.ref_sets.specs.Sets.{IsSetOf}
+use Rattle.ql_meaning.specs.Values.{IsAbove, IsBelow, IsDown, IsParent, IsReached, IsRefOf, IsUp}
 use Rattle.ql_eval.specs.Asks.{AskedByRecursion, IsOfKindIn, IsWayBelow}
 use Rattle.ql_eval.specs.Questions.{Ask, NeededBy}
 use Rattle.ql_eval.specs.internal.Entries.{IsThere}

@@ -11,8 +11,8 @@ use Rattle.osm_index.proofs.shared.Members.{none}
 use Rattle.ql_syntax.specs.Filters as tree
 use Rattle.ql_syntax.specs.StatementViews.{filter_of, filters_of}
 use Rattle.ql_syntax.specs.declared.filter.Filter.{Filter}
-use Rattle.ql_plain.specs.Adding.{From}
-use Rattle.ql_plain.specs.Values.{Env}
+use Rattle.ref_sets.specs.Adding.{From}
+use Rattle.ref_sets.specs.NamedSets.{Env}
 use Rattle.ql_eval.specs.Asks.{AskedByRest}
 use Rattle.ql_eval.specs.Questions.{Ask, NeededBy}
 use Rattle.ql_eval.specs.internal.Links.{IsObjectAsk}

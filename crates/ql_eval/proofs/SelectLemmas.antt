@@ -14,8 +14,9 @@ use Rattle.osm_index.specs.Publications.{Publication}
 use Rattle.ql_syntax.specs.Filters.{Filter}
 use Rattle.ql_syntax.specs.LawfulQueries.{Allows}
 use Rattle.ql_syntax.specs.declared.pick.Pick.{Pick}
-use Rattle.ql_plain.specs.Meanings.{IsSetOf}
-use Rattle.ql_plain.specs.Values.{Env, IsRefOf, IsSelected, Passes}
+use Rattle.ref_sets.specs.Sets.{IsSetOf}
+use Rattle.ref_sets.specs.NamedSets.{Env}
+use Rattle.ql_meaning.specs.Values.{IsRefOf, IsSelected, Passes}
 use Rattle.ql_plan.specs.Plans.{Planned, filters_in}
 use Rattle.ql_eval.specs.Asks.{AskedByBase, AskedByChoice, AskedByPlan, AskedBySelect, IsCandidate, IsPlanned, kind_picked}
 use Rattle.ql_eval.specs.Faults.{cause_of_evaluation}

@@ -17,10 +17,12 @@ use Rattle.ql_syntax.specs.StatementViews.{statement_of, statements_of}
 use Rattle.ql_syntax.specs.Statements.{Statement, Statements, Select, Recurse, Item, Union, Minus, Print, End, Then}
 use Rattle.ql_syntax.specs.declared.pick.Pick.{Pick}
 use Rattle.ql_syntax.specs.declared.statement.Stmt.{Stmt}
-use Rattle.ql_plain.proofs.shared.Adding.{one_more}
-use Rattle.ql_plain.proofs.shared.MeaningLaws.{after_once}
-use Rattle.ql_plain.specs.Meanings.{After, AfterAll, IsSetOf, Writes, given_by, put}
-use Rattle.ql_plain.specs.Values.{Env, IsRefOf, IsSelected}
+use Rattle.ref_sets.proofs.shared.Adding.{one_more}
+use Rattle.ql_meaning.proofs.shared.MeaningLaws.{after_once}
+use Rattle.ql_meaning.specs.Meanings.{After, AfterAll, Writes, given_by}
+use Rattle.ref_sets.specs.Sets.{IsSetOf}
+use Rattle.ref_sets.specs.NamedSets.{put, Env}
+use Rattle.ql_meaning.specs.Values.{IsRefOf, IsSelected}
 use Rattle.ql_eval.specs.Asks.{AskedBy, AskedByAll, AskedBySelect}
 use Rattle.ql_eval.specs.Faults.{cause_of_evaluation}
 use Rattle.ql_eval.specs.Questions.{Ask, NeededBy}

@@ -25,8 +25,9 @@ use Rattle.ql_syntax.specs.declared.pick.Pick.{Pick}
 use Rattle.ql_syntax.specs.declared.pick.Pick.TheVariants as picks
 use Rattle.ql_syntax.specs.declared.recursion.Recursion.{Recursion}
 use Rattle.ql_syntax.specs.declared.recursion.Recursion.TheVariants as recursions
-use Rattle.ql_plain.specs.Meanings.{After, cut, nothing_named}
-use Rattle.ql_plain.specs.Values.{Env, IsBelow, IsReached, IsRefOf, IsSelected, IsUp}
+use Rattle.ql_meaning.specs.Meanings.{After, cut}
+use Rattle.ref_sets.specs.NamedSets.{nothing_named, Env}
+use Rattle.ql_meaning.specs.Values.{IsBelow, IsReached, IsRefOf, IsSelected, IsUp}
 use Rattle.ql_plan.specs.Plans.{IsChosen, IsPlan, Planned, rest_of, rivals_of}
 use Rattle.ql_eval.specs.Questions.{Ask, IsCountOf, Listed, NeededBy, OfKind, Question, ThatList, WithKey, WithTag, count_ask, names_ask, object_ask}
 

@@ -5,8 +5,8 @@ ghost use Rattle.tree_node.specs.Outcomes.{Outcome};
 ghost use Rattle.osm_index.specs.Publications.{IsPublication, Publication};
 ghost use Rattle.ql_syntax.specs.LawfulQueries.{IsQuery, IsTop};
 ghost use Rattle.ql_syntax.specs.StatementViews.{statement_of, statements_of};
-ghost use Rattle.ql_plain.specs.Meanings.{After, Means, nothing_named, told};
-ghost use Rattle.ql_plain.specs.NamedSets.{lists_of};
+ghost use Rattle.ql_meaning.specs.Meanings.{After, Means, told};
+ghost use Rattle.ref_sets.specs.NamedSets.{nothing_named, lists_of};
 ghost use Rattle.ql_eval.specs.Asks.{AskedBy, AskedByAll};
 ghost use Rattle.ql_eval.specs.Faults.{cause_of_evaluation};
 ghost use Rattle.ql_eval.specs.Questions.{NeededBy};
@@ -18,8 +18,8 @@ use crate::print::print;
 use crate::run::run;
 use crate::sink::Sink;
 use crate::source::Source;
-use ql_plain::Sets;
 use ql_syntax::Stmt;
+use ref_sets::Sets;
 use std::alloc::Global;
 
 /// Runs the statements of a query, and writes what they print. No set is named at first.

@@ -13,10 +13,10 @@ ghost use Rattle.osm_index.specs.Publications.{IsPublication, Publication};
 ghost use Rattle.osm_index.specs.Ranges.{IsKindOf};
 ghost use Rattle.ql_syntax.specs.LawfulQueries.{Allows};
 ghost use Rattle.ql_syntax.specs.StatementViews.{filter_of};
-ghost use Rattle.ql_plain.specs.Adding.{Adds, From};
-ghost use Rattle.ql_plain.specs.Meanings.{IsSetOf};
-ghost use Rattle.ql_plain.specs.NamedSets.{lists_of};
-ghost use Rattle.ql_plain.specs.Values.{IsRefOf, IsSelected};
+ghost use Rattle.ref_sets.specs.Adding.{Adds, From};
+ghost use Rattle.ref_sets.specs.Sets.{IsSetOf};
+ghost use Rattle.ref_sets.specs.NamedSets.{lists_of};
+ghost use Rattle.ql_meaning.specs.Values.{IsRefOf, IsSelected};
 ghost use Rattle.ql_plan.specs.Plans.{never, rank_of};
 ghost use Rattle.ql_eval.specs.Asks.{AskedByBase, AskedFor, IsAskedInBox, IsInBox, kind_picked};
 ghost use Rattle.ql_eval.specs.Faults.{cause_of_evaluation};
@@ -33,8 +33,8 @@ use crate::paths::on_path;
 use crate::question::Question;
 use crate::source::Source;
 use osm_model::{BoxArea, Kind, Ref};
-use ql_plain::{Sets, tidy};
 use ql_syntax::{Filter, Pick};
+use ref_sets::{Sets, tidy};
 use std::alloc::{AllocError, Global};
 
 /// The objects of a kind that the base keeps, or all of the kind where there is none, as a set.

@@ -6,9 +6,9 @@ ghost use Rattle.std.specs.List.Sorted.{IsStrictlySortedBy};
 ghost use Rattle.osm_model.specs.Elements.{ref_cmp};
 ghost use Rattle.tree_node.specs.Outcomes.{Outcome};
 ghost use Rattle.osm_index.specs.Publications.{IsPublication, Publication};
-ghost use Rattle.ql_plain.specs.Adding.{Adds, From};
-ghost use Rattle.ql_plain.specs.Founds.{Goes, IsTold};
-ghost use Rattle.ql_plain.specs.Meanings.{IsSetOf};
+ghost use Rattle.ref_sets.specs.Adding.{Adds, From};
+ghost use Rattle.ref_sets.specs.Founds.{Goes, IsTold};
+ghost use Rattle.ref_sets.specs.Sets.{IsSetOf};
 ghost use Rattle.ql_eval.specs.Faults.{cause_of_evaluation};
 ghost use Rattle.ql_eval.specs.Questions.{NeededBy};
 ghost use Rattle.ql_eval.specs.internal.Chains.{IsEnd, IsEndAsk, Leads, LeadsAsk};
@@ -18,7 +18,7 @@ use crate::fault::EvalFault;
 use crate::links::{below, listing};
 use crate::source::Source;
 use osm_model::{Kind, Ref};
-use ql_plain::{Found, tidy};
+use ref_sets::{Found, tidy};
 use std::alloc::{AllocError, Global};
 
 /// Where chains lead.

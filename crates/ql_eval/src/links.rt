@@ -7,8 +7,8 @@ ghost use Rattle.osm_model.specs.Elements.{ref_cmp};
 ghost use Rattle.osm_model.specs.declared.kind.Kind.{Kind};
 ghost use Rattle.tree_node.specs.Outcomes.{Outcome};
 ghost use Rattle.osm_index.specs.Publications.{IsPublication, Publication};
-ghost use Rattle.ql_plain.specs.Adding.{Adds, From};
-ghost use Rattle.ql_plain.specs.Meanings.{IsSetOf};
+ghost use Rattle.ref_sets.specs.Adding.{Adds, From};
+ghost use Rattle.ref_sets.specs.Sets.{IsSetOf};
 ghost use Rattle.ql_eval.specs.Faults.{cause_of_evaluation};
 ghost use Rattle.ql_eval.specs.Questions.{NeededBy};
 ghost use Rattle.ql_eval.specs.internal.Entries.{IsThere};
@@ -20,7 +20,7 @@ use crate::kinds::between;
 use crate::question::Question;
 use crate::source::Source;
 use osm_model::{Kind, Ref};
-use ql_plain::{add_items, tidy};
+use ref_sets::{add_items, tidy};
 use std::alloc::Global;
 
 /// What the ways and relations of some references list, as a set. Nodes list nothing, and aren't asked. `Absent` where

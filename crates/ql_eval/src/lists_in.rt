@@ -7,7 +7,7 @@ ghost use Rattle.osm_model.specs.Elements.{ref_cmp};
 ghost use Rattle.ql_eval.specs.internal.Narrowing.{HasMemberIn, HasNodeIn, ListsIn};
 
 use osm_model::{Body, Kind, Member, Object, Ref};
-use ql_plain::is_in;
+use ref_sets::is_in;
 
 /// Whether an object lists one of a set that is of a kind. A binary search for each that it lists.
 pub(crate) fn lists_in(object: &Object, kind: Kind, refs: &[Ref]) -> bool

@@ -6,7 +6,7 @@ ghost use Rattle.std.specs.Prelude.{FitsSigned};
 ghost use Rattle.osm_model.specs.declared.reference.Ref.{Ref};
 ghost use Rattle.tree_node.specs.NodeRefs.{binding_of, bindings_of};
 ghost use Rattle.tree_node.specs.declared.tree.Tree.TheVariants.{Backs, Tags};
-ghost use Rattle.ql_plain.specs.Meanings.{IsSetOf};
+ghost use Rattle.ref_sets.specs.Sets.{IsSetOf};
 ghost use Rattle.ql_eval.specs.Forms.{HaveForm, Names};
 ghost use Rattle.ql_eval.specs.internal.Entries.{AreMisread, IsMisread, IsSaid};
 
@@ -15,7 +15,7 @@ use crate::objects::object_in;
 use crate::placed::placed_by;
 use osm_index::{read_back_key, read_tag_key};
 use osm_model::Ref;
-use ql_plain::tidy;
+use ref_sets::tidy;
 use std::alloc::Global;
 use tree_node::{Item, Tree};
 

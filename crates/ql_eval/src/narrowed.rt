@@ -8,9 +8,9 @@ ghost use Rattle.osm_model.specs.declared.kind.Kind.TheVariants as kinds;
 ghost use Rattle.tree_node.specs.Outcomes.{Outcome};
 ghost use Rattle.osm_index.specs.Publications.{IsPublication, Publication};
 ghost use Rattle.ql_syntax.specs.StatementViews.{filter_of, filters_of};
-ghost use Rattle.ql_plain.specs.Adding.{Adds, From};
-ghost use Rattle.ql_plain.specs.Meanings.{IsSetOf};
-ghost use Rattle.ql_plain.specs.NamedSets.{lists_of};
+ghost use Rattle.ref_sets.specs.Adding.{Adds, From};
+ghost use Rattle.ref_sets.specs.Sets.{IsSetOf};
+ghost use Rattle.ref_sets.specs.NamedSets.{lists_of};
 ghost use Rattle.ql_eval.specs.Asks.{AskedByRest, AskedFor, IsListedBy, IsOfKindIn};
 ghost use Rattle.ql_eval.specs.Faults.{cause_of_evaluation};
 ghost use Rattle.ql_eval.specs.Questions.{NeededBy, object_ask};
@@ -22,8 +22,8 @@ use crate::kinds::between;
 use crate::links::listed_by;
 use crate::source::Source;
 use osm_model::{Kind, Ref};
-use ql_plain::{Sets, kept, tidy};
 use ql_syntax::{Filter, Path};
+use ref_sets::{Sets, kept, tidy};
 use std::alloc::{AllocError, Global};
 
 /// Of some references those that all filters name, as far as references alone tell. A path down asks for the objects

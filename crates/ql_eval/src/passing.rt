@@ -6,9 +6,9 @@ ghost use Rattle.osm_model.specs.Elements.{ref_cmp};
 ghost use Rattle.tree_node.specs.Outcomes.{Outcome};
 ghost use Rattle.osm_index.specs.Publications.{IsPublication, Publication};
 ghost use Rattle.ql_syntax.specs.StatementViews.{filter_of, filters_of};
-ghost use Rattle.ql_plain.specs.Adding.{Adds, From};
-ghost use Rattle.ql_plain.specs.Meanings.{IsSetOf};
-ghost use Rattle.ql_plain.specs.NamedSets.{lists_of};
+ghost use Rattle.ref_sets.specs.Adding.{Adds, From};
+ghost use Rattle.ref_sets.specs.Sets.{IsSetOf};
+ghost use Rattle.ref_sets.specs.NamedSets.{lists_of};
 ghost use Rattle.ql_eval.specs.Faults.{cause_of_evaluation};
 ghost use Rattle.ql_eval.specs.Questions.{NeededBy};
 ghost use Rattle.ql_eval.specs.internal.Entries.{IsThere};
@@ -20,8 +20,9 @@ use crate::fault::EvalFault;
 use crate::lists_in::lists_in;
 use crate::source::Source;
 use osm_model::{Kind, Object, Ref};
-use ql_plain::{Sets, passes_alone, tidy};
+use ql_meaning::passes_alone;
 use ql_syntax::{Filter, Path};
+use ref_sets::{Sets, tidy};
 use std::alloc::Global;
 
 /// Of candidates those whose objects the filters keep that look at an object: each object is read once. `Absent` where

@@ -5,7 +5,7 @@ ghost use Rattle.std.specs.Option.{ForSome};
 ghost use Rattle.tree_node.specs.Outcomes.{Outcome};
 ghost use Rattle.osm_index.specs.Publications.{IsPublication, Publication};
 ghost use Rattle.ql_syntax.specs.StatementViews.{filter_of, filters_of};
-ghost use Rattle.ql_plain.specs.Adding.{From};
+ghost use Rattle.ref_sets.specs.Adding.{From};
 ghost use Rattle.ql_plan.specs.Plans.{filters_in, is_counted, never, rank_of};
 ghost use Rattle.ql_eval.specs.Asks.{AreCounts, IsPlanned};
 ghost use Rattle.ql_eval.specs.Faults.{cause_of_evaluation};

@@ -6,9 +6,9 @@ ghost use Rattle.osm_model.specs.Elements.{ref_cmp};
 ghost use Rattle.tree_node.specs.Outcomes.{Outcome};
 ghost use Rattle.osm_index.specs.Publications.{IsPublication, Publication};
 ghost use Rattle.ql_syntax.specs.declared.recursion.Recursion.TheVariants as recursions;
-ghost use Rattle.ql_plain.specs.Adding.{Adds};
-ghost use Rattle.ql_plain.specs.Meanings.{IsSetOf};
-ghost use Rattle.ql_plain.specs.Values.{IsReached, IsRefOf};
+ghost use Rattle.ref_sets.specs.Adding.{Adds};
+ghost use Rattle.ref_sets.specs.Sets.{IsSetOf};
+ghost use Rattle.ql_meaning.specs.Values.{IsReached, IsRefOf};
 ghost use Rattle.ql_eval.specs.Asks.{AskedByRecursion};
 ghost use Rattle.ql_eval.specs.Faults.{cause_of_evaluation};
 ghost use Rattle.ql_eval.specs.Questions.{NeededBy};
@@ -20,8 +20,8 @@ use crate::kinds::between;
 use crate::links::{below, listing};
 use crate::source::Source;
 use osm_model::{Kind, Ref};
-use ql_plain::tidy;
 use ql_syntax::Recursion;
+use ref_sets::tidy;
 use std::alloc::Global;
 
 /// What a recursion gives from a set, as a set (the Overpass QL page, "Recurse").

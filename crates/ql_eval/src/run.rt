@@ -4,8 +4,8 @@ ghost use Rattle.std.specs.Prelude.{◌≡◌, ℕ, IfOk, List, OnOk};
 ghost use Rattle.tree_node.specs.Outcomes.{Outcome};
 ghost use Rattle.osm_index.specs.Publications.{IsPublication, Publication};
 ghost use Rattle.ql_syntax.specs.StatementViews.{statement_of, statements_of};
-ghost use Rattle.ql_plain.specs.Meanings.{After, AfterAll};
-ghost use Rattle.ql_plain.specs.NamedSets.{lists_of};
+ghost use Rattle.ql_meaning.specs.Meanings.{After, AfterAll};
+ghost use Rattle.ref_sets.specs.NamedSets.{lists_of};
 ghost use Rattle.ql_eval.specs.Asks.{AskedBy, AskedByAll};
 ghost use Rattle.ql_eval.specs.Faults.{cause_of_evaluation};
 ghost use Rattle.ql_eval.specs.Questions.{NeededBy};
@@ -17,8 +17,9 @@ use crate::recursions::recurse;
 use crate::select::select;
 use crate::source::Source;
 use osm_model::Ref;
-use ql_plain::{Sets, kept, unite, written_by};
+use ql_meaning::written_by;
 use ql_syntax::Stmt;
+use ref_sets::{Sets, kept, unite};
 use std::alloc::Global;
 
 /// Runs a statement: the set that it writes is written. An out writes none.

@@ -9,9 +9,9 @@ ghost use Rattle.tree_node.specs.Outcomes.{Outcome};
 ghost use Rattle.osm_index.specs.Publications.{IsPublication, Publication};
 ghost use Rattle.ql_syntax.specs.LawfulQueries.{Allows};
 ghost use Rattle.ql_syntax.specs.StatementViews.{filters_of};
-ghost use Rattle.ql_plain.specs.Meanings.{IsSetOf};
-ghost use Rattle.ql_plain.specs.NamedSets.{lists_of};
-ghost use Rattle.ql_plain.specs.Values.{IsRefOf, IsSelected};
+ghost use Rattle.ref_sets.specs.Sets.{IsSetOf};
+ghost use Rattle.ref_sets.specs.NamedSets.{lists_of};
+ghost use Rattle.ql_meaning.specs.Values.{IsRefOf, IsSelected};
 ghost use Rattle.ql_plan.specs.Plans.{filters_in, never, rank_of};
 ghost use Rattle.ql_eval.specs.Asks.{AskedByPlan, AskedBySelect};
 ghost use Rattle.ql_eval.specs.Faults.{cause_of_evaluation};
@@ -25,9 +25,9 @@ use crate::planned::planned;
 use crate::source::Source;
 use crate::tested::tested;
 use osm_model::Ref;
-use ql_plain::Sets;
 use ql_plan::Plan;
 use ql_syntax::{Filter, Pick};
+use ref_sets::Sets;
 use std::alloc::Global;
 
 /// The objects of a kind that all filters keep, as a set: what the base of the plan finds, of which the other filters

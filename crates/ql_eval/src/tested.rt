@@ -7,9 +7,9 @@ ghost use Rattle.osm_model.specs.Elements.{ref_cmp};
 ghost use Rattle.tree_node.specs.Outcomes.{Outcome};
 ghost use Rattle.osm_index.specs.Publications.{IsPublication, Publication};
 ghost use Rattle.ql_syntax.specs.StatementViews.{filters_of};
-ghost use Rattle.ql_plain.specs.Adding.{From};
-ghost use Rattle.ql_plain.specs.Meanings.{IsSetOf};
-ghost use Rattle.ql_plain.specs.NamedSets.{lists_of};
+ghost use Rattle.ref_sets.specs.Adding.{From};
+ghost use Rattle.ref_sets.specs.Sets.{IsSetOf};
+ghost use Rattle.ref_sets.specs.NamedSets.{lists_of};
 ghost use Rattle.ql_eval.specs.Asks.{AskedByRest};
 ghost use Rattle.ql_eval.specs.Faults.{cause_of_evaluation};
 ghost use Rattle.ql_eval.specs.Questions.{NeededBy};
@@ -22,8 +22,8 @@ use crate::narrowed::narrowed;
 use crate::passing::passing;
 use crate::source::Source;
 use osm_model::Ref;
-use ql_plain::Sets;
 use ql_syntax::Filter;
+use ref_sets::Sets;
 use std::alloc::Global;
 
 /// Of candidates those that the filters keep which are written before and after the base. With any filter each

@@ -8,16 +8,9 @@ use Rattle.osm_model.proofs.shared.References.{refs_total}
 use Rattle.osm_model.specs.Elements.{Element, ref_cmp, reference}
 use Rattle.osm_model.specs.Sets.{object_at}
 use Rattle.osm_model.specs.declared.reference.Ref.{Ref}
-use Rattle.ql_plain.proofs.shared.Adding.{in_rest, first_or_in_rest, here, none}
-use Rattle.ql_plain.proofs.References.{is_equal, same_reference}
+use Rattle.ref_sets.proofs.shared.Adding.{in_rest, first_or_in_rest, here, none}
+use Rattle.ref_sets.proofs.shared.References.{equal_is_same, equal_itself}
 use Rattle.ql_plain.specs.internal.Linked.{IsThere}
-
--- references that are one compare as equal
-pub equal_itself : (r s : Ref) → r ≡ s → eq_by_cmp ref_cmp r s ≡ true
-equal_itself r s same = subst (λ (t : Ref). eq_by_cmp ref_cmp r t ≡ true) same (let e = tied_itself refs_total r in rw e refl)
-
-pub equal_is_same : (r s : Ref) → eq_by_cmp ref_cmp r s ≡ true → r ≡ s
-equal_is_same r s e = same_reference r s (is_equal (ref_cmp r s) e)
 
 -- what is found at a reference is there
 found_case : (r : Ref) (o : Element) (objects : List Element) (b : Bool) → eq_by_cmp ref_cmp (reference o) r ≡ b

@@ -9,9 +9,9 @@ use Rattle.std.proofs.lemmas.List.{append-nil, length-append, take-append-le, ta
 use Rattle.std.proofs.lemmas.List.Elements.{filter-append}
 use Rattle.osm_model.specs.Elements.{Element, reference}
 use Rattle.osm_model.specs.declared.reference.Ref.{Ref}
-use Rattle.ql_plain.proofs.shared.Adding.{one_more}
-use Rattle.ql_plain.proofs.Founding.{has_it, it_is_had}
-use Rattle.ql_plain.specs.Meanings.{cut, is_in}
+use Rattle.ref_sets.proofs.shared.Adding.{one_more}
+use Rattle.ref_sets.proofs.shared.Tests.{has_it, it_is_had}
+use Rattle.ql_meaning.specs.Meanings.{cut, is_in}
 
 pub in_set : (refs : List Ref) (o : Element) → Contains refs (reference o) → is_in refs o ≡ true
 in_set refs o has = has_it refs (reference o) has

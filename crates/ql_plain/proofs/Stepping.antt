@@ -12,7 +12,8 @@ use Rattle.std.specs.declared.cmp.Ordering.TheVariants.{Less, Equal, Greater}
 use Rattle.osm_model.proofs.shared.References.{refs_total}
 use Rattle.osm_model.specs.Elements.{ref_cmp}
 use Rattle.osm_model.specs.declared.reference.Ref.{Ref}
-use Rattle.ql_plain.proofs.References.{same_reference}
+use Rattle.ref_sets.proofs.shared.Parts.{in_back, in_front}
+use Rattle.ref_sets.proofs.shared.References.{same_reference}
 use Rattle.ql_plain.specs.declared.step.Step.{Step}
 
 lower_lt : (a b : Ordering) → ordering_index a ≤ ordering_index b → is_lt b ≡ true → is_lt a ≡ true
@@ -35,16 +36,6 @@ neither : (o : Ordering) → is_lt o ≡ false → is_le o ≡ true → o ≡ Eq
 neither Less not so = cc
 neither Equal not so = refl
 neither Greater not so = cc
-
-pub in_front : {X : Type 0} (P : X → Type 0) (xs : List X) (i : ℕ) (x : X) → AllWithin P xs 0 i → Contains (take i xs) x → P x
-in_front P xs i x all has =
-    let short : has.0 < i = omega (arith, has.1, length-take i xs) in
-    subst P (sym (get_or-take i xs has.0 x short) ∙ has.2) (all has.0 x (omega arith) short)
-
-pub in_back : {X : Type 0} (P : X → Type 0) (xs : List X) (i : ℕ) (x : X) → AllWithin P xs i (length xs) → Contains (drop i xs) x → P x
-in_back P xs zero x all has = subst P has.2 (all has.0 x (omega arith) has.1)
-in_back P [] (suc i) x all has = absurd (omega (arith, has.1))
-in_back P (y ∷ xs) (suc i) x all has = in_back P xs i x (λ k d from lt. all (suc k) d (omega arith) (omega arith)) has
 
 module _ (steps : List Step) (sorted : IsSortedByKey (λ (step : Step). step.from) ref_cmp steps) (name : Ref) where
   ranked : IsNonDecreasingBy (λ (y : Step). ordering_index (ref_cmp y.from name)) steps
@@ -79,7 +70,3 @@ module _ (steps : List Step) (sorted : IsSortedByKey (λ (step : Step). step.fro
           ]
         ]),
   )
-
--- a slice from a place on is what is left there
-pub slice_is_rest : {X : Type 0} (xs : List X) (first : ℕ) → take (length xs - first) (drop first xs) ≡ drop first xs
-slice_is_rest xs first = take_all (length xs - first) (drop first xs) (omega (arith, length-drop first xs))

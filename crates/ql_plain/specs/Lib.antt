@@ -1,9 +1,1 @@
-pub mod Values
-pub mod Meanings
-pub mod NamedSets
-pub mod Adding
-pub mod ObjectTests
-pub mod Runs
-pub mod Paths
-pub mod Founds
 pub mod internal

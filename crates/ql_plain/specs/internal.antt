@@ -1,7 +1,6 @@
 -- Words that only private clauses cite: nothing that a reader of the promises must believe.
+pub mod Founds
+pub mod Keeping
 pub mod Linked
-pub mod Tests
+pub mod Paths
 pub mod Steps
-pub mod Seeking
-pub mod Marks
-pub mod NamedSetPlaces

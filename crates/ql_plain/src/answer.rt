@@ -2,22 +2,21 @@
 
 ghost use Rattle.std.specs.Prelude.{◌≡◌, ◌++◌, IfOk, OnOk};
 ghost use Rattle.ql_syntax.specs.StatementViews.{statement_of, statements_of};
-ghost use Rattle.ql_plain.specs.Meanings.{After, Means, told};
-ghost use Rattle.ql_plain.specs.NamedSets.{lists_of};
+ghost use Rattle.ql_meaning.specs.Meanings.{After, Means, told};
+ghost use Rattle.ref_sets.specs.NamedSets.{lists_of};
 
 use crate::print::print;
 use crate::run::run;
-use crate::sets::Sets;
 use osm_model::ObjectSet;
 use ql_syntax::{Query, Stmt};
+use ref_sets::NamedSets;
 use std::alloc::{AllocError, Global};
 
 /// The answer to a query over a set of objects: what its outs print, one after the other, as OPL, a line an
-/// object. It is the reference of faster answers: a statement goes over all objects.
+/// object. It is what faster answers are compared with.
 ///
-/// A query statement is one pass over the objects, and a pass or a sort of what is named for each filter by a set, by
-/// ids or by a path. A recursion goes along the lists of ways and relations and sorts what it finds, chains of any
-/// length and cycles too. Refused only where memory runs out.
+/// Each filter takes a pass over all objects, or over all links of membership and a sort of them; so does each
+/// recursion, along chains of any length and cycles too. Refused only where memory runs out.
 pub fn answer_plain(
     alloc: Global,
     query: &Query<'_>,
@@ -25,7 +24,7 @@ pub fn answer_plain(
 ) -> Result<Vec<u8>, AllocError>
     ensures { IfOk result (λ text. Means set.now (statements_of query.now) text.items) }
 {
-    let mut sets = Sets::new(alloc);
+    let mut sets = NamedSets::new(alloc);
     let mut text = Vec::new(alloc);
     let statements = query.stmts();
     for statement in statements {
@@ -38,7 +37,7 @@ pub fn answer_plain(
 fn answer_statement<'q>(
     alloc: Global,
     statement: &Stmt<'q>,
-    sets: &mut Sets<'q>,
+    sets: &mut NamedSets<'q>,
     set: &ObjectSet,
     text: &mut Vec<u8>,
 ) -> Result<(), AllocError>

@@ -3,7 +3,7 @@
 ghost use Rattle.std.specs.Prelude.{◌≡◌, [], OnOk};
 ghost use Rattle.std.specs.List.Sorted.{IsSortedByKey};
 ghost use Rattle.osm_model.specs.Elements.{ref_cmp};
-ghost use Rattle.ql_plain.specs.Founds.{AddsName, Follows, IsClosure, IsTold};
+ghost use Rattle.ql_plain.specs.internal.Founds.{AddsName, Follows, IsClosure, IsTold};
 
 use crate::step::{Step, steps_from};
 use osm_model::Ref;

@@ -1,43 +1,21 @@
-//! What every query means over a plain list of objects, and the plain answer: the reference of faster ones.
+//! The plain answer to every query: slow and simple, to compare faster answers with.
+//!
+//! A set of references is computed for each filter and each recursion, over the list of all objects, as the meaning of
+//! queries says it.
 #![tactic(auto)]
 
 mod answer;
 mod chains;
-mod filter_test;
+mod filter;
 mod found;
-mod given;
-mod items;
-mod kept_neighbours;
-mod kinds;
-mod laws;
 mod links;
-mod listed;
-mod marks;
-mod named;
-mod named_set;
 mod neighbours;
-mod node_id;
-mod one_step;
+mod object_test;
 mod print;
 mod recurse;
-mod ref_sets;
-mod referenced;
 mod run;
-mod seek;
 mod select;
-mod sets;
 mod step;
-mod there;
+mod written;
 
 pub use answer::answer_plain;
-pub use filter_test::passes_alone;
-pub use found::Found;
-pub use given::written_by;
-pub use items::add_items;
-pub use laws::{
-    chains_link_by_link, has_meaning, nwr_is_all_kinds, one_meaning, order_is_no_matter,
-    out_number_cuts, printed_once_in_order,
-};
-pub use named_set::NamedSet;
-pub use ref_sets::{is_in, kept, tidy, unite};
-pub use sets::Sets;

@@ -1,24 +1,24 @@
-//! Links from the relations of a set to their members.
+//! Links of membership: from the ways and relations of a set to what they list.
 
 ghost use Rattle.std.specs.Prelude.{◌≡◌, [], IfOk, OnOk};
 ghost use Rattle.osm_model.specs.Elements.{reference};
-ghost use Rattle.ql_plain.specs.Adding.{Adds, From};
-ghost use Rattle.ql_plain.specs.internal.Linked.{AreLinks, IsLinkOf, IsLinkTo, IsLinkToMember};
+ghost use Rattle.ref_sets.specs.Adding.{Adds, From};
+ghost use Rattle.ql_plain.specs.internal.Linked.{AreLinks, IsLinkOf, IsLinkTo, IsLinkToMember, IsLinkToNode};
 
-use osm_model::{Body, Member, Object, ObjectSet, Ref};
+use osm_model::{Body, Kind, Member, Object, ObjectSet, Ref};
 use std::alloc::{AllocError, Global};
 
-/// A relation of a set, and an object of the set that it lists.
+/// An object of a set, and one that it lists.
 #[derive(Clone, Copy)]
 pub struct Link {
-    /// The relation.
+    /// The one that lists.
     pub parent: Ref,
     /// What it lists.
     pub child: Ref,
 }
 
-/// The links from relations to their members in the set; a link comes as often as a relation lists its member. One
-/// pass over the objects, and a binary search for each member.
+/// All links between objects of a set; a link comes as often as a way or relation lists the other object. One pass
+/// over the objects, and a binary search for each item that they list.
 pub fn links(alloc: Global, set: &ObjectSet) -> Result<Vec<Link>, AllocError>
     ensures { IfOk result (λ links. AreLinks set.now links.items) }
 {
@@ -30,16 +30,35 @@ pub fn links(alloc: Global, set: &ObjectSet) -> Result<Vec<Link>, AllocError>
     Ok(links)
 }
 
-/// Adds the links of an object, where it is a relation.
+/// Adds the links of an object to what it lists.
 fn add_links(object: &Object, set: &ObjectSet, links: &mut Vec<Link>) -> Result<(), AllocError>
     ensures { OnOk result (Adds links.old.items links.new.items (IsLinkOf set.now object.now)) }
 {
     let parent = object.reference();
     match object.body() {
         Body::Node(_) => Ok(()),
-        Body::Way(_) => Ok(()),
+        Body::Way(nodes) => add_links_to_nodes(parent, nodes.as_slice(), set, links),
         Body::Rel(members) => add_links_to_members(parent, members.as_slice(), set, links),
     }
+}
+
+/// Adds the links to the nodes of a way.
+fn add_links_to_nodes(
+    parent: Ref,
+    nodes: &[i64],
+    set: &ObjectSet,
+    links: &mut Vec<Link>,
+) -> Result<(), AllocError>
+    ensures { OnOk result (Adds links.old.items links.new.items (From nodes.now (IsLinkToNode set.now parent))) }
+{
+    for id in nodes {
+        let child = Ref {
+            kind: Kind::Node,
+            id: *id,
+        };
+        add_link(parent, child, set, links)?;
+    }
+    Ok(())
 }
 
 /// Adds the links to the members of a relation.

@@ -2,24 +2,21 @@
 
 ghost use Rattle.std.specs.Prelude.{◌≡◌, ◌<◌, ◌↔◌, ◌++◌, IsTrue, OnOk};
 ghost use Rattle.std.specs.List.{Contains};
-ghost use Rattle.std.specs.List.Sorted.{IsStrictlySortedBy};
-ghost use Rattle.osm_model.specs.Elements.{ref_cmp};
-ghost use Rattle.ql_plain.specs.Meanings.{printed_of};
+ghost use Rattle.ql_meaning.specs.Meanings.{printed_of};
 
-use crate::ref_sets::is_in;
 use opl_codec::{OutMode, write_object};
 use osm_model::{ObjectSet, Ref};
+use ref_sets::RefSet;
 use std::alloc::AllocError;
 
 /// Appends the objects of a set, by kind and rising id, at most so many.
 pub fn print(
     set: &ObjectSet,
-    refs: &[Ref],
+    refs: &RefSet,
     mode: OutMode,
     limit: Option<u64>,
     text: &mut Vec<u8>,
 ) -> Result<(), AllocError>
-    requires { IsStrictlySortedBy ref_cmp refs.now }
     ensures { OnOk result (text.new.items ≡ text.old.items ++ printed_of set.now refs.now mode limit) }
 {
     let objects = set.as_slice();
@@ -34,9 +31,8 @@ pub fn print(
 }
 
 /// Whether one more may be printed, and this one is in the set.
-fn is_next(left: u64, refs: &[Ref], name: Ref) -> bool
-    requires { IsStrictlySortedBy ref_cmp refs.now }
+fn is_next(left: u64, refs: &RefSet, name: Ref) -> bool
     ensures { IsTrue result ↔ ((0 < left) × Contains refs.now name) }
 {
-    left > 0 && is_in(refs, name)
+    left > 0 && refs.contains(name)
 }

@@ -2,16 +2,15 @@
 
 ghost use Rattle.std.specs.Prelude.{◌≡◌, ◌++◌, IfOk, OnOk};
 ghost use Rattle.ql_syntax.specs.StatementViews.{statement_of, statements_of};
-ghost use Rattle.ql_plain.specs.Meanings.{After, AfterAll};
-ghost use Rattle.ql_plain.specs.NamedSets.{lists_of};
+ghost use Rattle.ql_meaning.specs.Meanings.{After, AfterAll};
+ghost use Rattle.ref_sets.specs.NamedSets.{lists_of};
 
-use crate::given::written_by;
 use crate::recurse::recurse;
-use crate::ref_sets::{kept, unite};
 use crate::select::select;
-use crate::sets::Sets;
+use crate::written::written_by;
 use osm_model::{ObjectSet, Ref};
 use ql_syntax::Stmt;
+use ref_sets::{NamedSets, RefSet};
 use std::alloc::{AllocError, Global};
 
 /// Runs a statement: the set that it writes is written. An out writes none.
@@ -19,7 +18,7 @@ use std::alloc::{AllocError, Global};
 pub fn run<'q>(
     alloc: Global,
     statement: &Stmt<'q>,
-    sets: &mut Sets<'q>,
+    sets: &mut NamedSets<'q>,
     set: &ObjectSet,
 ) -> Result<(), AllocError>
     ensures { OnOk result (After set.now (statement_of statement.now) (lists_of sets.old.named.items) (lists_of sets.new.named.items)) }
@@ -38,19 +37,19 @@ pub fn run<'q>(
             sets.write(into.as_bytes(), refs)
         }
         Stmt::Item { from, into } => {
-            let refs = Vec::from_slice(alloc, sets.get(from.as_bytes()))?;
+            let refs = sets.get(from.as_bytes()).copy(alloc)?;
             sets.write(into.as_bytes(), refs)
         }
         Stmt::Union { parts, into } => {
-            let mut refs = run_all(alloc, parts, sets, set)?;
-            unite(&mut refs)?;
+            let given = run_all(alloc, parts, sets, set)?;
+            let refs = RefSet::from_refs(given);
             sets.write(into.as_bytes(), refs)
         }
         Stmt::Minus { left, right, into } => {
             run(alloc, left, sets, set)?;
-            let first = Vec::from_slice(alloc, written_by(left, sets))?;
+            let first = written_by(left, sets).copy(alloc)?;
             run(alloc, right, sets, set)?;
-            let refs = kept(alloc, &first, written_by(right, sets), false)?;
+            let refs = first.difference(alloc, written_by(right, sets))?;
             sets.write(into.as_bytes(), refs)
         }
         Stmt::Print(_) => Ok(()),
@@ -62,7 +61,7 @@ pub fn run<'q>(
 fn run_all<'q>(
     alloc: Global,
     parts: &[Stmt<'q>],
-    sets: &mut Sets<'q>,
+    sets: &mut NamedSets<'q>,
     set: &ObjectSet,
 ) -> Result<Vec<Ref>, AllocError>
     ensures { IfOk result (λ given. AfterAll set.now (statements_of parts.now) (lists_of sets.old.named.items) (lists_of sets.new.named.items) given.items) }
@@ -70,7 +69,7 @@ fn run_all<'q>(
     let mut given = Vec::new(alloc);
     for part in parts {
         run(alloc, part, sets, set)?;
-        given.extend_from_slice(written_by(part, sets))?;
+        given.extend_from_slice(written_by(part, sets).as_slice())?;
     }
     Ok(given)
 }

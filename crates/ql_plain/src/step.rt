@@ -50,7 +50,7 @@ fn oriented(link: Link, is_up: bool) -> Step
     }
 }
 
-pub fn compare(first: Ref, second: Ref) -> Ordering
+fn compare(first: Ref, second: Ref) -> Ordering
     ensures { result ≡ ref_cmp first second }
 {
     first.cmp(&second)

@@ -6,7 +6,8 @@ use Rattle.osm_model.specs.declared.kind.Kind.{Kind}
 use Rattle.osm_model.specs.declared.reference.Ref.{Ref}
 use Rattle.osm_index.specs.Ranges.{IsKindOf}
 use Rattle.ql_syntax.specs.Filters.{Filter}
-use Rattle.ql_plain.specs.Values.{Env, IsRefOf, Passes}
+use Rattle.ref_sets.specs.NamedSets.{Env}
+use Rattle.ql_meaning.specs.Values.{IsRefOf, Passes}
 use Rattle.ql_eval.specs.Asks.{kind_ask}
 use Rattle.ql_eval.specs.Questions.{Answers, Ask, OfKind}
 

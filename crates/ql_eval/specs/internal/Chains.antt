@@ -3,7 +3,7 @@ use Rattle.std.specs.Prelude.{List, ◌⊎◌, None}
 use Rattle.std.specs.List.{Contains}
 use Rattle.osm_model.specs.Elements.{Element}
 use Rattle.osm_model.specs.declared.reference.Ref.{Ref}
-use Rattle.ql_plain.specs.Adding.{From}
+use Rattle.ref_sets.specs.Adding.{From}
 use Rattle.ql_eval.specs.Asks.{AskedFor}
 use Rattle.ql_eval.specs.Questions.{Ask, object_ask}
 use Rattle.ql_eval.specs.declared.chains.Direction.{Direction}

@@ -6,8 +6,9 @@ use Rattle.osm_model.specs.Membership.{BodyLists}
 use Rattle.osm_model.specs.declared.kind.Kind.{Kind}
 use Rattle.osm_model.specs.declared.kind.Kind.TheVariants as kinds
 use Rattle.osm_model.specs.declared.reference.Ref.{Ref}
-use Rattle.ql_plain.specs.Adding.{From}
-use Rattle.ql_plain.specs.Values.{Env, IsRefOf}
+use Rattle.ref_sets.specs.Adding.{From}
+use Rattle.ref_sets.specs.NamedSets.{Env}
+use Rattle.ql_meaning.specs.Values.{IsRefOf}
 use Rattle.ql_eval.specs.Asks.{AskedFor, back_ask}
 use Rattle.ql_eval.specs.Questions.{Answers, Ask, ThatList, object_ask}
 use Rattle.ql_eval.specs.internal.Entries.{IsThere}

@@ -11,8 +11,9 @@ use Rattle.osm_model.specs.declared.reference.Ref.{Ref}
 use Rattle.ql_syntax.specs.Filters.{Filter, InSet, HasKey, KeyIs, LacksKey, KeyIsNot, Ids, Within, Via}
 use Rattle.ql_syntax.specs.declared.path.Path.{Path}
 use Rattle.ql_syntax.specs.declared.path.Path.TheVariants as paths
-use Rattle.ql_plain.specs.ObjectTests.{PassesAlone}
-use Rattle.ql_plain.specs.Values.{Env, IsRefOf}
+use Rattle.ql_meaning.specs.ObjectTests.{PassesAlone}
+use Rattle.ref_sets.specs.NamedSets.{Env}
+use Rattle.ql_meaning.specs.Values.{IsRefOf}
 use Rattle.ql_eval.specs.Asks.{AskedFor, IsListedBy, IsOfKindIn}
 use Rattle.ql_eval.specs.Questions.{Ask, object_ask}
 

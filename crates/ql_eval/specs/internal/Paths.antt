@@ -5,7 +5,7 @@ use Rattle.osm_model.specs.declared.kind.Kind.{Kind}
 use Rattle.osm_model.specs.declared.reference.Ref.{Ref}
 use Rattle.osm_index.specs.Ranges.{IsKindOf}
 use Rattle.ql_syntax.specs.declared.path.Path.{Path}
-use Rattle.ql_plain.specs.Values.{IsBelow, IsOnPath, IsRefOf}
+use Rattle.ql_meaning.specs.Values.{IsBelow, IsOnPath, IsRefOf}
 
 -- the path leads from the set to an object with this reference, and it is of the kind
 abbrev pub IsAt : List Element → List Ref → Option Kind → Path → Ref → Type 0

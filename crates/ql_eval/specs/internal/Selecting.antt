@@ -4,7 +4,8 @@ use Rattle.std.specs.List.{AllByRecursion, Contains}
 use Rattle.osm_model.specs.Elements.{Element}
 use Rattle.osm_model.specs.declared.reference.Ref.{Ref}
 use Rattle.ql_syntax.specs.Filters.{Filter}
-use Rattle.ql_plain.specs.Values.{Env, IsRefOf, Passes}
+use Rattle.ref_sets.specs.NamedSets.{Env}
+use Rattle.ql_meaning.specs.Values.{IsRefOf, Passes}
 use Rattle.ql_eval.specs.Asks.{AskedByRest, AskedFor}
 use Rattle.ql_eval.specs.Questions.{Ask, object_ask}
 

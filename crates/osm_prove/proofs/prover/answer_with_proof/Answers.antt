@@ -3,7 +3,7 @@ use Rattle.std.proofs.Math.Logic.{∥∥₁_map}
 use Rattle.tree_node.specs.Recorders.{RecorderHolds, RecorderUsed}
 use Rattle.tree_node.specs.declared.part.Part.{Part}
 use Rattle.ql_syntax.specs.StatementViews.{statements_of}
-use Rattle.ql_plain.specs.Meanings.{Means}
+use Rattle.ql_meaning.specs.Meanings.{Means}
 use Rattle.osm_prove.specs.Proofs.{listing, nodes_of}
 use Rattle.osm_prove.proofs.Proving.{AreNeeded, all_held, fits_from, needed_fit, parts_needed, proof_of_needed}
 use Rattle.osm_prove.proofs.prover.answer_with_proof.Goals as goal

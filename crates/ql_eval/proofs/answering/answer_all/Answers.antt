@@ -1,5 +1,5 @@
 use Rattle.std.proofs.Common.{◌++◌, ◌∙◌}
-use Rattle.ql_plain.specs.NamedSets.{lists_of}
+use Rattle.ref_sets.specs.NamedSets.{lists_of}
 use Rattle.ql_eval.proofs.QueryLemmas.{answered_all, answered_next, answered_stops, one_top}
 use Rattle.ql_eval.proofs.WritingLemmas.{written_then}
 use Rattle.ql_eval.proofs.answering.answer_all.Goals as goal

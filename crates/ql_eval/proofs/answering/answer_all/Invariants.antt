@@ -3,7 +3,7 @@ use Rattle.tree_node.proofs.shared.OutcomeLaws.{uses}
 use Rattle.osm_index.specs.Publications.{IsPublication, Publication}
 use Rattle.ql_syntax.specs.LawfulQueries.{IsQuery}
 use Rattle.ql_syntax.specs.StatementViews.{statements_of}
-use Rattle.ql_plain.specs.NamedSets.{lists_of}
+use Rattle.ref_sets.specs.NamedSets.{lists_of}
 use Rattle.ql_eval.specs.Written.{HasWritten}
 use Rattle.ql_eval.proofs.QueryLemmas.{HasAnswered}
 use Rattle.ql_eval.proofs.answering.answer_all.Given as goal

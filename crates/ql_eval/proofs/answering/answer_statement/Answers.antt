@@ -3,8 +3,8 @@ use Rattle.osm_model.specs.declared.reference.Ref.{Ref}
 use Rattle.tree_node.proofs.shared.OutcomeLaws.{outcome_same}
 use Rattle.ql_syntax.specs.StatementViews.{statement_of}
 use Rattle.ql_syntax.specs.declared.statement.Stmt.{Stmt}
-use Rattle.ql_plain.specs.Meanings.{After, printed_of, told}
-use Rattle.ql_plain.specs.NamedSets.{lists_of}
+use Rattle.ql_meaning.specs.Meanings.{After, printed_of, told}
+use Rattle.ref_sets.specs.NamedSets.{lists_of}
 use Rattle.ql_eval.specs.Asks.{AskedBy, AskedByOut}
 use Rattle.ql_eval.specs.Written.{HasWritten}
 use Rattle.ql_eval.specs.internal.Lawful.{CanRun}

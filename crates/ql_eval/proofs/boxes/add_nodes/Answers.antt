@@ -3,7 +3,7 @@ use Rattle.tree_node.specs.NodeRefs.{binding_of, bindings_of}
 use Rattle.tree_node.specs.declared.tree.Tree.TheVariants.{Cells}
 use Rattle.std.proofs.Common.{subst}
 use Rattle.std.proofs.lemmas.List.{take_all}
-use Rattle.ql_plain.proofs.shared.Adding.{adds_all}
+use Rattle.ref_sets.proofs.shared.Adding.{adds_all}
 use Rattle.tree_node.specs.declared.item.Item.{Item}
 use Rattle.ql_eval.specs.Forms.{HaveForm}
 use Rattle.ql_eval.specs.internal.Entries.{AreMisread, PlacesIn}

@@ -1,7 +1,7 @@
 use Rattle.std.proofs.Common.{take}
 use Rattle.tree_node.specs.NodeRefs.{binding_of, bindings_of}
 use Rattle.tree_node.specs.declared.tree.Tree.TheVariants.{Cells}
-use Rattle.ql_plain.specs.Adding.{Adds, From}
+use Rattle.ref_sets.specs.Adding.{Adds, From}
 use Rattle.ql_eval.specs.Forms.{HaveForm}
 use Rattle.ql_eval.specs.internal.Entries.{PlacesIn}
 use Rattle.ql_eval.proofs.boxes.add_nodes.Given as goal

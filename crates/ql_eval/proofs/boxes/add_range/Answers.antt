@@ -7,7 +7,7 @@ use Rattle.tree_node.proofs.shared.OutcomeLaws.{outcome_stops}
 use Rattle.tree_walk.specs.Choices.{AreThose}
 use Rattle.tree_walk.specs.Ranges.{Range}
 use Rattle.tree_walk.specs.Walks.{IsEntryIn}
-use Rattle.ql_plain.specs.Adding.{Adds}
+use Rattle.ref_sets.specs.Adding.{Adds}
 use Rattle.ql_eval.specs.Questions.{Listed, NeedsAsk}
 use Rattle.ql_eval.specs.internal.Entries.{AreMisread, IsSaid, SaysIn}
 use Rattle.ql_eval.proofs.BoxLemmas.{range_added}

@@ -1,7 +1,7 @@
 use Rattle.std.proofs.Common.{◌≡◌, ◌++◌, ◌∷◌, [], FitsSigned, get_or, pos, refl, rules, to_z-of_z, w64}
 use Rattle.std.proofs.lemmas.List.{get_or_default}
 use Rattle.osm_model.specs.declared.reference.Ref.{Ref}
-use Rattle.ql_plain.proofs.shared.Adding.{adds_all, adds_more, adds_one}
+use Rattle.ref_sets.proofs.shared.Adding.{adds_all, adds_more, adds_one}
 use Rattle.ql_eval.specs.internal.Candidates.{IsWith}
 use Rattle.ql_eval.proofs.candidates.add_references.Goals as goal
 

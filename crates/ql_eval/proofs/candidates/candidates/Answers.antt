@@ -6,7 +6,7 @@ use Rattle.tree_node.proofs.shared.OutcomeLaws.{outcome_same, uses}
 use Rattle.ql_syntax.specs.LawfulQueries.{Allows}
 use Rattle.ql_syntax.specs.StatementViews.{filter_of}
 use Rattle.ql_syntax.specs.declared.filter.Filter.{Filter}
-use Rattle.ql_plain.specs.NamedSets.{lists_of}
+use Rattle.ref_sets.specs.NamedSets.{lists_of}
 use Rattle.ql_eval.specs.Asks.{kinds_of}
 use Rattle.ql_eval.proofs.CandidateLemmas.{FoundWell, KindsWell, all_selected, one_selected}
 use Rattle.ql_eval.proofs.candidates.candidates.Goals as goal

@@ -7,8 +7,8 @@ use Rattle.osm_index.specs.Ranges.{IsKindOf}
 use Rattle.ql_syntax.specs.Filters.{Filter, HasKey, Ids, KeyIs, Within}
 use Rattle.ql_syntax.specs.LawfulQueries.{Allows}
 use Rattle.ql_syntax.specs.StatementViews.{filter_of}
-use Rattle.ql_plain.specs.Meanings.{IsSetOf}
-use Rattle.ql_plain.specs.NamedSets.{lists_of}
+use Rattle.ref_sets.specs.Sets.{IsSetOf}
+use Rattle.ref_sets.specs.NamedSets.{lists_of}
 use Rattle.ql_eval.specs.Questions.{WithTag, names_ask}
 use Rattle.ql_eval.specs.internal.Links.{AreThere}
 use Rattle.ql_eval.proofs.CandidateLemmas.{box_kept, ids_kept, kept_as, key_kept, set_kept, tag_kept}

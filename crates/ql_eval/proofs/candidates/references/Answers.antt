@@ -1,8 +1,8 @@
 use Rattle.std.proofs.lemmas.List.{get_or_default}
 use Rattle.osm_model.specs.declared.kind.Kind.{Kind}
 use Rattle.osm_model.specs.declared.reference.Ref.{Ref}
-use Rattle.ql_plain.proofs.shared.Adding.{adds_all, adds_more}
-use Rattle.ql_plain.specs.Adding.{From}
+use Rattle.ref_sets.proofs.shared.Adding.{adds_all, adds_more}
+use Rattle.ref_sets.specs.Adding.{From}
 use Rattle.ql_eval.specs.internal.Candidates.{IsWith}
 use Rattle.ql_eval.proofs.CandidateLemmas.{with_kinds_and_ids}
 use Rattle.ql_eval.proofs.candidates.references.Goals as goal

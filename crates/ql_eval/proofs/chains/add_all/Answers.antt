@@ -2,7 +2,7 @@ use Rattle.std.proofs.Common.{◌≡◌, ◌∙◌, refl, subst}
 use Rattle.std.specs.List.{Contains}
 use Rattle.std.proofs.lemmas.List.{get_or_default}
 use Rattle.osm_model.specs.declared.reference.Ref.{Ref}
-use Rattle.ql_plain.proofs.shared.Adding.{adds_all, adds_as, adds_more}
+use Rattle.ref_sets.proofs.shared.Adding.{adds_all, adds_as, adds_more}
 use Rattle.ql_eval.proofs.chains.add_all.Goals as goal
 
 pub loop-name-preserved : goal.loop-name-preserved

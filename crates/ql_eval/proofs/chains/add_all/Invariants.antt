@@ -1,7 +1,7 @@
 use Rattle.std.proofs.Common.{◌≡◌, take}
 use Rattle.osm_model.specs.declared.reference.Ref.{Ref}
-use Rattle.ql_plain.specs.Adding.{Adds, From}
-use Rattle.ql_plain.specs.Founds.{Goes, IsTold}
+use Rattle.ref_sets.specs.Adding.{Adds, From}
+use Rattle.ref_sets.specs.Founds.{Goes, IsTold}
 use Rattle.ql_eval.proofs.chains.add_all.Given as goal
 
 abbrev pub invariant-loop-name : goal.invariant-loop-name

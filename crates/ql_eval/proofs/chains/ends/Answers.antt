@@ -3,7 +3,7 @@ use Rattle.std.proofs.lemmas.List.{take_all}
 use Rattle.std.specs.List.{Contains}
 use Rattle.osm_model.specs.declared.reference.Ref.{Ref}
 use Rattle.tree_node.proofs.shared.OutcomeLaws.{outcome_as, outcome_then, outcome_then_stops, uses}
-use Rattle.ql_plain.specs.Adding.{Adds}
+use Rattle.ref_sets.specs.Adding.{Adds}
 use Rattle.ql_eval.specs.Questions.{NeededBy}
 use Rattle.ql_eval.specs.internal.Chains.{AreChained, IsChainAsk}
 use Rattle.ql_eval.specs.internal.Links.{AreThere}

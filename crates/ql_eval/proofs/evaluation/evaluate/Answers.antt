@@ -3,7 +3,8 @@ use Rattle.tree_node.proofs.shared.OutcomeLaws.{honest, outcome_stops, outcome_t
 use Rattle.ql_syntax.specs.LawfulQueries.{IsQuery}
 use Rattle.ql_syntax.specs.StatementViews.{statements_of}
 use Rattle.ql_syntax.specs.declared.statement.Stmt.{Stmt}
-use Rattle.ql_plain.specs.Meanings.{Means, nothing_named}
+use Rattle.ql_meaning.specs.Meanings.{Means}
+use Rattle.ref_sets.specs.NamedSets.{nothing_named}
 use Rattle.ql_eval.specs.Asks.{AskedByAll}
 use Rattle.osm_index.specs.Manifests.{top_among}
 use Rattle.tree_walk.proofs.shared.WalksGivenLaws.{given_from, given_walked}

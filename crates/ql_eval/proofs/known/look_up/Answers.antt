@@ -5,7 +5,7 @@ use Rattle.std.specs.declared.cmp.Ordering.{Ordering}
 use Rattle.osm_model.specs.Elements.{Element, ref_cmp}
 use Rattle.osm_model.specs.declared.reference.Ref.{Ref}
 use Rattle.tree_node.proofs.shared.OutcomeLaws.{outcome_as}
-use Rattle.ql_plain.proofs.References.{same_order}
+use Rattle.ref_sets.proofs.shared.References.{same_order}
 use Rattle.ql_eval.proofs.KnownLemmas.{absent_later, absent_one_more, added_known, keeps_known, known_again, known_now, known_there, remembers_later, remembers_one_more}
 use Rattle.ql_eval.specs.internal.Told.{IsTold}
 use Rattle.ql_eval.proofs.StepLemmas.{refused_as}

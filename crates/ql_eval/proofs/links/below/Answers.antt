@@ -2,8 +2,8 @@ use Rattle.std.proofs.Common.{◌↔◌, List, inl, refl, subst}
 use Rattle.std.specs.List.{Contains}
 use Rattle.tree_node.proofs.shared.OutcomeLaws.{outcome_stops}
 use Rattle.osm_model.specs.declared.reference.Ref.{Ref}
-use Rattle.ql_plain.specs.Adding.{From}
-use Rattle.ql_plain.specs.Meanings.{IsSetOf}
+use Rattle.ref_sets.specs.Adding.{From}
+use Rattle.ref_sets.specs.Sets.{IsSetOf}
 use Rattle.ql_eval.specs.internal.Kinds.{IsBetween}
 use Rattle.ql_eval.specs.internal.Links.{IsListedOf}
 use Rattle.ql_eval.proofs.EachLemmas.{needed_as}

@@ -2,7 +2,7 @@ use Rattle.std.proofs.Common.{◌≡◌, List, inl, inr, subst, sym}
 use Rattle.std.proofs.lemmas.List.{take_all}
 use Rattle.std.specs.List.{Contains}
 use Rattle.osm_model.specs.declared.member.Member.{Member}
-use Rattle.ql_plain.proofs.shared.Adding.{more_cases}
+use Rattle.ref_sets.proofs.shared.Adding.{more_cases}
 use Rattle.ql_eval.proofs.lists_in.has_member_in.Goals as goal
 
 pub loop-member-preserved : goal.loop-member-preserved

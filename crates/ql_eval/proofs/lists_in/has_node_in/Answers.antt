@@ -3,7 +3,7 @@ use Rattle.std.proofs.lemmas.List.{get_or_default, take_all}
 use Rattle.std.specs.List.{Contains}
 use Rattle.osm_model.specs.declared.kind.Kind.TheVariants as kinds
 use Rattle.osm_model.specs.declared.reference.Ref.{Ref}
-use Rattle.ql_plain.proofs.shared.Adding.{more_cases}
+use Rattle.ref_sets.proofs.shared.Adding.{more_cases}
 use Rattle.ql_eval.proofs.lists_in.has_node_in.Goals as goal
 
 node : ℤ → Ref

@@ -7,7 +7,7 @@ use Rattle.tree_node.proofs.shared.OutcomeLaws.{outcome_stops}
 use Rattle.tree_walk.specs.Choices.{AreThose}
 use Rattle.tree_walk.specs.Ranges.{Range}
 use Rattle.tree_walk.specs.Walks.{IsEntryIn}
-use Rattle.ql_plain.specs.Meanings.{IsSetOf}
+use Rattle.ref_sets.specs.Sets.{IsSetOf}
 use Rattle.ql_eval.specs.Questions.{Ask, Listed, NeedsAsk, range_asked}
 use Rattle.ql_eval.specs.Forms.{HaveForm, Names}
 use Rattle.ql_eval.specs.internal.Entries.{AreMisread, IsSaid}

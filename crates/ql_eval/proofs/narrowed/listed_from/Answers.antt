@@ -2,7 +2,7 @@ use Rattle.std.proofs.Common.{List, refl, subst}
 use Rattle.std.specs.List.{Contains}
 use Rattle.osm_model.specs.declared.reference.Ref.{Ref}
 use Rattle.tree_node.proofs.shared.OutcomeLaws.{outcome_as, outcome_stops}
-use Rattle.ql_plain.specs.Meanings.{IsSetOf}
+use Rattle.ref_sets.specs.Sets.{IsSetOf}
 use Rattle.ql_eval.proofs.NarrowingLemmas.{needs_path, path_is, path_needs}
 use Rattle.ql_eval.proofs.narrowed.listed_from.Goals as goal
 

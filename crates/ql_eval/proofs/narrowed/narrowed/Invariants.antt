@@ -6,9 +6,9 @@ use Rattle.tree_node.specs.Outcomes.{Outcome}
 use Rattle.tree_node.proofs.shared.OutcomeLaws.{uses}
 use Rattle.osm_index.specs.Publications.{IsPublication, Publication}
 use Rattle.ql_syntax.specs.StatementViews.{filter_of, filters_of}
-use Rattle.ql_plain.specs.Adding.{From}
-use Rattle.ql_plain.specs.Meanings.{IsSetOf}
-use Rattle.ql_plain.specs.NamedSets.{lists_of}
+use Rattle.ref_sets.specs.Adding.{From}
+use Rattle.ref_sets.specs.Sets.{IsSetOf}
+use Rattle.ref_sets.specs.NamedSets.{lists_of}
 use Rattle.ql_eval.specs.Asks.{AskedByRest}
 use Rattle.ql_eval.specs.Faults.{cause_of_evaluation}
 use Rattle.ql_eval.specs.Questions.{NeededBy}

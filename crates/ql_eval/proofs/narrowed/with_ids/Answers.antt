@@ -1,6 +1,6 @@
 use Rattle.std.proofs.Common.{ℤ, FitsSigned, get_or, pos, rules, subst, to_z-of_z, w64}
-use Rattle.ql_plain.proofs.shared.Adding.{adds_all}
-use Rattle.ql_plain.specs.Adding.{Adds}
+use Rattle.ref_sets.proofs.shared.Adding.{adds_all}
+use Rattle.ref_sets.specs.Adding.{Adds}
 use Rattle.ql_eval.proofs.EachLemmas.{adds_next}
 use Rattle.ql_eval.proofs.LinkLemmas.{set_of_added}
 use Rattle.ql_eval.specs.internal.Narrowing.{HasId}

@@ -1,5 +1,5 @@
 use Rattle.std.proofs.Common.{[], take}
-use Rattle.ql_plain.specs.Adding.{Adds, From}
+use Rattle.ref_sets.specs.Adding.{Adds, From}
 use Rattle.ql_eval.specs.internal.Narrowing.{HasId}
 use Rattle.ql_eval.proofs.narrowed.with_ids.Given as goal
 

@@ -2,7 +2,7 @@ use Rattle.std.proofs.Common.{◌++◌, ap, refl, sym, ◌∙◌}
 use Rattle.std.specs.Option.{option_copied}
 use Rattle.tree_node.proofs.shared.OutcomeLaws.{never_stops, outcome_as}
 use Rattle.ql_syntax.specs.StatementViews.{filters_of}
-use Rattle.ql_plain.specs.NamedSets.{lists_of}
+use Rattle.ref_sets.specs.NamedSets.{lists_of}
 use Rattle.ql_eval.specs.Questions.{object_ask}
 use Rattle.ql_eval.proofs.EachLemmas.{needed_one, one_needed}
 use Rattle.ql_eval.proofs.ObjectLemmas.{none_there}

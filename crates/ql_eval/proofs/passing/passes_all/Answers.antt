@@ -4,8 +4,8 @@ use Rattle.osm_index.proofs.shared.Members.{in_map}
 use Rattle.ql_syntax.specs.Filters as tree
 use Rattle.ql_syntax.specs.StatementViews.{filter_of, filters_of}
 use Rattle.ql_syntax.specs.declared.filter.Filter.{Filter}
-use Rattle.ql_plain.proofs.shared.Adding.{item_is_in}
-use Rattle.ql_plain.specs.NamedSets.{lists_of}
+use Rattle.ref_sets.proofs.shared.Adding.{item_is_in}
+use Rattle.ref_sets.specs.NamedSets.{lists_of}
 use Rattle.ql_eval.specs.internal.Narrowing.{PassesAll, PassesItself}
 use Rattle.ql_eval.proofs.AllLemmas.{all_at}
 use Rattle.ql_eval.proofs.PassingLemmas.{all_more}

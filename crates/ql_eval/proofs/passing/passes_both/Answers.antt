@@ -1,6 +1,6 @@
 use Rattle.ql_syntax.specs.Filters as tree
 use Rattle.ql_syntax.specs.StatementViews.{filters_of}
-use Rattle.ql_plain.specs.NamedSets.{lists_of}
+use Rattle.ref_sets.specs.NamedSets.{lists_of}
 use Rattle.ql_eval.specs.internal.Narrowing.{PassesItself}
 use Rattle.ql_eval.proofs.AllLemmas.{all_both, all_split}
 use Rattle.ql_eval.proofs.passing.passes_both.Goals as goal

@@ -5,7 +5,7 @@ use Rattle.ql_eval.specs.internal.Objects.{AreKnownThere, IsKnownThere}
 use Rattle.ql_eval.proofs.KnownLemmas.{known_more, there_later}
 use Rattle.std.proofs.lemmas.List.Elements.{Contains-get_or}
 use Rattle.ql_syntax.specs.StatementViews.{filters_of}
-use Rattle.ql_plain.specs.NamedSets.{lists_of}
+use Rattle.ref_sets.specs.NamedSets.{lists_of}
 use Rattle.ql_eval.specs.internal.Links.{IsObjectAsk}
 use Rattle.ql_eval.proofs.LinkLemmas.{set_of_added}
 use Rattle.ql_eval.proofs.LoopLemmas.{gone_all, gone_next, gone_stops}

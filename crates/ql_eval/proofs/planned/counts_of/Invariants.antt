@@ -3,7 +3,7 @@ use Rattle.tree_node.specs.Outcomes.{Outcome}
 use Rattle.tree_node.proofs.shared.OutcomeLaws.{uses}
 use Rattle.osm_index.specs.Publications.{IsPublication, Publication}
 use Rattle.ql_syntax.specs.StatementViews.{filter_of, filters_of}
-use Rattle.ql_plain.specs.Adding.{From}
+use Rattle.ref_sets.specs.Adding.{From}
 use Rattle.ql_plan.specs.Plans.{is_counted}
 use Rattle.ql_eval.specs.Asks.{AreCounts}
 use Rattle.ql_eval.specs.Faults.{cause_of_evaluation}

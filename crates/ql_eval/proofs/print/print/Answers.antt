@@ -3,8 +3,8 @@ use Rattle.osm_model.specs.declared.reference.Ref.{Ref}
 use Rattle.opl_codec.specs.declared.out_mode.OutMode.{OutMode}
 use Rattle.opl_codec.specs.declared.out_mode.OutMode.TheVariants as modes
 use Rattle.tree_node.proofs.shared.OutcomeLaws.{outcome_same, outcome_starts}
-use Rattle.ql_plain.specs.Adding.{From}
-use Rattle.ql_plain.specs.Meanings.{printed_of}
+use Rattle.ref_sets.specs.Adding.{From}
+use Rattle.ql_meaning.specs.Meanings.{printed_of}
 use Rattle.ql_eval.specs.Asks.{AskedByOut}
 use Rattle.ql_eval.specs.Written.{HasWritten}
 use Rattle.ql_eval.specs.internal.Links.{AreThere, IsObjectAsk}

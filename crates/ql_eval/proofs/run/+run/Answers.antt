@@ -7,9 +7,9 @@ use Rattle.ql_syntax.specs.LawfulQueries.{Allows}
 use Rattle.ql_syntax.specs.StatementViews.{filters_of, statement_of, statements_of}
 use Rattle.ql_syntax.specs.declared.filter.Filter.{Filter}
 use Rattle.ql_syntax.specs.declared.statement.Stmt.{Stmt}
-use Rattle.ql_plain.proofs.shared.Running.{after_next, minus_after}
-use Rattle.ql_plain.specs.Meanings.{given_by, put}
-use Rattle.ql_plain.specs.NamedSets.{lists_of}
+use Rattle.ql_meaning.proofs.shared.Running.{after_next, minus_after}
+use Rattle.ql_meaning.specs.Meanings.{given_by}
+use Rattle.ref_sets.specs.NamedSets.{put, lists_of}
 use Rattle.ql_eval.specs.internal.Lawful.{CanRun, CanRunAll}
 use Rattle.ql_eval.specs.internal.Links.{AreThere}
 use Rattle.ql_eval.proofs.EndLemmas.{RecursedWell}

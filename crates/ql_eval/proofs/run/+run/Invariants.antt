@@ -3,8 +3,8 @@ use Rattle.tree_node.specs.Outcomes.{Outcome}
 use Rattle.tree_node.proofs.shared.OutcomeLaws.{uses}
 use Rattle.osm_index.specs.Publications.{IsPublication, Publication}
 use Rattle.ql_syntax.specs.StatementViews.{statements_of}
-use Rattle.ql_plain.specs.Meanings.{AfterAll}
-use Rattle.ql_plain.specs.NamedSets.{lists_of}
+use Rattle.ql_meaning.specs.Meanings.{AfterAll}
+use Rattle.ref_sets.specs.NamedSets.{lists_of}
 use Rattle.ql_eval.specs.Asks.{AskedByAll}
 use Rattle.ql_eval.specs.Faults.{cause_of_evaluation}
 use Rattle.ql_eval.specs.Questions.{NeededBy}

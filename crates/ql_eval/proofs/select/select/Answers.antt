@@ -5,9 +5,9 @@ use Rattle.tree_node.proofs.shared.OutcomeLaws.{outcome_stops, uses}
 use Rattle.ql_syntax.specs.Filters.{Filter}
 use Rattle.ql_syntax.specs.LawfulQueries.{Allows}
 use Rattle.ql_syntax.specs.StatementViews.{filters_of}
-use Rattle.ql_plain.specs.Meanings.{IsSetOf}
-use Rattle.ql_plain.specs.NamedSets.{lists_of}
-use Rattle.ql_plain.specs.Values.{IsRefOf, IsSelected}
+use Rattle.ref_sets.specs.Sets.{IsSetOf}
+use Rattle.ref_sets.specs.NamedSets.{lists_of}
+use Rattle.ql_meaning.specs.Values.{IsRefOf, IsSelected}
 use Rattle.ql_eval.specs.Asks.{AskedByChoice, kind_picked}
 use Rattle.ql_eval.specs.Questions.{NeededBy}
 use Rattle.ql_eval.proofs.PlanLemmas.{one_planned}

@@ -1,7 +1,7 @@
 use Rattle.std.proofs.Common.{refl}
 use Rattle.tree_node.proofs.shared.OutcomeLaws.{outcome_stops}
 use Rattle.ql_syntax.specs.StatementViews.{filters_of}
-use Rattle.ql_plain.specs.NamedSets.{lists_of}
+use Rattle.ref_sets.specs.NamedSets.{lists_of}
 use Rattle.ql_eval.specs.Asks.{AskedByRest}
 use Rattle.ql_eval.proofs.StepLemmas.{then_same}
 use Rattle.ql_eval.proofs.NarrowingLemmas.{narrowed_both}

@@ -4,8 +4,8 @@ use Rattle.std.specs.List.{Contains}
 use Rattle.tree_node.proofs.shared.OutcomeLaws.{outcome_starts, outcome_stops}
 use Rattle.ql_syntax.specs.Filters as tree
 use Rattle.ql_syntax.specs.StatementViews.{filters_of}
-use Rattle.ql_plain.specs.Meanings.{IsSetOf}
-use Rattle.ql_plain.specs.NamedSets.{lists_of}
+use Rattle.ref_sets.specs.Sets.{IsSetOf}
+use Rattle.ref_sets.specs.NamedSets.{lists_of}
 use Rattle.ql_eval.specs.internal.Selecting.{IsKeptBy}
 use Rattle.ql_eval.proofs.StepLemmas.{then_same}
 use Rattle.ql_eval.proofs.HalfLemmas.{all_kept, kept_is}

@@ -2,9 +2,9 @@ use Rattle.std.proofs.Common.{List, subst, ◌∙◌}
 use Rattle.std.proofs.lemmas.List.{take_all}
 use Rattle.ql_syntax.specs.StatementViews.{statements_of}
 use Rattle.ql_syntax.specs.declared.statement.Stmt.{Stmt}
-use Rattle.ql_plain.proofs.shared.Answering.{prints, prints_next}
-use Rattle.ql_plain.specs.Meanings.{Means, nothing_named}
-use Rattle.ql_plain.specs.NamedSets.{lists_of}
+use Rattle.ql_meaning.proofs.shared.Answering.{prints, prints_next}
+use Rattle.ql_meaning.specs.Meanings.{Means}
+use Rattle.ref_sets.specs.NamedSets.{nothing_named, lists_of}
 use Rattle.ql_plain.proofs.answer.answer_plain.Goals as goal
 
 pub loop-statement-preserved : goal.loop-statement-preserved

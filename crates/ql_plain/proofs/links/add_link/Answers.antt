@@ -1,5 +1,5 @@
 use Rattle.std.proofs.Common.{refl, sym, ◌∙◌}
-use Rattle.ql_plain.proofs.shared.Adding.{adds_nothing, adds_one}
+use Rattle.ref_sets.proofs.shared.Adding.{adds_nothing, adds_one}
 use Rattle.ql_plain.proofs.ObjectLists.{there_from_found, absent_from_none}
 use Rattle.ql_plain.proofs.links.add_link.Goals as goal
 

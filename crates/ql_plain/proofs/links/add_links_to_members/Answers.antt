@@ -1,4 +1,4 @@
-use Rattle.ql_plain.proofs.shared.Adding.{adds_more}
+use Rattle.ref_sets.proofs.shared.Adding.{adds_more}
 use Rattle.ql_plain.specs.internal.Linked.{IsLinkToMember}
 use Rattle.ql_plain.proofs.links.add_links_to_members.Goals as goal
 

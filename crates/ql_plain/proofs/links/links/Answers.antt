@@ -1,8 +1,8 @@
 use Rattle.std.proofs.Common.{subst, List, []}
 use Rattle.osm_model.specs.Elements.{Element}
-use Rattle.ql_plain.proofs.shared.Adding.{adds_all, adds_more, adds_start}
+use Rattle.ref_sets.proofs.shared.Adding.{adds_all, adds_more, adds_start}
 use Rattle.ql_plain.proofs.Linking.{all_links}
-use Rattle.ql_plain.specs.Adding.{Adds, From}
+use Rattle.ref_sets.specs.Adding.{Adds, From}
 use Rattle.ql_plain.specs.internal.Linked.{IsLinkOf}
 use Rattle.ql_plain.proofs.links.links.Goals as goal
 

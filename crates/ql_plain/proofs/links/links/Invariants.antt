@@ -1,5 +1,5 @@
 use Rattle.std.proofs.Common.{take, []}
-use Rattle.ql_plain.specs.Adding.{Adds, From}
+use Rattle.ref_sets.specs.Adding.{Adds, From}
 use Rattle.ql_plain.specs.internal.Linked.{IsLinkOf}
 use Rattle.ql_plain.proofs.links.links.Given as goal
 

@@ -6,7 +6,7 @@ use Rattle.osm_model.specs.Elements.{Element}
 use Rattle.osm_model.specs.declared.reference.Ref.{Ref}
 use Rattle.opl_codec.specs.Text.{text_of}
 use Rattle.ql_plain.proofs.Printing.{cut_is, in_set, left_none, left_one, of_set, not_next, printed_none, printed_one}
-use Rattle.ql_plain.specs.Meanings.{cut, is_in}
+use Rattle.ql_meaning.specs.Meanings.{cut, is_in}
 use Rattle.ql_plain.proofs.print.print.Goals as goal
 use Rattle.ql_plain.proofs.print.print.Goals.{then-is_next+in_ok-write_object, else-is_next}
 

@@ -1,7 +1,7 @@
 use Rattle.std.proofs.Common.{◌≡◌, ◌++◌, ◌-◌, length, take}
 use Rattle.std.specs.List.{filter, flat_map}
 use Rattle.opl_codec.specs.Text.{text_of}
-use Rattle.ql_plain.specs.Meanings.{is_in}
+use Rattle.ql_meaning.specs.Meanings.{is_in}
 use Rattle.ql_plain.proofs.print.print.Given as goal
 
 abbrev pub invariant-loop-object : goal.invariant-loop-object

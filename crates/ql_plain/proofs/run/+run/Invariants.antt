@@ -1,7 +1,7 @@
 use Rattle.std.proofs.Common.{take}
 use Rattle.ql_syntax.specs.StatementViews.{statements_of}
-use Rattle.ql_plain.specs.Meanings.{AfterAll}
-use Rattle.ql_plain.specs.NamedSets.{lists_of}
+use Rattle.ql_meaning.specs.Meanings.{AfterAll}
+use Rattle.ref_sets.specs.NamedSets.{lists_of}
 use Rattle.ql_plain.proofs.run.+run.Given as goal
 
 abbrev pub invariant-run_all-loop-part : goal.invariant-run_all-loop-part

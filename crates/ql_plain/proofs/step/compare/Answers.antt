@@ -1,7 +1,7 @@
 use Rattle.std.proofs.Common.{◌∙◌, ap}
 use Rattle.std.specs.declared.cmp.Ordering.{Ordering}
 use Rattle.osm_model.specs.declared.reference.Ref.{Ref}
-use Rattle.ql_plain.proofs.References.{same_order}
+use Rattle.ref_sets.proofs.shared.References.{same_order}
 use Rattle.ql_plain.proofs.step.compare.Goals as goal
 
 pub returns : goal.returns

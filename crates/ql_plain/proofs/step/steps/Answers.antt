@@ -6,7 +6,7 @@ use Rattle.osm_model.proofs.shared.References.{refs_total}
 use Rattle.osm_model.specs.Elements.{ref_cmp}
 use Rattle.osm_model.specs.declared.kind.Kind.TheVariants.{Node}
 use Rattle.osm_model.specs.declared.reference.Ref.{Ref}
-use Rattle.ql_plain.proofs.shared.Adding.{adds_all, adds_more, adds_one, adds_start, adds_to_nothing}
+use Rattle.ref_sets.proofs.shared.Adding.{adds_all, adds_more, adds_one, adds_start, adds_to_nothing}
 use Rattle.ql_plain.specs.declared.links.Link.{Link}
 use Rattle.ql_plain.specs.declared.step.Step.{Step}
 use Rattle.ql_plain.specs.internal.Steps.{IsOriented}

@@ -4,7 +4,8 @@ use Rattle.std.specs.List.Sorted.{IsPartitionedBy, IsPartitionPoint}
 use Rattle.std.proofs.lemmas.List.Sorted.{IsPartitionPoint-from_clause}
 use Rattle.std.specs.Ordering.{is_le, is_lt}
 use Rattle.osm_model.specs.Elements.{ref_cmp}
-use Rattle.ql_plain.proofs.Stepping.{at_most_are_first, below_are_first, between_points, slice_is_rest}
+use Rattle.ql_plain.proofs.Stepping.{at_most_are_first, below_are_first, between_points}
+use Rattle.ref_sets.proofs.shared.Parts.{slice_is_rest}
 use Rattle.ql_plain.specs.declared.step.Step.{Step}
 use Rattle.ql_plain.proofs.step.steps_from.Goals as goal
 

@@ -3,7 +3,7 @@ use Rattle.std.specs.BTreeMap.{get}
 use Rattle.std.specs.Option.{option_copied}
 use Rattle.std.specs.declared.cmp.Ordering.{Ordering}
 use Rattle.osm_model.specs.declared.reference.Ref.{Ref}
-use Rattle.ql_plain.proofs.References.{same_order}
+use Rattle.ref_sets.proofs.shared.References.{same_order}
 use Rattle.ql_eval.proofs.KnownLemmas.{one_known}
 use Rattle.ql_eval.proofs.over.OverSource.known.Goals as goal
 

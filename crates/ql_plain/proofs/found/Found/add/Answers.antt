@@ -4,7 +4,7 @@ use Rattle.std.specs.declared.cmp.Ordering.{Ordering}
 use Rattle.osm_model.specs.Elements.{ref_cmp}
 use Rattle.osm_model.specs.declared.reference.Ref.{Ref}
 use Rattle.ql_plain.proofs.Founding.{name_added, name_there, told_more}
-use Rattle.ql_plain.proofs.References.{same_order}
+use Rattle.ref_sets.proofs.shared.References.{same_order}
 use Rattle.ql_plain.proofs.found.Found.add.Goals as goal
 
 of_not_true : (b c : Bool) → b ≡ not c → b ≡ true → c ≡ false

@@ -2,7 +2,7 @@ use Rattle.std.proofs.Common.{◌≡◌, get_or, pos, refl, ◌∙◌, arith}
 use Rattle.std.proofs.lemmas.List.{get_or_default}
 use Rattle.osm_model.specs.declared.kind.Kind.TheVariants.{Node}
 use Rattle.osm_model.specs.declared.reference.Ref.{Ref}
-use Rattle.ql_plain.proofs.shared.Adding.{adds_all, adds_as, adds_more, item_is_in}
+use Rattle.ref_sets.proofs.shared.Adding.{adds_all, adds_as, adds_more, item_is_in}
 use Rattle.ql_plain.specs.declared.step.Step.{Step}
 use Rattle.ql_plain.proofs.found.Found.follow.Goals as goal
 

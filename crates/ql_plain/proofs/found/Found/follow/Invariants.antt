@@ -1,8 +1,8 @@
 use Rattle.std.proofs.Common.{◌≡◌, ◌+◌, ◌≤◌, length, take}
 use Rattle.ql_plain.specs.declared.step.Step.{Step}
 use Rattle.osm_model.specs.declared.reference.Ref.{Ref}
-use Rattle.ql_plain.specs.Adding.{Adds, From}
-use Rattle.ql_plain.specs.Founds.{Goes, IsTold, missing}
+use Rattle.ref_sets.specs.Adding.{Adds, From}
+use Rattle.ql_plain.specs.internal.Founds.{Goes, IsTold, missing}
 use Rattle.ql_plain.proofs.found.Found.follow.Given as goal
 
 abbrev pub invariant-loop-step : goal.invariant-loop-step

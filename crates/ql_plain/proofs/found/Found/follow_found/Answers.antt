@@ -2,7 +2,7 @@ use Rattle.std.proofs.Common.{◌≡◌, ℕ, ◌<◌, get_or, length, inl, inr,
 use Rattle.std.proofs.lemmas.Bool.{cases_lt}
 use Rattle.std.proofs.lemmas.List.{get_or_default}
 use Rattle.osm_model.specs.declared.reference.Ref.{Ref}
-use Rattle.ql_plain.specs.Paths.{IsStep, More, One}
+use Rattle.ql_plain.specs.internal.Paths.{IsStep, More, One}
 use Rattle.ql_plain.proofs.found.Found.follow_found.Goals as goal
 
 pub loop-at-preserved : goal.loop-at-preserved

@@ -1,8 +1,8 @@
 use Rattle.std.proofs.Common.{ℕ, ◌+◌, ◌-◌, ◌<◌, ◌⊎◌, get_or, length}
 use Rattle.std.specs.List.{Contains}
 use Rattle.osm_model.specs.declared.reference.Ref.{Ref}
-use Rattle.ql_plain.specs.Founds.{IsTold, missing}
-use Rattle.ql_plain.specs.Paths.{IsPath, IsStep}
+use Rattle.ql_plain.specs.internal.Founds.{IsTold, missing}
+use Rattle.ql_plain.specs.internal.Paths.{IsPath, IsStep}
 use Rattle.ql_plain.proofs.found.Found.follow_found.Given as goal
 
 abbrev pub invariant-loop-at : goal.invariant-loop-at

@@ -1,0 +1,3 @@
+pub mod Deciding
+pub mod HavingMeaning
+pub mod shared

@@ -1,0 +1,4 @@
+pub mod Values
+pub mod Meanings
+pub mod ObjectTests
+pub mod Runs

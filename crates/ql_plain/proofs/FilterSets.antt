@@ -1,6 +1,0 @@
--- What is said of a result where there is one.
-use Rattle.std.proofs.Common.{Result, Ok, Err, IfOk}
-
-pub if_ok_as : {T E : Type 0} (r : Result T E) {P Q : T → Type 0} → ((x : T) → P x → Q x) → IfOk r P → IfOk r Q
-if_ok_as (Ok x) to p = to x p
-if_ok_as (Err e) to p = p

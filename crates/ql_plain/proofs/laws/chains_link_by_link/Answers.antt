@@ -1,5 +1,0 @@
-use Rattle.ql_plain.proofs.Paths.{link_by_link}
-use Rattle.ql_plain.proofs.laws.chains_link_by_link.Goals as goal
-
-pub returns : goal.returns
-returns c = link_by_link

@@ -1,5 +1,0 @@
-use Rattle.ql_plain.proofs.HavingMeaning.{has_meaning}
-use Rattle.ql_plain.proofs.laws.has_meaning.Goals as goal
-
-pub returns : goal.returns
-returns c = has_meaning

@@ -1,5 +1,0 @@
-use Rattle.ql_plain.proofs.shared.MeaningLaws.{set_alone}
-use Rattle.ql_plain.proofs.laws.order_is_no_matter.Goals as goal
-
-pub returns : goal.returns
-returns c = set_alone

@@ -1,0 +1,7 @@
+use Rattle.std.proofs.Common.{[], take}
+use Rattle.ref_sets.specs.Adding.{Adds, From}
+use Rattle.ql_plain.proofs.Neighbouring.{IsChildOf}
+use Rattle.ql_plain.proofs.neighbours.below.Given as goal
+
+abbrev pub invariant-loop-link : goal.invariant-loop-link
+invariant-loop-link l = Adds [] l.refs.items (From (take l.link-index l.link-items) (IsChildOf l.from l.kind))

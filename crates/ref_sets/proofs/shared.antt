@@ -1,0 +1,9 @@
+-- Lemmas for the crates above.
+pub mod Adding
+pub mod Filtered
+pub mod Keeping
+pub mod Mapped
+pub mod Parts
+pub mod References
+pub mod Results
+pub mod Tests

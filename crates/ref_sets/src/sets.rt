@@ -1,0 +1,69 @@
+//! Named sets of references.
+
+ghost use Rattle.std.specs.Prelude.{◌≡◌, ◌<◌, ℕ, IfNone, IfSome, OnOk, bytes_eq, false, length, slice_index_or, true};
+ghost use Rattle.std.specs.List.Sorted.{IsStrictlySortedBy};
+ghost use Rattle.osm_model.specs.Elements.{ref_cmp};
+ghost use Rattle.ref_sets.specs.NamedSets.{nothing_named, put, lists_of};
+ghost use Rattle.ref_sets.specs.internal.NamedSetPlaces.{IsPlaceOf};
+
+use crate::named_set::NamedSet;
+use crate::ref_set::RefSet;
+use osm_model::Ref;
+use std::alloc::{AllocError, Global};
+
+/// The sets that statements wrote. A search goes over all names: a query has some thousands at most.
+#[derive(Drop)]
+pub struct Sets<'q> {
+    /// Each name once.
+    pub named: Vec<NamedSet<'q>>,
+}
+
+impl<'q> Sets<'q> {
+    /// No set is written yet.
+    pub fn new(alloc: Global) -> Sets<'q>
+        ensures { lists_of result.named.items ≡ nothing_named }
+    {
+        Sets {
+            named: Vec::new(alloc),
+        }
+    }
+
+    /// The set with this name, which is empty where none was written.
+    pub fn get(&self, name: &[u8]) -> &[Ref]
+        ensures value { result.now ≡ lists_of self.now.named.items name.now }
+        ensures rising { IsStrictlySortedBy ref_cmp result.now }
+    {
+        for named in &self.named {
+            if named.name == name {
+                return named.refs.as_slice();
+            }
+        }
+        &[]
+    }
+
+    /// Writes a set, in place of the one that had the name.
+    pub fn write(&mut self, name: &'q [u8], refs: Vec<Ref>) -> Result<(), AllocError>
+        requires { IsStrictlySortedBy ref_cmp refs.items }
+        ensures { OnOk result (lists_of self.new.named.items ≡ put name.now refs.items (lists_of self.old.named.items)) }
+    {
+        let refs = RefSet::from_rising(refs);
+        match self.place_of(name) {
+            Some(place) => {
+                self.named[place] = NamedSet { name, refs };
+                Ok(())
+            }
+            None => {
+                self.named.push(NamedSet { name, refs })?;
+                Ok(())
+            }
+        }
+    }
+
+    /// Where the set with this name is.
+    fn place_of(&self, name: &[u8]) -> Option<usize>
+        ensures found { IfSome result (λ at. IsPlaceOf self.now.named.items name.now at) }
+        ensures none { IfNone result ((k : ℕ) (d : _) → k < length self.now.named.items → bytes_eq (slice_index_or self.now.named.items k d).name.now name.now ≡ false) }
+    {
+        self.named.iter().position(|named| named.name == name)
+    }
+}
