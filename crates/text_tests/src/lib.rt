@@ -1,4 +1,5 @@
-//! Tests of osm_model, opl_codec and ql_syntax: objects, their text, and the text of queries.
+//! Tests of osm_model, opl_codec, ql_syntax and ref_sets: objects, their text, the text of queries, and sets of
+//! references.
 //!
 //! They are a crate of their own because a crate that has tests is proved twice, with them and without.
 #![tactic(auto)]

@@ -1,5 +1,6 @@
-//! Objects, lines and files of OPL, and queries.
+//! Objects, lines and files of OPL, queries, and sets of references.
 
 mod codec;
 mod model;
+mod sets;
 mod syntax;
