@@ -12,8 +12,10 @@ set -eu
 build_program answer_speed 'osm_model: arrayvec itoa thiserror
 opl_codec: osm_model itoa memchr simdutf8 thiserror
 ql_syntax: osm_model opl_codec simdutf8 smallvec thiserror
-ql_plain: osm_model opl_codec ql_syntax
-answer_speed: opl_codec ql_plain ql_syntax osm_model anyhow' osm_model opl_codec ql_syntax ql_plain
+ref_sets: osm_model
+ql_meaning: osm_model opl_codec ql_syntax ref_sets
+ql_plain: osm_model opl_codec ql_syntax ref_sets ql_meaning
+answer_speed: opl_codec ql_plain ql_syntax osm_model anyhow' osm_model opl_codec ql_syntax ref_sets ql_meaning ql_plain
 
 echo "$(rt version)"
 tell_machine
