@@ -8,7 +8,8 @@ use Rattle.tree_node.specs.declared.edition.Edition.TheVariants as editions
 use Rattle.osm_index.specs.declared.snapshot.Snapshot.{Snapshot}
 use Rattle.osm_desk.specs.Contents.{Contents}
 use Rattle.osm_desk.proofs.shared.StillHeld.{still_held}
-use Rattle.osm_commands.specs.ChangeFiles.{HasPublished, IsReachedBy, asked_after}
+use Rattle.osm_commands.specs.ChangeFiles.{IsReachedBy, asked_after}
+use Rattle.osm_traffic.specs.Published.{HasPublished}
 
 -- what nothing changes stays in force
 pub same_in_force : (old new : Snapshot) (p : Publication) → new ≡ old → HoldsPublication old p → HasPublished p new

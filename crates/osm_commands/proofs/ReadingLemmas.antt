@@ -1,5 +1,5 @@
 -- Why a change file isn't published, and what is in force where it is.
-use Rattle.std.proofs.Common.{◌≡◌, ◌≢◌, ◌⊎◌, ℕ, List, [], ◌∷◌, ◌++◌, Option, None, Some, Result, Ok, Err, IfErr, IfSome, IsErrAnd, inl, inr, refl, sym, subst, ap, append_assoc, ◌∙◌}
+use Rattle.std.proofs.Common.{◌≡◌, ◌≢◌, ◌⊎◌, ℕ, List, [], ◌∷◌, ◌++◌, Option, None, Some, Result, Ok, Err, IfErr, IfSome, IsErrAnd, inl, inr, refl, sym, subst, ap, ◌∙◌}
 use Rattle.std.specs.Prelude.{MatchResult, OnErr, OnOk}
 use Rattle.opl_codec.specs.Files.{HoldsChanges, IsReaderOrMemory, StopsChanges}
 use Rattle.opl_codec.specs.LineReads.{no_memory}
@@ -13,10 +13,10 @@ use Rattle.osm_index.specs.declared.apply_fault.ApplyFault.{ApplyFault}
 use Rattle.osm_index.specs.declared.apply_fault.ApplyFault.TheVariants as refusals
 use Rattle.osm_index.specs.declared.snapshot.Snapshot.{Snapshot}
 use Rattle.osm_desk.specs.Made.{IsMade, RefusesChanges}
-use Rattle.osm_commands.specs.ChangeFiles.{ExplainsChanges, ExplainsFound, GivesChanges, HasMade, HasMadeOf, HasPublished, HasTaken, HoldsNoChanges, IsMadeByAll, IsOutsideOrRefused, TakesFound, fault_of_apply, fault_of_command}
+use Rattle.osm_commands.specs.ChangeFiles.{ExplainsChanges, ExplainsFound, HasMade, HasMadeOf, HoldsNoChanges, IsOutsideOrRefused, fault_of_apply, fault_of_command}
+use Rattle.osm_traffic.specs.Published.{Found, GivesChanges, HasPublished, HasTaken, IsMadeByAll, TakesFound}
 use Rattle.osm_desk.proofs.shared.StillHeld.{still_held}
 use Rattle.osm_commands.proofs.ChangeLemmas.{left_in_force}
-use Rattle.osm_commands.specs.Drawers.{Found}
 use Rattle.osm_commands.specs.Faults.{fault_of_cause, fault_of_load}
 use Rattle.osm_commands.specs.declared.changes_fault.ChangesFault.{ChangesFault}
 
@@ -133,14 +133,6 @@ made_of_all (Some text) p changes now new same only (q, makes, held) = λ all ho
 
 -- ---- what a drawer found, one after the other
 
-still : (old new : Snapshot) → new ≡ old → (p : Publication) → HoldsPublication old p → HoldsPublication new p
-still old new same p held = subst (λ (s : Snapshot). HoldsPublication s p) (sym same) held
-
--- it wasn't asked
-pub none_found : (told now : Option (List Found)) (old new : Snapshot) → now ≡ told → new ≡ old → TakesFound told now old new
-none_found None now old new unasked same = tt
-none_found (Some before) now old new unasked same = ([], unasked, λ p held. (p, still old new same p held, refl))
-
 -- it was asked once, and what it gave was published or refused
 pub one_found : (told now : Option (List Found)) (old new : Snapshot) (result : Result (Unit {0}) ChangesFault)
     → OnErr result (IsAsBefore old new)
@@ -160,24 +152,3 @@ one_found (Some before) now old new (Err fault) unchanged (found, is, takes) = (
   λ p held.
       (p, still_held old new p unchanged held, (p, refl, inr refl)),
 )
-
--- first this, then that
-made_after : (first second : List Found) (p m q : Publication) → IsMadeByAll first p m → IsMadeByAll second m q → IsMadeByAll (second ++ first) p q
-made_after first [] p m q before same = subst (IsMadeByAll first p) (sym same) before
-made_after first (found ∷ second) p m q before (n, by, last) = (n, made_after first second p m n before by, last)
-
-pub found_after : (told mid now : Option (List Found)) (old between new : Snapshot) → TakesFound told mid old between → TakesFound mid now between new → TakesFound told now old new
-found_after None mid now old between new first second = tt
-found_after (Some before) mid now old between new (some, is, takes) second =
-    let (more, are, take) = subst (λ (o : Option (List Found)). TakesFound o now between new) is second in (
-      more ++ some,
-      are ∙ ap (λ (xs : List Found). Some xs) (sym (append_assoc more some before)),
-      λ p held.
-          let (m, between_holds, by) = takes p held in
-          let (q, holds, then) = take m between_holds in
-          (q, holds, made_after some more p m q by then),
-    )
-
--- what stays as it was afterwards
-pub found_kept : (told now : Option (List Found)) (old mid new : Snapshot) → new ≡ mid → TakesFound told now old mid → TakesFound told now old new
-found_kept told now old mid new same takes = subst (λ (s : Snapshot). TakesFound told now old s) (sym same) takes

@@ -13,7 +13,7 @@ use Rattle.osm_index.specs.declared.apply_fault.ApplyFault.TheVariants as refusa
 use Rattle.tree_node.specs.declared.edition.Edition.{Edition}
 use Rattle.tree_node.specs.declared.edition.Edition.TheVariants as editions
 use Rattle.osm_desk.specs.Made.{IsMade}
-use Rattle.osm_commands.specs.Drawers.{Found, file, nothing}
+use Rattle.osm_traffic.specs.Published.{Found, GivesChanges, IsMadeFrom, IsPublishedFrom, file, nothing}
 use Rattle.osm_commands.specs.declared.changes_fault.ChangesFault.{ChangesFault}
 use Rattle.osm_commands.specs.declared.changes_fault.ChangesFault.TheVariants.{Apply, Opl, Memory, Device}
 use Rattle.osm_commands.specs.declared.command_fault.CommandFault.{CommandFault}
@@ -33,18 +33,6 @@ fault_of_apply refusals.Memory = Memory
 fault_of_apply refused = Apply refused
 
 -- ---- one change file
-
--- the bytes that a reader has to give hold these changes; they are those that it tells, where it tells them
-pub record GivesChanges (known : Option (List ℕ)) (changes : List Change) : Type 0 where
-  pub text : List ℕ
-  pub told : IfSome known (λ all. text ≡ all)
-  pub holds : HoldsChanges text changes
-
--- the changes that the reader gives make the one publication of the other
-pub record IsMadeFrom (known : Option (List ℕ)) (p q : Publication) : Type 0 where
-  pub changes : List Change
-  pub given : GivesChanges known changes
-  pub made : IsMade p changes (Ok q)
 
 -- the snapshot holds what these changes make of what was in force
 abbrev pub HasMadeOf : List Change → Publication → Snapshot → Type 0
@@ -95,38 +83,10 @@ IsNext edition (Some next) = (before : List ℕ) → asked_after edition before 
 
 -- ---- what is in force
 
--- changes that a file holds make the one publication of the other
-abbrev pub IsPublishedFrom : Publication → Publication → Type 0
-IsPublishedFrom p q = (file : List ℕ) × (changes : List Change) × HoldsChanges file changes × IsMade p changes (Ok q)
-
 -- at most so many change files make it, one after the other
 abbrev pub IsReachedBy : ℕ → Publication → Publication → Type 0
 IsReachedBy zero p q = q ≡ p
 IsReachedBy (suc n) p q = IsReachedBy n p q ⊎ ((m : Publication) × IsReachedBy n p m × IsPublishedFrom m q)
-
--- the snapshot holds what was in force, or what a change file makes of it
-abbrev pub HasPublished : Publication → Snapshot → Type 0
-HasPublished p snapshot = (q : Publication) × HoldsPublication snapshot q × ((q ≡ p) ⊎ IsPublishedFrom p q)
-
--- what was found makes the one publication of the other: a file by its changes; where nothing was found they are the same
-abbrev pub IsMadeBy : Found → Publication → Publication → Type 0
-IsMadeBy nothing p q = q ≡ p
-IsMadeBy (file known) p q = IsMadeFrom known p q
-
--- the snapshot holds what that makes of what was in force
-abbrev pub HasTaken : Found → Publication → Snapshot → Type 0
-HasTaken found p snapshot = (q : Publication) × HoldsPublication snapshot q × IsMadeBy found p q
-
--- all that was found, the last first, makes it, each by its changes; but what is refused changes nothing
-abbrev pub IsMadeByAll : List Found → Publication → Publication → Type 0
-IsMadeByAll [] p q = q ≡ p
-IsMadeByAll (found ∷ before) p q = (m : Publication) × IsMadeByAll before p m × (IsMadeBy found m q ⊎ (q ≡ m))
-
--- what a drawer, where it tells, found from its old state to its new one makes what the new snapshot holds of what the
--- old one held
-abbrev pub TakesFound : (told now : Option (List Found)) (old new : Snapshot) → Type 0
-TakesFound told now old new = IfSome told (λ before. (more : List Found) × (now ≡ Some (more ++ before))
-    × ((p : Publication) → HoldsPublication old p → (q : Publication) × HoldsPublication new q × IsMadeByAll more p q))
 
 -- why what was found isn't published: the drawer refused, or the file that it gave is
 abbrev pub ExplainsFound : Found → Publication → ChangesFault → Type 0

@@ -1,7 +1,8 @@
 //! Where change files come from.
 
 ghost use Rattle.std.specs.Prelude.{◌≡◌, ◌⊎◌, ◌∷◌, ℕ, IfErr, IfSome, List, Option, Some};
-ghost use Rattle.osm_commands.specs.Drawers.{Found, found_in};
+ghost use Rattle.osm_commands.specs.Drawers.{found_in};
+ghost use Rattle.osm_traffic.specs.Published.{Found};
 
 use crate::command_fault::CommandFault;
 use std::io::Read;

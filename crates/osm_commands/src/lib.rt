@@ -12,6 +12,7 @@ pub mod check;
 pub mod command_fault;
 pub mod door;
 pub mod drawer;
+pub mod drawer_lookout;
 pub mod listening_line;
 pub mod outlet;
 pub mod prove;

@@ -3,8 +3,8 @@
 ghost use Rattle.std.specs.Prelude.{◌≡◌, ◌∷◌, IfSome, MatchResult, OnErr, Some};
 ghost use Rattle.osm_index.specs.Publications.{Publication};
 ghost use Rattle.osm_index.specs.Snapshots.{HoldsPublication, IsAsBefore};
-ghost use Rattle.osm_commands.specs.ChangeFiles.{ExplainsFound, HasPublished, HasTaken, IsNext, TakesFound, asked_after};
-ghost use Rattle.osm_commands.specs.Drawers.{Found};
+ghost use Rattle.osm_commands.specs.ChangeFiles.{ExplainsFound, IsNext, asked_after};
+ghost use Rattle.osm_traffic.specs.Published.{Found, HasPublished, HasTaken, TakesFound};
 
 use crate::changes_fault::ChangesFault;
 use crate::drawer::Drawer;

@@ -6,7 +6,7 @@ use Rattle.osm_gate.specs.Connections.{Rest}
 use Rattle.osm_desk.specs.Contents.{Contents}
 use Rattle.osm_desk.specs.Desks.{Connections}
 use Rattle.osm_commands.proofs.ChangeLemmas.{asked_more, reached_end, reached_next}
-use Rattle.osm_commands.proofs.ReadingLemmas.{found_after, found_kept}
+use Rattle.osm_traffic.proofs.shared.FoundLemmas.{found_after, found_kept}
 use Rattle.osm_commands.proofs.serve_changing.serve_changing.Goals as goal
 
 pub returns-in_err-reader-clause-reached : goal.returns-in_err-reader-clause-reached

@@ -4,7 +4,8 @@ use Rattle.std.specs.FinMap.{empty}
 use Rattle.std.specs.Prelude.{IfSome}
 use Rattle.osm_index.specs.Publications.{Publication}
 use Rattle.osm_index.specs.Snapshots.{HoldsPublication}
-use Rattle.osm_commands.specs.ChangeFiles.{IsReachedBy, TakesFound}
+use Rattle.osm_commands.specs.ChangeFiles.{IsReachedBy}
+use Rattle.osm_traffic.specs.Published.{TakesFound}
 use Rattle.osm_commands.proofs.serve_changing.serve_changing.Given as goal
 
 abbrev pub invariant-loop-taken : goal.invariant-loop-taken
