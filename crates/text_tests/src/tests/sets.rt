@@ -52,7 +52,9 @@ fn makes_sets(alloc: Global) -> Result<bool, AllocError> {
         id: 1,
     })?;
     let set = RefSet::from_runs(refs)?;
-    let again = RefSet::from_rising(nodes(alloc, &[1, 2, 3])?).copy(alloc)?;
+    let sorted = RefSet::from_refs(nodes(alloc, &[3, 1, 2])?);
+    let rising = Vec::from_slice(alloc, sorted.as_slice())?;
+    let again = RefSet::from_rising(rising).copy(alloc)?;
     let way = Ref {
         kind: Kind::Way,
         id: 1,
