@@ -5,6 +5,7 @@
 #![tactic(auto)]
 
 mod building;
+mod clean_output;
 mod folder_drawer;
 mod in_words;
 mod input_file;
@@ -13,6 +14,7 @@ mod progress;
 mod watched;
 
 use crate::building::Building;
+use crate::clean_output::CleanOutput;
 use crate::folder_drawer::FolderDrawer;
 use crate::in_words::{Subject, Trouble, tell_in_words};
 use crate::input_file::InputFile;
@@ -107,7 +109,7 @@ fn ask_input(rt: &HostRuntime, query: &str) -> Status {
         query.as_bytes(),
         &mut input,
         &mut building,
-        &mut rt.stdout(),
+        &mut CleanOutput::new(rt),
     );
     input.clear();
     building.clear();
@@ -135,7 +137,7 @@ fn publish_file(rt: &HostRuntime, file: &str, edition: Edition) -> Status {
         &mut input,
         edition,
         &mut building,
-        &mut rt.stdout(),
+        &mut CleanOutput::new(rt),
     );
     input.clear();
     building.clear();
@@ -176,7 +178,7 @@ fn prove_files(
         &mut building,
         &mut answer,
         &mut proof,
-        &mut rt.stdout(),
+        &mut CleanOutput::new(rt),
     );
     input.clear();
     building.clear();
