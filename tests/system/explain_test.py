@@ -48,10 +48,11 @@ def explains_other_words(tally):
         tally.check(f"explain {words!r}", outcome == Outcome(b"", b"no such code\n", 2), outcome)
 
 
-def run_on_terminal(words, stdin=b""):
-    """What a run writes on standard error where that is a terminal, and its status."""
+def run_on_terminal(words, stdin=b"", is_whole=False):
+    """What a run writes on standard error where that is a terminal, with its output where it `is_whole`, and its status."""
     ours, theirs = pty.openpty()
-    process = subprocess.Popen(words, stdin=subprocess.PIPE, stdout=subprocess.PIPE, stderr=theirs)
+    output = theirs if is_whole else subprocess.PIPE
+    process = subprocess.Popen(words, stdin=subprocess.PIPE, stdout=output, stderr=theirs)
     os.close(theirs)
     process.stdin.write(stdin)
     process.stdin.close()
@@ -65,7 +66,8 @@ def run_on_terminal(words, stdin=b""):
             break
         written += piece
     os.close(ours)
-    process.stdout.close()
+    if not is_whole:
+        process.stdout.close()
     return written.decode().replace("\r\n", "\n"), process.wait(timeout=SECONDS)
 
 
@@ -125,12 +127,34 @@ def tells_files(tally):
             tally.check("a port that is taken", status == 3 and "the port taken" in told, told, status)
 
 
+# What is shown of a large set while its trees are built, one after the other on one line.
+TREES = ["1 of 4, objects", "2 of 4, tags", "3 of 4, places", "4 of 4, back references"]
+ERASE = "\r\x1b[2K"
+
+
+def shows_trees(tally):
+    """Which tree is being built is shown on a terminal alone, and is gone before the output is written."""
+    with tempfile.TemporaryDirectory() as room:
+        large, small = Path(room) / "large.opl", Path(room) / "small.opl"
+        large.write_text("".join(f"n{number} x1 y1\n" for number in range(1, 60_001)))
+        small.write_text("n1 x1 y1\n")
+        on_pipe = run([PROGRAM, "publish", large])
+        root = on_pipe.stdout.decode()
+        tally.check("trees on a pipe", on_pipe.status == 0 and len(root) == 65 and on_pipe.stderr == b"", on_pipe)
+        shown = "".join(f"{ERASE}building tree {name}" for name in TREES)
+        told, status = run_on_terminal([PROGRAM, "publish", large], is_whole=True)
+        tally.check("trees on a terminal", status == 0 and told.startswith(f"{shown}{ERASE}{root}"), told, status)
+        told, status = run_on_terminal([PROGRAM, "publish", small], is_whole=True)
+        tally.check("small set on a terminal", status == 0 and "building" not in told, told, status)
+
+
 def main():
     tally = Tally()
     explains_each_code(tally)
     explains_other_words(tally)
     tells_queries(tally)
     tells_files(tally)
+    shows_trees(tally)
     tally.end()
 
 
