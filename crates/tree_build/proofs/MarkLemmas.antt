@@ -5,6 +5,7 @@ use Rattle.std.proofs.Math.Seq.{get_or-append_seam}
 use Rattle.tree_node.specs.Nodes.{Binding, Inner, Leaf, Link, Node}
 use Rattle.tree_node.specs.Trees.{Two, ends_by, entries_in, is_marked_entry, is_marked_link, level_at, levels, link_to, links_in, one_at_least, pieces}
 use Rattle.tree_node.proofs.shared.TreeLaws.{pair_at, whole}
+use Rattle.tree_build.specs.internal.Unmarked.{IsUnmarkedInside}
 use Rattle.tree_build.specs.Cuts.{EndsNoSooner}
 use Rattle.tree_build.specs.internal.Holding.{IsSoughtNode}
 use Rattle.tree_build.proofs.DescentLemmas.{all_parts}
@@ -17,11 +18,6 @@ unmarked_between {X} marked front x back items no_sooner whole some more =
 
 none_between : {X : Type 0} (marked : X → Bool) → EndsNoSooner Two marked []
 none_between marked = λ k some lt. absurd (omega (arith, lt))
-
--- between the node's first item and its last none is marked
-pub record IsUnmarkedInside (node : Node) : Type 0 where
-  pub entries : EndsNoSooner Two is_marked_entry (entries_in node)
-  pub links : EndsNoSooner Two is_marked_link (links_in node)
 
 leaves_inside : (tree : ℕ) (ps : List (List Binding)) → AllByRecursion (EndsNoSooner Two is_marked_entry) ps → AllByRecursion IsUnmarkedInside (map (Leaf tree) ps)
 leaves_inside tree [] all = tt

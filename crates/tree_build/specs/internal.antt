@@ -18,3 +18,4 @@ pub mod Towers
 pub mod TreeEdits
 pub mod TreeTelling
 pub mod Weaving
+pub mod Unmarked

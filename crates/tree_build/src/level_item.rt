@@ -2,6 +2,7 @@
 
 ghost use Rattle.std.specs.Prelude.{◌≡◌, ◌≤◌, ◌++◌, ℕ, List, Bool, IfOk, length, map, refl};
 ghost use Rattle.tree_build.specs.Cuts.{EndsNoSooner};
+ghost use Rattle.tree_build.specs.internal.Unmarked.{IsUnmarkedInside};
 ghost use Rattle.tree_node.specs.declared.limits.TheConstants.{ITEM_LIMIT};
 ghost use Rattle.tree_node.specs.NodeRefs.{node_read, number_of};
 ghost use Rattle.tree_node.specs.Nodes.{Node, spelling};
@@ -58,6 +59,12 @@ pub(crate) trait NodeItem: Cut + Copy {
 
     /// A node of a part of items that fit can be written.
     ghost parts: { (items others : List Meaning) → Fit (items ++ others) → Fit items × Fit others };
+
+    /// The items of the node that is made of some are these.
+    ghost same_items: { (tree level : ℕ) (items : List Meaning) → items_in (node_over tree level items) ≡ items };
+
+    /// Where no item inside of a node is marked, none of these is.
+    ghost unmarked: { (node : Node) → IsUnmarkedInside node → EndsNoSooner Two marked_in (items_in node) };
 }
 
 /// The items of the nodes of a level, which lie in the bytes of nodes or in changes.
@@ -106,6 +113,10 @@ impl<'x> NodeItem for LeafItem<'x> {
     ghost marks = { λ item. refl };
 
     ghost parts = { entries_parts };
+
+    ghost same_items = { λ tree level items. refl };
+
+    ghost unmarked = { λ node inside. inside.entries };
 
     fn bytes_of(
         alloc: Global,
@@ -170,6 +181,10 @@ impl<'x> NodeItem for Child<'x> {
     ghost marks = { λ child. refl };
 
     ghost parts = { links_parts };
+
+    ghost same_items = { λ tree level items. refl };
+
+    ghost unmarked = { λ node inside. inside.links };
 
     fn bytes_of(
         alloc: Global,

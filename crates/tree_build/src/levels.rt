@@ -16,7 +16,7 @@ use crate::change::EntryChange;
 use crate::differ::differ;
 use crate::leaf_item::LeafItem;
 use crate::level_item::ItemChange;
-use crate::step::{LevelEdit, OldLevel, step_inner, step_leaves};
+use crate::step::{LevelEdit, OldLevel, change_level};
 use std::alloc::{AllocError, Global};
 use tree_node::{Child, Digest, Shelf, Tree};
 
@@ -31,14 +31,14 @@ pub(crate) struct TreeEdit<'c> {
 
 /// Changes the levels of a tree, from the leaves up to the top's level, or to the first one that is as
 /// it was.
-pub(crate) fn change_levels<'a: 'c, 'c, S: Shelf<'a>>(
+pub(crate) fn change_levels<'a, S: Shelf<'a>>(
     alloc: Global,
     shelf: &mut S,
     tree: Tree,
     top: &Digest,
     top_level: u8,
-    changes: &'c [EntryChange],
-) -> Result<TreeEdit<'c>, AllocError>
+    changes: &'a [EntryChange],
+) -> Result<TreeEdit<'a>, AllocError>
     requires { (entries : List Binding) × IsOldTree (S.holds shelf.old) top.now.0 (changes_of changes.now) (number_of tree) entries
         × (top_level + 1 ≡ length (levels Two (number_of tree) entries)) × (1 ≤ length changes.now) }
     ensures stays { SameNodes (S.holds shelf.old) (S.holds shelf.new) }
@@ -58,14 +58,14 @@ pub(crate) fn change_levels<'a: 'c, 'c, S: Shelf<'a>>(
         → IfOk result (λ edited. HaveAllReasons (levels Two (number_of tree) entries)
         (tower Two (number_of tree) (changed_entries entries (changes_of changes.now))) (keys_of_changes (changes_of changes.now)) edited.edits.items) }
 {
-    let mut edits = Vec::new(alloc);
-    let items = item_changes(alloc, changes)?;
+    let mut edits: Vec<LevelEdit<'a>> = Vec::new(alloc);
+    let items: Vec<ItemChange<'a, LeafItem<'a>>> = item_changes(alloc, changes)?;
     let place = OldLevel {
         tree,
         top: *top,
         level: 0,
     };
-    let leaves: LevelEdit<'c> = step_leaves(alloc, shelf, place, items.as_slice())?;
+    let leaves: LevelEdit<'a> = change_level(alloc, shelf, place, items.as_slice())?;
     let mut next = differ(alloc, &leaves)?;
     edits.push(leaves)?;
     let mut level = 0;
@@ -76,7 +76,7 @@ pub(crate) fn change_levels<'a: 'c, 'c, S: Shelf<'a>>(
             top: *top,
             level,
         };
-        let edit: LevelEdit<'c> = step_inner(alloc, shelf, place, next.as_slice())?;
+        let edit: LevelEdit<'a> = change_level(alloc, shelf, place, next.as_slice())?;
         next = differ(alloc, &edit)?;
         edits.push(edit)?;
     }

@@ -20,7 +20,7 @@ use tree_node::{Digest, Shelf};
 /// this holds whatever their digests are.
 ///
 /// The shelf has to hold the old tree, whose top has this digest. The keys of the changes rise, and the
-/// changed list has a tree. Without changes it gives the old tree's top, and fetches nothing.
+/// changed list has a tree. The changes are borrowed for as long as the bytes that the shelf gives. Without changes it gives the old tree's top, and fetches nothing.
 ///
 /// It fetches the nodes on the ways from the top to the changes' keys, and beyond them only nodes that
 /// are gone, each as often as it goes by: its time grows with the changes and the nodes that change, times
@@ -32,7 +32,7 @@ pub fn rebuild<'a, S: Shelf<'a>>(
     alloc: Global,
     shelf: &mut S,
     top: &Digest,
-    changes: &[EntryChange],
+    changes: &'a [EntryChange],
 ) -> Result<Rebuilt, AllocError>
     requires { HoldsOldTree (S.holds shelf.old) top.now.0 (changes_of changes.now) }
     // The held nodes never change, and what was used stays used.

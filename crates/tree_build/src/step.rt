@@ -7,25 +7,22 @@ ghost use Rattle.tree_build.specs.Cuts.{EndsNoSooner};
 ghost use Rattle.tree_build.specs.internal.Edits.{HaveCome};
 ghost use Rattle.tree_build.specs.internal.Holding.{IsHeldTree, IsOnWayTo};
 ghost use Rattle.tree_build.specs.internal.ItemChanges.{changes_meant};
-ghost use Rattle.tree_build.specs.internal.LeafItems.{entry_of};
 ghost use Rattle.tree_build.specs.internal.RisingChanges.{AreOwnAndRising, IsUpTo};
 ghost use Rattle.tree_build.specs.internal.Steps.{CanStep, FirstIsAbove, HaveGoneOn, HaveReasons, IsEdit, IsWanted, keys_changed};
-ghost use Rattle.tree_build.specs.internal.Building.{AreWithin};
 ghost use Rattle.tree_node.specs.declared.limits.TheConstants.{ITEM_LIMIT};
-ghost use Rattle.tree_node.specs.NodeRefs.{link_of, node_read, number_of};
-ghost use Rattle.tree_node.specs.Nodes.{Binding, Inner, Leaf, Link};
+ghost use Rattle.tree_node.specs.NodeRefs.{node_read, number_of};
+ghost use Rattle.tree_node.specs.Nodes.{Binding};
 ghost use Rattle.tree_node.specs.Shelves.{SameNodes};
-ghost use Rattle.tree_node.specs.Trees.{FitsTree, Two, ends_by, entries_in, is_marked_entry, is_marked_link, level_at, levels, links_in, pieces, pieces_from};
+ghost use Rattle.tree_node.specs.Trees.{Two, ends_by, level_at, levels, pieces, pieces_from};
 
 use crate::hand::{close, cut};
 use crate::held::{OldNode, OpenNode};
-use crate::leaf_item::LeafItem;
 use crate::level_item::{ItemChange, LevelItem};
 use crate::merge::merge;
 use crate::piece::NewPiece;
 use crate::seek::seek;
 use std::alloc::{AllocError, Global};
-use tree_node::{Child, Digest, Shelf, Tree, is_below};
+use tree_node::{Digest, Shelf, Tree, is_below};
 
 /// How one level changes.
 #[derive(Drop)]
@@ -56,27 +53,27 @@ struct LevelWork<'c, T> {
     hand: Vec<T>,
 }
 
-/// Changes the leaves of a tree: opens those that the changes fall in, and cuts their items anew, each
+/// Changes a level of a tree: opens the nodes that the changes fall in, and cuts their items anew, each
 /// time from the start of a node until an old cut is met.
-pub(crate) fn step_leaves<'a: 'c, 'c, S: Shelf<'a>>(
+pub(crate) fn change_level<'a, S: Shelf<'a>, T: LevelItem<'a>>(
     alloc: Global,
     shelf: &mut S,
     place: OldLevel,
-    changes: &[ItemChange<'c, LeafItem<'c>>],
-) -> Result<LevelEdit<'c>, AllocError>
+    changes: &[ItemChange<'a, T>],
+) -> Result<LevelEdit<'a>, AllocError>
     requires { (entries : List Binding) × IsHeldTree (S.holds shelf.old) place.top.0 (number_of place.tree) entries
         × (place.level < length (levels Two (number_of place.tree) entries))
-        × CanStep (λ (entry : Binding). entry.key) (ends_by Two is_marked_entry) entries_in (Leaf (number_of place.tree)) (AllByRecursion FitsTree)
-        (level_at (levels Two (number_of place.tree) entries) place.level) (changes_meant entry_of changes.now) }
+        × CanStep T.key_in (ends_by Two T.marked_in) T.items_in (T.node_over (number_of place.tree) place.level) T.Fit
+        (level_at (levels Two (number_of place.tree) entries) place.level) (changes_meant T.meaning changes.now) }
     ensures stays { SameNodes (S.holds shelf.old) (S.holds shelf.new) }
     ensures grows { (bytes : List ℕ) → S.used shelf.old bytes → S.used shelf.new bytes }
     // It has the old nodes and the new ones by which the level and the changed level differ,
     ensures edited { (entries : List Binding) → IsHeldTree (S.holds shelf.new) place.top.0 (number_of place.tree) entries
         → place.level < length (levels Two (number_of place.tree) entries)
         → let nodes = level_at (levels Two (number_of place.tree) entries) place.level in
-        CanStep (λ (entry : Binding). entry.key) (ends_by Two is_marked_entry) entries_in (Leaf (number_of place.tree)) (AllByRecursion FitsTree) nodes (changes_meant entry_of changes.now)
-        → IfOk result (λ edit. IsEdit nodes (map (Leaf (number_of place.tree)) (pieces (ends_by Two is_marked_entry)
-        (changed (λ (entry : Binding). entry.key) (flat_map entries_in nodes) (changes_meant entry_of changes.now)))) edit) }
+        CanStep T.key_in (ends_by Two T.marked_in) T.items_in (T.node_over (number_of place.tree) place.level) T.Fit nodes (changes_meant T.meaning changes.now)
+        → IfOk result (λ edit. IsEdit nodes (map (T.node_over (number_of place.tree) place.level) (pieces (ends_by Two T.marked_in)
+        (changed T.key_in (flat_map T.items_in nodes) (changes_meant T.meaning changes.now)))) edit) }
     // and one old node or more.
     ensures some { IfOk result (λ edit. 1 ≤ length edit.olds.items) }
     // It reads just what is on the ways to these old nodes.
@@ -88,58 +85,10 @@ pub(crate) fn step_leaves<'a: 'c, 'c, S: Shelf<'a>>(
     ensures reasons { (entries : List Binding) → IsHeldTree (S.holds shelf.new) place.top.0 (number_of place.tree) entries
         → place.level < length (levels Two (number_of place.tree) entries)
         → let nodes = level_at (levels Two (number_of place.tree) entries) place.level in
-        CanStep (λ (entry : Binding). entry.key) (ends_by Two is_marked_entry) entries_in (Leaf (number_of place.tree)) (AllByRecursion FitsTree) nodes (changes_meant entry_of changes.now)
-        → IfOk result (λ edit. HaveReasons nodes (map (Leaf (number_of place.tree)) (pieces (ends_by Two is_marked_entry)
-        (changed (λ (entry : Binding). entry.key) (flat_map entries_in nodes) (changes_meant entry_of changes.now))))
-        (keys_changed (changes_meant entry_of changes.now)) (keys_changed (changes_meant entry_of changes.now)) edit.olds.items) }
-{
-    let mut work = start(alloc);
-    let mut done = 0;
-    while let Some((wanted, above)) = next_wanted(&work, &changes[done..]) {
-        let (found, is_last) = seek(shelf, &place.top, place.level, wanted, above)?;
-        let end = done + count_up_to(&changes[done..], found.old.greatest, is_last);
-        take(alloc, place, found, is_last, &changes[done..end], &mut work)?;
-        done = end;
-    }
-    Ok(finish(work))
-}
-
-/// Changes a level above the leaves, in the same way. The borrow checker doesn't cover a function with a
-/// bound on a shelf and another on items, so there are two.
-pub(crate) fn step_inner<'a: 'c, 'c, S: Shelf<'a>>(
-    alloc: Global,
-    shelf: &mut S,
-    place: OldLevel,
-    changes: &[ItemChange<'c, Child<'c>>],
-) -> Result<LevelEdit<'c>, AllocError>
-    requires { (entries : List Binding) × IsHeldTree (S.holds shelf.old) place.top.0 (number_of place.tree) entries
-        × (place.level < length (levels Two (number_of place.tree) entries))
-        × CanStep (λ (link : Link). link.greatest) (ends_by Two is_marked_link) links_in (Inner (number_of place.tree) place.level) AreWithin
-        (level_at (levels Two (number_of place.tree) entries) place.level) (changes_meant link_of changes.now) }
-    ensures stays { SameNodes (S.holds shelf.old) (S.holds shelf.new) }
-    ensures grows { (bytes : List ℕ) → S.used shelf.old bytes → S.used shelf.new bytes }
-    // It has the old nodes and the new ones by which the level and the changed level differ,
-    ensures edited { (entries : List Binding) → IsHeldTree (S.holds shelf.new) place.top.0 (number_of place.tree) entries
-        → place.level < length (levels Two (number_of place.tree) entries)
-        → let nodes = level_at (levels Two (number_of place.tree) entries) place.level in
-        CanStep (λ (link : Link). link.greatest) (ends_by Two is_marked_link) links_in (Inner (number_of place.tree) place.level) AreWithin nodes (changes_meant link_of changes.now)
-        → IfOk result (λ edit. IsEdit nodes (map (Inner (number_of place.tree) place.level) (pieces (ends_by Two is_marked_link)
-        (changed (λ (link : Link). link.greatest) (flat_map links_in nodes) (changes_meant link_of changes.now)))) edit) }
-    // and one old node or more.
-    ensures some { IfOk result (λ edit. 1 ≤ length edit.olds.items) }
-    // It reads just what is on the ways to these old nodes.
-    ensures used { (entries : List Binding) → IsHeldTree (S.holds shelf.new) place.top.0 (number_of place.tree) entries
-        → place.level < length (levels Two (number_of place.tree) entries)
-        → IfOk result (λ edit. (bytes : List ℕ) → S.used shelf.new bytes
-        → S.used shelf.old bytes ⊎ IsOnWayTo (levels Two (number_of place.tree) entries) place.level edit.olds.items bytes) }
-    // They are sought for a change or are gone, and those that are sought for a change are among them.
-    ensures reasons { (entries : List Binding) → IsHeldTree (S.holds shelf.new) place.top.0 (number_of place.tree) entries
-        → place.level < length (levels Two (number_of place.tree) entries)
-        → let nodes = level_at (levels Two (number_of place.tree) entries) place.level in
-        CanStep (λ (link : Link). link.greatest) (ends_by Two is_marked_link) links_in (Inner (number_of place.tree) place.level) AreWithin nodes (changes_meant link_of changes.now)
-        → IfOk result (λ edit. HaveReasons nodes (map (Inner (number_of place.tree) place.level) (pieces (ends_by Two is_marked_link)
-        (changed (λ (link : Link). link.greatest) (flat_map links_in nodes) (changes_meant link_of changes.now))))
-        (keys_changed (changes_meant link_of changes.now)) (keys_changed (changes_meant link_of changes.now)) edit.olds.items) }
+        CanStep T.key_in (ends_by Two T.marked_in) T.items_in (T.node_over (number_of place.tree) place.level) T.Fit nodes (changes_meant T.meaning changes.now)
+        → IfOk result (λ edit. HaveReasons nodes (map (T.node_over (number_of place.tree) place.level) (pieces (ends_by Two T.marked_in)
+        (changed T.key_in (flat_map T.items_in nodes) (changes_meant T.meaning changes.now))))
+        (keys_changed (changes_meant T.meaning changes.now)) (keys_changed (changes_meant T.meaning changes.now)) edit.olds.items) }
 {
     let mut work = start(alloc);
     let mut done = 0;

@@ -15,27 +15,27 @@ use Rattle.tree_build.proofs.UsedLemmas.{read_more}
 use Rattle.tree_build.proofs.ErrLemmas.{if_err}
 use Rattle.tree_build.proofs.levels.change_levels.Goals as goal
 
-pub step_leaves-requires : goal.step_leaves-requires
-step_leaves-requires g c = λ k.
+pub change_level-requires : goal.change_level-requires
+change_level-requires g c = λ k.
     let (entries, is, height, some) = c.requires in
     let given : changes_meant entry_of c.as_slice.result.now ≡ changes_of c.args.changes.now = ap (changes_meant entry_of) c.as_slice.ensures.value ∙ c.in_ok-items.ensures in
     ((refl, tt), (entries, held_of _ _ _ _ _ is, omega arith, given_leaves _ _ c.args.changes.now (number_of c.args.tree) entries _ given some is))
 
 pub levels-init : goal.levels-init
 levels-init g c = record {
-  stays = c.step_leaves.ensures.stays;
-  grows = c.step_leaves.ensures.grows;
+  stays = c.change_level.ensures.stays;
+  grows = c.change_level.ensures.grows;
   low = omega arith;
   count = ap length c.in_ok-push.ensures.items ∙ ap (λ xs. length (xs ++ c.in_ok-leaves.leaves ∷ [])) c.new-edits.ensures.items;
   used = λ entries is height x h.
-      let now = old_then _ (g.S.Shelf.holds c.step_leaves.new.shelf) _ _ _ _ (λ y k. (c.step_leaves.ensures.stays y).1 k) is in
+      let now = old_then _ (g.S.Shelf.holds c.change_level.new.shelf) _ _ _ _ (λ y k. (c.change_level.ensures.stays y).1 k) is in
       read_more (levels Two (number_of c.args.tree) entries) 0 [] c.push.new.self.items c.in_ok-leaves.leaves x (g.S.Shelf.used c.args.shelf.now x) (g.S.Shelf.used c.args.shelf.now x)
       (c.in_ok-push.ensures.items ∙ ap (λ xs. xs ++ c.in_ok-leaves.leaves ∷ []) c.new-edits.ensures.items) refl (λ k. inl k)
       (c.in_ok-leaves.ensures.used entries (held_of _ _ _ _ _ now) (omega arith) x h);
   state = λ entries is height.
       let given : changes_meant entry_of c.as_slice.result.now ≡ changes_of c.args.changes.now = ap (changes_meant entry_of) c.as_slice.ensures.value ∙ c.in_ok-items.ensures in
       let (some_entries, some_is, some_height, some) = c.requires in
-      let now = old_then _ (g.S.Shelf.holds c.step_leaves.new.shelf) _ _ _ _ (λ x h. (c.step_leaves.ensures.stays x).1 h) is in
+      let now = old_then _ (g.S.Shelf.holds c.change_level.new.shelf) _ _ _ _ (λ x h. (c.change_level.ensures.stays x).1 h) is in
       let gives = c.in_ok-leaves.ensures.edited entries (held_of _ _ _ _ _ now) (omega arith) (given_leaves _ _ c.args.changes.now (number_of c.args.tree) entries _ given some is) in
       let edit = edit_leaves _ _ c.args.changes.now (number_of c.args.tree) entries _ given is c.in_ok-leaves.leaves gives in
       let next = next_of _ _ c.in_ok-leaves.leaves (changes_meant link_of c.in_ok-next.next.items) edit (nodes_old (number_of c.args.tree) entries (changes_of c.args.changes.now) is.is_tree is.has is.changed_has 0 (omega arith))
@@ -44,7 +44,7 @@ levels-init g c = record {
   reasons = λ entries is height.
       let given : changes_meant entry_of c.as_slice.result.now ≡ changes_of c.args.changes.now = ap (changes_meant entry_of) c.as_slice.ensures.value ∙ c.in_ok-items.ensures in
       let (some_entries, some_is, some_height, some) = c.requires in
-      let now = old_then _ (g.S.Shelf.holds c.step_leaves.new.shelf) _ _ _ _ (λ x h. (c.step_leaves.ensures.stays x).1 h) is in
+      let now = old_then _ (g.S.Shelf.holds c.change_level.new.shelf) _ _ _ _ (λ x h. (c.change_level.ensures.stays x).1 h) is in
       let can = given_leaves _ _ c.args.changes.now (number_of c.args.tree) entries _ given some is in
       let edit = edit_leaves _ _ c.args.changes.now (number_of c.args.tree) entries _ given is c.in_ok-leaves.leaves (c.in_ok-leaves.ensures.edited entries (held_of _ _ _ _ _ now) (omega arith) can) in
       let next = has_next _ _ c.in_ok-leaves.leaves (changes_meant link_of c.in_ok-next.next.items) edit (nodes_old (number_of c.args.tree) entries (changes_of c.args.changes.now) is.is_tree is.has is.changed_has 0 (omega arith))
@@ -53,8 +53,8 @@ levels-init g c = record {
       (reasons_leaves _ _ c.args.changes.now (number_of c.args.tree) entries _ given is c.in_ok-leaves.leaves.olds.items (c.in_ok-leaves.ensures.reasons entries (held_of _ _ _ _ _ now) (omega arith) can)) next;
 }
 
-pub step_inner-requires : goal.step_inner-requires
-step_inner-requires g c = λ k.
+pub change_level-requires-in-levels : goal.change_level-requires-in-levels
+change_level-requires-in-levels g c = λ k.
     let (entries, is, height, some) = c.requires in
     let on = c.goes_on.ensures.0 c.levels-test.true in
     let state = c.levels.invariant.state entries is height in
@@ -74,13 +74,13 @@ pub levels-preserved : goal.levels-preserved
 levels-preserved g c =
     let on = c.goes_on.ensures.0 c.levels-test.true in
     record {
-      stays = λ x. ((λ h. (c.levels.invariant.stays x).0 ((c.step_inner.ensures.stays x).0 h)), (λ h. (c.step_inner.ensures.stays x).1 ((c.levels.invariant.stays x).1 h)));
-      grows = λ x h. c.step_inner.ensures.grows x (c.levels.invariant.grows x h);
+      stays = λ x. ((λ h. (c.levels.invariant.stays x).0 ((c.change_level-in-levels.ensures.stays x).0 h)), (λ h. (c.change_level-in-levels.ensures.stays x).1 ((c.levels.invariant.stays x).1 h)));
+      grows = λ x h. c.change_level-in-levels.ensures.grows x (c.levels.invariant.grows x h);
       low = omega (arith, on.0);
       count = omega (arith, ap length c.in_ok-push-2.ensures.items, length-append c.levels.edits.items (c.in_ok-edit.edit ∷ []), c.levels.invariant.count);
       used = λ entries is height x h.
           let below : c.levels.level + 1 < length (levels Two (number_of c.args.tree) entries) = omega (arith, on.0) in
-          let now = old_then _ (g.S.Shelf.holds c.step_inner.new.shelf) _ _ _ _ (λ y k. (c.step_inner.ensures.stays y).1 ((c.levels.invariant.stays y).1 k)) is in
+          let now = old_then _ (g.S.Shelf.holds c.change_level-in-levels.new.shelf) _ _ _ _ (λ y k. (c.change_level-in-levels.ensures.stays y).1 ((c.levels.invariant.stays y).1 k)) is in
           read_more (levels Two (number_of c.args.tree) entries) (c.levels.level + 1) c.levels.edits.items c.push-in-levels.new.self.items c.in_ok-edit.edit x (g.S.Shelf.used c.args.shelf.now x) (g.S.Shelf.used c.levels.shelf x)
           c.in_ok-push-2.ensures.items c.levels.invariant.count (c.levels.invariant.used entries is height x)
           (c.in_ok-edit.ensures.used entries (held_of _ _ _ _ _ now) below x h);
@@ -89,7 +89,7 @@ levels-preserved g c =
           let given : changes_meant link_of c.as_slice-in-levels-2.result.now ≡ changes_meant link_of c.levels.next.items = ap (changes_meant link_of) c.as_slice-in-levels-2.ensures.value in
           let has : 1 ≤ length (changes_meant link_of c.levels.next.items) = omega (arith, on.1, ap length c.as_slice-in-levels.ensures.value, length-map c.levels.next.items (change_meant link_of)) in
           let below : c.levels.level + 1 < length (levels Two (number_of c.args.tree) entries) = omega (arith, on.0) in
-          let now = old_then _ (g.S.Shelf.holds c.step_inner.new.shelf) _ _ _ _ (λ x h. (c.step_inner.ensures.stays x).1 ((c.levels.invariant.stays x).1 h)) is in
+          let now = old_then _ (g.S.Shelf.holds c.change_level-in-levels.new.shelf) _ _ _ _ (λ x h. (c.change_level-in-levels.ensures.stays x).1 ((c.levels.invariant.stays x).1 h)) is in
           let gives = c.in_ok-edit.ensures.edited entries (held_of _ _ _ _ _ now) below
           (given_inner _ _ c.args.changes.now (number_of c.args.tree) entries is c.levels.level (c.levels.level + 1) (add-one c.levels.level) below _ _ given state.next has) in
           let edit = edit_inner _ _ c.args.changes.now (number_of c.args.tree) entries is c.levels.level (c.levels.level + 1) (add-one c.levels.level) below _ state.next c.in_ok-edit.edit
@@ -104,7 +104,7 @@ levels-preserved g c =
           let given : changes_meant link_of c.as_slice-in-levels-2.result.now ≡ changes_meant link_of c.levels.next.items = ap (changes_meant link_of) c.as_slice-in-levels-2.ensures.value in
           let has : 1 ≤ length (changes_meant link_of c.levels.next.items) = omega (arith, on.1, ap length c.as_slice-in-levels.ensures.value, length-map c.levels.next.items (change_meant link_of)) in
           let below : c.levels.level + 1 < length (levels Two (number_of c.args.tree) entries) = omega (arith, on.0) in
-          let now = old_then _ (g.S.Shelf.holds c.step_inner.new.shelf) _ _ _ _ (λ x h. (c.step_inner.ensures.stays x).1 ((c.levels.invariant.stays x).1 h)) is in
+          let now = old_then _ (g.S.Shelf.holds c.change_level-in-levels.new.shelf) _ _ _ _ (λ x h. (c.change_level-in-levels.ensures.stays x).1 ((c.levels.invariant.stays x).1 h)) is in
           let can = given_inner _ _ c.args.changes.now (number_of c.args.tree) entries is c.levels.level (c.levels.level + 1) (add-one c.levels.level) below _ _ given state.next has in
           let gives = c.in_ok-edit.ensures.edited entries (held_of _ _ _ _ _ now) below can in
           let edit = edit_inner _ _ c.args.changes.now (number_of c.args.tree) entries is c.levels.level (c.levels.level + 1) (add-one c.levels.level) below _ state.next c.in_ok-edit.edit
@@ -139,17 +139,17 @@ returns-clause-reasons g c = λ entries is height.
 
 pub returns-in_err-next-2-clause-stays : goal.returns-in_err-next-2-clause-stays
 returns-in_err-next-2-clause-stays g c =
-    λ x. ((λ h. (c.levels.invariant.stays x).0 ((c.step_inner.ensures.stays x).0 h)), (λ h. (c.step_inner.ensures.stays x).1 ((c.levels.invariant.stays x).1 h)))
+    λ x. ((λ h. (c.levels.invariant.stays x).0 ((c.change_level-in-levels.ensures.stays x).0 h)), (λ h. (c.change_level-in-levels.ensures.stays x).1 ((c.levels.invariant.stays x).1 h)))
 
 pub returns-in_err-next-2-clause-grows : goal.returns-in_err-next-2-clause-grows
-returns-in_err-next-2-clause-grows g c = λ x h. c.step_inner.ensures.grows x (c.levels.invariant.grows x h)
+returns-in_err-next-2-clause-grows g c = λ x h. c.change_level-in-levels.ensures.grows x (c.levels.invariant.grows x h)
 
 pub returns-in_err-push-2-clause-stays : goal.returns-in_err-push-2-clause-stays
 returns-in_err-push-2-clause-stays g c =
-    λ x. ((λ h. (c.levels.invariant.stays x).0 ((c.step_inner.ensures.stays x).0 h)), (λ h. (c.step_inner.ensures.stays x).1 ((c.levels.invariant.stays x).1 h)))
+    λ x. ((λ h. (c.levels.invariant.stays x).0 ((c.change_level-in-levels.ensures.stays x).0 h)), (λ h. (c.change_level-in-levels.ensures.stays x).1 ((c.levels.invariant.stays x).1 h)))
 
 pub returns-in_err-push-2-clause-grows : goal.returns-in_err-push-2-clause-grows
-returns-in_err-push-2-clause-grows g c = λ x h. c.step_inner.ensures.grows x (c.levels.invariant.grows x h)
+returns-in_err-push-2-clause-grows g c = λ x h. c.change_level-in-levels.ensures.grows x (c.levels.invariant.grows x h)
 
 pub returns-in_err-items-clause-stays : goal.returns-in_err-items-clause-stays
 returns-in_err-items-clause-stays g c = λ x. ((λ h. h), (λ h. h))
@@ -167,10 +167,10 @@ pub returns-in_err-items-clause-reasons : goal.returns-in_err-items-clause-reaso
 returns-in_err-items-clause-reasons g c = λ entries is height. if_err _ c.from_residual.result c.from_residual.ensures.0
 
 pub returns-in_err-leaves-clause-stays : goal.returns-in_err-leaves-clause-stays
-returns-in_err-leaves-clause-stays g c = c.step_leaves.ensures.stays
+returns-in_err-leaves-clause-stays g c = c.change_level.ensures.stays
 
 pub returns-in_err-leaves-clause-grows : goal.returns-in_err-leaves-clause-grows
-returns-in_err-leaves-clause-grows g c = c.step_leaves.ensures.grows
+returns-in_err-leaves-clause-grows g c = c.change_level.ensures.grows
 
 pub returns-in_err-leaves-clause-edited : goal.returns-in_err-leaves-clause-edited
 returns-in_err-leaves-clause-edited g c = λ entries is height. if_err _ c.from_residual-in_err-leaves.result c.from_residual-in_err-leaves.ensures.0
@@ -182,10 +182,10 @@ pub returns-in_err-leaves-clause-reasons : goal.returns-in_err-leaves-clause-rea
 returns-in_err-leaves-clause-reasons g c = λ entries is height. if_err _ c.from_residual-in_err-leaves.result c.from_residual-in_err-leaves.ensures.0
 
 pub returns-in_err-next-clause-stays : goal.returns-in_err-next-clause-stays
-returns-in_err-next-clause-stays g c = c.step_leaves.ensures.stays
+returns-in_err-next-clause-stays g c = c.change_level.ensures.stays
 
 pub returns-in_err-next-clause-grows : goal.returns-in_err-next-clause-grows
-returns-in_err-next-clause-grows g c = c.step_leaves.ensures.grows
+returns-in_err-next-clause-grows g c = c.change_level.ensures.grows
 
 pub returns-in_err-next-clause-edited : goal.returns-in_err-next-clause-edited
 returns-in_err-next-clause-edited g c = λ entries is height. if_err _ c.from_residual-in_err-next.result c.from_residual-in_err-next.ensures.0
@@ -197,10 +197,10 @@ pub returns-in_err-next-clause-reasons : goal.returns-in_err-next-clause-reasons
 returns-in_err-next-clause-reasons g c = λ entries is height. if_err _ c.from_residual-in_err-next.result c.from_residual-in_err-next.ensures.0
 
 pub returns-in_err-push-clause-stays : goal.returns-in_err-push-clause-stays
-returns-in_err-push-clause-stays g c = c.step_leaves.ensures.stays
+returns-in_err-push-clause-stays g c = c.change_level.ensures.stays
 
 pub returns-in_err-push-clause-grows : goal.returns-in_err-push-clause-grows
-returns-in_err-push-clause-grows g c = c.step_leaves.ensures.grows
+returns-in_err-push-clause-grows g c = c.change_level.ensures.grows
 
 pub returns-in_err-push-clause-edited : goal.returns-in_err-push-clause-edited
 returns-in_err-push-clause-edited g c = λ entries is height. if_err _ c.from_residual-in_err-push.result c.from_residual-in_err-push.ensures.0
@@ -213,10 +213,10 @@ returns-in_err-push-clause-reasons g c = λ entries is height. if_err _ c.from_r
 
 pub returns-in_err-edit-clause-stays : goal.returns-in_err-edit-clause-stays
 returns-in_err-edit-clause-stays g c =
-    λ x. ((λ h. (c.levels.invariant.stays x).0 ((c.step_inner.ensures.stays x).0 h)), (λ h. (c.step_inner.ensures.stays x).1 ((c.levels.invariant.stays x).1 h)))
+    λ x. ((λ h. (c.levels.invariant.stays x).0 ((c.change_level-in-levels.ensures.stays x).0 h)), (λ h. (c.change_level-in-levels.ensures.stays x).1 ((c.levels.invariant.stays x).1 h)))
 
 pub returns-in_err-edit-clause-grows : goal.returns-in_err-edit-clause-grows
-returns-in_err-edit-clause-grows g c = λ x h. c.step_inner.ensures.grows x (c.levels.invariant.grows x h)
+returns-in_err-edit-clause-grows g c = λ x h. c.change_level-in-levels.ensures.grows x (c.levels.invariant.grows x h)
 
 pub returns-in_err-edit-clause-edited : goal.returns-in_err-edit-clause-edited
 returns-in_err-edit-clause-edited g c = λ entries is height. if_err _ c.from_residual-in_err-edit.result c.from_residual-in_err-edit.ensures.0

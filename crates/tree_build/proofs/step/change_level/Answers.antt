@@ -1,10 +1,8 @@
 use Rattle.std.proofs.Common.{List, ◌⊎◌, inl, length, map, refl, sym, ap, subst, arith}
-use Rattle.std.specs.List.{flat_map}
-use Rattle.tree_node.specs.NodeRefs.{link_of, node_read, number_of}
-use Rattle.tree_node.specs.Nodes.{Inner, Link}
-use Rattle.tree_node.specs.Trees.{Two, ends_by, is_marked_link, level_at, levels, links_in, pieces}
-use Rattle.tree_build.specs.internal.Building.{AreWithin}
-use Rattle.tree_build.specs.internal.FitLaws.{links_parts}
+use Rattle.std.specs.List.{AllByRecursion, flat_map}
+use Rattle.tree_node.specs.NodeRefs.{node_read, number_of}
+use Rattle.tree_node.specs.Nodes.{Binding}
+use Rattle.tree_node.specs.Trees.{Two, ends_by, level_at, levels, pieces}
 use Rattle.tree_build.proofs.DescentLemmas.{level_some_at}
 use Rattle.tree_build.proofs.SeekStates.{held_then}
 use Rattle.tree_build.specs.Changing.{changed}
@@ -17,7 +15,7 @@ use Rattle.tree_build.proofs.MarkLemmas.{sought_inside}
 use Rattle.tree_build.proofs.UsedLemmas.{way_more}
 use Rattle.tree_build.proofs.StepLoops.{edit_of, end_state, falls, some_of, start_state, turn, went_then, within_rest}
 use Rattle.tree_build.proofs.ErrLemmas.{if_err}
-use Rattle.tree_build.proofs.step.step_inner.Goals as goal
+use Rattle.tree_build.proofs.step.change_level.Goals as goal
 
 pub loop-wanted-init : goal.loop-wanted-init
 loop-wanted-init g c = record {
@@ -25,9 +23,9 @@ loop-wanted-init g c = record {
   grows = λ x h. h;
   used = λ entries is lt x h. inl h;
   state = λ entries is lt can.
-      start_state link_of (λ (link : Link). link.greatest) (ends_by Two is_marked_link) links_in (Inner (number_of c.args.place.tree) c.args.place.level) AreWithin (level_at (levels Two (number_of c.args.place.tree) entries) c.args.place.level) c.args.changes.now can (level_some_at (number_of c.args.place.tree) entries c.args.place.level lt) _ _ _
+      start_state g.T.NodeItem.meaning g.T.NodeItem.key_in (ends_by Two g.T.NodeItem.marked_in) g.T.NodeItem.items_in (g.T.NodeItem.node_over (number_of c.args.place.tree) c.args.place.level) g.T.NodeItem.Fit (level_at (levels Two (number_of c.args.place.tree) entries) c.args.place.level) c.args.changes.now can (level_some_at (number_of c.args.place.tree) entries c.args.place.level lt) _ _ _
       c.start-work.ensures.olds c.start-work.ensures.news c.start-work.ensures.hand;
-  reasons = λ entries is lt can. first_reasons link_of (λ (link : Link). link.greatest) (ends_by Two is_marked_link) links_in (Inner (number_of c.args.place.tree) c.args.place.level) AreWithin (level_at (levels Two (number_of c.args.place.tree) entries) c.args.place.level) c.args.changes.now can (λ p. refl) c.start-work.result.olds.items c.start-work.ensures.olds;
+  reasons = λ entries is lt can. first_reasons g.T.NodeItem.meaning g.T.NodeItem.key_in (ends_by Two g.T.NodeItem.marked_in) g.T.NodeItem.items_in (g.T.NodeItem.node_over (number_of c.args.place.tree) c.args.place.level) g.T.NodeItem.Fit (level_at (levels Two (number_of c.args.place.tree) entries) c.args.place.level) c.args.changes.now can (g.met.T.NodeItem.same_items (number_of c.args.place.tree) c.args.place.level) c.start-work.result.olds.items c.start-work.ensures.olds;
   few = omega (arith, ap length c.start-work.ensures.hand);
   within = omega arith;
 }
@@ -49,21 +47,21 @@ take-requires g c κs =
     let (entries, is, lt, can) = c.requires in
     let held_now = held_then (g.S.Shelf.holds c.args.shelf.now) (g.S.Shelf.holds c.seek.new.shelf) c.args.place.top.0 (number_of c.args.place.tree) entries
     (λ x h. (c.seek.ensures.stays x).1 ((c.loop-wanted.invariant.stays x).1 h)) is in
-    let t = turn link_of (λ (link : Link). link.greatest) (ends_by Two is_marked_link) links_in (Inner (number_of c.args.place.tree) c.args.place.level) AreWithin (level_at (levels Two (number_of c.args.place.tree) entries) c.args.place.level) c.args.changes.now can links_parts _ _ c.loop-wanted.work.hand.items c.loop-wanted.done (c.loop-wanted.invariant.state entries is lt can) (c.in-Some.wanted, c.in-Some.above) c.in-Some.ensures
+    let t = turn g.T.NodeItem.meaning g.T.NodeItem.key_in (ends_by Two g.T.NodeItem.marked_in) g.T.NodeItem.items_in (g.T.NodeItem.node_over (number_of c.args.place.tree) c.args.place.level) g.T.NodeItem.Fit (level_at (levels Two (number_of c.args.place.tree) entries) c.args.place.level) c.args.changes.now can g.met.T.NodeItem.parts _ _ c.loop-wanted.work.hand.items c.loop-wanted.done (c.loop-wanted.invariant.state entries is lt can) (c.in-Some.wanted, c.in-Some.above) c.in-Some.ensures
     (levels Two (number_of c.args.place.tree) entries) c.args.place.level refl (node_read c.in_ok-found.found.node) c.in_ok-found.is_last (c.in_ok-found.ensures.node (number_of c.args.place.tree) entries held_now lt)
     c.in_ok-found.found.old c.in_ok-found.ensures.old c.count_up_to.result c.count_up_to.ensures.last c.count_up_to.ensures.up_to c.count_up_to.ensures.above in
     let inside = sought_inside (number_of c.args.place.tree) entries c.args.place.level lt _ _ (node_read c.in_ok-found.found.node) c.in_ok-found.is_last (c.in_ok-found.ensures.node (number_of c.args.place.tree) entries held_now lt) in
-    ((refl, tt), (c.loop-wanted.invariant.few, (t.own, (t.fit, inside.links))))
+    ((refl, tt), (c.loop-wanted.invariant.few, (t.own, (t.fit, g.met.T.NodeItem.unmarked (node_read c.in_ok-found.found.node) inside))))
 
 pub loop-wanted-smaller : goal.loop-wanted-smaller
 loop-wanted-smaller g c =
     let (entries, is, lt, can) = c.requires in
     let held_now = held_then (g.S.Shelf.holds c.args.shelf.now) (g.S.Shelf.holds c.seek.new.shelf) c.args.place.top.0 (number_of c.args.place.tree) entries
     (λ x h. (c.seek.ensures.stays x).1 ((c.loop-wanted.invariant.stays x).1 h)) is in
-    let t = turn link_of (λ (link : Link). link.greatest) (ends_by Two is_marked_link) links_in (Inner (number_of c.args.place.tree) c.args.place.level) AreWithin (level_at (levels Two (number_of c.args.place.tree) entries) c.args.place.level) c.args.changes.now can links_parts _ _ c.loop-wanted.work.hand.items c.loop-wanted.done (c.loop-wanted.invariant.state entries is lt can) (c.in-Some.wanted, c.in-Some.above) c.in-Some.ensures
+    let t = turn g.T.NodeItem.meaning g.T.NodeItem.key_in (ends_by Two g.T.NodeItem.marked_in) g.T.NodeItem.items_in (g.T.NodeItem.node_over (number_of c.args.place.tree) c.args.place.level) g.T.NodeItem.Fit (level_at (levels Two (number_of c.args.place.tree) entries) c.args.place.level) c.args.changes.now can g.met.T.NodeItem.parts _ _ c.loop-wanted.work.hand.items c.loop-wanted.done (c.loop-wanted.invariant.state entries is lt can) (c.in-Some.wanted, c.in-Some.above) c.in-Some.ensures
     (levels Two (number_of c.args.place.tree) entries) c.args.place.level refl (node_read c.in_ok-found.found.node) c.in_ok-found.is_last (c.in_ok-found.ensures.node (number_of c.args.place.tree) entries held_now lt)
     c.in_ok-found.found.old c.in_ok-found.ensures.old c.count_up_to.result c.count_up_to.ensures.last c.count_up_to.ensures.up_to c.count_up_to.ensures.above in
-    falls link_of (λ (link : Link). link.greatest) (ends_by Two is_marked_link) links_in (Inner (number_of c.args.place.tree) c.args.place.level) AreWithin (level_at (levels Two (number_of c.args.place.tree) entries) c.args.place.level) c.args.changes.now can _ _ _ t.room c.in_ok-take.ensures.olds
+    falls g.T.NodeItem.meaning g.T.NodeItem.key_in (ends_by Two g.T.NodeItem.marked_in) g.T.NodeItem.items_in (g.T.NodeItem.node_over (number_of c.args.place.tree) c.args.place.level) g.T.NodeItem.Fit (level_at (levels Two (number_of c.args.place.tree) entries) c.args.place.level) c.args.changes.now can _ _ _ t.room c.in_ok-take.ensures.olds
 
 pub loop-wanted-preserved : goal.loop-wanted-preserved
 loop-wanted-preserved g c = record {
@@ -78,14 +76,14 @@ loop-wanted-preserved g c = record {
   state = λ entries is lt can.
       let held_now = held_then (g.S.Shelf.holds c.args.shelf.now) (g.S.Shelf.holds c.seek.new.shelf) c.args.place.top.0 (number_of c.args.place.tree) entries
       (λ x h. (c.seek.ensures.stays x).1 ((c.loop-wanted.invariant.stays x).1 h)) is in
-      let t = turn link_of (λ (link : Link). link.greatest) (ends_by Two is_marked_link) links_in (Inner (number_of c.args.place.tree) c.args.place.level) AreWithin (level_at (levels Two (number_of c.args.place.tree) entries) c.args.place.level) c.args.changes.now can links_parts _ _ c.loop-wanted.work.hand.items c.loop-wanted.done (c.loop-wanted.invariant.state entries is lt can) (c.in-Some.wanted, c.in-Some.above) c.in-Some.ensures
+      let t = turn g.T.NodeItem.meaning g.T.NodeItem.key_in (ends_by Two g.T.NodeItem.marked_in) g.T.NodeItem.items_in (g.T.NodeItem.node_over (number_of c.args.place.tree) c.args.place.level) g.T.NodeItem.Fit (level_at (levels Two (number_of c.args.place.tree) entries) c.args.place.level) c.args.changes.now can g.met.T.NodeItem.parts _ _ c.loop-wanted.work.hand.items c.loop-wanted.done (c.loop-wanted.invariant.state entries is lt can) (c.in-Some.wanted, c.in-Some.above) c.in-Some.ensures
       (levels Two (number_of c.args.place.tree) entries) c.args.place.level refl (node_read c.in_ok-found.found.node) c.in_ok-found.is_last (c.in_ok-found.ensures.node (number_of c.args.place.tree) entries held_now lt)
       c.in_ok-found.found.old c.in_ok-found.ensures.old c.count_up_to.result c.count_up_to.ensures.last c.count_up_to.ensures.up_to c.count_up_to.ensures.above in
-      went_then link_of (λ (link : Link). link.greatest) (ends_by Two is_marked_link) links_in (Inner (number_of c.args.place.tree) c.args.place.level) AreWithin (level_at (levels Two (number_of c.args.place.tree) entries) c.args.place.level) c.args.changes.now can _ _ _ _ _ _ _ _ t _ _ c.take.new.work.hand.items c.in_ok-take.ensures.olds c.in_ok-take.ensures.went_on;
+      went_then g.T.NodeItem.meaning g.T.NodeItem.key_in (ends_by Two g.T.NodeItem.marked_in) g.T.NodeItem.items_in (g.T.NodeItem.node_over (number_of c.args.place.tree) c.args.place.level) g.T.NodeItem.Fit (level_at (levels Two (number_of c.args.place.tree) entries) c.args.place.level) c.args.changes.now can _ _ _ _ _ _ _ _ t _ _ c.take.new.work.hand.items c.in_ok-take.ensures.olds c.in_ok-take.ensures.went_on;
   reasons = λ entries is lt can.
       let held_now = held_then (g.S.Shelf.holds c.args.shelf.now) (g.S.Shelf.holds c.seek.new.shelf) c.args.place.top.0 (number_of c.args.place.tree) entries
       (λ x h. (c.seek.ensures.stays x).1 ((c.loop-wanted.invariant.stays x).1 h)) is in
-      next_reasons link_of (λ (link : Link). link.greatest) (ends_by Two is_marked_link) links_in (Inner (number_of c.args.place.tree) c.args.place.level) AreWithin (level_at (levels Two (number_of c.args.place.tree) entries) c.args.place.level) c.args.changes.now can (λ p. refl) links_parts _ _ c.loop-wanted.work.hand.items c.loop-wanted.done (c.loop-wanted.invariant.state entries is lt can) (c.in-Some.wanted, c.in-Some.above) c.in-Some.ensures
+      next_reasons g.T.NodeItem.meaning g.T.NodeItem.key_in (ends_by Two g.T.NodeItem.marked_in) g.T.NodeItem.items_in (g.T.NodeItem.node_over (number_of c.args.place.tree) c.args.place.level) g.T.NodeItem.Fit (level_at (levels Two (number_of c.args.place.tree) entries) c.args.place.level) c.args.changes.now can (g.met.T.NodeItem.same_items (number_of c.args.place.tree) c.args.place.level) g.met.T.NodeItem.parts _ _ c.loop-wanted.work.hand.items c.loop-wanted.done (c.loop-wanted.invariant.state entries is lt can) (c.in-Some.wanted, c.in-Some.above) c.in-Some.ensures
       (levels Two (number_of c.args.place.tree) entries) c.args.place.level refl (node_read c.in_ok-found.found.node) c.in_ok-found.is_last (c.in_ok-found.ensures.node (number_of c.args.place.tree) entries held_now lt)
       c.in_ok-found.found.old c.in_ok-found.ensures.old c.count_up_to.result c.count_up_to.ensures.last c.count_up_to.ensures.up_to c.count_up_to.ensures.above (c.loop-wanted.invariant.reasons entries is lt can) c.take.new.work.olds.items c.in_ok-take.ensures.olds;
   few = c.in_ok-take.ensures.few;
@@ -95,14 +93,14 @@ loop-wanted-preserved g c = record {
 pub returns-clause-edited : goal.returns-clause-edited
 returns-clause-edited g c = λ entries is lt can.
     let was = held_then (g.S.Shelf.holds c.loop-wanted.shelf) (g.S.Shelf.holds c.args.shelf.now) c.args.place.top.0 (number_of c.args.place.tree) entries (λ x h. (c.loop-wanted.invariant.stays x).0 h) is in
-    let done = end_state link_of (λ (link : Link). link.greatest) (ends_by Two is_marked_link) links_in (Inner (number_of c.args.place.tree) c.args.place.level) AreWithin (level_at (levels Two (number_of c.args.place.tree) entries) c.args.place.level) c.args.changes.now can _ _ c.loop-wanted.work.hand.items c.loop-wanted.done (c.loop-wanted.invariant.state entries was lt can) c.in_default.ensures in
-    edit_of link_of (λ (link : Link). link.greatest) (ends_by Two is_marked_link) links_in (Inner (number_of c.args.place.tree) c.args.place.level) AreWithin (level_at (levels Two (number_of c.args.place.tree) entries) c.args.place.level) c.args.changes.now can _ _ done c.finish.result (ap (λ v. v.items) c.finish.ensures.olds) (ap (λ v. v.items) c.finish.ensures.news)
+    let done = end_state g.T.NodeItem.meaning g.T.NodeItem.key_in (ends_by Two g.T.NodeItem.marked_in) g.T.NodeItem.items_in (g.T.NodeItem.node_over (number_of c.args.place.tree) c.args.place.level) g.T.NodeItem.Fit (level_at (levels Two (number_of c.args.place.tree) entries) c.args.place.level) c.args.changes.now can _ _ c.loop-wanted.work.hand.items c.loop-wanted.done (c.loop-wanted.invariant.state entries was lt can) c.in_default.ensures in
+    edit_of g.T.NodeItem.meaning g.T.NodeItem.key_in (ends_by Two g.T.NodeItem.marked_in) g.T.NodeItem.items_in (g.T.NodeItem.node_over (number_of c.args.place.tree) c.args.place.level) g.T.NodeItem.Fit (level_at (levels Two (number_of c.args.place.tree) entries) c.args.place.level) c.args.changes.now can _ _ done c.finish.result (ap (λ v. v.items) c.finish.ensures.olds) (ap (λ v. v.items) c.finish.ensures.news)
 
 pub returns-clause-some : goal.returns-clause-some
 returns-clause-some g c =
     let (entries, is, lt, can) = c.requires in
-    let done = end_state link_of (λ (link : Link). link.greatest) (ends_by Two is_marked_link) links_in (Inner (number_of c.args.place.tree) c.args.place.level) AreWithin (level_at (levels Two (number_of c.args.place.tree) entries) c.args.place.level) c.args.changes.now can _ _ c.loop-wanted.work.hand.items c.loop-wanted.done (c.loop-wanted.invariant.state entries is lt can) c.in_default.ensures in
-    some_of link_of (λ (link : Link). link.greatest) (ends_by Two is_marked_link) links_in (Inner (number_of c.args.place.tree) c.args.place.level) AreWithin (level_at (levels Two (number_of c.args.place.tree) entries) c.args.place.level) c.args.changes.now can _ _ done c.finish.result (ap (λ v. v.items) c.finish.ensures.olds)
+    let done = end_state g.T.NodeItem.meaning g.T.NodeItem.key_in (ends_by Two g.T.NodeItem.marked_in) g.T.NodeItem.items_in (g.T.NodeItem.node_over (number_of c.args.place.tree) c.args.place.level) g.T.NodeItem.Fit (level_at (levels Two (number_of c.args.place.tree) entries) c.args.place.level) c.args.changes.now can _ _ c.loop-wanted.work.hand.items c.loop-wanted.done (c.loop-wanted.invariant.state entries is lt can) c.in_default.ensures in
+    some_of g.T.NodeItem.meaning g.T.NodeItem.key_in (ends_by Two g.T.NodeItem.marked_in) g.T.NodeItem.items_in (g.T.NodeItem.node_over (number_of c.args.place.tree) c.args.place.level) g.T.NodeItem.Fit (level_at (levels Two (number_of c.args.place.tree) entries) c.args.place.level) c.args.changes.now can _ _ done c.finish.result (ap (λ v. v.items) c.finish.ensures.olds)
 
 pub returns-in_err-take-clause-stays : goal.returns-in_err-take-clause-stays
 returns-in_err-take-clause-stays g c =
@@ -118,10 +116,10 @@ pub returns-clause-reasons : goal.returns-clause-reasons
 returns-clause-reasons g c = λ entries is lt can.
     let was = held_then (g.S.Shelf.holds c.loop-wanted.shelf) (g.S.Shelf.holds c.args.shelf.now) c.args.place.top.0 (number_of c.args.place.tree) entries (λ x h. (c.loop-wanted.invariant.stays x).0 h) is in
     let nodes = level_at (levels Two (number_of c.args.place.tree) entries) c.args.place.level in
-    let keys = keys_changed (changes_meant link_of c.args.changes.now) in
-    let new = map (Inner (number_of c.args.place.tree) c.args.place.level) (pieces (ends_by Two is_marked_link) (changed (λ (link : Link). link.greatest) (flat_map links_in nodes) (changes_meant link_of c.args.changes.now))) in
+    let keys = keys_changed (changes_meant g.T.NodeItem.meaning c.args.changes.now) in
+    let new = map (g.T.NodeItem.node_over (number_of c.args.place.tree) c.args.place.level) (pieces (ends_by Two g.T.NodeItem.marked_in) (changed g.T.NodeItem.key_in (flat_map g.T.NodeItem.items_in nodes) (changes_meant g.T.NodeItem.meaning c.args.changes.now))) in
     subst (λ (os : List OldNode). HaveReasons nodes new keys keys os) (sym (ap (λ v. v.items) c.finish.ensures.olds))
-    (last_reasons link_of (λ (link : Link). link.greatest) (ends_by Two is_marked_link) links_in (Inner (number_of c.args.place.tree) c.args.place.level) AreWithin (level_at (levels Two (number_of c.args.place.tree) entries) c.args.place.level) c.args.changes.now can (λ p. refl) c.loop-wanted.work.olds.items c.loop-wanted.work.news.items c.loop-wanted.work.hand.items c.loop-wanted.done (c.loop-wanted.invariant.state entries was lt can) c.in_default.ensures (c.loop-wanted.invariant.reasons entries was lt can))
+    (last_reasons g.T.NodeItem.meaning g.T.NodeItem.key_in (ends_by Two g.T.NodeItem.marked_in) g.T.NodeItem.items_in (g.T.NodeItem.node_over (number_of c.args.place.tree) c.args.place.level) g.T.NodeItem.Fit (level_at (levels Two (number_of c.args.place.tree) entries) c.args.place.level) c.args.changes.now can (g.met.T.NodeItem.same_items (number_of c.args.place.tree) c.args.place.level) c.loop-wanted.work.olds.items c.loop-wanted.work.news.items c.loop-wanted.work.hand.items c.loop-wanted.done (c.loop-wanted.invariant.state entries was lt can) c.in_default.ensures (c.loop-wanted.invariant.reasons entries was lt can))
 
 pub returns-in_err-found-clause-edited : goal.returns-in_err-found-clause-edited
 returns-in_err-found-clause-edited g c = λ entries is lt can. if_err _ c.from_residual.result c.from_residual.ensures.0
