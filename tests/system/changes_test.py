@@ -7,8 +7,9 @@ import shutil
 import tempfile
 from concurrent.futures import ThreadPoolExecutor
 from contextlib import contextmanager
-from itertools import count
+from itertools import chain, count
 from pathlib import Path
+from threading import Lock
 
 from lines_rows_test import set_file
 from runs import PROGRAM, Outcome, Tally, built_library, run
@@ -18,7 +19,7 @@ ROOT_REQUEST = b"GET /api/root HTTP/1.1\r\nConnection: close\r\n\r\n"
 
 DELETE_WAY = b"w10 v2 dD\n"
 
-CONNECTIONS, REQUESTS, BATCH = 1_000, 100, 10
+CONNECTIONS, AT_A_TIME, REQUESTS, BATCH = 1_000, 64, 100, 10
 
 QUERIES = [b"node(1);out;", b'node["k"="v1"];out;', b"way(bn);out ids;", b"node(50,10,50.1,10.1);way(bn);out;"]
 
@@ -213,9 +214,39 @@ def responses(running, batches):
     return got
 
 
+class Soak:
+    """Connections that come one after the other, so many at a time, each after one more change file."""
+
+    def __init__(self, running, ready, changes):
+        self.running = running
+        self.ready = ready
+        self.changes = changes
+        self.coming = iter(range(1, CONNECTIONS + 1))
+        self.lock = Lock()
+        self.early = None
+
+    def next_connection(self):
+        """The number of the next connection, whose change file is there now; none after the last."""
+        with self.lock:
+            number = next(self.coming, None)
+            if number is not None:
+                (self.ready / f"{number}.opl").rename(self.changes / f"{number}.opl")
+            if number == CONNECTIONS // 2:
+                self.early = self.running.peak_kib(), self.running.descriptors()
+        return number
+
+    def answers(self, queries, batches):
+        """What one client gets, which makes one connection after the other: each query with the head and the body of its
+        response."""
+        got = []
+        while self.next_connection() is not None:
+            got += zip(queries, responses(self.running, batches))
+        return got
+
+
 def check_soak(tally):
-    """100,000 requests while 1,000 change files come: no more memory, and each answer is right by `check` under the root
-    that it names, which is the one that the publisher published."""
+    """100,000 requests, 64 connections at a time, while 1,000 change files come: no more memory, no more descriptors, and
+    each answer is right by `check` under the root that it names, which is one that the publisher published."""
     queries = [QUERIES[number % len(QUERIES)] for number in range(REQUESTS)]
     asked = [
         b"POST /api/checked HTTP/1.1\r\nContent-Length: %d\r\n%s\r\n%s"
@@ -223,27 +254,28 @@ def check_soak(tally):
         for number, query in enumerate(queries)
     ]
     batches = [b"".join(asked[first:first + BATCH]) for first in range(0, REQUESTS, BATCH)]
-    distinct, met, early = {}, 0, None
+    distinct, met = {}, 0
     with folders() as (changes, ready):
         base, roots = soak_sets(ready, random.Random(23))
+        published_roots = set(roots)
         # The last connection comes once the memory has been looked at.
         with server(base, "--connections", CONNECTIONS + 1, "--changes", changes) as running:
-            for sequence in range(1, CONNECTIONS + 1):
-                (ready / f"{sequence}.opl").rename(changes / f"{sequence}.opl")
-                for query, (head, body) in zip(queries, responses(running, batches)):
-                    root, length = body[:32], int.from_bytes(body[32:40], "big")
-                    named = b"Osm-Root: " + roots[sequence] in head and root.hex().encode() == roots[sequence]
-                    met += head[:1] == [b"HTTP/1.1 200 OK"] and named
-                    distinct[roots[sequence], query, body[40:40 + length], body[40 + length:]] = None
-                if sequence == CONNECTIONS // 10:
-                    early = running.peak_kib()
-            late = running.peak_kib()
+            soak = Soak(running, ready, changes)
+            with ThreadPoolExecutor(AT_A_TIME) as clients:
+                got = list(clients.map(lambda _: soak.answers(queries, batches), range(AT_A_TIME)))
+            late = running.peak_kib(), running.descriptors()
             tally.check("the last root", root_at(running) == roots[CONNECTIONS])
             outcome = running.ended()
+        for query, (head, body) in chain.from_iterable(got):
+            root, length = body[:32].hex().encode(), int.from_bytes(body[32:40], "big")
+            met += head[:1] == [b"HTTP/1.1 200 OK"] and b"Osm-Root: " + root in head and root in published_roots
+            distinct[root, query, body[40:40 + length], body[40 + length:]] = None
         tally.check("the requests of the soak", met == CONNECTIONS * REQUESTS, met)
         tally.check("the soak ends", outcome == Outcome(b"", b"", 0), outcome)
-        tally.check("no more memory", late <= early + 256, early, late)
-        tally.check("one answer a root and query", len(distinct) == CONNECTIONS * len(QUERIES), len(distinct))
+        tally.check("no more memory", late[0] <= soak.early[0] + 1024, soak.early, late)
+        tally.check("no more descriptors", late[1] <= soak.early[1], soak.early, late)
+        tally.check("one answer a root and query", len(distinct) == len({it[:2] for it in distinct}), len(distinct))
+        tally.check("most roots were asked", len({it[0] for it in distinct}) > CONNECTIONS // 2, len({it[0] for it in distinct}))
 
         def verdict(numbered):
             number, (root, query, answer, proof) = numbered

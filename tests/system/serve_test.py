@@ -58,6 +58,10 @@ class Server:
         stdout, stderr = self.process.communicate(timeout=SECONDS)
         return Outcome(stdout, stderr, self.process.returncode)
 
+    def descriptors(self):
+        """How many files and sockets it has open."""
+        return len(os.listdir(f"/proc/{self.process.pid}/fd"))
+
     def peak_kib(self):
         """The most memory that it had so far."""
         text = Path(f"/proc/{self.process.pid}/status").read_text(encoding="ascii")

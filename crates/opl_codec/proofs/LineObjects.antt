@@ -30,7 +30,7 @@ use Rattle.opl_codec.specs.internal.LineObjects.{HoldsParts, LacksPlace}
 use Rattle.opl_codec.specs.declared.line_letter.LineLetter.TheVariants as letters
 use Rattle.opl_codec.specs.declared.line_parts.LineParts.{LineParts}
 use Rattle.opl_codec.proofs.TextsClean.{no_nul}
-use Rattle.opl_codec.proofs.shared.ReadLiterals.{all_places}
+use Rattle.osm_model.proofs.shared.Each.{all_places}
 
 -- ---- what a part keeps where it is there
 

@@ -5,8 +5,8 @@ use Rattle.std.specs.Str.Parse.{digits_value}
 use Rattle.std.proofs.lemmas.Bool.Decides.{nat_tests}
 use Rattle.osm_model.specs.Limits.{HasNoNul}
 use Rattle.opl_codec.specs.Texts.{is_free, Character, Itself, Escape, IsCharacter, meaning, SpellsText}
-use Rattle.opl_codec.proofs.shared.EncodedCharacters.{IsSome, encoded_some}
-use Rattle.opl_codec.proofs.shared.ReadLiterals.{all_append, all_places}
+use Rattle.osm_model.proofs.shared.EncodedCharacters.{IsSome, encoded_some}
+use Rattle.osm_model.proofs.shared.Each.{all_append, all_places}
 
 free_some : (byte : ℕ) → is_free byte ≡ true → byte ≢ 0
 free_some byte free e = grind (arith, nat_tests)

@@ -13,7 +13,7 @@ use Rattle.osm_model.specs.CanonicalLine.{is_literal, hex, hex_digits, hex_place
 use Rattle.osm_model.specs.Limits.{HasNoNul}
 use Rattle.opl_codec.specs.Fields.{Lacks}
 use Rattle.opl_codec.specs.Texts.{is_free, IsEscape, SpellsText}
-use Rattle.opl_codec.proofs.shared.ReadLiterals.{all_append}
+use Rattle.osm_model.proofs.shared.Each.{all_append}
 use Rattle.opl_codec.proofs.TextsJoined.{spells_none, spells_byte, spells_escape, spells_append}
 
 -- ---- the digits of a code point

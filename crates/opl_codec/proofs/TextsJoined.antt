@@ -7,7 +7,7 @@ use Rattle.std.proofs.lemmas.Grind.{flat_map-append}
 use Rattle.std.proofs.lemmas.List.{take_more, take_at, take-append-drop, drop_more, drop_all, take_all, length-take-le}
 use Rattle.opl_codec.specs.Texts.{is_free, IsEscape, Character, Itself, Escape, IsCharacter, spelling, meaning, SpellsText, IsText, BeginsEscape, BadEscapeIn, TextMisfit}
 use Rattle.opl_codec.specs.internal.TextParts.{EndsText, IsTextFront}
-use Rattle.opl_codec.proofs.shared.ReadLiterals.{all_append}
+use Rattle.osm_model.proofs.shared.Each.{all_append}
 use Rattle.opl_codec.proofs.TextsParts.{free_not_percent, digits_apart}
 
 pub spells_none : SpellsText [] []

@@ -13,4 +13,3 @@ pub mod ReadLiterals
 pub mod TextFields
 pub mod TextLaws
 pub mod ValueLaws
-pub mod EncodedCharacters

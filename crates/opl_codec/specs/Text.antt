@@ -6,8 +6,8 @@ use Rattle.std.specs.List.{join_with_byte}
 use Rattle.osm_model.specs.Bytes.{line_feed, space}
 use Rattle.osm_model.specs.Elements.{Element}
 use Rattle.osm_model.specs.CanonicalLine.{name_field, meta_fields, tags_field, body_fields}
-use Rattle.opl_codec.specs.declared.out_mode.OutMode.{OutMode}
-use Rattle.opl_codec.specs.declared.out_mode.OutMode.TheVariants as modes
+use Rattle.osm_model.specs.declared.out_mode.OutMode.{OutMode}
+use Rattle.osm_model.specs.declared.out_mode.OutMode.TheVariants as modes
 
 -- the fields that a mode keeps
 abbrev pub fields_of : Element → OutMode → List (List ℕ)

@@ -15,7 +15,7 @@ ghost use Rattle.opl_codec.specs.declared.line.TheConstants.{LONGEST_LINE};
 ghost use Rattle.opl_codec.specs.declared.piece_reader.TheConstants.{PIECE_LIMIT, READ_LIMIT};
 
 use crate::change::Change;
-use crate::out_mode::OutMode;
+use osm_model::OutMode;
 
 /// A law: the text of an object with all its fields (mode `Meta` of `write_object`) is its canonical
 /// line and an LF. That line has no LF within. `read_line` reads it: it puts the object, and says

@@ -29,7 +29,6 @@ mod member_item;
 mod moment;
 mod node_item;
 mod number;
-mod out_mode;
 mod piece_reader;
 mod read_text;
 mod references;
@@ -51,7 +50,7 @@ pub use laws::{limits_law, one_escaped_text, one_line, one_number_text, text_is_
 pub use line::{one_change, read_line};
 pub use line_reader::LineReader;
 pub use load::{one_change_list, one_set, read_changes, read_set, stopped_holds_none};
-pub use out_mode::OutMode;
+pub use osm_model::OutMode;
 pub use piece_reader::{PieceFault, PieceReader};
 pub use separator::cut;
 pub use write_line::write_object;

@@ -62,8 +62,8 @@ fn read_items<T: ListItem>(alloc: Global, text: &str) -> Result<Vec<T>, ValueFau
     while let Some(rest) = left {
         let (spelled, more) = first_piece(rest, b',');
         match T::read(alloc, spelled) {
-            Ok(item) => keep(item, &mut list)?,
-            Err(fault) => return Err(further(fault, text.len() - rest.len())),
+            Ok(item) => push_up_to_limit(item, &mut list)?,
+            Err(fault) => return Err(shifted_by(fault, text.len() - rest.len())),
         }
         left = more;
     }
@@ -79,7 +79,7 @@ fn room(text: &str) -> usize
 
 /// Adds the item, unless there is already one more than a list may have. So many are refused anyway;
 /// further ones are read only because one of them may be bad.
-fn keep<T: ListItem>(item: T, list: &mut Vec<T>) -> Result<(), AllocError>
+fn push_up_to_limit<T: ListItem>(item: T, list: &mut Vec<T>) -> Result<(), AllocError>
     ensures { (parts : List (List ℕ)) (spelled : List ℕ) → T.spells spelled item → AreFirst T.spells parts list.old.items
         → OnOk result (AreFirst T.spells (parts ++ spelled ∷ []) list.new.items) }
 {
@@ -90,7 +90,7 @@ fn keep<T: ListItem>(item: T, list: &mut Vec<T>) -> Result<(), AllocError>
 }
 
 /// The same fault, so many bytes further.
-pub fn further(fault: ValueFault, by: usize) -> ValueFault
+pub fn shifted_by(fault: ValueFault, by: usize) -> ValueFault
     requires { by + place_in fault < 2 ^ 64 }
     ensures { result ≡ further_by by fault }
 {

@@ -8,7 +8,7 @@ ghost use Rattle.opl_codec.specs.Texts.{IsText};
 ghost use Rattle.opl_codec.specs.Members.{HasTarget, SpellsReference, SpellsMembers, MembersFit, MemberFault, MembersFault};
 
 use crate::kind_letter::kind_of;
-use crate::list_item::{ListItem, further, read_list};
+use crate::list_item::{ListItem, read_list, shifted_by};
 use crate::make_text::make_text;
 use crate::number::read_number;
 use crate::separator::cut;
@@ -69,7 +69,7 @@ fn cut_member(spelled: &str) -> Result<(Ref, &str), ValueFault>
     };
     match check_text(role.as_bytes()) {
         Ok(()) => Ok((target, role)),
-        Err(fault) => Err(further(fault, spelled.len() - role.len())),
+        Err(fault) => Err(shifted_by(fault, spelled.len() - role.len())),
     }
 }
 

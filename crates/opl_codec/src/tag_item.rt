@@ -11,7 +11,7 @@ ghost use Rattle.opl_codec.specs.ValueFaults.{TagFault, TagsFault};
 
 use crate::cut_text::is_at;
 use crate::key_order::with_distinct_keys;
-use crate::list_item::{ListItem, further, read_list};
+use crate::list_item::{ListItem, read_list, shifted_by};
 use crate::make_text::make_text;
 use crate::text_len::{check_text, text_len};
 use crate::value_fault::ValueFault;
@@ -73,7 +73,7 @@ fn cut_tag(spelled: &str) -> Result<(&str, &str), ValueFault>
     let (key, value) = cut_key(spelled)?;
     match check_text(value.as_bytes()) {
         Ok(()) => Ok((key, value)),
-        Err(fault) => Err(further(fault, key.len() + 1)),
+        Err(fault) => Err(shifted_by(fault, key.len() + 1)),
     }
 }
 

@@ -5,7 +5,7 @@ ghost use Rattle.std.specs.Fmt.{signed_decimal};
 ghost use Rattle.osm_model.specs.CanonicalLine.{reference_text};
 
 use itoa::Buffer;
-use osm_model::{Kind, Ref};
+use osm_model::Ref;
 use std::alloc::AllocError;
 
 /// Appends the letter of a kind, and an id, as `n1`: the first field of an object's line (Osmium's OPL manual). Where
@@ -14,12 +14,7 @@ pub fn append_reference(reference: Ref, out: &mut Vec<u8>) -> Result<(), AllocEr
     ensures ok { OnOk result (out.new.items ≡ out.old.items ++ reference_text reference) }
     ensures err { OnErr result (take (length out.old.items) out.new.items ≡ out.old.items) }
 {
-    let letter = match reference.kind {
-        Kind::Node => b'n',
-        Kind::Way => b'w',
-        Kind::Rel => b'r',
-    };
-    out.push(letter)?;
+    out.push(reference.kind.letter())?;
     append_number(reference.id, out)
 }
 

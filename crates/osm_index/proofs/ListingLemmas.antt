@@ -13,7 +13,7 @@ use Rattle.osm_model.specs.declared.kind.Kind.TheVariants as kinds
 use Rattle.osm_model.specs.declared.member.Member.{Member}
 use Rattle.osm_model.specs.declared.reference.Ref.{Ref}
 use Rattle.opl_codec.specs.Text.{text_of as line_of}
-use Rattle.opl_codec.specs.declared.out_mode.OutMode.TheVariants.{Meta}
+use Rattle.osm_model.specs.declared.out_mode.OutMode.TheVariants.{Meta}
 use Rattle.tree_node.specs.Nodes.{Binding}
 use Rattle.tree_node.specs.declared.tree.Tree.{Tree}
 use Rattle.tree_node.specs.declared.tree.Tree.TheVariants.{Objects, Tags, Cells, Backs}

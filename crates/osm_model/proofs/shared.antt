@@ -1,5 +1,7 @@
 -- Lemmas for the crates above.
 pub mod Digits
+pub mod Each
+pub mod EncodedCharacters
 pub mod ObjectParts
 pub mod OneDecimal
 pub mod OneDegrees

@@ -13,3 +13,19 @@ pub enum Kind {
     /// An ordered list of members, each with a role.
     Rel = 3,
 }
+
+impl Kind {
+    ghost use Rattle.std.specs.Prelude.{◌≡◌};
+    ghost use Rattle.osm_model.specs.CanonicalLine.{kind_letter};
+
+    /// The letter that stands for the kind in text: `n`, `w` or `r` (Osmium's OPL manual).
+    pub fn letter(self) -> u8
+        ensures { result ≡ kind_letter self }
+    {
+        match self {
+            Kind::Node => b'n',
+            Kind::Way => b'w',
+            Kind::Rel => b'r',
+        }
+    }
+}

@@ -1,6 +1,7 @@
 //! References to objects.
 
 use crate::kind::Kind;
+use std::fmt;
 
 /// What names an object: ids are unique within a kind (OpenStreetMap API 0.6).
 ///
@@ -12,4 +13,11 @@ pub struct Ref {
     pub kind: Kind,
     /// The id within the kind.
     pub id: i64,
+}
+
+impl fmt::Display for Ref {
+    /// As in a line: the letter of the kind, and the id, as `n1`.
+    fn fmt<W: fmt::Write>(&self, f: &mut fmt::Formatter<W>) -> fmt::Result {
+        write!(f, "{}{}", char::from(self.kind.letter()), self.id)
+    }
 }

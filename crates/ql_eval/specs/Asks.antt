@@ -11,8 +11,8 @@ use Rattle.osm_model.specs.declared.body.Body.TheVariants as bodies
 use Rattle.osm_model.specs.declared.kind.Kind.{Kind}
 use Rattle.osm_model.specs.declared.kind.Kind.TheVariants as kinds
 use Rattle.osm_model.specs.declared.reference.Ref.{Ref}
-use Rattle.opl_codec.specs.declared.out_mode.OutMode.{OutMode}
-use Rattle.opl_codec.specs.declared.out_mode.OutMode.TheVariants as modes
+use Rattle.osm_model.specs.declared.out_mode.OutMode.{OutMode}
+use Rattle.osm_model.specs.declared.out_mode.OutMode.TheVariants as modes
 use Rattle.tree_node.specs.declared.tree.Tree.TheVariants.{Cells}
 use Rattle.tree_walk.specs.Ranges.{Range}
 use Rattle.osm_index.specs.Publications.{Publication, manifest_of}

@@ -7,7 +7,7 @@ use Rattle.std.specs.Ordering.{eq_by_cmp}
 use Rattle.osm_model.specs.Elements.{Element, ref_cmp, reference}
 use Rattle.osm_model.specs.declared.reference.Ref.{Ref}
 use Rattle.opl_codec.specs.Text.{text_of}
-use Rattle.opl_codec.specs.declared.out_mode.OutMode.{OutMode}
+use Rattle.osm_model.specs.declared.out_mode.OutMode.{OutMode}
 use Rattle.ql_syntax.specs.Statements.{Statement, Statements, Select, Recurse, Item, Union, Minus, Print, End, Then}
 use Rattle.ref_sets.specs.NamedSets.{Env, nothing_named, put}
 use Rattle.ref_sets.specs.Sets.{IsSetOf}

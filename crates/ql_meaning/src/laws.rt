@@ -3,7 +3,7 @@
 ghost use Rattle.std.specs.Prelude.{◌≡◌, ℕ, List, ◌++◌, ◌⊎◌, ◌↔◌, None, Option, Some, filter};
 ghost use Rattle.std.specs.List.{Contains};
 ghost use Rattle.std.specs.List.Sorted.{IsStrictlySortedBy};
-ghost use Rattle.opl_codec.specs.declared.out_mode.OutMode.{OutMode};
+ghost use Rattle.osm_model.specs.declared.out_mode.OutMode.{OutMode};
 ghost use Rattle.osm_model.specs.Elements.{Element, ref_cmp, references};
 ghost use Rattle.osm_model.specs.Sets.{IsObjectSet};
 ghost use Rattle.osm_model.specs.declared.reference.Ref.{Ref};

@@ -3,8 +3,8 @@ use Rattle.std.proofs.Common.{◌≡◌, ◌≢◌, ℕ, ◌<◌, ◌||◌, ◌=
 use Rattle.std.specs.List.{AllByRecursion, list_all}
 use Rattle.std.proofs.lemmas.Bool.Decides.{nat_tests}
 use Rattle.osm_model.specs.Limits.{HasNoNul}
-use Rattle.opl_codec.proofs.shared.EncodedCharacters.{IsSome, encoded_some}
-use Rattle.opl_codec.proofs.shared.ReadLiterals.{all_append, all_places}
+use Rattle.osm_model.proofs.shared.EncodedCharacters.{IsSome, encoded_some}
+use Rattle.osm_model.proofs.shared.Each.{all_append, all_places}
 use Rattle.ql_syntax.proofs.TokenLaws.{further, passes}
 use Rattle.ql_syntax.specs.QuotedTexts.{Piece, Literal, Escape, Code, IsPiece, IsQuoted, escaped, value}
 use Rattle.ql_syntax.specs.Words.{IsRun, is_run_byte}

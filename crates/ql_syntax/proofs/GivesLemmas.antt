@@ -1,7 +1,7 @@
 -- What rules give.
 use Rattle.std.proofs.Common.{◌≡◌, ℕ, List, [], ◌∷◌, ◌++◌, Option, None, Some, refl, sym, ◌∙◌, subst, inl, inr}
 use Rattle.std.specs.List.{AllByRecursion}
-use Rattle.opl_codec.proofs.shared.ReadLiterals.{all_append}
+use Rattle.osm_model.proofs.shared.Each.{all_append}
 use Rattle.ql_syntax.specs.TokenRules.{Next, unexpected}
 use Rattle.ql_syntax.specs.Rules.{Rule, ◌>>=◌, give, refuse, from, choose, by_case, repeat, gather, gather_round, gathered, Round, More, Done, RoundsRead, Last}
 use Rattle.ql_syntax.specs.Rules as rounds

@@ -1,8 +1,8 @@
 -- What stands after `out` is spelled as rules read it.
 use Rattle.std.proofs.Common.{◌≡◌, ℕ, List, Option, None, Some, Bool, true, false, refl, sym, ◌∙◌, subst, inl, inr}
 use Rattle.std.specs.Option.{is_some, unwrap_or}
-use Rattle.opl_codec.specs.declared.out_mode.OutMode.{OutMode}
-use Rattle.opl_codec.specs.declared.out_mode.OutMode.TheVariants as modes
+use Rattle.osm_model.specs.declared.out_mode.OutMode.{OutMode}
+use Rattle.osm_model.specs.declared.out_mode.OutMode.TheVariants as modes
 use Rattle.osm_model.specs.Degrees.{Decimal}
 use Rattle.ql_syntax.specs.Grammar as grammar
 use Rattle.ql_syntax.specs.OutWords.{out_word}

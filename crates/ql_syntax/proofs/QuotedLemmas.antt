@@ -3,7 +3,7 @@ use Rattle.std.proofs.Common.{◌≡◌, ◌≢◌, ℕ, ◌<◌, inl, inr, List
 use Rattle.std.specs.List.{AllByRecursion, flat_map}
 use Rattle.std.proofs.lemmas.List.{take-append-drop}
 use Rattle.std.proofs.lemmas.List.Concat.{flat_map-append}
-use Rattle.opl_codec.proofs.shared.ReadLiterals.{all_append}
+use Rattle.osm_model.proofs.shared.Each.{all_append}
 use Rattle.ql_syntax.specs.internal.EscapeParts.{IsEscape}
 use Rattle.ql_syntax.specs.internal.Places.{IsMemoryOr}
 use Rattle.ql_syntax.specs.Words.{begins_with}

@@ -2,7 +2,7 @@
 use Rattle.std.proofs.Common.{◌≡◌, ℕ, zero, suc, List, [], ◌∷◌, Option, None, Some, drop, refl, sym, ◌∙◌, ap, subst, inl, inr}
 use Rattle.std.specs.Prelude.{codes}
 use Rattle.std.specs.Option.{unwrap_or}
-use Rattle.opl_codec.specs.declared.out_mode.OutMode.TheVariants as modes
+use Rattle.osm_model.specs.declared.out_mode.OutMode.TheVariants as modes
 use Rattle.ql_syntax.specs.Filters.{Filter}
 use Rattle.ql_syntax.specs.Grammar as grammar
 use Rattle.ql_syntax.specs.TokenRules.{Next, At, next_token, unexpected, name_after}

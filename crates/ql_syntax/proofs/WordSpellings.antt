@@ -4,8 +4,8 @@ use Rattle.std.proofs.lemmas.Slice.Eq.{bytes_eq-Decides}
 use Rattle.std.specs.Bool.{⊤}
 use Rattle.std.specs.Option.{unwrap_or}
 use Rattle.std.specs.Prelude.{codes, bytes_eq, Option, None, Some}
-use Rattle.opl_codec.specs.declared.out_mode.OutMode.{OutMode}
-use Rattle.opl_codec.specs.declared.out_mode.OutMode.TheVariants as modes
+use Rattle.osm_model.specs.declared.out_mode.OutMode.{OutMode}
+use Rattle.osm_model.specs.declared.out_mode.OutMode.TheVariants as modes
 use Rattle.ql_syntax.specs.Grammar as grammar
 use Rattle.ql_syntax.specs.OutWords as out_words
 use Rattle.ql_syntax.specs.OutWords.{out_word}

@@ -2,8 +2,8 @@
 -- go with which kinds, nor where statements may stand: that is `IsQuery`.
 -- Source: the Overpass QL page of the OpenStreetMap wiki, as far as the profile goes.
 use Rattle.std.specs.Prelude.{◌≡◌, ℕ, ℤ, List, [], ◌∷◌, Option, None, Some}
-use Rattle.opl_codec.specs.declared.out_mode.OutMode.{OutMode}
-use Rattle.opl_codec.specs.declared.out_mode.OutMode.TheVariants as modes
+use Rattle.osm_model.specs.declared.out_mode.OutMode.{OutMode}
+use Rattle.osm_model.specs.declared.out_mode.OutMode.TheVariants as modes
 use Rattle.osm_model.specs.Boxes.{ExactBox}
 use Rattle.osm_model.specs.Degrees.{Decimal}
 use Rattle.ql_syntax.specs.Areas.{Corners, AreBox, box_of}

@@ -4,7 +4,7 @@
 -- and differences may stand in one another, is this project's.
 use Rattle.std.specs.Prelude.{◌≡◌, ℕ, zero, suc, List, [], ◌∷◌, Option, None, Some, drop, codes}
 use Rattle.std.specs.Option.{unwrap_or}
-use Rattle.opl_codec.specs.declared.out_mode.OutMode.TheVariants as modes
+use Rattle.osm_model.specs.declared.out_mode.OutMode.TheVariants as modes
 use Rattle.ql_syntax.specs.declared.statements.TheConstants.{NESTING_LIMIT}
 use Rattle.ql_syntax.specs.Outs.{out_options}
 use Rattle.ql_syntax.specs.TokenRules.{Next, Word, next_token, unexpected, pass, word_at, name_after, into}

@@ -2,7 +2,7 @@
 -- Source: the Overpass QL page of the OpenStreetMap wiki, "Statements"; how a set is written and
 -- printed there is not said here.
 use Rattle.std.specs.Prelude.{ℕ, List, [], ◌∷◌, Option}
-use Rattle.opl_codec.specs.declared.out_mode.OutMode.{OutMode}
+use Rattle.osm_model.specs.declared.out_mode.OutMode.{OutMode}
 use Rattle.ql_syntax.specs.Filters.{Filter}
 use Rattle.ql_syntax.specs.declared.pick.Pick.{Pick}
 use Rattle.ql_syntax.specs.declared.recursion.Recursion.{Recursion}

@@ -13,7 +13,7 @@ use crate::syntax_error::SyntaxError;
 use crate::token::next_token;
 use crate::token_kind::TokenKind;
 use crate::token_readers::{NumberSpot, WordSpot, number_at, word_at};
-use opl_codec::OutMode;
+use osm_model::OutMode;
 
 /// What the words and the number after `out` say.
 #[derive(Clone, Copy)]

@@ -3,7 +3,7 @@
 ghost use Rattle.std.specs.Prelude.{◌≡◌};
 ghost use Rattle.ql_syntax.specs.OutWords.{is_left_out, out_word};
 
-use opl_codec::OutMode;
+use osm_model::OutMode;
 
 /// What a word after `out` asks for.
 #[derive(Clone, Copy)]

@@ -4,7 +4,7 @@ use crate::filter::Filter;
 use crate::name::Name;
 use crate::pick::Pick;
 use crate::recursion::Recursion;
-use opl_codec::OutMode;
+use osm_model::OutMode;
 
 /// A statement of a query. It borrows the text of the query, but for texts with escapes.
 ///

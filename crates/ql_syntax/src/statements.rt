@@ -21,7 +21,7 @@ use crate::syntax_error::SyntaxError;
 use crate::token::{Token, next_token};
 use crate::token_kind::TokenKind;
 use crate::token_readers::{WordSpot, name_after, pass, read_into, word_at};
-use opl_codec::OutMode;
+use osm_model::OutMode;
 use std::alloc::{AllocError, Global};
 
 /// How many `(` of unions and differences may be open at once.

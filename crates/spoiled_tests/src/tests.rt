@@ -21,18 +21,18 @@ type Entry = (&'static [u8], &'static [u8]);
 type Trees = [&'static [Entry]; 4];
 
 /// The keys of objects, which are their references.
-const N1: &[u8] = b"\x01\x80\0\0\0\0\0\0\x01";
+const NODE_1: &[u8] = b"\x01\x80\0\0\0\0\0\0\x01";
 
-const W10: &[u8] = b"\x02\x80\0\0\0\0\0\0\x0a";
+const WAY_10: &[u8] = b"\x02\x80\0\0\0\0\0\0\x0a";
 
-const R100: &[u8] = b"\x03\x80\0\0\0\0\0\0\x64";
+const RELATION_100: &[u8] = b"\x03\x80\0\0\0\0\0\0\x64";
 
 /// Objects as they should be: a node, a way that lists it, and a relation that lists the way.
-const NODE: Entry = (N1, b"n1 v0 dV c0 t i0 u T x0 y0");
+const NODE: Entry = (NODE_1, b"n1 v0 dV c0 t i0 u T x0 y0");
 
-const WAY: Entry = (W10, b"w10 v0 dV c0 t i0 u T Nn1");
+const WAY: Entry = (WAY_10, b"w10 v0 dV c0 t i0 u T Nn1");
 
-const RELATION: Entry = (R100, b"r100 v0 dV c0 t i0 u T Mw10@");
+const RELATION: Entry = (RELATION_100, b"r100 v0 dV c0 t i0 u T Mw10@");
 
 /// A leaf of a tree, by the tree's number.
 fn leaf(alloc: Global, tree: u8, entries: &[Entry]) -> Result<Vec<u8>, Fail> {

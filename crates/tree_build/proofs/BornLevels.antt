@@ -20,7 +20,7 @@ use Rattle.tree_build.proofs.TreeEdits.{NextChanges, items_changed, next_own}
 
 pub next_changes : (old new : List Node) (edit : LevelEdit) (cs : List (Change Link)) → HasNext old new edit cs → NextChanges old new cs
 next_changes old new edit cs next =
-    record { kept = next.is.kept; opened = next.is.opened; came = next.is.came; lost = next.lost; gained = next.gained; was = next.is.was; is = next.is.is; differ = next.differ }
+    record { kept = next.is.kept; opened = next.is.opened; came = next.is.came; lost = next.lost; gained = next.gained; was = next.is.was; is = next.is.is; parent_changes = next.parent_changes }
 
 module _ (tree : ℕ) (entries : List Binding) (changes : List (Change Binding)) (is_tree : IsTree tree) (has : HasTree entries) (changed_has : HasTree (changed_entries entries changes)) where
   abbrev after : List Binding

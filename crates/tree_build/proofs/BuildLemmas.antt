@@ -64,7 +64,7 @@ gained_nodes old new tree gained bytes = (
 
 -- where all nodes of the tree were put into a set without a clash, none of them clashes
 pub none_clash : (old new : List ℕ → Type 0) (tree : List (List Node)) → GrownByAll old new (IsNodeOf tree) → IsClashFree new → Clashes (λ bytes. old bytes ⊎ IsNodeOf tree bytes) (IsNodeOf tree) → ⊥
-none_clash old new tree gained free (a, b, is_a, is_b, differ, same) = differ (free a b ((gained a).1 is_a) ((gained b).1 (inr is_b)) same)
+none_clash old new tree gained free (a, b, is_a, is_b, parent_changes, same) = parent_changes (free a b ((gained a).1 is_a) ((gained b).1 (inr is_b)) same)
 
 -- ---- from level to level
 

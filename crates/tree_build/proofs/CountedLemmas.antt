@@ -17,7 +17,7 @@ use Rattle.tree_build.proofs.NextSought.{sought_in}
 use Rattle.tree_build.proofs.OldLevels.{inner_level, linked, old_nodes}
 use Rattle.tree_build.proofs.ParentLemmas.{child_stays}
 use Rattle.tree_build.proofs.SeekLemmas.{sought_down}
-use Rattle.tree_build.proofs.SettleLemmas.{in_place}
+use Rattle.tree_build.proofs.ShrinkLemmas.{in_place}
 use Rattle.tree_build.proofs.WeaveLemmas.{in_back}
 
 -- ---- what is sought is there

@@ -9,10 +9,10 @@ use Rattle.tree_node.specs.Trees.{greatest_of}
 use Rattle.tree_build.specs.Changing.{Change}
 use Rattle.tree_build.specs.internal.Differing.{Differ, nothing, gone_last, gone, came_last, came, same, replaced, taken, put, FirstReaches, GoesOn, IsCounterpart}
 use Rattle.tree_build.specs.internal.Edits.{Each, IsNewNode, IsOldNode}
-use Rattle.tree_build.specs.declared.differ.Counterpart.TheVariants.{Missing, Changed, Same}
-use Rattle.tree_build.specs.declared.held.OldNode.{OldNode}
+use Rattle.tree_build.specs.declared.parent_changes.Counterpart.TheVariants.{Missing, Changed, Same}
+use Rattle.tree_build.specs.declared.old_node.OldNode.{OldNode}
 use Rattle.tree_build.specs.declared.piece.NewPiece.{NewPiece}
-use Rattle.tree_build.proofs.HandLemmas.{each_append}
+use Rattle.tree_build.proofs.PendingLemmas.{each_append}
 use Rattle.tree_build.proofs.ParentLemmas.{one_spelling}
 use Rattle.tree_build.proofs.SeekLemmas.{not_below}
 
@@ -254,7 +254,7 @@ differing_next olds news rest ahead new others changes after so step = by so.lef
 pub record TheyDiffer (olds news : List Node) (changes : List (Change Link)) : Type 0 where
   pub lost : List Node
   pub gained : List Node
-  pub differ : Differ olds news lost gained changes
+  pub parent_changes : Differ olds news lost gained changes
 
 pub differing_done : (olds news : List Node) (rest : List OldNode) (changes after : List (Change Link)) → IsDiffering olds news rest [] changes → after ≡ changes ++ gone_changes rest → TheyDiffer olds news after
 differing_done olds news rest changes after so whole = by so.left_news so.new_stand so.then_differ
@@ -265,6 +265,6 @@ differing_done olds news rest changes after so whole = by so.left_news so.new_st
     by [] stand then_all = record {
       lost = so.lost ++ so.left_olds;
       gained = so.gained ++ [];
-      differ = subst (λ (cs : List (Change Link)). Differ olds news (so.lost ++ so.left_olds) (so.gained ++ []) cs) (sym (whole ∙ ap (λ (cs : List (Change Link)). changes ++ cs) (gone_are rest so.left_olds so.old_stand)))
+      parent_changes = subst (λ (cs : List (Change Link)). Differ olds news (so.lost ++ so.left_olds) (so.gained ++ []) cs) (sym (whole ∙ ap (λ (cs : List (Change Link)). changes ++ cs) (gone_are rest so.left_olds so.old_stand)))
           (then_all so.left_olds [] (map taken so.left_olds) (all_gone so.left_olds));
     }

@@ -19,7 +19,7 @@ use Rattle.tree_build.specs.internal.Weaving.{IsIn}
 use Rattle.tree_build.proofs.LevelsLemmas.{all_rise, in_none, in_range, level_in, low_or_past, nodes_in}
 use Rattle.tree_build.proofs.OnceLemmas.{from_among, in_append, once_append, said_once, to_among}
 use Rattle.tree_build.proofs.ParentLemmas.{one_spelling}
-use Rattle.tree_build.proofs.SettleLemmas.{in_place}
+use Rattle.tree_build.proofs.ShrinkLemmas.{in_place}
 use Rattle.tree_build.proofs.ToldLemmas.{IsAllTold, all_told, kept_from, kept_or_opened, not_both, opened_from}
 use Rattle.tree_build.proofs.WeaveLemmas.{in_back, in_front}
 

@@ -9,7 +9,7 @@ use Rattle.tree_node.specs.Trees.{HasTree, Two, level_at, level_over, levels, no
 use Rattle.tree_build.specs.internal.Edits.{Each, IsNewNode, IsOldNode}
 use Rattle.tree_build.specs.internal.FoundTops.{AreOnce, HaveGained, IsFound, IsKept}
 use Rattle.tree_build.specs.internal.Growing.{HasGrown, nodes_from}
-use Rattle.tree_build.specs.internal.Settling.{HasSettled, passed, stayed_at}
+use Rattle.tree_build.specs.internal.Shrinking.{HasShrunk, passed, stayed_at}
 use Rattle.tree_build.specs.internal.Steps.{IsEdit}
 use Rattle.tree_build.specs.internal.Telling.{node_digest}
 use Rattle.tree_build.specs.internal.Towers.{tower}
@@ -296,7 +296,7 @@ module _ (tree : ℕ) (entries after : List Binding) (has : HasTree entries) (af
           (λ is. elim is [ inl keeps ↦ absurd (omega (arith, at, keeps.0)) | inr above ↦ so.1 above ]),
         )
 
-    pub found_settled : (added gone gone_later : List (List ℕ)) (top : List ℕ) (level : ℕ) → HasSettled made edits gone gone_later top level → IsFound old new edits added added gone gone_later top level
+    pub found_settled : (added gone gone_later : List (List ℕ)) (top : List ℕ) (level : ℕ) → HasShrunk made edits gone gone_later top level → IsFound old new edits added added gone gone_later top level
     found_settled added gone gone_later top level so =
         let here : level + 0 ≡ level = omega arith in
         let one : length (made level) ≡ 1 = ap (λ n. length (made n)) (sym here) ∙ so.one 0 (omega arith) in
@@ -337,7 +337,7 @@ module _ (tree : ℕ) (entries after : List Binding) (has : HasTree entries) (af
           top_is = top_at new level top height (so.top_is ∙ ap (λ (ns : List Node). node_digest (get_or ns 0 no_node)) (sym (tower_in tree after some_after level (omega (arith, height)))));
         }
       where
-        one_at : (so : HasSettled made edits gone gone_later top level) (l : ℕ) → level ≤ l → l < length edits → length (made l) ≡ 1
+        one_at : (so : HasShrunk made edits gone gone_later top level) (l : ℕ) → level ≤ l → l < length edits → length (made l) ≡ 1
         one_at so l ge lt = let at : level + (l - level) ≡ l = omega (arith, ge) in ap (λ k. length (made k)) (sym at) ∙ so.one (l - level) (omega (arith, ge, lt, so.at))
 
     -- ---- levels were made above

@@ -6,7 +6,7 @@ use Rattle.tree_node.specs.Order.{IsBelow}
 use Rattle.tree_node.specs.internal.OrderLemmas.{not_itself}
 use Rattle.tree_node.specs.Trees.{pieces, pieces_from}
 use Rattle.tree_node.proofs.shared.PieceLemmas.{pieces_step, chosen}
-use Rattle.tree_build.specs.internal.Cutting.{hand_after, done_by}
+use Rattle.tree_build.specs.internal.Cutting.{pending_after, done_by}
 use Rattle.tree_build.proofs.ChangeLemmas.{all_append}
 use Rattle.tree_build.proofs.RecutLemmas.{pieces_append}
 
@@ -16,29 +16,29 @@ module _ {X : Type 0} (key : X → List ℕ) (ends : ℕ → X → Bool) where
   Begins P [] = ⊥
   Begins P (x ∷ xs) = P x
 
-  begins_more : (P : X → Type 0) (hand : List X) (x : X) → AllByRecursion P hand → P x → Begins P (hand ++ x ∷ [])
+  begins_more : (P : X → Type 0) (pending : List X) (x : X) → AllByRecursion P pending → P x → Begins P (pending ++ x ∷ [])
   begins_more P [] x all p = p
   begins_more P (h ∷ hs) x all p = all.0
 
   -- what all items have, the first ones of all pieces have
-  pieces_begin : (P : X → Type 0) (hand xs : List X) → AllByRecursion P hand → AllByRecursion P xs → AllByRecursion (Begins P) (pieces_from ends hand xs)
+  pieces_begin : (P : X → Type 0) (pending xs : List X) → AllByRecursion P pending → AllByRecursion P xs → AllByRecursion (Begins P) (pieces_from ends pending xs)
   pieces_begin P [] [] in_hand all = tt
   pieces_begin P (h ∷ hs) [] in_hand all = (in_hand.0, tt)
-  pieces_begin P hand (x ∷ xs) in_hand all =
-      subst (λ (ps : List (List X)). AllByRecursion (Begins P) ps) (sym (pieces_step ends hand x xs))
-      (chosen (λ (ps : List (List X)). AllByRecursion (Begins P) ps) (ends (length hand + 1) x) ((hand ++ x ∷ []) ∷ pieces_from ends [] xs) (pieces_from ends (hand ++ x ∷ []) xs)
-      (λ _. (begins_more P hand x in_hand all.0, pieces_begin P [] xs tt all.1))
-      (λ _. pieces_begin P (hand ++ x ∷ []) xs (all_append P hand (x ∷ []) in_hand (all.0, tt)) all.1))
+  pieces_begin P pending (x ∷ xs) in_hand all =
+      subst (λ (ps : List (List X)). AllByRecursion (Begins P) ps) (sym (pieces_step ends pending x xs))
+      (chosen (λ (ps : List (List X)). AllByRecursion (Begins P) ps) (ends (length pending + 1) x) ((pending ++ x ∷ []) ∷ pieces_from ends [] xs) (pieces_from ends (pending ++ x ∷ []) xs)
+      (λ _. (begins_more P pending x in_hand all.0, pieces_begin P [] xs tt all.1))
+      (λ _. pieces_begin P (pending ++ x ∷ []) xs (all_append P pending (x ∷ []) in_hand (all.0, tt)) all.1))
 
-  done_begin : (P : X → Type 0) (hand xs : List X) → AllByRecursion P hand → AllByRecursion P xs → AllByRecursion (Begins P) (done_by ends hand xs) × AllByRecursion P (hand_after ends hand xs)
-  done_begin P hand [] in_hand all = (tt, in_hand)
-  done_begin P hand (x ∷ xs) in_hand all = step (ends (length hand + 1) x) (done_begin P [] xs tt all.1) (done_begin P (hand ++ x ∷ []) xs (all_append P hand (x ∷ []) in_hand (all.0, tt)) all.1)
+  done_begin : (P : X → Type 0) (pending xs : List X) → AllByRecursion P pending → AllByRecursion P xs → AllByRecursion (Begins P) (done_by ends pending xs) × AllByRecursion P (pending_after ends pending xs)
+  done_begin P pending [] in_hand all = (tt, in_hand)
+  done_begin P pending (x ∷ xs) in_hand all = step (ends (length pending + 1) x) (done_begin P [] xs tt all.1) (done_begin P (pending ++ x ∷ []) xs (all_append P pending (x ∷ []) in_hand (all.0, tt)) all.1)
     where
       step : (b : Bool)
-          → AllByRecursion (Begins P) (done_by ends [] xs) × AllByRecursion P (hand_after ends [] xs)
-          → AllByRecursion (Begins P) (done_by ends (hand ++ x ∷ []) xs) × AllByRecursion P (hand_after ends (hand ++ x ∷ []) xs)
-          → AllByRecursion (Begins P) (cond b ((hand ++ x ∷ []) ∷ done_by ends [] xs) (done_by ends (hand ++ x ∷ []) xs)) × AllByRecursion P (cond b (hand_after ends [] xs) (hand_after ends (hand ++ x ∷ []) xs))
-      step true p q = ((begins_more P hand x in_hand all.0, p.0), p.1)
+          → AllByRecursion (Begins P) (done_by ends [] xs) × AllByRecursion P (pending_after ends [] xs)
+          → AllByRecursion (Begins P) (done_by ends (pending ++ x ∷ []) xs) × AllByRecursion P (pending_after ends (pending ++ x ∷ []) xs)
+          → AllByRecursion (Begins P) (cond b ((pending ++ x ∷ []) ∷ done_by ends [] xs) (done_by ends (pending ++ x ∷ []) xs)) × AllByRecursion P (cond b (pending_after ends [] xs) (pending_after ends (pending ++ x ∷ []) xs))
+      step true p q = ((begins_more P pending x in_hand all.0, p.0), p.1)
       step false p q = q
 
   -- of a list with something in hand the first piece begins with that, the others with an item of the list
@@ -74,8 +74,8 @@ module _ {X : Type 0} (key : X → List ℕ) (ends : ℕ → X → Bool) where
     all_either [] all = tt
     all_either (p ∷ ps) all = (elim all.0 [ inl low ↦ begins_below p low | inr high ↦ begins_above p high ], all_either ps all.1)
 
-    pub in_hand : (hand xs : List X) → hand ≢ [] → AllByRecursion (λ (y : X). IsBelow (key y) (key x)) hand → AllByRecursion (λ (y : X). IsBelow (key x) (key y)) xs
-        → AllByRecursion IsOther (pieces_from ends hand (x ∷ xs))
+    pub in_hand : (pending xs : List X) → pending ≢ [] → AllByRecursion (λ (y : X). IsBelow (key y) (key x)) pending → AllByRecursion (λ (y : X). IsBelow (key x) (key y)) xs
+        → AllByRecursion IsOther (pieces_from ends pending (x ∷ xs))
     in_hand [] xs some low high = absurd (some refl)
     in_hand (h ∷ hs) xs some low high =
         let P : X → Type 0 = λ (y : X). IsBelow (key y) (key x) in
@@ -89,11 +89,11 @@ module _ {X : Type 0} (key : X → List ℕ) (ends : ℕ → X → Bool) where
         above_all (p ∷ ps) all = (begins_above p all.0, above_all ps all.1)
 
     -- Where something is in hand when an old piece comes, this piece is none of the new ones.
-    pub taken_in : (before behind : List X) → hand_after ends [] before ≢ []
+    pub taken_in : (before behind : List X) → pending_after ends [] before ≢ []
         → AllByRecursion (λ (y : X). IsBelow (key y) (key x)) before → AllByRecursion (λ (y : X). IsBelow (key x) (key y)) behind
         → AllByRecursion (λ (p : List X). p ≢ x ∷ rest) (pieces ends (before ++ x ∷ behind))
     taken_in before behind some low high =
         let parts = done_begin (λ (y : X). IsBelow (key y) (key x)) [] before tt low in
         subst (λ (ps : List (List X)). AllByRecursion IsOther ps) (sym (pieces_append ends [] before (x ∷ behind)))
-        (all_append IsOther (done_by ends [] before) (pieces_from ends (hand_after ends [] before) (x ∷ behind))
-        (all_below (done_by ends [] before) parts.0) (in_hand (hand_after ends [] before) behind some parts.1 high))
+        (all_append IsOther (done_by ends [] before) (pieces_from ends (pending_after ends [] before) (x ∷ behind))
+        (all_below (done_by ends [] before) parts.0) (in_hand (pending_after ends [] before) behind some parts.1 high))

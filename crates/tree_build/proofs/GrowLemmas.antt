@@ -11,10 +11,10 @@ use Rattle.tree_node.proofs.shared.PieceLemmas.{some_pieces}
 use Rattle.tree_node.proofs.shared.TreeLemmas.{leaves_few, level_half, level_some}
 use Rattle.tree_build.specs.internal.Edits.{Each, HaveCome, IsNewNode}
 use Rattle.tree_build.specs.internal.Growing.{HasGrown, nodes_from}
-use Rattle.tree_build.specs.internal.Cutting.{done_by, hand_after}
+use Rattle.tree_build.specs.internal.Cutting.{done_by, pending_after}
 use Rattle.tree_build.specs.internal.Towers.{tower}
 use Rattle.tree_build.specs.declared.piece.NewPiece.{NewPiece}
-use Rattle.tree_build.proofs.HandLemmas.{come_then}
+use Rattle.tree_build.proofs.PendingLemmas.{come_then}
 use Rattle.tree_build.proofs.RecutLemmas.{pieces_append}
 
 -- the links of the nodes in front, and the nodes to come
@@ -52,14 +52,14 @@ bytes_are (p ∷ ps) [] all = absurd all
 bytes_are (p ∷ ps) (n ∷ ns) all = ap (λ (bytes : List ℕ). bytes ∷ map (λ (new : NewPiece). new.node.bytes.items) ps) all.0.bytes ∙ ap (λ (bs : List (List ℕ)). spelling n ∷ bs) (bytes_are ps ns all.1)
 
 -- all pieces of some links
-pub level_made : (over : List Link → Node) (links hand : List Link) (first mid last : List NewPiece) → first ≡ [] → HaveCome first mid (map over (done_by (ends_by Two is_marked_link) [] links)) → hand ≡ hand_after (ends_by Two is_marked_link) [] links
-    → HaveCome mid last (map over (pieces_from (ends_by Two is_marked_link) hand [])) → Each IsNewNode last (map over (pieces (ends_by Two is_marked_link) links))
-level_made over links hand first mid last none one hand_is two =
+pub level_made : (over : List Link → Node) (links pending : List Link) (first mid last : List NewPiece) → first ≡ [] → HaveCome first mid (map over (done_by (ends_by Two is_marked_link) [] links)) → pending ≡ pending_after (ends_by Two is_marked_link) [] links
+    → HaveCome mid last (map over (pieces_from (ends_by Two is_marked_link) pending [])) → Each IsNewNode last (map over (pieces (ends_by Two is_marked_link) links))
+level_made over links pending first mid last none one pending_is two =
     let ends = ends_by Two is_marked_link in
-    let end = subst (λ (h : List Link). HaveCome mid last (map over (pieces_from ends h []))) hand_is two in
-    let both = come_then first mid last (map over (done_by ends [] links)) (map over (pieces_from ends (hand_after ends [] links) [])) one end in
-    let all : map over (done_by ends [] links) ++ map over (pieces_from ends (hand_after ends [] links) []) ≡ map over (pieces ends links) =
-    sym (map-append over (done_by ends [] links) (pieces_from ends (hand_after ends [] links) []))
+    let end = subst (λ (h : List Link). HaveCome mid last (map over (pieces_from ends h []))) pending_is two in
+    let both = come_then first mid last (map over (done_by ends [] links)) (map over (pieces_from ends (pending_after ends [] links) [])) one end in
+    let all : map over (done_by ends [] links) ++ map over (pieces_from ends (pending_after ends [] links) []) ≡ map over (pieces ends links) =
+    sym (map-append over (done_by ends [] links) (pieces_from ends (pending_after ends [] links) []))
     ∙ ap (map over) (sym (pieces_append ends [] links []) ∙ ap (pieces ends) (append-nil links)) in
     subst (λ (ns : List NewPiece). Each IsNewNode ns (map over (pieces ends links))) (sym (both.whole ∙ ap (λ (ns : List NewPiece). ns ++ both.more) none))
     (subst (λ (ms : List Node). Each IsNewNode both.more ms) all both.stand)

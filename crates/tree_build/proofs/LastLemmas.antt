@@ -12,7 +12,7 @@ use Rattle.tree_build.specs.internal.TreeEdits.{AreEdits, HaveOpened}
 use Rattle.tree_build.specs.internal.Weaving.{Woven, none, left, right}
 use Rattle.tree_build.specs.declared.piece.NewPiece.{NewPiece}
 use Rattle.tree_build.specs.declared.step.LevelEdit.{LevelEdit}
-use Rattle.tree_build.proofs.SettleLemmas.{edit_at}
+use Rattle.tree_build.proofs.ShrinkLemmas.{edit_at}
 use Rattle.tree_build.proofs.StepStates.{each_length}
 
 pub last_one : (tree : ℕ) (entries : List Binding) → length (level_at (levels Two tree entries) (length (levels Two tree entries) - 1)) ≡ 1

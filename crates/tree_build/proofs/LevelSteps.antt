@@ -9,15 +9,15 @@ use Rattle.tree_node.specs.Trees.{pieces, pieces_from}
 use Rattle.tree_node.proofs.shared.PieceLemmas.{join, pieces_join}
 use Rattle.tree_build.specs.Changing.{Change, changed}
 use Rattle.tree_build.specs.internal.RisingChanges.{IsUpTo}
-use Rattle.tree_build.specs.internal.Cutting.{hand_after, done_by, IsClosed, ArePieces}
+use Rattle.tree_build.specs.internal.Cutting.{pending_after, done_by, IsClosed, ArePieces}
 use Rattle.tree_build.proofs.RecutLemmas.{front_cut, front_pieces, pieces_append, pieces_behind, pieces_keep, pieces_of_join}
 use Rattle.tree_build.proofs.ChangeLemmas.{IsUpToOwn, changed_behind, changed_split}
 
 module _ {X : Type 0} (key : X → List ℕ) (ends : ℕ → X → Bool) (goal : List (List X)) where
   -- The pieces that are wanted: those made, and those of what is in hand with the old pieces to come under the changes
   -- to come.
-  pub record IsCutTo (made : List (List X)) (hand : List X) (back : List (List X)) (changes : List (Change X)) : Type 0 where
-    pub rest : goal ≡ made ++ pieces_from ends hand (changed key (join back) changes)
+  pub record IsCutTo (made : List (List X)) (pending : List X) (back : List (List X)) (changes : List (Change X)) : Type 0 where
+    pub rest : goal ≡ made ++ pieces_from ends pending (changed key (join back) changes)
 
   -- at the start
   pub cut_start : (items : List X) (changes : List (Change X)) → goal ≡ pieces ends (changed key items changes) → IsCutTo [] [] (pieces ends items) changes
@@ -34,26 +34,26 @@ module _ {X : Type 0} (key : X → List ℕ) (ends : ℕ → X → Bool) (goal :
   }
 
   -- the next old piece is opened, with the changes up to its last key
-  pub cut_open : (made : List (List X)) (hand piece : List X) (back : List (List X)) (last : List ℕ) (here others : List (Change X)) → IsCutTo made hand (piece ∷ back) (here ++ others)
+  pub cut_open : (made : List (List X)) (pending piece : List X) (back : List (List X)) (last : List ℕ) (here others : List (Change X)) → IsCutTo made pending (piece ∷ back) (here ++ others)
       → AllByRecursion (λ (x : X). IsUpTo (key x) last) piece → AllByRecursion (λ (y : X). IsBelow last (key y)) (join back)
       → AllByRecursion (IsUpToOwn key last) here → AllByRecursion (λ (c : Change X). IsBelow last c.key) others
-      → IsCutTo (made ++ done_by ends hand (changed key piece here)) (hand_after ends hand (changed key piece here)) back others
-  cut_open made hand piece back last here others so low high are above = record {
+      → IsCutTo (made ++ done_by ends pending (changed key piece here)) (pending_after ends pending (changed key piece here)) back others
+  cut_open made pending piece back last here others so low high are above = record {
     rest = so.rest
-        ∙ ap (λ (xs : List X). made ++ pieces_from ends hand xs) (changed_split key last piece (join back) here others low high are above)
-        ∙ ap (λ (ps : List (List X)). made ++ ps) (pieces_append ends hand (changed key piece here) (changed key (join back) others))
-        ∙ sym (append_assoc made (done_by ends hand (changed key piece here)) (pieces_from ends (hand_after ends hand (changed key piece here)) (changed key (join back) others)));
+        ∙ ap (λ (xs : List X). made ++ pieces_from ends pending xs) (changed_split key last piece (join back) here others low high are above)
+        ∙ ap (λ (ps : List (List X)). made ++ ps) (pieces_append ends pending (changed key piece here) (changed key (join back) others))
+        ∙ sym (append_assoc made (done_by ends pending (changed key piece here)) (pieces_from ends (pending_after ends pending (changed key piece here)) (changed key (join back) others)));
   }
 
   -- the last old piece is opened, with all changes that are left; what is in hand then is the last piece
-  pub cut_last : (made : List (List X)) (hand piece : List X) (changes : List (Change X)) → IsCutTo made hand (piece ∷ []) changes
-      → goal ≡ made ++ done_by ends hand (changed key piece changes) ++ pieces_from ends (hand_after ends hand (changed key piece changes)) []
-  cut_last made hand piece changes so =
+  pub cut_last : (made : List (List X)) (pending piece : List X) (changes : List (Change X)) → IsCutTo made pending (piece ∷ []) changes
+      → goal ≡ made ++ done_by ends pending (changed key piece changes) ++ pieces_from ends (pending_after ends pending (changed key piece changes)) []
+  cut_last made pending piece changes so =
       so.rest
-      ∙ ap (λ (xs : List X). made ++ pieces_from ends hand (changed key xs changes)) (append-nil piece)
-      ∙ ap (λ (xs : List X). made ++ pieces_from ends hand xs) (sym (append-nil (changed key piece changes)))
-      ∙ ap (λ (ps : List (List X)). made ++ ps) (pieces_append ends hand (changed key piece changes) [])
-      ∙ sym (append_assoc made (done_by ends hand (changed key piece changes)) (pieces_from ends (hand_after ends hand (changed key piece changes)) []))
+      ∙ ap (λ (xs : List X). made ++ pieces_from ends pending (changed key xs changes)) (append-nil piece)
+      ∙ ap (λ (xs : List X). made ++ pieces_from ends pending xs) (sym (append-nil (changed key piece changes)))
+      ∙ ap (λ (ps : List (List X)). made ++ ps) (pieces_append ends pending (changed key piece changes) [])
+      ∙ sym (append_assoc made (done_by ends pending (changed key piece changes)) (pieces_from ends (pending_after ends pending (changed key piece changes)) []))
 
   -- no change is left and nothing is in hand: all old pieces to come stay
   pub cut_rest : (made back : List (List X)) → IsCutTo made [] back [] → ArePieces ends back → goal ≡ made ++ back

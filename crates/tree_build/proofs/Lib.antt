@@ -17,7 +17,7 @@ pub mod FitLemmas
 pub mod FoundLemmas
 pub mod GoneLemmas
 pub mod GrowLemmas
-pub mod HandLemmas
+pub mod PendingLemmas
 pub mod LastLemmas
 pub mod LengthLemmas
 pub mod LevelLemmas
@@ -37,7 +37,7 @@ pub mod RebuildLemmas
 pub mod RecutLemmas
 pub mod SeekLemmas
 pub mod SeekStates
-pub mod SettleLemmas
+pub mod ShrinkLemmas
 pub mod SplitLemmas
 pub mod StepItems
 pub mod StepLoops

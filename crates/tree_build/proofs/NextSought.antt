@@ -69,11 +69,11 @@ pub record IsFoundIn (nodes ns : List Node) (k : List ℕ) : Type 0 where
   pub is : IsIn node ns
   pub sought : IsSoughtFor nodes k node
 
-module _ (old new kept opened came lost gained : List Node) (cs : List (Change Link)) (was : Woven kept opened old) (is : Woven kept came new) (differ : Differ opened came lost gained cs)
+module _ (old new kept opened came lost gained : List Node) (cs : List (Change Link)) (was : Woven kept opened old) (is : Woven kept came new) (parent_changes : Differ opened came lost gained cs)
     (old_rises : AreRisingFrom None (map greatest_of old)) (new_rises : AreRisingFrom None (map greatest_of new))
     (keys : List (List ℕ)) (born : AreBorn old new keys) (covers : (k : List ℕ) → IsIn k keys → IsFoundIn old opened k) where
   pub next_opened : (k : List ℕ) → IsIn k (keys_changed cs) → IsFoundIn old opened k
-  next_opened k in_next = elim (key_from opened came lost gained cs differ k in_next) [
+  next_opened k in_next = elim (key_from opened came lost gained cs parent_changes k in_next) [
     | inl o ↦ record { node = o.node; is = o.is; sought = subst (λ (l : List ℕ). IsSoughtFor old l o.node) (sym o.key_is) (self_sought None old old_rises o.node (woven_second o.node kept opened old was o.is)) }
     | inr m ↦ subst (λ (l : List ℕ). IsFoundIn old opened l) (sym m.key_is) (elim (born m.node (woven_second m.node kept came new is m.is)) [
       | inl changes ↦ covers (greatest_of m.node) changes

@@ -11,7 +11,7 @@ use Rattle.tree_build.specs.internal.Steps.{HaveReasons, IsCovered, IsOpenedFor,
 use Rattle.tree_build.specs.internal.Towers.{tower}
 use Rattle.tree_build.specs.internal.TreeEdits.{AreReasoned, HasNext, HaveAllReasons, IsRead}
 use Rattle.tree_build.specs.internal.Weaving.{IsIn}
-use Rattle.tree_build.specs.declared.held.OldNode.{OldNode}
+use Rattle.tree_build.specs.declared.old_node.OldNode.{OldNode}
 use Rattle.tree_build.specs.declared.step.LevelEdit.{LevelEdit}
 use Rattle.tree_build.proofs.BornLemmas.{AreBorn}
 use Rattle.tree_build.proofs.BornLevels.{born_inner, born_leaves, next_changes}
@@ -154,7 +154,7 @@ module _ (tree : ℕ) (entries : List Binding) (changes : List (Change Binding))
 
       next_counts : suc level < length old → DoCount (suc level) (keys_changed cs)
       next_counts lt_next k n in_next sought =
-          let f = next_opened (level_at old level) (made level) next.is.kept next.is.opened next.is.came next.lost next.gained cs next.is.was next.is.is next.differ
+          let f = next_opened (level_at old level) (made level) next.is.kept next.is.opened next.is.came next.lost next.gained cs next.is.was next.is.is next.parent_changes
           (old_rises tree entries has level lt) (tower_rises tree after changed_has level) keys born covered k in_next in
           let there = each_there (λ (m : Node) (o : OldNode). IsOldNode o m) next.is.opened olds (each_back IsOldNode olds next.is.opened stand) f.node f.is in
           let in_old = woven_second f.node next.is.kept next.is.opened (level_at old level) next.is.was f.is in

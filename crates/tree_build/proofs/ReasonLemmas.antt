@@ -17,7 +17,7 @@ use Rattle.tree_build.specs.internal.RisingChanges.{AreOwnAndRising, IsUpTo}
 use Rattle.tree_build.specs.internal.Seeking.{IsSought}
 use Rattle.tree_build.specs.internal.Steps.{CanStep, FirstIsAbove, HaveReasons, IsCovered, IsOpenedFor, IsReason, IsWanted, keys_changed}
 use Rattle.tree_build.specs.internal.Weaving.{IsIn}
-use Rattle.tree_build.specs.declared.held.OldNode.{OldNode}
+use Rattle.tree_build.specs.declared.old_node.OldNode.{OldNode}
 use Rattle.tree_build.specs.declared.level_item.ItemChange.{ItemChange}
 use Rattle.tree_build.specs.declared.piece.NewPiece.{NewPiece}
 use Rattle.tree_build.proofs.DescentLemmas.{all_parts}
@@ -61,14 +61,14 @@ module _ {X : Type 0} (key : X → List ℕ) (ends : ℕ → X → Bool) (items 
   new_nodes = map over (wanted_pieces key ends items over Fit nodes changes)
 
   -- with something in hand, and all changes to come above it, the next node is gone
-  module _ (olds : List OldNode) (news : List NewPiece) (hand : List X) (rest : List (Change X)) (others : List Node) (node : Node) (behind : List Node) (so : StepAt key ends items over Fit nodes changes others (node ∷ behind) olds news hand rest) where
-    some_others : (hand ≡ [] → ⊥) → 1 ≤ length others
+  module _ (olds : List OldNode) (news : List NewPiece) (pending : List X) (rest : List (Change X)) (others : List Node) (node : Node) (behind : List Node) (so : StepAt key ends items over Fit nodes changes others (node ∷ behind) olds news pending rest) where
+    some_others : (pending ≡ [] → ⊥) → 1 ≤ length others
     some_others some = elim so.following [
       | inl empty ↦ absurd (some empty)
       | inr last ↦ omega (arith, ap (length {A = Node}) last.front_is, length-append last.nodes (last.node ∷ []))
     ]
 
-    some_items : (hand ≡ [] → ⊥) → 1 ≤ length (items node)
+    some_items : (pending ≡ [] → ⊥) → 1 ≤ length (items node)
     some_items some = elim can.level.cut [
       | inl one ↦ absurd (omega (arith, one, ap (length {A = Node}) so.whole, length-append others (node ∷ behind), some_others some))
       | inr has ↦ (all_parts (λ (n : Node). 1 ≤ length (items n)) others (node ∷ behind) (subst (λ (ns : List Node). AllByRecursion (λ (n : Node). 1 ≤ length (items n)) ns) so.whole has.some)).1.0
@@ -81,11 +81,11 @@ module _ {X : Type 0} (key : X → List ℕ) (ends : ℕ → X → Bool) (items 
       not_below cs all.1,
     )
 
-    pub is_gone : (hand ≡ [] → ⊥) → AllByRecursion (λ (c : Change X). IsBelow (greatest_of node) c.key) rest → IsIn node new_nodes → ⊥
+    pub is_gone : (pending ≡ [] → ⊥) → AllByRecursion (λ (c : Change X). IsBelow (greatest_of node) c.key) rest → IsIn node new_nodes → ⊥
     is_gone some above = by (items node) refl (some_items some)
       where
-        cut_is : wanted_pieces key ends items over Fit nodes changes ≡ so.made ++ pieces_from ends hand (items node ++ changed key (join (map items behind)) rest)
-        cut_is = so.cut.rest ∙ ap (λ (xs : List X). so.made ++ pieces_from ends hand xs) (changed_behind key (items node) (join (map items behind)) rest (not_below rest above))
+        cut_is : wanted_pieces key ends items over Fit nodes changes ≡ so.made ++ pieces_from ends pending (items node ++ changed key (join (map items behind)) rest)
+        cut_is = so.cut.rest ∙ ap (λ (xs : List X). so.made ++ pieces_from ends pending xs) (changed_behind key (items node) (join (map items behind)) rest (not_below rest above))
 
         rises : AreRisingFrom None (map key (join (wanted_pieces key ends items over Fit nodes changes)))
         rises = subst (λ (xs : List X). AreRisingFrom None (map key xs)) (sym (pieces_join ends [] (changed key (flat_map items nodes) changes))) (changed_rises key (flat_map items nodes) changes can.level.rising can.own)
@@ -93,22 +93,22 @@ module _ {X : Type 0} (key : X → List ℕ) (ends : ℕ → X → Bool) (items 
         by : (mine : List X) → items node ≡ mine → 1 ≤ length mine → IsIn node new_nodes → ⊥
         by [] has long is = absurd (omega (arith, long))
         by (x ∷ xs) has long is =
-            let here = cut_is ∙ ap (λ (ys : List X). so.made ++ pieces_from ends hand (ys ++ changed key (join (map items behind)) rest)) has in
-            let joined : join (wanted_pieces key ends items over Fit nodes changes) ≡ (join so.made ++ hand) ++ x ∷ (xs ++ changed key (join (map items behind)) rest) =
+            let here = cut_is ∙ ap (λ (ys : List X). so.made ++ pieces_from ends pending (ys ++ changed key (join (map items behind)) rest)) has in
+            let joined : join (wanted_pieces key ends items over Fit nodes changes) ≡ (join so.made ++ pending) ++ x ∷ (xs ++ changed key (join (map items behind)) rest) =
             ap join here
-            ∙ flat_map-append (λ (p : List X). p) so.made (pieces_from ends hand (x ∷ (xs ++ changed key (join (map items behind)) rest)))
-            ∙ ap (λ (ys : List X). join so.made ++ ys) (pieces_join ends hand (x ∷ (xs ++ changed key (join (map items behind)) rest)))
-            ∙ sym (append_assoc (join so.made) hand (x ∷ (xs ++ changed key (join (map items behind)) rest))) in
+            ∙ flat_map-append (λ (p : List X). p) so.made (pieces_from ends pending (x ∷ (xs ++ changed key (join (map items behind)) rest)))
+            ∙ ap (λ (ys : List X). join so.made ++ ys) (pieces_join ends pending (x ∷ (xs ++ changed key (join (map items behind)) rest)))
+            ∙ sym (append_assoc (join so.made) pending (x ∷ (xs ++ changed key (join (map items behind)) rest))) in
             let rise = subst (λ (ys : List X). AreRisingFrom None (map key ys)) joined rises in
-            let low = all_parts (λ (y : X). IsBelow (key y) (key x)) (join so.made) hand (rise_before key (join so.made ++ hand) x (xs ++ changed key (join (map items behind)) rest) rise) in
-            let high = all_above key (key x) (xs ++ changed key (join (map items behind)) rest) (rise_back key None (join so.made ++ hand) (x ∷ (xs ++ changed key (join (map items behind)) rest)) rise).1 in
+            let low = all_parts (λ (y : X). IsBelow (key y) (key x)) (join so.made) pending (rise_before key (join so.made ++ pending) x (xs ++ changed key (join (map items behind)) rest) rise) in
+            let high = all_above key (key x) (xs ++ changed key (join (map items behind)) rest) (rise_back key None (join so.made ++ pending) (x ∷ (xs ++ changed key (join (map items behind)) rest)) rise).1 in
             none_over key x xs items over back_is node has (wanted_pieces key ends items over Fit nodes changes)
             (subst (λ (ps : List (List X)). AllByRecursion (λ (p : List X). p ≢ x ∷ xs) ps) (sym here)
-            (all_append (λ (p : List X). p ≢ x ∷ xs) so.made (pieces_from ends hand (x ∷ (xs ++ changed key (join (map items behind)) rest))) (made_others key x xs so.made low.0)
-            (in_hand key ends x xs hand (xs ++ changed key (join (map items behind)) rest) some low.1 high))) is
+            (all_append (λ (p : List X). p ≢ x ∷ xs) so.made (pieces_from ends pending (x ∷ (xs ++ changed key (join (map items behind)) rest))) (made_others key x xs so.made low.0)
+            (in_hand key ends x xs pending (xs ++ changed key (join (map items behind)) rest) some low.1 high))) is
 
     -- it is sought for one of the changes to come, or gone
-    pub reason_held : (hand ≡ [] → ⊥) → IsReason nodes new_nodes (keys_changed rest) node
+    pub reason_held : (pending ≡ [] → ⊥) → IsReason nodes new_nodes (keys_changed rest) node
     reason_held some = by rest so.own so.above refl
       where
         higher : (c : Change X) (cs : List (Change X)) → IsBelow (greatest_of node) c.key → AllByRecursion (λ (d : Change X). IsBelow c.key d.key) cs → AllByRecursion (λ (d : Change X). IsBelow (greatest_of node) d.key) cs
@@ -188,9 +188,9 @@ module _ {T X : Type 0} (meaning : T → X) (key : X → List ℕ) (ends : ℕ �
     more_covered olds later old same ks all.1,
   )
 
-  pub next_reasons : (parts : (xs ys : List X) → Fit (xs ++ ys) → Fit xs × Fit ys) (olds : List OldNode) (news : List NewPiece) (hand : List T) (done : ℕ)
-      → StepState key ends items over Fit nodes (changes_meant meaning cs) olds news (map meaning hand) (changes_meant meaning (drop done cs))
-      → (wanted : Bor (List ℕ) × Bool) → IsWanted olds hand (take (length cs - done) (drop done cs)) (Some wanted)
+  pub next_reasons : (parts : (xs ys : List X) → Fit (xs ++ ys) → Fit xs × Fit ys) (olds : List OldNode) (news : List NewPiece) (pending : List T) (done : ℕ)
+      → StepState key ends items over Fit nodes (changes_meant meaning cs) olds news (map meaning pending) (changes_meant meaning (drop done cs))
+      → (wanted : Bor (List ℕ) × Bool) → IsWanted olds pending (take (length cs - done) (drop done cs)) (Some wanted)
       → (tree : List (List Node)) (level : ℕ) → level_at tree level ≡ nodes → (node : Node) (is_last : Bool) → IsSoughtNode tree level wanted.0.now wanted.1 node is_last
       → (old : OldNode) → IsOldNode old node → (count : ℕ)
       → (IsTrue is_last → count ≡ length (take (length cs - done) (drop done cs)))
@@ -199,9 +199,9 @@ module _ {T X : Type 0} (meaning : T → X) (key : X → List ℕ) (ends : ℕ �
       → HaveReasons nodes (new_nodes key ends items over Fit nodes (changes_meant meaning cs) can back_is) (keys_changed (changes_meant meaning cs)) (keys_to done) olds
       → (later : List OldNode) → later ≡ olds ++ old ∷ []
       → HaveReasons nodes (new_nodes key ends items over Fit nodes (changes_meant meaning cs) can back_is) (keys_changed (changes_meant meaning cs)) (keys_to (done + count)) later
-  next_reasons parts olds news hand done state wanted wants tree level same node is_last is old stands count last up_to above so later later_is =
+  next_reasons parts olds news pending done state wanted wants tree level same node is_last is old stands count last up_to above so later later_is =
       let rest = rest_is cs done in
-      let f = found meaning key ends items over Fit nodes cs can parts olds news hand done state (take (length cs - done) (drop done cs)) rest wanted wants tree level same node is_last is in
+      let f = found meaning key ends items over Fit nodes cs can parts olds news pending done state (take (length cs - done) (drop done cs)) rest wanted wants tree level same node is_last is in
       let split = split_at meaning key ends items over Fit nodes cs can node f.behind is_last done count old.greatest.now f.last stands.greatest
       (λ stops. last stops ∙ ap (length {A = ItemChange T}) rest)
       (λ goes. subst (λ (ds : List (ItemChange T)). AllByRecursion (λ (c : ItemChange T). IsUpTo c.key.now old.greatest.now) (take count ds)) rest (up_to goes))
@@ -220,14 +220,14 @@ module _ {T X : Type 0} (meaning : T → X) (key : X → List ℕ) (ends : ℕ �
                     (subst (λ (b : Bool). IsSought greatest_of wanted.0.now b (level_at tree level) is.front node is.back) above_is is.sought));
               },
             )
-        | inr (some, before, one, olds_are, key_is, above_is) ↦ elim (reason_held key ends items over Fit nodes (changes_meant meaning cs) can back_is olds news (map meaning hand) (changes_meant meaning (drop done cs)) f.others node f.behind f.at (λ none. some (none_meant meaning key ends items over Fit nodes cs can hand none))) [
+        | inr (some, before, one, olds_are, key_is, above_is) ↦ elim (reason_held key ends items over Fit nodes (changes_meant meaning cs) can back_is olds news (map meaning pending) (changes_meant meaning (drop done cs)) f.others node f.behind f.at (λ none. some (none_meant meaning key ends items over Fit nodes cs can pending none))) [
           | inl here ↦ inl (here.0, key_in done cs here.0 here.1, here.2)
           | inr gone ↦ inr gone
         ]
       ] in
       let among = subst (λ (ns : List Node). IsIn node ns) same (subst (λ (ns : List Node). IsIn node ns) (sym is.sought.whole) (in_back node is.front (node ∷ is.back) (inl refl))) in
       let opened = in_back old olds (old ∷ []) (inl refl) in
-      let covered = covers_taken key ends items over Fit nodes (changes_meant meaning cs) can back_is olds news (map meaning hand) (changes_meant meaning (drop done cs)) f.others node f.behind f.at is_last
+      let covered = covers_taken key ends items over Fit nodes (changes_meant meaning cs) can back_is olds news (map meaning pending) (changes_meant meaning (drop done cs)) f.others node f.behind f.at is_last
       (changes_meant meaning (take count (drop done cs))) (changes_meant meaning (drop (done + count) cs)) split old stands later (subst (λ (os : List OldNode). IsIn old os) (sym later_is) opened) in
       record {
         reasons = subst (λ (os : List OldNode). AllByRecursion (IsOpenedFor nodes (new_nodes key ends items over Fit nodes (changes_meant meaning cs) can back_is) (keys_changed (changes_meant meaning cs))) os) (sym later_is)
@@ -240,10 +240,10 @@ module _ {T X : Type 0} (meaning : T → X) (key : X → List ℕ) (ends : ℕ �
       }
 
   -- at the end all changes were taken
-  pub last_reasons : (olds : List OldNode) (news : List NewPiece) (hand : List T) (done : ℕ) → StepState key ends items over Fit nodes (changes_meant meaning cs) olds news (map meaning hand) (changes_meant meaning (drop done cs)) → IsWanted olds hand (take (length cs - done) (drop done cs)) None
+  pub last_reasons : (olds : List OldNode) (news : List NewPiece) (pending : List T) (done : ℕ) → StepState key ends items over Fit nodes (changes_meant meaning cs) olds news (map meaning pending) (changes_meant meaning (drop done cs)) → IsWanted olds pending (take (length cs - done) (drop done cs)) None
       → HaveReasons nodes (new_nodes key ends items over Fit nodes (changes_meant meaning cs) can back_is) (keys_changed (changes_meant meaning cs)) (keys_to done) olds
       → HaveReasons nodes (new_nodes key ends items over Fit nodes (changes_meant meaning cs) can back_is) (keys_changed (changes_meant meaning cs)) (keys_changed (changes_meant meaning cs)) olds
-  last_reasons olds news hand done state wants so =
+  last_reasons olds news pending done state wants so =
       let none_left : drop done cs ≡ [] = elim wants [ inl both ↦ sym (rest_is cs done) ∙ both.1 | inr not ↦ absurd (never not) ] in
       let whole : take done cs ≡ cs = sym (append-nil (take done cs)) ∙ ap (λ (ds : List (ItemChange T)). take done cs ++ ds) (sym none_left) ∙ take-append-drop done cs in
       record { reasons = so.reasons; covers = subst (λ (ds : List (ItemChange T)). AllByRecursion (IsCovered nodes olds) (keys_changed (changes_meant meaning ds))) whole so.covers }
@@ -252,5 +252,5 @@ module _ {T X : Type 0} (meaning : T → X) (key : X → List ℕ) (ends : ℕ �
       not_empty [] o e = cc
       not_empty (p ∷ os) o e = cc
 
-      never : (hand ≢ []) × (olds ≡ []) → ⊥
-      never both = elim state.at.following [ inl none ↦ both.0 (none_meant meaning key ends items over Fit nodes cs can hand none) | inr last ↦ not_empty last.before last.old (sym last.olds_are ∙ both.1) ]
+      never : (pending ≢ []) × (olds ≡ []) → ⊥
+      never both = elim state.at.following [ inl none ↦ both.0 (none_meant meaning key ends items over Fit nodes cs can pending none) | inr last ↦ not_empty last.before last.old (sym last.olds_are ∙ both.1) ]

@@ -6,7 +6,7 @@ use Rattle.tree_node.specs.Trees.{Two, ends_by, entries_in, is_marked_entry, is_
 use Rattle.tree_build.specs.Changing.{Change, changed}
 use Rattle.tree_build.specs.Rebuilding.{IsOldTree, changed_entries, changes_of, keys_of_changes}
 use Rattle.tree_build.specs.declared.change.EntryChange.{EntryChange}
-use Rattle.tree_build.specs.declared.held.OldNode.{OldNode}
+use Rattle.tree_build.specs.declared.old_node.OldNode.{OldNode}
 use Rattle.tree_build.specs.declared.step.LevelEdit.{LevelEdit}
 use Rattle.tree_build.specs.internal.Differing.{Differ}
 use Rattle.tree_build.specs.internal.Edits.{Each, IsNewNode, IsOldNode}
@@ -20,7 +20,7 @@ pub has_next : (old new : List Node) (edit : LevelEdit) (cs : List (Change Link)
     → HasNext old new edit cs
 has_next old new edit cs is old_are new_are differs =
     let (lost, gained, d) = differs is.opened is.came is.olds_stand is.news_stand (woven_all IsNode is.kept is.opened old is.was old_are) (woven_all IsNode is.kept is.came new is.is new_are) in
-    record { is = is; lost = lost; gained = gained; differ = d }
+    record { is = is; lost = lost; gained = gained; parent_changes = d }
 
 pub reasons_leaves : (held : List ℕ → Type 0) (top : List ℕ) (changes : List EntryChange) (tree : ℕ) (entries : List Binding) (given : List (Change Binding)) → given ≡ changes_of changes → IsOldTree held top (changes_of changes) tree entries → (olds : List OldNode)
     → HaveReasons (level_at (levels Two tree entries) 0) (map (Leaf tree) (pieces (ends_by Two is_marked_entry) (changed (λ (entry : Binding). entry.key) (flat_map entries_in (level_at (levels Two tree entries) 0)) given))) (keys_changed given) (keys_changed given) olds

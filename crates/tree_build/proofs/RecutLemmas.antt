@@ -3,48 +3,48 @@ use Rattle.std.proofs.Common.{◌≡◌, ℕ, ◌+◌, List, [], ◌∷◌, ◌+
 use Rattle.std.proofs.lemmas.List.{append-nil}
 use Rattle.tree_node.specs.Trees.{pieces, pieces_from}
 use Rattle.tree_node.proofs.shared.PieceLemmas.{pieces_step, chosen, join}
-use Rattle.tree_build.specs.internal.Cutting.{hand_after, done_by, EndsWithCut, IsClosed, ArePieces}
+use Rattle.tree_build.specs.internal.Cutting.{pending_after, done_by, EndsWithCut, IsClosed, ArePieces}
 
 -- ---- cutting goes on from what is in hand
 
 module _ {X : Type 0} (ends : ℕ → X → Bool) where
   -- Cutting a list in two parts: the pieces that end within the first, and then those of the second from what is in hand.
-  pub pieces_append : (hand xs ys : List X) → pieces_from ends hand (xs ++ ys) ≡ done_by ends hand xs ++ pieces_from ends (hand_after ends hand xs) ys
-  pieces_append hand [] ys = refl
-  pieces_append hand (x ∷ xs) ys =
-      pieces_step ends hand x (xs ++ ys)
-      ∙ step (ends (length hand + 1) x) (pieces_append [] xs ys) (pieces_append (hand ++ x ∷ []) xs ys)
+  pub pieces_append : (pending xs ys : List X) → pieces_from ends pending (xs ++ ys) ≡ done_by ends pending xs ++ pieces_from ends (pending_after ends pending xs) ys
+  pieces_append pending [] ys = refl
+  pieces_append pending (x ∷ xs) ys =
+      pieces_step ends pending x (xs ++ ys)
+      ∙ step (ends (length pending + 1) x) (pieces_append [] xs ys) (pieces_append (pending ++ x ∷ []) xs ys)
     where
       step : (b : Bool)
-          → pieces_from ends [] (xs ++ ys) ≡ done_by ends [] xs ++ pieces_from ends (hand_after ends [] xs) ys
-          → pieces_from ends (hand ++ x ∷ []) (xs ++ ys) ≡ done_by ends (hand ++ x ∷ []) xs ++ pieces_from ends (hand_after ends (hand ++ x ∷ []) xs) ys
-          → cond b ((hand ++ x ∷ []) ∷ pieces_from ends [] (xs ++ ys)) (pieces_from ends (hand ++ x ∷ []) (xs ++ ys))
-          ≡ cond b ((hand ++ x ∷ []) ∷ done_by ends [] xs) (done_by ends (hand ++ x ∷ []) xs) ++ pieces_from ends (cond b (hand_after ends [] xs) (hand_after ends (hand ++ x ∷ []) xs)) ys
-      step true p q = ap (λ (ps : List (List X)). (hand ++ x ∷ []) ∷ ps) p
+          → pieces_from ends [] (xs ++ ys) ≡ done_by ends [] xs ++ pieces_from ends (pending_after ends [] xs) ys
+          → pieces_from ends (pending ++ x ∷ []) (xs ++ ys) ≡ done_by ends (pending ++ x ∷ []) xs ++ pieces_from ends (pending_after ends (pending ++ x ∷ []) xs) ys
+          → cond b ((pending ++ x ∷ []) ∷ pieces_from ends [] (xs ++ ys)) (pieces_from ends (pending ++ x ∷ []) (xs ++ ys))
+          ≡ cond b ((pending ++ x ∷ []) ∷ done_by ends [] xs) (done_by ends (pending ++ x ∷ []) xs) ++ pieces_from ends (cond b (pending_after ends [] xs) (pending_after ends (pending ++ x ∷ []) xs)) ys
+      step true p q = ap (λ (ps : List (List X)). (pending ++ x ∷ []) ∷ ps) p
       step false p q = q
 
-  pub hand_append : (hand xs ys : List X) → hand_after ends hand (xs ++ ys) ≡ hand_after ends (hand_after ends hand xs) ys
-  hand_append hand [] ys = refl
-  hand_append hand (x ∷ xs) ys = step (ends (length hand + 1) x) (hand_append [] xs ys) (hand_append (hand ++ x ∷ []) xs ys)
+  pub hand_append : (pending xs ys : List X) → pending_after ends pending (xs ++ ys) ≡ pending_after ends (pending_after ends pending xs) ys
+  hand_append pending [] ys = refl
+  hand_append pending (x ∷ xs) ys = step (ends (length pending + 1) x) (hand_append [] xs ys) (hand_append (pending ++ x ∷ []) xs ys)
     where
       step : (b : Bool)
-          → hand_after ends [] (xs ++ ys) ≡ hand_after ends (hand_after ends [] xs) ys
-          → hand_after ends (hand ++ x ∷ []) (xs ++ ys) ≡ hand_after ends (hand_after ends (hand ++ x ∷ []) xs) ys
-          → cond b (hand_after ends [] (xs ++ ys)) (hand_after ends (hand ++ x ∷ []) (xs ++ ys))
-          ≡ hand_after ends (cond b (hand_after ends [] xs) (hand_after ends (hand ++ x ∷ []) xs)) ys
+          → pending_after ends [] (xs ++ ys) ≡ pending_after ends (pending_after ends [] xs) ys
+          → pending_after ends (pending ++ x ∷ []) (xs ++ ys) ≡ pending_after ends (pending_after ends (pending ++ x ∷ []) xs) ys
+          → cond b (pending_after ends [] (xs ++ ys)) (pending_after ends (pending ++ x ∷ []) (xs ++ ys))
+          ≡ pending_after ends (cond b (pending_after ends [] xs) (pending_after ends (pending ++ x ∷ []) xs)) ys
       step true p q = p
       step false p q = q
 
-  pub done_append : (hand xs ys : List X) → done_by ends hand (xs ++ ys) ≡ done_by ends hand xs ++ done_by ends (hand_after ends hand xs) ys
-  done_append hand [] ys = refl
-  done_append hand (x ∷ xs) ys = step (ends (length hand + 1) x) (done_append [] xs ys) (done_append (hand ++ x ∷ []) xs ys)
+  pub done_append : (pending xs ys : List X) → done_by ends pending (xs ++ ys) ≡ done_by ends pending xs ++ done_by ends (pending_after ends pending xs) ys
+  done_append pending [] ys = refl
+  done_append pending (x ∷ xs) ys = step (ends (length pending + 1) x) (done_append [] xs ys) (done_append (pending ++ x ∷ []) xs ys)
     where
       step : (b : Bool)
-          → done_by ends [] (xs ++ ys) ≡ done_by ends [] xs ++ done_by ends (hand_after ends [] xs) ys
-          → done_by ends (hand ++ x ∷ []) (xs ++ ys) ≡ done_by ends (hand ++ x ∷ []) xs ++ done_by ends (hand_after ends (hand ++ x ∷ []) xs) ys
-          → cond b ((hand ++ x ∷ []) ∷ done_by ends [] (xs ++ ys)) (done_by ends (hand ++ x ∷ []) (xs ++ ys))
-          ≡ cond b ((hand ++ x ∷ []) ∷ done_by ends [] xs) (done_by ends (hand ++ x ∷ []) xs) ++ done_by ends (cond b (hand_after ends [] xs) (hand_after ends (hand ++ x ∷ []) xs)) ys
-      step true p q = ap (λ (ps : List (List X)). (hand ++ x ∷ []) ∷ ps) p
+          → done_by ends [] (xs ++ ys) ≡ done_by ends [] xs ++ done_by ends (pending_after ends [] xs) ys
+          → done_by ends (pending ++ x ∷ []) (xs ++ ys) ≡ done_by ends (pending ++ x ∷ []) xs ++ done_by ends (pending_after ends (pending ++ x ∷ []) xs) ys
+          → cond b ((pending ++ x ∷ []) ∷ done_by ends [] (xs ++ ys)) (done_by ends (pending ++ x ∷ []) (xs ++ ys))
+          ≡ cond b ((pending ++ x ∷ []) ∷ done_by ends [] xs) (done_by ends (pending ++ x ∷ []) xs) ++ done_by ends (cond b (pending_after ends [] xs) (pending_after ends (pending ++ x ∷ []) xs)) ys
+      step true p q = ap (λ (ps : List (List X)). (pending ++ x ∷ []) ∷ ps) p
       step false p q = q
 
   -- ---- behind a cut
@@ -53,53 +53,53 @@ module _ {X : Type 0} (ends : ℕ → X → Bool) where
   pub pieces_done : (xs : List X) → EndsWithCut ends xs → pieces ends xs ≡ done_by ends [] xs
   pieces_done xs cut =
       ap (pieces ends) (sym (append-nil xs)) ∙ pieces_append [] xs []
-      ∙ ap (λ (hand : List X). done_by ends [] xs ++ pieces_from ends hand []) cut
+      ∙ ap (λ (pending : List X). done_by ends [] xs ++ pieces_from ends pending []) cut
       ∙ append-nil (done_by ends [] xs)
 
   -- Behind a cut pieces depend on nothing before it.
   pub pieces_behind : (xs ys : List X) → EndsWithCut ends xs → pieces ends (xs ++ ys) ≡ pieces ends xs ++ pieces ends ys
   pieces_behind xs ys cut =
       pieces_append [] xs ys
-      ∙ ap (λ (hand : List X). done_by ends [] xs ++ pieces_from ends hand ys) cut
+      ∙ ap (λ (pending : List X). done_by ends [] xs ++ pieces_from ends pending ys) cut
       ∙ ap (λ (ps : List (List X)). ps ++ pieces ends ys) (sym (pieces_done xs cut))
 
   -- a closed piece stays one
   pub pieces_keep : (piece ys : List X) → IsClosed ends piece → pieces ends (piece ++ ys) ≡ piece ∷ pieces ends ys
   pieces_keep piece ys closed =
       pieces_append [] piece ys
-      ∙ ap (λ (hand : List X). done_by ends [] piece ++ pieces_from ends hand ys) closed.cut
+      ∙ ap (λ (pending : List X). done_by ends [] piece ++ pieces_from ends pending ys) closed.cut
       ∙ ap (λ (ps : List (List X)). ps ++ pieces ends ys) closed.one
 
   -- two parts that end with cuts end with one
   pub cut_append : (xs ys : List X) → EndsWithCut ends xs → EndsWithCut ends ys → EndsWithCut ends (xs ++ ys)
-  cut_append xs ys p q = hand_append [] xs ys ∙ ap (λ (hand : List X). hand_after ends hand ys) p ∙ q
+  cut_append xs ys p q = hand_append [] xs ys ∙ ap (λ (pending : List X). pending_after ends pending ys) p ∙ q
 
   -- ---- the pieces of a list are closed, but for the last
 
   -- a hand that cutting comes to
-  pub record IsHand (hand : List X) : Type 0 where
-    pub none : done_by ends [] hand ≡ []
-    pub all : hand_after ends [] hand ≡ hand
+  pub record IsHand (pending : List X) : Type 0 where
+    pub none : done_by ends [] pending ≡ []
+    pub all : pending_after ends [] pending ≡ pending
 
   pub no_hand : IsHand []
   no_hand = record { none = refl; all = refl }
 
-  hand_more : (hand : List X) (x : X) → IsHand hand → ends (length hand + 1) x ≡ false → IsHand (hand ++ x ∷ [])
-  hand_more hand x is e = record {
-    none = done_append [] hand (x ∷ []) ∙ ap (λ (ps : List (List X)). ps ++ done_by ends (hand_after ends [] hand) (x ∷ [])) is.none
+  hand_more : (pending : List X) (x : X) → IsHand pending → ends (length pending + 1) x ≡ false → IsHand (pending ++ x ∷ [])
+  hand_more pending x is e = record {
+    none = done_append [] pending (x ∷ []) ∙ ap (λ (ps : List (List X)). ps ++ done_by ends (pending_after ends [] pending) (x ∷ [])) is.none
         ∙ ap (λ (h : List X). done_by ends h (x ∷ [])) is.all
-        ∙ ap (λ b. cond b ((hand ++ x ∷ []) ∷ []) []) e;
-    all = hand_append [] hand (x ∷ []) ∙ ap (λ (h : List X). hand_after ends h (x ∷ [])) is.all
-        ∙ ap (λ b. cond b [] (hand ++ x ∷ [])) e;
+        ∙ ap (λ b. cond b ((pending ++ x ∷ []) ∷ []) []) e;
+    all = hand_append [] pending (x ∷ []) ∙ ap (λ (h : List X). pending_after ends h (x ∷ [])) is.all
+        ∙ ap (λ b. cond b [] (pending ++ x ∷ [])) e;
   }
 
-  hand_ends : (hand : List X) (x : X) → IsHand hand → ends (length hand + 1) x ≡ true → IsClosed ends (hand ++ x ∷ [])
-  hand_ends hand x is e = record {
-    one = done_append [] hand (x ∷ []) ∙ ap (λ (ps : List (List X)). ps ++ done_by ends (hand_after ends [] hand) (x ∷ [])) is.none
+  hand_ends : (pending : List X) (x : X) → IsHand pending → ends (length pending + 1) x ≡ true → IsClosed ends (pending ++ x ∷ [])
+  hand_ends pending x is e = record {
+    one = done_append [] pending (x ∷ []) ∙ ap (λ (ps : List (List X)). ps ++ done_by ends (pending_after ends [] pending) (x ∷ [])) is.none
         ∙ ap (λ (h : List X). done_by ends h (x ∷ [])) is.all
-        ∙ ap (λ b. cond b ((hand ++ x ∷ []) ∷ []) []) e;
-    cut = hand_append [] hand (x ∷ []) ∙ ap (λ (h : List X). hand_after ends h (x ∷ [])) is.all
-        ∙ ap (λ b. cond b [] (hand ++ x ∷ [])) e;
+        ∙ ap (λ b. cond b ((pending ++ x ∷ []) ∷ []) []) e;
+    cut = hand_append [] pending (x ∷ []) ∙ ap (λ (h : List X). pending_after ends h (x ∷ [])) is.all
+        ∙ ap (λ b. cond b [] (pending ++ x ∷ [])) e;
   }
 
   closed_one : (piece : List X) → IsClosed ends piece → pieces ends piece ≡ piece ∷ []
@@ -109,20 +109,20 @@ module _ {X : Type 0} (ends : ℕ → X → Bool) where
   closed_front piece [] closed are = closed_one piece closed
   closed_front piece (next ∷ others) closed are = (closed, are)
 
-  last_piece : (hand : List X) → IsHand hand → ArePieces ends (pieces_from ends hand [])
+  last_piece : (pending : List X) → IsHand pending → ArePieces ends (pieces_from ends pending [])
   last_piece [] is = tt
   last_piece (y ∷ ys) is =
       ap (pieces ends) (sym (append-nil (y ∷ ys))) ∙ pieces_append [] (y ∷ ys) []
-      ∙ ap (λ (ps : List (List X)). ps ++ pieces_from ends (hand_after ends [] (y ∷ ys)) []) is.none
+      ∙ ap (λ (ps : List (List X)). ps ++ pieces_from ends (pending_after ends [] (y ∷ ys)) []) is.none
       ∙ ap (λ (h : List X). pieces_from ends h []) is.all
 
-  pieces_are_from : (hand xs : List X) → IsHand hand → ArePieces ends (pieces_from ends hand xs)
-  pieces_are_from hand [] is = last_piece hand is
-  pieces_are_from hand (x ∷ xs) is =
-      subst (λ (ps : List (List X)). ArePieces ends ps) (sym (pieces_step ends hand x xs))
-      (chosen (λ (ps : List (List X)). ArePieces ends ps) (ends (length hand + 1) x) ((hand ++ x ∷ []) ∷ pieces_from ends [] xs) (pieces_from ends (hand ++ x ∷ []) xs)
-      (λ e. closed_front (hand ++ x ∷ []) (pieces_from ends [] xs) (hand_ends hand x is e) (pieces_are_from [] xs no_hand))
-      (λ e. pieces_are_from (hand ++ x ∷ []) xs (hand_more hand x is e)))
+  pieces_are_from : (pending xs : List X) → IsHand pending → ArePieces ends (pieces_from ends pending xs)
+  pieces_are_from pending [] is = last_piece pending is
+  pieces_are_from pending (x ∷ xs) is =
+      subst (λ (ps : List (List X)). ArePieces ends ps) (sym (pieces_step ends pending x xs))
+      (chosen (λ (ps : List (List X)). ArePieces ends ps) (ends (length pending + 1) x) ((pending ++ x ∷ []) ∷ pieces_from ends [] xs) (pieces_from ends (pending ++ x ∷ []) xs)
+      (λ e. closed_front (pending ++ x ∷ []) (pieces_from ends [] xs) (hand_ends pending x is e) (pieces_are_from [] xs no_hand))
+      (λ e. pieces_are_from (pending ++ x ∷ []) xs (hand_more pending x is e)))
 
   -- the pieces of a list are closed, but for the last
   pub pieces_are : (xs : List X) → ArePieces ends (pieces ends xs)

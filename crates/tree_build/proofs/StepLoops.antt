@@ -16,7 +16,7 @@ use Rattle.tree_build.specs.internal.ItemChanges.{change_meant, changes_meant}
 use Rattle.tree_build.specs.internal.RisingChanges.{AreOwnAndRising, IsUpTo}
 use Rattle.tree_build.specs.internal.Seeking.{IsSought}
 use Rattle.tree_build.specs.internal.Steps.{CanStep, FirstIsAbove, HaveGoneOn, IsEdit, IsWanted}
-use Rattle.tree_build.specs.declared.held.OldNode.{OldNode}
+use Rattle.tree_build.specs.declared.old_node.OldNode.{OldNode}
 use Rattle.tree_build.specs.declared.level_item.ItemChange.{ItemChange}
 use Rattle.tree_build.specs.declared.piece.NewPiece.{NewPiece}
 use Rattle.tree_build.specs.declared.step.LevelEdit.{LevelEdit}
@@ -29,26 +29,26 @@ rest_is xs n = ap (λ k. take k (drop n xs)) (sym (length-drop n xs)) ∙ take-l
 module _ {T X : Type 0} (meaning : T → X) (key : X → List ℕ) (ends : ℕ → X → Bool) (items : Node → List X) (over : List X → Node) (Fit : List X → Type 0) (nodes : List Node) (cs : List (ItemChange T))
     (can : CanStep key ends items over Fit nodes (changes_meant meaning cs)) where
   -- the node that was sought stands where the step goes on
-  pub record IsFound (olds : List OldNode) (news : List NewPiece) (hand : List T) (done : ℕ) (node : Node) (is_last : Bool) : Type 0 where
+  pub record IsFound (olds : List OldNode) (news : List NewPiece) (pending : List T) (done : ℕ) (node : Node) (is_last : Bool) : Type 0 where
     pub others : List Node
     pub behind : List Node
-    pub at : StepAt key ends items over Fit nodes (changes_meant meaning cs) others (node ∷ behind) olds news (map meaning hand) (changes_meant meaning (drop done cs))
+    pub at : StepAt key ends items over Fit nodes (changes_meant meaning cs) others (node ∷ behind) olds news (map meaning pending) (changes_meant meaning (drop done cs))
     pub last : (IsTrue is_last → behind ≡ []) × (behind ≡ [] → IsTrue is_last)
 
-  pub none_meant : (hand : List T) → map meaning hand ≡ [] → hand ≡ []
+  pub none_meant : (pending : List T) → map meaning pending ≡ [] → pending ≡ []
   none_meant [] e = refl
   none_meant (x ∷ xs) e = absurd cc
 
-  pub found : (parts : (xs ys : List X) → Fit (xs ++ ys) → Fit xs × Fit ys) (olds : List OldNode) (news : List NewPiece) (hand : List T) (done : ℕ)
-      → StepState key ends items over Fit nodes (changes_meant meaning cs) olds news (map meaning hand) (changes_meant meaning (drop done cs))
-      → (rest : List (ItemChange T)) → rest ≡ drop done cs → (wanted : Bor (List ℕ) × Bool) → IsWanted olds hand rest (Some wanted)
-      → (tree : List (List Node)) (level : ℕ) → level_at tree level ≡ nodes → (node : Node) (is_last : Bool) → IsSoughtNode tree level wanted.0.now wanted.1 node is_last → IsFound olds news hand done node is_last
-  found parts olds news hand done state rest rest_same wanted wants tree level same node is_last is = elim wants [
+  pub found : (parts : (xs ys : List X) → Fit (xs ++ ys) → Fit xs × Fit ys) (olds : List OldNode) (news : List NewPiece) (pending : List T) (done : ℕ)
+      → StepState key ends items over Fit nodes (changes_meant meaning cs) olds news (map meaning pending) (changes_meant meaning (drop done cs))
+      → (rest : List (ItemChange T)) → rest ≡ drop done cs → (wanted : Bor (List ℕ) × Bool) → IsWanted olds pending rest (Some wanted)
+      → (tree : List (List Node)) (level : ℕ) → level_at tree level ≡ nodes → (node : Node) (is_last : Bool) → IsSoughtNode tree level wanted.0.now wanted.1 node is_last → IsFound olds news pending done node is_last
+  found parts olds news pending done state rest rest_same wanted wants tree level same node is_last is = elim wants [
     | inl (empty, change, others, rest_are, key_is, above_is) ↦
-        let no_hand : map meaning hand ≡ [] = ap (map meaning) empty in
+        let no_hand : map meaning pending ≡ [] = ap (map meaning) empty in
         let left : changes_meant meaning (drop done cs) ≡ change_meant meaning change ∷ changes_meant meaning others = ap (changes_meant meaning) (sym rest_same ∙ rest_are) in
         let at = subst (λ (h : List X). StepAt key ends items over Fit nodes (changes_meant meaning cs) state.front state.back olds news h (change_meant meaning change ∷ changes_meant meaning others)) no_hand
-        (subst (λ (ds : List (Change X)). StepAt key ends items over Fit nodes (changes_meant meaning cs) state.front state.back olds news (map meaning hand) ds) left state.at) in
+        (subst (λ (ds : List (Change X)). StepAt key ends items over Fit nodes (changes_meant meaning cs) state.front state.back olds news (map meaning pending) ds) left state.at) in
         let sought = subst (λ (ns : List Node). IsSought greatest_of change.key.now false ns is.front node is.back) same
         (subst (λ (k : List ℕ). IsSought greatest_of k false (level_at tree level) is.front node is.back) key_is
         (subst (λ (b : Bool). IsSought greatest_of wanted.0.now b (level_at tree level) is.front node is.back) above_is is.sought)) in
@@ -64,8 +64,8 @@ module _ {T X : Type 0} (meaning : T → X) (key : X → List ℕ) (ends : ℕ �
         let sought = subst (λ (ns : List Node). IsSought greatest_of old.greatest.now true ns is.front node is.back) same
         (subst (λ (k : List ℕ). IsSought greatest_of k true (level_at tree level) is.front node is.back) key_is
         (subst (λ (b : Bool). IsSought greatest_of wanted.0.now b (level_at tree level) is.front node is.back) above_is is.sought)) in
-        let next = next_after key ends items over Fit nodes (changes_meant meaning cs) can olds news (map meaning hand) (changes_meant meaning (drop done cs)) state.front state.back state.at
-        (λ none. some (none_meant hand none)) before old olds_are is.front node is.back sought in
+        let next = next_after key ends items over Fit nodes (changes_meant meaning cs) can olds news (map meaning pending) (changes_meant meaning (drop done cs)) state.front state.back state.at
+        (λ none. some (none_meant pending none)) before old olds_are is.front node is.back sought in
         record { others = is.front; behind = is.back; at = next.at; last = is.is_last }
   ]
 
@@ -113,56 +113,56 @@ module _ {T X : Type 0} (meaning : T → X) (key : X → List ℕ) (ends : ℕ �
   -- ---- a whole turn
 
   -- what a turn may do with the node that was found and the changes that are taken, and the state after it
-  pub record IsTurn (olds : List OldNode) (news : List NewPiece) (hand : List T) (next : ℕ) (here : List (ItemChange T)) (node : Node) (is_last : Bool) (old : OldNode) : Type 0 where
+  pub record IsTurn (olds : List OldNode) (news : List NewPiece) (pending : List T) (next : ℕ) (here : List (ItemChange T)) (node : Node) (is_last : Bool) (old : OldNode) : Type 0 where
     pub own : AreOwnAndRising key (changes_meant meaning here)
-    pub fit : Fit (map meaning hand ++ changed key (items node) (changes_meant meaning here))
+    pub fit : Fit (map meaning pending ++ changed key (items node) (changes_meant meaning here))
     pub room : length olds < length nodes
-    pub then_state : (next_hand : List T) (after : List NewPiece) → HaveGoneOn ends over is_last (map meaning hand) news (changed key (items node) (changes_meant meaning here)) (map meaning next_hand) after
+    pub then_state : (next_hand : List T) (after : List NewPiece) → HaveGoneOn ends over is_last (map meaning pending) news (changed key (items node) (changes_meant meaning here)) (map meaning next_hand) after
         → StepState key ends items over Fit nodes (changes_meant meaning cs) (olds ++ old ∷ []) after (map meaning next_hand) (changes_meant meaning (drop next cs))
 
-  pub turn : (parts : (xs ys : List X) → Fit (xs ++ ys) → Fit xs × Fit ys) (olds : List OldNode) (news : List NewPiece) (hand : List T) (done : ℕ)
-      → StepState key ends items over Fit nodes (changes_meant meaning cs) olds news (map meaning hand) (changes_meant meaning (drop done cs))
-      → (wanted : Bor (List ℕ) × Bool) → IsWanted olds hand (take (length cs - done) (drop done cs)) (Some wanted)
+  pub turn : (parts : (xs ys : List X) → Fit (xs ++ ys) → Fit xs × Fit ys) (olds : List OldNode) (news : List NewPiece) (pending : List T) (done : ℕ)
+      → StepState key ends items over Fit nodes (changes_meant meaning cs) olds news (map meaning pending) (changes_meant meaning (drop done cs))
+      → (wanted : Bor (List ℕ) × Bool) → IsWanted olds pending (take (length cs - done) (drop done cs)) (Some wanted)
       → (tree : List (List Node)) (level : ℕ) → level_at tree level ≡ nodes → (node : Node) (is_last : Bool) → IsSoughtNode tree level wanted.0.now wanted.1 node is_last
       → (old : OldNode) → IsOldNode old node → (count : ℕ)
       → (IsTrue is_last → count ≡ length (take (length cs - done) (drop done cs)))
       → (is_last ≡ false → AllByRecursion (λ (c : ItemChange T). IsUpTo c.key.now old.greatest.now) (take count (take (length cs - done) (drop done cs))))
       → (is_last ≡ false → FirstIsAbove old.greatest.now (drop count (take (length cs - done) (drop done cs))))
-      → IsTurn olds news hand (done + count) (take (done + count - done) (drop done cs)) node is_last old
-  turn parts olds news hand done state wanted wants tree level same node is_last is old stands count last up_to above =
+      → IsTurn olds news pending (done + count) (take (done + count - done) (drop done cs)) node is_last old
+  turn parts olds news pending done state wanted wants tree level same node is_last is old stands count last up_to above =
       let rest = rest_is cs done in
-      let f = found parts olds news hand done state (take (length cs - done) (drop done cs)) rest wanted wants tree level same node is_last is in
+      let f = found parts olds news pending done state (take (length cs - done) (drop done cs)) rest wanted wants tree level same node is_last is in
       let split = split_at node f.behind is_last done count old.greatest.now f.last stands.greatest
       (λ stops. last stops ∙ ap (length {A = ItemChange T}) rest)
       (λ goes. subst (λ (ds : List (ItemChange T)). AllByRecursion (λ (c : ItemChange T). IsUpTo c.key.now old.greatest.now) (take count ds)) rest (up_to goes))
       (λ goes. subst (λ (ds : List (ItemChange T)). FirstIsAbove old.greatest.now (drop count ds)) rest (above goes))
       f.at.own in
       let here : take count (drop done cs) ≡ take (done + count - done) (drop done cs) = let n : count ≡ done + count - done = omega arith in ap (λ k. take k (drop done cs)) n in
-      subst (λ (hs : List (ItemChange T)). IsTurn olds news hand (done + count) hs node is_last old) here (record {
-        own = taken_own key ends items over Fit nodes (changes_meant meaning cs) can parts olds news (map meaning hand) (changes_meant meaning (drop done cs)) f.others node f.behind f.at is_last _ _ split;
-        fit = taken_fit key ends items over Fit nodes (changes_meant meaning cs) can parts olds news (map meaning hand) (changes_meant meaning (drop done cs)) f.others node f.behind f.at is_last _ _ split;
-        room = step_room key ends items over Fit nodes (changes_meant meaning cs) can olds news (map meaning hand) (changes_meant meaning (drop done cs)) f.others (node ∷ f.behind) f.at (omega arith);
+      subst (λ (hs : List (ItemChange T)). IsTurn olds news pending (done + count) hs node is_last old) here (record {
+        own = taken_own key ends items over Fit nodes (changes_meant meaning cs) can parts olds news (map meaning pending) (changes_meant meaning (drop done cs)) f.others node f.behind f.at is_last _ _ split;
+        fit = taken_fit key ends items over Fit nodes (changes_meant meaning cs) can parts olds news (map meaning pending) (changes_meant meaning (drop done cs)) f.others node f.behind f.at is_last _ _ split;
+        room = step_room key ends items over Fit nodes (changes_meant meaning cs) can olds news (map meaning pending) (changes_meant meaning (drop done cs)) f.others (node ∷ f.behind) f.at (omega arith);
         then_state = λ next_hand after gone.
-            step_taken key ends items over Fit nodes (changes_meant meaning cs) can parts olds news (map meaning hand) (changes_meant meaning (drop done cs)) f.others node f.behind f.at is_last _ _ split old stands (map meaning next_hand) after gone;
+            step_taken key ends items over Fit nodes (changes_meant meaning cs) can parts olds news (map meaning pending) (changes_meant meaning (drop done cs)) f.others node f.behind f.at is_last _ _ split old stands (map meaning next_hand) after gone;
       })
 
   -- ---- at the start, and at the end
 
-  pub start_state : 1 ≤ length nodes → (olds : List OldNode) (news : List NewPiece) (hand : List T) → olds ≡ [] → news ≡ [] → hand ≡ []
-      → StepState key ends items over Fit nodes (changes_meant meaning cs) olds news (map meaning hand) (changes_meant meaning cs)
-  start_state has olds news hand one two three =
-      subst (λ (os : List OldNode). StepState key ends items over Fit nodes (changes_meant meaning cs) os news (map meaning hand) (changes_meant meaning cs)) (sym one)
-      (subst (λ (ns : List NewPiece). StepState key ends items over Fit nodes (changes_meant meaning cs) [] ns (map meaning hand) (changes_meant meaning cs)) (sym two)
+  pub start_state : 1 ≤ length nodes → (olds : List OldNode) (news : List NewPiece) (pending : List T) → olds ≡ [] → news ≡ [] → pending ≡ []
+      → StepState key ends items over Fit nodes (changes_meant meaning cs) olds news (map meaning pending) (changes_meant meaning cs)
+  start_state has olds news pending one two three =
+      subst (λ (os : List OldNode). StepState key ends items over Fit nodes (changes_meant meaning cs) os news (map meaning pending) (changes_meant meaning cs)) (sym one)
+      (subst (λ (ns : List NewPiece). StepState key ends items over Fit nodes (changes_meant meaning cs) [] ns (map meaning pending) (changes_meant meaning cs)) (sym two)
       (subst (λ (h : List T). StepState key ends items over Fit nodes (changes_meant meaning cs) [] [] (map meaning h) (changes_meant meaning cs)) (sym three)
       (step_start key ends items over Fit nodes (changes_meant meaning cs) can has)))
 
   -- nothing more is wanted
-  pub end_state : (olds : List OldNode) (news : List NewPiece) (hand : List T) (done : ℕ) → StepState key ends items over Fit nodes (changes_meant meaning cs) olds news (map meaning hand) (changes_meant meaning (drop done cs))
-      → IsWanted olds hand (take (length cs - done) (drop done cs)) None → IsDone key ends items over Fit nodes (changes_meant meaning cs) can olds news
-  end_state olds news hand done state wants = elim wants [
-    | inl both ↦ step_done key ends items over Fit nodes (changes_meant meaning cs) can olds news (map meaning hand) (changes_meant meaning (drop done cs)) state (ap (map meaning) both.0)
+  pub end_state : (olds : List OldNode) (news : List NewPiece) (pending : List T) (done : ℕ) → StepState key ends items over Fit nodes (changes_meant meaning cs) olds news (map meaning pending) (changes_meant meaning (drop done cs))
+      → IsWanted olds pending (take (length cs - done) (drop done cs)) None → IsDone key ends items over Fit nodes (changes_meant meaning cs) can olds news
+  end_state olds news pending done state wants = elim wants [
+    | inl both ↦ step_done key ends items over Fit nodes (changes_meant meaning cs) can olds news (map meaning pending) (changes_meant meaning (drop done cs)) state (ap (map meaning) both.0)
         (ap (changes_meant meaning) (sym (rest_is cs done) ∙ both.1))
-    | inr never ↦ absurd (elim state.at.following [ inl none ↦ never.0 (none_meant hand none) | inr last ↦ not_empty last.before last.old (sym last.olds_are ∙ never.1) ])
+    | inr never ↦ absurd (elim state.at.following [ inl none ↦ never.0 (none_meant pending none) | inr last ↦ not_empty last.before last.old (sym last.olds_are ∙ never.1) ])
   ]
     where
       not_empty : (os : List OldNode) (o : OldNode) → os ++ o ∷ [] ≡ [] → ⊥
@@ -185,11 +185,11 @@ module _ {T X : Type 0} (meaning : T → X) (key : X → List ℕ) (ends : ℕ �
   pub some_of : (olds : List OldNode) (news : List NewPiece) → IsDone key ends items over Fit nodes (changes_meant meaning cs) can olds news → (edit : LevelEdit) → edit.olds.items ≡ olds → 1 ≤ length edit.olds.items
   some_of olds news is edit same = omega (arith, is.some, ap (length {A = OldNode}) same)
 
-  pub went_then : (olds : List OldNode) (news : List NewPiece) (hand : List T) (next : ℕ) (here : List (ItemChange T)) (node : Node) (is_last : Bool) (old : OldNode) → IsTurn olds news hand next here node is_last old
+  pub went_then : (olds : List OldNode) (news : List NewPiece) (pending : List T) (next : ℕ) (here : List (ItemChange T)) (node : Node) (is_last : Bool) (old : OldNode) → IsTurn olds news pending next here node is_last old
       → (next_olds : List OldNode) (after : List NewPiece) (next_hand : List T) → next_olds ≡ olds ++ old ∷ []
-      → HaveGoneOn ends over is_last (map meaning hand) news (changed key (items node) (changes_meant meaning here)) (map meaning next_hand) after
+      → HaveGoneOn ends over is_last (map meaning pending) news (changed key (items node) (changes_meant meaning here)) (map meaning next_hand) after
       → StepState key ends items over Fit nodes (changes_meant meaning cs) next_olds after (map meaning next_hand) (changes_meant meaning (drop next cs))
-  went_then olds news hand next here node is_last old t next_olds after next_hand same gone =
+  went_then olds news pending next here node is_last old t next_olds after next_hand same gone =
       subst (λ (os : List OldNode). StepState key ends items over Fit nodes (changes_meant meaning cs) os after (map meaning next_hand) (changes_meant meaning (drop next cs))) (sym same) (t.then_state next_hand after gone)
 
   pub falls : (olds next_olds : List OldNode) (old : OldNode) → length olds < length nodes → next_olds ≡ olds ++ old ∷ [] → 536870912 - length next_olds < 536870912 - length olds
@@ -201,30 +201,30 @@ within_rest {X} xs done count within few = omega (arith, few, ap (length {A = X}
 -- ---- what is wanted next
 
 -- the first change, with nothing in hand
-pub wanted_first : {T : Type 0} (olds : List OldNode) (hand : List T) (rest : List (ItemChange T)) (change : ItemChange T) → hand ≡ [] → slice_get rest 0 ≡ Some change → IsWanted olds hand rest (Some (change.key, false))
-wanted_first olds hand [] change empty first = absurd cc
-wanted_first olds hand (c ∷ cs) change empty first = let same : c ≡ change = cc in inl (empty, change, cs, ap (λ (d : ItemChange _). d ∷ cs) same, refl, refl)
+pub wanted_first : {T : Type 0} (olds : List OldNode) (pending : List T) (rest : List (ItemChange T)) (change : ItemChange T) → pending ≡ [] → slice_get rest 0 ≡ Some change → IsWanted olds pending rest (Some (change.key, false))
+wanted_first olds pending [] change empty first = absurd cc
+wanted_first olds pending (c ∷ cs) change empty first = let same : c ≡ change = cc in inl (empty, change, cs, ap (λ (d : ItemChange _). d ∷ cs) same, refl, refl)
 
 -- nothing, with nothing in hand and no change
-pub wanted_none : {T : Type 0} (olds : List OldNode) (hand : List T) (rest : List (ItemChange T)) → hand ≡ [] → slice_get rest 0 ≡ None → IsWanted olds hand rest None
-wanted_none olds hand [] empty first = inl (empty, refl)
-wanted_none olds hand (c ∷ cs) empty first = absurd cc
+pub wanted_none : {T : Type 0} (olds : List OldNode) (pending : List T) (rest : List (ItemChange T)) → pending ≡ [] → slice_get rest 0 ≡ None → IsWanted olds pending rest None
+wanted_none olds pending [] empty first = inl (empty, refl)
+wanted_none olds pending (c ∷ cs) empty first = absurd cc
 
-not_none : {T : Type 0} (hand : List T) → 1 ≤ length hand → hand ≢ []
-not_none {T} hand some = λ none. absurd (omega (arith, some, ap (length {A = T}) none))
+not_none : {T : Type 0} (pending : List T) → 1 ≤ length pending → pending ≢ []
+not_none {T} pending some = λ none. absurd (omega (arith, some, ap (length {A = T}) none))
 
 -- what lies above the last node, with something in hand
-pub wanted_after : {T : Type 0} (olds : List OldNode) (hand : List T) (rest : List (ItemChange T)) (old : OldNode) → 1 ≤ length hand → slice_get olds (length olds - 1) ≡ Some old
-    → IsWanted olds hand rest (Some (old.greatest, true))
-wanted_after olds hand rest old some last =
+pub wanted_after : {T : Type 0} (olds : List OldNode) (pending : List T) (rest : List (ItemChange T)) (old : OldNode) → 1 ≤ length pending → slice_get olds (length olds - 1) ≡ Some old
+    → IsWanted olds pending rest (Some (old.greatest, true))
+wanted_after olds pending rest old some last =
     let lt = slice_get_within olds (length olds - 1) old last in
     let end : length olds - 1 + 1 ≡ length olds = omega (arith, lt) in
     let olds_are : olds ≡ take (length olds - 1) olds ++ old ∷ [] =
     sym (take-length olds) ∙ ap (λ n. take n olds) (sym end) ∙ take_more olds (length olds - 1) old lt
     ∙ ap (λ (o : OldNode). take (length olds - 1) olds ++ o ∷ []) (get_or_from_slice_get olds (length olds - 1) old old last) in
-    inr (not_none hand some, take (length olds - 1) olds, old, olds_are, refl, refl)
+    inr (not_none pending some, take (length olds - 1) olds, old, olds_are, refl, refl)
 
 -- this never comes
-pub wanted_never : {T : Type 0} (olds : List OldNode) (hand : List T) (rest : List (ItemChange T)) → 1 ≤ length hand → slice_get olds (length olds - 1) ≡ None → IsWanted olds hand rest None
-wanted_never [] hand rest some last = inr (not_none hand some, refl)
-wanted_never (o ∷ os) hand rest some last = let there = slice_get-get_or (o ∷ os) (length (o ∷ os) - 1) o (omega arith) in absurd cc
+pub wanted_never : {T : Type 0} (olds : List OldNode) (pending : List T) (rest : List (ItemChange T)) → 1 ≤ length pending → slice_get olds (length olds - 1) ≡ None → IsWanted olds pending rest None
+wanted_never [] pending rest some last = inr (not_none pending some, refl)
+wanted_never (o ∷ os) pending rest some last = let there = slice_get-get_or (o ∷ os) (length (o ∷ os) - 1) o (omega arith) in absurd cc

@@ -9,16 +9,16 @@ use Rattle.tree_node.specs.Order.{IsBelow}
 use Rattle.tree_node.specs.internal.OrderLemmas.{order_trans}
 use Rattle.tree_node.specs.Trees.{greatest_of, pieces, pieces_from}
 use Rattle.tree_build.specs.Changing.{Change, changed}
-use Rattle.tree_build.specs.internal.Cutting.{done_by, hand_after, ArePieces}
+use Rattle.tree_build.specs.internal.Cutting.{done_by, pending_after, ArePieces}
 use Rattle.tree_build.specs.internal.Edits.{Each, IsNewNode, IsOldNode}
 use Rattle.tree_build.specs.internal.RisingChanges.{AreOwnAndRising, IsUpTo}
 use Rattle.tree_build.specs.internal.Seeking.{IsSought, LiesBefore}
 use Rattle.tree_build.specs.internal.Steps.{CanStep, HaveGoneOn}
 use Rattle.tree_build.specs.internal.Weaving.{Woven, none, left, right}
-use Rattle.tree_build.specs.declared.held.OldNode.{OldNode}
+use Rattle.tree_build.specs.declared.old_node.OldNode.{OldNode}
 use Rattle.tree_build.specs.declared.piece.NewPiece.{NewPiece}
 use Rattle.tree_build.proofs.ChangeLemmas.{IsUpToOwn, all_of, changed_behind, changed_split}
-use Rattle.tree_build.proofs.HandLemmas.{each_append, hand_fits}
+use Rattle.tree_build.proofs.PendingLemmas.{each_append, hand_fits}
 use Rattle.tree_build.proofs.LevelSteps.{IsCutTo, cut_last, cut_open, cut_rest, cut_skip}
 use Rattle.tree_build.proofs.NextLemmas.{sought_next}
 use Rattle.tree_build.proofs.StepItems.{items_above, items_below, items_up_to, join_mapped, map_made, pieces_after, sought_behind}
@@ -50,7 +50,7 @@ module _ {X : Type 0} (key : X → List ℕ) (ends : ℕ → X → Bool) (items 
   abbrev pub wanted_pieces : List (List X)
   wanted_pieces = pieces ends (changed key (flat_map items nodes) changes)
 
-  pub record StepAt (front back : List Node) (olds : List OldNode) (news : List NewPiece) (hand : List X) (rest : List (Change X)) : Type 0 where
+  pub record StepAt (front back : List Node) (olds : List OldNode) (news : List NewPiece) (pending : List X) (rest : List (Change X)) : Type 0 where
     pub whole : nodes ≡ front ++ back
     pub kept : List Node
     pub opened : List Node
@@ -60,18 +60,18 @@ module _ {X : Type 0} (key : X → List ℕ) (ends : ℕ → X → Bool) (items 
     pub is : Woven kept came (map over made)
     pub olds_stand : Each IsOldNode olds opened
     pub news_stand : Each IsNewNode news came
-    pub cut : IsCutTo key ends wanted_pieces made hand (map items back) rest
+    pub cut : IsCutTo key ends wanted_pieces made pending (map items back) rest
     pub own : AreOwnAndRising key rest
     pub above : AllByRecursion (λ (c : Change X). AllByRecursion (λ (n : Node). IsBelow (greatest_of n) c.key) front) rest
-    pub fit : Fit (hand ++ changed key (flat_map items back) rest)
-    pub following : (hand ≡ []) ⊎ IsLast olds front
-    pub ended : (1 ≤ length back) ⊎ ((hand ≡ []) × (rest ≡ []))
+    pub fit : Fit (pending ++ changed key (flat_map items back) rest)
+    pub following : (pending ≡ []) ⊎ IsLast olds front
+    pub ended : (1 ≤ length back) ⊎ ((pending ≡ []) × (rest ≡ []))
     pub some : 1 ≤ length olds + length rest
 
-  pub record StepState (olds : List OldNode) (news : List NewPiece) (hand : List X) (rest : List (Change X)) : Type 0 where
+  pub record StepState (olds : List OldNode) (news : List NewPiece) (pending : List X) (rest : List (Change X)) : Type 0 where
     pub front : List Node
     pub back : List Node
-    pub at : StepAt front back olds news hand rest
+    pub at : StepAt front back olds news pending rest
 
   module _ (can : CanStep key ends items over Fit nodes changes) where
     none_above : (cs : List (Change X)) → AllByRecursion (λ (c : Change X). AllByRecursion (λ (n : Node). IsBelow (greatest_of n) c.key) []) cs
@@ -104,15 +104,15 @@ module _ {X : Type 0} (key : X → List ℕ) (ends : ℕ → X → Bool) (items 
     }
 
     -- fewer old nodes were opened than there are, while one is to come
-    pub step_room : (olds : List OldNode) (news : List NewPiece) (hand : List X) (rest : List (Change X)) (front back : List Node) → StepAt front back olds news hand rest → 1 ≤ length back → length olds < length nodes
-    step_room olds news hand rest front back so some =
+    pub step_room : (olds : List OldNode) (news : List NewPiece) (pending : List X) (rest : List (Change X)) (front back : List Node) → StepAt front back olds news pending rest → 1 ≤ length back → length olds < length nodes
+    step_room olds news pending rest front back so some =
         omega (arith, each_length IsOldNode olds so.opened so.olds_stand, woven_length so.kept so.opened front so.was, ap (length {A = Node}) so.whole, length-append front back)
 
     -- ---- the node that is sought next
 
     -- it is the next one, behind nodes that stay unread
-    pub record IsNext (olds : List OldNode) (news : List NewPiece) (hand : List X) (rest : List (Change X)) (others : List Node) (node : Node) (behind : List Node) : Type 0 where
-      pub at : StepAt others (node ∷ behind) olds news hand rest
+    pub record IsNext (olds : List OldNode) (news : List NewPiece) (pending : List X) (rest : List (Change X)) (others : List Node) (node : Node) (behind : List Node) : Type 0 where
+      pub at : StepAt others (node ∷ behind) olds news pending rest
 
     first_before : (k : List ℕ) (ns : List Node) → AllByRecursion (λ (n : Node). IsBelow (greatest_of n) k) ns → AllByRecursion (λ (n : Node). LiesBefore k false (greatest_of n)) ns
     first_before k [] all = tt
@@ -205,11 +205,11 @@ module _ {X : Type 0} (key : X → List ℕ) (ends : ℕ → X → Bool) (items 
               (subst (λ (xs : List X). AllByRecursion (λ (c : Change X). AllByRecursion (λ (x : X). IsBelow (key x) c.key) xs) rest) (sym (join_mapped items (m ∷ more))) low)
 
     -- with something in hand it is the node after the last one
-    pub next_after : (olds : List OldNode) (news : List NewPiece) (hand : List X) (rest : List (Change X)) (front back : List Node) → StepAt front back olds news hand rest → (hand ≡ [] → ⊥)
+    pub next_after : (olds : List OldNode) (news : List NewPiece) (pending : List X) (rest : List (Change X)) (front back : List Node) → StepAt front back olds news pending rest → (pending ≡ [] → ⊥)
         → (before : List OldNode) (old : OldNode) → olds ≡ before ++ old ∷ []
-        → (others : List Node) (node : Node) (behind : List Node) → IsSought greatest_of old.greatest.now true nodes others node behind → IsNext olds news hand rest others node behind
-    next_after olds news hand rest front [] so some before old olds_are others node behind sought = elim so.ended [ inl has ↦ absurd (omega arith) | inr end ↦ absurd (some end.0) ]
-    next_after olds news hand rest front (b ∷ back) so some before old olds_are others node behind sought = elim so.following [
+        → (others : List Node) (node : Node) (behind : List Node) → IsSought greatest_of old.greatest.now true nodes others node behind → IsNext olds news pending rest others node behind
+    next_after olds news pending rest front [] so some before old olds_are others node behind sought = elim so.ended [ inl has ↦ absurd (omega arith) | inr end ↦ absurd (some end.0) ]
+    next_after olds news pending rest front (b ∷ back) so some before old olds_are others node behind sought = elim so.following [
       | inl empty ↦ absurd (some empty)
       | inr last ↦
           let same_old : old ≡ last.old = last_of before last.before old last.old (sym olds_are ∙ last.olds_are) in
@@ -218,9 +218,9 @@ module _ {X : Type 0} (key : X → List ℕ) (ends : ℕ → X → Bool) (items 
           let same = sought_next greatest_of nodes can.level.nodes_rise last.nodes last.node b back whole others node behind
           (subst (λ (k : List ℕ). IsSought greatest_of k true nodes others node behind) at sought) in
           let fronts : front ≡ others = last.front_is ∙ same.fronts in
-          subst (λ (ns : List Node). IsNext olds news hand rest ns node behind) fronts
-          (subst (λ (n : Node). IsNext olds news hand rest front n behind) same.at
-          (subst (λ (ns : List Node). IsNext olds news hand rest front b ns) same.backs (record { at = so })))
+          subst (λ (ns : List Node). IsNext olds news pending rest ns node behind) fronts
+          (subst (λ (n : Node). IsNext olds news pending rest front n behind) same.at
+          (subst (λ (ns : List Node). IsNext olds news pending rest front b ns) same.backs (record { at = so })))
     ]
       where
         last_of : (xs ys : List OldNode) (x y : OldNode) → xs ++ x ∷ [] ≡ ys ++ y ∷ [] → x ≡ y
@@ -261,8 +261,8 @@ module _ {X : Type 0} (key : X → List ℕ) (ends : ℕ → X → Bool) (items 
       pub last : is_last ≡ true → (behind ≡ []) × (later ≡ [])
       pub more : is_last ≡ false → (1 ≤ length behind) × AllByRecursion (λ (c : Change X). IsUpTo c.key (greatest_of node)) here × AllByRecursion (λ (c : Change X). IsBelow (greatest_of node) c.key) later
 
-    module _ (parts : (xs ys : List X) → Fit (xs ++ ys) → Fit xs × Fit ys) (olds : List OldNode) (news : List NewPiece) (hand : List X) (rest : List (Change X)) (front : List Node) (node : Node) (behind : List Node)
-        (so : StepAt front (node ∷ behind) olds news hand rest) (is_last : Bool) (here later : List (Change X)) (split : AreSplit node behind is_last rest here later) where
+    module _ (parts : (xs ys : List X) → Fit (xs ++ ys) → Fit xs × Fit ys) (olds : List OldNode) (news : List NewPiece) (pending : List X) (rest : List (Change X)) (front : List Node) (node : Node) (behind : List Node)
+        (so : StepAt front (node ∷ behind) olds news pending rest) (is_last : Bool) (here later : List (Change X)) (split : AreSplit node behind is_last rest here later) where
       own_parts : AreOwnAndRising key here × AreOwnAndRising key later
       own_parts = rising_parts here later (subst (λ (cs : List (Change X)). AreOwnAndRising key cs) split.whole so.own)
 
@@ -286,25 +286,25 @@ module _ {X : Type 0} (key : X → List ℕ) (ends : ℕ → X → Bool) (items 
           ∙ ap (λ (xs : List X). changed key xs here) (append-nil (items node))
 
       -- what is taken fits
-      pub taken_fit : Fit (hand ++ changed key (items node) here)
+      pub taken_fit : Fit (pending ++ changed key (items node) here)
       taken_fit = by is_last refl
         where
-          by : (b : Bool) → is_last ≡ b → Fit (hand ++ changed key (items node) here)
-          by false goes = (parts (hand ++ changed key (items node) here) (changed key (flat_map items behind) later)
-              (subst Fit (ap (λ (xs : List X). hand ++ xs) (items_split goes) ∙ sym (append_assoc hand (changed key (items node) here) (changed key (flat_map items behind) later))) so.fit)).0
-          by true stops = subst Fit (ap (λ (xs : List X). hand ++ xs) (last_items stops)) so.fit
+          by : (b : Bool) → is_last ≡ b → Fit (pending ++ changed key (items node) here)
+          by false goes = (parts (pending ++ changed key (items node) here) (changed key (flat_map items behind) later)
+              (subst Fit (ap (λ (xs : List X). pending ++ xs) (items_split goes) ∙ sym (append_assoc pending (changed key (items node) here) (changed key (flat_map items behind) later))) so.fit)).0
+          by true stops = subst Fit (ap (λ (xs : List X). pending ++ xs) (last_items stops)) so.fit
 
-      module _ (old : OldNode) (stands : IsOldNode old node) (next : List X) (after : List NewPiece) (gone : HaveGoneOn ends over is_last hand news (changed key (items node) here) next after) where
+      module _ (old : OldNode) (stands : IsOldNode old node) (next : List X) (after : List NewPiece) (gone : HaveGoneOn ends over is_last pending news (changed key (items node) here) next after) where
         abbrev merged : List X
         merged = changed key (items node) here
 
         abbrev came_now : Bool → List (List X)
-        came_now b = done_by ends hand merged ++ cond b (pieces_from ends (hand_after ends hand merged) []) []
+        came_now b = done_by ends pending merged ++ cond b (pieces_from ends (pending_after ends pending merged) []) []
 
-        all_made : Woven so.kept (so.came ++ map over (done_by ends hand (changed key (items node) here) ++ cond is_last (pieces_from ends (hand_after ends hand (changed key (items node) here)) []) []))
-            (map over (so.made ++ (done_by ends hand (changed key (items node) here) ++ cond is_last (pieces_from ends (hand_after ends hand (changed key (items node) here)) []) [])))
+        all_made : Woven so.kept (so.came ++ map over (done_by ends pending (changed key (items node) here) ++ cond is_last (pieces_from ends (pending_after ends pending (changed key (items node) here)) []) []))
+            (map over (so.made ++ (done_by ends pending (changed key (items node) here) ++ cond is_last (pieces_from ends (pending_after ends pending (changed key (items node) here)) []) [])))
         all_made =
-            let ps = done_by ends hand (changed key (items node) here) ++ cond is_last (pieces_from ends (hand_after ends hand (changed key (items node) here)) []) [] in
+            let ps = done_by ends pending (changed key (items node) here) ++ cond is_last (pieces_from ends (pending_after ends pending (changed key (items node) here)) []) [] in
             subst (λ (ns : List Node). Woven so.kept (so.came ++ map over ps) ns) (sym (map-append over so.made ps))
             (subst (λ (ks : List Node). Woven ks (so.came ++ map over ps) (map over so.made ++ map over ps)) (append-nil so.kept)
             (woven_append so.kept so.came (map over so.made) [] (map over ps) (map over ps) so.is (woven_right (map over ps))))
@@ -313,8 +313,8 @@ module _ {X : Type 0} (key : X → List ℕ) (ends : ℕ → X → Bool) (items 
         all_opened = subst (λ (ks : List Node). Woven ks (so.opened ++ node ∷ []) (front ++ node ∷ [])) (append-nil so.kept)
             (woven_append so.kept so.opened front [] (node ∷ []) (node ∷ []) so.was (woven_right (node ∷ [])))
 
-        news_all : Each IsNewNode after (so.came ++ map over (done_by ends hand (changed key (items node) here) ++ cond is_last (pieces_from ends (hand_after ends hand (changed key (items node) here)) []) []))
-        news_all = subst (λ (ns : List NewPiece). Each IsNewNode ns (so.came ++ map over (done_by ends hand (changed key (items node) here) ++ cond is_last (pieces_from ends (hand_after ends hand (changed key (items node) here)) []) [])))
+        news_all : Each IsNewNode after (so.came ++ map over (done_by ends pending (changed key (items node) here) ++ cond is_last (pieces_from ends (pending_after ends pending (changed key (items node) here)) []) []))
+        news_all = subst (λ (ns : List NewPiece). Each IsNewNode ns (so.came ++ map over (done_by ends pending (changed key (items node) here) ++ cond is_last (pieces_from ends (pending_after ends pending (changed key (items node) here)) []) [])))
             (sym gone.come.whole) (each_append IsNewNode news so.came gone.come.more _ so.news_stand gone.come.stand)
 
         whole_next : nodes ≡ (front ++ node ∷ []) ++ behind
@@ -342,10 +342,10 @@ module _ {X : Type 0} (key : X → List ℕ) (ends : ℕ → X → Bool) (items 
             by : (b : Bool) → is_last ≡ b → StepState (olds ++ old ∷ []) after next later
             by false goes =
                 let more = split.more goes in
-                let next_is : next ≡ hand_after ends hand merged = gone.hand_is ∙ ap (λ b. cond b [] (hand_after ends hand merged)) goes in
-                let came : came_now is_last ≡ done_by ends hand merged = ap came_now goes ∙ append-nil (done_by ends hand merged) in
-                let opened_cut = cut_open key ends wanted_pieces so.made hand (items node) (map items behind) (greatest_of node) here later
-                (subst (λ (cs : List (Change X)). IsCutTo key ends wanted_pieces so.made hand (map items (node ∷ behind)) cs) split.whole so.cut)
+                let next_is : next ≡ pending_after ends pending merged = gone.pending_is ∙ ap (λ b. cond b [] (pending_after ends pending merged)) goes in
+                let came : came_now is_last ≡ done_by ends pending merged = ap came_now goes ∙ append-nil (done_by ends pending merged) in
+                let opened_cut = cut_open key ends wanted_pieces so.made pending (items node) (map items behind) (greatest_of node) here later
+                (subst (λ (cs : List (Change X)). IsCutTo key ends wanted_pieces so.made pending (map items (node ∷ behind)) cs) split.whole so.cut)
                 (items_up_to key ends items over nodes can.level front node behind so.whole)
                 (subst (λ (xs : List X). AllByRecursion (λ (y : X). IsBelow (greatest_of node) (key y)) xs) (sym (join_mapped items behind)) (items_above key ends items over nodes can.level front node behind so.whole))
                 (up_to_own (greatest_of node) here taken_own more.1) more.2 in
@@ -363,11 +363,11 @@ module _ {X : Type 0} (key : X → List ℕ) (ends : ℕ → X → Bool) (items 
                     olds_stand = olds_next;
                     news_stand = news_all;
                     cut = subst (λ (h : List X). IsCutTo key ends wanted_pieces (so.made ++ came_now is_last) h (map items behind) later) (sym next_is)
-                        (subst (λ (ps : List (List X)). IsCutTo key ends wanted_pieces (so.made ++ ps) (hand_after ends hand merged) (map items behind) later) (sym came) opened_cut);
+                        (subst (λ (ps : List (List X)). IsCutTo key ends wanted_pieces (so.made ++ ps) (pending_after ends pending merged) (map items behind) later) (sym came) opened_cut);
                     own = own_parts.1;
                     above = above_next more.2;
                     fit = subst (λ (h : List X). Fit (h ++ changed key (flat_map items behind) later)) (sym next_is)
-                        (hand_fits ends Fit parts hand merged (changed key (flat_map items behind) later) (subst (λ (xs : List X). Fit (hand ++ xs)) (items_split goes) so.fit));
+                        (hand_fits ends Fit parts pending merged (changed key (flat_map items behind) later) (subst (λ (xs : List X). Fit (pending ++ xs)) (items_split goes) so.fit));
                     following = inr last_next;
                     ended = inl more.0;
                     some = some_next;
@@ -375,12 +375,12 @@ module _ {X : Type 0} (key : X → List ℕ) (ends : ℕ → X → Bool) (items 
                 }
             by true stops =
                 let last = split.last stops in
-                let next_is : next ≡ [] = gone.hand_is ∙ ap (λ b. cond b [] (hand_after ends hand merged)) stops in
-                let came : came_now is_last ≡ done_by ends hand merged ++ pieces_from ends (hand_after ends hand merged) [] = ap came_now stops in
+                let next_is : next ≡ [] = gone.pending_is ∙ ap (λ b. cond b [] (pending_after ends pending merged)) stops in
+                let came : came_now is_last ≡ done_by ends pending merged ++ pieces_from ends (pending_after ends pending merged) [] = ap came_now stops in
                 let here_is : rest ≡ here = split.whole ∙ ap (λ (cs : List (Change X)). here ++ cs) last.1 ∙ append-nil here in
-                let closed = cut_last key ends wanted_pieces so.made hand (items node) here
-                (subst (λ (cs : List (Change X)). IsCutTo key ends wanted_pieces so.made hand (items node ∷ []) cs) here_is
-                (subst (λ (ns : List Node). IsCutTo key ends wanted_pieces so.made hand (items node ∷ map items ns) rest) last.0 so.cut)) in
+                let closed = cut_last key ends wanted_pieces so.made pending (items node) here
+                (subst (λ (cs : List (Change X)). IsCutTo key ends wanted_pieces so.made pending (items node ∷ []) cs) here_is
+                (subst (λ (ns : List Node). IsCutTo key ends wanted_pieces so.made pending (items node ∷ map items ns) rest) last.0 so.cut)) in
                 record {
                   front = front ++ node ∷ [];
                   back = behind;
@@ -398,7 +398,7 @@ module _ {X : Type 0} (key : X → List ℕ) (ends : ℕ → X → Bool) (items 
                         (subst (λ (ns : List Node). IsCutTo key ends wanted_pieces (so.made ++ came_now is_last) [] (map items ns) later) (sym last.0)
                         (subst (λ (cs : List (Change X)). IsCutTo key ends wanted_pieces (so.made ++ came_now is_last) [] [] cs) (sym last.1)
                         (record {
-                          rest = closed ∙ append_assoc so.made (done_by ends hand merged) (pieces_from ends (hand_after ends hand merged) []) ∙ ap (λ (ps : List (List X)). so.made ++ ps) (sym came)
+                          rest = closed ∙ append_assoc so.made (done_by ends pending merged) (pieces_from ends (pending_after ends pending merged) []) ∙ ap (λ (ps : List (List X)). so.made ++ ps) (sym came)
                               ∙ sym (append-nil (so.made ++ came_now is_last));
                         })));
                     own = own_parts.1;
@@ -414,7 +414,7 @@ module _ {X : Type 0} (key : X → List ℕ) (ends : ℕ → X → Bool) (items 
                 fit_none h cs ns one two three =
                     subst (λ (ys : List X). Fit (ys ++ changed key (flat_map items ns) cs)) (sym one)
                     (subst (λ (ms : List Node). Fit (changed key (flat_map items ms) cs)) (sym two)
-                    (subst (λ (ds : List (Change X)). Fit (changed key [] ds)) (sym three) (parts [] (hand ++ changed key (items node) here) taken_fit).0))
+                    (subst (λ (ds : List (Change X)). Fit (changed key [] ds)) (sym three) (parts [] (pending ++ changed key (items node) here) taken_fit).0))
 
     -- ---- at the end
 
@@ -428,11 +428,11 @@ module _ {X : Type 0} (key : X → List ℕ) (ends : ℕ → X → Bool) (items 
       pub news_stand : Each IsNewNode news came
       pub some : 1 ≤ length olds
 
-    pub step_done : (olds : List OldNode) (news : List NewPiece) (hand : List X) (rest : List (Change X)) → StepState olds news hand rest → hand ≡ [] → rest ≡ [] → IsDone olds news
-    step_done olds news hand rest state no_hand no_rest =
+    pub step_done : (olds : List OldNode) (news : List NewPiece) (pending : List X) (rest : List (Change X)) → StepState olds news pending rest → pending ≡ [] → rest ≡ [] → IsDone olds news
+    step_done olds news pending rest state no_hand no_rest =
         let so = state.at in
         let some : 1 ≤ length olds = omega (arith, so.some, ap (length {A = Change X}) no_rest) in
-        let cut = subst (λ (h : List X). IsCutTo key ends wanted_pieces so.made h (map items state.back) []) no_hand (subst (λ (cs : List (Change X)). IsCutTo key ends wanted_pieces so.made hand (map items state.back) cs) no_rest so.cut) in
+        let cut = subst (λ (h : List X). IsCutTo key ends wanted_pieces so.made h (map items state.back) []) no_hand (subst (λ (cs : List (Change X)). IsCutTo key ends wanted_pieces so.made pending (map items state.back) cs) no_rest so.cut) in
         let goal_is : wanted_pieces ≡ so.made ++ map items state.back = cut_rest key ends wanted_pieces so.made (map items state.back) cut (pieces_left state.front state.back so.whole
         (omega (arith, some, each_length IsOldNode olds so.opened so.olds_stand, woven_length so.kept so.opened state.front so.was))) in
         record {

@@ -7,7 +7,7 @@ use Rattle.tree_build.specs.Changing.{Change}
 use Rattle.tree_build.specs.internal.Differing.{Differ, GoesOn, taken}
 use Rattle.tree_build.specs.internal.Edits.{Each, IsNewNode, IsOldNode}
 use Rattle.tree_build.specs.internal.Telling.{HasTold, node_digest}
-use Rattle.tree_build.specs.declared.held.OldNode.{OldNode}
+use Rattle.tree_build.specs.declared.old_node.OldNode.{OldNode}
 use Rattle.tree_build.specs.declared.piece.NewPiece.{NewPiece}
 use Rattle.tree_node.specs.declared.new_node.NewNode.{NewNode}
 use Rattle.tree_build.specs.Rebuilding.{nodes_of}
@@ -97,7 +97,7 @@ telling_done olds news rest added later gone lost_later end so told = by so.left
       lost = so.lost ++ so.left_olds;
       gained = so.gained ++ [];
       changes = so.changes ++ map taken so.left_olds;
-      differ = then_all so.left_olds [] (map taken so.left_olds) (all_gone so.left_olds);
+      parent_changes = then_all so.left_olds [] (map taken so.left_olds) (all_gone so.left_olds);
       added_are = so.added_are ∙ ap (λ (gs : List Node). added ++ map spelling gs) (sym (append-nil so.gained));
       gone_are = more_mapped node_digest gone lost_later end so.lost so.left_olds so.gone_are (told so.left_olds so.old_stand);
     }

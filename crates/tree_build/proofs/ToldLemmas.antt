@@ -216,13 +216,13 @@ module _ (old : List (List Node)) (new : ℕ → List Node) where
                   added_are = tells.added_are;
                   gone_are = tells.gone_are;
                   in_gained = λ m.
-                      let so = gained_are are.0.kept are.0.opened are.0.came (level_at old first) (new first) tells.lost tells.gained tells.changes are.0.was are.0.is (old_rises first) (new_rises first) olds_rise news_rise tells.differ m in
+                      let so = gained_are are.0.kept are.0.opened are.0.came (level_at old first) (new first) tells.lost tells.gained tells.changes are.0.was are.0.is (old_rises first) (new_rises first) olds_rise news_rise tells.parent_changes m in
                       ((λ is. let has = so.0 is in (low.0, has.0, has.1)), (λ has. so.1 (has.1, has.2)));
                   in_lost = λ m.
-                      let so = lost_are are.0.kept are.0.opened are.0.came (level_at old first) (new first) tells.lost tells.gained tells.changes are.0.was are.0.is (old_rises first) (new_rises first) olds_rise news_rise tells.differ m in
+                      let so = lost_are are.0.kept are.0.opened are.0.came (level_at old first) (new first) tells.lost tells.gained tells.changes are.0.was are.0.is (old_rises first) (new_rises first) olds_rise news_rise tells.parent_changes m in
                       ((λ is. let has = so.0 is in inl (low.0, has.0, has.1)), (λ has. elim has [ inl goes ↦ so.1 (goes.1, goes.2) | inr high ↦ absurd (omega (arith, low.0, high.0)) ]));
-                  gained_once = gained_once are.0.opened are.0.came tells.lost tells.gained tells.changes tells.differ (rise_once None are.0.came news_rise);
-                  lost_once = lost_once are.0.opened are.0.came tells.lost tells.gained tells.changes tells.differ (rise_once None are.0.opened olds_rise);
+                  gained_once = gained_once are.0.opened are.0.came tells.lost tells.gained tells.changes tells.parent_changes (rise_once None are.0.came news_rise);
+                  lost_once = lost_once are.0.opened are.0.came tells.lost tells.gained tells.changes tells.parent_changes (rise_once None are.0.opened olds_rise);
                 }
             | inr high ↦ record {
               gained = [];

@@ -4,7 +4,7 @@ use Rattle.std.specs.Prelude.{IfOk}
 use Rattle.tree_node.specs.Nodes.{Binding, Node, spelling}
 use Rattle.tree_node.specs.Trees.{Two, level_at, levels, no_node}
 use Rattle.tree_build.specs.internal.FoundTops.{IsTopRead}
-use Rattle.tree_build.specs.internal.Settling.{HasSettled, IsReadBy}
+use Rattle.tree_build.specs.internal.Shrinking.{HasShrunk, IsReadBy}
 use Rattle.tree_build.specs.internal.Steps.{IsEdit}
 use Rattle.tree_build.specs.internal.Towers.{tower}
 use Rattle.tree_build.specs.internal.TreeEdits.{AreEdits}
@@ -14,7 +14,7 @@ use Rattle.tree_build.specs.declared.step.LevelEdit.{LevelEdit}
 use Rattle.tree_build.proofs.LevelsLemmas.{entries_under, height_is, in_none, none_past, tower_in}
 use Rattle.tree_build.proofs.DescentLemmas.{lone}
 use Rattle.tree_build.proofs.FoundLemmas.{none_stand}
-use Rattle.tree_build.proofs.SettleLemmas.{edit_at}
+use Rattle.tree_build.proofs.ShrinkLemmas.{edit_at}
 use Rattle.tree_build.proofs.WeaveLemmas.{in_woven, woven_first}
 
 any_default : {X : Type 0} (xs : List X) (n : ℕ) (a b : X) → n < length xs → get_or xs n a ≡ get_or xs n b
@@ -26,7 +26,7 @@ up_or_here : (level at : ℕ) → level ≤ at → (level < at) ⊎ (at ≡ leve
 up_or_here level at le = grind arith
 
 module _ (tree : ℕ) (entries after : List Binding) (edits : List LevelEdit) (are : AreEdits (levels Two tree entries) (tower Two tree after) 0 edits) (whole : length edits ≡ length (levels Two tree entries))
-    (gone later : List (List ℕ)) (top : List ℕ) (level : ℕ) (so : HasSettled (tower Two tree after) edits gone later top level) where
+    (gone later : List (List ℕ)) (top : List ℕ) (level : ℕ) (so : HasShrunk (tower Two tree after) edits gone later top level) where
   abbrev old : List (List Node)
   old = levels Two tree entries
 

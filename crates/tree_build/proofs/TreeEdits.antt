@@ -58,28 +58,28 @@ pub record NextChanges (old new : List Node) (cs : List (Change Link)) : Type 0 
   pub gained : List Node
   pub was : Woven kept opened old
   pub is : Woven kept came new
-  pub differ : Differ opened came lost gained cs
+  pub parent_changes : Differ opened came lost gained cs
 
 pub next_of : (old new : List Node) (edit : LevelEdit) (cs : List (Change Link)) → IsEdit old new edit → AllByRecursion IsNode old → AllByRecursion IsNode new
     → ((olds news : List Node) → Each IsOldNode edit.olds.items olds → Each IsNewNode edit.news.items news → AllByRecursion IsNode olds → AllByRecursion IsNode news → (lost : List Node) × (gained : List Node) × Differ olds news lost gained cs)
     → NextChanges old new cs
 next_of old new edit cs is old_are new_are differs =
     let (lost, gained, d) = differs is.opened is.came is.olds_stand is.news_stand (woven_all IsNode is.kept is.opened old is.was old_are) (woven_all IsNode is.kept is.came new is.is new_are) in
-    record { kept = is.kept; opened = is.opened; came = is.came; lost = lost; gained = gained; was = is.was; is = is.is; differ = d }
+    record { kept = is.kept; opened = is.opened; came = is.came; lost = lost; gained = gained; was = is.was; is = is.is; parent_changes = d }
 
 module _ (old new : List Node) (cs : List (Change Link)) (next : NextChanges old new cs) (old_rises : AreRisingFrom None (map greatest_of old)) (new_rises : AreRisingFrom None (map greatest_of new)) where
   pub next_own : AreOwnAndRising (λ (link : Link). link.greatest) cs
   next_own = changes_own next.kept next.opened next.came old new next.lost next.gained cs next.was next.is old_rises new_rises
-      (woven_rise next.kept next.opened old next.was old_rises) (woven_rise next.kept next.came new next.is new_rises) next.differ
+      (woven_rise next.kept next.opened old next.was old_rises) (woven_rise next.kept next.came new next.is new_rises) next.parent_changes
 
   pub next_links : changed (λ (link : Link). link.greatest) (map link_to old) cs ≡ map link_to new
   next_links = links_changed next.kept next.opened next.came old new next.lost next.gained cs next.was next.is old_rises new_rises
-      (woven_rise next.kept next.opened old next.was old_rises) (woven_rise next.kept next.came new next.is new_rises) next.differ
+      (woven_rise next.kept next.opened old next.was old_rises) (woven_rise next.kept next.came new next.is new_rises) next.parent_changes
 
   -- no changes: the level is as it was
   pub next_none : cs ≡ [] → old ≡ new
   next_none none_left =
-      let equal : next.opened ≡ next.came = no_changes next.opened next.came next.lost next.gained cs next.differ none_left in
+      let equal : next.opened ≡ next.came = no_changes next.opened next.came next.lost next.gained cs next.parent_changes none_left in
       same_items greatest_of None None old new old_rises new_rises
       (λ n here. elim (in_woven n next.kept next.opened old next.was here) [
         | inl keeps ↦ woven_first n next.kept next.came new next.is keeps

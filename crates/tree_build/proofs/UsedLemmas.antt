@@ -4,9 +4,9 @@ use Rattle.tree_node.specs.Nodes.{Node, spelling}
 use Rattle.tree_node.specs.Trees.{no_node}
 use Rattle.tree_build.specs.internal.Edits.{IsOldNode}
 use Rattle.tree_build.specs.internal.Holding.{IsOnWay, IsOnWayTo, IsSoughtNode}
-use Rattle.tree_build.specs.internal.Settling.{IsReadBy}
+use Rattle.tree_build.specs.internal.Shrinking.{IsReadBy}
 use Rattle.tree_build.specs.internal.TreeEdits.{IsRead}
-use Rattle.tree_build.specs.declared.held.OldNode.{OldNode}
+use Rattle.tree_build.specs.declared.old_node.OldNode.{OldNode}
 use Rattle.tree_build.specs.declared.step.LevelEdit.{LevelEdit}
 use Rattle.tree_build.proofs.WeaveLemmas.{in_back, in_front}
 

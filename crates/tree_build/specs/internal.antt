@@ -11,7 +11,7 @@ pub mod ItemChanges
 pub mod LeafItems
 pub mod RisingChanges
 pub mod Seeking
-pub mod Settling
+pub mod Shrinking
 pub mod Steps
 pub mod Telling
 pub mod Towers

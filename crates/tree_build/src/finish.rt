@@ -16,15 +16,15 @@ ghost use Rattle.tree_node.specs.Nodes.{Binding, IsNode, Leaf, Node};
 ghost use Rattle.tree_node.specs.Shelves.{SameNodes};
 ghost use Rattle.tree_node.specs.Trees.{Two, level_at, levels};
 
-use crate::grow::grow;
-use crate::hand::make_node;
+use crate::grow_top::grow_top;
 use crate::leaf_item::LeafItem;
+use crate::level_diff::{push_gone_digests, push_level_diff};
 use crate::levels::TreeEdit;
+use crate::open_piece::make_node;
 use crate::piece::NewPiece;
 use crate::rebuilt::Rebuilt;
-use crate::settle::{Top, settle};
+use crate::shrink_top::{Top, shrink_top};
 use crate::step::LevelEdit;
-use crate::tell::{tell_gone, tell_level};
 use std::alloc::{AllocError, Global};
 use tree_node::{Digest, NewNode, Shelf, Tree};
 
@@ -57,7 +57,7 @@ pub(crate) fn finish<'a, 'c, S: Shelf<'a>>(
     let mut gone = Vec::new(alloc);
     let old = stays.then_some(*old_top);
     let top = find_top(alloc, shelf, tree, old, &mut edits, &mut added, &mut gone)?;
-    tell_all(edits, top.level, &mut added, &mut gone)?;
+    push_tree_diff(edits, top.level, &mut added, &mut gone)?;
     Ok(Rebuilt {
         top: top.digest,
         added,
@@ -119,10 +119,10 @@ fn find_top<'a, 'c, S: Shelf<'a>>(
         }
         [one] => {
             let digest = one.node.digest;
-            settle(shelf, edits.as_slice(), &digest, gone)
+            shrink_top(shelf, edits.as_slice(), &digest, gone)
         }
         news => {
-            let digest = grow(alloc, tree, last as u8, news, added)?;
+            let digest = grow_top(alloc, tree, last as u8, news, added)?;
             Ok(Top {
                 digest,
                 level: last,
@@ -157,7 +157,7 @@ fn empty_leaf<'c>(alloc: Global, tree: Tree) -> Result<NewPiece<'c>, AllocError>
 
 /// Tells of the levels up to the top's what each has gained and lost; the opened nodes of the levels above
 /// are gone.
-fn tell_all(
+fn push_tree_diff(
     edits: Vec<LevelEdit<'_>>,
     top_level: usize,
     added: &mut Vec<NewNode>,
@@ -170,14 +170,14 @@ fn tell_all(
 {
     let mut level = 0;
     for edit in edits {
-        tell_edit(edit, level, top_level, added, gone)?;
+        push_edit_diff(edit, level, top_level, added, gone)?;
         level += 1;
     }
     Ok(())
 }
 
 /// The same of one level.
-fn tell_edit(
+fn push_edit_diff(
     edit: LevelEdit<'_>,
     level: usize,
     top_level: usize,
@@ -190,8 +190,8 @@ fn tell_edit(
         (digests_of gone.old.items) (digests_of gone.new.items)) }
 {
     if level <= top_level {
-        tell_level(edit, added, gone)?;
+        push_level_diff(edit, added, gone)?;
         return Ok(());
     }
-    tell_gone(edit.olds.as_slice(), gone)
+    push_gone_digests(edit.olds.as_slice(), gone)
 }

@@ -13,9 +13,9 @@ ghost use Rattle.tree_node.specs.Trees.{Two, levels};
 
 use crate::Entry;
 use crate::change::EntryChange;
-use crate::differ::differ;
 use crate::leaf_item::LeafItem;
 use crate::level_item::ItemChange;
+use crate::parent_changes::parent_changes;
 use crate::step::{LevelEdit, OldLevel, change_level};
 use std::alloc::{AllocError, Global};
 use tree_node::{Child, Digest, Shelf, Tree};
@@ -66,7 +66,7 @@ pub(crate) fn change_levels<'a, S: Shelf<'a>>(
         level: 0,
     };
     let leaves: LevelEdit<'a> = change_level(alloc, shelf, place, items.as_slice())?;
-    let mut next = differ(alloc, &leaves)?;
+    let mut next = parent_changes(alloc, &leaves)?;
     edits.push(leaves)?;
     let mut level = 0;
     'levels: while goes_on(level, top_level, next.as_slice()) {
@@ -77,7 +77,7 @@ pub(crate) fn change_levels<'a, S: Shelf<'a>>(
             level,
         };
         let edit: LevelEdit<'a> = change_level(alloc, shelf, place, next.as_slice())?;
-        next = differ(alloc, &edit)?;
+        next = parent_changes(alloc, &edit)?;
         edits.push(edit)?;
     }
     let stays = next.is_empty();

@@ -8,8 +8,8 @@ ghost use Rattle.tree_node.specs.Trees.{Two, levels};
 
 use crate::change::EntryChange;
 use crate::finish::finish;
-use crate::held::{level_in, open};
 use crate::levels::change_levels;
+use crate::old_node::{fetch_held, level_in};
 use crate::rebuilt::Rebuilt;
 use std::alloc::{AllocError, Global};
 use tree_node::{Digest, Shelf};
@@ -60,7 +60,7 @@ pub fn rebuild<'a, S: Shelf<'a>>(
             gone: Vec::new(alloc),
         });
     }
-    let old = open(shelf, top)?;
+    let old = fetch_held(shelf, top)?;
     let tree = old.node.tree();
     let edited = change_levels(alloc, shelf, tree, top, level_in(&old.node), changes)?;
     finish(alloc, shelf, tree, top, edited)

@@ -9,7 +9,7 @@ ghost use Rattle.tree_node.specs.Trees.{Two, levels, links_in};
 ghost use Rattle.tree_build.specs.internal.Holding.{HoldsTree, IsHeldTree, IsOnWay, IsSoughtNode};
 ghost use Rattle.tree_build.specs.internal.Seeking.{IsSought, Reaches};
 
-use crate::held::{OpenNode, level_in, open};
+use crate::old_node::{OpenNode, fetch_held, level_in};
 use std::alloc::AllocError;
 use tree_node::{Child, Children, Digest, NodeRef, Shelf, is_below};
 
@@ -98,12 +98,12 @@ pub(crate) fn seek<'a, S: Shelf<'a>>(
         → OnOk result ((bytes : List ℕ) → S.used shelf.new bytes
         → S.used shelf.old bytes ⊎ IsOnWay (levels Two tree entries) level wanted.now above bytes) }
 {
-    let mut found = open(shelf, top)?;
+    let mut found = fetch_held(shelf, top)?;
     let mut last = true;
     while level_in(&found.node) > level {
         let (child, is_last) = child_of(&found.node, wanted, above);
         last = are_both(last, is_last);
-        found = open(shelf, &child.digest)?;
+        found = fetch_held(shelf, &child.digest)?;
     }
     Ok((found, last))
 }

@@ -15,10 +15,10 @@ ghost use Rattle.tree_node.specs.Nodes.{Binding};
 ghost use Rattle.tree_node.specs.Shelves.{SameNodes};
 ghost use Rattle.tree_node.specs.Trees.{Two, ends_by, level_at, levels, pieces, pieces_from};
 
-use crate::hand::{close, cut};
-use crate::held::{OldNode, OpenNode};
 use crate::level_item::{ItemChange, LevelItem};
 use crate::merge::merge;
+use crate::old_node::{OldNode, OpenNode};
+use crate::open_piece::{close, cut};
 use crate::piece::NewPiece;
 use crate::seek::seek;
 use std::alloc::{AllocError, Global};
@@ -50,7 +50,7 @@ struct LevelWork<'c, T> {
     /// The nodes that were made.
     news: Vec<NewPiece<'c>>,
     /// The items of a piece that hasn't ended yet.
-    hand: Vec<T>,
+    pending: Vec<T>,
 }
 
 /// Changes a level of a tree: opens the nodes that the changes fall in, and cuts their items anew, each
@@ -105,12 +105,12 @@ pub(crate) fn change_level<'a, S: Shelf<'a>, T: LevelItem<'a>>(
 fn start<'c, T>(alloc: Global) -> LevelWork<'c, T>
     ensures olds { result.olds.items ≡ [] }
     ensures news { result.news.items ≡ [] }
-    ensures hand { result.hand.items ≡ [] }
+    ensures pending { result.pending.items ≡ [] }
 {
     LevelWork {
         olds: Vec::new(alloc),
         news: Vec::new(alloc),
-        hand: Vec::new(alloc),
+        pending: Vec::new(alloc),
     }
 }
 
@@ -120,9 +120,9 @@ fn next_wanted<'c, T>(
     work: &LevelWork<'c, T>,
     rest: &[ItemChange<'c, T>],
 ) -> Option<(&'c [u8], bool)>
-    ensures { IsWanted work.now.olds.items work.now.hand.items rest.now result }
+    ensures { IsWanted work.now.olds.items work.now.pending.items rest.now result }
 {
-    if work.hand.is_empty() {
+    if work.pending.is_empty() {
         match rest.first() {
             Some(change) => Some((change.key, false)),
             None => None,
@@ -144,17 +144,17 @@ fn take<'c, T: LevelItem<'c>>(
     here: &[ItemChange<'c, T>],
     work: &mut LevelWork<'c, T>,
 ) -> Result<(), AllocError>
-    requires few { length work.old.hand.items < ITEM_LIMIT }
+    requires few { length work.old.pending.items < ITEM_LIMIT }
     requires own { AreOwnAndRising T.key_in (changes_meant T.meaning here.now) }
-    requires fit { T.Fit (map T.meaning work.old.hand.items
+    requires fit { T.Fit (map T.meaning work.old.pending.items
         ++ changed T.key_in (T.items_in (node_read found.node)) (changes_meant T.meaning here.now)) }
     requires no_sooner { EndsNoSooner Two T.marked_in (T.items_in (node_read found.node)) }
-    ensures few { OnOk result (length work.new.hand.items < ITEM_LIMIT) }
+    ensures few { OnOk result (length work.new.pending.items < ITEM_LIMIT) }
     ensures olds { OnOk result (work.new.olds.items ≡ work.old.olds.items ++ found.entry.old ∷ []) }
     ensures went_on { OnOk result (HaveGoneOn (ends_by Two T.marked_in) (T.node_over (number_of place.tree) place.level) is_last
-        (map T.meaning work.old.hand.items) work.old.news.items
+        (map T.meaning work.old.pending.items) work.old.news.items
         (changed T.key_in (T.items_in (node_read found.entry.node)) (changes_meant T.meaning here.now))
-        (map T.meaning work.new.hand.items) work.new.news.items) }
+        (map T.meaning work.new.pending.items) work.new.news.items) }
 {
     let items = T::items_of(alloc, found.node)?;
     let merged = merge(alloc, items.as_slice(), here)?;
@@ -163,10 +163,10 @@ fn take<'c, T: LevelItem<'c>>(
         place.tree,
         place.level,
         merged.as_slice(),
-        &mut work.hand,
+        &mut work.pending,
         &mut work.news,
     )?;
-    end_level(alloc, place, is_last, &mut work.hand, &mut work.news)?;
+    end_level(alloc, place, is_last, &mut work.pending, &mut work.news)?;
     work.olds.push(found.old)?;
     Ok(())
 }
@@ -176,18 +176,18 @@ fn end_level<'c, T: LevelItem<'c>>(
     alloc: Global,
     place: OldLevel,
     is_last: bool,
-    hand: &mut Vec<T>,
+    pending: &mut Vec<T>,
     news: &mut Vec<NewPiece<'c>>,
 ) -> Result<(), AllocError>
-    requires few { length hand.old.items < ITEM_LIMIT }
-    requires fit { T.Fit (map T.meaning hand.old.items) }
+    requires few { length pending.old.items < ITEM_LIMIT }
+    requires fit { T.Fit (map T.meaning pending.old.items) }
     ensures news { OnOk result (HaveCome news.old.items news.new.items (map (T.node_over (number_of place.tree) place.level)
-        (if is_last then pieces_from (ends_by Two T.marked_in) (map T.meaning hand.old.items) [] else []))) }
-    ensures hand { OnOk result (map T.meaning hand.new.items ≡ (if is_last then [] else map T.meaning hand.old.items)) }
-    ensures few { OnOk result (length hand.new.items < ITEM_LIMIT) }
+        (if is_last then pieces_from (ends_by Two T.marked_in) (map T.meaning pending.old.items) [] else []))) }
+    ensures pending { OnOk result (map T.meaning pending.new.items ≡ (if is_last then [] else map T.meaning pending.old.items)) }
+    ensures few { OnOk result (length pending.new.items < ITEM_LIMIT) }
 {
     if is_last {
-        return close(alloc, place.tree, place.level, hand, news);
+        return close(alloc, place.tree, place.level, pending, news);
     }
     Ok(())
 }
@@ -200,7 +200,7 @@ fn finish<'c, T: Drop>(work: LevelWork<'c, T>) -> LevelEdit<'c>
     let LevelWork {
         olds,
         news,
-        hand: _,
+        pending: _,
     } = work;
     LevelEdit { olds, news }
 }

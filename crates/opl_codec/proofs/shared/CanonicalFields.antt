@@ -17,7 +17,8 @@ use Rattle.opl_codec.specs.LineFields.{is_blank, is_some_text, between_blanks, f
 use Rattle.opl_codec.proofs.TextPieces.{one_piece}
 use Rattle.opl_codec.proofs.shared.CanonicalLists.{escaped_graphic, all_joined, tags_graphic, reference_graphic, nodes_graphic, members_graphic}
 use Rattle.opl_codec.proofs.shared.CanonicalValues.{IsGraphic, are_graphic, version_numeric, number_numeric, coordinate_numeric, stamp_graphic}
-use Rattle.opl_codec.proofs.shared.ReadLiterals.{all_append, all_weaker, ascii_from}
+use Rattle.opl_codec.proofs.shared.ReadLiterals.{ascii_from}
+use Rattle.osm_model.proofs.shared.Each.{all_append, all_weaker}
 
 -- ---- fields that are joined are cut where they were joined
 

@@ -32,7 +32,7 @@ use Rattle.opl_codec.specs.declared.line_parts.LineParts.{LineParts}
 use Rattle.opl_codec.proofs.shared.CanonicalFields.{fields_are, content_is, line_utf8}
 use Rattle.opl_codec.proofs.shared.CanonicalLists.{kept_spells, tags_spell, nodes_spell, members_spell}
 use Rattle.opl_codec.proofs.shared.CanonicalValues.{version_spells, number_spells, stamp_spells, coordinate_spells}
-use Rattle.opl_codec.proofs.shared.ReadLiterals.{all_append}
+use Rattle.osm_model.proofs.shared.Each.{all_append}
 
 -- the fields after the first
 abbrev pub further_fields : Meta → List Tag → Body → List (List ℕ)

@@ -23,7 +23,7 @@ use Rattle.opl_codec.specs.Texts.{SpellsText}
 use Rattle.opl_codec.specs.Values.{items, SpellsTag, SpellsNode, SpellsTags, SpellsNodes}
 use Rattle.opl_codec.proofs.TextPieces.{pieces-join}
 use Rattle.opl_codec.proofs.shared.CanonicalValues.{IsGraphic, are_graphic, numeric_lacks_at, numeric_lacks_comma, number_spells, number_numeric}
-use Rattle.opl_codec.proofs.shared.ReadLiterals.{all_append, all_weaker}
+use Rattle.osm_model.proofs.shared.Each.{all_append, all_weaker}
 use Rattle.opl_codec.proofs.shared.TextLaws.{escaped_spells, lacks_comma}
 
 -- ---- texts

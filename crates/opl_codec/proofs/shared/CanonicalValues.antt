@@ -20,7 +20,7 @@ use Rattle.osm_model.proofs.shared.ReadBack.{reads_back}
 use Rattle.opl_codec.specs.Fields.{IsInteger, Lacks}
 use Rattle.opl_codec.specs.Values.{SpellsVersion, SpellsNumber, SpellsStamp, SpellsCoordinate}
 use Rattle.opl_codec.proofs.TextNumbers.{signed_decimal_spells}
-use Rattle.opl_codec.proofs.shared.ReadLiterals.{all_append, all_weaker}
+use Rattle.osm_model.proofs.shared.Each.{all_append, all_weaker}
 
 -- from `!` to `~`: no blank, no line end, nothing outside ASCII
 abbrev pub IsGraphic : ℕ → Type 0

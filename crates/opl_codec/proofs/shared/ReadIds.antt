@@ -36,10 +36,3 @@ cap_more cap n v r digits i some lt is before =
     let front = drop-cons digits i 0 lt in
     let step : r ≡ min (v * 10 + digit_value (get_or digits i 0)) cap = omega arith in
     rw (add-one, step) (capped_more cap (v * 10 + digit_value (get_or digits i 0)) (drop (suc i) digits) some ∙ (rw front at before))
-
--- what is a digit, and what is none
-pub digit_is : (byte : ℕ) → digit_value byte < 10 → (48 ≤ byte) × (digit_value byte ≡ byte - 48)
-digit_is byte h = (grind (arith, nat_tests), grind (arith, nat_tests))
-
-pub not_digit : (byte : ℕ) → IsNotAsciiDigit byte → digit_value byte < 10 → ⊥
-not_digit byte out h = grind (arith, nat_tests)

@@ -1,23 +1,7 @@
--- Texts of which each byte stands for itself, and how tags are spelled with them.
+-- Texts of ASCII, and texts that aren't empty.
 use Rattle.std.proofs.Common.{◌≡◌, ◌≢◌, ℕ, zero, suc, ◌<◌, List, [], ◌∷◌, ◌++◌, length, get_or, Bool, true, false, ◌==◌, ap, arith}
 use Rattle.std.specs.List.{AllByRecursion}
 use Rattle.std.specs.Str.{IsAscii}
-
--- a literal byte is ASCII, and none of these
-
--- each of a list, by places
-pub all_places : {A : Type 0} (P : A → Type 0) (bytes : List A) (k : ℕ) (d : A) → AllByRecursion P bytes → k < length bytes → P (get_or bytes k d)
-all_places P [] k d all lt = absurd (omega arith)
-all_places P (x ∷ bytes) zero d all lt = all.0
-all_places P (x ∷ bytes) (suc k) d all lt = all_places P bytes k d all.1 (omega arith)
-
-pub all_weaker : {A : Type 0} (P Q : A → Type 0) (xs : List A) → ((x : A) → P x → Q x) → AllByRecursion P xs → AllByRecursion Q xs
-all_weaker P Q [] w all = tt
-all_weaker P Q (x ∷ xs) w all = (w x all.0, all_weaker P Q xs w all.1)
-
-pub all_append : {A : Type 0} (P : A → Type 0) (xs ys : List A) → AllByRecursion P xs → AllByRecursion P ys → AllByRecursion P (xs ++ ys)
-all_append P [] ys a b = b
-all_append P (x ∷ xs) ys a b = (a.0, all_append P xs ys a.1 b)
 
 pub ascii_from : (bytes : List ℕ) → AllByRecursion (λ b. b < 128) bytes → IsAscii bytes
 ascii_from [] all i = lit

@@ -6,7 +6,7 @@ use Rattle.osm_model.specs.Elements.{Element}
 use Rattle.osm_model.specs.Limits.{IsElement}
 use Rattle.opl_codec.specs.Fields.{Lacks}
 use Rattle.opl_codec.specs.Text.{text_of}
-use Rattle.opl_codec.specs.declared.out_mode.OutMode.TheVariants as modes
+use Rattle.osm_model.specs.declared.out_mode.OutMode.TheVariants as modes
 use Rattle.opl_codec.proofs.shared.CanonicalFields.{line_lacks_line_feed}
 
 -- the line with its end

@@ -10,7 +10,7 @@ use Rattle.osm_model.specs.CanonicalLine.{escaped}
 use Rattle.osm_model.specs.Limits.{HasNoNul}
 use Rattle.opl_codec.specs.Fields.{Lacks}
 use Rattle.opl_codec.specs.Texts.{is_free, Character, Itself, Escape, IsCharacter, spelling, SpellsText, IsText, TextMisfit, BadEscapeIn}
-use Rattle.opl_codec.proofs.shared.ReadLiterals.{all_append, all_weaker}
+use Rattle.osm_model.proofs.shared.Each.{all_append, all_weaker}
 use Rattle.opl_codec.proofs.TextsParts.{StopsText, same_texts}
 use Rattle.opl_codec.proofs.TextsEscaped.{escaped_text, escaped_no_at}
 use Rattle.opl_codec.proofs.TextsClean.{no_nul}

@@ -1,14 +1,14 @@
 //! Entries that aren't of the form of their trees: refused (E2) at each place that asks for them.
 
-use super::{Entry, N1, NODE, R100, RELATION, Trees, W10, WAY, check_told};
+use super::{Entry, NODE_1, NODE, RELATION_100, RELATION, Trees, WAY_10, WAY, check_told};
 use std::test::Fail;
 
 /// Objects that are as they should be but for one.
-const BAD_NODE: &[Entry] = &[(N1, b"rubbish"), WAY, RELATION];
+const BAD_NODE: &[Entry] = &[(NODE_1, b"rubbish"), WAY, RELATION];
 
-const BAD_WAY: &[Entry] = &[NODE, (W10, b"rubbish"), RELATION];
+const BAD_WAY: &[Entry] = &[NODE, (WAY_10, b"rubbish"), RELATION];
 
-const BAD_RELATION: &[Entry] = &[NODE, WAY, (R100, b"rubbish")];
+const BAD_RELATION: &[Entry] = &[NODE, WAY, (RELATION_100, b"rubbish")];
 
 /// Queries over objects of which one has no line.
 const OBJECTS: [(&str, &[Entry]); 16] = [

@@ -7,9 +7,9 @@ use Rattle.tree_node.specs.Trees.{greatest_of, link_to}
 use Rattle.tree_build.specs.Changing.{Change}
 use Rattle.tree_build.specs.internal.Edits.{Each, IsOldNode}
 use Rattle.tree_build.specs.internal.RisingChanges.{IsUpTo}
-use Rattle.tree_build.specs.declared.differ.Counterpart.{Counterpart}
-use Rattle.tree_build.specs.declared.differ.Counterpart.TheVariants.{Missing, Changed, Same}
-use Rattle.tree_build.specs.declared.held.OldNode.{OldNode}
+use Rattle.tree_build.specs.declared.parent_changes.Counterpart.{Counterpart}
+use Rattle.tree_build.specs.declared.parent_changes.Counterpart.TheVariants.{Missing, Changed, Same}
+use Rattle.tree_build.specs.declared.old_node.OldNode.{OldNode}
 use Rattle.tree_build.specs.declared.piece.NewPiece.{NewPiece}
 
 -- the item that stands for the node goes

@@ -3,7 +3,7 @@ use Rattle.std.specs.Prelude.{◌≡◌, List, [], ◌∷◌, ◌++◌, ⊤}
 use Rattle.tree_node.specs.Digests.{digest}
 use Rattle.tree_node.specs.Nodes.{Node, spelling}
 use Rattle.tree_node.specs.Trees.{entry_count, greatest_of}
-use Rattle.tree_build.specs.declared.held.OldNode.{OldNode}
+use Rattle.tree_build.specs.declared.old_node.OldNode.{OldNode}
 use Rattle.tree_build.specs.declared.piece.NewPiece.{NewPiece}
 
 -- it stands for this node of the old tree

@@ -6,7 +6,7 @@ use Rattle.tree_node.specs.Trees.{Two, HasTree, IsNodeOf, greatest_of, level_at,
 use Rattle.tree_build.specs.internal.Edits.{IsOldNode}
 use Rattle.tree_build.specs.internal.Seeking.{IsSought}
 use Rattle.tree_build.specs.internal.Weaving.{IsIn}
-use Rattle.tree_build.specs.declared.held.OldNode.{OldNode}
+use Rattle.tree_build.specs.declared.old_node.OldNode.{OldNode}
 
 -- the set holds this node, whose digest this is
 pub record IsHeld (held : List ℕ → Type 0) (key : List ℕ) (node : Node) : Type 0 where

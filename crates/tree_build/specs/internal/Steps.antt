@@ -7,12 +7,12 @@ use Rattle.tree_node.specs.Nodes.{AreRisingFrom, Node}
 use Rattle.tree_node.specs.Order.{IsBelow}
 use Rattle.tree_node.specs.Trees.{greatest_of, last_key, pieces_from}
 use Rattle.tree_build.specs.Changing.{Change, changed}
-use Rattle.tree_build.specs.internal.Cutting.{ArePieces, done_by, hand_after}
+use Rattle.tree_build.specs.internal.Cutting.{ArePieces, done_by, pending_after}
 use Rattle.tree_build.specs.internal.Edits.{Each, HaveCome, IsNewNode, IsOldNode}
 use Rattle.tree_build.specs.internal.RisingChanges.{AreOwnAndRising}
 use Rattle.tree_build.specs.internal.Seeking.{IsSought}
 use Rattle.tree_build.specs.internal.Weaving.{IsIn, Woven}
-use Rattle.tree_build.specs.declared.held.OldNode.{OldNode}
+use Rattle.tree_build.specs.declared.old_node.OldNode.{OldNode}
 use Rattle.tree_build.specs.declared.level_item.ItemChange.{ItemChange}
 use Rattle.tree_build.specs.declared.piece.NewPiece.{NewPiece}
 use Rattle.tree_build.specs.declared.step.LevelEdit.{LevelEdit}
@@ -50,10 +50,10 @@ pub record IsEdit (old new : List Node) (edit : LevelEdit) : Type 0 where
 
 -- what is sought next: with something in hand the node after the last one that was opened, else that of the next change
 abbrev pub IsWanted : {T : Type 0} → List OldNode → List T → List (ItemChange T) → Option (Bor (List ℕ) × Bool) → Type 0
-IsWanted olds hand rest None = ((hand ≡ []) × (rest ≡ [])) ⊎ ((hand ≢ []) × (olds ≡ []))
-IsWanted {T} olds hand rest (Some wanted) =
-    ((hand ≡ []) × (change : ItemChange T) × (others : List (ItemChange T)) × (rest ≡ change ∷ others) × (wanted.0.now ≡ change.key.now) × (wanted.1 ≡ false))
-    ⊎ ((hand ≢ []) × (before : List OldNode) × (last : OldNode) × (olds ≡ before ++ last ∷ []) × (wanted.0.now ≡ last.greatest.now) × (wanted.1 ≡ true))
+IsWanted olds pending rest None = ((pending ≡ []) × (rest ≡ [])) ⊎ ((pending ≢ []) × (olds ≡ []))
+IsWanted {T} olds pending rest (Some wanted) =
+    ((pending ≡ []) × (change : ItemChange T) × (others : List (ItemChange T)) × (rest ≡ change ∷ others) × (wanted.0.now ≡ change.key.now) × (wanted.1 ≡ false))
+    ⊎ ((pending ≢ []) × (before : List OldNode) × (last : OldNode) × (olds ≡ before ++ last ∷ []) × (wanted.0.now ≡ last.greatest.now) × (wanted.1 ≡ true))
 
 -- the first of the changes, where there is one, is above the key
 abbrev pub FirstIsAbove : {T : Type 0} → List ℕ → List (ItemChange T) → Type 0
@@ -61,9 +61,9 @@ FirstIsAbove key [] = ⊤
 FirstIsAbove key (change ∷ changes) = IsBelow key change.key.now
 
 -- the cutting of these items has gone on from what was in hand, and has come to the list's end where they are the last
-pub record HaveGoneOn {X : Type 0} (ends : ℕ → X → Bool) (over : List X → Node) (is_last : Bool) (hand : List X) (news : List NewPiece) (items next : List X) (later : List NewPiece) : Type 0 where
-  pub come : HaveCome news later (map over (done_by ends hand items ++ (if is_last then pieces_from ends (hand_after ends hand items) [] else [])))
-  pub hand_is : next ≡ (if is_last then [] else hand_after ends hand items)
+pub record HaveGoneOn {X : Type 0} (ends : ℕ → X → Bool) (over : List X → Node) (is_last : Bool) (pending : List X) (news : List NewPiece) (items next : List X) (later : List NewPiece) : Type 0 where
+  pub come : HaveCome news later (map over (done_by ends pending items ++ (if is_last then pieces_from ends (pending_after ends pending items) [] else [])))
+  pub pending_is : next ≡ (if is_last then [] else pending_after ends pending items)
 
 -- the node is sought for the key
 pub record IsSoughtFor (nodes : List Node) (key : List ℕ) (node : Node) : Type 0 where

@@ -14,6 +14,6 @@ pub record HasTold (olds news : List Node) (added later gone lost_later : List (
   pub lost : List Node
   pub gained : List Node
   pub changes : List (Change Link)
-  pub differ : Differ olds news lost gained changes
+  pub parent_changes : Differ olds news lost gained changes
   pub added_are : later ≡ added ++ map spelling gained
   pub gone_are : lost_later ≡ gone ++ map node_digest lost

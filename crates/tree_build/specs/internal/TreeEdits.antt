@@ -38,7 +38,7 @@ pub record HasNext (old new : List Node) (edit : LevelEdit) (changes : List (Cha
   pub is : IsEdit old new edit
   pub lost : List Node
   pub gained : List Node
-  pub differ : Differ is.opened is.came lost gained changes
+  pub parent_changes : Differ is.opened is.came lost gained changes
 
 -- Of the levels from this one on, of which the first is changed at these keys: each has opened its nodes for a reason, and
 -- gives the next one its changes, the last one those at the last keys.

@@ -19,7 +19,7 @@ returns-in-Err-clause-refused g c =
     let place : items_len before.0 + length rest ≡ length text = rw c.in-Some.is at before.3 in
     let are = item_there text rest item before.0 more some parts c.first_piece.ensures in
     let spells = g.T.ListItem.spells in
-    rw c.further.ensures (bad_item (IsSpelled spells) g.T.ListItem.bad ⊥ text before.0 item (pieces_left comma more) c.in-Err.fault _ some are (front_good spells before.0 c.loop-left.list.items before.2) (omega arith)
+    rw c.shifted_by.ensures (bad_item (IsSpelled spells) g.T.ListItem.bad ⊥ text before.0 item (pieces_left comma more) c.in-Err.fault _ some are (front_good spells before.0 c.loop-left.list.items before.2) (omega arith)
     g.met.T.ListItem.unlimited c.in-Err.ensures.refused)
 
 pub loop-left-preserved : goal.loop-left-preserved
@@ -33,6 +33,6 @@ loop-left-preserved g c =
     let place : items_len before.0 + length rest ≡ length text = rw c.in-Some.is at before.3 in (
       before.0 ++ item ∷ [],
       pieces_further text rest item before.0 more parts c.first_piece.ensures,
-      c.in_ok-keep-in-Ok.ensures before.0 item c.in-Ok.ensures.read before.2,
+      c.in_ok-push_up_to_limit-in-Ok.ensures before.0 item c.in-Ok.ensures.read before.2,
       leaves_further text rest item before.0 more place c.first_piece.ensures,
     )

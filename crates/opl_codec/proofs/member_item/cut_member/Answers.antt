@@ -8,8 +8,8 @@ use Rattle.opl_codec.proofs.member_item.cut_member.Goals as goal
 pub returns-in_default-clause-refused : goal.returns-in_default-clause-refused
 returns-in_default-clause-refused c = inl c.in_default.ensures
 
-pub further-requires : goal.further-requires
-further-requires c =
+pub shifted_by-requires : goal.shifted_by-requires
+shifted_by-requires c =
     let parts = c.in-Some.ensures in
     omega (arith, text_within _ _ c.in-Err.ensures.refused, ap length c.as_bytes.ensures.value, ap length parts.1, length-append parts.0 (at_sign ∷ c.in-Some.role.now))
 
@@ -18,4 +18,4 @@ returns-in-Err-clause-refused c =
     let parts = c.in-Some.ensures in
     let role = c.in-Some.role.now in
     let place : length c.args.spelled.now ≡ length c.args.spelled.now - length role + length role = omega (arith, ap length parts.1, length-append parts.0 (at_sign ∷ role)) in
-    rw c.further.ensures (role_fault c.args.spelled.now parts.0 role c.in-Some.target _ c.in-Err.fault parts.1 parts.2 place (subst (λ text. TextFault text c.in-Err.fault) c.as_bytes.ensures.value c.in-Err.ensures.refused))
+    rw c.shifted_by.ensures (role_fault c.args.spelled.now parts.0 role c.in-Some.target _ c.in-Err.fault parts.1 parts.2 place (subst (λ text. TextFault text c.in-Err.fault) c.as_bytes.ensures.value c.in-Err.ensures.refused))

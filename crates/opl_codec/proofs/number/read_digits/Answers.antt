@@ -1,7 +1,8 @@
 use Rattle.std.proofs.Common.{arith, ◌<◌, ◌-◌, ◌^◌, get_or, lit≤}
 use Rattle.std.specs.Char.{digit_value}
 use Rattle.std.proofs.lemmas.Int.Digits.{digits_more}
-use Rattle.opl_codec.proofs.shared.ReadIds.{digits_all, not_digit, digit_is, cap_more}
+use Rattle.opl_codec.proofs.shared.ReadIds.{digits_all, cap_more}
+use Rattle.osm_model.proofs.shared.Digits.{not_digit, digit_is}
 use Rattle.opl_codec.proofs.number.read_digits.Goals as goal
 
 pub returns-then-not-is_ascii_digit : goal.returns-then-not-is_ascii_digit

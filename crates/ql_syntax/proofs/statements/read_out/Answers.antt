@@ -1,5 +1,5 @@
 use Rattle.std.proofs.Common.{ap, refl}
-use Rattle.opl_codec.specs.declared.out_mode.OutMode.{OutMode}
+use Rattle.osm_model.specs.declared.out_mode.OutMode.{OutMode}
 use Rattle.ql_syntax.specs.Statements.{Print}
 use Rattle.ql_syntax.proofs.RuleLemmas.{follows_give, keeps_stop, follows_then}
 use Rattle.ql_syntax.specs.StatementRules.{out_of}

@@ -1,6 +1,6 @@
 use Rattle.std.proofs.Common.{arith, get_or, ◌≤◌, ◌^◌}
 use Rattle.std.specs.Str.Parse.{digits_value}
-use Rattle.opl_codec.proofs.shared.ReadIds.{digit_is}
+use Rattle.osm_model.proofs.shared.Digits.{digit_is}
 use Rattle.ql_syntax.proofs.WholeLemmas.{next_within, digit_here}
 use Rattle.ql_syntax.proofs.whole.size_of_digits.Goals as goal
 

@@ -4,9 +4,9 @@ use Rattle.tree_node.specs.NodeRefs.{number_of}
 use Rattle.tree_node.specs.Trees.{Two, level_at, levels, no_node}
 use Rattle.std.specs.Prelude.{IfSome}
 use Rattle.tree_build.specs.Rebuilding.{changed_entries, digests_of, nodes_of}
-use Rattle.tree_build.specs.declared.settle.Top.{Top}
+use Rattle.tree_build.specs.declared.shrink_top.Top.{Top}
 use Rattle.tree_build.specs.internal.FoundTops.{IsFound, IsTopRead}
-use Rattle.tree_build.specs.internal.Settling.{HasSettled, IsReadBy}
+use Rattle.tree_build.specs.internal.Shrinking.{HasShrunk, IsReadBy}
 use Rattle.tree_build.proofs.FoundLemmas.{found_emptied, found_grown, found_settled, found_stays, if_ok, none_stand}
 use Rattle.tree_build.proofs.StepStates.{each_length}
 use Rattle.tree_build.specs.internal.Edits.{Each, IsNewNode}
@@ -31,8 +31,8 @@ index-requires g c =
     let (top, changes, entries, is, are, opened, some, high, whole) = c.requires in
     omega (arith, c.len-last.ensures, c.args.edits.now.ok.0, some)
 
-pub settle-requires : goal.settle-requires
-settle-requires g c κs =
+pub shrink_top-requires : goal.shrink_top-requires
+shrink_top-requires g c κs =
     let (top, changes, entries, is, are, opened, some, high, whole) = c.requires in
     let tree = number_of c.args.tree in
     let edits = c.args.edits.now.items in
@@ -67,8 +67,8 @@ overflow_cast-last g c =
     let (top, changes, entries, is, are, opened, some, high, whole) = c.requires in
     omega (arith, c.len-last.ensures, c.args.edits.now.ok.0, high, old_few (number_of c.args.tree) entries is.has)
 
-pub grow-requires : goal.grow-requires
-grow-requires g c =
+pub grow_top-requires : goal.grow_top-requires
+grow_top-requires g c =
     let (top, changes, entries, is, are, opened, some, high, whole) = c.requires in
     let tree = number_of c.args.tree in
     let edits = c.args.edits.now.items in
@@ -125,17 +125,17 @@ returns-in-len1-clause-found g c = λ top changes entries is are opened some hig
     let alone = subst (λ n. length (new n) ≡ 1) same_last (last_alone tree entries new edits c.index.result.now last are opened at all c.index.ensures c.one-item.result one) in
     let digest_is = subst (λ n. c.one-item.result.node.digest.0 ≡ node_digest (get_or (new n) 0 no_node)) same_last (last_digest tree entries new edits c.index.result.now last are opened at all c.index.ensures c.one-item.result one c.one-item.result.node.own) in
     let back = sym c.as_slice-in-len1.ensures.value in
-    let settled = c.settle.ensures.settled tree top changes entries is
+    let settled = c.shrink_top.ensures.settled tree top changes entries is
     (subst (λ (es : List LevelEdit). AreEdits (levels Two tree entries) new 0 es) back are)
     (subst (λ (es : List LevelEdit). length es ≤ length (levels Two tree entries)) back high)
     (subst (λ (es : List LevelEdit). length (new (length es - 1)) ≡ 1) back alone)
     (subst (λ (es : List LevelEdit). c.one-item.result.node.digest.0 ≡ node_digest (get_or (new (length es - 1)) 0 no_node)) back digest_is) in
     if_ok
-    (λ (found : Top). HasSettled new c.as_slice-in-len1.result.now (digests_of c.args.gone.now.items) (digests_of c.settle.new.gone.items) found.digest.0 found.level)
-    (λ (found : Top). IsFound (levels Two tree entries) (levels Two tree after) edits (nodes_of c.args.added.now.items) (nodes_of c.args.added.now.items) (digests_of c.args.gone.now.items) (digests_of c.settle.new.gone.items) found.digest.0 found.level)
-    c.settle.result
-    (λ found so. found_settled tree entries after is.has is.changed_has is.is_tree edits are some all (nodes_of c.args.added.now.items) (digests_of c.args.gone.now.items) (digests_of c.settle.new.gone.items) found.digest.0 found.level
-    (subst (λ (es : List LevelEdit). HasSettled new es (digests_of c.args.gone.now.items) (digests_of c.settle.new.gone.items) found.digest.0 found.level) c.as_slice-in-len1.ensures.value so))
+    (λ (found : Top). HasShrunk new c.as_slice-in-len1.result.now (digests_of c.args.gone.now.items) (digests_of c.shrink_top.new.gone.items) found.digest.0 found.level)
+    (λ (found : Top). IsFound (levels Two tree entries) (levels Two tree after) edits (nodes_of c.args.added.now.items) (nodes_of c.args.added.now.items) (digests_of c.args.gone.now.items) (digests_of c.shrink_top.new.gone.items) found.digest.0 found.level)
+    c.shrink_top.result
+    (λ found so. found_settled tree entries after is.has is.changed_has is.is_tree edits are some all (nodes_of c.args.added.now.items) (digests_of c.args.gone.now.items) (digests_of c.shrink_top.new.gone.items) found.digest.0 found.level
+    (subst (λ (es : List LevelEdit). HasShrunk new es (digests_of c.args.gone.now.items) (digests_of c.shrink_top.new.gone.items) found.digest.0 found.level) c.as_slice-in-len1.ensures.value so))
     settled
 
 pub returns-in-len1-clause-used : goal.returns-in-len1-clause-used
@@ -154,25 +154,25 @@ returns-in-len1-clause-used g c = λ top changes entries is are opened some high
     let alone = subst (λ n. length (new n) ≡ 1) same_last (last_alone tree entries new edits c.index.result.now last are opened at all c.index.ensures c.one-item.result one) in
     let digest_is = subst (λ n. c.one-item.result.node.digest.0 ≡ node_digest (get_or (new n) 0 no_node)) same_last (last_digest tree entries new edits c.index.result.now last are opened at all c.index.ensures c.one-item.result one c.one-item.result.node.own) in
     let back = sym c.as_slice-in-len1.ensures.value in
-    let settled = c.settle.ensures.settled tree top changes entries is
+    let settled = c.shrink_top.ensures.settled tree top changes entries is
     (subst (λ (es : List LevelEdit). AreEdits (levels Two tree entries) new 0 es) back are)
     (subst (λ (es : List LevelEdit). length es ≤ length (levels Two tree entries)) back high)
     (subst (λ (es : List LevelEdit). length (new (length es - 1)) ≡ 1) back alone)
     (subst (λ (es : List LevelEdit). c.one-item.result.node.digest.0 ≡ node_digest (get_or (new (length es - 1)) 0 no_node)) back digest_is) in
-    let reads = c.settle.ensures.used tree top changes entries is
+    let reads = c.shrink_top.ensures.used tree top changes entries is
     (subst (λ (es : List LevelEdit). AreEdits (levels Two tree entries) new 0 es) back are)
     (subst (λ (es : List LevelEdit). length es ≤ length (levels Two tree entries)) back high)
     (subst (λ (es : List LevelEdit). length (new (length es - 1)) ≡ 1) back alone)
     (subst (λ (es : List LevelEdit). c.one-item.result.node.digest.0 ≡ node_digest (get_or (new (length es - 1)) 0 no_node)) back digest_is) in
     if_ok_both
-    (λ (found : Top). HasSettled new c.as_slice-in-len1.result.now (digests_of c.args.gone.now.items) (digests_of c.settle.new.gone.items) found.digest.0 found.level)
-    (λ (found : Top). (bytes : List ℕ) → g.S.Shelf.used c.settle.new.shelf bytes → g.S.Shelf.used c.args.shelf.now bytes ⊎ IsReadBy new c.as_slice-in-len1.result.now found.level bytes)
-    (λ (found : Top). (bytes : List ℕ) → g.S.Shelf.used c.settle.new.shelf bytes → g.S.Shelf.used c.args.shelf.now bytes ⊎ IsTopRead (levels Two tree entries) (levels Two tree after) bytes)
-    c.settle.result
+    (λ (found : Top). HasShrunk new c.as_slice-in-len1.result.now (digests_of c.args.gone.now.items) (digests_of c.shrink_top.new.gone.items) found.digest.0 found.level)
+    (λ (found : Top). (bytes : List ℕ) → g.S.Shelf.used c.shrink_top.new.shelf bytes → g.S.Shelf.used c.args.shelf.now bytes ⊎ IsReadBy new c.as_slice-in-len1.result.now found.level bytes)
+    (λ (found : Top). (bytes : List ℕ) → g.S.Shelf.used c.shrink_top.new.shelf bytes → g.S.Shelf.used c.args.shelf.now bytes ⊎ IsTopRead (levels Two tree entries) (levels Two tree after) bytes)
+    c.shrink_top.result
     (λ found so by bytes h. elim (by bytes h) [
       | inl used ↦ inl used
-      | inr read ↦ inr (settled_read tree entries after edits are all (digests_of c.args.gone.now.items) (digests_of c.settle.new.gone.items) found.digest.0 found.level
-          (subst (λ (es : List LevelEdit). HasSettled new es (digests_of c.args.gone.now.items) (digests_of c.settle.new.gone.items) found.digest.0 found.level) c.as_slice-in-len1.ensures.value so)
+      | inr read ↦ inr (settled_read tree entries after edits are all (digests_of c.args.gone.now.items) (digests_of c.shrink_top.new.gone.items) found.digest.0 found.level
+          (subst (λ (es : List LevelEdit). HasShrunk new es (digests_of c.args.gone.now.items) (digests_of c.shrink_top.new.gone.items) found.digest.0 found.level) c.as_slice-in-len1.ensures.value so)
           c.index.result.now last at c.index.ensures c.one-item.result one bytes
           (subst (λ (es : List LevelEdit). IsReadBy new es found.level bytes) c.as_slice-in-len1.ensures.value read))
     ])
@@ -192,5 +192,5 @@ returns-in_ok-digest-in_default-as_slice-clause-found g c = λ top changes entri
     let news = last_new tree entries new edits c.index.result.now last are opened at all c.index.ensures in
     let stand = subst (λ (ps : List NewPiece). Each IsNewNode ps (new last)) (sym c.as_slice.ensures.value) news in
     let many : 2 ≤ length (new last) = omega (arith, c.in_default-as_slice.len_at_least, each_length IsNewNode c.as_slice.result.now (new last) stand) in
-    found_grown tree entries after is.has is.changed_has is.is_tree edits are some all last at many (nodes_of c.args.added.now.items) (nodes_of c.grow.new.added.items) (digests_of c.args.gone.now.items) c.in_ok-digest-in_default-as_slice.digest.0
+    found_grown tree entries after is.has is.changed_has is.is_tree edits are some all last at many (nodes_of c.args.added.now.items) (nodes_of c.grow_top.new.added.items) (digests_of c.args.gone.now.items) c.in_ok-digest-in_default-as_slice.digest.0
     (c.in_ok-digest-in_default-as_slice.ensures after is.changed_has (omega (arith, c.in_default-as_slice.len_at_least)) stand)

@@ -26,10 +26,10 @@ returns-clause-rebuilt g c = λ changes entries is edit.
     let found = subst (λ (ds : List Digest). IsFound old (levels Two tree after) c.find_top.new.edits.items [] (nodes_of c.find_top.new.added.items) (digests_of ds) (digests_of c.find_top.new.gone.items) c.in_ok-top.top.digest.0 c.in_ok-top.top.level)
     c.new-gone.ensures.items added_none in
     let free : IsClashFree (g.S.Shelf.holds c.find_top.new.shelf) = search (rules, g.met.S.Shelf) in
-    let told = c.in_ok-tell_all.ensures old found.levels found.are (λ level lt. (nodes_old tree entries changes is.is_tree is.has is.changed_has level (omega (arith, lt, found.within)), found.nodes level lt)) in
+    let told = c.in_ok-push_tree_diff.ensures old found.levels found.are (λ level lt. (nodes_old tree entries changes is.is_tree is.has is.changed_has level (omega (arith, lt, found.within)), found.nodes level lt)) in
     is_rebuilt (g.S.Shelf.holds c.find_top.new.shelf) c.args.old_top.now.0 changes tree entries is free
-    c.find_top.new.edits.items (nodes_of c.find_top.new.added.items) (nodes_of c.tell_all.new.added.items) (digests_of c.find_top.new.gone.items) (digests_of c.tell_all.new.gone.items)
-    c.in_ok-top.top.digest.0 c.in_ok-top.top.level found told (record { top = c.in_ok-top.top.digest; added = c.tell_all.new.added; gone = c.tell_all.new.gone }) refl refl refl
+    c.find_top.new.edits.items (nodes_of c.find_top.new.added.items) (nodes_of c.push_tree_diff.new.added.items) (digests_of c.find_top.new.gone.items) (digests_of c.push_tree_diff.new.gone.items)
+    c.in_ok-top.top.digest.0 c.in_ok-top.top.level found told (record { top = c.in_ok-top.top.digest; added = c.push_tree_diff.new.added; gone = c.push_tree_diff.new.gone }) refl refl refl
 
 pub returns-clause-used : goal.returns-clause-used
 returns-clause-used g c = λ changes entries is edit.

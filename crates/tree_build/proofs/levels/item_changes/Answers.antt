@@ -3,7 +3,7 @@ use Rattle.std.proofs.lemmas.List.{map-append}
 use Rattle.tree_build.specs.Rebuilding.{change_of}
 use Rattle.tree_build.specs.internal.ItemChanges.{change_meant, changes_meant}
 use Rattle.tree_build.specs.internal.LeafItems.{entry_of}
-use Rattle.tree_build.proofs.HandLemmas.{next_taken}
+use Rattle.tree_build.proofs.PendingLemmas.{next_taken}
 use Rattle.tree_build.proofs.levels.item_changes.Goals as goal
 
 pub loop-change-preserved : goal.loop-change-preserved

@@ -16,22 +16,22 @@ use Rattle.tree_build.proofs.TreeEdits.{old_then}
 use Rattle.tree_build.proofs.ErrLemmas.{if_err}
 use Rattle.tree_build.proofs.rebuilder.rebuild.Goals as goal
 
-pub open-requires : goal.open-requires
-open-requires g c = λ k.
+pub fetch_held-requires : goal.fetch_held-requires
+fetch_held-requires g c = λ k.
     let says = top_says (g.S.Shelf.holds c.args.shelf.now) c.args.top.now.0 (changes_of c.args.changes.now) c.requires.tree c.requires.entries c.requires.is in
     ((refl, tt), record { node = says.node; is_held = says.is_held })
 
 pub change_levels-requires : goal.change_levels-requires
 change_levels-requires g c = λ k.
     let says = top_says (g.S.Shelf.holds c.args.shelf.now) c.args.top.now.0 (changes_of c.args.changes.now) c.requires.tree c.requires.entries c.requires.is in
-    let opened = c.in_ok-old.ensures.node says.node (later_held (g.S.Shelf.holds c.args.shelf.now) (g.S.Shelf.holds c.open.new.shelf) c.open.ensures.stays c.args.top.now.0 says.node says.is_held) in
+    let opened = c.in_ok-old.ensures.node says.node (later_held (g.S.Shelf.holds c.args.shelf.now) (g.S.Shelf.holds c.fetch_held.new.shelf) c.fetch_held.ensures.stays c.args.top.now.0 says.node says.is_held) in
     let number : number_of c.tree-tree.result ≡ c.requires.tree = c.tree-tree.ensures ∙ ap tree_of opened ∙ says.tree_is in
     let height : c.level_in.result + 1 ≡ length (levels Two c.requires.tree c.requires.entries) = omega (arith, c.level_in.ensures, ap level_of opened, says.level_is) in
-    let now = old_then _ (g.S.Shelf.holds c.open.new.shelf) _ _ _ _ (λ x h. (c.open.ensures.stays x).1 h) c.requires.is in (
+    let now = old_then _ (g.S.Shelf.holds c.fetch_held.new.shelf) _ _ _ _ (λ x h. (c.fetch_held.ensures.stays x).1 h) c.requires.is in (
       (refl, tt),
       (
         c.requires.entries,
-        subst (λ t. IsOldTree (g.S.Shelf.holds c.open.new.shelf) c.args.top.now.0 (changes_of c.args.changes.now) t c.requires.entries) (sym number) now,
+        subst (λ t. IsOldTree (g.S.Shelf.holds c.fetch_held.new.shelf) c.args.top.now.0 (changes_of c.args.changes.now) t c.requires.entries) (sym number) now,
         subst (λ t. c.level_in.result + 1 ≡ length (levels Two t c.requires.entries)) (sym number) height,
         some_changes c.args.changes.now c.if-is_empty.ensures,
       ),
@@ -40,10 +40,10 @@ change_levels-requires g c = λ k.
 pub finish-requires : goal.finish-requires
 finish-requires g c = λ k.
     let says = top_says (g.S.Shelf.holds c.args.shelf.now) c.args.top.now.0 (changes_of c.args.changes.now) c.requires.tree c.requires.entries c.requires.is in
-    let opened = c.in_ok-old.ensures.node says.node (later_held (g.S.Shelf.holds c.args.shelf.now) (g.S.Shelf.holds c.open.new.shelf) c.open.ensures.stays c.args.top.now.0 says.node says.is_held) in
+    let opened = c.in_ok-old.ensures.node says.node (later_held (g.S.Shelf.holds c.args.shelf.now) (g.S.Shelf.holds c.fetch_held.new.shelf) c.fetch_held.ensures.stays c.args.top.now.0 says.node says.is_held) in
     let number : number_of c.tree-tree.result ≡ c.requires.tree = c.tree-tree.ensures ∙ ap tree_of opened ∙ says.tree_is in
     let height : c.level_in.result + 1 ≡ length (levels Two c.requires.tree c.requires.entries) = omega (arith, c.level_in.ensures, ap level_of opened, says.level_is) in
-    let now = old_then _ (g.S.Shelf.holds c.change_levels.new.shelf) _ _ _ _ (λ x h. (c.change_levels.ensures.stays x).1 ((c.open.ensures.stays x).1 h)) c.requires.is in
+    let now = old_then _ (g.S.Shelf.holds c.change_levels.new.shelf) _ _ _ _ (λ x h. (c.change_levels.ensures.stays x).1 ((c.fetch_held.ensures.stays x).1 h)) c.requires.is in
     let here = subst (λ t. IsOldTree (g.S.Shelf.holds c.change_levels.new.shelf) c.args.top.now.0 (changes_of c.args.changes.now) t c.requires.entries) (sym number) now in
     let high = subst (λ t. c.level_in.result + 1 ≡ length (levels Two t c.requires.entries)) (sym number) height in
     ((refl, tt), (changes_of c.args.changes.now, c.requires.entries, here, c.in_ok-edited.ensures.edited c.requires.entries here high))
@@ -60,9 +60,9 @@ returns-then-is_empty-clause-used g c = λ tree entries is free. ([], omega arit
 
 pub returns-clause-rebuilt : goal.returns-clause-rebuilt
 returns-clause-rebuilt g c = λ tree entries after.
-    let is = old_then _ (g.S.Shelf.holds c.args.shelf.now) _ _ _ _ (λ x h. (c.open.ensures.stays x).0 ((c.change_levels.ensures.stays x).0 ((c.finish.ensures.stays x).0 h))) after in
+    let is = old_then _ (g.S.Shelf.holds c.args.shelf.now) _ _ _ _ (λ x h. (c.fetch_held.ensures.stays x).0 ((c.change_levels.ensures.stays x).0 ((c.finish.ensures.stays x).0 h))) after in
     let says = top_says (g.S.Shelf.holds c.args.shelf.now) c.args.top.now.0 (changes_of c.args.changes.now) tree entries is in
-    let opened = c.in_ok-old.ensures.node says.node (later_held (g.S.Shelf.holds c.args.shelf.now) (g.S.Shelf.holds c.open.new.shelf) c.open.ensures.stays c.args.top.now.0 says.node says.is_held) in
+    let opened = c.in_ok-old.ensures.node says.node (later_held (g.S.Shelf.holds c.args.shelf.now) (g.S.Shelf.holds c.fetch_held.new.shelf) c.fetch_held.ensures.stays c.args.top.now.0 says.node says.is_held) in
     let number : number_of c.tree-tree.result ≡ tree = c.tree-tree.ensures ∙ ap tree_of opened ∙ says.tree_is in
     let height : c.level_in.result + 1 ≡ length (levels Two tree entries) = omega (arith, c.level_in.ensures, ap level_of opened, says.level_is) in
     let mid = old_then _ (g.S.Shelf.holds c.change_levels.new.shelf) _ _ _ _ (λ x h. (c.finish.ensures.stays x).0 h) after in
@@ -77,9 +77,9 @@ returns-clause-used g c = λ tree entries after free.
     let changes = changes_of c.args.changes.now in
     let Before : List ℕ → Type 0 = g.S.Shelf.used c.args.shelf.now in
     let After : List ℕ → Type 0 = g.S.Shelf.used c.finish.new.shelf in
-    let is = old_then _ (g.S.Shelf.holds c.args.shelf.now) _ _ _ _ (λ x h. (c.open.ensures.stays x).0 ((c.change_levels.ensures.stays x).0 ((c.finish.ensures.stays x).0 h))) after in
+    let is = old_then _ (g.S.Shelf.holds c.args.shelf.now) _ _ _ _ (λ x h. (c.fetch_held.ensures.stays x).0 ((c.change_levels.ensures.stays x).0 ((c.finish.ensures.stays x).0 h))) after in
     let says = top_says (g.S.Shelf.holds c.args.shelf.now) c.args.top.now.0 changes tree entries is in
-    let held = later_held (g.S.Shelf.holds c.args.shelf.now) (g.S.Shelf.holds c.open.new.shelf) c.open.ensures.stays c.args.top.now.0 says.node says.is_held in
+    let held = later_held (g.S.Shelf.holds c.args.shelf.now) (g.S.Shelf.holds c.fetch_held.new.shelf) c.fetch_held.ensures.stays c.args.top.now.0 says.node says.is_held in
     let opened = c.in_ok-old.ensures.node says.node held in
     let number : number_of c.tree-tree.result ≡ tree = c.tree-tree.ensures ∙ ap tree_of opened ∙ says.tree_is in
     let height : c.level_in.result + 1 ≡ length (levels Two tree entries) = omega (arith, c.level_in.ensures, ap level_of opened, says.level_is) in
@@ -104,7 +104,7 @@ returns-clause-used g c = λ tree entries after free.
       | inr down ↦ inr (inr (inr down))
       | inl later ↦ elim (c.in_ok-edited.ensures.used entries there high bytes later) [
         | inr read ↦ inr (inr (inl read))
-        | inl first ↦ elim (c.open.ensures.used says.node held bytes first) [ inl before ↦ inl before | inr top ↦ inr (inl (top ∙ top_is)) ]
+        | inl first ↦ elim (c.fetch_held.ensures.used says.node held bytes first) [ inl before ↦ inl before | inr top ↦ inr (inl (top ∙ top_is)) ]
       ]
     ])
     (length c.args.changes.now) (length-map c.args.changes.now change_of))
@@ -113,10 +113,10 @@ returns-clause-used g c = λ tree entries after free.
     subst (λ t. IfOk c.finish.result (λ (rebuilt : Rebuilt). GrownByAtMost (length rebuilt.gone.items + length c.args.changes.now * length (levels Two t entries)) Before After)) number bounded
 
 pub returns-in_err-old-clause-stays : goal.returns-in_err-old-clause-stays
-returns-in_err-old-clause-stays g c = c.open.ensures.stays
+returns-in_err-old-clause-stays g c = c.fetch_held.ensures.stays
 
 pub returns-in_err-old-clause-grows : goal.returns-in_err-old-clause-grows
-returns-in_err-old-clause-grows g c = c.open.ensures.grows
+returns-in_err-old-clause-grows g c = c.fetch_held.ensures.grows
 
 pub returns-in_err-old-clause-rebuilt : goal.returns-in_err-old-clause-rebuilt
 returns-in_err-old-clause-rebuilt g c = λ tree entries is. if_err _ c.from_residual.result c.from_residual.ensures.0
@@ -125,10 +125,10 @@ pub returns-in_err-old-clause-used : goal.returns-in_err-old-clause-used
 returns-in_err-old-clause-used g c = λ tree entries is free. if_err _ c.from_residual.result c.from_residual.ensures.0
 
 pub returns-in_err-edited-clause-stays : goal.returns-in_err-edited-clause-stays
-returns-in_err-edited-clause-stays g c = λ x. ((λ h. (c.open.ensures.stays x).0 ((c.change_levels.ensures.stays x).0 h)), (λ h. (c.change_levels.ensures.stays x).1 ((c.open.ensures.stays x).1 h)))
+returns-in_err-edited-clause-stays g c = λ x. ((λ h. (c.fetch_held.ensures.stays x).0 ((c.change_levels.ensures.stays x).0 h)), (λ h. (c.change_levels.ensures.stays x).1 ((c.fetch_held.ensures.stays x).1 h)))
 
 pub returns-in_err-edited-clause-grows : goal.returns-in_err-edited-clause-grows
-returns-in_err-edited-clause-grows g c = λ x h. c.change_levels.ensures.grows x (c.open.ensures.grows x h)
+returns-in_err-edited-clause-grows g c = λ x h. c.change_levels.ensures.grows x (c.fetch_held.ensures.grows x h)
 
 pub returns-in_err-edited-clause-rebuilt : goal.returns-in_err-edited-clause-rebuilt
 returns-in_err-edited-clause-rebuilt g c = λ tree entries is. if_err _ c.from_residual-in_err-edited.result c.from_residual-in_err-edited.ensures.0
@@ -139,9 +139,9 @@ returns-in_err-edited-clause-used g c = λ tree entries is free. if_err _ c.from
 pub returns-clause-stays : goal.returns-clause-stays
 returns-clause-stays g c =
     λ x. (
-      (λ h. (c.open.ensures.stays x).0 ((c.change_levels.ensures.stays x).0 ((c.finish.ensures.stays x).0 h))),
-      (λ h. (c.finish.ensures.stays x).1 ((c.change_levels.ensures.stays x).1 ((c.open.ensures.stays x).1 h))),
+      (λ h. (c.fetch_held.ensures.stays x).0 ((c.change_levels.ensures.stays x).0 ((c.finish.ensures.stays x).0 h))),
+      (λ h. (c.finish.ensures.stays x).1 ((c.change_levels.ensures.stays x).1 ((c.fetch_held.ensures.stays x).1 h))),
     )
 
 pub returns-clause-grows : goal.returns-clause-grows
-returns-clause-grows g c = λ x h. c.finish.ensures.grows x (c.change_levels.ensures.grows x (c.open.ensures.grows x h))
+returns-clause-grows g c = λ x h. c.finish.ensures.grows x (c.change_levels.ensures.grows x (c.fetch_held.ensures.grows x h))

@@ -9,7 +9,7 @@ use Rattle.tree_build.specs.Changing.{changed}
 use Rattle.tree_build.specs.internal.ItemChanges.{changes_meant}
 use Rattle.tree_build.specs.internal.Steps.{HaveReasons, keys_changed}
 use Rattle.tree_build.specs.internal.Holding.{IsOnWayTo}
-use Rattle.tree_build.specs.declared.held.OldNode.{OldNode}
+use Rattle.tree_build.specs.declared.old_node.OldNode.{OldNode}
 use Rattle.tree_build.proofs.ReasonLemmas.{first_reasons, last_reasons, next_reasons}
 use Rattle.tree_build.proofs.MarkLemmas.{sought_inside}
 use Rattle.tree_build.proofs.UsedLemmas.{way_more}
@@ -24,9 +24,9 @@ loop-wanted-init g c = record {
   used = λ entries is lt x h. inl h;
   state = λ entries is lt can.
       start_state g.T.NodeItem.meaning g.T.NodeItem.key_in (ends_by Two g.T.NodeItem.marked_in) g.T.NodeItem.items_in (g.T.NodeItem.node_over (number_of c.args.place.tree) c.args.place.level) g.T.NodeItem.Fit (level_at (levels Two (number_of c.args.place.tree) entries) c.args.place.level) c.args.changes.now can (level_some_at (number_of c.args.place.tree) entries c.args.place.level lt) _ _ _
-      c.start-work.ensures.olds c.start-work.ensures.news c.start-work.ensures.hand;
+      c.start-work.ensures.olds c.start-work.ensures.news c.start-work.ensures.pending;
   reasons = λ entries is lt can. first_reasons g.T.NodeItem.meaning g.T.NodeItem.key_in (ends_by Two g.T.NodeItem.marked_in) g.T.NodeItem.items_in (g.T.NodeItem.node_over (number_of c.args.place.tree) c.args.place.level) g.T.NodeItem.Fit (level_at (levels Two (number_of c.args.place.tree) entries) c.args.place.level) c.args.changes.now can (g.met.T.NodeItem.same_items (number_of c.args.place.tree) c.args.place.level) c.start-work.result.olds.items c.start-work.ensures.olds;
-  few = omega (arith, ap length c.start-work.ensures.hand);
+  few = omega (arith, ap length c.start-work.ensures.pending);
   within = omega arith;
 }
 
@@ -47,7 +47,7 @@ take-requires g c κs =
     let (entries, is, lt, can) = c.requires in
     let held_now = held_then (g.S.Shelf.holds c.args.shelf.now) (g.S.Shelf.holds c.seek.new.shelf) c.args.place.top.0 (number_of c.args.place.tree) entries
     (λ x h. (c.seek.ensures.stays x).1 ((c.loop-wanted.invariant.stays x).1 h)) is in
-    let t = turn g.T.NodeItem.meaning g.T.NodeItem.key_in (ends_by Two g.T.NodeItem.marked_in) g.T.NodeItem.items_in (g.T.NodeItem.node_over (number_of c.args.place.tree) c.args.place.level) g.T.NodeItem.Fit (level_at (levels Two (number_of c.args.place.tree) entries) c.args.place.level) c.args.changes.now can g.met.T.NodeItem.parts _ _ c.loop-wanted.work.hand.items c.loop-wanted.done (c.loop-wanted.invariant.state entries is lt can) (c.in-Some.wanted, c.in-Some.above) c.in-Some.ensures
+    let t = turn g.T.NodeItem.meaning g.T.NodeItem.key_in (ends_by Two g.T.NodeItem.marked_in) g.T.NodeItem.items_in (g.T.NodeItem.node_over (number_of c.args.place.tree) c.args.place.level) g.T.NodeItem.Fit (level_at (levels Two (number_of c.args.place.tree) entries) c.args.place.level) c.args.changes.now can g.met.T.NodeItem.parts _ _ c.loop-wanted.work.pending.items c.loop-wanted.done (c.loop-wanted.invariant.state entries is lt can) (c.in-Some.wanted, c.in-Some.above) c.in-Some.ensures
     (levels Two (number_of c.args.place.tree) entries) c.args.place.level refl (node_read c.in_ok-found.found.node) c.in_ok-found.is_last (c.in_ok-found.ensures.node (number_of c.args.place.tree) entries held_now lt)
     c.in_ok-found.found.old c.in_ok-found.ensures.old c.count_up_to.result c.count_up_to.ensures.last c.count_up_to.ensures.up_to c.count_up_to.ensures.above in
     let inside = sought_inside (number_of c.args.place.tree) entries c.args.place.level lt _ _ (node_read c.in_ok-found.found.node) c.in_ok-found.is_last (c.in_ok-found.ensures.node (number_of c.args.place.tree) entries held_now lt) in
@@ -58,7 +58,7 @@ loop-wanted-smaller g c =
     let (entries, is, lt, can) = c.requires in
     let held_now = held_then (g.S.Shelf.holds c.args.shelf.now) (g.S.Shelf.holds c.seek.new.shelf) c.args.place.top.0 (number_of c.args.place.tree) entries
     (λ x h. (c.seek.ensures.stays x).1 ((c.loop-wanted.invariant.stays x).1 h)) is in
-    let t = turn g.T.NodeItem.meaning g.T.NodeItem.key_in (ends_by Two g.T.NodeItem.marked_in) g.T.NodeItem.items_in (g.T.NodeItem.node_over (number_of c.args.place.tree) c.args.place.level) g.T.NodeItem.Fit (level_at (levels Two (number_of c.args.place.tree) entries) c.args.place.level) c.args.changes.now can g.met.T.NodeItem.parts _ _ c.loop-wanted.work.hand.items c.loop-wanted.done (c.loop-wanted.invariant.state entries is lt can) (c.in-Some.wanted, c.in-Some.above) c.in-Some.ensures
+    let t = turn g.T.NodeItem.meaning g.T.NodeItem.key_in (ends_by Two g.T.NodeItem.marked_in) g.T.NodeItem.items_in (g.T.NodeItem.node_over (number_of c.args.place.tree) c.args.place.level) g.T.NodeItem.Fit (level_at (levels Two (number_of c.args.place.tree) entries) c.args.place.level) c.args.changes.now can g.met.T.NodeItem.parts _ _ c.loop-wanted.work.pending.items c.loop-wanted.done (c.loop-wanted.invariant.state entries is lt can) (c.in-Some.wanted, c.in-Some.above) c.in-Some.ensures
     (levels Two (number_of c.args.place.tree) entries) c.args.place.level refl (node_read c.in_ok-found.found.node) c.in_ok-found.is_last (c.in_ok-found.ensures.node (number_of c.args.place.tree) entries held_now lt)
     c.in_ok-found.found.old c.in_ok-found.ensures.old c.count_up_to.result c.count_up_to.ensures.last c.count_up_to.ensures.up_to c.count_up_to.ensures.above in
     falls g.T.NodeItem.meaning g.T.NodeItem.key_in (ends_by Two g.T.NodeItem.marked_in) g.T.NodeItem.items_in (g.T.NodeItem.node_over (number_of c.args.place.tree) c.args.place.level) g.T.NodeItem.Fit (level_at (levels Two (number_of c.args.place.tree) entries) c.args.place.level) c.args.changes.now can _ _ _ t.room c.in_ok-take.ensures.olds
@@ -76,14 +76,14 @@ loop-wanted-preserved g c = record {
   state = λ entries is lt can.
       let held_now = held_then (g.S.Shelf.holds c.args.shelf.now) (g.S.Shelf.holds c.seek.new.shelf) c.args.place.top.0 (number_of c.args.place.tree) entries
       (λ x h. (c.seek.ensures.stays x).1 ((c.loop-wanted.invariant.stays x).1 h)) is in
-      let t = turn g.T.NodeItem.meaning g.T.NodeItem.key_in (ends_by Two g.T.NodeItem.marked_in) g.T.NodeItem.items_in (g.T.NodeItem.node_over (number_of c.args.place.tree) c.args.place.level) g.T.NodeItem.Fit (level_at (levels Two (number_of c.args.place.tree) entries) c.args.place.level) c.args.changes.now can g.met.T.NodeItem.parts _ _ c.loop-wanted.work.hand.items c.loop-wanted.done (c.loop-wanted.invariant.state entries is lt can) (c.in-Some.wanted, c.in-Some.above) c.in-Some.ensures
+      let t = turn g.T.NodeItem.meaning g.T.NodeItem.key_in (ends_by Two g.T.NodeItem.marked_in) g.T.NodeItem.items_in (g.T.NodeItem.node_over (number_of c.args.place.tree) c.args.place.level) g.T.NodeItem.Fit (level_at (levels Two (number_of c.args.place.tree) entries) c.args.place.level) c.args.changes.now can g.met.T.NodeItem.parts _ _ c.loop-wanted.work.pending.items c.loop-wanted.done (c.loop-wanted.invariant.state entries is lt can) (c.in-Some.wanted, c.in-Some.above) c.in-Some.ensures
       (levels Two (number_of c.args.place.tree) entries) c.args.place.level refl (node_read c.in_ok-found.found.node) c.in_ok-found.is_last (c.in_ok-found.ensures.node (number_of c.args.place.tree) entries held_now lt)
       c.in_ok-found.found.old c.in_ok-found.ensures.old c.count_up_to.result c.count_up_to.ensures.last c.count_up_to.ensures.up_to c.count_up_to.ensures.above in
-      went_then g.T.NodeItem.meaning g.T.NodeItem.key_in (ends_by Two g.T.NodeItem.marked_in) g.T.NodeItem.items_in (g.T.NodeItem.node_over (number_of c.args.place.tree) c.args.place.level) g.T.NodeItem.Fit (level_at (levels Two (number_of c.args.place.tree) entries) c.args.place.level) c.args.changes.now can _ _ _ _ _ _ _ _ t _ _ c.take.new.work.hand.items c.in_ok-take.ensures.olds c.in_ok-take.ensures.went_on;
+      went_then g.T.NodeItem.meaning g.T.NodeItem.key_in (ends_by Two g.T.NodeItem.marked_in) g.T.NodeItem.items_in (g.T.NodeItem.node_over (number_of c.args.place.tree) c.args.place.level) g.T.NodeItem.Fit (level_at (levels Two (number_of c.args.place.tree) entries) c.args.place.level) c.args.changes.now can _ _ _ _ _ _ _ _ t _ _ c.take.new.work.pending.items c.in_ok-take.ensures.olds c.in_ok-take.ensures.went_on;
   reasons = λ entries is lt can.
       let held_now = held_then (g.S.Shelf.holds c.args.shelf.now) (g.S.Shelf.holds c.seek.new.shelf) c.args.place.top.0 (number_of c.args.place.tree) entries
       (λ x h. (c.seek.ensures.stays x).1 ((c.loop-wanted.invariant.stays x).1 h)) is in
-      next_reasons g.T.NodeItem.meaning g.T.NodeItem.key_in (ends_by Two g.T.NodeItem.marked_in) g.T.NodeItem.items_in (g.T.NodeItem.node_over (number_of c.args.place.tree) c.args.place.level) g.T.NodeItem.Fit (level_at (levels Two (number_of c.args.place.tree) entries) c.args.place.level) c.args.changes.now can (g.met.T.NodeItem.same_items (number_of c.args.place.tree) c.args.place.level) g.met.T.NodeItem.parts _ _ c.loop-wanted.work.hand.items c.loop-wanted.done (c.loop-wanted.invariant.state entries is lt can) (c.in-Some.wanted, c.in-Some.above) c.in-Some.ensures
+      next_reasons g.T.NodeItem.meaning g.T.NodeItem.key_in (ends_by Two g.T.NodeItem.marked_in) g.T.NodeItem.items_in (g.T.NodeItem.node_over (number_of c.args.place.tree) c.args.place.level) g.T.NodeItem.Fit (level_at (levels Two (number_of c.args.place.tree) entries) c.args.place.level) c.args.changes.now can (g.met.T.NodeItem.same_items (number_of c.args.place.tree) c.args.place.level) g.met.T.NodeItem.parts _ _ c.loop-wanted.work.pending.items c.loop-wanted.done (c.loop-wanted.invariant.state entries is lt can) (c.in-Some.wanted, c.in-Some.above) c.in-Some.ensures
       (levels Two (number_of c.args.place.tree) entries) c.args.place.level refl (node_read c.in_ok-found.found.node) c.in_ok-found.is_last (c.in_ok-found.ensures.node (number_of c.args.place.tree) entries held_now lt)
       c.in_ok-found.found.old c.in_ok-found.ensures.old c.count_up_to.result c.count_up_to.ensures.last c.count_up_to.ensures.up_to c.count_up_to.ensures.above (c.loop-wanted.invariant.reasons entries is lt can) c.take.new.work.olds.items c.in_ok-take.ensures.olds;
   few = c.in_ok-take.ensures.few;
@@ -93,13 +93,13 @@ loop-wanted-preserved g c = record {
 pub returns-clause-edited : goal.returns-clause-edited
 returns-clause-edited g c = λ entries is lt can.
     let was = held_then (g.S.Shelf.holds c.loop-wanted.shelf) (g.S.Shelf.holds c.args.shelf.now) c.args.place.top.0 (number_of c.args.place.tree) entries (λ x h. (c.loop-wanted.invariant.stays x).0 h) is in
-    let done = end_state g.T.NodeItem.meaning g.T.NodeItem.key_in (ends_by Two g.T.NodeItem.marked_in) g.T.NodeItem.items_in (g.T.NodeItem.node_over (number_of c.args.place.tree) c.args.place.level) g.T.NodeItem.Fit (level_at (levels Two (number_of c.args.place.tree) entries) c.args.place.level) c.args.changes.now can _ _ c.loop-wanted.work.hand.items c.loop-wanted.done (c.loop-wanted.invariant.state entries was lt can) c.in_default.ensures in
+    let done = end_state g.T.NodeItem.meaning g.T.NodeItem.key_in (ends_by Two g.T.NodeItem.marked_in) g.T.NodeItem.items_in (g.T.NodeItem.node_over (number_of c.args.place.tree) c.args.place.level) g.T.NodeItem.Fit (level_at (levels Two (number_of c.args.place.tree) entries) c.args.place.level) c.args.changes.now can _ _ c.loop-wanted.work.pending.items c.loop-wanted.done (c.loop-wanted.invariant.state entries was lt can) c.in_default.ensures in
     edit_of g.T.NodeItem.meaning g.T.NodeItem.key_in (ends_by Two g.T.NodeItem.marked_in) g.T.NodeItem.items_in (g.T.NodeItem.node_over (number_of c.args.place.tree) c.args.place.level) g.T.NodeItem.Fit (level_at (levels Two (number_of c.args.place.tree) entries) c.args.place.level) c.args.changes.now can _ _ done c.finish.result (ap (λ v. v.items) c.finish.ensures.olds) (ap (λ v. v.items) c.finish.ensures.news)
 
 pub returns-clause-some : goal.returns-clause-some
 returns-clause-some g c =
     let (entries, is, lt, can) = c.requires in
-    let done = end_state g.T.NodeItem.meaning g.T.NodeItem.key_in (ends_by Two g.T.NodeItem.marked_in) g.T.NodeItem.items_in (g.T.NodeItem.node_over (number_of c.args.place.tree) c.args.place.level) g.T.NodeItem.Fit (level_at (levels Two (number_of c.args.place.tree) entries) c.args.place.level) c.args.changes.now can _ _ c.loop-wanted.work.hand.items c.loop-wanted.done (c.loop-wanted.invariant.state entries is lt can) c.in_default.ensures in
+    let done = end_state g.T.NodeItem.meaning g.T.NodeItem.key_in (ends_by Two g.T.NodeItem.marked_in) g.T.NodeItem.items_in (g.T.NodeItem.node_over (number_of c.args.place.tree) c.args.place.level) g.T.NodeItem.Fit (level_at (levels Two (number_of c.args.place.tree) entries) c.args.place.level) c.args.changes.now can _ _ c.loop-wanted.work.pending.items c.loop-wanted.done (c.loop-wanted.invariant.state entries is lt can) c.in_default.ensures in
     some_of g.T.NodeItem.meaning g.T.NodeItem.key_in (ends_by Two g.T.NodeItem.marked_in) g.T.NodeItem.items_in (g.T.NodeItem.node_over (number_of c.args.place.tree) c.args.place.level) g.T.NodeItem.Fit (level_at (levels Two (number_of c.args.place.tree) entries) c.args.place.level) c.args.changes.now can _ _ done c.finish.result (ap (λ v. v.items) c.finish.ensures.olds)
 
 pub returns-in_err-take-clause-stays : goal.returns-in_err-take-clause-stays
@@ -119,7 +119,7 @@ returns-clause-reasons g c = λ entries is lt can.
     let keys = keys_changed (changes_meant g.T.NodeItem.meaning c.args.changes.now) in
     let new = map (g.T.NodeItem.node_over (number_of c.args.place.tree) c.args.place.level) (pieces (ends_by Two g.T.NodeItem.marked_in) (changed g.T.NodeItem.key_in (flat_map g.T.NodeItem.items_in nodes) (changes_meant g.T.NodeItem.meaning c.args.changes.now))) in
     subst (λ (os : List OldNode). HaveReasons nodes new keys keys os) (sym (ap (λ v. v.items) c.finish.ensures.olds))
-    (last_reasons g.T.NodeItem.meaning g.T.NodeItem.key_in (ends_by Two g.T.NodeItem.marked_in) g.T.NodeItem.items_in (g.T.NodeItem.node_over (number_of c.args.place.tree) c.args.place.level) g.T.NodeItem.Fit (level_at (levels Two (number_of c.args.place.tree) entries) c.args.place.level) c.args.changes.now can (g.met.T.NodeItem.same_items (number_of c.args.place.tree) c.args.place.level) c.loop-wanted.work.olds.items c.loop-wanted.work.news.items c.loop-wanted.work.hand.items c.loop-wanted.done (c.loop-wanted.invariant.state entries was lt can) c.in_default.ensures (c.loop-wanted.invariant.reasons entries was lt can))
+    (last_reasons g.T.NodeItem.meaning g.T.NodeItem.key_in (ends_by Two g.T.NodeItem.marked_in) g.T.NodeItem.items_in (g.T.NodeItem.node_over (number_of c.args.place.tree) c.args.place.level) g.T.NodeItem.Fit (level_at (levels Two (number_of c.args.place.tree) entries) c.args.place.level) c.args.changes.now can (g.met.T.NodeItem.same_items (number_of c.args.place.tree) c.args.place.level) c.loop-wanted.work.olds.items c.loop-wanted.work.news.items c.loop-wanted.work.pending.items c.loop-wanted.done (c.loop-wanted.invariant.state entries was lt can) c.in_default.ensures (c.loop-wanted.invariant.reasons entries was lt can))
 
 pub returns-in_err-found-clause-edited : goal.returns-in_err-found-clause-edited
 returns-in_err-found-clause-edited g c = λ entries is lt can. if_err _ c.from_residual.result c.from_residual.ensures.0

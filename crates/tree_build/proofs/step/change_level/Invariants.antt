@@ -20,12 +20,12 @@ invariant-loop-wanted g l = record {
   state : (entries : List Binding) → IsHeldTree (g.S.Shelf.holds l.fn.shelf) l.place.top.0 (number_of l.place.tree) entries → l.place.level < length (levels Two (number_of l.place.tree) entries)
       → CanStep g.T.NodeItem.key_in (ends_by Two g.T.NodeItem.marked_in) g.T.NodeItem.items_in (g.T.NodeItem.node_over (number_of l.place.tree) l.place.level) g.T.NodeItem.Fit (level_at (levels Two (number_of l.place.tree) entries) l.place.level) (changes_meant g.T.NodeItem.meaning l.changes)
       → StepState g.T.NodeItem.key_in (ends_by Two g.T.NodeItem.marked_in) g.T.NodeItem.items_in (g.T.NodeItem.node_over (number_of l.place.tree) l.place.level) g.T.NodeItem.Fit (level_at (levels Two (number_of l.place.tree) entries) l.place.level) (changes_meant g.T.NodeItem.meaning l.changes)
-      l.work.olds.items l.work.news.items (map g.T.NodeItem.meaning l.work.hand.items) (changes_meant g.T.NodeItem.meaning (drop l.done l.changes));
+      l.work.olds.items l.work.news.items (map g.T.NodeItem.meaning l.work.pending.items) (changes_meant g.T.NodeItem.meaning (drop l.done l.changes));
   reasons : (entries : List Binding) → IsHeldTree (g.S.Shelf.holds l.fn.shelf) l.place.top.0 (number_of l.place.tree) entries → l.place.level < length (levels Two (number_of l.place.tree) entries)
       → CanStep g.T.NodeItem.key_in (ends_by Two g.T.NodeItem.marked_in) g.T.NodeItem.items_in (g.T.NodeItem.node_over (number_of l.place.tree) l.place.level) g.T.NodeItem.Fit (level_at (levels Two (number_of l.place.tree) entries) l.place.level) (changes_meant g.T.NodeItem.meaning l.changes)
       → HaveReasons (level_at (levels Two (number_of l.place.tree) entries) l.place.level) (map (g.T.NodeItem.node_over (number_of l.place.tree) l.place.level) (pieces (ends_by Two g.T.NodeItem.marked_in) (changed g.T.NodeItem.key_in (flat_map g.T.NodeItem.items_in (level_at (levels Two (number_of l.place.tree) entries) l.place.level)) (changes_meant g.T.NodeItem.meaning l.changes))))
       (keys_changed (changes_meant g.T.NodeItem.meaning l.changes)) (keys_changed (changes_meant g.T.NodeItem.meaning (take l.done l.changes))) l.work.olds.items;
-  few : length l.work.hand.items < 64;
+  few : length l.work.pending.items < 64;
   within : l.done ≤ length l.changes;
 }
 

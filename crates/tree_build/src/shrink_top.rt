@@ -1,0 +1,139 @@
+//! Coming down to the top of a tree that lost levels.
+
+ghost use Rattle.std.specs.Prelude.{◌≡◌, ◌⊎◌, ◌∷◌, ◌++◌, ◌≤◌, ◌-◌, ◌==◌, [], ℕ, List, IfOk, OnOk, if◌then◌else◌, length, slice_index_or};
+ghost use Rattle.tree_build.specs.Changing.{Change};
+ghost use Rattle.tree_build.specs.Rebuilding.{IsOldTree, changed_entries, digests_of};
+ghost use Rattle.tree_build.specs.internal.Edits.{IsNewNode};
+ghost use Rattle.tree_build.specs.internal.Holding.{HoldsNode, IsHeld};
+ghost use Rattle.tree_build.specs.internal.Shrinking.{HasShrunk, IsOnlyChild, IsReadBy};
+ghost use Rattle.tree_build.specs.internal.Telling.{node_digest};
+ghost use Rattle.tree_build.specs.internal.Towers.{tower};
+ghost use Rattle.tree_build.specs.internal.TreeEdits.{AreEdits};
+ghost use Rattle.tree_build.specs.declared.piece.NewPiece.{NewPiece as New};
+ghost use Rattle.tree_node.specs.Nodes.{Binding, IsNode, Node, spelling};
+ghost use Rattle.tree_node.specs.NodeRefs.{node_read};
+ghost use Rattle.tree_node.specs.Shelves.{SameNodes};
+ghost use Rattle.tree_node.specs.Trees.{Two, levels, no_node};
+
+use crate::old_node::fetch_held;
+use crate::step::LevelEdit;
+use std::alloc::AllocError;
+use tree_node::{Digest, NodeRef, Shelf};
+
+/// The top of a new tree.
+#[derive(Clone, Copy)]
+pub(crate) struct Top {
+    pub(crate) digest: Digest,
+    pub(crate) level: usize,
+}
+
+/// The top of the new tree: from the one node of the last level down to the first that is a leaf or has
+/// two children. The nodes that it goes by and that aren't new are told as gone.
+pub(crate) fn shrink_top<'a, 'c, S: Shelf<'a>>(
+    shelf: &mut S,
+    edits: &[LevelEdit<'c>],
+    digest: &Digest,
+    gone: &mut Vec<Digest>,
+) -> Result<Top, AllocError>
+    requires { (tree : ℕ) × (top : List ℕ) × (changes : List (Change Binding)) × (entries : List Binding)
+        × IsOldTree (S.holds shelf.old) top changes tree entries
+        × AreEdits (levels Two tree entries) (tower Two tree (changed_entries entries changes)) 0 edits.now
+        × (1 ≤ length edits.now) × (length edits.now ≤ length (levels Two tree entries))
+        × (length (tower Two tree (changed_entries entries changes) (length edits.now - 1)) ≡ 1)
+        × (digest.now.0 ≡ node_digest (slice_index_or (tower Two tree (changed_entries entries changes) (length edits.now - 1)) 0 no_node)) }
+    ensures stays { SameNodes (S.holds shelf.old) (S.holds shelf.new) }
+    ensures grows { (bytes : List ℕ) → S.used shelf.old bytes → S.used shelf.new bytes }
+    ensures settled { (tree : ℕ) (top : List ℕ) (changes : List (Change Binding)) (entries : List Binding)
+        → IsOldTree (S.holds shelf.new) top changes tree entries
+        → AreEdits (levels Two tree entries) (tower Two tree (changed_entries entries changes)) 0 edits.now
+        → length edits.now ≤ length (levels Two tree entries)
+        → length (tower Two tree (changed_entries entries changes) (length edits.now - 1)) ≡ 1
+        → digest.now.0 ≡ node_digest (slice_index_or (tower Two tree (changed_entries entries changes) (length edits.now - 1)) 0 no_node)
+        → IfOk result (λ found. HasShrunk (tower Two tree (changed_entries entries changes)) edits.now
+        (digests_of gone.old.items) (digests_of gone.new.items) found.digest.0 found.level) }
+    // It reads just the nodes that aren't new on its way down.
+    ensures used { (tree : ℕ) (top : List ℕ) (changes : List (Change Binding)) (entries : List Binding)
+        → IsOldTree (S.holds shelf.new) top changes tree entries
+        → AreEdits (levels Two tree entries) (tower Two tree (changed_entries entries changes)) 0 edits.now
+        → length edits.now ≤ length (levels Two tree entries)
+        → length (tower Two tree (changed_entries entries changes) (length edits.now - 1)) ≡ 1
+        → digest.now.0 ≡ node_digest (slice_index_or (tower Two tree (changed_entries entries changes) (length edits.now - 1)) 0 no_node)
+        → IfOk result (λ found. (bytes : List ℕ) → S.used shelf.new bytes
+        → S.used shelf.old bytes ⊎ IsReadBy (tower Two tree (changed_entries entries changes)) edits.now found.level bytes) }
+{
+    let mut level = edits.len() - 1;
+    let mut top = *digest;
+    'down: while let Some(below) = only_child_at(shelf, &edits[level], &top)? {
+        push_stayed(&edits[level], &top, gone)?;
+        top = below;
+        level -= 1;
+    }
+    Ok(Top { digest: top, level })
+}
+
+/// Appends the digest of the one node of a level, where it isn't new.
+fn push_stayed(
+    edit: &LevelEdit<'_>,
+    digest: &Digest,
+    gone: &mut Vec<Digest>,
+) -> Result<(), AllocError>
+    ensures { OnOk result (digests_of gone.new.items ≡ digests_of gone.old.items
+        ++ (if length edit.now.news.items == 0 then digest.now.0 ∷ [] else [])) }
+{
+    if edit.news.is_empty() {
+        gone.push(*digest)?;
+    }
+    Ok(())
+}
+
+/// The digest of the only child of the one node of a level, which has this digest.
+fn only_child_at<'a, 'c, S: Shelf<'a>>(
+    shelf: &mut S,
+    edit: &LevelEdit<'c>,
+    digest: &Digest,
+) -> Result<Option<Digest>, AllocError>
+    requires { edit.now.news.items ≡ [] → HoldsNode (S.holds shelf.old) digest.now.0 }
+    ensures stays { SameNodes (S.holds shelf.old) (S.holds shelf.new) }
+    ensures grows { (bytes : List ℕ) → S.used shelf.old bytes → S.used shelf.new bytes }
+    ensures child { (node : Node) → IsNode node
+        → (edit.now.news.items ≡ [] → IsHeld (S.holds shelf.new) digest.now.0 node)
+        → ((new : New) (others : List New) → edit.now.news.items ≡ new ∷ others → IsNewNode new node)
+        → IfOk result (IsOnlyChild node) }
+    ensures used { (node : Node) → (edit.now.news.items ≡ [] → IsHeld (S.holds shelf.new) digest.now.0 node)
+        → (bytes : List ℕ) → S.used shelf.new bytes → S.used shelf.old bytes ⊎ ((edit.now.news.items ≡ []) × (bytes ≡ spelling node)) }
+{
+    match edit.news.first() {
+        Some(new) => Ok(only_child(new.node.bytes.as_slice())),
+        None => {
+            let opened = fetch_held(shelf, digest)?;
+            Ok(only_child(opened.old.bytes))
+        }
+    }
+}
+
+/// The digest of the only child of the node with these bytes; none of a leaf, and none of a node with
+/// two children or more.
+fn only_child(bytes: &[u8]) -> Option<Digest>
+    ensures { (node : Node) → IsNode node → bytes.now ≡ spelling node → IsOnlyChild node result }
+{
+    match NodeRef::read(bytes) {
+        Ok(node) => child_alone(node),
+        Err(_) => None,
+    }
+}
+
+/// The digest of the node's only child; none of a leaf, and none of a node with two children or more.
+fn child_alone(node: NodeRef<'_>) -> Option<Digest>
+    ensures { IsOnlyChild (node_read node.entry) result }
+{
+    match node {
+        NodeRef::Leaf { .. } => None,
+        NodeRef::Inner { mut children, .. } => match children.next() {
+            None => None,
+            Some(child) => match children.next() {
+                Some(_) => None,
+                None => Some(child.digest),
+            },
+        },
+    }
+}
