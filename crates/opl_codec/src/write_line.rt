@@ -5,10 +5,9 @@ ghost use Rattle.std.specs.List.{join_with_byte};
 ghost use Rattle.osm_model.specs.CanonicalLine.{body_fields, tags_field};
 ghost use Rattle.opl_codec.specs.Text.{fields_of, text_of};
 
-use osm_model::OutMode;
 use crate::write_body::append_body;
 use crate::write_field::{append_meta, append_name, append_tags};
-use osm_model::Object;
+use osm_model::{Object, OutMode};
 use std::alloc::AllocError;
 
 /// Appends the line of an object in a mode to `out`, with its LF.

@@ -1,6 +1,6 @@
 //! Entries that aren't of the form of their trees: refused (E2) at each place that asks for them.
 
-use super::{Entry, NODE_1, NODE, RELATION_100, RELATION, Trees, WAY_10, WAY, check_told};
+use super::{Entry, NODE, NODE_1, RELATION, RELATION_100, Trees, WAY, WAY_10, check_told};
 use std::test::Fail;
 
 /// Objects that are as they should be but for one.
