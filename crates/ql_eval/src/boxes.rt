@@ -22,8 +22,8 @@ ghost use Rattle.ql_eval.specs.internal.Boxes.{IsCellsAsk, IsFoundIn};
 ghost use Rattle.ql_eval.specs.Forms.{HasForm, HaveForm};
 ghost use Rattle.ql_eval.specs.internal.Entries.{AreMisread, IsMisread, IsSaid, PlacesIn, SaysIn};
 
+use crate::cell_entry::read_cell_entry;
 use crate::fault::EvalFault;
-use crate::placed::placed_by;
 use crate::walks::entries_in;
 use osm_index::{Manifest, OwnedRange, cell_ranges};
 use osm_model::{BoxArea, Ref};
@@ -104,7 +104,7 @@ fn add_node(area: &BoxArea<'_>, item: &Item<'_>, names: &mut Vec<Ref>) -> Result
     ensures formed { OnOk result (HasForm Cells (binding_of item.now)) }
     ensures refused { IfErr result (IsMisread Cells (binding_of item.now)) }
 {
-    match placed_by(item) {
+    match read_cell_entry(item) {
         Some(node) => {
             if area.holds(node.place) {
                 names.push(node.name)?;

@@ -38,7 +38,7 @@ use ref_sets::{Sets, tidy};
 use std::alloc::{AllocError, Global};
 
 /// The objects of a kind that the base keeps, or all of the kind where there is none, as a set.
-pub(crate) fn candidates<W: Source>(
+pub(crate) fn find_candidates<W: Source>(
     alloc: Global,
     source: &mut W,
     pick: Pick,

@@ -15,7 +15,7 @@ ghost use Rattle.ql_eval.specs.internal.Chains.{IsEnd, IsEndAsk, Leads, LeadsAsk
 ghost use Rattle.ql_eval.specs.internal.Links.{AreThere};
 
 use crate::fault::EvalFault;
-use crate::links::{below, listing};
+use crate::links::{members_there, referrers_of};
 use crate::source::Source;
 use osm_model::{Kind, Ref};
 use ref_sets::{Found, tidy};
@@ -32,7 +32,7 @@ pub(crate) enum Direction {
 
 /// What one or more steps lead to from some references, as a set. What was found is gone on from in rounds, each
 /// reference once; cycles end where a round finds nothing new.
-pub(crate) fn ends<W: Source>(
+pub(crate) fn closure<W: Source>(
     alloc: Global,
     source: &mut W,
     from: &[Ref],
@@ -47,11 +47,11 @@ pub(crate) fn ends<W: Source>(
         (record { held = W.holds source.new; before = W.used source.old; after = W.used source.new }) result }
 {
     let mut found = Found::new(alloc);
-    let next = leads(alloc, source, from, direction)?;
+    let next = one_link(alloc, source, from, direction)?;
     add_all(&next, &mut found)?;
     let mut at = 0;
     while at < found.refs.len() {
-        let next = leads(alloc, source, &found.refs[at..], direction)?;
+        let next = one_link(alloc, source, &found.refs[at..], direction)?;
         at = found.refs.len();
         add_all(&next, &mut found)?;
     }
@@ -61,7 +61,7 @@ pub(crate) fn ends<W: Source>(
 }
 
 /// What a step leads to from one of some references, as a set.
-fn leads<W: Source>(
+fn one_link<W: Source>(
     alloc: Global,
     source: &mut W,
     names: &[Ref],
@@ -77,8 +77,8 @@ fn leads<W: Source>(
         (record { held = W.holds source.new; before = W.used source.old; after = W.used source.new }) result }
 {
     match direction {
-        Direction::Down => below(alloc, source, names, Kind::Node, Kind::Rel),
-        Direction::Up => listing(alloc, source, names, None),
+        Direction::Down => members_there(alloc, source, names, Kind::Node, Kind::Rel),
+        Direction::Up => referrers_of(alloc, source, names, None),
     }
 }
 

@@ -25,7 +25,7 @@ use crate::answering::answer_all;
 use crate::fault::EvalFault;
 use crate::known::Known;
 use crate::opening::{ManifestFault, open_manifest};
-use crate::over::Over;
+use crate::shelf_source::ShelfSource;
 use crate::sink::Sink;
 use osm_index::Manifest;
 use ql_syntax::{Query, Stmt};
@@ -132,7 +132,7 @@ fn run_over<'a, S: Shelf<'a>, T: Sink>(
         (record { held = S.holds shelf.new; before = S.used shelf.old; after = S.used shelf.new }) result }
 {
     let mut objects = Known::new(alloc);
-    let mut source = Over {
+    let mut source = ShelfSource {
         alloc,
         shelf,
         manifest,
@@ -145,7 +145,7 @@ fn run_over<'a, S: Shelf<'a>, T: Sink>(
     };
     let ran = answer_all(alloc, statements, &mut source, sink);
     *tally = source.tally;
-    let Over {
+    let ShelfSource {
         alloc: _,
         shelf: _,
         manifest: _,

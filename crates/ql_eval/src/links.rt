@@ -25,7 +25,7 @@ use std::alloc::Global;
 
 /// What the ways and relations of some references list, as a set. Nodes list nothing, and aren't asked. `Absent` where
 /// one isn't there.
-pub(crate) fn listed_by<W: Source>(
+pub(crate) fn members_of<W: Source>(
     alloc: Global,
     source: &mut W,
     names: &[Ref],
@@ -109,7 +109,7 @@ fn add_there<W: Source>(source: &mut W, name: Ref, there: &mut Vec<Ref>) -> Resu
 }
 
 /// What lists one of some references and is of a kind, or of any, as a set.
-pub(crate) fn listing<W: Source>(
+pub(crate) fn referrers_of<W: Source>(
     alloc: Global,
     source: &mut W,
     names: &[Ref],
@@ -125,14 +125,14 @@ pub(crate) fn listing<W: Source>(
 {
     let mut refs = Vec::new(alloc);
     for name in names {
-        add_listing(source, *name, kind, &mut refs)?;
+        add_referrers(source, *name, kind, &mut refs)?;
     }
     tidy(&mut refs);
     Ok(refs)
 }
 
 /// Adds what lists an object.
-fn add_listing<W: Source>(
+fn add_referrers<W: Source>(
     source: &mut W,
     name: Ref,
     kind: Option<Kind>,
@@ -151,7 +151,7 @@ fn add_listing<W: Source>(
 }
 
 /// What the ways and relations of some references list that is there and of the kinds from one to another, as a set.
-pub(crate) fn below<W: Source>(
+pub(crate) fn members_there<W: Source>(
     alloc: Global,
     source: &mut W,
     names: &[Ref],
@@ -167,6 +167,6 @@ pub(crate) fn below<W: Source>(
         (NeededBy p (IsBelowAsk p.objects names.now first last))
         (record { held = W.holds source.new; before = W.used source.old; after = W.used source.new }) result }
 {
-    let listed = listed_by(alloc, source, names)?;
+    let listed = members_of(alloc, source, names)?;
     those_there(alloc, source, between(&listed, first, last))
 }

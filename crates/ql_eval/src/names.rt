@@ -10,9 +10,9 @@ ghost use Rattle.ref_sets.specs.Sets.{IsSetOf};
 ghost use Rattle.ql_eval.specs.Forms.{HaveForm, Names};
 ghost use Rattle.ql_eval.specs.internal.Entries.{AreMisread, IsMisread, IsSaid};
 
+use crate::cell_entry::read_cell_entry;
 use crate::fault::EvalFault;
 use crate::objects::object_in;
-use crate::placed::placed_by;
 use osm_index::{read_back_key, read_tag_key};
 use osm_model::Ref;
 use ref_sets::tidy;
@@ -47,7 +47,7 @@ fn name_in(alloc: Global, tree: Tree, item: &Item<'_>) -> Result<Ref, EvalFault>
             Ok(object.reference())
         }
         Tree::Tags => tagged_by(item).ok_or(EvalFault::Form),
-        Tree::Cells => match placed_by(item) {
+        Tree::Cells => match read_cell_entry(item) {
             Some(node) => Ok(node.name),
             None => Err(EvalFault::Form),
         },

@@ -15,7 +15,7 @@ ghost use Rattle.ql_eval.specs.internal.Paths.{IsAt, IsBelowOf};
 
 use crate::fault::EvalFault;
 use crate::kinds::{between, first_kind, last_kind};
-use crate::links::{below, listing};
+use crate::links::{members_there, referrers_of};
 use crate::source::Source;
 use osm_model::{Kind, Ref};
 use ql_syntax::Path;
@@ -42,9 +42,9 @@ pub(crate) fn on_path<W: Source>(
     match path {
         Path::W => below_of(alloc, source, set, Kind::Way, kind),
         Path::R => below_of(alloc, source, set, Kind::Rel, kind),
-        Path::Bn => listing(alloc, source, between(set, Kind::Node, Kind::Node), kind),
-        Path::Bw => listing(alloc, source, between(set, Kind::Way, Kind::Way), kind),
-        Path::Br => listing(alloc, source, between(set, Kind::Rel, Kind::Rel), kind),
+        Path::Bn => referrers_of(alloc, source, between(set, Kind::Node, Kind::Node), kind),
+        Path::Bw => referrers_of(alloc, source, between(set, Kind::Way, Kind::Way), kind),
+        Path::Br => referrers_of(alloc, source, between(set, Kind::Rel, Kind::Rel), kind),
     }
 }
 
@@ -66,5 +66,5 @@ fn below_of<W: Source>(
         (record { held = W.holds source.new; before = W.used source.old; after = W.used source.new }) result }
 {
     let names = between(set, from, from);
-    below(alloc, source, names, first_kind(kind), last_kind(kind))
+    members_there(alloc, source, names, first_kind(kind), last_kind(kind))
 }

@@ -14,10 +14,10 @@ ghost use Rattle.ql_eval.specs.Faults.{cause_of_evaluation};
 ghost use Rattle.ql_eval.specs.Questions.{NeededBy};
 ghost use Rattle.ql_eval.specs.internal.Links.{AreThere, IsMemberAsk, IsMemberBelow};
 
-use crate::chains::{Direction, ends};
+use crate::chains::{Direction, closure};
 use crate::fault::EvalFault;
 use crate::kinds::between;
-use crate::links::{below, listing};
+use crate::links::{members_there, referrers_of};
 use crate::source::Source;
 use osm_model::{Kind, Ref};
 use ql_syntax::Recursion;
@@ -44,8 +44,8 @@ pub(crate) fn recurse<W: Source>(
     match how {
         Recursion::Down => down(alloc, source, set),
         Recursion::Up => up(alloc, source, set),
-        Recursion::DownAll => ends(alloc, source, set, Direction::Down),
-        Recursion::UpAll => ends(alloc, source, set, Direction::Up),
+        Recursion::DownAll => closure(alloc, source, set, Direction::Down),
+        Recursion::UpAll => closure(alloc, source, set, Direction::Up),
     }
 }
 
@@ -63,7 +63,7 @@ fn down<W: Source>(alloc: Global, source: &mut W, set: &[Ref]) -> Result<Vec<Ref
 {
     let ways = between(set, Kind::Way, Kind::Way);
     let relations = between(set, Kind::Rel, Kind::Rel);
-    let mut refs = below(alloc, source, ways, Kind::Node, Kind::Rel)?;
+    let mut refs = members_there(alloc, source, ways, Kind::Node, Kind::Rel)?;
     add_members(alloc, source, relations, &mut refs)?;
     tidy(&mut refs);
     Ok(refs)
@@ -84,9 +84,9 @@ fn add_members<W: Source>(
         (NeededBy p (IsMemberAsk p.objects relations.now))
         (record { held = W.holds source.new; before = W.used source.old; after = W.used source.new }) result }
 {
-    let members = below(alloc, source, relations, Kind::Node, Kind::Way)?;
+    let members = members_there(alloc, source, relations, Kind::Node, Kind::Way)?;
     let ways = between(&members, Kind::Way, Kind::Way);
-    let inner = below(alloc, source, ways, Kind::Node, Kind::Rel)?;
+    let inner = members_there(alloc, source, ways, Kind::Node, Kind::Rel)?;
     refs.extend_from_slice(&members)?;
     refs.extend_from_slice(&inner)?;
     Ok(())
@@ -105,9 +105,9 @@ fn up<W: Source>(alloc: Global, source: &mut W, set: &[Ref]) -> Result<Vec<Ref>,
         (record { held = W.holds source.new; before = W.used source.old; after = W.used source.new }) result }
 {
     let children = between(set, Kind::Node, Kind::Way);
-    let mut refs = listing(alloc, source, children, None)?;
+    let mut refs = referrers_of(alloc, source, children, None)?;
     let ways = between(&refs, Kind::Way, Kind::Way);
-    let outer = listing(alloc, source, ways, None)?;
+    let outer = referrers_of(alloc, source, ways, None)?;
     refs.extend_from_slice(&outer)?;
     tidy(&mut refs);
     Ok(refs)

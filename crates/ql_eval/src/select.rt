@@ -18,12 +18,12 @@ ghost use Rattle.ql_eval.specs.Faults.{cause_of_evaluation};
 ghost use Rattle.ql_eval.specs.Questions.{NeededBy};
 ghost use Rattle.ql_eval.specs.internal.Links.{AreAllThere};
 
-use crate::candidates::candidates;
+use crate::apply_filters::apply_filters;
+use crate::candidates::find_candidates;
+use crate::choose_plan::choose_plan;
 use crate::fault::EvalFault;
 use crate::kinds::kind_of;
-use crate::planned::planned;
 use crate::source::Source;
-use crate::tested::tested;
 use osm_model::Ref;
 use ql_plan::Plan;
 use ql_syntax::{Filter, Pick};
@@ -48,7 +48,7 @@ pub(crate) fn select<W: Source>(
         (NeededBy p (AskedBySelect p (lists_of sets.now.named.items) pick (filters_of filters.now)))
         (record { held = W.holds source.new; before = W.used source.old; after = W.used source.new }) result }
 {
-    let plan = planned(alloc, source, kind_of(pick), filters)?;
+    let plan = choose_plan(alloc, source, kind_of(pick), filters)?;
     answered(alloc, source, pick, &plan, sets)
 }
 
@@ -70,6 +70,6 @@ fn answered<W: Source>(
         (NeededBy p (AskedByPlan p.objects (lists_of sets.now.named.items) pick plan.now))
         (record { held = W.holds source.new; before = W.used source.old; after = W.used source.new }) result }
 {
-    let found = candidates(alloc, source, pick, plan.base(), sets)?;
-    tested(alloc, source, &found, plan.before(), plan.after(), sets)
+    let found = find_candidates(alloc, source, pick, plan.base(), sets)?;
+    apply_filters(alloc, source, &found, plan.before(), plan.after(), sets)
 }

@@ -17,7 +17,7 @@ returns-in_err-inner-clause-answer g c = λ p is under there.
     let members = c.in_ok-members.members.items in
     let ways = c.between-ways.result.now in
     let are = of_one ways members kinds.Way (subst (λ (all : List Ref). (s : Ref) → Contains ways s ↔ (Contains all s × IsBetween kinds.Way kinds.Way s)) c.deref.ensures.value c.between-ways.ensures.members) in
-    outcome_then_stops _ c.from_residual-in_err-inner.ensures.1 refl (λ x. g.met.W.Source.grows _ _ x c.below-2.ensures.later)
+    outcome_then_stops _ c.from_residual-in_err-inner.ensures.1 refl (λ x. g.met.W.Source.grows _ _ x c.members_there-2.ensures.later)
     (needed_as (λ ask asked. inl asked)) (λ so. inner_needs p c.args.relations.now members ways so are)
     (c.in_ok-members.ensures.answer p is under there)
     (λ so. c.in_err-inner.ensures.answer p is (g.met.W.Source.same_under _ _ p c.in_ok-members.ensures.later under) (ways_there p c.args.relations.now members ways so are))
@@ -27,7 +27,7 @@ returns-clause-answer g c = λ p is under there.
     let members = c.in_ok-members.members.items in
     let ways = c.between-ways.result.now in
     let are = of_one ways members kinds.Way (subst (λ (all : List Ref). (s : Ref) → Contains ways s ↔ (Contains all s × IsBetween kinds.Way kinds.Way s)) c.deref.ensures.value c.between-ways.ensures.members) in
-    outcome_then (λ x. g.met.W.Source.grows _ _ x c.below-2.ensures.later)
+    outcome_then (λ x. g.met.W.Source.grows _ _ x c.members_there-2.ensures.later)
     (needed_as (λ ask asked. inl asked)) (λ so. inner_needs p c.args.relations.now members ways so are) (λ so inner. members_split p c.args.relations.now members ways so are)
     (λ so inner. members_added p c.args.relations.now members ways so are c.in_ok-inner.inner.items _ _ _ inner (c.in_ok-extend_from_slice.ensures.items ∙ ap (λ (l : List Ref). c.args.refs.now.items ++ l) c.deref-2.ensures.value)
     (c.in_ok-extend_from_slice-2.ensures.items ∙ ap (λ (l : List Ref). c.extend_from_slice.new.self.items ++ l) c.deref-3.ensures.value))

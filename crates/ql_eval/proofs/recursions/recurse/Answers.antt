@@ -16,12 +16,12 @@ returns-in-Up-clause-answer g c = λ p is under there.
 
 pub returns-in-DownAll-clause-answer : goal.returns-in-DownAll-clause-answer
 returns-in-DownAll-clause-answer g c = λ p is under there.
-    let shelf = uses (g.W.Source.holds c.ends.new.source) (g.W.Source.used c.args.source.now) (g.W.Source.used c.ends.new.source) in
-    subst (λ (how : Recursion). RecursedWell p how c.args.set.now shelf c.ends.result) (sym c.in-DownAll.is)
-    (outcome_same (down_all_needs p is.set c.args.set.now there) (λ refs set. needs_down_all p is.set c.args.set.now there) (λ refs. down_all_set p is.set c.args.set.now there refs.items) (c.ends.ensures.answer p is under there))
+    let shelf = uses (g.W.Source.holds c.closure.new.source) (g.W.Source.used c.args.source.now) (g.W.Source.used c.closure.new.source) in
+    subst (λ (how : Recursion). RecursedWell p how c.args.set.now shelf c.closure.result) (sym c.in-DownAll.is)
+    (outcome_same (down_all_needs p is.set c.args.set.now there) (λ refs set. needs_down_all p is.set c.args.set.now there) (λ refs. down_all_set p is.set c.args.set.now there refs.items) (c.closure.ensures.answer p is under there))
 
 pub returns-in-UpAll-clause-answer : goal.returns-in-UpAll-clause-answer
 returns-in-UpAll-clause-answer g c = λ p is under there.
-    let shelf = uses (g.W.Source.holds c.ends-in-UpAll.new.source) (g.W.Source.used c.args.source.now) (g.W.Source.used c.ends-in-UpAll.new.source) in
-    subst (λ (how : Recursion). RecursedWell p how c.args.set.now shelf c.ends-in-UpAll.result) (sym c.in-UpAll.is)
-    (outcome_same (up_all_needs p is.set c.args.set.now there) (λ refs set. needs_up_all p is.set c.args.set.now there) (λ refs. up_all_set p is.set c.args.set.now there refs.items) (c.ends-in-UpAll.ensures.answer p is under there))
+    let shelf = uses (g.W.Source.holds c.closure-in-UpAll.new.source) (g.W.Source.used c.args.source.now) (g.W.Source.used c.closure-in-UpAll.new.source) in
+    subst (λ (how : Recursion). RecursedWell p how c.args.set.now shelf c.closure-in-UpAll.result) (sym c.in-UpAll.is)
+    (outcome_same (up_all_needs p is.set c.args.set.now there) (λ refs set. needs_up_all p is.set c.args.set.now there) (λ refs. up_all_set p is.set c.args.set.now there refs.items) (c.closure-in-UpAll.ensures.answer p is under there))

@@ -18,7 +18,7 @@ returns-in_err-outer-clause-answer g c = λ p is under there.
     let refs = c.in_ok-refs.refs.items in
     let ways = c.between-ways.result.now in
     let ways_are = of_one ways refs kinds.Way (subst (λ (all : List Ref). (s : Ref) → Contains ways s ↔ (Contains all s × IsBetween kinds.Way kinds.Way s)) c.deref.ensures.value c.between-ways.ensures.members) in
-    outcome_then_stops _ c.from_residual-in_err-outer.ensures.1 refl (λ x. g.met.W.Source.grows _ _ x c.listing-2.ensures.later)
+    outcome_then_stops _ c.from_residual-in_err-outer.ensures.1 refl (λ x. g.met.W.Source.grows _ _ x c.referrers_of-2.ensures.later)
     (children_need p set children c.between-children.ensures.members) (λ so. outer_needs p set children refs ways c.between-children.ensures.members so ways_are there)
     (c.in_ok-refs.ensures.answer p is under)
     (λ so. c.in_err-outer.ensures.answer p is (g.met.W.Source.same_under _ _ p c.in_ok-refs.ensures.later under))
@@ -30,7 +30,7 @@ returns-clause-answer g c = λ p is under there.
     let refs = c.in_ok-refs.refs.items in
     let ways = c.between-ways.result.now in
     let ways_are = of_one ways refs kinds.Way (subst (λ (all : List Ref). (s : Ref) → Contains ways s ↔ (Contains all s × IsBetween kinds.Way kinds.Way s)) c.deref.ensures.value c.between-ways.ensures.members) in
-    outcome_then (λ x. g.met.W.Source.grows _ _ x c.listing-2.ensures.later)
+    outcome_then (λ x. g.met.W.Source.grows _ _ x c.referrers_of-2.ensures.later)
     (children_need p set children c.between-children.ensures.members) (λ so. outer_needs p set children refs ways c.between-children.ensures.members so ways_are there)
     (λ so outer. up_splits p set children refs ways c.between-children.ensures.members so ways_are there)
     (λ so outer. up_set p set children refs ways c.between-children.ensures.members so ways_are there c.in_ok-outer.outer.items _ _ outer

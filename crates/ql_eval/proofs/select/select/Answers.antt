@@ -31,7 +31,7 @@ returns-clause-answer g c = λ p is under there lawful.
     let plan = c.in_ok-plan.plan in
     let written = c.in_ok-plan.ensures.written.0 in
     let one = one_planned p (kind_picked pick) filters in
-    let first = uses (g.W.Source.holds c.planned.new.source) (g.W.Source.used c.args.source.now) (g.W.Source.used c.planned.new.source) in
+    let first = uses (g.W.Source.holds c.choose_plan.new.source) (g.W.Source.used c.args.source.now) (g.W.Source.used c.choose_plan.new.source) in
     then_same (λ x. g.met.W.Source.grows _ _ x c.answered.ensures.later)
     (choice_asks p env pick filters) (λ chosen. chosen_asks p env pick filters one plan chosen) (λ chosen b set. select_splits p env pick filters one plan chosen)
     (λ chosen b set. subst (λ (fs : List Filter). IsSetOf b.items (IsRefOf p.objects (IsSelected p.objects env pick fs))) written set)
