@@ -2,8 +2,6 @@
 
 ghost use Rattle.std.specs.Prelude.{◌++◌, IfErr, IfOk, OnOk};
 ghost use Rattle.std.specs.List.{Contains};
-ghost use Rattle.std.specs.List.Sorted.{IsStrictlySortedBy};
-ghost use Rattle.osm_model.specs.Elements.{ref_cmp};
 ghost use Rattle.tree_node.specs.Outcomes.{Outcome};
 ghost use Rattle.osm_index.specs.Publications.{IsPublication, Publication};
 ghost use Rattle.ql_syntax.specs.StatementViews.{filters_of};
@@ -16,14 +14,14 @@ ghost use Rattle.ql_eval.specs.Questions.{NeededBy};
 ghost use Rattle.ql_eval.specs.internal.Links.{AreAllThere, AreThere};
 ghost use Rattle.ql_eval.specs.internal.Selecting.{IsKeptBy, IsTestAsk};
 ghost use Rattle.ql_eval.specs.internal.Narrowing.{IsNamedByAll};
+ghost use Rattle.ql_eval.specs.internal.Uses.{nodes_around};
 
 use crate::fault::EvalFault;
 use crate::filter_by_object::filter_by_object;
 use crate::filter_by_reference::filter_by_reference;
 use crate::source::Source;
-use osm_model::Ref;
 use ql_syntax::Filter;
-use ref_sets::Sets;
+use ref_sets::{NamedSets, RefSet};
 use std::alloc::Global;
 
 /// Of candidates those that the filters keep which are written before and after the base. With any filter each
@@ -32,25 +30,28 @@ use std::alloc::Global;
 pub(crate) fn apply_filters<W: Source>(
     alloc: Global,
     source: &mut W,
-    candidates: &[Ref],
+    candidates: RefSet,
     before: &[Filter<'_>],
     after: &[Filter<'_>],
-    sets: &Sets<'_>,
-) -> Result<Vec<Ref>, EvalFault>
-    requires { IsStrictlySortedBy ref_cmp candidates.now }
+    sets: &NamedSets<'_>,
+) -> Result<RefSet, EvalFault>
     ensures later { W.later source.old source.new }
     ensures walked { OnOk result (W.walked source.old source.new) }
     ensures told { IfErr result (W.tells source.new) }
-    ensures rising { IfOk result (λ refs. IsStrictlySortedBy ref_cmp refs.items) }
-    ensures answer { (p : Publication) → IsPublication p → W.under source.old p → AreThere p.objects candidates.now → AreAllThere p.objects (lists_of sets.now.named.items)
-        → Outcome cause_of_evaluation (λ refs. IsSetOf refs.items (λ r. Contains candidates.now r × IsKeptBy p.objects (lists_of sets.now.named.items) (filters_of before.now ++ filters_of after.now) r))
-        (NeededBy p (IsTestAsk (lists_of sets.now.named.items) (filters_of before.now ++ filters_of after.now) candidates.now))
-        (record { held = W.holds source.new; before = W.used source.old; after = W.used source.new }) result }
+    ensures answer { (p : Publication) → IsPublication p → W.under source.old p
+        → AreThere p.objects candidates → AreAllThere p.objects (lists_of sets.now.named.items)
+        → Outcome cause_of_evaluation
+        (λ refs. IsSetOf refs
+        (λ r. Contains candidates r × IsKeptBy p.objects (lists_of sets.now.named.items) (filters_of before.now ++ filters_of after.now) r))
+        (NeededBy p (IsTestAsk (lists_of sets.now.named.items) (filters_of before.now ++ filters_of after.now) candidates))
+        (nodes_around W.holds W.used source.old source.new) result }
 {
     if before.is_empty() && after.is_empty() {
-        return Ok(Vec::from_slice(alloc, candidates)?);
+        // For the proof alone: a set rises.
+        let _ = candidates.as_slice();
+        return Ok(candidates);
     }
-    let refs = filter_by_object(alloc, source, candidates, before, after, sets)?;
+    let refs = filter_by_object(alloc, source, &candidates, before, after, sets)?;
     filter_by_both(alloc, source, refs, before, after, sets)
 }
 
@@ -58,20 +59,21 @@ pub(crate) fn apply_filters<W: Source>(
 fn filter_by_both<W: Source>(
     alloc: Global,
     source: &mut W,
-    refs: Vec<Ref>,
+    refs: RefSet,
     before: &[Filter<'_>],
     after: &[Filter<'_>],
-    sets: &Sets<'_>,
-) -> Result<Vec<Ref>, EvalFault>
-    requires { IsStrictlySortedBy ref_cmp refs.items }
+    sets: &NamedSets<'_>,
+) -> Result<RefSet, EvalFault>
     ensures later { W.later source.old source.new }
     ensures walked { OnOk result (W.walked source.old source.new) }
     ensures told { IfErr result (W.tells source.new) }
-    ensures rising { IfOk result (λ left. IsStrictlySortedBy ref_cmp left.items) }
-    ensures answer { (p : Publication) → IsPublication p → W.under source.old p → AreAllThere p.objects (lists_of sets.now.named.items)
-        → Outcome cause_of_evaluation (λ left. IsSetOf left.items (λ r. Contains refs.items r × IsNamedByAll p.objects (lists_of sets.now.named.items) (filters_of before.now ++ filters_of after.now) r))
+    ensures answer { (p : Publication) → IsPublication p → W.under source.old p
+        → AreAllThere p.objects (lists_of sets.now.named.items)
+        → Outcome cause_of_evaluation
+        (λ left. IsSetOf left
+        (λ r. Contains refs r × IsNamedByAll p.objects (lists_of sets.now.named.items) (filters_of before.now ++ filters_of after.now) r))
         (NeededBy p (From (filters_of before.now ++ filters_of after.now) (AskedByRest (lists_of sets.now.named.items))))
-        (record { held = W.holds source.new; before = W.used source.old; after = W.used source.new }) result }
+        (nodes_around W.holds W.used source.old source.new) result }
 {
     let left = filter_by_reference(alloc, source, refs, before, sets)?;
     filter_by_reference(alloc, source, left, after, sets)

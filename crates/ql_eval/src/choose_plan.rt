@@ -12,6 +12,7 @@ ghost use Rattle.ql_eval.specs.Faults.{cause_of_evaluation};
 ghost use Rattle.ql_eval.specs.Questions.{NeededBy};
 ghost use Rattle.ql_eval.specs.Asks.{AskedByChoice};
 ghost use Rattle.ql_eval.specs.internal.Counting.{HasCounted, IsRivalAsk};
+ghost use Rattle.ql_eval.specs.internal.Uses.{nodes_around};
 
 use crate::fault::EvalFault;
 use crate::question::Question;
@@ -35,8 +36,9 @@ pub(crate) fn choose_plan<'q, 's, W: Source>(
     // Whatever the source tells, the plan has these filters, and its base is one that can be a base.
     ensures written { IfOk result (λ plan. (filters_in plan ≡ filters_of filters.now) × ForSome plan.base (λ base. rank_of base < never)) }
     ensures answer { (p : Publication) → IsPublication p → W.under source.old p
-        → Outcome cause_of_evaluation (IsPlanned p kind (filters_of filters.now)) (NeededBy p (AskedByChoice kind (filters_of filters.now)))
-        (record { held = W.holds source.new; before = W.used source.old; after = W.used source.new }) result }
+        → Outcome cause_of_evaluation (IsPlanned p kind (filters_of filters.now))
+        (NeededBy p (AskedByChoice kind (filters_of filters.now)))
+        (nodes_around W.holds W.used source.old source.new) result }
 {
     let plan = plan(filters);
     if !plan.has_rivals() {
@@ -58,9 +60,10 @@ fn counts_of<W: Source>(
     ensures told { IfErr result (W.tells source.new) }
     ensures many { IfOk result (λ counts. length counts.items ≡ length (filter is_counted (filters_of filters.now))) }
     ensures answer { (p : Publication) → IsPublication p → W.under source.old p
-        → Outcome cause_of_evaluation (λ counts. AreCounts p kind (filter is_counted (filters_of filters.now)) counts.items)
+        → Outcome cause_of_evaluation
+        (λ counts. AreCounts p kind (filter is_counted (filters_of filters.now)) counts.items)
         (NeededBy p (From (filters_of filters.now) (IsRivalAsk kind)))
-        (record { held = W.holds source.new; before = W.used source.old; after = W.used source.new }) result }
+        (nodes_around W.holds W.used source.old source.new) result }
 {
     let mut counts = Vec::new(alloc);
     for filter in filters {
@@ -81,8 +84,10 @@ fn add_count<W: Source>(
     ensures told { IfErr result (W.tells source.new) }
     ensures many { OnOk result (length counts.new.items ≡ length counts.old.items + (if is_counted (filter_of filter.now) then 1 else 0)) }
     ensures answer { (p : Publication) → IsPublication p → W.under source.old p
-        → Outcome cause_of_evaluation (λ _. HasCounted p kind (filter_of filter.now) counts.old.items counts.new.items) (NeededBy p (IsRivalAsk kind (filter_of filter.now)))
-        (record { held = W.holds source.new; before = W.used source.old; after = W.used source.new }) result }
+        → Outcome cause_of_evaluation
+        (λ _. HasCounted p kind (filter_of filter.now) counts.old.items counts.new.items)
+        (NeededBy p (IsRivalAsk kind (filter_of filter.now)))
+        (nodes_around W.holds W.used source.old source.new) result }
 {
     match filter {
         Filter::KeyIs(key, value) => {

@@ -1,8 +1,6 @@
 //! Filters that look at an object.
 
 ghost use Rattle.std.specs.Prelude.{◌++◌, ◌↔◌, IfErr, IfOk, IsTrue, OnOk};
-ghost use Rattle.std.specs.List.Sorted.{IsStrictlySortedBy};
-ghost use Rattle.osm_model.specs.Elements.{ref_cmp};
 ghost use Rattle.tree_node.specs.Outcomes.{Outcome};
 ghost use Rattle.osm_index.specs.Publications.{IsPublication, Publication};
 ghost use Rattle.ql_syntax.specs.StatementViews.{filter_of, filters_of};
@@ -15,14 +13,15 @@ ghost use Rattle.ql_eval.specs.internal.Entries.{IsThere};
 ghost use Rattle.ql_eval.specs.internal.Links.{AreThere, IsObjectAsk};
 ghost use Rattle.ql_eval.specs.internal.Objects.{AreKnownThere, IsKnownThere};
 ghost use Rattle.ql_eval.specs.internal.Narrowing.{IsPassingAs, PassesAll, PassesItself, PassesPath};
+ghost use Rattle.ql_eval.specs.internal.Uses.{nodes_around};
 
 use crate::fault::EvalFault;
 use crate::lists_in::lists_in;
+use crate::object_test::passes_alone;
 use crate::source::Source;
 use osm_model::{Kind, Object, Ref};
-use ql_meaning::passes_alone;
 use ql_syntax::{Filter, Path};
-use ref_sets::{Sets, tidy};
+use ref_sets::{NamedSets, RefSet};
 use std::alloc::Global;
 
 /// Of candidates those whose objects the filters keep that look at an object: each object is read once. `Absent` where
@@ -30,27 +29,29 @@ use std::alloc::Global;
 pub(crate) fn filter_by_object<W: Source>(
     alloc: Global,
     source: &mut W,
-    candidates: &[Ref],
+    candidates: &RefSet,
     before: &[Filter<'_>],
     after: &[Filter<'_>],
-    sets: &Sets<'_>,
-) -> Result<Vec<Ref>, EvalFault>
+    sets: &NamedSets<'_>,
+) -> Result<RefSet, EvalFault>
     ensures later { W.later source.old source.new }
     ensures walked { OnOk result (W.walked source.old source.new) }
     ensures told { IfErr result (W.tells source.new) }
     ensures there { OnOk result (AreKnownThere (W.knows source.new) candidates.now) }
-    ensures rising { IfOk result (λ refs. IsStrictlySortedBy ref_cmp refs.items) }
-    ensures answer { (p : Publication) → IsPublication p → W.under source.old p → AreThere p.objects candidates.now
-        → Outcome cause_of_evaluation (λ refs. IsSetOf refs.items (From candidates.now (IsPassingAs p.objects (lists_of sets.now.named.items) (filters_of before.now ++ filters_of after.now))))
+    ensures answer { (p : Publication) → IsPublication p → W.under source.old p
+        → AreThere p.objects candidates.now
+        → Outcome cause_of_evaluation
+        (λ refs. IsSetOf refs
+        (From candidates.now (IsPassingAs p.objects (lists_of sets.now.named.items) (filters_of before.now ++ filters_of after.now))))
         (NeededBy p (From candidates.now IsObjectAsk))
-        (record { held = W.holds source.new; before = W.used source.old; after = W.used source.new }) result }
+        (nodes_around W.holds W.used source.old source.new) result }
 {
     let mut refs = Vec::new(alloc);
-    for name in candidates {
+    let names = candidates.as_slice();
+    for name in names {
         add_passing(source, *name, before, after, sets, &mut refs)?;
     }
-    tidy(&mut refs);
-    Ok(refs)
+    Ok(RefSet::from_refs(refs))
 }
 
 /// Adds a candidate where the filters keep its object.
@@ -59,17 +60,19 @@ fn add_passing<W: Source>(
     name: Ref,
     before: &[Filter<'_>],
     after: &[Filter<'_>],
-    sets: &Sets<'_>,
+    sets: &NamedSets<'_>,
     refs: &mut Vec<Ref>,
 ) -> Result<(), EvalFault>
     ensures later { W.later source.old source.new }
     ensures walked { OnOk result (W.walked source.old source.new) }
     ensures told { IfErr result (W.tells source.new) }
     ensures there { OnOk result (IsKnownThere (W.knows source.new) name) }
-    ensures answer { (p : Publication) → IsPublication p → W.under source.old p → IsThere p.objects name
-        → Outcome cause_of_evaluation (λ _. Adds refs.old.items refs.new.items (IsPassingAs p.objects (lists_of sets.now.named.items) (filters_of before.now ++ filters_of after.now) name))
+    ensures answer { (p : Publication) → IsPublication p → W.under source.old p
+        → IsThere p.objects name
+        → Outcome cause_of_evaluation
+        (λ _. Adds refs.old.items refs.new.items (IsPassingAs p.objects (lists_of sets.now.named.items) (filters_of before.now ++ filters_of after.now) name))
         (NeededBy p (IsObjectAsk name))
-        (record { held = W.holds source.new; before = W.used source.old; after = W.used source.new }) result }
+        (nodes_around W.holds W.used source.old source.new) result }
 {
     source.look_up(name)?;
     match source.known(name) {
@@ -88,7 +91,7 @@ fn passes_both(
     before: &[Filter<'_>],
     after: &[Filter<'_>],
     object: &Object,
-    sets: &Sets<'_>,
+    sets: &NamedSets<'_>,
 ) -> bool
     ensures { IsTrue result ↔ PassesAll (lists_of sets.now.named.items) (filters_of before.now ++ filters_of after.now) object.now }
 {
@@ -96,7 +99,7 @@ fn passes_both(
 }
 
 /// Whether all filters keep an object. The first that doesn't ends it.
-fn passes_all(filters: &[Filter<'_>], object: &Object, sets: &Sets<'_>) -> bool
+fn passes_all(filters: &[Filter<'_>], object: &Object, sets: &NamedSets<'_>) -> bool
     ensures { IsTrue result ↔ PassesAll (lists_of sets.now.named.items) (filters_of filters.now) object.now }
 {
     for filter in filters {
@@ -108,7 +111,7 @@ fn passes_all(filters: &[Filter<'_>], object: &Object, sets: &Sets<'_>) -> bool
 }
 
 /// Whether a filter keeps an object, as far as it and the named sets tell.
-fn passes(filter: &Filter<'_>, object: &Object, sets: &Sets<'_>) -> bool
+fn passes(filter: &Filter<'_>, object: &Object, sets: &NamedSets<'_>) -> bool
     ensures { IsTrue result ↔ PassesItself (lists_of sets.now.named.items) object.now (filter_of filter.now) }
 {
     match filter {
@@ -118,8 +121,7 @@ fn passes(filter: &Filter<'_>, object: &Object, sets: &Sets<'_>) -> bool
 }
 
 /// Whether a path leads up to an object from a set; paths down look at its reference alone.
-fn passes_path(path: Path, object: &Object, from: &[Ref]) -> bool
-    requires { IsStrictlySortedBy ref_cmp from.now }
+fn passes_path(path: Path, object: &Object, from: &RefSet) -> bool
     ensures { IsTrue result ↔ PassesPath from.now path object.now }
 {
     match path {

@@ -2,8 +2,6 @@
 
 ghost use Rattle.std.specs.Prelude.{◌≢◌, IfErr, IfOk, OnOk};
 ghost use Rattle.std.specs.List.{Contains};
-ghost use Rattle.std.specs.List.Sorted.{IsStrictlySortedBy};
-ghost use Rattle.osm_model.specs.Elements.{ref_cmp};
 ghost use Rattle.osm_model.specs.declared.kind.Kind.TheVariants as kinds;
 ghost use Rattle.tree_node.specs.Outcomes.{Outcome};
 ghost use Rattle.osm_index.specs.Publications.{IsPublication, Publication};
@@ -16,14 +14,14 @@ ghost use Rattle.ql_eval.specs.Faults.{cause_of_evaluation};
 ghost use Rattle.ql_eval.specs.Questions.{NeededBy, object_ask};
 ghost use Rattle.ql_eval.specs.internal.Links.{AreAllThere, AreThere};
 ghost use Rattle.ql_eval.specs.internal.Narrowing.{AskedByPathDown, HasId, IsNamedBy, IsNamedByAll, IsNamedOnPath};
+ghost use Rattle.ql_eval.specs.internal.Uses.{nodes_around};
 
 use crate::fault::EvalFault;
-use crate::kinds::between;
 use crate::links::members_of;
 use crate::source::Source;
 use osm_model::{Kind, Ref};
 use ql_syntax::{Filter, Path};
-use ref_sets::{Sets, kept, tidy};
+use ref_sets::{NamedSets, RefSet};
 use std::alloc::{AllocError, Global};
 
 /// Of some references those that all filters name, as far as references alone tell. A path down asks for the objects
@@ -31,20 +29,23 @@ use std::alloc::{AllocError, Global};
 pub(crate) fn filter_by_reference<W: Source>(
     alloc: Global,
     source: &mut W,
-    refs: Vec<Ref>,
+    refs: RefSet,
     filters: &[Filter<'_>],
-    sets: &Sets<'_>,
-) -> Result<Vec<Ref>, EvalFault>
-    requires { IsStrictlySortedBy ref_cmp refs.items }
+    sets: &NamedSets<'_>,
+) -> Result<RefSet, EvalFault>
     ensures later { W.later source.old source.new }
     ensures walked { OnOk result (W.walked source.old source.new) }
     ensures told { IfErr result (W.tells source.new) }
-    ensures rising { IfOk result (λ left. IsStrictlySortedBy ref_cmp left.items) }
-    ensures answer { (p : Publication) → IsPublication p → W.under source.old p → AreAllThere p.objects (lists_of sets.now.named.items)
-        → Outcome cause_of_evaluation (λ left. IsSetOf left.items (λ r. Contains refs.items r × IsNamedByAll p.objects (lists_of sets.now.named.items) (filters_of filters.now) r))
+    ensures answer { (p : Publication) → IsPublication p → W.under source.old p
+        → AreAllThere p.objects (lists_of sets.now.named.items)
+        → Outcome cause_of_evaluation
+        (λ left. IsSetOf left
+        (λ r. Contains refs r × IsNamedByAll p.objects (lists_of sets.now.named.items) (filters_of filters.now) r))
         (NeededBy p (From (filters_of filters.now) (AskedByRest (lists_of sets.now.named.items))))
-        (record { held = W.holds source.new; before = W.used source.old; after = W.used source.new }) result }
+        (nodes_around W.holds W.used source.old source.new) result }
 {
+    // For the proof alone: a set rises.
+    let _ = refs.as_slice();
     let mut left = refs;
     for filter in filters {
         left = named(alloc, source, left, filter, sets)?;
@@ -56,22 +57,25 @@ pub(crate) fn filter_by_reference<W: Source>(
 fn named<W: Source>(
     alloc: Global,
     source: &mut W,
-    refs: Vec<Ref>,
+    refs: RefSet,
     filter: &Filter<'_>,
-    sets: &Sets<'_>,
-) -> Result<Vec<Ref>, EvalFault>
-    requires { IsStrictlySortedBy ref_cmp refs.items }
+    sets: &NamedSets<'_>,
+) -> Result<RefSet, EvalFault>
     ensures later { W.later source.old source.new }
     ensures walked { OnOk result (W.walked source.old source.new) }
     ensures told { IfErr result (W.tells source.new) }
-    ensures rising { IfOk result (λ left. IsStrictlySortedBy ref_cmp left.items) }
-    ensures answer { (p : Publication) → IsPublication p → W.under source.old p → AreAllThere p.objects (lists_of sets.now.named.items)
-        → Outcome cause_of_evaluation (λ left. IsSetOf left.items (λ r. Contains refs.items r × IsNamedBy p.objects (lists_of sets.now.named.items) r (filter_of filter.now)))
+    ensures answer { (p : Publication) → IsPublication p → W.under source.old p
+        → AreAllThere p.objects (lists_of sets.now.named.items)
+        → Outcome cause_of_evaluation
+        (λ left. IsSetOf left
+        (λ r. Contains refs r × IsNamedBy p.objects (lists_of sets.now.named.items) r (filter_of filter.now)))
         (NeededBy p (AskedByRest (lists_of sets.now.named.items) (filter_of filter.now)))
-        (record { held = W.holds source.new; before = W.used source.old; after = W.used source.new }) result }
+        (nodes_around W.holds W.used source.old source.new) result }
 {
+    // For the proof alone: a set rises.
+    let _ = refs.as_slice();
     match filter {
-        Filter::InSet(name) => Ok(kept(alloc, &refs, sets.get(name.as_bytes()), true)?),
+        Filter::InSet(name) => Ok(refs.intersection(alloc, sets.get(name.as_bytes()))?),
         Filter::Ids(ids) => Ok(with_ids(alloc, &refs, ids.as_slice())?),
         Filter::Via(path, name) => on_path(alloc, source, refs, *path, sets.get(name.as_bytes())),
         _ => Ok(refs),
@@ -79,16 +83,15 @@ fn named<W: Source>(
 }
 
 /// Of some references those with ids of a list.
-fn with_ids(alloc: Global, refs: &[Ref], ids: &[i64]) -> Result<Vec<Ref>, AllocError>
-    requires { IsStrictlySortedBy ref_cmp refs.now }
-    ensures { IfOk result (λ left. IsSetOf left.items (λ r. Contains refs.now r × Contains ids.now r.id)) }
+fn with_ids(alloc: Global, refs: &RefSet, ids: &[i64]) -> Result<RefSet, AllocError>
+    ensures { IfOk result (λ left. IsSetOf left (λ r. Contains refs.now r × Contains ids.now r.id)) }
 {
     let mut those = Vec::new(alloc);
     for id in ids {
         add_with_id(*id, &mut those)?;
     }
-    tidy(&mut those);
-    kept(alloc, refs, &those, true)
+    let with_ids = RefSet::from_refs(those);
+    refs.intersection(alloc, &with_ids)
 }
 
 /// Adds the references with an id: one of each kind.
@@ -114,21 +117,22 @@ fn add_with_id(id: i64, refs: &mut Vec<Ref>) -> Result<(), AllocError>
 fn on_path<W: Source>(
     alloc: Global,
     source: &mut W,
-    refs: Vec<Ref>,
+    refs: RefSet,
     path: Path,
-    from: &[Ref],
-) -> Result<Vec<Ref>, EvalFault>
-    requires rising { IsStrictlySortedBy ref_cmp refs.items }
-    requires from_rising { IsStrictlySortedBy ref_cmp from.now }
+    from: &RefSet,
+) -> Result<RefSet, EvalFault>
     ensures later { W.later source.old source.new }
     ensures walked { OnOk result (W.walked source.old source.new) }
     ensures told { IfErr result (W.tells source.new) }
-    ensures rising { IfOk result (λ left. IsStrictlySortedBy ref_cmp left.items) }
-    ensures answer { (p : Publication) → IsPublication p → W.under source.old p → AreThere p.objects from.now
-        → Outcome cause_of_evaluation (λ left. IsSetOf left.items (λ r. Contains refs.items r × IsNamedOnPath p.objects from.now path r))
+    ensures answer { (p : Publication) → IsPublication p → W.under source.old p
+        → AreThere p.objects from.now
+        → Outcome cause_of_evaluation
+        (λ left. IsSetOf left (λ r. Contains refs r × IsNamedOnPath p.objects from.now path r))
         (NeededBy p (AskedByPathDown from.now path))
-        (record { held = W.holds source.new; before = W.used source.old; after = W.used source.new }) result }
+        (nodes_around W.holds W.used source.old source.new) result }
 {
+    // For the proof alone: a set rises.
+    let _ = refs.as_slice();
     match path {
         Path::W => listed_from(alloc, source, &refs, from, Kind::Way),
         Path::R => listed_from(alloc, source, &refs, from, Kind::Rel),
@@ -140,23 +144,23 @@ fn on_path<W: Source>(
 fn listed_from<W: Source>(
     alloc: Global,
     source: &mut W,
-    refs: &[Ref],
-    from: &[Ref],
+    refs: &RefSet,
+    from: &RefSet,
     kind: Kind,
-) -> Result<Vec<Ref>, EvalFault>
-    requires rising { IsStrictlySortedBy ref_cmp refs.now }
-    requires from_rising { IsStrictlySortedBy ref_cmp from.now }
+) -> Result<RefSet, EvalFault>
     // Nodes list nothing, and aren't asked.
     requires parent { kind ≢ kinds.Node }
     ensures later { W.later source.old source.new }
     ensures walked { OnOk result (W.walked source.old source.new) }
     ensures told { IfErr result (W.tells source.new) }
-    ensures rising { IfOk result (λ left. IsStrictlySortedBy ref_cmp left.items) }
-    ensures answer { (p : Publication) → IsPublication p → W.under source.old p → AreThere p.objects from.now
-        → Outcome cause_of_evaluation (λ left. IsSetOf left.items (λ r. Contains refs.now r × IsListedBy p.objects (IsOfKindIn from.now kind) r))
+    ensures answer { (p : Publication) → IsPublication p → W.under source.old p
+        → AreThere p.objects from.now
+        → Outcome cause_of_evaluation
+        (λ left. IsSetOf left
+        (λ r. Contains refs.now r × IsListedBy p.objects (IsOfKindIn from.now kind) r))
         (NeededBy p (AskedFor (IsOfKindIn from.now kind) object_ask))
-        (record { held = W.holds source.new; before = W.used source.old; after = W.used source.new }) result }
+        (nodes_around W.holds W.used source.old source.new) result }
 {
-    let listed = members_of(alloc, source, between(from, kind, kind))?;
-    Ok(kept(alloc, refs, &listed, true)?)
+    let listed = members_of(alloc, source, from.of_kinds(kind, kind))?;
+    Ok(refs.intersection(alloc, &listed)?)
 }

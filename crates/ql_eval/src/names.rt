@@ -15,13 +15,13 @@ use crate::fault::EvalFault;
 use crate::objects::object_in;
 use osm_index::{read_back_key, read_tag_key};
 use osm_model::Ref;
-use ref_sets::tidy;
+use ref_sets::RefSet;
 use std::alloc::Global;
 use tree_node::{Item, Tree};
 
 /// The objects that entries of a tree name, as a set. Each entry is read; `Form` where one isn't of the tree's form.
-pub(crate) fn names_in(alloc: Global, tree: Tree, found: &[Item<'_>]) -> Result<Vec<Ref>, EvalFault>
-    ensures read { IfOk result (λ names. IsSetOf names.items (IsSaid (Names tree) (bindings_of found.now))) }
+pub(crate) fn names_in(alloc: Global, tree: Tree, found: &[Item<'_>]) -> Result<RefSet, EvalFault>
+    ensures read { IfOk result (λ names. IsSetOf names (IsSaid (Names tree) (bindings_of found.now))) }
     ensures formed { OnOk result (HaveForm tree (bindings_of found.now)) }
     ensures refused { IfErr result (AreMisread tree (bindings_of found.now)) }
 {
@@ -30,8 +30,7 @@ pub(crate) fn names_in(alloc: Global, tree: Tree, found: &[Item<'_>]) -> Result<
         let name = name_in(alloc, tree, item)?;
         names.push(name)?;
     }
-    tidy(&mut names);
-    Ok(names)
+    Ok(RefSet::from_refs(names))
 }
 
 /// The object that an entry names. `Form` where the entry isn't of the tree's form.

@@ -17,6 +17,7 @@ use crate::question::Question;
 use crate::source::Source;
 use osm_index::Manifest;
 use osm_model::{BoxArea, Object, Ref};
+use ref_sets::RefSet;
 use std::alloc::Global;
 use tree_node::Shelf;
 use tree_walk::Tally;
@@ -117,7 +118,7 @@ impl<'s, 'a, S: Shelf<'a>> Source for ShelfSource<'s, 'a, S> {
         }
     }
 
-    fn names(&mut self, question: &Question<'_>) -> Result<Vec<Ref>, EvalFault> {
+    fn names(&mut self, question: &Question<'_>) -> Result<RefSet, EvalFault> {
         find_names(
             self.alloc,
             &mut *self.shelf,
@@ -137,7 +138,7 @@ impl<'s, 'a, S: Shelf<'a>> Source for ShelfSource<'s, 'a, S> {
         )
     }
 
-    fn nodes_in(&mut self, area: &BoxArea<'_>) -> Result<Vec<Ref>, EvalFault> {
+    fn nodes_in(&mut self, area: &BoxArea<'_>) -> Result<RefSet, EvalFault> {
         find_in_box(
             self.alloc,
             &mut *self.shelf,

@@ -18,5 +18,5 @@ returns-clause-answer g c = λ p is under there.
     let first = filters_of c.args.before.now in
     let second = filters_of c.args.after.now in
     then_same (λ x. g.met.W.Source.grows _ _ x c.filter_by_reference-2.ensures.later) (first_asks (AskedByRest env) first second) (λ so. second_asks (AskedByRest env) first second) (λ so b next. either_asks (AskedByRest env) first second)
-    (λ so b next. narrowed_both p.objects env c.args.refs.items first second c.in_ok-left.left.items b.items so next)
+    (λ so b next. narrowed_both p.objects env c.args.refs first second c.in_ok-left.left b so next)
     (c.in_ok-left.ensures.answer p is under there) (λ so. c.filter_by_reference-2.ensures.answer p is (g.met.W.Source.same_under _ _ p c.in_ok-left.ensures.later under) there)

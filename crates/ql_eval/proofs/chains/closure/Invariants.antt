@@ -2,7 +2,7 @@ use Rattle.std.proofs.Common.{◌-◌, ◌^◌, ◌≤◌, length, take, Ok}
 use Rattle.tree_node.specs.Outcomes.{Outcome}
 use Rattle.tree_node.proofs.shared.OutcomeLaws.{uses}
 use Rattle.osm_index.specs.Publications.{IsPublication, Publication}
-use Rattle.ref_sets.specs.Founds.{IsTold}
+use Rattle.ql_eval.specs.internal.Founds.{IsConsistent}
 use Rattle.ql_eval.specs.Faults.{cause_of_evaluation}
 use Rattle.ql_eval.specs.Questions.{NeededBy}
 use Rattle.ql_eval.specs.internal.Chains.{AreChained, IsChainAsk}
@@ -11,7 +11,7 @@ use Rattle.ql_eval.proofs.chains.closure.Given as goal
 
 abbrev pub invariant-loop-at : goal.invariant-loop-at
 invariant-loop-at g l = record {
-  told : IsTold l.found;
+  consistent : IsConsistent l.found;
   within : l.at ≤ length l.found.refs.items;
   later : g.W.Source.later l.fn.source l.source;
   walked : g.W.Source.walked l.fn.source l.source;

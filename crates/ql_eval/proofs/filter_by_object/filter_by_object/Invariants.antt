@@ -13,8 +13,8 @@ abbrev pub invariant-loop-name : goal.invariant-loop-name
 invariant-loop-name g l = record {
   later : g.W.Source.later l.fn.source l.source;
   walked : g.W.Source.walked l.fn.source l.source;
-  there : AreKnownThere (g.W.Source.knows l.source) (take l.name-index l.candidates);
-  answer : (p : Publication) → IsPublication p → g.W.Source.under l.fn.source p → AreThere p.objects l.candidates
-      → HasGone p l.candidates (IsPassingAs p.objects (lists_of l.sets.named.items) (filters_of l.before ++ filters_of l.after)) IsObjectAsk l.name-index [] l.refs.items
+  there : AreKnownThere (g.W.Source.knows l.source) (take l.name-index l.names);
+  answer : (p : Publication) → IsPublication p → g.W.Source.under l.fn.source p → AreThere p.objects l.names
+      → HasGone p l.names (IsPassingAs p.objects (lists_of l.sets.named.items) (filters_of l.before ++ filters_of l.after)) IsObjectAsk l.name-index [] l.refs.items
       (uses (g.W.Source.holds l.source) (g.W.Source.used l.fn.source) (g.W.Source.used l.source));
 }

@@ -23,7 +23,6 @@ pub loop-filter-preserved : goal.loop-filter-preserved
 loop-filter-preserved g c = record {
   later = g.met.W.Source.chained _ _ _ c.loop-filter.invariant.later c.named.ensures.later;
   walked = g.met.W.Source.more_walks _ _ _ c.loop-filter.invariant.later c.named.ensures.later c.loop-filter.invariant.walked c.in_ok-left.ensures.walked;
-  rising = c.in_ok-left.ensures.rising;
   answer = λ p is under there.
       let env = lists_of c.args.sets.now.named.items in
       let filters = c.args.filters.now in
@@ -32,7 +31,7 @@ loop-filter-preserved g c = record {
       let Asks : Filter → Ask → Type 0 = λ f ask. AskedByRest env (filter_of f) ask in
       outcome_then (λ x. g.met.W.Source.grows _ _ x c.named.ensures.later) (front_needs Asks p filters k f c.loop-filter-test.true c.filter-item.is)
       (λ so. next_needs Asks p filters k f c.loop-filter-test.true c.filter-item.is) (λ so next. needs_split Asks p filters k f c.loop-filter-test.true c.filter-item.is)
-      (λ so next. narrowed_more p.objects env c.args.refs.items filters k f c.loop-filter-test.true c.filter-item.is _ _ so next)
+      (λ so next. narrowed_more p.objects env c.args.refs filters k f c.loop-filter-test.true c.filter-item.is _ _ so next)
       (c.loop-filter.invariant.answer p is under there) (λ so. c.in_ok-left.ensures.answer p is (g.met.W.Source.same_under _ _ p c.loop-filter.invariant.later under) there);
 }
 
@@ -44,4 +43,4 @@ returns-clause-answer g c = λ p is under there.
     let Asks : Filter → Ask → Type 0 = λ f ask. AskedByRest env (filter_of f) ask in
     outcome_as (λ x needs. asks_code (AskedByRest env) p filters x (front_all Asks p filters k x needs))
     (λ so x needs. all_front Asks p filters k c.loop-filter-test.false x (code_asks (AskedByRest env) p filters x needs))
-    (λ so. narrowed_all p.objects env c.args.refs.items filters k c.loop-filter-test.false _ so) (c.loop-filter.invariant.answer p is under there)
+    (λ so. narrowed_all p.objects env c.args.refs filters k c.loop-filter-test.false _ so) (c.loop-filter.invariant.answer p is under there)

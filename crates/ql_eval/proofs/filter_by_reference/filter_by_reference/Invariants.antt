@@ -1,7 +1,5 @@
 use Rattle.std.proofs.Common.{Ok, take}
 use Rattle.std.specs.List.{Contains}
-use Rattle.std.specs.List.Sorted.{IsStrictlySortedBy}
-use Rattle.osm_model.specs.Elements.{ref_cmp}
 use Rattle.tree_node.specs.Outcomes.{Outcome}
 use Rattle.tree_node.proofs.shared.OutcomeLaws.{uses}
 use Rattle.osm_index.specs.Publications.{IsPublication, Publication}
@@ -20,9 +18,8 @@ abbrev pub invariant-loop-filter : goal.invariant-loop-filter
 invariant-loop-filter g l = record {
   later : g.W.Source.later l.fn.source l.source;
   walked : g.W.Source.walked l.fn.source l.source;
-  rising : IsStrictlySortedBy ref_cmp l.left.items;
   answer : (p : Publication) → IsPublication p → g.W.Source.under l.fn.source p → AreAllThere p.objects (lists_of l.sets.named.items)
-      → Outcome cause_of_evaluation (λ (_ : Unit {0}). IsSetOf l.left.items (λ r. Contains l.fn.refs.items r × IsNamedByAll p.objects (lists_of l.sets.named.items) (filters_of (take l.filter-index l.filters)) r))
+      → Outcome cause_of_evaluation (λ (_ : Unit {0}). IsSetOf l.left (λ r. Contains l.fn.refs r × IsNamedByAll p.objects (lists_of l.sets.named.items) (filters_of (take l.filter-index l.filters)) r))
       (NeededBy p (From (take l.filter-index l.filters) (λ f. AskedByRest (lists_of l.sets.named.items) (filter_of f))))
       (uses (g.W.Source.holds l.source) (g.W.Source.used l.fn.source) (g.W.Source.used l.source)) (Ok tt);
 }

@@ -1,4 +1,4 @@
-use Rattle.std.proofs.Common.{ℤ, FitsSigned, get_or, pos, rules, subst, to_z-of_z, w64}
+use Rattle.std.proofs.Common.{ℤ, FitsSigned, get_or, pos, refl, rules, subst, to_z-of_z, w64}
 use Rattle.ref_sets.proofs.shared.Adding.{adds_all}
 use Rattle.ref_sets.specs.Adding.{Adds}
 use Rattle.ql_eval.proofs.EachLemmas.{adds_next}
@@ -16,5 +16,5 @@ loop-id-preserved c =
 
 pub returns : goal.returns
 returns c =
-    with_ids_ok c.args.refs.now c.args.ids.now c.tidy.new.refs.items c.deref.result.now c.kept.result
-    (set_of_added (adds_all c.args.ids.now HasId c.loop-id.id-index c.loop-id-test.false c.loop-id.invariant) c.tidy.ensures) c.deref.ensures.value c.kept.ensures
+    with_ids_ok c.args.refs.now c.args.ids.now c.from_refs-with_ids.result c.from_refs-with_ids.result c.intersection.result
+    (set_of_added (adds_all c.args.ids.now HasId c.loop-id.id-index c.loop-id-test.false c.loop-id.invariant) c.from_refs-with_ids.ensures) refl c.intersection.ensures

@@ -28,7 +28,7 @@ loop-name-preserved g c = record {
 pub returns-clause-answer : goal.returns-clause-answer
 returns-clause-answer g c = λ p is under there.
     gone_all p c.args.names.now (IsListedOf p.objects) IsParentAsk c.loop-name.name-index c.loop-name-test.false (λ x needs. needs) (λ x needs. needs)
-    (λ so. set_of_added so c.tidy.ensures) (c.loop-name.invariant.answer p is under there)
+    (λ so. set_of_added so c.from_refs.ensures) (c.loop-name.invariant.answer p is under there)
 
 pub returns-clause-there : goal.returns-clause-there
 returns-clause-there g c = subst (λ (names : List Ref). AreKnownParents (g.W.Source.knows c.loop-name.source) names) (take_all _ _ c.loop-name-test.false) c.loop-name.invariant.there

@@ -1,10 +1,8 @@
-use Rattle.std.proofs.Common.{◌↔◌, List, inl, refl, subst}
-use Rattle.std.specs.List.{Contains}
+use Rattle.std.proofs.Common.{inl, refl}
 use Rattle.tree_node.proofs.shared.OutcomeLaws.{outcome_stops}
 use Rattle.osm_model.specs.declared.reference.Ref.{Ref}
 use Rattle.ref_sets.specs.Adding.{From}
 use Rattle.ref_sets.specs.Sets.{IsSetOf}
-use Rattle.ql_eval.specs.internal.Kinds.{IsBetween}
 use Rattle.ql_eval.specs.internal.Links.{IsListedOf}
 use Rattle.ql_eval.proofs.EachLemmas.{needed_as}
 use Rattle.ql_eval.proofs.LinkLemmas.{below_needs, below_set, below_there, needs_below}
@@ -20,11 +18,11 @@ returns-clause-answer g c = λ p is under there.
     let names = c.args.names.now in
     let first = c.args.first in
     let last = c.args.last in
-    let some = c.between.result.now in
-    let listed_in = λ (so : IsSetOf c.in_ok-listed.listed.items (From names (IsListedOf p.objects))) (r : Ref). below_set p.objects names first last c.in_ok-listed.listed.items some
-    so (subst (λ (all : List Ref). (s : Ref) → Contains some s ↔ (Contains all s × IsBetween first last s)) c.deref.ensures.value c.between.ensures.members) r in
+    let some = c.of_kinds.result.now in
+    let listed_in = λ (so : IsSetOf c.in_ok-listed.listed (From names (IsListedOf p.objects))) (r : Ref). below_set p.objects names first last c.in_ok-listed.listed some
+    so c.of_kinds.ensures.members r in
     then_same (λ x. g.met.W.Source.grows _ _ x c.those_there.ensures.later)
     (needed_as (λ ask asked. inl asked)) (λ so. below_needs p names first last some (listed_in so)) (λ so b set. needs_below p names first last some (listed_in so))
-    (λ so b set. below_there p names first last some (listed_in so) b.items set)
+    (λ so b set. below_there p names first last some (listed_in so) b set)
     (c.in_ok-listed.ensures.answer p is under there)
     (λ so. c.those_there.ensures.answer p is (g.met.W.Source.same_under _ _ p c.in_ok-listed.ensures.later under))
