@@ -1,14 +1,9 @@
 -- What the base of a query statement finds.
-use Rattle.std.proofs.Common.{◌≡◌, ◌↔◌, inl, inr, ℕ, ℤ, List, [], ◌∷◌, Option, Some, None, Result, Ok, Err, refl, sym, subst, arith}
+use Rattle.std.proofs.Common.{◌≡◌, ◌↔◌, inl, inr, ℕ, ℤ, List, [], ◌∷◌, Option, Some, None, Result, refl, sym, subst, arith}
 use Rattle.std.specs.List.{Contains}
-use Rattle.std.specs.List.Sorted.{IsStrictlySortedBy}
-use Rattle.std.specs.Prelude.{IfOk}
-use Rattle.std.specs.declared.alloc.AllocError.{AllocError}
 use Rattle.std.specs.Option.{option_to_list}
-use Rattle.std.specs.declared.alloc.Global.{Global}
-use Rattle.std.specs.declared.vec.Vec.{Vec}
 use Rattle.osm_model.specs.Boxes.{ExactBox}
-use Rattle.osm_model.specs.Elements.{Element, ref_cmp, reference}
+use Rattle.osm_model.specs.Elements.{Element, reference}
 use Rattle.osm_model.specs.Tagged.{HasKeyOf}
 use Rattle.osm_model.specs.declared.kind.Kind.{Kind}
 use Rattle.osm_model.specs.declared.kind.Kind.TheVariants as kinds
@@ -36,20 +31,20 @@ use Rattle.ql_eval.proofs.EachLemmas.{needed_as}
 use Rattle.ql_eval.proofs.EntryLemmas.{set_as}
 
 -- how the base of a query statement is answered
-abbrev pub FoundWell : Publication → Env → Pick → Option Filter → ShelfUse → Result (Vec Ref Global) EvalFault → Type 0
+abbrev pub FoundWell : Publication → Env → Pick → Option Filter → ShelfUse → Result (List Ref) EvalFault → Type 0
 FoundWell p env pick base shelf result =
-    Outcome cause_of_evaluation (λ refs. IsSetOf refs.items (IsRefOf p.objects (IsSelected p.objects env pick (option_to_list base)))) (NeededBy p (AskedByBase p.objects env (kind_picked pick) base)) shelf result
+    Outcome cause_of_evaluation (λ refs. IsSetOf refs (IsRefOf p.objects (IsSelected p.objects env pick (option_to_list base)))) (NeededBy p (AskedByBase p.objects env (kind_picked pick) base)) shelf result
 
 -- how a filter is answered that is the base, and how a scan is
-abbrev pub KeptWell : Publication → Env → Option Kind → Filter → ShelfUse → Result (Vec Ref Global) EvalFault → Type 0
+abbrev pub KeptWell : Publication → Env → Option Kind → Filter → ShelfUse → Result (List Ref) EvalFault → Type 0
 KeptWell p env kind filter shelf result =
-    Outcome cause_of_evaluation (λ refs. IsSetOf refs.items (IsKeptOf p.objects env kind filter)) (NeededBy p (AskedByBase p.objects env kind (Some filter))) shelf result
+    Outcome cause_of_evaluation (λ refs. IsSetOf refs (IsKeptOf p.objects env kind filter)) (NeededBy p (AskedByBase p.objects env kind (Some filter))) shelf result
 
-abbrev pub KindsWell : Publication → List Kind → ShelfUse → Result (Vec Ref Global) EvalFault → Type 0
+abbrev pub KindsWell : Publication → List Kind → ShelfUse → Result (List Ref) EvalFault → Type 0
 KindsWell p kinds shelf result =
-    Outcome cause_of_evaluation (λ refs. IsSetOf refs.items (From kinds (IsOfThisKind p.objects))) (NeededBy p (From kinds IsKindAsk)) shelf result
+    Outcome cause_of_evaluation (λ refs. IsSetOf refs (From kinds (IsOfThisKind p.objects))) (NeededBy p (From kinds IsKindAsk)) shelf result
 
-pub kept_as : (p : Publication) (env : Env) (shelf : ShelfUse) (result : Result (Vec Ref Global) EvalFault) {kind picked : Option Kind} {filter other : Filter} → kind ≡ picked → filter ≡ other
+pub kept_as : (p : Publication) (env : Env) (shelf : ShelfUse) (result : Result (List Ref) EvalFault) {kind picked : Option Kind} {filter other : Filter} → kind ≡ picked → filter ≡ other
     → KeptWell p env kind other shelf result → KeptWell p env picked filter shelf result
 kept_as p env shelf result {picked = picked} {other = other} same is so =
     subst (λ (f : Filter). KeptWell p env picked f shelf result) (sym is) (subst (λ (k : Option Kind). KeptWell p env k other shelf result) same so)
@@ -130,12 +125,6 @@ found_picked {Has = Has} {found = found} {names = names} {refs = refs} kind e ha
       (λ (among, of_kind). ((has.members r).0 (subst (λ (l : List Ref). Contains l r) e among), of_kind)),
       (λ (so, of_kind). (subst (λ (l : List Ref). Contains l r) (sym e) ((has.members r).1 so), of_kind)),
     )) is
-
--- a copy of a set's part
-pub copied_set : (result : Result (Vec Ref Global) AllocError) (part : List Ref) {P : Ref → Type 0} → IfOk result (λ copy. copy.items ≡ part) → IsStrictlySortedBy ref_cmp part → ((r : Ref) → Contains part r ↔ P r)
-    → IfOk result (λ copy. IsSetOf copy.items P)
-copied_set (Ok copy) part {P = P} same rising members = subst (λ (l : List Ref). IsSetOf l P) (sym same) (record { rising = rising; members = members })
-copied_set (Err error) part same rising members = tt
 
 -- ---- ids
 

@@ -3,8 +3,6 @@ use Rattle.std.proofs.Common.{◌≡◌, ◌⊎◌, inl, inr, ℕ, suc, ◌≤�
 use Rattle.std.specs.List.{Contains}
 use Rattle.std.proofs.lemmas.List.{length-take, take-append-drop}
 use Rattle.std.proofs.lemmas.List.Elements.{Contains-append_cases, Contains-append_left, Contains-append_right}
-use Rattle.std.specs.declared.alloc.Global.{Global}
-use Rattle.std.specs.declared.vec.Vec.{Vec}
 use Rattle.osm_model.specs.Elements.{Element}
 use Rattle.osm_model.specs.declared.kind.Kind.{Kind}
 use Rattle.osm_model.specs.declared.kind.Kind.TheVariants as kinds
@@ -14,7 +12,7 @@ use Rattle.osm_index.specs.Publications.{Publication}
 use Rattle.osm_index.proofs.shared.Members.{none}
 use Rattle.ref_sets.proofs.shared.Adding.{adds_to_nothing}
 use Rattle.ref_sets.specs.Adding.{Adds, From}
-use Rattle.ref_sets.specs.Founds.{Goes}
+use Rattle.ql_eval.specs.internal.Founds.{Goes}
 use Rattle.ref_sets.specs.Sets.{IsSetOf}
 use Rattle.ql_eval.specs.Faults.{cause_of_evaluation}
 use Rattle.ql_eval.specs.Questions.{NeededBy}
@@ -23,15 +21,15 @@ use Rattle.ql_eval.specs.declared.chains.Direction.TheVariants.{Down, Up}
 use Rattle.ql_eval.specs.declared.fault.EvalFault.{EvalFault}
 use Rattle.ql_eval.specs.internal.Chains.{AreChained, IsChainAsk, IsEnd, IsEndAsk, IsWay, Leads, LeadsAsk, More, One}
 use Rattle.ql_eval.specs.internal.Entries.{IsThere}
-use Rattle.ql_eval.specs.internal.Kinds.{IsBetween}
+use Rattle.ref_sets.specs.Kinds.{IsBetween}
 use Rattle.ql_eval.specs.internal.Links.{AreThere, IsBelowAsk, IsListedIn}
 use Rattle.ql_eval.proofs.EachLemmas.{needed_as}
 use Rattle.ql_eval.proofs.EntryLemmas.{set_as}
 
 -- how steps from some references end
-abbrev pub LedWell : Publication → Direction → List Ref → ShelfUse → Result (Vec Ref Global) EvalFault → Type 0
+abbrev pub LedWell : Publication → Direction → List Ref → ShelfUse → Result (List Ref) EvalFault → Type 0
 LedWell p direction names shelf result =
-    Outcome cause_of_evaluation (λ refs. IsSetOf refs.items (From names (Leads direction p.objects))) (NeededBy p (From names (LeadsAsk direction p.objects))) shelf result
+    Outcome cause_of_evaluation (λ refs. IsSetOf refs (From names (Leads direction p.objects))) (NeededBy p (From names (LeadsAsk direction p.objects))) shelf result
 
 -- how far chains have been gone along
 abbrev pub ChainedWell : Publication → Direction → List Ref → List Ref → List Ref → ShelfUse → Type 0

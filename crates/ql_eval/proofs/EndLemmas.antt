@@ -1,8 +1,6 @@
 -- `>>` and `<<` as chains of membership between objects and as steps between references.
 use Rattle.std.proofs.Common.{◌≡◌, ◌↔◌, ◌⊎◌, inl, inr, ℕ, List, Result, refl, sym, subst, ◌∙◌}
 use Rattle.std.specs.List.{Contains}
-use Rattle.std.specs.declared.alloc.Global.{Global}
-use Rattle.std.specs.declared.vec.Vec.{Vec}
 use Rattle.osm_model.specs.Elements.{Element, reference}
 use Rattle.osm_model.specs.Membership.{BodyLists}
 use Rattle.osm_model.specs.Sets.{IsObjectSet}
@@ -26,9 +24,9 @@ use Rattle.ql_eval.proofs.EachLemmas.{needed_as}
 use Rattle.ql_eval.proofs.EntryLemmas.{set_as}
 
 -- how a recursion ends
-abbrev pub RecursedWell : Publication → Recursion → List Ref → ShelfUse → Result (Vec Ref Global) EvalFault → Type 0
+abbrev pub RecursedWell : Publication → Recursion → List Ref → ShelfUse → Result (List Ref) EvalFault → Type 0
 RecursedWell p how set shelf result =
-    Outcome cause_of_evaluation (λ refs. IsSetOf refs.items (IsRefOf p.objects (IsReached p.objects how set))) (NeededBy p (AskedByRecursion p.objects how set)) shelf result
+    Outcome cause_of_evaluation (λ refs. IsSetOf refs (IsRefOf p.objects (IsReached p.objects how set))) (NeededBy p (AskedByRecursion p.objects how set)) shelf result
 
 -- ---- chains and their ends
 

@@ -1,10 +1,8 @@
 -- What the entries of a publication say, and which objects the ranges of questions find.
-use Rattle.std.proofs.Common.{◌≡◌, ◌↔◌, ◌⊎◌, inl, inr, ℕ, ◌≤◌, List, FitsSigned, w64, length, Option, Result, Ok, Err, MatchResult, refl, sym, ap, subst, ◌∙◌}
+use Rattle.std.proofs.Common.{◌≡◌, ◌↔◌, inl, inr, ℕ, ◌≤◌, List, FitsSigned, w64, length, Option, Result, Ok, Err, MatchResult, refl, sym, ap, subst, ◌∙◌}
 use Rattle.std.specs.List.{Contains}
 use Rattle.std.specs.Prelude.{IfErr, IfOk}
 use Rattle.std.specs.Str.{IsUtf8}
-use Rattle.std.specs.declared.alloc.Global.{Global}
-use Rattle.std.specs.declared.vec.Vec.{Vec}
 use Rattle.osm_model.specs.Elements.{Element, kind_of, reference}
 use Rattle.osm_model.specs.Limits.{BodyInRange, HasNoNul, IsElement}
 use Rattle.osm_model.specs.declared.kind.Kind.{Kind}
@@ -144,11 +142,11 @@ named p is (ThatList target kind) clean fits found those = list_named p is found
 
 -- the names that a question's range has, read
 pub answered : (p : Publication) → IsPublication p → (question : Question) → HasNoNulIn question → TargetFits question → (found : List Binding)
-    → AreThose (IsEntryIn (range_asked question)) (p.entries (tree_asked question)) found → (result : Result (Vec Ref Global) EvalFault)
-    → IfOk result (λ names. IsSetOf names.items (IsSaid (Names (tree_asked question)) found)) → IfErr result (AreMisread (tree_asked question) found)
-    → MatchResult result (λ names. IsSetOf names.items (IsRefOf p.objects (Answers question))) (λ fault. cause_of_evaluation fault ≡ NoMemory)
+    → AreThose (IsEntryIn (range_asked question)) (p.entries (tree_asked question)) found → (result : Result (List Ref) EvalFault)
+    → IfOk result (λ names. IsSetOf names (IsSaid (Names (tree_asked question)) found)) → IfErr result (AreMisread (tree_asked question) found)
+    → MatchResult result (λ names. IsSetOf names (IsRefOf p.objects (Answers question))) (λ fault. cause_of_evaluation fault ≡ NoMemory)
 answered p is question clean fits found those (Ok names) read refused =
-    set_as names.items (IsSaid (Names (tree_asked question)) found) (IsRefOf p.objects (Answers question)) (named p is question clean fits found those) read
+    set_as names (IsSaid (Names (tree_asked question)) found) (IsRefOf p.objects (Answers question)) (named p is question clean fits found those) read
 answered p is question clean fits found those (Err fault) read refused = elim refused [
   | inl memory ↦ ap cause_of_evaluation memory
   | inr form ↦ absurd (never_unread p is (tree_asked question) found (range_asked question) those form.1)

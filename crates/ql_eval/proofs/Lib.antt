@@ -7,7 +7,8 @@ pub mod NameLemmas
 pub mod StepLemmas
 pub mod EachLemmas
 pub mod LoopLemmas
-pub mod KindLemmas
+pub mod BodyItems
+pub mod Founding
 pub mod LinkLemmas
 pub mod RecursionLemmas
 pub mod PathLemmas

@@ -19,7 +19,7 @@ use Rattle.osm_index.specs.Publications.{Publication}
 use Rattle.ql_eval.specs.Questions.{Ask, NeededBy, NeedsAsk, object_ask}
 use Rattle.ql_eval.specs.internal.Entries.{IsThere}
 use Rattle.ql_eval.proofs.EachLemmas.{needed_as, needed_one, needed_or}
-use Rattle.ql_eval.specs.internal.Kinds.{IsBetween}
+use Rattle.ref_sets.specs.Kinds.{IsBetween}
 use Rattle.ql_eval.specs.internal.Links.{IsBelowAsk, IsListedIn, IsListedOf, IsObjectAsk, IsParentAsk, IsThereAs}
 use Rattle.ql_eval.proofs.EntryLemmas.{set_as}
 use Rattle.ql_eval.proofs.ObjectLemmas.{none_there}

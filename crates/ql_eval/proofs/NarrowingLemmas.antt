@@ -1,5 +1,5 @@
 -- What filters name by references alone, one more at a time.
-use Rattle.std.proofs.Common.{◌≡◌, ◌≢◌, ℤ, ℕ, ◌+◌, ◌<◌, ◌≤◌, ◌⊎◌, ◌↔◌, List, [], ◌∷◌, ◌++◌, inl, inr, length, get_or, take, Result, Ok, Err, Vec, Global, refl, sym, ap, subst, ◌∙◌}
+use Rattle.std.proofs.Common.{◌≡◌, ◌≢◌, ℤ, ℕ, ◌+◌, ◌<◌, ◌≤◌, ◌⊎◌, ◌↔◌, List, [], ◌∷◌, ◌++◌, inl, inr, length, get_or, take, Result, Ok, Err, refl, sym, ap, subst, ◌∙◌}
 use Rattle.std.proofs.lemmas.List.{take_all}
 use Rattle.std.specs.List.{Contains}
 use Rattle.std.specs.Prelude.{IfOk}
@@ -26,11 +26,11 @@ use Rattle.ql_eval.specs.Asks.{AskedByRest, AskedFor, IsListedBy, IsOfKindIn}
 use Rattle.ql_eval.specs.Faults.{cause_of_evaluation}
 use Rattle.ql_eval.specs.declared.fault.EvalFault.{EvalFault}
 use Rattle.ql_eval.specs.Questions.{Ask, NeededBy, object_ask}
-use Rattle.ql_eval.specs.internal.Kinds.{IsBetween}
+use Rattle.ref_sets.specs.Kinds.{IsBetween}
 use Rattle.ql_eval.specs.internal.Links.{IsListedOf, IsParentAsk}
 use Rattle.ql_eval.proofs.EachLemmas.{needed_as}
 use Rattle.ql_eval.proofs.EntryLemmas.{set_as}
-use Rattle.ql_eval.proofs.KindLemmas.{is_one_kind}
+use Rattle.ref_sets.proofs.shared.Kinds.{is_one_kind}
 use Rattle.ql_eval.specs.internal.Narrowing.{AskedByPathDown, HasId, IsNamedBy, IsNamedByAll, IsNamedOnPath}
 use Rattle.ql_eval.proofs.AllLemmas.{all_both, all_split}
 use Rattle.ql_eval.proofs.PassingLemmas.{filters_more}
@@ -67,9 +67,9 @@ with_ids_is refs ids those left set kept =
       (λ (has, listed). (has, (set.members r).1 (r.id, listed, refl))),
     )) kept
 
-pub with_ids_ok : (refs : List Ref) (ids : List ℤ) (those names : List Ref) (result : Result (Vec Ref Global) AllocError) → IsSetOf those (From ids HasId) → names ≡ those
-    → IfOk result (λ left. IsSetOf left.items (λ r. Contains refs r × Contains names r)) → IfOk result (λ left. IsSetOf left.items (λ r. Contains refs r × Contains ids r.id))
-with_ids_ok refs ids those names (Ok left) set same kept = with_ids_is refs ids those left.items set (subst (λ (l : List Ref). IsSetOf left.items (λ r. Contains refs r × Contains l r)) same kept)
+pub with_ids_ok : (refs : List Ref) (ids : List ℤ) (those names : List Ref) (result : Result (List Ref) AllocError) → IsSetOf those (From ids HasId) → names ≡ those
+    → IfOk result (λ left. IsSetOf left (λ r. Contains refs r × Contains names r)) → IfOk result (λ left. IsSetOf left (λ r. Contains refs r × Contains ids r.id))
+with_ids_ok refs ids those names (Ok left) set same kept = with_ids_is refs ids those left set (subst (λ (l : List Ref). IsSetOf left (λ r. Contains refs r × Contains l r)) same kept)
 with_ids_ok refs ids those names (Err fault) set same kept = kept
 
 -- ---- paths down
@@ -98,16 +98,16 @@ module _ (from some : List Ref) (kind : Kind) (are : (r : Ref) → Contains some
       )) kept
 
 -- what is left after a path, and what it asks
-abbrev pub IsLeftOf : List Ref → (Ref → Type 0) → Vec Ref Global → Type 0
-IsLeftOf refs Is left = IsSetOf left.items (λ r. Contains refs r × Is r)
+abbrev pub IsLeftOf : List Ref → (Ref → Type 0) → List Ref → Type 0
+IsLeftOf refs Is left = IsSetOf left (λ r. Contains refs r × Is r)
 
-abbrev pub LeavesOnPath : Publication → List Ref → List Ref → ShelfUse → Result (Vec Ref Global) EvalFault → Path → Type 0
+abbrev pub LeavesOnPath : Publication → List Ref → List Ref → ShelfUse → Result (List Ref) EvalFault → Path → Type 0
 LeavesOnPath p from refs shelf result path = Outcome cause_of_evaluation (IsLeftOf refs (IsNamedOnPath p.objects from path)) (NeededBy p (AskedByPathDown from path)) shelf result
 
-abbrev pub LeavesListed : Publication → List Ref → List Ref → ShelfUse → Result (Vec Ref Global) EvalFault → Kind → Type 0
+abbrev pub LeavesListed : Publication → List Ref → List Ref → ShelfUse → Result (List Ref) EvalFault → Kind → Type 0
 LeavesListed p from refs shelf result kind = Outcome cause_of_evaluation (IsLeftOf refs (IsListedBy p.objects (IsOfKindIn from kind))) (NeededBy p (AskedFor (IsOfKindIn from kind) object_ask)) shelf result
 
-module _ (p : Publication) (from refs names : List Ref) (same : names ≡ refs) (shelf : ShelfUse) (result : Result (Vec Ref Global) EvalFault) (path : Path) where
+module _ (p : Publication) (from refs names : List Ref) (same : names ≡ refs) (shelf : ShelfUse) (result : Result (List Ref) EvalFault) (path : Path) where
   pub on_ways : path ≡ paths.W → LeavesListed p from names shelf result kinds.Way → LeavesOnPath p from refs shelf result path
   on_ways is so = subst (λ (q : Path). LeavesOnPath p from refs shelf result q) (sym is) (subst (λ (l : List Ref). LeavesListed p from l shelf result kinds.Way) same so)
 
@@ -131,10 +131,10 @@ path_asked env paths.Br name ask asked = asked
 
 -- ---- one filter
 
-abbrev pub LeavesNamed : Publication → Env → List Ref → ShelfUse → Result (Vec Ref Global) EvalFault → tree.Filter → Type 0
+abbrev pub LeavesNamed : Publication → Env → List Ref → ShelfUse → Result (List Ref) EvalFault → tree.Filter → Type 0
 LeavesNamed p env refs shelf result one = Outcome cause_of_evaluation (IsLeftOf refs (λ r. IsNamedBy p.objects env r one)) (NeededBy p (AskedByRest env one)) shelf result
 
-pub named_via : (p : Publication) (env : Env) (refs : List Ref) (held old new : Nodes) (result : Result (Vec Ref Global) EvalFault) (one : Filter) (path : Path) (name : List ℕ) (from : List Ref) → one ≡ filters.Via path name → from ≡ env name
+pub named_via : (p : Publication) (env : Env) (refs : List Ref) (held old new : Nodes) (result : Result (List Ref) EvalFault) (one : Filter) (path : Path) (name : List ℕ) (from : List Ref) → one ≡ filters.Via path name → from ≡ env name
     → LeavesOnPath p from refs (uses held old new) result path → LeavesNamed p env refs (uses held old new) result (filter_of one)
 named_via p env refs held old new result one path name from is same so =
     subst (λ (f : Filter). LeavesNamed p env refs (uses held old new) result (filter_of f)) (sym is)
@@ -145,16 +145,16 @@ named_via p env refs held old new result one path name from is same so =
 pub nothing_asked : {A : Type 0} {Is : A → Type 0} {p : Publication} {Asks : Ask → Type 0} {held old : Nodes} {value : A} → ((ask : Ask) → Asks ask → ⊥) → Is value → Outcome cause_of_evaluation Is (NeededBy p Asks) (uses held old old) (Ok value)
 nothing_asked never is = outcome_starts is (λ x needs. never needs.ask needs.asked)
 
-module _ (p : Publication) (env : Env) (refs names : List Ref) (same : names ≡ refs) (held old : Nodes) (left : Vec Ref Global) (one : Filter) where
-  pub named_in_set : (name : List ℕ) (set : List Ref) → one ≡ filters.InSet name → set ≡ env name → IsSetOf left.items (λ r. Contains names r × Contains set r) → LeavesNamed p env refs (uses held old old) (Ok left) (filter_of one)
+module _ (p : Publication) (env : Env) (refs names : List Ref) (same : names ≡ refs) (held old : Nodes) (left : List Ref) (one : Filter) where
+  pub named_in_set : (name : List ℕ) (set : List Ref) → one ≡ filters.InSet name → set ≡ env name → IsSetOf left (λ r. Contains names r × Contains set r) → LeavesNamed p env refs (uses held old old) (Ok left) (filter_of one)
   named_in_set name set is set_is so =
       subst (λ (f : Filter). LeavesNamed p env refs (uses held old old) (Ok left) (filter_of f)) (sym is)
-      (nothing_asked (λ ask asked. asked) (subst (λ (l : List Ref). IsSetOf left.items (λ r. Contains l r × Contains (env name) r)) same (subst (λ (s : List Ref). IsSetOf left.items (λ r. Contains names r × Contains s r)) set_is so)))
+      (nothing_asked (λ ask asked. asked) (subst (λ (l : List Ref). IsSetOf left (λ r. Contains l r × Contains (env name) r)) same (subst (λ (s : List Ref). IsSetOf left (λ r. Contains names r × Contains s r)) set_is so)))
 
-  pub named_by_ids : (ids : _) (listed : List ℤ) → one ≡ filters.Ids ids → listed ≡ ids.items → IsSetOf left.items (λ r. Contains names r × Contains listed r.id) → LeavesNamed p env refs (uses held old old) (Ok left) (filter_of one)
+  pub named_by_ids : (ids : _) (listed : List ℤ) → one ≡ filters.Ids ids → listed ≡ ids.items → IsSetOf left (λ r. Contains names r × Contains listed r.id) → LeavesNamed p env refs (uses held old old) (Ok left) (filter_of one)
   named_by_ids ids listed is ids_are so =
       subst (λ (f : Filter). LeavesNamed p env refs (uses held old old) (Ok left) (filter_of f)) (sym is)
-      (nothing_asked (λ ask asked. asked) (subst (λ (l : List Ref). IsSetOf left.items (λ r. Contains l r × Contains ids.items r.id)) same (subst (λ (is : List ℤ). IsSetOf left.items (λ r. Contains names r × Contains is r.id)) ids_are so)))
+      (nothing_asked (λ ask asked. asked) (subst (λ (l : List Ref). IsSetOf left (λ r. Contains l r × Contains ids.items r.id)) same (subst (λ (is : List ℤ). IsSetOf left (λ r. Contains names r × Contains is r.id)) ids_are so)))
 
 -- ---- filters, one after the other
 

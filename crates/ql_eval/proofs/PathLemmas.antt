@@ -1,8 +1,6 @@
 -- Where paths lead, in terms of what single references list and are listed by.
 use Rattle.std.proofs.Common.{◌≡◌, ◌≢◌, ◌↔◌, inl, inr, ℕ, List, Option, Some, None, Result, refl, sym, ap, subst, ◌∙◌}
 use Rattle.std.specs.List.{Contains}
-use Rattle.std.specs.declared.alloc.Global.{Global}
-use Rattle.std.specs.declared.vec.Vec.{Vec}
 use Rattle.osm_model.specs.Elements.{reference}
 use Rattle.osm_model.specs.Membership.{BodyLists}
 use Rattle.osm_model.specs.declared.kind.Kind.{Kind}
@@ -19,27 +17,33 @@ use Rattle.ql_eval.specs.Asks.{AskedBelow, AskedByPath, AskedFor, IsOfKindIn, ba
 use Rattle.ql_eval.specs.Faults.{cause_of_evaluation}
 use Rattle.ql_eval.specs.Questions.{Ask, NeededBy}
 use Rattle.ql_eval.specs.declared.fault.EvalFault.{EvalFault}
-use Rattle.ql_eval.specs.internal.Kinds.{IsBetween, first_of, last_of}
+use Rattle.ref_sets.specs.Kinds.{IsBetween}
+use Rattle.ql_eval.specs.internal.Kinds.{first_of, last_of}
 use Rattle.ql_eval.specs.internal.Links.{AreThere, IsBackAsk, IsBelowAsk, IsBelowThere, ListsIt}
 use Rattle.ql_eval.specs.internal.Paths.{IsAt, IsBelowOf}
 use Rattle.ql_eval.proofs.EachLemmas.{needed_as}
 use Rattle.ql_eval.proofs.EntryLemmas.{set_as}
-use Rattle.ql_eval.proofs.KindLemmas.{is_one_kind}
+use Rattle.ref_sets.proofs.shared.Kinds.{is_one_kind}
 use Rattle.ql_eval.proofs.RecursionLemmas.{all_kinds, below_of, of_below, one_of_set}
 
 -- how what is below some references is found, and how a path is gone along
-abbrev pub BelowWell : Publication → List Ref → Kind → Kind → ShelfUse → Result (Vec Ref Global) EvalFault → Type 0
+abbrev pub BelowWell : Publication → List Ref → Kind → Kind → ShelfUse → Result (List Ref) EvalFault → Type 0
 BelowWell p names first last shelf result =
-    Outcome cause_of_evaluation (λ refs. IsSetOf refs.items (IsBelowThere p.objects names first last)) (NeededBy p (IsBelowAsk p.objects names first last)) shelf result
+    Outcome cause_of_evaluation (λ refs. IsSetOf refs (IsBelowThere p.objects names first last)) (NeededBy p (IsBelowAsk p.objects names first last)) shelf result
 
-abbrev pub PathWell : Publication → Path → List Ref → Option Kind → ShelfUse → Result (Vec Ref Global) EvalFault → Type 0
+abbrev pub PathWell : Publication → Path → List Ref → Option Kind → ShelfUse → Result (List Ref) EvalFault → Type 0
 PathWell p path set kind shelf result =
-    Outcome cause_of_evaluation (λ refs. IsSetOf refs.items (IsAt p.objects set kind path)) (NeededBy p (AskedByPath p.objects set kind path)) shelf result
+    Outcome cause_of_evaluation (λ refs. IsSetOf refs (IsAt p.objects set kind path)) (NeededBy p (AskedByPath p.objects set kind path)) shelf result
 
 -- the kinds from the first to the last are the one, or all
 pub kind_between : (kind : Option Kind) (r : Ref) → IsBetween (first_of kind) (last_of kind) r ↔ IsKindOf kind r
 kind_between None r = ((λ is. tt), (λ any. all_kinds r))
 kind_between (Some kind) r = is_one_kind kind r
+
+-- those of the kind, or all
+pub picked_set : (kind : Option Kind) (names refs : List Ref) → IsSetOf refs (λ r. Contains names r × IsBetween (first_of kind) (last_of kind) r) → IsSetOf refs (λ r. Contains names r × IsKindOf kind r)
+picked_set kind names refs is = set_as refs (λ r. Contains names r × IsBetween (first_of kind) (last_of kind) r) (λ r. Contains names r × IsKindOf kind r)
+    (λ r. ((λ (among, between). (among, (kind_between kind r).0 between)), (λ (among, of_kind). (among, (kind_between kind r).1 of_kind)))) is
 
 -- ---- down
 

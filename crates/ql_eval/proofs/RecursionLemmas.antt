@@ -17,11 +17,11 @@ use Rattle.ql_meaning.specs.Values.{IsAbove, IsBelow, IsDown, IsParent, IsReache
 use Rattle.ql_eval.specs.Asks.{AskedByRecursion, IsOfKindIn, IsWayBelow}
 use Rattle.ql_eval.specs.Questions.{Ask, NeededBy}
 use Rattle.ql_eval.specs.internal.Entries.{IsThere}
-use Rattle.ql_eval.specs.internal.Kinds.{IsBetween}
+use Rattle.ref_sets.specs.Kinds.{IsBetween}
 use Rattle.ql_eval.specs.internal.Links.{AreThere, IsBackAsk, IsBelowAsk, IsBelowThere, IsListedOf, IsMemberAsk, IsMemberBelow, ListsIt}
 use Rattle.ql_eval.proofs.EachLemmas.{needed_as, needed_or}
 use Rattle.ql_eval.proofs.EntryLemmas.{set_as}
-use Rattle.ql_eval.proofs.KindLemmas.{is_one_kind}
+use Rattle.ref_sets.proofs.shared.Kinds.{is_one_kind}
 
 -- ---- kinds
 
@@ -266,10 +266,10 @@ module _ (p : Publication) (set children refs ways : List Ref) (children_are : (
     up_found r (o, there, named, (inr (inr (way, parent, is_way, above)))) =
         inr (reference way, (ways_are (reference way)).1 (above_listed kinds.Node (λ e. cc) way above, is_way), (o, there, named, (tt, parent.lists)))
 
-    pub up_set : (outer more sorted : List Ref) → IsSetOf outer (From ways (ListsIt p.objects None)) → more ≡ refs ++ outer → IsSetOf sorted (Contains more)
+    pub up_set : (outer sorted : List Ref) → IsSetOf outer (From ways (ListsIt p.objects None)) → IsSetOf sorted (λ r. Contains refs r ⊎ Contains outer r)
         → IsSetOf sorted (IsRefOf p.objects (IsReached p.objects recursions.Up set))
-    up_set outer more sorted is e set_of_more = set_as sorted (Contains more) (IsRefOf p.objects (IsReached p.objects recursions.Up set))
+    up_set outer sorted is both = set_as sorted (λ r. Contains refs r ⊎ Contains outer r) (IsRefOf p.objects (IsReached p.objects recursions.Up set))
         (λ r. (
-          (λ has. elim (((adds_list outer e).is r).0 has) [ inl before ↦ listed_up r before | inr new ↦ outer_up r ((is.members r).0 new) ]),
-          (λ up. ((adds_list outer e).is r).1 (elim (up_found r up) [ inl before ↦ inl before | inr new ↦ inr ((is.members r).1 new) ])),
-        )) set_of_more
+          (λ has. elim has [ inl before ↦ listed_up r before | inr new ↦ outer_up r ((is.members r).0 new) ]),
+          (λ up. elim (up_found r up) [ inl before ↦ inl before | inr new ↦ inr ((is.members r).1 new) ]),
+        )) both

@@ -2,8 +2,6 @@
 use Rattle.std.proofs.Common.{◌≡◌, ◌⊎◌, inl, inr, ℕ, List, [], ◌∷◌, ◌++◌, Option, Some, None, Result, sym, subst, ◌∙◌}
 use Rattle.std.specs.List.{AllByRecursion, Contains}
 use Rattle.std.specs.Option.{ForSome, option_to_list}
-use Rattle.std.specs.declared.alloc.Global.{Global}
-use Rattle.std.specs.declared.vec.Vec.{Vec}
 use Rattle.osm_model.specs.Elements.{Element}
 use Rattle.osm_model.specs.Sets.{IsObjectSet}
 use Rattle.osm_model.specs.declared.kind.Kind.{Kind}
@@ -49,9 +47,9 @@ base_lawful pick before (Some base) after all filter e =
     subst (Allows pick) same (all_second (Allows pick) before (base ∷ []) (all_first (Allows pick) (before ++ base ∷ []) after all)).0
 
 -- how left-over filters are tested, and how a plan is chosen
-abbrev pub TestedWell : Publication → Env → List Filter → List Ref → ShelfUse → Result (Vec Ref Global) EvalFault → Type 0
+abbrev pub TestedWell : Publication → Env → List Filter → List Ref → ShelfUse → Result (List Ref) EvalFault → Type 0
 TestedWell p env rest candidates shelf result =
-    Outcome cause_of_evaluation (λ refs. IsSetOf refs.items (λ r. Contains candidates r × IsKeptBy p.objects env rest r)) (NeededBy p (IsTestAsk env rest candidates)) shelf result
+    Outcome cause_of_evaluation (λ refs. IsSetOf refs (λ r. Contains candidates r × IsKeptBy p.objects env rest r)) (NeededBy p (IsTestAsk env rest candidates)) shelf result
 
 abbrev pub PlannedWell : Publication → Option Kind → List Filter → ShelfUse → Result Planned EvalFault → Type 0
 PlannedWell p kind filters shelf result = Outcome cause_of_evaluation (IsPlanned p kind filters) (NeededBy p (AskedByChoice kind filters)) shelf result

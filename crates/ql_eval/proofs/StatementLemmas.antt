@@ -191,9 +191,9 @@ RanWell p statement env later shelf result = Outcome cause_of_evaluation (λ _. 
 abbrev pub RanAllWell : Publication → Statements → Env → Env → ShelfUse → Result (Vec Ref Global) EvalFault → Type 0
 RanAllWell p parts env later shelf result = Outcome cause_of_evaluation (λ given. AfterAll p.objects parts env later given.items) (NeededBy p (AskedByAll p parts env)) shelf result
 
-abbrev pub SelectedWell : Publication → Env → Pick → List Filter → ShelfUse → Result (Vec Ref Global) EvalFault → Type 0
+abbrev pub SelectedWell : Publication → Env → Pick → List Filter → ShelfUse → Result (List Ref) EvalFault → Type 0
 SelectedWell p env pick filters shelf result =
-    Outcome cause_of_evaluation (λ refs. IsSetOf refs.items (IsRefOf p.objects (IsSelected p.objects env pick filters))) (NeededBy p (AskedBySelect p env pick filters)) shelf result
+    Outcome cause_of_evaluation (λ refs. IsSetOf refs (IsRefOf p.objects (IsSelected p.objects env pick filters))) (NeededBy p (AskedBySelect p env pick filters)) shelf result
 
 module _ {s t : Statement} (same : s ≡ t) where
   pub needs_as : (p : Publication) (env : Env) (x : List ℕ) → NeededBy p (AskedBy p t env) x → NeededBy p (AskedBy p s env) x

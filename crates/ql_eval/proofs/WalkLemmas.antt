@@ -1,8 +1,6 @@
 -- One walk of an evaluation: what was made of what it gave, and what its refusal tells.
-use Rattle.std.proofs.Common.{◌≡◌, ◌≢◌, inl, inr, ℕ, List, [], Option, Some, None, Result, Ok, Err, refl, sym, subst}
-use Rattle.std.specs.List.{Contains}
+use Rattle.std.proofs.Common.{◌≡◌, inl, inr, ℕ, List, Option, Some, None, Result, Ok, Err, sym, subst}
 use Rattle.std.specs.Prelude.{IfErr, IfOk, OnOk}
-use Rattle.std.specs.BTreeMap.{BTreeMap}
 use Rattle.osm_model.specs.Elements.{Element}
 use Rattle.osm_model.specs.declared.reference.Ref.{Ref}
 use Rattle.osm_index.specs.Manifests.{top_among}

@@ -4,6 +4,8 @@ pub mod Views
 pub mod Boxes
 pub mod Kinds
 pub mod Links
+pub mod Founds
+pub mod Listed
 pub mod Chains
 pub mod Selecting
 pub mod Paths
@@ -13,4 +15,5 @@ pub mod Narrowing
 pub mod Counting
 pub mod Printing
 pub mod Told
+pub mod Uses
 pub mod Objects

@@ -12,6 +12,7 @@ ghost use Rattle.ql_eval.specs.Faults.{cause_of_evaluation};
 ghost use Rattle.ql_eval.specs.Questions.{NeededBy};
 ghost use Rattle.ql_eval.specs.Written.{HasWritten};
 ghost use Rattle.ql_eval.specs.internal.Links.{AreAllThere};
+ghost use Rattle.ql_eval.specs.internal.Uses.{nodes_around};
 
 use crate::fault::EvalFault;
 use crate::print::print;
@@ -19,7 +20,7 @@ use crate::run::run;
 use crate::sink::Sink;
 use crate::source::Source;
 use ql_syntax::Stmt;
-use ref_sets::Sets;
+use ref_sets::NamedSets;
 use std::alloc::Global;
 
 /// Runs the statements of a query, and writes what they print. No set is named at first.
@@ -34,12 +35,14 @@ pub(crate) fn answer_all<'q, W: Source, T: Sink>(
     ensures told { IfErr result (W.tells source.new) }
     ensures kept { T.kept sink.new ≡ T.kept sink.old }
     ensures wrote { (text : List ℕ) × HasWritten (T.stands sink.old) (T.stands sink.new) text }
-    ensures answer { (p : Publication) → IsPublication p → W.under source.old p → IsQuery (statements_of statements.now)
-        → Outcome cause_of_evaluation (λ _. (text : List ℕ) × Means p.objects (statements_of statements.now) text × HasWritten (T.stands sink.old) (T.stands sink.new) text)
+    ensures answer { (p : Publication) → IsPublication p → W.under source.old p
+        → IsQuery (statements_of statements.now)
+        → Outcome cause_of_evaluation
+        (λ _. (text : List ℕ) × Means p.objects (statements_of statements.now) text × HasWritten (T.stands sink.old) (T.stands sink.new) text)
         (NeededBy p (AskedByAll p (statements_of statements.now) nothing_named))
-        (record { held = W.holds source.new; before = W.used source.old; after = W.used source.new }) result }
+        (nodes_around W.holds W.used source.old source.new) result }
 {
-    let mut sets = Sets::new(alloc);
+    let mut sets = NamedSets::new(alloc);
     for statement in statements {
         answer_statement(alloc, statement, &mut sets, source, sink)?;
     }
@@ -50,7 +53,7 @@ pub(crate) fn answer_all<'q, W: Source, T: Sink>(
 fn answer_statement<'q, W: Source, T: Sink>(
     alloc: Global,
     statement: &Stmt<'q>,
-    sets: &mut Sets<'q>,
+    sets: &mut NamedSets<'q>,
     source: &mut W,
     sink: &mut T,
 ) -> Result<(), EvalFault>
@@ -59,11 +62,13 @@ fn answer_statement<'q, W: Source, T: Sink>(
     ensures told { IfErr result (W.tells source.new) }
     ensures kept { T.kept sink.new ≡ T.kept sink.old }
     ensures wrote { (text : List ℕ) × HasWritten (T.stands sink.old) (T.stands sink.new) text }
-    ensures answer { (p : Publication) → IsPublication p → W.under source.old p → AreAllThere p.objects (lists_of sets.old.named.items) → IsTop (statement_of statement.now)
-        → Outcome cause_of_evaluation (λ _. After p.objects (statement_of statement.now) (lists_of sets.old.named.items) (lists_of sets.new.named.items)
+    ensures answer { (p : Publication) → IsPublication p → W.under source.old p
+        → AreAllThere p.objects (lists_of sets.old.named.items) → IsTop (statement_of statement.now)
+        → Outcome cause_of_evaluation
+        (λ _. After p.objects (statement_of statement.now) (lists_of sets.old.named.items) (lists_of sets.new.named.items)
         × HasWritten (T.stands sink.old) (T.stands sink.new) (told p.objects (statement_of statement.now) (lists_of sets.old.named.items)))
         (NeededBy p (AskedBy p (statement_of statement.now) (lists_of sets.old.named.items)))
-        (record { held = W.holds source.new; before = W.used source.old; after = W.used source.new }) result }
+        (nodes_around W.holds W.used source.old source.new) result }
 {
     match statement {
         Stmt::Print(out) => print(

@@ -1,8 +1,6 @@
 //! The nodes in a box, asked of a shelf under a manifest.
 
 ghost use Rattle.std.specs.Prelude.{ℕ, IfErr, IfOk, List, OnOk};
-ghost use Rattle.std.specs.List.Sorted.{IsStrictlySortedBy};
-ghost use Rattle.osm_model.specs.Elements.{ref_cmp};
 ghost use Rattle.tree_node.specs.NodeRefs.{binding_of, bindings_of};
 ghost use Rattle.tree_node.specs.Outcomes.{Outcome};
 ghost use Rattle.tree_node.specs.Shelves.{SameNodes};
@@ -21,13 +19,14 @@ ghost use Rattle.ql_eval.specs.Questions.{NeededBy};
 ghost use Rattle.ql_eval.specs.internal.Boxes.{IsCellsAsk, IsFoundIn};
 ghost use Rattle.ql_eval.specs.Forms.{HasForm, HaveForm};
 ghost use Rattle.ql_eval.specs.internal.Entries.{AreMisread, IsMisread, IsSaid, PlacesIn, SaysIn};
+ghost use Rattle.ql_eval.specs.internal.Uses.{nodes_around};
 
+use crate::cell_entry::read_cell_entry;
 use crate::fault::EvalFault;
-use crate::placed::placed_by;
 use crate::walks::entries_in;
 use osm_index::{Manifest, OwnedRange, cell_ranges};
 use osm_model::{BoxArea, Ref};
-use ref_sets::tidy;
+use ref_sets::RefSet;
 use std::alloc::Global;
 use tree_node::{Item, Shelf, Tree};
 use tree_walk::Tally;
@@ -39,26 +38,25 @@ pub(crate) fn find_in_box<'a, S: Shelf<'a>>(
     manifest: &Manifest,
     area: &BoxArea<'_>,
     tally: &mut Tally,
-) -> Result<Vec<Ref>, EvalFault>
-    ensures rising { IfOk result (λ names. IsStrictlySortedBy ref_cmp names.items) }
+) -> Result<RefSet, EvalFault>
     ensures stays { SameNodes (S.holds shelf.old) (S.holds shelf.new) }
     ensures grows { (bytes : List ℕ) → S.used shelf.old bytes → S.used shelf.new bytes }
     ensures walked { OnOk result (HasGiven (top_among manifest.now.tops) HaveForm
-        (record { held = S.holds shelf.new; before = S.used shelf.old; after = S.used shelf.new })
+        (nodes_around S.holds S.used shelf.old shelf.new)
         tally.old.calls tally.new.calls tally.old.fetches tally.new.fetches) }
     ensures told { IfErr result (IsTold (S.holds shelf.new) (S.used shelf.new) manifest.now) }
     ensures answer { (p : Publication) → IsPublication p → IsUnder p manifest.now
-        → Outcome cause_of_evaluation (λ names. IsSetOf names.items (IsRefOf p.objects (IsInBox area.now)))
+        → Outcome cause_of_evaluation
+        (λ names. IsSetOf names (IsRefOf p.objects (IsInBox area.now)))
         (NeededBy p (IsAskedInBox area.now))
-        (record { held = S.holds shelf.new; before = S.used shelf.old; after = S.used shelf.new }) result }
+        (nodes_around S.holds S.used shelf.old shelf.new) result }
 {
     let ranges = cell_ranges(alloc, area)?;
     let mut names = Vec::new(alloc);
     for keys in &ranges {
         add_range(alloc, shelf, manifest, area, keys, tally, &mut names)?;
     }
-    tidy(&mut names);
-    Ok(names)
+    Ok(RefSet::from_refs(names))
 }
 
 /// Adds the nodes in a box that a range of cells has.
@@ -74,13 +72,14 @@ fn add_range<'a, S: Shelf<'a>>(
     ensures stays { SameNodes (S.holds shelf.old) (S.holds shelf.new) }
     ensures grows { (bytes : List ℕ) → S.used shelf.old bytes → S.used shelf.new bytes }
     ensures walked { OnOk result (HasGiven (top_among manifest.now.tops) HaveForm
-        (record { held = S.holds shelf.new; before = S.used shelf.old; after = S.used shelf.new })
+        (nodes_around S.holds S.used shelf.old shelf.new)
         tally.old.calls tally.new.calls tally.old.fetches tally.new.fetches) }
     ensures told { IfErr result (IsTold (S.holds shelf.new) (S.used shelf.new) manifest.now) }
     ensures answer { (p : Publication) → IsPublication p → IsUnder p manifest.now
-        → Outcome cause_of_evaluation (λ _. Adds names.old.items names.new.items (IsFoundIn p.objects area.now keys.now))
+        → Outcome cause_of_evaluation
+        (λ _. Adds names.old.items names.new.items (IsFoundIn p.objects area.now keys.now))
         (NeededBy p (IsCellsAsk keys.now))
-        (record { held = S.holds shelf.new; before = S.used shelf.old; after = S.used shelf.new }) result }
+        (nodes_around S.holds S.used shelf.old shelf.new) result }
 {
     let found = entries_in(alloc, shelf, manifest, Tree::Cells, &keys.as_range(), tally)?;
     add_nodes(area, &found, names)
@@ -104,7 +103,7 @@ fn add_node(area: &BoxArea<'_>, item: &Item<'_>, names: &mut Vec<Ref>) -> Result
     ensures formed { OnOk result (HasForm Cells (binding_of item.now)) }
     ensures refused { IfErr result (IsMisread Cells (binding_of item.now)) }
 {
-    match placed_by(item) {
+    match read_cell_entry(item) {
         Some(node) => {
             if area.holds(node.place) {
                 names.push(node.name)?;

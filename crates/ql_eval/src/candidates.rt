@@ -2,9 +2,7 @@
 
 ghost use Rattle.std.specs.Prelude.{◌≡◌, ◌↔◌, ◌<◌, ℕ, IfErr, IfOk, List, OnOk};
 ghost use Rattle.std.specs.List.{Contains};
-ghost use Rattle.std.specs.List.Sorted.{IsStrictlySortedBy};
 ghost use Rattle.std.specs.Option.{ForSome, option_map, option_to_list};
-ghost use Rattle.osm_model.specs.Elements.{ref_cmp};
 ghost use Rattle.osm_model.specs.Limits.{HasNoNul};
 ghost use Rattle.osm_model.specs.Tagged.{HasKeyOf};
 ghost use Rattle.osm_model.specs.declared.reference.Ref.{Ref};
@@ -25,36 +23,39 @@ ghost use Rattle.ql_eval.specs.Questions as questions;
 ghost use Rattle.ql_eval.specs.internal.Candidates.{IsKeptOf, IsKindAsk, IsOfIds, IsOfThisKind, IsWith};
 ghost use Rattle.ql_eval.specs.internal.Entries.{IsThere};
 ghost use Rattle.ql_eval.specs.internal.Links.{AreAllThere};
+ghost use Rattle.ql_eval.specs.internal.Uses.{nodes_around};
 
 use crate::fault::EvalFault;
-use crate::kinds::{kind_of, kinds_in, of_kind};
+use crate::kinds::{first_kind, kind_of, kinds_in, last_kind};
 use crate::links::those_there;
 use crate::paths::on_path;
 use crate::question::Question;
 use crate::source::Source;
 use osm_model::{BoxArea, Kind, Ref};
 use ql_syntax::{Filter, Pick};
-use ref_sets::{Sets, tidy};
+use ref_sets::{NamedSets, RefSet};
 use std::alloc::{AllocError, Global};
 
 /// The objects of a kind that the base keeps, or all of the kind where there is none, as a set.
-pub(crate) fn candidates<W: Source>(
+pub(crate) fn find_candidates<W: Source>(
     alloc: Global,
     source: &mut W,
     pick: Pick,
     base: Option<&Filter<'_>>,
-    sets: &Sets<'_>,
-) -> Result<Vec<Ref>, EvalFault>
+    sets: &NamedSets<'_>,
+) -> Result<RefSet, EvalFault>
     requires { ForSome (option_map (λ f. filter_of f.now) base) (λ base. rank_of base < never) }
     ensures later { W.later source.old source.new }
     ensures walked { OnOk result (W.walked source.old source.new) }
     ensures told { IfErr result (W.tells source.new) }
-    ensures rising { IfOk result (λ refs. IsStrictlySortedBy ref_cmp refs.items) }
-    ensures answer { (p : Publication) → IsPublication p → W.under source.old p → AreAllThere p.objects (lists_of sets.now.named.items)
+    ensures answer { (p : Publication) → IsPublication p → W.under source.old p
+        → AreAllThere p.objects (lists_of sets.now.named.items)
         → ForSome (option_map (λ f. filter_of f.now) base.entry) (Allows pick)
-        → Outcome cause_of_evaluation (λ refs. IsSetOf refs.items (IsRefOf p.objects (IsSelected p.objects (lists_of sets.now.named.items) pick (option_to_list (option_map (λ f. filter_of f.now) base.entry)))))
+        → Outcome cause_of_evaluation
+        (λ refs. IsSetOf refs
+        (IsRefOf p.objects (IsSelected p.objects (lists_of sets.now.named.items) pick (option_to_list (option_map (λ f. filter_of f.now) base.entry)))))
         (NeededBy p (AskedByBase p.objects (lists_of sets.now.named.items) (kind_picked pick) (option_map (λ f. filter_of f.now) base.entry)))
-        (record { held = W.holds source.new; before = W.used source.old; after = W.used source.new }) result }
+        (nodes_around W.holds W.used source.old source.new) result }
 {
     match base {
         None => of_kinds(alloc, source, kinds_in(kind_of(pick))),
@@ -63,21 +64,21 @@ pub(crate) fn candidates<W: Source>(
 }
 
 /// The objects of some kinds, as a set.
-fn of_kinds<W: Source>(alloc: Global, source: &mut W, kinds: &[Kind]) -> Result<Vec<Ref>, EvalFault>
+fn of_kinds<W: Source>(alloc: Global, source: &mut W, kinds: &[Kind]) -> Result<RefSet, EvalFault>
     ensures later { W.later source.old source.new }
     ensures walked { OnOk result (W.walked source.old source.new) }
     ensures told { IfErr result (W.tells source.new) }
-    ensures rising { IfOk result (λ refs. IsStrictlySortedBy ref_cmp refs.items) }
     ensures answer { (p : Publication) → IsPublication p → W.under source.old p
-        → Outcome cause_of_evaluation (λ refs. IsSetOf refs.items (From kinds.now (IsOfThisKind p.objects))) (NeededBy p (From kinds.now IsKindAsk))
-        (record { held = W.holds source.new; before = W.used source.old; after = W.used source.new }) result }
+        → Outcome cause_of_evaluation
+        (λ refs. IsSetOf refs (From kinds.now (IsOfThisKind p.objects)))
+        (NeededBy p (From kinds.now IsKindAsk))
+        (nodes_around W.holds W.used source.old source.new) result }
 {
     let mut refs = Vec::new(alloc);
     for kind in kinds {
         add_kind(source, *kind, &mut refs)?;
     }
-    tidy(&mut refs);
-    Ok(refs)
+    Ok(RefSet::from_refs(refs))
 }
 
 /// Adds the objects of a kind.
@@ -86,11 +87,13 @@ fn add_kind<W: Source>(source: &mut W, kind: Kind, refs: &mut Vec<Ref>) -> Resul
     ensures walked { OnOk result (W.walked source.old source.new) }
     ensures told { IfErr result (W.tells source.new) }
     ensures answer { (p : Publication) → IsPublication p → W.under source.old p
-        → Outcome cause_of_evaluation (λ _. Adds refs.old.items refs.new.items (IsOfThisKind p.objects kind)) (NeededBy p (IsKindAsk kind))
-        (record { held = W.holds source.new; before = W.used source.old; after = W.used source.new }) result }
+        → Outcome cause_of_evaluation
+        (λ _. Adds refs.old.items refs.new.items (IsOfThisKind p.objects kind))
+        (NeededBy p (IsKindAsk kind))
+        (nodes_around W.holds W.used source.old source.new) result }
 {
     let found = source.names(&Question::OfKind(kind))?;
-    refs.extend_from_slice(&found)?;
+    refs.extend_from_slice(found.as_slice())?;
     Ok(())
 }
 
@@ -100,17 +103,19 @@ fn kept_by<W: Source>(
     source: &mut W,
     pick: Pick,
     filter: &Filter<'_>,
-    sets: &Sets<'_>,
-) -> Result<Vec<Ref>, EvalFault>
+    sets: &NamedSets<'_>,
+) -> Result<RefSet, EvalFault>
     requires { rank_of (filter_of filter.now) < never }
     ensures later { W.later source.old source.new }
     ensures walked { OnOk result (W.walked source.old source.new) }
     ensures told { IfErr result (W.tells source.new) }
-    ensures rising { IfOk result (λ refs. IsStrictlySortedBy ref_cmp refs.items) }
-    ensures answer { (p : Publication) → IsPublication p → W.under source.old p → AreAllThere p.objects (lists_of sets.now.named.items) → Allows pick (filter_of filter.now)
-        → Outcome cause_of_evaluation (λ refs. IsSetOf refs.items (IsKeptOf p.objects (lists_of sets.now.named.items) (kind_picked pick) (filter_of filter.now)))
+    ensures answer { (p : Publication) → IsPublication p → W.under source.old p
+        → AreAllThere p.objects (lists_of sets.now.named.items) → Allows pick (filter_of filter.now)
+        → Outcome cause_of_evaluation
+        (λ refs. IsSetOf refs
+        (IsKeptOf p.objects (lists_of sets.now.named.items) (kind_picked pick) (filter_of filter.now)))
         (NeededBy p (AskedByBase p.objects (lists_of sets.now.named.items) (kind_picked pick) (Some (filter_of filter.now))))
-        (record { held = W.holds source.new; before = W.used source.old; after = W.used source.new }) result }
+        (nodes_around W.holds W.used source.old source.new) result }
 {
     let kind = kind_of(pick);
     match filter {
@@ -134,14 +139,15 @@ fn with_ids<W: Source>(
     source: &mut W,
     ids: &[i64],
     kind: Option<Kind>,
-) -> Result<Vec<Ref>, EvalFault>
+) -> Result<RefSet, EvalFault>
     ensures later { W.later source.old source.new }
     ensures walked { OnOk result (W.walked source.old source.new) }
     ensures told { IfErr result (W.tells source.new) }
-    ensures rising { IfOk result (λ refs. IsStrictlySortedBy ref_cmp refs.items) }
     ensures answer { (p : Publication) → IsPublication p → W.under source.old p
-        → Outcome cause_of_evaluation (λ refs. IsSetOf refs.items (λ r. IsOfIds kind ids.now r × IsThere p.objects r)) (NeededBy p (AskedFor (IsOfIds kind ids.now) object_ask))
-        (record { held = W.holds source.new; before = W.used source.old; after = W.used source.new }) result }
+        → Outcome cause_of_evaluation
+        (λ refs. IsSetOf refs (λ r. IsOfIds kind ids.now r × IsThere p.objects r))
+        (NeededBy p (AskedFor (IsOfIds kind ids.now) object_ask))
+        (nodes_around W.holds W.used source.old source.new) result }
 {
     let names = references(alloc, kinds_in(kind), ids)?;
     those_there(alloc, source, &names)
@@ -174,14 +180,16 @@ fn with_key<W: Source>(
     source: &mut W,
     key: &[u8],
     kind: Option<Kind>,
-) -> Result<Vec<Ref>, EvalFault>
+) -> Result<RefSet, EvalFault>
     ensures later { W.later source.old source.new }
     ensures walked { OnOk result (W.walked source.old source.new) }
     ensures told { IfErr result (W.tells source.new) }
-    ensures rising { IfOk result (λ refs. IsStrictlySortedBy ref_cmp refs.items) }
     ensures answer { (p : Publication) → IsPublication p → W.under source.old p → HasNoNul key.now
-        → Outcome cause_of_evaluation (λ refs. IsSetOf refs.items (λ r. IsRefOf p.objects (λ o. HasKeyOf o key.now) r × IsKindOf kind r)) (NeededBy p (λ ask. ask ≡ names_ask (questions.WithKey key.now)))
-        (record { held = W.holds source.new; before = W.used source.old; after = W.used source.new }) result }
+        → Outcome cause_of_evaluation
+        (λ refs. IsSetOf refs
+        (λ r. IsRefOf p.objects (λ o. HasKeyOf o key.now) r × IsKindOf kind r))
+        (NeededBy p (λ ask. ask ≡ names_ask (questions.WithKey key.now)))
+        (nodes_around W.holds W.used source.old source.new) result }
 {
     let found = source.names(&Question::WithKey(key))?;
     Ok(picked(alloc, &found, kind)?)
@@ -193,23 +201,24 @@ fn in_box<W: Source>(
     source: &mut W,
     area: &BoxArea<'_>,
     kind: Option<Kind>,
-) -> Result<Vec<Ref>, EvalFault>
+) -> Result<RefSet, EvalFault>
     ensures later { W.later source.old source.new }
     ensures walked { OnOk result (W.walked source.old source.new) }
     ensures told { IfErr result (W.tells source.new) }
-    ensures rising { IfOk result (λ refs. IsStrictlySortedBy ref_cmp refs.items) }
     ensures answer { (p : Publication) → IsPublication p → W.under source.old p
-        → Outcome cause_of_evaluation (λ refs. IsSetOf refs.items (λ r. IsRefOf p.objects (IsInBox area.now) r × IsKindOf kind r)) (NeededBy p (IsAskedInBox area.now))
-        (record { held = W.holds source.new; before = W.used source.old; after = W.used source.new }) result }
+        → Outcome cause_of_evaluation
+        (λ refs. IsSetOf refs (λ r. IsRefOf p.objects (IsInBox area.now) r × IsKindOf kind r))
+        (NeededBy p (IsAskedInBox area.now))
+        (nodes_around W.holds W.used source.old source.new) result }
 {
     let found = source.nodes_in(area)?;
     Ok(picked(alloc, &found, kind)?)
 }
 
 /// The references of a set that are of a kind, or all of them.
-fn picked(alloc: Global, names: &[Ref], kind: Option<Kind>) -> Result<Vec<Ref>, AllocError>
-    requires { IsStrictlySortedBy ref_cmp names.now }
-    ensures { IfOk result (λ refs. IsSetOf refs.items (λ r. Contains names.now r × IsKindOf kind r)) }
+fn picked(alloc: Global, names: &RefSet, kind: Option<Kind>) -> Result<RefSet, AllocError>
+    ensures { IfOk result (λ refs. IsSetOf refs (λ r. Contains names.now r × IsKindOf kind r)) }
 {
-    Vec::from_slice(alloc, of_kind(names, kind))
+    let part = names.of_kinds(first_kind(kind), last_kind(kind));
+    Ok(RefSet::from_rising(Vec::from_slice(alloc, part)?))
 }

@@ -20,12 +20,13 @@ ghost use Rattle.ql_eval.specs.Questions.{NeededBy};
 ghost use Rattle.ql_eval.specs.Told.{HasFault};
 ghost use Rattle.ql_eval.specs.Written.{HasWritten};
 ghost use Rattle.ql_eval.specs.internal.Told.{IsTold};
+ghost use Rattle.ql_eval.specs.internal.Uses.{nodes_around};
 
 use crate::answering::answer_all;
 use crate::fault::EvalFault;
 use crate::known::Known;
 use crate::opening::{ManifestFault, open_manifest};
-use crate::over::Over;
+use crate::shelf_source::ShelfSource;
 use crate::sink::Sink;
 use osm_index::Manifest;
 use ql_syntax::{Query, Stmt};
@@ -122,17 +123,20 @@ fn run_over<'a, S: Shelf<'a>, T: Sink>(
     // As each shelf: no two held nodes have one digest, and what was used is held.
     ensures unlike { IsClashFree (S.holds shelf.new) }
     ensures held { (bytes : List ℕ) → S.used shelf.new bytes → S.holds shelf.new bytes }
-    ensures walked { OnOk result (HasGiven (top_among manifest.tops) HaveForm (record { held = S.holds shelf.new; before = S.used shelf.old; after = S.used shelf.new }) 0 tally.new.calls 0 tally.new.fetches) }
+    ensures walked { OnOk result (HasGiven (top_among manifest.tops) HaveForm
+        (nodes_around S.holds S.used shelf.old shelf.new) 0 tally.new.calls 0 tally.new.fetches) }
     ensures told { IfErr result (IsTold (S.holds shelf.new) (S.used shelf.new) manifest) }
     ensures kept { T.kept sink.new ≡ T.kept sink.old }
     ensures wrote { (text : List ℕ) × HasWritten (T.stands sink.old) (T.stands sink.new) text }
-    ensures answer { (p : Publication) → IsPublication p → IsUnder p manifest → IsQuery (statements_of statements.now)
-        → Outcome cause_of_evaluation (λ _. (text : List ℕ) × Means p.objects (statements_of statements.now) text × HasWritten (T.stands sink.old) (T.stands sink.new) text)
+    ensures answer { (p : Publication) → IsPublication p → IsUnder p manifest
+        → IsQuery (statements_of statements.now)
+        → Outcome cause_of_evaluation
+        (λ _. (text : List ℕ) × Means p.objects (statements_of statements.now) text × HasWritten (T.stands sink.old) (T.stands sink.new) text)
         (NeededBy p (AskedByAll p (statements_of statements.now) nothing_named))
-        (record { held = S.holds shelf.new; before = S.used shelf.old; after = S.used shelf.new }) result }
+        (nodes_around S.holds S.used shelf.old shelf.new) result }
 {
     let mut objects = Known::new(alloc);
-    let mut source = Over {
+    let mut source = ShelfSource {
         alloc,
         shelf,
         manifest,
@@ -145,7 +149,7 @@ fn run_over<'a, S: Shelf<'a>, T: Sink>(
     };
     let ran = answer_all(alloc, statements, &mut source, sink);
     *tally = source.tally;
-    let Over {
+    let ShelfSource {
         alloc: _,
         shelf: _,
         manifest: _,

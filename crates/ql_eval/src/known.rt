@@ -19,6 +19,7 @@ ghost use Rattle.ql_eval.specs.Told.{IsAbsent};
 ghost use Rattle.ql_eval.specs.internal.Entries.{AreMisread, IsPutBy};
 ghost use Rattle.ql_eval.specs.internal.Objects.{AreAbsent, Remembers};
 ghost use Rattle.ql_eval.specs.internal.Told.{IsTold};
+ghost use Rattle.ql_eval.specs.internal.Uses.{nodes_around};
 
 use crate::fault::EvalFault;
 use crate::objects::object_in;
@@ -50,16 +51,22 @@ pub(crate) fn look_up<'a, S: Shelf<'a>>(
     ensures stays { SameNodes (S.holds shelf.old) (S.holds shelf.new) }
     ensures grows { (bytes : List ℕ) → S.used shelf.old bytes → S.used shelf.new bytes }
     ensures walked { OnOk result (HasGiven (top_among manifest.now.tops) HaveForm
-        (record { held = S.holds shelf.new; before = S.used shelf.old; after = S.used shelf.new })
+        (nodes_around S.holds S.used shelf.old shelf.new)
         tally.old.calls tally.new.calls tally.old.fetches tally.new.fetches) }
     ensures told { IfErr result (IsTold (S.holds shelf.new) (S.used shelf.new) manifest.now) }
-    ensures keeps { (r : Ref) (object : Option Element) → get ref_cmp objects.old r ≡ Some object → get ref_cmp objects.new r ≡ Some object }
+    ensures keeps { (r : Ref) (object : Option Element) → get ref_cmp objects.old r ≡ Some object
+        → get ref_cmp objects.new r ≡ Some object }
     ensures known { OnOk result ((object : Option Element) × (get ref_cmp objects.new name ≡ Some object)) }
-    ensures absent { AreAbsent (S.used shelf.old) manifest.now objects.old → AreAbsent (S.used shelf.new) manifest.now objects.new }
-    ensures remembers { (p : Publication) → IsUnder p manifest.now → Remembers p (S.used shelf.old) objects.old → Remembers p (S.used shelf.new) objects.new }
-    ensures answer { (p : Publication) → IsPublication p → IsUnder p manifest.now → Remembers p (S.used shelf.old) objects.old
-        → Outcome cause_of_evaluation (λ _. get ref_cmp objects.new name ≡ Some (object_at p.objects name)) (NeedsAsk p (object_ask name))
-        (record { held = S.holds shelf.new; before = S.used shelf.old; after = S.used shelf.new }) result }
+    ensures absent { AreAbsent (S.used shelf.old) manifest.now objects.old
+        → AreAbsent (S.used shelf.new) manifest.now objects.new }
+    ensures remembers { (p : Publication) → IsUnder p manifest.now
+        → Remembers p (S.used shelf.old) objects.old → Remembers p (S.used shelf.new) objects.new }
+    ensures answer { (p : Publication) → IsPublication p → IsUnder p manifest.now
+        → Remembers p (S.used shelf.old) objects.old
+        → Outcome cause_of_evaluation
+        (λ _. get ref_cmp objects.new name ≡ Some (object_at p.objects name))
+        (NeedsAsk p (object_ask name))
+        (nodes_around S.holds S.used shelf.old shelf.new) result }
 {
     if objects.contains_key(&name) {
         return Ok(());
@@ -80,13 +87,14 @@ fn find_object<'a, S: Shelf<'a>>(
     ensures stays { SameNodes (S.holds shelf.old) (S.holds shelf.new) }
     ensures grows { (bytes : List ℕ) → S.used shelf.old bytes → S.used shelf.new bytes }
     ensures walked { OnOk result (HasGiven (top_among manifest.now.tops) HaveForm
-        (record { held = S.holds shelf.new; before = S.used shelf.old; after = S.used shelf.new })
+        (nodes_around S.holds S.used shelf.old shelf.new)
         tally.old.calls tally.new.calls tally.old.fetches tally.new.fetches) }
     ensures told { IfErr result (IsTold (S.holds shelf.new) (S.used shelf.new) manifest.now) }
     ensures absent { IfOk result (λ object. object ≡ None → IsAbsent (S.used shelf.new) manifest.now name) }
     ensures answer { (p : Publication) → IsPublication p → IsUnder p manifest.now
-        → Outcome cause_of_evaluation (λ object. object ≡ object_at p.objects name) (NeedsAsk p (object_ask name))
-        (record { held = S.holds shelf.new; before = S.used shelf.old; after = S.used shelf.new }) result }
+        → Outcome cause_of_evaluation (λ object. object ≡ object_at p.objects name)
+        (NeedsAsk p (object_ask name))
+        (nodes_around S.holds S.used shelf.old shelf.new) result }
 {
     let key = reference_key(name);
     let keys = KeyRange {

@@ -5,34 +5,38 @@
 #![tactic(auto)]
 
 mod answering;
+mod apply_filters;
 mod boxes;
 mod candidates;
+mod cell_entry;
 mod chains;
+mod choose_plan;
 mod evaluation;
 mod fault;
+mod filter_by_object;
+mod filter_by_reference;
+mod found;
+mod items;
 mod kinds;
 mod known;
 mod links;
 mod lists_in;
 mod lookups;
 mod names;
-mod narrowed;
+mod object_test;
 mod objects;
 mod opening;
-mod over;
-mod passing;
 mod paths;
-mod placed;
-mod planned;
 mod print;
 mod question;
 mod recursions;
 mod run;
 mod select;
+mod shelf_source;
 mod sink;
 mod source;
-mod tested;
 mod walks;
+mod written;
 
 pub use evaluation::{Report, evaluate};
 pub use fault::EvalFault;

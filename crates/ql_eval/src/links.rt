@@ -2,8 +2,6 @@
 
 ghost use Rattle.std.specs.Prelude.{◌≡◌, ℕ, IfErr, IfOk, List, OnOk};
 ghost use Rattle.std.specs.List.{Contains};
-ghost use Rattle.std.specs.List.Sorted.{IsStrictlySortedBy};
-ghost use Rattle.osm_model.specs.Elements.{ref_cmp};
 ghost use Rattle.osm_model.specs.declared.kind.Kind.{Kind};
 ghost use Rattle.tree_node.specs.Outcomes.{Outcome};
 ghost use Rattle.osm_index.specs.Publications.{IsPublication, Publication};
@@ -14,37 +12,38 @@ ghost use Rattle.ql_eval.specs.Questions.{NeededBy};
 ghost use Rattle.ql_eval.specs.internal.Entries.{IsThere};
 ghost use Rattle.ql_eval.specs.internal.Links.{AreThere, IsBackAsk, IsBelowAsk, IsListedIn, IsListedOf, IsObjectAsk, IsParentAsk, IsThereAs, ListsIt};
 ghost use Rattle.ql_eval.specs.internal.Objects.{AreKnownParents, IsKnownParent};
+ghost use Rattle.ql_eval.specs.internal.Uses.{nodes_around};
 
 use crate::fault::EvalFault;
-use crate::kinds::between;
+use crate::items::add_items;
 use crate::question::Question;
 use crate::source::Source;
 use osm_model::{Kind, Ref};
-use ref_sets::{add_items, tidy};
+use ref_sets::RefSet;
 use std::alloc::Global;
 
 /// What the ways and relations of some references list, as a set. Nodes list nothing, and aren't asked. `Absent` where
 /// one isn't there.
-pub(crate) fn listed_by<W: Source>(
+pub(crate) fn members_of<W: Source>(
     alloc: Global,
     source: &mut W,
     names: &[Ref],
-) -> Result<Vec<Ref>, EvalFault>
+) -> Result<RefSet, EvalFault>
     ensures later { W.later source.old source.new }
     ensures walked { OnOk result (W.walked source.old source.new) }
     ensures told { IfErr result (W.tells source.new) }
     ensures there { OnOk result (AreKnownParents (W.knows source.new) names.now) }
-    ensures rising { IfOk result (λ refs. IsStrictlySortedBy ref_cmp refs.items) }
-    ensures answer { (p : Publication) → IsPublication p → W.under source.old p → AreThere p.objects names.now
-        → Outcome cause_of_evaluation (λ refs. IsSetOf refs.items (From names.now (IsListedOf p.objects))) (NeededBy p (From names.now IsParentAsk))
-        (record { held = W.holds source.new; before = W.used source.old; after = W.used source.new }) result }
+    ensures answer { (p : Publication) → IsPublication p → W.under source.old p
+        → AreThere p.objects names.now
+        → Outcome cause_of_evaluation (λ refs. IsSetOf refs (From names.now (IsListedOf p.objects)))
+        (NeededBy p (From names.now IsParentAsk))
+        (nodes_around W.holds W.used source.old source.new) result }
 {
     let mut listed = Vec::new(alloc);
     for name in names {
         add_listed(source, *name, &mut listed)?;
     }
-    tidy(&mut listed);
-    Ok(listed)
+    Ok(RefSet::from_refs(listed))
 }
 
 /// Adds what the object with a reference lists.
@@ -53,9 +52,12 @@ fn add_listed<W: Source>(source: &mut W, name: Ref, listed: &mut Vec<Ref>) -> Re
     ensures walked { OnOk result (W.walked source.old source.new) }
     ensures told { IfErr result (W.tells source.new) }
     ensures there { OnOk result (IsKnownParent (W.knows source.new) name) }
-    ensures answer { (p : Publication) → IsPublication p → W.under source.old p → IsThere p.objects name
-        → Outcome cause_of_evaluation (λ _. Adds listed.old.items listed.new.items (IsListedOf p.objects name)) (NeededBy p (IsParentAsk name))
-        (record { held = W.holds source.new; before = W.used source.old; after = W.used source.new }) result }
+    ensures answer { (p : Publication) → IsPublication p → W.under source.old p
+        → IsThere p.objects name
+        → Outcome cause_of_evaluation
+        (λ _. Adds listed.old.items listed.new.items (IsListedOf p.objects name))
+        (NeededBy p (IsParentAsk name))
+        (nodes_around W.holds W.used source.old source.new) result }
 {
     if name.kind == Kind::Node {
         return Ok(());
@@ -75,21 +77,20 @@ pub(crate) fn those_there<W: Source>(
     alloc: Global,
     source: &mut W,
     names: &[Ref],
-) -> Result<Vec<Ref>, EvalFault>
+) -> Result<RefSet, EvalFault>
     ensures later { W.later source.old source.new }
     ensures walked { OnOk result (W.walked source.old source.new) }
     ensures told { IfErr result (W.tells source.new) }
-    ensures rising { IfOk result (λ refs. IsStrictlySortedBy ref_cmp refs.items) }
     ensures answer { (p : Publication) → IsPublication p → W.under source.old p
-        → Outcome cause_of_evaluation (λ refs. IsSetOf refs.items (From names.now (IsThereAs p.objects))) (NeededBy p (From names.now IsObjectAsk))
-        (record { held = W.holds source.new; before = W.used source.old; after = W.used source.new }) result }
+        → Outcome cause_of_evaluation (λ refs. IsSetOf refs (From names.now (IsThereAs p.objects)))
+        (NeededBy p (From names.now IsObjectAsk))
+        (nodes_around W.holds W.used source.old source.new) result }
 {
     let mut there = Vec::new(alloc);
     for name in names {
         add_there(source, *name, &mut there)?;
     }
-    tidy(&mut there);
-    Ok(there)
+    Ok(RefSet::from_refs(there))
 }
 
 /// Adds a reference where its object is there.
@@ -98,8 +99,10 @@ fn add_there<W: Source>(source: &mut W, name: Ref, there: &mut Vec<Ref>) -> Resu
     ensures walked { OnOk result (W.walked source.old source.new) }
     ensures told { IfErr result (W.tells source.new) }
     ensures answer { (p : Publication) → IsPublication p → W.under source.old p
-        → Outcome cause_of_evaluation (λ _. Adds there.old.items there.new.items (IsThereAs p.objects name)) (NeededBy p (IsObjectAsk name))
-        (record { held = W.holds source.new; before = W.used source.old; after = W.used source.new }) result }
+        → Outcome cause_of_evaluation
+        (λ _. Adds there.old.items there.new.items (IsThereAs p.objects name))
+        (NeededBy p (IsObjectAsk name))
+        (nodes_around W.holds W.used source.old source.new) result }
 {
     source.look_up(name)?;
     if source.known(name).is_some() {
@@ -109,30 +112,30 @@ fn add_there<W: Source>(source: &mut W, name: Ref, there: &mut Vec<Ref>) -> Resu
 }
 
 /// What lists one of some references and is of a kind, or of any, as a set.
-pub(crate) fn listing<W: Source>(
+pub(crate) fn referrers_of<W: Source>(
     alloc: Global,
     source: &mut W,
     names: &[Ref],
     kind: Option<Kind>,
-) -> Result<Vec<Ref>, EvalFault>
+) -> Result<RefSet, EvalFault>
     ensures later { W.later source.old source.new }
     ensures walked { OnOk result (W.walked source.old source.new) }
     ensures told { IfErr result (W.tells source.new) }
-    ensures rising { IfOk result (λ refs. IsStrictlySortedBy ref_cmp refs.items) }
     ensures answer { (p : Publication) → IsPublication p → W.under source.old p
-        → Outcome cause_of_evaluation (λ refs. IsSetOf refs.items (From names.now (ListsIt p.objects kind))) (NeededBy p (From names.now (IsBackAsk kind)))
-        (record { held = W.holds source.new; before = W.used source.old; after = W.used source.new }) result }
+        → Outcome cause_of_evaluation
+        (λ refs. IsSetOf refs (From names.now (ListsIt p.objects kind)))
+        (NeededBy p (From names.now (IsBackAsk kind)))
+        (nodes_around W.holds W.used source.old source.new) result }
 {
     let mut refs = Vec::new(alloc);
     for name in names {
-        add_listing(source, *name, kind, &mut refs)?;
+        add_referrers(source, *name, kind, &mut refs)?;
     }
-    tidy(&mut refs);
-    Ok(refs)
+    Ok(RefSet::from_refs(refs))
 }
 
 /// Adds what lists an object.
-fn add_listing<W: Source>(
+fn add_referrers<W: Source>(
     source: &mut W,
     name: Ref,
     kind: Option<Kind>,
@@ -142,31 +145,35 @@ fn add_listing<W: Source>(
     ensures walked { OnOk result (W.walked source.old source.new) }
     ensures told { IfErr result (W.tells source.new) }
     ensures answer { (p : Publication) → IsPublication p → W.under source.old p
-        → Outcome cause_of_evaluation (λ _. Adds refs.old.items refs.new.items (ListsIt p.objects kind name)) (NeededBy p (IsBackAsk kind name))
-        (record { held = W.holds source.new; before = W.used source.old; after = W.used source.new }) result }
+        → Outcome cause_of_evaluation
+        (λ _. Adds refs.old.items refs.new.items (ListsIt p.objects kind name))
+        (NeededBy p (IsBackAsk kind name))
+        (nodes_around W.holds W.used source.old source.new) result }
 {
     let found = source.names(&Question::ThatList(name, kind))?;
-    refs.extend_from_slice(&found)?;
+    refs.extend_from_slice(found.as_slice())?;
     Ok(())
 }
 
 /// What the ways and relations of some references list that is there and of the kinds from one to another, as a set.
-pub(crate) fn below<W: Source>(
+pub(crate) fn members_there<W: Source>(
     alloc: Global,
     source: &mut W,
     names: &[Ref],
     first: Kind,
     last: Kind,
-) -> Result<Vec<Ref>, EvalFault>
+) -> Result<RefSet, EvalFault>
     ensures later { W.later source.old source.new }
     ensures walked { OnOk result (W.walked source.old source.new) }
     ensures told { IfErr result (W.tells source.new) }
-    ensures rising { IfOk result (λ refs. IsStrictlySortedBy ref_cmp refs.items) }
-    ensures answer { (p : Publication) → IsPublication p → W.under source.old p → AreThere p.objects names.now
-        → Outcome cause_of_evaluation (λ refs. IsSetOf refs.items (λ r. IsListedIn p.objects names.now first last r × IsThere p.objects r))
+    ensures answer { (p : Publication) → IsPublication p → W.under source.old p
+        → AreThere p.objects names.now
+        → Outcome cause_of_evaluation
+        (λ refs. IsSetOf refs
+        (λ r. IsListedIn p.objects names.now first last r × IsThere p.objects r))
         (NeededBy p (IsBelowAsk p.objects names.now first last))
-        (record { held = W.holds source.new; before = W.used source.old; after = W.used source.new }) result }
+        (nodes_around W.holds W.used source.old source.new) result }
 {
-    let listed = listed_by(alloc, source, names)?;
-    those_there(alloc, source, between(&listed, first, last))
+    let listed = members_of(alloc, source, names)?;
+    those_there(alloc, source, listed.of_kinds(first, last))
 }

@@ -2,16 +2,13 @@
 
 ghost use Rattle.std.specs.Prelude.{◌≡◌, ◌↔◌, IsTrue};
 ghost use Rattle.std.specs.List.{Contains};
-ghost use Rattle.std.specs.List.Sorted.{IsStrictlySortedBy};
-ghost use Rattle.osm_model.specs.Elements.{ref_cmp};
 ghost use Rattle.ql_eval.specs.internal.Narrowing.{HasMemberIn, HasNodeIn, ListsIn};
 
 use osm_model::{Body, Kind, Member, Object, Ref};
-use ref_sets::is_in;
+use ref_sets::RefSet;
 
 /// Whether an object lists one of a set that is of a kind. A binary search for each that it lists.
-pub(crate) fn lists_in(object: &Object, kind: Kind, refs: &[Ref]) -> bool
-    requires { IsStrictlySortedBy ref_cmp refs.now }
+pub(crate) fn lists_in(object: &Object, kind: Kind, refs: &RefSet) -> bool
     ensures { IsTrue result ↔ ListsIn refs.now kind object.now.body }
 {
     match object.body() {
@@ -22,8 +19,7 @@ pub(crate) fn lists_in(object: &Object, kind: Kind, refs: &[Ref]) -> bool
 }
 
 /// Whether one of some nodes is in a set.
-fn has_node_in(nodes: &[i64], refs: &[Ref]) -> bool
-    requires { IsStrictlySortedBy ref_cmp refs.now }
+fn has_node_in(nodes: &[i64], refs: &RefSet) -> bool
     ensures { IsTrue result ↔ HasNodeIn refs.now nodes.now }
 {
     for id in nodes {
@@ -31,7 +27,7 @@ fn has_node_in(nodes: &[i64], refs: &[Ref]) -> bool
             kind: Kind::Node,
             id: *id,
         };
-        if is_in(refs, name) {
+        if refs.contains(name) {
             return true;
         }
     }
@@ -39,8 +35,7 @@ fn has_node_in(nodes: &[i64], refs: &[Ref]) -> bool
 }
 
 /// Whether one of some members is of a kind and in a set.
-fn has_member_in(members: &[Member], kind: Kind, refs: &[Ref]) -> bool
-    requires { IsStrictlySortedBy ref_cmp refs.now }
+fn has_member_in(members: &[Member], kind: Kind, refs: &RefSet) -> bool
     ensures { IsTrue result ↔ HasMemberIn refs.now kind members.now }
 {
     for member in members {
@@ -52,9 +47,8 @@ fn has_member_in(members: &[Member], kind: Kind, refs: &[Ref]) -> bool
 }
 
 /// Whether a reference is of a kind and in a set.
-fn is_of_kind_in(refs: &[Ref], kind: Kind, name: Ref) -> bool
-    requires { IsStrictlySortedBy ref_cmp refs.now }
+fn is_of_kind_in(refs: &RefSet, kind: Kind, name: Ref) -> bool
     ensures { IsTrue result ↔ ((name.kind ≡ kind) × Contains refs.now name) }
 {
-    name.kind == kind && is_in(refs, name)
+    name.kind == kind && refs.contains(name)
 }

@@ -2,8 +2,6 @@
 
 ghost use Rattle.std.specs.Int.{w64};
 ghost use Rattle.std.specs.Prelude.{◌≡◌, ℕ, FitsSigned, IfErr, IfOk, List, OnOk};
-ghost use Rattle.std.specs.List.Sorted.{IsStrictlySortedBy};
-ghost use Rattle.osm_model.specs.Elements.{ref_cmp};
 ghost use Rattle.tree_node.specs.Outcomes.{Outcome};
 ghost use Rattle.tree_node.specs.Shelves.{SameNodes};
 ghost use Rattle.tree_walk.specs.WalksGiven.{HasGiven};
@@ -18,6 +16,7 @@ ghost use Rattle.ql_eval.specs.internal.Told.{IsTold};
 ghost use Rattle.ql_eval.specs.Questions.{Answers, HasNoNulIn, IsCountOf, NeedsAsk, count_ask, names_ask, range_asked, tree_asked};
 ghost use Rattle.ql_eval.specs.internal.Entries.{TargetFits};
 ghost use Rattle.ql_eval.specs.internal.Views.{question_of};
+ghost use Rattle.ql_eval.specs.internal.Uses.{nodes_around};
 
 use crate::fault::EvalFault;
 use crate::names::names_in;
@@ -25,6 +24,7 @@ use crate::question::Question;
 use crate::walks::{count_in, entries_in};
 use osm_index::{Manifest, OwnedRange, back_range, kind_range, tag_key_range, tag_range};
 use osm_model::Ref;
+use ref_sets::RefSet;
 use std::alloc::{AllocError, Global};
 use tree_node::{Shelf, Tree};
 use tree_walk::Tally;
@@ -40,18 +40,19 @@ pub(crate) fn find_names<'a, S: Shelf<'a>>(
     manifest: &Manifest,
     question: &Question<'_>,
     tally: &mut Tally,
-) -> Result<Vec<Ref>, EvalFault>
-    ensures rising { IfOk result (λ names. IsStrictlySortedBy ref_cmp names.items) }
+) -> Result<RefSet, EvalFault>
     ensures stays { SameNodes (S.holds shelf.old) (S.holds shelf.new) }
     ensures grows { (bytes : List ℕ) → S.used shelf.old bytes → S.used shelf.new bytes }
     ensures walked { OnOk result (HasGiven (top_among manifest.now.tops) HaveForm
-        (record { held = S.holds shelf.new; before = S.used shelf.old; after = S.used shelf.new })
+        (nodes_around S.holds S.used shelf.old shelf.new)
         tally.old.calls tally.new.calls tally.old.fetches tally.new.fetches) }
     ensures told { IfErr result (IsTold (S.holds shelf.new) (S.used shelf.new) manifest.now) }
-    ensures answer { (p : Publication) → IsPublication p → IsUnder p manifest.now → HasNoNulIn (question_of question.now)
-        → Outcome cause_of_evaluation (λ names. IsSetOf names.items (IsRefOf p.objects (Answers (question_of question.now))))
+    ensures answer { (p : Publication) → IsPublication p → IsUnder p manifest.now
+        → HasNoNulIn (question_of question.now)
+        → Outcome cause_of_evaluation
+        (λ names. IsSetOf names (IsRefOf p.objects (Answers (question_of question.now))))
         (NeedsAsk p (names_ask (question_of question.now)))
-        (record { held = S.holds shelf.new; before = S.used shelf.old; after = S.used shelf.new }) result }
+        (nodes_around S.holds S.used shelf.old shelf.new) result }
 {
     let tree = tree_of(question);
     let keys = keys_of(alloc, question)?;
@@ -70,12 +71,13 @@ pub(crate) fn count_names<'a, S: Shelf<'a>>(
     ensures stays { SameNodes (S.holds shelf.old) (S.holds shelf.new) }
     ensures grows { (bytes : List ℕ) → S.used shelf.old bytes → S.used shelf.new bytes }
     ensures walked { OnOk result (HasGiven (top_among manifest.now.tops) HaveForm
-        (record { held = S.holds shelf.new; before = S.used shelf.old; after = S.used shelf.new })
+        (nodes_around S.holds S.used shelf.old shelf.new)
         tally.old.calls tally.new.calls tally.old.fetches tally.new.fetches) }
     ensures told { IfErr result (IsTold (S.holds shelf.new) (S.used shelf.new) manifest.now) }
     ensures answer { (p : Publication) → IsPublication p → IsUnder p manifest.now
-        → Outcome cause_of_evaluation (IsCountOf p (question_of question.now)) (NeedsAsk p (count_ask (question_of question.now)))
-        (record { held = S.holds shelf.new; before = S.used shelf.old; after = S.used shelf.new }) result }
+        → Outcome cause_of_evaluation (IsCountOf p (question_of question.now))
+        (NeedsAsk p (count_ask (question_of question.now)))
+        (nodes_around S.holds S.used shelf.old shelf.new) result }
 {
     let keys = keys_of(alloc, question)?;
     let count = count_in(

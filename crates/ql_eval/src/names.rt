@@ -10,18 +10,18 @@ ghost use Rattle.ref_sets.specs.Sets.{IsSetOf};
 ghost use Rattle.ql_eval.specs.Forms.{HaveForm, Names};
 ghost use Rattle.ql_eval.specs.internal.Entries.{AreMisread, IsMisread, IsSaid};
 
+use crate::cell_entry::read_cell_entry;
 use crate::fault::EvalFault;
 use crate::objects::object_in;
-use crate::placed::placed_by;
 use osm_index::{read_back_key, read_tag_key};
 use osm_model::Ref;
-use ref_sets::tidy;
+use ref_sets::RefSet;
 use std::alloc::Global;
 use tree_node::{Item, Tree};
 
 /// The objects that entries of a tree name, as a set. Each entry is read; `Form` where one isn't of the tree's form.
-pub(crate) fn names_in(alloc: Global, tree: Tree, found: &[Item<'_>]) -> Result<Vec<Ref>, EvalFault>
-    ensures read { IfOk result (λ names. IsSetOf names.items (IsSaid (Names tree) (bindings_of found.now))) }
+pub(crate) fn names_in(alloc: Global, tree: Tree, found: &[Item<'_>]) -> Result<RefSet, EvalFault>
+    ensures read { IfOk result (λ names. IsSetOf names (IsSaid (Names tree) (bindings_of found.now))) }
     ensures formed { OnOk result (HaveForm tree (bindings_of found.now)) }
     ensures refused { IfErr result (AreMisread tree (bindings_of found.now)) }
 {
@@ -30,8 +30,7 @@ pub(crate) fn names_in(alloc: Global, tree: Tree, found: &[Item<'_>]) -> Result<
         let name = name_in(alloc, tree, item)?;
         names.push(name)?;
     }
-    tidy(&mut names);
-    Ok(names)
+    Ok(RefSet::from_refs(names))
 }
 
 /// The object that an entry names. `Form` where the entry isn't of the tree's form.
@@ -47,7 +46,7 @@ fn name_in(alloc: Global, tree: Tree, item: &Item<'_>) -> Result<Ref, EvalFault>
             Ok(object.reference())
         }
         Tree::Tags => tagged_by(item).ok_or(EvalFault::Form),
-        Tree::Cells => match placed_by(item) {
+        Tree::Cells => match read_cell_entry(item) {
             Some(node) => Ok(node.name),
             None => Err(EvalFault::Form),
         },

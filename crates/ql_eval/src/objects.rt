@@ -40,7 +40,8 @@ fn read_object(alloc: Global, name: Ref, line: &[u8]) -> Result<Object, EvalFaul
 /// The object of this name, where reading a line gave that it is put. `Memory` exactly where reading ran out of it, and
 /// `Form` in all other cases.
 fn put_by(name: Ref, read: Result<Option<Change>, OplFault>) -> Result<Object, EvalFault>
-    ensures put { (o : Element) → read ≡ Ok (Some (Change.Put o)) → reference o ≡ name → result ≡ Ok o }
+    ensures put { (o : Element) → read ≡ Ok (Some (Change.Put o)) → reference o ≡ name
+        → result ≡ Ok o }
     ensures given { IfOk result (λ object. (read ≡ Ok (Some (Change.Put object))) × (reference object ≡ name)) }
     ensures refused { IfErr result (λ fault. ((fault ≡ EvalFault.Memory) × IsForMemory read)
         ⊎ ((fault ≡ EvalFault.Form) × ¬ IsForMemory read)) }

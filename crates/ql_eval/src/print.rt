@@ -1,8 +1,6 @@
 //! What an out prints.
 
 ghost use Rattle.std.specs.Prelude.{◌≡◌, ◌≢◌, ℕ, IfErr, List, OnOk};
-ghost use Rattle.std.specs.List.Sorted.{IsStrictlySortedBy};
-ghost use Rattle.osm_model.specs.Elements.{ref_cmp};
 ghost use Rattle.osm_model.specs.Sets.{object_at};
 ghost use Rattle.opl_codec.specs.Text.{text_of};
 ghost use Rattle.tree_node.specs.Outcomes.{Outcome};
@@ -17,12 +15,14 @@ ghost use Rattle.ql_eval.specs.internal.Entries.{IsThere};
 ghost use Rattle.ql_eval.specs.internal.Links.{AreThere, IsObjectAsk};
 ghost use Rattle.ql_eval.specs.internal.Objects.{AreKnownThere, IsKnownThere};
 ghost use Rattle.ql_eval.specs.internal.Printing.{line_at, lines_at, name_line, name_lines};
+ghost use Rattle.ql_eval.specs.internal.Uses.{nodes_around};
 
 use crate::fault::EvalFault;
 use crate::sink::Sink;
 use crate::source::Source;
 use opl_codec::{OutMode, append_reference, write_object};
 use osm_model::{Object, Ref};
+use ref_sets::RefSet;
 use std::alloc::{AllocError, Global};
 
 /// Writes the first objects of a set, by kind and rising id, at most so many. By ids nothing is asked; in every other
@@ -30,24 +30,25 @@ use std::alloc::{AllocError, Global};
 pub(crate) fn print<W: Source, T: Sink>(
     alloc: Global,
     source: &mut W,
-    refs: &[Ref],
+    refs: &RefSet,
     mode: OutMode,
     limit: Option<u64>,
     sink: &mut T,
 ) -> Result<(), EvalFault>
-    requires { IsStrictlySortedBy ref_cmp refs.now }
     ensures later { W.later source.old source.new }
     ensures walked { OnOk result (W.walked source.old source.new) }
     ensures told { IfErr result (W.tells source.new) }
     ensures kept { T.kept sink.new ≡ T.kept sink.old }
     ensures wrote { (text : List ℕ) × HasWritten (T.stands sink.old) (T.stands sink.new) text }
     ensures there { OnOk result (mode ≢ OutMode.Ids → AreKnownThere (W.knows source.new) (cut limit refs.now)) }
-    ensures answer { (p : Publication) → IsPublication p → W.under source.old p → AreThere p.objects refs.now
-        → Outcome cause_of_evaluation (λ _. HasWritten (T.stands sink.old) (T.stands sink.new) (printed_of p.objects refs.now mode limit))
+    ensures answer { (p : Publication) → IsPublication p → W.under source.old p
+        → AreThere p.objects refs.now
+        → Outcome cause_of_evaluation
+        (λ _. HasWritten (T.stands sink.old) (T.stands sink.new) (printed_of p.objects refs.now mode limit))
         (NeededBy p (AskedByOut refs.now mode limit))
-        (record { held = W.holds source.new; before = W.used source.old; after = W.used source.new }) result }
+        (nodes_around W.holds W.used source.old source.new) result }
 {
-    let first = first_of(refs, limit);
+    let first = first_of(refs.as_slice(), limit);
     if mode == OutMode::Ids {
         print_names(alloc, first, sink)?;
         return Ok(());
@@ -104,10 +105,12 @@ fn print_objects<W: Source, T: Sink>(
     ensures kept { T.kept sink.new ≡ T.kept sink.old }
     ensures wrote { (text : List ℕ) × HasWritten (T.stands sink.old) (T.stands sink.new) text }
     ensures there { OnOk result (AreKnownThere (W.knows source.new) names.now) }
-    ensures answer { (p : Publication) → IsPublication p → W.under source.old p → AreThere p.objects names.now
-        → Outcome cause_of_evaluation (λ _. HasWritten (T.stands sink.old) (T.stands sink.new) (lines_at p.objects mode names.now))
+    ensures answer { (p : Publication) → IsPublication p → W.under source.old p
+        → AreThere p.objects names.now
+        → Outcome cause_of_evaluation
+        (λ _. HasWritten (T.stands sink.old) (T.stands sink.new) (lines_at p.objects mode names.now))
         (NeededBy p (From names.now IsObjectAsk))
-        (record { held = W.holds source.new; before = W.used source.old; after = W.used source.new }) result }
+        (nodes_around W.holds W.used source.old source.new) result }
 {
     let mut line = Vec::new(alloc);
     for name in names {
@@ -130,10 +133,12 @@ fn print_object<W: Source, T: Sink>(
     ensures kept { T.kept sink.new ≡ T.kept sink.old }
     ensures wrote { (text : List ℕ) × HasWritten (T.stands sink.old) (T.stands sink.new) text }
     ensures there { OnOk result (IsKnownThere (W.knows source.new) name) }
-    ensures answer { (p : Publication) → IsPublication p → W.under source.old p → IsThere p.objects name
-        → Outcome cause_of_evaluation (λ _. HasWritten (T.stands sink.old) (T.stands sink.new) (line_at p.objects mode name))
+    ensures answer { (p : Publication) → IsPublication p → W.under source.old p
+        → IsThere p.objects name
+        → Outcome cause_of_evaluation
+        (λ _. HasWritten (T.stands sink.old) (T.stands sink.new) (line_at p.objects mode name))
         (NeededBy p (IsObjectAsk name))
-        (record { held = W.holds source.new; before = W.used source.old; after = W.used source.new }) result }
+        (nodes_around W.holds W.used source.old source.new) result }
 {
     source.look_up(name)?;
     match source.known(name) {

@@ -1,8 +1,6 @@
 //! Recursions from a set, asked of a source.
 
 ghost use Rattle.std.specs.Prelude.{◌≡◌, ℕ, IfErr, IfOk, List, OnOk};
-ghost use Rattle.std.specs.List.Sorted.{IsStrictlySortedBy};
-ghost use Rattle.osm_model.specs.Elements.{ref_cmp};
 ghost use Rattle.tree_node.specs.Outcomes.{Outcome};
 ghost use Rattle.osm_index.specs.Publications.{IsPublication, Publication};
 ghost use Rattle.ql_syntax.specs.declared.recursion.Recursion.TheVariants as recursions;
@@ -13,15 +11,15 @@ ghost use Rattle.ql_eval.specs.Asks.{AskedByRecursion};
 ghost use Rattle.ql_eval.specs.Faults.{cause_of_evaluation};
 ghost use Rattle.ql_eval.specs.Questions.{NeededBy};
 ghost use Rattle.ql_eval.specs.internal.Links.{AreThere, IsMemberAsk, IsMemberBelow};
+ghost use Rattle.ql_eval.specs.internal.Uses.{nodes_around};
 
-use crate::chains::{Direction, ends};
+use crate::chains::{Direction, closure};
 use crate::fault::EvalFault;
-use crate::kinds::between;
-use crate::links::{below, listing};
+use crate::links::{members_there, referrers_of};
 use crate::source::Source;
 use osm_model::{Kind, Ref};
 use ql_syntax::Recursion;
-use ref_sets::tidy;
+use ref_sets::RefSet;
 use std::alloc::Global;
 
 /// What a recursion gives from a set, as a set (the Overpass QL page, "Recurse").
@@ -29,44 +27,44 @@ pub(crate) fn recurse<W: Source>(
     alloc: Global,
     source: &mut W,
     how: Recursion,
-    set: &[Ref],
-) -> Result<Vec<Ref>, EvalFault>
-    requires { IsStrictlySortedBy ref_cmp set.now }
+    set: &RefSet,
+) -> Result<RefSet, EvalFault>
     ensures later { W.later source.old source.new }
     ensures walked { OnOk result (W.walked source.old source.new) }
     ensures told { IfErr result (W.tells source.new) }
-    ensures rising { IfOk result (λ refs. IsStrictlySortedBy ref_cmp refs.items) }
-    ensures answer { (p : Publication) → IsPublication p → W.under source.old p → AreThere p.objects set.now
-        → Outcome cause_of_evaluation (λ refs. IsSetOf refs.items (IsRefOf p.objects (IsReached p.objects how set.now)))
+    ensures answer { (p : Publication) → IsPublication p → W.under source.old p
+        → AreThere p.objects set.now
+        → Outcome cause_of_evaluation
+        (λ refs. IsSetOf refs (IsRefOf p.objects (IsReached p.objects how set.now)))
         (NeededBy p (AskedByRecursion p.objects how set.now))
-        (record { held = W.holds source.new; before = W.used source.old; after = W.used source.new }) result }
+        (nodes_around W.holds W.used source.old source.new) result }
 {
     match how {
         Recursion::Down => down(alloc, source, set),
         Recursion::Up => up(alloc, source, set),
-        Recursion::DownAll => ends(alloc, source, set, Direction::Down),
-        Recursion::UpAll => ends(alloc, source, set, Direction::Up),
+        Recursion::DownAll => closure(alloc, source, set.as_slice(), Direction::Down),
+        Recursion::UpAll => closure(alloc, source, set.as_slice(), Direction::Up),
     }
 }
 
 /// `>`: what ways of the set list; the nodes and ways that its relations list, and what these ways list.
-fn down<W: Source>(alloc: Global, source: &mut W, set: &[Ref]) -> Result<Vec<Ref>, EvalFault>
-    requires { IsStrictlySortedBy ref_cmp set.now }
+fn down<W: Source>(alloc: Global, source: &mut W, set: &RefSet) -> Result<RefSet, EvalFault>
     ensures later { W.later source.old source.new }
     ensures walked { OnOk result (W.walked source.old source.new) }
     ensures told { IfErr result (W.tells source.new) }
-    ensures rising { IfOk result (λ refs. IsStrictlySortedBy ref_cmp refs.items) }
-    ensures answer { (p : Publication) → IsPublication p → W.under source.old p → AreThere p.objects set.now
-        → Outcome cause_of_evaluation (λ refs. IsSetOf refs.items (IsRefOf p.objects (IsReached p.objects recursions.Down set.now)))
+    ensures answer { (p : Publication) → IsPublication p → W.under source.old p
+        → AreThere p.objects set.now
+        → Outcome cause_of_evaluation
+        (λ refs. IsSetOf refs (IsRefOf p.objects (IsReached p.objects recursions.Down set.now)))
         (NeededBy p (AskedByRecursion p.objects recursions.Down set.now))
-        (record { held = W.holds source.new; before = W.used source.old; after = W.used source.new }) result }
+        (nodes_around W.holds W.used source.old source.new) result }
 {
-    let ways = between(set, Kind::Way, Kind::Way);
-    let relations = between(set, Kind::Rel, Kind::Rel);
-    let mut refs = below(alloc, source, ways, Kind::Node, Kind::Rel)?;
+    let ways = set.of_kinds(Kind::Way, Kind::Way);
+    let relations = set.of_kinds(Kind::Rel, Kind::Rel);
+    let below_ways = members_there(alloc, source, ways, Kind::Node, Kind::Rel)?;
+    let mut refs = below_ways.into_refs();
     add_members(alloc, source, relations, &mut refs)?;
-    tidy(&mut refs);
-    Ok(refs)
+    Ok(RefSet::from_refs(refs))
 }
 
 /// Adds the nodes and ways that some relations list, and what these ways list.
@@ -79,36 +77,36 @@ fn add_members<W: Source>(
     ensures later { W.later source.old source.new }
     ensures walked { OnOk result (W.walked source.old source.new) }
     ensures told { IfErr result (W.tells source.new) }
-    ensures answer { (p : Publication) → IsPublication p → W.under source.old p → AreThere p.objects relations.now
-        → Outcome cause_of_evaluation (λ _. Adds refs.old.items refs.new.items (IsMemberBelow p.objects relations.now))
+    ensures answer { (p : Publication) → IsPublication p → W.under source.old p
+        → AreThere p.objects relations.now
+        → Outcome cause_of_evaluation
+        (λ _. Adds refs.old.items refs.new.items (IsMemberBelow p.objects relations.now))
         (NeededBy p (IsMemberAsk p.objects relations.now))
-        (record { held = W.holds source.new; before = W.used source.old; after = W.used source.new }) result }
+        (nodes_around W.holds W.used source.old source.new) result }
 {
-    let members = below(alloc, source, relations, Kind::Node, Kind::Way)?;
-    let ways = between(&members, Kind::Way, Kind::Way);
-    let inner = below(alloc, source, ways, Kind::Node, Kind::Rel)?;
-    refs.extend_from_slice(&members)?;
-    refs.extend_from_slice(&inner)?;
+    let members = members_there(alloc, source, relations, Kind::Node, Kind::Way)?;
+    let ways = members.of_kinds(Kind::Way, Kind::Way);
+    let inner = members_there(alloc, source, ways, Kind::Node, Kind::Rel)?;
+    refs.extend_from_slice(members.as_slice())?;
+    refs.extend_from_slice(inner.as_slice())?;
     Ok(())
 }
 
 /// `<`: what lists a node or way of the set, and what lists such a way.
-fn up<W: Source>(alloc: Global, source: &mut W, set: &[Ref]) -> Result<Vec<Ref>, EvalFault>
-    requires { IsStrictlySortedBy ref_cmp set.now }
+fn up<W: Source>(alloc: Global, source: &mut W, set: &RefSet) -> Result<RefSet, EvalFault>
     ensures later { W.later source.old source.new }
     ensures walked { OnOk result (W.walked source.old source.new) }
     ensures told { IfErr result (W.tells source.new) }
-    ensures rising { IfOk result (λ refs. IsStrictlySortedBy ref_cmp refs.items) }
-    ensures answer { (p : Publication) → IsPublication p → W.under source.old p → AreThere p.objects set.now
-        → Outcome cause_of_evaluation (λ refs. IsSetOf refs.items (IsRefOf p.objects (IsReached p.objects recursions.Up set.now)))
+    ensures answer { (p : Publication) → IsPublication p → W.under source.old p
+        → AreThere p.objects set.now
+        → Outcome cause_of_evaluation
+        (λ refs. IsSetOf refs (IsRefOf p.objects (IsReached p.objects recursions.Up set.now)))
         (NeededBy p (AskedByRecursion p.objects recursions.Up set.now))
-        (record { held = W.holds source.new; before = W.used source.old; after = W.used source.new }) result }
+        (nodes_around W.holds W.used source.old source.new) result }
 {
-    let children = between(set, Kind::Node, Kind::Way);
-    let mut refs = listing(alloc, source, children, None)?;
-    let ways = between(&refs, Kind::Way, Kind::Way);
-    let outer = listing(alloc, source, ways, None)?;
-    refs.extend_from_slice(&outer)?;
-    tidy(&mut refs);
-    Ok(refs)
+    let children = set.of_kinds(Kind::Node, Kind::Way);
+    let first = referrers_of(alloc, source, children, None)?;
+    let ways = first.of_kinds(Kind::Way, Kind::Way);
+    let outer = referrers_of(alloc, source, ways, None)?;
+    Ok(first.union(alloc, &outer)?)
 }

@@ -11,15 +11,16 @@ ghost use Rattle.ql_eval.specs.Faults.{cause_of_evaluation};
 ghost use Rattle.ql_eval.specs.Questions.{NeededBy};
 ghost use Rattle.ql_eval.specs.internal.Lawful.{CanRun, CanRunAll};
 ghost use Rattle.ql_eval.specs.internal.Links.{AreAllThere};
+ghost use Rattle.ql_eval.specs.internal.Uses.{nodes_around};
 
 use crate::fault::EvalFault;
 use crate::recursions::recurse;
 use crate::select::select;
 use crate::source::Source;
+use crate::written::written_by;
 use osm_model::Ref;
-use ql_meaning::written_by;
 use ql_syntax::Stmt;
-use ref_sets::{Sets, kept, unite};
+use ref_sets::{NamedSets, RefSet};
 use std::alloc::Global;
 
 /// Runs a statement: the set that it writes is written. An out writes none.
@@ -27,16 +28,19 @@ use std::alloc::Global;
 pub(crate) fn run<'q, W: Source>(
     alloc: Global,
     statement: &Stmt<'q>,
-    sets: &mut Sets<'q>,
+    sets: &mut NamedSets<'q>,
     source: &mut W,
 ) -> Result<(), EvalFault>
     ensures later { W.later source.old source.new }
     ensures walked { OnOk result (W.walked source.old source.new) }
     ensures told { IfErr result (W.tells source.new) }
-    ensures answer { (p : Publication) → IsPublication p → W.under source.old p → AreAllThere p.objects (lists_of sets.old.named.items) → CanRun (statement_of statement.now)
-        → Outcome cause_of_evaluation (λ _. After p.objects (statement_of statement.now) (lists_of sets.old.named.items) (lists_of sets.new.named.items))
+    ensures answer { (p : Publication) → IsPublication p → W.under source.old p
+        → AreAllThere p.objects (lists_of sets.old.named.items)
+        → CanRun (statement_of statement.now)
+        → Outcome cause_of_evaluation
+        (λ _. After p.objects (statement_of statement.now) (lists_of sets.old.named.items) (lists_of sets.new.named.items))
         (NeededBy p (AskedBy p (statement_of statement.now) (lists_of sets.old.named.items)))
-        (record { held = W.holds source.new; before = W.used source.old; after = W.used source.new }) result }
+        (nodes_around W.holds W.used source.old source.new) result }
 {
     match statement {
         Stmt::Select {
@@ -54,21 +58,21 @@ pub(crate) fn run<'q, W: Source>(
             Ok(())
         }
         Stmt::Item { from, into } => {
-            let refs = Vec::from_slice(alloc, sets.get(from.as_bytes()))?;
+            let refs = sets.get(from.as_bytes()).copy(alloc)?;
             sets.write(into.as_bytes(), refs)?;
             Ok(())
         }
         Stmt::Union { parts, into } => {
-            let mut refs = run_all(alloc, parts, sets, source)?;
-            unite(&mut refs)?;
+            let given = run_all(alloc, parts, sets, source)?;
+            let refs = RefSet::from_runs(given)?;
             sets.write(into.as_bytes(), refs)?;
             Ok(())
         }
         Stmt::Minus { left, right, into } => {
             run(alloc, left, sets, source)?;
-            let first = Vec::from_slice(alloc, written_by(left, sets))?;
+            let first = written_by(left, sets).copy(alloc)?;
             run(alloc, right, sets, source)?;
-            let refs = kept(alloc, &first, written_by(right, sets), false)?;
+            let refs = first.difference(alloc, written_by(right, sets))?;
             sets.write(into.as_bytes(), refs)?;
             Ok(())
         }
@@ -81,21 +85,24 @@ pub(crate) fn run<'q, W: Source>(
 fn run_all<'q, W: Source>(
     alloc: Global,
     parts: &[Stmt<'q>],
-    sets: &mut Sets<'q>,
+    sets: &mut NamedSets<'q>,
     source: &mut W,
 ) -> Result<Vec<Ref>, EvalFault>
     ensures later { W.later source.old source.new }
     ensures walked { OnOk result (W.walked source.old source.new) }
     ensures told { IfErr result (W.tells source.new) }
-    ensures answer { (p : Publication) → IsPublication p → W.under source.old p → AreAllThere p.objects (lists_of sets.old.named.items) → CanRunAll (statements_of parts.now)
-        → Outcome cause_of_evaluation (λ given. AfterAll p.objects (statements_of parts.now) (lists_of sets.old.named.items) (lists_of sets.new.named.items) given.items)
+    ensures answer { (p : Publication) → IsPublication p → W.under source.old p
+        → AreAllThere p.objects (lists_of sets.old.named.items)
+        → CanRunAll (statements_of parts.now)
+        → Outcome cause_of_evaluation
+        (λ given. AfterAll p.objects (statements_of parts.now) (lists_of sets.old.named.items) (lists_of sets.new.named.items) given.items)
         (NeededBy p (AskedByAll p (statements_of parts.now) (lists_of sets.old.named.items)))
-        (record { held = W.holds source.new; before = W.used source.old; after = W.used source.new }) result }
+        (nodes_around W.holds W.used source.old source.new) result }
 {
     let mut given = Vec::new(alloc);
     for part in parts {
         run(alloc, part, sets, source)?;
-        given.extend_from_slice(written_by(part, sets))?;
+        given.extend_from_slice(written_by(part, sets).as_slice())?;
     }
     Ok(given)
 }

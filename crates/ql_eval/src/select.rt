@@ -2,9 +2,7 @@
 
 ghost use Rattle.std.specs.Prelude.{◌≡◌, ◌<◌, ℕ, IfErr, IfOk, List, OnOk};
 ghost use Rattle.std.specs.List.{AllByRecursion};
-ghost use Rattle.std.specs.List.Sorted.{IsStrictlySortedBy};
 ghost use Rattle.std.specs.Option.{ForSome};
-ghost use Rattle.osm_model.specs.Elements.{ref_cmp};
 ghost use Rattle.tree_node.specs.Outcomes.{Outcome};
 ghost use Rattle.osm_index.specs.Publications.{IsPublication, Publication};
 ghost use Rattle.ql_syntax.specs.LawfulQueries.{Allows};
@@ -17,17 +15,17 @@ ghost use Rattle.ql_eval.specs.Asks.{AskedByPlan, AskedBySelect};
 ghost use Rattle.ql_eval.specs.Faults.{cause_of_evaluation};
 ghost use Rattle.ql_eval.specs.Questions.{NeededBy};
 ghost use Rattle.ql_eval.specs.internal.Links.{AreAllThere};
+ghost use Rattle.ql_eval.specs.internal.Uses.{nodes_around};
 
-use crate::candidates::candidates;
+use crate::apply_filters::apply_filters;
+use crate::candidates::find_candidates;
+use crate::choose_plan::choose_plan;
 use crate::fault::EvalFault;
 use crate::kinds::kind_of;
-use crate::planned::planned;
 use crate::source::Source;
-use crate::tested::tested;
-use osm_model::Ref;
 use ql_plan::Plan;
 use ql_syntax::{Filter, Pick};
-use ref_sets::Sets;
+use ref_sets::{NamedSets, RefSet};
 use std::alloc::Global;
 
 /// The objects of a kind that all filters keep, as a set: what the base of the plan finds, of which the other filters
@@ -37,18 +35,21 @@ pub(crate) fn select<W: Source>(
     source: &mut W,
     pick: Pick,
     filters: &[Filter<'_>],
-    sets: &Sets<'_>,
-) -> Result<Vec<Ref>, EvalFault>
+    sets: &NamedSets<'_>,
+) -> Result<RefSet, EvalFault>
     ensures later { W.later source.old source.new }
     ensures walked { OnOk result (W.walked source.old source.new) }
     ensures told { IfErr result (W.tells source.new) }
-    ensures rising { IfOk result (λ refs. IsStrictlySortedBy ref_cmp refs.items) }
-    ensures answer { (p : Publication) → IsPublication p → W.under source.old p → AreAllThere p.objects (lists_of sets.now.named.items) → AllByRecursion (Allows pick) (filters_of filters.now)
-        → Outcome cause_of_evaluation (λ refs. IsSetOf refs.items (IsRefOf p.objects (IsSelected p.objects (lists_of sets.now.named.items) pick (filters_of filters.now))))
+    ensures answer { (p : Publication) → IsPublication p → W.under source.old p
+        → AreAllThere p.objects (lists_of sets.now.named.items)
+        → AllByRecursion (Allows pick) (filters_of filters.now)
+        → Outcome cause_of_evaluation
+        (λ refs. IsSetOf refs
+        (IsRefOf p.objects (IsSelected p.objects (lists_of sets.now.named.items) pick (filters_of filters.now))))
         (NeededBy p (AskedBySelect p (lists_of sets.now.named.items) pick (filters_of filters.now)))
-        (record { held = W.holds source.new; before = W.used source.old; after = W.used source.new }) result }
+        (nodes_around W.holds W.used source.old source.new) result }
 {
-    let plan = planned(alloc, source, kind_of(pick), filters)?;
+    let plan = choose_plan(alloc, source, kind_of(pick), filters)?;
     answered(alloc, source, pick, &plan, sets)
 }
 
@@ -58,18 +59,21 @@ fn answered<W: Source>(
     source: &mut W,
     pick: Pick,
     plan: &Plan<'_, '_>,
-    sets: &Sets<'_>,
-) -> Result<Vec<Ref>, EvalFault>
+    sets: &NamedSets<'_>,
+) -> Result<RefSet, EvalFault>
     requires { ForSome plan.now.base (λ base. rank_of base < never) }
     ensures later { W.later source.old source.new }
     ensures walked { OnOk result (W.walked source.old source.new) }
     ensures told { IfErr result (W.tells source.new) }
-    ensures rising { IfOk result (λ refs. IsStrictlySortedBy ref_cmp refs.items) }
-    ensures answer { (p : Publication) → IsPublication p → W.under source.old p → AreAllThere p.objects (lists_of sets.now.named.items) → AllByRecursion (Allows pick) (filters_in plan.now)
-        → Outcome cause_of_evaluation (λ refs. IsSetOf refs.items (IsRefOf p.objects (IsSelected p.objects (lists_of sets.now.named.items) pick (filters_in plan.now))))
+    ensures answer { (p : Publication) → IsPublication p → W.under source.old p
+        → AreAllThere p.objects (lists_of sets.now.named.items)
+        → AllByRecursion (Allows pick) (filters_in plan.now)
+        → Outcome cause_of_evaluation
+        (λ refs. IsSetOf refs
+        (IsRefOf p.objects (IsSelected p.objects (lists_of sets.now.named.items) pick (filters_in plan.now))))
         (NeededBy p (AskedByPlan p.objects (lists_of sets.now.named.items) pick plan.now))
-        (record { held = W.holds source.new; before = W.used source.old; after = W.used source.new }) result }
+        (nodes_around W.holds W.used source.old source.new) result }
 {
-    let found = candidates(alloc, source, pick, plan.base(), sets)?;
-    tested(alloc, source, &found, plan.before(), plan.after(), sets)
+    let found = find_candidates(alloc, source, pick, plan.base(), sets)?;
+    apply_filters(alloc, source, found, plan.before(), plan.after(), sets)
 }

@@ -30,7 +30,8 @@ pub trait Sink {
     /// memory.
     fn cut(&mut self, len: u64)
         ensures kept { kept self.new ≡ kept self.old }
-        ensures cut { (text : List ℕ) → stands self.old text → len ≤ length text → stands self.new (take len text) };
+        ensures cut { (text : List ℕ) → stands self.old text → len ≤ length text
+            → stands self.new (take len text) };
 
     /// The text's length in bytes, or the greatest u64 where it is longer.
     fn len(&self) -> u64

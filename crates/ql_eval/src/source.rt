@@ -1,9 +1,8 @@
 //! What an evaluation asks.
 
 ghost use Rattle.std.specs.Prelude.{◌≡◌, ℕ, IfErr, IfOk, List, None, OnOk, Option};
-ghost use Rattle.std.specs.List.Sorted.{IsStrictlySortedBy};
 ghost use Rattle.std.specs.Option.{option_copied};
-ghost use Rattle.osm_model.specs.Elements.{Element, ref_cmp};
+ghost use Rattle.osm_model.specs.Elements.{Element};
 ghost use Rattle.osm_model.specs.Sets.{object_at};
 ghost use Rattle.osm_model.specs.declared.reference.Ref.{Ref};
 ghost use Rattle.tree_node.specs.Outcomes.{Outcome};
@@ -17,10 +16,12 @@ ghost use Rattle.ql_eval.specs.Questions.{Answers, HasNoNulIn, IsCountOf, Needed
 ghost use Rattle.ql_eval.specs.declared.fault.EvalFault.{EvalFault};
 ghost use Rattle.ql_eval.specs.declared.fault.EvalFault.TheVariants.{Absent, Memory};
 ghost use Rattle.ql_eval.specs.internal.Views.{question_of};
+ghost use Rattle.ql_eval.specs.internal.Uses.{nodes_around};
 
 use crate::fault::EvalFault;
 use crate::question::Question;
 use osm_model::{BoxArea, Object, Ref};
+use ref_sets::RefSet;
 
 /// What an evaluation asks: the trees under a manifest, read from a shelf. It stands without the shelf's lifetime, so
 /// that statements are run over any of them.
@@ -53,23 +54,26 @@ pub(crate) trait Source {
         ensures told { IfErr result (tells self.new) }
         ensures known { OnOk result ((object : Option Element) × knows self.new name object) }
         ensures answer { (p : Publication) → IsPublication p → under self.old p
-            → Outcome cause_of_evaluation (λ _. knows self.new name (object_at p.objects name)) (NeedsAsk p (object_ask name))
-            (record { held = holds self.new; before = used self.old; after = used self.new }) result };
+            → Outcome cause_of_evaluation (λ _. knows self.new name (object_at p.objects name))
+            (NeedsAsk p (object_ask name))
+            (nodes_around holds used self.old self.new) result };
 
     /// The object with a reference that was looked up, if it is there.
     fn known(&self, name: Ref) -> Option<&Object>
-        ensures { (object : Option Element) → knows self.now name object → option_copied result ≡ object };
+        ensures { (object : Option Element) → knows self.now name object
+            → option_copied result ≡ object };
 
     /// The objects that a question is after, as a set.
-    fn names(&mut self, question: &Question<'_>) -> Result<Vec<Ref>, EvalFault>
-        ensures rising { IfOk result (λ names. IsStrictlySortedBy ref_cmp names.items) }
+    fn names(&mut self, question: &Question<'_>) -> Result<RefSet, EvalFault>
         ensures later { later self.old self.new }
         ensures walked { OnOk result (walked self.old self.new) }
         ensures told { IfErr result (tells self.new) }
-        ensures answer { (p : Publication) → IsPublication p → under self.old p → HasNoNulIn (question_of question.now)
-            → Outcome cause_of_evaluation (λ names. IsSetOf names.items (IsRefOf p.objects (Answers (question_of question.now))))
+        ensures answer { (p : Publication) → IsPublication p → under self.old p
+            → HasNoNulIn (question_of question.now)
+            → Outcome cause_of_evaluation
+            (λ names. IsSetOf names (IsRefOf p.objects (Answers (question_of question.now))))
             (NeedsAsk p (names_ask (question_of question.now)))
-            (record { held = holds self.new; before = used self.old; after = used self.new }) result };
+            (nodes_around holds used self.old self.new) result };
 
     /// The number of entries that a question's range has.
     fn count(&mut self, question: &Question<'_>) -> Result<u64, EvalFault>
@@ -77,19 +81,20 @@ pub(crate) trait Source {
         ensures walked { OnOk result (walked self.old self.new) }
         ensures told { IfErr result (tells self.new) }
         ensures answer { (p : Publication) → IsPublication p → under self.old p
-            → Outcome cause_of_evaluation (IsCountOf p (question_of question.now)) (NeedsAsk p (count_ask (question_of question.now)))
-            (record { held = holds self.new; before = used self.old; after = used self.new }) result };
+            → Outcome cause_of_evaluation (IsCountOf p (question_of question.now))
+            (NeedsAsk p (count_ask (question_of question.now)))
+            (nodes_around holds used self.old self.new) result };
 
     /// The nodes in a box, as a set.
-    fn nodes_in(&mut self, area: &BoxArea<'_>) -> Result<Vec<Ref>, EvalFault>
-        ensures rising { IfOk result (λ names. IsStrictlySortedBy ref_cmp names.items) }
+    fn nodes_in(&mut self, area: &BoxArea<'_>) -> Result<RefSet, EvalFault>
         ensures later { later self.old self.new }
         ensures walked { OnOk result (walked self.old self.new) }
         ensures told { IfErr result (tells self.new) }
         ensures answer { (p : Publication) → IsPublication p → under self.old p
-            → Outcome cause_of_evaluation (λ names. IsSetOf names.items (IsRefOf p.objects (IsInBox area.now)))
+            → Outcome cause_of_evaluation
+            (λ names. IsSetOf names (IsRefOf p.objects (IsInBox area.now)))
             (NeededBy p (IsAskedInBox area.now))
-            (record { held = holds self.new; before = used self.old; after = used self.new }) result };
+            (nodes_around holds used self.old self.new) result };
 
     ghost itself: { (s : Self) → later s s };
 

@@ -16,6 +16,7 @@ ghost use Rattle.osm_index.specs.Publications.{IsPublication, Publication};
 ghost use Rattle.ql_eval.specs.Forms.{HaveForm};
 ghost use Rattle.ql_eval.specs.Openings.{IsUnder};
 ghost use Rattle.ql_eval.specs.Questions.{Counted, Listed, NeedsAsk};
+ghost use Rattle.ql_eval.specs.internal.Uses.{nodes_around};
 
 use osm_index::Manifest;
 use std::alloc::Global;
@@ -36,14 +37,15 @@ pub(crate) fn entries_in<'a, S: Shelf<'a>>(
     ensures grows { (bytes : List ℕ) → S.used shelf.old bytes → S.used shelf.new bytes }
     ensures calls { tally.new.calls ≡ counted_up tally.old.calls 1 }
     ensures gives { IfOk result (λ found. IsWalk
-        (record { held = S.holds shelf.new; before = S.used shelf.old; after = S.used shelf.new })
+        (nodes_around S.holds S.used shelf.old shelf.new)
         tally.old.fetches tally.new.fetches
         tree (top_among manifest.now.tops tree) (range_of keys.now) (These (bindings_of found.items))) }
     ensures told { IfErr result (HasReason (number_of tree) (top_among manifest.now.tops tree) (S.holds shelf.new) (S.used shelf.new)) }
     ensures answer { (p : Publication) → IsPublication p → IsUnder p manifest.now
-        → Outcome cause_of (λ found. AreThose (IsEntryIn (range_of keys.now)) (p.entries tree) (bindings_of found.items))
+        → Outcome cause_of
+        (λ found. AreThose (IsEntryIn (range_of keys.now)) (p.entries tree) (bindings_of found.items))
         (NeedsAsk p (Listed tree (range_of keys.now)))
-        (record { held = S.holds shelf.new; before = S.used shelf.old; after = S.used shelf.new }) result }
+        (nodes_around S.holds S.used shelf.old shelf.new) result }
 {
     range(alloc, shelf, top_of(manifest, tree), tree, keys, tally)
 }
@@ -61,13 +63,14 @@ pub(crate) fn count_in<'a, S: Shelf<'a>>(
     ensures stays { SameNodes (S.holds shelf.old) (S.holds shelf.new) }
     ensures grows { (bytes : List ℕ) → S.used shelf.old bytes → S.used shelf.new bytes }
     ensures walked { OnOk result (HasGiven (top_among manifest.now.tops) HaveForm
-        (record { held = S.holds shelf.new; before = S.used shelf.old; after = S.used shelf.new })
+        (nodes_around S.holds S.used shelf.old shelf.new)
         tally.old.calls tally.new.calls tally.old.fetches tally.new.fetches) }
     ensures told { IfErr result (HasReason (number_of tree) (top_among manifest.now.tops tree) (S.holds shelf.new) (S.used shelf.new)) }
     ensures answer { (p : Publication) → IsPublication p → IsUnder p manifest.now
-        → Outcome cause_of (λ number. IsCount (IsEntryIn (range_of keys.now)) (p.entries tree) number)
+        → Outcome cause_of
+        (λ number. IsCount (IsEntryIn (range_of keys.now)) (p.entries tree) number)
         (NeedsAsk p (Counted tree (range_of keys.now)))
-        (record { held = S.holds shelf.new; before = S.used shelf.old; after = S.used shelf.new }) result }
+        (nodes_around S.holds S.used shelf.old shelf.new) result }
 {
     count(alloc, shelf, top_of(manifest, tree), tree, keys, tally)
 }

@@ -2,12 +2,8 @@
 #![tactic(auto)]
 
 mod laws;
-mod object_test;
-mod written;
 
 pub use laws::{
     chains_link_by_link, has_meaning, nwr_is_all_kinds, one_meaning, order_is_no_matter,
     out_number_cuts, printed_once_in_order,
 };
-pub use object_test::passes_alone;
-pub use written::written_by;

@@ -1,5 +1,5 @@
 -- Parts of a rising list of references by their kind.
-use Rattle.std.proofs.Common.{◌≡◌, ℕ, zero, suc, ◌<◌, ◌≤◌, ℤ, List, [], ◌∷◌, length, get_or, take, drop, map, nat_lt, nat_le, inl, inr, ◌↔◌, true, false, refl, sym, subst, arith}
+use Rattle.std.proofs.Common.{◌≡◌, ℕ, zero, suc, ◌<◌, ◌≤◌, ℤ, List, [], ◌∷◌, length, get_or, take, drop, nat_lt, nat_le, inl, inr, ◌↔◌, true, false, sym, subst, arith}
 use Rattle.std.proofs.lemmas.Bool.{cases_lt, le-leb, leb-false, leb-true, lt-ltb, ltb-false, ltb-true}
 use Rattle.std.proofs.lemmas.List.{get_or_default, take-append-drop}
 use Rattle.std.proofs.lemmas.List.Elements.{Contains-append_cases, Contains-append_left, Contains-append_right}
@@ -24,20 +24,6 @@ kinds_rise kinds.Way kinds.Rel i j e = omega arith
 kinds_rise kinds.Rel kinds.Node i j e = cc
 kinds_rise kinds.Rel kinds.Way i j e = cc
 kinds_rise kinds.Rel kinds.Rel i j e = omega arith
-
-pub same_kind : (k l : Kind) → kind_byte k ≤ kind_byte l → kind_byte l ≤ kind_byte k → l ≡ k
-same_kind kinds.Node kinds.Node up down = refl
-same_kind kinds.Node kinds.Way up down = absurd (omega (arith, down))
-same_kind kinds.Node kinds.Rel up down = absurd (omega (arith, down))
-same_kind kinds.Way kinds.Node up down = absurd (omega (arith, up))
-same_kind kinds.Way kinds.Way up down = refl
-same_kind kinds.Way kinds.Rel up down = absurd (omega (arith, down))
-same_kind kinds.Rel kinds.Node up down = absurd (omega (arith, up))
-same_kind kinds.Rel kinds.Way up down = absurd (omega (arith, up))
-same_kind kinds.Rel kinds.Rel up down = refl
-
-pub at_most_itself : (k l : Kind) → l ≡ k → (kind_byte k ≤ kind_byte l) × (kind_byte l ≤ kind_byte k)
-at_most_itself k l same = subst (λ (m : Kind). (kind_byte k ≤ kind_byte m) × (kind_byte m ≤ kind_byte k)) (sym same) (omega arith, omega arith)
 
 -- ---- parts of lists that rise
 

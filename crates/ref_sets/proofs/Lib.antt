@@ -1,5 +1,3 @@
-pub mod BodyItems
-pub mod Founding
 pub mod KindParts
 pub mod NamedLists
 pub mod Seeking

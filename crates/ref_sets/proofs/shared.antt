@@ -2,6 +2,7 @@
 pub mod Adding
 pub mod Filtered
 pub mod Keeping
+pub mod Kinds
 pub mod Mapped
 pub mod Parts
 pub mod References

@@ -1,5 +1,5 @@
 -- What loops add to lists, without regard to order and repeats.
-use Rattle.std.specs.Prelude.{Bool, true, false, List, ◌⊎◌, ◌↔◌}
+use Rattle.std.specs.Prelude.{List, ◌⊎◌, ◌↔◌}
 use Rattle.std.specs.List.{Contains}
 
 -- the later list has the elements of the earlier one, those of which this is so, and no others
@@ -9,8 +9,3 @@ pub record Adds {A : Type 0} (earlier later : List A) (P : A → Type 0) : Type 
 -- so says an element of the list
 abbrev pub From : {A B : Type 0} → List A → (A → B → Type 0) → B → Type 0
 From {A} xs P b = (a : A) × Contains xs a × P a b
-
--- this is so, or it isn't, as wanted
-abbrev pub IsWanted : Bool → Type 0 → Type 0
-IsWanted true P = P
-IsWanted false P = ¬ P

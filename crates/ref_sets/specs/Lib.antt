@@ -1,5 +1,5 @@
 pub mod Sets
+pub mod Kinds
 pub mod NamedSets
 pub mod Adding
-pub mod Founds
 pub mod internal

@@ -1,4 +1,4 @@
 -- Words that only private clauses cite: nothing that a reader of the promises must believe.
-pub mod Listed
 pub mod NamedSetPlaces
 pub mod Seeking
+pub mod Wanted

@@ -1,20 +1,21 @@
-//! The references of a kind in a list that rises, which are next to each other: references rise by kind first.
+//! The references of some kinds in a list that rises, which are next to each other: references rise by kind first.
 
 ghost use Rattle.std.specs.Prelude.{◌≡◌, ◌≤◌, ◌↔◌};
 ghost use Rattle.std.specs.List.{Contains};
 ghost use Rattle.std.specs.List.Sorted.{IsStrictlySortedBy};
 ghost use Rattle.osm_model.specs.Elements.{kind_byte, ref_cmp};
+ghost use Rattle.ref_sets.specs.Kinds.{IsBetween};
 ghost use Rattle.ref_sets.specs.Sets.{IsSetOf};
 
 use osm_model::{Kind, Ref};
 
-/// The references of a kind. Two binary searches.
-pub fn of_kind(refs: &[Ref], kind: Kind) -> &[Ref]
+/// The references whose kinds are from one to another. Two binary searches.
+pub fn between(refs: &[Ref], first: Kind, last: Kind) -> &[Ref]
     requires { IsStrictlySortedBy ref_cmp refs.now }
-    ensures { IsSetOf result.now (λ r. Contains refs.now r × (r.kind ≡ kind)) }
+    ensures { IsSetOf result.now (λ r. Contains refs.now r × IsBetween first last r) }
 {
-    let rest = from_kind(refs, kind);
-    let count = rest.partition_point(|name| number_of(name.kind) <= number_of(kind));
+    let rest = from_kind(refs, first);
+    let count = rest.partition_point(|name| number_of(name.kind) <= number_of(last));
     &rest[..count]
 }
 

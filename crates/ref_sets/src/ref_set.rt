@@ -4,10 +4,11 @@ ghost use Rattle.std.specs.Prelude.{◌≡◌, ◌⊎◌, ◌↔◌, [], IfOk, I
 ghost use Rattle.std.specs.List.{Contains};
 ghost use Rattle.std.specs.List.Sorted.{IsStrictlySortedBy};
 ghost use Rattle.osm_model.specs.Elements.{ref_cmp};
+ghost use Rattle.ref_sets.specs.Kinds.{IsBetween};
 ghost use Rattle.ref_sets.specs.Sets.{IsSetOf};
 
-use crate::kinds::of_kind;
-use crate::rising_lists::{is_in, kept, tidy, unite};
+use crate::kinds::between;
+use crate::rising_lists::filter_by;
 use osm_model::{Kind, Ref};
 use std::alloc::{AllocError, Global};
 use std::marker::Model;
@@ -46,7 +47,8 @@ impl RefSet {
         ensures { IsSetOf result (Contains refs.items) }
     {
         let mut refs = refs;
-        tidy(&mut refs);
+        refs.sort_unstable();
+        refs.dedup();
         RefSet { refs }
     }
 
@@ -55,7 +57,9 @@ impl RefSet {
         ensures { IfOk result (λ set. IsSetOf set (Contains refs.items)) }
     {
         let mut refs = refs;
-        unite(&mut refs)?;
+        // The stable sort merges what rises already.
+        refs.sort()?;
+        refs.dedup();
         Ok(RefSet { refs })
     }
 
@@ -75,11 +79,19 @@ impl RefSet {
         self.refs.as_slice()
     }
 
+    /// The list of the references, rising. It costs nothing.
+    pub fn into_refs(self) -> Vec<Ref>
+        ensures { result.items ≡ self }
+    {
+        let RefSet { refs } = self;
+        refs
+    }
+
     /// Whether a reference is in the set. A binary search.
     pub fn contains(&self, name: Ref) -> bool
         ensures { IsTrue result ↔ Contains self.now name }
     {
-        is_in(&self.refs, name)
+        self.refs.binary_search(&name).is_ok()
     }
 
     /// The references of this set and of another one. A merge.
@@ -97,10 +109,10 @@ impl RefSet {
         ensures { IfOk result (λ set. IsSetOf set (λ r. Contains self.now r × Contains other.now r)) }
     {
         if self.refs.len() <= other.refs.len() {
-            let refs = kept(alloc, &self.refs, &other.refs, true)?;
+            let refs = filter_by(alloc, &self.refs, &other.refs, true)?;
             Ok(RefSet { refs })
         } else {
-            let refs = kept(alloc, &other.refs, &self.refs, true)?;
+            let refs = filter_by(alloc, &other.refs, &self.refs, true)?;
             Ok(RefSet { refs })
         }
     }
@@ -110,15 +122,23 @@ impl RefSet {
     pub fn difference(&self, alloc: Global, other: &RefSet) -> Result<RefSet, AllocError>
         ensures { IfOk result (λ set. IsSetOf set (λ r. Contains self.now r × ¬ (Contains other.now r))) }
     {
-        let refs = kept(alloc, &self.refs, &other.refs, false)?;
+        let refs = filter_by(alloc, &self.refs, &other.refs, false)?;
         Ok(RefSet { refs })
+    }
+
+    /// The references of this set whose kinds are from one to another, in the order of kinds: nodes, ways, relations. They
+    /// are next to each other, and are lent. Two binary searches.
+    pub fn of_kinds(&self, first: Kind, last: Kind) -> &[Ref]
+        ensures { IsSetOf result.now (λ r. Contains self.now r × IsBetween first last r) }
+    {
+        between(&self.refs, first, last)
     }
 
     /// The references of this set that are of a kind. Two binary searches, and a copy of what they find.
     pub fn of_kind(&self, alloc: Global, kind: Kind) -> Result<RefSet, AllocError>
         ensures { IfOk result (λ set. IsSetOf set (λ r. Contains self.now r × (r.kind ≡ kind))) }
     {
-        let refs = Vec::from_slice(alloc, of_kind(&self.refs, kind))?;
+        let refs = Vec::from_slice(alloc, self.of_kinds(kind, kind))?;
         Ok(RefSet { refs })
     }
 

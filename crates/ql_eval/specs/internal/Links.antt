@@ -12,7 +12,7 @@ use Rattle.ql_meaning.specs.Values.{IsRefOf}
 use Rattle.ql_eval.specs.Asks.{AskedFor, back_ask}
 use Rattle.ql_eval.specs.Questions.{Answers, Ask, ThatList, object_ask}
 use Rattle.ql_eval.specs.internal.Entries.{IsThere}
-use Rattle.ql_eval.specs.internal.Kinds.{IsBetween}
+use Rattle.ref_sets.specs.Kinds.{IsBetween}
 
 -- all references of the list are of objects that are there
 abbrev pub AreThere : List Element → List Ref → Type 0

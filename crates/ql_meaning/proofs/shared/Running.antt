@@ -9,7 +9,6 @@ use Rattle.ql_syntax.specs.declared.statement.Stmt.{Stmt}
 use Rattle.ref_sets.proofs.shared.Adding.{one_more}
 use Rattle.std.proofs.Common.{false}
 use Rattle.ql_syntax.specs.Statements as tree
-use Rattle.ref_sets.specs.Adding.{IsWanted}
 use Rattle.ql_meaning.specs.Meanings.{After, AfterAll, given_by}
 use Rattle.ref_sets.specs.Sets.{IsSetOf}
 use Rattle.ref_sets.specs.NamedSets.{put, Env}
@@ -42,7 +41,7 @@ after_next objects parts k x lt is env mid later given all so one same =
 -- a difference, of what its two statements wrote
 pub minus_after : (objects : List Element) (left right : Stmt) (into : List ℕ) (env first second later : Env) (firsts seconds refs : List Ref)
     → After objects (statement_of left) env first → firsts ≡ given_by (statement_of left) first → After objects (statement_of right) first second → seconds ≡ given_by (statement_of right) second
-    → IsSetOf refs (λ r. Contains firsts r × IsWanted false (Contains seconds r)) → later ≡ put into refs second
+    → IsSetOf refs (λ r. Contains firsts r × ¬ (Contains seconds r)) → later ≡ put into refs second
     → After objects (tree.Minus (statement_of left) (statement_of right) into) env later
 minus_after objects left right into env first second later firsts seconds refs one given other taken so written = (
   first,

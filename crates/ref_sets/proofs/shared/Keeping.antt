@@ -18,7 +18,7 @@ use Rattle.ref_sets.proofs.shared.Adding.{last_in_more, more_cases, none, was_in
 use Rattle.ref_sets.proofs.shared.References.{same_reference}
 use mathlib.Core.Bool.{beq}
 use Rattle.ref_sets.specs.Sets.{IsSetOf}
-use Rattle.ref_sets.specs.Adding.{IsWanted}
+use Rattle.ref_sets.specs.internal.Wanted.{IsWanted}
 
 pub rising_nothing : IsStrictlySortedBy ref_cmp []
 unfolding IsStrictlySortedBy

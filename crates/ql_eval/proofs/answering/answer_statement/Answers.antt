@@ -20,7 +20,7 @@ returns-in-Print-clause-answer g c = λ p is under there top.
     let env = lists_of c.args.sets.now.named.items in
     let out = c.in-Print.out in
     let refs : c.get.result.now ≡ lists_of c.args.sets.now.named.items c.in-Print.out.from =
-    subst (λ (name : List ℕ). c.get.result.now ≡ lists_of c.args.sets.now.named.items name) c.as_bytes.ensures c.get.ensures.value in
+    subst (λ (name : List ℕ). c.get.result.now ≡ lists_of c.args.sets.now.named.items name) c.as_bytes.ensures c.get.ensures in
     outcome_same
     (needed_as (λ ask asked. subst (λ (s : Stmt). AskedBy p (statement_of s) env ask) (sym c.in-Print.is) (subst (λ (rs : List Ref). AskedByOut rs out.mode out.limit ask) refs asked)))
     (λ value so. needed_as (λ ask asked. subst (λ (rs : List Ref). AskedByOut rs out.mode out.limit ask) (sym refs) (subst (λ (s : Stmt). AskedBy p (statement_of s) env ask) c.in-Print.is asked)))

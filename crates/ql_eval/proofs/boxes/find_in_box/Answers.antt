@@ -36,5 +36,5 @@ returns-clause-answer g c = λ p is under.
     let ranges = c.deref-keys-items.result.now in
     let are = subst (λ (list : List Range). AreCellRanges c.args.area.now list) (sym c.deref-keys-items.ensures.value) c.in_ok-ranges.ensures in
     gone_all p ranges (IsFoundIn p.objects c.args.area.now) IsCellsAsk c.loop-keys.keys-index c.loop-keys-test.false
-    (box_needs p is c.args.area.now ranges are) (needs_box p is c.args.area.now ranges are) (λ so. box_set p is c.args.area.now ranges _ _ are so c.tidy.ensures)
+    (box_needs p is c.args.area.now ranges are) (needs_box p is c.args.area.now ranges are) (λ so. box_set p is c.args.area.now ranges _ _ are so c.from_refs.ensures)
     (c.loop-keys.invariant.answer p is under)

@@ -8,4 +8,4 @@ use Rattle.ql_eval.proofs.candidates.add_kind.Goals as goal
 pub returns-clause-answer : goal.returns-clause-answer
 returns-clause-answer g c = λ p is under.
     outcome_as (needed_one (kind_ask c.args.kind) refl) (λ so. one_needed (kind_ask c.args.kind))
-    (λ so. set_added c.in_ok-found.found.items _ _ so (rw (sym c.deref.ensures.value) c.in_ok-extend_from_slice.ensures.items)) (c.in_ok-found.ensures.answer p is under tt)
+    (λ so. set_added c.in_ok-found.found _ _ so (rw (sym c.as_slice.ensures.value) c.in_ok-extend_from_slice.ensures.items)) (c.in_ok-found.ensures.answer p is under tt)

@@ -1,7 +1,8 @@
+use Rattle.std.proofs.Common.{refl}
 use Rattle.tree_node.proofs.shared.OutcomeLaws.{outcome_as}
 use Rattle.ql_eval.proofs.CandidateLemmas.{found_picked}
 use Rattle.ql_eval.proofs.candidates.in_box.Goals as goal
 
 pub returns-clause-answer : goal.returns-clause-answer
 returns-clause-answer g c = λ p is under.
-    outcome_as (λ x needs. needs) (λ so x needs. needs) (λ so. found_picked c.args.kind c.deref.ensures.value so c.in_ok-picked.ensures) (c.in_ok-found.ensures.answer p is under)
+    outcome_as (λ x needs. needs) (λ so x needs. needs) (λ so. found_picked c.args.kind refl so c.in_ok-picked.ensures) (c.in_ok-found.ensures.answer p is under)

@@ -22,15 +22,15 @@ returns-in-Ids-clause-answer g c = λ p is under there allowed.
     let kind = c.kind_of-kind.result in
     let ids = c.as_slice.result.now in
     kept_as p env (uses (g.W.Source.holds c.with_ids.new.source) (g.W.Source.used c.args.source.now) (g.W.Source.used c.with_ids.new.source)) c.with_ids.result c.kind_of-kind.ensures (ap filter_of c.in-Ids.is ∙ ap (λ (l : List ℤ). Ids l) (sym c.as_slice.ensures))
-    (outcome_same (λ x needs. needs) (λ refs so x needs. needs) (λ refs. ids_kept p.objects env kind refs.items ids) (c.with_ids.ensures.answer p is under))
+    (outcome_same (λ x needs. needs) (λ refs so x needs. needs) (λ refs. ids_kept p.objects env kind refs ids) (c.with_ids.ensures.answer p is under))
 
 pub returns-in_ok-picked-in-InSet-clause-answer : goal.returns-in_ok-picked-in-InSet-clause-answer
 returns-in_ok-picked-in-InSet-clause-answer g c = λ p is under there allowed.
     let env = lists_of c.args.sets.now.named.items in
     let kind = c.kind_of-kind.result in
     let name = c.in-InSet.name in
-    let refs = c.in_ok-picked-in-InSet.field-0.items in
-    let so = subst (λ (set : List Ref). IsSetOf refs (λ r. Contains set r × IsKindOf kind r)) (c.get.ensures.value ∙ ap env c.as_bytes.ensures) c.in_ok-picked-in-InSet.ensures in
+    let refs = c.in_ok-picked-in-InSet.field-0 in
+    let so = subst (λ (set : List Ref). IsSetOf refs (λ r. Contains set r × IsKindOf kind r)) (c.get.ensures ∙ ap env c.as_bytes.ensures) c.in_ok-picked-in-InSet.ensures in
     kept_as p env (uses (g.W.Source.holds c.args.source.now) (g.W.Source.used c.args.source.now) (g.W.Source.used c.args.source.now)) (Ok c.in_ok-picked-in-InSet.field-0) c.kind_of-kind.ensures (ap filter_of c.in-InSet.is)
     (outcome_starts (set_kept p.objects env kind refs name (there name) so) (λ x needs. needs.asked))
 
@@ -38,7 +38,7 @@ pub returns-in-Via-clause-answer : goal.returns-in-Via-clause-answer
 returns-in-Via-clause-answer g c = λ p is under there allowed.
     let env = lists_of c.args.sets.now.named.items in
     let kind = c.kind_of-kind.result in
-    let set = c.get-in-Via.ensures.value ∙ ap env c.as_bytes-in-Via.ensures in
+    let set = c.get-in-Via.ensures ∙ ap env c.as_bytes-in-Via.ensures in
     kept_as p env (uses (g.W.Source.holds c.on_path.new.source) (g.W.Source.used c.args.source.now) (g.W.Source.used c.on_path.new.source)) c.on_path.result c.kind_of-kind.ensures (ap filter_of c.in-Via.is)
     (subst (λ (set : List Ref). PathWell p c.in-Via.path set kind (uses (g.W.Source.holds c.on_path.new.source) (g.W.Source.used c.args.source.now) (g.W.Source.used c.on_path.new.source)) c.on_path.result) set
     (c.on_path.ensures.answer p is under (subst (λ (set : List Ref). AreThere p.objects set) (sym set) (there c.in-Via.name))))
@@ -50,7 +50,7 @@ returns-in-KeyIs-clause-answer g c = λ p is under there allowed.
     let value = c.as_bytes-in-KeyIs-2.result.now in
     let filter : filter_of c.args.filter.now ≡ KeyIs key value = ap filter_of c.in-KeyIs.is ∙ ap (λ (k : List ℕ). KeyIs k c.in-KeyIs.value) (sym c.as_bytes-in-KeyIs.ensures) ∙ ap (λ (v : List ℕ). KeyIs key v) (sym c.as_bytes-in-KeyIs-2.ensures) in
     kept_as p env (uses (g.W.Source.holds c.names.new.self) (g.W.Source.used c.args.source.now) (g.W.Source.used c.names.new.self)) c.names.result c.kind_of-kind.ensures filter
-    (outcome_same (needed_one (names_ask (WithTag key value c.kind_of-kind.result)) refl) (λ refs so. one_needed (names_ask (WithTag key value c.kind_of-kind.result))) (λ refs. tag_kept p.objects env c.kind_of-kind.result refs.items key value)
+    (outcome_same (needed_one (names_ask (WithTag key value c.kind_of-kind.result)) refl) (λ refs so. one_needed (names_ask (WithTag key value c.kind_of-kind.result))) (λ refs. tag_kept p.objects env c.kind_of-kind.result refs key value)
     (c.names.ensures.answer p is under (subst (λ (f : Filter). Allows c.args.pick f) filter allowed)))
 
 pub returns-in-HasKey-clause-answer : goal.returns-in-HasKey-clause-answer
@@ -59,7 +59,7 @@ returns-in-HasKey-clause-answer g c = λ p is under there allowed.
     let key = c.as_bytes-in-HasKey.result.now in
     let filter : filter_of c.args.filter.now ≡ HasKey key = ap filter_of c.in-HasKey.is ∙ ap (λ (k : List ℕ). HasKey k) (sym c.as_bytes-in-HasKey.ensures) in
     kept_as p env (uses (g.W.Source.holds c.with_key.new.source) (g.W.Source.used c.args.source.now) (g.W.Source.used c.with_key.new.source)) c.with_key.result c.kind_of-kind.ensures filter
-    (outcome_same (λ x needs. needs) (λ refs so x needs. needs) (λ refs. key_kept p.objects env c.kind_of-kind.result refs.items key)
+    (outcome_same (λ x needs. needs) (λ refs so x needs. needs) (λ refs. key_kept p.objects env c.kind_of-kind.result refs key)
     (c.with_key.ensures.answer p is under (subst (λ (f : Filter). Allows c.args.pick f) filter allowed)))
 
 pub returns-in-Within-clause-answer : goal.returns-in-Within-clause-answer
@@ -67,4 +67,4 @@ returns-in-Within-clause-answer g c = λ p is under there allowed.
     let env = lists_of c.args.sets.now.named.items in
     let area = c.deref.result.now in
     kept_as p env (uses (g.W.Source.holds c.in_box.new.source) (g.W.Source.used c.args.source.now) (g.W.Source.used c.in_box.new.source)) c.in_box.result c.kind_of-kind.ensures (ap filter_of c.in-Within.is ∙ ap (λ (a : ExactBox). Within a) (sym c.deref.ensures))
-    (outcome_same (λ x needs. needs) (λ refs so x needs. needs) (λ refs. box_kept p.objects env c.kind_of-kind.result refs.items area) (c.in_box.ensures.answer p is under))
+    (outcome_same (λ x needs. needs) (λ refs so x needs. needs) (λ refs. box_kept p.objects env c.kind_of-kind.result refs area) (c.in_box.ensures.answer p is under))

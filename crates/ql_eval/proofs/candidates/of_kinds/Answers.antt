@@ -22,4 +22,4 @@ loop-kind-preserved g c = record {
 pub returns-clause-answer : goal.returns-clause-answer
 returns-clause-answer g c = λ p is under.
     gone_all p c.args.kinds.now (IsOfThisKind p.objects) IsKindAsk c.loop-kind.kind-index c.loop-kind-test.false (λ x needs. needs) (λ x needs. needs)
-    (λ so. set_of_added so c.tidy.ensures) (c.loop-kind.invariant.answer p is under)
+    (λ so. set_of_added so c.from_refs.ensures) (c.loop-kind.invariant.answer p is under)

@@ -12,4 +12,4 @@ returns-clause-answer g c = λ p is under.
     let names = c.deref.result.now in
     let are = subst (λ (l : List Ref). (r : Ref) → Contains l r ↔ (Contains c.kinds_in.result.now r.kind × Contains ids r.id)) (sym c.deref.ensures.value) c.in_ok-names.ensures in
     let all = subst (λ (kinds : List Kind). (r : Ref) → Contains names r ↔ (Contains kinds r.kind × Contains ids r.id)) c.kinds_in.ensures are in
-    outcome_same (ids_need p c.args.kind ids names all) (λ refs so. needs_ids p c.args.kind ids names all) (λ refs. ids_there p c.args.kind ids names all refs.items) (c.those_there.ensures.answer p is under)
+    outcome_same (ids_need p c.args.kind ids names all) (λ refs so. needs_ids p c.args.kind ids names all) (λ refs. ids_there p c.args.kind ids names all refs) (c.those_there.ensures.answer p is under)

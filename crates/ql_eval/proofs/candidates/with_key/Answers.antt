@@ -8,4 +8,4 @@ use Rattle.ql_eval.proofs.candidates.with_key.Goals as goal
 pub returns-clause-answer : goal.returns-clause-answer
 returns-clause-answer g c = λ p is under clean.
     outcome_as (needed_one (names_ask (WithKey c.args.key.now)) refl) (λ so. one_needed (names_ask (WithKey c.args.key.now)))
-    (λ so. found_picked c.args.kind c.deref.ensures.value so c.in_ok-picked.ensures) (c.in_ok-found.ensures.answer p is under clean)
+    (λ so. found_picked c.args.kind refl so c.in_ok-picked.ensures) (c.in_ok-found.ensures.answer p is under clean)

@@ -11,7 +11,7 @@ loop-name-preserved c =
     let k = c.loop-name.name-index in
     let so = c.loop-name.invariant in
     let one = c.in_ok-add.ensures.added in record {
-      told = c.in_ok-add.ensures.told;
+      consistent = c.in_ok-add.ensures.consistent;
       goes = λ j d lt. let before = so.goes j d lt in let after = one.goes j d before.0 in (after.0, after.1 ∙ before.1);
       added = adds_more names (λ (name r : Ref). name ≡ r) k _ c.loop-name-test.true (get_or_default names k _ _ c.loop-name-test.true) so.added one.adds;
     }

@@ -22,4 +22,4 @@ loop-name-preserved g c = record {
 pub returns-clause-answer : goal.returns-clause-answer
 returns-clause-answer g c = λ p is under.
     gone_all p c.args.names.now (IsThereAs p.objects) IsObjectAsk c.loop-name.name-index c.loop-name-test.false (λ x needs. needs) (λ x needs. needs)
-    (λ so. set_of_added so c.tidy.ensures) (c.loop-name.invariant.answer p is under)
+    (λ so. set_of_added so c.from_refs.ensures) (c.loop-name.invariant.answer p is under)

@@ -15,12 +15,12 @@ loop-id-preserved c =
     let k = c.loop-id.id-index in
     let item = get_or c.args.nodes.now k (pos 0) in
     let small : FitsSigned w64 item = search rules in
-    let test : (c.is_in.result ≡ true) ↔ Contains c.args.refs.now (node item) = simp (to_z-of_z small) at c.is_in.ensures in
+    let test : (c.contains.result ≡ true) ↔ Contains c.args.refs.now (node item) = simp (to_z-of_z small) at c.contains.ensures in
     λ id has is. elim (more_cases c.args.nodes.now k item c.loop-id-test.true (get_or_default c.args.nodes.now k (pos 0) item c.loop-id-test.true) id has) [
       | inl before ↦ c.loop-id.invariant id before is
       | inr same ↦ (
           let held = test.1 (subst (λ (i : ℤ). Contains c.args.refs.now (node i)) (sym same) is) in
-          let not = c.if-is_in.false in
+          let not = c.if-contains.false in
           cc)
     ]
 

@@ -39,8 +39,8 @@ returns-clause-answer g c = λ p is under clean.
     (subst (λ (t : Tree). AreThose (IsEntryIn (range_asked question)) (p.entries t) (bindings_of c.in_ok-found.found.items)) c.tree_of-tree.ensures
     (subst (λ (range : Range). AreThose (IsEntryIn range) (p.entries c.tree_of-tree.result) (bindings_of c.in_ok-found.found.items)) (c.as_range.ensures.value ∙ c.in_ok-keys.ensures.keys) those))
     c.names_in.result
-    (subst (λ (t : Tree). IfOk c.names_in.result (λ names. IsSetOf names.items (IsSaid (Names t) (bindings_of c.in_ok-found.found.items)))) c.tree_of-tree.ensures
-    (subst (λ (all : List Item). IfOk c.names_in.result (λ names. IsSetOf names.items (IsSaid (Names c.tree_of-tree.result) (bindings_of all)))) c.deref.ensures.value c.names_in.ensures.read))
+    (subst (λ (t : Tree). IfOk c.names_in.result (λ names. IsSetOf names (IsSaid (Names t) (bindings_of c.in_ok-found.found.items)))) c.tree_of-tree.ensures
+    (subst (λ (all : List Item). IfOk c.names_in.result (λ names. IsSetOf names (IsSaid (Names c.tree_of-tree.result) (bindings_of all)))) c.deref.ensures.value c.names_in.ensures.read))
     (subst (λ (t : Tree). IfErr c.names_in.result (AreMisread t (bindings_of c.in_ok-found.found.items))) c.tree_of-tree.ensures
     (subst (λ (all : List Item). IfErr c.names_in.result (AreMisread c.tree_of-tree.result (bindings_of all))) c.deref.ensures.value c.names_in.ensures.refused)))
     (c.in_ok-found.ensures.answer p is under)

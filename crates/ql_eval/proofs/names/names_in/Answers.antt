@@ -25,7 +25,7 @@ loop-item-preserved c = record {
 
 pub returns-clause-read : goal.returns-clause-read
 returns-clause-read c =
-    set_of_said (Names c.args.tree) c.loop-item.names.items c.tidy.new.refs.items (take c.loop-item.item-index c.args.found.now) c.args.found.now (take_all _ _ c.loop-item-test.false) c.loop-item.invariant.named c.tidy.ensures
+    set_of_said (Names c.args.tree) c.loop-item.names.items c.from_refs.result (take c.loop-item.item-index c.args.found.now) c.args.found.now (take_all _ _ c.loop-item-test.false) c.loop-item.invariant.named c.from_refs.ensures
 
 pub returns-clause-formed : goal.returns-clause-formed
 returns-clause-formed c = subst (λ (all : List Item). HaveForm c.args.tree (bindings_of all)) (take_all _ _ c.loop-item-test.false) c.loop-item.invariant.formed

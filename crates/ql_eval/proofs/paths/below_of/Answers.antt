@@ -9,11 +9,11 @@ use Rattle.ql_eval.proofs.paths.below_of.Goals as goal
 pub returns-clause-answer : goal.returns-clause-answer
 returns-clause-answer g c = λ p is under there other.
     let set = c.args.set.now in
-    let names = c.between-names.result.now in
+    let names = c.of_kinds-names.result.now in
     let from = c.args.«from» in
     let kind = c.args.kind in
-    let are = of_one names set from c.between-names.ensures.members in
-    let shelf = uses (g.W.Source.holds c.below.new.source) (g.W.Source.used c.args.source.now) (g.W.Source.used c.below.new.source) in
-    let found = c.below.ensures.answer p is under (λ r among. there r ((are r).0 among).0) in
-    outcome_same (below_of_needs p set names from kind are) (λ refs so. needs_below_of p set names from kind are other) (λ refs. below_of_set p set names from kind are refs.items)
-    (subst (λ (first : Kind). BelowWell p names first (last_of kind) shelf c.below.result) c.first_kind.ensures (subst (λ (last : Kind). BelowWell p names c.first_kind.result last shelf c.below.result) c.last_kind.ensures found))
+    let are = of_one names set from c.of_kinds-names.ensures.members in
+    let shelf = uses (g.W.Source.holds c.members_there.new.source) (g.W.Source.used c.args.source.now) (g.W.Source.used c.members_there.new.source) in
+    let found = c.members_there.ensures.answer p is under (λ r among. there r ((are r).0 among).0) in
+    outcome_same (below_of_needs p set names from kind are) (λ refs so. needs_below_of p set names from kind are other) (λ refs. below_of_set p set names from kind are refs)
+    (subst (λ (first : Kind). BelowWell p names first (last_of kind) shelf c.members_there.result) c.first_kind.ensures (subst (λ (last : Kind). BelowWell p names c.first_kind.result last shelf c.members_there.result) c.last_kind.ensures found))

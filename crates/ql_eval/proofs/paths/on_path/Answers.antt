@@ -19,26 +19,26 @@ returns-in-R-clause-answer g c = λ p is under there.
 pub returns-in-Bn-clause-answer : goal.returns-in-Bn-clause-answer
 returns-in-Bn-clause-answer g c = λ p is under there.
     let set = c.args.set.now in
-    let names = c.between.result.now in
-    let are = of_one names set kinds.Node c.between.ensures.members in
-    let shelf = uses (g.W.Source.holds c.listing.new.source) (g.W.Source.used c.args.source.now) (g.W.Source.used c.listing.new.source) in
-    subst (λ (path : Path). PathWell p path set c.args.kind shelf c.listing.result) (sym c.in-Bn.is)
-    (outcome_same (above_needs p set names kinds.Node c.args.kind are) (λ refs so. needs_above p set names kinds.Node c.args.kind are) (λ refs. above_set p set names kinds.Node c.args.kind are there refs.items) (c.listing.ensures.answer p is under))
+    let names = c.of_kinds.result.now in
+    let are = of_one names set kinds.Node c.of_kinds.ensures.members in
+    let shelf = uses (g.W.Source.holds c.referrers_of.new.source) (g.W.Source.used c.args.source.now) (g.W.Source.used c.referrers_of.new.source) in
+    subst (λ (path : Path). PathWell p path set c.args.kind shelf c.referrers_of.result) (sym c.in-Bn.is)
+    (outcome_same (above_needs p set names kinds.Node c.args.kind are) (λ refs so. needs_above p set names kinds.Node c.args.kind are) (λ refs. above_set p set names kinds.Node c.args.kind are there refs) (c.referrers_of.ensures.answer p is under))
 
 pub returns-in-Bw-clause-answer : goal.returns-in-Bw-clause-answer
 returns-in-Bw-clause-answer g c = λ p is under there.
     let set = c.args.set.now in
-    let names = c.between-in-Bw.result.now in
-    let are = of_one names set kinds.Way c.between-in-Bw.ensures.members in
-    let shelf = uses (g.W.Source.holds c.listing-in-Bw.new.source) (g.W.Source.used c.args.source.now) (g.W.Source.used c.listing-in-Bw.new.source) in
-    subst (λ (path : Path). PathWell p path set c.args.kind shelf c.listing-in-Bw.result) (sym c.in-Bw.is)
-    (outcome_same (above_needs p set names kinds.Way c.args.kind are) (λ refs so. needs_above p set names kinds.Way c.args.kind are) (λ refs. above_set p set names kinds.Way c.args.kind are there refs.items) (c.listing-in-Bw.ensures.answer p is under))
+    let names = c.of_kinds-in-Bw.result.now in
+    let are = of_one names set kinds.Way c.of_kinds-in-Bw.ensures.members in
+    let shelf = uses (g.W.Source.holds c.referrers_of-in-Bw.new.source) (g.W.Source.used c.args.source.now) (g.W.Source.used c.referrers_of-in-Bw.new.source) in
+    subst (λ (path : Path). PathWell p path set c.args.kind shelf c.referrers_of-in-Bw.result) (sym c.in-Bw.is)
+    (outcome_same (above_needs p set names kinds.Way c.args.kind are) (λ refs so. needs_above p set names kinds.Way c.args.kind are) (λ refs. above_set p set names kinds.Way c.args.kind are there refs) (c.referrers_of-in-Bw.ensures.answer p is under))
 
 pub returns-in-Br-clause-answer : goal.returns-in-Br-clause-answer
 returns-in-Br-clause-answer g c = λ p is under there.
     let set = c.args.set.now in
-    let names = c.between-in-Br.result.now in
-    let are = of_one names set kinds.Rel c.between-in-Br.ensures.members in
-    let shelf = uses (g.W.Source.holds c.listing-in-Br.new.source) (g.W.Source.used c.args.source.now) (g.W.Source.used c.listing-in-Br.new.source) in
-    subst (λ (path : Path). PathWell p path set c.args.kind shelf c.listing-in-Br.result) (sym c.in-Br.is)
-    (outcome_same (above_needs p set names kinds.Rel c.args.kind are) (λ refs so. needs_above p set names kinds.Rel c.args.kind are) (λ refs. above_set p set names kinds.Rel c.args.kind are there refs.items) (c.listing-in-Br.ensures.answer p is under))
+    let names = c.of_kinds-in-Br.result.now in
+    let are = of_one names set kinds.Rel c.of_kinds-in-Br.ensures.members in
+    let shelf = uses (g.W.Source.holds c.referrers_of-in-Br.new.source) (g.W.Source.used c.args.source.now) (g.W.Source.used c.referrers_of-in-Br.new.source) in
+    subst (λ (path : Path). PathWell p path set c.args.kind shelf c.referrers_of-in-Br.result) (sym c.in-Br.is)
+    (outcome_same (above_needs p set names kinds.Rel c.args.kind are) (λ refs so. needs_above p set names kinds.Rel c.args.kind are) (λ refs. above_set p set names kinds.Rel c.args.kind are there refs) (c.referrers_of-in-Br.ensures.answer p is under))

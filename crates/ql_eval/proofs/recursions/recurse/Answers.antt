@@ -1,6 +1,9 @@
-use Rattle.std.proofs.Common.{sym, subst}
+use Rattle.std.proofs.Common.{List, sym, subst}
+use Rattle.osm_model.specs.declared.reference.Ref.{Ref}
 use Rattle.tree_node.proofs.shared.OutcomeLaws.{outcome_same, uses}
 use Rattle.ql_syntax.specs.declared.recursion.Recursion.{Recursion}
+use Rattle.ql_syntax.specs.declared.recursion.Recursion.TheVariants as recursions
+use Rattle.ql_eval.specs.internal.Links.{AreThere}
 use Rattle.ql_eval.proofs.EndLemmas.{RecursedWell, down_all_needs, down_all_set, needs_down_all, needs_up_all, up_all_needs, up_all_set}
 use Rattle.ql_eval.proofs.recursions.recurse.Goals as goal
 
@@ -16,12 +19,18 @@ returns-in-Up-clause-answer g c = λ p is under there.
 
 pub returns-in-DownAll-clause-answer : goal.returns-in-DownAll-clause-answer
 returns-in-DownAll-clause-answer g c = λ p is under there.
-    let shelf = uses (g.W.Source.holds c.ends.new.source) (g.W.Source.used c.args.source.now) (g.W.Source.used c.ends.new.source) in
-    subst (λ (how : Recursion). RecursedWell p how c.args.set.now shelf c.ends.result) (sym c.in-DownAll.is)
-    (outcome_same (down_all_needs p is.set c.args.set.now there) (λ refs set. needs_down_all p is.set c.args.set.now there) (λ refs. down_all_set p is.set c.args.set.now there refs.items) (c.ends.ensures.answer p is under there))
+    let shelf = uses (g.W.Source.holds c.closure.new.source) (g.W.Source.used c.args.source.now) (g.W.Source.used c.closure.new.source) in
+    let names = c.as_slice.result.now in
+    let are = subst (λ (l : List Ref). AreThere p.objects l) (sym c.as_slice.ensures.value) there in
+    subst (λ (how : Recursion). RecursedWell p how c.args.set.now shelf c.closure.result) (sym c.in-DownAll.is)
+    (subst (λ (l : List Ref). RecursedWell p recursions.DownAll l shelf c.closure.result) c.as_slice.ensures.value
+    (outcome_same (down_all_needs p is.set names are) (λ refs set. needs_down_all p is.set names are) (λ refs. down_all_set p is.set names are refs) (c.closure.ensures.answer p is under are)))
 
 pub returns-in-UpAll-clause-answer : goal.returns-in-UpAll-clause-answer
 returns-in-UpAll-clause-answer g c = λ p is under there.
-    let shelf = uses (g.W.Source.holds c.ends-in-UpAll.new.source) (g.W.Source.used c.args.source.now) (g.W.Source.used c.ends-in-UpAll.new.source) in
-    subst (λ (how : Recursion). RecursedWell p how c.args.set.now shelf c.ends-in-UpAll.result) (sym c.in-UpAll.is)
-    (outcome_same (up_all_needs p is.set c.args.set.now there) (λ refs set. needs_up_all p is.set c.args.set.now there) (λ refs. up_all_set p is.set c.args.set.now there refs.items) (c.ends-in-UpAll.ensures.answer p is under there))
+    let shelf = uses (g.W.Source.holds c.closure-in-UpAll.new.source) (g.W.Source.used c.args.source.now) (g.W.Source.used c.closure-in-UpAll.new.source) in
+    let names = c.as_slice-in-UpAll.result.now in
+    let are = subst (λ (l : List Ref). AreThere p.objects l) (sym c.as_slice-in-UpAll.ensures.value) there in
+    subst (λ (how : Recursion). RecursedWell p how c.args.set.now shelf c.closure-in-UpAll.result) (sym c.in-UpAll.is)
+    (subst (λ (l : List Ref). RecursedWell p recursions.UpAll l shelf c.closure-in-UpAll.result) c.as_slice-in-UpAll.ensures.value
+    (outcome_same (up_all_needs p is.set names are) (λ refs set. needs_up_all p is.set names are) (λ refs. up_all_set p is.set names are refs) (c.closure-in-UpAll.ensures.answer p is under are)))

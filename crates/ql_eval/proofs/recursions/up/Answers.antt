@@ -1,39 +1,35 @@
-use Rattle.std.proofs.Common.{◌↔◌, ◌++◌, List, refl, ap, subst, ◌∙◌}
-use Rattle.std.specs.List.{Contains}
+use Rattle.std.proofs.Common.{refl}
 use Rattle.osm_model.specs.declared.kind.Kind.TheVariants as kinds
-use Rattle.osm_model.specs.declared.reference.Ref.{Ref}
 use Rattle.tree_node.proofs.shared.OutcomeLaws.{outcome_stops, outcome_then, outcome_then_stops}
-use Rattle.ql_eval.specs.internal.Kinds.{IsBetween}
 use Rattle.ql_eval.proofs.RecursionLemmas.{children_need, of_one, outer_needs, up_set, up_splits}
 use Rattle.ql_eval.proofs.recursions.up.Goals as goal
 
-pub returns-in_err-refs-clause-answer : goal.returns-in_err-refs-clause-answer
-returns-in_err-refs-clause-answer g c = λ p is under there.
-    outcome_stops _ c.from_residual.ensures.1 refl (children_need p c.args.set.now c.between-children.result.now c.between-children.ensures.members) (c.in_err-refs.ensures.answer p is under)
+pub returns-in_err-first-clause-answer : goal.returns-in_err-first-clause-answer
+returns-in_err-first-clause-answer g c = λ p is under there.
+    outcome_stops _ c.from_residual.ensures.1 refl (children_need p c.args.set.now c.of_kinds-children.result.now c.of_kinds-children.ensures.members) (c.in_err-first.ensures.answer p is under)
 
 pub returns-in_err-outer-clause-answer : goal.returns-in_err-outer-clause-answer
 returns-in_err-outer-clause-answer g c = λ p is under there.
     let set = c.args.set.now in
-    let children = c.between-children.result.now in
-    let refs = c.in_ok-refs.refs.items in
-    let ways = c.between-ways.result.now in
-    let ways_are = of_one ways refs kinds.Way (subst (λ (all : List Ref). (s : Ref) → Contains ways s ↔ (Contains all s × IsBetween kinds.Way kinds.Way s)) c.deref.ensures.value c.between-ways.ensures.members) in
-    outcome_then_stops _ c.from_residual-in_err-outer.ensures.1 refl (λ x. g.met.W.Source.grows _ _ x c.listing-2.ensures.later)
-    (children_need p set children c.between-children.ensures.members) (λ so. outer_needs p set children refs ways c.between-children.ensures.members so ways_are there)
-    (c.in_ok-refs.ensures.answer p is under)
-    (λ so. c.in_err-outer.ensures.answer p is (g.met.W.Source.same_under _ _ p c.in_ok-refs.ensures.later under))
+    let children = c.of_kinds-children.result.now in
+    let refs = c.in_ok-first.first in
+    let ways = c.of_kinds-ways.result.now in
+    let ways_are = of_one ways refs kinds.Way c.of_kinds-ways.ensures.members in
+    outcome_then_stops _ c.from_residual-in_err-outer.ensures.1 refl (λ x. g.met.W.Source.grows _ _ x c.referrers_of-2.ensures.later)
+    (children_need p set children c.of_kinds-children.ensures.members) (λ so. outer_needs p set children refs ways c.of_kinds-children.ensures.members so ways_are there)
+    (c.in_ok-first.ensures.answer p is under)
+    (λ so. c.in_err-outer.ensures.answer p is (g.met.W.Source.same_under _ _ p c.in_ok-first.ensures.later under))
 
 pub returns-clause-answer : goal.returns-clause-answer
 returns-clause-answer g c = λ p is under there.
     let set = c.args.set.now in
-    let children = c.between-children.result.now in
-    let refs = c.in_ok-refs.refs.items in
-    let ways = c.between-ways.result.now in
-    let ways_are = of_one ways refs kinds.Way (subst (λ (all : List Ref). (s : Ref) → Contains ways s ↔ (Contains all s × IsBetween kinds.Way kinds.Way s)) c.deref.ensures.value c.between-ways.ensures.members) in
-    outcome_then (λ x. g.met.W.Source.grows _ _ x c.listing-2.ensures.later)
-    (children_need p set children c.between-children.ensures.members) (λ so. outer_needs p set children refs ways c.between-children.ensures.members so ways_are there)
-    (λ so outer. up_splits p set children refs ways c.between-children.ensures.members so ways_are there)
-    (λ so outer. up_set p set children refs ways c.between-children.ensures.members so ways_are there c.in_ok-outer.outer.items _ _ outer
-    (c.in_ok-extend_from_slice.ensures.items ∙ ap (λ (l : List Ref). refs ++ l) c.deref-2.ensures.value) c.tidy.ensures)
-    (c.in_ok-refs.ensures.answer p is under)
-    (λ so. c.in_ok-outer.ensures.answer p is (g.met.W.Source.same_under _ _ p c.in_ok-refs.ensures.later under))
+    let children = c.of_kinds-children.result.now in
+    let refs = c.in_ok-first.first in
+    let ways = c.of_kinds-ways.result.now in
+    let ways_are = of_one ways refs kinds.Way c.of_kinds-ways.ensures.members in
+    outcome_then (λ x. g.met.W.Source.grows _ _ x c.referrers_of-2.ensures.later)
+    (children_need p set children c.of_kinds-children.ensures.members) (λ so. outer_needs p set children refs ways c.of_kinds-children.ensures.members so ways_are there)
+    (λ so outer. up_splits p set children refs ways c.of_kinds-children.ensures.members so ways_are there)
+    (λ so outer. up_set p set children refs ways c.of_kinds-children.ensures.members so ways_are there c.in_ok-outer.outer _ outer c.in_ok-union.ensures)
+    (c.in_ok-first.ensures.answer p is under)
+    (λ so. c.in_ok-outer.ensures.answer p is (g.met.W.Source.same_under _ _ p c.in_ok-first.ensures.later under))

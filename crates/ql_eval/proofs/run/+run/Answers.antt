@@ -34,14 +34,14 @@ run-returns-in_ok-write-in-Select-clause-answer g t c = λ p is under there can.
     let refs = c.in_ok-refs-in-Select.refs in
     let lawful = subst (λ (fs : List Filter). AllByRecursion (Allows kind) (filters_of fs)) (sym c.deref.ensures.value) (can_run_as same can) in
     outcome_as (needs_as same p env) (λ so. as_needs same p env)
-    (λ so. after_as same p.objects _ _ (refs.items, so, c.in_ok-write-in-Select.ensures ∙ ap (λ (name : List ℕ). put name refs.items env) c.as_bytes.ensures))
+    (λ so. after_as same p.objects _ _ (refs, so, c.in_ok-write-in-Select.ensures ∙ ap (λ (name : List ℕ). put name refs env) c.as_bytes.ensures))
     (subst (λ (fs : List Filter). SelectedWell p env kind (filters_of fs) (uses (g.W.Source.holds c.select.new.source) (g.W.Source.used c.args.source.now) (g.W.Source.used c.select.new.source)) (Ok refs)) c.deref.ensures.value
     (c.in_ok-refs-in-Select.ensures.answer p is under there lawful))
 
 pub run-returns-in_err-refs-in-Recurse-clause-answer : goal.run-returns-in_err-refs-in-Recurse-clause-answer
 run-returns-in_err-refs-in-Recurse-clause-answer g t c = λ p is under there can.
     let env = lists_of c.args.sets.now.named.items in
-    let set = c.get.ensures.value ∙ ap env c.as_bytes-in-Recurse.ensures in
+    let set = c.get.ensures ∙ ap env c.as_bytes-in-Recurse.ensures in
     outcome_stops _ c.from_residual-in_err-refs-in-Recurse.ensures.1 refl (needs_as (ap statement_of c.in-Recurse.is) p env)
     (subst (λ (l : List Ref). RecursedWell p c.in-Recurse.how l (uses (g.W.Source.holds c.recurse.new.source) (g.W.Source.used c.args.source.now) (g.W.Source.used c.recurse.new.source)) (Err c.in_err-refs-in-Recurse.field-0.0)) set
     (c.in_err-refs-in-Recurse.ensures.answer p is under (subst (λ (l : List Ref). AreThere p.objects l) (sym set) (there c.in-Recurse.«from»))))
@@ -51,9 +51,9 @@ run-returns-in_ok-write-in-Recurse-clause-answer g t c = λ p is under there can
     let env = lists_of c.args.sets.now.named.items in
     let same = ap statement_of c.in-Recurse.is in
     let refs = c.in_ok-refs-in-Recurse.refs in
-    let set = c.get.ensures.value ∙ ap env c.as_bytes-in-Recurse.ensures in
+    let set = c.get.ensures ∙ ap env c.as_bytes-in-Recurse.ensures in
     outcome_as (needs_as same p env) (λ so. as_needs same p env)
-    (λ so. after_as same p.objects _ _ (refs.items, so, c.in_ok-write-in-Recurse.ensures ∙ ap (λ (name : List ℕ). put name refs.items env) c.as_bytes-in-Recurse-2.ensures))
+    (λ so. after_as same p.objects _ _ (refs, so, c.in_ok-write-in-Recurse.ensures ∙ ap (λ (name : List ℕ). put name refs env) c.as_bytes-in-Recurse-2.ensures))
     (subst (λ (l : List Ref). RecursedWell p c.in-Recurse.how l (uses (g.W.Source.holds c.recurse.new.source) (g.W.Source.used c.args.source.now) (g.W.Source.used c.recurse.new.source)) (Ok refs)) set
     (c.in_ok-refs-in-Recurse.ensures.answer p is under (subst (λ (l : List Ref). AreThere p.objects l) (sym set) (there c.in-Recurse.«from»))))
 
@@ -61,20 +61,20 @@ pub run-returns-in_ok-write-in-Item-clause-answer : goal.run-returns-in_ok-write
 run-returns-in_ok-write-in-Item-clause-answer g t c = λ p is under there can.
     let env = lists_of c.args.sets.now.named.items in
     let same = ap statement_of c.in-Item.is in
-    let refs = c.in_ok-refs-in-Item.refs.items in
-    let set = c.in_ok-refs-in-Item.ensures.items ∙ c.get-in-Item.ensures.value ∙ ap env c.as_bytes-in-Item.ensures in
+    let refs = c.in_ok-refs-in-Item.refs in
+    let set = c.in_ok-refs-in-Item.ensures ∙ c.get-in-Item.ensures ∙ ap env c.as_bytes-in-Item.ensures in
     outcome_starts
     (after_as same p.objects _ _ (c.in_ok-write-in-Item.ensures ∙ ap (λ (name : List ℕ). put name refs env) c.as_bytes-in-Item-2.ensures ∙ ap (λ (l : List Ref). put c.in-Item.into l env) set))
     (λ x needs. (as_needs same p env x needs).asked)
 
-pub run-returns-in_err-refs-in-Union-clause-answer : goal.run-returns-in_err-refs-in-Union-clause-answer
-run-returns-in_err-refs-in-Union-clause-answer g t c = λ p is under there can.
+pub run-returns-in_err-given-in-Union-clause-answer : goal.run-returns-in_err-given-in-Union-clause-answer
+run-returns-in_err-given-in-Union-clause-answer g t c = λ p is under there can.
     let env = lists_of c.args.sets.now.named.items in
     let same = ap statement_of c.in-Union.is ∙ union_is c.in-Union.parts c.in-Union.into in
     let parts = subst (λ (ps : List Stmt). CanRunAll (statements_of ps)) (sym c.deref-in-Union.ensures.value) (can_run_as same can) in
-    outcome_stops _ c.from_residual-in_err-refs-in-Union.ensures.1 refl (needs_as same p env)
-    (subst (λ (ps : List Stmt). RanAllWell p (statements_of ps) env (lists_of c.run_all.new.sets.named.items) (uses (g.W.Source.holds c.run_all.new.source) (g.W.Source.used c.args.source.now) (g.W.Source.used c.run_all.new.source)) (Err c.in_err-refs-in-Union.field-0.0)) c.deref-in-Union.ensures.value
-    (c.in_err-refs-in-Union.ensures.answer p is under there parts))
+    outcome_stops _ c.from_residual-in_err-given-in-Union.ensures.1 refl (needs_as same p env)
+    (subst (λ (ps : List Stmt). RanAllWell p (statements_of ps) env (lists_of c.run_all.new.sets.named.items) (uses (g.W.Source.holds c.run_all.new.source) (g.W.Source.used c.args.source.now) (g.W.Source.used c.run_all.new.source)) (Err c.in_err-given-in-Union.field-0.0)) c.deref-in-Union.ensures.value
+    (c.in_err-given-in-Union.ensures.answer p is under there parts))
 
 pub run-returns-in_ok-write-in-Union-clause-answer : goal.run-returns-in_ok-write-in-Union-clause-answer
 run-returns-in_ok-write-in-Union-clause-answer g t c = λ p is under there can.
@@ -82,12 +82,12 @@ run-returns-in_ok-write-in-Union-clause-answer g t c = λ p is under there can.
     let mid = lists_of c.run_all.new.sets.named.items in
     let same = ap statement_of c.in-Union.is ∙ union_is c.in-Union.parts c.in-Union.into in
     let parts = subst (λ (ps : List Stmt). CanRunAll (statements_of ps)) (sym c.deref-in-Union.ensures.value) (can_run_as same can) in
-    let given = c.in_ok-refs-in-Union.refs in
-    let refs = c.unite.new.refs.items in
+    let given = c.in_ok-given-in-Union.given in
+    let refs = c.in_ok-refs-in-Union.refs in
     outcome_as (needs_as same p env) (λ so. as_needs same p env)
-    (λ so. after_as same p.objects _ _ (mid, given.items, so, (refs, c.in_ok-unite-in-Union.ensures, c.in_ok-write-in-Union.ensures ∙ ap (λ (name : List ℕ). put name refs mid) c.as_bytes-in-Union.ensures)))
+    (λ so. after_as same p.objects _ _ (mid, given.items, so, (refs, c.in_ok-refs-in-Union.ensures, c.in_ok-write-in-Union.ensures ∙ ap (λ (name : List ℕ). put name refs mid) c.as_bytes-in-Union.ensures)))
     (subst (λ (ps : List Stmt). RanAllWell p (statements_of ps) env mid (uses (g.W.Source.holds c.run_all.new.source) (g.W.Source.used c.args.source.now) (g.W.Source.used c.run_all.new.source)) (Ok given)) c.deref-in-Union.ensures.value
-    (c.in_ok-refs-in-Union.ensures.answer p is under there parts))
+    (c.in_ok-given-in-Union.ensures.answer p is under there parts))
 
 pub run-returns-in_err-run-in-Minus-2-clause-answer : goal.run-returns-in_err-run-in-Minus-2-clause-answer
 run-returns-in_err-run-in-Minus-2-clause-answer g t c = λ p is under there can.
@@ -112,17 +112,17 @@ run-returns-in_ok-write-in-Minus-clause-answer g t c = λ p is under there can.
     let mid = lists_of c.run.new.sets.named.items in
     let end = lists_of c.run-in-Minus.new.sets.named.items in
     let later = lists_of c.write-in-Minus.new.self.named.items in
-    let refs = c.in_ok-refs-in-Minus.refs.items in
+    let refs = c.in_ok-refs-in-Minus.refs in
     let left = c.in-Minus.left.value in
     let right = c.in-Minus.right.value in
     let same = ap statement_of c.in-Minus.is in
     let both = can_run_as same can in
     let first = subst (λ (s : Stmt). CanRun (statement_of s)) (sym c.deref-in-Minus.ensures) both.0 in
     let second = subst (λ (s : Stmt). CanRun (statement_of s)) (sym c.deref-in-Minus-3.ensures) both.1 in
-    let firsts = c.deref-in-Minus-4.result.now in
+    let firsts = c.in_ok-first-in-Minus.first in
     let first_is : firsts ≡ given_by (statement_of left) mid =
-    c.deref-in-Minus-4.ensures.value ∙ c.in_ok-first-in-Minus.ensures.items ∙ c.written_by.ensures.value ∙ ap (λ (s : Stmt). given_by (statement_of s) mid) c.deref-in-Minus-2.ensures in
-    let second_is = c.written_by-in-Minus.ensures.value ∙ ap (λ (s : Stmt). given_by (statement_of s) end) c.deref-in-Minus-5.ensures in
+    c.in_ok-first-in-Minus.ensures ∙ c.written_by.ensures ∙ ap (λ (s : Stmt). given_by (statement_of s) mid) c.deref-in-Minus-2.ensures in
+    let second_is = c.written_by-in-Minus.ensures ∙ ap (λ (s : Stmt). given_by (statement_of s) end) c.deref-in-Minus-4.ensures in
     outcome_then (λ x. g.met.W.Source.grows _ _ x c.run-in-Minus.ensures.later)
     (λ x needs. needs_as same p env x (left_needs p (statement_of left) (statement_of right) c.in-Minus.into env x needs))
     (λ so x needs. needs_as same p env x (right_needs p (statement_of left) (statement_of right) c.in-Minus.into env mid so x needs))
@@ -163,7 +163,7 @@ run_all-loop-part-preserved g t c = record {
       outcome_then (λ x. g.met.W.Source.grows _ _ x c.run.ensures.later) (parts_front p env parts k part c.loop-part-test.true c.part-item.is)
       (λ so. part_needs p env parts k part c.loop-part-test.true c.part-item.is mid given so) (λ so one. parts_split p env parts k part c.loop-part-test.true c.part-item.is mid given so)
       (λ so one. after_next p.objects parts k part c.loop-part-test.true c.part-item.is env mid (lists_of c.run.new.sets.named.items) given _ so one
-      (c.in_ok-extend_from_slice.ensures.items ∙ ap (λ (l : List Ref). given ++ l) c.written_by.ensures.value))
+      (c.in_ok-extend_from_slice.ensures.items ∙ ap (λ (l : List Ref). given ++ l) (c.as_slice.ensures.value ∙ c.written_by.ensures)))
       (c.loop-part.invariant.answer p is under there can)
       (λ so. c.in_ok-run.ensures.answer p is (g.met.W.Source.same_under _ _ p c.loop-part.invariant.later under) (after_all_there p.objects (statements_of (take k parts)) env mid given so there).0
       (one_lawful parts k part c.loop-part-test.true c.part-item.is can));

@@ -1,6 +1,5 @@
 use Rattle.std.proofs.Common.{◌++◌, List, Option, Ok, refl, sym, ap, subst, ◌∙◌}
 use Rattle.std.specs.Option.{ForSome}
-use Rattle.osm_model.specs.declared.reference.Ref.{Ref}
 use Rattle.tree_node.proofs.shared.OutcomeLaws.{outcome_stops, uses}
 use Rattle.ql_syntax.specs.Filters.{Filter}
 use Rattle.ql_syntax.specs.LawfulQueries.{Allows}
@@ -8,7 +7,6 @@ use Rattle.ql_syntax.specs.StatementViews.{filters_of}
 use Rattle.ref_sets.specs.NamedSets.{lists_of}
 use Rattle.ql_eval.specs.Asks.{AskedByBase, kind_picked}
 use Rattle.ql_eval.specs.Questions.{NeededBy}
-use Rattle.ql_eval.specs.internal.Links.{AreThere}
 use Rattle.ql_eval.proofs.CandidateLemmas.{FoundWell}
 use Rattle.ql_eval.proofs.SelectLemmas.{TestedWell, base_asks, base_lawful, candidates_there, kept_set, plan_splits, tests_ask}
 use Rattle.ql_eval.proofs.StepLemmas.{then_same}
@@ -28,16 +26,14 @@ returns-clause-answer g c = λ p is under there lawful.
     let env = lists_of c.args.sets.now.named.items in
     let pick = c.args.pick in
     let plan = c.args.plan.now in
-    let found = c.in_ok-found.found.items in
+    let found = c.in_ok-found.found in
     let allowed = subst (λ (b : Option Filter). ForSome b (Allows pick)) (sym c.base.ensures) (base_lawful pick plan.before plan.base plan.after lawful) in
-    let first = uses (g.W.Source.holds c.candidates.new.source) (g.W.Source.used c.args.source.now) (g.W.Source.used c.candidates.new.source) in
-    let second = uses (g.W.Source.holds c.tested.new.source) (g.W.Source.used c.candidates.new.source) (g.W.Source.used c.tested.new.source) in
+    let first = uses (g.W.Source.holds c.find_candidates.new.source) (g.W.Source.used c.args.source.now) (g.W.Source.used c.find_candidates.new.source) in
+    let second = uses (g.W.Source.holds c.apply_filters.new.source) (g.W.Source.used c.find_candidates.new.source) (g.W.Source.used c.apply_filters.new.source) in
     let rest = ap (λ (fs : List Filter). fs ++ filters_of c.after.result.now) c.before-2.ensures ∙ ap (λ (fs : List Filter). plan.before ++ fs) c.after.ensures in
-    then_same (λ x. g.met.W.Source.grows _ _ x c.tested.ensures.later)
-    (base_asks p env pick plan) (λ so. tests_ask p env pick plan found so) (λ so b set. plan_splits p env pick plan found so) (λ so b set. kept_set p.objects is.set env pick plan found so b.items set)
+    then_same (λ x. g.met.W.Source.grows _ _ x c.apply_filters.ensures.later)
+    (base_asks p env pick plan) (λ so. tests_ask p env pick plan found so) (λ so b set. plan_splits p env pick plan found so) (λ so b set. kept_set p.objects is.set env pick plan found so b set)
     (subst (λ (b : Option Filter). FoundWell p env pick b first (Ok c.in_ok-found.found)) c.base.ensures (c.in_ok-found.ensures.answer p is under there allowed))
     (λ so.
-    subst (λ (fs : List Filter). TestedWell p env fs found second c.tested.result) rest
-    (subst (λ (l : List Ref). TestedWell p env (filters_of c.before-2.result.now ++ filters_of c.after.result.now) l second c.tested.result) c.deref.ensures.value
-    (c.tested.ensures.answer p is (g.met.W.Source.same_under _ _ p c.in_ok-found.ensures.later under)
-    (subst (λ (l : List Ref). AreThere p.objects l) (sym c.deref.ensures.value) (candidates_there p.objects is.set env pick plan found so)) there)))
+    subst (λ (fs : List Filter). TestedWell p env fs found second c.apply_filters.result) rest
+    (c.apply_filters.ensures.answer p is (g.met.W.Source.same_under _ _ p c.in_ok-found.ensures.later under) (candidates_there p.objects is.set env pick plan found so) there))

@@ -31,9 +31,9 @@ returns-clause-answer g c = λ p is under there lawful.
     let plan = c.in_ok-plan.plan in
     let written = c.in_ok-plan.ensures.written.0 in
     let one = one_planned p (kind_picked pick) filters in
-    let first = uses (g.W.Source.holds c.planned.new.source) (g.W.Source.used c.args.source.now) (g.W.Source.used c.planned.new.source) in
+    let first = uses (g.W.Source.holds c.choose_plan.new.source) (g.W.Source.used c.args.source.now) (g.W.Source.used c.choose_plan.new.source) in
     then_same (λ x. g.met.W.Source.grows _ _ x c.answered.ensures.later)
     (choice_asks p env pick filters) (λ chosen. chosen_asks p env pick filters one plan chosen) (λ chosen b set. select_splits p env pick filters one plan chosen)
-    (λ chosen b set. subst (λ (fs : List Filter). IsSetOf b.items (IsRefOf p.objects (IsSelected p.objects env pick fs))) written set)
+    (λ chosen b set. subst (λ (fs : List Filter). IsSetOf b (IsRefOf p.objects (IsSelected p.objects env pick fs))) written set)
     (subst (λ (k : Option Kind). PlannedWell p k filters first (Ok plan)) c.kind_of.ensures (c.in_ok-plan.ensures.answer p is under))
     (λ chosen. c.answered.ensures.answer p is (g.met.W.Source.same_under _ _ p c.in_ok-plan.ensures.later under) there (subst (λ (fs : List Filter). AllByRecursion (Allows pick) fs) (sym written) lawful))

@@ -1,22 +1,21 @@
-use Rattle.std.proofs.Common.{◌+◌, ◌-◌, arith}
-use Rattle.std.specs.declared.cmp.Ordering.TheVariants.{Less, Greater}
-use Rattle.ref_sets.proofs.Seeking.{after_here, around_here, before_next, told, told_same}
+use Rattle.std.proofs.Common.{◌+◌, ◌-◌, sym, arith}
+use Rattle.ref_sets.proofs.Seeking.{after_here, around_here, before_next}
 use Rattle.ref_sets.proofs.search.rise.Goals as goal
 
 pub returns-in-Equal : goal.returns-in-Equal
-returns-in-Equal g c = around_here g.T.Referenced.name_of c.args.items.now c.args.name c.requires.rising (c.loop-step.low + (c.loop-step.step - 1)) c.index-items-probe.result (omega arith) c.index-items-probe.is (told_same c.name.result (g.T.Referenced.name_of c.index-items-probe.result) c.args.name c.name.ensures c.in-Equal.ensures)
+returns-in-Equal c = around_here c.args.refs.now c.args.name c.requires.rising (c.loop-step.low + (c.loop-step.step - 1)) (omega arith) (sym c.in-Equal.ensures)
 
 pub returns-in-Greater : goal.returns-in-Greater
-returns-in-Greater g c = record {
+returns-in-Greater c = record {
   ordered = omega arith;
   within = omega arith;
   before = c.loop-step.invariant.before;
-  after = after_here g.T.Referenced.name_of c.args.items.now c.args.name c.requires.rising (c.loop-step.low + (c.loop-step.step - 1)) c.index-items-probe.result (omega arith) c.index-items-probe.is (told c.name.result (g.T.Referenced.name_of c.index-items-probe.result) c.args.name Greater c.name.ensures c.in-Greater.ensures);
+  after = after_here c.args.refs.now c.args.name c.requires.rising (c.loop-step.low + (c.loop-step.step - 1)) (omega arith) (sym c.in-Greater.ensures);
 }
 
 pub loop-step-preserved : goal.loop-step-preserved
-loop-step-preserved g c = record {
-  before = before_next g.T.Referenced.name_of c.args.items.now c.args.name c.requires.rising (c.loop-step.low + (c.loop-step.step - 1)) c.index-items-probe.result (omega arith) c.index-items-probe.is (told c.name.result (g.T.Referenced.name_of c.index-items-probe.result) c.args.name Less c.name.ensures c.in-Less.ensures);
+loop-step-preserved c = record {
+  before = before_next c.args.refs.now c.args.name c.requires.rising (c.loop-step.low + (c.loop-step.step - 1)) (omega arith) (sym c.in-Less.ensures);
   within = omega arith;
   goes = omega (arith, c.saturating_mul-step.ensures);
 }

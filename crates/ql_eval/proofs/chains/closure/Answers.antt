@@ -1,0 +1,79 @@
+use Rattle.std.proofs.Common.{◌≡◌, ◌-◌, List, [], length, take, drop, Ok, Err, refl, sym, ap, subst, ◌∙◌, arith}
+use Rattle.std.proofs.lemmas.List.{take_all}
+use Rattle.std.specs.List.{Contains}
+use Rattle.osm_model.specs.declared.reference.Ref.{Ref}
+use Rattle.tree_node.proofs.shared.OutcomeLaws.{outcome_as, outcome_then, outcome_then_stops, uses}
+use Rattle.ref_sets.specs.Adding.{Adds}
+use Rattle.ql_eval.specs.Questions.{NeededBy}
+use Rattle.ql_eval.specs.internal.Chains.{AreChained, IsChainAsk}
+use Rattle.ql_eval.specs.internal.Links.{AreThere}
+use Rattle.ql_eval.proofs.ChainLemmas.{ChainedWell, LedWell, asks_split, chain_ends, chained_all, chained_first, chained_next, ends_chain, first_needs, front_asks, front_stays, left_asks, left_ends, left_there, longer, needs_first}
+use Rattle.ref_sets.proofs.shared.Parts.{slice_is_rest}
+use Rattle.ql_eval.proofs.chains.closure.Goals as goal
+
+pub loop-at-init : goal.loop-at-init
+loop-at-init g c = record {
+  consistent = c.in_ok-add_all.ensures.consistent;
+  within = omega arith;
+  later = c.in_ok-next.ensures.later;
+  walked = c.in_ok-next.ensures.walked;
+  answer = λ p is under there.
+      let from = c.args.from.now in
+      let refs = c.add_all.new.found.refs.items in
+      let adds = subst (λ (l : List Ref). Adds [] refs (Contains l)) c.as_slice.ensures.value (subst (λ (l : List Ref). Adds l refs (Contains c.as_slice.result.now)) c.new-found.ensures.empty c.in_ok-add_all.ensures.added) in
+      outcome_as (first_needs p c.args.direction from) (λ so. needs_first p c.args.direction from) (λ so. chained_first c.args.direction p.objects from c.in_ok-next.next refs so adds) (c.in_ok-next.ensures.answer p is under there);
+}
+
+pub returns-in_err-next-2-clause-answer : goal.returns-in_err-next-2-clause-answer
+returns-in_err-next-2-clause-answer g c = λ p is under there.
+    let direction = c.args.direction in
+    let from = c.args.from.now in
+    let refs = c.loop-at.found.refs.items in
+    let at = c.loop-at.at in
+    let all = c.deref.result.now in
+    let rest : take (length all - at) (drop at all) ≡ drop at refs = slice_is_rest all at ∙ ap (λ (l : List Ref). drop at l) c.deref.ensures.value in
+    let shelf = uses (g.W.Source.holds c.one_link-in-loop-at.new.source) (g.W.Source.used c.loop-at.source) (g.W.Source.used c.one_link-in-loop-at.new.source) in
+    outcome_then_stops _ c.from_residual-in_err-next-2.ensures.1 refl (λ x. g.met.W.Source.grows _ _ x c.one_link-in-loop-at.ensures.later)
+    (chain_ends p direction from (take at refs)) (λ so. left_ends p direction from at refs so) (c.loop-at.invariant.answer p is under there)
+    (λ so. subst (λ (names : List Ref). LedWell p direction names shelf (Err c.in_err-next-2.field-0.0)) rest
+    (c.in_err-next-2.ensures.answer p is (g.met.W.Source.same_under _ _ p c.loop-at.invariant.later under) (subst (λ (names : List Ref). AreThere p.objects names) (sym rest) (left_there direction p.objects from at refs so))))
+
+pub loop-at-preserved : goal.loop-at-preserved
+loop-at-preserved g c =
+    let refs = c.loop-at.found.refs.items in
+    let more = c.add_all-in-loop-at.new.found.refs.items in
+    let goes = c.in_ok-add_all-2.ensures.goes in
+    let grown = longer refs more goes in record {
+      consistent = c.in_ok-add_all-2.ensures.consistent;
+      within = omega (arith, grown);
+      later = g.met.W.Source.chained _ _ _ c.loop-at.invariant.later c.one_link-in-loop-at.ensures.later;
+      walked = g.met.W.Source.more_walks _ _ _ c.loop-at.invariant.later c.one_link-in-loop-at.ensures.later c.loop-at.invariant.walked c.in_ok-next-2.ensures.walked;
+      answer = λ p is under there.
+          let direction = c.args.direction in
+          let from = c.args.from.now in
+          let at = c.loop-at.at in
+          let all = c.deref.result.now in
+          let rest : take (length all - at) (drop at all) ≡ drop at refs = slice_is_rest all at ∙ ap (λ (l : List Ref). drop at l) c.deref.ensures.value in
+          let shelf = uses (g.W.Source.holds c.one_link-in-loop-at.new.source) (g.W.Source.used c.loop-at.source) (g.W.Source.used c.one_link-in-loop-at.new.source) in
+          let whole = uses (g.W.Source.holds c.one_link-in-loop-at.new.source) (g.W.Source.used c.args.source.now) (g.W.Source.used c.one_link-in-loop-at.new.source) in
+          let adds = subst (λ (l : List Ref). Adds refs more (Contains l)) c.as_slice-in-loop-at.ensures.value c.in_ok-add_all-2.ensures.added in
+          let front : take c.len-at.result more ≡ refs = ap (λ n. take n more) (omega arith) ∙ front_stays refs more goes in
+          subst (λ (followed : List Ref). ChainedWell p direction from followed more whole) (sym front)
+          (outcome_then (λ x. g.met.W.Source.grows _ _ x c.one_link-in-loop-at.ensures.later)
+          (front_asks p direction from at refs) (λ so. left_asks p direction from at refs so) (λ so next. asks_split p direction from at refs)
+          (λ so next. chained_next direction p.objects from at refs c.in_ok-next-2.next more so next adds)
+          (c.loop-at.invariant.answer p is under there)
+          (λ so. subst (λ (names : List Ref). LedWell p direction names shelf (Ok c.in_ok-next-2.next)) rest
+          (c.in_ok-next-2.ensures.answer p is (g.met.W.Source.same_under _ _ p c.loop-at.invariant.later under) (subst (λ (names : List Ref). AreThere p.objects names) (sym rest) (left_there direction p.objects from at refs so)))));
+    }
+
+pub returns-clause-answer : goal.returns-clause-answer
+returns-clause-answer g c = λ p is under there.
+    let direction = c.args.direction in
+    let from = c.args.from.now in
+    let refs = c.loop-at.found.refs.items in
+    let all : take c.loop-at.at refs ≡ refs = take_all c.loop-at.at refs (omega arith) in
+    outcome_as (chain_ends p direction from (take c.loop-at.at refs))
+    (λ so x needs. subst (λ (followed : List Ref). NeededBy p (IsChainAsk direction p.objects from followed) x) (sym all) (ends_chain p direction from refs (subst (λ (followed : List Ref). AreChained direction p.objects from followed refs) all so) x needs))
+    (λ so. chained_all direction p.objects from refs _ (subst (λ (followed : List Ref). AreChained direction p.objects from followed refs) all so) c.from_refs.ensures)
+    (c.loop-at.invariant.answer p is under there)

@@ -1,0 +1,18 @@
+use Rattle.std.proofs.Common.{refl}
+use Rattle.std.proofs.lemmas.Result.{IfErr-weaker}
+use Rattle.ql_eval.proofs.KnownLemmas.{absent_later, remembers_later}
+use Rattle.ql_eval.proofs.shelf_source.ShelfSourceSource.nodes_in.Goals as goal
+
+pub returns-clause-later : goal.returns-clause-later
+returns-clause-later g c = (
+  refl,
+  refl,
+  c.find_in_box.ensures.stays,
+  c.find_in_box.ensures.grows,
+  (λ p under known. remembers_later p _ _ c.args.self.now.objects.now c.find_in_box.ensures.grows known),
+  (λ r object known. known),
+  (λ absent. absent_later _ _ c.args.self.now.manifest c.args.self.now.objects.now c.find_in_box.ensures.grows absent),
+)
+
+pub returns-clause-told : goal.returns-clause-told
+returns-clause-told g c = IfErr-weaker c.find_in_box.result _ _ (λ fault told absent. told) c.find_in_box.ensures.told

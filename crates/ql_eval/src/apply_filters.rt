@@ -1,0 +1,80 @@
+//! Of candidates those that the left-over filters keep.
+
+ghost use Rattle.std.specs.Prelude.{◌++◌, IfErr, IfOk, OnOk};
+ghost use Rattle.std.specs.List.{Contains};
+ghost use Rattle.tree_node.specs.Outcomes.{Outcome};
+ghost use Rattle.osm_index.specs.Publications.{IsPublication, Publication};
+ghost use Rattle.ql_syntax.specs.StatementViews.{filters_of};
+ghost use Rattle.ref_sets.specs.Adding.{From};
+ghost use Rattle.ref_sets.specs.Sets.{IsSetOf};
+ghost use Rattle.ref_sets.specs.NamedSets.{lists_of};
+ghost use Rattle.ql_eval.specs.Asks.{AskedByRest};
+ghost use Rattle.ql_eval.specs.Faults.{cause_of_evaluation};
+ghost use Rattle.ql_eval.specs.Questions.{NeededBy};
+ghost use Rattle.ql_eval.specs.internal.Links.{AreAllThere, AreThere};
+ghost use Rattle.ql_eval.specs.internal.Selecting.{IsKeptBy, IsTestAsk};
+ghost use Rattle.ql_eval.specs.internal.Narrowing.{IsNamedByAll};
+ghost use Rattle.ql_eval.specs.internal.Uses.{nodes_around};
+
+use crate::fault::EvalFault;
+use crate::filter_by_object::filter_by_object;
+use crate::filter_by_reference::filter_by_reference;
+use crate::source::Source;
+use ql_syntax::Filter;
+use ref_sets::{NamedSets, RefSet};
+use std::alloc::Global;
+
+/// Of candidates those that the filters keep which are written before and after the base. With any filter each
+/// candidate's object is read once, and each path down asks for the objects of its set, whatever the candidates are.
+/// Without filters nothing is asked, and all candidates stay. `Absent` where a candidate isn't there.
+pub(crate) fn apply_filters<W: Source>(
+    alloc: Global,
+    source: &mut W,
+    candidates: RefSet,
+    before: &[Filter<'_>],
+    after: &[Filter<'_>],
+    sets: &NamedSets<'_>,
+) -> Result<RefSet, EvalFault>
+    ensures later { W.later source.old source.new }
+    ensures walked { OnOk result (W.walked source.old source.new) }
+    ensures told { IfErr result (W.tells source.new) }
+    ensures answer { (p : Publication) → IsPublication p → W.under source.old p
+        → AreThere p.objects candidates → AreAllThere p.objects (lists_of sets.now.named.items)
+        → Outcome cause_of_evaluation
+        (λ refs. IsSetOf refs
+        (λ r. Contains candidates r × IsKeptBy p.objects (lists_of sets.now.named.items) (filters_of before.now ++ filters_of after.now) r))
+        (NeededBy p (IsTestAsk (lists_of sets.now.named.items) (filters_of before.now ++ filters_of after.now) candidates))
+        (nodes_around W.holds W.used source.old source.new) result }
+{
+    if before.is_empty() && after.is_empty() {
+        // For the proof alone: a set rises.
+        let _ = candidates.as_slice();
+        return Ok(candidates);
+    }
+    let refs = filter_by_object(alloc, source, &candidates, before, after, sets)?;
+    filter_by_both(alloc, source, refs, before, after, sets)
+}
+
+/// Of some references those that the filters before and after a base name.
+fn filter_by_both<W: Source>(
+    alloc: Global,
+    source: &mut W,
+    refs: RefSet,
+    before: &[Filter<'_>],
+    after: &[Filter<'_>],
+    sets: &NamedSets<'_>,
+) -> Result<RefSet, EvalFault>
+    ensures later { W.later source.old source.new }
+    ensures walked { OnOk result (W.walked source.old source.new) }
+    ensures told { IfErr result (W.tells source.new) }
+    ensures answer { (p : Publication) → IsPublication p → W.under source.old p
+        → AreAllThere p.objects (lists_of sets.now.named.items)
+        → Outcome cause_of_evaluation
+        (λ left. IsSetOf left
+        (λ r. Contains refs r × IsNamedByAll p.objects (lists_of sets.now.named.items) (filters_of before.now ++ filters_of after.now) r))
+        (NeededBy p (From (filters_of before.now ++ filters_of after.now) (AskedByRest (lists_of sets.now.named.items))))
+        (nodes_around W.holds W.used source.old source.new) result }
+{
+    let left = filter_by_reference(alloc, source, refs, before, sets)?;
+    filter_by_reference(alloc, source, left, after, sets)
+}

@@ -1,0 +1,150 @@
+//! A shelf as a source, with the objects that were looked up in it.
+
+ghost use Rattle.std.specs.Prelude.{◌≡◌, ℕ, List};
+ghost use Rattle.tree_node.specs.Shelves.{SameNodes};
+ghost use Rattle.tree_walk.specs.WalksGiven.{HasGiven};
+ghost use Rattle.osm_index.specs.Manifests.{top_among};
+ghost use Rattle.ql_eval.specs.Forms.{HaveForm};
+ghost use Rattle.osm_index.specs.Publications.{Publication};
+ghost use Rattle.ql_eval.specs.Openings.{IsUnder};
+ghost use Rattle.ql_eval.specs.internal.Objects.{Remembers};
+
+use crate::boxes::find_in_box;
+use crate::fault::EvalFault;
+use crate::known::{Known, look_up};
+use crate::lookups::{count_names, find_names};
+use crate::question::Question;
+use crate::source::Source;
+use osm_index::Manifest;
+use osm_model::{BoxArea, Object, Ref};
+use ref_sets::RefSet;
+use std::alloc::Global;
+use tree_node::Shelf;
+use tree_walk::Tally;
+
+/// The trees under a manifest, read from a shelf.
+pub(crate) struct ShelfSource<'s, 'a, S: Shelf<'a>> {
+    pub(crate) alloc: Global,
+    pub(crate) shelf: &'s mut S,
+    pub(crate) manifest: Manifest,
+    pub(crate) tally: Tally,
+    /// The objects that were looked up. The caller owns them, so that a source has nothing to free.
+    pub(crate) objects: &'s mut Known,
+    /// Nothing: it carries the lifetime of the nodes, without which nothing is known of the shelf once the source is gone.
+    pub(crate) nodes: &'a [u8],
+}
+
+impl<'s, 'a, S: Shelf<'a>> Source for ShelfSource<'s, 'a, S> {
+    ghost use Rattle.std.specs.Prelude.{◌≡◌, ℕ, List, Option, Some, refl};
+    ghost use Rattle.std.specs.BTreeMap.{get};
+    ghost use Rattle.osm_model.specs.Elements.{Element, ref_cmp};
+    ghost use Rattle.osm_model.specs.declared.reference.Ref.{Ref};
+    ghost use Rattle.std.proofs.Common.{◌∙◌, subst};
+    ghost use Rattle.osm_index.specs.declared.manifest.Manifest.{Manifest};
+    ghost use Rattle.tree_node.specs.Shelves.{SameNodes};
+    ghost use Rattle.tree_walk.specs.WalksGiven.{HasGiven};
+    ghost use Rattle.osm_index.specs.Manifests.{top_among};
+    ghost use Rattle.ql_eval.specs.Forms.{HaveForm};
+    ghost use Rattle.osm_index.specs.Publications.{Publication};
+    ghost use Rattle.ql_eval.specs.Openings.{IsUnder};
+    ghost use Rattle.ql_eval.specs.internal.Objects.{AreAbsent, Remembers};
+    ghost use Rattle.ql_eval.specs.internal.Told.{IsTold};
+    ghost use Rattle.tree_walk.proofs.shared.WalksGivenLaws.{given_none, given_then};
+
+    ghost holds = { λ o. S.holds o.shelf.now };
+
+    ghost used = { λ o. S.used o.shelf.now };
+
+    ghost under = { λ o p. IsUnder p o.manifest × Remembers p (S.used o.shelf.now) o.objects.now };
+
+    ghost knows = { λ o r object. get ref_cmp o.objects.now r ≡ Some object };
+
+    ghost tells = { λ o fault. AreAbsent (S.used o.shelf.now) o.manifest o.objects.now → IsTold (S.holds o.shelf.now) (S.used o.shelf.now) o.manifest fault };
+
+    ghost later = { λ o n. (o.shelf.ghost_name ≡ n.shelf.ghost_name) × (o.manifest ≡ n.manifest)
+        × SameNodes (S.holds o.shelf.now) (S.holds n.shelf.now) × ((bytes : List ℕ) → S.used o.shelf.now bytes → S.used n.shelf.now bytes)
+        × ((p : Publication) → IsUnder p o.manifest → Remembers p (S.used o.shelf.now) o.objects.now → Remembers p (S.used n.shelf.now) n.objects.now)
+        × ((r : Ref) (object : Option Element) → get ref_cmp o.objects.now r ≡ Some object → get ref_cmp n.objects.now r ≡ Some object)
+        × (AreAbsent (S.used o.shelf.now) o.manifest o.objects.now → AreAbsent (S.used n.shelf.now) n.manifest n.objects.now) };
+
+    ghost walked = { λ o n. HasGiven (top_among n.manifest.tops) HaveForm (record { held = S.holds n.shelf.now; before = S.used o.shelf.now; after = S.used n.shelf.now })
+        o.tally.calls n.tally.calls o.tally.fetches n.tally.fetches };
+
+    ghost itself = { λ o. (refl, refl, (λ x. ((λ has. has), (λ has. has))), (λ x has. has), (λ p under known. known), (λ r object known. known), (λ absent. absent)) };
+
+    ghost chained = { λ o n m first second. (
+      first.0 ∙ second.0,
+      first.1 ∙ second.1,
+      (λ x. ((λ has. (first.2 x).0 ((second.2 x).0 has)), (λ has. (second.2 x).1 ((first.2 x).1 has)))),
+      (λ x has. second.3 x (first.3 x has)),
+      (λ p under known. second.4 p (subst (λ (m : Manifest). IsUnder p m) first.1 under) (first.4 p under known)),
+      (λ r object known. second.5 r object (first.5 r object known)),
+      (λ absent. second.6 (first.6 absent)),
+    ) };
+
+    ghost stays = { λ o n later. later.2 };
+
+    ghost grows = { λ o n bytes later has. later.3 bytes has };
+
+    ghost same_under = { λ o n p later under. (subst (λ (m : Manifest). IsUnder p m) later.1 under.0, later.4 p under.0 under.1) };
+
+    ghost same_known = { λ o n r object later known. later.5 r object known };
+
+    ghost out_of_memory = { λ o absent. tt };
+
+    ghost not_there = { λ o r known absent. (r, absent r known) };
+
+    ghost no_walk = { λ o. given_none (top_among o.manifest.tops) HaveForm (S.holds o.shelf.now) (S.used o.shelf.now) o.tally.calls o.tally.fetches };
+
+    ghost more_walks = { λ o n m first second one two. given_then (top_among m.manifest.tops) HaveForm _ _ _ _ _ _ _ _ _ _ _ second.2
+        (subst (λ (found : Manifest). HasGiven (top_among found.tops) HaveForm
+        (record { held = S.holds n.shelf.now; before = S.used o.shelf.now; after = S.used n.shelf.now }) o.tally.calls n.tally.calls o.tally.fetches n.tally.fetches) second.1 one) two };
+
+    fn look_up(&mut self, name: Ref) -> Result<(), EvalFault> {
+        look_up(
+            self.alloc,
+            &mut *self.shelf,
+            &self.manifest,
+            name,
+            &mut self.tally,
+            &mut *self.objects,
+        )
+    }
+
+    fn known(&self, name: Ref) -> Option<&Object> {
+        match self.objects.get(&name) {
+            Some(object) => object.as_ref(),
+            None => None,
+        }
+    }
+
+    fn names(&mut self, question: &Question<'_>) -> Result<RefSet, EvalFault> {
+        find_names(
+            self.alloc,
+            &mut *self.shelf,
+            &self.manifest,
+            question,
+            &mut self.tally,
+        )
+    }
+
+    fn count(&mut self, question: &Question<'_>) -> Result<u64, EvalFault> {
+        count_names(
+            self.alloc,
+            &mut *self.shelf,
+            &self.manifest,
+            question,
+            &mut self.tally,
+        )
+    }
+
+    fn nodes_in(&mut self, area: &BoxArea<'_>) -> Result<RefSet, EvalFault> {
+        find_in_box(
+            self.alloc,
+            &mut *self.shelf,
+            &self.manifest,
+            area,
+            &mut self.tally,
+        )
+    }
+}
