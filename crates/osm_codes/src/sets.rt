@@ -30,8 +30,8 @@ pub(crate) const SETS: [Explanation; 5] = [
     },
     Explanation {
         code: "I5",
-        meaning: "the sequence number is at its greatest",
+        meaning: "no sequence number comes after that of the set: it is 2^64 - 1, or the set is of edition 1, which has none",
         place: "never printed",
-        advice: "No set comes after sequence 2^64 - 1.",
+        advice: "Serve the set in edition 2, from a smaller sequence number on.",
     },
 ];

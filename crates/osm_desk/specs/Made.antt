@@ -15,8 +15,8 @@ pub record IsChanged (p : Publication) (all : List Change) (q : Publication) : T
   pub applied : IsApplied p.objects all q.objects
   pub published : IsPublicationOf q.objects (edition_after p.edition) q
 
--- why the changes make none: the sequence is at its greatest, else an object is changed twice, else a deleted object
--- isn't there, else a tree has too many entries, else two different nodes of the old and the new publication together
+-- why the changes make none: no sequence comes after that of the set, else an object is changed twice, else a deleted
+-- object isn't there, else a tree has too many entries, else two different nodes of the old and the new publication together
 -- have one digest. That memory runs out is no matter of what they make.
 abbrev pub IsRefused : Publication → List Change → ApplyFault → Type 0
 IsRefused p all faults.LastSequence = IsLast p.edition
@@ -32,8 +32,8 @@ abbrev pub IsMade : Publication → List Change → Result Publication ApplyFaul
 IsMade p all (Ok q) = AreApplicable p.objects p.edition all × IsChanged p all q × IsClashFree (IsNodeOfEither p q)
 IsMade p all (Err fault) = IsRefused p all fault
 
--- how publishing them may be refused: as what they make says, or memory ran out, but not where the sequence is at its
--- greatest
+-- how publishing them may be refused: as what they make says, or memory ran out, but not where no sequence comes after
+-- that of the set
 abbrev pub RefusesChanges : Publication → List Change → ApplyFault → Type 0
 RefusesChanges p all faults.Memory = ¬ IsLast p.edition
 RefusesChanges p all fault = IsMade p all (Err fault)

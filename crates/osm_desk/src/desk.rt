@@ -4,7 +4,6 @@ ghost use Rattle.std.specs.Bool.{OnFalse};
 ghost use Rattle.std.specs.FinMap.{empty, get, len};
 ghost use Rattle.std.specs.Prelude.{◌≡◌, ◌<◌, ◌≤◌, ◌↔◌, IfErr, IfOk, IsSome, IsTrue, None, OnErr, OnOk, [], is_some};
 ghost use Rattle.osm_gate.specs.Connections.{Responds, heard_next, open_rest};
-ghost use Rattle.osm_index.specs.Applying.{IsSecond};
 ghost use Rattle.osm_index.specs.Publications.{Publication};
 ghost use Rattle.osm_index.specs.Snapshots.{HoldsPublication, IsAsBefore};
 ghost use Rattle.osm_desk.specs.Contents.{desk_over, fresh_contents};
@@ -24,8 +23,8 @@ use std::alloc::{AllocError, Global};
 use std::collections::BTreeMap;
 use std::marker::Model;
 
-/// The connections that are open over one snapshot of the second edition. Contracts see it as that snapshot, and what is
-/// left of each connection.
+/// The connections that are open over one snapshot, of either edition. Contracts see it as that snapshot, and what is left
+/// of each connection.
 #[derive(Drop)]
 pub struct Desk {
     alloc: Global,
@@ -36,7 +35,6 @@ pub struct Desk {
 impl Model for Desk {
     ghost use Rattle.std.specs.Coded.{codes};
     ghost use Rattle.std.specs.FinMap.{code, from_entries};
-    ghost use Rattle.osm_index.specs.Applying.{IsSecond};
     ghost use Rattle.osm_index.specs.contracts.snapshot.Snapshot as snapshots;
     ghost use Rattle.osm_desk.specs.Contents.{Contents};
 
@@ -45,14 +43,11 @@ impl Model for Desk {
     ghost coded = { Prim.hlevel (codes, code, snapshots.the_row.coded) };
 
     ghost view = { λ d. record { snapshot = d.snapshot; connections = from_entries d.gates.entries } };
-
-    ghost invariant = { λ d. IsSecond d.snapshot.edition };
 }
 
 impl Desk {
     /// A desk over the snapshot, without connections. It takes no memory.
     pub fn new(alloc: Global, snapshot: Snapshot) -> Desk
-        requires { IsSecond snapshot.edition }
         ensures { result ≡ fresh_contents snapshot }
     {
         Desk {
@@ -64,9 +59,7 @@ impl Desk {
 
     /// The snapshot that is in force.
     pub fn snapshot(&self) -> &Snapshot
-        ensures value { result.now ≡ self.now.snapshot }
-        // It is of the second edition, as long as there is the desk.
-        ensures second { IsSecond result.now.edition }
+        ensures { result.now ≡ self.now.snapshot }
     {
         &self.snapshot
     }
@@ -95,7 +88,8 @@ impl Desk {
     }
 
     /// Takes an event, and gives the bytes for each connection that has some to get: for a piece those of its own
-    /// connection, which may be none, and for any other event nothing.
+    /// connection, which may be none, and for any other event nothing. The program serves by `osm_traffic::serve_many`,
+    /// which makes the same steps by the calls below.
     ///
     /// # Errors
     ///
@@ -222,8 +216,8 @@ impl Desk {
     }
 
     /// Publishes changes, as the event `Publish`: what the snapshot holds afterwards is the changed set at the next
-    /// sequence. All connections stay. What it costs, and what refuses it, is that of [`Snapshot::apply`]; after a
-    /// refusal all is as before.
+    /// sequence. All connections stay. What it costs, and what refuses it, is that of [`Snapshot::apply`], so over a
+    /// snapshot of the first edition none are published; after a refusal all is as before.
     pub fn publish(&mut self, changes: &[Change]) -> Result<(), ApplyFault>
         ensures made { (p : Publication) → HoldsPublication self.old.snapshot p
             → OnOk result ((q : Publication) × IsMade p changes.now (Ok q) × HoldsPublication self.new.snapshot q) }

@@ -15,7 +15,8 @@ use std::io::{Read, Write};
 impl Desk {
     /// Responds to the requests of a new connection of this number, until its input ends or the connection does, as
     /// [`osm_gate::serve`] does over the desk's snapshot. The number has to be free, and fewer than 64 connections open.
-    /// Afterwards, after a refusal too, the connection is forgotten and the desk as before.
+    /// Afterwards, after a refusal too, the connection is forgotten and the desk as before. The program serves by
+    /// `osm_traffic::serve_many`, many connections at a time.
     ///
     /// # Errors
     ///

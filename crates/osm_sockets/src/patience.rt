@@ -1,4 +1,4 @@
-//! How long clients may take.
+//! How long clients may take, and how often the system is asked.
 
 /// How long a client may keep its connection without sending a byte, or without taking one, in seconds.
 pub(crate) const IDLE_SECONDS: u64 = 10;
@@ -17,3 +17,9 @@ pub(crate) const LINGER_LIMIT: usize = 64;
 
 /// How often those that are silent are looked for, in milliseconds.
 pub(crate) const SWEEP_MILLISECONDS: u64 = 500;
+
+/// How long taking a connection isn't tried again after it has failed in passing, in milliseconds.
+pub(crate) const RETRY_MILLISECONDS: u64 = 100;
+
+/// How many times in a row it may fail in passing.
+pub(crate) const FAILURE_LIMIT: u32 = 1000;

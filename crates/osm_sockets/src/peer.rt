@@ -26,11 +26,9 @@ pub(crate) struct Peer {
     end: usize,
     /// A read may give something: no read has said since that there is nothing.
     is_readable: bool,
-    /// The client has said that it sends no more. A read that gives fewer bytes than asked isn't the last then.
-    is_closing: bool,
     /// A write took less than it was given, and none has taken all since.
     is_behind: bool,
-    /// The same, and no event has come since either.
+    /// A write took nothing since the socket is full, and no event has come since.
     is_stuck: bool,
     /// It stands in the queue of those that are to be told of.
     pub(crate) is_queued: bool,
@@ -76,7 +74,6 @@ impl Peer {
             from: 0,
             end: 0,
             is_readable: false,
-            is_closing: false,
             is_behind: false,
             is_stuck: false,
             is_queued: false,
@@ -88,25 +85,23 @@ impl Peer {
         })
     }
 
-    /// Whether there may be something to read.
-    pub(crate) fn may_give(&self) -> bool {
-        self.is_readable || self.from < self.end
-    }
-
     /// Whether it has to take bytes before anything else.
     pub(crate) fn is_behind(&self) -> bool {
         self.is_behind
     }
 
-    /// Whether it has taken too few, and nothing says that it takes more.
-    pub(crate) fn is_stuck(&self) -> bool {
-        self.is_stuck
+    /// Whether a call may well get on with it now: a write where it has to take bytes, else a read.
+    pub(crate) fn has_turn(&self) -> bool {
+        if self.is_behind {
+            !self.is_stuck
+        } else {
+            self.is_readable || self.from < self.end
+        }
     }
 
     /// Notes what the system tells.
     pub(crate) fn note(&mut self, readable: bool, writable: bool, closed: bool) {
         self.is_readable = self.is_readable || readable || closed;
-        self.is_closing = self.is_closing || closed;
         self.is_stuck = self.is_stuck && !writable && !closed;
     }
 
@@ -125,8 +120,7 @@ impl Peer {
             Ok(count) => {
                 self.end = count;
                 self.heard = now;
-                // Fewer bytes than asked are all that there were, unless the end comes after them.
-                self.is_readable = count >= READ_LIMIT || self.is_closing;
+                // Fewer bytes than asked needn't be all that there are: the next read tells.
                 Found::Bytes
             }
             Err(error) if error.kind() == ErrorKind::WouldBlock => {
@@ -154,23 +148,23 @@ impl Peer {
         count
     }
 
-    /// Gives bytes to the socket.
+    /// Gives bytes to the socket. One that takes none of them, without a reason, is broken.
     pub(crate) fn write(&mut self, bytes: &[u8], now: Instant) -> io::Result<usize>
         ensures { IfOk result (λ count. count ≤ length bytes.now) }
     {
         match self.stream.write(bytes) {
+            Ok(0) => Err(io::Error::from(ErrorKind::WriteZero)),
             Ok(count) => {
-                if count > 0 {
-                    self.heard = now;
-                    // The next request has begun where bytes of it were read.
-                    self.begun = if self.from < self.end {
-                        Some(now)
-                    } else {
-                        None
-                    };
-                }
+                self.heard = now;
+                // The next request has begun where bytes of it were read.
+                self.begun = if self.from < self.end {
+                    Some(now)
+                } else {
+                    None
+                };
+                // Fewer bytes than given needn't be all that it takes: the next write tells.
                 self.is_behind = count < bytes.len();
-                self.is_stuck = self.is_behind;
+                self.is_stuck = false;
                 Ok(count)
             }
             Err(error) => {

@@ -1,36 +1,40 @@
 //! The sockets of this machine.
 
-use crate::patience::{LINGER_LIMIT, SWEEP_MILLISECONDS};
+use crate::listener::{LISTENER, Listener};
+use crate::patience::{LINGER_LIMIT, RETRY_MILLISECONDS, SWEEP_MILLISECONDS};
 use crate::peer::{Found, Peer};
 use mio::event::Event;
-use mio::net::{TcpListener, TcpStream};
+use mio::net::TcpStream;
 use mio::{Events, Interest, Poll, Token};
 use osm_traffic::{News, Reading, Room, Traffic, TrafficFault, Writing};
 use std::collections::VecDeque;
+use std::io;
 use std::io::ErrorKind;
 use std::net::SocketAddr;
 use std::time::{Duration, Instant};
 
-/// The token of the listening socket. A connection has its number, which is less.
-const LISTENER: Token = Token(usize::MAX);
-
 /// How many events one wait takes.
 const EVENTS: usize = 128;
+
+/// For how many connections there is memory from the beginning: 64 that are open, as many that were let go, and one that
+/// comes.
+const PEERS: usize = 2 * LINGER_LIMIT + 1;
 
 /// A socket that listens for clients of this machine (127.0.0.1), and the connections that were taken from it.
 ///
 /// An event of the system only sets flags and puts the connection into a queue. Each that stands there has its turn, a
-/// piece at a time, before the system is asked again: so none keeps the others waiting for longer than a round.
+/// piece at a time, before the system is asked again: so none keeps the others waiting for longer than a round. A
+/// connection stays in the queue until a call says that there is nothing more to read, or no room to write.
+///
+/// A client may keep its connection for 10 seconds without sending or taking a byte, and has 60 seconds for a request,
+/// from the first byte that was read of it. Where 64 connections are open and one more waits, the one that has been
+/// silent longest and owes nothing is told as silent, too.
 #[derive(Drop)]
 pub struct Sockets<'a> {
     rt: &'a HostRuntime,
     poll: Poll,
     events: Events,
-    listener: TcpListener,
-    /// A connection may wait: no `accept` has said since that there is none.
-    is_waiting: bool,
-    /// The system has said that one waits, and none was taken since.
-    is_sure: bool,
+    listener: Listener,
     peers: Vec<Peer>,
     /// Those that something is to be told of, each once.
     queue: VecDeque<u32>,
@@ -38,61 +42,46 @@ pub struct Sockets<'a> {
     round: usize,
     /// How often changes are looked for, if at all.
     looks: Option<Duration>,
-    /// When the system was last waited at.
+    /// The time, as it was last asked for.
     now: Instant,
+    /// When a look for changes was last over.
     looked: Instant,
+    /// One was told of, and isn't known to be over.
+    is_looking: bool,
     swept: Instant,
 }
 
 impl<'a> Sockets<'a> {
     /// Listens on this port; 0 asks for any that is free. It is time to look for changes this often, if at all. Refused
-    /// with `Device` where the port can't be had, with `Memory` where memory runs out.
+    /// with what the system says where the port can't be had, with `OutOfMemory` where memory runs out.
     pub fn open(
         rt: &'a HostRuntime,
         port: u16,
         looks: Option<Duration>,
-    ) -> Result<Sockets<'a>, TrafficFault> {
-        let now = instant(rt)?;
-        let Ok(poll) = Poll::new(rt) else {
-            return Err(TrafficFault::Device);
-        };
-        let Ok(mut listener) = TcpListener::bind(rt, SocketAddr::from(([127, 0, 0, 1], port)))
-        else {
-            return Err(TrafficFault::Device);
-        };
-        if poll
-            .registry()
-            .register(&mut listener, LISTENER, Interest::READABLE)
-            .is_err()
-        {
-            return Err(TrafficFault::Device);
-        }
-        let Ok(events) = Events::with_capacity(rt.alloc(), EVENTS) else {
-            return Err(TrafficFault::Memory);
-        };
+    ) -> io::Result<Sockets<'a>> {
+        let alloc = rt.alloc();
+        let now = Instant::now(rt)?;
+        let poll = Poll::new(rt)?;
+        let listener = Listener::open(rt, port, poll.registry())?;
         Ok(Sockets {
             rt,
             poll,
-            events,
+            events: Events::with_capacity(alloc, EVENTS)?,
             listener,
-            is_waiting: true,
-            is_sure: false,
-            peers: Vec::new(rt.alloc()),
-            queue: VecDeque::new(rt.alloc()),
+            peers: Vec::with_capacity(alloc, PEERS)?,
+            queue: VecDeque::with_capacity(alloc, 2 * PEERS)?,
             round: 0,
             looks,
             now,
             looked: now,
+            is_looking: false,
             swept: now,
         })
     }
 
-    /// Where it listens. Refused with `Device` where the system doesn't say.
-    pub fn address(&self) -> Result<SocketAddr, TrafficFault> {
-        match self.listener.local_addr() {
-            Ok(address) => Ok(address),
-            Err(_) => Err(TrafficFault::Device),
-        }
+    /// Where it listens. Refused with what the system says where it doesn't tell.
+    pub fn address(&self) -> io::Result<SocketAddr> {
+        self.listener.address()
     }
 
     /// Reads on at the connections that were let go, until their clients close them too, for two seconds at most: where
@@ -135,17 +124,38 @@ impl<'a> Sockets<'a> {
         if self.poll.poll(&mut self.events, Some(timeout)).is_err() {
             return Err(TrafficFault::Device);
         }
-        self.now = instant(self.rt)?;
+        self.refresh();
         for event in &self.events {
             if event.token() == LISTENER {
-                self.is_waiting = true;
-                self.is_sure = true;
+                self.listener.note();
             } else {
                 note(&mut self.peers, &mut self.queue, event)?;
             }
         }
         self.round = self.queue.len();
         Ok(())
+    }
+
+    /// Asks for the time. Where the system doesn't say, it is as before.
+    fn refresh(&mut self) {
+        if let Ok(now) = Instant::now(self.rt) {
+            self.now = now;
+        }
+    }
+
+    /// For how long the system is waited at, where nothing happens.
+    fn patience(&self, room: Room) -> Duration {
+        if !self.queue.is_empty() {
+            return Duration::ZERO;
+        }
+        if room == Room::Free && self.listener.is_paused(self.now) {
+            return Duration::from_millis(RETRY_MILLISECONDS);
+        }
+        let sweep = Duration::from_millis(SWEEP_MILLISECONDS);
+        match self.looks {
+            Some(often) if often < sweep => often,
+            _ => sweep,
+        }
     }
 
     /// The next of the queue, if something is to be told of it.
@@ -158,17 +168,14 @@ impl<'a> Sockets<'a> {
             self.read_on(at);
             return None;
         }
+        if !peer.has_turn() {
+            return None;
+        }
         if peer.is_behind() {
-            return if peer.is_stuck() {
-                None
-            } else {
-                Some(News::Writable(number))
-            };
+            Some(News::Writable(number))
+        } else {
+            Some(News::Readable(number))
         }
-        if peer.may_give() {
-            return Some(News::Readable(number));
-        }
-        None
     }
 
     /// Reads on at a connection that was let go, and closes it where that is enough.
@@ -206,6 +213,16 @@ impl<'a> Sockets<'a> {
         None
     }
 
+    /// A look for changes is over, if there was one. The time until the next is counted from here, since it may have taken
+    /// long.
+    fn end_look(&mut self) {
+        if self.is_looking {
+            self.is_looking = false;
+            self.refresh();
+            self.looked = self.now;
+        }
+    }
+
     /// Whether it is time to look for changes.
     fn looks_now(&self) -> bool {
         match self.looks {
@@ -216,22 +233,15 @@ impl<'a> Sockets<'a> {
 
     /// The connection that has been silent longest and owes nothing, where one more waits for a place.
     fn one_to_go(&mut self) -> Result<Option<u32>, TrafficFault> {
-        if !self.is_waiting {
+        if !self.listener.is_waiting() {
             return Ok(None);
         }
-        if !self.is_sure {
-            // Registered anew, the socket is told of once more where a connection waits.
-            self.is_waiting = false;
-            if self
-                .poll
-                .registry()
-                .reregister(&mut self.listener, LISTENER, Interest::READABLE)
-                .is_err()
-            {
+        if !self.listener.is_sure() {
+            if self.listener.ask_again(self.poll.registry()).is_err() {
                 return Err(TrafficFault::Device);
             }
             self.wait(Duration::ZERO)?;
-            if !self.is_waiting {
+            if !self.listener.is_waiting() {
                 return Ok(None);
             }
         }
@@ -254,6 +264,7 @@ impl<'a> Traffic for Sockets<'a> {
     ghost log = { λ _. None };
 
     fn next(&mut self, room: Room) -> Result<News, TrafficFault> {
+        self.end_look();
         for _ in 0..u64::MAX {
             if self.round > 0 {
                 self.round -= 1;
@@ -262,7 +273,10 @@ impl<'a> Traffic for Sockets<'a> {
                 }
                 continue;
             }
-            if room == Room::Free && self.is_waiting {
+            if room == Room::Free
+                && self.listener.is_waiting()
+                && !self.listener.is_paused(self.now)
+            {
                 return Ok(News::Waiting);
             }
             if room == Room::Full {
@@ -271,7 +285,7 @@ impl<'a> Traffic for Sockets<'a> {
                 }
             }
             if self.looks_now() {
-                self.looked = self.now;
+                self.is_looking = true;
                 return Ok(News::Look);
             }
             if self.now.duration_since(self.swept) >= Duration::from_millis(SWEEP_MILLISECONDS) {
@@ -280,28 +294,15 @@ impl<'a> Traffic for Sockets<'a> {
                 }
                 self.swept = self.now;
             }
-            let timeout = if self.queue.is_empty() {
-                self.looks
-                    .unwrap_or(Duration::from_millis(SWEEP_MILLISECONDS))
-            } else {
-                Duration::ZERO
-            };
-            self.wait(timeout)?;
+            self.wait(self.patience(room))?;
         }
         Err(TrafficFault::Endless)
     }
 
     fn take(&mut self, number: u32) -> Result<bool, TrafficFault> {
-        self.is_sure = false;
-        let mut stream = match self.listener.accept() {
-            Ok((stream, _)) => stream,
-            Err(error) if error.kind() == ErrorKind::WouldBlock => {
-                self.is_waiting = false;
-                return Ok(false);
-            }
-            // A client that has gone again is no fault of the socket.
-            Err(error) if is_passing(error.kind()) => return Ok(false),
-            Err(_) => return Err(TrafficFault::Device),
+        self.refresh();
+        let Some(mut stream) = self.listener.accept(self.now)? else {
+            return Ok(false);
         };
         if !self.register(&mut stream, number) {
             return Ok(false);
@@ -322,56 +323,40 @@ impl<'a> Traffic for Sockets<'a> {
         let Some(peer) = self.peers.get_mut(at) else {
             return Reading::Gone;
         };
-        match peer.fill(self.now) {
-            Found::Bytes => {}
-            Found::Nothing => return Reading::Later,
-            Found::Again => {
-                return if enqueue(&mut self.queue, peer) {
-                    Reading::Later
-                } else {
-                    Reading::Gone
-                };
-            }
+        let count = match peer.fill(self.now) {
+            Found::Bytes => peer.give(piece, self.now),
+            Found::Nothing | Found::Again => 0,
             Found::End => return Reading::Ended,
             Found::Broken => return Reading::Gone,
-        }
-        if piece.is_empty() {
-            return Reading::Later;
-        }
-        let count = peer.give(piece, self.now);
-        if peer.may_give() && !enqueue(&mut self.queue, peer) {
+        };
+        if peer.has_turn() && !enqueue(&mut self.queue, peer) {
             return Reading::Gone;
         }
         if count == 0 {
-            return Reading::Later;
+            Reading::Later
+        } else {
+            Reading::Got(count)
         }
-        Reading::Got(count)
     }
 
     fn write(&mut self, number: u32, bytes: &[u8]) -> Writing {
+        // What is written may have taken long to make.
+        self.refresh();
         let Some(at) = self.find(number) else {
             return Writing::Gone;
         };
         let Some(peer) = self.peers.get_mut(at) else {
             return Writing::Gone;
         };
-        match peer.write(bytes, self.now) {
-            Ok(count) => {
-                if !peer.is_behind() && peer.may_give() && !enqueue(&mut self.queue, peer) {
-                    return Writing::Gone;
-                }
-                Writing::Took(count)
-            }
-            Err(error) if error.kind() == ErrorKind::WouldBlock => Writing::Took(0),
-            Err(error) if error.kind() == ErrorKind::Interrupted => {
-                if enqueue(&mut self.queue, peer) {
-                    Writing::Took(0)
-                } else {
-                    Writing::Gone
-                }
-            }
-            Err(_) => Writing::Gone,
+        let count = match peer.write(bytes, self.now) {
+            Ok(count) => count,
+            Err(error) if may_pass(error.kind()) => 0,
+            Err(_) => return Writing::Gone,
+        };
+        if peer.has_turn() && !enqueue(&mut self.queue, peer) {
+            return Writing::Gone;
         }
+        Writing::Took(count)
     }
 
     /// Tells the client that nothing more comes, and reads on until it closes its side too: where bytes are left unread,
@@ -389,7 +374,7 @@ impl<'a> Traffic for Sockets<'a> {
             self.close(at);
             return true;
         }
-        if peer.may_give() && !enqueue(&mut self.queue, peer) {
+        if peer.has_turn() && !enqueue(&mut self.queue, peer) {
             self.close(at);
         }
         true
@@ -435,14 +420,7 @@ fn is_before(peer: &Peer, other: Option<&Peer>) -> bool {
     }
 }
 
-/// Whether the next call may well succeed.
-fn is_passing(kind: ErrorKind) -> bool {
-    kind == ErrorKind::ConnectionAborted || kind == ErrorKind::Interrupted
-}
-
-fn instant(rt: &HostRuntime) -> Result<Instant, TrafficFault> {
-    match Instant::now(rt) {
-        Ok(now) => Ok(now),
-        Err(_) => Err(TrafficFault::Device),
-    }
+/// Whether a write that failed may well succeed later.
+fn may_pass(kind: ErrorKind) -> bool {
+    kind == ErrorKind::WouldBlock || kind == ErrorKind::Interrupted
 }

@@ -1,5 +1,5 @@
 use Rattle.std.proofs.Common.{refl}
-use Rattle.osm_desk.proofs.PublishLemmas.{refuses, second_next}
+use Rattle.osm_desk.proofs.PublishLemmas.{refuses}
 use Rattle.osm_desk.proofs.StepLemmas.{refused_by}
 use Rattle.osm_desk.proofs.TableLemmas.{held_inside}
 use Rattle.osm_desk.proofs.desk.Desk.publish.Goals as goal
@@ -10,10 +10,6 @@ returns-in_err-apply-clause-refused c = λ p holds.
     refused_by _ c.from_residual.result c.in_err-apply.field-0.0 c.from_residual.ensures.1
     (refuses p c.self.inside.snapshot held c.args.changes.now c.apply.result c.apply.ensures.last (c.apply.ensures.twice p held) (c.apply.ensures.missing p held)
     (c.apply.ensures.too_many p held) (c.apply.ensures.clash p held) c.in_err-apply.field-0.0 c.in_err-apply.was)
-
-pub invariant_of-self-2 : goal.invariant_of-self-2
-invariant_of-self-2 c =
-    second_next c.self.inside.snapshot c.apply.new.self c.self.invariant (λ p held. let (q, holds, applied, edition) = c.in_ok-apply.ensures.applied p held in (q, holds, edition))
 
 pub returns-clause-made : goal.returns-clause-made
 returns-clause-made c = λ p holds.
