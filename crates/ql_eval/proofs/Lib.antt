@@ -7,6 +7,7 @@ pub mod NameLemmas
 pub mod StepLemmas
 pub mod EachLemmas
 pub mod LoopLemmas
+pub mod GivenLemmas
 pub mod BodyItems
 pub mod Founding
 pub mod LinkLemmas

@@ -16,7 +16,7 @@ use Rattle.tree_walk.specs.Ranges.{Range}
 use Rattle.tree_walk.specs.Reasons.{HasReason}
 use Rattle.tree_walk.specs.declared.fault.WalkFault.{WalkFault}
 use Rattle.tree_walk.specs.declared.fault.WalkFault.TheVariants as walks
-use Rattle.ql_eval.specs.Forms.{HasForm}
+use Rattle.ql_eval.specs.Forms.{HasForm, Names}
 use Rattle.ql_eval.specs.Openings.{HasMalformed}
 use Rattle.ql_eval.specs.declared.fault.EvalFault.{EvalFault}
 use Rattle.ql_eval.specs.declared.fault.EvalFault.TheVariants as faults
@@ -40,18 +40,27 @@ pub record HasMalformedEntry (used : List ℕ → Type 0) (found : Manifest) : T
 abbrev pub IsAbsent : (used : List ℕ → Type 0) → Manifest → Ref → Type 0
 IsAbsent used found r = Gives used Objects (top_among found.tops Objects) (object_range r) (These [])
 
+-- the used nodes give an entry that names this object: one that puts it, gives it a tag, places it, or says that it lists
+-- another one
+pub record IsNamedIn (used : List ℕ → Type 0) (found : Manifest) (r : Ref) : Type 0 where
+  pub tree : Tree
+  pub range : Range
+  pub entry : Binding
+  pub given : IsGivenEntry used (number_of tree) (top_among found.tops tree) range entry
+  pub names : Names tree entry r
+
 -- ---- under a root
 
 -- a manifest is held under the root, and this is true of it
 abbrev pub HoldsUnder : (held : List ℕ → Type 0) → (root : List ℕ) → (Manifest → Type 0) → Type 0
 HoldsUnder held root So = (found : Manifest) × held (manifest_bytes found) × (digest (manifest_bytes found) ≡ root) × So found
 
--- the fault is true of the nodes: E1 that a walk had its reason, E2 that an entry isn't of its form, E3 that some object
--- isn't there, E4 that no manifest is held under the root. Out of memory says nothing of them.
+-- the fault is true of the nodes: E1 that a walk had its reason, E2 that an entry isn't of its form, E3 that an entry
+-- names an object that isn't there, E4 that no manifest is held under the root. Out of memory says nothing of them.
 abbrev pub HasFault : (held used : List ℕ → Type 0) → (root : List ℕ) → EvalFault → Type 0
 HasFault held used root (faults.Walk fault) = HoldsUnder held root (λ found. HasWalkFault held used found fault)
 HasFault held used root faults.Form = HoldsUnder held root (HasMalformedEntry used)
-HasFault held used root faults.Absent = HoldsUnder held root (λ found. (r : Ref) × IsAbsent used found r)
+HasFault held used root faults.Absent = HoldsUnder held root (λ found. (r : Ref) × IsNamedIn used found r × IsAbsent used found r)
 HasFault held used root (faults.Manifest openings.Missing) = HasNone held root
 HasFault held used root (faults.Manifest openings.Malformed) = HasMalformed held root
 HasFault held used root (faults.Manifest openings.Memory) = ⊥

@@ -14,6 +14,7 @@ pub mod Lawful
 pub mod Narrowing
 pub mod Counting
 pub mod Printing
+pub mod Giving
 pub mod Told
 pub mod Uses
 pub mod Objects

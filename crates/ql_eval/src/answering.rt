@@ -12,6 +12,7 @@ ghost use Rattle.ql_eval.specs.Faults.{cause_of_evaluation};
 ghost use Rattle.ql_eval.specs.Questions.{NeededBy};
 ghost use Rattle.ql_eval.specs.Written.{HasWritten};
 ghost use Rattle.ql_eval.specs.internal.Links.{AreAllThere};
+ghost use Rattle.ql_eval.specs.internal.Giving.{AllSetsGiven};
 ghost use Rattle.ql_eval.specs.internal.Uses.{nodes_around};
 
 use crate::fault::EvalFault;
@@ -57,9 +58,11 @@ fn answer_statement<'q, W: Source, T: Sink>(
     source: &mut W,
     sink: &mut T,
 ) -> Result<(), EvalFault>
+    requires { AllSetsGiven (W.gave source.old) (lists_of sets.old.named.items) }
     ensures later { W.later source.old source.new }
     ensures walked { OnOk result (W.walked source.old source.new) }
     ensures told { IfErr result (W.tells source.new) }
+    ensures named { OnOk result (AllSetsGiven (W.gave source.new) (lists_of sets.new.named.items)) }
     ensures kept { T.kept sink.new ≡ T.kept sink.old }
     ensures wrote { (text : List ℕ) × HasWritten (T.stands sink.old) (T.stands sink.new) text }
     ensures answer { (p : Publication) → IsPublication p → W.under source.old p

@@ -14,6 +14,7 @@ ghost use Rattle.ql_eval.specs.Questions.{NeededBy};
 ghost use Rattle.ql_eval.specs.internal.Links.{AreAllThere, AreThere};
 ghost use Rattle.ql_eval.specs.internal.Selecting.{IsKeptBy, IsTestAsk};
 ghost use Rattle.ql_eval.specs.internal.Narrowing.{IsNamedByAll};
+ghost use Rattle.ql_eval.specs.internal.Giving.{AllGiven, AllSetsGiven};
 ghost use Rattle.ql_eval.specs.internal.Uses.{nodes_around};
 
 use crate::fault::EvalFault;
@@ -35,9 +36,12 @@ pub(crate) fn apply_filters<W: Source>(
     after: &[Filter<'_>],
     sets: &NamedSets<'_>,
 ) -> Result<RefSet, EvalFault>
+    requires named { AllGiven (W.gave source.old) candidates }
+    requires sets_named { AllSetsGiven (W.gave source.old) (lists_of sets.now.named.items) }
     ensures later { W.later source.old source.new }
     ensures walked { OnOk result (W.walked source.old source.new) }
     ensures told { IfErr result (W.tells source.new) }
+    ensures named { IfOk result (AllGiven (W.gave source.new)) }
     ensures answer { (p : Publication) → IsPublication p → W.under source.old p
         → AreThere p.objects candidates → AreAllThere p.objects (lists_of sets.now.named.items)
         → Outcome cause_of_evaluation
@@ -64,9 +68,12 @@ fn filter_by_both<W: Source>(
     after: &[Filter<'_>],
     sets: &NamedSets<'_>,
 ) -> Result<RefSet, EvalFault>
+    requires named { AllGiven (W.gave source.old) refs }
+    requires sets_named { AllSetsGiven (W.gave source.old) (lists_of sets.now.named.items) }
     ensures later { W.later source.old source.new }
     ensures walked { OnOk result (W.walked source.old source.new) }
     ensures told { IfErr result (W.tells source.new) }
+    ensures named { IfOk result (AllGiven (W.gave source.new)) }
     ensures answer { (p : Publication) → IsPublication p → W.under source.old p
         → AreAllThere p.objects (lists_of sets.now.named.items)
         → Outcome cause_of_evaluation

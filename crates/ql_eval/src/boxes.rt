@@ -14,6 +14,8 @@ ghost use Rattle.ref_sets.specs.Adding.{Adds};
 ghost use Rattle.ql_eval.specs.Asks.{IsAskedInBox, IsInBox};
 ghost use Rattle.ql_eval.specs.Faults.{cause_of_evaluation};
 ghost use Rattle.ql_eval.specs.Openings.{IsUnder};
+ghost use Rattle.ql_eval.specs.Told.{IsNamedIn};
+ghost use Rattle.ql_eval.specs.internal.Giving.{AllGiven};
 ghost use Rattle.ql_eval.specs.internal.Told.{IsTold};
 ghost use Rattle.ql_eval.specs.Questions.{NeededBy};
 ghost use Rattle.ql_eval.specs.internal.Boxes.{IsCellsAsk, IsFoundIn};
@@ -45,6 +47,7 @@ pub(crate) fn find_in_box<'a, S: Shelf<'a>>(
         (nodes_around S.holds S.used shelf.old shelf.new)
         tally.old.calls tally.new.calls tally.old.fetches tally.new.fetches) }
     ensures told { IfErr result (IsTold (S.holds shelf.new) (S.used shelf.new) manifest.now) }
+    ensures named { IfOk result (AllGiven (IsNamedIn (S.used shelf.new) manifest.now)) }
     ensures answer { (p : Publication) → IsPublication p → IsUnder p manifest.now
         → Outcome cause_of_evaluation
         (λ names. IsSetOf names (IsRefOf p.objects (IsInBox area.now)))
@@ -69,12 +72,14 @@ fn add_range<'a, S: Shelf<'a>>(
     tally: &mut Tally,
     names: &mut Vec<Ref>,
 ) -> Result<(), EvalFault>
+    requires { AllGiven (IsNamedIn (S.used shelf.old) manifest.now) names.old.items }
     ensures stays { SameNodes (S.holds shelf.old) (S.holds shelf.new) }
     ensures grows { (bytes : List ℕ) → S.used shelf.old bytes → S.used shelf.new bytes }
     ensures walked { OnOk result (HasGiven (top_among manifest.now.tops) HaveForm
         (nodes_around S.holds S.used shelf.old shelf.new)
         tally.old.calls tally.new.calls tally.old.fetches tally.new.fetches) }
     ensures told { IfErr result (IsTold (S.holds shelf.new) (S.used shelf.new) manifest.now) }
+    ensures named { OnOk result (AllGiven (IsNamedIn (S.used shelf.new) manifest.now) names.new.items) }
     ensures answer { (p : Publication) → IsPublication p → IsUnder p manifest.now
         → Outcome cause_of_evaluation
         (λ _. Adds names.old.items names.new.items (IsFoundIn p.objects area.now keys.now))

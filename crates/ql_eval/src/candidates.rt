@@ -23,6 +23,7 @@ ghost use Rattle.ql_eval.specs.Questions as questions;
 ghost use Rattle.ql_eval.specs.internal.Candidates.{IsKeptOf, IsKindAsk, IsOfIds, IsOfThisKind, IsWith};
 ghost use Rattle.ql_eval.specs.internal.Entries.{IsThere};
 ghost use Rattle.ql_eval.specs.internal.Links.{AreAllThere};
+ghost use Rattle.ql_eval.specs.internal.Giving.{AllGiven, AllSetsGiven};
 ghost use Rattle.ql_eval.specs.internal.Uses.{nodes_around};
 
 use crate::fault::EvalFault;
@@ -44,10 +45,12 @@ pub(crate) fn find_candidates<W: Source>(
     base: Option<&Filter<'_>>,
     sets: &NamedSets<'_>,
 ) -> Result<RefSet, EvalFault>
-    requires { ForSome (option_map (λ f. filter_of f.now) base) (λ base. rank_of base < never) }
+    requires base { ForSome (option_map (λ f. filter_of f.now) base) (λ base. rank_of base < never) }
+    requires named { AllSetsGiven (W.gave source.old) (lists_of sets.now.named.items) }
     ensures later { W.later source.old source.new }
     ensures walked { OnOk result (W.walked source.old source.new) }
     ensures told { IfErr result (W.tells source.new) }
+    ensures named { IfOk result (AllGiven (W.gave source.new)) }
     ensures answer { (p : Publication) → IsPublication p → W.under source.old p
         → AreAllThere p.objects (lists_of sets.now.named.items)
         → ForSome (option_map (λ f. filter_of f.now) base.entry) (Allows pick)
@@ -68,6 +71,7 @@ fn of_kinds<W: Source>(alloc: Global, source: &mut W, kinds: &[Kind]) -> Result<
     ensures later { W.later source.old source.new }
     ensures walked { OnOk result (W.walked source.old source.new) }
     ensures told { IfErr result (W.tells source.new) }
+    ensures named { IfOk result (AllGiven (W.gave source.new)) }
     ensures answer { (p : Publication) → IsPublication p → W.under source.old p
         → Outcome cause_of_evaluation
         (λ refs. IsSetOf refs (From kinds.now (IsOfThisKind p.objects)))
@@ -83,9 +87,11 @@ fn of_kinds<W: Source>(alloc: Global, source: &mut W, kinds: &[Kind]) -> Result<
 
 /// Adds the objects of a kind.
 fn add_kind<W: Source>(source: &mut W, kind: Kind, refs: &mut Vec<Ref>) -> Result<(), EvalFault>
+    requires { AllGiven (W.gave source.old) refs.old.items }
     ensures later { W.later source.old source.new }
     ensures walked { OnOk result (W.walked source.old source.new) }
     ensures told { IfErr result (W.tells source.new) }
+    ensures named { OnOk result (AllGiven (W.gave source.new) refs.new.items) }
     ensures answer { (p : Publication) → IsPublication p → W.under source.old p
         → Outcome cause_of_evaluation
         (λ _. Adds refs.old.items refs.new.items (IsOfThisKind p.objects kind))
@@ -105,10 +111,12 @@ fn kept_by<W: Source>(
     filter: &Filter<'_>,
     sets: &NamedSets<'_>,
 ) -> Result<RefSet, EvalFault>
-    requires { rank_of (filter_of filter.now) < never }
+    requires base { rank_of (filter_of filter.now) < never }
+    requires named { AllSetsGiven (W.gave source.old) (lists_of sets.now.named.items) }
     ensures later { W.later source.old source.new }
     ensures walked { OnOk result (W.walked source.old source.new) }
     ensures told { IfErr result (W.tells source.new) }
+    ensures named { IfOk result (AllGiven (W.gave source.new)) }
     ensures answer { (p : Publication) → IsPublication p → W.under source.old p
         → AreAllThere p.objects (lists_of sets.now.named.items) → Allows pick (filter_of filter.now)
         → Outcome cause_of_evaluation
@@ -143,6 +151,7 @@ fn with_ids<W: Source>(
     ensures later { W.later source.old source.new }
     ensures walked { OnOk result (W.walked source.old source.new) }
     ensures told { IfErr result (W.tells source.new) }
+    ensures named { IfOk result (AllGiven (W.gave source.new)) }
     ensures answer { (p : Publication) → IsPublication p → W.under source.old p
         → Outcome cause_of_evaluation
         (λ refs. IsSetOf refs (λ r. IsOfIds kind ids.now r × IsThere p.objects r))
@@ -184,6 +193,7 @@ fn with_key<W: Source>(
     ensures later { W.later source.old source.new }
     ensures walked { OnOk result (W.walked source.old source.new) }
     ensures told { IfErr result (W.tells source.new) }
+    ensures named { IfOk result (AllGiven (W.gave source.new)) }
     ensures answer { (p : Publication) → IsPublication p → W.under source.old p → HasNoNul key.now
         → Outcome cause_of_evaluation
         (λ refs. IsSetOf refs
@@ -205,6 +215,7 @@ fn in_box<W: Source>(
     ensures later { W.later source.old source.new }
     ensures walked { OnOk result (W.walked source.old source.new) }
     ensures told { IfErr result (W.tells source.new) }
+    ensures named { IfOk result (AllGiven (W.gave source.new)) }
     ensures answer { (p : Publication) → IsPublication p → W.under source.old p
         → Outcome cause_of_evaluation
         (λ refs. IsSetOf refs (λ r. IsRefOf p.objects (IsInBox area.now) r × IsKindOf kind r))

@@ -11,6 +11,7 @@ ghost use Rattle.ql_eval.specs.Questions.{NeededBy};
 ghost use Rattle.ql_eval.specs.internal.Chains.{IsEnd, IsEndAsk, Leads, LeadsAsk};
 ghost use Rattle.ql_eval.specs.internal.Founds.{Goes, IsConsistent};
 ghost use Rattle.ql_eval.specs.internal.Links.{AreThere};
+ghost use Rattle.ql_eval.specs.internal.Giving.{AllGiven};
 ghost use Rattle.ql_eval.specs.internal.Uses.{nodes_around};
 
 use crate::fault::EvalFault;
@@ -38,9 +39,11 @@ pub(crate) fn closure<W: Source>(
     from: &[Ref],
     direction: Direction,
 ) -> Result<RefSet, EvalFault>
+    requires { AllGiven (W.gave source.old) from.now }
     ensures later { W.later source.old source.new }
     ensures walked { OnOk result (W.walked source.old source.new) }
     ensures told { IfErr result (W.tells source.new) }
+    ensures named { IfOk result (AllGiven (W.gave source.new)) }
     ensures answer { (p : Publication) → IsPublication p → W.under source.old p
         → AreThere p.objects from.now
         → Outcome cause_of_evaluation (λ refs. IsSetOf refs (IsEnd direction p.objects from.now))
@@ -67,9 +70,11 @@ fn one_link<W: Source>(
     names: &[Ref],
     direction: Direction,
 ) -> Result<RefSet, EvalFault>
+    requires { AllGiven (W.gave source.old) names.now }
     ensures later { W.later source.old source.new }
     ensures walked { OnOk result (W.walked source.old source.new) }
     ensures told { IfErr result (W.tells source.new) }
+    ensures named { IfOk result (AllGiven (W.gave source.new)) }
     ensures answer { (p : Publication) → IsPublication p → W.under source.old p
         → AreThere p.objects names.now
         → Outcome cause_of_evaluation

@@ -13,6 +13,7 @@ ghost use Rattle.ql_eval.specs.internal.Entries.{IsThere};
 ghost use Rattle.ql_eval.specs.internal.Links.{AreThere, IsObjectAsk};
 ghost use Rattle.ql_eval.specs.internal.Objects.{AreKnownThere, IsKnownThere};
 ghost use Rattle.ql_eval.specs.internal.Narrowing.{IsPassingAs, PassesAll, PassesItself, PassesPath};
+ghost use Rattle.ql_eval.specs.internal.Giving.{AllGiven};
 ghost use Rattle.ql_eval.specs.internal.Uses.{nodes_around};
 
 use crate::fault::EvalFault;
@@ -34,9 +35,11 @@ pub(crate) fn filter_by_object<W: Source>(
     after: &[Filter<'_>],
     sets: &NamedSets<'_>,
 ) -> Result<RefSet, EvalFault>
+    requires { AllGiven (W.gave source.old) candidates.now }
     ensures later { W.later source.old source.new }
     ensures walked { OnOk result (W.walked source.old source.new) }
     ensures told { IfErr result (W.tells source.new) }
+    ensures named { IfOk result (AllGiven (W.gave source.new)) }
     ensures there { OnOk result (AreKnownThere (W.knows source.new) candidates.now) }
     ensures answer { (p : Publication) → IsPublication p → W.under source.old p
         → AreThere p.objects candidates.now
@@ -63,9 +66,12 @@ fn add_passing<W: Source>(
     sets: &NamedSets<'_>,
     refs: &mut Vec<Ref>,
 ) -> Result<(), EvalFault>
+    requires name_named { W.gave source.old name }
+    requires named { AllGiven (W.gave source.old) refs.old.items }
     ensures later { W.later source.old source.new }
     ensures walked { OnOk result (W.walked source.old source.new) }
     ensures told { IfErr result (W.tells source.new) }
+    ensures named { OnOk result (AllGiven (W.gave source.new) refs.new.items) }
     ensures there { OnOk result (IsKnownThere (W.knows source.new) name) }
     ensures answer { (p : Publication) → IsPublication p → W.under source.old p
         → IsThere p.objects name

@@ -14,6 +14,7 @@ ghost use Rattle.ql_eval.specs.Faults.{cause_of_evaluation};
 ghost use Rattle.ql_eval.specs.Questions.{NeededBy, object_ask};
 ghost use Rattle.ql_eval.specs.internal.Links.{AreAllThere, AreThere};
 ghost use Rattle.ql_eval.specs.internal.Narrowing.{AskedByPathDown, HasId, IsNamedBy, IsNamedByAll, IsNamedOnPath};
+ghost use Rattle.ql_eval.specs.internal.Giving.{AllGiven, AllSetsGiven};
 ghost use Rattle.ql_eval.specs.internal.Uses.{nodes_around};
 
 use crate::fault::EvalFault;
@@ -33,9 +34,12 @@ pub(crate) fn filter_by_reference<W: Source>(
     filters: &[Filter<'_>],
     sets: &NamedSets<'_>,
 ) -> Result<RefSet, EvalFault>
+    requires named { AllGiven (W.gave source.old) refs }
+    requires sets_named { AllSetsGiven (W.gave source.old) (lists_of sets.now.named.items) }
     ensures later { W.later source.old source.new }
     ensures walked { OnOk result (W.walked source.old source.new) }
     ensures told { IfErr result (W.tells source.new) }
+    ensures named { IfOk result (AllGiven (W.gave source.new)) }
     ensures answer { (p : Publication) → IsPublication p → W.under source.old p
         → AreAllThere p.objects (lists_of sets.now.named.items)
         → Outcome cause_of_evaluation
@@ -61,9 +65,12 @@ fn named<W: Source>(
     filter: &Filter<'_>,
     sets: &NamedSets<'_>,
 ) -> Result<RefSet, EvalFault>
+    requires named { AllGiven (W.gave source.old) refs }
+    requires sets_named { AllSetsGiven (W.gave source.old) (lists_of sets.now.named.items) }
     ensures later { W.later source.old source.new }
     ensures walked { OnOk result (W.walked source.old source.new) }
     ensures told { IfErr result (W.tells source.new) }
+    ensures named { IfOk result (AllGiven (W.gave source.new)) }
     ensures answer { (p : Publication) → IsPublication p → W.under source.old p
         → AreAllThere p.objects (lists_of sets.now.named.items)
         → Outcome cause_of_evaluation
@@ -121,9 +128,12 @@ fn on_path<W: Source>(
     path: Path,
     from: &RefSet,
 ) -> Result<RefSet, EvalFault>
+    requires named { AllGiven (W.gave source.old) refs }
+    requires from_named { AllGiven (W.gave source.old) from.now }
     ensures later { W.later source.old source.new }
     ensures walked { OnOk result (W.walked source.old source.new) }
     ensures told { IfErr result (W.tells source.new) }
+    ensures named { IfOk result (AllGiven (W.gave source.new)) }
     ensures answer { (p : Publication) → IsPublication p → W.under source.old p
         → AreThere p.objects from.now
         → Outcome cause_of_evaluation
@@ -150,9 +160,12 @@ fn listed_from<W: Source>(
 ) -> Result<RefSet, EvalFault>
     // Nodes list nothing, and aren't asked.
     requires parent { kind ≢ kinds.Node }
+    requires named { AllGiven (W.gave source.old) refs.now }
+    requires from_named { AllGiven (W.gave source.old) from.now }
     ensures later { W.later source.old source.new }
     ensures walked { OnOk result (W.walked source.old source.new) }
     ensures told { IfErr result (W.tells source.new) }
+    ensures named { IfOk result (AllGiven (W.gave source.new)) }
     ensures answer { (p : Publication) → IsPublication p → W.under source.old p
         → AreThere p.objects from.now
         → Outcome cause_of_evaluation

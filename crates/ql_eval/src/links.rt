@@ -12,6 +12,7 @@ ghost use Rattle.ql_eval.specs.Questions.{NeededBy};
 ghost use Rattle.ql_eval.specs.internal.Entries.{IsThere};
 ghost use Rattle.ql_eval.specs.internal.Links.{AreThere, IsBackAsk, IsBelowAsk, IsListedIn, IsListedOf, IsObjectAsk, IsParentAsk, IsThereAs, ListsIt};
 ghost use Rattle.ql_eval.specs.internal.Objects.{AreKnownParents, IsKnownParent};
+ghost use Rattle.ql_eval.specs.internal.Giving.{AllGiven};
 ghost use Rattle.ql_eval.specs.internal.Uses.{nodes_around};
 
 use crate::fault::EvalFault;
@@ -29,6 +30,7 @@ pub(crate) fn members_of<W: Source>(
     source: &mut W,
     names: &[Ref],
 ) -> Result<RefSet, EvalFault>
+    requires { AllGiven (W.gave source.old) names.now }
     ensures later { W.later source.old source.new }
     ensures walked { OnOk result (W.walked source.old source.new) }
     ensures told { IfErr result (W.tells source.new) }
@@ -48,6 +50,7 @@ pub(crate) fn members_of<W: Source>(
 
 /// Adds what the object with a reference lists.
 fn add_listed<W: Source>(source: &mut W, name: Ref, listed: &mut Vec<Ref>) -> Result<(), EvalFault>
+    requires { W.gave source.old name }
     ensures later { W.later source.old source.new }
     ensures walked { OnOk result (W.walked source.old source.new) }
     ensures told { IfErr result (W.tells source.new) }
@@ -81,6 +84,7 @@ pub(crate) fn those_there<W: Source>(
     ensures later { W.later source.old source.new }
     ensures walked { OnOk result (W.walked source.old source.new) }
     ensures told { IfErr result (W.tells source.new) }
+    ensures named { IfOk result (AllGiven (W.gave source.new)) }
     ensures answer { (p : Publication) → IsPublication p → W.under source.old p
         → Outcome cause_of_evaluation (λ refs. IsSetOf refs (From names.now (IsThereAs p.objects)))
         (NeededBy p (From names.now IsObjectAsk))
@@ -95,9 +99,11 @@ pub(crate) fn those_there<W: Source>(
 
 /// Adds a reference where its object is there.
 fn add_there<W: Source>(source: &mut W, name: Ref, there: &mut Vec<Ref>) -> Result<(), EvalFault>
+    requires { AllGiven (W.gave source.old) there.old.items }
     ensures later { W.later source.old source.new }
     ensures walked { OnOk result (W.walked source.old source.new) }
     ensures told { IfErr result (W.tells source.new) }
+    ensures named { OnOk result (AllGiven (W.gave source.new) there.new.items) }
     ensures answer { (p : Publication) → IsPublication p → W.under source.old p
         → Outcome cause_of_evaluation
         (λ _. Adds there.old.items there.new.items (IsThereAs p.objects name))
@@ -121,6 +127,7 @@ pub(crate) fn referrers_of<W: Source>(
     ensures later { W.later source.old source.new }
     ensures walked { OnOk result (W.walked source.old source.new) }
     ensures told { IfErr result (W.tells source.new) }
+    ensures named { IfOk result (AllGiven (W.gave source.new)) }
     ensures answer { (p : Publication) → IsPublication p → W.under source.old p
         → Outcome cause_of_evaluation
         (λ refs. IsSetOf refs (From names.now (ListsIt p.objects kind)))
@@ -141,9 +148,11 @@ fn add_referrers<W: Source>(
     kind: Option<Kind>,
     refs: &mut Vec<Ref>,
 ) -> Result<(), EvalFault>
+    requires { AllGiven (W.gave source.old) refs.old.items }
     ensures later { W.later source.old source.new }
     ensures walked { OnOk result (W.walked source.old source.new) }
     ensures told { IfErr result (W.tells source.new) }
+    ensures named { OnOk result (AllGiven (W.gave source.new) refs.new.items) }
     ensures answer { (p : Publication) → IsPublication p → W.under source.old p
         → Outcome cause_of_evaluation
         (λ _. Adds refs.old.items refs.new.items (ListsIt p.objects kind name))
@@ -163,9 +172,11 @@ pub(crate) fn members_there<W: Source>(
     first: Kind,
     last: Kind,
 ) -> Result<RefSet, EvalFault>
+    requires { AllGiven (W.gave source.old) names.now }
     ensures later { W.later source.old source.new }
     ensures walked { OnOk result (W.walked source.old source.new) }
     ensures told { IfErr result (W.tells source.new) }
+    ensures named { IfOk result (AllGiven (W.gave source.new)) }
     ensures answer { (p : Publication) → IsPublication p → W.under source.old p
         → AreThere p.objects names.now
         → Outcome cause_of_evaluation

@@ -12,6 +12,8 @@ ghost use Rattle.ql_meaning.specs.Values.{IsRefOf};
 ghost use Rattle.ql_eval.specs.Faults.{cause_of_evaluation};
 ghost use Rattle.ql_eval.specs.Forms.{HaveForm};
 ghost use Rattle.ql_eval.specs.Openings.{IsUnder};
+ghost use Rattle.ql_eval.specs.Told.{IsNamedIn};
+ghost use Rattle.ql_eval.specs.internal.Giving.{AllGiven};
 ghost use Rattle.ql_eval.specs.internal.Told.{IsTold};
 ghost use Rattle.ql_eval.specs.Questions.{Answers, HasNoNulIn, IsCountOf, NeedsAsk, count_ask, names_ask, range_asked, tree_asked};
 ghost use Rattle.ql_eval.specs.internal.Entries.{TargetFits};
@@ -47,6 +49,7 @@ pub(crate) fn find_names<'a, S: Shelf<'a>>(
         (nodes_around S.holds S.used shelf.old shelf.new)
         tally.old.calls tally.new.calls tally.old.fetches tally.new.fetches) }
     ensures told { IfErr result (IsTold (S.holds shelf.new) (S.used shelf.new) manifest.now) }
+    ensures named { IfOk result (AllGiven (IsNamedIn (S.used shelf.new) manifest.now)) }
     ensures answer { (p : Publication) → IsPublication p → IsUnder p manifest.now
         → HasNoNulIn (question_of question.now)
         → Outcome cause_of_evaluation

@@ -10,6 +10,7 @@ ghost use Rattle.ql_eval.specs.Faults.{cause_of_evaluation};
 ghost use Rattle.ql_eval.specs.Questions.{NeededBy};
 ghost use Rattle.ql_eval.specs.internal.Links.{AreThere};
 ghost use Rattle.ql_eval.specs.internal.Paths.{IsAt, IsBelowOf};
+ghost use Rattle.ql_eval.specs.internal.Giving.{AllGiven};
 ghost use Rattle.ql_eval.specs.internal.Uses.{nodes_around};
 
 use crate::fault::EvalFault;
@@ -30,9 +31,11 @@ pub(crate) fn on_path<W: Source>(
     set: &RefSet,
     kind: Option<Kind>,
 ) -> Result<RefSet, EvalFault>
+    requires { AllGiven (W.gave source.old) set.now }
     ensures later { W.later source.old source.new }
     ensures walked { OnOk result (W.walked source.old source.new) }
     ensures told { IfErr result (W.tells source.new) }
+    ensures named { IfOk result (AllGiven (W.gave source.new)) }
     ensures answer { (p : Publication) → IsPublication p → W.under source.old p
         → AreThere p.objects set.now
         → Outcome cause_of_evaluation (λ refs. IsSetOf refs (IsAt p.objects set.now kind path))
@@ -56,9 +59,11 @@ fn below_of<W: Source>(
     from: Kind,
     kind: Option<Kind>,
 ) -> Result<RefSet, EvalFault>
+    requires { AllGiven (W.gave source.old) set.now }
     ensures later { W.later source.old source.new }
     ensures walked { OnOk result (W.walked source.old source.new) }
     ensures told { IfErr result (W.tells source.new) }
+    ensures named { IfOk result (AllGiven (W.gave source.new)) }
     ensures answer { (p : Publication) → IsPublication p → W.under source.old p
         → AreThere p.objects set.now → from ≢ kinds.Node
         → Outcome cause_of_evaluation (λ refs. IsSetOf refs (IsBelowOf p.objects set.now from kind))

@@ -15,6 +15,7 @@ ghost use Rattle.ql_eval.specs.internal.Entries.{IsThere};
 ghost use Rattle.ql_eval.specs.internal.Links.{AreThere, IsObjectAsk};
 ghost use Rattle.ql_eval.specs.internal.Objects.{AreKnownThere, IsKnownThere};
 ghost use Rattle.ql_eval.specs.internal.Printing.{line_at, lines_at, name_line, name_lines};
+ghost use Rattle.ql_eval.specs.internal.Giving.{AllGiven};
 ghost use Rattle.ql_eval.specs.internal.Uses.{nodes_around};
 
 use crate::fault::EvalFault;
@@ -35,6 +36,7 @@ pub(crate) fn print<W: Source, T: Sink>(
     limit: Option<u64>,
     sink: &mut T,
 ) -> Result<(), EvalFault>
+    requires { AllGiven (W.gave source.old) refs.now }
     ensures later { W.later source.old source.new }
     ensures walked { OnOk result (W.walked source.old source.new) }
     ensures told { IfErr result (W.tells source.new) }
@@ -99,6 +101,7 @@ fn print_objects<W: Source, T: Sink>(
     mode: OutMode,
     sink: &mut T,
 ) -> Result<(), EvalFault>
+    requires { AllGiven (W.gave source.old) names.now }
     ensures later { W.later source.old source.new }
     ensures walked { OnOk result (W.walked source.old source.new) }
     ensures told { IfErr result (W.tells source.new) }
@@ -127,6 +130,7 @@ fn print_object<W: Source, T: Sink>(
     line: &mut Vec<u8>,
     sink: &mut T,
 ) -> Result<(), EvalFault>
+    requires { W.gave source.old name }
     ensures later { W.later source.old source.new }
     ensures walked { OnOk result (W.walked source.old source.new) }
     ensures told { IfErr result (W.tells source.new) }

@@ -11,6 +11,7 @@ ghost use Rattle.ql_eval.specs.Asks.{AskedByRecursion};
 ghost use Rattle.ql_eval.specs.Faults.{cause_of_evaluation};
 ghost use Rattle.ql_eval.specs.Questions.{NeededBy};
 ghost use Rattle.ql_eval.specs.internal.Links.{AreThere, IsMemberAsk, IsMemberBelow};
+ghost use Rattle.ql_eval.specs.internal.Giving.{AllGiven};
 ghost use Rattle.ql_eval.specs.internal.Uses.{nodes_around};
 
 use crate::chains::{Direction, closure};
@@ -29,9 +30,11 @@ pub(crate) fn recurse<W: Source>(
     how: Recursion,
     set: &RefSet,
 ) -> Result<RefSet, EvalFault>
+    requires { AllGiven (W.gave source.old) set.now }
     ensures later { W.later source.old source.new }
     ensures walked { OnOk result (W.walked source.old source.new) }
     ensures told { IfErr result (W.tells source.new) }
+    ensures named { IfOk result (AllGiven (W.gave source.new)) }
     ensures answer { (p : Publication) → IsPublication p → W.under source.old p
         → AreThere p.objects set.now
         → Outcome cause_of_evaluation
@@ -49,9 +52,11 @@ pub(crate) fn recurse<W: Source>(
 
 /// `>`: what ways of the set list; the nodes and ways that its relations list, and what these ways list.
 fn down<W: Source>(alloc: Global, source: &mut W, set: &RefSet) -> Result<RefSet, EvalFault>
+    requires { AllGiven (W.gave source.old) set.now }
     ensures later { W.later source.old source.new }
     ensures walked { OnOk result (W.walked source.old source.new) }
     ensures told { IfErr result (W.tells source.new) }
+    ensures named { IfOk result (AllGiven (W.gave source.new)) }
     ensures answer { (p : Publication) → IsPublication p → W.under source.old p
         → AreThere p.objects set.now
         → Outcome cause_of_evaluation
@@ -74,9 +79,12 @@ fn add_members<W: Source>(
     relations: &[Ref],
     refs: &mut Vec<Ref>,
 ) -> Result<(), EvalFault>
+    requires named { AllGiven (W.gave source.old) refs.old.items }
+    requires relations_named { AllGiven (W.gave source.old) relations.now }
     ensures later { W.later source.old source.new }
     ensures walked { OnOk result (W.walked source.old source.new) }
     ensures told { IfErr result (W.tells source.new) }
+    ensures named { OnOk result (AllGiven (W.gave source.new) refs.new.items) }
     ensures answer { (p : Publication) → IsPublication p → W.under source.old p
         → AreThere p.objects relations.now
         → Outcome cause_of_evaluation
@@ -94,9 +102,11 @@ fn add_members<W: Source>(
 
 /// `<`: what lists a node or way of the set, and what lists such a way.
 fn up<W: Source>(alloc: Global, source: &mut W, set: &RefSet) -> Result<RefSet, EvalFault>
+    requires { AllGiven (W.gave source.old) set.now }
     ensures later { W.later source.old source.new }
     ensures walked { OnOk result (W.walked source.old source.new) }
     ensures told { IfErr result (W.tells source.new) }
+    ensures named { IfOk result (AllGiven (W.gave source.new)) }
     ensures answer { (p : Publication) → IsPublication p → W.under source.old p
         → AreThere p.objects set.now
         → Outcome cause_of_evaluation

@@ -11,6 +11,7 @@ ghost use Rattle.ql_eval.specs.Faults.{cause_of_evaluation};
 ghost use Rattle.ql_eval.specs.Questions.{NeededBy};
 ghost use Rattle.ql_eval.specs.internal.Lawful.{CanRun, CanRunAll};
 ghost use Rattle.ql_eval.specs.internal.Links.{AreAllThere};
+ghost use Rattle.ql_eval.specs.internal.Giving.{AllGiven, AllSetsGiven};
 ghost use Rattle.ql_eval.specs.internal.Uses.{nodes_around};
 
 use crate::fault::EvalFault;
@@ -31,9 +32,11 @@ pub(crate) fn run<'q, W: Source>(
     sets: &mut NamedSets<'q>,
     source: &mut W,
 ) -> Result<(), EvalFault>
+    requires { AllSetsGiven (W.gave source.old) (lists_of sets.old.named.items) }
     ensures later { W.later source.old source.new }
     ensures walked { OnOk result (W.walked source.old source.new) }
     ensures told { IfErr result (W.tells source.new) }
+    ensures named { OnOk result (AllSetsGiven (W.gave source.new) (lists_of sets.new.named.items)) }
     ensures answer { (p : Publication) → IsPublication p → W.under source.old p
         → AreAllThere p.objects (lists_of sets.old.named.items)
         → CanRun (statement_of statement.now)
@@ -88,9 +91,12 @@ fn run_all<'q, W: Source>(
     sets: &mut NamedSets<'q>,
     source: &mut W,
 ) -> Result<Vec<Ref>, EvalFault>
+    requires { AllSetsGiven (W.gave source.old) (lists_of sets.old.named.items) }
     ensures later { W.later source.old source.new }
     ensures walked { OnOk result (W.walked source.old source.new) }
     ensures told { IfErr result (W.tells source.new) }
+    ensures sets_named { OnOk result (AllSetsGiven (W.gave source.new) (lists_of sets.new.named.items)) }
+    ensures named { IfOk result (λ given. AllGiven (W.gave source.new) given.items) }
     ensures answer { (p : Publication) → IsPublication p → W.under source.old p
         → AreAllThere p.objects (lists_of sets.old.named.items)
         → CanRunAll (statements_of parts.now)

@@ -15,6 +15,7 @@ ghost use Rattle.ql_eval.specs.Asks.{AskedByPlan, AskedBySelect};
 ghost use Rattle.ql_eval.specs.Faults.{cause_of_evaluation};
 ghost use Rattle.ql_eval.specs.Questions.{NeededBy};
 ghost use Rattle.ql_eval.specs.internal.Links.{AreAllThere};
+ghost use Rattle.ql_eval.specs.internal.Giving.{AllGiven, AllSetsGiven};
 ghost use Rattle.ql_eval.specs.internal.Uses.{nodes_around};
 
 use crate::apply_filters::apply_filters;
@@ -37,9 +38,11 @@ pub(crate) fn select<W: Source>(
     filters: &[Filter<'_>],
     sets: &NamedSets<'_>,
 ) -> Result<RefSet, EvalFault>
+    requires { AllSetsGiven (W.gave source.old) (lists_of sets.now.named.items) }
     ensures later { W.later source.old source.new }
     ensures walked { OnOk result (W.walked source.old source.new) }
     ensures told { IfErr result (W.tells source.new) }
+    ensures named { IfOk result (AllGiven (W.gave source.new)) }
     ensures answer { (p : Publication) → IsPublication p → W.under source.old p
         → AreAllThere p.objects (lists_of sets.now.named.items)
         → AllByRecursion (Allows pick) (filters_of filters.now)
@@ -61,10 +64,12 @@ fn answered<W: Source>(
     plan: &Plan<'_, '_>,
     sets: &NamedSets<'_>,
 ) -> Result<RefSet, EvalFault>
-    requires { ForSome plan.now.base (λ base. rank_of base < never) }
+    requires base { ForSome plan.now.base (λ base. rank_of base < never) }
+    requires named { AllSetsGiven (W.gave source.old) (lists_of sets.now.named.items) }
     ensures later { W.later source.old source.new }
     ensures walked { OnOk result (W.walked source.old source.new) }
     ensures told { IfErr result (W.tells source.new) }
+    ensures named { IfOk result (AllGiven (W.gave source.new)) }
     ensures answer { (p : Publication) → IsPublication p → W.under source.old p
         → AreAllThere p.objects (lists_of sets.now.named.items)
         → AllByRecursion (Allows pick) (filters_in plan.now)

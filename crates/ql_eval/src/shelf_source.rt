@@ -39,7 +39,7 @@ impl<'s, 'a, S: Shelf<'a>> Source for ShelfSource<'s, 'a, S> {
     ghost use Rattle.std.specs.BTreeMap.{get};
     ghost use Rattle.osm_model.specs.Elements.{Element, ref_cmp};
     ghost use Rattle.osm_model.specs.declared.reference.Ref.{Ref};
-    ghost use Rattle.std.proofs.Common.{◌∙◌, subst};
+    ghost use Rattle.std.proofs.Common.{◌∙◌, inl, inr, subst, sym};
     ghost use Rattle.osm_index.specs.declared.manifest.Manifest.{Manifest};
     ghost use Rattle.tree_node.specs.Shelves.{SameNodes};
     ghost use Rattle.tree_walk.specs.WalksGiven.{HasGiven};
@@ -47,7 +47,7 @@ impl<'s, 'a, S: Shelf<'a>> Source for ShelfSource<'s, 'a, S> {
     ghost use Rattle.ql_eval.specs.Forms.{HaveForm};
     ghost use Rattle.osm_index.specs.Publications.{Publication};
     ghost use Rattle.ql_eval.specs.Openings.{IsUnder};
-    ghost use Rattle.ql_eval.specs.internal.Objects.{AreAbsent, Remembers};
+    ghost use Rattle.ql_eval.specs.internal.Objects.{AreAbsent, IsGivenOrThere, IsToldAbsent, Remembers};
     ghost use Rattle.ql_eval.specs.internal.Told.{IsTold};
     ghost use Rattle.tree_walk.proofs.shared.WalksGivenLaws.{given_none, given_then};
 
@@ -59,18 +59,21 @@ impl<'s, 'a, S: Shelf<'a>> Source for ShelfSource<'s, 'a, S> {
 
     ghost knows = { λ o r object. get ref_cmp o.objects.now r ≡ Some object };
 
+    ghost gave = { λ o r. IsGivenOrThere (S.used o.shelf.now) o.manifest o.objects.now r };
+
     ghost tells = { λ o fault. AreAbsent (S.used o.shelf.now) o.manifest o.objects.now → IsTold (S.holds o.shelf.now) (S.used o.shelf.now) o.manifest fault };
 
     ghost later = { λ o n. (o.shelf.ghost_name ≡ n.shelf.ghost_name) × (o.manifest ≡ n.manifest)
         × SameNodes (S.holds o.shelf.now) (S.holds n.shelf.now) × ((bytes : List ℕ) → S.used o.shelf.now bytes → S.used n.shelf.now bytes)
         × ((p : Publication) → IsUnder p o.manifest → Remembers p (S.used o.shelf.now) o.objects.now → Remembers p (S.used n.shelf.now) n.objects.now)
         × ((r : Ref) (object : Option Element) → get ref_cmp o.objects.now r ≡ Some object → get ref_cmp n.objects.now r ≡ Some object)
-        × (AreAbsent (S.used o.shelf.now) o.manifest o.objects.now → AreAbsent (S.used n.shelf.now) n.manifest n.objects.now) };
+        × (AreAbsent (S.used o.shelf.now) o.manifest o.objects.now → AreAbsent (S.used n.shelf.now) n.manifest n.objects.now)
+        × ((r : Ref) → IsGivenOrThere (S.used o.shelf.now) o.manifest o.objects.now r → IsGivenOrThere (S.used n.shelf.now) n.manifest n.objects.now r) };
 
     ghost walked = { λ o n. HasGiven (top_among n.manifest.tops) HaveForm (record { held = S.holds n.shelf.now; before = S.used o.shelf.now; after = S.used n.shelf.now })
         o.tally.calls n.tally.calls o.tally.fetches n.tally.fetches };
 
-    ghost itself = { λ o. (refl, refl, (λ x. ((λ has. has), (λ has. has))), (λ x has. has), (λ p under known. known), (λ r object known. known), (λ absent. absent)) };
+    ghost itself = { λ o. (refl, refl, (λ x. ((λ has. has), (λ has. has))), (λ x has. has), (λ p under known. known), (λ r object known. known), (λ absent. absent), (λ r given. given)) };
 
     ghost chained = { λ o n m first second. (
       first.0 ∙ second.0,
@@ -80,6 +83,7 @@ impl<'s, 'a, S: Shelf<'a>> Source for ShelfSource<'s, 'a, S> {
       (λ p under known. second.4 p (subst (λ (m : Manifest). IsUnder p m) first.1 under) (first.4 p under known)),
       (λ r object known. second.5 r object (first.5 r object known)),
       (λ absent. second.6 (first.6 absent)),
+      (λ r given. second.7 r (first.7 r given)),
     ) };
 
     ghost stays = { λ o n later. later.2 };
@@ -92,7 +96,11 @@ impl<'s, 'a, S: Shelf<'a>> Source for ShelfSource<'s, 'a, S> {
 
     ghost out_of_memory = { λ o absent. tt };
 
-    ghost not_there = { λ o r known absent. (r, absent r known) };
+    ghost same_gave = { λ o n r later given. later.7 r given };
+
+    ghost found_gave = { λ o r object known. inr (object, known) };
+
+    ghost not_there = { λ o r known given absent. (r, elim given [ inl named ↦ named | inr there ↦ absurd (subst IsToldAbsent (sym known ∙ there.1) tt) ], absent r known) };
 
     ghost no_walk = { λ o. given_none (top_among o.manifest.tops) HaveForm (S.holds o.shelf.now) (S.used o.shelf.now) o.tally.calls o.tally.fetches };
 

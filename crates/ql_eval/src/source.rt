@@ -1,6 +1,6 @@
 //! What an evaluation asks.
 
-ghost use Rattle.std.specs.Prelude.{◌≡◌, ℕ, IfErr, IfOk, List, None, OnOk, Option};
+ghost use Rattle.std.specs.Prelude.{◌≡◌, ℕ, IfErr, IfOk, List, None, OnOk, Option, Some};
 ghost use Rattle.std.specs.Option.{option_copied};
 ghost use Rattle.osm_model.specs.Elements.{Element};
 ghost use Rattle.osm_model.specs.Sets.{object_at};
@@ -15,6 +15,7 @@ ghost use Rattle.ql_eval.specs.Faults.{cause_of_evaluation};
 ghost use Rattle.ql_eval.specs.Questions.{Answers, HasNoNulIn, IsCountOf, NeededBy, NeedsAsk, count_ask, names_ask, object_ask};
 ghost use Rattle.ql_eval.specs.declared.fault.EvalFault.{EvalFault};
 ghost use Rattle.ql_eval.specs.declared.fault.EvalFault.TheVariants.{Absent, Memory};
+ghost use Rattle.ql_eval.specs.internal.Giving.{AllGiven};
 ghost use Rattle.ql_eval.specs.internal.Views.{question_of};
 ghost use Rattle.ql_eval.specs.internal.Uses.{nodes_around};
 
@@ -44,6 +45,9 @@ pub(crate) trait Source {
     /// What the source knows of a reference that was looked up: its object, or none where there is none.
     ghost knows: { Self → Ref → Option Element → Type 0 };
 
+    /// An entry that the nodes used so far give names this object, or a look-up found it.
+    ghost gave: { Self → Ref → Type 0 };
+
     /// What is true of the nodes if this fault is told now.
     ghost tells: { Self → EvalFault → Type 0 };
 
@@ -68,6 +72,7 @@ pub(crate) trait Source {
         ensures later { later self.old self.new }
         ensures walked { OnOk result (walked self.old self.new) }
         ensures told { IfErr result (tells self.new) }
+        ensures named { IfOk result (AllGiven (gave self.new)) }
         ensures answer { (p : Publication) → IsPublication p → under self.old p
             → HasNoNulIn (question_of question.now)
             → Outcome cause_of_evaluation
@@ -90,6 +95,7 @@ pub(crate) trait Source {
         ensures later { later self.old self.new }
         ensures walked { OnOk result (walked self.old self.new) }
         ensures told { IfErr result (tells self.new) }
+        ensures named { IfOk result (AllGiven (gave self.new)) }
         ensures answer { (p : Publication) → IsPublication p → under self.old p
             → Outcome cause_of_evaluation
             (λ names. IsSetOf names (IsRefOf p.objects (IsInBox area.now)))
@@ -110,7 +116,11 @@ pub(crate) trait Source {
 
     ghost out_of_memory: { (s : Self) → tells s Memory };
 
-    ghost not_there: { (s : Self) (r : Ref) → knows s r None → tells s Absent };
+    ghost same_gave: { (s t : Self) (r : Ref) → later s t → gave s r → gave t r };
+
+    ghost found_gave: { (s : Self) (r : Ref) (o : Element) → knows s r (Some o) → gave s r };
+
+    ghost not_there: { (s : Self) (r : Ref) → knows s r None → gave s r → tells s Absent };
 
     ghost no_walk: { (s : Self) → walked s s };
 

@@ -1,7 +1,7 @@
 -- What reading a line gives, and what is known of the objects that were looked up.
 use Rattle.std.specs.BTreeMap.{BTreeMap, get}
 use Rattle.std.specs.List.{Contains}
-use Rattle.std.specs.Prelude.{◌≡◌, ◌≢◌, ◌⊎◌, ℕ, List, Option, Some, None, Result, Err}
+use Rattle.std.specs.Prelude.{◌≡◌, ◌≢◌, ◌⊎◌, ℕ, List, Option, Some, None, Result, Err, ⊤}
 use Rattle.opl_codec.specs.declared.cause.OplCause.TheVariants as causes
 use Rattle.opl_codec.specs.declared.change.Change.{Change}
 use Rattle.opl_codec.specs.declared.fault.OplFault.{OplFault}
@@ -13,7 +13,7 @@ use Rattle.osm_index.specs.Publications.{IsPublication, Publication}
 use Rattle.tree_node.specs.Outcomes.{Clash}
 use Rattle.osm_index.specs.declared.manifest.Manifest.{Manifest}
 use Rattle.ql_eval.specs.Questions.{NeedsAsk, object_ask}
-use Rattle.ql_eval.specs.Told.{IsAbsent}
+use Rattle.ql_eval.specs.Told.{IsAbsent, IsNamedIn}
 
 -- reading the line ran out of memory
 abbrev pub IsForMemory : Result (Option Change) OplFault → Type 0
@@ -47,3 +47,13 @@ AreKnownParents knows names = (r : Ref) → Contains names r → IsKnownParent k
 -- where none is remembered there is none
 abbrev pub AreAbsent : (List ℕ → Type 0) → Manifest → BTreeMap Ref (Option Element) → Type 0
 AreAbsent used found objects = (r : Ref) → get ref_cmp objects r ≡ Some None → IsAbsent used found r
+
+-- an entry that the used nodes give names it, or a look-up found it
+abbrev pub IsGivenOrThere : (List ℕ → Type 0) → Manifest → BTreeMap Ref (Option Element) → Ref → Type 0
+IsGivenOrThere used found objects r = IsNamedIn used found r ⊎ ((o : Element) × (get ref_cmp objects r ≡ Some (Some o)))
+
+-- what is remembered says that there is none
+abbrev pub IsToldAbsent : Option (Option Element) → Type 0
+IsToldAbsent None = ⊥
+IsToldAbsent (Some None) = ⊤
+IsToldAbsent (Some (Some o)) = ⊥

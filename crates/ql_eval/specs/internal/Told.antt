@@ -2,15 +2,15 @@
 use Rattle.std.specs.Prelude.{ℕ, List, ⊤}
 use Rattle.osm_model.specs.declared.reference.Ref.{Ref}
 use Rattle.osm_index.specs.declared.manifest.Manifest.{Manifest}
-use Rattle.ql_eval.specs.Told.{HasMalformedEntry, HasWalkFault, IsAbsent}
+use Rattle.ql_eval.specs.Told.{HasMalformedEntry, HasWalkFault, IsAbsent, IsNamedIn}
 use Rattle.ql_eval.specs.declared.fault.EvalFault.{EvalFault}
 use Rattle.ql_eval.specs.declared.fault.EvalFault.TheVariants as faults
 
--- E1 that a walk had its reason, E2 that an entry isn't of its form, E3 that some object isn't there; out of memory says
+-- E1 that a walk had its reason, E2 that an entry isn't of its form, E3 that an entry names an object that isn't there; out of memory says
 -- nothing, and E4 isn't told
 abbrev pub IsTold : (held used : List ℕ → Type 0) → Manifest → EvalFault → Type 0
 IsTold held used found (faults.Walk fault) = HasWalkFault held used found fault
 IsTold held used found faults.Form = HasMalformedEntry used found
-IsTold held used found faults.Absent = (r : Ref) × IsAbsent used found r
+IsTold held used found faults.Absent = (r : Ref) × IsNamedIn used found r × IsAbsent used found r
 IsTold held used found (faults.Manifest fault) = ⊥
 IsTold held used found faults.Memory = ⊤

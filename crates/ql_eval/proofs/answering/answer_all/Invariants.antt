@@ -1,5 +1,6 @@
 use Rattle.std.proofs.Common.{◌≡◌, ℕ, List}
 use Rattle.tree_node.proofs.shared.OutcomeLaws.{uses}
+use Rattle.ql_eval.specs.internal.Giving.{AllSetsGiven}
 use Rattle.osm_index.specs.Publications.{IsPublication, Publication}
 use Rattle.ql_syntax.specs.LawfulQueries.{IsQuery}
 use Rattle.ql_syntax.specs.StatementViews.{statements_of}
@@ -14,6 +15,7 @@ invariant-loop-statement g l = record {
   walked : g.W.Source.walked l.fn.source l.source;
   kept : g.T.Sink.kept l.sink ≡ g.T.Sink.kept l.fn.sink;
   wrote : (text : List ℕ) × HasWritten (g.T.Sink.stands l.fn.sink) (g.T.Sink.stands l.sink) text;
+  named : AllSetsGiven (g.W.Source.gave l.source) (lists_of l.sets.named.items);
   answer : (p : Publication) → IsPublication p → g.W.Source.under l.fn.source p → IsQuery (statements_of l.statements)
       → HasAnswered p l.statements l.statement-index (lists_of l.sets.named.items) (g.T.Sink.stands l.fn.sink) (g.T.Sink.stands l.sink)
       (uses (g.W.Source.holds l.source) (g.W.Source.used l.fn.source) (g.W.Source.used l.source));

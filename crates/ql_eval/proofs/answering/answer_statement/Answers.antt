@@ -13,6 +13,8 @@ use Rattle.ql_eval.proofs.EachLemmas.{needed_as}
 use Rattle.ql_eval.proofs.OutLemmas.{no_out, told_nothing}
 use Rattle.ql_eval.proofs.StatementLemmas.{top_lawful}
 use Rattle.ql_eval.proofs.WritingLemmas.{written_none}
+use Rattle.ql_eval.proofs.GivenLemmas.{always_ok, sets_later}
+use Rattle.ql_eval.specs.internal.Giving.{AllGiven}
 use Rattle.ql_eval.proofs.answering.answer_statement.Goals as goal
 
 pub returns-in-Print-clause-answer : goal.returns-in-Print-clause-answer
@@ -36,6 +38,7 @@ returns-in_default g c = record {
   later = c.run.ensures.later;
   walked = c.run.ensures.walked;
   told = c.run.ensures.told;
+  named = c.run.ensures.named;
   kept = refl;
   wrote = ([], written_none);
   answer = λ p is under there top.
@@ -46,3 +49,9 @@ returns-in_default g c = record {
       (λ value so. (so, subst (λ (text : List ℕ). HasWritten (g.T.Sink.stands c.args.sink.now) (g.T.Sink.stands c.args.sink.now) text) (sym (told_nothing p.objects statement env can)) written_none))
       (c.run.ensures.answer p is under there can);
 }
+
+pub print-requires : goal.print-requires
+print-requires g c = subst (λ (l : List Ref). AllGiven (g.W.Source.gave c.args.source.now) l) (sym c.get.ensures) (c.requires c.as_bytes.result.now)
+
+pub returns-in-Print-clause-named : goal.returns-in-Print-clause-named
+returns-in-Print-clause-named g c = always_ok c.print.result (sets_later (lists_of c.args.sets.now.named.items) (λ r. g.met.W.Source.same_gave _ _ r c.print.ensures.later) c.requires)

@@ -9,6 +9,7 @@ use Rattle.ql_eval.specs.internal.Selecting.{IsKeptBy}
 use Rattle.ql_eval.proofs.StepLemmas.{then_same}
 use Rattle.ql_eval.proofs.HalfLemmas.{all_kept, kept_is}
 use Rattle.ql_eval.proofs.RestLemmas.{filters_test, nothing_tested, nothing_written, objects_test, some_after, some_before, test_split}
+use Rattle.ql_eval.proofs.GivenLemmas.{sets_later}
 use Rattle.ql_eval.proofs.apply_filters.apply_filters.Goals as goal
 use Rattle.ql_eval.proofs.apply_filters.apply_filters.Goals.{else-is_empty-via-then-is_empty+else-is_empty-2, else-is_empty-via-else-is_empty}
 
@@ -44,3 +45,6 @@ returns-clause-answer g c = λ p is under there all.
     then_same (λ x. g.met.W.Source.grows _ _ x c.filter_by_both.ensures.later) (objects_test env rest candidates some) (λ so. filters_test env rest candidates) (λ so b next. test_split env rest candidates)
     (λ so b next. kept_is p.objects env all candidates rest c.in_ok-refs.refs b so next)
     (c.in_ok-refs.ensures.answer p is under there) (λ so. c.filter_by_both.ensures.answer p is (g.met.W.Source.same_under _ _ p c.in_ok-refs.ensures.later under) all)
+
+pub filter_by_both-requires-clause-sets_named : goal.filter_by_both-requires-clause-sets_named
+filter_by_both-requires-clause-sets_named g c = sets_later (lists_of c.args.sets.now.named.items) (λ r. g.met.W.Source.same_gave _ _ r c.filter_by_object.ensures.later) c.requires.sets_named

@@ -18,6 +18,7 @@ use Rattle.ql_eval.specs.internal.Told.{IsTold}
 use Rattle.ql_eval.proofs.StepLemmas.{refused_as, then_read, walk_cause}
 use Rattle.ql_eval.proofs.WalkLemmas.{read_told, walk_read, walk_told}
 use Rattle.std.proofs.Common.{refl}
+use Rattle.ql_eval.proofs.GivenLemmas.{box_named}
 use Rattle.ql_eval.proofs.boxes.add_range.Goals as goal
 
 pub returns-in_err-found-clause-answer : goal.returns-in_err-found-clause-answer
@@ -50,3 +51,8 @@ returns-clause-walked g c = walk_read (top_among c.args.manifest.now.tops) _ _ _
 pub returns-clause-told : goal.returns-clause-told
 returns-clause-told g c = read_told _ _ _ c.args.manifest.now _ _ Cells _ (bindings_of c.in_ok-found.found.items) c.add_nodes.result c.in_ok-found.ensures.gives
     (subst (λ (all : List Item). IfErr c.add_nodes.result (AreMisread Cells (bindings_of all))) c.deref.ensures.value c.add_nodes.ensures.refused)
+
+pub returns-clause-named : goal.returns-clause-named
+returns-clause-named g c =
+    box_named _ _ _ c.args.manifest.now _ _ _ (bindings_of c.in_ok-found.found.items) c.args.area.now c.args.names.now.items c.add_nodes.new.names.items c.add_nodes.result c.in_ok-found.ensures.gives c.entries_in.ensures.grows
+    (subst (λ (all : List Item). OnOk c.add_nodes.result (Adds c.args.names.now.items c.add_nodes.new.names.items (IsSaid (SaysIn c.args.area.now) (bindings_of all)))) c.deref.ensures.value c.add_nodes.ensures.added) c.requires

@@ -5,6 +5,7 @@ use Rattle.osm_index.specs.Ranges.{AreCellRanges}
 use Rattle.ql_eval.specs.internal.Boxes.{IsCellsAsk, IsFoundIn}
 use Rattle.ql_eval.proofs.BoxLemmas.{box_needs, box_set, needs_box}
 use Rattle.ql_eval.proofs.LoopLemmas.{gone_all, gone_next, gone_none, gone_stops}
+use Rattle.ql_eval.proofs.GivenLemmas.{none_given, sorted_given}
 use Rattle.ql_eval.proofs.boxes.find_in_box.Goals as goal
 
 pub loop-keys-init : goal.loop-keys-init
@@ -12,6 +13,7 @@ loop-keys-init g c = record {
   stays = λ x. ((λ has. has), (λ has. has));
   grows = λ x has. has;
   walked = given_none _ _ _ _ _ _;
+  named = none_given _ _ c.new-names.ensures.items;
   answer = λ p is under. rw c.new-names.ensures.items (gone_none p c.deref-keys-items.result.now (IsFoundIn p.objects c.args.area.now) IsCellsAsk);
 }
 
@@ -26,6 +28,7 @@ loop-keys-preserved g c = record {
   stays = λ x. ((λ has. (c.loop-keys.invariant.stays x).0 ((c.add_range.ensures.stays x).0 has)), (λ has. (c.add_range.ensures.stays x).1 ((c.loop-keys.invariant.stays x).1 has)));
   grows = λ x has. c.add_range.ensures.grows x (c.loop-keys.invariant.grows x has);
   walked = given_then _ _ _ _ _ _ _ _ _ _ _ _ _ c.add_range.ensures.stays c.loop-keys.invariant.walked c.in_ok-add_range.ensures.walked;
+  named = c.in_ok-add_range.ensures.named;
   answer = λ p is under.
       gone_next p c.deref-keys-items.result.now (IsFoundIn p.objects c.args.area.now) IsCellsAsk c.loop-keys.keys-index c.keys-item.result c.loop-keys-test.true c.keys-item.is
       c.add_range.ensures.grows (c.loop-keys.invariant.answer p is under) (c.in_ok-add_range.ensures.answer p is under);
@@ -38,3 +41,6 @@ returns-clause-answer g c = λ p is under.
     gone_all p ranges (IsFoundIn p.objects c.args.area.now) IsCellsAsk c.loop-keys.keys-index c.loop-keys-test.false
     (box_needs p is c.args.area.now ranges are) (needs_box p is c.args.area.now ranges are) (λ so. box_set p is c.args.area.now ranges _ _ are so c.from_refs.ensures)
     (c.loop-keys.invariant.answer p is under)
+
+pub returns-clause-named : goal.returns-clause-named
+returns-clause-named g c = sorted_given c.loop-keys.names.items c.from_refs.result c.from_refs.ensures c.loop-keys.invariant.named

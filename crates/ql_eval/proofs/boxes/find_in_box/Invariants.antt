@@ -1,3 +1,5 @@
+use Rattle.ql_eval.specs.Told.{IsNamedIn}
+use Rattle.ql_eval.specs.internal.Giving.{AllGiven}
 use Rattle.std.proofs.Common.{ℕ, List, []}
 use Rattle.tree_node.specs.Shelves.{SameNodes}
 use Rattle.tree_node.proofs.shared.OutcomeLaws.{uses}
@@ -15,6 +17,7 @@ invariant-loop-keys g l = record {
   stays : SameNodes (g.S.Shelf.holds l.fn.shelf) (g.S.Shelf.holds l.shelf);
   grows : (bytes : List ℕ) → g.S.Shelf.used l.fn.shelf bytes → g.S.Shelf.used l.shelf bytes;
   walked : HasGiven (top_among l.manifest.tops) HaveForm (uses (g.S.Shelf.holds l.shelf) (g.S.Shelf.used l.fn.shelf) (g.S.Shelf.used l.shelf)) l.fn.tally.calls l.tally.calls l.fn.tally.fetches l.tally.fetches;
+  named : AllGiven (IsNamedIn (g.S.Shelf.used l.shelf) l.manifest) l.names.items;
   answer : (p : Publication) → IsPublication p → IsUnder p l.manifest
       → HasGone p l.keys-items (IsFoundIn p.objects l.area) IsCellsAsk l.keys-index [] l.names.items (uses (g.S.Shelf.holds l.shelf) (g.S.Shelf.used l.fn.shelf) (g.S.Shelf.used l.shelf));
 }

@@ -14,6 +14,8 @@ use Rattle.ql_eval.specs.internal.Links.{AreThere}
 use Rattle.ql_eval.proofs.CandidateLemmas.{box_kept, ids_kept, kept_as, key_kept, set_kept, tag_kept}
 use Rattle.ql_eval.proofs.EachLemmas.{needed_one, one_needed}
 use Rattle.ql_eval.proofs.PathLemmas.{PathWell}
+use Rattle.ql_eval.proofs.GivenLemmas.{part_given}
+use Rattle.ql_eval.specs.internal.Giving.{AllGiven}
 use Rattle.ql_eval.proofs.candidates.kept_by.Goals as goal
 
 pub returns-in-Ids-clause-answer : goal.returns-in-Ids-clause-answer
@@ -68,3 +70,9 @@ returns-in-Within-clause-answer g c = λ p is under there allowed.
     let area = c.deref.result.now in
     kept_as p env (uses (g.W.Source.holds c.in_box.new.source) (g.W.Source.used c.args.source.now) (g.W.Source.used c.in_box.new.source)) c.in_box.result c.kind_of-kind.ensures (ap filter_of c.in-Within.is ∙ ap (λ (a : ExactBox). Within a) (sym c.deref.ensures))
     (outcome_same (λ x needs. needs) (λ refs so x needs. needs) (λ refs. box_kept p.objects env c.kind_of-kind.result refs area) (c.in_box.ensures.answer p is under))
+
+pub returns-in_ok-picked-in-InSet-clause-named : goal.returns-in_ok-picked-in-InSet-clause-named
+returns-in_ok-picked-in-InSet-clause-named g c = part_given c.get.result.now c.in_ok-picked-in-InSet.field-0 c.in_ok-picked-in-InSet.ensures (subst (λ (l : List Ref). AllGiven (g.W.Source.gave c.args.source.now) l) (sym c.get.ensures) (c.requires.named c.as_bytes.result.now))
+
+pub on_path-requires : goal.on_path-requires
+on_path-requires g c = subst (λ (l : List Ref). AllGiven (g.W.Source.gave c.args.source.now) l) (sym c.get-in-Via.ensures) (c.requires.named c.as_bytes-in-Via.result.now)

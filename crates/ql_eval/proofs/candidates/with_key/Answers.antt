@@ -3,9 +3,13 @@ use Rattle.tree_node.proofs.shared.OutcomeLaws.{outcome_as}
 use Rattle.ql_eval.specs.Questions.{WithKey, names_ask}
 use Rattle.ql_eval.proofs.CandidateLemmas.{found_picked}
 use Rattle.ql_eval.proofs.EachLemmas.{needed_one, one_needed}
+use Rattle.ql_eval.proofs.GivenLemmas.{part_given}
 use Rattle.ql_eval.proofs.candidates.with_key.Goals as goal
 
 pub returns-clause-answer : goal.returns-clause-answer
 returns-clause-answer g c = λ p is under clean.
     outcome_as (needed_one (names_ask (WithKey c.args.key.now)) refl) (λ so. one_needed (names_ask (WithKey c.args.key.now)))
     (λ so. found_picked c.args.kind refl so c.in_ok-picked.ensures) (c.in_ok-found.ensures.answer p is under clean)
+
+pub returns-clause-named : goal.returns-clause-named
+returns-clause-named g c = part_given c.in_ok-found.found c.in_ok-picked.field-0 c.in_ok-picked.ensures c.in_ok-found.ensures.named

@@ -9,6 +9,8 @@ use Rattle.ql_eval.specs.internal.Chains.{AreChained, IsChainAsk}
 use Rattle.ql_eval.specs.internal.Links.{AreThere}
 use Rattle.ql_eval.proofs.ChainLemmas.{ChainedWell, LedWell, asks_split, chain_ends, chained_all, chained_first, chained_next, ends_chain, first_needs, front_asks, front_stays, left_asks, left_ends, left_there, longer, needs_first}
 use Rattle.ref_sets.proofs.shared.Parts.{slice_is_rest}
+use Rattle.ql_eval.proofs.GivenLemmas.{added_given, all_later, none_given, rest_given, sorted_given}
+use Rattle.ql_eval.specs.internal.Giving.{AllGiven}
 use Rattle.ql_eval.proofs.chains.closure.Goals as goal
 
 pub loop-at-init : goal.loop-at-init
@@ -17,6 +19,7 @@ loop-at-init g c = record {
   within = omega arith;
   later = c.in_ok-next.ensures.later;
   walked = c.in_ok-next.ensures.walked;
+  named = added_given [] c.add_all.new.found.refs.items (subst (λ (l : List Ref). Adds [] c.add_all.new.found.refs.items (Contains l)) c.as_slice.ensures.value (subst (λ (l : List Ref). Adds l c.add_all.new.found.refs.items (Contains c.as_slice.result.now)) c.new-found.ensures.empty c.in_ok-add_all.ensures.added)) (none_given _ [] refl) c.in_ok-next.ensures.named;
   answer = λ p is under there.
       let from = c.args.from.now in
       let refs = c.add_all.new.found.refs.items in
@@ -48,6 +51,8 @@ loop-at-preserved g c =
       within = omega (arith, grown);
       later = g.met.W.Source.chained _ _ _ c.loop-at.invariant.later c.one_link-in-loop-at.ensures.later;
       walked = g.met.W.Source.more_walks _ _ _ c.loop-at.invariant.later c.one_link-in-loop-at.ensures.later c.loop-at.invariant.walked c.in_ok-next-2.ensures.walked;
+      named = added_given refs more (subst (λ (l : List Ref). Adds refs more (Contains l)) c.as_slice-in-loop-at.ensures.value c.in_ok-add_all-2.ensures.added)
+          (all_later refs (λ r. g.met.W.Source.same_gave _ _ r c.one_link-in-loop-at.ensures.later) c.loop-at.invariant.named) c.in_ok-next-2.ensures.named;
       answer = λ p is under there.
           let direction = c.args.direction in
           let from = c.args.from.now in
@@ -77,3 +82,14 @@ returns-clause-answer g c = λ p is under there.
     (λ so x needs. subst (λ (followed : List Ref). NeededBy p (IsChainAsk direction p.objects from followed) x) (sym all) (ends_chain p direction from refs (subst (λ (followed : List Ref). AreChained direction p.objects from followed refs) all so) x needs))
     (λ so. chained_all direction p.objects from refs _ (subst (λ (followed : List Ref). AreChained direction p.objects from followed refs) all so) c.from_refs.ensures)
     (c.loop-at.invariant.answer p is under there)
+
+pub one_link-requires-in-loop-at : goal.one_link-requires-in-loop-at
+one_link-requires-in-loop-at g c =
+    let refs = c.loop-at.found.refs.items in
+    let at = c.loop-at.at in
+    let all = c.deref.result.now in
+    let rest : take (length all - at) (drop at all) ≡ drop at refs = slice_is_rest all at ∙ ap (λ (l : List Ref). drop at l) c.deref.ensures.value in
+    subst (λ (l : List Ref). AllGiven (g.W.Source.gave c.loop-at.source) l) (sym rest) (rest_given at refs c.loop-at.invariant.named)
+
+pub returns-clause-named : goal.returns-clause-named
+returns-clause-named g c = sorted_given c.loop-at.found.refs.items c.from_refs.result c.from_refs.ensures c.loop-at.invariant.named

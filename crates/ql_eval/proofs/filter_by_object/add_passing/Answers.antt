@@ -1,4 +1,5 @@
-use Rattle.std.proofs.Common.{◌++◌, ap, refl, sym, ◌∙◌}
+use Rattle.osm_model.specs.declared.reference.Ref.{Ref}
+use Rattle.std.proofs.Common.{◌++◌, ap, refl, sym, ◌∙◌, [], ◌∷◌}
 use Rattle.std.specs.Option.{option_copied}
 use Rattle.tree_node.proofs.shared.OutcomeLaws.{never_stops, outcome_as}
 use Rattle.ql_syntax.specs.StatementViews.{filters_of}
@@ -8,6 +9,7 @@ use Rattle.ql_eval.proofs.EachLemmas.{needed_one, one_needed}
 use Rattle.ql_eval.proofs.KnownLemmas.{known_is_none}
 use Rattle.ql_eval.proofs.ObjectLemmas.{none_there}
 use Rattle.ql_eval.proofs.PassingLemmas.{failed_added, passed_added}
+use Rattle.ql_eval.proofs.GivenLemmas.{all_appended, all_later, one_given}
 use Rattle.ql_eval.proofs.filter_by_object.add_passing.Goals as goal
 
 pub returns-in_ok-push-in-Some-clause-answer : goal.returns-in_ok-push-in-Some-clause-answer
@@ -34,4 +36,12 @@ returns-in-None-clause-answer g c = λ p is under there.
 
 pub returns-in-None-clause-told : goal.returns-in-None-clause-told
 returns-in-None-clause-told g c =
-    g.met.W.Source.not_there _ c.args.name (known_is_none (g.W.Source.knows c.look_up.new.self) c.args.name c.known.result c.in_ok-look_up.ensures.known c.known.ensures c.in-None.is)
+    g.met.W.Source.not_there _ c.args.name (known_is_none (g.W.Source.knows c.look_up.new.self) c.args.name c.known.result c.in_ok-look_up.ensures.known c.known.ensures c.in-None.is) (g.met.W.Source.same_gave _ _ c.args.name c.look_up.ensures.later c.requires.name_named)
+
+pub returns-in_ok-push-in-Some-clause-named : goal.returns-in_ok-push-in-Some-clause-named
+returns-in_ok-push-in-Some-clause-named g c =
+    let later = λ (r : Ref). g.met.W.Source.same_gave _ _ r c.look_up.ensures.later in
+    all_appended c.args.refs.now.items (c.args.name ∷ []) _ c.in_ok-push-in-Some.ensures.items (all_later c.args.refs.now.items later c.requires.named) (one_given _ c.args.name (later c.args.name c.requires.name_named))
+
+pub returns-else-passes_both-clause-named : goal.returns-else-passes_both-clause-named
+returns-else-passes_both-clause-named g c = all_later c.args.refs.now.items (λ r. g.met.W.Source.same_gave _ _ r c.look_up.ensures.later) c.requires.named

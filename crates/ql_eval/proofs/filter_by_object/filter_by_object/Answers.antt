@@ -2,6 +2,7 @@ use Rattle.std.proofs.Common.{◌++◌, List, Ok, subst, sym, ◌∙◌}
 use Rattle.std.proofs.lemmas.List.{get_or_default, take_all}
 use Rattle.osm_model.specs.declared.reference.Ref.{Ref}
 use Rattle.tree_node.proofs.shared.OutcomeLaws.{uses}
+use Rattle.ref_sets.proofs.shared.Adding.{none}
 use Rattle.ql_eval.specs.internal.Objects.{AreKnownThere, IsKnownThere}
 use Rattle.ql_eval.proofs.KnownLemmas.{known_more, there_later}
 use Rattle.std.proofs.lemmas.List.Elements.{Contains-get_or}
@@ -9,9 +10,11 @@ use Rattle.ql_syntax.specs.StatementViews.{filters_of}
 use Rattle.ref_sets.specs.NamedSets.{lists_of}
 use Rattle.ql_eval.specs.internal.Links.{AreThere, IsObjectAsk}
 use Rattle.ql_eval.proofs.LinkLemmas.{set_of_added}
-use Rattle.ql_eval.proofs.LoopLemmas.{gone_all, gone_next, gone_stops}
+use Rattle.ql_eval.proofs.LoopLemmas.{gone_all, gone_next, gone_stops, gone_none}
 use Rattle.ql_eval.proofs.PassingLemmas.{PassedWell}
 use Rattle.ql_eval.specs.internal.Narrowing.{IsPassingAs}
+use Rattle.ql_eval.proofs.GivenLemmas.{none_given, sorted_given}
+use Rattle.ql_eval.specs.internal.Giving.{AllGiven}
 use Rattle.ql_eval.proofs.filter_by_object.filter_by_object.Goals as goal
 
 pub returns-in_err-add_passing-clause-answer : goal.returns-in_err-add_passing-clause-answer
@@ -32,6 +35,7 @@ loop-name-preserved g c =
       later = g.met.W.Source.chained _ _ _ c.loop-name.invariant.later c.add_passing.ensures.later;
       walked = g.met.W.Source.more_walks _ _ _ c.loop-name.invariant.later c.add_passing.ensures.later c.loop-name.invariant.walked c.in_ok-add_passing.ensures.walked;
       there = known_more IsKnownThere there_later _ _ names c.loop-name.name-index _ c.loop-name-test.true (λ r o. g.met.W.Source.same_known _ _ r o c.add_passing.ensures.later) c.loop-name.invariant.there c.in_ok-add_passing.ensures.there;
+      named = c.in_ok-add_passing.ensures.named;
       answer = λ p is under there.
           gone_next p names (IsPassingAs p.objects (lists_of c.args.sets.now.named.items) (filters_of c.args.before.now ++ filters_of c.args.after.now)) IsObjectAsk
           c.loop-name.name-index _ c.loop-name-test.true (get_or_default names c.loop-name.name-index _ _ c.loop-name-test.true)
@@ -51,3 +55,20 @@ returns-clause-answer g c = λ p is under there.
 pub returns-clause-there : goal.returns-clause-there
 returns-clause-there g c =
     subst (λ (names : List Ref). AreKnownThere (g.W.Source.knows c.loop-name.source) names) (take_all _ _ c.loop-name-test.false ∙ c.as_slice-names.ensures.value) c.loop-name.invariant.there
+
+pub loop-name-init : goal.loop-name-init
+loop-name-init g c = record {
+  later = g.met.W.Source.itself _;
+  walked = g.met.W.Source.no_walk _;
+  there = λ r among. absurd (none r among);
+  named = none_given _ _ c.new-refs.ensures.items;
+  answer = λ p is under there. rw c.new-refs.ensures.items (gone_none p c.as_slice-names.result.now (IsPassingAs p.objects (lists_of c.args.sets.now.named.items) (filters_of c.args.before.now ++ filters_of c.args.after.now)) IsObjectAsk);
+}
+
+pub add_passing-requires-clause-name_named : goal.add_passing-requires-clause-name_named
+add_passing-requires-clause-name_named g c =
+    let names = c.as_slice-names.result.now in
+    g.met.W.Source.same_gave _ _ _ c.loop-name.invariant.later (subst (λ (l : List Ref). AllGiven (g.W.Source.gave c.args.source.now) l) (sym c.as_slice-names.ensures.value) c.requires _ (Contains-get_or names c.loop-name.name-index _ c.loop-name-test.true))
+
+pub returns-clause-named : goal.returns-clause-named
+returns-clause-named g c = sorted_given c.loop-name.refs.items c.from_refs.result c.from_refs.ensures c.loop-name.invariant.named

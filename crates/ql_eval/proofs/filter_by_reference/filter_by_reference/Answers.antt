@@ -7,6 +7,7 @@ use Rattle.ql_eval.specs.Asks.{AskedByRest}
 use Rattle.ql_eval.specs.Questions.{Ask}
 use Rattle.ql_eval.proofs.EachLemmas.{all_front, front_all, front_needs, needs_split, next_all, next_needs}
 use Rattle.ql_eval.proofs.NarrowingLemmas.{asks_code, code_asks, narrowed_all, narrowed_more}
+use Rattle.ql_eval.proofs.GivenLemmas.{sets_later}
 use Rattle.ql_eval.proofs.filter_by_reference.filter_by_reference.Goals as goal
 
 pub returns-in_err-left-clause-answer : goal.returns-in_err-left-clause-answer
@@ -23,6 +24,7 @@ pub loop-filter-preserved : goal.loop-filter-preserved
 loop-filter-preserved g c = record {
   later = g.met.W.Source.chained _ _ _ c.loop-filter.invariant.later c.named.ensures.later;
   walked = g.met.W.Source.more_walks _ _ _ c.loop-filter.invariant.later c.named.ensures.later c.loop-filter.invariant.walked c.in_ok-left.ensures.walked;
+  named = c.in_ok-left.ensures.named;
   answer = λ p is under there.
       let env = lists_of c.args.sets.now.named.items in
       let filters = c.args.filters.now in
@@ -44,3 +46,6 @@ returns-clause-answer g c = λ p is under there.
     outcome_as (λ x needs. asks_code (AskedByRest env) p filters x (front_all Asks p filters k x needs))
     (λ so x needs. all_front Asks p filters k c.loop-filter-test.false x (code_asks (AskedByRest env) p filters x needs))
     (λ so. narrowed_all p.objects env c.args.refs filters k c.loop-filter-test.false _ so) (c.loop-filter.invariant.answer p is under there)
+
+pub named-requires-clause-sets_named : goal.named-requires-clause-sets_named
+named-requires-clause-sets_named g c = sets_later (lists_of c.args.sets.now.named.items) (λ r. g.met.W.Source.same_gave _ _ r c.loop-filter.invariant.later) c.requires.sets_named

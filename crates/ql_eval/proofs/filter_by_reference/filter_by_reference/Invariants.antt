@@ -2,6 +2,7 @@ use Rattle.std.proofs.Common.{Ok, take}
 use Rattle.std.specs.List.{Contains}
 use Rattle.tree_node.specs.Outcomes.{Outcome}
 use Rattle.tree_node.proofs.shared.OutcomeLaws.{uses}
+use Rattle.ql_eval.specs.internal.Giving.{AllGiven}
 use Rattle.osm_index.specs.Publications.{IsPublication, Publication}
 use Rattle.ql_syntax.specs.StatementViews.{filter_of, filters_of}
 use Rattle.ref_sets.specs.Adding.{From}
@@ -18,6 +19,7 @@ abbrev pub invariant-loop-filter : goal.invariant-loop-filter
 invariant-loop-filter g l = record {
   later : g.W.Source.later l.fn.source l.source;
   walked : g.W.Source.walked l.fn.source l.source;
+  named : AllGiven (g.W.Source.gave l.source) l.left;
   answer : (p : Publication) → IsPublication p → g.W.Source.under l.fn.source p → AreAllThere p.objects (lists_of l.sets.named.items)
       → Outcome cause_of_evaluation (λ (_ : Unit {0}). IsSetOf l.left (λ r. Contains l.fn.refs r × IsNamedByAll p.objects (lists_of l.sets.named.items) (filters_of (take l.filter-index l.filters)) r))
       (NeededBy p (From (take l.filter-index l.filters) (λ f. AskedByRest (lists_of l.sets.named.items) (filter_of f))))

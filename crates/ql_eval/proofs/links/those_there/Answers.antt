@@ -1,7 +1,8 @@
 use Rattle.std.proofs.lemmas.List.{get_or_default}
 use Rattle.ql_eval.specs.internal.Links.{IsObjectAsk, IsThereAs}
 use Rattle.ql_eval.proofs.LinkLemmas.{set_of_added}
-use Rattle.ql_eval.proofs.LoopLemmas.{gone_all, gone_next, gone_stops}
+use Rattle.ql_eval.proofs.LoopLemmas.{gone_all, gone_next, gone_stops, gone_none}
+use Rattle.ql_eval.proofs.GivenLemmas.{none_given, sorted_given}
 use Rattle.ql_eval.proofs.links.those_there.Goals as goal
 
 pub returns-in_err-add_there-clause-answer : goal.returns-in_err-add_there-clause-answer
@@ -14,6 +15,7 @@ pub loop-name-preserved : goal.loop-name-preserved
 loop-name-preserved g c = record {
   later = g.met.W.Source.chained _ _ _ c.loop-name.invariant.later c.add_there.ensures.later;
   walked = g.met.W.Source.more_walks _ _ _ c.loop-name.invariant.later c.add_there.ensures.later c.loop-name.invariant.walked c.in_ok-add_there.ensures.walked;
+  named = c.in_ok-add_there.ensures.named;
   answer = λ p is under.
       gone_next p c.args.names.now (IsThereAs p.objects) IsObjectAsk c.loop-name.name-index _ c.loop-name-test.true (get_or_default c.args.names.now c.loop-name.name-index _ _ c.loop-name-test.true)
       (λ x. g.met.W.Source.grows _ _ x c.add_there.ensures.later) (c.loop-name.invariant.answer p is under) (c.in_ok-add_there.ensures.answer p is (g.met.W.Source.same_under _ _ p c.loop-name.invariant.later under));
@@ -23,3 +25,14 @@ pub returns-clause-answer : goal.returns-clause-answer
 returns-clause-answer g c = λ p is under.
     gone_all p c.args.names.now (IsThereAs p.objects) IsObjectAsk c.loop-name.name-index c.loop-name-test.false (λ x needs. needs) (λ x needs. needs)
     (λ so. set_of_added so c.from_refs.ensures) (c.loop-name.invariant.answer p is under)
+
+pub loop-name-init : goal.loop-name-init
+loop-name-init g c = record {
+  later = g.met.W.Source.itself _;
+  walked = g.met.W.Source.no_walk _;
+  named = none_given _ _ c.new-there.ensures.items;
+  answer = λ p is under. rw c.new-there.ensures.items (gone_none p c.args.names.now (IsThereAs p.objects) IsObjectAsk);
+}
+
+pub returns-clause-named : goal.returns-clause-named
+returns-clause-named g c = sorted_given c.loop-name.there.items c.from_refs.result c.from_refs.ensures c.loop-name.invariant.named

@@ -1,5 +1,6 @@
 use Rattle.std.proofs.Common.{[]}
 use Rattle.tree_node.proofs.shared.OutcomeLaws.{uses}
+use Rattle.ql_eval.specs.internal.Giving.{AllGiven}
 use Rattle.osm_index.specs.Publications.{IsPublication, Publication}
 use Rattle.ql_eval.specs.internal.Links.{IsObjectAsk, IsThereAs}
 use Rattle.ql_eval.proofs.LoopLemmas.{HasGone}
@@ -9,6 +10,7 @@ abbrev pub invariant-loop-name : goal.invariant-loop-name
 invariant-loop-name g l = record {
   later : g.W.Source.later l.fn.source l.source;
   walked : g.W.Source.walked l.fn.source l.source;
+  named : AllGiven (g.W.Source.gave l.source) l.there.items;
   answer : (p : Publication) → IsPublication p → g.W.Source.under l.fn.source p
       → HasGone p l.names (IsThereAs p.objects) IsObjectAsk l.name-index [] l.there.items (uses (g.W.Source.holds l.source) (g.W.Source.used l.fn.source) (g.W.Source.used l.source));
 }

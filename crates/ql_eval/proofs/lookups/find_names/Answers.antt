@@ -17,6 +17,7 @@ use Rattle.osm_index.specs.Manifests.{top_among}
 use Rattle.ql_eval.specs.internal.Told.{IsTold}
 use Rattle.ql_eval.proofs.StepLemmas.{refused_as, then_read, walk_cause}
 use Rattle.ql_eval.proofs.WalkLemmas.{read_told, walk_read, walk_told}
+use Rattle.ql_eval.proofs.GivenLemmas.{read_named}
 use Rattle.ql_eval.proofs.lookups.find_names.Goals as goal
 
 pub returns-in_err-found-clause-answer : goal.returns-in_err-found-clause-answer
@@ -57,3 +58,8 @@ returns-clause-walked g c = walk_read (top_among c.args.manifest.now.tops) _ _ _
 pub returns-clause-told : goal.returns-clause-told
 returns-clause-told g c = read_told _ _ _ c.args.manifest.now _ _ c.tree_of-tree.result _ (bindings_of c.in_ok-found.found.items) c.names_in.result c.in_ok-found.ensures.gives
     (subst (λ (all : List Item). IfErr c.names_in.result (AreMisread c.tree_of-tree.result (bindings_of all))) c.deref.ensures.value c.names_in.ensures.refused)
+
+pub returns-clause-named : goal.returns-clause-named
+returns-clause-named g c =
+    read_named _ _ _ c.args.manifest.now _ _ c.tree_of-tree.result _ (bindings_of c.in_ok-found.found.items) c.names_in.result c.in_ok-found.ensures.gives
+    (subst (λ (all : List Item). IfOk c.names_in.result (λ names. IsSetOf names (IsSaid (Names c.tree_of-tree.result) (bindings_of all)))) c.deref.ensures.value c.names_in.ensures.read)

@@ -11,6 +11,8 @@ use Rattle.ql_eval.specs.internal.Links.{AreThere, IsObjectAsk}
 use Rattle.ql_eval.proofs.EachLemmas.{needed_as}
 use Rattle.ql_eval.specs.internal.Printing.{lines_at, name_lines}
 use Rattle.ql_eval.proofs.PrintLemmas.{asks_out, cut_there, out_asks, printed_names, printed_objects}
+use Rattle.ql_eval.proofs.GivenLemmas.{cut_given}
+use Rattle.ql_eval.specs.internal.Giving.{AllGiven}
 use Rattle.ql_eval.proofs.print.print.Goals as goal
 
 pub returns-then-eq-clause-answer : goal.returns-then-eq-clause-answer
@@ -37,3 +39,8 @@ returns-clause-answer g c = λ p is under there.
     (λ value so. needed_as (λ ask asked. subst (λ (rs : List Ref). From rs IsObjectAsk ask) (sym first) (out_asks refs mode limit other ask asked)))
     (λ value so. subst (λ (bytes : List ℕ). HasWritten (g.T.Sink.stands c.args.sink.now) (g.T.Sink.stands c.print_objects.new.sink) bytes) text so)
     (c.print_objects.ensures.answer p is under (subst (λ (rs : List Ref). AreThere p.objects rs) (sym first) (cut_there p.objects limit refs there)))
+
+pub print_objects-requires : goal.print_objects-requires
+print_objects-requires g c =
+    let limit = c.args.limit in
+    subst (λ (l : List Ref). AllGiven (g.W.Source.gave c.args.source.now) l) (sym (c.first_of-first.ensures ∙ ap (cut limit) c.as_slice.ensures.value)) (cut_given limit c.args.refs.now c.requires)

@@ -37,3 +37,6 @@ returns-clause-answer g c = λ p is under there.
 
 pub returns-clause-there : goal.returns-clause-there
 returns-clause-there g c = subst (λ (names : List Ref). AreKnownThere (g.W.Source.knows c.loop-name.source) names) (take_all _ _ c.loop-name-test.false) c.loop-name.invariant.there
+
+pub print_object-requires : goal.print_object-requires
+print_object-requires g c = g.met.W.Source.same_gave _ _ _ c.loop-name.invariant.later (c.requires _ (Contains-get_or c.args.names.now c.loop-name.name-index _ c.loop-name-test.true))

@@ -4,6 +4,7 @@ use Rattle.osm_model.specs.declared.reference.Ref.{Ref}
 use Rattle.tree_node.proofs.shared.OutcomeLaws.{outcome_stops, outcome_then, outcome_then_stops}
 use Rattle.ql_eval.proofs.EachLemmas.{needed_as}
 use Rattle.ql_eval.proofs.RecursionLemmas.{inner_needs, members_added, members_split, of_one, ways_there}
+use Rattle.ql_eval.proofs.GivenLemmas.{all_appended, all_later, part_given}
 use Rattle.ql_eval.proofs.recursions.add_members.Goals as goal
 
 pub returns-in_err-members-clause-answer : goal.returns-in_err-members-clause-answer
@@ -31,3 +32,15 @@ returns-clause-answer g c = λ p is under there.
     (c.in_ok-extend_from_slice-2.ensures.items ∙ ap (λ (l : List Ref). c.extend_from_slice.new.self.items ++ l) c.as_slice-2.ensures.value))
     (c.in_ok-members.ensures.answer p is under there)
     (λ so. c.in_ok-inner.ensures.answer p is (g.met.W.Source.same_under _ _ p c.in_ok-members.ensures.later under) (ways_there p c.args.relations.now members ways so are))
+
+pub members_there-requires-2 : goal.members_there-requires-2
+members_there-requires-2 g c = part_given c.in_ok-members.members c.of_kinds-ways.result.now c.of_kinds-ways.ensures c.in_ok-members.ensures.named
+
+pub returns-clause-named : goal.returns-clause-named
+returns-clause-named g c =
+    let first = λ (r : Ref). g.met.W.Source.same_gave _ _ r c.members_there.ensures.later in
+    let second = λ (r : Ref). g.met.W.Source.same_gave _ _ r c.members_there-2.ensures.later in
+    all_appended c.extend_from_slice.new.self.items c.in_ok-inner.inner c.extend_from_slice-2.new.self.items (c.in_ok-extend_from_slice-2.ensures.items ∙ ap (λ (l : List Ref). c.extend_from_slice.new.self.items ++ l) c.as_slice-2.ensures.value)
+    (all_appended c.args.refs.now.items c.in_ok-members.members c.extend_from_slice.new.self.items (c.in_ok-extend_from_slice.ensures.items ∙ ap (λ (l : List Ref). c.args.refs.now.items ++ l) c.as_slice.ensures.value)
+    (all_later c.args.refs.now.items second (all_later c.args.refs.now.items first c.requires.named)) (all_later c.in_ok-members.members second c.in_ok-members.ensures.named))
+    c.in_ok-inner.ensures.named

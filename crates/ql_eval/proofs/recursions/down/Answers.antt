@@ -1,10 +1,12 @@
-use Rattle.std.proofs.Common.{List, refl, subst}
+use Rattle.std.proofs.Common.{List, refl, subst, sym}
 use Rattle.osm_model.specs.declared.reference.Ref.{Ref}
 use Rattle.ref_sets.specs.Adding.{Adds}
 use Rattle.ql_eval.specs.internal.Links.{IsMemberBelow}
 use Rattle.osm_model.specs.declared.kind.Kind.TheVariants as kinds
 use Rattle.tree_node.proofs.shared.OutcomeLaws.{outcome_stops, outcome_then, outcome_then_stops}
 use Rattle.ql_eval.proofs.RecursionLemmas.{down_set, down_splits, members_need, of_one, ways_need}
+use Rattle.ql_eval.proofs.GivenLemmas.{all_later, part_given, sorted_given}
+use Rattle.ql_eval.specs.internal.Giving.{AllGiven}
 use Rattle.ql_eval.proofs.recursions.down.Goals as goal
 
 pub returns-in_err-below_ways-clause-answer : goal.returns-in_err-below_ways-clause-answer
@@ -40,3 +42,15 @@ returns-clause-answer g c = λ p is under there.
     (λ so more. down_set p set ways relations ways_are relations_are c.in_ok-below_ways.below_ways _ _ so (subst (λ (l : List Ref). Adds l c.add_members.new.refs.items (IsMemberBelow p.objects relations)) c.into_refs-refs.ensures more) c.from_refs.ensures)
     (c.in_ok-below_ways.ensures.answer p is under (λ r among. there r ((ways_are r).0 among).0))
     (λ so. c.in_ok-add_members.ensures.answer p is (g.met.W.Source.same_under _ _ p c.in_ok-below_ways.ensures.later under) (λ r among. there r ((relations_are r).0 among).0))
+
+pub members_there-requires : goal.members_there-requires
+members_there-requires g c = part_given c.args.set.now c.of_kinds-ways.result.now c.of_kinds-ways.ensures c.requires
+
+pub add_members-requires-clause-named : goal.add_members-requires-clause-named
+add_members-requires-clause-named g c = subst (λ (l : List Ref). AllGiven (g.W.Source.gave c.members_there.new.source) l) (sym c.into_refs-refs.ensures) c.in_ok-below_ways.ensures.named
+
+pub add_members-requires-clause-relations_named : goal.add_members-requires-clause-relations_named
+add_members-requires-clause-relations_named g c = all_later c.of_kinds-relations.result.now (λ r. g.met.W.Source.same_gave _ _ r c.members_there.ensures.later) (part_given c.args.set.now c.of_kinds-relations.result.now c.of_kinds-relations.ensures c.requires)
+
+pub returns-clause-named : goal.returns-clause-named
+returns-clause-named g c = sorted_given c.add_members.new.refs.items c.from_refs.result c.from_refs.ensures c.in_ok-add_members.ensures.named

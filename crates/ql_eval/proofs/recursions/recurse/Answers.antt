@@ -5,6 +5,7 @@ use Rattle.ql_syntax.specs.declared.recursion.Recursion.{Recursion}
 use Rattle.ql_syntax.specs.declared.recursion.Recursion.TheVariants as recursions
 use Rattle.ql_eval.specs.internal.Links.{AreThere}
 use Rattle.ql_eval.proofs.EndLemmas.{RecursedWell, down_all_needs, down_all_set, needs_down_all, needs_up_all, up_all_needs, up_all_set}
+use Rattle.ql_eval.specs.internal.Giving.{AllGiven}
 use Rattle.ql_eval.proofs.recursions.recurse.Goals as goal
 
 pub returns-in-Down-clause-answer : goal.returns-in-Down-clause-answer
@@ -34,3 +35,9 @@ returns-in-UpAll-clause-answer g c = λ p is under there.
     subst (λ (how : Recursion). RecursedWell p how c.args.set.now shelf c.closure-in-UpAll.result) (sym c.in-UpAll.is)
     (subst (λ (l : List Ref). RecursedWell p recursions.UpAll l shelf c.closure-in-UpAll.result) c.as_slice-in-UpAll.ensures.value
     (outcome_same (up_all_needs p is.set names are) (λ refs set. needs_up_all p is.set names are) (λ refs. up_all_set p is.set names are refs) (c.closure-in-UpAll.ensures.answer p is under are)))
+
+pub closure-requires : goal.closure-requires
+closure-requires g c = subst (λ (l : List Ref). AllGiven (g.W.Source.gave c.args.source.now) l) (sym c.as_slice.ensures.value) c.requires
+
+pub closure-requires-in-UpAll : goal.closure-requires-in-UpAll
+closure-requires-in-UpAll g c = subst (λ (l : List Ref). AllGiven (g.W.Source.gave c.args.source.now) l) (sym c.as_slice-in-UpAll.ensures.value) c.requires

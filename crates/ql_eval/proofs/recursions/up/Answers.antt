@@ -2,6 +2,7 @@ use Rattle.std.proofs.Common.{refl}
 use Rattle.osm_model.specs.declared.kind.Kind.TheVariants as kinds
 use Rattle.tree_node.proofs.shared.OutcomeLaws.{outcome_stops, outcome_then, outcome_then_stops}
 use Rattle.ql_eval.proofs.RecursionLemmas.{children_need, of_one, outer_needs, up_set, up_splits}
+use Rattle.ql_eval.proofs.GivenLemmas.{all_later, union_given}
 use Rattle.ql_eval.proofs.recursions.up.Goals as goal
 
 pub returns-in_err-first-clause-answer : goal.returns-in_err-first-clause-answer
@@ -33,3 +34,6 @@ returns-clause-answer g c = λ p is under there.
     (λ so outer. up_set p set children refs ways c.of_kinds-children.ensures.members so ways_are there c.in_ok-outer.outer _ outer c.in_ok-union.ensures)
     (c.in_ok-first.ensures.answer p is under)
     (λ so. c.in_ok-outer.ensures.answer p is (g.met.W.Source.same_under _ _ p c.in_ok-first.ensures.later under))
+
+pub returns-clause-named : goal.returns-clause-named
+returns-clause-named g c = union_given c.in_ok-first.first c.in_ok-outer.outer c.in_ok-union.field-0 c.in_ok-union.ensures (all_later c.in_ok-first.first (λ r. g.met.W.Source.same_gave _ _ r c.referrers_of-2.ensures.later) c.in_ok-first.ensures.named) c.in_ok-outer.ensures.named

@@ -14,6 +14,8 @@ use Rattle.ql_eval.specs.internal.Lawful.{CanRun, CanRunAll}
 use Rattle.ql_eval.specs.internal.Links.{AreThere}
 use Rattle.ql_eval.proofs.EndLemmas.{RecursedWell}
 use Rattle.ql_eval.proofs.StatementLemmas.{RanAllWell, RanWell, SelectedWell, after_all_there, after_as, after_there, as_needs, can_run_as, left_needs, minus_splits, needs_as, one_lawful, part_all, part_needs, parts_all, parts_front, parts_split, right_needs}
+use Rattle.ql_eval.proofs.GivenLemmas.{all_appended, all_later, part_given, put_given, sets_later, sorted_given, written_given}
+use Rattle.ql_eval.specs.internal.Giving.{AllGiven}
 use Rattle.ql_eval.proofs.run.+run.Goals as goal
 
 pub run-returns-in_err-refs-in-Select-clause-answer : goal.run-returns-in_err-refs-in-Select-clause-answer
@@ -153,6 +155,10 @@ pub run_all-loop-part-preserved : goal.run_all-loop-part-preserved
 run_all-loop-part-preserved g t c = record {
   later = g.met.W.Source.chained _ _ _ c.loop-part.invariant.later c.run.ensures.later;
   walked = g.met.W.Source.more_walks _ _ _ c.loop-part.invariant.later c.run.ensures.later c.loop-part.invariant.walked c.in_ok-run.ensures.walked;
+  sets_named = c.in_ok-run.ensures.named;
+  named = all_appended c.loop-part.given.items c.written_by.result.now c.extend_from_slice.new.self.items (c.in_ok-extend_from_slice.ensures.items ∙ ap (λ (l : List Ref). c.loop-part.given.items ++ l) c.as_slice.ensures.value)
+      (all_later c.loop-part.given.items (λ r. g.met.W.Source.same_gave _ _ r c.run.ensures.later) c.loop-part.invariant.named)
+      (subst (λ (l : List Ref). AllGiven (g.W.Source.gave c.run.new.source) l) (sym c.written_by.ensures) (written_given (statement_of c.part-item.result) (lists_of c.run.new.sets.named.items) c.in_ok-run.ensures.named));
   answer = λ p is under there can.
       let env = lists_of c.args.sets.now.named.items in
       let mid = lists_of c.loop-part.sets.named.items in
@@ -168,3 +174,21 @@ run_all-loop-part-preserved g t c = record {
       (λ so. c.in_ok-run.ensures.answer p is (g.met.W.Source.same_under _ _ p c.loop-part.invariant.later under) (after_all_there p.objects (statements_of (take k parts)) env mid given so there).0
       (one_lawful parts k part c.loop-part-test.true c.part-item.is can));
 }
+
+pub run-returns-in_ok-write-in-Select-clause-named : goal.run-returns-in_ok-write-in-Select-clause-named
+run-returns-in_ok-write-in-Select-clause-named g t c = put_given _ c.in_ok-refs-in-Select.refs (lists_of c.args.sets.now.named.items) _ c.in_ok-write-in-Select.ensures (c.in_ok-refs-in-Select.ensures.named) (sets_later (lists_of c.args.sets.now.named.items) (λ r. g.met.W.Source.same_gave _ _ r c.select.ensures.later) c.requires)
+
+pub run-recurse-requires : goal.run-recurse-requires
+run-recurse-requires g t c = subst (λ (l : List Ref). AllGiven (g.W.Source.gave c.args.source.now) l) (sym c.get.ensures) (c.requires c.as_bytes-in-Recurse.result.now)
+
+pub run-returns-in_ok-write-in-Recurse-clause-named : goal.run-returns-in_ok-write-in-Recurse-clause-named
+run-returns-in_ok-write-in-Recurse-clause-named g t c = put_given _ c.in_ok-refs-in-Recurse.refs (lists_of c.args.sets.now.named.items) _ c.in_ok-write-in-Recurse.ensures (c.in_ok-refs-in-Recurse.ensures.named) (sets_later (lists_of c.args.sets.now.named.items) (λ r. g.met.W.Source.same_gave _ _ r c.recurse.ensures.later) c.requires)
+
+pub run-returns-in_ok-write-in-Item-clause-named : goal.run-returns-in_ok-write-in-Item-clause-named
+run-returns-in_ok-write-in-Item-clause-named g t c = put_given _ c.in_ok-refs-in-Item.refs (lists_of c.args.sets.now.named.items) _ c.in_ok-write-in-Item.ensures (subst (λ (l : List Ref). AllGiven (g.W.Source.gave c.args.source.now) l) (sym (c.in_ok-refs-in-Item.ensures ∙ c.get-in-Item.ensures)) (c.requires c.as_bytes-in-Item.result.now)) (c.requires)
+
+pub run-returns-in_ok-write-in-Union-clause-named : goal.run-returns-in_ok-write-in-Union-clause-named
+run-returns-in_ok-write-in-Union-clause-named g t c = put_given _ c.in_ok-refs-in-Union.refs (lists_of c.run_all.new.sets.named.items) _ c.in_ok-write-in-Union.ensures (sorted_given c.in_ok-given-in-Union.given.items c.in_ok-refs-in-Union.refs c.in_ok-refs-in-Union.ensures c.in_ok-given-in-Union.ensures.named) (c.in_ok-given-in-Union.ensures.sets_named)
+
+pub run-returns-in_ok-write-in-Minus-clause-named : goal.run-returns-in_ok-write-in-Minus-clause-named
+run-returns-in_ok-write-in-Minus-clause-named g t c = put_given _ c.in_ok-refs-in-Minus.refs (lists_of c.run-in-Minus.new.sets.named.items) _ c.in_ok-write-in-Minus.ensures (part_given c.in_ok-first-in-Minus.first c.in_ok-refs-in-Minus.refs c.in_ok-refs-in-Minus.ensures (all_later c.in_ok-first-in-Minus.first (λ r. g.met.W.Source.same_gave _ _ r c.run-in-Minus.ensures.later) (subst (λ (l : List Ref). AllGiven (g.W.Source.gave c.run.new.source) l) (sym (c.in_ok-first-in-Minus.ensures ∙ c.written_by.ensures)) (written_given (statement_of c.deref-in-Minus-2.result.now) (lists_of c.run.new.sets.named.items) c.in_ok-run-in-Minus.ensures.named)))) (c.in_ok-run-in-Minus-2.ensures.named)

@@ -1,6 +1,7 @@
 use Rattle.std.proofs.Common.{take, Ok}
 use Rattle.tree_node.specs.Outcomes.{Outcome}
 use Rattle.tree_node.proofs.shared.OutcomeLaws.{uses}
+use Rattle.ql_eval.specs.internal.Giving.{AllGiven, AllSetsGiven}
 use Rattle.osm_index.specs.Publications.{IsPublication, Publication}
 use Rattle.ql_syntax.specs.StatementViews.{statements_of}
 use Rattle.ql_meaning.specs.Meanings.{AfterAll}
@@ -16,6 +17,8 @@ abbrev pub invariant-run_all-loop-part : goal.invariant-run_all-loop-part
 invariant-run_all-loop-part g l = record {
   later : g.W.Source.later l.fn.source l.source;
   walked : g.W.Source.walked l.fn.source l.source;
+  sets_named : AllSetsGiven (g.W.Source.gave l.source) (lists_of l.sets.named.items);
+  named : AllGiven (g.W.Source.gave l.source) l.given.items;
   answer : (p : Publication) → IsPublication p → g.W.Source.under l.fn.source p → AreAllThere p.objects (lists_of l.fn.sets.named.items) → CanRunAll (statements_of l.parts)
       → Outcome cause_of_evaluation (λ (_ : Unit {0}). AfterAll p.objects (statements_of (take l.part-index l.parts)) (lists_of l.fn.sets.named.items) (lists_of l.sets.named.items) l.given.items)
       (NeededBy p (AskedByAll p (statements_of (take l.part-index l.parts)) (lists_of l.fn.sets.named.items))) (uses (g.W.Source.holds l.source) (g.W.Source.used l.fn.source) (g.W.Source.used l.source)) (Ok tt);

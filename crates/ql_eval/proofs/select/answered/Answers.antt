@@ -10,6 +10,7 @@ use Rattle.ql_eval.specs.Questions.{NeededBy}
 use Rattle.ql_eval.proofs.CandidateLemmas.{FoundWell}
 use Rattle.ql_eval.proofs.SelectLemmas.{TestedWell, base_asks, base_lawful, candidates_there, kept_set, plan_splits, tests_ask}
 use Rattle.ql_eval.proofs.StepLemmas.{then_same}
+use Rattle.ql_eval.proofs.GivenLemmas.{sets_later}
 use Rattle.ql_eval.proofs.select.answered.Goals as goal
 
 pub returns-in_err-found-clause-answer : goal.returns-in_err-found-clause-answer
@@ -37,3 +38,6 @@ returns-clause-answer g c = λ p is under there lawful.
     (λ so.
     subst (λ (fs : List Filter). TestedWell p env fs found second c.apply_filters.result) rest
     (c.apply_filters.ensures.answer p is (g.met.W.Source.same_under _ _ p c.in_ok-found.ensures.later under) (candidates_there p.objects is.set env pick plan found so) there))
+
+pub apply_filters-requires-clause-sets_named : goal.apply_filters-requires-clause-sets_named
+apply_filters-requires-clause-sets_named g c = sets_later (lists_of c.args.sets.now.named.items) (λ r. g.met.W.Source.same_gave _ _ r c.find_candidates.ensures.later) c.requires.named

@@ -13,6 +13,7 @@ use Rattle.ql_eval.specs.Questions.{NeededBy}
 use Rattle.ql_eval.proofs.PlanLemmas.{one_planned}
 use Rattle.ql_eval.proofs.SelectLemmas.{PlannedWell, choice_asks, chosen_asks, select_splits}
 use Rattle.ql_eval.proofs.StepLemmas.{then_same}
+use Rattle.ql_eval.proofs.GivenLemmas.{sets_later}
 use Rattle.ql_eval.proofs.select.select.Goals as goal
 
 pub returns-in_err-plan-clause-answer : goal.returns-in_err-plan-clause-answer
@@ -37,3 +38,6 @@ returns-clause-answer g c = λ p is under there lawful.
     (λ chosen b set. subst (λ (fs : List Filter). IsSetOf b (IsRefOf p.objects (IsSelected p.objects env pick fs))) written set)
     (subst (λ (k : Option Kind). PlannedWell p k filters first (Ok plan)) c.kind_of.ensures (c.in_ok-plan.ensures.answer p is under))
     (λ chosen. c.answered.ensures.answer p is (g.met.W.Source.same_under _ _ p c.in_ok-plan.ensures.later under) there (subst (λ (fs : List Filter). AllByRecursion (Allows pick) fs) (sym written) lawful))
+
+pub answered-requires-clause-named : goal.answered-requires-clause-named
+answered-requires-clause-named g c = sets_later (lists_of c.args.sets.now.named.items) (λ r. g.met.W.Source.same_gave _ _ r c.choose_plan.ensures.later) c.requires

@@ -1,5 +1,6 @@
 use Rattle.std.proofs.Common.{refl}
 use Rattle.std.proofs.lemmas.Result.{IfErr-weaker}
+use Rattle.ql_eval.proofs.GivenLemmas.{given_later}
 use Rattle.ql_eval.proofs.KnownLemmas.{absent_later, remembers_later}
 use Rattle.ql_eval.proofs.shelf_source.ShelfSourceSource.count.Goals as goal
 
@@ -12,6 +13,7 @@ returns-clause-later g c = (
   (λ p under known. remembers_later p _ _ c.args.self.now.objects.now c.count_names.ensures.grows known),
   (λ r object known. known),
   (λ absent. absent_later _ _ c.args.self.now.manifest c.args.self.now.objects.now c.count_names.ensures.grows absent),
+  (λ r given. given_later _ _ c.args.self.now.manifest c.args.self.now.objects.now c.args.self.now.objects.now c.count_names.ensures.grows (λ s o known. known) r given),
 )
 
 pub returns-clause-told : goal.returns-clause-told
