@@ -2,8 +2,9 @@
 
 ghost use Rattle.std.specs.Prelude.{◌≡◌};
 
+use crate::changes_fault::ChangesFault;
 use crate::drawer::Drawer;
-use crate::publish_next::publish_next;
+use crate::publish_next::publish_found;
 use osm_desk::Desk;
 use osm_traffic::Lookout;
 use std::alloc::Global;
@@ -15,6 +16,8 @@ use std::marker::Model;
 pub struct DrawerLookout<R> {
     alloc: Global,
     drawer: R,
+    /// Why the last file was refused, if it was.
+    told: Option<ChangesFault>,
 }
 
 impl<R> Model for DrawerLookout<R> {
@@ -28,7 +31,11 @@ impl<R: Drawer> DrawerLookout<R> {
     pub fn new(alloc: Global, drawer: R) -> DrawerLookout<R>
         ensures { result ≡ drawer }
     {
-        DrawerLookout { alloc, drawer }
+        DrawerLookout {
+            alloc,
+            drawer,
+            told: None,
+        }
     }
 }
 
@@ -36,9 +43,18 @@ impl<R: Drawer> Lookout for DrawerLookout<R> {
     ghost found = { λ s. R.found s };
 
     /// Asks the drawer once for the change file of the next sequence number, and publishes its changes where it is there.
-    /// A file that is refused changes nothing, and is told in one line of `errors`. Where the sequence is at its
-    /// greatest, the drawer isn't asked.
+    /// A file that is refused changes nothing, and is told in one line of `errors`, but once as long as it is refused for
+    /// the same reason each time. Where the sequence is at its greatest, and in the first edition, which has none, the
+    /// drawer isn't asked.
     fn look<E: Write>(&mut self, desk: &mut Desk, errors: &mut E) {
-        publish_next(self.alloc, desk, &mut self.drawer, errors);
+        let refusal = publish_found(self.alloc, desk, &mut self.drawer).err();
+        if refusal == self.told {
+            return;
+        }
+        self.told = refusal;
+        if let Some(fault) = refusal {
+            // Where the line can't be written, connections are served all the same.
+            let _ = writeln!(errors, "{fault}");
+        }
     }
 }

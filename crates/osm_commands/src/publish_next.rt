@@ -14,9 +14,7 @@ use osm_index::Edition;
 use std::alloc::Global;
 use std::io::Write;
 
-/// Asks the drawer once for the change file of the next sequence number, and publishes the changes where it is there.
-/// A file that is refused changes nothing, and is told in one line of `errors`. Where the sequence is at its greatest,
-/// the drawer isn't asked.
+/// Publishes the next change file, as `publish_found` does. A file that is refused is told in one line of `errors`.
 pub(crate) fn publish_next<D: Drawer, E: Write>(
     alloc: Global,
     desk: &mut Desk,
@@ -30,13 +28,29 @@ pub(crate) fn publish_next<D: Drawer, E: Write>(
     ensures found { TakesFound (D.found drawer.old) (D.found drawer.new) desk.old.snapshot desk.new.snapshot }
     ensures connections { desk.new.connections ≡ desk.old.connections }
 {
-    let Some(sequence) = next_sequence(desk.snapshot().edition()) else {
-        return;
-    };
-    if let Err(fault) = publish_file(alloc, desk, drawer, sequence) {
+    if let Err(fault) = publish_found(alloc, desk, drawer) {
         // Where the line can't be written, connections are served all the same.
         let _ = writeln!(errors, "{fault}");
     }
+}
+
+/// Asks the drawer once for the change file of the next sequence number, and publishes the changes where it is there.
+/// A file that is refused changes nothing. Where the sequence is at its greatest, and in the first edition, which has
+/// none, the drawer isn't asked.
+pub(crate) fn publish_found<D: Drawer>(
+    alloc: Global,
+    desk: &mut Desk,
+    drawer: &mut D,
+) -> Result<(), ChangesFault>
+    ensures asked { IfSome (D.asked drawer.old) (λ before. D.asked drawer.new ≡ Some (asked_after desk.old.snapshot.edition before)) }
+    ensures in_force { (p : Publication) → HoldsPublication desk.old.snapshot p → HasPublished p desk.new.snapshot }
+    ensures found { TakesFound (D.found drawer.old) (D.found drawer.new) desk.old.snapshot desk.new.snapshot }
+    ensures connections { desk.new.connections ≡ desk.old.connections }
+{
+    let Some(sequence) = next_sequence(desk.snapshot().edition()) else {
+        return Ok(());
+    };
+    publish_file(alloc, desk, drawer, sequence)
 }
 
 /// Publishes the changes of the file with this sequence number, where it is there.
@@ -61,7 +75,7 @@ fn publish_file<D: Drawer>(
     publish_changes(alloc, desk, &mut file)
 }
 
-/// The sequence number after that of the edition; none where it is at its greatest.
+/// The sequence number after that of the edition; none where it is at its greatest, and after the first edition.
 fn next_sequence(edition: Edition) -> Option<u64>
     ensures { IsNext edition result }
 {

@@ -1,4 +1,4 @@
-//! The command `serve FILE PORT [--connections N] [--edition 1|2] [--sequence N]`.
+//! One connection after the other, over one snapshot.
 
 ghost use Rattle.std.specs.Prelude.{◌≡◌, ◌⊎◌, ◌+◌, ◌<◌, ℕ, IfErr, IfSome, OnErr, OnOk, Some};
 
@@ -10,7 +10,7 @@ use std::io::Write;
 
 /// Serves this number of connections, one after the other: each is answered over the snapshot by
 /// [`osm_gate::serve`]. A connection that ends badly is told in one line of `errors` (`G1` to `G4`), and the next
-/// is taken.
+/// is taken. The program serves by [`osm_traffic::serve_many`], many connections at a time.
 ///
 /// # Errors
 ///

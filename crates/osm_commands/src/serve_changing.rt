@@ -1,4 +1,4 @@
-//! The command `serve` in the second edition, with or without `--changes DIR`.
+//! One connection after the other, over what change files make.
 
 ghost use Rattle.std.specs.FinMap.{empty};
 ghost use Rattle.std.specs.Prelude.{◌≡◌, ◌⊎◌, ◌++◌, ◌+◌, ◌<◌, ◌≤◌, ℕ, IfErr, IfSome, List, OnErr, OnOk, Some, length};
@@ -19,7 +19,8 @@ use std::io::Write;
 /// that has come, it asks the drawer once for the change file of the next sequence number, and publishes it: all
 /// responses of the connection are over what is in force then. A file that is refused is told in one line of `errors`,
 /// as `I2 w10` or `O9 line 1 byte 8`; what was in force stays, and the same file is asked for at the next connection. A
-/// connection that ends badly is told in one line too (`G1` to `G4`), and the next is taken.
+/// connection that ends badly is told in one line too (`G1` to `G4`), and the next is taken. The program serves by
+/// [`osm_traffic::serve_many`], many connections at a time.
 ///
 /// # Errors
 ///

@@ -26,20 +26,25 @@ use osm_codes::explain;
 use osm_commands::ask::ask;
 use osm_commands::check::check;
 use osm_commands::command_fault::CommandFault;
+use osm_commands::drawer_lookout::DrawerLookout;
 use osm_commands::listening_line::listening_line;
 use osm_commands::prove::prove;
 use osm_commands::publish::publish;
 use osm_commands::read_snapshot::read_snapshot;
-use osm_commands::serve::serve;
-use osm_commands::serve_changing::serve_changing;
-use osm_commands::socket_door::SocketDoor;
 use osm_commands::status::Status;
 use osm_desk::Desk;
 use osm_index::Snapshot;
+use osm_sockets::Sockets;
+use osm_traffic::serve_many;
 use std::io::{ErrorKind, IsTerminal, Write};
+use std::net::SocketAddr;
 use std::process::ExitCode;
-use std::{env, fs};
+use std::time::Duration;
+use std::{env, fs, io};
 use tree_node::{Digest, Edition};
+
+/// How often change files are looked for while connections are kept, in milliseconds.
+const LOOK_MILLISECONDS: u64 = 250;
 
 /// What `clap` says of a word that isn't UTF-8. Such a word never gets as far as `clap` here.
 const NOT_TEXT: &str = "error: invalid UTF-8 was detected in one or more arguments\n";
@@ -89,10 +94,7 @@ fn done(rt: &HostRuntime, job: Job) -> Status {
             connections,
             edition,
             changes,
-        } => {
-            let drawer = FolderDrawer::new(rt, changes.as_deref());
-            serve_file(rt, &file, port, connections, edition, drawer)
-        }
+        } => serve_file(rt, &file, port, connections, edition, changes.as_deref()),
         Job::Explain { code } => explain_code(rt, &code),
     }
 }
@@ -253,23 +255,23 @@ fn check_files(
     }
 }
 
-/// Serves the set of this file on this port, in the second edition with the changes of this drawer.
+/// Serves the set of this file on this port, with the changes of this folder if there is one.
 fn serve_file(
     rt: &HostRuntime,
     file: &str,
     port: u16,
     connections: u32,
     edition: Edition,
-    drawer: FolderDrawer<'_>,
+    changes: Option<&str>,
 ) -> Status {
     let mut input = watched_file(rt, file);
     let mut building = Building::new(rt);
     let read = read_snapshot(rt.alloc(), &mut input, edition, &mut building);
     input.clear();
     building.clear();
-    let outcome = match read {
-        Ok(snapshot) => serve_snapshot(rt, snapshot, port, connections, drawer),
-        Err(fault) => Err(fault),
+    let fault = match read {
+        Ok(snapshot) => return serve_snapshot(rt, snapshot, port, connections, changes),
+        Err(fault) => fault,
     };
     let troubles = &[Trouble {
         name: file,
@@ -277,7 +279,7 @@ fn serve_file(
     }];
     ended(
         rt,
-        outcome,
+        Err(fault),
         &Subject {
             front: input.front(),
             query: &[],
@@ -286,34 +288,86 @@ fn serve_file(
     )
 }
 
-/// Serves a snapshot on this port. Once it listens, it says where and over what.
+/// Serves a snapshot on this port.
 fn serve_snapshot(
     rt: &HostRuntime,
     snapshot: Snapshot,
     port: u16,
     connections: u32,
-    mut drawer: FolderDrawer<'_>,
+    changes: Option<&str>,
+) -> Status {
+    match listen(rt, port, changes.is_some()) {
+        Ok((sockets, address)) => {
+            let outcome = serve_over(rt, snapshot, sockets, address, connections, changes);
+            ended(rt, outcome, &NOTHING)
+        }
+        Err(error) => port_refused(rt, port, &error),
+    }
+}
+
+/// How the program ends where it can't listen on this port. It says on which, and what the system says of that.
+fn port_refused(rt: &HostRuntime, port: u16, error: &io::Error) -> Status {
+    let fault = match error.kind() {
+        ErrorKind::OutOfMemory => CommandFault::Memory,
+        _ => CommandFault::Device,
+    };
+    let Ok(name) = format!(in rt.alloc(); "port {port}") else {
+        return ended(rt, Err(fault), &NOTHING);
+    };
+    let troubles = &[Trouble {
+        name: &name,
+        error: error.raw_os_error(),
+    }];
+    ended(
+        rt,
+        Err(fault),
+        &Subject {
+            front: &[],
+            query: &[],
+            troubles,
+        },
+    )
+}
+
+/// Sockets that listen on this port, and where that is. Where there are changes to look for, they are looked for four
+/// times a second.
+fn listen(rt: &HostRuntime, port: u16, has_changes: bool) -> io::Result<(Sockets<'_>, SocketAddr)> {
+    let looks = if has_changes {
+        Some(Duration::from_millis(LOOK_MILLISECONDS))
+    } else {
+        None
+    };
+    let sockets = Sockets::open(rt, port, looks)?;
+    let address = sockets.address()?;
+    Ok((sockets, address))
+}
+
+/// Serves a snapshot over sockets that listen at this address. At first it says where, and over what.
+fn serve_over(
+    rt: &HostRuntime,
+    snapshot: Snapshot,
+    mut sockets: Sockets<'_>,
+    address: SocketAddr,
+    connections: u32,
+    changes: Option<&str>,
 ) -> Result<(), CommandFault> {
     let alloc = rt.alloc();
-    let mut door = SocketDoor::open(rt, port)?;
-    let line = listening_line(alloc, door.address()?, &snapshot)?;
+    let line = listening_line(alloc, address, &snapshot)?;
     let errors = &mut rt.stderr();
     // Where standard error takes nothing, it serves all the same.
     let _ = write!(errors, "{line}");
-    match snapshot.edition() {
-        Edition::One => serve(alloc, &snapshot, &mut door, connections, errors),
-        Edition::Two { sequence: _ } => {
-            let mut desk = Desk::new(alloc, snapshot);
-            serve_changing(
-                alloc,
-                &mut desk,
-                &mut drawer,
-                &mut door,
-                connections,
-                errors,
-            )
-        }
-    }
+    let mut desk = Desk::new(alloc, snapshot);
+    let mut lookout = DrawerLookout::new(alloc, FolderDrawer::new(rt, changes));
+    serve_many(
+        alloc,
+        &mut desk,
+        &mut lookout,
+        &mut sockets,
+        connections,
+        errors,
+    )?;
+    sockets.settle();
+    Ok(())
 }
 
 /// Says what a code means.
