@@ -15,7 +15,7 @@ use Rattle.osm_index.specs.internal.Applying.{IsExchangeOf, RefusesChanges, Refu
 use Rattle.osm_index.specs.internal.ChangedTrees.{IsExchanged}
 use Rattle.osm_index.specs.internal.HeldTrees.{AreNamed}
 use Rattle.osm_index.proofs.SetLemmas.{exchanged, is_exchanged}
-use Rattle.osm_index.proofs.shared.Members.{from_map, here, in_map}
+use Rattle.osm_keys.proofs.shared.Members.{from_map, here, in_map}
 
 -- ---- deletes of objects that aren't among those named
 

@@ -14,9 +14,9 @@ use Rattle.tree_node.proofs.shared.StockLaws.{stock_free}
 use Rattle.tree_node.proofs.shared.TreeSame.{same_or_not}
 use Rattle.osm_index.specs.Applying.{AreDigestsOfOnly, IsNodeOfEither}
 use Rattle.osm_index.specs.Holdings.{AreHeld}
-use Rattle.osm_index.specs.Publications.{IsNodeIn, Publication, manifest_of, tree_in}
+use Rattle.osm_keys.specs.Publications.{IsNodeIn, Publication, manifest_of, tree_in}
 use Rattle.tree_node.specs.declared.edition.Edition.{Edition}
-use Rattle.osm_index.specs.declared.manifest.Manifest.{Manifest}
+use Rattle.osm_keys.specs.declared.manifest.Manifest.{Manifest}
 use Rattle.osm_index.specs.declared.plan.Plan.{Plan}
 use Rattle.osm_index.specs.internal.Plans.{IsPlan}
 use Rattle.osm_index.proofs.NodeChangeLemmas.{among_digests, digest_among, own_digests}

@@ -18,16 +18,16 @@ use Rattle.tree_node.specs.declared.limits.TheConstants.{ENTRY_LIMIT}
 use Rattle.tree_node.specs.declared.tree.Tree.{Tree}
 use Rattle.tree_node.specs.declared.tree.Tree.TheVariants.{Objects, Tags, Cells, Backs}
 use Rattle.osm_index.specs.Applying.{edition_after}
-use Rattle.osm_index.specs.Entries.{AreEntriesOf}
-use Rattle.osm_index.specs.Manifests.{top_among}
-use Rattle.osm_index.specs.Publications.{IsPublicationOf, Publication, shape_in, top_in, tree_in}
+use Rattle.osm_keys.specs.Entries.{AreEntriesOf}
+use Rattle.osm_keys.specs.Manifests.{top_among}
+use Rattle.osm_keys.specs.Publications.{IsPublicationOf, Publication, shape_in, top_in, tree_in}
 use Rattle.osm_index.specs.declared.apply_fault.ApplyFault.{ApplyFault}
 use Rattle.osm_index.specs.declared.changed_trees.ChangedTrees.{ChangedTrees}
 use Rattle.osm_index.specs.internal.ChangedTrees.{AreChangedTrees, AreHeldTrees, HoldsChanging, IsChangedTree}
 use Rattle.osm_index.specs.internal.Putting.{IsTreeNode}
-use Rattle.osm_index.proofs.FitLemmas.{has_tree}
+use Rattle.osm_keys.proofs.shared.EntriesFit.{has_tree}
 use Rattle.osm_index.proofs.TreeNodes.{is_tree, one_tree, second_shape, shape_after}
-use Rattle.osm_index.proofs.shared.OnePublication.{lists_have_trees}
+use Rattle.osm_keys.proofs.shared.OnePublication.{lists_have_trees}
 
 -- ---- one tree
 

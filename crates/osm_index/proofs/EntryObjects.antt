@@ -12,8 +12,8 @@ use Rattle.tree_node.specs.NodeRefs.{binding_of, bindings_of}
 use Rattle.tree_node.specs.Nodes.{Binding}
 use Rattle.tree_node.specs.declared.item.Item.{Item}
 use Rattle.tree_node.specs.declared.tree.Tree.TheVariants.{Objects}
-use Rattle.osm_index.specs.Entries.{object_entry}
-use Rattle.osm_index.specs.Publications.{IsPublication, Publication}
+use Rattle.osm_keys.specs.Entries.{object_entry}
+use Rattle.osm_keys.specs.Publications.{IsPublication, Publication}
 use Rattle.osm_index.specs.internal.HeldTrees.{AreObjectEntries}
 use Rattle.osm_index.proofs.SnapshotLemmas.{objects_listed}
 use Rattle.osm_index.proofs.shared.ChangeLaws.{one_set}

@@ -14,8 +14,8 @@ use Rattle.tree_node.specs.Nodes.{AreRisingFrom, Binding, keys_of}
 use Rattle.tree_node.specs.Order.{IsBelow}
 use Rattle.tree_node.specs.declared.limits.TheConstants.{ENTRY_LIMIT}
 use Rattle.tree_node.specs.declared.tree.Tree.{Tree}
-use Rattle.osm_index.specs.Entries.{AreEntriesOf, IsEntryOfSome}
-use Rattle.osm_index.specs.Publications.{HasTooMany, Publication}
+use Rattle.osm_keys.specs.Entries.{AreEntriesOf, IsEntryOfSome}
+use Rattle.osm_keys.specs.Publications.{HasTooMany, Publication}
 use Rattle.osm_index.specs.internal.ChangedTrees.{HoldsChanging, IsExchanged}
 use Rattle.osm_index.specs.internal.EntryChanges.{PutsNew, TakesOld, TurnEntries, put_of, taken}
 use Rattle.osm_index.specs.EntryLists.{IsKeyed}
@@ -23,7 +23,7 @@ use Rattle.osm_index.proofs.EntryTurns.{turns}
 use Rattle.osm_index.proofs.TurnLemmas.{turns_turn}
 use Rattle.osm_index.proofs.ItemLemmas.{all_of_each, count_parts, each_of, from_list, from_mapped, in_list, in_mapped, in_or_not, one_with_key, with_key_or_not}
 use Rattle.osm_index.proofs.OneOwner.{one_owner}
-use Rattle.osm_index.proofs.shared.OneObject.{is_element, one_object}
+use Rattle.osm_keys.proofs.shared.OneObject.{is_element, one_object}
 
 abbrev pub key_in : Binding → List ℕ
 key_in b = b.key

@@ -16,9 +16,9 @@ use Rattle.tree_walk.specs.Ranges.{Range}
 use Rattle.tree_walk.specs.Walks.{IsMet, IsMetCounted, IsTopOf}
 use Rattle.tree_walk.specs.declared.fault.WalkFault.{WalkFault}
 use Rattle.tree_walk.specs.declared.fault.WalkFault.TheVariants as walks
-use Rattle.osm_index.specs.Publications.{Publication, shape_in, tree_in}
+use Rattle.osm_keys.specs.Publications.{Publication, shape_in, tree_in}
 use Rattle.osm_index.specs.internal.HeldTrees.{HoldsTree}
-use Rattle.osm_index.proofs.shared.EntryBytes.{is_top}
+use Rattle.osm_keys.proofs.shared.EntryBytes.{is_top}
 
 -- a call that needs only nodes of the stock ends well
 pub ends_well : {A F : Type 0} {cause : F → Cause} {Is : A → Type 0} {needed : List ℕ → Type 0} {result : Result A F} (stock : Stock) (old new : Recorder)

@@ -1,5 +1,5 @@
 -- Entries that are put in the order of their keys, run by run.
-use Rattle.std.proofs.Common.{◌≡◌, ◌≢◌, ◌⊎◌, ◌↔◌, ◌+◌, ◌-◌, ◌<◌, ◌≤◌, ℕ, zero, suc, get_or, arith, Bool, true, false, List, [], ◌∷◌, ◌++◌, drop, length, map, take, None, inl, inr, refl, sym, ap, ◌∙◌, subst}
+use Rattle.std.proofs.Common.{◌≡◌, ◌≢◌, ◌+◌, ◌<◌, ℕ, get_or, arith, Bool, false, List, [], ◌∷◌, ◌++◌, drop, length, take, inl, inr, refl, sym, ap, ◌∙◌, subst}
 use Rattle.std.specs.List.{All, AllByRecursion, Contains, dedup}
 use Rattle.std.specs.List.Sorted.{IsPermutation, IsSortedByKey, IsStrictlySortedBy}
 use Rattle.std.specs.Ordering.{is_eq, is_lt, ordering_reverse}
@@ -11,7 +11,7 @@ use Rattle.std.proofs.lemmas.Cmp.{nat_list_cmp_total, on_total}
 use Rattle.std.proofs.lemmas.List.{append-nil, append_assoc, get_or-append-add, get_or-drop, get_or_default, get_or-take, length-append, length-drop, length-take-le, map-append, take-append-drop, take_more}
 use Rattle.std.proofs.lemmas.List.Elements.{All-contains, Contains-append_cases, Contains-append_left, Contains-append_right, Contains-get_or}
 use Rattle.std.proofs.lemmas.List.Kept.{Any-dedup, Contains-from_dedup, IsStrictlySortedBy-dedup}
-use Rattle.std.proofs.lemmas.List.Sorted.{All-permutation, Contains-permutation, IsPermutation-sym, ranks_by, sorted_far}
+use Rattle.std.proofs.lemmas.List.Sorted.{Contains-permutation, IsPermutation-sym, ranks_by, sorted_far}
 use Rattle.std.proofs.lemmas.Map.Text.{is_eq-slice_cmp}
 use Rattle.std.proofs.lemmas.Slice.Eq.{bytes_eq-Decides}
 use Rattle.std.specs.Cmp.Lexicographic.{nat_list_eq_equiv}
@@ -21,7 +21,7 @@ use Rattle.osm_index.specs.declared.fronted_entry.FrontedEntry.{FrontedEntry}
 use Rattle.osm_index.specs.internal.FrontedEntries.{HasStart, IsFirst, IsRun, IsSecond, items_of, numbers_and_key, numbers_of}
 use Rattle.osm_index.specs.internal.KeyOrder.{AppendsInOrder, HaveOneStart, IsInOrder}
 use Rattle.osm_index.proofs.FrontLemmas.{lower_start, second_order}
-use Rattle.osm_index.proofs.shared.Members.{from_map, here, in_map, in_rest, none}
+use Rattle.osm_keys.proofs.shared.Members.{from_map, here, in_map, in_rest, none}
 
 -- ---- lists that are made entry by entry
 

@@ -1,12 +1,8 @@
 pub mod shared
-pub mod Ids
 pub mod PackedLemmas
 pub mod SortedLemmas
 pub mod ListingLemmas
-pub mod ReadLemmas
-pub mod FitLemmas
 pub mod PutLemmas
-pub mod CellLemmas
 pub mod FrontLemmas
 pub mod KeyOrderLemmas
 pub mod NameLemmas

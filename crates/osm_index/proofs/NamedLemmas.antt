@@ -20,9 +20,9 @@ use Rattle.tree_node.specs.NodeRefs.{binding_of, bindings_of}
 use Rattle.tree_node.specs.Nodes.{Binding}
 use Rattle.tree_node.specs.declared.item.Item.{Item}
 use Rattle.osm_index.specs.Applying.{name_of, names_of}
-use Rattle.osm_index.specs.Entries.{object_entry}
-use Rattle.osm_index.proofs.shared.Members.{first_or_in_rest, here, in_rest, none}
-use Rattle.osm_index.proofs.shared.OneObject.{is_element, object_found, object_there}
+use Rattle.osm_keys.specs.Entries.{object_entry}
+use Rattle.osm_keys.proofs.shared.Members.{first_or_in_rest, here, in_rest, none}
+use Rattle.osm_keys.proofs.shared.OneObject.{is_element, object_found, object_there}
 
 -- ---- an object, read from its line
 

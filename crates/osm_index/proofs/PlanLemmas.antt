@@ -7,8 +7,8 @@ use Rattle.tree_node.specs.Digests.{digest}
 use Rattle.tree_node.specs.Shelves.{IsClashFree}
 use Rattle.tree_node.specs.declared.digest.Digest.{Digest}
 use Rattle.osm_index.specs.Applying.{AreDigestsOfOnly, IsSecond, edition_after}
-use Rattle.osm_index.specs.Manifests.{HasSequence, manifest, top_among}
-use Rattle.osm_index.specs.Publications.{IsNodeIn, IsPublicationOf, Publication, manifest_of, root_of, top_in}
+use Rattle.osm_keys.specs.Manifests.{HasSequence, manifest, top_among}
+use Rattle.osm_keys.specs.Publications.{IsNodeIn, IsPublicationOf, Publication, manifest_of, root_of, top_in}
 use Rattle.osm_index.specs.declared.changed_trees.ChangedTrees.{ChangedTrees}
 use Rattle.tree_node.specs.declared.edition.Edition.{Edition}
 use Rattle.tree_node.specs.declared.edition.Edition.TheVariants as editions
@@ -18,7 +18,7 @@ use Rattle.osm_index.proofs.ChangeTreeLemmas.{different_parts}
 use Rattle.osm_index.proofs.NodeChangeLemmas.{among_push}
 use Rattle.osm_index.proofs.PutLemmas.{manifest_is}
 use Rattle.osm_index.proofs.TreeNodes.{not_manifest}
-use Rattle.osm_index.proofs.shared.OneManifest.{same_edition}
+use Rattle.osm_keys.proofs.shared.OneManifest.{same_edition}
 
 module _ (p q : Publication) (edition : Edition) (is : IsPublicationOf q.objects edition q) (trees : ChangedTrees) (changed : AreChangedTrees p q trees) (unlike : manifest_of p ≢ manifest_of q) (free : IsClashFree (IsNodeIn p)) where
   pub manifest_same : manifest edition (top_among trees.tops) ≡ manifest_of q

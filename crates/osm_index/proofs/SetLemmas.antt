@@ -15,12 +15,12 @@ use Rattle.tree_build.proofs.ChangedLaw.{IsPut, changed_holds}
 use Rattle.tree_build.proofs.DifferChanges.{changed_rises}
 use Rattle.tree_build.proofs.WeaveLemmas.{above_low}
 use Rattle.tree_node.specs.Nodes.{AreRisingFrom}
-use Rattle.osm_index.specs.Keys.{ref_key}
+use Rattle.osm_keys.specs.Keys.{ref_key}
 use Rattle.osm_index.specs.internal.ChangedTrees.{IsExchanged}
 use Rattle.osm_index.proofs.ExchangeLemmas.{own_and_rising, put_by, puts_by}
 use Rattle.osm_index.proofs.ItemLemmas.{all_of_each, each_of, from_list, from_mapped, in_list, in_mapped, one_with_key}
-use Rattle.osm_index.proofs.shared.KeyOrder.{keys_as_refs}
-use Rattle.osm_index.proofs.shared.OneObject.{is_element, same_ref}
+use Rattle.osm_keys.proofs.shared.KeyOrder.{keys_as_refs}
+use Rattle.osm_keys.proofs.shared.OneObject.{is_element, same_ref}
 
 abbrev pub key_at : Element → List ℕ
 key_at o = ref_key (reference o)

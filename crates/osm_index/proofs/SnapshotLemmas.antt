@@ -12,15 +12,15 @@ use Rattle.tree_node.specs.declared.stock.Stock.{Stock}
 use Rattle.tree_node.specs.declared.tree.Tree.{Tree}
 use Rattle.tree_node.specs.declared.tree.Tree.TheVariants.{Objects}
 use Rattle.osm_index.specs.Applying.{AreApplicable, IsApplied, IsLast, IsSecond, edition_after}
-use Rattle.osm_index.specs.Entries.{object_entry}
+use Rattle.osm_keys.specs.Entries.{object_entry}
 use Rattle.osm_index.specs.Holdings.{AreHeld}
-use Rattle.osm_index.specs.Manifests.{HasSequence, top_among}
-use Rattle.osm_index.specs.Publications.{HasTooMany, IsPublication, IsPublicationOf, Publication, manifest_of}
+use Rattle.osm_keys.specs.Manifests.{HasSequence, top_among}
+use Rattle.osm_keys.specs.Publications.{HasTooMany, IsPublication, IsPublicationOf, Publication, manifest_of}
 use Rattle.osm_index.specs.declared.apply_fault.ApplyFault.{ApplyFault}
 use Rattle.osm_index.specs.declared.apply_fault.ApplyFault.TheVariants as faults
 use Rattle.tree_node.specs.declared.edition.Edition.{Edition}
 use Rattle.osm_index.specs.declared.exchange.Exchange.{Exchange}
-use Rattle.osm_index.specs.declared.manifest.Manifest.{Manifest}
+use Rattle.osm_keys.specs.declared.manifest.Manifest.{Manifest}
 use Rattle.osm_index.specs.declared.plan.Plan.{Plan}
 use Rattle.osm_index.specs.internal.Applying.{IsExchangeOf, RefusesChanges}
 use Rattle.osm_index.specs.internal.ChangedTrees.{AreHeldTrees, IsExchanged}
@@ -29,8 +29,8 @@ use Rattle.osm_index.specs.internal.Plans.{IsPlan, PlansChanges, RefusesPlan}
 use Rattle.osm_index.proofs.AppliedLemmas.{applied, some_exchanged}
 use Rattle.osm_index.proofs.PlanLemmas.{manifests_unlike}
 use Rattle.osm_index.proofs.SetLemmas.{RiseAt, set_rises}
-use Rattle.osm_index.proofs.shared.Members.{from_map, in_map}
-use Rattle.osm_index.proofs.shared.OnePublication.{one_entry_list}
+use Rattle.osm_keys.proofs.shared.Members.{from_map, in_map}
+use Rattle.osm_keys.proofs.shared.OnePublication.{one_entry_list}
 
 -- ---- the trees that it holds
 

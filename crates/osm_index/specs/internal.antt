@@ -1,7 +1,6 @@
 -- Words that only private clauses cite: nothing that a reader of the promises must believe.
 pub mod Listing
 pub mod Putting
-pub mod Cells
 pub mod Fronts
 pub mod FrontedEntries
 pub mod KeyOrder

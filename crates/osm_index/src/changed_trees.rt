@@ -6,8 +6,8 @@ ghost use Rattle.tree_build.specs.Rebuilding.{changed_entries, changes_of, keys_
 ghost use Rattle.tree_node.specs.Nodes.{AreRisingFrom, Binding};
 ghost use Rattle.tree_node.specs.Stocks.{HasNode};
 ghost use Rattle.osm_index.specs.Applying.{edition_after};
-ghost use Rattle.osm_index.specs.Entries.{AreEntriesOf};
-ghost use Rattle.osm_index.specs.Publications.{HasTooMany, IsPublicationOf, Publication};
+ghost use Rattle.osm_keys.specs.Entries.{AreEntriesOf};
+ghost use Rattle.osm_keys.specs.Publications.{HasTooMany, IsPublicationOf, Publication};
 ghost use Rattle.osm_index.specs.internal.ChangedTrees.{AreChangedTrees, AreHeldTrees, AreSomeHeldTrees, HoldsChanging, HoldsSomeChanging, IsChangedTree};
 
 use crate::apply_fault::ApplyFault;

@@ -4,7 +4,7 @@ ghost use Rattle.std.specs.Prelude.{◌≡◌, IfOk, length};
 ghost use Rattle.tree_node.specs.Outcomes.{NoMemory};
 ghost use Rattle.tree_node.specs.Stocks.{HasNode};
 ghost use Rattle.tree_walk.specs.Fetches.{cause_of};
-ghost use Rattle.osm_index.specs.Publications.{Publication};
+ghost use Rattle.osm_keys.specs.Publications.{Publication};
 ghost use Rattle.osm_index.specs.internal.HeldTrees.{HoldsSome, HoldsTree};
 
 use std::alloc::{AllocError, Global};

@@ -3,7 +3,7 @@
 ghost use Rattle.std.specs.Prelude.{◌≢◌, IfErr, IfOk};
 ghost use Rattle.tree_node.specs.Stocks.{HasNode};
 ghost use Rattle.tree_node.specs.declared.tree.Tree.TheVariants.{Objects};
-ghost use Rattle.osm_index.specs.Publications.{Publication};
+ghost use Rattle.osm_keys.specs.Publications.{Publication};
 ghost use Rattle.osm_index.specs.internal.Applying.{IsExchangeOf, RefusesChanges};
 ghost use Rattle.osm_index.specs.internal.HeldTrees.{HoldsSome, HoldsTree};
 

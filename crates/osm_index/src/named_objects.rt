@@ -11,14 +11,14 @@ ghost use Rattle.tree_node.specs.Nodes.{Binding};
 ghost use Rattle.tree_node.specs.Stocks.{HasNode};
 ghost use Rattle.tree_node.specs.declared.tree.Tree.TheVariants.{Objects};
 ghost use Rattle.osm_index.specs.Applying.{AreApart, names_of};
-ghost use Rattle.osm_index.specs.Entries.{object_entry};
-ghost use Rattle.osm_index.specs.Publications.{Publication};
+ghost use Rattle.osm_keys.specs.Entries.{object_entry};
+ghost use Rattle.osm_keys.specs.Publications.{Publication};
 ghost use Rattle.osm_index.specs.internal.HeldTrees.{AreEntriesOfSome, AreNamed, AreObjectEntries, HoldsSome, HoldsTree, IsLineOfSome};
 
 use crate::changed_names::name_of;
 use crate::entry_count::memory_alone;
-use crate::keys::reference_key;
 use opl_codec::{Change, read_line};
+use osm_keys::reference_key;
 use osm_model::{Object, ObjectSet, Ref};
 use std::alloc::{AllocError, Global};
 use tree_node::{Digest, Stock, Tree};

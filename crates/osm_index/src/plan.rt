@@ -2,14 +2,14 @@
 
 ghost use Rattle.std.specs.Prelude.{◌≡◌, ◌≢◌, IfOk, map};
 ghost use Rattle.tree_node.specs.Shelves.{IsClashFree};
-ghost use Rattle.osm_index.specs.Manifests.{manifest_bytes};
-ghost use Rattle.osm_index.specs.Publications.{IsNodeIn, IsPublicationOf, Publication, manifest_of, root_of};
+ghost use Rattle.osm_keys.specs.Manifests.{manifest_bytes};
+ghost use Rattle.osm_keys.specs.Publications.{IsNodeIn, IsPublicationOf, Publication, manifest_of, root_of};
 ghost use Rattle.osm_index.specs.internal.ChangedTrees.{AreChangedTrees};
 ghost use Rattle.osm_index.specs.internal.Plans.{IsPlan};
 
 use crate::changed_trees::ChangedTrees;
-use crate::manifest::{Manifest, write_manifest};
 use crate::node_changes::digests_of;
+use osm_keys::{Manifest, write_manifest};
 use std::alloc::{AllocError, Global};
 use tree_node::{Digest, Edition, NewNode};
 

@@ -14,9 +14,9 @@ use Rattle.tree_node.specs.declared.digest.Digest.{Digest}
 use Rattle.tree_node.specs.declared.limits.TheConstants.{ENTRY_LIMIT}
 use Rattle.tree_node.specs.declared.tree.Tree.{Tree}
 use Rattle.osm_index.specs.Applying.{IsSecond}
-use Rattle.osm_index.specs.Entries.{AreEntriesOf}
-use Rattle.osm_index.specs.Manifests.{top_among}
-use Rattle.osm_index.specs.Publications.{IsPublication, Publication, top_in}
+use Rattle.osm_keys.specs.Entries.{AreEntriesOf}
+use Rattle.osm_keys.specs.Manifests.{top_among}
+use Rattle.osm_keys.specs.Publications.{IsPublication, Publication, top_in}
 use Rattle.osm_index.specs.declared.changed_trees.ChangedTrees.{ChangedTrees}
 use Rattle.osm_index.specs.internal.HeldTrees.{HoldsTree}
 use Rattle.osm_index.specs.internal.Putting.{IsTreeNode}

@@ -1,6 +1,5 @@
 -- The entries that are sorted beside numbers of their keys.
 use Rattle.std.specs.Prelude.{◌≡◌, ◌≢◌, ◌≤◌, ◌<◌, ℕ, List, [], ◌∷◌, drop, length, map, slice_index_or}
-use Rattle.std.specs.List.{All}
 use Rattle.tree_node.specs.Nodes.{AreBytes}
 use Rattle.tree_node.specs.declared.item.Item.{Item}
 use Rattle.osm_index.specs.declared.fronted_entry.FrontedEntry.{FrontedEntry}

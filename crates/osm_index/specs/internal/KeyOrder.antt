@@ -5,7 +5,7 @@ use Rattle.std.specs.List.Sorted.{IsStrictlySortedBy}
 use Rattle.tree_node.specs.Order.{order}
 use Rattle.tree_node.specs.declared.item.Item.{Item}
 use Rattle.osm_index.specs.declared.fronted_entry.FrontedEntry.{FrontedEntry}
-use Rattle.osm_index.specs.internal.FrontedEntries.{HasStart, IsFirst, items_of}
+use Rattle.osm_index.specs.internal.FrontedEntries.{HasStart}
 
 -- the entries in the order of their keys, one for each key
 pub record IsInOrder (old new : List Item) : Type 0 where

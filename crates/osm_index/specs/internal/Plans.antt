@@ -7,8 +7,8 @@ use Rattle.tree_build.specs.Rebuilding.{AreDifferent, IsAmong, digests_of, nodes
 use Rattle.tree_node.specs.declared.new_node.NewNode.{NewNode}
 use Rattle.tree_node.specs.declared.tree.Tree.{Tree}
 use Rattle.osm_index.specs.Applying.{AreApart, AreApplicable, AreDigestsOfOnly, IsApplied, IsFirstMissing, IsFirstTwice, IsLast, edition_after}
-use Rattle.osm_index.specs.Manifests.{manifest_bytes, top_among}
-use Rattle.osm_index.specs.Publications.{HasTooMany, IsNodeIn, IsPublicationOf, Publication, manifest_of, root_of, top_in}
+use Rattle.osm_keys.specs.Manifests.{manifest_bytes, top_among}
+use Rattle.osm_keys.specs.Publications.{HasTooMany, IsNodeIn, IsPublicationOf, Publication, manifest_of, root_of, top_in}
 use Rattle.osm_index.specs.declared.apply_fault.ApplyFault.{ApplyFault}
 use Rattle.osm_index.specs.declared.apply_fault.ApplyFault.TheVariants as faults
 use Rattle.osm_index.specs.declared.plan.Plan.{Plan}

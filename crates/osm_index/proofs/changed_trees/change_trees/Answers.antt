@@ -3,7 +3,7 @@ use Rattle.std.proofs.Math.Logic.{∥∥₁_map}
 use Rattle.tree_node.specs.Stocks.{HasNode}
 use Rattle.tree_node.specs.declared.tree.Tree.TheVariants.{Objects, Tags, Cells, Backs}
 use Rattle.tree_node.proofs.shared.StockLaws.{stock_free}
-use Rattle.osm_index.specs.Publications.{HasTooMany}
+use Rattle.osm_keys.specs.Publications.{HasTooMany}
 use Rattle.osm_index.specs.declared.apply_fault.ApplyFault.TheVariants as faults
 use Rattle.osm_index.proofs.ChangeTreeLemmas.{four_changed, one_of_four, refused_as}
 use Rattle.osm_index.proofs.changed_trees.change_trees.Goals as goal

@@ -2,10 +2,10 @@ use Rattle.std.proofs.Common.{[], refl}
 use Rattle.std.proofs.Math.Logic.{∥∥₁_map}
 use Rattle.tree_node.specs.Stocks.{HasNode}
 use Rattle.tree_walk.specs.Walks.{IsEntryIn}
-use Rattle.osm_index.specs.Publications.{shape_in}
-use Rattle.osm_index.specs.Ranges.{under_all}
+use Rattle.osm_keys.specs.Publications.{shape_in}
+use Rattle.osm_keys.specs.Ranges.{under_all}
 use Rattle.osm_index.proofs.HeldTreeLemmas.{count_all, counted_held, ends_well, held_top}
-use Rattle.osm_index.proofs.shared.RangeLaws.{in_under}
+use Rattle.osm_keys.proofs.shared.RangeLaws.{in_under}
 use Rattle.osm_index.proofs.entry_count.entry_count.Goals as goal
 
 pub returns-in-Ok : goal.returns-in-Ok

@@ -4,10 +4,10 @@ use Rattle.tree_node.specs.NodeRefs.{bindings_of}
 use Rattle.tree_node.specs.Stocks.{HasNode}
 use Rattle.tree_node.specs.declared.tree.Tree.TheVariants.{Objects}
 use Rattle.tree_walk.specs.Walks.{IsEntryIn}
-use Rattle.osm_index.specs.Publications.{shape_in}
-use Rattle.osm_index.specs.Ranges.{under_all}
+use Rattle.osm_keys.specs.Publications.{shape_in}
+use Rattle.osm_keys.specs.Ranges.{under_all}
 use Rattle.osm_index.proofs.HeldTreeLemmas.{all_those, ends_well, held_top, met_held}
-use Rattle.osm_index.proofs.shared.RangeLaws.{in_under}
+use Rattle.osm_keys.proofs.shared.RangeLaws.{in_under}
 use Rattle.osm_index.proofs.named_objects.all_entries.Goals as goal
 
 pub returns-in-Ok : goal.returns-in-Ok

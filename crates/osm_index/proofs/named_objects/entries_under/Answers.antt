@@ -5,9 +5,9 @@ use Rattle.tree_node.specs.Stocks.{HasNode}
 use Rattle.tree_node.specs.declared.tree.Tree.TheVariants.{Objects}
 use Rattle.tree_walk.specs.Choices.{AreThose}
 use Rattle.tree_walk.specs.Walks.{IsEntryIn}
-use Rattle.osm_index.specs.Publications.{shape_in}
+use Rattle.osm_keys.specs.Publications.{shape_in}
 use Rattle.osm_index.proofs.HeldTreeLemmas.{ends_well, held_top, met_held}
-use Rattle.osm_index.proofs.shared.RangeLaws.{object_is_found}
+use Rattle.osm_keys.proofs.shared.RangeLaws.{object_is_found}
 use Rattle.osm_index.proofs.named_objects.entries_under.Goals as goal
 
 pub returns-in-Ok : goal.returns-in-Ok

@@ -4,7 +4,7 @@ use Rattle.osm_model.specs.Sets.{object_at}
 use Rattle.tree_node.specs.Stocks.{HasNode}
 use Rattle.tree_node.specs.declared.tree.Tree.TheVariants.{Objects}
 use Rattle.osm_index.specs.Applying.{names_of}
-use Rattle.osm_index.specs.Publications.{Publication}
+use Rattle.osm_keys.specs.Publications.{Publication}
 use Rattle.osm_index.specs.internal.HeldTrees.{HoldsTree}
 use Rattle.osm_index.proofs.named_objects.list_named.Given as goal
 

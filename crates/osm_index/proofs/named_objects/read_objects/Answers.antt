@@ -2,7 +2,7 @@ use Rattle.std.proofs.Common.{◌≡◌, length, ap, arith, ◌∙◌}
 use Rattle.std.proofs.Math.Logic.{∥∥₁_map}
 use Rattle.std.proofs.lemmas.List.{length-map, take_all}
 use Rattle.tree_node.specs.NodeRefs.{binding_of}
-use Rattle.osm_index.specs.Entries.{object_entry}
+use Rattle.osm_keys.specs.Entries.{object_entry}
 use Rattle.osm_index.proofs.EntryObjects.{object_in, object_more}
 use Rattle.osm_index.proofs.named_objects.read_objects.Goals as goal
 

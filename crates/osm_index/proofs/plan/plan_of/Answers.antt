@@ -1,6 +1,6 @@
 use Rattle.std.proofs.Common.{◌≡◌, ap, ◌∙◌}
 use Rattle.tree_node.specs.Digests.{digest}
-use Rattle.osm_index.specs.Publications.{manifest_of}
+use Rattle.osm_keys.specs.Publications.{manifest_of}
 use Rattle.osm_index.proofs.PlanLemmas.{digests_go, manifest_same, nodes_come, nodes_once}
 use Rattle.osm_index.proofs.plan.plan_of.Goals as goal
 

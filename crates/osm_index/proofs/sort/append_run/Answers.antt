@@ -1,4 +1,4 @@
-use Rattle.std.proofs.Common.{rules, ◌≡◌, ◌∙◌, ◌++◌, List, arith, ap, refl}
+use Rattle.std.proofs.Common.{rules, ◌∙◌, ◌++◌, ap}
 use Rattle.std.proofs.lemmas.Cmp.{nat_list_cmp_total}
 use Rattle.std.proofs.lemmas.Fn.{dedup_same}
 use Rattle.std.proofs.lemmas.List.Sorted.{All-permutation, answers_always, ranks_by}
@@ -6,7 +6,6 @@ use Rattle.std.specs.Ordering.{is_lt}
 use Rattle.std.specs.List.{All}
 use Rattle.std.proofs.lemmas.Result.{on_ok_weaker}
 use Rattle.tree_node.specs.Order.{order}
-use Rattle.tree_node.specs.declared.item.Item.{Item}
 use Rattle.osm_index.specs.internal.FrontedEntries.{HasStart, IsSecond, items_of, numbers_and_key}
 use Rattle.osm_index.proofs.KeyOrderLemmas.{alone_of, in_order, one_key, sorted_by_keys, starts_of_items}
 use Rattle.osm_index.proofs.sort.append_run.Goals as goal

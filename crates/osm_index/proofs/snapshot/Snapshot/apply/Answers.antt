@@ -6,7 +6,7 @@ use Rattle.tree_build.specs.Rebuilding.{IsAmong, digests_of}
 use Rattle.tree_node.specs.Digests.{digest}
 use Rattle.tree_node.specs.Stocks.{HasNode}
 use Rattle.tree_node.specs.declared.digest.Digest.{Digest}
-use Rattle.osm_index.specs.Publications.{IsNodeIn}
+use Rattle.osm_keys.specs.Publications.{IsNodeIn}
 use Rattle.osm_index.specs.declared.apply_fault.ApplyFault.{ApplyFault}
 use Rattle.osm_index.specs.declared.apply_fault.ApplyFault.TheVariants as faults
 use Rattle.osm_index.proofs.ApplyLemmas.{both_free, digests_as, digests_come, held_after, held_still, nodes_after}
