@@ -10,7 +10,7 @@ use Rattle.osm_model.specs.Elements.{kind_byte, ref_cmp}
 use Rattle.osm_model.specs.declared.kind.Kind.{Kind}
 use Rattle.osm_model.specs.declared.kind.Kind.TheVariants as kinds
 use Rattle.osm_model.specs.declared.reference.Ref.{Ref}
-use Rattle.osm_index.proofs.shared.OneObject.{same_kind}
+use Rattle.osm_keys.proofs.shared.OneObject.{same_kind}
 use Rattle.ql_eval.specs.internal.Kinds.{IsBetween}
 
 -- ---- lists and their places

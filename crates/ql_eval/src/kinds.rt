@@ -1,7 +1,7 @@
 //! Parts of sets by kind.
 
 ghost use Rattle.std.specs.Prelude.{◌≡◌, ◌≤◌, ◌↔◌, nat_le, nat_lt};
-ghost use Rattle.osm_index.specs.Ranges.{IsKindOf};
+ghost use Rattle.osm_keys.specs.Ranges.{IsKindOf};
 ghost use Rattle.ql_syntax.specs.declared.pick.Pick.{Pick};
 ghost use Rattle.ql_eval.specs.Asks.{kind_picked, kinds_of};
 ghost use Rattle.std.specs.List.{Contains};

@@ -13,7 +13,7 @@ ghost use Rattle.ql_eval.specs.internal.Entries.{AreMisread, IsMisread, IsSaid};
 use crate::fault::EvalFault;
 use crate::objects::object_in;
 use crate::placed::placed_by;
-use osm_index::{read_back_key, read_tag_key};
+use osm_keys::{read_back_key, read_tag_key};
 use osm_model::Ref;
 use ref_sets::tidy;
 use std::alloc::Global;

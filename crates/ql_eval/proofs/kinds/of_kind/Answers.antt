@@ -1,7 +1,7 @@
 use Rattle.std.proofs.Common.{◌↔◌, Option, sym, subst}
 use Rattle.std.specs.List.{Contains}
 use Rattle.osm_model.specs.declared.kind.Kind.{Kind}
-use Rattle.osm_index.specs.Ranges.{IsKindOf}
+use Rattle.osm_keys.specs.Ranges.{IsKindOf}
 use Rattle.ql_eval.proofs.KindLemmas.{of_one_kind}
 use Rattle.ql_eval.proofs.kinds.of_kind.Goals as goal
 
