@@ -37,9 +37,9 @@ abbrev pub IsSecond : Edition → Type 0
 IsSecond editions.One = ⊥
 IsSecond (editions.Two sequence) = ⊤
 
--- the sequence is at its greatest
+-- no sequence comes after that of the edition: it is at its greatest, or the edition is the first, which has none
 abbrev pub IsLast : Edition → Type 0
-IsLast editions.One = ⊥
+IsLast editions.One = ⊤
 IsLast (editions.Two sequence) = sequence + 1 ≡ 2 ^ 64
 
 -- the edition at the next sequence

@@ -106,13 +106,13 @@ impl Snapshot {
     /// each, and with the nodes that change times the levels of the trees; of the objects that no change names none
     /// is looked at. What the snapshot holds then comes from `alloc`.
     ///
-    /// Refused by the first of these that holds: `LastSequence` (I5), `ChangedTwice` (I3) by the earliest change
-    /// whose object an earlier one names, `NotThere` (I2) by the earliest delete of an object that isn't in the
-    /// set, `TooMany` (I4) where a tree would have more than 2^29 entries, `Clash` (I1) where two different nodes
-    /// of the old and the new publication together have one digest. Each but the first may be `Memory` instead,
-    /// and so may any answer. After a refusal the snapshot is as before.
+    /// Refused by the first of these that holds: `LastSequence` (I5) where the sequence is 2^64 - 1, or the snapshot
+    /// is of the first edition, which has none; `ChangedTwice` (I3) by the earliest change whose object an earlier one
+    /// names, `NotThere` (I2) by the earliest delete of an object that isn't in the set, `TooMany` (I4) where a tree
+    /// would have more than 2^29 entries, `Clash` (I1) where two different nodes of the old and the new publication
+    /// together have one digest. Each but the first may be `Memory` instead, and so may any answer. After a refusal
+    /// the snapshot is as before.
     pub fn apply(&mut self, alloc: Global, changes: &[Change]) -> Result<Delta, ApplyFault>
-        requires { IsSecond self.old.edition }
         // The snapshot holds a publication of the changed set at the next sequence.
         ensures applied { (p : Publication) → HoldsPublication self.old p → OnOk result ((q : Publication) × HoldsPublication self.new q
             × IsApplied p.objects changes.now q.objects × (q.edition ≡ edition_after p.edition)) }
@@ -125,7 +125,7 @@ impl Snapshot {
             → HoldsPublication self.old p → HoldsPublication self.new q → IsClashFree (IsNodeOfEither p q)) }
         // After a refusal all is as before.
         ensures stays { OnErr result (IsAsBefore self.old self.new) }
-        // The sequence is at its greatest where it says so, and only there.
+        // No sequence comes after the set's where it says so, and only there.
         ensures last { (result ≡ Err ApplyFault.LastSequence) ↔ IsLast self.old.edition }
         // Else two changes are of one object where it says so; else a deleted object isn't there;
         ensures twice { (p : Publication) → HoldsPublication self.old p → (r : Ref) → result ≡ Err (ApplyFault.ChangedTwice r)
@@ -156,7 +156,6 @@ impl Snapshot {
 
     /// What the changes make of the snapshot. It reads the object tree for the objects that they name.
     fn plan(&self, alloc: Global, changes: &[Change]) -> Result<Plan, ApplyFault>
-        requires { IsSecond self.now.edition }
         ensures listed { IfOk result (λ plan. plan.added.items ≡ map (λ node. node.digest) plan.nodes.items) }
         ensures planned { (p : Publication) → HoldsPublication self.now p → IfOk result (PlansChanges p changes.now) }
         ensures refused { (p : Publication) → HoldsPublication self.now p → IfErr result (RefusesPlan p changes.now) }
@@ -217,15 +216,15 @@ impl Snapshot {
     }
 }
 
-/// The second edition at the next sequence.
+/// The second edition at the next sequence. Refused where none comes after that of the edition.
 fn edition_after(edition: Edition) -> Result<Edition, ApplyFault>
-    requires { IsSecond edition }
     ensures after { IfOk result (λ next. (next ≡ edition_after edition) × (¬ IsLast edition)) }
+    ensures second { OnOk result (IsSecond edition) }
     ensures fits { IfOk result (λ next. HasSequence edition × HasSequence next) }
     ensures refused { IfErr result (λ fault. (fault ≡ ApplyFault.LastSequence) × IsLast edition) }
 {
     match edition {
-        Edition::One => unreachable!("the edition is the second"),
+        Edition::One => Err(ApplyFault::LastSequence),
         Edition::Two { sequence } => match sequence.checked_add(1) {
             Some(sequence) => Ok(Edition::Two { sequence }),
             None => Err(ApplyFault::LastSequence),

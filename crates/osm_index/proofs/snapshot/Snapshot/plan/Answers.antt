@@ -16,7 +16,7 @@ change_trees-requires c =
     let fits = c.in_ok-edition.ensures.fits in
     ∥∥₁_map s.own (λ (p, held).
     let given = c.in_ok-exchange.ensures.given p (held_tree s.edition s.stock s.manifest s.root p held Objects) in
-    let new = changing s.edition s.stock s.manifest s.root p held c.requires c.in_ok-edition.edition after.0 after.1 fits.0 fits.1 c.args.changes.now c.in_ok-exchange.exchange given in
+    let new = changing s.edition s.stock s.manifest s.root p held c.in_ok-edition.ensures.second c.in_ok-edition.edition after.0 after.1 fits.0 fits.1 c.args.changes.now c.in_ok-exchange.exchange given in
     (p, new.0, new.1))
 
 pub returns-in_err-trees-clause-refused : goal.returns-in_err-trees-clause-refused
@@ -26,11 +26,11 @@ returns-in_err-trees-clause-refused c = λ p held.
     let after = c.in_ok-edition.ensures.after in
     let fits = c.in_ok-edition.ensures.fits in
     let given = c.in_ok-exchange.ensures.given p (held_tree s.edition s.stock s.manifest s.root p held Objects) in
-    let new = changing s.edition s.stock s.manifest s.root p held c.requires c.in_ok-edition.edition after.0 after.1 fits.0 fits.1 all c.in_ok-exchange.exchange given in
+    let new = changing s.edition s.stock s.manifest s.root p held c.in_ok-edition.ensures.second c.in_ok-edition.edition after.0 after.1 fits.0 fits.1 all c.in_ok-exchange.exchange given in
     refused_as (RefusesPlan p all) c.from_residual-in_err-trees.result c.in_err-trees.field-0.0 c.from_residual-in_err-trees.ensures.1
     (elim c.in_err-trees.ensures.refused [
       | inl memory ↦ subst (RefusesPlan p all) (sym memory) tt
-      | inr many ↦ subst (RefusesPlan p all) (sym many) (too_many s.edition s.stock s.manifest s.root p held c.requires c.in_ok-edition.edition after.0 after.1 fits.0 fits.1 all c.in_ok-exchange.exchange given (c.in_err-trees.ensures.too_many p new.0 new.1 many))
+      | inr many ↦ subst (RefusesPlan p all) (sym many) (too_many s.edition s.stock s.manifest s.root p held c.in_ok-edition.ensures.second c.in_ok-edition.edition after.0 after.1 fits.0 fits.1 all c.in_ok-exchange.exchange given (c.in_err-trees.ensures.too_many p new.0 new.1 many))
     ])
 
 pub returns-clause-planned : goal.returns-clause-planned
@@ -40,9 +40,9 @@ returns-clause-planned c = λ p held.
     let after = c.in_ok-edition.ensures.after in
     let fits = c.in_ok-edition.ensures.fits in
     let given = c.in_ok-exchange.ensures.given p (held_tree s.edition s.stock s.manifest s.root p held Objects) in
-    let new = changing s.edition s.stock s.manifest s.root p held c.requires c.in_ok-edition.edition after.0 after.1 fits.0 fits.1 all c.in_ok-exchange.exchange given in
+    let new = changing s.edition s.stock s.manifest s.root p held c.in_ok-edition.ensures.second c.in_ok-edition.edition after.0 after.1 fits.0 fits.1 all c.in_ok-exchange.exchange given in
     let (q, is_q, changed) = c.in_ok-trees.ensures.changed p new.0 new.1 in
-    let is_next = published_next s.edition s.stock s.manifest s.root p held c.requires c.in_ok-edition.edition after.0 after.1 fits.0 fits.1 all c.in_ok-exchange.exchange given q is_q in
-    let differs = unlike s.edition s.stock s.manifest s.root p held c.requires c.in_ok-edition.edition after.0 after.1 fits.0 fits.1 all c.in_ok-exchange.exchange given q is_q in
-    plans s.edition s.stock s.manifest s.root p held c.requires c.in_ok-edition.edition after.0 after.1 fits.0 fits.1 all c.in_ok-exchange.exchange given q is_q c.in_ok-plan_of.field-0
+    let is_next = published_next s.edition s.stock s.manifest s.root p held c.in_ok-edition.ensures.second c.in_ok-edition.edition after.0 after.1 fits.0 fits.1 all c.in_ok-exchange.exchange given q is_q in
+    let differs = unlike s.edition s.stock s.manifest s.root p held c.in_ok-edition.ensures.second c.in_ok-edition.edition after.0 after.1 fits.0 fits.1 all c.in_ok-exchange.exchange given q is_q in
+    plans s.edition s.stock s.manifest s.root p held c.in_ok-edition.ensures.second c.in_ok-edition.edition after.0 after.1 fits.0 fits.1 all c.in_ok-exchange.exchange given q is_q c.in_ok-plan_of.field-0
     (c.in_ok-plan_of.ensures.planned p q is_next changed held.root differs held.no_clash)
