@@ -8,7 +8,7 @@ use Rattle.osm_model.specs.Edges.{ExactEdge}
 use Rattle.osm_model.specs.declared.axis.Axis.{Axis}
 use Rattle.tree_walk.specs.Ranges.{IsIn, Range}
 use Rattle.osm_keys.specs.Keys.{cell_bytes}
-use Rattle.osm_keys.specs.declared.columns.WholeEdges.{WholeEdges}
+use Rattle.osm_keys.specs.declared.whole_edges.WholeEdges.{WholeEdges}
 use Rattle.osm_keys.specs.internal.Cells.{AreWholeEdges}
 use Rattle.osm_keys.specs.Ranges.{AreCellRanges, AreColumns, AreRows, cell_range}
 use Rattle.osm_keys.proofs.Ids.{same_number}

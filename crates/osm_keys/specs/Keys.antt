@@ -3,9 +3,11 @@
 use Rattle.std.specs.Int.{to_be_bytes, cast_unsigned, w16, w32, w64}
 use Rattle.std.specs.Prelude.{ℕ, ◌/◌, ◌≤◌, ◌^◌, List, [], ◌∷◌, ◌++◌, ℤ, pos, ◌+ℤ◌, unsigned_abs}
 use Rattle.std.specs.Str.{IsUtf8}
+use Rattle.osm_model.specs.Degrees.{limit}
 use Rattle.osm_model.specs.Elements.{kind_byte}
 use Rattle.osm_model.specs.Limits.{HasNoNul, IsShort}
 use Rattle.osm_model.specs.Places.{Place}
+use Rattle.osm_model.specs.declared.axis.Axis.TheVariants.{Lat, Lon}
 use Rattle.osm_model.specs.declared.reference.Ref.{Ref}
 
 -- how far a number is above the least one, which is `least` below 0
@@ -34,18 +36,29 @@ pub record IsTagText (text : List ℕ) : Type 0 where
 abbrev pub tag_key : List ℕ → List ℕ → Ref → List ℕ
 tag_key key value r = tag_prefix key value ++ ref_key r
 
--- the row and the column of the cell that a location lies in, a tenth of a degree high and wide: from the south, and
--- from the west
+-- how high and how wide a cell is, in 1e-7 degree: a tenth of a degree
+abbrev pub cell_size : ℕ
+cell_size = 1000000
+
+-- the row of the cell that a latitude lies in, from the south, and the column that a longitude lies in, from the west
 abbrev pub row : ℤ → ℕ
-row lat = above 900000000 lat / 1000000
+row lat = above (limit Lat) lat / cell_size
 
 abbrev pub column : ℤ → ℕ
-column lon = above 1800000000 lon / 1000000
+column lon = above (limit Lon) lon / cell_size
+
+-- the greatest row, of the north pole
+abbrev pub last_row : ℕ
+last_row = 1800
+
+-- the greatest column, of longitude 180
+abbrev pub last_column : ℕ
+last_column = 3600
 
 -- there is a cell in this row and this column
 pub record IsCell (row column : ℕ) : Type 0 where
-  pub in_rows : row ≤ 1800
-  pub in_columns : column ≤ 3600
+  pub in_rows : row ≤ last_row
+  pub in_columns : column ≤ last_column
 
 -- a cell in four bytes
 unfoldable pub cell_bytes : ℕ → ℕ → List ℕ

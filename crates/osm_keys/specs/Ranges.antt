@@ -9,7 +9,7 @@ use Rattle.osm_model.specs.Places.{IsPlace}
 use Rattle.osm_model.specs.declared.kind.Kind.{Kind}
 use Rattle.osm_model.specs.declared.reference.Ref.{Ref}
 use Rattle.tree_walk.specs.Ranges.{Range}
-use Rattle.osm_keys.specs.Keys.{cell_bytes, column, ref_key, row, tag_prefix}
+use Rattle.osm_keys.specs.Keys.{cell_bytes, column, last_column, ref_key, row, tag_prefix}
 
 -- the keys that begin with these bytes
 abbrev pub under_all : List ℕ → Range
@@ -50,10 +50,6 @@ back_range target kind = under_all (ref_key target ++ kind_bytes kind)
 -- the cells of a row from one column to another
 abbrev pub cell_range : ℕ → ℕ × ℕ → Range
 cell_range row columns = record { lo = cell_bytes row columns.0; hi = cell_bytes row columns.1; under = true }
-
--- the greatest column, of longitude 180
-abbrev pub last_column : ℕ
-last_column = 3600
 
 -- the rows from one latitude to another: none where the first is above the second
 abbrev pub AreRows : ℤ → ℤ → List ℕ → Type 0

@@ -1,18 +1,11 @@
 //! The keys of the four trees, written.
 
-ghost use Rattle.std.specs.Prelude.{◌≡◌, [], ◌∷◌, ◌++◌, ◌≤◌, ◌*◌, ◌^◌, OnErr, OnOk, length, take, unsigned_abs};
-ghost use Rattle.osm_keys.specs.Keys.{above, back_key, cell_bytes, cell_key, cell_value, column, id_bytes, ref_key, row, tag_key};
+ghost use Rattle.std.specs.Prelude.{◌≡◌, [], ◌∷◌, ◌++◌, ◌^◌, OnErr, OnOk, length, take};
+ghost use Rattle.osm_keys.specs.Keys.{above, back_key, cell_bytes, cell_key, cell_value, id_bytes, ref_key, tag_key};
 
+use crate::grid::{column, row};
 use osm_model::{Coord, Ref};
 use std::alloc::AllocError;
-
-/// The least latitude and the least longitude, in 1e-7 degree below 0.
-const LEAST_LAT: u32 = 900_000_000;
-
-const LEAST_LON: u32 = 1_800_000_000;
-
-/// The height and the width of a cell, in 1e-7 degree.
-const CELL: u64 = 1_000_000;
 
 /// A reference as a key of the object tree, nine bytes: its kind's byte, and `id + 2^63` with the
 /// greatest byte first (this project's trees, docs/FORMATS.md). It takes no memory.
@@ -102,33 +95,6 @@ pub(crate) fn cell_bytes(row: u16, column: u16) -> [u8; 4]
     let [a, b] = row.to_be_bytes();
     let [c, d] = column.to_be_bytes();
     [a, b, c, d]
-}
-
-/// The row of the cells at a latitude in 1e-7 degree, from the south.
-pub(crate) fn row(lat: i32) -> u16
-    requires { unsigned_abs lat ≤ 900000000 }
-    ensures value { result ≡ row lat }
-    ensures bound { result ≤ 1800 }
-{
-    (above(lat, LEAST_LAT) / CELL) as u16
-}
-
-/// The column of the cells at a longitude in 1e-7 degree, from the west.
-pub(crate) fn column(lon: i32) -> u16
-    requires { unsigned_abs lon ≤ 1800000000 }
-    ensures value { result ≡ column lon }
-    ensures bound { result ≤ 3600 }
-{
-    (above(lon, LEAST_LON) / CELL) as u16
-}
-
-/// How far a number is above the least one, which is so far below 0.
-fn above(value: i32, least: u32) -> u64
-    requires within { unsigned_abs value ≤ least }
-    ensures value { result ≡ above least value }
-    ensures bound { result ≤ 2 * least }
-{
-    (i64::from(value) + i64::from(least)) as u64
 }
 
 /// An id in eight bytes.

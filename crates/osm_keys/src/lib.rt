@@ -8,12 +8,16 @@
 #![tactic(auto)]
 
 mod cells;
+mod column_span;
 mod columns;
+mod grid;
 mod keys;
 mod laws;
 mod manifest;
 mod ranges;
 mod read_keys;
+mod rows;
+mod whole_edges;
 
 pub use cells::cell_ranges;
 pub use keys::{append_tag_key, back_key, cell_key, cell_value, reference_key};

@@ -1,25 +1,16 @@
 //! The keys of the four trees, read.
 
-ghost use Rattle.std.specs.Prelude.{◌≡◌, ◌≢◌, ◌∷◌, ◌++◌, ℕ, ℤ, IfSome, IsNone, List};
+ghost use Rattle.std.specs.Prelude.{◌≡◌, ◌≢◌, ◌↔◌, ◌∷◌, ◌++◌, ℕ, ℤ, IfSome, IsNone, IsTrue, List};
 ghost use Rattle.osm_model.specs.Elements.{kind_byte};
 ghost use Rattle.osm_model.specs.Places.{IsPlace, Place};
 ghost use Rattle.osm_model.specs.declared.kind.Kind.{Kind};
 ghost use Rattle.osm_model.specs.declared.reference.Ref.{Ref};
 ghost use Rattle.osm_keys.specs.Keys.{IsCell, IsTagText, back_key, cell_bytes, cell_value, id_bytes, ref_key, tag_key};
 
+use crate::grid::{LAST_COLUMN, LAST_ROW};
 use opl_codec::cut;
-use osm_model::{Coord, Kind, Ref, TEXT_LIMIT};
+use osm_model::{Axis, Coord, Kind, Ref, TEXT_LIMIT};
 use simdutf8::compat::from_utf8;
-
-/// The greatest row and the greatest column of a cell: those of the north pole, and of longitude 180.
-const LAST_ROW: u16 = 1800;
-
-const LAST_COLUMN: u16 = 3600;
-
-/// The greatest latitude and the greatest longitude, in 1e-7 degree.
-const GREATEST_LAT: u32 = 900_000_000;
-
-const GREATEST_LON: u32 = 1_800_000_000;
 
 /// What the key of a back reference says.
 #[derive(Clone, Copy, Debug, PartialEq, Eq)]
@@ -105,10 +96,18 @@ pub fn read_cell_value(value: &[u8]) -> Option<Coord>
     let (lon, lat) = value.split_first_chunk()?;
     let lon = i32::from_be_bytes(*lon);
     let lat = i32::from_be_bytes(*lat.as_array()?);
-    if lon.unsigned_abs() > GREATEST_LON || lat.unsigned_abs() > GREATEST_LAT {
+    if !is_place(lon, lat) {
         return None;
     }
     Some(Coord::new(lon, lat))
+}
+
+/// Whether these two numbers, in 1e-7 degree, are a location.
+fn is_place(lon: i32, lat: i32) -> bool
+    ensures { IsTrue result ↔ IsPlace (record { lon = lon; lat = lat }) }
+{
+    u64::from(lon.unsigned_abs()) <= Axis::Lon.limit()
+        && u64::from(lat.unsigned_abs()) <= Axis::Lat.limit()
 }
 
 /// What a key of the tag tree says: two texts, each ended by a NUL, and a reference. The texts are UTF-8

@@ -23,9 +23,9 @@ use Rattle.tree_walk.specs.Ranges.{Begins, IsAtMost, IsIn, Range}
 use Rattle.tree_walk.specs.Walks.{IsEntryIn}
 use Rattle.tree_walk.proofs.shared.KeyLemmas.{below_cons, cons_below}
 use Rattle.osm_keys.specs.Entries.{cell_entry}
-use Rattle.osm_keys.specs.Keys.{above, cell_bytes, cell_key, column, id_bytes, row}
+use Rattle.osm_keys.specs.Keys.{above, cell_bytes, cell_key, column, id_bytes, last_column, row}
 use Rattle.osm_keys.specs.Publications.{IsPublication, Publication}
-use Rattle.osm_keys.specs.Ranges.{AreCellRanges, AreColumns, AreRows, cell_range, last_column}
+use Rattle.osm_keys.specs.Ranges.{AreCellRanges, AreColumns, AreRows, cell_range}
 use Rattle.osm_keys.proofs.shared.Members.{first_or_in_rest, from_all, from_map, here, in_all, in_map, in_rest, none}
 use Rattle.osm_keys.proofs.shared.OneObject.{is_element}
 use Rattle.osm_keys.proofs.shared.RangeLaws.{found_is, front_at_most}

@@ -3,12 +3,14 @@
 use Rattle.std.specs.List.{range_with_len}
 use Rattle.std.specs.Prelude.{ℕ, ◌-◌, ◌≤◌, List, [], ◌∷◌, unsigned_abs}
 use Rattle.osm_model.specs.Boxes.{ExactBox}
+use Rattle.osm_model.specs.Degrees.{limit}
 use Rattle.osm_model.specs.Edges.{IsCeiling, IsFloor}
+use Rattle.osm_model.specs.declared.axis.Axis.TheVariants.{Lat, Lon}
 use Rattle.osm_keys.specs.declared.columns.Columns.{Columns}
 use Rattle.osm_keys.specs.declared.columns.Columns.TheVariants as columns
-use Rattle.osm_keys.specs.declared.columns.Rows.{Rows}
-use Rattle.osm_keys.specs.declared.columns.ColumnSpan.{ColumnSpan}
-use Rattle.osm_keys.specs.declared.columns.WholeEdges.{WholeEdges}
+use Rattle.osm_keys.specs.declared.rows.Rows.{Rows}
+use Rattle.osm_keys.specs.declared.column_span.ColumnSpan.{ColumnSpan}
+use Rattle.osm_keys.specs.declared.whole_edges.WholeEdges.{WholeEdges}
 
 -- the edges of the box, rounded to whole units inside it, which are in their ranges
 pub record AreWholeEdges (b : ExactBox) (edges : WholeEdges) : Type 0 where
@@ -16,10 +18,10 @@ pub record AreWholeEdges (b : ExactBox) (edges : WholeEdges) : Type 0 where
   pub west : IsCeiling b.west.value edges.west
   pub north : IsFloor b.north.value edges.north
   pub east : IsFloor b.east.value edges.east
-  pub south_few : unsigned_abs edges.south ≤ 900000000
-  pub west_few : unsigned_abs edges.west ≤ 1800000000
-  pub north_few : unsigned_abs edges.north ≤ 900000000
-  pub east_few : unsigned_abs edges.east ≤ 1800000000
+  pub south_few : unsigned_abs edges.south ≤ limit Lat
+  pub west_few : unsigned_abs edges.west ≤ limit Lon
+  pub north_few : unsigned_abs edges.north ≤ limit Lat
+  pub east_few : unsigned_abs edges.east ≤ limit Lon
 
 abbrev pub rows_in : Rows → List ℕ
 rows_in rows = range_with_len rows.first (rows.end - rows.first)

@@ -3,7 +3,7 @@ use Rattle.osm_model.specs.Degrees.{Decimal}
 use Rattle.osm_model.specs.Edges.{IsCeiling, IsFloor}
 use Rattle.osm_model.specs.declared.axis.Axis.TheVariants.{Lat, Lon}
 use Rattle.osm_keys.proofs.CellLemmas.{one_edge}
-use Rattle.osm_keys.proofs.cells.whole_edges.Goals as goal
+use Rattle.osm_keys.proofs.whole_edges.WholeEdges.inside.Goals as goal
 
 pub returns : goal.returns
 returns c =
