@@ -3,7 +3,7 @@ pub mod PackedLemmas
 pub mod SortedLemmas
 pub mod ListingLemmas
 pub mod PutLemmas
-pub mod FrontLemmas
+pub mod PrefixLemmas
 pub mod KeyOrderLemmas
 pub mod NameLemmas
 pub mod PutNames
@@ -14,7 +14,7 @@ pub mod EntryTurns
 pub mod ItemLemmas
 pub mod TurnLemmas
 pub mod OneOwner
-pub mod ExchangeLemmas
+pub mod ChangedSetLemmas
 pub mod OldTreeLemmas
 pub mod HeldTreeLemmas
 pub mod NamedLemmas
@@ -22,7 +22,7 @@ pub mod TreeNodes
 pub mod ChangeTreeLemmas
 pub mod SetLemmas
 pub mod AppliedLemmas
-pub mod PlanLemmas
+pub mod UpdateLemmas
 pub mod SnapshotLemmas
 pub mod ApplyLemmas
 pub mod EntryObjects

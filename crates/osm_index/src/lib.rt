@@ -5,24 +5,26 @@
 //! answered, stand in `osm_keys`, whose items this crate exports too.
 #![tactic(auto)]
 
+mod all_objects;
 mod apply_fault;
 mod build_progress;
-mod changed_names;
+mod change_refusals;
 mod changed_trees;
 mod delta;
 mod entry_changes;
-mod entry_count;
 mod entry_list;
-mod exchange;
 mod fault;
-mod fronted_entry;
+mod held_tree;
 mod laws;
 mod listing;
 mod named_objects;
 mod node_changes;
-mod plan;
+mod object_changes;
+mod prefixed_entry;
+mod put_objects;
 mod snapshot;
-mod sort;
+mod sort_entries;
+mod update;
 
 pub use apply_fault::ApplyFault;
 pub use build_progress::{BuildProgress, Unwatched};
