@@ -66,8 +66,9 @@ opl_codec: osm_model itoa memchr simdutf8 thiserror
 tree_node: sha2 thiserror
 tree_build: tree_node thiserror
 tree_walk: tree_node thiserror
-osm_index: osm_model opl_codec tree_node tree_build tree_walk simdutf8 thiserror
-publish_trees: osm_index opl_codec tree_node anyhow' osm_model opl_codec tree_node tree_build tree_walk osm_index
+osm_keys: osm_model opl_codec tree_node tree_walk simdutf8
+osm_index: osm_model opl_codec tree_node tree_build tree_walk osm_keys thiserror
+publish_trees: osm_index opl_codec tree_node anyhow' osm_model opl_codec tree_node tree_build tree_walk osm_keys osm_index
 
 echo "$(rt version); $(osmium --version | head -n 1)"
 tell_machine

@@ -10,7 +10,7 @@ use Rattle.tree_node.specs.declared.bag.Bag.{Bag}
 use Rattle.tree_node.specs.declared.part.Part.{Part}
 use Rattle.tree_node.proofs.shared.OutcomeLaws.{Nodes, just_needed, uses}
 use Rattle.tree_walk.specs.declared.fault.WalkFault.TheVariants as walks
-use Rattle.osm_index.specs.Publications.{Publication}
+use Rattle.osm_keys.specs.Publications.{Publication}
 use Rattle.ql_syntax.specs.Statements.{Statements}
 use Rattle.ql_meaning.specs.Meanings.{Means}
 use Rattle.ql_eval.specs.Asks.{IsNeeded}

@@ -16,7 +16,7 @@ use Rattle.tree_node.specs.Order.{IsBelow}
 use Rattle.tree_node.specs.Outcomes.{Clash}
 use Rattle.tree_node.specs.Shelves.{SameNodes}
 use Rattle.tree_node.specs.internal.OrderLemmas.{not_itself}
-use Rattle.osm_index.specs.Publications.{IsNodeIn, IsPublication, Publication, root_of}
+use Rattle.osm_keys.specs.Publications.{IsNodeIn, IsPublication, Publication, root_of}
 use Rattle.ql_eval.specs.Asks.{IsNeeded}
 use Rattle.ql_eval.specs.declared.evaluation.Report.{Report}
 use Rattle.osm_prove.specs.Proofs.{AreRising, IsProof, Lists}

@@ -12,8 +12,8 @@ use Rattle.tree_node.proofs.shared.OutcomeLaws.{Nodes, uses}
 use Rattle.tree_walk.specs.Fetches.{AreDifferent, IsAmong, IsNodeText, counted_up}
 use Rattle.tree_walk.specs.Walked.{HasWalked, fetched_in}
 use Rattle.tree_walk.proofs.shared.WalkedLaws.{at_most, different_fit, no_node_text, without}
-use Rattle.osm_index.specs.Manifests.{all_tops, edition_bytes, magic, manifest, manifest_bytes, top_among}
-use Rattle.osm_index.specs.declared.manifest.Manifest.{Manifest}
+use Rattle.osm_keys.specs.Manifests.{all_tops, edition_bytes, magic, manifest, manifest_bytes, top_among}
+use Rattle.osm_keys.specs.declared.manifest.Manifest.{Manifest}
 use Rattle.ql_eval.specs.declared.evaluation.Report.{Report}
 use Rattle.osm_prove.specs.Proofs.{AreRising, FitsProof}
 use Rattle.osm_check.specs.Verdicts.{IsReport}

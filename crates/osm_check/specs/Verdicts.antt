@@ -6,7 +6,7 @@ use Rattle.tree_node.specs.Outcomes.{Clash}
 use Rattle.tree_node.specs.Shelves.{SameNodes}
 use Rattle.tree_walk.specs.Fetches.{counted_up}
 use Rattle.tree_walk.specs.Walked.{fetched_in}
-use Rattle.osm_index.specs.Publications.{IsPublication, Publication, root_of}
+use Rattle.osm_keys.specs.Publications.{IsPublication, Publication, root_of}
 use Rattle.ql_syntax.specs.Queries.{HasFault, Reads}
 use Rattle.ql_syntax.specs.Statements.{Statements}
 use Rattle.ql_meaning.specs.Meanings.{Means}

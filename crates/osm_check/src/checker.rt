@@ -3,7 +3,7 @@
 ghost use Rattle.std.specs.Prelude.{◌≡◌, ◌≢◌, ◌⊎◌, IfErr, IfOk, List, MatchResult, None, Some};
 ghost use Rattle.tree_node.specs.Outcomes.{Clash};
 ghost use Rattle.tree_node.specs.Parts.{HaveRisingDigests};
-ghost use Rattle.osm_index.specs.Publications.{IsNodeIn, IsPublication, Publication, root_of};
+ghost use Rattle.osm_keys.specs.Publications.{IsNodeIn, IsPublication, Publication, root_of};
 ghost use Rattle.ql_syntax.specs.StatementViews.{statements_of};
 ghost use Rattle.osm_prove.specs.Proofs.{FitsProof, nodes_of};
 ghost use Rattle.osm_prove.specs.Proved.{IsProved};

@@ -2,7 +2,7 @@
 
 ghost use Rattle.std.specs.Prelude.{◌≡◌, ◌⊎◌, ℕ, List};
 ghost use Rattle.tree_node.specs.Outcomes.{Clash};
-ghost use Rattle.osm_index.specs.Publications.{IsNodeIn, IsPublication, Publication, root_of};
+ghost use Rattle.osm_keys.specs.Publications.{IsNodeIn, IsPublication, Publication, root_of};
 ghost use Rattle.osm_check.specs.Verdicts.{AreAlike, IsVerdict, StandsIn, TellsOf};
 ghost use Rattle.osm_check.specs.declared.verdict.Verdict.{Verdict};
 

@@ -2,7 +2,7 @@
 use Rattle.std.proofs.Common.{◌≡◌, ℕ, List, Option, None, Some, Result, Ok, Err, IfSome, IfErr, IsErrAnd, refl, sym, subst, ap, ◌∙◌}
 use Rattle.osm_model.specs.Elements.{Element}
 use Rattle.opl_codec.specs.Files.{HoldsSet}
-use Rattle.osm_index.specs.Publications.{Publication}
+use Rattle.osm_keys.specs.Publications.{Publication}
 use Rattle.osm_index.specs.Snapshots.{HoldsPublication}
 use Rattle.tree_node.specs.declared.edition.Edition.{Edition}
 use Rattle.osm_index.specs.declared.snapshot.Snapshot.{Snapshot}

@@ -1,7 +1,7 @@
 -- What is in force after a change file.
 use Rattle.std.proofs.Common.{◌≡◌, ◌≤◌, ◌+◌, ◌-◌, ◌^◌, ◌==◌, ◌⊎◌, ◌∷◌, ◌++◌, ◌∙◌, arith, ℕ, zero, suc, Bool, true, false, List, Option, Some, None, length, refl, sym, ap, subst, inl, inr}
 use Rattle.std.specs.Prelude.{IfSome, if◌then◌else◌}
-use Rattle.osm_index.specs.Publications.{Publication}
+use Rattle.osm_keys.specs.Publications.{Publication}
 use Rattle.osm_index.specs.Snapshots.{HoldsPublication, IsAsBefore}
 use Rattle.tree_node.specs.declared.edition.Edition.{Edition}
 use Rattle.tree_node.specs.declared.edition.Edition.TheVariants as editions

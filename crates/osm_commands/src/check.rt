@@ -3,7 +3,7 @@
 ghost use Rattle.std.specs.Prelude.{◌≡◌, ◌≢◌, ◌⊎◌, IfErr, IfOk, Ok, OnOk, true};
 ghost use Rattle.std.specs.Io.KnownBytes.{Appends, IsAtEnd, Keeps};
 ghost use Rattle.tree_node.specs.Outcomes.{Clash};
-ghost use Rattle.osm_index.specs.Publications.{IsNodeIn, IsPublication, Publication, root_of};
+ghost use Rattle.osm_keys.specs.Publications.{IsNodeIn, IsPublication, Publication, root_of};
 ghost use Rattle.osm_prove.specs.Proved.{IsProved};
 ghost use Rattle.ql_eval.specs.declared.evaluation.Report.{Report};
 ghost use Rattle.osm_check.specs.Verdicts.{IsVerdict, IsYes, StandsIn};

@@ -1,7 +1,7 @@
 //! What a server says when it begins.
 
 ghost use Rattle.std.specs.Prelude.{◌≡◌, IfOk, length, string_bytes};
-ghost use Rattle.osm_index.specs.Publications.{Publication, root_of};
+ghost use Rattle.osm_keys.specs.Publications.{Publication, root_of};
 ghost use Rattle.osm_index.specs.Snapshots.{HoldsPublication};
 ghost use Rattle.osm_commands.specs.ListeningLines.{listening_text};
 

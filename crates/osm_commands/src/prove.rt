@@ -2,7 +2,7 @@
 
 ghost use Rattle.std.specs.Prelude.{◌≡◌, ◌≢◌, ◌⊎◌, IfErr, IfSome, List, ℕ, OnOk, true};
 ghost use Rattle.std.specs.Io.KnownBytes.{Appends, Keeps};
-ghost use Rattle.osm_index.specs.Publications.{Publication};
+ghost use Rattle.osm_keys.specs.Publications.{Publication};
 ghost use Rattle.osm_commands.specs.Ask.{HoldsTrees, IsAnswer};
 ghost use Rattle.osm_commands.specs.Files.{ExplainsFiles, IfBoth, IsBegunProof, IsOutsideFiles, IsProvedIn};
 ghost use Rattle.osm_commands.specs.TreeRoots.{publication_line};

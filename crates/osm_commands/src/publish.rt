@@ -4,7 +4,7 @@ ghost use Rattle.std.specs.Prelude.{◌≡◌, ◌≢◌, IfErr, IfSome, List, O
 ghost use Rattle.std.specs.Io.KnownBytes.{Appends, Keeps};
 ghost use Rattle.osm_model.specs.Elements.{Element};
 ghost use Rattle.opl_codec.specs.Files.{HoldsSet};
-ghost use Rattle.osm_index.specs.Publications.{Publication};
+ghost use Rattle.osm_keys.specs.Publications.{Publication};
 ghost use Rattle.osm_commands.specs.TreeRoots.{ExplainsTrees, IsBegunTreeRoot, IsOutsideOrTrees, IsPublicationIn, publication_line};
 
 use crate::command_fault::CommandFault;

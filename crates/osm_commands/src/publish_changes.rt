@@ -3,7 +3,7 @@
 ghost use Rattle.std.specs.Prelude.{◌≡◌, IfErr, IfSome, List, MatchResult, OnErr, OnOk};
 ghost use Rattle.opl_codec.specs.Files.{HoldsChanges};
 ghost use Rattle.opl_codec.specs.declared.change.Change.{Change as ChangeWord};
-ghost use Rattle.osm_index.specs.Publications.{Publication};
+ghost use Rattle.osm_keys.specs.Publications.{Publication};
 ghost use Rattle.osm_index.specs.Snapshots.{HoldsPublication, IsAsBefore};
 ghost use Rattle.osm_commands.specs.ChangeFiles.{ExplainsChanges, HasMade, HasMadeOf, IsOutsideOrRefused};
 

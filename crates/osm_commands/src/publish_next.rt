@@ -1,7 +1,7 @@
 //! Publishing the next change file.
 
 ghost use Rattle.std.specs.Prelude.{◌≡◌, ◌∷◌, IfSome, MatchResult, OnErr, Some};
-ghost use Rattle.osm_index.specs.Publications.{Publication};
+ghost use Rattle.osm_keys.specs.Publications.{Publication};
 ghost use Rattle.osm_index.specs.Snapshots.{HoldsPublication, IsAsBefore};
 ghost use Rattle.osm_commands.specs.ChangeFiles.{ExplainsFound, IsNext, asked_after};
 ghost use Rattle.osm_traffic.specs.Published.{Found, HasPublished, HasTaken, TakesFound};

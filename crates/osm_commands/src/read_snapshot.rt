@@ -3,7 +3,7 @@
 ghost use Rattle.std.specs.Prelude.{◌≡◌, IfErr, IfOk, IfSome, List, OnOk};
 ghost use Rattle.osm_model.specs.Elements.{Element};
 ghost use Rattle.opl_codec.specs.Files.{HoldsSet};
-ghost use Rattle.osm_index.specs.Publications.{Publication};
+ghost use Rattle.osm_keys.specs.Publications.{Publication};
 ghost use Rattle.osm_index.specs.Snapshots.{HoldsPublication};
 ghost use Rattle.osm_commands.specs.Ask.{HoldsTrees};
 ghost use Rattle.osm_commands.specs.TreeRoots.{ExplainsTrees, IsOutsideOrTrees, IsPublicationIn};

@@ -2,7 +2,7 @@
 
 ghost use Rattle.std.specs.FinMap.{empty};
 ghost use Rattle.std.specs.Prelude.{◌≡◌, ◌⊎◌, ◌++◌, ◌+◌, ◌<◌, ◌≤◌, ℕ, IfErr, IfSome, List, OnErr, OnOk, Some, length};
-ghost use Rattle.osm_index.specs.Publications.{Publication};
+ghost use Rattle.osm_keys.specs.Publications.{Publication};
 ghost use Rattle.osm_index.specs.Snapshots.{HoldsPublication};
 ghost use Rattle.osm_commands.specs.ChangeFiles.{IsReachedBy};
 ghost use Rattle.osm_traffic.specs.Published.{TakesFound};

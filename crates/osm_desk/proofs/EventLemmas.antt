@@ -4,7 +4,7 @@ use Rattle.std.specs.FinMap.{empty, get, insert, len}
 use Rattle.std.specs.Global.{Vec}
 use Rattle.std.specs.Prelude.{◌==◌, Option, Some, None, Result, Ok, Err, IfErr, IfOk, MatchBool, OnErr, if◌then◌else◌, nat_lt}
 use Rattle.osm_gate.specs.Connections.{Responds, Rest, open_rest}
-use Rattle.osm_index.specs.Publications.{Publication}
+use Rattle.osm_keys.specs.Publications.{Publication}
 use Rattle.osm_index.specs.Snapshots.{HoldsPublication, IsAsBefore}
 use Rattle.osm_index.specs.declared.apply_fault.ApplyFault.{ApplyFault}
 use Rattle.osm_desk.specs.Contents.{Contents, desk_over}

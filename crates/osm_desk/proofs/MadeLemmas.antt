@@ -11,10 +11,10 @@ use Rattle.tree_node.specs.Trees.{IsNodeOf, levels, top_of}
 use Rattle.tree_node.specs.declared.tree.Tree.{Tree}
 use Rattle.tree_node.specs.declared.tree.Tree.TheVariants.{Backs, Cells, Objects, Tags}
 use Rattle.osm_index.proofs.shared.ChangeLaws.{one_applied}
-use Rattle.osm_index.proofs.shared.OnePublication.{not_too_many, same_entries, same_root}
+use Rattle.osm_keys.proofs.shared.OnePublication.{not_too_many, same_entries, same_root}
 use Rattle.osm_index.specs.Applying.{IsApplied, IsNodeOfEither, edition_after}
-use Rattle.osm_index.specs.Manifests.{manifest}
-use Rattle.osm_index.specs.Publications.{HasTooMany, IsNodeIn, IsPublication, Publication, manifest_of, root_of, shape_of, top_in, tree_in}
+use Rattle.osm_keys.specs.Manifests.{manifest}
+use Rattle.osm_keys.specs.Publications.{HasTooMany, IsNodeIn, IsPublication, Publication, manifest_of, root_of, shape_of, top_in, tree_in}
 use Rattle.osm_index.specs.declared.apply_fault.ApplyFault.{ApplyFault}
 use Rattle.osm_index.specs.declared.apply_fault.ApplyFault.TheVariants as faults
 use Rattle.tree_node.specs.declared.edition.Edition.{Edition}

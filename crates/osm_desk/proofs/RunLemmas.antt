@@ -3,7 +3,7 @@ use Rattle.std.proofs.Common.{◌≡◌, ℕ, Bool, true, false, List, [], ◌�
 use Rattle.std.specs.FinMap.{get, insert, len}
 use Rattle.std.specs.Prelude.{◌==◌, Option, Some, None, Result, Ok, Err, if◌then◌else◌, nat_lt}
 use Rattle.osm_gate.specs.Connections.{Responds, Rest, open_rest}
-use Rattle.osm_index.specs.Publications.{Publication}
+use Rattle.osm_keys.specs.Publications.{Publication}
 use Rattle.osm_index.specs.declared.apply_fault.ApplyFault.{ApplyFault}
 use Rattle.osm_desk.specs.Desks.{Desk, Told, arrive_step, end_step, fresh, open_step, publish_step, quietly, refuse, replies, step}
 use Rattle.osm_desk.specs.Happenings.{Happening, arrived, ended, opened, published}

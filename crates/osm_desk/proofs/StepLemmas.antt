@@ -8,7 +8,7 @@ use Rattle.std.specs.Result.{IsErrAnd}
 use Rattle.std.specs.Prelude.{Option, Some, None, Result, Ok, Err, IfErr, IfOk, IsSome, is_ok, is_some, if◌then◌else◌}
 use Rattle.opl_codec.specs.declared.change.Change.{Change}
 use Rattle.osm_gate.specs.Connections.{Responds, Rest, heard_next, open_rest}
-use Rattle.osm_index.specs.Publications.{Publication}
+use Rattle.osm_keys.specs.Publications.{Publication}
 use Rattle.osm_index.specs.declared.apply_fault.ApplyFault.{ApplyFault}
 use Rattle.osm_index.specs.declared.apply_fault.ApplyFault.TheVariants as refusals
 use Rattle.osm_index.specs.Snapshots.{HoldsPublication, IsAsBefore}

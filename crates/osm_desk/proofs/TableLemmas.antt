@@ -6,7 +6,7 @@ use Rattle.std.specs.FinMap.{from_entries, get, len}
 use Rattle.std.specs.Ordering.{nat_cmp}
 use Rattle.std.specs.Prelude.{Some, None, Result, Ok, Err, IfOk, OnErr, OnOk}
 use Rattle.osm_gate.specs.Connections.{Rest, closed_rest, heard_next}
-use Rattle.osm_index.specs.Publications.{Publication}
+use Rattle.osm_keys.specs.Publications.{Publication}
 use Rattle.osm_index.specs.Snapshots.{HoldsPublication}
 use Rattle.osm_index.specs.declared.snapshot.Snapshot.{Snapshot}
 use Rattle.osm_desk.specs.Contents.{Contents}

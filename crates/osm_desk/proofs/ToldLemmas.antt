@@ -7,7 +7,7 @@ use Rattle.std.specs.Ordering.{nat_cmp}
 use Rattle.std.specs.Prelude.{◌==◌, Option, Some, None, Result, Ok, Err, if◌then◌else◌, nat_lt, option_map}
 use Rattle.osm_gate.proofs.shared.Pieces.{pieces}
 use Rattle.osm_gate.specs.Connections.{Heard, Rest, heard, heard_next, open_rest}
-use Rattle.osm_index.specs.Publications.{Publication}
+use Rattle.osm_keys.specs.Publications.{Publication}
 use Rattle.osm_index.specs.declared.apply_fault.ApplyFault.{ApplyFault}
 use Rattle.osm_desk.specs.Desks.{Desk, Step, Told, arrive_step, end_step, fresh, open_step, publish_step, quietly, refuse, replies, step}
 use Rattle.osm_desk.specs.Happenings.{Happening, arrived, ended, opened, published}

@@ -1,7 +1,7 @@
 -- What happens at a desk, without tables, gates or snapshots.
 -- Source: this project.
 use Rattle.std.specs.Prelude.{ℕ, List, Result}
-use Rattle.osm_index.specs.Publications.{Publication}
+use Rattle.osm_keys.specs.Publications.{Publication}
 use Rattle.osm_index.specs.declared.apply_fault.ApplyFault.{ApplyFault}
 
 -- the connection of this number is opened, a piece of its bytes arrives, or it ends; or changes are published, and this

@@ -6,7 +6,7 @@ use Rattle.osm_model.specs.Elements.{Element}
 use Rattle.tree_node.specs.Outcomes.{Clash}
 use Rattle.tree_node.specs.Shelves.{IsClashFree}
 use Rattle.osm_index.specs.Applying.{AreApart, AreApplicable, IsApplied, IsFirstMissing, IsFirstTwice, IsLast, IsNodeOfEither, edition_after}
-use Rattle.osm_index.specs.Publications.{HasTooMany, IsPublicationOf, Publication}
+use Rattle.osm_keys.specs.Publications.{HasTooMany, IsPublicationOf, Publication}
 use Rattle.osm_index.specs.declared.apply_fault.ApplyFault.{ApplyFault}
 use Rattle.osm_index.specs.declared.apply_fault.ApplyFault.TheVariants as faults
 

@@ -4,7 +4,7 @@ use Rattle.std.specs.Global.{Vec}
 use Rattle.std.specs.Prelude.{◌≡◌, ℕ, List, [], ◌∷◌, map, Result, Ok, Err, IsOk}
 use Rattle.osm_gate.specs.Connections.{Responds}
 use Rattle.osm_index.specs.Applying.{IsLast}
-use Rattle.osm_index.specs.Publications.{Publication}
+use Rattle.osm_keys.specs.Publications.{Publication}
 use Rattle.osm_desk.specs.Contents.{Contents, StandsFor}
 use Rattle.osm_desk.specs.Desks.{Desk, Told, step}
 use Rattle.osm_desk.specs.Happenings.{Happening, arrived, ended, opened, published}

@@ -4,7 +4,7 @@ ghost use Rattle.std.specs.Bool.{OnFalse};
 ghost use Rattle.std.specs.FinMap.{empty, get, len};
 ghost use Rattle.std.specs.Prelude.{◌≡◌, ◌<◌, ◌≤◌, ◌↔◌, IfErr, IfOk, IsSome, IsTrue, None, OnErr, OnOk, [], is_some};
 ghost use Rattle.osm_gate.specs.Connections.{Responds, heard_next, open_rest};
-ghost use Rattle.osm_index.specs.Publications.{Publication};
+ghost use Rattle.osm_keys.specs.Publications.{Publication};
 ghost use Rattle.osm_index.specs.Snapshots.{HoldsPublication, IsAsBefore};
 ghost use Rattle.osm_desk.specs.Contents.{desk_over, fresh_contents};
 ghost use Rattle.osm_desk.specs.Events.{IsTurn, answer_of};

@@ -7,7 +7,7 @@ ghost use Rattle.opl_codec.specs.declared.change.Change.{Change};
 ghost use Rattle.osm_gate.specs.Requests.{Asked};
 ghost use Rattle.osm_gate.specs.ResponseTexts.{Response};
 ghost use Rattle.osm_gate.specs.Responses.{IsResponse};
-ghost use Rattle.osm_index.specs.Publications.{Publication, root_of};
+ghost use Rattle.osm_keys.specs.Publications.{Publication, root_of};
 ghost use Rattle.osm_index.specs.Snapshots.{HoldsPublication};
 ghost use Rattle.osm_index.specs.declared.apply_fault.ApplyFault.{ApplyFault};
 ghost use Rattle.osm_desk.specs.Contents.{Contents};

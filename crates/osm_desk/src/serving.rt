@@ -3,7 +3,7 @@
 ghost use Rattle.std.specs.FinMap.{get, len};
 ghost use Rattle.std.specs.Prelude.{◌≡◌, ◌<◌, None, OnOk};
 ghost use Rattle.osm_gate.specs.Serving.{HasEnded, HasServed};
-ghost use Rattle.osm_index.specs.Publications.{Publication};
+ghost use Rattle.osm_keys.specs.Publications.{Publication};
 ghost use Rattle.osm_index.specs.Snapshots.{HoldsPublication};
 ghost use Rattle.osm_desk.specs.declared.limits.TheConstants.{CONNECTION_LIMIT};
 

@@ -1,7 +1,7 @@
 -- Requests have one text of responses at most over a publication.
 use Rattle.std.proofs.Common.{◌≡◌, ◌∙◌, ℕ, Bool, true, false, List, [], ◌∷◌, ◌++◌, ap, sym, subst}
 use Rattle.std.specs.Prelude.{Option, Some, None}
-use Rattle.osm_index.specs.Publications.{IsPublication, Publication}
+use Rattle.osm_keys.specs.Publications.{IsPublication, Publication}
 use Rattle.osm_prove.specs.Proved.{IsProofOf, IsProved}
 use Rattle.osm_prove.proofs.shared.ProofLaws.{one_proof}
 use Rattle.ql_meaning.specs.Meanings.{Means}

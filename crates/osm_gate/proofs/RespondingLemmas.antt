@@ -1,6 +1,6 @@
 -- Responses to some requests and then to others.
 use Rattle.std.proofs.Common.{◌≡◌, ◌∙◌, ℕ, List, [], ◌∷◌, ◌++◌, ap, sym, refl, append_assoc, append-nil}
-use Rattle.osm_index.specs.Publications.{Publication}
+use Rattle.osm_keys.specs.Publications.{Publication}
 use Rattle.osm_gate.specs.Connections.{Responds, RespondsToOne}
 use Rattle.osm_gate.specs.Requests.{Outcome}
 

@@ -9,7 +9,7 @@ use Rattle.std.proofs.lemmas.List.{length-take-le, take_all}
 use Rattle.std.proofs.lemmas.List.Elements.{All-append}
 use Rattle.std.proofs.lemmas.List.Folds.{concat-append}
 use Rattle.std.proofs.Math.Seq.{take-append-add, take-append_seam}
-use Rattle.osm_index.specs.Publications.{Publication}
+use Rattle.osm_keys.specs.Publications.{Publication}
 use Rattle.osm_gate.specs.Connections.{Heard, Responds, RespondsTo, Rest, heard, heard_next}
 use Rattle.osm_gate.specs.Serving.{AreRead, Exchange, HasBegun, HasBrokenOff, HasEnded, HasGivenUp, IsPiece, but_last, is_closed_by, longest_piece, most_reads}
 use Rattle.osm_gate.specs.Written.{AppendsFront}

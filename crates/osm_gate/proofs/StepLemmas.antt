@@ -2,7 +2,7 @@
 use Rattle.std.proofs.Common.{◌≡◌, ◌∙◌, ◌<◌, ◌≤◌, ◌+◌, ◌-◌, ℕ, Bool, true, false, List, [], ◌∷◌, ◌++◌, ap, sym, refl, arith, length, drop, take}
 use Rattle.std.specs.Prelude.{None, if◌then◌else◌, suc}
 use Rattle.std.proofs.lemmas.List.{length-drop, drop-drop}
-use Rattle.osm_index.specs.Publications.{Publication}
+use Rattle.osm_keys.specs.Publications.{Publication}
 use Rattle.osm_index.specs.Snapshots.{HoldsPublication}
 use Rattle.osm_index.specs.declared.snapshot.Snapshot.{Snapshot}
 use Rattle.osm_gate.specs.Connections.{Heard, Responds, RespondsTo, closed_rest, heard, open_rest, preceded}

@@ -2,7 +2,7 @@
 -- CR and LF before each, and then less than a complete one. And what responds to that.
 -- Source: RFC 9112, sections 2.2, 9.3 and 9.6; after which responses the connection ends is this project's.
 use Rattle.std.specs.Prelude.{◌≡◌, ℕ, Bool, true, false, List, [], ◌∷◌, ◌++◌, Option, Some, None, drop, length, zero, suc, if◌then◌else◌}
-use Rattle.osm_index.specs.Publications.{Publication}
+use Rattle.osm_keys.specs.Publications.{Publication}
 use Rattle.osm_gate.specs.HeadEnds.{skip_breaks}
 use Rattle.osm_gate.specs.Requests.{Decided, Outcome, asked, first_request, refused}
 use Rattle.osm_gate.specs.ResponseTexts.{Response, response_text}

@@ -6,7 +6,7 @@ use Rattle.std.specs.Int.{to_be_bytes, w64}
 use Rattle.std.specs.Str.{bytes_eq}
 use Rattle.hex.specs.Hex.{encode_lower}
 use Rattle.osm_model.specs.Bytes.{line_feed}
-use Rattle.osm_index.specs.Publications.{Publication, root_of}
+use Rattle.osm_keys.specs.Publications.{Publication, root_of}
 use Rattle.osm_prove.specs.Proved.{IsProved}
 use Rattle.ql_syntax.specs.Queries.{HasFault}
 use Rattle.ql_syntax.specs.Refusals.{code_text}

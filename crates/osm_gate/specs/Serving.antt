@@ -3,7 +3,7 @@
 use Rattle.std.specs.Prelude.{◌≡◌, ◌⊎◌, ◌<◌, ◌≤◌, ◌-◌, ℕ, Bool, true, false, List, ◌++◌, Option, IfSome, Result, Ok, Err, codes, length, take}
 use Rattle.std.specs.Io.KnownBytes.{Appends, Consumes, IsAtEnd}
 use Rattle.std.specs.List.{All, concat}
-use Rattle.osm_index.specs.Publications.{Publication}
+use Rattle.osm_keys.specs.Publications.{Publication}
 use Rattle.osm_gate.specs.Connections.{RespondsTo, heard}
 use Rattle.osm_gate.specs.ResponseTexts.{response_text}
 use Rattle.osm_gate.specs.Responses.{refusal}

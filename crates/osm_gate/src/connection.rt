@@ -1,7 +1,7 @@
 //! A connection, as the loop sees it that serves one.
 
 ghost use Rattle.std.specs.Prelude.{◌≡◌, IfOk, OnOk};
-ghost use Rattle.osm_index.specs.Publications.{Publication};
+ghost use Rattle.osm_keys.specs.Publications.{Publication};
 ghost use Rattle.osm_gate.specs.Connections.{Responds, Rest, heard_next};
 
 use std::alloc::AllocError;

@@ -1,7 +1,7 @@
 //! One connection.
 
 ghost use Rattle.std.specs.Prelude.{◌≡◌, ◌≤◌, IfOk, OnErr, [], drop, length};
-ghost use Rattle.osm_index.specs.Publications.{Publication};
+ghost use Rattle.osm_keys.specs.Publications.{Publication};
 ghost use Rattle.osm_index.specs.Snapshots.{HoldsPublication};
 ghost use Rattle.osm_gate.specs.Connections.{Responds, Rest, heard_next, open_rest};
 ghost use Rattle.osm_gate.specs.internal.Kept.{IsKept};

@@ -2,7 +2,7 @@
 
 ghost use Rattle.std.specs.Prelude.{◌≡◌, ◌↔◌, ◌++◌, ◌+◌, ◌^◌, ◌<◌, ℕ, List, Some, [], length, true};
 ghost use Rattle.httparse.specs.Grammar.{RequestHead};
-ghost use Rattle.osm_index.specs.Publications.{IsPublication, Publication};
+ghost use Rattle.osm_keys.specs.Publications.{IsPublication, Publication};
 ghost use Rattle.osm_gate.specs.Connections.{Responds, Rest, closed_rest, heard, heard_next, preceded};
 ghost use Rattle.osm_gate.specs.Heads.{IsHead, head_of};
 ghost use Rattle.osm_gate.specs.Requests.{Outcome};

@@ -1,7 +1,7 @@
 //! What comes of a query.
 
 ghost use Rattle.std.specs.Prelude.{IfOk};
-ghost use Rattle.osm_index.specs.Publications.{Publication};
+ghost use Rattle.osm_keys.specs.Publications.{Publication};
 ghost use Rattle.osm_index.specs.Snapshots.{HoldsPublication};
 ghost use Rattle.osm_gate.specs.Responses.{IsOutcomeOf};
 ghost use Rattle.osm_gate.specs.internal.Adding.{outcome_of};

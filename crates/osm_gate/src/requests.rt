@@ -1,7 +1,7 @@
 //! All complete requests of some bytes.
 
 ghost use Rattle.std.specs.Prelude.{◌≡◌, ◌≤◌, IfOk, IfSome, None, drop, false, length, take};
-ghost use Rattle.osm_index.specs.Publications.{Publication};
+ghost use Rattle.osm_keys.specs.Publications.{Publication};
 ghost use Rattle.osm_index.specs.Snapshots.{HoldsPublication};
 ghost use Rattle.osm_gate.specs.Connections.{RespondsTo, heard};
 ghost use Rattle.osm_gate.specs.HeadEnds.{begins_with_break, head_length, skip_breaks};

@@ -1,7 +1,7 @@
 //! The response to a request.
 
 ghost use Rattle.std.specs.Prelude.{◌≡◌, ◌++◌, IfOk, OnOk};
-ghost use Rattle.osm_index.specs.Publications.{Publication};
+ghost use Rattle.osm_keys.specs.Publications.{Publication};
 ghost use Rattle.osm_index.specs.Snapshots.{HoldsPublication};
 ghost use Rattle.osm_gate.specs.Forms.{query_of};
 ghost use Rattle.osm_gate.specs.ResponseTexts.{response_text};

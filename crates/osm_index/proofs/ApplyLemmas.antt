@@ -14,11 +14,11 @@ use Rattle.tree_node.proofs.shared.StockLaws.{stock_free}
 use Rattle.tree_node.proofs.shared.TreeSame.{same_or_not}
 use Rattle.osm_index.specs.Applying.{AreDigestsOfOnly, IsNodeOfEither}
 use Rattle.osm_index.specs.Holdings.{AreHeld}
-use Rattle.osm_index.specs.Publications.{IsNodeIn, Publication, manifest_of, tree_in}
+use Rattle.osm_keys.specs.Publications.{IsNodeIn, Publication, manifest_of, tree_in}
 use Rattle.tree_node.specs.declared.edition.Edition.{Edition}
-use Rattle.osm_index.specs.declared.manifest.Manifest.{Manifest}
-use Rattle.osm_index.specs.declared.plan.Plan.{Plan}
-use Rattle.osm_index.specs.internal.Plans.{IsPlan}
+use Rattle.osm_keys.specs.declared.manifest.Manifest.{Manifest}
+use Rattle.osm_index.specs.declared.update.Update.{Update}
+use Rattle.osm_index.specs.internal.Updates.{IsUpdate}
 use Rattle.osm_index.proofs.NodeChangeLemmas.{among_digests, digest_among, own_digests}
 
 -- ---- whether bytes are a node of a publication
@@ -86,15 +86,15 @@ in_or_out p x =
 
 -- ---- the stock, before, between and after
 
-module _ (p q : Publication) (plan : Plan) (is_plan : IsPlan p q plan) (old mid : Stock) (nodes : (x : List ℕ) → HasNode old x ↔ IsNodeIn p x)
-    (put : GrownByAll (HasNode old) (HasNode mid) (IsAmong (nodes_of plan.nodes.items))) where
+module _ (p q : Publication) (update : Update) (is_update : IsUpdate p q update) (old mid : Stock) (nodes : (x : List ℕ) → HasNode old x ↔ IsNodeIn p x)
+    (put : GrownByAll (HasNode old) (HasNode mid) (IsAmong (nodes_of update.nodes.items))) where
   pub old_between : (x : List ℕ) → IsNodeIn p x → HasNode mid x
   old_between x is = (put x).1 (inl ((nodes x).1 is))
 
   pub new_between : (x : List ℕ) → IsNodeIn q x → HasNode mid x
-  new_between x is = elim (in_or_out p x) [ inl was ↦ old_between x was | inr wasnt ↦ (put x).1 (inr ((is_plan.nodes x).1 (is, wasnt))) ]
+  new_between x is = elim (in_or_out p x) [ inl was ↦ old_between x was | inr wasnt ↦ (put x).1 (inr ((is_update.nodes x).1 (is, wasnt))) ]
 
-  module _ (new : Stock) (taken : (x : List ℕ) → HasNode new x ↔ (HasNode mid x × ¬ IsAmong (digests_of plan.gone.items) (digest x))) where
+  module _ (new : Stock) (taken : (x : List ℕ) → HasNode new x ↔ (HasNode mid x × ¬ IsAmong (digests_of update.gone.items) (digest x))) where
     pub nodes_after : (x : List ℕ) → HasNode new x ↔ IsNodeIn q x
     nodes_after x = (
       (λ h.
@@ -102,25 +102,25 @@ module _ (p q : Publication) (plan : Plan) (is_plan : IsPlan p q plan) (old mid 
           elim (in_or_out q x) [
             | inl is ↦ is
             | inr isnt ↦ elim ((put x).0 had.0) [
-              | inl was ↦ absurd (had.1 ((is_plan.gone.members (digest x)).1 (x, (nodes x).0 was, isnt, refl)))
-              | inr came ↦ ((is_plan.nodes x).0 came).0
+              | inl was ↦ absurd (had.1 ((is_update.gone.members (digest x)).1 (x, (nodes x).0 was, isnt, refl)))
+              | inr came ↦ ((is_update.nodes x).0 came).0
             ]
           ]),
       (λ is. (taken x).1 (
         new_between x is,
         λ gone.
-            let (y, was, isnt, e) = (is_plan.gone.members (digest x)).0 gone in
+            let (y, was, isnt, e) = (is_update.gone.members (digest x)).0 gone in
             isnt (subst (IsNodeIn q) (stock_free mid x y (new_between x is) (old_between y was) e) is),
       )),
     )
 
-    pub held_after : AreHeld plan.manifest.edition new plan.manifest plan.root q
+    pub held_after : AreHeld update.manifest.edition new update.manifest update.root q
     held_after = record {
-      is = is_plan.is;
+      is = is_update.is;
       nodes = nodes_after;
-      manifest = is_plan.manifest;
-      tops = is_plan.tops;
-      root = is_plan.root;
+      manifest = is_update.manifest;
+      tops = is_update.tops;
+      root = is_update.root;
       no_clash = λ x y is is_too e. stock_free new x y ((nodes_after x).1 is) ((nodes_after y).1 is_too) e;
     }
 
@@ -153,15 +153,15 @@ digests_as p q r s digests first second are = record {
   once = are.once;
 }
 
-pub digests_come : (p q : Publication) (plan : Plan) → IsPlan p q plan → (mid : Stock) → ((x : List ℕ) → IsAmong (nodes_of plan.nodes.items) x → HasNode mid x) → AreDigestsOfOnly q p (digests_of plan.added.items)
-digests_come p q plan is_plan mid all =
-    let keys : digests_of plan.added.items ≡ map digest (nodes_of plan.nodes.items) = ap digests_of is_plan.added ∙ own_digests plan.nodes.items in
+pub digests_come : (p q : Publication) (update : Update) → IsUpdate p q update → (mid : Stock) → ((x : List ℕ) → IsAmong (nodes_of update.nodes.items) x → HasNode mid x) → AreDigestsOfOnly q p (digests_of update.added.items)
+digests_come p q update is_update mid all =
+    let keys : digests_of update.added.items ≡ map digest (nodes_of update.nodes.items) = ap digests_of is_update.added ∙ own_digests update.nodes.items in
     record {
       members = λ key. (
-        (λ h. let (x, there, e) = among_digests (nodes_of plan.nodes.items) key (subst (λ (ks : List (List ℕ)). IsAmong ks key) keys h) in let new = (is_plan.nodes x).0 there in (x, new.0, new.1, e)),
-        (λ (x, is, isnt, e). subst (λ (ks : List (List ℕ)). IsAmong ks key) (sym keys) (subst (IsAmong (map digest (nodes_of plan.nodes.items))) (sym e) (digest_among (nodes_of plan.nodes.items) x ((is_plan.nodes x).1 (is, isnt))))),
+        (λ h. let (x, there, e) = among_digests (nodes_of update.nodes.items) key (subst (λ (ks : List (List ℕ)). IsAmong ks key) keys h) in let new = (is_update.nodes x).0 there in (x, new.0, new.1, e)),
+        (λ (x, is, isnt, e). subst (λ (ks : List (List ℕ)). IsAmong ks key) (sym keys) (subst (IsAmong (map digest (nodes_of update.nodes.items))) (sym e) (digest_among (nodes_of update.nodes.items) x ((is_update.nodes x).1 (is, isnt))))),
       );
-      once = subst AreDifferent (sym keys) (different_digests (HasNode mid) (nodes_of plan.nodes.items) (stock_free mid) all is_plan.once);
+      once = subst AreDifferent (sym keys) (different_digests (HasNode mid) (nodes_of update.nodes.items) (stock_free mid) all is_update.once);
     }
 
 -- ---- after a refusal

@@ -18,20 +18,20 @@ use Rattle.tree_node.specs.declared.limits.TheConstants.{ENTRY_LIMIT}
 use Rattle.tree_node.specs.declared.tree.Tree.{Tree}
 use Rattle.tree_node.specs.declared.tree.Tree.TheVariants.{Objects, Tags, Cells, Backs}
 use Rattle.osm_index.specs.Applying.{edition_after}
-use Rattle.osm_index.specs.Entries.{AreEntriesOf}
-use Rattle.osm_index.specs.Manifests.{top_among}
-use Rattle.osm_index.specs.Publications.{IsPublicationOf, Publication, shape_in, top_in, tree_in}
+use Rattle.osm_keys.specs.Entries.{AreEntriesOf}
+use Rattle.osm_keys.specs.Manifests.{top_among}
+use Rattle.osm_keys.specs.Publications.{IsPublicationOf, Publication, shape_in, top_in, tree_in}
 use Rattle.osm_index.specs.declared.apply_fault.ApplyFault.{ApplyFault}
 use Rattle.osm_index.specs.declared.changed_trees.ChangedTrees.{ChangedTrees}
 use Rattle.osm_index.specs.internal.ChangedTrees.{AreChangedTrees, AreHeldTrees, HoldsChanging, IsChangedTree}
 use Rattle.osm_index.specs.internal.Putting.{IsTreeNode}
-use Rattle.osm_index.proofs.FitLemmas.{has_tree}
+use Rattle.osm_keys.proofs.shared.EntriesFit.{has_tree}
 use Rattle.osm_index.proofs.TreeNodes.{is_tree, one_tree, second_shape, shape_after}
-use Rattle.osm_index.proofs.shared.OnePublication.{lists_have_trees}
+use Rattle.osm_keys.proofs.shared.OnePublication.{lists_have_trees}
 
 -- ---- one tree
 
-module _ (p : Publication) (olds puts set : List Element) (tree : Tree) (top : List ℕ) (held : List ℕ → Type 0) (h : HoldsChanging p olds puts set tree top held) where
+module _ (p : Publication) (removed puts set : List Element) (tree : Tree) (top : List ℕ) (held : List ℕ → Type 0) (h : HoldsChanging p removed puts set tree top held) where
   shape_is : shape_in p ≡ Two
   shape_is = second_shape p.edition h.second
 
@@ -43,7 +43,7 @@ module _ (p : Publication) (olds puts set : List Element) (tree : Tree) (top : L
     is_top = h.holds.is_top ∙ ap (λ (s : Shape). digest (top_of (levels s (number_of tree) (p.entries tree)))) shape_is;
     holds = λ x is. h.holds.nodes x (subst (λ (s : Shape). IsNodeOf (levels s (number_of tree) (p.entries tree)) x) (sym shape_is) is);
     rising = rising;
-    changed_has = has_tree set h.exchanged.set tree (changed_entries (p.entries tree) changes) are few;
+    changed_has = has_tree set h.changed_set.set tree (changed_entries (p.entries tree) changes) are few;
   }
 
 -- held by another set, which has all that this one has
@@ -110,13 +110,13 @@ module _ (of : Tree → List (List ℕ)) where
 
 -- ---- the four trees of a publication
 
-module _ (p : Publication) (olds puts set : List Element) (tops : List Digest) (held : List ℕ → Type 0) (free : IsClashFree held) (h : AreHeldTrees p olds puts set tops held)
+module _ (p : Publication) (removed puts set : List Element) (tops : List Digest) (held : List ℕ → Type 0) (free : IsClashFree held) (h : AreHeldTrees p removed puts set tops held)
     (news : Tree → List Binding) (rebuilt : Tree → Rebuilt) (are : (tree : Tree) → IsChangedTree set tree (p.entries tree) (news tree) (rebuilt tree)) where
   abbrev pub new : Publication
   new = record { objects = set; edition = edition_after p.edition; entries = news }
 
   pub published : IsPublicationOf set (edition_after p.edition) new
-  published = record { published = record { set = h.exchanged.set; lists = λ tree. (are tree).are; few = λ tree. (are tree).few }; same_objects = refl; same_edition = refl }
+  published = record { published = record { set = h.changed_set.set; lists = λ tree. (are tree).are; few = λ tree. (are tree).few }; same_objects = refl; same_edition = refl }
 
   old_shape : shape_in p ≡ Two
   old_shape = second_shape p.edition h.second
@@ -201,12 +201,12 @@ each_tree a b c d Backs = d
 abbrev pub BecameOne : Publication → List Element → Tree → Rebuilt → Type 0
 BecameOne p set tree rebuilt = (new : List Binding) × IsChangedTree set tree (p.entries tree) new rebuilt
 
-pub four_changed : (p : Publication) (olds puts set : List Element) (tops : List Digest) (held : List ℕ → Type 0) → IsClashFree held → AreHeldTrees p olds puts set tops held → (a b c d : Rebuilt)
+pub four_changed : (p : Publication) (removed puts set : List Element) (tops : List Digest) (held : List ℕ → Type 0) → IsClashFree held → AreHeldTrees p removed puts set tops held → (a b c d : Rebuilt)
     → BecameOne p set Objects a → BecameOne p set Tags b → BecameOne p set Cells c → BecameOne p set Backs d → (trees : ChangedTrees)
     → trees.tops ≡ a.top ∷ b.top ∷ c.top ∷ d.top ∷ [] → trees.added.items ≡ ((a.added.items ++ b.added.items) ++ c.added.items) ++ d.added.items → trees.gone.items ≡ ((a.gone.items ++ b.gone.items) ++ c.gone.items) ++ d.gone.items
     → (q : Publication) × IsPublicationOf set (edition_after p.edition) q × AreChangedTrees p q trees
-four_changed p olds puts set tops held free h a b c d (x, is_a) (y, is_b) (z, is_c) (w, is_d) trees tops_same added gone =
-    (new p olds puts set tops held free h (each_tree x y z w) (each_tree a b c d) are, published p olds puts set tops held free h (each_tree x y z w) (each_tree a b c d) are, all_changed p olds puts set tops held free h (each_tree x y z w) (each_tree a b c d) are trees tops_same added gone)
+four_changed p removed puts set tops held free h a b c d (x, is_a) (y, is_b) (z, is_c) (w, is_d) trees tops_same added gone =
+    (new p removed puts set tops held free h (each_tree x y z w) (each_tree a b c d) are, published p removed puts set tops held free h (each_tree x y z w) (each_tree a b c d) are, all_changed p removed puts set tops held free h (each_tree x y z w) (each_tree a b c d) are trees tops_same added gone)
   where
     are : (tree : Tree) → IsChangedTree set tree (p.entries tree) (each_tree x y z w tree) (each_tree a b c d tree)
     are Objects = is_a
@@ -215,11 +215,11 @@ four_changed p olds puts set tops held free h a b c d (x, is_a) (y, is_b) (z, is
     are Backs = is_d
 
 -- one of the four, under its top
-pub one_of_four : (p : Publication) (olds puts set : List Element) (tops : List Digest) (held : List ℕ → Type 0) → AreHeldTrees p olds puts set tops held → (tree : Tree) → HoldsChanging p olds puts set tree (top_among tops tree) held
-one_of_four p olds puts set tops held h tree = record {
+pub one_of_four : (p : Publication) (removed puts set : List Element) (tops : List Digest) (held : List ℕ → Type 0) → AreHeldTrees p removed puts set tops held → (tree : Tree) → HoldsChanging p removed puts set tree (top_among tops tree) held
+one_of_four p removed puts set tops held h tree = record {
   holds = record { published = h.published; is_top = h.tops_are tree; nodes = λ x is. h.nodes x (tree, is) };
   second = h.second;
-  exchanged = h.exchanged;
+  changed_set = h.changed_set;
 }
 
 -- a refusal that is passed on

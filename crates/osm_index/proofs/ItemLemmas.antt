@@ -8,7 +8,7 @@ use Rattle.tree_node.specs.Nodes.{AreRisingFrom, Binding}
 use Rattle.tree_node.specs.Order.{IsBelow}
 use Rattle.tree_node.specs.internal.OrderLemmas.{not_itself, order_trans}
 use Rattle.tree_node.proofs.shared.TreeSame.{same_or_not}
-use Rattle.osm_index.proofs.shared.Members.{first_or_in_rest, here, in_rest, none}
+use Rattle.osm_keys.proofs.shared.Members.{first_or_in_rest, here, in_rest, none}
 
 -- ---- what a list holds
 

@@ -1,13 +1,9 @@
 pub mod shared
-pub mod Ids
 pub mod PackedLemmas
 pub mod SortedLemmas
 pub mod ListingLemmas
-pub mod ReadLemmas
-pub mod FitLemmas
 pub mod PutLemmas
-pub mod CellLemmas
-pub mod FrontLemmas
+pub mod PrefixLemmas
 pub mod KeyOrderLemmas
 pub mod NameLemmas
 pub mod PutNames
@@ -18,7 +14,7 @@ pub mod EntryTurns
 pub mod ItemLemmas
 pub mod TurnLemmas
 pub mod OneOwner
-pub mod ExchangeLemmas
+pub mod ChangedSetLemmas
 pub mod OldTreeLemmas
 pub mod HeldTreeLemmas
 pub mod NamedLemmas
@@ -26,7 +22,7 @@ pub mod TreeNodes
 pub mod ChangeTreeLemmas
 pub mod SetLemmas
 pub mod AppliedLemmas
-pub mod PlanLemmas
+pub mod UpdateLemmas
 pub mod SnapshotLemmas
 pub mod ApplyLemmas
 pub mod EntryObjects

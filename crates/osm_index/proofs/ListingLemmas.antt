@@ -1,5 +1,5 @@
 -- The entries that are listed object by object are those of the definition, and no two have one key but equal ones.
-use Rattle.std.proofs.Common.{◌≡◌, ◌↔◌, ℕ, ◌+◌, ◌-◌, List, [], ◌∷◌, ◌++◌, length, map, take, drop, refl, sym, ap, subst, ◌∙◌, append_assoc, arith, ℤ, inl, inr, suc, append-nil}
+use Rattle.std.proofs.Common.{◌≡◌, ◌↔◌, ℕ, ◌-◌, List, [], ◌∷◌, ◌++◌, length, map, take, drop, refl, sym, ap, subst, ◌∙◌, append_assoc, arith, ℤ, inl, inr, append-nil}
 use Rattle.std.specs.List.{Contains, flat_map}
 use Rattle.std.proofs.lemmas.List.{length-append, take_at, drop_at}
 use Rattle.osm_model.specs.CanonicalLine.{canonical_line}
@@ -17,13 +17,13 @@ use Rattle.osm_model.specs.declared.out_mode.OutMode.TheVariants.{Meta}
 use Rattle.tree_node.specs.Nodes.{Binding}
 use Rattle.tree_node.specs.declared.tree.Tree.{Tree}
 use Rattle.tree_node.specs.declared.tree.Tree.TheVariants.{Objects, Tags, Cells, Backs}
-use Rattle.osm_index.specs.Entries.{IsEntryOf, IsEntryOfSome, back_entry, cell_entry}
-use Rattle.osm_index.specs.Keys.{cell_bytes, column, id_bytes, ref_key, row, tag_key, tag_prefix}
+use Rattle.osm_keys.specs.Entries.{IsEntryOf, IsEntryOfSome, back_entry, cell_entry}
+use Rattle.osm_keys.specs.Keys.{cell_bytes, column, id_bytes, ref_key, row}
 use Rattle.osm_index.specs.declared.entry_list.Span.{Span}
 use Rattle.osm_index.specs.EntryLists.{IsKeyed, cut, packed_len}
 use Rattle.osm_index.specs.internal.Listing.{Gains, backs_of, cells_of, entries_from, member_back, node_back, span_of, tag_of, text_of}
-use Rattle.osm_index.proofs.shared.Members.{from_all, from_map, here, in_all, in_map, none, first_or_in_rest}
-use Rattle.osm_index.proofs.shared.OneObject.{is_element, one_object, ref_of_parts, same_id, same_ref}
+use Rattle.osm_keys.proofs.shared.Members.{from_all, from_map, here, in_all, in_map, none, first_or_in_rest}
+use Rattle.osm_keys.proofs.shared.OneObject.{is_element, one_object, ref_of_parts, same_id, same_ref}
 
 -- ---- packed entries are cut as they were packed
 
@@ -126,22 +126,6 @@ line_left o b1 b2 b3 n written len popped =
     popped ∙ rw whole (take_at (b1 ++ canonical_line o) (10 ∷ []) (n - 1) (omega (arith, len, size, sum)))
 
 -- ---- one entry after others
-
-pub id_len : (z : ℤ) → length (id_bytes z) ≡ 8
-unfolding id_bytes
-id_len z = refl
-
-pub ref_key_len : (r : Ref) → length (ref_key r) ≡ 9
-ref_key_len r = ap (λ (n : ℕ). suc n) (id_len r.id)
-
-pub tag_key_len : (key value : List ℕ) (r : Ref) → length (tag_key key value r) ≡ length key + (length value + 11)
-tag_key_len key value r =
-    let a = length-append (tag_prefix key value) (ref_key r) in
-    let b = length-append (key ++ 0 ∷ []) (value ++ 0 ∷ []) in
-    let c = length-append key (0 ∷ []) in
-    let d = length-append value (0 ∷ []) in
-    let e = ref_key_len r in
-    omega (arith, a, b, c, d, e)
 
 pub gains_one : (b0 b1 : List ℕ) (s0 s1 : List Span) (b : Binding) (key value : ℕ) → b1 ≡ b0 ++ (b.key ++ b.value) → s1 ≡ s0 ++ record { key = key; value = value } ∷ [] → length b.key ≡ key → length b.value ≡ value → Gains b0 b1 s0 s1 (b ∷ [])
 gains_one b0 b1 s0 s1 b key value texts lengths k v = record {

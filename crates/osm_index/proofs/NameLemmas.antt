@@ -21,7 +21,7 @@ use Rattle.opl_codec.specs.declared.change.Change.{Change}
 use Rattle.opl_codec.specs.internal.Loading.{HasJust}
 use Rattle.opl_codec.proofs.ReferenceLists.{just_more}
 use Rattle.osm_index.specs.Applying.{AreApart, IsFirstTwice, name_of, names_of}
-use Rattle.osm_index.proofs.shared.OneObject.{same_reference}
+use Rattle.osm_keys.proofs.shared.OneObject.{same_reference}
 
 pub names-push : (all : List Change) (c : Change) → names_of (all ++ c ∷ []) ≡ names_of all ++ name_of c ∷ []
 names-push all c = map-append name_of all (c ∷ [])

@@ -1,5 +1,5 @@
 -- Objects that are read from their lines, and those that have some names.
-use Rattle.std.proofs.Common.{◌≡◌, ◌↔◌, inl, inr, ℕ, ◌+◌, ◌<◌, List, [], ◌∷◌, ◌++◌, length, get_or, take, false, Option, Some, None, Result, Ok, refl, sym, ap, subst, ◌∙◌}
+use Rattle.std.proofs.Common.{◌≡◌, ◌↔◌, inl, inr, ℕ, ◌+◌, ◌<◌, FitsSigned, w64, List, [], ◌∷◌, ◌++◌, length, get_or, take, false, Option, Some, None, Result, Ok, refl, sym, ap, subst, ◌∙◌}
 use Rattle.std.specs.List.{AllByRecursion, Contains, IsDistinct, cons_option, filter_map, slice_get}
 use Rattle.std.specs.Ordering.{eq_by_cmp}
 use Rattle.std.specs.Prelude.{MatchResult}
@@ -20,9 +20,15 @@ use Rattle.tree_node.specs.NodeRefs.{binding_of, bindings_of}
 use Rattle.tree_node.specs.Nodes.{Binding}
 use Rattle.tree_node.specs.declared.item.Item.{Item}
 use Rattle.osm_index.specs.Applying.{name_of, names_of}
-use Rattle.osm_index.specs.Entries.{object_entry}
-use Rattle.osm_index.proofs.shared.Members.{first_or_in_rest, here, in_rest, none}
-use Rattle.osm_index.proofs.shared.OneObject.{is_element, object_found, object_there}
+use Rattle.tree_node.specs.declared.tree.Tree.TheVariants.{Objects}
+use Rattle.tree_walk.specs.Choices.{AreThose}
+use Rattle.tree_walk.specs.Walks.{IsEntryIn}
+use Rattle.osm_keys.specs.Entries.{object_entry}
+use Rattle.osm_keys.specs.Keys.{ref_key}
+use Rattle.osm_keys.specs.Publications.{IsPublication, Publication}
+use Rattle.osm_keys.proofs.shared.Members.{first_or_in_rest, here, in_rest, none}
+use Rattle.osm_keys.proofs.shared.OneObject.{is_element, object_found, object_there}
+use Rattle.osm_keys.proofs.shared.RangeLaws.{object_is_found}
 
 -- ---- an object, read from its line
 
@@ -46,6 +52,11 @@ never_none result o is e = let same : None ≡ Some (Put o) = subst (λ (s : Res
 
 abbrev pub IsFoundAs : List Element → Ref → List Binding → Type 0
 IsFoundAs objects r found = (b : Binding) → Contains found b ↔ ((o : Element) × (object_at objects r ≡ Some o) × (b ≡ object_entry o))
+
+-- what is in the range of its key
+pub found_as : (p : Publication) → IsPublication p → (r : Ref) → FitsSigned w64 r.id → (key : List ℕ) → key ≡ ref_key r → (found : List Binding) → AreThose (IsEntryIn (record { lo = key; hi = key; under = false })) (p.entries Objects) found → IsFoundAs p.objects r found
+found_as p is r fits key same found those =
+    object_is_found p is r fits found (subst (λ (k : List ℕ). AreThose (IsEntryIn (record { lo = k; hi = k; under = false })) (p.entries Objects) found) same those)
 
 -- nothing, where the object isn't there
 pub none_found : (objects : List Element) (r : Ref) (found : List Item) → slice_get found 0 ≡ None → IsFoundAs objects r (bindings_of found) → object_at objects r ≡ None

@@ -5,10 +5,10 @@ use Rattle.osm_model.specs.Limits.{IsElement}
 use Rattle.tree_node.specs.Nodes.{Binding}
 use Rattle.tree_node.specs.declared.tree.Tree.{Tree}
 use Rattle.tree_node.specs.declared.tree.Tree.TheVariants.{Objects, Tags, Cells, Backs}
-use Rattle.osm_index.specs.Entries.{IsEntryOf}
-use Rattle.osm_index.specs.Keys.{column, row}
-use Rattle.osm_index.proofs.shared.OneKey.{one_in_cell, one_referrer, one_tagged}
-use Rattle.osm_index.proofs.shared.OneObject.{same_ref}
+use Rattle.osm_keys.specs.Entries.{IsEntryOf}
+use Rattle.osm_keys.specs.Keys.{column, row}
+use Rattle.osm_keys.proofs.shared.OneKey.{one_in_cell, one_referrer, one_tagged}
+use Rattle.osm_keys.proofs.shared.OneObject.{same_ref}
 
 pub one_owner : (tree : Tree) (o p : Element) → IsElement o → IsElement p → (a b : Binding) → IsEntryOf o tree a → IsEntryOf p tree b → a.key ≡ b.key → reference o ≡ reference p
 one_owner Objects o p is is_too a b h k e =

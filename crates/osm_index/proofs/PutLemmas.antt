@@ -14,11 +14,12 @@ use Rattle.tree_node.specs.declared.stock.Stock.{Stock}
 use Rattle.tree_node.specs.declared.limits.TheConstants.{ENTRY_LIMIT}
 use Rattle.tree_node.specs.declared.tree.Tree.{Tree}
 use Rattle.tree_node.specs.declared.tree.Tree.TheVariants.{Objects, Tags, Cells, Backs}
-use Rattle.osm_index.specs.Entries.{AreEntriesOf}
+use Rattle.osm_keys.specs.Entries.{AreEntriesOf}
 use Rattle.osm_index.specs.Holdings.{AreHeld}
-use Rattle.osm_index.specs.Manifests.{manifest, top_among}
-use Rattle.osm_index.specs.Publications.{IsNodeIn, IsPublicationOf, Publication, manifest_of, shape_of, top_in, tree_in}
+use Rattle.osm_keys.specs.Manifests.{manifest, top_among}
+use Rattle.osm_keys.specs.Publications.{IsNodeIn, IsPublicationOf, Publication, manifest_of, shape_of, top_in, tree_in}
 use Rattle.tree_node.specs.declared.edition.Edition.{Edition}
+use Rattle.osm_keys.proofs.shared.OneManifest.{manifest_same}
 use Rattle.osm_index.specs.internal.Putting.{AreAllFour, Ended, EndedAll, HasPut, IsTreeNode}
 
 abbrev Nodes : Type 1
@@ -113,10 +114,6 @@ module _ (objects : List Element) (edition : Edition) (set : IsObjectSet objects
   all_put result h = (the, published, ends result h)
 
 -- ---- the manifest
-
-pub manifest_same : (edition : Edition) (t u : Tree → List ℕ) → ((tree : Tree) → t tree ≡ u tree) → manifest edition t ≡ manifest edition u
-unfolding manifest
-manifest_same edition t u h = rw (h Objects, h Tags, h Cells, h Backs) refl
 
 module _ (p : Publication) (objects : List Element) (edition : Edition) (is : IsPublicationOf objects edition p) (tops : List Digest) (same : (tree : Tree) → top_among tops tree ≡ top_in p tree) where
   pub manifest_is : manifest edition (top_among tops) ≡ manifest_of p

@@ -10,8 +10,8 @@ use Rattle.opl_codec.specs.declared.change.Change.{Change}
 use Rattle.opl_codec.specs.declared.change.Change.TheVariants.{Put, Delete}
 use Rattle.osm_index.specs.Applying.{AreApart, DeleteThere, names_of}
 use Rattle.osm_index.specs.internal.Applying.{put_in}
-use Rattle.osm_index.proofs.shared.Members.{first_or_in_rest, from_map, here, in_map, in_rest, none}
-use Rattle.osm_index.proofs.shared.OneObject.{object_found, object_there}
+use Rattle.osm_keys.proofs.shared.Members.{first_or_in_rest, from_map, here, in_map, in_rest, none}
+use Rattle.osm_keys.proofs.shared.OneObject.{object_found, object_there}
 
 -- what holds of all names holds of those of the objects that are put
 fewer : (P : Ref → Type 0) (all : List Change) → AllByRecursion P (names_of all) → AllByRecursion P (references (filter_map put_in all))

@@ -15,12 +15,12 @@ use Rattle.tree_build.proofs.ChangedLaw.{IsPut, changed_holds}
 use Rattle.tree_build.proofs.DifferChanges.{changed_rises}
 use Rattle.tree_build.proofs.WeaveLemmas.{above_low}
 use Rattle.tree_node.specs.Nodes.{AreRisingFrom}
-use Rattle.osm_index.specs.Keys.{ref_key}
-use Rattle.osm_index.specs.internal.ChangedTrees.{IsExchanged}
-use Rattle.osm_index.proofs.ExchangeLemmas.{own_and_rising, put_by, puts_by}
+use Rattle.osm_keys.specs.Keys.{ref_key}
+use Rattle.osm_index.specs.internal.ChangedTrees.{IsChangedSet}
+use Rattle.osm_index.proofs.ChangedSetLemmas.{own_and_rising, put_by, puts_by}
 use Rattle.osm_index.proofs.ItemLemmas.{all_of_each, each_of, from_list, from_mapped, in_list, in_mapped, one_with_key}
-use Rattle.osm_index.proofs.shared.KeyOrder.{keys_as_refs}
-use Rattle.osm_index.proofs.shared.OneObject.{is_element, same_ref}
+use Rattle.osm_keys.proofs.shared.KeyOrder.{keys_as_refs}
+use Rattle.osm_keys.proofs.shared.OneObject.{is_element, same_ref}
 
 abbrev pub key_at : Element → List ℕ
 key_at o = ref_key (reference o)
@@ -63,7 +63,7 @@ set_of objects each rise =
     let are = all_of_each IsElement objects each in
     record { rising = sorted_of None objects are rise; elements = All-from_recursion IsElement objects are }
 
--- ---- the exchanged set
+-- ---- the changed set
 
 abbrev take_of : Element → Change Element
 take_of o = record { key = key_at o; put = None }
@@ -87,41 +87,41 @@ puts_own : (objects : List Element) → AllByRecursion (IsOwn key_at) (map put_a
 puts_own [] = tt
 puts_own (o ∷ objects) = (refl, puts_own objects)
 
-module _ (objects olds puts : List Element) (set : IsObjectSet objects) (old : IsObjectSet olds) (new : IsObjectSet puts)
-    (there : (o : Element) → Contains olds o → Contains objects o) (apart : (o x : Element) → Contains puts o → Contains objects x → reference x ≡ reference o → Contains olds x) where
-  takes : AreOwnAndRising key_at (map take_of olds)
-  takes = own_and_rising key_at None (map take_of olds) (takes_rise None olds (set_rises olds old)) (takes_own olds)
+module _ (objects removed puts : List Element) (set : IsObjectSet objects) (old : IsObjectSet removed) (new : IsObjectSet puts)
+    (there : (o : Element) → Contains removed o → Contains objects o) (apart : (o x : Element) → Contains puts o → Contains objects x → reference x ≡ reference o → Contains removed x) where
+  takes : AreOwnAndRising key_at (map take_of removed)
+  takes = own_and_rising key_at None (map take_of removed) (takes_rise None removed (set_rises removed old)) (takes_own removed)
 
   puttings : AreOwnAndRising key_at (map put_at puts)
   puttings = own_and_rising key_at None (map put_at puts) (puts_rise None puts (set_rises puts new)) (puts_own puts)
 
   -- without the old ones
   abbrev rest : List Element
-  rest = changed key_at objects (map take_of olds)
+  rest = changed key_at objects (map take_of removed)
 
   -- and with those put
-  abbrev pub exchanged : List Element
-  exchanged = changed key_at rest (map put_at puts)
+  abbrev pub changed_set : List Element
+  changed_set = changed key_at rest (map put_at puts)
 
   rest_rises : RiseAt None rest
-  rest_rises = changed_rises key_at objects (map take_of olds) (set_rises objects set) takes
+  rest_rises = changed_rises key_at objects (map take_of removed) (set_rises objects set) takes
 
   none_put : (n : Element) (os : List Element) → ¬ IsPut key_at (map take_of os) n
   none_put n [] is = is
   none_put n (o ∷ os) is = elim is [ inl first ↦ first | inr later ↦ none_put n os later ]
 
-  rest_holds : (n : Element) → IsIn n rest ↔ (IsIn n objects × ¬ IsIn n olds)
+  rest_holds : (n : Element) → IsIn n rest ↔ (IsIn n objects × ¬ IsIn n removed)
   rest_holds n = (
-    (λ is. elim ((changed_holds key_at objects (map take_of olds) (set_rises objects set) takes n).0 is) [
-      | inl put ↦ absurd (none_put n olds put)
-      | inr stays ↦ (stays.0, λ was. each_of (λ (c : Change Element). key_at n ≢ c.key) (map take_of olds) stays.1 (take_of n) (in_mapped take_of olds n was) refl)
+    (λ is. elim ((changed_holds key_at objects (map take_of removed) (set_rises objects set) takes n).0 is) [
+      | inl put ↦ absurd (none_put n removed put)
+      | inr stays ↦ (stays.0, λ was. each_of (λ (c : Change Element). key_at n ≢ c.key) (map take_of removed) stays.1 (take_of n) (in_mapped take_of removed n was) refl)
     ]),
-    (λ (is, isnt). (changed_holds key_at objects (map take_of olds) (set_rises objects set) takes n).1 (inr (
+    (λ (is, isnt). (changed_holds key_at objects (map take_of removed) (set_rises objects set) takes n).1 (inr (
       is,
-      all_of_each (λ (c : Change Element). key_at n ≢ c.key) (map take_of olds) (λ c of same.
-          let found = from_mapped take_of olds c of in
-          let was = from_list objects found.0 (there found.0 (in_list olds found.0 found.1)) in
-          isnt (subst (λ (k : Element). IsIn k olds) (sym (one_with_key key_at None objects (set_rises objects set) n found.0 is was (same ∙ ap (λ (d : Change Element). d.key) found.2))) found.1)),
+      all_of_each (λ (c : Change Element). key_at n ≢ c.key) (map take_of removed) (λ c of same.
+          let found = from_mapped take_of removed c of in
+          let was = from_list objects found.0 (there found.0 (in_list removed found.0 found.1)) in
+          isnt (subst (λ (k : Element). IsIn k removed) (sym (one_with_key key_at None objects (set_rises objects set) n found.0 is was (same ∙ ap (λ (d : Change Element). d.key) found.2))) found.1)),
     ))),
   )
 
@@ -134,8 +134,8 @@ module _ (objects olds puts : List Element) (set : IsObjectSet objects) (old : I
   one_reference : (n o : Element) → IsElement n → IsElement o → key_at n ≡ key_at o → reference n ≡ reference o
   one_reference n o is is_too same = same_ref (reference n) (reference o) is.in_range is_too.in_range same
 
-  pub exchanged_holds : (n : Element) → IsIn n exchanged ↔ (IsIn n puts ⊎ (IsIn n objects × ¬ IsIn n olds))
-  exchanged_holds n = (
+  pub changed_set_holds : (n : Element) → IsIn n changed_set ↔ (IsIn n puts ⊎ (IsIn n objects × ¬ IsIn n removed))
+  changed_set_holds n = (
     (λ is. elim ((changed_holds key_at rest (map put_at puts) rest_rises puttings n).0 is) [
       | inl put ↦ inl (put_from n put)
       | inr stays ↦ inr ((rest_holds n).0 stays.0)
@@ -149,25 +149,25 @@ module _ (objects olds puts : List Element) (set : IsObjectSet objects) (old : I
             let put = in_list puts found.0 found.1 in
             let here = in_list objects n was in
             let one = one_reference n found.0 (is_element objects n set here) (is_element puts found.0 new put) (same ∙ ap (λ (d : Change Element). d.key) found.2) in
-            isnt (from_list olds n (apart found.0 n put here one))),
+            isnt (from_list removed n (apart found.0 n put here one))),
       ))
     ]),
   )
 
-  pub is_exchanged : IsExchanged objects olds puts exchanged
-  is_exchanged = record {
-    set = set_of exchanged (λ n is. elim ((exchanged_holds n).0 is) [ inl put ↦ is_element puts n new (in_list puts n put) | inr stays ↦ is_element objects n set (in_list objects n stays.0) ])
+  pub is_changed_set : IsChangedSet objects removed puts changed_set
+  is_changed_set = record {
+    set = set_of changed_set (λ n is. elim ((changed_set_holds n).0 is) [ inl put ↦ is_element puts n new (in_list puts n put) | inr stays ↦ is_element objects n set (in_list objects n stays.0) ])
         (changed_rises key_at rest (map put_at puts) rest_rises puttings);
     there = there;
     apart = apart;
     members = λ n. (
-      (λ h. elim ((exchanged_holds n).0 (from_list exchanged n h)) [
+      (λ h. elim ((changed_set_holds n).0 (from_list changed_set n h)) [
         | inl put ↦ inl (in_list puts n put)
-        | inr (was, isnt) ↦ inr (in_list objects n was, λ old_too. isnt (from_list olds n old_too))
+        | inr (was, isnt) ↦ inr (in_list objects n was, λ old_too. isnt (from_list removed n old_too))
       ]),
-      (λ h. in_list exchanged n ((exchanged_holds n).1 (elim h [
+      (λ h. in_list changed_set n ((changed_set_holds n).1 (elim h [
         | inl put ↦ inl (from_list puts n put)
-        | inr (was, isnt) ↦ inr (from_list objects n was, λ old_too. isnt (in_list olds n old_too))
+        | inr (was, isnt) ↦ inr (from_list objects n was, λ old_too. isnt (in_list removed n old_too))
       ]))),
     );
   }

@@ -12,25 +12,25 @@ use Rattle.tree_node.specs.declared.stock.Stock.{Stock}
 use Rattle.tree_node.specs.declared.tree.Tree.{Tree}
 use Rattle.tree_node.specs.declared.tree.Tree.TheVariants.{Objects}
 use Rattle.osm_index.specs.Applying.{AreApplicable, IsApplied, IsLast, IsSecond, edition_after}
-use Rattle.osm_index.specs.Entries.{object_entry}
+use Rattle.osm_keys.specs.Entries.{object_entry}
 use Rattle.osm_index.specs.Holdings.{AreHeld}
-use Rattle.osm_index.specs.Manifests.{HasSequence, top_among}
-use Rattle.osm_index.specs.Publications.{HasTooMany, IsPublication, IsPublicationOf, Publication, manifest_of}
+use Rattle.osm_keys.specs.Manifests.{HasSequence, top_among}
+use Rattle.osm_keys.specs.Publications.{HasTooMany, IsPublication, IsPublicationOf, Publication, manifest_of}
 use Rattle.osm_index.specs.declared.apply_fault.ApplyFault.{ApplyFault}
 use Rattle.osm_index.specs.declared.apply_fault.ApplyFault.TheVariants as faults
 use Rattle.tree_node.specs.declared.edition.Edition.{Edition}
-use Rattle.osm_index.specs.declared.exchange.Exchange.{Exchange}
-use Rattle.osm_index.specs.declared.manifest.Manifest.{Manifest}
-use Rattle.osm_index.specs.declared.plan.Plan.{Plan}
-use Rattle.osm_index.specs.internal.Applying.{IsExchangeOf, RefusesChanges}
-use Rattle.osm_index.specs.internal.ChangedTrees.{AreHeldTrees, IsExchanged}
+use Rattle.osm_index.specs.declared.object_changes.ObjectChanges.{ObjectChanges}
+use Rattle.osm_keys.specs.declared.manifest.Manifest.{Manifest}
+use Rattle.osm_index.specs.declared.update.Update.{Update}
+use Rattle.osm_index.specs.internal.Applying.{AreObjectChangesOf, RefusesChanges}
+use Rattle.osm_index.specs.internal.ChangedTrees.{AreHeldTrees, IsChangedSet}
 use Rattle.osm_index.specs.internal.HeldTrees.{HoldsTree}
-use Rattle.osm_index.specs.internal.Plans.{IsPlan, PlansChanges, RefusesPlan}
-use Rattle.osm_index.proofs.AppliedLemmas.{applied, some_exchanged}
-use Rattle.osm_index.proofs.PlanLemmas.{manifests_unlike}
+use Rattle.osm_index.specs.internal.Updates.{IsUpdate, IsUpdateBy, RefusesUpdate}
+use Rattle.osm_index.proofs.AppliedLemmas.{applied, some_changed_set}
+use Rattle.osm_index.proofs.UpdateLemmas.{manifests_unlike}
 use Rattle.osm_index.proofs.SetLemmas.{RiseAt, set_rises}
-use Rattle.osm_index.proofs.shared.Members.{from_map, in_map}
-use Rattle.osm_index.proofs.shared.OnePublication.{one_entry_list}
+use Rattle.osm_keys.proofs.shared.Members.{from_map, in_map}
+use Rattle.osm_keys.proofs.shared.OnePublication.{one_entry_list}
 
 -- ---- the trees that it holds
 
@@ -41,24 +41,24 @@ module _ (edition : Edition) (stock : Stock) (found : Manifest) (key : Digest) (
   pub second_held : IsSecond edition → IsSecond p.edition
   second_held second = subst IsSecond (sym held.is.same_edition) second
 
-  pub held_trees : IsSecond edition → (olds puts set : List Element) → IsExchanged p.objects olds puts set → AreHeldTrees p olds puts set found.tops (HasNode stock)
-  held_trees second olds puts set is = record {
+  pub held_trees : IsSecond edition → (removed puts set : List Element) → IsChangedSet p.objects removed puts set → AreHeldTrees p removed puts set found.tops (HasNode stock)
+  held_trees second removed puts set is = record {
     published = held.is.published;
     second = second_held second;
     tops_are = held.tops;
     nodes = λ x n. (held.nodes x).1 (inr n);
-    exchanged = is;
+    changed_set = is;
   }
 
   -- ---- what it becomes
 
   module _ (second : IsSecond edition) (next : Edition) (next_is : next ≡ edition_after edition) (not_last : ¬ IsLast edition) (fits : HasSequence edition) (fits_too : HasSequence next)
-      (all : List Change) (exchange : Exchange) (is : IsExchangeOf p.objects all exchange) where
-    pub set_of : (new : List Element) × IsExchanged p.objects exchange.olds exchange.puts new
-    set_of = some_exchanged p.objects held.is.published.set all exchange is
+      (all : List Change) (changes : ObjectChanges) (is : AreObjectChangesOf p.objects all changes) where
+    pub set_of : (new : List Element) × IsChangedSet p.objects changes.removed changes.puts new
+    set_of = some_changed_set p.objects held.is.published.set all changes is
 
-    abbrev pub changing : (new : List Element) × AreHeldTrees p exchange.olds exchange.puts new found.tops (HasNode stock)
-    changing = (set_of.0, held_trees second exchange.olds exchange.puts set_of.0 set_of.1)
+    abbrev pub changing : (new : List Element) × AreHeldTrees p changes.removed changes.puts new found.tops (HasNode stock)
+    changing = (set_of.0, held_trees second changes.removed changes.puts set_of.0 set_of.1)
 
     pub applicable : AreApplicable p.objects p.edition all
     applicable = record { before_last = subst (λ (e : Edition). ¬ IsLast e) (sym held.is.same_edition) not_last; apart = is.apart; there = is.there }
@@ -70,14 +70,14 @@ module _ (edition : Edition) (stock : Stock) (found : Manifest) (key : Digest) (
     unlike q is_q =
         manifests_unlike p q (second_held second) (subst HasSequence (sym held.is.same_edition) fits) (subst HasSequence (next_is ∙ ap edition_after (sym held.is.same_edition) ∙ sym is_q.same_edition) fits_too) is_q.same_edition
 
-    pub plans : (q : Publication) → IsPublicationOf set_of.0 (edition_after p.edition) q → (plan : Plan) → IsPlan p q plan → PlansChanges p all plan
-    plans q is_q plan is_plan =
-        (q, subst (λ (os : List Element). IsApplied p.objects all os) (sym is_q.same_objects) (applied p.objects held.is.published.set all exchange is set_of.0 set_of.1), is_q.same_edition, is_plan, applicable)
+    pub updates : (q : Publication) → IsPublicationOf set_of.0 (edition_after p.edition) q → (update : Update) → IsUpdate p q update → IsUpdateBy p all update
+    updates q is_q update is_update =
+        (q, subst (λ (os : List Element). IsApplied p.objects all os) (sym is_q.same_objects) (applied p.objects held.is.published.set all changes is set_of.0 set_of.1), is_q.same_edition, is_update, applicable)
 
     pub too_many : HasTooMany set_of.0 → AreApplicable p.objects p.edition all × ((set : List Element) × IsApplied p.objects all set × HasTooMany set)
-    too_many many = (applicable, (set_of.0, applied p.objects held.is.published.set all exchange is set_of.0 set_of.1, many))
+    too_many many = (applicable, (set_of.0, applied p.objects held.is.published.set all changes is set_of.0 set_of.1, many))
 
-  pub refused_changes : ¬ IsLast edition → (all : List Change) (fault : ApplyFault) → RefusesChanges p.objects all fault → RefusesPlan p all fault
+  pub refused_changes : ¬ IsLast edition → (all : List Change) (fault : ApplyFault) → RefusesChanges p.objects all fault → RefusesUpdate p all fault
   refused_changes not_last all faults.LastSequence is = absurd is
   refused_changes not_last all (faults.ChangedTwice r) is = (subst (λ (e : Edition). ¬ IsLast e) (sym held.is.same_edition) not_last, is)
   refused_changes not_last all (faults.NotThere r) is = (subst (λ (e : Edition). ¬ IsLast e) (sym held.is.same_edition) not_last, is.0, is.1)

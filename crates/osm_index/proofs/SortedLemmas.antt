@@ -11,7 +11,7 @@ use Rattle.tree_node.specs.Order.{IsBelow, order}
 use Rattle.tree_node.specs.declared.item.Item.{Item}
 use Rattle.osm_index.specs.internal.KeyOrder.{IsInOrder}
 use Rattle.osm_index.specs.EntryLists.{IsKeyed}
-use Rattle.osm_index.proofs.shared.Members.{from_map, in_map}
+use Rattle.osm_keys.proofs.shared.Members.{from_map, in_map}
 
 abbrev key : Item → List ℕ
 key entry = entry.key.now

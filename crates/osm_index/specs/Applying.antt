@@ -10,7 +10,7 @@ use Rattle.osm_model.specs.Sets.{IsObjectSet}
 use Rattle.osm_model.specs.declared.reference.Ref.{Ref}
 use Rattle.tree_build.specs.Rebuilding.{AreDifferent, IsAmong, digests_of}
 use Rattle.tree_node.specs.Digests.{digest}
-use Rattle.osm_index.specs.Publications.{IsNodeIn, Publication}
+use Rattle.osm_keys.specs.Publications.{IsNodeIn, Publication}
 use Rattle.osm_index.specs.declared.delta.Delta.{Delta}
 use Rattle.tree_node.specs.declared.edition.Edition.{Edition}
 use Rattle.tree_node.specs.declared.edition.Edition.TheVariants as editions

@@ -6,10 +6,10 @@ use Rattle.tree_node.specs.Stocks.{HasNode}
 use Rattle.tree_node.specs.declared.digest.Digest.{Digest}
 use Rattle.tree_node.specs.declared.stock.Stock.{Stock}
 use Rattle.tree_node.specs.declared.tree.Tree.{Tree}
-use Rattle.osm_index.specs.Manifests.{manifest_bytes, top_among}
-use Rattle.osm_index.specs.Publications.{IsNodeIn, IsPublicationOf, Publication, manifest_of, root_of, top_in}
+use Rattle.osm_keys.specs.Manifests.{manifest_bytes, top_among}
+use Rattle.osm_keys.specs.Publications.{IsNodeIn, IsPublicationOf, Publication, manifest_of, root_of, top_in}
 use Rattle.tree_node.specs.declared.edition.Edition.{Edition}
-use Rattle.osm_index.specs.declared.manifest.Manifest.{Manifest}
+use Rattle.osm_keys.specs.declared.manifest.Manifest.{Manifest}
 
 -- this edition, this stock, this manifest and this root are those of the publication, and no two different nodes of it
 -- have one digest

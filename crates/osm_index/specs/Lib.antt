@@ -1,9 +1,4 @@
-pub mod Keys
-pub mod Entries
 pub mod EntryLists
-pub mod Ranges
-pub mod Manifests
-pub mod Publications
 pub mod Holdings
 pub mod Applying
 pub mod Snapshots

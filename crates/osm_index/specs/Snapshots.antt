@@ -4,7 +4,7 @@ use Rattle.std.specs.Prelude.{◌≡◌}
 use Rattle.tree_node.specs.Shelves.{SameNodes}
 use Rattle.tree_node.specs.Stocks.{HasNode}
 use Rattle.osm_index.specs.Holdings.{AreHeld}
-use Rattle.osm_index.specs.Publications.{Publication}
+use Rattle.osm_keys.specs.Publications.{Publication}
 use Rattle.osm_index.specs.declared.snapshot.Snapshot.{Snapshot}
 
 -- the snapshot holds the publication: its edition, just its nodes, its manifest and its root; no two different nodes of

@@ -11,7 +11,7 @@ use thiserror::Error;
 /// `I3 n5`.
 #[derive(Clone, Copy, Debug, PartialEq, Eq, Error)]
 pub enum ApplyFault {
-    /// I5: the sequence is 2^64 - 1, and none comes after it.
+    /// I5: no sequence comes after that of the set: it is 2^64 - 1, or the set is of the first edition, which has none.
     #[error("I5")]
     LastSequence,
     /// I3: an earlier change is of the same object.

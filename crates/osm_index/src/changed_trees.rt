@@ -6,13 +6,13 @@ ghost use Rattle.tree_build.specs.Rebuilding.{changed_entries, changes_of, keys_
 ghost use Rattle.tree_node.specs.Nodes.{AreRisingFrom, Binding};
 ghost use Rattle.tree_node.specs.Stocks.{HasNode};
 ghost use Rattle.osm_index.specs.Applying.{edition_after};
-ghost use Rattle.osm_index.specs.Entries.{AreEntriesOf};
-ghost use Rattle.osm_index.specs.Publications.{HasTooMany, IsPublicationOf, Publication};
+ghost use Rattle.osm_keys.specs.Entries.{AreEntriesOf};
+ghost use Rattle.osm_keys.specs.Publications.{HasTooMany, IsPublicationOf, Publication};
 ghost use Rattle.osm_index.specs.internal.ChangedTrees.{AreChangedTrees, AreHeldTrees, AreSomeHeldTrees, HoldsChanging, HoldsSomeChanging, IsChangedTree};
 
 use crate::apply_fault::ApplyFault;
 use crate::entry_changes::entry_changes;
-use crate::entry_count::entry_count;
+use crate::held_tree::entry_count;
 use crate::listing::entries_of;
 use osm_model::ObjectSet;
 use std::alloc::{AllocError, Global};
@@ -36,22 +36,22 @@ pub(crate) struct ChangedTrees {
 /// Refused with `TooMany` where a tree would have more than 2^29 entries, or out of memory.
 pub(crate) fn change_trees(
     alloc: Global,
-    olds: &ObjectSet,
+    removed: &ObjectSet,
     puts: &ObjectSet,
     tops: &[Digest; 4],
     stock: &Stock,
 ) -> Result<ChangedTrees, ApplyFault>
-    requires { ∥ AreSomeHeldTrees olds.now puts.now tops.now (HasNode stock.now) ∥₁ }
-    ensures changed { (p : Publication) (set : List Element) → AreHeldTrees p olds.now puts.now set tops.now (HasNode stock.now)
+    requires { ∥ AreSomeHeldTrees removed.now puts.now tops.now (HasNode stock.now) ∥₁ }
+    ensures changed { (p : Publication) (set : List Element) → AreHeldTrees p removed.now puts.now set tops.now (HasNode stock.now)
         → IfOk result (λ trees. (q : Publication) × IsPublicationOf set (edition_after p.edition) q × AreChangedTrees p q trees) }
     ensures refused { IfErr result (λ fault. (fault ≡ ApplyFault.Memory) ⊎ (fault ≡ ApplyFault.TooMany)) }
-    ensures too_many { (p : Publication) (set : List Element) → AreHeldTrees p olds.now puts.now set tops.now (HasNode stock.now)
+    ensures too_many { (p : Publication) (set : List Element) → AreHeldTrees p removed.now puts.now set tops.now (HasNode stock.now)
         → IfErr result (λ fault. fault ≡ ApplyFault.TooMany → HasTooMany set) }
 {
-    let objects = change_tree(alloc, olds, puts, Tree::Objects, &tops[0], stock)?;
-    let tags = change_tree(alloc, olds, puts, Tree::Tags, &tops[1], stock)?;
-    let cells = change_tree(alloc, olds, puts, Tree::Cells, &tops[2], stock)?;
-    let backs = change_tree(alloc, olds, puts, Tree::Backs, &tops[3], stock)?;
+    let objects = change_tree(alloc, removed, puts, Tree::Objects, &tops[0], stock)?;
+    let tags = change_tree(alloc, removed, puts, Tree::Tags, &tops[1], stock)?;
+    let cells = change_tree(alloc, removed, puts, Tree::Cells, &tops[2], stock)?;
+    let backs = change_tree(alloc, removed, puts, Tree::Backs, &tops[3], stock)?;
     Ok(all_of(objects, tags, cells, backs)?)
 }
 
@@ -95,20 +95,20 @@ fn append(
 /// Changes one tree, whose top has this digest and which the stock holds.
 fn change_tree(
     alloc: Global,
-    olds: &ObjectSet,
+    removed: &ObjectSet,
     puts: &ObjectSet,
     tree: Tree,
     top: &Digest,
     stock: &Stock,
 ) -> Result<Rebuilt, ApplyFault>
-    requires { ∥ HoldsSomeChanging olds.now puts.now tree top.now.0 (HasNode stock.now) ∥₁ }
-    ensures changed { (p : Publication) (set : List Element) → HoldsChanging p olds.now puts.now set tree top.now.0 (HasNode stock.now)
+    requires { ∥ HoldsSomeChanging removed.now puts.now tree top.now.0 (HasNode stock.now) ∥₁ }
+    ensures changed { (p : Publication) (set : List Element) → HoldsChanging p removed.now puts.now set tree top.now.0 (HasNode stock.now)
         → IfOk result (λ rebuilt. (new : List Binding) × IsChangedTree set tree (p.entries tree) new rebuilt) }
     ensures refused { IfErr result (λ fault. (fault ≡ ApplyFault.Memory) ⊎ (fault ≡ ApplyFault.TooMany)) }
-    ensures too_many { (p : Publication) (set : List Element) → HoldsChanging p olds.now puts.now set tree top.now.0 (HasNode stock.now)
+    ensures too_many { (p : Publication) (set : List Element) → HoldsChanging p removed.now puts.now set tree top.now.0 (HasNode stock.now)
         → IfErr result (λ fault. fault ≡ ApplyFault.TooMany → HasTooMany set) }
 {
-    let Some(changes) = tree_changes(alloc, olds, puts, tree, top, stock)? else {
+    let Some(changes) = tree_changes(alloc, removed, puts, tree, top, stock)? else {
         return Err(ApplyFault::TooMany);
     };
     let mut shelf = stock.shelf(alloc);
@@ -118,20 +118,20 @@ fn change_tree(
 /// How the entries of a tree change, by rising key; none where they would be more than 2^29.
 fn tree_changes(
     alloc: Global,
-    olds: &ObjectSet,
+    removed: &ObjectSet,
     puts: &ObjectSet,
     tree: Tree,
     top: &Digest,
     stock: &Stock,
 ) -> Result<Option<Vec<EntryChange>>, AllocError>
-    requires { ∥ HoldsSomeChanging olds.now puts.now tree top.now.0 (HasNode stock.now) ∥₁ }
+    requires { ∥ HoldsSomeChanging removed.now puts.now tree top.now.0 (HasNode stock.now) ∥₁ }
     ensures rising { IfOk result (λ found. MatchOption found ⊤ (λ all. AreRisingFrom None (keys_of_changes (changes_of all.items)))) }
-    ensures changed { (p : Publication) (set : List Element) → HoldsChanging p olds.now puts.now set tree top.now.0 (HasNode stock.now)
+    ensures changed { (p : Publication) (set : List Element) → HoldsChanging p removed.now puts.now set tree top.now.0 (HasNode stock.now)
         → IfOk result (λ found. MatchOption found (HasTooMany set)
         (λ all. (length (changed_entries (p.entries tree) (changes_of all.items)) ≤ ENTRY_LIMIT)
         × AreEntriesOf set tree (changed_entries (p.entries tree) (changes_of all.items)))) }
 {
-    let old = entries_of(alloc, olds, tree)?;
+    let old = entries_of(alloc, removed, tree)?;
     let new = entries_of(alloc, puts, tree)?;
     let old = old.sorted(alloc)?;
     let new = new.sorted(alloc)?;

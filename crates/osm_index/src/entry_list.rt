@@ -7,7 +7,7 @@ ghost use Rattle.tree_node.specs.Nodes.{AreRisingFrom, Binding, keys_of};
 ghost use Rattle.tree_node.specs.Order.{IsBelow};
 ghost use Rattle.osm_index.specs.EntryLists.{IsKeyed, cut, packed_len};
 
-use crate::sort::sort_entries;
+use crate::sort_entries::sort_entries;
 use std::alloc::{AllocError, Global};
 use std::marker::Model;
 use tree_build::Entry;

@@ -5,13 +5,13 @@ ghost use Rattle.std.specs.Prelude.{◌≡◌, ◌↔◌, [], ◌∷◌, ◌++�
 ghost use Rattle.osm_model.specs.Elements.{reference};
 ghost use Rattle.osm_model.specs.Limits.{IsShort};
 ghost use Rattle.tree_node.specs.Nodes.{Binding};
-ghost use Rattle.osm_index.specs.Entries.{IsEntryOfSome, back_entry, cell_entry, object_entry, tag_entry};
+ghost use Rattle.osm_keys.specs.Entries.{IsEntryOfSome, back_entry, cell_entry, object_entry, tag_entry};
 ghost use Rattle.osm_index.specs.EntryLists.{IsKeyed};
 ghost use Rattle.osm_index.specs.internal.Listing.{Gains, backs_of, cells_of, entries_from, member_back, node_back, tag_of};
 
 use crate::entry_list::{EntryList, Span};
-use crate::keys::{append_parts, back_key, cell_key, cell_value, reference_key};
 use opl_codec::{OutMode, write_object};
+use osm_keys::{append_tag_key, back_key, cell_key, cell_value, reference_key};
 use osm_model::{Body, Kind, Member, Object, ObjectSet, Ref, Tag};
 use std::alloc::{AllocError, Global};
 use tree_node::Tree;
@@ -118,7 +118,7 @@ fn append_tag(
         (tag_of name tag.now ∷ [])) }
 {
     let start = bytes.len();
-    append_parts(tag.key.as_bytes(), tag.value.as_bytes(), name, bytes)?;
+    append_tag_key(tag.key.as_bytes(), tag.value.as_bytes(), name, bytes)?;
     spans.push(Span {
         key: (bytes.len() - start) as u32,
         value: 0,

@@ -11,26 +11,26 @@ ghost use Rattle.tree_node.specs.Shelves.{IsClashFree, IsEmptySet};
 ghost use Rattle.tree_node.specs.Stocks.{HasNode};
 ghost use Rattle.tree_build.specs.Shapes.{shape_of as shape_word};
 ghost use Rattle.osm_index.specs.Applying.{AreApart, AreApplicable, IsApplied, IsDeltaOf, IsFirstMissing, IsFirstTwice, IsLast, IsNodeOfEither, IsSecond, edition_after};
-ghost use Rattle.osm_index.specs.Entries.{AreEntriesOf};
+ghost use Rattle.osm_keys.specs.Entries.{AreEntriesOf};
 ghost use Rattle.osm_index.specs.Holdings.{HoldSome};
-ghost use Rattle.osm_index.specs.Manifests.{HasSequence};
-ghost use Rattle.osm_index.specs.Publications.{HasTooMany, IsNodeIn, IsPublicationOf, Publication, shape_of};
-ghost use Rattle.osm_index.specs.internal.Plans.{PlansChanges, RefusesPlan};
+ghost use Rattle.osm_keys.specs.Manifests.{HasSequence};
+ghost use Rattle.osm_keys.specs.Publications.{HasTooMany, IsNodeIn, IsPublicationOf, Publication, shape_of};
+ghost use Rattle.osm_index.specs.internal.Updates.{IsUpdateBy, RefusesUpdate};
 ghost use Rattle.osm_index.specs.internal.Putting.{AreAllFour, EndsTree, EndsTrees};
 
+use crate::all_objects::all_objects;
 use crate::apply_fault::ApplyFault;
 use crate::build_progress::{BuildProgress, Unwatched};
 use crate::changed_trees::change_trees;
 use crate::delta::Delta;
-use crate::entry_count::entry_count;
-use crate::exchange::exchange_of;
 use crate::fault::IndexFault;
+use crate::held_tree::entry_count;
 use crate::listing::entries_of;
-use crate::manifest::{Manifest, write_manifest};
-use crate::named_objects::all_objects;
 use crate::node_changes::{put_nodes, remove_nodes};
-use crate::plan::{Plan, plan_of};
+use crate::object_changes::object_changes;
+use crate::update::{Update, update_of};
 use opl_codec::Change;
+use osm_keys::{Manifest, write_manifest};
 use osm_model::{ObjectSet, Ref};
 use std::alloc::{AllocError, Global};
 use tree_build::{BuildFault, Entry, Shape, build};
@@ -142,35 +142,35 @@ impl Snapshot {
             × IsPublicationOf q.objects (edition_after p.edition) q
             × Clash (IsNodeOfEither p q) (IsNodeOfEither p q)) }
     {
-        let plan = self.plan(alloc, changes)?;
-        let added = plan.added;
-        put_nodes(&mut self.stock, plan.nodes, &added)?;
+        let update = self.prepare_update(alloc, changes)?;
+        let added = update.added;
+        put_nodes(&mut self.stock, update.nodes, &added)?;
         // Nothing refuses from here on.
-        self.edition = plan.manifest.edition;
-        self.manifest = plan.manifest;
-        self.root = plan.root;
-        let gone = plan.gone;
+        self.edition = update.manifest.edition;
+        self.manifest = update.manifest;
+        self.root = update.root;
+        let gone = update.gone;
         remove_nodes(&mut self.stock, &gone);
         Ok(Delta { added, gone })
     }
 
     /// What the changes make of the snapshot. It reads the object tree for the objects that they name.
-    fn plan(&self, alloc: Global, changes: &[Change]) -> Result<Plan, ApplyFault>
-        ensures listed { IfOk result (λ plan. plan.added.items ≡ map (λ node. node.digest) plan.nodes.items) }
-        ensures planned { (p : Publication) → HoldsPublication self.now p → IfOk result (PlansChanges p changes.now) }
-        ensures refused { (p : Publication) → HoldsPublication self.now p → IfErr result (RefusesPlan p changes.now) }
+    fn prepare_update(&self, alloc: Global, changes: &[Change]) -> Result<Update, ApplyFault>
+        ensures listed { IfOk result (λ update. update.added.items ≡ map (λ node. node.digest) update.nodes.items) }
+        ensures made { (p : Publication) → HoldsPublication self.now p → IfOk result (IsUpdateBy p changes.now) }
+        ensures refused { (p : Publication) → HoldsPublication self.now p → IfErr result (RefusesUpdate p changes.now) }
         ensures last { (result ≡ Err ApplyFault.LastSequence) ↔ IsLast self.now.edition }
     {
         let edition = edition_after(self.edition)?;
-        let exchange = exchange_of(alloc, changes, &self.manifest.tops[0], &self.stock)?;
+        let objects = object_changes(alloc, changes, &self.manifest.tops[0], &self.stock)?;
         let trees = change_trees(
             alloc,
-            &exchange.olds,
-            &exchange.puts,
+            &objects.removed,
+            &objects.puts,
             &self.manifest.tops,
             &self.stock,
         )?;
-        Ok(plan_of(alloc, edition, trees, &self.root)?)
+        Ok(update_of(alloc, edition, trees, &self.root)?)
     }
 
     /// The number of objects: read from the nodes on the way from the object tree's top to its first leaf.

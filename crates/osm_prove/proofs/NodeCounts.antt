@@ -12,8 +12,8 @@ use Rattle.tree_node.proofs.shared.PieceLemmas.{join, pieces_half, two_at_least}
 use Rattle.tree_node.proofs.shared.TreeLemmas.{AreLevels, level_half, tree_is, tree_levels}
 use Rattle.tree_walk.specs.Fetches.{AreDifferent, IsAmong}
 use Rattle.tree_walk.proofs.shared.WalkedLaws.{different_fit}
-use Rattle.osm_index.specs.Publications.{IsNodeIn, IsPublication, Publication, manifest_of, shape_in, tree_in}
-use Rattle.osm_index.proofs.shared.Members.{here, in_rest, none}
+use Rattle.osm_keys.specs.Publications.{IsNodeIn, IsPublication, Publication, manifest_of, shape_in, tree_in}
+use Rattle.osm_keys.proofs.shared.Members.{here, in_rest, none}
 use Rattle.osm_prove.specs.Proofs.{AreRising}
 use Rattle.osm_prove.proofs.shared.NodeOrder.{first_apart, rest_rises}
 

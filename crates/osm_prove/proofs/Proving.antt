@@ -11,7 +11,7 @@ use Rattle.tree_node.specs.Trees.{IsNodeOf}
 use Rattle.tree_node.specs.declared.part.Part.{Part}
 use Rattle.tree_node.specs.declared.stock.Stock.{Stock}
 use Rattle.tree_node.specs.declared.tree.Tree.{Tree}
-use Rattle.osm_index.specs.Publications.{IsNodeIn, IsPublication, Publication, tree_in}
+use Rattle.osm_keys.specs.Publications.{IsNodeIn, IsPublication, Publication, tree_in}
 use Rattle.ql_syntax.specs.Statements.{Statements}
 use Rattle.ql_eval.specs.Asks.{IsNeeded}
 use Rattle.ql_eval.specs.Questions.{Ask, Counted, Listed, NeedsAsk}

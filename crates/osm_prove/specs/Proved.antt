@@ -3,7 +3,7 @@
 use Rattle.std.specs.List.{Contains}
 use Rattle.std.specs.Prelude.{ℕ, List}
 use Rattle.tree_node.specs.Shelves.{SameNodes}
-use Rattle.osm_index.specs.Publications.{Publication}
+use Rattle.osm_keys.specs.Publications.{Publication}
 use Rattle.ql_syntax.specs.Queries.{Reads}
 use Rattle.ql_syntax.specs.Statements.{Statements}
 use Rattle.ql_meaning.specs.Meanings.{Means}

@@ -1,7 +1,7 @@
 //! Laws: what a proof determines, and what determines it.
 
 ghost use Rattle.std.specs.Prelude.{◌≡◌, ℕ, List};
-ghost use Rattle.osm_index.specs.Publications.{Publication};
+ghost use Rattle.osm_keys.specs.Publications.{Publication};
 ghost use Rattle.osm_prove.specs.Proofs.{Lists};
 ghost use Rattle.osm_prove.specs.Proved.{IsProofOf};
 ghost use Rattle.ql_syntax.specs.Statements.{Statements};

@@ -2,7 +2,7 @@
 
 ghost use Rattle.std.specs.Prelude.{◌≡◌, ◌⊎◌, Err, IfErr, IfOk, IsTrue};
 ghost use Rattle.tree_node.specs.Outcomes.{NoMemory};
-ghost use Rattle.osm_index.specs.Publications.{Publication, root_of};
+ghost use Rattle.osm_keys.specs.Publications.{Publication, root_of};
 ghost use Rattle.osm_index.specs.Snapshots.{HoldsPublication};
 ghost use Rattle.ql_syntax.specs.Queries.{HasFault, Reads};
 ghost use Rattle.ql_syntax.specs.StatementViews.{statements_of};

@@ -11,7 +11,7 @@ use Rattle.osm_desk.specs.Stepping.{Gives, RespondEach}
 use Rattle.osm_desk.specs.Told.{FindsRoom, MeetsRoom}
 use Rattle.osm_gate.specs.Connections.{Rest, open_rest}
 use Rattle.osm_gate.specs.Serving.{no_memory}
-use Rattle.osm_index.specs.Publications.{Publication}
+use Rattle.osm_keys.specs.Publications.{Publication}
 use Rattle.osm_index.specs.declared.apply_fault.ApplyFault.{ApplyFault}
 use Rattle.osm_desk.specs.declared.desk_fault.DeskFault.{DeskFault}
 use Rattle.osm_desk.specs.declared.desk_fault.DeskFault.TheVariants.{NoRoom}

@@ -13,7 +13,7 @@ use Rattle.osm_desk.specs.OneConnection.{IsFree, RefusesOpening, rest_if, rest_o
 use Rattle.osm_desk.specs.Stepping.{Gives}
 use Rattle.osm_gate.specs.Connections.{Responds, Rest, heard_next, open_rest}
 use Rattle.osm_gate.specs.Serving.{no_memory}
-use Rattle.osm_index.specs.Publications.{Publication}
+use Rattle.osm_keys.specs.Publications.{Publication}
 use Rattle.osm_index.specs.Snapshots.{HoldsPublication}
 use Rattle.osm_desk.specs.declared.desk_fault.DeskFault.{DeskFault}
 use Rattle.osm_desk.specs.declared.desk_fault.DeskFault.TheVariants.{AlreadyOpen, Memory, NoRoom, NotOpen, Refused}

@@ -7,7 +7,7 @@ use Rattle.osm_desk.specs.Happenings.{Happening, arrived, ended, opened, publish
 use Rattle.osm_desk.specs.Runs.{Done, IsRefusedBy}
 use Rattle.osm_desk.specs.Stepping.{Gives}
 use Rattle.osm_gate.specs.Serving.{no_memory}
-use Rattle.osm_index.specs.Publications.{Publication}
+use Rattle.osm_keys.specs.Publications.{Publication}
 use Rattle.osm_desk.specs.declared.desk_fault.DeskFault.{DeskFault}
 use Rattle.osm_desk.specs.declared.limits.TheConstants.{CONNECTION_LIMIT}
 use Rattle.osm_index.specs.declared.apply_fault.ApplyFault.{ApplyFault}

@@ -3,7 +3,7 @@
 use Rattle.std.specs.Prelude.{◌≡◌, ℕ, List, ◌++◌}
 use Rattle.osm_desk.specs.Runs.{RespondAll, stood}
 use Rattle.osm_desk.specs.Told.{told}
-use Rattle.osm_index.specs.Publications.{Publication}
+use Rattle.osm_keys.specs.Publications.{Publication}
 use Rattle.osm_traffic.specs.Deeds.{Deed, in_order, is_fed, joined, last_word, sent}
 
 -- the texts are, piece by piece, the responses to what connection c is told, where this publication is in force at first

@@ -6,7 +6,7 @@ ghost use Rattle.osm_desk.specs.Happenings.{arrived};
 ghost use Rattle.osm_desk.specs.Runs.{Ran, stood};
 ghost use Rattle.osm_desk.specs.Told.{FindsRoom};
 ghost use Rattle.osm_desk.specs.declared.desk_fault.DeskFault.{DeskFault};
-ghost use Rattle.osm_index.specs.Publications.{Publication};
+ghost use Rattle.osm_keys.specs.Publications.{Publication};
 ghost use Rattle.osm_traffic.specs.Deeds.{Deed, Serves, in_order, parted, stepped};
 ghost use Rattle.osm_traffic.specs.Handed.{IsHandedAll, IsHandedItsOwn};
 

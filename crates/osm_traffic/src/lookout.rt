@@ -1,7 +1,7 @@
 //! Changes that are published meanwhile.
 
 ghost use Rattle.std.specs.Prelude.{◌≡◌, List, Option};
-ghost use Rattle.osm_index.specs.Publications.{Publication};
+ghost use Rattle.osm_keys.specs.Publications.{Publication};
 ghost use Rattle.osm_index.specs.Snapshots.{HoldsPublication};
 ghost use Rattle.osm_traffic.specs.Published.{Found, HasPublished, TakesFound};
 

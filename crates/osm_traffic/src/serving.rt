@@ -4,7 +4,7 @@ ghost use Rattle.std.specs.FinMap.{empty, len};
 ghost use Rattle.std.specs.Prelude.{◌≡◌, ◌<◌, ◌↔◌, ◌+◌, ◌++◌, IfOk, IsTrue, List, OnErr, OnOk, Option, Some, true, if◌then◌else◌};
 ghost use Rattle.osm_desk.specs.Contents.{StandsFor};
 ghost use Rattle.osm_desk.specs.Desks.{fresh};
-ghost use Rattle.osm_index.specs.Publications.{Publication};
+ghost use Rattle.osm_keys.specs.Publications.{Publication};
 ghost use Rattle.osm_index.specs.Snapshots.{HoldsPublication};
 ghost use Rattle.osm_traffic.specs.Deeds.{Deed, Serves, arrivals, desk_after, log_of};
 ghost use Rattle.osm_traffic.specs.Entries.{Entry};

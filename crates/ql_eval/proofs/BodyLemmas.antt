@@ -8,7 +8,7 @@ use Rattle.osm_model.specs.declared.kind.Kind.{Kind}
 use Rattle.osm_model.specs.declared.kind.Kind.TheVariants as kinds
 use Rattle.osm_model.specs.declared.member.Member.{Member}
 use Rattle.osm_model.specs.declared.reference.Ref.{Ref}
-use Rattle.osm_index.proofs.shared.Members.{from_map, in_map}
+use Rattle.osm_keys.proofs.shared.Members.{from_map, in_map}
 use Rattle.ql_eval.specs.internal.Narrowing.{HasMemberIn, HasNodeIn, ListsIn}
 
 same_node : (r : Ref) → r.kind ≡ kinds.Node → r ≡ record { kind = kinds.Node; id = r.id }

@@ -20,13 +20,13 @@ use Rattle.tree_node.specs.declared.tree.Tree.TheVariants.{Cells}
 use Rattle.tree_walk.specs.Choices.{AreThose}
 use Rattle.tree_walk.specs.Ranges.{Range}
 use Rattle.tree_walk.specs.Walks.{IsEntryIn}
-use Rattle.osm_index.specs.Entries.{cell_entry}
-use Rattle.osm_index.specs.Publications.{IsPublication, Publication}
-use Rattle.osm_index.specs.Ranges.{AreCellRanges, AreColumns, AreRows, cell_range}
-use Rattle.osm_index.proofs.shared.CellLaws.{cell_found, cell_held}
-use Rattle.osm_index.proofs.shared.Members.{from_map, in_map}
-use Rattle.osm_index.proofs.shared.OneKey.{one_location}
-use Rattle.osm_index.proofs.shared.OneObject.{is_element}
+use Rattle.osm_keys.specs.Entries.{cell_entry}
+use Rattle.osm_keys.specs.Publications.{IsPublication, Publication}
+use Rattle.osm_keys.specs.Ranges.{AreCellRanges, AreColumns, AreRows, cell_range}
+use Rattle.osm_keys.proofs.shared.CellLaws.{cell_found, cell_held}
+use Rattle.osm_keys.proofs.shared.Members.{from_map, in_map}
+use Rattle.osm_keys.proofs.shared.OneKey.{one_location}
+use Rattle.osm_keys.proofs.shared.OneObject.{is_element}
 use Rattle.ref_sets.proofs.shared.Adding.{adds_as, adds_nothing, adds_one, adds_to_nothing}
 use Rattle.ref_sets.specs.Adding.{Adds, From}
 use Rattle.ref_sets.specs.Sets.{IsSetOf}

@@ -9,9 +9,9 @@ use Rattle.osm_model.specs.declared.kind.Kind.{Kind}
 use Rattle.osm_model.specs.declared.kind.Kind.TheVariants as kinds
 use Rattle.osm_model.specs.declared.reference.Ref.{Ref}
 use Rattle.tree_node.specs.Outcomes.{Outcome, ShelfUse}
-use Rattle.osm_index.specs.Publications.{Publication}
-use Rattle.osm_index.specs.Ranges.{IsKindOf}
-use Rattle.osm_index.proofs.shared.Members.{first_or_in_rest, here, none}
+use Rattle.osm_keys.specs.Publications.{Publication}
+use Rattle.osm_keys.specs.Ranges.{IsKindOf}
+use Rattle.osm_keys.proofs.shared.Members.{first_or_in_rest, here, none}
 use Rattle.ql_syntax.specs.Filters.{Filter, HasKey, Ids, InSet, KeyIs, Within}
 use Rattle.ql_syntax.specs.declared.pick.Pick.{Pick}
 use Rattle.ql_syntax.specs.declared.pick.Pick.TheVariants as picks

@@ -8,8 +8,8 @@ use Rattle.osm_model.specs.declared.kind.Kind.{Kind}
 use Rattle.osm_model.specs.declared.kind.Kind.TheVariants as kinds
 use Rattle.osm_model.specs.declared.reference.Ref.{Ref}
 use Rattle.tree_node.specs.Outcomes.{Outcome, ShelfUse}
-use Rattle.osm_index.specs.Publications.{Publication}
-use Rattle.osm_index.proofs.shared.Members.{none}
+use Rattle.osm_keys.specs.Publications.{Publication}
+use Rattle.osm_keys.proofs.shared.Members.{none}
 use Rattle.ref_sets.proofs.shared.Adding.{adds_to_nothing}
 use Rattle.ref_sets.specs.Adding.{Adds, From}
 use Rattle.ql_eval.specs.internal.Founds.{Goes}

@@ -4,8 +4,8 @@ use Rattle.std.proofs.lemmas.List.{take_all}
 use Rattle.std.proofs.lemmas.List.Elements.{filter-append}
 use Rattle.std.specs.List.{Contains}
 use Rattle.osm_model.specs.declared.kind.Kind.{Kind}
-use Rattle.osm_index.specs.Publications.{Publication}
-use Rattle.osm_index.proofs.shared.Members.{first_or_in_rest, here, in_rest, none}
+use Rattle.osm_keys.specs.Publications.{Publication}
+use Rattle.osm_keys.proofs.shared.Members.{first_or_in_rest, here, in_rest, none}
 use Rattle.ql_syntax.specs.Filters as tree
 use Rattle.ql_syntax.specs.StatementViews.{filter_of, filters_of}
 use Rattle.ql_syntax.specs.declared.filter.Filter.{Filter}

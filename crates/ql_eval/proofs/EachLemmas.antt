@@ -3,8 +3,8 @@ use Rattle.std.proofs.Common.{◌≡◌, ◌⊎◌, inl, inr, ℕ, ◌+◌, ◌<
 use Rattle.std.specs.List.{Contains}
 use Rattle.std.proofs.lemmas.List.{get_or_default, take-append-drop, take_all, take_more}
 use Rattle.std.proofs.lemmas.List.Elements.{Contains-append_left, Contains-append_right}
-use Rattle.osm_index.specs.Publications.{Publication}
-use Rattle.osm_index.proofs.shared.Members.{here, none}
+use Rattle.osm_keys.specs.Publications.{Publication}
+use Rattle.osm_keys.proofs.shared.Members.{here, none}
 use Rattle.ref_sets.proofs.shared.Adding.{adds_more}
 use Rattle.ref_sets.specs.Adding.{Adds, From}
 use Rattle.ql_eval.specs.Questions.{Ask, NeededBy, NeedsAsk}

@@ -5,9 +5,9 @@ use Rattle.osm_model.specs.Elements.{Element, reference}
 use Rattle.osm_model.specs.Membership.{BodyLists}
 use Rattle.osm_model.specs.Sets.{IsObjectSet}
 use Rattle.osm_model.specs.declared.reference.Ref.{Ref}
-use Rattle.osm_index.proofs.shared.OneObject.{one_object}
+use Rattle.osm_keys.proofs.shared.OneObject.{one_object}
 use Rattle.tree_node.specs.Outcomes.{Outcome, ShelfUse}
-use Rattle.osm_index.specs.Publications.{Publication}
+use Rattle.osm_keys.specs.Publications.{Publication}
 use Rattle.ql_syntax.specs.declared.recursion.Recursion.{Recursion}
 use Rattle.ql_syntax.specs.declared.recursion.Recursion.TheVariants as recursions
 use Rattle.ref_sets.specs.Sets.{IsSetOf}

@@ -16,13 +16,13 @@ use Rattle.tree_walk.specs.Choices.{AreThose}
 use Rattle.tree_walk.specs.Ranges.{Range}
 use Rattle.tree_walk.specs.Walks.{IsEntryIn}
 use Rattle.tree_walk.proofs.shared.FoundLemmas.{those_among}
-use Rattle.osm_index.specs.Entries.{IsEntryOf, back_entry, object_entry, tag_entry}
-use Rattle.osm_index.specs.Keys.{IsTagText, column, row}
-use Rattle.osm_index.specs.Publications.{IsPublication, Publication}
-use Rattle.osm_index.specs.Ranges.{back_range, kind_range, tag_key_range, tag_range}
-use Rattle.osm_index.proofs.shared.CellLaws.{column_few, row_few}
-use Rattle.osm_index.proofs.shared.OneObject.{is_element}
-use Rattle.osm_index.proofs.shared.RangeLaws.{back_found, fits_of_lists, kind_found, tag_found, tag_key_found}
+use Rattle.osm_keys.specs.Entries.{IsEntryOf, back_entry, object_entry, tag_entry}
+use Rattle.osm_keys.specs.Keys.{IsTagText, column, row}
+use Rattle.osm_keys.specs.Publications.{IsPublication, Publication}
+use Rattle.osm_keys.specs.Ranges.{back_range, kind_range, tag_key_range, tag_range}
+use Rattle.osm_keys.proofs.shared.CellLaws.{column_few, row_few}
+use Rattle.osm_keys.proofs.shared.OneObject.{is_element}
+use Rattle.osm_keys.proofs.shared.RangeLaws.{back_found, fits_of_lists, kind_found, tag_found, tag_key_found}
 use Rattle.ref_sets.specs.Sets.{IsSetOf}
 use Rattle.ql_meaning.specs.Values.{IsRefOf}
 use Rattle.ql_eval.specs.Faults.{cause_of_evaluation}

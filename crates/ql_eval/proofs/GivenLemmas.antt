@@ -10,8 +10,8 @@ use Rattle.std.specs.Prelude.{IfOk, OnOk, bytes_eq}
 use Rattle.osm_model.specs.Boxes.{ExactBox}
 use Rattle.osm_model.specs.Elements.{Element, ref_cmp}
 use Rattle.osm_model.specs.declared.reference.Ref.{Ref}
-use Rattle.osm_index.specs.Manifests.{top_among}
-use Rattle.osm_index.specs.declared.manifest.Manifest.{Manifest}
+use Rattle.osm_keys.specs.Manifests.{top_among}
+use Rattle.osm_keys.specs.declared.manifest.Manifest.{Manifest}
 use Rattle.tree_node.specs.NodeRefs.{number_of}
 use Rattle.tree_node.specs.Nodes.{Binding, Leaf, spelling}
 use Rattle.tree_node.specs.declared.tree.Tree.{Tree}

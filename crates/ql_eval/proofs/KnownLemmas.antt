@@ -15,13 +15,13 @@ use Rattle.osm_model.specs.Elements.{Element, ref_cmp}
 use Rattle.osm_model.specs.Sets.{object_at}
 use Rattle.osm_model.specs.declared.reference.Ref.{Ref}
 use Rattle.osm_model.proofs.shared.References.{refs_total}
-use Rattle.osm_index.specs.Publications.{IsPublication, Publication}
-use Rattle.osm_index.proofs.shared.OneObject.{same_reference}
+use Rattle.osm_keys.specs.Publications.{IsPublication, Publication}
+use Rattle.osm_keys.proofs.shared.OneObject.{same_reference}
 use Rattle.tree_node.specs.Outcomes.{Outcome}
 use Rattle.tree_node.proofs.shared.OutcomeLaws.{Nodes, clash_more, uses}
-use Rattle.osm_index.specs.Manifests.{top_among}
-use Rattle.osm_index.specs.Ranges.{object_range}
-use Rattle.osm_index.specs.declared.manifest.Manifest.{Manifest}
+use Rattle.osm_keys.specs.Manifests.{top_among}
+use Rattle.osm_keys.specs.Ranges.{object_range}
+use Rattle.osm_keys.specs.declared.manifest.Manifest.{Manifest}
 use Rattle.tree_node.specs.declared.tree.Tree.TheVariants.{Objects}
 use Rattle.tree_walk.specs.Given.{These}
 use Rattle.tree_walk.proofs.shared.GivenLaws.{gives_more}

@@ -11,11 +11,11 @@ use Rattle.osm_model.specs.declared.body.Body.TheVariants as bodies
 use Rattle.osm_model.specs.declared.kind.Kind.{Kind}
 use Rattle.osm_model.specs.declared.kind.Kind.TheVariants as kinds
 use Rattle.osm_model.specs.declared.reference.Ref.{Ref}
-use Rattle.osm_index.proofs.shared.OneObject.{object_found, one_object}
+use Rattle.osm_keys.proofs.shared.OneObject.{object_found, one_object}
 use Rattle.ref_sets.proofs.shared.Adding.{adds_as, adds_list, adds_nothing, adds_one, adds_to_nothing}
 use Rattle.ref_sets.specs.Adding.{Adds, From}
 use Rattle.ref_sets.specs.Sets.{IsSetOf}
-use Rattle.osm_index.specs.Publications.{Publication}
+use Rattle.osm_keys.specs.Publications.{Publication}
 use Rattle.ql_eval.specs.Questions.{Ask, NeededBy, NeedsAsk, object_ask}
 use Rattle.ql_eval.specs.internal.Entries.{IsThere}
 use Rattle.ql_eval.proofs.EachLemmas.{needed_as, needed_one, needed_or}

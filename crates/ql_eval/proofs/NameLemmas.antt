@@ -11,11 +11,11 @@ use Rattle.tree_node.specs.Nodes.{Binding}
 use Rattle.tree_node.specs.declared.item.Item.{Item}
 use Rattle.tree_node.specs.declared.tree.Tree.{Tree}
 use Rattle.tree_node.specs.declared.tree.Tree.TheVariants.{Objects, Tags, Cells, Backs}
-use Rattle.osm_index.proofs.shared.Members.{first_or_in_rest, here, in_map, none}
-use Rattle.osm_index.proofs.shared.OneKey.{one_in_cell, one_referrer, one_tagged}
-use Rattle.osm_index.proofs.shared.OneObject.{ref_of_parts, same_ref}
+use Rattle.osm_keys.proofs.shared.Members.{first_or_in_rest, here, in_map, none}
+use Rattle.osm_keys.proofs.shared.OneKey.{one_in_cell, one_referrer, one_tagged}
+use Rattle.osm_keys.proofs.shared.OneObject.{ref_of_parts, same_ref}
 use Rattle.ref_sets.specs.Sets.{IsSetOf}
-use Rattle.osm_index.specs.Keys.{ref_key}
+use Rattle.osm_keys.specs.Keys.{ref_key}
 use Rattle.ql_eval.specs.Forms.{HasForm, HaveForm, Names, SaysObject, SaysPlace}
 use Rattle.ql_eval.specs.internal.Entries.{AreMisread, IsMisread, IsPutBy, IsSaid}
 use Rattle.ql_eval.specs.declared.fault.EvalFault.{EvalFault}

@@ -17,11 +17,11 @@ use Rattle.tree_node.specs.Nodes.{Binding}
 use Rattle.tree_node.specs.Outcomes.{NoMemory}
 use Rattle.tree_node.specs.declared.tree.Tree.{Tree}
 use Rattle.tree_node.specs.declared.tree.Tree.TheVariants.{Objects}
-use Rattle.osm_index.specs.Entries.{object_entry}
-use Rattle.osm_index.proofs.shared.Members.{none}
-use Rattle.osm_index.proofs.shared.OneObject.{is_element, object_found, object_there, same_ref}
+use Rattle.osm_keys.specs.Entries.{object_entry}
+use Rattle.osm_keys.proofs.shared.Members.{none}
+use Rattle.osm_keys.proofs.shared.OneObject.{is_element, object_found, object_there, same_ref}
 use Rattle.ql_eval.specs.Faults.{cause_of_evaluation}
-use Rattle.osm_index.specs.Keys.{ref_key}
+use Rattle.osm_keys.specs.Keys.{ref_key}
 use Rattle.ql_eval.specs.Forms.{HasForm, Names, SaysObject}
 use Rattle.ql_eval.specs.declared.fault.EvalFault.{EvalFault}
 use Rattle.ql_eval.specs.declared.fault.EvalFault.TheVariants as faults

@@ -9,10 +9,10 @@ use Rattle.tree_node.proofs.shared.Results.{err_is}
 use Rattle.std.specs.Borrow.{Bor}
 use Rattle.std.specs.Result.{IsErrAnd}
 use Rattle.tree_node.proofs.shared.OutcomeLaws.{Nodes, known_or_clash, uses}
-use Rattle.osm_index.specs.Manifests.{HaveWidth, manifest_bytes, top_among}
-use Rattle.osm_index.specs.Publications.{Publication, manifest_of, root_of, top_in}
-use Rattle.osm_index.specs.declared.manifest.Manifest.{Manifest}
-use Rattle.osm_index.proofs.shared.OneManifest.{same_tops, tops_wide}
+use Rattle.osm_keys.specs.Manifests.{HaveWidth, manifest_bytes, top_among}
+use Rattle.osm_keys.specs.Publications.{Publication, manifest_of, root_of, top_in}
+use Rattle.osm_keys.specs.declared.manifest.Manifest.{Manifest}
+use Rattle.osm_keys.proofs.shared.OneManifest.{same_tops, tops_wide}
 use Rattle.ql_eval.specs.Openings.{HasMalformed, IsNoManifest, IsUnder, cause_of_manifest, manifest_fault_of}
 use Rattle.ql_eval.specs.declared.opening.ManifestFault.{ManifestFault}
 use Rattle.ql_eval.specs.declared.opening.ManifestFault.TheVariants.{Malformed, Memory, Missing}

@@ -6,8 +6,8 @@ use Rattle.osm_model.specs.Elements.{Element}
 use Rattle.osm_model.specs.Sets.{IsObjectSet, object_at}
 use Rattle.osm_model.specs.declared.reference.Ref.{Ref}
 use Rattle.tree_node.specs.Outcomes.{Outcome, ShelfUse}
-use Rattle.osm_index.specs.Publications.{Publication}
-use Rattle.osm_index.proofs.shared.OneObject.{object_found, one_object}
+use Rattle.osm_keys.specs.Publications.{Publication}
+use Rattle.osm_keys.proofs.shared.OneObject.{object_found, one_object}
 use Rattle.ql_syntax.specs.Filters as tree
 use Rattle.ql_syntax.specs.StatementViews.{filter_of, filters_of}
 use Rattle.ql_syntax.specs.declared.filter.Filter.{Filter}

@@ -7,8 +7,8 @@ use Rattle.osm_model.specs.declared.kind.Kind.{Kind}
 use Rattle.osm_model.specs.declared.kind.Kind.TheVariants as kinds
 use Rattle.osm_model.specs.declared.reference.Ref.{Ref}
 use Rattle.tree_node.specs.Outcomes.{Outcome, ShelfUse}
-use Rattle.osm_index.specs.Publications.{Publication}
-use Rattle.osm_index.specs.Ranges.{IsKindOf}
+use Rattle.osm_keys.specs.Publications.{Publication}
+use Rattle.osm_keys.specs.Ranges.{IsKindOf}
 use Rattle.ql_syntax.specs.declared.path.Path.{Path}
 use Rattle.ref_sets.specs.Adding.{From}
 use Rattle.ref_sets.specs.Sets.{IsSetOf}

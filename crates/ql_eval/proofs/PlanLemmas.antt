@@ -2,7 +2,7 @@
 use Rattle.std.proofs.Common.{◌≡◌, ◌≢◌, ◌⊎◌, ◌↔◌, inl, inr, ℕ, suc, ◌<◌, ◌&&◌, Bool, true, false, cond, IsTrue, IsSomeAnd, MatchOption, List, [], ◌∷◌, ◌++◌, Option, Some, None, filter, leb, length, refl, sym, ap, subst, ◌∙◌, arith}
 use Rattle.std.specs.Option.{ForSome, option_to_list}
 use Rattle.osm_model.specs.declared.kind.Kind.{Kind}
-use Rattle.osm_index.specs.Publications.{Publication}
+use Rattle.osm_keys.specs.Publications.{Publication}
 use Rattle.tree_walk.specs.Choices.{IsCount}
 use Rattle.ql_syntax.specs.Filters.{Filter, InSet, HasKey, KeyIs, LacksKey, KeyIsNot, Ids, Within, Via}
 use Rattle.ql_plan.specs.Plans.{IsChosen, IsFirstBase, IsPlan, IsScan, Planned, filters_in, is_counted, never, rank_at, rank_of, rivals_among, rivals_of}

@@ -18,9 +18,9 @@ use Rattle.osm_model.specs.declared.out_mode.OutMode.{OutMode}
 use Rattle.osm_model.specs.declared.out_mode.OutMode.TheVariants as modes
 use Rattle.tree_node.specs.Outcomes.{Outcome, ShelfUse}
 use Rattle.tree_node.proofs.shared.OutcomeLaws.{Nodes, outcome_as, outcome_starts, outcome_then, outcome_then_stops, uses}
-use Rattle.osm_index.proofs.shared.Members.{first_or_in_rest, from_map, here, in_map, in_rest, none}
-use Rattle.osm_index.proofs.shared.OneObject.{object_there, same_reference}
-use Rattle.osm_index.specs.Publications.{Publication}
+use Rattle.osm_keys.proofs.shared.Members.{first_or_in_rest, from_map, here, in_map, in_rest, none}
+use Rattle.osm_keys.proofs.shared.OneObject.{object_there, same_reference}
+use Rattle.osm_keys.specs.Publications.{Publication}
 use Rattle.ref_sets.proofs.shared.Filtered.{from_filter, in_filter, passes_filter}
 use Rattle.ql_meaning.proofs.shared.MeaningLaws.{one_set, printed_rise}
 use Rattle.ref_sets.specs.Adding.{From}

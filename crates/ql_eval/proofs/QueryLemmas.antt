@@ -5,8 +5,8 @@ use Rattle.std.proofs.lemmas.List.{drop_more, take_all, take_more, take-append-d
 use Rattle.osm_model.specs.Elements.{Element}
 use Rattle.tree_node.specs.Outcomes.{Outcome, ShelfUse}
 use Rattle.tree_node.proofs.shared.OutcomeLaws.{Nodes, outcome_as, outcome_starts, outcome_then, outcome_then_stops, uses}
-use Rattle.osm_index.proofs.shared.Members.{none}
-use Rattle.osm_index.specs.Publications.{Publication}
+use Rattle.osm_keys.proofs.shared.Members.{none}
+use Rattle.osm_keys.specs.Publications.{Publication}
 use Rattle.ql_syntax.specs.LawfulQueries.{IsQuery, IsTop}
 use Rattle.ql_syntax.specs.StatementViews.{statement_of, statements_of}
 use Rattle.ql_syntax.specs.Statements.{Statements, End, Then}

@@ -8,7 +8,7 @@ use Rattle.osm_model.specs.declared.body.Body.TheVariants as bodies
 use Rattle.osm_model.specs.declared.kind.Kind.{Kind}
 use Rattle.osm_model.specs.declared.kind.Kind.TheVariants as kinds
 use Rattle.osm_model.specs.declared.reference.Ref.{Ref}
-use Rattle.osm_index.specs.Publications.{Publication}
+use Rattle.osm_keys.specs.Publications.{Publication}
 use Rattle.ql_syntax.specs.declared.recursion.Recursion.TheVariants as recursions
 use Rattle.ref_sets.proofs.shared.Adding.{adds_as, adds_list, adds_then}
 use Rattle.ref_sets.specs.Adding.{Adds, From}

@@ -6,8 +6,8 @@ use Rattle.std.proofs.lemmas.List.Elements.{Contains-append_cases, Contains-appe
 use Rattle.std.specs.List.{Contains}
 use Rattle.std.specs.Prelude.{nat_eq}
 use Rattle.osm_model.specs.declared.reference.Ref.{Ref}
-use Rattle.osm_index.specs.Publications.{Publication}
-use Rattle.osm_index.proofs.shared.Members.{none}
+use Rattle.osm_keys.specs.Publications.{Publication}
+use Rattle.osm_keys.proofs.shared.Members.{none}
 use Rattle.ql_syntax.specs.Filters as tree
 use Rattle.ql_syntax.specs.StatementViews.{filter_of, filters_of}
 use Rattle.ql_syntax.specs.declared.filter.Filter.{Filter}

@@ -7,8 +7,8 @@ use Rattle.osm_model.specs.Sets.{IsObjectSet}
 use Rattle.osm_model.specs.declared.kind.Kind.{Kind}
 use Rattle.osm_model.specs.declared.reference.Ref.{Ref}
 use Rattle.tree_node.specs.Outcomes.{Outcome, ShelfUse}
-use Rattle.osm_index.proofs.shared.OneObject.{one_object}
-use Rattle.osm_index.specs.Publications.{Publication}
+use Rattle.osm_keys.proofs.shared.OneObject.{one_object}
+use Rattle.osm_keys.specs.Publications.{Publication}
 use Rattle.ql_syntax.specs.Filters.{Filter}
 use Rattle.ql_syntax.specs.LawfulQueries.{Allows}
 use Rattle.ql_syntax.specs.declared.pick.Pick.{Pick}

@@ -1,7 +1,7 @@
 -- What a refused evaluation says of the nodes under a root.
 use Rattle.std.proofs.Common.{◌≡◌, ℕ, List, Result, Err}
-use Rattle.osm_index.specs.Manifests.{manifest_bytes}
-use Rattle.osm_index.specs.declared.manifest.Manifest.{Manifest}
+use Rattle.osm_keys.specs.Manifests.{manifest_bytes}
+use Rattle.osm_keys.specs.declared.manifest.Manifest.{Manifest}
 use Rattle.tree_node.specs.Digests.{digest}
 use Rattle.tree_node.specs.Shelves.{HasNone}
 use Rattle.tree_node.proofs.shared.OutcomeLaws.{Nodes}

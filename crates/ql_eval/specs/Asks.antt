@@ -15,8 +15,8 @@ use Rattle.osm_model.specs.declared.out_mode.OutMode.{OutMode}
 use Rattle.osm_model.specs.declared.out_mode.OutMode.TheVariants as modes
 use Rattle.tree_node.specs.declared.tree.Tree.TheVariants.{Cells}
 use Rattle.tree_walk.specs.Ranges.{Range}
-use Rattle.osm_index.specs.Publications.{Publication, manifest_of}
-use Rattle.osm_index.specs.Ranges.{AreCellRanges, IsKindOf}
+use Rattle.osm_keys.specs.Publications.{Publication, manifest_of}
+use Rattle.osm_keys.specs.Ranges.{AreCellRanges, IsKindOf}
 use Rattle.ql_syntax.specs.Filters.{Filter, InSet, HasKey, KeyIs, LacksKey, KeyIsNot, Ids, Within, Via}
 use Rattle.ql_syntax.specs.Statements.{Statement, Statements, Select, Recurse, Item, Union, Minus, Print, End, Then}
 use Rattle.ql_syntax.specs.declared.path.Path.{Path}

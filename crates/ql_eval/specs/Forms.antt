@@ -13,7 +13,7 @@ use Rattle.osm_model.specs.declared.reference.Ref.{Ref}
 use Rattle.tree_node.specs.Nodes.{Binding}
 use Rattle.tree_node.specs.declared.tree.Tree.{Tree}
 use Rattle.tree_node.specs.declared.tree.Tree.TheVariants.{Objects, Tags, Cells, Backs}
-use Rattle.osm_index.specs.Keys.{IsCell, IsTagText, back_key, cell_bytes, cell_value, id_bytes, ref_key, tag_key}
+use Rattle.osm_keys.specs.Keys.{IsCell, IsTagText, back_key, cell_bytes, cell_value, id_bytes, ref_key, tag_key}
 
 -- the entry of the object tree puts this object under its reference; the line may have any spelling
 pub record SaysObject (b : Binding) (o : Element) : Type 0 where

@@ -1,10 +1,10 @@
 -- The manifest under a root, read from a shelf.
 -- Source: this project's manifests, docs/FORMATS.md.
 use Rattle.std.specs.Prelude.{◌≡◌, ◌≢◌, ℕ, List}
-use Rattle.osm_index.specs.Manifests.{HaveWidth, manifest, top_among}
-use Rattle.osm_index.specs.Publications.{Publication, top_in}
+use Rattle.osm_keys.specs.Manifests.{HaveWidth, manifest, top_among}
+use Rattle.osm_keys.specs.Publications.{Publication, top_in}
 use Rattle.tree_node.specs.declared.edition.Edition.{Edition}
-use Rattle.osm_index.specs.declared.manifest.Manifest.{Manifest}
+use Rattle.osm_keys.specs.declared.manifest.Manifest.{Manifest}
 use Rattle.tree_node.specs.Digests.{digest}
 use Rattle.tree_node.specs.Outcomes.{Cause, NoMemory, NodeMissing, OtherCause}
 use Rattle.tree_node.specs.declared.shelf.ShelfFault.{ShelfFault}

@@ -13,8 +13,8 @@ use Rattle.tree_node.specs.declared.tree.Tree.TheVariants.{Objects, Tags, Backs}
 use Rattle.tree_walk.specs.Choices.{IsCount}
 use Rattle.tree_walk.specs.Ranges.{Range}
 use Rattle.tree_walk.specs.Walks.{IsEntryIn, IsMet, IsMetCounted}
-use Rattle.osm_index.specs.Publications.{Publication, tree_in}
-use Rattle.osm_index.specs.Ranges.{IsKindOf, back_range, kind_range, object_range, tag_key_range, tag_range}
+use Rattle.osm_keys.specs.Publications.{Publication, tree_in}
+use Rattle.osm_keys.specs.Ranges.{IsKindOf, back_range, kind_range, object_range, tag_key_range, tag_range}
 
 -- ---- what is asked for
 

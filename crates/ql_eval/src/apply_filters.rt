@@ -3,7 +3,7 @@
 ghost use Rattle.std.specs.Prelude.{◌++◌, IfErr, IfOk, OnOk};
 ghost use Rattle.std.specs.List.{Contains};
 ghost use Rattle.tree_node.specs.Outcomes.{Outcome};
-ghost use Rattle.osm_index.specs.Publications.{IsPublication, Publication};
+ghost use Rattle.osm_keys.specs.Publications.{IsPublication, Publication};
 ghost use Rattle.ql_syntax.specs.StatementViews.{filters_of};
 ghost use Rattle.ref_sets.specs.Adding.{From};
 ghost use Rattle.ref_sets.specs.Sets.{IsSetOf};

@@ -7,7 +7,7 @@ ghost use Rattle.tree_node.specs.NodeRefs.{binding_of};
 ghost use Rattle.tree_node.specs.declared.tree.Tree.TheVariants.{Cells};
 ghost use Rattle.ql_eval.specs.Forms.{Names, SaysPlace};
 
-use osm_index::{read_cell_key, read_cell_value};
+use osm_keys::{read_cell_key, read_cell_value};
 use osm_model::{Coord, Kind, Ref};
 use tree_node::Item;
 

@@ -3,7 +3,7 @@
 ghost use Rattle.std.specs.Prelude.{◌≡◌, ◌++◌, ℕ, IfErr, IfOk, List, OnOk};
 ghost use Rattle.std.specs.List.{Contains};
 ghost use Rattle.tree_node.specs.Outcomes.{Outcome};
-ghost use Rattle.osm_index.specs.Publications.{IsPublication, Publication};
+ghost use Rattle.osm_keys.specs.Publications.{IsPublication, Publication};
 ghost use Rattle.ref_sets.specs.Adding.{Adds, From};
 ghost use Rattle.ref_sets.specs.Sets.{IsSetOf};
 ghost use Rattle.ql_eval.specs.Faults.{cause_of_evaluation};

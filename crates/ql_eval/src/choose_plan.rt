@@ -3,7 +3,7 @@
 ghost use Rattle.std.specs.Prelude.{◌≡◌, ◌+◌, ◌<◌, IfErr, IfOk, OnOk, filter, if◌then◌else◌, length};
 ghost use Rattle.std.specs.Option.{ForSome};
 ghost use Rattle.tree_node.specs.Outcomes.{Outcome};
-ghost use Rattle.osm_index.specs.Publications.{IsPublication, Publication};
+ghost use Rattle.osm_keys.specs.Publications.{IsPublication, Publication};
 ghost use Rattle.ql_syntax.specs.StatementViews.{filter_of, filters_of};
 ghost use Rattle.ref_sets.specs.Adding.{From};
 ghost use Rattle.ql_plan.specs.Plans.{filters_in, is_counted, never, rank_of};

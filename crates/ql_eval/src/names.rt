@@ -13,7 +13,7 @@ ghost use Rattle.ql_eval.specs.internal.Entries.{AreMisread, IsMisread, IsSaid};
 use crate::cell_entry::read_cell_entry;
 use crate::fault::EvalFault;
 use crate::objects::object_in;
-use osm_index::{read_back_key, read_tag_key};
+use osm_keys::{read_back_key, read_tag_key};
 use osm_model::Ref;
 use ref_sets::RefSet;
 use std::alloc::Global;

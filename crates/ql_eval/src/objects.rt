@@ -11,7 +11,7 @@ ghost use Rattle.ql_eval.specs.internal.Objects.{IsForMemory};
 
 use crate::fault::EvalFault;
 use opl_codec::{Change, OplCause, OplFault, read_line};
-use osm_index::read_reference_key;
+use osm_keys::read_reference_key;
 use osm_model::{Object, Ref};
 use std::alloc::Global;
 use tree_node::Item;

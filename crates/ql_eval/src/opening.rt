@@ -1,14 +1,14 @@
 //! The manifest, from which the evaluation of a query starts.
 
 ghost use Rattle.std.specs.Prelude.{◌≡◌, ◌⊎◌, ℕ, Err, IfErr, IfOk, List, OnErr, true};
-ghost use Rattle.osm_index.specs.Manifests.{manifest_bytes};
-ghost use Rattle.osm_index.specs.Publications.{Publication, manifest_of, root_of};
+ghost use Rattle.osm_keys.specs.Manifests.{manifest_bytes};
+ghost use Rattle.osm_keys.specs.Publications.{Publication, manifest_of, root_of};
 ghost use Rattle.tree_node.specs.Digests.{digest};
 ghost use Rattle.tree_node.specs.Outcomes.{Outcome};
 ghost use Rattle.tree_node.specs.Shelves.{GrownBy, HasNone, SameNodes};
 ghost use Rattle.ql_eval.specs.Openings.{HasMalformed, IsUnder, cause_of_manifest};
 
-use osm_index::{Manifest, read_manifest};
+use osm_keys::{Manifest, read_manifest};
 use thiserror::Error;
 use tree_node::{Digest, Shelf, ShelfFault};
 

@@ -4,7 +4,7 @@ ghost use Rattle.std.specs.Prelude.{◌≡◌, ◌≢◌, ℕ, IfErr, List, OnOk
 ghost use Rattle.osm_model.specs.Sets.{object_at};
 ghost use Rattle.opl_codec.specs.Text.{text_of};
 ghost use Rattle.tree_node.specs.Outcomes.{Outcome};
-ghost use Rattle.osm_index.specs.Publications.{IsPublication, Publication};
+ghost use Rattle.osm_keys.specs.Publications.{IsPublication, Publication};
 ghost use Rattle.ref_sets.specs.Adding.{From};
 ghost use Rattle.ql_meaning.specs.Meanings.{cut, printed_of};
 ghost use Rattle.ql_eval.specs.Asks.{AskedByOut};

@@ -2,7 +2,7 @@
 
 ghost use Rattle.std.specs.Prelude.{◌≡◌, ℕ, IfErr, IfOk, List, OnOk};
 ghost use Rattle.tree_node.specs.Outcomes.{Outcome};
-ghost use Rattle.osm_index.specs.Publications.{IsPublication, Publication};
+ghost use Rattle.osm_keys.specs.Publications.{IsPublication, Publication};
 ghost use Rattle.ql_syntax.specs.declared.recursion.Recursion.TheVariants as recursions;
 ghost use Rattle.ref_sets.specs.Adding.{Adds};
 ghost use Rattle.ref_sets.specs.Sets.{IsSetOf};

@@ -2,7 +2,7 @@
 
 ghost use Rattle.std.specs.Prelude.{◌≡◌, ℕ, IfErr, IfOk, List, OnOk};
 ghost use Rattle.tree_node.specs.Outcomes.{Outcome};
-ghost use Rattle.osm_index.specs.Publications.{IsPublication, Publication};
+ghost use Rattle.osm_keys.specs.Publications.{IsPublication, Publication};
 ghost use Rattle.ql_syntax.specs.StatementViews.{statement_of, statements_of};
 ghost use Rattle.ql_meaning.specs.Meanings.{After, AfterAll};
 ghost use Rattle.ref_sets.specs.NamedSets.{lists_of};

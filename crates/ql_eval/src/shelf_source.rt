@@ -3,9 +3,9 @@
 ghost use Rattle.std.specs.Prelude.{◌≡◌, ℕ, List};
 ghost use Rattle.tree_node.specs.Shelves.{SameNodes};
 ghost use Rattle.tree_walk.specs.WalksGiven.{HasGiven};
-ghost use Rattle.osm_index.specs.Manifests.{top_among};
+ghost use Rattle.osm_keys.specs.Manifests.{top_among};
 ghost use Rattle.ql_eval.specs.Forms.{HaveForm};
-ghost use Rattle.osm_index.specs.Publications.{Publication};
+ghost use Rattle.osm_keys.specs.Publications.{Publication};
 ghost use Rattle.ql_eval.specs.Openings.{IsUnder};
 ghost use Rattle.ql_eval.specs.internal.Objects.{Remembers};
 
@@ -15,7 +15,7 @@ use crate::known::{Known, look_up};
 use crate::lookups::{count_names, find_names};
 use crate::question::Question;
 use crate::source::Source;
-use osm_index::Manifest;
+use osm_keys::Manifest;
 use osm_model::{BoxArea, Object, Ref};
 use ref_sets::RefSet;
 use std::alloc::Global;
@@ -40,12 +40,12 @@ impl<'s, 'a, S: Shelf<'a>> Source for ShelfSource<'s, 'a, S> {
     ghost use Rattle.osm_model.specs.Elements.{Element, ref_cmp};
     ghost use Rattle.osm_model.specs.declared.reference.Ref.{Ref};
     ghost use Rattle.std.proofs.Common.{◌∙◌, inl, inr, subst, sym};
-    ghost use Rattle.osm_index.specs.declared.manifest.Manifest.{Manifest};
+    ghost use Rattle.osm_keys.specs.declared.manifest.Manifest.{Manifest};
     ghost use Rattle.tree_node.specs.Shelves.{SameNodes};
     ghost use Rattle.tree_walk.specs.WalksGiven.{HasGiven};
-    ghost use Rattle.osm_index.specs.Manifests.{top_among};
+    ghost use Rattle.osm_keys.specs.Manifests.{top_among};
     ghost use Rattle.ql_eval.specs.Forms.{HaveForm};
-    ghost use Rattle.osm_index.specs.Publications.{Publication};
+    ghost use Rattle.osm_keys.specs.Publications.{Publication};
     ghost use Rattle.ql_eval.specs.Openings.{IsUnder};
     ghost use Rattle.ql_eval.specs.internal.Objects.{AreAbsent, IsGivenOrThere, IsToldAbsent, Remembers};
     ghost use Rattle.ql_eval.specs.internal.Told.{IsTold};

@@ -11,14 +11,14 @@ ghost use Rattle.tree_walk.specs.Ranges.{IsIn, range_of};
 ghost use Rattle.tree_walk.specs.Reasons.{HasReason};
 ghost use Rattle.tree_walk.specs.WalksGiven.{HasGiven};
 ghost use Rattle.tree_walk.specs.Walks.{IsEntryIn};
-ghost use Rattle.osm_index.specs.Manifests.{top_among};
-ghost use Rattle.osm_index.specs.Publications.{IsPublication, Publication};
+ghost use Rattle.osm_keys.specs.Manifests.{top_among};
+ghost use Rattle.osm_keys.specs.Publications.{IsPublication, Publication};
 ghost use Rattle.ql_eval.specs.Forms.{HaveForm};
 ghost use Rattle.ql_eval.specs.Openings.{IsUnder};
 ghost use Rattle.ql_eval.specs.Questions.{Counted, Listed, NeedsAsk};
 ghost use Rattle.ql_eval.specs.internal.Uses.{nodes_around};
 
-use osm_index::Manifest;
+use osm_keys::Manifest;
 use std::alloc::Global;
 use tree_node::{Digest, Item, Shelf, Tree};
 use tree_walk::{KeyRange, Tally, WalkFault, count, range};

@@ -6,7 +6,7 @@ mod unread_entries;
 mod unread_lines;
 
 use osm_check::check;
-use osm_index::{Edition, Manifest, write_manifest};
+use osm_keys::{Edition, Manifest, write_manifest};
 use ql_eval::evaluate;
 use ql_syntax::parse;
 use std::alloc::Global;

@@ -1,9 +1,9 @@
 -- What a snapshot holds it holds as long as it is as before.
 use Rattle.std.proofs.Common.{◌∙◌, ap, sym}
-use Rattle.osm_index.specs.Manifests.{manifest_bytes, top_among}
-use Rattle.osm_index.specs.Publications.{Publication}
+use Rattle.osm_keys.specs.Manifests.{manifest_bytes, top_among}
+use Rattle.osm_keys.specs.Publications.{Publication}
 use Rattle.osm_index.specs.Snapshots.{HoldsPublication, IsAsBefore}
-use Rattle.osm_index.specs.declared.manifest.Manifest.{Manifest}
+use Rattle.osm_keys.specs.declared.manifest.Manifest.{Manifest}
 use Rattle.osm_index.specs.declared.snapshot.Snapshot.{Snapshot}
 use Rattle.tree_node.specs.declared.tree.Tree.{Tree}
 

@@ -12,7 +12,7 @@ use Rattle.osm_gate.specs.declared.query_text.QuerySource.TheVariants.{Body, Tar
 use Rattle.osm_gate.specs.declared.reply.Reply.{Reply}
 use Rattle.osm_gate.specs.declared.route.Route.{Route}
 use Rattle.osm_gate.specs.declared.route.Route.TheVariants.{Query, Root}
-use Rattle.osm_index.specs.Publications.{Publication, root_of}
+use Rattle.osm_keys.specs.Publications.{Publication, root_of}
 
 other-status : (r : Response) (n : ℕ) (root : List ℕ) → r.head.status ≡ n → (n ≡ 200 → ⊥) → r.head.status ≡ 200 → r.head.root ≡ Some root
 other-status r n root is apart ok = absurd (apart (sym is ∙ ok))

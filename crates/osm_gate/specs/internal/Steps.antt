@@ -1,6 +1,6 @@
 -- What the code finds at the front of some bytes, and where the rest begins.
 use Rattle.std.specs.Prelude.{◌≡◌, ℕ, true, false, List, [], ◌∷◌, ◌++◌, Option, Some, None, drop}
-use Rattle.osm_index.specs.Publications.{Publication}
+use Rattle.osm_keys.specs.Publications.{Publication}
 use Rattle.osm_index.specs.Snapshots.{HoldsPublication}
 use Rattle.osm_index.specs.declared.snapshot.Snapshot.{Snapshot}
 use Rattle.osm_gate.specs.Connections.{Responds, Rest, closed_rest, ends_with, open_rest}

@@ -16,16 +16,16 @@ use Rattle.tree_node.specs.Stocks.{HasNode}
 use Rattle.tree_node.specs.Trees.{IsNodeOf, levels}
 use Rattle.tree_node.specs.declared.tree.Tree.{Tree}
 use Rattle.osm_index.specs.Applying.{IsApplied, name_of, names_of}
-use Rattle.osm_index.specs.Publications.{IsNodeIn, IsPublication, Publication, manifest_of, shape_of, top_in, tree_in}
+use Rattle.osm_keys.specs.Publications.{IsNodeIn, IsPublication, Publication, manifest_of, shape_of, top_in, tree_in}
 use Rattle.osm_index.specs.Snapshots.{HoldsPublication}
 use Rattle.tree_node.specs.declared.edition.Edition.{Edition}
 use Rattle.osm_index.specs.declared.snapshot.Snapshot.{Snapshot}
-use Rattle.osm_index.specs.Manifests.{manifest}
+use Rattle.osm_keys.specs.Manifests.{manifest}
 use Rattle.osm_index.proofs.ItemLemmas.{from_list, in_list}
-use Rattle.osm_index.proofs.PutLemmas.{manifest_same}
+use Rattle.osm_keys.proofs.shared.OneManifest.{manifest_same}
 use Rattle.osm_index.proofs.SetLemmas.{key_at, set_rises}
-use Rattle.osm_index.proofs.shared.Members.{in_map}
-use Rattle.osm_index.proofs.shared.OnePublication.{same_entries, same_root}
+use Rattle.osm_keys.proofs.shared.Members.{in_map}
+use Rattle.osm_keys.proofs.shared.OnePublication.{same_entries, same_root}
 use Rattle.tree_node.specs.Digests.{digest}
 use Rattle.tree_node.specs.Trees.{top_of}
 

@@ -12,14 +12,14 @@ use Rattle.tree_node.specs.Outcomes.{Clash}
 use Rattle.tree_node.specs.Trees.{HasTree, IsNodeOf, Shape, levels, top_of}
 use Rattle.tree_node.specs.declared.tree.Tree.TheVariants.{Objects}
 use Rattle.tree_node.proofs.shared.TreeSame.{one_list}
-use Rattle.osm_index.specs.Entries.{object_entry}
-use Rattle.osm_index.specs.Publications.{Publication, shape_in, shape_of, top_in, tree_in}
+use Rattle.osm_keys.specs.Entries.{object_entry}
+use Rattle.osm_keys.specs.Publications.{Publication, shape_in, shape_of, top_in, tree_in}
 use Rattle.osm_index.specs.Snapshots.{HoldsPublication}
 use Rattle.tree_node.specs.declared.edition.Edition.{Edition}
 use Rattle.osm_index.specs.declared.snapshot.Snapshot.{Snapshot}
 use Rattle.osm_index.proofs.SnapshotLemmas.{objects_listed}
 use Rattle.osm_index.proofs.TreeNodes.{is_tree}
-use Rattle.osm_index.proofs.shared.OnePublication.{lists_have_trees}
+use Rattle.osm_keys.proofs.shared.OnePublication.{lists_have_trees}
 
 -- the entries of objects stand for them
 same_objects : (xs ys : List Element) → AllByRecursion IsElement xs → AllByRecursion IsElement ys → map object_entry xs ≡ map object_entry ys → xs ≡ ys

@@ -7,7 +7,7 @@ use Rattle.opl_codec.specs.declared.change.Change.TheVariants as changes
 use Rattle.osm_model.specs.Elements.{Element}
 use Rattle.osm_model.specs.Sets.{IsObjectSet}
 use Rattle.osm_index.specs.Applying.{AreApart, DeleteThere, IsFirstMissing, IsFirstTwice, names_of}
-use Rattle.osm_index.specs.declared.exchange.Exchange.{Exchange}
+use Rattle.osm_index.specs.declared.object_changes.ObjectChanges.{ObjectChanges}
 use Rattle.osm_index.specs.internal.HeldTrees.{AreNamed}
 use Rattle.osm_index.specs.declared.apply_fault.ApplyFault.{ApplyFault}
 use Rattle.osm_index.specs.declared.apply_fault.ApplyFault.TheVariants as faults
@@ -43,11 +43,11 @@ pub record ArePut (all : List Change) (puts : List Element) : Type 0 where
 -- ---- all together
 
 -- what the changes take out of the set and put into it; no two are of one object, and each object to delete is there
-pub record IsExchangeOf (objects : List Element) (all : List Change) (exchange : Exchange) : Type 0 where
+pub record AreObjectChangesOf (objects : List Element) (all : List Change) (found : ObjectChanges) : Type 0 where
   pub apart : AreApart all
   pub there : DeleteThere objects all
-  pub olds : AreNamed objects (names_of all) exchange.olds
-  pub puts : ArePut all exchange.puts
+  pub removed : AreNamed objects (names_of all) found.removed
+  pub puts : ArePut all found.puts
 
 -- a refusal of the changes, before the trees are looked at
 abbrev pub RefusesChanges : List Element → List Change → ApplyFault → Type 0

@@ -14,9 +14,9 @@ use Rattle.tree_node.specs.declared.digest.Digest.{Digest}
 use Rattle.tree_node.specs.declared.limits.TheConstants.{ENTRY_LIMIT}
 use Rattle.tree_node.specs.declared.tree.Tree.{Tree}
 use Rattle.osm_index.specs.Applying.{IsSecond}
-use Rattle.osm_index.specs.Entries.{AreEntriesOf}
-use Rattle.osm_index.specs.Manifests.{top_among}
-use Rattle.osm_index.specs.Publications.{IsPublication, Publication, top_in}
+use Rattle.osm_keys.specs.Entries.{AreEntriesOf}
+use Rattle.osm_keys.specs.Manifests.{top_among}
+use Rattle.osm_keys.specs.Publications.{IsPublication, Publication, top_in}
 use Rattle.osm_index.specs.declared.changed_trees.ChangedTrees.{ChangedTrees}
 use Rattle.osm_index.specs.internal.HeldTrees.{HoldsTree}
 use Rattle.osm_index.specs.internal.Putting.{IsTreeNode}
@@ -25,22 +25,22 @@ use Rattle.osm_index.specs.internal.Putting.{IsTreeNode}
 
 -- The new set has those put in place of these old ones. Where one that is put has the reference of an object of the set,
 -- that object is one of these old ones.
-pub record IsExchanged (objects olds puts new : List Element) : Type 0 where
+pub record IsChangedSet (objects removed puts new : List Element) : Type 0 where
   pub set : IsObjectSet new
-  pub there : (o : Element) → Contains olds o → Contains objects o
-  pub apart : (o x : Element) → Contains puts o → Contains objects x → reference x ≡ reference o → Contains olds x
-  pub members : (o : Element) → Contains new o ↔ (Contains puts o ⊎ (Contains objects o × ¬ Contains olds o))
+  pub there : (o : Element) → Contains removed o → Contains objects o
+  pub apart : (o x : Element) → Contains puts o → Contains objects x → reference x ≡ reference o → Contains removed x
+  pub members : (o : Element) → Contains new o ↔ (Contains puts o ⊎ (Contains objects o × ¬ Contains removed o))
 
 -- ---- one tree
 
 -- the set holds a tree of the second edition, and this is what its set of objects becomes
-pub record HoldsChanging (p : Publication) (olds puts set : List Element) (tree : Tree) (top : List ℕ) (held : List ℕ → Type 0) : Type 0 where
+pub record HoldsChanging (p : Publication) (removed puts set : List Element) (tree : Tree) (top : List ℕ) (held : List ℕ → Type 0) : Type 0 where
   pub holds : HoldsTree p tree top held
   pub second : IsSecond p.edition
-  pub exchanged : IsExchanged p.objects olds puts set
+  pub changed_set : IsChangedSet p.objects removed puts set
 
 abbrev pub HoldsSomeChanging : List Element → List Element → Tree → List ℕ → (List ℕ → Type 0) → Type 0
-HoldsSomeChanging olds puts tree top held = (p : Publication) × (set : List Element) × HoldsChanging p olds puts set tree top held
+HoldsSomeChanging removed puts tree top held = (p : Publication) × (set : List Element) × HoldsChanging p removed puts set tree top held
 
 -- what became of one tree: the tree of the new set, whose entries are few enough
 pub record IsChangedTree (set : List Element) (tree : Tree) (old new : List Binding) (rebuilt : Rebuilt) : Type 0 where
@@ -52,15 +52,15 @@ pub record IsChangedTree (set : List Element) (tree : Tree) (old new : List Bind
 
 -- The set holds the trees of the publication, which is of the second edition, and whose tops have these digests. This is
 -- what its set of objects becomes.
-pub record AreHeldTrees (p : Publication) (olds puts set : List Element) (tops : List Digest) (held : List ℕ → Type 0) : Type 0 where
+pub record AreHeldTrees (p : Publication) (removed puts set : List Element) (tops : List Digest) (held : List ℕ → Type 0) : Type 0 where
   pub published : IsPublication p
   pub second : IsSecond p.edition
   pub tops_are : (tree : Tree) → top_among tops tree ≡ top_in p tree
   pub nodes : (bytes : List ℕ) → IsTreeNode p bytes → held bytes
-  pub exchanged : IsExchanged p.objects olds puts set
+  pub changed_set : IsChangedSet p.objects removed puts set
 
 abbrev pub AreSomeHeldTrees : List Element → List Element → List Digest → (List ℕ → Type 0) → Type 0
-AreSomeHeldTrees olds puts tops held = (p : Publication) × (set : List Element) × AreHeldTrees p olds puts set tops held
+AreSomeHeldTrees removed puts tops held = (p : Publication) × (set : List Element) × AreHeldTrees p removed puts set tops held
 
 -- what became of them: the tops of the new ones, the nodes that come and the digests of those that go, each once
 pub record AreChangedTrees (p q : Publication) (trees : ChangedTrees) : Type 0 where

@@ -10,8 +10,8 @@ use Rattle.osm_model.specs.declared.reference.Ref.{Ref}
 use Rattle.tree_node.specs.Nodes.{Binding}
 use Rattle.tree_node.specs.Trees.{IsNodeOf}
 use Rattle.tree_node.specs.declared.tree.Tree.{Tree}
-use Rattle.osm_index.specs.Entries.{object_entry}
-use Rattle.osm_index.specs.Publications.{IsPublication, Publication, top_in, tree_in}
+use Rattle.osm_keys.specs.Entries.{object_entry}
+use Rattle.osm_keys.specs.Publications.{IsPublication, Publication, top_in, tree_in}
 
 -- this is a publication, the top of its tree has this digest, and the set holds the tree's nodes
 pub record HoldsTree (p : Publication) (tree : Tree) (top : List ℕ) (held : List ℕ → Type 0) : Type 0 where

@@ -12,7 +12,7 @@ use Rattle.osm_model.specs.declared.tag.Tag.{Tag}
 use Rattle.tree_node.specs.Nodes.{Binding}
 use Rattle.tree_node.specs.declared.tree.Tree.{Tree}
 use Rattle.tree_node.specs.declared.tree.Tree.TheVariants.{Objects, Tags, Cells, Backs}
-use Rattle.osm_index.specs.Entries.{back_entry, cell_entry, object_entry, tag_entry}
+use Rattle.osm_keys.specs.Entries.{back_entry, cell_entry, object_entry, tag_entry}
 use Rattle.osm_index.specs.declared.entry_list.Span.{Span}
 
 -- ---- the entries of one object

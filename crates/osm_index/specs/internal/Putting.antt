@@ -11,9 +11,9 @@ use Rattle.tree_node.specs.Trees.{IsNodeOf, Shape, levels, top_of}
 use Rattle.tree_node.specs.declared.digest.Digest.{Digest}
 use Rattle.tree_node.specs.declared.limits.TheConstants.{ENTRY_LIMIT}
 use Rattle.tree_node.specs.declared.tree.Tree.{Tree}
-use Rattle.osm_index.specs.Entries.{AreEntriesOf}
-use Rattle.osm_index.specs.Manifests.{top_among}
-use Rattle.osm_index.specs.Publications.{HasTooMany, IsPublicationOf, Publication, top_in, tree_in}
+use Rattle.osm_keys.specs.Entries.{AreEntriesOf}
+use Rattle.osm_keys.specs.Manifests.{top_among}
+use Rattle.osm_keys.specs.Publications.{HasTooMany, IsPublicationOf, Publication, top_in, tree_in}
 use Rattle.tree_node.specs.declared.edition.Edition.{Edition}
 use Rattle.osm_index.specs.declared.fault.IndexFault.{IndexFault}
 use Rattle.osm_index.specs.declared.fault.IndexFault.TheVariants as faults

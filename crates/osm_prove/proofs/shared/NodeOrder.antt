@@ -4,7 +4,7 @@ use Rattle.std.specs.List.{Contains}
 use Rattle.tree_node.specs.Digests.{digest}
 use Rattle.tree_node.specs.Order.{IsBelow}
 use Rattle.tree_node.specs.internal.OrderLemmas.{not_itself, order_trans}
-use Rattle.osm_index.proofs.shared.Members.{first_or_in_rest, here, in_rest, none}
+use Rattle.osm_keys.proofs.shared.Members.{first_or_in_rest, here, in_rest, none}
 use Rattle.osm_prove.specs.Proofs.{AreRising}
 
 -- the digest of the first is below that of each after it

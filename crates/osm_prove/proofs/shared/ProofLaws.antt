@@ -1,6 +1,6 @@
 -- A query has one proof at most.
 use Rattle.std.proofs.Common.{◌≡◌, ℕ, List, ap, sym, ◌∙◌}
-use Rattle.osm_index.specs.Publications.{Publication}
+use Rattle.osm_keys.specs.Publications.{Publication}
 use Rattle.ql_syntax.specs.Statements.{Statements}
 use Rattle.osm_prove.specs.Proofs.{listing}
 use Rattle.osm_prove.specs.Proved.{IsProofOf}

@@ -8,7 +8,7 @@ use Rattle.osm_model.specs.declared.body.Body.TheVariants as bodies
 use Rattle.osm_model.specs.declared.reference.Ref.{Ref}
 use Rattle.tree_node.specs.declared.tree.Tree.TheVariants.{Cells}
 use Rattle.tree_walk.specs.Ranges.{IsIn, Range}
-use Rattle.osm_index.specs.Keys.{cell_key}
+use Rattle.osm_keys.specs.Keys.{cell_key}
 use Rattle.ql_eval.specs.Questions.{Ask, Listed}
 
 -- a node in the box whose key is in the range

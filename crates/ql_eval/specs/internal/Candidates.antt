@@ -4,7 +4,7 @@ use Rattle.std.specs.List.{Contains}
 use Rattle.osm_model.specs.Elements.{Element}
 use Rattle.osm_model.specs.declared.kind.Kind.{Kind}
 use Rattle.osm_model.specs.declared.reference.Ref.{Ref}
-use Rattle.osm_index.specs.Ranges.{IsKindOf}
+use Rattle.osm_keys.specs.Ranges.{IsKindOf}
 use Rattle.ql_syntax.specs.Filters.{Filter}
 use Rattle.ref_sets.specs.NamedSets.{Env}
 use Rattle.ql_meaning.specs.Values.{IsRefOf, Passes}

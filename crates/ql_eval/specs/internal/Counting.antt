@@ -1,7 +1,7 @@
 -- The counts of filters, one after the other.
 use Rattle.std.specs.Prelude.{◌≡◌, ℕ, List, [], ◌∷◌, ◌++◌, Option, filter}
 use Rattle.osm_model.specs.declared.kind.Kind.{Kind}
-use Rattle.osm_index.specs.Publications.{Publication}
+use Rattle.osm_keys.specs.Publications.{Publication}
 use Rattle.ql_syntax.specs.Filters.{Filter}
 use Rattle.ql_plan.specs.Plans.{is_counted}
 use Rattle.ql_eval.specs.Asks.{AreCounts, IsQuestionOf}

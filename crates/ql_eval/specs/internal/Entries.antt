@@ -9,7 +9,7 @@ use Rattle.osm_model.specs.Sets.{object_at}
 use Rattle.osm_model.specs.declared.reference.Ref.{Ref}
 use Rattle.tree_node.specs.Nodes.{Binding}
 use Rattle.tree_node.specs.declared.tree.Tree.{Tree}
-use Rattle.osm_index.specs.Entries.{object_entry}
+use Rattle.osm_keys.specs.Entries.{object_entry}
 use Rattle.ql_eval.specs.Forms.{HasForm, SaysObject, SaysPlace}
 use Rattle.ql_eval.specs.Questions.{OfKind, Question, ThatList, WithKey, WithTag}
 use Rattle.ql_eval.specs.declared.fault.EvalFault.{EvalFault}

@@ -3,7 +3,7 @@ use Rattle.std.specs.Prelude.{List, Option}
 use Rattle.osm_model.specs.Elements.{Element}
 use Rattle.osm_model.specs.declared.kind.Kind.{Kind}
 use Rattle.osm_model.specs.declared.reference.Ref.{Ref}
-use Rattle.osm_index.specs.Ranges.{IsKindOf}
+use Rattle.osm_keys.specs.Ranges.{IsKindOf}
 use Rattle.ql_syntax.specs.declared.path.Path.{Path}
 use Rattle.ql_meaning.specs.Values.{IsBelow, IsOnPath, IsRefOf}
 

@@ -1,7 +1,7 @@
 -- What a fault that is told under a manifest says of the nodes.
 use Rattle.std.specs.Prelude.{ℕ, List, ⊤}
 use Rattle.osm_model.specs.declared.reference.Ref.{Ref}
-use Rattle.osm_index.specs.declared.manifest.Manifest.{Manifest}
+use Rattle.osm_keys.specs.declared.manifest.Manifest.{Manifest}
 use Rattle.ql_eval.specs.Told.{HasMalformedEntry, HasWalkFault, IsAbsent, IsNamedIn}
 use Rattle.ql_eval.specs.declared.fault.EvalFault.{EvalFault}
 use Rattle.ql_eval.specs.declared.fault.EvalFault.TheVariants as faults

@@ -1,5 +1,5 @@
 use Rattle.std.proofs.Common.{◌≡◌, ◌∙◌, Ok, refl}
-use Rattle.osm_index.specs.Publications.{IsPublication, Publication, root_of}
+use Rattle.osm_keys.specs.Publications.{IsPublication, Publication, root_of}
 use Rattle.osm_prove.specs.Proved.{IsProved}
 use Rattle.osm_check.specs.Verdicts.{IsVerdict, IsYes}
 use Rattle.osm_commands.proofs.BegunLemmas.{begun_verdict, headline_told, told_of, whole_verdict}

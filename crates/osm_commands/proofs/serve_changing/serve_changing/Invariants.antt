@@ -2,7 +2,7 @@
 use Rattle.std.proofs.Common.{◌≡◌, ◌≤◌, ◌+◌, ◌-◌, ◌++◌, List, Some, ℕ, length}
 use Rattle.std.specs.FinMap.{empty}
 use Rattle.std.specs.Prelude.{IfSome}
-use Rattle.osm_index.specs.Publications.{Publication}
+use Rattle.osm_keys.specs.Publications.{Publication}
 use Rattle.osm_index.specs.Snapshots.{HoldsPublication}
 use Rattle.osm_commands.specs.ChangeFiles.{IsReachedBy}
 use Rattle.osm_traffic.specs.Published.{TakesFound}

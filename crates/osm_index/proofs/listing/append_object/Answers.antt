@@ -2,9 +2,10 @@ use Rattle.std.proofs.Common.{◌≡◌, ◌-◌, refl, ℕ, List, ◌++◌, len
 use Rattle.std.proofs.lemmas.List.{length-append}
 use Rattle.osm_model.specs.CanonicalLine.{canonical_line}
 use Rattle.osm_model.specs.Elements.{reference}
-use Rattle.osm_index.specs.Entries.{object_entry}
-use Rattle.osm_index.specs.Keys.{ref_key}
-use Rattle.osm_index.proofs.ListingLemmas.{gains_one, line_left, ref_key_len}
+use Rattle.osm_keys.specs.Entries.{object_entry}
+use Rattle.osm_keys.specs.Keys.{ref_key}
+use Rattle.osm_index.proofs.ListingLemmas.{gains_one, line_left}
+use Rattle.osm_keys.proofs.shared.KeyLengths.{ref_key_len}
 use Rattle.osm_index.proofs.listing.append_object.Goals as goal
 
 pub overflow_sub-len : goal.overflow_sub-len

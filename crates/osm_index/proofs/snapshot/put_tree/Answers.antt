@@ -1,8 +1,8 @@
 use Rattle.std.proofs.Common.{arith}
 use Rattle.std.proofs.lemmas.List.{length-map}
 use Rattle.tree_node.specs.NodeRefs.{binding_of, bindings_of}
-use Rattle.osm_index.specs.Entries.{AreEntriesOf}
-use Rattle.osm_index.proofs.FitLemmas.{has_tree}
+use Rattle.osm_keys.specs.Entries.{AreEntriesOf}
+use Rattle.osm_keys.proofs.shared.EntriesFit.{has_tree}
 use Rattle.osm_index.proofs.snapshot.put_tree.Goals as goal
 
 pub returns-then-len-gt-ENTRY_LIMIT : goal.returns-then-len-gt-ENTRY_LIMIT

@@ -1,7 +1,7 @@
 -- However many turns were taken, it stands as the deeds so far say.
 use Rattle.std.proofs.Common.{◌≡◌, ◌≤◌, List, Some}
 use Rattle.osm_desk.specs.Desks.{fresh}
-use Rattle.osm_index.specs.Publications.{Publication}
+use Rattle.osm_keys.specs.Publications.{Publication}
 use Rattle.osm_index.specs.Snapshots.{HoldsPublication}
 use Rattle.osm_traffic.specs.Deeds.{Deed}
 use Rattle.osm_traffic.specs.Entries.{Entry}

@@ -12,7 +12,7 @@ use Rattle.ql_eval.specs.Questions.{Listed, NeedsAsk}
 use Rattle.ql_eval.specs.internal.Entries.{AreMisread, IsSaid, SaysIn}
 use Rattle.ql_eval.proofs.BoxLemmas.{range_added}
 use Rattle.ql_eval.proofs.EachLemmas.{needed_one, one_needed}
-use Rattle.osm_index.specs.Manifests.{top_among}
+use Rattle.osm_keys.specs.Manifests.{top_among}
 use Rattle.ql_eval.specs.Forms.{HaveForm}
 use Rattle.ql_eval.specs.internal.Told.{IsTold}
 use Rattle.ql_eval.proofs.StepLemmas.{refused_as, then_read, walk_cause}

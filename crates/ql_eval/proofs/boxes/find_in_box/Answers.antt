@@ -1,7 +1,7 @@
 use Rattle.std.proofs.Common.{List, sym, subst}
 use Rattle.tree_walk.specs.Ranges.{Range}
 use Rattle.tree_walk.proofs.shared.WalksGivenLaws.{given_none, given_then}
-use Rattle.osm_index.specs.Ranges.{AreCellRanges}
+use Rattle.osm_keys.specs.Ranges.{AreCellRanges}
 use Rattle.ql_eval.specs.internal.Boxes.{IsCellsAsk, IsFoundIn}
 use Rattle.ql_eval.proofs.BoxLemmas.{box_needs, box_set, needs_box}
 use Rattle.ql_eval.proofs.LoopLemmas.{gone_all, gone_next, gone_none, gone_stops}

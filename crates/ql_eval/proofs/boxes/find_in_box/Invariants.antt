@@ -4,9 +4,9 @@ use Rattle.std.proofs.Common.{ℕ, List, []}
 use Rattle.tree_node.specs.Shelves.{SameNodes}
 use Rattle.tree_node.proofs.shared.OutcomeLaws.{uses}
 use Rattle.tree_walk.specs.WalksGiven.{HasGiven}
-use Rattle.osm_index.specs.Manifests.{top_among}
+use Rattle.osm_keys.specs.Manifests.{top_among}
 use Rattle.ql_eval.specs.Forms.{HaveForm}
-use Rattle.osm_index.specs.Publications.{IsPublication, Publication}
+use Rattle.osm_keys.specs.Publications.{IsPublication, Publication}
 use Rattle.ql_eval.specs.Openings.{IsUnder}
 use Rattle.ql_eval.specs.internal.Boxes.{IsCellsAsk, IsFoundIn}
 use Rattle.ql_eval.proofs.LoopLemmas.{HasGone}

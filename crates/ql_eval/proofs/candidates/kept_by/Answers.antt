@@ -3,7 +3,7 @@ use Rattle.std.specs.List.{Contains}
 use Rattle.osm_model.specs.Boxes.{ExactBox}
 use Rattle.osm_model.specs.declared.reference.Ref.{Ref}
 use Rattle.tree_node.proofs.shared.OutcomeLaws.{outcome_same, outcome_starts, uses}
-use Rattle.osm_index.specs.Ranges.{IsKindOf}
+use Rattle.osm_keys.specs.Ranges.{IsKindOf}
 use Rattle.ql_syntax.specs.Filters.{Filter, HasKey, Ids, KeyIs, Within}
 use Rattle.ql_syntax.specs.LawfulQueries.{Allows}
 use Rattle.ql_syntax.specs.StatementViews.{filter_of}

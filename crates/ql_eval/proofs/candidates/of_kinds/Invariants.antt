@@ -1,7 +1,7 @@
 use Rattle.std.proofs.Common.{[]}
 use Rattle.tree_node.proofs.shared.OutcomeLaws.{uses}
 use Rattle.ql_eval.specs.internal.Giving.{AllGiven}
-use Rattle.osm_index.specs.Publications.{IsPublication, Publication}
+use Rattle.osm_keys.specs.Publications.{IsPublication, Publication}
 use Rattle.ql_eval.specs.internal.Candidates.{IsKindAsk, IsOfThisKind}
 use Rattle.ql_eval.proofs.LoopLemmas.{HasGone}
 use Rattle.ql_eval.proofs.candidates.of_kinds.Given as goal

@@ -2,7 +2,7 @@ use Rattle.std.proofs.Common.{◌-◌, ◌^◌, ◌≤◌, length, take, Ok}
 use Rattle.tree_node.specs.Outcomes.{Outcome}
 use Rattle.tree_node.proofs.shared.OutcomeLaws.{uses}
 use Rattle.ql_eval.specs.internal.Giving.{AllGiven}
-use Rattle.osm_index.specs.Publications.{IsPublication, Publication}
+use Rattle.osm_keys.specs.Publications.{IsPublication, Publication}
 use Rattle.ql_eval.specs.internal.Founds.{IsConsistent}
 use Rattle.ql_eval.specs.Faults.{cause_of_evaluation}
 use Rattle.ql_eval.specs.Questions.{NeededBy}

@@ -1,7 +1,7 @@
 use Rattle.std.proofs.Common.{◌≡◌, Ok, filter, length, take}
 use Rattle.tree_node.specs.Outcomes.{Outcome}
 use Rattle.tree_node.proofs.shared.OutcomeLaws.{uses}
-use Rattle.osm_index.specs.Publications.{IsPublication, Publication}
+use Rattle.osm_keys.specs.Publications.{IsPublication, Publication}
 use Rattle.ql_syntax.specs.StatementViews.{filter_of, filters_of}
 use Rattle.ref_sets.specs.Adding.{From}
 use Rattle.ql_plan.specs.Plans.{is_counted}

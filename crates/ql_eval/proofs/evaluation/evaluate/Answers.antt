@@ -6,7 +6,7 @@ use Rattle.ql_syntax.specs.declared.statement.Stmt.{Stmt}
 use Rattle.ql_meaning.specs.Meanings.{Means}
 use Rattle.ref_sets.specs.NamedSets.{nothing_named}
 use Rattle.ql_eval.specs.Asks.{AskedByAll}
-use Rattle.osm_index.specs.Manifests.{top_among}
+use Rattle.osm_keys.specs.Manifests.{top_among}
 use Rattle.tree_walk.proofs.shared.WalksGivenLaws.{given_from, given_walked}
 use Rattle.ql_eval.specs.Forms.{HaveForm}
 use Rattle.ql_eval.specs.Questions.{NeededBy}

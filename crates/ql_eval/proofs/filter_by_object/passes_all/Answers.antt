@@ -1,6 +1,6 @@
 use Rattle.std.proofs.Common.{List, subst, refl}
 use Rattle.std.proofs.lemmas.List.{take_all}
-use Rattle.osm_index.proofs.shared.Members.{in_map}
+use Rattle.osm_keys.proofs.shared.Members.{in_map}
 use Rattle.ql_syntax.specs.Filters as tree
 use Rattle.ql_syntax.specs.StatementViews.{filter_of, filters_of}
 use Rattle.ql_syntax.specs.declared.filter.Filter.{Filter}

@@ -3,7 +3,7 @@ use Rattle.std.specs.List.{Contains}
 use Rattle.tree_node.specs.Outcomes.{Outcome}
 use Rattle.tree_node.proofs.shared.OutcomeLaws.{uses}
 use Rattle.ql_eval.specs.internal.Giving.{AllGiven}
-use Rattle.osm_index.specs.Publications.{IsPublication, Publication}
+use Rattle.osm_keys.specs.Publications.{IsPublication, Publication}
 use Rattle.ql_syntax.specs.StatementViews.{filter_of, filters_of}
 use Rattle.ref_sets.specs.Adding.{From}
 use Rattle.ref_sets.specs.Sets.{IsSetOf}

@@ -6,11 +6,11 @@ use Rattle.tree_node.specs.declared.tree.Tree.TheVariants.{Objects}
 use Rattle.tree_node.proofs.shared.OutcomeLaws.{outcome_stops, uses}
 use Rattle.tree_walk.specs.Choices.{AreThose}
 use Rattle.tree_walk.specs.Walks.{IsEntryIn}
-use Rattle.osm_index.proofs.shared.RangeLaws.{object_is_found}
+use Rattle.osm_keys.proofs.shared.RangeLaws.{object_is_found}
 use Rattle.ql_eval.specs.Questions.{Listed, NeedsAsk}
 use Rattle.ql_eval.specs.internal.Entries.{AreMisread, IsFoundAs, IsPutBy}
 use Rattle.ql_eval.proofs.ObjectLemmas.{object_read}
-use Rattle.osm_index.specs.Manifests.{top_among}
+use Rattle.osm_keys.specs.Manifests.{top_among}
 use Rattle.tree_walk.specs.Given.{IsWalk, These}
 use Rattle.ql_eval.specs.Forms.{HaveForm}
 use Rattle.ql_eval.specs.internal.Told.{IsTold}

@@ -1,6 +1,6 @@
 use Rattle.std.proofs.Common.{[], take}
 use Rattle.tree_node.proofs.shared.OutcomeLaws.{uses}
-use Rattle.osm_index.specs.Publications.{IsPublication, Publication}
+use Rattle.osm_keys.specs.Publications.{IsPublication, Publication}
 use Rattle.ql_eval.specs.internal.Objects.{AreKnownParents}
 use Rattle.ql_eval.specs.internal.Links.{AreThere, IsListedOf, IsParentAsk}
 use Rattle.ql_eval.proofs.LoopLemmas.{HasGone}

@@ -1,7 +1,7 @@
 use Rattle.std.proofs.Common.{[]}
 use Rattle.tree_node.proofs.shared.OutcomeLaws.{uses}
 use Rattle.ql_eval.specs.internal.Giving.{AllGiven}
-use Rattle.osm_index.specs.Publications.{IsPublication, Publication}
+use Rattle.osm_keys.specs.Publications.{IsPublication, Publication}
 use Rattle.ql_eval.specs.internal.Links.{IsObjectAsk, IsThereAs}
 use Rattle.ql_eval.proofs.LoopLemmas.{HasGone}
 use Rattle.ql_eval.proofs.links.those_there.Given as goal

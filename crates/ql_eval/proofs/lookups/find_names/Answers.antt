@@ -13,7 +13,7 @@ use Rattle.ql_eval.specs.Forms.{HaveForm, Names}
 use Rattle.ql_eval.specs.internal.Entries.{AreMisread, IsSaid}
 use Rattle.ql_eval.specs.internal.Views.{question_of}
 use Rattle.ql_eval.proofs.EntryLemmas.{answered}
-use Rattle.osm_index.specs.Manifests.{top_among}
+use Rattle.osm_keys.specs.Manifests.{top_among}
 use Rattle.ql_eval.specs.internal.Told.{IsTold}
 use Rattle.ql_eval.proofs.StepLemmas.{refused_as, then_read, walk_cause}
 use Rattle.ql_eval.proofs.WalkLemmas.{read_told, walk_read, walk_told}

@@ -1,6 +1,6 @@
 use Rattle.std.proofs.Common.{◌≡◌, ℕ, List, take}
 use Rattle.tree_node.proofs.shared.OutcomeLaws.{uses}
-use Rattle.osm_index.specs.Publications.{IsPublication, Publication}
+use Rattle.osm_keys.specs.Publications.{IsPublication, Publication}
 use Rattle.ql_eval.specs.Written.{HasWritten}
 use Rattle.ql_eval.specs.internal.Objects.{AreKnownThere}
 use Rattle.ql_eval.specs.internal.Links.{AreThere, IsObjectAsk}

@@ -2,7 +2,7 @@ use Rattle.std.proofs.Common.{take, Ok}
 use Rattle.tree_node.specs.Outcomes.{Outcome}
 use Rattle.tree_node.proofs.shared.OutcomeLaws.{uses}
 use Rattle.ql_eval.specs.internal.Giving.{AllGiven, AllSetsGiven}
-use Rattle.osm_index.specs.Publications.{IsPublication, Publication}
+use Rattle.osm_keys.specs.Publications.{IsPublication, Publication}
 use Rattle.ql_syntax.specs.StatementViews.{statements_of}
 use Rattle.ql_meaning.specs.Meanings.{AfterAll}
 use Rattle.ref_sets.specs.NamedSets.{lists_of}

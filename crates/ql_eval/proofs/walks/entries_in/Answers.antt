@@ -1,8 +1,8 @@
 use Rattle.std.proofs.Common.{ℕ, List, subst, sym, ◌∙◌}
 use Rattle.tree_node.specs.NodeRefs.{number_of}
 use Rattle.tree_walk.specs.Walks.{IsTopOf}
-use Rattle.osm_index.specs.Publications.{shape_in}
-use Rattle.osm_index.proofs.shared.EntryBytes.{is_top}
+use Rattle.osm_keys.specs.Publications.{shape_in}
+use Rattle.osm_keys.proofs.shared.EntryBytes.{is_top}
 use Rattle.tree_node.proofs.shared.OutcomeLaws.{uses}
 use Rattle.std.specs.Prelude.{IfErr, IfOk}
 use Rattle.tree_node.specs.NodeRefs.{bindings_of}

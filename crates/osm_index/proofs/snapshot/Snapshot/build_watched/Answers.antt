@@ -1,6 +1,6 @@
 use Rattle.std.proofs.Common.{◌≡◌, ◌∙◌, refl, Option, None, Some, subst}
 use Rattle.tree_node.specs.Stocks.{HasNode}
-use Rattle.osm_index.specs.Publications.{manifest_of}
+use Rattle.osm_keys.specs.Publications.{manifest_of}
 use Rattle.osm_index.specs.internal.Putting.{EndedAll}
 use Rattle.osm_index.proofs.PutLemmas.{all_held, clash_of_trees, clash_with, manifest_is}
 use Rattle.osm_index.proofs.snapshot.Snapshot.build_watched.Goals as goal

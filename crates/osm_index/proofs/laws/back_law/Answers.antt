@@ -1,5 +1,0 @@
-use Rattle.osm_index.proofs.shared.RangeLaws.{back_found}
-use Rattle.osm_index.proofs.laws.back_law.Goals as goal
-
-pub returns : goal.returns
-returns c = back_found

@@ -1,5 +1,0 @@
-use Rattle.osm_index.proofs.shared.KeyOrder.{keys_as_refs}
-use Rattle.osm_index.proofs.laws.key_order_law.Goals as goal
-
-pub returns : goal.returns
-returns c = keys_as_refs

@@ -1,5 +1,0 @@
-use Rattle.osm_index.proofs.shared.RangeLaws.{tag_found}
-use Rattle.osm_index.proofs.laws.tag_law.Goals as goal
-
-pub returns : goal.returns
-returns c = tag_found

@@ -1,6 +1,0 @@
-use Rattle.std.proofs.Common.{◌≡◌, ◌++◌, take}
-use Rattle.osm_index.specs.internal.FrontedEntries.{items_of}
-use Rattle.osm_index.proofs.sort.append_items.Given as goal
-
-abbrev pub invariant-loop-entry : goal.invariant-loop-entry
-invariant-loop-entry l = l.entries.items ≡ l.fn.entries.items ++ items_of (take l.entry-index l.fronted)

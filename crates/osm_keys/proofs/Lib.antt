@@ -1,0 +1,4 @@
+pub mod shared
+pub mod Ids
+pub mod ReadLemmas
+pub mod CellLemmas

@@ -1,0 +1,28 @@
+//! The edges of a box in whole units.
+
+use osm_model::BoxArea;
+
+/// Edges of a box, in 1e-7 degree.
+#[derive(Clone, Copy)]
+pub(crate) struct WholeEdges {
+    pub south: i32,
+    pub west: i32,
+    pub north: i32,
+    pub east: i32,
+}
+
+impl WholeEdges {
+    ghost use Rattle.osm_keys.specs.internal.Cells.{AreWholeEdges};
+
+    /// The edges of a box, rounded to whole units inside it.
+    pub fn inside(area: &BoxArea<'_>) -> WholeEdges
+        ensures { AreWholeEdges area.now result }
+    {
+        WholeEdges {
+            south: area.south().ceiling_units(),
+            west: area.west().ceiling_units(),
+            north: area.north().floor_units(),
+            east: area.east().floor_units(),
+        }
+    }
+}
