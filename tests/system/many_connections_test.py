@@ -125,9 +125,12 @@ def check_broken(tally):
         before = running.descriptors()
         for number in range(300):
             broken = running.connect()
-            broken.sendall((ASK[: number % len(ASK) + 1], ASK * 50)[number % 2])
-            if number % 3 == 0:
-                broken.recv(1)
+            if number % 2 == 0:
+                broken.sendall(ASK[: number % (len(ASK) - 1) + 1])
+            else:
+                broken.sendall(ASK * 50)
+                if number % 3 == 0:
+                    broken.recv(1)
             broken_off(broken)
         check_at_once(tally, "after clients that broke off", running)
         tally.check("the kept one stays", answered(kept, ASK, ANSWER)[0])
