@@ -5,6 +5,7 @@ import os
 import random
 import shutil
 import tempfile
+import time
 from concurrent.futures import ThreadPoolExecutor
 from contextlib import contextmanager
 from itertools import chain, count
@@ -46,13 +47,20 @@ def folders():
         yield changes, ready
 
 
+def put(file, text, ready):
+    """Puts a file where the mirror looks for it, whole from the first moment on: it looks four times a second."""
+    (ready / "next").write_bytes(text)
+    (ready / "next").rename(file)
+
+
 def without(text, start):
     """A set without the lines that begin so."""
     return b"".join(line for line in text.splitlines(keepends=True) if not line.startswith(start))
 
 
 def check_files(tally):
-    """Files that come while a mirror serves: the next connection has the changed set; refused ones are told, and stay."""
+    """Files that come while a mirror serves: the next connection has the changed set; refused ones are told once, and
+    stay."""
     with folders() as (changes, ready):
         whole = set_file(b"F").read_bytes()
         first, second = ready / "first.opl", ready / "second.opl"
@@ -61,7 +69,7 @@ def check_files(tally):
         roots = [published(set_file(b"F"), 0), published(first, 1), published(second, 2)]
         with server(set_file(b"F"), "--connections", 13, "--changes", changes) as running:
             tally.check("begins with the set", root_at(running) == roots[0] and roots[0] == root_of(b"F", b"2").encode())
-            (changes / "1.opl").write_bytes(DELETE_WAY)
+            put(changes / "1.opl", DELETE_WAY, ready)
             got = told(running, [b"POST /api/interpreter HTTP/1.1\r\nConnection: close\r\nContent-Length: 24\r\n\r\n"
                                  b"node(1);way(bn);out ids;"])
             want = b"Content-Length: 0\r\nOsm-Root: " + roots[1] + b"\r\nConnection: close\r\n\r\n"
@@ -82,19 +90,44 @@ def check_files(tally):
                     file.unlink()
                     file.mkdir()
                 else:
-                    file.write_bytes(text)
+                    put(file, text, ready)
                 tally.check(f"after {line}", root_at(running) == roots[1])
                 lines.append(line)
             (changes / "2.opl").rmdir()
             tally.check("no file", root_at(running) == roots[1])
-            (changes / "2.opl").write_bytes(b"n1 v3 dD\n")
-            # The one after it isn't looked for at the same connection.
-            (changes / "3.opl").write_bytes(b"n99 dD\n")
+            put(changes / "2.opl", b"n1 v3 dD\n", ready)
             tally.check("the mended file", root_at(running) == roots[2])
+            put(changes / "3.opl", b"n99 dD\n", ready)
             tally.check("one more", root_at(running) == roots[2])
             outcome = running.ended()
             want = Outcome(b"", b"".join(lines) + b"I2 n99\n", 0)
             tally.check("refused files are told", outcome == want, outcome)
+
+
+def check_kept(tally):
+    """A kept connection is answered over a change file that comes meanwhile, though nobody else comes; a refused file is
+    told once, however often it is looked for."""
+    with folders() as (changes, ready):
+        (ready / "set.opl").write_bytes(without(set_file(b"F").read_bytes(), b"w10 "))
+        roots = [root_of(b"F", b"2").encode(), published(ready / "set.opl", 1)]
+        with server(set_file(b"F"), "--connections", 1, "--changes", changes) as running, running.connect() as connection:
+            file = connection.makefile("rb")
+
+            def asked():
+                connection.sendall(b"GET /api/root HTTP/1.1\r\n\r\n")
+                return response(file)[1].strip()
+
+            tally.check("a kept connection", asked() == roots[0])
+            put(changes / "1.opl", b"n99 dD\n", ready)
+            time.sleep(1)
+            tally.check("a kept connection and a refused file", asked() == roots[0])
+            put(changes / "1.opl", DELETE_WAY, ready)
+            time.sleep(1)
+            tally.check("a kept connection and a change file", asked() == roots[1])
+            connection.close()
+            file.close()
+            outcome = running.ended()
+            tally.check("a kept connection ends", outcome == Outcome(b"", b"I2 n99\n", 0), outcome)
 
 
 def check_osmium(tally):
@@ -298,6 +331,7 @@ def main():
     built_library()
     check_words(tally)
     check_files(tally)
+    check_kept(tally)
     check_osmium(tally)
     check_allocations(tally)
     check_soak(tally)
