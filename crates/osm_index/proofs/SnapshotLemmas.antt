@@ -25,7 +25,7 @@ use Rattle.osm_index.specs.declared.update.Update.{Update}
 use Rattle.osm_index.specs.internal.Applying.{AreObjectChangesOf, RefusesChanges}
 use Rattle.osm_index.specs.internal.ChangedTrees.{AreHeldTrees, IsChangedSet}
 use Rattle.osm_index.specs.internal.HeldTrees.{HoldsTree}
-use Rattle.osm_index.specs.internal.Updates.{IsUpdate, IsUpdateBy, RefusesUpdate}
+use Rattle.osm_index.specs.internal.Updates.{IsNext, IsUpdate, IsUpdateBy, RefusesUpdate}
 use Rattle.osm_index.proofs.AppliedLemmas.{applied, some_changed_set}
 use Rattle.osm_index.proofs.UpdateLemmas.{manifests_unlike}
 use Rattle.osm_index.proofs.SetLemmas.{RiseAt, set_rises}
@@ -34,7 +34,7 @@ use Rattle.osm_keys.proofs.shared.OnePublication.{one_entry_list}
 
 -- ---- the trees that it holds
 
-module _ (edition : Edition) (stock : Stock) (found : Manifest) (key : Digest) (p : Publication) (held : AreHeld edition stock found key p) where
+module _ {edition : Edition} {stock : Stock} {found : Manifest} {key : Digest} {p : Publication} (held : AreHeld edition stock found key p) where
   pub held_tree : (tree : Tree) → HoldsTree p tree (top_among found.tops tree) (HasNode stock)
   held_tree tree = record { published = held.is.published; is_top = held.tops tree; nodes = λ x is. (held.nodes x).1 (inr (tree, is)) }
 
@@ -52,23 +52,22 @@ module _ (edition : Edition) (stock : Stock) (found : Manifest) (key : Digest) (
 
   -- ---- what it becomes
 
-  module _ (second : IsSecond edition) (next : Edition) (next_is : next ≡ edition_after edition) (not_last : ¬ IsLast edition) (fits : HasSequence edition) (fits_too : HasSequence next)
-      (all : List Change) (changes : ObjectChanges) (is : AreObjectChangesOf p.objects all changes) where
+  module _ {next : Edition} (after : IsNext edition next) {all : List Change} {changes : ObjectChanges} (is : AreObjectChangesOf p.objects all changes) where
     pub set_of : (new : List Element) × IsChangedSet p.objects changes.removed changes.puts new
     set_of = some_changed_set p.objects held.is.published.set all changes is
 
     abbrev pub changing : (new : List Element) × AreHeldTrees p changes.removed changes.puts new found.tops (HasNode stock)
-    changing = (set_of.0, held_trees second changes.removed changes.puts set_of.0 set_of.1)
+    changing = (set_of.0, held_trees after.second changes.removed changes.puts set_of.0 set_of.1)
 
     pub applicable : AreApplicable p.objects p.edition all
-    applicable = record { before_last = subst (λ (e : Edition). ¬ IsLast e) (sym held.is.same_edition) not_last; apart = is.apart; there = is.there }
+    applicable = record { before_last = subst (λ (e : Edition). ¬ IsLast e) (sym held.is.same_edition) after.not_last; apart = is.apart; there = is.there }
 
     pub published_next : (q : Publication) → IsPublicationOf set_of.0 (edition_after p.edition) q → IsPublicationOf q.objects next q
-    published_next q is_q = record { published = is_q.published; same_objects = refl; same_edition = is_q.same_edition ∙ ap edition_after held.is.same_edition ∙ sym next_is }
+    published_next q is_q = record { published = is_q.published; same_objects = refl; same_edition = is_q.same_edition ∙ ap edition_after held.is.same_edition ∙ sym after.is }
 
     pub unlike : (q : Publication) → IsPublicationOf set_of.0 (edition_after p.edition) q → manifest_of p ≢ manifest_of q
     unlike q is_q =
-        manifests_unlike p q (second_held second) (subst HasSequence (sym held.is.same_edition) fits) (subst HasSequence (next_is ∙ ap edition_after (sym held.is.same_edition) ∙ sym is_q.same_edition) fits_too) is_q.same_edition
+        manifests_unlike p q (second_held after.second) (subst HasSequence (sym held.is.same_edition) after.fits) (subst HasSequence (after.is ∙ ap edition_after (sym held.is.same_edition) ∙ sym is_q.same_edition) after.fits_too) is_q.same_edition
 
     pub updates : (q : Publication) → IsPublicationOf set_of.0 (edition_after p.edition) q → (update : Update) → IsUpdate p q update → IsUpdateBy p all update
     updates q is_q update is_update =

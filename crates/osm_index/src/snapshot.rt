@@ -10,12 +10,11 @@ ghost use Rattle.tree_node.specs.Outcomes.{Clash};
 ghost use Rattle.tree_node.specs.Shelves.{IsClashFree, IsEmptySet};
 ghost use Rattle.tree_node.specs.Stocks.{HasNode};
 ghost use Rattle.tree_build.specs.Shapes.{shape_of as shape_word};
-ghost use Rattle.osm_index.specs.Applying.{AreApart, AreApplicable, IsApplied, IsDeltaOf, IsFirstMissing, IsFirstTwice, IsLast, IsNodeOfEither, IsSecond, edition_after};
+ghost use Rattle.osm_index.specs.Applying.{AreApart, AreApplicable, IsApplied, IsDeltaOf, IsFirstMissing, IsFirstTwice, IsLast, IsNodeOfEither, edition_after};
 ghost use Rattle.osm_keys.specs.Entries.{AreEntriesOf};
 ghost use Rattle.osm_index.specs.Holdings.{HoldSome};
-ghost use Rattle.osm_keys.specs.Manifests.{HasSequence};
 ghost use Rattle.osm_keys.specs.Publications.{HasTooMany, IsNodeIn, IsPublicationOf, Publication, shape_of};
-ghost use Rattle.osm_index.specs.internal.Updates.{IsUpdateBy, RefusesUpdate};
+ghost use Rattle.osm_index.specs.internal.Updates.{IsNext, IsUpdateBy, RefusesUpdate};
 ghost use Rattle.osm_index.specs.internal.Putting.{AreAllFour, EndsTree, EndsTrees};
 
 use crate::all_objects::all_objects;
@@ -218,9 +217,7 @@ impl Snapshot {
 
 /// The second edition at the next sequence. Refused where none comes after that of the edition.
 fn edition_after(edition: Edition) -> Result<Edition, ApplyFault>
-    ensures after { IfOk result (λ next. (next ≡ edition_after edition) × (¬ IsLast edition)) }
-    ensures second { OnOk result (IsSecond edition) }
-    ensures fits { IfOk result (λ next. HasSequence edition × HasSequence next) }
+    ensures next { IfOk result (IsNext edition) }
     ensures refused { IfErr result (λ fault. (fault ≡ ApplyFault.LastSequence) × IsLast edition) }
 {
     match edition {

@@ -4,14 +4,23 @@ use Rattle.std.specs.Prelude.{◌≡◌, ◌↔◌, ℕ, List, map, ⊤}
 use Rattle.opl_codec.specs.declared.change.Change.{Change}
 use Rattle.osm_model.specs.Elements.{Element}
 use Rattle.tree_build.specs.Rebuilding.{AreDifferent, IsAmong, digests_of, nodes_of}
+use Rattle.tree_node.specs.declared.edition.Edition.{Edition}
 use Rattle.tree_node.specs.declared.new_node.NewNode.{NewNode}
 use Rattle.tree_node.specs.declared.tree.Tree.{Tree}
-use Rattle.osm_index.specs.Applying.{AreApart, AreApplicable, AreDigestsOfOnly, IsApplied, IsFirstMissing, IsFirstTwice, IsLast, edition_after}
-use Rattle.osm_keys.specs.Manifests.{manifest_bytes, top_among}
+use Rattle.osm_index.specs.Applying.{AreApart, AreApplicable, AreDigestsOfOnly, IsApplied, IsFirstMissing, IsFirstTwice, IsLast, IsSecond, edition_after}
+use Rattle.osm_keys.specs.Manifests.{HasSequence, manifest_bytes, top_among}
 use Rattle.osm_keys.specs.Publications.{HasTooMany, IsNodeIn, IsPublicationOf, Publication, manifest_of, root_of, top_in}
 use Rattle.osm_index.specs.declared.apply_fault.ApplyFault.{ApplyFault}
 use Rattle.osm_index.specs.declared.apply_fault.ApplyFault.TheVariants as faults
 use Rattle.osm_index.specs.declared.update.Update.{Update}
+
+-- the edition at the next sequence comes after the other one, and the sequences of both fit
+pub record IsNext (edition next : Edition) : Type 0 where
+  pub second : IsSecond edition
+  pub is : next ≡ edition_after edition
+  pub not_last : ¬ IsLast edition
+  pub fits : HasSequence edition
+  pub fits_too : HasSequence next
 
 -- the update makes of the one publication the other: its manifest, its root, the nodes that come and the digests of those
 -- that go

@@ -4,7 +4,7 @@ use Rattle.osm_index.proofs.SnapshotLemmas.{held_tree}
 use Rattle.osm_index.proofs.snapshot.Snapshot.objects.Goals as goal
 
 pub all_objects-requires : goal.all_objects-requires
-all_objects-requires c = ∥∥₁_map c.args.self.now.own (λ (p, held). (p, held_tree c.args.self.now.edition c.args.self.now.stock c.args.self.now.manifest c.args.self.now.root p held Objects))
+all_objects-requires c = ∥∥₁_map c.args.self.now.own (λ (p, held). (p, held_tree held Objects))
 
 pub returns : goal.returns
-returns c = λ p held. c.all_objects.ensures p (held_tree c.args.self.now.edition c.args.self.now.stock c.args.self.now.manifest c.args.self.now.root p held Objects)
+returns c = λ p held. c.all_objects.ensures p (held_tree held Objects)
