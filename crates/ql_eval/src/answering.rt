@@ -39,7 +39,8 @@ pub(crate) fn answer_all<'q, W: Source, T: Sink>(
     ensures answer { (p : Publication) → IsPublication p → W.under source.old p
         → IsQuery (statements_of statements.now)
         → Outcome cause_of_evaluation
-        (λ _. (text : List ℕ) × Means p.objects (statements_of statements.now) text × HasWritten (T.stands sink.old) (T.stands sink.new) text)
+        (λ _. (text : List ℕ) × Means p.objects (statements_of statements.now) text
+        × HasWritten (T.stands sink.old) (T.stands sink.new) text)
         (NeededBy p (AskedByAll p (statements_of statements.now) nothing_named))
         (nodes_around W.holds W.used source.old source.new) result }
 {
@@ -65,12 +66,14 @@ fn answer_statement<'q, W: Source, T: Sink>(
     ensures named { OnOk result (AllSetsGiven (W.gave source.new) (lists_of sets.new.named.items)) }
     ensures kept { T.kept sink.new ≡ T.kept sink.old }
     ensures wrote { (text : List ℕ) × HasWritten (T.stands sink.old) (T.stands sink.new) text }
-    ensures answer { (p : Publication) → IsPublication p → W.under source.old p
-        → AreAllThere p.objects (lists_of sets.old.named.items) → IsTop (statement_of statement.now)
-        → Outcome cause_of_evaluation
-        (λ _. After p.objects (statement_of statement.now) (lists_of sets.old.named.items) (lists_of sets.new.named.items)
-        × HasWritten (T.stands sink.old) (T.stands sink.new) (told p.objects (statement_of statement.now) (lists_of sets.old.named.items)))
-        (NeededBy p (AskedBy p (statement_of statement.now) (lists_of sets.old.named.items)))
+    ensures answer { let env = lists_of sets.old.named.items in
+        let next = lists_of sets.new.named.items in
+        (p : Publication) → IsPublication p → W.under source.old p
+        → AreAllThere p.objects env → IsTop (statement_of statement.now)
+        → Outcome cause_of_evaluation (λ _. After p.objects (statement_of statement.now) env next
+        × HasWritten (T.stands sink.old) (T.stands sink.new)
+        (told p.objects (statement_of statement.now) env))
+        (NeededBy p (AskedBy p (statement_of statement.now) env))
         (nodes_around W.holds W.used source.old source.new) result }
 {
     match statement {

@@ -42,12 +42,13 @@ pub(crate) fn apply_filters<W: Source>(
     ensures walked { OnOk result (W.walked source.old source.new) }
     ensures told { IfErr result (W.tells source.new) }
     ensures named { IfOk result (AllGiven (W.gave source.new)) }
-    ensures answer { (p : Publication) → IsPublication p → W.under source.old p
-        → AreThere p.objects candidates → AreAllThere p.objects (lists_of sets.now.named.items)
-        → Outcome cause_of_evaluation
-        (λ refs. IsSetOf refs
-        (λ r. Contains candidates r × IsKeptBy p.objects (lists_of sets.now.named.items) (filters_of before.now ++ filters_of after.now) r))
-        (NeededBy p (IsTestAsk (lists_of sets.now.named.items) (filters_of before.now ++ filters_of after.now) candidates))
+    ensures answer { let env = lists_of sets.now.named.items in
+        let filters = filters_of before.now ++ filters_of after.now in
+        (p : Publication) → IsPublication p → W.under source.old p
+        → AreThere p.objects candidates → AreAllThere p.objects env
+        → Outcome cause_of_evaluation (λ refs. IsSetOf refs
+        (λ r. Contains candidates r × IsKeptBy p.objects env filters r))
+        (NeededBy p (IsTestAsk env filters candidates))
         (nodes_around W.holds W.used source.old source.new) result }
 {
     if before.is_empty() && after.is_empty() {
@@ -74,12 +75,12 @@ fn filter_by_both<W: Source>(
     ensures walked { OnOk result (W.walked source.old source.new) }
     ensures told { IfErr result (W.tells source.new) }
     ensures named { IfOk result (AllGiven (W.gave source.new)) }
-    ensures answer { (p : Publication) → IsPublication p → W.under source.old p
-        → AreAllThere p.objects (lists_of sets.now.named.items)
-        → Outcome cause_of_evaluation
-        (λ left. IsSetOf left
-        (λ r. Contains refs r × IsNamedByAll p.objects (lists_of sets.now.named.items) (filters_of before.now ++ filters_of after.now) r))
-        (NeededBy p (From (filters_of before.now ++ filters_of after.now) (AskedByRest (lists_of sets.now.named.items))))
+    ensures answer { let env = lists_of sets.now.named.items in
+        let filters = filters_of before.now ++ filters_of after.now in
+        (p : Publication) → IsPublication p → W.under source.old p → AreAllThere p.objects env
+        → Outcome cause_of_evaluation (λ left. IsSetOf left
+        (λ r. Contains refs r × IsNamedByAll p.objects env filters r))
+        (NeededBy p (From filters (AskedByRest env)))
         (nodes_around W.holds W.used source.old source.new) result }
 {
     let left = filter_by_reference(alloc, source, refs, before, sets)?;

@@ -79,7 +79,8 @@ fn add_range<'a, S: Shelf<'a>>(
         (nodes_around S.holds S.used shelf.old shelf.new)
         tally.old.calls tally.new.calls tally.old.fetches tally.new.fetches) }
     ensures told { IfErr result (IsTold (S.holds shelf.new) (S.used shelf.new) manifest.now) }
-    ensures named { OnOk result (AllGiven (IsNamedIn (S.used shelf.new) manifest.now) names.new.items) }
+    ensures named { OnOk result
+        (AllGiven (IsNamedIn (S.used shelf.new) manifest.now) names.new.items) }
     ensures answer { (p : Publication) → IsPublication p → IsUnder p manifest.now
         → Outcome cause_of_evaluation
         (λ _. Adds names.old.items names.new.items (IsFoundIn p.objects area.now keys.now))
@@ -92,7 +93,8 @@ fn add_range<'a, S: Shelf<'a>>(
 
 /// Adds the nodes that entries of the cell tree place in a box. `Form` where an entry isn't of its form.
 fn add_nodes(area: &BoxArea<'_>, found: &[Item<'_>], names: &mut Vec<Ref>) -> Result<(), EvalFault>
-    ensures added { OnOk result (Adds names.old.items names.new.items (IsSaid (SaysIn area.now) (bindings_of found.now))) }
+    ensures added { OnOk result
+        (Adds names.old.items names.new.items (IsSaid (SaysIn area.now) (bindings_of found.now))) }
     ensures formed { OnOk result (HaveForm Cells (bindings_of found.now)) }
     ensures refused { IfErr result (AreMisread Cells (bindings_of found.now)) }
 {
@@ -104,7 +106,8 @@ fn add_nodes(area: &BoxArea<'_>, found: &[Item<'_>], names: &mut Vec<Ref>) -> Re
 
 /// Adds the node that an entry places, where that is in the box.
 fn add_node(area: &BoxArea<'_>, item: &Item<'_>, names: &mut Vec<Ref>) -> Result<(), EvalFault>
-    ensures added { OnOk result (Adds names.old.items names.new.items (PlacesIn area.now (binding_of item.now))) }
+    ensures added { OnOk result
+        (Adds names.old.items names.new.items (PlacesIn area.now (binding_of item.now))) }
     ensures formed { OnOk result (HasForm Cells (binding_of item.now)) }
     ensures refused { IfErr result (IsMisread Cells (binding_of item.now)) }
 {

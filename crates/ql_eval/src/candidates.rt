@@ -45,19 +45,20 @@ pub(crate) fn find_candidates<W: Source>(
     base: Option<&Filter<'_>>,
     sets: &NamedSets<'_>,
 ) -> Result<RefSet, EvalFault>
-    requires base { ForSome (option_map (λ f. filter_of f.now) base) (λ base. rank_of base < never) }
+    requires base { ForSome (option_map (λ f. filter_of f.now) base)
+        (λ base. rank_of base < never) }
     requires named { AllSetsGiven (W.gave source.old) (lists_of sets.now.named.items) }
     ensures later { W.later source.old source.new }
     ensures walked { OnOk result (W.walked source.old source.new) }
     ensures told { IfErr result (W.tells source.new) }
     ensures named { IfOk result (AllGiven (W.gave source.new)) }
-    ensures answer { (p : Publication) → IsPublication p → W.under source.old p
-        → AreAllThere p.objects (lists_of sets.now.named.items)
-        → ForSome (option_map (λ f. filter_of f.now) base.entry) (Allows pick)
-        → Outcome cause_of_evaluation
-        (λ refs. IsSetOf refs
-        (IsRefOf p.objects (IsSelected p.objects (lists_of sets.now.named.items) pick (option_to_list (option_map (λ f. filter_of f.now) base.entry)))))
-        (NeededBy p (AskedByBase p.objects (lists_of sets.now.named.items) (kind_picked pick) (option_map (λ f. filter_of f.now) base.entry)))
+    ensures answer { let env = lists_of sets.now.named.items in
+        let filter = option_map (λ f. filter_of f.now) base.entry in
+        (p : Publication) → IsPublication p → W.under source.old p → AreAllThere p.objects env
+        → ForSome filter (Allows pick)
+        → Outcome cause_of_evaluation (λ refs. IsSetOf refs
+        (IsRefOf p.objects (IsSelected p.objects env pick (option_to_list filter))))
+        (NeededBy p (AskedByBase p.objects env (kind_picked pick) filter))
         (nodes_around W.holds W.used source.old source.new) result }
 {
     match base {
@@ -117,12 +118,12 @@ fn kept_by<W: Source>(
     ensures walked { OnOk result (W.walked source.old source.new) }
     ensures told { IfErr result (W.tells source.new) }
     ensures named { IfOk result (AllGiven (W.gave source.new)) }
-    ensures answer { (p : Publication) → IsPublication p → W.under source.old p
-        → AreAllThere p.objects (lists_of sets.now.named.items) → Allows pick (filter_of filter.now)
-        → Outcome cause_of_evaluation
-        (λ refs. IsSetOf refs
-        (IsKeptOf p.objects (lists_of sets.now.named.items) (kind_picked pick) (filter_of filter.now)))
-        (NeededBy p (AskedByBase p.objects (lists_of sets.now.named.items) (kind_picked pick) (Some (filter_of filter.now))))
+    ensures answer { let env = lists_of sets.now.named.items in
+        (p : Publication) → IsPublication p → W.under source.old p
+        → AreAllThere p.objects env → Allows pick (filter_of filter.now)
+        → Outcome cause_of_evaluation (λ refs. IsSetOf refs
+        (IsKeptOf p.objects env (kind_picked pick) (filter_of filter.now)))
+        (NeededBy p (AskedByBase p.objects env (kind_picked pick) (Some (filter_of filter.now))))
         (nodes_around W.holds W.used source.old source.new) result }
 {
     let kind = kind_of(pick);
@@ -164,7 +165,9 @@ fn with_ids<W: Source>(
 
 /// The references of some kinds with some ids.
 fn references(alloc: Global, kinds: &[Kind], ids: &[i64]) -> Result<Vec<Ref>, AllocError>
-    ensures { IfOk result (λ names. (r : Ref) → Contains names.items r ↔ (Contains kinds.now r.kind × Contains ids.now r.id)) }
+    ensures { IfOk result
+        (λ names. (r : Ref) → Contains names.items r ↔
+        (Contains kinds.now r.kind × Contains ids.now r.id)) }
 {
     let mut names = Vec::new(alloc);
     for kind in kinds {
@@ -195,8 +198,7 @@ fn with_key<W: Source>(
     ensures told { IfErr result (W.tells source.new) }
     ensures named { IfOk result (AllGiven (W.gave source.new)) }
     ensures answer { (p : Publication) → IsPublication p → W.under source.old p → HasNoNul key.now
-        → Outcome cause_of_evaluation
-        (λ refs. IsSetOf refs
+        → Outcome cause_of_evaluation (λ refs. IsSetOf refs
         (λ r. IsRefOf p.objects (λ o. HasKeyOf o key.now) r × IsKindOf kind r))
         (NeededBy p (λ ask. ask ≡ names_ask (questions.WithKey key.now)))
         (nodes_around W.holds W.used source.old source.new) result }

@@ -25,7 +25,8 @@ pub(crate) fn read_cell_entry(item: &Item<'_>) -> Option<CellEntry>
     ensures some { IfSome result (λ node. SaysPlace (binding_of item.now) node.name node.place) }
     // As its type says.
     ensures fits { IfSome result (λ node. FitsSigned w64 node.name.id) }
-    ensures none { IfNone result ((name : Ref) → FitsSigned w64 name.id → ¬ Names Cells (binding_of item.now) name) }
+    ensures none { IfNone result
+        ((name : Ref) → FitsSigned w64 name.id → ¬ Names Cells (binding_of item.now) name) }
 {
     let found = read_cell_key(item.key)?;
     let place = read_cell_value(item.value)?;

@@ -93,7 +93,8 @@ fn add_all(names: &[Ref], found: &mut Found) -> Result<(), AllocError>
     requires { IsConsistent found.old }
     ensures consistent { OnOk result (IsConsistent found.new) }
     ensures goes { OnOk result (Goes found.old.refs.items found.new.refs.items) }
-    ensures added { OnOk result (Adds found.old.refs.items found.new.refs.items (Contains names.now)) }
+    ensures added { OnOk result
+        (Adds found.old.refs.items found.new.refs.items (Contains names.now)) }
 {
     for name in names {
         found.add(*name)?;

@@ -131,7 +131,8 @@ fn run_over<'a, S: Shelf<'a>, T: Sink>(
     ensures answer { (p : Publication) → IsPublication p → IsUnder p manifest
         → IsQuery (statements_of statements.now)
         → Outcome cause_of_evaluation
-        (λ _. (text : List ℕ) × Means p.objects (statements_of statements.now) text × HasWritten (T.stands sink.old) (T.stands sink.new) text)
+        (λ _. (text : List ℕ) × Means p.objects (statements_of statements.now) text
+        × HasWritten (T.stands sink.old) (T.stands sink.new) text)
         (NeededBy p (AskedByAll p (statements_of statements.now) nothing_named))
         (nodes_around S.holds S.used shelf.old shelf.new) result }
 {

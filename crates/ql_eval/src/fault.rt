@@ -17,7 +17,7 @@ pub enum EvalFault {
     Walk(WalkFault),
     /// E2: an entry isn't of the form of its tree's entries.
     Form,
-    /// E3: something says of an object that it is there, and it isn't.
+    /// E3: an entry names an object that isn't there.
     Absent,
     /// E4: the manifest is missing or malformed.
     Manifest(ManifestFault),

@@ -41,11 +41,12 @@ pub(crate) fn filter_by_object<W: Source>(
     ensures told { IfErr result (W.tells source.new) }
     ensures named { IfOk result (AllGiven (W.gave source.new)) }
     ensures there { OnOk result (AreKnownThere (W.knows source.new) candidates.now) }
-    ensures answer { (p : Publication) → IsPublication p → W.under source.old p
+    ensures answer { let env = lists_of sets.now.named.items in
+        let filters = filters_of before.now ++ filters_of after.now in
+        (p : Publication) → IsPublication p → W.under source.old p
         → AreThere p.objects candidates.now
-        → Outcome cause_of_evaluation
-        (λ refs. IsSetOf refs
-        (From candidates.now (IsPassingAs p.objects (lists_of sets.now.named.items) (filters_of before.now ++ filters_of after.now))))
+        → Outcome cause_of_evaluation (λ refs. IsSetOf refs
+        (From candidates.now (IsPassingAs p.objects env filters)))
         (NeededBy p (From candidates.now IsObjectAsk))
         (nodes_around W.holds W.used source.old source.new) result }
 {
@@ -73,10 +74,11 @@ fn add_passing<W: Source>(
     ensures told { IfErr result (W.tells source.new) }
     ensures named { OnOk result (AllGiven (W.gave source.new) refs.new.items) }
     ensures there { OnOk result (IsKnownThere (W.knows source.new) name) }
-    ensures answer { (p : Publication) → IsPublication p → W.under source.old p
-        → IsThere p.objects name
+    ensures answer { let env = lists_of sets.now.named.items in
+        let filters = filters_of before.now ++ filters_of after.now in
+        (p : Publication) → IsPublication p → W.under source.old p → IsThere p.objects name
         → Outcome cause_of_evaluation
-        (λ _. Adds refs.old.items refs.new.items (IsPassingAs p.objects (lists_of sets.now.named.items) (filters_of before.now ++ filters_of after.now) name))
+        (λ _. Adds refs.old.items refs.new.items (IsPassingAs p.objects env filters name))
         (NeededBy p (IsObjectAsk name))
         (nodes_around W.holds W.used source.old source.new) result }
 {
@@ -99,14 +101,17 @@ fn passes_both(
     object: &Object,
     sets: &NamedSets<'_>,
 ) -> bool
-    ensures { IsTrue result ↔ PassesAll (lists_of sets.now.named.items) (filters_of before.now ++ filters_of after.now) object.now }
+    ensures { IsTrue result ↔
+        PassesAll (lists_of sets.now.named.items)
+        (filters_of before.now ++ filters_of after.now) object.now }
 {
     passes_all(before, object, sets) && passes_all(after, object, sets)
 }
 
 /// Whether all filters keep an object. The first that doesn't ends it.
 fn passes_all(filters: &[Filter<'_>], object: &Object, sets: &NamedSets<'_>) -> bool
-    ensures { IsTrue result ↔ PassesAll (lists_of sets.now.named.items) (filters_of filters.now) object.now }
+    ensures { IsTrue result ↔
+        PassesAll (lists_of sets.now.named.items) (filters_of filters.now) object.now }
 {
     for filter in filters {
         if !passes(filter, object, sets) {
@@ -118,7 +123,8 @@ fn passes_all(filters: &[Filter<'_>], object: &Object, sets: &NamedSets<'_>) -> 
 
 /// Whether a filter keeps an object, as far as it and the named sets tell.
 fn passes(filter: &Filter<'_>, object: &Object, sets: &NamedSets<'_>) -> bool
-    ensures { IsTrue result ↔ PassesItself (lists_of sets.now.named.items) object.now (filter_of filter.now) }
+    ensures { IsTrue result ↔
+        PassesItself (lists_of sets.now.named.items) object.now (filter_of filter.now) }
 {
     match filter {
         Filter::Via(path, name) => passes_path(*path, object, sets.get(name.as_bytes())),

@@ -40,12 +40,11 @@ pub(crate) fn filter_by_reference<W: Source>(
     ensures walked { OnOk result (W.walked source.old source.new) }
     ensures told { IfErr result (W.tells source.new) }
     ensures named { IfOk result (AllGiven (W.gave source.new)) }
-    ensures answer { (p : Publication) → IsPublication p → W.under source.old p
-        → AreAllThere p.objects (lists_of sets.now.named.items)
-        → Outcome cause_of_evaluation
-        (λ left. IsSetOf left
-        (λ r. Contains refs r × IsNamedByAll p.objects (lists_of sets.now.named.items) (filters_of filters.now) r))
-        (NeededBy p (From (filters_of filters.now) (AskedByRest (lists_of sets.now.named.items))))
+    ensures answer { let env = lists_of sets.now.named.items in
+        (p : Publication) → IsPublication p → W.under source.old p → AreAllThere p.objects env
+        → Outcome cause_of_evaluation (λ left. IsSetOf left
+        (λ r. Contains refs r × IsNamedByAll p.objects env (filters_of filters.now) r))
+        (NeededBy p (From (filters_of filters.now) (AskedByRest env)))
         (nodes_around W.holds W.used source.old source.new) result }
 {
     // For the proof alone: a set rises.
@@ -71,12 +70,11 @@ fn named<W: Source>(
     ensures walked { OnOk result (W.walked source.old source.new) }
     ensures told { IfErr result (W.tells source.new) }
     ensures named { IfOk result (AllGiven (W.gave source.new)) }
-    ensures answer { (p : Publication) → IsPublication p → W.under source.old p
-        → AreAllThere p.objects (lists_of sets.now.named.items)
-        → Outcome cause_of_evaluation
-        (λ left. IsSetOf left
-        (λ r. Contains refs r × IsNamedBy p.objects (lists_of sets.now.named.items) r (filter_of filter.now)))
-        (NeededBy p (AskedByRest (lists_of sets.now.named.items) (filter_of filter.now)))
+    ensures answer { let env = lists_of sets.now.named.items in
+        (p : Publication) → IsPublication p → W.under source.old p → AreAllThere p.objects env
+        → Outcome cause_of_evaluation (λ left. IsSetOf left
+        (λ r. Contains refs r × IsNamedBy p.objects env r (filter_of filter.now)))
+        (NeededBy p (AskedByRest env (filter_of filter.now)))
         (nodes_around W.holds W.used source.old source.new) result }
 {
     // For the proof alone: a set rises.
@@ -91,7 +89,8 @@ fn named<W: Source>(
 
 /// Of some references those with ids of a list.
 fn with_ids(alloc: Global, refs: &RefSet, ids: &[i64]) -> Result<RefSet, AllocError>
-    ensures { IfOk result (λ left. IsSetOf left (λ r. Contains refs.now r × Contains ids.now r.id)) }
+    ensures { IfOk result
+        (λ left. IsSetOf left (λ r. Contains refs.now r × Contains ids.now r.id)) }
 {
     let mut those = Vec::new(alloc);
     for id in ids {
@@ -168,8 +167,7 @@ fn listed_from<W: Source>(
     ensures named { IfOk result (AllGiven (W.gave source.new)) }
     ensures answer { (p : Publication) → IsPublication p → W.under source.old p
         → AreThere p.objects from.now
-        → Outcome cause_of_evaluation
-        (λ left. IsSetOf left
+        → Outcome cause_of_evaluation (λ left. IsSetOf left
         (λ r. Contains refs.now r × IsListedBy p.objects (IsOfKindIn from.now kind) r))
         (NeededBy p (AskedFor (IsOfKindIn from.now kind) object_ask))
         (nodes_around W.holds W.used source.old source.new) result }

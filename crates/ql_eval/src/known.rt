@@ -56,7 +56,8 @@ pub(crate) fn look_up<'a, S: Shelf<'a>>(
     ensures told { IfErr result (IsTold (S.holds shelf.new) (S.used shelf.new) manifest.now) }
     ensures keeps { (r : Ref) (object : Option Element) → get ref_cmp objects.old r ≡ Some object
         → get ref_cmp objects.new r ≡ Some object }
-    ensures known { OnOk result ((object : Option Element) × (get ref_cmp objects.new name ≡ Some object)) }
+    ensures known { OnOk result
+        ((object : Option Element) × (get ref_cmp objects.new name ≡ Some object)) }
     ensures absent { AreAbsent (S.used shelf.old) manifest.now objects.old
         → AreAbsent (S.used shelf.new) manifest.now objects.new }
     ensures remembers { (p : Publication) → IsUnder p manifest.now
@@ -90,7 +91,8 @@ fn find_object<'a, S: Shelf<'a>>(
         (nodes_around S.holds S.used shelf.old shelf.new)
         tally.old.calls tally.new.calls tally.old.fetches tally.new.fetches) }
     ensures told { IfErr result (IsTold (S.holds shelf.new) (S.used shelf.new) manifest.now) }
-    ensures absent { IfOk result (λ object. object ≡ None → IsAbsent (S.used shelf.new) manifest.now name) }
+    ensures absent { IfOk result
+        (λ object. object ≡ None → IsAbsent (S.used shelf.new) manifest.now name) }
     ensures answer { (p : Publication) → IsPublication p → IsUnder p manifest.now
         → Outcome cause_of_evaluation (λ object. object ≡ object_at p.objects name)
         (NeedsAsk p (object_ask name))

@@ -179,8 +179,7 @@ pub(crate) fn members_there<W: Source>(
     ensures named { IfOk result (AllGiven (W.gave source.new)) }
     ensures answer { (p : Publication) → IsPublication p → W.under source.old p
         → AreThere p.objects names.now
-        → Outcome cause_of_evaluation
-        (λ refs. IsSetOf refs
+        → Outcome cause_of_evaluation (λ refs. IsSetOf refs
         (λ r. IsListedIn p.objects names.now first last r × IsThere p.objects r))
         (NeededBy p (IsBelowAsk p.objects names.now first last))
         (nodes_around W.holds W.used source.old source.new) result }

@@ -21,7 +21,8 @@ use tree_node::{Item, Tree};
 
 /// The objects that entries of a tree name, as a set. Each entry is read; `Form` where one isn't of the tree's form.
 pub(crate) fn names_in(alloc: Global, tree: Tree, found: &[Item<'_>]) -> Result<RefSet, EvalFault>
-    ensures read { IfOk result (λ names. IsSetOf names (IsSaid (Names tree) (bindings_of found.now))) }
+    ensures read { IfOk result
+        (λ names. IsSetOf names (IsSaid (Names tree) (bindings_of found.now))) }
     ensures formed { OnOk result (HaveForm tree (bindings_of found.now)) }
     ensures refused { IfErr result (AreMisread tree (bindings_of found.now)) }
 {
@@ -59,7 +60,8 @@ fn tagged_by(item: &Item<'_>) -> Option<Ref>
     ensures some { IfSome result (Names Tags (binding_of item.now)) }
     // As its type says.
     ensures fits { IfSome result (λ name. FitsSigned w64 name.id) }
-    ensures none { IfNone result ((name : Ref) → FitsSigned w64 name.id → ¬ Names Tags (binding_of item.now) name) }
+    ensures none { IfNone result
+        ((name : Ref) → FitsSigned w64 name.id → ¬ Names Tags (binding_of item.now) name) }
 {
     let found = read_tag_key(item.key)?;
     item.value.is_empty().then_some(found.name)
@@ -70,7 +72,8 @@ fn referrer_in(item: &Item<'_>) -> Option<Ref>
     ensures some { IfSome result (Names Backs (binding_of item.now)) }
     // As its type says.
     ensures fits { IfSome result (λ name. FitsSigned w64 name.id) }
-    ensures none { IfNone result ((name : Ref) → FitsSigned w64 name.id → ¬ Names Backs (binding_of item.now) name) }
+    ensures none { IfNone result
+        ((name : Ref) → FitsSigned w64 name.id → ¬ Names Backs (binding_of item.now) name) }
 {
     let found = read_back_key(item.key)?;
     item.value.is_empty().then_some(found.referrer)

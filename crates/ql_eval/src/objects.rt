@@ -30,9 +30,11 @@ pub(crate) fn object_in(alloc: Global, item: &Item<'_>) -> Result<Object, EvalFa
 
 /// The object of this name that a line puts. `Form` where it puts no object of that name.
 fn read_object(alloc: Global, name: Ref, line: &[u8]) -> Result<Object, EvalFault>
-    ensures put { IfOk result (λ object. Spells line.now (Change.Put object) × (reference object ≡ name)) }
+    ensures put { IfOk result
+        (λ object. Spells line.now (Change.Put object) × (reference object ≡ name)) }
     ensures refused { IfErr result (λ fault. (fault ≡ EvalFault.Memory)
-        ⊎ ((fault ≡ EvalFault.Form) × ((o : Element) → Spells line.now (Change.Put o) → ¬ (reference o ≡ name)))) }
+        ⊎ ((fault ≡ EvalFault.Form)
+        × ((o : Element) → Spells line.now (Change.Put o) → ¬ (reference o ≡ name)))) }
 {
     put_by(name, read_line(alloc, line))
 }
@@ -42,7 +44,8 @@ fn read_object(alloc: Global, name: Ref, line: &[u8]) -> Result<Object, EvalFaul
 fn put_by(name: Ref, read: Result<Option<Change>, OplFault>) -> Result<Object, EvalFault>
     ensures put { (o : Element) → read ≡ Ok (Some (Change.Put o)) → reference o ≡ name
         → result ≡ Ok o }
-    ensures given { IfOk result (λ object. (read ≡ Ok (Some (Change.Put object))) × (reference object ≡ name)) }
+    ensures given { IfOk result
+        (λ object. (read ≡ Ok (Some (Change.Put object))) × (reference object ≡ name)) }
     ensures refused { IfErr result (λ fault. ((fault ≡ EvalFault.Memory) × IsForMemory read)
         ⊎ ((fault ≡ EvalFault.Form) × ¬ IsForMemory read)) }
 {

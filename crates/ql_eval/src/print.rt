@@ -42,11 +42,12 @@ pub(crate) fn print<W: Source, T: Sink>(
     ensures told { IfErr result (W.tells source.new) }
     ensures kept { T.kept sink.new ≡ T.kept sink.old }
     ensures wrote { (text : List ℕ) × HasWritten (T.stands sink.old) (T.stands sink.new) text }
-    ensures there { OnOk result (mode ≢ OutMode.Ids → AreKnownThere (W.knows source.new) (cut limit refs.now)) }
+    ensures there { OnOk result
+        (mode ≢ OutMode.Ids → AreKnownThere (W.knows source.new) (cut limit refs.now)) }
     ensures answer { (p : Publication) → IsPublication p → W.under source.old p
         → AreThere p.objects refs.now
-        → Outcome cause_of_evaluation
-        (λ _. HasWritten (T.stands sink.old) (T.stands sink.new) (printed_of p.objects refs.now mode limit))
+        → Outcome cause_of_evaluation (λ _. HasWritten (T.stands sink.old) (T.stands sink.new)
+        (printed_of p.objects refs.now mode limit))
         (NeededBy p (AskedByOut refs.now mode limit))
         (nodes_around W.holds W.used source.old source.new) result }
 {
@@ -72,7 +73,8 @@ fn first_of(refs: &[Ref], limit: Option<u64>) -> &[Ref]
 fn print_names<T: Sink>(alloc: Global, names: &[Ref], sink: &mut T) -> Result<(), AllocError>
     ensures kept { T.kept sink.new ≡ T.kept sink.old }
     ensures wrote { (text : List ℕ) × HasWritten (T.stands sink.old) (T.stands sink.new) text }
-    ensures written { OnOk result (HasWritten (T.stands sink.old) (T.stands sink.new) (name_lines names.now)) }
+    ensures written { OnOk result
+        (HasWritten (T.stands sink.old) (T.stands sink.new) (name_lines names.now)) }
 {
     let mut line = Vec::new(alloc);
     for name in names {
@@ -85,7 +87,8 @@ fn print_names<T: Sink>(alloc: Global, names: &[Ref], sink: &mut T) -> Result<()
 fn put_name<T: Sink>(name: Ref, line: &mut Vec<u8>, sink: &mut T) -> Result<(), AllocError>
     ensures kept { T.kept sink.new ≡ T.kept sink.old }
     ensures wrote { (text : List ℕ) × HasWritten (T.stands sink.old) (T.stands sink.new) text }
-    ensures written { OnOk result (HasWritten (T.stands sink.old) (T.stands sink.new) (name_line name)) }
+    ensures written { OnOk result
+        (HasWritten (T.stands sink.old) (T.stands sink.new) (name_line name)) }
 {
     line.clear();
     append_reference(name, line)?;
@@ -110,8 +113,8 @@ fn print_objects<W: Source, T: Sink>(
     ensures there { OnOk result (AreKnownThere (W.knows source.new) names.now) }
     ensures answer { (p : Publication) → IsPublication p → W.under source.old p
         → AreThere p.objects names.now
-        → Outcome cause_of_evaluation
-        (λ _. HasWritten (T.stands sink.old) (T.stands sink.new) (lines_at p.objects mode names.now))
+        → Outcome cause_of_evaluation (λ _. HasWritten (T.stands sink.old) (T.stands sink.new)
+        (lines_at p.objects mode names.now))
         (NeededBy p (From names.now IsObjectAsk))
         (nodes_around W.holds W.used source.old source.new) result }
 {
@@ -163,7 +166,8 @@ fn put_object<T: Sink>(
 ) -> Result<(), AllocError>
     ensures kept { T.kept sink.new ≡ T.kept sink.old }
     ensures wrote { (text : List ℕ) × HasWritten (T.stands sink.old) (T.stands sink.new) text }
-    ensures written { OnOk result (HasWritten (T.stands sink.old) (T.stands sink.new) (text_of object.now mode)) }
+    ensures written { OnOk result
+        (HasWritten (T.stands sink.old) (T.stands sink.new) (text_of object.now mode)) }
 {
     line.clear();
     write_object(object, mode, line)?;

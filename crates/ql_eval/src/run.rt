@@ -37,12 +37,12 @@ pub(crate) fn run<'q, W: Source>(
     ensures walked { OnOk result (W.walked source.old source.new) }
     ensures told { IfErr result (W.tells source.new) }
     ensures named { OnOk result (AllSetsGiven (W.gave source.new) (lists_of sets.new.named.items)) }
-    ensures answer { (p : Publication) → IsPublication p → W.under source.old p
-        → AreAllThere p.objects (lists_of sets.old.named.items)
+    ensures answer { let env = lists_of sets.old.named.items in
+        let next = lists_of sets.new.named.items in
+        (p : Publication) → IsPublication p → W.under source.old p → AreAllThere p.objects env
         → CanRun (statement_of statement.now)
-        → Outcome cause_of_evaluation
-        (λ _. After p.objects (statement_of statement.now) (lists_of sets.old.named.items) (lists_of sets.new.named.items))
-        (NeededBy p (AskedBy p (statement_of statement.now) (lists_of sets.old.named.items)))
+        → Outcome cause_of_evaluation (λ _. After p.objects (statement_of statement.now) env next)
+        (NeededBy p (AskedBy p (statement_of statement.now) env))
         (nodes_around W.holds W.used source.old source.new) result }
 {
     match statement {
@@ -95,14 +95,16 @@ fn run_all<'q, W: Source>(
     ensures later { W.later source.old source.new }
     ensures walked { OnOk result (W.walked source.old source.new) }
     ensures told { IfErr result (W.tells source.new) }
-    ensures sets_named { OnOk result (AllSetsGiven (W.gave source.new) (lists_of sets.new.named.items)) }
+    ensures sets_named { OnOk result
+        (AllSetsGiven (W.gave source.new) (lists_of sets.new.named.items)) }
     ensures named { IfOk result (λ given. AllGiven (W.gave source.new) given.items) }
-    ensures answer { (p : Publication) → IsPublication p → W.under source.old p
-        → AreAllThere p.objects (lists_of sets.old.named.items)
+    ensures answer { let env = lists_of sets.old.named.items in
+        let next = lists_of sets.new.named.items in
+        (p : Publication) → IsPublication p → W.under source.old p → AreAllThere p.objects env
         → CanRunAll (statements_of parts.now)
         → Outcome cause_of_evaluation
-        (λ given. AfterAll p.objects (statements_of parts.now) (lists_of sets.old.named.items) (lists_of sets.new.named.items) given.items)
-        (NeededBy p (AskedByAll p (statements_of parts.now) (lists_of sets.old.named.items)))
+        (λ given. AfterAll p.objects (statements_of parts.now) env next given.items)
+        (NeededBy p (AskedByAll p (statements_of parts.now) env))
         (nodes_around W.holds W.used source.old source.new) result }
 {
     let mut given = Vec::new(alloc);

@@ -43,13 +43,12 @@ pub(crate) fn select<W: Source>(
     ensures walked { OnOk result (W.walked source.old source.new) }
     ensures told { IfErr result (W.tells source.new) }
     ensures named { IfOk result (AllGiven (W.gave source.new)) }
-    ensures answer { (p : Publication) → IsPublication p → W.under source.old p
-        → AreAllThere p.objects (lists_of sets.now.named.items)
+    ensures answer { let env = lists_of sets.now.named.items in
+        (p : Publication) → IsPublication p → W.under source.old p → AreAllThere p.objects env
         → AllByRecursion (Allows pick) (filters_of filters.now)
-        → Outcome cause_of_evaluation
-        (λ refs. IsSetOf refs
-        (IsRefOf p.objects (IsSelected p.objects (lists_of sets.now.named.items) pick (filters_of filters.now))))
-        (NeededBy p (AskedBySelect p (lists_of sets.now.named.items) pick (filters_of filters.now)))
+        → Outcome cause_of_evaluation (λ refs. IsSetOf refs
+        (IsRefOf p.objects (IsSelected p.objects env pick (filters_of filters.now))))
+        (NeededBy p (AskedBySelect p env pick (filters_of filters.now)))
         (nodes_around W.holds W.used source.old source.new) result }
 {
     let plan = choose_plan(alloc, source, kind_of(pick), filters)?;
@@ -70,13 +69,12 @@ fn answered<W: Source>(
     ensures walked { OnOk result (W.walked source.old source.new) }
     ensures told { IfErr result (W.tells source.new) }
     ensures named { IfOk result (AllGiven (W.gave source.new)) }
-    ensures answer { (p : Publication) → IsPublication p → W.under source.old p
-        → AreAllThere p.objects (lists_of sets.now.named.items)
+    ensures answer { let env = lists_of sets.now.named.items in
+        (p : Publication) → IsPublication p → W.under source.old p → AreAllThere p.objects env
         → AllByRecursion (Allows pick) (filters_in plan.now)
-        → Outcome cause_of_evaluation
-        (λ refs. IsSetOf refs
-        (IsRefOf p.objects (IsSelected p.objects (lists_of sets.now.named.items) pick (filters_in plan.now))))
-        (NeededBy p (AskedByPlan p.objects (lists_of sets.now.named.items) pick plan.now))
+        → Outcome cause_of_evaluation (λ refs. IsSetOf refs
+        (IsRefOf p.objects (IsSelected p.objects env pick (filters_in plan.now))))
+        (NeededBy p (AskedByPlan p.objects env pick plan.now))
         (nodes_around W.holds W.used source.old source.new) result }
 {
     let found = find_candidates(alloc, source, pick, plan.base(), sets)?;

@@ -112,7 +112,8 @@ pub(crate) trait Source {
 
     ghost same_under: { (s t : Self) (p : Publication) → later s t → under s p → under t p };
 
-    ghost same_known: { (s t : Self) (r : Ref) (object : Option Element) → later s t → knows s r object → knows t r object };
+    ghost same_known: { (s t : Self) (r : Ref) (object : Option Element) → later s t
+        → knows s r object → knows t r object };
 
     ghost out_of_memory: { (s : Self) → tells s Memory };
 
@@ -124,5 +125,6 @@ pub(crate) trait Source {
 
     ghost no_walk: { (s : Self) → walked s s };
 
-    ghost more_walks: { (s t u : Self) → later s t → later t u → walked s t → walked t u → walked s u };
+    ghost more_walks: { (s t u : Self) → later s t → later t u → walked s t → walked t u
+        → walked s u };
 }

@@ -39,11 +39,14 @@ pub(crate) fn entries_in<'a, S: Shelf<'a>>(
     ensures gives { IfOk result (λ found. IsWalk
         (nodes_around S.holds S.used shelf.old shelf.new)
         tally.old.fetches tally.new.fetches
-        tree (top_among manifest.now.tops tree) (range_of keys.now) (These (bindings_of found.items))) }
-    ensures told { IfErr result (HasReason (number_of tree) (top_among manifest.now.tops tree) (S.holds shelf.new) (S.used shelf.new)) }
+        tree (top_among manifest.now.tops tree) (range_of keys.now)
+        (These (bindings_of found.items))) }
+    ensures told { IfErr result
+        (HasReason (number_of tree) (top_among manifest.now.tops tree)
+        (S.holds shelf.new) (S.used shelf.new)) }
     ensures answer { (p : Publication) → IsPublication p → IsUnder p manifest.now
-        → Outcome cause_of
-        (λ found. AreThose (IsEntryIn (range_of keys.now)) (p.entries tree) (bindings_of found.items))
+        → Outcome cause_of (λ found. AreThose (IsEntryIn (range_of keys.now)) (p.entries tree)
+        (bindings_of found.items))
         (NeedsAsk p (Listed tree (range_of keys.now)))
         (nodes_around S.holds S.used shelf.old shelf.new) result }
 {
@@ -65,7 +68,9 @@ pub(crate) fn count_in<'a, S: Shelf<'a>>(
     ensures walked { OnOk result (HasGiven (top_among manifest.now.tops) HaveForm
         (nodes_around S.holds S.used shelf.old shelf.new)
         tally.old.calls tally.new.calls tally.old.fetches tally.new.fetches) }
-    ensures told { IfErr result (HasReason (number_of tree) (top_among manifest.now.tops tree) (S.holds shelf.new) (S.used shelf.new)) }
+    ensures told { IfErr result
+        (HasReason (number_of tree) (top_among manifest.now.tops tree)
+        (S.holds shelf.new) (S.used shelf.new)) }
     ensures answer { (p : Publication) → IsPublication p → IsUnder p manifest.now
         → Outcome cause_of
         (λ number. IsCount (IsEntryIn (range_of keys.now)) (p.entries tree) number)
