@@ -3,13 +3,15 @@ use Rattle.std.proofs.Common.{true, false, List, [], ◌∷◌, ◌++◌}
 use Rattle.std.specs.Prelude.{Ok, Err}
 use Rattle.osm_desk.specs.Desks.{Desk}
 use Rattle.osm_desk.specs.Happenings.{arrived, ended, opened, published}
-use Rattle.osm_traffic.specs.Deeds.{Deed, HasRoom, IsHushed, IsPaced, Runs, handed, parted, stepped}
+use Rattle.osm_traffic.specs.Deeds.{Deed, HasRoom, IsHushed, IsPaced, Runs, handed, lost, parted, stepped, waited}
 
 runs_one : (d : Desk) (deed : Deed) (before : List Deed) → Runs d (deed ∷ before) → Runs d before
 runs_one d (stepped h (Ok answers)) before is = is.1
 runs_one d (stepped h (Err fault)) before is = is.1
 runs_one d (handed n bytes) before is = is
 runs_one d (parted n whole) before is = is
+runs_one d (lost n) before is = is
+runs_one d (waited room) before is = is
 
 room_one : (d : Desk) (deed : Deed) (before : List Deed) → HasRoom d (deed ∷ before) → HasRoom d before
 room_one d (stepped (opened n) r) before is = is.2
@@ -18,6 +20,8 @@ room_one d (stepped (ended n) r) before is = is
 room_one d (stepped (published made) r) before is = is
 room_one d (handed n bytes) before is = is
 room_one d (parted n whole) before is = is
+room_one d (lost n) before is = is
+room_one d (waited room) before is = is
 
 hushed_one : (deed : Deed) (before : List Deed) → IsHushed (deed ∷ before) → IsHushed before
 hushed_one (stepped (opened n) r) before is = is.1
@@ -26,6 +30,8 @@ hushed_one (stepped (ended n) r) before is = is
 hushed_one (stepped (published made) r) before is = is
 hushed_one (handed n bytes) before is = is
 hushed_one (parted n whole) before is = is
+hushed_one (lost n) before is = is
+hushed_one (waited room) before is = is
 
 paced_one : (deed : Deed) (before : List Deed) → IsPaced (deed ∷ before) → IsPaced before
 paced_one (stepped (opened n) r) before is = is
@@ -35,6 +41,8 @@ paced_one (stepped (published made) r) before is = is
 paced_one (handed n bytes) before is = is
 paced_one (parted n false) before is = is
 paced_one (parted n true) before is = is.1
+paced_one (lost n) before is = is
+paced_one (waited room) before is = is
 
 pub runs_past : (d : Desk) (after before : List Deed) → Runs d (after ++ before) → Runs d before
 runs_past d [] before is = is

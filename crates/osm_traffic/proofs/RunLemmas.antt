@@ -16,7 +16,7 @@ use Rattle.osm_index.specs.declared.apply_fault.ApplyFault.{ApplyFault}
 use Rattle.osm_desk.specs.declared.desk_fault.DeskFault.{DeskFault}
 use Rattle.osm_desk.specs.declared.desk_fault.DeskFault.TheVariants.{NoRoom}
 use Rattle.osm_desk.specs.declared.limits.TheConstants.{CONNECTION_LIMIT}
-use Rattle.osm_traffic.specs.Deeds.{Deed, HasRoom, IsHushed, Runs, Serves, desk_after, handed, in_order, is_fed, joined, last_word, owed, parted, sent, starves, stepped, texts_for}
+use Rattle.osm_traffic.specs.Deeds.{Deed, HasRoom, IsHushed, Runs, Serves, desk_after, handed, in_order, is_fed, joined, last_word, lost, owed, parted, sent, starves, stepped, texts_for, waited}
 use Rattle.osm_traffic.proofs.DeedLemmas.{other}
 use Rattle.std.proofs.lemmas.Bool.{eqb-true}
 
@@ -81,6 +81,8 @@ after_deeds d (stepped h (Ok answers) ∷ before) = after_more (in_order before)
 after_deeds d (stepped h (Err fault) ∷ before) = after_more (in_order before) d h (Err fault) ∙ after_deeds d before
 after_deeds d (handed n bytes ∷ before) = after_deeds d before
 after_deeds d (parted n whole ∷ before) = after_deeds d before
+after_deeds d (lost n ∷ before) = after_deeds d before
+after_deeds d (waited room ∷ before) = after_deeds d before
 
 pub ran_in_order : (d : Desk) (deeds : List Deed) → Runs d deeds → Ran d (in_order deeds)
 unfolding IsStep
@@ -91,6 +93,8 @@ ran_in_order d (stepped h (Err fault) ∷ before) runs =
     ran_more (in_order before) d h (Err fault) (ran_in_order d before runs.1) (subst (λ (d : Desk). IsRefusedBy d h fault) (sym (after_deeds d before)) runs.0)
 ran_in_order d (handed n bytes ∷ before) runs = ran_in_order d before runs
 ran_in_order d (parted n whole ∷ before) runs = ran_in_order d before runs
+ran_in_order d (lost n ∷ before) runs = ran_in_order d before runs
+ran_in_order d (waited room ∷ before) runs = ran_in_order d before runs
 
 -- ---- room
 
@@ -127,6 +131,8 @@ roomy_in_order d (stepped h r ∷ before) room =
     roomy_more (in_order before) d h r (roomy_in_order d before both.1) (subst (λ (d : Desk). HasRoomFor d h) (sym (after_deeds d before)) both.0)
 roomy_in_order d (handed n bytes ∷ before) room = roomy_in_order d before room
 roomy_in_order d (parted n whole ∷ before) room = roomy_in_order d before room
+roomy_in_order d (lost n ∷ before) room = roomy_in_order d before room
+roomy_in_order d (waited free ∷ before) room = roomy_in_order d before room
 
 no_more : (m : Connections) (c : ℕ) → len (remove m c) ≤ len m
 no_more m c = subst (λ n. n ≤ len m) (sym (len-remove nat_cmp_total m c)) (elim (is_some (get m c)) as (λ b. cond b (len m - 1) (len m) ≤ len m) [ true ↦ omega arith | false ↦ omega arith ])
@@ -246,6 +252,8 @@ owed_joined c d (stepped h (Err fault) ∷ before) runs hushed =
     ∙ ap (λ texts. joined texts ++ last_word (is_fed c (stepped h (Err fault) ∷ before))) (sym (got_append c (in_order before) ((h, Err fault) ∷ []) ∙ append-nil (got c (in_order before))))
 owed_joined c d (handed n bytes ∷ before) runs hushed = owed_joined c d before runs hushed
 owed_joined c d (parted n whole ∷ before) runs hushed = owed_joined c d before runs hushed
+owed_joined c d (lost n ∷ before) runs hushed = owed_joined c d before runs hushed
+owed_joined c d (waited room ∷ before) runs hushed = owed_joined c d before runs hushed
 
-pub handed_own : (c : ℕ) (d : Desk) (deeds : List Deed) → Serves d deeds → (rest : List ℕ) × (sent c deeds ++ rest ≡ joined (got c (in_order deeds)) ++ last_word (is_fed c deeds))
-handed_own c d deeds s = let (rest, is) = s.fronts c in (rest, is ∙ owed_joined c d deeds s.ran s.hushed)
+pub handed_own : (c wanted : ℕ) (d : Desk) (deeds : List Deed) → Serves wanted d deeds → (rest : List ℕ) × (sent c deeds ++ rest ≡ joined (got c (in_order deeds)) ++ last_word (is_fed c deeds))
+handed_own c wanted d deeds s = let (rest, is) = s.fronts c in (rest, is ∙ owed_joined c d deeds s.ran s.hushed)

@@ -1,8 +1,8 @@
 -- How the server stands after each deed.
-use Rattle.std.proofs.Common.{⊎_elim, ◌≡◌, ◌∙◌, ◌≤◌, ◌<◌, ◌+◌, inl, inr, ℕ, suc, Bool, true, false, List, [], ◌∷◌, ◌++◌, ap, sym, refl, subst, take, drop, length, append_assoc, arith, add-one}
+use Rattle.std.proofs.Common.{⊎_elim, ◌≡◌, ◌∙◌, ◌≤◌, ◌<◌, ◌+◌, ◌-◌, ◌↔◌, inl, inr, ℕ, suc, Bool, true, false, List, [], ◌∷◌, ◌++◌, ap, sym, refl, subst, take, drop, length, append_assoc, arith, add-one}
 use Rattle.std.proofs.lemmas.Bool.{cases_eq, cases_lt, lt-ltb}
 use Rattle.std.proofs.lemmas.List.{append-nil, drop_all, take-append-drop}
-use Rattle.std.specs.FinMap.{empty, get, insert, len, remove, get-empty}
+use Rattle.std.specs.FinMap.{empty, get, insert, len, remove, get-empty, len-empty}
 use Rattle.std.specs.Ordering.{nat_cmp}
 use Rattle.std.specs.Prelude.{Option, Some, None, Result, Ok, Err, OnErr, IsSome, is_some, if◌then◌else◌, ◌==◌}
 use Rattle.osm_desk.specs.Contents.{Contents, StandsFor}
@@ -18,15 +18,18 @@ use Rattle.osm_index.specs.Snapshots.{HoldsPublication}
 use Rattle.osm_desk.specs.declared.desk_fault.DeskFault.{DeskFault}
 use Rattle.osm_desk.specs.declared.desk_fault.DeskFault.TheVariants.{AlreadyOpen, Memory, NoRoom, NotOpen, Refused}
 use Rattle.osm_desk.specs.declared.limits.TheConstants.{CONNECTION_LIMIT}
-use Rattle.osm_traffic.specs.Deeds.{Deed, IsPaced, Runs, Serves, desk_after, handed, is_fed, owed, parted, sent, stepped, text_for, texts_for}
+use Rattle.osm_traffic.specs.Deeds.{Deed, IsPaced, Runs, Serves, desk_after, handed, is_fed, lost, open_count, owed, parted, sent, stepped, text_for, texts_for, waited}
 use Rattle.osm_traffic.specs.declared.traffic.Writing.{Writing}
 use Rattle.osm_traffic.specs.declared.traffic.Writing.TheVariants.{Took, Gone}
+use Rattle.osm_traffic.specs.Entries as entries
+use Rattle.osm_traffic.specs.declared.traffic.Room.{Room}
+use Rattle.osm_traffic.specs.declared.traffic.Room.TheVariants.{Free}
 use Rattle.osm_traffic.specs.Entries.{Entry, Writes, brought, came, left, left_by, noted, took}
 use Rattle.osm_traffic.specs.Pieces.{IsCut}
 use Rattle.osm_traffic.specs.Published.{HasPublished, IsPublishedFrom}
 use Rattle.osm_traffic.specs.internal.Standing.{IsOwed, Stands, Waiting}
 use Rattle.osm_traffic.proofs.DeedLemmas.{other, quiet, same}
-use Rattle.osm_traffic.proofs.MapLemmas.{get-put_other, get-put_same, get-removed_none, get-removed_other, get-removed_same, removed-none}
+use Rattle.osm_traffic.proofs.MapLemmas.{get-put_other, get-put_same, get-removed_none, get-removed_other, get-removed_same, len-put_new, len-put_old, len-removed_some, removed-none}
 
 pub owed_any : (o : Option (List ℕ)) (given all : List ℕ) → IsOwed o given all → (rest : List ℕ) × (given ++ rest ≡ all)
 owed_any None given all is = is
@@ -36,6 +39,9 @@ pub some_by : {A : Type 0} → (o : Option A) → is_some o ≡ true → (x : A)
 some_by None e = cc
 some_by (Some x) e = (x, refl)
 
+one_back : (n : ℕ) → suc n - 1 ≡ n
+one_back n = omega arith
+
 true_if : (b : Bool) → (b ≡ false → ⊥) → b ≡ true
 true_if true isnt = refl
 true_if false isnt = absurd (isnt refl)
@@ -44,7 +50,7 @@ true_if false isnt = absurd (isnt refl)
 apart : (outputs : Waiting) (taken n c : ℕ) (bytes : List ℕ) → ((c : ℕ) → taken ≤ c → get outputs c ≡ None) → get outputs n ≡ Some bytes → taken ≤ c → n ≡ c → ⊥
 apart outputs taken n c bytes known some above is = let none = known n (subst (λ c. taken ≤ c) (sym is) above) in let no = sym some ∙ none in cc
 
-module _ (d : Desk) (base : List Entry) (deeds : List Deed) (log : Option (List Entry)) (outputs : Waiting) (contents : Contents) (taken : ℕ) (s : Stands d base deeds log outputs contents taken) where
+module _ (wanted : ℕ) (d : Desk) (base : List Entry) (deeds : List Deed) (log : Option (List Entry)) (outputs : Waiting) (contents : Contents) (taken : ℕ) (s : Stands wanted d base deeds log outputs contents taken) where
   abbrev D : Desk
   D = desk_after d deeds
 
@@ -63,7 +69,7 @@ module _ (d : Desk) (base : List Entry) (deeds : List Deed) (log : Option (List 
         (λ (e : n ≡ c → ⊥). rw (get-put_other outputs n (drop count bytes) c e, other n c (sent c deeds ++ take count bytes) (sent c deeds) e) (s.owes c))
         (cases_eq n c)
 
-    pub hands : Stands d base (handed n (take count bytes) ∷ deeds) (noted (took n (take count bytes)) log) (insert outputs n (drop count bytes)) contents taken
+    pub hands : Stands wanted d base (handed n (take count bytes) ∷ deeds) (noted (took n (take count bytes)) log) (insert outputs n (drop count bytes)) contents taken
     hands = record {
       logged = ap (noted (took n (take count bytes))) s.logged;
       ran = s.ran;
@@ -79,6 +85,8 @@ module _ (d : Desk) (base : List Entry) (deeds : List Deed) (log : Option (List 
       made = s.made;
       cut = s.cut;
       count = s.count;
+      open_are = len-put_old outputs n (drop count bytes) bytes some ∙ s.open_are;
+      makes_room = s.makes_room;
     }
 
   -- ---- a connection is let go
@@ -104,23 +112,16 @@ module _ (d : Desk) (base : List Entry) (deeds : List Deed) (log : Option (List 
     desk_ended None is = (s.desk.0, ap (λ (all : Connections). remove all n) same_connections ∙ removed-none D.connections n is)
     desk_ended (Some r) is = subst (λ (t : Step). StandsFor (without contents n) t.desk) (sym (ap (end_step D n) is)) (s.desk.0, ap (λ (all : Connections). remove all n) same_connections)
 
-    owes_removed : (c : ℕ) → IsOwed (get (remove outputs n) c) (sent c deeds) (owed c deeds)
-    owes_removed c = ⊎_elim
-        (λ (e : n ≡ c). subst (λ c. IsOwed (get (remove outputs n) c) (sent c deeds) (owed c deeds)) e
-        (rw (get-removed_same outputs n) (owed_any (get outputs n) (sent n deeds) (owed n deeds) (s.owes n))))
-        (λ (e : n ≡ c → ⊥). rw (get-removed_other outputs n c e) (s.owes c))
-        (cases_eq n c)
-
-    -- the connection is forgotten
-    pub forgets : Stands d base (stepped (ended n) (ended_reply (get D.connections n)) ∷ deeds) log (remove outputs n) (without contents n) taken
+    -- the desk forgets the connection
+    pub forgets : Stands wanted d base (stepped (ended n) (ended_reply (get D.connections n)) ∷ deeds) log outputs (without contents n) taken
     forgets =
         let o = get D.connections n in
         record {
           logged = s.logged;
           ran = runs_ended o refl;
           desk = desk_ended o refl;
-          owes = λ c. subst (λ all. IsOwed (get (remove outputs n) c) (sent c deeds) all) (sym (quiet c (ended n) (ended_reply o) deeds (no_text c n o))) (owes_removed c);
-          known = λ c above. get-removed_none outputs n c (s.known c above);
+          owes = λ c. subst (λ all. IsOwed (get outputs c) (sent c deeds) all) (sym (quiet c (ended n) (ended_reply o) deeds (no_text c n o))) (s.owes c);
+          known = s.known;
           fresh = λ c above. ((s.fresh c above).0, quiet c (ended n) (ended_reply o) deeds (no_text c n o) ∙ (s.fresh c above).1, fed_ended c n o ∙ (s.fresh c above).2);
           unopened = λ c above. get-removed_none contents.connections n c (s.unopened c above);
           gone = λ c isnt. get-removed_none contents.connections n c (s.gone c (sym (fed_ended c n o) ∙ isnt));
@@ -130,16 +131,76 @@ module _ (d : Desk) (base : List Entry) (deeds : List Deed) (log : Option (List 
           made = s.made;
           cut = s.cut;
           count = s.count;
+          open_are = s.open_are;
+          makes_room = s.makes_room;
         }
 
   paced_parted : (n : ℕ) (whole : Bool) → (whole ≡ true → get outputs n ≡ Some []) → IsPaced (parted n whole ∷ deeds)
   paced_parted n false idle = s.paced
   paced_parted n true idle = (sym (append-nil (sent n deeds)) ∙ subst (λ o. IsOwed o (sent n deeds) (owed n deeds)) (idle refl) (s.owes n), s.paced)
 
-  -- its socket is let go
-  pub leaves : (n : ℕ) (whole : Bool) → (whole ≡ true → get outputs n ≡ Some []) → Stands d base (parted n whole ∷ deeds) (noted (left n whole) log) outputs contents taken
-  leaves n whole idle = record {
-    logged = ap (noted (left n whole)) s.logged;
+  module _ (n : ℕ) (left_over : List ℕ) (some : get outputs n ≡ Some left_over) where
+    owes_removed : (c : ℕ) → IsOwed (get (remove outputs n) c) (sent c deeds) (owed c deeds)
+    owes_removed c = ⊎_elim
+        (λ (e : n ≡ c). subst (λ c. IsOwed (get (remove outputs n) c) (sent c deeds) (owed c deeds)) e
+        (rw (get-removed_same outputs n) (owed_any (get outputs n) (sent n deeds) (owed n deeds) (s.owes n))))
+        (λ (e : n ≡ c → ⊥). rw (get-removed_other outputs n c e) (s.owes c))
+        (cases_eq n c)
+
+    known_removed : (c : ℕ) → taken ≤ c → get (remove outputs n) c ≡ None
+    known_removed c above = get-removed_none outputs n c (s.known c above)
+
+    one_less : len (remove outputs n) ≡ open_count deeds - 1
+    one_less = len-removed_some outputs n left_over some ∙ ap (λ k. k - 1) s.open_are
+
+    -- its socket is let go
+    pub leaves : (whole : Bool) → (whole ≡ true → get outputs n ≡ Some []) → Stands wanted d base (parted n whole ∷ deeds) (noted (left n whole) log) (remove outputs n) contents taken
+    leaves whole idle = record {
+      logged = ap (noted (left n whole)) s.logged;
+      ran = s.ran;
+      desk = s.desk;
+      owes = owes_removed;
+      known = known_removed;
+      fresh = s.fresh;
+      unopened = s.unopened;
+      gone = s.gone;
+      hushed = s.hushed;
+      paced = paced_parted n whole idle;
+      room = s.room;
+      made = s.made;
+      cut = s.cut;
+      count = s.count;
+      open_are = one_less;
+      makes_room = s.makes_room;
+    }
+
+    -- it has none
+    pub loses : Stands wanted d base (lost n ∷ deeds) log (remove outputs n) contents taken
+    loses = record {
+      logged = s.logged;
+      ran = s.ran;
+      desk = s.desk;
+      owes = owes_removed;
+      known = known_removed;
+      fresh = s.fresh;
+      unopened = s.unopened;
+      gone = s.gone;
+      hushed = s.hushed;
+      paced = s.paced;
+      room = s.room;
+      made = s.made;
+      cut = s.cut;
+      count = s.count;
+      open_are = one_less;
+      makes_room = s.makes_room;
+    }
+
+  -- ---- what is next is waited for
+
+  pub waits : (room : Room) → ((room ≡ Free) ↔ ((taken < wanted) × (len outputs < CONNECTION_LIMIT) × (len contents.connections < CONNECTION_LIMIT)))
+      → Stands wanted d base (waited room ∷ deeds) (noted (entries.waited room) log) outputs contents taken
+  waits room free = record {
+    logged = ap (noted (entries.waited room)) s.logged;
     ran = s.ran;
     desk = s.desk;
     owes = s.owes;
@@ -148,11 +209,27 @@ module _ (d : Desk) (base : List Entry) (deeds : List Deed) (log : Option (List 
     unopened = s.unopened;
     gone = s.gone;
     hushed = s.hushed;
-    paced = paced_parted n whole idle;
+    paced = s.paced;
     room = s.room;
     made = s.made;
     cut = s.cut;
     count = s.count;
+    open_are = s.open_are;
+    makes_room = (
+      (
+        (λ is. let both = free.0 is in (
+          subst (λ n. n < wanted) (sym s.count) both.0,
+          subst (λ n. n < CONNECTION_LIMIT) s.open_are both.1,
+          subst (λ (all : Connections). len all < CONNECTION_LIMIT) same_connections both.2,
+        )),
+        (λ (few, room, desk). free.1 (
+          subst (λ n. n < wanted) s.count few,
+          subst (λ n. n < CONNECTION_LIMIT) (sym s.open_are) room,
+          subst (λ (all : Connections). len all < CONNECTION_LIMIT) (sym same_connections) desk,
+        )),
+      ),
+      s.makes_room,
+    );
   }
 
   -- ---- something is owed to a connection that had nothing coming
@@ -197,7 +274,7 @@ module _ (d : Desk) (base : List Entry) (deeds : List Deed) (log : Option (List 
     pub hears_ok : (contents' : Contents) (text : List ℕ) → IsSome (get contents.connections n)
         → ((p : Publication) → HoldsPublication contents.snapshot p → Responds p (heard_next (rest_of contents n) piece).outcomes text)
         → contents' ≡ with_rest contents n (heard_next (rest_of contents n) piece).rest
-        → Stands d base (stepped (arrived n piece) (Ok ((n, text) ∷ [])) ∷ deeds) (noted (brought n piece) log) (insert outputs n text) contents' taken
+        → Stands wanted d base (stepped (arrived n piece) (Ok ((n, text) ∷ [])) ∷ deeds) (noted (brought n piece) log) (insert outputs n text) contents' taken
     hears_ok contents' text opens responds new =
         let (r, found) = some_by (get contents.connections n) opens in
         let rest_is : rest_of contents n ≡ r = ap (λ o. rest_if o) found in
@@ -226,10 +303,12 @@ module _ (d : Desk) (base : List Entry) (deeds : List Deed) (log : Option (List 
           made = s.made;
           cut = (is_cut, s.cut);
           count = s.count;
+          open_are = len-put_old outputs n text [] idle ∙ s.open_are;
+          makes_room = s.makes_room;
         }
 
     pub hears_err : (contents' : Contents) → IsSome (get contents.connections n) → contents' ≡ without contents n
-        → Stands d base (stepped (ended n) (Ok []) ∷ stepped (arrived n piece) (Err Memory) ∷ deeds) (noted (brought n piece) log) (insert outputs n no_memory) contents' taken
+        → Stands wanted d base (stepped (ended n) (Ok []) ∷ stepped (arrived n piece) (Err Memory) ∷ deeds) (noted (brought n piece) log) (insert outputs n no_memory) contents' taken
     hears_err contents' opens new =
         let (r, found) = some_by (get contents.connections n) opens in
         let at : get D.connections n ≡ Some r = ap (λ (all : Connections). get all n) (sym same_connections) ∙ found in
@@ -258,6 +337,8 @@ module _ (d : Desk) (base : List Entry) (deeds : List Deed) (log : Option (List 
           made = s.made;
           cut = (is_cut, s.cut);
           count = s.count;
+          open_are = len-put_old outputs n no_memory [] idle ∙ s.open_are;
+          makes_room = s.makes_room;
         }
 
   -- ---- a connection comes
@@ -279,7 +360,7 @@ module _ (d : Desk) (base : List Entry) (deeds : List Deed) (log : Option (List 
     nothing = let both = s.fresh taken (omega arith) in both.0 ∙ sym (both.1)
 
     pub opens_ok : (contents' : Contents) → IsFree contents taken → contents' ≡ with_rest contents taken (open_rest [])
-        → Stands d base (stepped (opened taken) (Ok []) ∷ deeds) (noted (came taken) log) (insert outputs taken []) contents' (taken + 1)
+        → Stands wanted d base (stepped (opened taken) (Ok []) ∷ deeds) (noted (came taken) log) (insert outputs taken []) contents' (taken + 1)
     opens_ok contents' free new =
         let none : get D.connections taken ≡ None = ap (λ (all : Connections). get all taken) (sym same_connections) ∙ free.0 in
         let is_opened : step D (opened taken) ≡ quietly D.publication (insert D.connections taken (open_rest [])) =
@@ -304,6 +385,8 @@ module _ (d : Desk) (base : List Entry) (deeds : List Deed) (log : Option (List 
           made = s.made;
           cut = s.cut;
           count = ap suc s.count ∙ sym (add-one taken);
+          open_are = len-put_new outputs taken [] (s.known taken (omega arith)) ∙ add-one (len outputs) ∙ ap suc s.open_are;
+          makes_room = s.makes_room;
         }
 
     refused_opening : (fault : DeskFault) → RefusesOpening contents taken fault → IsRefusedBy D (opened taken) fault
@@ -316,7 +399,7 @@ module _ (d : Desk) (base : List Entry) (deeds : List Deed) (log : Option (List 
     refused_opening Memory is = λ (no : false ≡ true). cc
 
     pub opens_err : (contents' : Contents) (fault : DeskFault) → RefusesOpening contents taken fault → contents' ≡ contents
-        → Stands d base (stepped (opened taken) (Err fault) ∷ deeds) (noted (came taken) log) (insert outputs taken no_memory) contents' (taken + 1)
+        → Stands wanted d base (stepped (opened taken) (Err fault) ∷ deeds) (noted (came taken) log) (insert outputs taken no_memory) contents' (taken + 1)
     opens_err contents' fault refused new =
         let its : text_for taken (opened taken) (Err fault) ≡ no_memory = same taken no_memory [] in
         record {
@@ -334,10 +417,12 @@ module _ (d : Desk) (base : List Entry) (deeds : List Deed) (log : Option (List 
           made = s.made;
           cut = s.cut;
           count = ap suc s.count ∙ sym (add-one taken);
+          open_are = len-put_new outputs taken no_memory (s.known taken (omega arith)) ∙ add-one (len outputs) ∙ ap suc s.open_are;
+          makes_room = s.makes_room;
         }
 
     -- without a output for it
-    pub opens_not : Stands d base (stepped (opened taken) (Err Memory) ∷ deeds) (noted (came taken) log) outputs contents (taken + 1)
+    pub opens_not : Stands wanted d base (lost taken ∷ stepped (opened taken) (Err Memory) ∷ deeds) (noted (came taken) log) outputs contents (taken + 1)
     opens_not =
         let owes : (c : ℕ) → IsOwed (get outputs c) (sent c deeds) (owed c deeds ++ text_for c (opened taken) (Err Memory)) = λ c. ⊎_elim
         (λ (e : taken ≡ c). subst (λ c. IsOwed (get outputs c) (sent c deeds) (owed c deeds ++ text_for c (opened taken) (Err Memory))) e
@@ -359,12 +444,14 @@ module _ (d : Desk) (base : List Entry) (deeds : List Deed) (log : Option (List 
           made = s.made;
           cut = s.cut;
           count = ap suc s.count ∙ sym (add-one taken);
+          open_are = s.open_are ∙ sym (one_back (open_count deeds));
+          makes_room = s.makes_room;
         }
 
   -- ---- changes are published
 
   module _ (contents' : Contents) (connections : contents'.connections ≡ contents.connections) where
-    pub publishes : (q : Publication) → IsPublishedFrom D.publication q → HoldsPublication contents'.snapshot q → Stands d base (stepped (published (Ok q)) (Ok []) ∷ deeds) log outputs contents' taken
+    pub publishes : (q : Publication) → IsPublishedFrom D.publication q → HoldsPublication contents'.snapshot q → Stands wanted d base (stepped (published (Ok q)) (Ok []) ∷ deeds) log outputs contents' taken
     publishes q made held = record {
       logged = s.logged;
       ran = (tt, s.ran);
@@ -380,9 +467,11 @@ module _ (d : Desk) (base : List Entry) (deeds : List Deed) (log : Option (List 
       made = (made, s.made);
       cut = s.cut;
       count = s.count;
+      open_are = s.open_are;
+      makes_room = s.makes_room;
     }
 
-    pub keeps_publication : HoldsPublication contents'.snapshot D.publication → Stands d base deeds log outputs contents' taken
+    pub keeps_publication : HoldsPublication contents'.snapshot D.publication → Stands wanted d base deeds log outputs contents' taken
     keeps_publication held = record {
       logged = s.logged;
       ran = s.ran;
@@ -395,6 +484,8 @@ module _ (d : Desk) (base : List Entry) (deeds : List Deed) (log : Option (List 
       made = s.made;
       cut = s.cut;
       count = s.count;
+      open_are = s.open_are;
+      makes_room = s.makes_room;
       unopened = λ c above. ap (λ (all : Connections). get all c) connections ∙ s.unopened c above;
       gone = λ c isnt. ap (λ (all : Connections). get all c) connections ∙ s.gone c isnt;
       hushed = s.hushed;
@@ -402,13 +493,13 @@ module _ (d : Desk) (base : List Entry) (deeds : List Deed) (log : Option (List 
 
   -- ---- what it comes to
 
-  pub serves : Serves d deeds
-  serves = record { ran = s.ran; fronts = λ c. owed_any (get outputs c) (sent c deeds) (owed c deeds) (s.owes c); paced = s.paced; room = s.room; hushed = s.hushed; made = s.made; cut = s.cut }
+  pub serves : Serves wanted d deeds
+  serves = record { ran = s.ran; fronts = λ c. owed_any (get outputs c) (sent c deeds) (owed c deeds) (s.owes c); paced = s.paced; room = s.room; makes_room = s.makes_room; hushed = s.hushed; made = s.made; cut = s.cut }
 
 -- the same, told of other values
-pub moved : (d : Desk) (base : List Entry) (deeds : List Deed) (log log' : Option (List Entry)) (outputs outputs' : Waiting) (contents contents' : Contents) (taken : ℕ)
-    → log' ≡ log → outputs' ≡ outputs → contents' ≡ contents → Stands d base deeds log outputs contents taken → Stands d base deeds log' outputs' contents' taken
-moved d base deeds log log' outputs outputs' contents contents' taken a b c s = rw (a, b, c) s
+pub moved : (wanted : ℕ) (d : Desk) (base : List Entry) (deeds : List Deed) (log log' : Option (List Entry)) (outputs outputs' : Waiting) (contents contents' : Contents) (taken : ℕ)
+    → log' ≡ log → outputs' ≡ outputs → contents' ≡ contents → Stands wanted d base deeds log outputs contents taken → Stands wanted d base deeds log' outputs' contents' taken
+moved wanted d base deeds log log' outputs outputs' contents contents' taken a b c s = rw (a, b, c) s
 
 pub gone : (number : ℕ) (bytes : List ℕ) (old new : Option (List Entry)) (w : Writing) → ((count : ℕ) → w ≡ Took count → ⊥) → Writes number bytes old new w → new ≡ old
 gone number bytes old new (Took count) isnt is = absurd (isnt count refl)
@@ -418,20 +509,20 @@ pub dropped_all : (count : ℕ) (bytes : List ℕ) → count ≡ length bytes �
 dropped_all count bytes is = drop_all count bytes (omega arith)
 
 -- somebody looked for changes
-pub looked : (d : Desk) (base : List Entry) (deeds : List Deed) (log : Option (List Entry)) (outputs : Waiting) (contents contents' : Contents) (taken : ℕ) → Stands d base deeds log outputs contents taken
+pub looked : (wanted : ℕ) (d : Desk) (base : List Entry) (deeds : List Deed) (log : Option (List Entry)) (outputs : Waiting) (contents contents' : Contents) (taken : ℕ) → Stands wanted d base deeds log outputs contents taken
     → contents'.connections ≡ contents.connections → ((p : Publication) → HoldsPublication contents.snapshot p → HasPublished p contents'.snapshot)
-    → (more : List Deed) × Stands d base more log outputs contents' taken
-looked d base deeds log outputs contents contents' taken s connections in_force = by (in_force (desk_after d deeds).publication s.desk.0)
+    → (more : List Deed) × Stands wanted d base more log outputs contents' taken
+looked wanted d base deeds log outputs contents contents' taken s connections in_force = by (in_force (desk_after d deeds).publication s.desk.0)
   where
-    by : HasPublished (desk_after d deeds).publication contents'.snapshot → (more : List Deed) × Stands d base more log outputs contents' taken
+    by : HasPublished (desk_after d deeds).publication contents'.snapshot → (more : List Deed) × Stands wanted d base more log outputs contents' taken
     by (q, held, inl same) =
-        (deeds, keeps_publication d base deeds log outputs contents taken s contents' connections (subst (λ (q : Publication). HoldsPublication contents'.snapshot q) same held))
-    by (q, held, inr made) = (stepped (published (Ok q)) (Ok []) ∷ deeds, publishes d base deeds log outputs contents taken s contents' connections q made held)
+        (deeds, keeps_publication wanted d base deeds log outputs contents taken s contents' connections (subst (λ (q : Publication). HoldsPublication contents'.snapshot q) same held))
+    by (q, held, inr made) = (stepped (published (Ok q)) (Ok []) ∷ deeds, publishes wanted d base deeds log outputs contents taken s contents' connections q made held)
 
 -- before anything has happened
-pub begins : (contents : Contents) (p : Publication) (base : List Entry) (log : Option (List Entry)) → contents.connections ≡ empty → HoldsPublication contents.snapshot p → log ≡ Some base
-    → Stands (fresh p) base [] log empty contents 0
-begins contents p base log none held is = record {
+pub begins : (wanted : ℕ) (contents : Contents) (p : Publication) (base : List Entry) (log : Option (List Entry)) → contents.connections ≡ empty → HoldsPublication contents.snapshot p → log ≡ Some base
+    → Stands wanted (fresh p) base [] log empty contents 0
+begins wanted contents p base log none held is = record {
   logged = is;
   ran = tt;
   desk = (held, none);
@@ -446,6 +537,8 @@ begins contents p base log none held is = record {
   made = tt;
   cut = tt;
   count = refl;
+  open_are = len-empty nat_cmp (List ℕ);
+  makes_room = tt;
 }
 
 pub on_err_any : {A E : Type 0} (P : Type 0) (result : Result A E) → P → OnErr result P
@@ -453,13 +546,12 @@ on_err_any P (Ok value) is = tt
 on_err_any P (Err error) is = is
 
 -- a connection is let go, if there was one
-pub parts : (d : Desk) (base : List Entry) (deeds : List Deed) (log log' : Option (List Entry)) (outputs : Waiting) (contents : Contents) (taken n : ℕ) (was whole : Bool)
-    → (whole ≡ true → get outputs n ≡ Some []) → log' ≡ left_by was n whole log → Stands d base deeds log outputs contents taken
-    → (more : List Deed) × Stands d base more log' (remove outputs n) (without contents n) taken
-parts d base deeds log log' outputs contents taken n false whole idle is s =
-    (_, moved d base _ _ _ _ _ _ _ taken is refl refl (forgets d base deeds log outputs contents taken s n))
-parts d base deeds log log' outputs contents taken n true whole idle is s = (
-  _,
-  moved d base _ _ _ _ _ _ _ taken is refl refl
-      (forgets d base (parted n whole ∷ deeds) (noted (left n whole) log) outputs contents taken (leaves d base deeds log outputs contents taken s n whole idle) n),
-)
+pub parts : (wanted : ℕ) (d : Desk) (base : List Entry) (deeds : List Deed) (log log' : Option (List Entry)) (outputs : Waiting) (contents : Contents) (taken n : ℕ) (was whole : Bool) (left_over : List ℕ)
+    → get outputs n ≡ Some left_over → (whole ≡ true → get outputs n ≡ Some []) → log' ≡ left_by was n whole log → Stands wanted d base deeds log outputs contents taken
+    → (more : List Deed) × Stands wanted d base more log' (remove outputs n) (without contents n) taken
+parts wanted d base deeds log log' outputs contents taken n false whole left_over some idle is s =
+    let t = forgets wanted d base deeds log outputs contents taken s n in
+    (_, moved wanted d base _ _ _ _ _ _ _ taken is refl refl (loses wanted d base _ log outputs (without contents n) taken t n left_over some))
+parts wanted d base deeds log log' outputs contents taken n true whole left_over some idle is s =
+    let t = forgets wanted d base deeds log outputs contents taken s n in
+    (_, moved wanted d base _ _ _ _ _ _ _ taken is refl refl (leaves wanted d base _ log outputs (without contents n) taken t n left_over some whole idle))

@@ -1,7 +1,7 @@
--- What the server did, the newest first: steps of the desk, and what went to the sockets.
+-- What the server did, the newest first: steps of the desk, what went to the sockets, and waiting.
 -- Source: this project.
 use Rattle.std.specs.FinMap.{len}
-use Rattle.std.specs.Prelude.{◌≡◌, ◌==◌, ◌<◌, ℕ, suc, Bool, true, false, List, [], ◌∷◌, ◌++◌, Result, Ok, Err, if◌then◌else◌}
+use Rattle.std.specs.Prelude.{◌≡◌, ◌==◌, ◌<◌, ◌-◌, ◌↔◌, ℕ, suc, Bool, true, false, List, [], ◌∷◌, ◌++◌, Result, Ok, Err, if◌then◌else◌}
 use Rattle.osm_desk.specs.Desks.{Desk, step}
 use Rattle.osm_desk.specs.Happenings.{Happening, arrived, ended, opened, published}
 use Rattle.osm_desk.specs.Runs.{Done, IsRefusedBy}
@@ -13,12 +13,19 @@ use Rattle.osm_desk.specs.declared.limits.TheConstants.{CONNECTION_LIMIT}
 use Rattle.osm_index.specs.declared.apply_fault.ApplyFault.{ApplyFault}
 use Rattle.osm_traffic.specs.Pieces.{IsCut}
 use Rattle.osm_traffic.specs.Published.{IsPublishedFrom}
+use Rattle.osm_traffic.specs.Entries as entries
 use Rattle.osm_traffic.specs.Entries.{Entry, brought, came, left, took}
+use Rattle.osm_traffic.specs.declared.traffic.Room.{Room}
+use Rattle.osm_traffic.specs.declared.traffic.Room.TheVariants.{Free}
 
+-- a step of the desk; bytes that a socket took; a connection that was let go, whole or broken off, or forgotten where the
+-- sockets have none of its number; and what is next was waited for, with this room for a further connection
 pub data Deed : Type 0 where
   stepped : Happening → Result (List (ℕ × List ℕ)) DeskFault → Deed
   handed : ℕ → List ℕ → Deed
   parted : ℕ → Bool → Deed
+  lost : ℕ → Deed
+  waited : Room → Deed
 
 -- what of it the sockets see
 abbrev pub log_of : List Deed → List Entry
@@ -29,6 +36,8 @@ log_of (stepped (ended n) r ∷ before) = log_of before
 log_of (stepped (published made) r ∷ before) = log_of before
 log_of (handed n bytes ∷ before) = took n bytes ∷ log_of before
 log_of (parted n whole ∷ before) = left n whole ∷ log_of before
+log_of (lost n ∷ before) = log_of before
+log_of (waited room ∷ before) = entries.waited room ∷ log_of before
 
 -- the desk after it: a refusal changes nothing
 abbrev pub desk_after : Desk → List Deed → Desk
@@ -37,6 +46,8 @@ desk_after d (stepped h (Ok answers) ∷ before) = (step (desk_after d before) h
 desk_after d (stepped h (Err fault) ∷ before) = desk_after d before
 desk_after d (handed n bytes ∷ before) = desk_after d before
 desk_after d (parted n whole ∷ before) = desk_after d before
+desk_after d (lost n ∷ before) = desk_after d before
+desk_after d (waited room ∷ before) = desk_after d before
 
 -- each answer is one that the step may give, and a refusal is the step's own, or memory ran out
 abbrev pub Runs : Desk → List Deed → Type 0
@@ -45,6 +56,8 @@ Runs d (stepped h (Ok answers) ∷ before) = Gives (step (desk_after d before) h
 Runs d (stepped h (Err fault) ∷ before) = IsRefusedBy (desk_after d before) h fault × Runs d before
 Runs d (handed n bytes ∷ before) = Runs d before
 Runs d (parted n whole ∷ before) = Runs d before
+Runs d (lost n ∷ before) = Runs d before
+Runs d (waited room ∷ before) = Runs d before
 
 -- what the socket of connection c took
 abbrev pub sent : ℕ → List Deed → List ℕ
@@ -52,6 +65,8 @@ sent c [] = []
 sent c (stepped h r ∷ before) = sent c before
 sent c (handed n bytes ∷ before) = if n == c then sent c before ++ bytes else sent c before
 sent c (parted n whole ∷ before) = sent c before
+sent c (lost n ∷ before) = sent c before
+sent c (waited room ∷ before) = sent c before
 
 -- what a step has for connection c: its answers, or that memory ran out
 abbrev pub texts_for : ℕ → List (ℕ × List ℕ) → List ℕ
@@ -78,6 +93,8 @@ owed c [] = []
 owed c (stepped h r ∷ before) = owed c before ++ text_for c h r
 owed c (handed n bytes ∷ before) = owed c before
 owed c (parted n whole ∷ before) = owed c before
+owed c (lost n ∷ before) = owed c before
+owed c (waited room ∷ before) = owed c before
 
 -- a connection is read, and let go as a whole one, only where its socket has taken all that it had coming
 abbrev pub IsPaced : List Deed → Type 0
@@ -89,6 +106,8 @@ IsPaced (stepped (published made) r ∷ before) = IsPaced before
 IsPaced (handed n bytes ∷ before) = IsPaced before
 IsPaced (parted n false ∷ before) = IsPaced before
 IsPaced (parted n true ∷ before) = (sent n before ≡ owed n before) × IsPaced before
+IsPaced (lost n ∷ before) = IsPaced before
+IsPaced (waited room ∷ before) = IsPaced before
 
 -- how many connections came
 abbrev pub arrivals : List Deed → ℕ
@@ -99,6 +118,31 @@ arrivals (stepped (ended n) r ∷ before) = arrivals before
 arrivals (stepped (published made) r ∷ before) = arrivals before
 arrivals (handed n bytes ∷ before) = arrivals before
 arrivals (parted n whole ∷ before) = arrivals before
+arrivals (lost n ∷ before) = arrivals before
+arrivals (waited room ∷ before) = arrivals before
+
+-- how many are open: those that came and weren't let go or forgotten
+abbrev pub open_count : List Deed → ℕ
+open_count [] = 0
+open_count (stepped (opened n) r ∷ before) = suc (open_count before)
+open_count (stepped (arrived n piece) r ∷ before) = open_count before
+open_count (stepped (ended n) r ∷ before) = open_count before
+open_count (stepped (published made) r ∷ before) = open_count before
+open_count (handed n bytes ∷ before) = open_count before
+open_count (parted n whole ∷ before) = open_count before - 1
+open_count (lost n ∷ before) = open_count before - 1
+open_count (waited room ∷ before) = open_count before
+
+-- a further connection may be taken exactly where one is wanted, and fewer than 64 are open, at the sockets and at the desk
+abbrev pub MakesRoom : ℕ → Desk → List Deed → Type 0
+MakesRoom wanted d [] = Unit {0}
+MakesRoom wanted d (stepped h r ∷ before) = MakesRoom wanted d before
+MakesRoom wanted d (handed n bytes ∷ before) = MakesRoom wanted d before
+MakesRoom wanted d (parted n whole ∷ before) = MakesRoom wanted d before
+MakesRoom wanted d (lost n ∷ before) = MakesRoom wanted d before
+MakesRoom wanted d (waited room ∷ before) =
+    ((room ≡ Free) ↔ ((arrivals before < wanted) × (open_count before < CONNECTION_LIMIT) × (len (desk_after d before).connections < CONNECTION_LIMIT)))
+    × MakesRoom wanted d before
 
 -- they are numbered from 0, and each is opened where fewer than 64 are open
 abbrev pub HasRoom : Desk → List Deed → Type 0
@@ -109,6 +153,8 @@ HasRoom d (stepped (ended n) r ∷ before) = HasRoom d before
 HasRoom d (stepped (published made) r ∷ before) = HasRoom d before
 HasRoom d (handed n bytes ∷ before) = HasRoom d before
 HasRoom d (parted n whole ∷ before) = HasRoom d before
+HasRoom d (lost n ∷ before) = HasRoom d before
+HasRoom d (waited room ∷ before) = HasRoom d before
 
 -- memory hasn't run out for connection c
 abbrev pub is_fed : ℕ → List Deed → Bool
@@ -117,6 +163,8 @@ is_fed c (stepped h (Ok answers) ∷ before) = is_fed c before
 is_fed c (stepped h (Err fault) ∷ before) = if starves c h then false else is_fed c before
 is_fed c (handed n bytes ∷ before) = is_fed c before
 is_fed c (parted n whole ∷ before) = is_fed c before
+is_fed c (lost n ∷ before) = is_fed c before
+is_fed c (waited room ∷ before) = is_fed c before
 
 -- once it has, nothing of that connection is heard
 abbrev pub IsHushed : List Deed → Type 0
@@ -127,6 +175,8 @@ IsHushed (stepped (ended n) r ∷ before) = IsHushed before
 IsHushed (stepped (published made) r ∷ before) = IsHushed before
 IsHushed (handed n bytes ∷ before) = IsHushed before
 IsHushed (parted n whole ∷ before) = IsHushed before
+IsHushed (lost n ∷ before) = IsHushed before
+IsHushed (waited room ∷ before) = IsHushed before
 
 -- that memory has run out is the last that a connection is told
 abbrev pub last_word : Bool → List ℕ
@@ -147,6 +197,8 @@ AreMade d (stepped (ended n) r ∷ before) = AreMade d before
 AreMade d (stepped (published made) r ∷ before) = IsFromFile (desk_after d before).publication made × AreMade d before
 AreMade d (handed n bytes ∷ before) = AreMade d before
 AreMade d (parted n whole ∷ before) = AreMade d before
+AreMade d (lost n ∷ before) = AreMade d before
+AreMade d (waited room ∷ before) = AreMade d before
 
 -- each piece that was read is cut after an empty line
 abbrev pub AreCut : List Deed → Type 0
@@ -157,9 +209,11 @@ AreCut (stepped (ended n) r ∷ before) = AreCut before
 AreCut (stepped (published made) r ∷ before) = AreCut before
 AreCut (handed n bytes ∷ before) = AreCut before
 AreCut (parted n whole ∷ before) = AreCut before
+AreCut (lost n ∷ before) = AreCut before
+AreCut (waited room ∷ before) = AreCut before
 
--- what the server did is a run of the desk
-pub record Serves (d : Desk) (deeds : List Deed) : Type 0 where
+-- what the server did is a run of the desk, where so many connections are wanted
+pub record Serves (wanted : ℕ) (d : Desk) (deeds : List Deed) : Type 0 where
   -- each step is one that the desk may make,
   pub ran : Runs d deeds
   -- each socket has taken a beginning of what its connection has coming,
@@ -168,6 +222,8 @@ pub record Serves (d : Desk) (deeds : List Deed) : Type 0 where
   pub paced : IsPaced deeds
   -- the connections are numbered from 0, and each finds room,
   pub room : HasRoom d deeds
+  -- and a further one may be taken wherever there is room for it,
+  pub makes_room : MakesRoom wanted d deeds
   -- nothing of a connection is heard once memory has run out for it,
   pub hushed : IsHushed deeds
   -- what is published is made by change files,
@@ -181,6 +237,8 @@ in_order [] = []
 in_order (stepped h r ∷ before) = in_order before ++ (h, r) ∷ []
 in_order (handed n bytes ∷ before) = in_order before
 in_order (parted n whole ∷ before) = in_order before
+in_order (lost n ∷ before) = in_order before
+in_order (waited room ∷ before) = in_order before
 
 -- the texts one after the other
 abbrev pub joined : List (List ℕ) → List ℕ

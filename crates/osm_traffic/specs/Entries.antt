@@ -2,14 +2,16 @@
 -- Source: this project.
 use Rattle.std.specs.Prelude.{◌≡◌, ◌<◌, ◌≤◌, ℕ, Bool, true, false, List, ◌∷◌, Option, Some, None, length, take}
 use Rattle.osm_traffic.specs.Pieces.{IsCut}
+use Rattle.osm_traffic.specs.declared.traffic.Room.{Room}
 use Rattle.osm_traffic.specs.declared.traffic.Reading.{Reading}
 use Rattle.osm_traffic.specs.declared.traffic.Reading.TheVariants as readings
 use Rattle.osm_traffic.specs.declared.traffic.Writing.{Writing}
 use Rattle.osm_traffic.specs.declared.traffic.Writing.TheVariants as writings
 
--- a connection was taken under this number, a piece was read from it, its socket took bytes, or it was let go: whole,
--- or broken off
+-- with this room for a further connection it was waited for what is next, a connection was taken under this number, a
+-- piece was read from it, its socket took bytes, or it was let go: whole, or broken off
 pub data Entry : Type 0 where
+  waited : Room → Entry
   came : ℕ → Entry
   brought : ℕ → List ℕ → Entry
   took : ℕ → List ℕ → Entry

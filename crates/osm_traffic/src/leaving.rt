@@ -1,7 +1,7 @@
 //! Connections that end.
 
 ghost use Rattle.std.specs.FinMap.{get};
-ghost use Rattle.std.specs.Prelude.{◌≡◌, true, Some, []};
+ghost use Rattle.std.specs.Prelude.{◌≡◌, true, IsSome, Some, []};
 ghost use Rattle.osm_traffic.specs.internal.Standing.{Keeps};
 
 use crate::outputs::Outputs;
@@ -18,7 +18,8 @@ pub(crate) fn part<T: Traffic>(
     number: u32,
     whole: bool,
 )
-    requires { whole ≡ true → get outputs.old number ≡ Some [] }
+    requires known { IsSome (get outputs.old number) }
+    requires idle { whole ≡ true → get outputs.old number ≡ Some [] }
     ensures kept { Keeps (T.log traffic.old) (T.log traffic.new) outputs.old outputs.new desk.old desk.new }
     ensures snapshot { desk.new.snapshot ≡ desk.old.snapshot }
 {
@@ -36,6 +37,7 @@ pub(crate) fn break_off<T: Traffic, E: Write>(
     number: u32,
     fault: GateFault,
 )
+    requires { IsSome (get outputs.old number) }
     ensures kept { Keeps (T.log traffic.old) (T.log traffic.new) outputs.old outputs.new desk.old desk.new }
     ensures snapshot { desk.new.snapshot ≡ desk.old.snapshot }
 {

@@ -47,7 +47,7 @@ pub fn serve_many<L: Lookout, T: Traffic, E: Write>(
     requires { desk.old.connections ≡ empty }
     // Whatever happens, in whatever order, what went in and out is what a run of the desk says.
     ensures served { (p : Publication) (base : List Entry) → HoldsPublication desk.old.snapshot p → T.log traffic.old ≡ Some base
-        → (deeds : List Deed) × (T.log traffic.new ≡ Some (log_of deeds ++ base)) × Serves (fresh p) deeds
+        → (deeds : List Deed) × (T.log traffic.new ≡ Some (log_of deeds ++ base)) × Serves connections (fresh p) deeds
         × StandsFor desk.new (desk_after (fresh p) deeds) × OnOk result (arrivals deeds ≡ connections) }
     // What is in force has been made by what the lookout found, one after the other, but what was refused.
     ensures found { TakesFound (L.found lookout.old) (L.found lookout.new) desk.old.snapshot desk.new.snapshot }
@@ -60,9 +60,8 @@ pub fn serve_many<L: Lookout, T: Traffic, E: Write>(
         if taken == connections && outputs.is_empty() && desk.is_empty() {
             return Ok(());
         }
-        let is_wanted = taken < connections;
-        let is_free = is_wanted && has_room(desk, &outputs);
-        let news = traffic.next(room_for(is_wanted, is_free))?;
+        let room = room_for(desk, &outputs, taken, connections);
+        let news = traffic.next(room)?;
         if turn(
             desk,
             lookout,
@@ -72,7 +71,7 @@ pub fn serve_many<L: Lookout, T: Traffic, E: Write>(
             &mut piece,
             news,
             taken,
-            is_free,
+            room,
         )? {
             taken += 1;
         }
@@ -80,14 +79,17 @@ pub fn serve_many<L: Lookout, T: Traffic, E: Write>(
     Err(TrafficFault::Endless)
 }
 
-/// What the traffic is told.
-fn room_for(is_wanted: bool, is_free: bool) -> Room {
-    if is_free {
-        Room::Free
-    } else if is_wanted {
-        Room::Full
-    } else {
+/// Whether a further connection may be taken: where one is wanted, and fewer than 64 are open.
+fn room_for(desk: &Desk, outputs: &Outputs, taken: u32, connections: u32) -> Room
+    ensures { (result ≡ Room.Free)
+        ↔ ((taken < connections) × (len outputs.now < CONNECTION_LIMIT) × (len desk.now.connections < CONNECTION_LIMIT)) }
+{
+    if taken >= connections {
         Room::Closed
+    } else if has_room(desk, outputs) {
+        Room::Free
+    } else {
+        Room::Full
     }
 }
 
@@ -108,21 +110,20 @@ fn turn<L: Lookout, T: Traffic, E: Write>(
     piece: &mut [u8],
     news: News,
     number: u32,
-    room: bool,
+    room: Room,
 ) -> Result<bool, TrafficFault>
-    requires room { room ≡ true → len desk.old.connections < CONNECTION_LIMIT }
+    requires room { room ≡ Room.Free → len desk.old.connections < CONNECTION_LIMIT }
     ensures stands { IfOk result (λ is. Moves (T.log traffic.old) (T.log traffic.new) outputs.old outputs.new desk.old desk.new
         number (if is then number + 1 else number)) }
     ensures refused { OnErr result (Stops (T.log traffic.old) (T.log traffic.new) outputs.old outputs.new desk.old desk.new number) }
-    ensures only_room { IfOk result (λ is. is ≡ true → room ≡ true) }
+    ensures only_room { IfOk result (λ is. is ≡ true → room ≡ Room.Free) }
     ensures found { TakesFound (L.found lookout.old) (L.found lookout.new) desk.old.snapshot desk.new.snapshot }
 {
     match news {
-        News::Waiting => {
-            if room {
-                return welcome(desk, lookout, outputs, traffic, errors, number);
-            }
-        }
+        News::Waiting => match room {
+            Room::Free => return welcome(desk, lookout, outputs, traffic, errors, number),
+            Room::Full | Room::Closed => {}
+        },
         News::Readable(number) => listen(desk, outputs, traffic, errors, number, piece),
         News::Writable(number) => hand(desk, outputs, traffic, errors, number),
         News::Silent(number) => let_go(desk, outputs, traffic, errors, number),

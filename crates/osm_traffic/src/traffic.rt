@@ -1,7 +1,7 @@
 //! Where connections and their bytes come from, and where answers go.
 
-ghost use Rattle.std.specs.Prelude.{◌≡◌, IfOk, List, OnErr, Option};
-ghost use Rattle.osm_traffic.specs.Entries.{Entry, Reads, Writes, left_by, taken_by};
+ghost use Rattle.std.specs.Prelude.{◌≡◌, IfOk, List, OnErr, OnOk, Option};
+ghost use Rattle.osm_traffic.specs.Entries.{Entry, Reads, Writes, left_by, noted, taken_by, waited};
 
 use crate::traffic_fault::TrafficFault;
 
@@ -62,7 +62,8 @@ pub trait Traffic {
     /// Waits for what is next to do. That a connection waits is told only where there is room for it. Where there is
     /// none, but one waits, a connection that owes nothing may be told as silent.
     fn next(&mut self, room: Room) -> Result<News, TrafficFault>
-        ensures { log self.new ≡ log self.old };
+        ensures told { OnOk result (log self.new ≡ noted (waited room) (log self.old)) }
+        ensures refused { OnErr result (log self.new ≡ log self.old) };
 
     /// Takes the connection that waits, under this number, and tells whether there was one: it may be gone again.
     fn take(&mut self, number: u32) -> Result<bool, TrafficFault>

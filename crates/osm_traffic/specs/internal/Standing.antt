@@ -1,10 +1,10 @@
 -- How the server stands between two happenings.
-use Rattle.std.specs.FinMap.{FinMap, get}
+use Rattle.std.specs.FinMap.{FinMap, get, len}
 use Rattle.std.specs.Ordering.{nat_cmp}
 use Rattle.std.specs.Prelude.{◌≡◌, ◌≤◌, ℕ, true, false, List, [], ◌++◌, Option, Some, None}
 use Rattle.osm_desk.specs.Contents.{Contents, StandsFor}
 use Rattle.osm_desk.specs.Desks.{Desk}
-use Rattle.osm_traffic.specs.Deeds.{AreCut, AreMade, Deed, HasRoom, IsHushed, IsPaced, Runs, arrivals, desk_after, is_fed, log_of, owed, sent}
+use Rattle.osm_traffic.specs.Deeds.{AreCut, AreMade, Deed, HasRoom, IsHushed, IsPaced, MakesRoom, Runs, arrivals, desk_after, is_fed, log_of, open_count, owed, sent}
 use Rattle.osm_traffic.specs.Entries.{Entry}
 
 -- what each connection has coming that its socket hasn't taken yet
@@ -15,7 +15,7 @@ abbrev pub IsOwed : Option (List ℕ) → List ℕ → List ℕ → Type 0
 IsOwed None given all = (rest : List ℕ) × (given ++ rest ≡ all)
 IsOwed (Some left) given all = given ++ left ≡ all
 
-pub record Stands (d : Desk) (base : List Entry) (deeds : List Deed) (log : Option (List Entry)) (outputs : Waiting) (contents : Contents) (taken : ℕ) : Type 0 where
+pub record Stands (wanted : ℕ) (d : Desk) (base : List Entry) (deeds : List Deed) (log : Option (List Entry)) (outputs : Waiting) (contents : Contents) (taken : ℕ) : Type 0 where
   pub logged : log ≡ Some (log_of deeds ++ base)
   pub ran : Runs d deeds
   pub desk : StandsFor contents (desk_after d deeds)
@@ -30,12 +30,14 @@ pub record Stands (d : Desk) (base : List Entry) (deeds : List Deed) (log : Opti
   pub made : AreMade d deeds
   pub cut : AreCut deeds
   pub count : arrivals deeds ≡ taken
+  pub open_are : len outputs ≡ open_count deeds
+  pub makes_room : MakesRoom wanted d deeds
 
 -- however it stood with so many connections taken, it stands again with that many, with more done
 abbrev pub Moves : Option (List Entry) → Option (List Entry) → Waiting → Waiting → Contents → Contents → ℕ → ℕ → Type 0
 Moves log log' outputs outputs' contents contents' taken taken' =
-    (d : Desk) (base : List Entry) (deeds : List Deed) → Stands d base deeds log outputs contents taken
-    → (more : List Deed) × Stands d base more log' outputs' contents' taken'
+    (wanted : ℕ) (d : Desk) (base : List Entry) (deeds : List Deed) → Stands wanted d base deeds log outputs contents taken
+    → (more : List Deed) × Stands wanted d base more log' outputs' contents' taken'
 
 -- with as many as before
 abbrev pub Keeps : Option (List Entry) → Option (List Entry) → Waiting → Waiting → Contents → Contents → Type 0
@@ -44,5 +46,5 @@ Keeps log log' outputs outputs' contents contents' = (taken : ℕ) → Moves log
 -- with any number
 abbrev pub Stops : Option (List Entry) → Option (List Entry) → Waiting → Waiting → Contents → Contents → ℕ → Type 0
 Stops log log' outputs outputs' contents contents' taken =
-    (d : Desk) (base : List Entry) (deeds : List Deed) → Stands d base deeds log outputs contents taken
-    → (more : List Deed) × (taken' : ℕ) × Stands d base more log' outputs' contents' taken'
+    (wanted : ℕ) (d : Desk) (base : List Entry) (deeds : List Deed) → Stands wanted d base deeds log outputs contents taken
+    → (more : List Deed) × (taken' : ℕ) × Stands wanted d base more log' outputs' contents' taken'

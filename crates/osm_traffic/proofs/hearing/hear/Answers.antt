@@ -7,11 +7,11 @@ use Rattle.osm_traffic.proofs.StandLemmas.{hears_err, hears_ok, moved}
 use Rattle.osm_traffic.proofs.hearing.hear.Goals as goal
 
 pub returns-in_default-clause-kept : goal.returns-in_default-clause-kept
-returns-in_default-clause-kept g c = λ log taken d base deeds s. (
+returns-in_default-clause-kept g c = λ log taken wanted d base deeds s. (
   _,
-  moved d base _ _ _ _ _ _ _ taken refl
+  moved wanted d base _ _ _ _ _ _ _ taken refl
       (some_of (λ bytes. c.put.new.self ≡ insert c.args.outputs.now c.args.number c.apology.result) _ [] c.requires.idle c.put.ensures ∙ ap (insert c.args.outputs.now c.args.number) c.apology.ensures) refl
-      (hears_err d base deeds log _ _ taken s c.args.number c.args.piece.now c.requires.idle c.requires.cut _ c.requires.open (c.forget.ensures.forgotten ∙ ap (λ (all : Contents). without all c.args.number) c.in_default.ensures.unchanged)),
+      (hears_err wanted d base deeds log _ _ taken s c.args.number c.args.piece.now c.requires.idle c.requires.cut _ c.requires.open (c.forget.ensures.forgotten ∙ ap (λ (all : Contents). without all c.args.number) c.in_default.ensures.unchanged)),
 )
 
 pub returns-in_default-clause-snapshot : goal.returns-in_default-clause-snapshot
@@ -19,11 +19,11 @@ returns-in_default-clause-snapshot g c =
     ap (λ (all : Contents). all.snapshot) (c.forget.ensures.forgotten ∙ ap (λ (all : Contents). without all c.args.number) c.in_default.ensures.unchanged)
 
 pub returns-clause-kept : goal.returns-clause-kept
-returns-clause-kept g c = λ log taken d base deeds s. (
+returns-clause-kept g c = λ log taken wanted d base deeds s. (
   _,
-  moved d base _ _ _ _ _ _ _ taken refl
+  moved wanted d base _ _ _ _ _ _ _ taken refl
       (some_of (λ bytes. c.put-2.new.self ≡ insert c.args.outputs.now c.args.number c.answers.result) _ [] c.requires.idle c.put-2.ensures ∙ ap (insert c.args.outputs.now c.args.number) c.answers.ensures) refl
-      (hears_ok d base deeds log _ _ taken s c.args.number c.args.piece.now c.requires.idle c.requires.cut _ c.in-Ok.text.items c.requires.open c.in-Ok.ensures.responses (c.in-Ok.ensures.open c.requires.open)),
+      (hears_ok wanted d base deeds log _ _ taken s c.args.number c.args.piece.now c.requires.idle c.requires.cut _ c.in-Ok.text.items c.requires.open c.in-Ok.ensures.responses (c.in-Ok.ensures.open c.requires.open)),
 )
 
 pub returns-clause-snapshot : goal.returns-clause-snapshot

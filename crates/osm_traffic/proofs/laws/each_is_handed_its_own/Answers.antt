@@ -8,14 +8,14 @@ use Rattle.osm_traffic.proofs.PastLemmas.{hushed_past, paced_past, room_past, ru
 use Rattle.osm_traffic.proofs.laws.each_is_handed_its_own.Goals as goal
 
 pub returns-clause-own : goal.returns-clause-own
-returns-clause-own c = λ n p deeds s. (
+returns-clause-own c = λ n wanted p deeds s. (
   got n (in_order deeds),
   c.runs_tell_each_its_own.ensures n (in_order deeds) p (ran_in_order (fresh p) deeds s.ran) (finds_in_order n (fresh p) deeds s.ran s.room),
-  handed_own n (fresh p) deeds s,
+  handed_own n wanted (fresh p) deeds s,
 )
 
 pub returns-clause-whole : goal.returns-clause-whole
-returns-clause-whole c = λ n p after before s.
+returns-clause-whole c = λ n wanted p after before s.
     let runs = runs_past (fresh p) after (parted n true ∷ before) s.ran in
     let room = room_past (fresh p) after (parted n true ∷ before) s.room in
     let hushed = hushed_past after (parted n true ∷ before) s.hushed in
@@ -26,7 +26,7 @@ returns-clause-whole c = λ n p after before s.
     )
 
 pub returns-clause-read : goal.returns-clause-read
-returns-clause-read c = λ n p piece r after before s.
+returns-clause-read c = λ n wanted p piece r after before s.
     let here = stepped (arrived n piece) r in
     let runs = runs_past (fresh p) (after ++ here ∷ []) before (subst (Runs (fresh p)) (sym (append_assoc after (here ∷ []) before)) s.ran) in
     let room = room_past (fresh p) after (here ∷ before) s.room in

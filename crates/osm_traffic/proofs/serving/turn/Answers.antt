@@ -22,7 +22,7 @@ pub returns-in-Silent-clause-found : goal.returns-in-Silent-clause-found
 returns-in-Silent-clause-found g c = none_found (g.L.Lookout.found c.args.lookout.now) (g.L.Lookout.found c.args.lookout.now) c.args.desk.now.snapshot c.let_go.new.desk.snapshot refl c.let_go.ensures.snapshot
 
 pub returns-in-Look-clause-stands : goal.returns-in-Look-clause-stands
-returns-in-Look-clause-stands g c = λ d base deeds s. looked d base deeds _ _ _ _ c.args.number s c.look.ensures.connections c.look.ensures.in_force
+returns-in-Look-clause-stands g c = λ wanted d base deeds s. looked wanted d base deeds _ _ _ _ c.args.number s c.look.ensures.connections c.look.ensures.in_force
 
 pub returns-in-Look-clause-found : goal.returns-in-Look-clause-found
 returns-in-Look-clause-found g c = c.look.ensures.found

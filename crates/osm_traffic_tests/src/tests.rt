@@ -1,0 +1,58 @@
+//! Many connections over a network that a test plays.
+
+ghost use Rattle.std.specs.FinMap.{empty};
+ghost use Rattle.std.specs.Prelude.{◌≡◌, IfOk};
+
+mod memory;
+mod network;
+mod orders;
+mod quiet;
+
+use crate::tests::network::Network;
+use crate::tests::quiet::Quiet;
+use opl_codec::read_set;
+use osm_desk::Desk;
+use osm_index::{Edition, Snapshot};
+use osm_traffic::{TrafficFault, serve_many};
+use std::alloc::Global;
+use std::test::Fail;
+
+/// Two nodes and a way.
+const SET: &str = "n1 x1 y1\nn2 x2 y2\nw10 Nn1,n2\n";
+
+/// What each client sends: requests of all kinds, and at last one that ends the connection.
+const TEXT: &[u8] = b"\
+GET /api/root HTTP/1.1\r\n\r\n\
+GET /api/interpreter?data=node(-9,-9,9,9);out; HTTP/1.1\r\n\r\n\r\n\
+POST /api/checked HTTP/1.1\r\nContent-Length: 12\r\n\r\nnode(1);out;\
+GET /api/interpreter?data=node( HTTP/1.1\n\n\
+POST /api/interpreter HTTP/1.1\r\nContent-Length: 24\r\nConnection: close\r\n\r\nnode(2);way(bn);out ids;\
+GET /x HTTP/1.1\r\n\r\n";
+
+/// A desk over the set, in this edition.
+fn desk_over(alloc: Global, edition: Edition) -> Result<Desk, Fail>
+    ensures { IfOk result (λ desk. desk.connections ≡ empty) }
+{
+    let set = read_set(alloc, &mut SET.as_bytes())?;
+    Ok(Desk::new(alloc, Snapshot::build(alloc, set, edition)?))
+}
+
+/// Serves so many connections of a network.
+fn serve(
+    alloc: Global,
+    desk: &mut Desk,
+    network: &mut Network,
+    connections: u32,
+) -> Result<(), TrafficFault>
+    requires { desk.old.connections ≡ empty }
+{
+    let mut errors = Vec::new(alloc);
+    serve_many(alloc, desk, &mut Quiet, network, connections, &mut errors)
+}
+
+/// The responses to these bytes alone.
+fn responses(alloc: Global, mut bytes: &[u8], snapshot: &Snapshot) -> Result<Vec<u8>, Fail> {
+    let mut written = Vec::new(alloc);
+    osm_gate::serve(alloc, &mut bytes, &mut written, snapshot)?;
+    Ok(written)
+}
