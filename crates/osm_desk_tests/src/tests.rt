@@ -48,11 +48,7 @@ fn snapshot_of(alloc: Global, set: &str, sequence: u64) -> Result<Snapshot, Fail
 
 /// A desk over the set of this text at sequence 0.
 fn desk_of(alloc: Global, set: &str) -> Result<Desk, Fail> {
-    let snapshot = snapshot_of(alloc, set, 0)?;
-    match snapshot.edition() {
-        Edition::One => Err(Fail::new("the snapshot is of the second edition")),
-        Edition::Two { sequence: _ } => Ok(Desk::new(alloc, snapshot)),
-    }
+    Ok(Desk::new(alloc, snapshot_of(alloc, set, 0)?))
 }
 
 /// The arrival of a piece.

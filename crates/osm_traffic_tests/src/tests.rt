@@ -52,7 +52,8 @@ fn serve(
 
 /// The responses to these bytes alone.
 fn responses(alloc: Global, mut bytes: &[u8], snapshot: &Snapshot) -> Result<Vec<u8>, Fail> {
-    let mut written = Vec::new(alloc);
+    // Where there is room, writing takes no memory.
+    let mut written = Vec::with_capacity(alloc, 8192)?;
     osm_gate::serve(alloc, &mut bytes, &mut written, snapshot)?;
     Ok(written)
 }

@@ -101,10 +101,7 @@ fn desk_at(alloc: Global, sequence: u64) -> Result<Desk, Fail>
         Edition::Two { sequence },
         &mut Unwatched,
     )?;
-    match snapshot.edition() {
-        Edition::One => Err(Fail::new("the snapshot is of the second edition")),
-        Edition::Two { sequence: _ } => Ok(Desk::new(alloc, snapshot)),
-    }
+    Ok(Desk::new(alloc, snapshot))
 }
 
 /// Serves this number of connections at the desk.

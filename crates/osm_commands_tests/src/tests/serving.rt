@@ -1,4 +1,4 @@
-//! `serve` over doors of the test's own, and over a socket.
+//! `serve` over doors of the test's own, and the line with which a server begins.
 
 ghost use Rattle.std.specs.Prelude.{None};
 
@@ -8,12 +8,11 @@ use osm_commands::door::Door;
 use osm_commands::listening_line::listening_line;
 use osm_commands::read_snapshot::read_snapshot;
 use osm_commands::serve::serve;
-use osm_commands::socket_door::SocketDoor;
 use osm_index::{Edition, Snapshot, Unwatched};
 use std::alloc::{AllocError, Global};
 use std::collections::VecDeque;
-use std::io::{Cursor, Read, Write};
-use std::net::{Shutdown, TcpStream};
+use std::io::{Cursor, Write};
+use std::net::SocketAddr;
 use std::test::Fail;
 
 /// The set's root in edition 1, as an independent program computed it.
@@ -124,24 +123,13 @@ fn serves_from_a_door(rt: HostRuntime) -> Result<(), Fail> {
 }
 
 #[test]
-fn serves_over_a_socket(rt: HostRuntime) -> Result<(), Fail> {
+fn listening_is_told(rt: HostRuntime) -> Result<(), Fail> {
     let alloc = rt.alloc();
     let snapshot = snapshot(alloc)?;
-    let mut door = SocketDoor::open(&rt, 0)?;
-    let here = door.address()?;
-    let line = listening_line(alloc, here, &snapshot)?;
-    let want = format!(in alloc; "osm_mirror listens on {here}, over 4 objects, root {ROOT}\n")?;
+    let line = listening_line(alloc, SocketAddr::from(([127, 0, 0, 1], 8081)), &snapshot)?;
+    let want = format!(in alloc;
+        "osm_mirror listens on 127.0.0.1:8081, over 4 objects, root {ROOT}\n"
+    )?;
     assert!(rt; line.as_str() == want.as_str());
-    let mut client = TcpStream::connect(&rt, here)?;
-    client.write_all(REQUEST.as_bytes())?;
-    // What comes after the request that ends the connection isn't read as one.
-    client.write_all(REQUEST.as_bytes())?;
-    client.shutdown(Shutdown::Write)?;
-    let mut errors = Vec::new(alloc);
-    serve(alloc, &snapshot, &mut door, 1, &mut errors)?;
-    let mut told = Vec::new(alloc);
-    client.read_to_end(&mut told)?;
-    assert!(rt; told.as_slice() == responses(alloc, 1)?.as_bytes());
-    assert!(rt; errors.is_empty());
     Ok(())
 }

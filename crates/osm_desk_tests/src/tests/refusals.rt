@@ -4,8 +4,9 @@ use super::{
     ALL_KINDS, arrival, desk_of, found, gives_nothing, hears, publication, refusal_of, root_of,
     snapshot_of,
 };
+use opl_codec::read_set;
 use osm_desk::{Desk, DeskFault, Event};
-use osm_index::ApplyFault;
+use osm_index::{ApplyFault, Edition, Snapshot};
 use osm_model::{Kind, Ref};
 use std::alloc::Global;
 use std::process::Abort;
@@ -86,6 +87,15 @@ fn refused_changes_change_nothing(rt: HostRuntime) -> Result<(), Fail> {
         )?
     );
     Ok(())
+}
+
+#[test]
+fn the_first_edition_takes_no_changes(rt: HostRuntime) -> Result<(), Fail> {
+    let alloc = rt.alloc();
+    let set = read_set(alloc, &mut ALL_KINDS.as_bytes())?;
+    let mut desk = Desk::new(alloc, Snapshot::build(alloc, set, Edition::One)?);
+    let changes = publication(alloc, "n2 dD\n")?;
+    is_refused(&rt, &mut desk, changes, "D4 I5")
 }
 
 #[test]

@@ -33,8 +33,8 @@ fn check(
     Ok(())
 }
 
-#[test]
-fn serves_within_memory(rt: HostRuntime) -> Result<(), Fail> {
+/// Serves four connections.
+fn serve_four(rt: &(impl Abort + AllocGlobal)) -> Result<(), Fail> {
     let mut desk = desk_over(rt.alloc(), Edition::Two { sequence: 0 })?;
     let mut network = Network::new(rt.alloc(), 11, 0, 0);
     match serve(rt.alloc(), &mut desk, &mut network, 4) {
@@ -42,7 +42,13 @@ fn serves_within_memory(rt: HostRuntime) -> Result<(), Fail> {
         Err(fault) => assert_eq!(rt; fault, TrafficFault::Memory),
     }
     for client in &network.clients {
-        check(&rt, client, desk.snapshot())?;
+        check(rt, client, desk.snapshot())?;
     }
     Ok(())
+}
+
+#[test]
+fn serves_within_memory(rt: HostRuntime) -> Result<(), Fail> {
+    serve_four(&rt)?;
+    serve_four(&rt)
 }
