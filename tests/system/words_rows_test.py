@@ -104,8 +104,8 @@ OF_CLAP = [
         "  <PORT>  Port to listen on; 0 takes any that is free\n"
         "\n"
         "Options:\n"
-        "      --connections <N>    Number of connections to serve, one after the other; 4294967295 if it isn't given\n"
-        "      --changes <DIR>      Folder of change files: before a connection, DIR/<sequence + 1>.opl is applied if it is there\n"
+        "      --connections <N>    Number of connections to serve; 4294967295 if it isn't given\n"
+        "      --changes <DIR>      Folder of change files: DIR/<sequence + 1>.opl is applied as soon as it is there\n"
         "      --edition <EDITION>  Edition of the root: 1, or 2 with a sequence number; 2 if it isn't given\n"
         "      --sequence <N>       Sequence number of an edition 2 root, 0 if it isn't given; has no effect with '--edition 1'\n"
         "  -h, --help               Print help\n",

@@ -28,13 +28,12 @@ const PORT_HELP: &str = "Port to listen on; 0 takes any that is free";
 
 const CONNECTIONS: &str = "connections";
 
-const CONNECTIONS_HELP: &str =
-    "Number of connections to serve, one after the other; 4294967295 if it isn't given";
+const CONNECTIONS_HELP: &str = "Number of connections to serve; 4294967295 if it isn't given";
 
 const CHANGES: &str = "changes";
 
 const CHANGES_HELP: &str =
-    "Folder of change files: before a connection, DIR/<sequence + 1>.opl is applied if it is there";
+    "Folder of change files: DIR/<sequence + 1>.opl is applied as soon as it is there";
 
 /// The command, as `clap` is told of it.
 pub fn serve_command<'a>(alloc: Global) -> Result<Command<'a>, AllocError>
