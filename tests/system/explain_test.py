@@ -124,7 +124,8 @@ def tells_files(tally):
         with socket.create_server(("127.0.0.1", 0)) as taken:
             port = str(taken.getsockname()[1])
             told, status = run_on_terminal([PROGRAM, "serve", objects, port])
-            tally.check("a port that is taken", status == 3 and "the port taken" in told, told, status)
+            is_named = told.startswith(f"device\nport {port}: Address already in use")
+            tally.check("a port that is taken", status == 3 and is_named, told, status)
 
 
 # What is shown of a large set while its trees are built, one after the other on one line.
