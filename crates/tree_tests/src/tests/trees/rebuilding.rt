@@ -196,11 +196,11 @@ fn counts_of(rebuilt: &Rebuilt) -> (usize, usize) {
 
 /// Changes a tree, and tells how many nodes were added and how many are gone. Where memory is refused it tries
 /// again.
-fn rebuilt_at_last(
+fn rebuilt_at_last<'a>(
     alloc: Global,
-    shelf: &mut Recorder<'_>,
+    shelf: &mut Recorder<'a>,
     top: &Digest,
-    changes: &[EntryChange],
+    changes: &'a [EntryChange],
 ) -> Result<(usize, usize), AllocError>
     requires { HoldsOldTree (RecorderHolds shelf.old) top.now.0 (changes_of changes.now) }
 {
