@@ -211,11 +211,11 @@ fn rebuilt_at_last<'a>(
 }
 
 /// Changes a tree, and tells how many nodes were added, how many are gone and how many the shelf has given.
-fn counted(
+fn counted<'a>(
     alloc: Global,
-    mut shelf: Recorder<'_>,
+    mut shelf: Recorder<'a>,
     top: &Digest,
-    changes: &[EntryChange],
+    changes: &'a [EntryChange],
 ) -> Result<(usize, usize, usize), AllocError>
     requires { HoldsOldTree (RecorderHolds shelf) top.now.0 (changes_of changes.now) }
 {
