@@ -29,6 +29,7 @@ MODULES = {
     "tree_node": ("tree_tests", "nodes"),
     "tree_build": ("tree_tests", "trees"),
     "tree_walk": ("tree_tests", "walks"),
+    "osm_keys": ("osm_index_tests", "snapshots::cells"),
     "ql_plain": ("answer_tests", "plain_answers"),
     "ql_eval": ("answer_tests", "evaluations"),
     "osm_prove": ("answer_tests", "proofs"),
