@@ -5,8 +5,8 @@ use Rattle.clap.specs.Words.{App, Rule, Text, new_app, with_rule}
 use Rattle.clap.specs.declared.builder.value_parser.ValueParser.TheVariants as value
 use Rattle.command_line.specs.Arguments.{wanted}
 use Rattle.command_line.specs.EditionOptions.{IsBadEdition, edition_word, option_rule, with_edition_options}
-use Rattle.tree_node.specs.declared.edition.Edition.{Edition}
-use Rattle.tree_node.specs.declared.edition.Edition.TheVariants.{One, Two}
+use Rattle.osm_keys.specs.declared.edition.Edition.{Edition}
+use Rattle.osm_keys.specs.declared.edition.Edition.TheVariants.{One, Two}
 
 abbrev pub serve_name : Text
 serve_name = codes "serve"

@@ -12,27 +12,27 @@ use std::alloc::{AllocError, Global};
 
 /// A positional argument of a command.
 #[derive(Clone, Copy)]
-pub struct Argument {
+pub(crate) struct Argument {
     /// Its name, by which the matches know it and which the usage line shows.
-    pub name: &'static str,
+    pub(crate) name: &'static str,
     /// What the command's help says of it.
-    pub help: &'static str,
+    pub(crate) help: &'static str,
 }
 
 /// The OPL file of a set.
-pub const FILE: Argument = Argument {
+pub(crate) const FILE: Argument = Argument {
     name: "FILE",
     help: "OPL file with the objects of the set",
 };
 
 /// The file of a query.
-pub const QUERY_FILE: Argument = Argument {
+pub(crate) const QUERY_FILE: Argument = Argument {
     name: "QUERYFILE",
     help: "File whose bytes are the query",
 };
 
 /// The command with these positional arguments, in order, each of which has to be there.
-pub fn and_all_wanted<'a>(
+pub(crate) fn and_all_wanted<'a>(
     alloc: Global,
     command: Command<'a>,
     arguments: &[Argument],
@@ -48,7 +48,7 @@ pub fn and_all_wanted<'a>(
 }
 
 /// The command with one more positional argument, which has to be there.
-pub fn and_wanted<'a>(
+pub(crate) fn and_wanted<'a>(
     alloc: Global,
     command: Command<'a>,
     argument: Argument,
@@ -64,7 +64,7 @@ pub fn and_wanted<'a>(
 }
 
 /// The command with one more option.
-pub fn and_option<'a>(command: Command<'a>, option: Arg<'a>) -> Result<Command<'a>, AllocError>
+pub(crate) fn and_option<'a>(command: Command<'a>, option: Arg<'a>) -> Result<Command<'a>, AllocError>
     requires command { (fields_of command).has_globals ≡ false }
     requires option { option.global ≡ false }
     ensures { IfOk result (IsCommand (with_rule (app_of command.entry) (rule_of option.entry))) }
@@ -73,7 +73,7 @@ pub fn and_option<'a>(command: Command<'a>, option: Arg<'a>) -> Result<Command<'
 }
 
 /// A copy of the text that the matches have for the argument, empty where they have none.
-pub fn text_of(
+pub(crate) fn text_of(
     alloc: Global,
     matches: &ArgMatches<'_>,
     argument: Argument,

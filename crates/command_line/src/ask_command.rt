@@ -12,7 +12,7 @@ use clap::{ArgMatches, Command};
 use std::alloc::{AllocError, Global};
 
 /// The name of the command.
-pub const ASK: &str = "ask";
+pub(crate) const ASK: &str = "ask";
 
 /// What the program's help says of the command.
 const ABOUT: &str =
@@ -24,14 +24,14 @@ const QUERY: Argument = Argument {
 };
 
 /// The command, as `clap` is told of it.
-pub fn ask_command<'a>(alloc: Global) -> Result<Command<'a>, AllocError>
+pub(crate) fn ask_command<'a>(alloc: Global) -> Result<Command<'a>, AllocError>
     ensures { IfOk result (IsCommand ask_app) }
 {
     and_wanted(alloc, Command::new(alloc, ASK).about(ABOUT), QUERY)
 }
 
 /// What the matches of this command ask for.
-pub fn ask_job(alloc: Global, matches: &ArgMatches<'_>) -> Result<Job, AllocError>
+pub(crate) fn ask_job(alloc: Global, matches: &ArgMatches<'_>) -> Result<Job, AllocError>
     ensures { IfOk result (λ job. Gives job ask_name (rows_of (found_of matches.now))) }
 {
     let query = text_of(alloc, matches, QUERY)?;

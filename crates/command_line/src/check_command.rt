@@ -17,7 +17,7 @@ use std::alloc::{AllocError, Global};
 use tree_node::Digest;
 
 /// The name of the command.
-pub const CHECK: &str = "check";
+pub(crate) const CHECK: &str = "check";
 
 /// What the program's help says of the command.
 const ABOUT: &str = "Checks an answer by its proof and a root: prints 'yes', or 'no' and why";
@@ -38,7 +38,7 @@ const PROOF_FILE: Argument = Argument {
 };
 
 /// The command, as `clap` is told of it.
-pub fn check_command<'a>(alloc: Global) -> Result<Command<'a>, AllocError>
+pub(crate) fn check_command<'a>(alloc: Global) -> Result<Command<'a>, AllocError>
     ensures { IfOk result (IsCommand check_app) }
 {
     let arguments = [ROOT, QUERY_FILE, ANSWER_FILE, PROOF_FILE];
@@ -47,7 +47,7 @@ pub fn check_command<'a>(alloc: Global) -> Result<Command<'a>, AllocError>
 }
 
 /// What the matches of this command ask for. `BadRoot` where ROOT isn't 64 hexadecimal digits.
-pub fn check_job(alloc: Global, matches: &ArgMatches<'_>) -> Result<Job, WordsFault>
+pub(crate) fn check_job(alloc: Global, matches: &ArgMatches<'_>) -> Result<Job, WordsFault>
     ensures given { IfOk result (λ job. Gives job check_name (rows_of (found_of matches.now))) }
     ensures refused { IfErr result (λ fault. (fault ≡ WordsFault.Memory) ⊎ ((fault ≡ WordsFault.BadRoot)
         × ¬ (IsRootText (text_of (codes "ROOT") (rows_of (found_of matches.now)))))) }

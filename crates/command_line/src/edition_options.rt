@@ -10,7 +10,7 @@ use crate::arguments::and_option;
 use crate::words_fault::WordsFault;
 use clap::{Arg, ArgMatches, Command, value_parser};
 use std::alloc::{AllocError, Global};
-use tree_node::Edition;
+use osm_keys::Edition;
 
 const EDITION: &str = "edition";
 
@@ -23,7 +23,7 @@ const SEQUENCE_HELP: &str =
     "Sequence number of an edition 2 root, 0 if it isn't given; has no effect with '--edition 1'";
 
 /// The command with both options.
-pub fn and_edition_options<'a>(
+pub(crate) fn and_edition_options<'a>(
     alloc: Global,
     command: Command<'a>,
 ) -> Result<Command<'a>, AllocError>
@@ -58,7 +58,7 @@ fn sequence_option<'a>(alloc: Global) -> Arg<'a>
 
 /// The edition that the matches ask for: the second, where they don't say. `BadEdition` where the word after
 /// `--edition` is neither `1` nor `2`.
-pub fn edition_of(matches: &ArgMatches<'_>) -> Result<Edition, WordsFault>
+pub(crate) fn edition_of(matches: &ArgMatches<'_>) -> Result<Edition, WordsFault>
     ensures asked { IfOk result (AsksForEdition (first_of (codes "edition") (rows_of (found_of matches.now)))
         (one_of (codes "sequence") (rows_of (found_of matches.now)))) }
     ensures refused { IfErr result (λ fault. (fault ≡ WordsFault.BadEdition)

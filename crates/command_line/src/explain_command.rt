@@ -12,7 +12,7 @@ use clap::{ArgMatches, Command};
 use std::alloc::{AllocError, Global};
 
 /// The name of the command.
-pub const EXPLAIN: &str = "explain";
+pub(crate) const EXPLAIN: &str = "explain";
 
 /// What the program's help says of the command.
 const ABOUT: &str = "Prints what a code means, where it is told and what to do about it";
@@ -23,14 +23,14 @@ const CODE: Argument = Argument {
 };
 
 /// The command, as `clap` is told of it.
-pub fn explain_command<'a>(alloc: Global) -> Result<Command<'a>, AllocError>
+pub(crate) fn explain_command<'a>(alloc: Global) -> Result<Command<'a>, AllocError>
     ensures { IfOk result (IsCommand explain_app) }
 {
     and_wanted(alloc, Command::new(alloc, EXPLAIN).about(ABOUT), CODE)
 }
 
 /// What the matches of this command ask for.
-pub fn explain_job(alloc: Global, matches: &ArgMatches<'_>) -> Result<Job, AllocError>
+pub(crate) fn explain_job(alloc: Global, matches: &ArgMatches<'_>) -> Result<Job, AllocError>
     ensures { IfOk result (λ job. Gives job explain_name (rows_of (found_of matches.now))) }
 {
     let code = text_of(alloc, matches, CODE)?;

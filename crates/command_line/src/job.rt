@@ -1,6 +1,7 @@
 //! What the words ask for.
 
-use tree_node::{Digest, Edition};
+use osm_keys::Edition;
+use tree_node::Digest;
 
 /// What the words ask for: a variant a command, with the texts of its arguments. A file is named by the bytes
 /// of its word as they stand.

@@ -20,6 +20,6 @@ mod words_fault;
 
 pub use job::Job;
 pub use laws::each_command_takes_words;
-pub use tree_node::Edition;
+pub use osm_keys::Edition;
 pub use words::read_words;
 pub use words_fault::WordsFault;

@@ -26,7 +26,7 @@ const VERSION: &str = "0.1.0 (edition 2, rattle-kit-13f logic dac8208d650f15bf)"
 
 /// The command line of the program: one level of commands, of which one has to be there. `--help`, `-h`,
 /// `--version` and `-V` are `clap`'s; there is no command `help`.
-pub fn program_command<'a>(alloc: Global) -> Result<Command<'a>, AllocError>
+pub(crate) fn program_command<'a>(alloc: Global) -> Result<Command<'a>, AllocError>
     ensures { IfOk result (IsCommand program_app) }
 {
     let program = publisher_program(alloc)?;

@@ -15,7 +15,7 @@ use clap::{ArgMatches, Command};
 use std::alloc::{AllocError, Global};
 
 /// The name of the command.
-pub const PROVE: &str = "prove";
+pub(crate) const PROVE: &str = "prove";
 
 /// What the program's help says of the command.
 const ABOUT: &str = "Writes the answer to a query and its proof, and prints the root of the set";
@@ -31,7 +31,7 @@ const PROOF_FILE: Argument = Argument {
 };
 
 /// The command, as `clap` is told of it.
-pub fn prove_command<'a>(alloc: Global) -> Result<Command<'a>, AllocError>
+pub(crate) fn prove_command<'a>(alloc: Global) -> Result<Command<'a>, AllocError>
     ensures { IfOk result (IsCommand prove_app) }
 {
     let arguments = [FILE, QUERY_FILE, ANSWER_FILE, PROOF_FILE];
@@ -41,7 +41,7 @@ pub fn prove_command<'a>(alloc: Global) -> Result<Command<'a>, AllocError>
 }
 
 /// What the matches of this command ask for. `BadEdition` where the word after `--edition` is neither `1` nor `2`.
-pub fn prove_job(alloc: Global, matches: &ArgMatches<'_>) -> Result<Job, WordsFault>
+pub(crate) fn prove_job(alloc: Global, matches: &ArgMatches<'_>) -> Result<Job, WordsFault>
     ensures given { IfOk result (λ job. Gives job prove_name (rows_of (found_of matches.now))) }
     ensures refused { IfErr result (λ fault. (fault ≡ WordsFault.Memory) ⊎ ((fault ≡ WordsFault.BadEdition)
         × IsBadEdition (first_of (codes "edition") (rows_of (found_of matches.now))))) }

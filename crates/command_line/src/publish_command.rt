@@ -15,13 +15,13 @@ use clap::{ArgMatches, Command};
 use std::alloc::{AllocError, Global};
 
 /// The name of the command.
-pub const PUBLISH: &str = "publish";
+pub(crate) const PUBLISH: &str = "publish";
 
 /// What the program's help says of the command.
 const ABOUT: &str = "Prints the root of a set, by which clients check answers";
 
 /// The command, as `clap` is told of it.
-pub fn publish_command<'a>(alloc: Global) -> Result<Command<'a>, AllocError>
+pub(crate) fn publish_command<'a>(alloc: Global) -> Result<Command<'a>, AllocError>
     ensures { IfOk result (IsCommand publish_app) }
 {
     let command = and_wanted(alloc, Command::new(alloc, PUBLISH).about(ABOUT), FILE)?;
@@ -29,7 +29,7 @@ pub fn publish_command<'a>(alloc: Global) -> Result<Command<'a>, AllocError>
 }
 
 /// What the matches of this command ask for. `BadEdition` where the word after `--edition` is neither `1` nor `2`.
-pub fn publish_job(alloc: Global, matches: &ArgMatches<'_>) -> Result<Job, WordsFault>
+pub(crate) fn publish_job(alloc: Global, matches: &ArgMatches<'_>) -> Result<Job, WordsFault>
     ensures given { IfOk result (λ job. Gives job publish_name (rows_of (found_of matches.now))) }
     ensures refused { IfErr result (λ fault. (fault ≡ WordsFault.Memory) ⊎ ((fault ≡ WordsFault.BadEdition)
         × IsBadEdition (first_of (codes "edition") (rows_of (found_of matches.now))))) }

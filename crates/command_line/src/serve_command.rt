@@ -14,10 +14,10 @@ use crate::job::Job;
 use crate::words_fault::WordsFault;
 use clap::{Arg, ArgMatches, Command, value_parser};
 use std::alloc::{AllocError, Global};
-use tree_node::Edition;
+use osm_keys::Edition;
 
 /// The name of the command.
-pub const SERVE: &str = "serve";
+pub(crate) const SERVE: &str = "serve";
 
 /// What the program's help says of the command.
 const ABOUT: &str = "Answers queries over HTTP, with proofs, on 127.0.0.1";
@@ -36,7 +36,7 @@ const CHANGES_HELP: &str =
     "Folder of change files: DIR/<sequence + 1>.opl is applied as soon as it is there";
 
 /// The command, as `clap` is told of it.
-pub fn serve_command<'a>(alloc: Global) -> Result<Command<'a>, AllocError>
+pub(crate) fn serve_command<'a>(alloc: Global) -> Result<Command<'a>, AllocError>
     ensures { IfOk result (IsCommand serve_app) }
 {
     let command = and_wanted(alloc, Command::new(alloc, SERVE).about(ABOUT), FILE)?;
@@ -79,7 +79,7 @@ fn changes_option<'a>(alloc: Global) -> Arg<'a>
 
 /// What the matches of this command ask for. `BadEdition` where the word after `--edition` is neither `1` nor `2`, and
 /// where it is `1` and a folder of changes is named: only the second edition has a next sequence.
-pub fn serve_job(alloc: Global, matches: &ArgMatches<'_>) -> Result<Job, WordsFault>
+pub(crate) fn serve_job(alloc: Global, matches: &ArgMatches<'_>) -> Result<Job, WordsFault>
     ensures given { IfOk result (λ job. Gives job serve_name (rows_of (found_of matches.now))) }
     ensures refused { IfErr result (λ fault. (fault ≡ WordsFault.Memory) ⊎ ((fault ≡ WordsFault.BadEdition)
         × CantServe (first_of (codes "edition") (rows_of (found_of matches.now))) (first_of (codes "changes") (rows_of (found_of matches.now))))) }

@@ -10,7 +10,7 @@ use crate::value_fault::ValueFault;
 use osm_model::{Axis, ModelFault, read_degrees};
 
 /// A coordinate, in 1e-7 degree, or `None` where there is no text.
-pub fn read_degrees_field(text: &[u8], axis: Axis) -> Result<Option<i32>, ValueFault>
+pub(crate) fn read_degrees_field(text: &[u8], axis: Axis) -> Result<Option<i32>, ValueFault>
     ensures read { IfOk result (λ found. SpellsCoordinate text.now found × IsWithin axis found) }
     ensures refused { IfErr result (λ fault. CoordinateFault axis text.now fault) }
 {

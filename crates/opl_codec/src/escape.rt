@@ -11,7 +11,7 @@ const MOST_DIGITS: usize = 8;
 
 /// The character of the escape that begins here, after its `%`, and how many digits it has before its
 /// second `%`. `None` where no escape begins here.
-pub fn read_escape(text: &[u8]) -> Option<(char, usize)>
+pub(crate) fn read_escape(text: &[u8]) -> Option<(char, usize)>
     ensures { MatchOption result (¬ (BeginsEscape text.now)) (λ escape.
         (escape.1 < length text.now) × (slice_index text.now escape.1 ≡ percent)
         × IsEscape (take escape.1 text.now) × (digits_value 16 (take escape.1 text.now) ≡ escape.0)) }

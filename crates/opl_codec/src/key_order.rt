@@ -7,7 +7,7 @@ ghost use Rattle.osm_model.specs.Limits.{HasDistinctKeys};
 use osm_model::{Tag, keys_rise, sort_tags};
 
 /// The same tags, in an order of their own, or `None` where two have one key.
-pub fn with_distinct_keys(mut tags: Vec<Tag>) -> Option<Vec<Tag>>
+pub(crate) fn with_distinct_keys(mut tags: Vec<Tag>) -> Option<Vec<Tag>>
     ensures found { IfSome result (λ found. IsPermutation tags.items found.items × HasDistinctKeys found.items) }
     ensures none { IfNone result (¬ (HasDistinctKeys tags.items)) }
 {

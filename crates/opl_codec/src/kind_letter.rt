@@ -7,7 +7,7 @@ ghost use Rattle.osm_model.specs.declared.kind.Kind.{Kind};
 use osm_model::Kind;
 
 /// The kind of object whose letter this is.
-pub fn kind_of(letter: u8) -> Option<Kind>
+pub(crate) fn kind_of(letter: u8) -> Option<Kind>
     ensures { MatchOption result ((kind : Kind) → letter ≢ kind_letter kind) (λ kind. letter ≡ kind_letter kind) }
 {
     match letter {

@@ -20,7 +20,7 @@ use simdutf8::compat::from_utf8;
 use std::alloc::Global;
 
 /// The greatest length of a line, in bytes, without its LF.
-pub const LONGEST_LINE: usize = 1 << 25;
+pub(crate) const LONGEST_LINE: usize = 1 << 25;
 
 /// Reads a line, given without its LF: what it says, or `None` where it is skipped.
 ///

@@ -20,7 +20,7 @@ use std::io::Read;
 
 /// What comes next of a reader.
 #[derive(Drop)]
-pub enum Step {
+pub(crate) enum Step {
     /// A line, and what it says: nothing where it is skipped.
     Line(Option<Change>),
     /// The end.
@@ -29,24 +29,24 @@ pub enum Step {
 
 /// What was read of a reader and not yet told as lines.
 #[derive(Drop)]
-pub struct LineBuffer {
+pub(crate) struct LineBuffer {
     alloc: Global,
-    pub pieces: PieceReader,
+    pub(crate) pieces: PieceReader,
     /// Where in the last piece the bytes begin that no line has yet.
-    pub from: usize,
+    pub(crate) from: usize,
     /// The beginning of a line that crosses pieces.
-    pub pending: Vec<u8>,
+    pub(crate) pending: Vec<u8>,
     /// How many bytes the reader gave.
-    pub total: u64,
+    pub(crate) total: u64,
     /// How many lines were read.
-    pub lines: u64,
+    pub(crate) lines: u64,
     /// Whether the reader has ended.
-    pub is_ended: bool,
+    pub(crate) is_ended: bool,
 }
 
 impl LineBuffer {
     /// Nothing was read yet. It takes no memory.
-    pub fn new(alloc: Global) -> LineBuffer
+    pub(crate) fn new(alloc: Global) -> LineBuffer
         ensures sound { (known : Option (List ℕ)) → GoesOn known result }
         ensures nothing { (result.lines ≡ 0) × (result.total ≡ 0) × (result.is_ended ≡ false) }
         ensures unread { unread result ≡ [] }
@@ -63,7 +63,7 @@ impl LineBuffer {
     }
 
     /// Reads the next line of the reader. Give the same reader to each call.
-    pub fn take_line<R: Read>(&mut self, reader: &mut R) -> Result<Step, LoadFault>
+    pub(crate) fn take_line<R: Read>(&mut self, reader: &mut R) -> Result<Step, LoadFault>
         requires { GoesOn (R.remaining reader.old) self.old }
         ensures goes_on { OnOk result (GoesOn (R.remaining reader.new) self.new) }
         ensures step { IsStep (place (R.remaining reader.old) self.old) (place (R.remaining reader.new) self.new) result }
@@ -84,7 +84,7 @@ impl LineBuffer {
 
     /// What the next line says that says something, and its number from 1; `None` at the end. Give the
     /// same reader to each call.
-    pub fn next_change<R: Read>(
+    pub(crate) fn next_change<R: Read>(
         &mut self,
         reader: &mut R,
     ) -> Result<Option<(u64, Change)>, LoadFault>

@@ -9,7 +9,7 @@ use crate::cut_text::is_at;
 use crate::line_field::blanks_len;
 
 /// A line without the CR at its end.
-pub fn content_of(line: &[u8]) -> &[u8]
+pub(crate) fn content_of(line: &[u8]) -> &[u8]
     ensures { result.now ≡ content line.now }
 {
     if line.is_empty() {
@@ -23,7 +23,7 @@ pub fn content_of(line: &[u8]) -> &[u8]
 }
 
 /// A text without the CR at its end.
-pub fn text_content(text: &str) -> &str
+pub(crate) fn text_content(text: &str) -> &str
     ensures { result.now ≡ content text.now }
 {
     match text.strip_suffix('\r') {
@@ -33,7 +33,7 @@ pub fn text_content(text: &str) -> &str
 }
 
 /// Whether a line that isn't too long is skipped: it has only blanks, or it is a comment.
-pub fn is_skipped(line: &[u8]) -> bool
+pub(crate) fn is_skipped(line: &[u8]) -> bool
     requires { length line.now ≤ LONGEST_LINE }
     ensures { result ≡ is_skipped line.now }
 {

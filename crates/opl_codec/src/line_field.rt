@@ -6,17 +6,17 @@ ghost use Rattle.opl_codec.specs.internal.FieldCuts.{AreBlanks, HasNoBlank, Star
 
 /// The next field of a line, and what follows it.
 #[derive(Clone, Copy)]
-pub struct NextField<'a> {
+pub(crate) struct NextField<'a> {
     /// How many blanks stand before it.
-    pub gap: usize,
+    pub(crate) gap: usize,
     /// The field, at least one byte and none of them a blank.
-    pub field: &'a str,
+    pub(crate) field: &'a str,
     /// What follows it: nothing, or text that begins with a blank.
-    pub rest: &'a str,
+    pub(crate) rest: &'a str,
 }
 
 /// The next field of this text; `None` where it has but blanks.
-pub fn next_field(text: &str) -> Option<NextField<'_>>
+pub(crate) fn next_field(text: &str) -> Option<NextField<'_>>
     ensures { MatchOption result (AreBlanks text.now) (λ next. IsNextField text.now next.gap next.field.now next.rest.now) }
 {
     let gap = blanks_len(text.as_bytes());
@@ -33,7 +33,7 @@ pub fn next_field(text: &str) -> Option<NextField<'_>>
 }
 
 /// The number of bytes before the first that is no blank.
-pub fn blanks_len(bytes: &[u8]) -> usize
+pub(crate) fn blanks_len(bytes: &[u8]) -> usize
     ensures within { result ≤ length bytes.now }
     ensures blanks { AreBlanks (take result bytes.now) }
     ensures stop { StartsField (drop result bytes.now) }

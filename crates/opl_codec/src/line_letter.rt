@@ -8,7 +8,7 @@ use osm_model::Kind;
 
 /// What a field says, by its letter (Osmium's OPL manual).
 #[derive(Clone, Copy)]
-pub enum LineLetter {
+pub(crate) enum LineLetter {
     /// `v`
     Version,
     /// `d`
@@ -35,7 +35,7 @@ pub enum LineLetter {
 
 impl LineLetter {
     /// The letter that this byte is.
-    pub fn of(byte: u8) -> Option<LineLetter>
+    pub(crate) fn of(byte: u8) -> Option<LineLetter>
         ensures { MatchOption result ((letter : LineLetter) → letter_byte letter ≢ byte) (λ letter. letter_byte letter ≡ byte) }
     {
         match byte {
@@ -55,7 +55,7 @@ impl LineLetter {
     }
 
     /// Whether objects of this kind have such a field.
-    pub fn belongs_to(self, kind: Kind) -> bool
+    pub(crate) fn belongs_to(self, kind: Kind) -> bool
         ensures { result ≡ belongs kind self }
     {
         match self {

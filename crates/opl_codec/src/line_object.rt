@@ -23,7 +23,7 @@ use std::alloc::Global;
 ///
 /// Refused with `NoLocation` at the length of the line's content where a node has no location, and
 /// with `OutsideModel` at 0 where the object's canonical line is over its limit.
-pub fn object_of(
+pub(crate) fn object_of(
     alloc: Global,
     line: &[u8],
     name: Ref,

@@ -29,34 +29,34 @@ use std::alloc::Global;
 
 /// What the fields after the first of a line say: the value of each, or `None` where it is missing.
 #[derive(Drop)]
-pub struct LineParts {
+pub(crate) struct LineParts {
     /// `v`: the version.
-    pub version: Option<u32>,
+    pub(crate) version: Option<u32>,
     /// `d`: whether the object is visible; if not, it is deleted.
-    pub visible: Option<bool>,
+    pub(crate) visible: Option<bool>,
     /// `c`: the changeset.
-    pub changeset: Option<i64>,
+    pub(crate) changeset: Option<i64>,
     /// `t`: the moment of the last change; nothing after the letter is no moment.
-    pub stamp: Option<Option<Stamp>>,
+    pub(crate) stamp: Option<Option<Stamp>>,
     /// `i`: the number of the user.
-    pub uid: Option<i64>,
+    pub(crate) uid: Option<i64>,
     /// `u`: the name of the user.
-    pub user: Option<Text>,
+    pub(crate) user: Option<Text>,
     /// `T`: the tags, in an order of their own.
-    pub tags: Option<TagList>,
+    pub(crate) tags: Option<TagList>,
     /// `x`: the longitude, in 1e-7 degree; nothing after the letter is no longitude.
-    pub lon: Option<Option<i32>>,
+    pub(crate) lon: Option<Option<i32>>,
     /// `y`: the latitude, in 1e-7 degree; nothing after the letter is no latitude.
-    pub lat: Option<Option<i32>>,
+    pub(crate) lat: Option<Option<i32>>,
     /// `N`: the nodes of a way.
-    pub nodes: Option<NodeList>,
+    pub(crate) nodes: Option<NodeList>,
     /// `M`: the members of a relation.
-    pub members: Option<MemberList>,
+    pub(crate) members: Option<MemberList>,
 }
 
 impl LineParts {
     /// Before the first of the fields: nothing is said.
-    pub fn new() -> LineParts
+    pub(crate) fn new() -> LineParts
         ensures { Says [] result }
     {
         LineParts {
@@ -78,7 +78,7 @@ impl LineParts {
     ///
     /// Refused by the first of these that is met: an unknown letter, one of another kind of object, one
     /// that came before, then what is wrong after the letter.
-    pub fn take(
+    pub(crate) fn take(
         &mut self,
         alloc: Global,
         kind: Kind,

@@ -14,7 +14,7 @@ use osm_model::LIST_LIMIT;
 use std::alloc::{AllocError, Global};
 
 /// An item of a list: a tag, a node of a way, a member of a relation.
-pub trait ListItem: Sized + Drop {
+pub(crate) trait ListItem: Sized + Drop {
     ghost use Rattle.opl_codec.specs.declared.value_fault.ValueFault.{ValueFault};
     ghost use Rattle.opl_codec.specs.declared.value_fault.ValueFault.TheVariants.{Limit};
 
@@ -37,7 +37,7 @@ pub trait ListItem: Sized + Drop {
 }
 
 /// The items that commas separate; an empty text has none. At most [`LIST_LIMIT`].
-pub fn read_list<T: ListItem>(alloc: Global, text: &str) -> Result<Vec<T>, ValueFault>
+pub(crate) fn read_list<T: ListItem>(alloc: Global, text: &str) -> Result<Vec<T>, ValueFault>
     ensures read { IfOk result (λ list. Each T.spells (items text.now) list.items × (length list.items ≤ LIST_LIMIT)) }
     ensures refused { IfErr result (λ fault. ListFault (IsSpelled T.spells) T.bad (IsTooLong T.spells text.now) text.now fault) }
 {
@@ -90,7 +90,7 @@ fn push_up_to_limit<T: ListItem>(item: T, list: &mut Vec<T>) -> Result<(), Alloc
 }
 
 /// The same fault, so many bytes further.
-pub fn shifted_by(fault: ValueFault, by: usize) -> ValueFault
+pub(crate) fn shifted_by(fault: ValueFault, by: usize) -> ValueFault
     requires { by + place_in fault < 2 ^ 64 }
     ensures { result ≡ further_by by fault }
 {

@@ -9,7 +9,7 @@ use osm_model::Text;
 use std::alloc::{AllocError, Global};
 
 /// The text that is spelled so.
-pub fn make_text(alloc: Global, spelled: &str) -> Result<Text, AllocError>
+pub(crate) fn make_text(alloc: Global, spelled: &str) -> Result<Text, AllocError>
     requires { IsText spelled.now }
     ensures { IfOk result (λ text. SpellsText spelled.now text) }
 {

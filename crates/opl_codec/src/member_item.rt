@@ -21,7 +21,7 @@ use std::alloc::Global;
 ///
 /// Refused with `Limit` where they are more than [`osm_model::LIST_LIMIT`] or a role has more than
 /// [`TEXT_LIMIT`] bytes.
-pub fn read_members(alloc: Global, text: &str) -> Result<Vec<Member>, ValueFault>
+pub(crate) fn read_members(alloc: Global, text: &str) -> Result<Vec<Member>, ValueFault>
     ensures read { IfOk result (λ members. SpellsMembers text.now members.items × MembersFit members.items) }
     ensures refused { IfErr result (λ fault. MembersFault text.now fault) }
 {

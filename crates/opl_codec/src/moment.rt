@@ -10,7 +10,7 @@ use osm_model::Stamp;
 
 /// The moment `YYYY-MM-DDThh:mm:ssZ` in the ranges of [`Stamp`], or `Some(None)` where there is no
 /// text.
-pub fn read_stamp(text: &[u8]) -> Option<Option<Stamp>>
+pub(crate) fn read_stamp(text: &[u8]) -> Option<Option<Stamp>>
     ensures { MatchOption result ((s : Option Moment) → SpellsStamp text.now s → ⊥) (λ s. SpellsStamp text.now s) }
 {
     if text.is_empty() {

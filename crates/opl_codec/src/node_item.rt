@@ -15,7 +15,7 @@ use std::alloc::Global;
 /// The nodes of a text, in their order.
 ///
 /// Refused with `Limit` where they are more than [`osm_model::LIST_LIMIT`].
-pub fn read_nodes(alloc: Global, text: &str) -> Result<Vec<i64>, ValueFault>
+pub(crate) fn read_nodes(alloc: Global, text: &str) -> Result<Vec<i64>, ValueFault>
     ensures read { IfOk result (λ ids. SpellsNodes text.now ids.items × (length ids.items ≤ LIST_LIMIT)) }
     ensures refused { IfErr result (λ fault. NodesFault text.now fault) }
 {

@@ -7,7 +7,7 @@ ghost use Rattle.opl_codec.specs.Values.{SpellsNumber, SpellsVersion, SpellsVisi
 
 /// The value of a whole number of 64 bits: an optional `-` and one or more digits. Leading zeros are
 /// allowed, any number of them.
-pub fn read_number(text: &[u8]) -> Option<i64>
+pub(crate) fn read_number(text: &[u8]) -> Option<i64>
     ensures { MatchOption result ((z : ℤ) → SpellsNumber text.now z → ⊥) (λ z. SpellsNumber text.now z) }
 {
     match text {
@@ -17,14 +17,14 @@ pub fn read_number(text: &[u8]) -> Option<i64>
 }
 
 /// The value of a version: one or more digits, in 32 bits. Leading zeros are allowed.
-pub fn read_version(text: &[u8]) -> Option<u32>
+pub(crate) fn read_version(text: &[u8]) -> Option<u32>
     ensures { MatchOption result ((n : ℕ) → SpellsVersion text.now n → ⊥) (λ n. SpellsVersion text.now n) }
 {
     u32::try_from(read_digits(text)?).ok()
 }
 
 /// Whether an object is visible: `V` where it is, `D` where it is deleted.
-pub fn read_visible(text: &[u8]) -> Option<bool>
+pub(crate) fn read_visible(text: &[u8]) -> Option<bool>
     ensures { MatchOption result ((b : Bool) → SpellsVisible text.now b → ⊥) (λ b. SpellsVisible text.now b) }
 {
     match text {

@@ -11,7 +11,7 @@ use osm_model::Text;
 use std::alloc::Global;
 
 /// The text that is spelled so, with no byte left over.
-pub fn read_text(alloc: Global, spelled: &str) -> Result<Text, ValueFault>
+pub(crate) fn read_text(alloc: Global, spelled: &str) -> Result<Text, ValueFault>
     ensures read { IfOk result (λ text. SpellsText spelled.now text) }
     ensures refused { IfErr result (λ fault. TextFault spelled.now fault) }
 {

@@ -13,22 +13,22 @@ use std::collections::BTreeSet;
 
 /// The references of objects that come one after the other.
 #[derive(Drop)]
-pub struct References {
+pub(crate) struct References {
     alloc: Global,
     /// All of them, from the first that isn't above the one before it. Until then none can come twice.
-    pub kept: Option<BTreeSet<Ref, Global>>,
+    pub(crate) kept: Option<BTreeSet<Ref, Global>>,
 }
 
 impl References {
     /// Of no objects. It takes no memory.
-    pub fn new(alloc: Global) -> References
+    pub(crate) fn new(alloc: Global) -> References
         ensures { Knows result [] }
     {
         References { alloc, kept: None }
     }
 
     /// Adds the reference of the object that comes after these, and says whether it is a new one.
-    pub fn add(&mut self, objects: &[Object], name: Ref) -> Result<bool, AllocError>
+    pub(crate) fn add(&mut self, objects: &[Object], name: Ref) -> Result<bool, AllocError>
         requires { Knows self.old (references objects.now) }
         ensures { IfOk result (λ is_new. MatchBool is_new (Knows self.new (references objects.now ++ name ∷ [])) (¬ (AreApart (references objects.now ++ name ∷ [])))) }
     {

@@ -10,7 +10,7 @@ use crate::value_fault::ValueFault;
 
 /// How far a text goes: just so many bytes at the beginning are a text, and no text goes on after
 /// them. An error is the place of a `%` that begins no escape; what stands before it is a text.
-pub fn text_len(bytes: &[u8]) -> Result<usize, usize>
+pub(crate) fn text_len(bytes: &[u8]) -> Result<usize, usize>
     ensures { MatchResult result (λ len. IsTextFront bytes.now len) (λ at. BadEscapeIn bytes.now at) }
 {
     let mut len = 0;
@@ -31,7 +31,7 @@ pub fn text_len(bytes: &[u8]) -> Result<usize, usize>
 }
 
 /// That the bytes are a text, to the last.
-pub fn check_text(bytes: &[u8]) -> Result<(), ValueFault>
+pub(crate) fn check_text(bytes: &[u8]) -> Result<(), ValueFault>
     ensures text { OnOk result (IsText bytes.now) }
     ensures refused { IfErr result (λ fault. TextFault bytes.now fault) }
 {

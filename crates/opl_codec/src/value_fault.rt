@@ -6,7 +6,7 @@ use std::alloc::{AllocError, AllocFailed};
 
 /// Why the text after a field's letter isn't its value.
 #[derive(Clone, Copy)]
-pub enum ValueFault {
+pub(crate) enum ValueFault {
     /// It isn't of the field's form.
     Form,
     /// A bad escape, so many bytes after the letter.

@@ -13,7 +13,7 @@ use std::alloc::AllocError;
 
 /// Appends a space and the fields of a body, a space between two.
 #[tactic(auto, using(crate::proofs::WriteSteps::one_field))]
-pub fn append_body(body: &Body, out: &mut Vec<u8>) -> Result<(), AllocError>
+pub(crate) fn append_body(body: &Body, out: &mut Vec<u8>) -> Result<(), AllocError>
     ensures ok { OnOk result (out.new.items ≡ out.old.items ++ flat_map (λ f. space ∷ f) (body_fields body.now)) }
     ensures err { OnErr result (take (length out.old.items) out.new.items ≡ out.old.items) }
 {

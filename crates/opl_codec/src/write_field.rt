@@ -12,7 +12,7 @@ use osm_model::{Meta, Object, Stamp, Tag};
 use std::alloc::AllocError;
 
 /// Appends the letter of the object's kind and its id.
-pub fn append_name(object: &Object, out: &mut Vec<u8>) -> Result<(), AllocError>
+pub(crate) fn append_name(object: &Object, out: &mut Vec<u8>) -> Result<(), AllocError>
     ensures ok { OnOk result (out.new.items ≡ out.old.items ++ name_field object.now) }
     ensures err { OnErr result (take (length out.old.items) out.new.items ≡ out.old.items) }
 {
@@ -20,7 +20,7 @@ pub fn append_name(object: &Object, out: &mut Vec<u8>) -> Result<(), AllocError>
 }
 
 /// Appends a space and the fields of the metadata, a space between two.
-pub fn append_meta(meta: &Meta, out: &mut Vec<u8>) -> Result<(), AllocError>
+pub(crate) fn append_meta(meta: &Meta, out: &mut Vec<u8>) -> Result<(), AllocError>
     ensures ok { OnOk result (out.new.items ≡ out.old.items ++ flat_map (λ f. 32 ∷ f) (meta_fields meta.now)) }
     ensures err { OnErr result (take (length out.old.items) out.new.items ≡ out.old.items) }
 {
@@ -58,7 +58,7 @@ fn append_labelled_number(label: &[u8], number: i64, out: &mut Vec<u8>) -> Resul
 }
 
 /// Appends a space and the field of these tags.
-pub fn append_tags(tags: &[Tag], out: &mut Vec<u8>) -> Result<(), AllocError>
+pub(crate) fn append_tags(tags: &[Tag], out: &mut Vec<u8>) -> Result<(), AllocError>
     ensures ok { OnOk result (out.new.items ≡ out.old.items ++ 32 ∷ tags_field tags.now) }
     ensures err { OnErr result (take (length out.old.items) out.new.items ≡ out.old.items) }
 {

@@ -19,7 +19,7 @@ pub fn append_reference(reference: Ref, out: &mut Vec<u8>) -> Result<(), AllocEr
 }
 
 /// Appends a number in decimal.
-pub fn append_number(number: i64, out: &mut Vec<u8>) -> Result<(), AllocError>
+pub(crate) fn append_number(number: i64, out: &mut Vec<u8>) -> Result<(), AllocError>
     ensures ok { OnOk result (out.new.items ≡ out.old.items ++ signed_decimal number) }
     ensures err { OnErr result (out.new.items ≡ out.old.items) }
 {

@@ -9,7 +9,7 @@ use osm_model::{Text, hex_places, is_literal};
 use std::alloc::AllocError;
 
 /// Appends a text, each character as itself or as an escape.
-pub fn append_text(text: &Text, out: &mut Vec<u8>) -> Result<(), AllocError>
+pub(crate) fn append_text(text: &Text, out: &mut Vec<u8>) -> Result<(), AllocError>
     ensures ok { OnOk result (out.new.items ≡ out.old.items ++ escaped text.now) }
     ensures err { OnErr result (take (length out.old.items) out.new.items ≡ out.old.items) }
 {

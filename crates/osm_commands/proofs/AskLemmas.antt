@@ -4,7 +4,7 @@ use Rattle.osm_model.specs.Elements.{Element}
 use Rattle.opl_codec.specs.Files.{HoldsSet}
 use Rattle.osm_keys.specs.Publications.{Publication}
 use Rattle.osm_index.specs.Snapshots.{HoldsPublication}
-use Rattle.tree_node.specs.declared.edition.Edition.{Edition}
+use Rattle.osm_keys.specs.declared.edition.Edition.{Edition}
 use Rattle.osm_index.specs.declared.snapshot.Snapshot.{Snapshot}
 use Rattle.ql_syntax.specs.Queries.{HasFault, Reads}
 use Rattle.ql_syntax.specs.Statements.{Statements}

@@ -5,7 +5,7 @@ use Rattle.std.proofs.KnownBytes.{Keeps-refl}
 use Rattle.std.specs.Io.KnownBytes.{Appends, Keeps}
 use Rattle.tree_node.specs.Outcomes.{Clash}
 use Rattle.osm_keys.specs.Publications.{IsNodeIn, IsPublication, Publication, root_of}
-use Rattle.tree_node.specs.declared.edition.Edition.{Edition}
+use Rattle.osm_keys.specs.declared.edition.Edition.{Edition}
 use Rattle.osm_prove.specs.Proved.{IsProved}
 use Rattle.ql_eval.specs.declared.evaluation.Report.{Report}
 use Rattle.osm_check.specs.Verdicts.{IsVerdict, StandsIn}

@@ -2,7 +2,7 @@
 use Rattle.std.proofs.Common.{◌≡◌, ◌⊎◌, ℕ, List, [], ◌++◌, Option, None, Some, Result, Ok, Err, IfSome, IfErr, IsErrAnd, inl, inr, refl, sym, subst, ap, ◌∙◌, append-nil}
 use Rattle.std.specs.Io.KnownBytes.{Consumes, IsAtEnd}
 use Rattle.osm_model.specs.Elements.{Element}
-use Rattle.tree_node.specs.declared.edition.Edition.{Edition}
+use Rattle.osm_keys.specs.declared.edition.Edition.{Edition}
 use Rattle.osm_commands.specs.Ask.{Explains, HoldsTrees, IsAnswer}
 use Rattle.osm_commands.specs.Files.{ExplainsFiles, IfBoth, IsEndless, IsOutsideFiles, IsUnread}
 use Rattle.osm_commands.specs.TreeRoots.{IsOutsideOrTrees}

@@ -6,8 +6,8 @@ use Rattle.osm_model.specs.Elements.{Element}
 use Rattle.opl_codec.specs.Files.{HoldsSet}
 use Rattle.tree_node.specs.Shelves.{IsClashFree}
 use Rattle.osm_keys.specs.Publications.{IsNodeIn, Publication}
-use Rattle.tree_node.specs.declared.edition.Edition.{Edition}
-use Rattle.tree_node.specs.declared.edition.Edition.TheVariants.{Two}
+use Rattle.osm_keys.specs.declared.edition.Edition.{Edition}
+use Rattle.osm_keys.specs.declared.edition.Edition.TheVariants.{Two}
 use Rattle.ql_syntax.specs.Queries.{HasFault, Reads}
 use Rattle.ql_syntax.specs.Statements.{Statements}
 use Rattle.ql_meaning.specs.Meanings.{Means}

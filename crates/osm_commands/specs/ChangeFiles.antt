@@ -10,8 +10,8 @@ use Rattle.osm_index.specs.Snapshots.{HoldsPublication}
 use Rattle.osm_index.specs.declared.snapshot.Snapshot.{Snapshot}
 use Rattle.osm_index.specs.declared.apply_fault.ApplyFault.{ApplyFault}
 use Rattle.osm_index.specs.declared.apply_fault.ApplyFault.TheVariants as refusals
-use Rattle.tree_node.specs.declared.edition.Edition.{Edition}
-use Rattle.tree_node.specs.declared.edition.Edition.TheVariants as editions
+use Rattle.osm_keys.specs.declared.edition.Edition.{Edition}
+use Rattle.osm_keys.specs.declared.edition.Edition.TheVariants as editions
 use Rattle.osm_desk.specs.Made.{IsMade}
 use Rattle.osm_traffic.specs.Published.{Found, GivesChanges, IsMadeFrom, IsPublishedFrom, file, nothing}
 use Rattle.osm_commands.specs.declared.changes_fault.ChangesFault.{ChangesFault}

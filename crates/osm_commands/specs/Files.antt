@@ -4,7 +4,7 @@ use Rattle.std.specs.Prelude.{◌≡◌, ℕ, ◌≤◌, ◌^◌, ◌⊎◌, Lis
 use Rattle.std.specs.Io.KnownBytes.{Keeps}
 use Rattle.osm_model.specs.Elements.{Element}
 use Rattle.osm_keys.specs.Publications.{Publication}
-use Rattle.tree_node.specs.declared.edition.Edition.{Edition}
+use Rattle.osm_keys.specs.declared.edition.Edition.{Edition}
 use Rattle.osm_prove.specs.Proved.{IsProved}
 use Rattle.osm_check.specs.Verdicts.{IsVerdict}
 use Rattle.osm_check.specs.declared.verdict.Verdict.{Verdict}

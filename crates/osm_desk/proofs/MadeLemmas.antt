@@ -17,7 +17,7 @@ use Rattle.osm_keys.specs.Manifests.{manifest}
 use Rattle.osm_keys.specs.Publications.{HasTooMany, IsNodeIn, IsPublication, Publication, manifest_of, root_of, shape_of, top_in, tree_in}
 use Rattle.osm_index.specs.declared.apply_fault.ApplyFault.{ApplyFault}
 use Rattle.osm_index.specs.declared.apply_fault.ApplyFault.TheVariants as faults
-use Rattle.tree_node.specs.declared.edition.Edition.{Edition}
+use Rattle.osm_keys.specs.declared.edition.Edition.{Edition}
 use Rattle.osm_desk.specs.Made.{IsChanged, IsMade, IsRefused}
 use Rattle.osm_desk.proofs.RefusalLemmas.{not_missing, not_twice, one_missing, one_twice}
 

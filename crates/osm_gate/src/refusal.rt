@@ -7,7 +7,7 @@ use http::StatusCode;
 
 /// Why a request is refused before its target is looked at. The connection is closed after each.
 #[derive(Clone, Copy)]
-pub enum Refusal {
+pub(crate) enum Refusal {
     /// No complete head within the limit of its bytes, or more lines than it may have.
     HeadTooLarge,
     /// httparse doesn't read it as a head.

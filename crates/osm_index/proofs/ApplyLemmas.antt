@@ -15,7 +15,7 @@ use Rattle.tree_node.proofs.shared.TreeSame.{same_or_not}
 use Rattle.osm_index.specs.Applying.{AreDigestsOfOnly, IsNodeOfEither}
 use Rattle.osm_index.specs.Holdings.{AreHeld}
 use Rattle.osm_keys.specs.Publications.{IsNodeIn, Publication, manifest_of, tree_in}
-use Rattle.tree_node.specs.declared.edition.Edition.{Edition}
+use Rattle.osm_keys.specs.declared.edition.Edition.{Edition}
 use Rattle.osm_keys.specs.declared.manifest.Manifest.{Manifest}
 use Rattle.osm_index.specs.declared.update.Update.{Update}
 use Rattle.osm_index.specs.internal.Updates.{IsUpdate}

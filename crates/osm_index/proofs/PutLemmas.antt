@@ -18,7 +18,7 @@ use Rattle.osm_keys.specs.Entries.{AreEntriesOf}
 use Rattle.osm_index.specs.Holdings.{AreHeld}
 use Rattle.osm_keys.specs.Manifests.{manifest, top_among}
 use Rattle.osm_keys.specs.Publications.{IsNodeIn, IsPublicationOf, Publication, manifest_of, shape_of, top_in, tree_in}
-use Rattle.tree_node.specs.declared.edition.Edition.{Edition}
+use Rattle.osm_keys.specs.declared.edition.Edition.{Edition}
 use Rattle.osm_keys.proofs.shared.OneManifest.{manifest_same}
 use Rattle.osm_index.specs.internal.Putting.{AreAllFour, Ended, EndedAll, HasPut, IsTreeNode}
 

@@ -18,7 +18,7 @@ use Rattle.osm_keys.specs.Manifests.{HasSequence, top_among}
 use Rattle.osm_keys.specs.Publications.{HasTooMany, IsPublication, IsPublicationOf, Publication, manifest_of}
 use Rattle.osm_index.specs.declared.apply_fault.ApplyFault.{ApplyFault}
 use Rattle.osm_index.specs.declared.apply_fault.ApplyFault.TheVariants as faults
-use Rattle.tree_node.specs.declared.edition.Edition.{Edition}
+use Rattle.osm_keys.specs.declared.edition.Edition.{Edition}
 use Rattle.osm_index.specs.declared.object_changes.ObjectChanges.{ObjectChanges}
 use Rattle.osm_keys.specs.declared.manifest.Manifest.{Manifest}
 use Rattle.osm_index.specs.declared.update.Update.{Update}

@@ -11,8 +11,8 @@ use Rattle.tree_node.proofs.shared.TreeParts.{kind_at}
 use Rattle.osm_index.specs.Applying.{IsSecond, edition_after}
 use Rattle.osm_keys.specs.Manifests.{manifest}
 use Rattle.osm_keys.specs.Publications.{Publication, shape_in, shape_of, tree_in}
-use Rattle.tree_node.specs.declared.edition.Edition.{Edition}
-use Rattle.tree_node.specs.declared.edition.Edition.TheVariants as editions
+use Rattle.osm_keys.specs.declared.edition.Edition.{Edition}
+use Rattle.osm_keys.specs.declared.edition.Edition.TheVariants as editions
 
 -- ---- the shape of a tree
 

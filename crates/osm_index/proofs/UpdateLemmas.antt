@@ -10,8 +10,8 @@ use Rattle.osm_index.specs.Applying.{AreDigestsOfOnly, IsSecond, edition_after}
 use Rattle.osm_keys.specs.Manifests.{HasSequence, manifest, top_among}
 use Rattle.osm_keys.specs.Publications.{IsNodeIn, IsPublicationOf, Publication, manifest_of, root_of, top_in}
 use Rattle.osm_index.specs.declared.changed_trees.ChangedTrees.{ChangedTrees}
-use Rattle.tree_node.specs.declared.edition.Edition.{Edition}
-use Rattle.tree_node.specs.declared.edition.Edition.TheVariants as editions
+use Rattle.osm_keys.specs.declared.edition.Edition.{Edition}
+use Rattle.osm_keys.specs.declared.edition.Edition.TheVariants as editions
 use Rattle.osm_index.specs.internal.ChangedTrees.{AreChangedTrees}
 use Rattle.osm_index.specs.internal.Putting.{IsTreeNode}
 use Rattle.osm_index.proofs.ChangeTreeLemmas.{different_parts}

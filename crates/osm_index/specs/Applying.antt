@@ -12,8 +12,8 @@ use Rattle.tree_build.specs.Rebuilding.{AreDifferent, IsAmong, digests_of}
 use Rattle.tree_node.specs.Digests.{digest}
 use Rattle.osm_keys.specs.Publications.{IsNodeIn, Publication}
 use Rattle.osm_index.specs.declared.delta.Delta.{Delta}
-use Rattle.tree_node.specs.declared.edition.Edition.{Edition}
-use Rattle.tree_node.specs.declared.edition.Edition.TheVariants as editions
+use Rattle.osm_keys.specs.declared.edition.Edition.{Edition}
+use Rattle.osm_keys.specs.declared.edition.Edition.TheVariants as editions
 
 -- ---- the changed set
 

@@ -3,7 +3,7 @@
 ghost use Rattle.osm_index.specs.declared.apply_fault.ApplyFault.TheVariants.{Memory};
 ghost use Rattle.std.specs.Prelude.{◌≡◌};
 
-use osm_model::{Kind, Ref};
+use osm_model::Ref;
 use std::alloc::{AllocError, AllocFailed};
 use thiserror::Error;
 
@@ -15,10 +15,10 @@ pub enum ApplyFault {
     #[error("I5")]
     LastSequence,
     /// I3: an earlier change is of the same object.
-    #[error("I3 {}{}", letter(.0.kind), .0.id)]
+    #[error("I3 {0}")]
     ChangedTwice(Ref),
     /// I2: the object to delete isn't in the set.
-    #[error("I2 {}{}", letter(.0.kind), .0.id)]
+    #[error("I2 {0}")]
     NotThere(Ref),
     /// I4: a tree would have more than 2^29 entries.
     #[error("I4")]
@@ -29,15 +29,6 @@ pub enum ApplyFault {
     /// Memory was refused.
     #[error("no memory")]
     Memory,
-}
-
-/// The letter of a kind (Osmium's OPL manual).
-fn letter(kind: Kind) -> char {
-    match kind {
-        Kind::Node => 'n',
-        Kind::Way => 'w',
-        Kind::Rel => 'r',
-    }
 }
 
 impl From<AllocError> for ApplyFault {

@@ -23,11 +23,11 @@ use tree_node::{Digest, ENTRY_LIMIT, NewNode, Stock, Tree};
 #[derive(Drop)]
 pub(crate) struct ChangedTrees {
     /// The digests of the tops, in the order of the trees' numbers.
-    pub tops: [Digest; 4],
+    pub(crate) tops: [Digest; 4],
     /// The nodes that only the new trees have, each once.
-    pub added: Vec<NewNode>,
+    pub(crate) added: Vec<NewNode>,
     /// The digests of the nodes that only the old trees have, each once.
-    pub gone: Vec<Digest>,
+    pub(crate) gone: Vec<Digest>,
 }
 
 /// Changes the four trees, whose tops have these digests and which the stock holds: the old objects go, and the

@@ -16,8 +16,8 @@ use tree_node::is_below;
 /// The lengths of the key and the value of an entry.
 #[derive(Clone, Copy, Debug)]
 pub(crate) struct Span {
-    pub key: u32,
-    pub value: u32,
+    pub(crate) key: u32,
+    pub(crate) value: u32,
 }
 
 /// The entries of a tree as they were met, object by object: keys and values one after the other in one

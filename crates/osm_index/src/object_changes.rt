@@ -20,9 +20,9 @@ use tree_node::{Digest, Stock};
 #[derive(Drop)]
 pub(crate) struct ObjectChanges {
     /// The objects of the set that the changes name.
-    pub removed: ObjectSet,
+    pub(crate) removed: ObjectSet,
     /// The objects that are put.
-    pub puts: ObjectSet,
+    pub(crate) puts: ObjectSet,
 }
 
 /// What these changes take out of a set and put into it, whose object tree the stock holds under this top.

@@ -19,12 +19,12 @@ const NUMBER_BYTES: usize = 8;
 pub(crate) struct PrefixedEntry<'a> {
     high: u64,
     low: u64,
-    pub item: Entry<'a>,
+    pub(crate) item: Entry<'a>,
 }
 
 impl<'a> PrefixedEntry<'a> {
     /// This entry beside the first sixteen bytes of its key.
-    pub fn by_first_bytes(item: Entry<'a>) -> PrefixedEntry<'a>
+    pub(crate) fn by_first_bytes(item: Entry<'a>) -> PrefixedEntry<'a>
         ensures item { result.item ≡ item.entry }
         ensures numbers { IsByFirstBytes result }
     {
@@ -32,7 +32,7 @@ impl<'a> PrefixedEntry<'a> {
     }
 
     /// This entry beside the sixteen bytes after those.
-    pub fn by_next_bytes(item: Entry<'a>) -> PrefixedEntry<'a>
+    pub(crate) fn by_next_bytes(item: Entry<'a>) -> PrefixedEntry<'a>
         ensures item { result.item ≡ item.entry }
         ensures numbers { IsByNextBytes result }
     {
@@ -53,14 +53,14 @@ impl<'a> PrefixedEntry<'a> {
     }
 
     /// Whether the numbers of two entries are the same.
-    pub fn has_numbers_of(&self, other: &PrefixedEntry<'_>) -> bool
+    pub(crate) fn has_numbers_of(&self, other: &PrefixedEntry<'_>) -> bool
         ensures { IsTrue result ↔ (numbers_of self.now ≡ numbers_of other.now) }
     {
         self.high == other.high && self.low == other.low
     }
 
     /// How the numbers of two entries compare.
-    pub fn compare_numbers(&self, other: &PrefixedEntry<'_>) -> Ordering
+    pub(crate) fn compare_numbers(&self, other: &PrefixedEntry<'_>) -> Ordering
         ensures { result ≡ order (numbers_of self.now) (numbers_of other.now) }
     {
         if self.high != other.high {
@@ -70,7 +70,7 @@ impl<'a> PrefixedEntry<'a> {
     }
 
     /// How two entries compare by their numbers, and after equal ones by their keys.
-    pub fn compare(&self, other: &PrefixedEntry<'_>) -> Ordering
+    pub(crate) fn compare(&self, other: &PrefixedEntry<'_>) -> Ordering
         ensures { result ≡ order (numbers_and_key self.now) (numbers_and_key other.now) }
     {
         match self.compare_numbers(other) {

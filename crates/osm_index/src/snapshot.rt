@@ -33,7 +33,8 @@ use osm_keys::{Manifest, write_manifest};
 use osm_model::{ObjectSet, Ref};
 use std::alloc::{AllocError, Global};
 use tree_build::{BuildFault, Entry, Shape, build};
-use tree_node::{Digest, ENTRY_LIMIT, Edition, PutFault, Stock, Tree};
+use osm_keys::Edition;
+use tree_node::{Digest, ENTRY_LIMIT, PutFault, Stock, Tree};
 
 /// A set of objects in an edition, with the nodes of its trees, its manifest and its root: the type keeps
 /// that they are those of one publication, and that no two different nodes of it have one digest.

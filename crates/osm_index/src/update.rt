@@ -11,21 +11,22 @@ use crate::changed_trees::ChangedTrees;
 use crate::node_changes::digests_of;
 use osm_keys::{Manifest, write_manifest};
 use std::alloc::{AllocError, Global};
-use tree_node::{Digest, Edition, NewNode};
+use osm_keys::Edition;
+use tree_node::{Digest, NewNode};
 
 /// What a snapshot becomes by changes, and the nodes that come and go; all that takes memory, but for the stock.
 #[derive(Drop)]
 pub(crate) struct Update {
     /// The new manifest.
-    pub manifest: Manifest,
+    pub(crate) manifest: Manifest,
     /// The new root.
-    pub root: Digest,
+    pub(crate) root: Digest,
     /// The nodes that the old publication doesn't have, each once.
-    pub nodes: Vec<NewNode>,
+    pub(crate) nodes: Vec<NewNode>,
     /// Their digests.
-    pub added: Vec<Digest>,
+    pub(crate) added: Vec<Digest>,
     /// The digests of the nodes that only the old publication has, each once.
-    pub gone: Vec<Digest>,
+    pub(crate) gone: Vec<Digest>,
 }
 
 /// The update by which these trees come into the place of the old ones, whose root is given, in a new edition.

@@ -19,8 +19,8 @@ use Rattle.tree_node.specs.declared.tree.Tree.TheVariants.{Objects, Tags, Cells,
 use Rattle.tree_node.proofs.shared.FieldLemmas.{AreBytes-drop, wide16, wide32, wide64}
 use Rattle.osm_keys.specs.Keys.{IsCell, above, cell_bytes, cell_value, id_bytes, tag_prefix}
 use Rattle.osm_keys.specs.Manifests.{HaveWidth, all_tops, edition_bytes, magic, manifest, top_among}
-use Rattle.tree_node.specs.declared.edition.Edition.{Edition}
-use Rattle.tree_node.specs.declared.edition.Edition.TheVariants as editions
+use Rattle.osm_keys.specs.declared.edition.Edition.{Edition}
+use Rattle.osm_keys.specs.declared.edition.Edition.TheVariants as editions
 use Rattle.osm_keys.proofs.Ids.{few_fits}
 use Rattle.osm_keys.proofs.shared.RangeLaws.{cut_at_nul, no_nul_from}
 

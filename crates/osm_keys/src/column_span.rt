@@ -5,7 +5,7 @@ ghost use Rattle.std.specs.Prelude.{◌≤◌};
 /// The columns from the first to the last.
 #[derive(Clone, Copy)]
 pub(crate) struct ColumnSpan {
-    pub first: u16,
-    pub last: u16,
+    pub(crate) first: u16,
+    pub(crate) last: u16,
     ghost ordered: { first ≤ last },
 }

@@ -20,7 +20,7 @@ impl Columns {
     ghost use Rattle.osm_keys.specs.internal.Cells.{columns_in};
 
     /// The columns from one longitude to another, in 1e-7 degree: none where the first is above the second.
-    pub fn between(west: i32, east: i32) -> Columns
+    pub(crate) fn between(west: i32, east: i32) -> Columns
         requires west { unsigned_abs west ≤ limit Axis.Lon }
         requires east { unsigned_abs east ≤ limit Axis.Lon }
         ensures { ((east <ℤ west) × (columns_in result ≡ []))
@@ -36,7 +36,7 @@ impl Columns {
     }
 
     /// The columns from one longitude over the 180th meridian to another, in 1e-7 degree.
-    pub fn around(west: i32, east: i32) -> Columns
+    pub(crate) fn around(west: i32, east: i32) -> Columns
         requires west { unsigned_abs west ≤ limit Axis.Lon }
         requires east { unsigned_abs east ≤ limit Axis.Lon }
         ensures { columns_in result ≡ (column west, last_column) ∷ (0, column east) ∷ [] }

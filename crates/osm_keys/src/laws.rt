@@ -30,7 +30,7 @@ ghost use Rattle.osm_keys.specs.Keys.{cell_key, column, ref_key};
 ghost use Rattle.osm_keys.specs.Manifests.{HasSequence, HaveWidth, manifest};
 ghost use Rattle.osm_keys.specs.Publications.{HasTooMany, IsPublication, IsPublicationOf, Publication, root_of, shape_in, shape_of, top_in};
 ghost use Rattle.osm_keys.specs.Ranges.{AreCellRanges, IsKindOf, back_range, kind_range, object_range, tag_key_range, tag_range};
-ghost use Rattle.tree_node.specs.declared.edition.Edition.{Edition};
+ghost use Rattle.osm_keys.specs.declared.edition.Edition.{Edition};
 
 /// The law of publications: a set of objects has one in an edition, and so one root.
 pub fn publication_law()

@@ -10,6 +10,7 @@
 mod cells;
 mod column_span;
 mod columns;
+mod edition;
 mod grid;
 mod keys;
 mod laws;
@@ -20,6 +21,7 @@ mod rows;
 mod whole_edges;
 
 pub use cells::cell_ranges;
+pub use edition::Edition;
 pub use keys::{append_tag_key, back_key, cell_key, cell_value, reference_key};
 pub use laws::{
     back_law, cell_law, entries_are_bytes, key_order_law, kind_law, manifest_law, object_law,
@@ -31,4 +33,3 @@ pub use read_keys::{
     BackKey, CellKey, TagKey, read_back_key, read_cell_key, read_cell_value, read_reference_key,
     read_tag_key,
 };
-pub use tree_node::Edition;

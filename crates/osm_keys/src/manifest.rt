@@ -2,11 +2,12 @@
 
 ghost use Rattle.std.specs.Prelude.{◌≡◌, ◌≢◌, ◌++◌, ℕ, IfSome, IsNone, List, OnErr, OnOk, length, take};
 ghost use Rattle.osm_keys.specs.Manifests.{HaveWidth, all_tops, edition_bytes, manifest, manifest_bytes, top_among};
-ghost use Rattle.tree_node.specs.declared.edition.Edition.{Edition};
+ghost use Rattle.osm_keys.specs.declared.edition.Edition.{Edition};
 ghost use Rattle.tree_node.specs.declared.tree.Tree.{Tree};
 
 use std::alloc::AllocError;
-use tree_node::{Digest, Edition};
+use crate::edition::Edition;
+use tree_node::Digest;
 
 /// What the root of a set is the digest of: the edition, and the digests of the tops of the four trees
 /// in the order of their numbers (this project, docs/FORMATS.md).

@@ -9,8 +9,8 @@ use osm_model::Axis;
 /// The rows from the first one, up to the end, which isn't one of them.
 #[derive(Clone, Copy)]
 pub(crate) struct Rows {
-    pub first: u16,
-    pub end: u16,
+    pub(crate) first: u16,
+    pub(crate) end: u16,
 }
 
 impl Rows {
@@ -18,7 +18,7 @@ impl Rows {
     ghost use Rattle.osm_keys.specs.internal.Cells.{rows_in};
 
     /// The rows from one latitude to another, in 1e-7 degree: none where the first is above the second.
-    pub fn between(south: i32, north: i32) -> Rows
+    pub(crate) fn between(south: i32, north: i32) -> Rows
         requires south { unsigned_abs south ≤ limit Axis.Lat }
         requires north { unsigned_abs north ≤ limit Axis.Lat }
         ensures { AreRows south north (rows_in result) }

@@ -5,17 +5,17 @@ use osm_model::BoxArea;
 /// Edges of a box, in 1e-7 degree.
 #[derive(Clone, Copy)]
 pub(crate) struct WholeEdges {
-    pub south: i32,
-    pub west: i32,
-    pub north: i32,
-    pub east: i32,
+    pub(crate) south: i32,
+    pub(crate) west: i32,
+    pub(crate) north: i32,
+    pub(crate) east: i32,
 }
 
 impl WholeEdges {
     ghost use Rattle.osm_keys.specs.internal.Cells.{AreWholeEdges};
 
     /// The edges of a box, rounded to whole units inside it.
-    pub fn inside(area: &BoxArea<'_>) -> WholeEdges
+    pub(crate) fn inside(area: &BoxArea<'_>) -> WholeEdges
         ensures { AreWholeEdges area.now result }
     {
         WholeEdges {

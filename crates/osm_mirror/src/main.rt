@@ -41,7 +41,8 @@ use std::net::SocketAddr;
 use std::process::ExitCode;
 use std::time::Duration;
 use std::{env, fs, io};
-use tree_node::{Digest, Edition};
+use osm_keys::Edition;
+use tree_node::Digest;
 
 /// How often change files are looked for while connections are kept, in milliseconds.
 const LOOK_MILLISECONDS: u64 = 250;

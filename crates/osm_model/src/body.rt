@@ -35,7 +35,7 @@ impl Body {
 }
 
 /// The nodes that a body lists: none but a way's.
-pub fn nodes_of(body: &Body) -> &[i64]
+pub(crate) fn nodes_of(body: &Body) -> &[i64]
     ensures { result.now ≡ nodes_of body.now }
 {
     match body {
@@ -45,7 +45,7 @@ pub fn nodes_of(body: &Body) -> &[i64]
 }
 
 /// The members that a body lists: none but a relation's.
-pub fn members_of(body: &Body) -> &[Member]
+pub(crate) fn members_of(body: &Body) -> &[Member]
     ensures { result.now ≡ members_of body.now }
 {
     match body {
@@ -55,7 +55,7 @@ pub fn members_of(body: &Body) -> &[Member]
 }
 
 /// Brings to a proof that the numbers of a body are in their ranges. It does nothing else.
-pub fn note_body(body: &Body)
+pub(crate) fn note_body(body: &Body)
     ensures { BodyInRange body.now }
 {
     match body {

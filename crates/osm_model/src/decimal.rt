@@ -7,18 +7,18 @@ ghost use Rattle.osm_model.specs.DecimalParts.{decimal_of, fraction_of};
 
 /// The parts of a decimal, in its text.
 #[derive(Clone, Copy, Debug)]
-pub struct Parts<'a> {
+pub(crate) struct Parts<'a> {
     /// Whether a `-` comes first.
-    pub negative: bool,
+    pub(crate) negative: bool,
     /// The digits before the point, one or more.
-    pub whole: &'a [u8],
+    pub(crate) whole: &'a [u8],
     /// The digits after the point, one or more; `None` where there is no point.
-    pub fraction: Option<&'a [u8]>,
+    pub(crate) fraction: Option<&'a [u8]>,
 }
 
 impl<'a> Parts<'a> {
     /// The digits after the point: none where there is no point.
-    pub fn decimals(self) -> &'a [u8]
+    pub(crate) fn decimals(self) -> &'a [u8]
         ensures { result.now ≡ decimals (fraction_of self.entry.fraction) }
     {
         self.fraction.unwrap_or(&[])
@@ -26,7 +26,7 @@ impl<'a> Parts<'a> {
 }
 
 /// The parts of a decimal, or `None` where the text is none.
-pub fn split(text: &[u8]) -> Option<Parts<'_>>
+pub(crate) fn split(text: &[u8]) -> Option<Parts<'_>>
     ensures found { IfSome result (λ p. Spells text.now (decimal_of p)) }
     ensures none { IfNone result ((d : Decimal) → Spells text.now d → ⊥) }
 {

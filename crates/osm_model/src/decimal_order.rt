@@ -14,7 +14,7 @@ use crate::degrees::{capped, digit};
 use std::cmp::Ordering;
 
 /// How two decimals compare without their signs.
-pub fn compare_sizes(first: Parts<'_>, second: Parts<'_>) -> Ordering
+pub(crate) fn compare_sizes(first: Parts<'_>, second: Parts<'_>) -> Ordering
     requires first { IsDecimal (decimal_of first) }
     requires second { IsDecimal (decimal_of second) }
     requires few_first { digits_value 10 first.whole.now ≤ 10000000000 }

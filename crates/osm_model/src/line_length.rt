@@ -19,7 +19,7 @@ use itoa::Buffer;
 
 /// Whether the canonical line of an object of these parts keeps its limit. Few bytes of text make a
 /// short line, so most lines are not measured.
-pub fn has_short_line(id: i64, meta: &Meta, tags: &[Tag], body: &Body) -> bool
+pub(crate) fn has_short_line(id: i64, meta: &Meta, tags: &[Tag], body: &Body) -> bool
     ensures { IsTrue result ↔ (length (canonical_line (record { id = id; meta = meta.now; tags = tags.now; body = body.now })) ≤ LINE_LIMIT) }
 {
     if text_bytes(meta, tags, body) <= FEW {

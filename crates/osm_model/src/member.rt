@@ -31,7 +31,7 @@ impl Member {
 }
 
 /// Brings to a proof that the ids of members are in the range of their type. It does nothing else.
-pub fn note_targets(members: &[Member])
+pub(crate) fn note_targets(members: &[Member])
     ensures { All (λ member. FitsSigned w64 member.target.id) members.now }
 {
     for member in members {
@@ -40,7 +40,7 @@ pub fn note_targets(members: &[Member])
 }
 
 /// Brings to a proof that the roles of members are UTF-8. It does nothing else.
-pub fn note_roles(members: &[Member])
+pub(crate) fn note_roles(members: &[Member])
     ensures { All (λ member. IsUtf8 member.role) members.now }
 {
     for member in members {

@@ -41,7 +41,7 @@ impl Meta {
 
 /// Brings to a proof that the numbers of metadata are in the ranges of their types, and that the stamp
 /// is a moment. It does nothing else.
-pub fn note_numbers(meta: &Meta)
+pub(crate) fn note_numbers(meta: &Meta)
     ensures { MetaInRange meta.now }
 {
     let _version = meta.version;

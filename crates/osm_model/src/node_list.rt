@@ -64,7 +64,7 @@ impl Eq for NodeList {
 }
 
 /// Brings to a proof that ids are in the range of their type. It does nothing else.
-pub fn note_ids(ids: &[i64])
+pub(crate) fn note_ids(ids: &[i64])
     ensures { All (λ id. FitsSigned w64 id) ids.now }
 {
     for id in ids {

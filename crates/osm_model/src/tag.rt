@@ -28,7 +28,7 @@ impl Tag {
 }
 
 /// Brings to a proof that the keys and values of tags are UTF-8. It does nothing else.
-pub fn note_tags(tags: &[Tag])
+pub(crate) fn note_tags(tags: &[Tag])
     ensures { All (λ tag. IsUtf8 tag.key × IsUtf8 tag.value) tags.now }
 {
     for tag in tags {

@@ -117,7 +117,7 @@ impl Ord for Text {
 }
 
 /// Brings to a proof that a text is UTF-8. It does nothing else.
-pub fn note_utf8(text: &Text)
+pub(crate) fn note_utf8(text: &Text)
     ensures { IsUtf8 text.now }
 {
     let _ = text.content.as_str();

@@ -13,7 +13,7 @@ const INLINE_LIMIT: usize = 16;
 
 /// The bytes of a text.
 #[derive(Debug, Drop)]
-pub enum TextStorage {
+pub(crate) enum TextStorage {
     /// They lie in the value itself.
     Inline(ArrayString<INLINE_LIMIT>),
     /// There are too many.
@@ -22,7 +22,7 @@ pub enum TextStorage {
 
 impl TextStorage {
     /// A copy of these bytes.
-    pub fn from_str(alloc: Global, content: &str) -> Result<TextStorage, AllocError>
+    pub(crate) fn from_str(alloc: Global, content: &str) -> Result<TextStorage, AllocError>
         ensures { IfOk result (λ stored. stored_bytes stored ≡ content.now) }
     {
         match ArrayString::from(content) {
@@ -32,7 +32,7 @@ impl TextStorage {
     }
 
     /// The bytes of this string, which is kept only where they don't fit the value itself.
-    pub fn from_string(content: String) -> TextStorage
+    pub(crate) fn from_string(content: String) -> TextStorage
         ensures { stored_bytes result ≡ string_bytes content }
     {
         match ArrayString::from(content.as_str()) {
@@ -42,7 +42,7 @@ impl TextStorage {
     }
 
     /// The text.
-    pub fn as_str(&self) -> &str
+    pub(crate) fn as_str(&self) -> &str
         ensures bytes { result.now ≡ stored_bytes self.now }
         ensures utf8 { IsUtf8 (stored_bytes self.now) }
     {

@@ -3,10 +3,10 @@
 ghost use Rattle.std.specs.Prelude.{◌≡◌, ◌≤◌, ◌^◌};
 
 /// How many units a degree has.
-pub const UNITS: u64 = 10_000_000;
+pub(crate) const UNITS: u64 = 10_000_000;
 
 /// Ten to the power of `n`, which is the unit of a decimal place.
-pub fn power_of_ten(n: usize) -> u64
+pub(crate) fn power_of_ten(n: usize) -> u64
     requires { n ≤ 7 }
     ensures value { result ≡ 10 ^ n }
     ensures bound { result ≤ 10000000 }

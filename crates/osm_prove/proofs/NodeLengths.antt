@@ -13,8 +13,8 @@ use Rattle.tree_node.proofs.shared.TreeLemmas.{tree_is}
 use Rattle.tree_node.proofs.shared.TreeParts.{kind_at}
 use Rattle.osm_keys.specs.Manifests.{HaveWidth, all_tops, edition_bytes, manifest}
 use Rattle.osm_keys.specs.Publications.{IsNodeIn, IsPublication, Publication, shape_in, top_in}
-use Rattle.tree_node.specs.declared.edition.Edition.{Edition}
-use Rattle.tree_node.specs.declared.edition.Edition.TheVariants as editions
+use Rattle.osm_keys.specs.declared.edition.Edition.{Edition}
+use Rattle.osm_keys.specs.declared.edition.Edition.TheVariants as editions
 use Rattle.osm_keys.proofs.shared.Members.{here, in_rest}
 use Rattle.osm_keys.proofs.shared.OneManifest.{tops_wide}
 use Rattle.osm_keys.proofs.shared.OnePublication.{lists_have_trees}

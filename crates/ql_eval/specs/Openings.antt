@@ -3,7 +3,7 @@
 use Rattle.std.specs.Prelude.{◌≡◌, ◌≢◌, ℕ, List}
 use Rattle.osm_keys.specs.Manifests.{HaveWidth, manifest, top_among}
 use Rattle.osm_keys.specs.Publications.{Publication, top_in}
-use Rattle.tree_node.specs.declared.edition.Edition.{Edition}
+use Rattle.osm_keys.specs.declared.edition.Edition.{Edition}
 use Rattle.osm_keys.specs.declared.manifest.Manifest.{Manifest}
 use Rattle.tree_node.specs.Digests.{digest}
 use Rattle.tree_node.specs.Outcomes.{Cause, NoMemory, NodeMissing, OtherCause}

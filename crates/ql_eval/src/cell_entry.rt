@@ -15,9 +15,9 @@ use tree_node::Item;
 #[derive(Clone, Copy)]
 pub(crate) struct CellEntry {
     /// The node.
-    pub name: Ref,
+    pub(crate) name: Ref,
     /// Where it lies.
-    pub place: Coord,
+    pub(crate) place: Coord,
 }
 
 /// The node that an entry of the cell tree places, and where.

@@ -11,9 +11,9 @@ use std::collections::BTreeSet;
 #[derive(Drop)]
 pub(crate) struct Found {
     /// All of them, to tell whether one is new.
-    pub seen: BTreeSet<Ref>,
+    pub(crate) seen: BTreeSet<Ref>,
     /// All of them, in order.
-    pub refs: Vec<Ref>,
+    pub(crate) refs: Vec<Ref>,
 }
 
 impl Found {

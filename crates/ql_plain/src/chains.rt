@@ -18,7 +18,7 @@ use ref_sets::RefSet;
 use std::alloc::{AllocError, Global};
 
 /// `>>`: what chains lead down to from a set.
-pub fn down_all(alloc: Global, set: &ObjectSet, from: &RefSet) -> Result<RefSet, AllocError>
+pub(crate) fn down_all(alloc: Global, set: &ObjectSet, from: &RefSet) -> Result<RefSet, AllocError>
     ensures { IfOk result (λ refs. IsSetOf refs (IsRefOf set.now (IsReached set.now recursions.DownAll from.now))) }
 {
     // For the proof alone: a reference names one object.
@@ -29,7 +29,7 @@ pub fn down_all(alloc: Global, set: &ObjectSet, from: &RefSet) -> Result<RefSet,
 }
 
 /// `<<`: from what chains lead down to a set.
-pub fn up_all(alloc: Global, set: &ObjectSet, from: &RefSet) -> Result<RefSet, AllocError>
+pub(crate) fn up_all(alloc: Global, set: &ObjectSet, from: &RefSet) -> Result<RefSet, AllocError>
     ensures { IfOk result (λ refs. IsSetOf refs (IsRefOf set.now (IsReached set.now recursions.UpAll from.now))) }
 {
     // For the proof alone: a reference names one object.

@@ -19,7 +19,7 @@ use ref_sets::{NamedSets, RefSet};
 use std::alloc::{AllocError, Global};
 
 /// A set that has just those objects that a filter keeps. It may have references of no object too.
-pub fn kept_by(
+pub(crate) fn kept_by(
     alloc: Global,
     filter: &Filter<'_>,
     sets: &NamedSets<'_>,

@@ -12,16 +12,16 @@ use std::collections::BTreeSet;
 
 /// References that were found, each once, in the order of their finding.
 #[derive(Drop)]
-pub struct Found {
+pub(crate) struct Found {
     /// All of them, to tell whether one is new.
-    pub seen: BTreeSet<Ref>,
+    pub(crate) seen: BTreeSet<Ref>,
     /// All of them, in order.
-    pub refs: Vec<Ref>,
+    pub(crate) refs: Vec<Ref>,
 }
 
 impl Found {
     /// Nothing is found yet.
-    pub fn new(alloc: Global) -> Found
+    pub(crate) fn new(alloc: Global) -> Found
         ensures told { IsTold result }
         ensures empty { result.refs.items ≡ [] }
     {
@@ -32,7 +32,7 @@ impl Found {
     }
 
     /// Adds what the steps from a reference lead to.
-    pub fn follow(&mut self, steps: &[Step], name: Ref) -> Result<(), AllocError>
+    pub(crate) fn follow(&mut self, steps: &[Step], name: Ref) -> Result<(), AllocError>
         requires told { IsTold self.old }
         requires sorted { IsSortedByKey (λ step. step.from) ref_cmp steps.now }
         ensures told { OnOk result (IsTold self.new) }
@@ -47,7 +47,7 @@ impl Found {
 
     /// Adds what further steps lead to from what was found, until nothing is added. Each reference is
     /// followed once.
-    pub fn follow_found(&mut self, steps: &[Step]) -> Result<(), AllocError>
+    pub(crate) fn follow_found(&mut self, steps: &[Step]) -> Result<(), AllocError>
         requires told { IsTold self.old }
         requires sorted { IsSortedByKey (λ step. step.from) ref_cmp steps.now }
         ensures { OnOk result (IsClosure steps.now self.old.refs.items self.new.refs.items) }
@@ -62,7 +62,7 @@ impl Found {
     }
 
     /// Adds a reference, where it is new.
-    pub fn add(&mut self, name: Ref) -> Result<(), AllocError>
+    pub(crate) fn add(&mut self, name: Ref) -> Result<(), AllocError>
         requires { IsTold self.old }
         ensures told { OnOk result (IsTold self.new) }
         ensures added { OnOk result (AddsName name self.old.refs.items self.new.refs.items) }

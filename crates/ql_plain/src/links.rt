@@ -10,16 +10,16 @@ use std::alloc::{AllocError, Global};
 
 /// An object of a set, and one that it lists.
 #[derive(Clone, Copy)]
-pub struct Link {
+pub(crate) struct Link {
     /// The one that lists.
-    pub parent: Ref,
+    pub(crate) parent: Ref,
     /// What it lists.
-    pub child: Ref,
+    pub(crate) child: Ref,
 }
 
 /// All links between objects of a set; a link comes as often as a way or relation lists the other object. One pass
 /// over the objects, and a binary search for each item that they list.
-pub fn links(alloc: Global, set: &ObjectSet) -> Result<Vec<Link>, AllocError>
+pub(crate) fn links(alloc: Global, set: &ObjectSet) -> Result<Vec<Link>, AllocError>
     ensures { IfOk result (λ links. AreLinks set.now links.items) }
 {
     let objects = set.as_slice();

@@ -11,7 +11,7 @@ use ref_sets::RefSet;
 use std::alloc::{AllocError, Global};
 
 /// What objects of a kind in a set list, as far as it is there.
-pub fn below(
+pub(crate) fn below(
     alloc: Global,
     set: &ObjectSet,
     from: &RefSet,
@@ -30,7 +30,7 @@ pub fn below(
 }
 
 /// What lists objects of a kind in a set.
-pub fn above(
+pub(crate) fn above(
     alloc: Global,
     set: &ObjectSet,
     from: &RefSet,

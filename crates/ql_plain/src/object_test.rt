@@ -10,7 +10,7 @@ use osm_model::{Body, BoxArea, Object};
 use ql_syntax::{Filter, Pick};
 
 /// Whether an object is of the kind of a query statement.
-pub fn is_picked(pick: Pick, object: &Object) -> bool
+pub(crate) fn is_picked(pick: Pick, object: &Object) -> bool
     ensures { IsTrue result ↔ IsPicked pick object.now }
 {
     match (pick, object.body()) {
@@ -24,7 +24,7 @@ pub fn is_picked(pick: Pick, object: &Object) -> bool
 
 /// Whether a filter keeps an object, as far as the object alone tells. Filters by a set, by ids and by a path look at
 /// more, and keep every object here.
-pub fn passes(filter: &Filter<'_>, object: &Object) -> bool
+pub(crate) fn passes(filter: &Filter<'_>, object: &Object) -> bool
     ensures { IsTrue result ↔ PassesAlone (filter_of filter.now) object.now }
 {
     match filter {

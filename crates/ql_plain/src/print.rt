@@ -10,7 +10,7 @@ use ref_sets::RefSet;
 use std::alloc::AllocError;
 
 /// Appends the objects of a set, by kind and rising id, at most so many.
-pub fn print(
+pub(crate) fn print(
     set: &ObjectSet,
     refs: &RefSet,
     mode: OutMode,

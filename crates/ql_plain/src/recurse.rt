@@ -12,7 +12,7 @@ use ref_sets::RefSet;
 use std::alloc::{AllocError, Global};
 
 /// What a recursion gives from a set.
-pub fn recurse(
+pub(crate) fn recurse(
     alloc: Global,
     how: Recursion,
     from: &RefSet,

@@ -15,7 +15,7 @@ use std::alloc::{AllocError, Global};
 
 /// Runs a statement: the set that it writes is written. An out writes none.
 #[cycle(run)]
-pub fn run<'q>(
+pub(crate) fn run<'q>(
     alloc: Global,
     statement: &Stmt<'q>,
     sets: &mut NamedSets<'q>,

@@ -15,7 +15,7 @@ use ref_sets::{NamedSets, RefSet};
 use std::alloc::{AllocError, Global};
 
 /// The objects of a kind that all filters keep: those of the kind, of which each filter leaves those that it keeps.
-pub fn select(
+pub(crate) fn select(
     alloc: Global,
     kind: Pick,
     filters: &[Filter<'_>],

@@ -14,15 +14,15 @@ use std::cmp::Ordering;
 
 /// A link, as a recursion goes along it.
 #[derive(Clone, Copy)]
-pub struct Step {
+pub(crate) struct Step {
     /// Where it starts.
-    pub from: Ref,
+    pub(crate) from: Ref,
     /// Where it leads.
-    pub to: Ref,
+    pub(crate) to: Ref,
 }
 
 /// The links as steps down or up, by rising start.
-pub fn steps(alloc: Global, links: &[Link], is_up: bool) -> Result<Vec<Step>, AllocError>
+pub(crate) fn steps(alloc: Global, links: &[Link], is_up: bool) -> Result<Vec<Step>, AllocError>
     ensures steps { IfOk result (λ steps. AreSteps is_up links.now steps.items) }
     ensures sorted { IfOk result (λ steps. IsSortedByKey (λ step. step.from) ref_cmp steps.items) }
 {
@@ -57,7 +57,7 @@ fn compare(first: Ref, second: Ref) -> Ordering
 }
 
 /// The steps that start at a reference. Two binary searches.
-pub fn steps_from(steps: &[Step], name: Ref) -> &[Step]
+pub(crate) fn steps_from(steps: &[Step], name: Ref) -> &[Step]
     requires { IsSortedByKey (λ step. step.from) ref_cmp steps.now }
     ensures { (step : _) → Contains result.now step ↔ (Contains steps.now step × (step.from ≡ name)) }
 {

@@ -9,7 +9,7 @@ use ql_syntax::Stmt;
 use ref_sets::{NamedSets, RefSet};
 
 /// The set that a statement wrote, as it stands; an out wrote none.
-pub fn written_by<'s>(statement: &Stmt<'_>, sets: &'s NamedSets<'_>) -> &'s RefSet
+pub(crate) fn written_by<'s>(statement: &Stmt<'_>, sets: &'s NamedSets<'_>) -> &'s RefSet
     ensures { result.now ≡ given_by (statement_of statement.now) (lists_of sets.now.named.items) }
 {
     match statement {

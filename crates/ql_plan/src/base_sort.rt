@@ -9,7 +9,7 @@ use ql_syntax::Filter;
 
 /// The sorts of bases, the earliest first.
 #[derive(Clone, Copy, PartialEq, Eq, PartialOrd, Ord)]
-pub enum BaseSort {
+pub(crate) enum BaseSort {
     /// `(id)`.
     Ids,
     /// `.a`.
@@ -28,7 +28,7 @@ pub enum BaseSort {
 
 impl BaseSort {
     /// The sort of a filter.
-    pub fn of(filter: &Filter<'_>) -> BaseSort
+    pub(crate) fn of(filter: &Filter<'_>) -> BaseSort
         ensures { rank result ≡ rank_of (filter_of filter.now) }
     {
         match filter {
@@ -43,7 +43,7 @@ impl BaseSort {
     }
 
     /// Whether it comes before another one.
-    pub fn is_before(self, other: BaseSort) -> bool
+    pub(crate) fn is_before(self, other: BaseSort) -> bool
         ensures { IsTrue result ↔ (rank self < rank other) }
     {
         self < other

@@ -25,7 +25,7 @@ pub fn is_counted(filter: &Filter<'_>) -> bool
 }
 
 /// How many filters are counted.
-pub fn counted_len(filters: &[Filter<'_>]) -> usize
+pub(crate) fn counted_len(filters: &[Filter<'_>]) -> usize
     ensures { result ≡ length (filter is_counted_filter (filters_of filters.now)) }
 {
     let mut counted = 0;
@@ -38,7 +38,7 @@ pub fn counted_len(filters: &[Filter<'_>]) -> usize
 }
 
 /// The filters that are counted, in their order.
-pub fn counted<'q, 's>(
+pub(crate) fn counted<'q, 's>(
     alloc: Global,
     filters: &'s [Filter<'q>],
 ) -> Result<Vec<&'s Filter<'q>>, AllocError>
@@ -54,7 +54,7 @@ pub fn counted<'q, 's>(
 }
 
 /// The place of the filter that is counted after so many others.
-pub fn counted_place(filters: &[Filter<'_>], others: usize) -> Option<usize>
+pub(crate) fn counted_place(filters: &[Filter<'_>], others: usize) -> Option<usize>
     ensures { MatchOption result (length (filter is_counted_filter (filters_of filters.now)) ≤ others) (IsCountedPlace (filters_of filters.now) others) }
 {
     let mut seen = 0;
@@ -70,7 +70,7 @@ pub fn counted_place(filters: &[Filter<'_>], others: usize) -> Option<usize>
 }
 
 /// The place of the first of the least counts; none where there are no counts.
-pub fn least_place(counts: &[u64]) -> Option<usize>
+pub(crate) fn least_place(counts: &[u64]) -> Option<usize>
     ensures { MatchOption result (counts.now ≡ []) (IsLeastCount counts.now) }
 {
     let mut least = 0;

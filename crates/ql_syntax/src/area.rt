@@ -19,7 +19,7 @@ use osm_model::{Axis, BoxArea, Edge, ModelFault};
 use std::alloc::{AllocError, Global};
 
 /// The box whose first number and comma have been read, and what is left after its `)`.
-pub fn read_box<'a>(
+pub(crate) fn read_box<'a>(
     alloc: Global,
     south: NumberSpot<'a>,
     text: &'a [u8],

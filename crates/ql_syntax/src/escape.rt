@@ -9,7 +9,7 @@ ghost use Rattle.std.specs.Prelude.{◌∷◌};
 
 /// What follows a `\`.
 #[derive(Clone, Copy)]
-pub enum Escape<'a> {
+pub(crate) enum Escape<'a> {
     /// An escape that stands for this character, and what is left after it.
     Character(char, &'a [u8]),
     /// No escape, however the text goes on.
@@ -27,7 +27,7 @@ struct Hexadecimal {
 
 /// Reads what follows a `\`: one of `\`, `"`, `'`, `n`, `t`, or `u` and four hexadecimal digits
 /// that name a character other than NUL and no surrogate.
-pub fn split_escape(after: &[u8]) -> Escape<'_>
+pub(crate) fn split_escape(after: &[u8]) -> Escape<'_>
     ensures { Finds after.now result }
 {
     match after {

@@ -11,7 +11,7 @@ use crate::syntax_error::SyntaxError;
 /// A comment that isn't closed is `Unclosed` at its first byte. Linear in what it skips; it takes no
 /// memory.
 #[inline(always)]
-pub fn skip_gap(text: &[u8]) -> Result<&[u8], SyntaxError<'_>>
+pub(crate) fn skip_gap(text: &[u8]) -> Result<&[u8], SyntaxError<'_>>
     ensures read { IfOk result (λ rest. gap Between text.now ≡ After rest.now) }
     ensures refused { IfErr result (λ error. (error.cause ≡ QlCause.Unclosed) × (gap Between text.now ≡ Open error.rest.now)) }
     ensures within { IfOk result (λ rest. length rest.now ≤ length text.now) }

@@ -2,7 +2,7 @@
 
 /// Where a statement stands.
 #[derive(Clone, Copy)]
-pub enum Level {
+pub(crate) enum Level {
     /// In the query itself.
     Top,
     /// In a union or a difference.

@@ -6,7 +6,7 @@ use std::alloc::{AllocError, Global};
 
 /// The list of this item alone.
 #[inline(always)]
-pub fn list_of<T>(alloc: Global, item: T) -> Result<Vec<T>, AllocError>
+pub(crate) fn list_of<T>(alloc: Global, item: T) -> Result<Vec<T>, AllocError>
 where
     T: Drop,
     ensures { IfOk result (λ list. list.items ≡ item ∷ []) }
@@ -18,7 +18,7 @@ where
 
 /// The list with this item after the others.
 #[inline(always)]
-pub fn appended<T>(list: Vec<T>, item: T) -> Result<Vec<T>, AllocError>
+pub(crate) fn appended<T>(list: Vec<T>, item: T) -> Result<Vec<T>, AllocError>
 where
     T: Drop,
     ensures { IfOk result (λ longer. longer.items ≡ list.items ++ item ∷ []) }

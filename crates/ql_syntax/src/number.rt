@@ -12,17 +12,17 @@ use osm_model::digits_len;
 
 /// The number at the front of a text, and what is left after it.
 #[derive(Clone, Copy)]
-pub struct Number<'a> {
+pub(crate) struct Number<'a> {
     /// How it is spelled.
-    pub text: &'a [u8],
+    pub(crate) text: &'a [u8],
     /// Whether it begins with a `-`.
-    pub negative: bool,
+    pub(crate) negative: bool,
     /// The digits before the point, one or more.
-    pub whole: &'a [u8],
+    pub(crate) whole: &'a [u8],
     /// The digits after the point, one or more; `None` where it has no point.
-    pub fraction: Option<&'a [u8]>,
+    pub(crate) fraction: Option<&'a [u8]>,
     /// What is left.
-    pub rest: &'a [u8],
+    pub(crate) rest: &'a [u8],
 }
 
 /// Whether a `-` comes first, and what is left after it.
@@ -44,7 +44,7 @@ struct Fraction<'a> {
 ///
 /// Where there is no digit, after a `-` or without one, it is `UnexpectedCharacter` at what
 /// comes instead, or `UnexpectedEnd` where the text ends. Linear; it takes no memory.
-pub fn split_number(text: &[u8]) -> Result<Number<'_>, SyntaxError<'_>>
+pub(crate) fn split_number(text: &[u8]) -> Result<Number<'_>, SyntaxError<'_>>
     ensures read { IfOk result (λ number. IsNumberOf text.now number) }
     ensures refused { IfErr result (λ error. IsNoNumber text.now error.cause error.rest.now) }
 {
@@ -101,7 +101,7 @@ fn split_fraction(text: &[u8]) -> Fraction<'_>
 }
 
 /// The error at a place where a digit is missing.
-pub fn misfit(place: &[u8]) -> SyntaxError<'_>
+pub(crate) fn misfit(place: &[u8]) -> SyntaxError<'_>
     ensures cause { IsMisfit place.now result.cause }
     ensures place { result.rest.now ≡ place.now }
 {

@@ -17,20 +17,20 @@ use osm_model::OutMode;
 
 /// What the words and the number after `out` say.
 #[derive(Clone, Copy)]
-pub struct OutOptions {
+pub(crate) struct OutOptions {
     /// The mode.
-    pub mode: Option<OutMode>,
+    pub(crate) mode: Option<OutMode>,
     /// Whether an order was asked for. It has no effect.
-    pub ordered: bool,
+    pub(crate) ordered: bool,
     /// How many objects are printed at most.
-    pub limit: Option<u64>,
+    pub(crate) limit: Option<u64>,
 }
 
 /// The options after `out`, and what is left after their `;`.
 ///
 /// `UnexpectedWord` at a second mode, order or number, and at a word that is none of them;
 /// `OutsideProfile` at a word that the profile leaves out, and at a `(`.
-pub fn read_out_options(text: &[u8]) -> Result<(OutOptions, &[u8]), SyntaxError<'_>>
+pub(crate) fn read_out_options(text: &[u8]) -> Result<(OutOptions, &[u8]), SyntaxError<'_>>
     ensures { Keeps out_options the_options text.now result }
 {
     let mut options = OutOptions {

@@ -7,7 +7,7 @@ use osm_model::OutMode;
 
 /// What a word after `out` asks for.
 #[derive(Clone, Copy)]
-pub enum OutWord {
+pub(crate) enum OutWord {
     /// A mode: `ids`, `tags`, `skel`, `body` or `meta`.
     Mode(OutMode),
     /// An order, which has no effect: `asc` or `qt`.
@@ -19,7 +19,7 @@ pub enum OutWord {
 }
 
 /// What this word asks for.
-pub fn out_word(word: &[u8]) -> OutWord
+pub(crate) fn out_word(word: &[u8]) -> OutWord
     ensures { result ≡ out_word word.now }
 {
     match word {

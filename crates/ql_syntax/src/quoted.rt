@@ -15,15 +15,15 @@ use std::alloc::{AllocError, Global};
 
 /// The text between quotes at the front of a text, and what is left after it.
 #[derive(Drop)]
-pub struct Quoted<'a> {
+pub(crate) struct Quoted<'a> {
     /// The text, with its escapes read.
-    pub text: QlText<'a>,
+    pub(crate) text: QlText<'a>,
     /// What is left.
-    pub rest: &'a [u8],
+    pub(crate) rest: &'a [u8],
 }
 
 /// Whether a quote comes first.
-pub fn begins_quoted(text: &[u8]) -> bool
+pub(crate) fn begins_quoted(text: &[u8]) -> bool
     ensures { result ≡ begins_with is_quote text.now }
 {
     matches!(text, [b'"' | b'\'', ..])
@@ -34,7 +34,7 @@ pub fn begins_quoted(text: &[u8]) -> bool
 /// It is `Unclosed` at the quote where the text ends inside, also inside an escape, `BadEscape` at the
 /// `\` of what is no escape, and `UnexpectedCharacter` at a NUL: the first of these from the left.
 /// Linear; it takes memory for a text with escapes alone.
-pub fn read_quoted(alloc: Global, text: &[u8]) -> Result<Quoted<'_>, SyntaxError<'_>>
+pub(crate) fn read_quoted(alloc: Global, text: &[u8]) -> Result<Quoted<'_>, SyntaxError<'_>>
     requires { begins_with is_quote text.now ≡ true }
     ensures read { IfOk result (λ quoted. IsQuoted text.now quoted.text quoted.rest.now) }
     ensures refused { IfErr result (λ error. IsMemoryOr (IsNotQuoted text.now) error) }

@@ -2,7 +2,7 @@
 
 /// Whether another round follows.
 #[derive(Clone, Copy)]
-pub enum Round {
+pub(crate) enum Round {
     /// Another one follows.
     More,
     /// This was the last one.

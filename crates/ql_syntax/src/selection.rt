@@ -20,7 +20,7 @@ use crate::token_readers::{name_after, read_into};
 use std::alloc::{AllocError, Global};
 
 /// The query statement after the word of its kind, and what is left after its `;`.
-pub fn read_selection(
+pub(crate) fn read_selection(
     alloc: Global,
     kind: Pick,
     text: &[u8],

@@ -31,7 +31,7 @@ use std::alloc::{AllocError, Global};
 /// `OutsideProfile` at the word of a filter that the profile leaves out, at a path that the kind lacks, at
 /// a `:` after a path, and at the first number of a box on another kind than nodes; `BadBox` at the first
 /// number of a box with an edge out of its range, or whose south is above its north.
-pub fn read_selector(
+pub(crate) fn read_selector(
     alloc: Global,
     pick: Pick,
     text: &[u8],

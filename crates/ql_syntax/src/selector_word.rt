@@ -8,7 +8,7 @@ use crate::pick::Pick;
 
 /// What the first word of a filter in parentheses begins.
 #[derive(Clone, Copy)]
-pub enum SelectorWord {
+pub(crate) enum SelectorWord {
     /// Ids: `id`.
     Ids,
     /// A path that the kind allows.
@@ -20,7 +20,7 @@ pub enum SelectorWord {
 }
 
 /// What this word begins after a kind.
-pub fn selector_word(pick: Pick, word: &[u8]) -> SelectorWord
+pub(crate) fn selector_word(pick: Pick, word: &[u8]) -> SelectorWord
     ensures { result ≡ selector_word pick word.now }
 {
     match word {

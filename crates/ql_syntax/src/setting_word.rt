@@ -5,7 +5,7 @@ ghost use Rattle.ql_syntax.specs.SettingWords.{format_of, is_left_out_format, is
 
 /// What the first word of a setting begins.
 #[derive(Clone, Copy)]
-pub enum SettingWord {
+pub(crate) enum SettingWord {
     /// A format: `out`.
     Format,
     /// A number: `timeout` or `maxsize`.
@@ -18,7 +18,7 @@ pub enum SettingWord {
 
 /// What the word of a format names.
 #[derive(Clone, Copy)]
-pub enum FormatWord {
+pub(crate) enum FormatWord {
     /// A format that is read, and has no effect: `json` or `xml`.
     Known,
     /// A format that the profile leaves out.
@@ -28,7 +28,7 @@ pub enum FormatWord {
 }
 
 /// What this word begins.
-pub fn setting_of(word: &[u8]) -> SettingWord
+pub(crate) fn setting_of(word: &[u8]) -> SettingWord
     ensures { result ≡ setting_of word.now }
 {
     match word {
@@ -47,7 +47,7 @@ fn is_left_out_setting(word: &[u8]) -> bool
 }
 
 /// What this word names as a format.
-pub fn format_of(word: &[u8]) -> FormatWord
+pub(crate) fn format_of(word: &[u8]) -> FormatWord
     ensures { result ≡ format_of word.now }
 {
     match word {

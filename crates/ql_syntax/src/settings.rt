@@ -17,7 +17,7 @@ use crate::token_readers::{WordSpot, next_number, next_word, pass};
 /// What is left after the settings before the first statement, where there are some.
 ///
 /// `OutsideProfile` at the word of a setting or of a format that the profile leaves out.
-pub fn skip_settings(text: &[u8]) -> Result<&[u8], SyntaxError<'_>>
+pub(crate) fn skip_settings(text: &[u8]) -> Result<&[u8], SyntaxError<'_>>
     ensures { Keeps settings the_rest text.now result }
 {
     let first = next_token(text)?;

@@ -7,7 +7,7 @@ use crate::pick::Pick;
 
 /// What the first word of a statement begins.
 #[derive(Clone, Copy)]
-pub enum StatementWord {
+pub(crate) enum StatementWord {
     /// A query statement: `node`, `way`, `rel` or `relation`, `nwr`.
     Kind(Pick),
     /// An out statement: `out`.
@@ -19,7 +19,7 @@ pub enum StatementWord {
 }
 
 /// What this word begins.
-pub fn statement_word(word: &[u8]) -> StatementWord
+pub(crate) fn statement_word(word: &[u8]) -> StatementWord
     ensures { result ≡ statement_word word.now }
 {
     match known_word(word) {

@@ -28,7 +28,7 @@ use std::alloc::{AllocError, Global};
 pub(crate) const NESTING_LIMIT: u32 = 32;
 
 /// A statement at the top level, or none at the end of the query, and what is left after it.
-pub fn read_top_statement(
+pub(crate) fn read_top_statement(
     alloc: Global,
     text: &[u8],
 ) -> Result<(Option<Stmt<'_>>, &[u8]), SyntaxError<'_>>

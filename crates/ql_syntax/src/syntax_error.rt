@@ -8,16 +8,16 @@ use std::alloc::AllocError;
 
 /// A place at which a text can't go on as a query: why, and what is left from there on.
 #[derive(Clone, Copy)]
-pub struct SyntaxError<'a> {
+pub(crate) struct SyntaxError<'a> {
     /// Why it can't go on.
-    pub cause: QlCause,
+    pub(crate) cause: QlCause,
     /// The text from that place to its end.
-    pub rest: &'a [u8],
+    pub(crate) rest: &'a [u8],
 }
 
 impl<'a> SyntaxError<'a> {
     /// The error for this cause in front of this rest.
-    pub fn at(cause: QlCause, rest: &'a [u8]) -> SyntaxError<'a>
+    pub(crate) fn at(cause: QlCause, rest: &'a [u8]) -> SyntaxError<'a>
         ensures cause { result.cause ≡ cause }
         ensures rest { result.rest.now ≡ rest.now }
     {

@@ -13,20 +13,20 @@ use crate::token_kind::{TokenKind, token_kind_at};
 
 /// The place of the next token, after blanks and comments.
 #[derive(Clone, Copy)]
-pub struct Token<'a> {
+pub(crate) struct Token<'a> {
     /// What begins there.
-    pub kind: TokenKind,
+    pub(crate) kind: TokenKind,
     /// The text from there on.
-    pub place: &'a [u8],
+    pub(crate) place: &'a [u8],
     /// What is left after it, where it is punctuation; else the same as the place.
-    pub rest: &'a [u8],
+    pub(crate) rest: &'a [u8],
 }
 
 /// The next token of a text.
 ///
 /// A comment that isn't closed is `Unclosed` at its first byte. It takes no memory.
 #[inline(always)]
-pub fn next_token(text: &[u8]) -> Result<Token<'_>, SyntaxError<'_>>
+pub(crate) fn next_token(text: &[u8]) -> Result<Token<'_>, SyntaxError<'_>>
     ensures { Keeps next_token the_token text.now result }
 {
     let place = skip_gap(text)?;
@@ -37,7 +37,7 @@ pub fn next_token(text: &[u8]) -> Result<Token<'_>, SyntaxError<'_>>
 
 impl<'a> Token<'a> {
     /// Whether this begins here.
-    pub fn is(&self, kind: TokenKind) -> bool
+    pub(crate) fn is(&self, kind: TokenKind) -> bool
         ensures yes { result ≡ true → self.now.kind ≡ kind }
         ensures no { result ≡ false → self.now.kind ≡ kind → ⊥ }
     {
@@ -46,7 +46,7 @@ impl<'a> Token<'a> {
 
     /// The error at a token that can't stand where it does: `UnexpectedEnd` at the end,
     /// `UnexpectedWord` at a word, and else `UnexpectedCharacter`.
-    pub fn unexpected(self) -> SyntaxError<'a>
+    pub(crate) fn unexpected(self) -> SyntaxError<'a>
         ensures { IsUnexpected self.entry.kind self.entry.place.now result.cause result.rest.now }
     {
         let cause = match self.kind {

@@ -8,7 +8,7 @@ use crate::word::is_word_start;
 
 /// What begins at a place: punctuation, the longest that stands there, or another token.
 #[derive(Clone, Copy, PartialEq, Eq)]
-pub enum TokenKind {
+pub(crate) enum TokenKind {
     /// The end of the text.
     End,
     /// A word.
@@ -61,7 +61,7 @@ pub enum TokenKind {
 
 impl TokenKind {
     /// How many bytes the punctuation has; 0 where it is none.
-    pub fn len(self) -> usize
+    pub(crate) fn len(self) -> usize
         ensures { result ≡ punctuation_len self }
     {
         match self {
@@ -81,7 +81,7 @@ impl TokenKind {
 }
 
 /// What begins at this place of a text.
-pub fn token_kind_at(place: &[u8]) -> TokenKind
+pub(crate) fn token_kind_at(place: &[u8]) -> TokenKind
     ensures { result ≡ token_kind_at place.now }
 {
     let [first, after @ ..] = place else {

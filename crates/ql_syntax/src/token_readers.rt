@@ -20,28 +20,28 @@ use crate::word::{split_name, split_run};
 
 /// A word, where it begins, and what is left after it.
 #[derive(Clone, Copy)]
-pub struct WordSpot<'a> {
+pub(crate) struct WordSpot<'a> {
     /// The text from the word on.
-    pub place: &'a [u8],
+    pub(crate) place: &'a [u8],
     /// The word.
-    pub word: &'a [u8],
+    pub(crate) word: &'a [u8],
     /// What is left after it.
-    pub rest: &'a [u8],
+    pub(crate) rest: &'a [u8],
 }
 
 /// A number, and where it begins.
 #[derive(Clone, Copy)]
-pub struct NumberSpot<'a> {
+pub(crate) struct NumberSpot<'a> {
     /// The text from the number on.
-    pub place: &'a [u8],
+    pub(crate) place: &'a [u8],
     /// The number.
-    pub number: Number<'a>,
+    pub(crate) number: Number<'a>,
 }
 
 impl<'a> NumberSpot<'a> {
     /// The id that the number is, of 64 bits with a sign. `NumberOutOfRange` at the number where it is
     /// none.
-    pub fn id(self) -> Result<i64, SyntaxError<'a>>
+    pub(crate) fn id(self) -> Result<i64, SyntaxError<'a>>
         requires { AllDigits 10 self.number.whole.now }
         ensures { (text : List ℕ) → Keeps (id_of (number_of self.entry).number self.entry.place.now) (λ id. (id, text)) text result }
     {
@@ -50,7 +50,7 @@ impl<'a> NumberSpot<'a> {
 
     /// The count that the number is, of 64 bits without a sign. `NumberOutOfRange` at the number where it
     /// is none.
-    pub fn count(self) -> Result<u64, SyntaxError<'a>>
+    pub(crate) fn count(self) -> Result<u64, SyntaxError<'a>>
         requires { AllDigits 10 self.number.whole.now }
         ensures { (text : List ℕ) → Keeps (count_of (number_of self.entry).number self.entry.place.now) (λ count. (count, text)) text result }
     {
@@ -59,7 +59,7 @@ impl<'a> NumberSpot<'a> {
 }
 
 /// What is left after this punctuation, which must come next.
-pub fn pass(text: &[u8], kind: TokenKind) -> Result<&[u8], SyntaxError<'_>>
+pub(crate) fn pass(text: &[u8], kind: TokenKind) -> Result<&[u8], SyntaxError<'_>>
     ensures { Keeps (pass kind) the_rest text.now result }
 {
     let token = next_token(text)?;
@@ -71,7 +71,7 @@ pub fn pass(text: &[u8], kind: TokenKind) -> Result<&[u8], SyntaxError<'_>>
 }
 
 /// The word that must come next.
-pub fn next_word(text: &[u8]) -> Result<WordSpot<'_>, SyntaxError<'_>>
+pub(crate) fn next_word(text: &[u8]) -> Result<WordSpot<'_>, SyntaxError<'_>>
     ensures { Keeps a_word the_word text.now result }
 {
     let token = next_token(text)?;
@@ -82,7 +82,7 @@ pub fn next_word(text: &[u8]) -> Result<WordSpot<'_>, SyntaxError<'_>>
 }
 
 /// The word that begins with this token.
-pub fn word_at(token: Token<'_>) -> WordSpot<'_>
+pub(crate) fn word_at(token: Token<'_>) -> WordSpot<'_>
     ensures { Keeps (word_at (next_of token.entry)) the_word token.entry.rest.now (Ok result) }
 {
     let found = split_run(token.rest);
@@ -94,7 +94,7 @@ pub fn word_at(token: Token<'_>) -> WordSpot<'_>
 }
 
 /// The number that must come next.
-pub fn next_number(text: &[u8]) -> Result<NumberSpot<'_>, SyntaxError<'_>>
+pub(crate) fn next_number(text: &[u8]) -> Result<NumberSpot<'_>, SyntaxError<'_>>
     ensures follows { Keeps a_number the_number text.now result }
     ensures spelled { IfOk result (λ spot. Spells spot.number.text.now (decimal_of spot.number)) }
     ensures digits { IfOk result (λ spot. AllDigits 10 spot.number.whole.now) }
@@ -107,7 +107,7 @@ pub fn next_number(text: &[u8]) -> Result<NumberSpot<'_>, SyntaxError<'_>>
 }
 
 /// The number that begins with this token.
-pub fn number_at(token: Token<'_>) -> Result<NumberSpot<'_>, SyntaxError<'_>>
+pub(crate) fn number_at(token: Token<'_>) -> Result<NumberSpot<'_>, SyntaxError<'_>>
     ensures follows { Keeps (number_at (next_of token.entry)) the_number token.entry.rest.now result }
     ensures spelled { IfOk result (λ spot. Spells spot.number.text.now (decimal_of spot.number)) }
     ensures digits { IfOk result (λ spot. AllDigits 10 spot.number.whole.now) }
@@ -120,7 +120,7 @@ pub fn number_at(token: Token<'_>) -> Result<NumberSpot<'_>, SyntaxError<'_>>
 }
 
 /// The name of a set, which must come next.
-pub fn next_name(text: &[u8]) -> Result<(Name<'_>, &[u8]), SyntaxError<'_>>
+pub(crate) fn next_name(text: &[u8]) -> Result<(Name<'_>, &[u8]), SyntaxError<'_>>
     ensures { Keeps a_name the_bytes text.now result }
 {
     let token = next_token(text)?;
@@ -131,7 +131,7 @@ pub fn next_name(text: &[u8]) -> Result<(Name<'_>, &[u8]), SyntaxError<'_>>
 }
 
 /// The name after its dot, which is this token.
-pub fn name_after(dot: Token<'_>) -> Result<(Name<'_>, &[u8]), SyntaxError<'_>>
+pub(crate) fn name_after(dot: Token<'_>) -> Result<(Name<'_>, &[u8]), SyntaxError<'_>>
     ensures { Keeps (name_after (next_of dot.entry)) the_bytes dot.entry.rest.now result }
 {
     let found = split_name(dot.place, dot.rest)?;
@@ -139,7 +139,7 @@ pub fn name_after(dot: Token<'_>) -> Result<(Name<'_>, &[u8]), SyntaxError<'_>>
 }
 
 /// The set that a statement writes to, and its end: `->` and a name, or nothing, and `;`.
-pub fn read_into(text: &[u8]) -> Result<(Name<'_>, &[u8]), SyntaxError<'_>>
+pub(crate) fn read_into(text: &[u8]) -> Result<(Name<'_>, &[u8]), SyntaxError<'_>>
     ensures { Keeps into the_bytes text.now result }
 {
     let token = next_token(text)?;

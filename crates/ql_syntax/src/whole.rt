@@ -8,7 +8,7 @@ ghost use Rattle.ql_syntax.specs.internal.NumberParts.{decimal_of};
 use crate::number::Number;
 
 /// The id that a number is, where it has no point and fits 64 bits with a sign.
-pub fn id_of(number: Number<'_>) -> Option<i64>
+pub(crate) fn id_of(number: Number<'_>) -> Option<i64>
     requires { AllDigits 10 number.whole.now }
     ensures some { IfSome result (λ id. IsId (decimal_of number.entry) id) }
     ensures none { IfNone result ((id : ℤ) → IsId (decimal_of number.entry) id → ⊥) }
@@ -25,7 +25,7 @@ pub fn id_of(number: Number<'_>) -> Option<i64>
 }
 
 /// The count that a number is, where it has no point and fits 64 bits without a sign.
-pub fn count_of(number: Number<'_>) -> Option<u64>
+pub(crate) fn count_of(number: Number<'_>) -> Option<u64>
     requires { AllDigits 10 number.whole.now }
     ensures some { IfSome result (λ count. IsCount (decimal_of number.entry) count) }
     ensures none { IfNone result ((count : ℕ) → IsCount (decimal_of number.entry) count → ⊥) }

@@ -9,15 +9,15 @@ use crate::syntax_error::SyntaxError;
 
 /// The letters, digits and `_` at the front of a text, and what is left after them.
 #[derive(Clone, Copy)]
-pub struct Run<'a> {
+pub(crate) struct Run<'a> {
     /// The longest such run, perhaps empty.
-    pub run: &'a [u8],
+    pub(crate) run: &'a [u8],
     /// What is left.
-    pub rest: &'a [u8],
+    pub(crate) rest: &'a [u8],
 }
 
 /// Takes the longest run of letters, digits and `_` off the front of a text. It may be empty.
-pub fn split_run(text: &[u8]) -> Run<'_>
+pub(crate) fn split_run(text: &[u8]) -> Run<'_>
     ensures run { IsRun text.now result.run.now result.rest.now }
     ensures within { length result.rest.now ≤ length text.now }
 {
@@ -26,7 +26,7 @@ pub fn split_run(text: &[u8]) -> Run<'_>
 }
 
 /// Takes a word off the front of a text, where one stands there.
-pub fn split_word(text: &[u8]) -> Option<Run<'_>>
+pub(crate) fn split_word(text: &[u8]) -> Option<Run<'_>>
     ensures word { IfSome result (λ found. IsWord text.now found.run.now found.rest.now) }
     ensures none { IfNone result (begins_with is_word_start text.now ≡ false) }
 {
@@ -40,7 +40,7 @@ pub fn split_word(text: &[u8]) -> Option<Run<'_>>
 ///
 /// Where no word follows the dot, it is `UnexpectedCharacter` at the dot, or `UnexpectedEnd` where the
 /// text ends there.
-pub fn split_name<'a>(dot: &'a [u8], after: &'a [u8]) -> Result<Run<'a>, SyntaxError<'a>>
+pub(crate) fn split_name<'a>(dot: &'a [u8], after: &'a [u8]) -> Result<Run<'a>, SyntaxError<'a>>
     ensures name { IfOk result (λ found. IsName after.now found.run.now found.rest.now) }
     ensures refused { IfErr result (λ error. IsNoName dot.now after.now error.cause error.rest.now) }
 {
@@ -66,7 +66,7 @@ fn run_len(text: &[u8]) -> usize
 }
 
 /// Whether a letter, a digit or `_` comes first.
-pub fn begins_run(text: &[u8]) -> bool
+pub(crate) fn begins_run(text: &[u8]) -> bool
     ensures { result ≡ begins_with is_run_byte text.now }
 {
     match text {
@@ -83,7 +83,7 @@ fn is_run_byte(byte: u8) -> bool
 }
 
 /// Whether a word may begin with the byte: a letter or `_`.
-pub fn is_word_start(byte: u8) -> bool
+pub(crate) fn is_word_start(byte: u8) -> bool
     ensures { result ≡ is_word_start byte }
 {
     byte.is_ascii_alphabetic() || byte == b'_'

@@ -10,7 +10,7 @@ ghost use Rattle.ref_sets.specs.Sets.{IsSetOf};
 use osm_model::{Kind, Ref};
 
 /// The references whose kinds are from one to another. Two binary searches.
-pub fn between(refs: &[Ref], first: Kind, last: Kind) -> &[Ref]
+pub(crate) fn between(refs: &[Ref], first: Kind, last: Kind) -> &[Ref]
     requires { IsStrictlySortedBy ref_cmp refs.now }
     ensures { IsSetOf result.now (λ r. Contains refs.now r × IsBetween first last r) }
 {

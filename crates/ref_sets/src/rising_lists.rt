@@ -13,7 +13,7 @@ use std::alloc::{AllocError, Global};
 
 /// The references of a list that are in another one, or those that aren't where `wanted` is `false`. One pass over the
 /// first list, with a search in the other one that goes along.
-pub fn filter_by(
+pub(crate) fn filter_by(
     alloc: Global,
     refs: &[Ref],
     others: &[Ref],

@@ -14,7 +14,7 @@ use std::cmp::Ordering;
 /// The search goes out from a place in steps that double, so it takes the logarithm of how far off the reference is:
 /// references that rise are found in constant time each if all are there, and a few among many about as by a binary
 /// search each.
-pub fn seek(refs: &[Ref], at: usize, name: Ref) -> (usize, bool)
+pub(crate) fn seek(refs: &[Ref], at: usize, name: Ref) -> (usize, bool)
     requires rising { IsStrictlySortedBy ref_cmp refs.now }
     requires within { at ≤ length refs.now }
     ensures { IsSought refs.now name result.0 result.1 }
@@ -38,7 +38,7 @@ pub fn seek(refs: &[Ref], at: usize, name: Ref) -> (usize, bool)
 
 /// Whether a reference is in a list that rises, and from where to search for one that is above it. Where both lists rise
 /// and most is in both, each search ends at once.
-pub fn step_to(refs: &[Ref], at: usize, name: Ref) -> (usize, bool)
+pub(crate) fn step_to(refs: &[Ref], at: usize, name: Ref) -> (usize, bool)
     requires rising { IsStrictlySortedBy ref_cmp refs.now }
     requires within { at ≤ length refs.now }
     ensures within { result.0 ≤ length refs.now }
@@ -114,7 +114,7 @@ fn narrow(refs: &[Ref], from: usize, end: usize, name: Ref) -> (usize, bool)
 }
 
 /// How two references compare.
-pub fn compare(first: Ref, second: Ref) -> Ordering
+pub(crate) fn compare(first: Ref, second: Ref) -> Ordering
     ensures { result ≡ ref_cmp first second }
 {
     first.cmp(&second)

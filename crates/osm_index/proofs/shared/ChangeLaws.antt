@@ -18,7 +18,7 @@ use Rattle.tree_node.specs.declared.tree.Tree.{Tree}
 use Rattle.osm_index.specs.Applying.{IsApplied, name_of, names_of}
 use Rattle.osm_keys.specs.Publications.{IsNodeIn, IsPublication, Publication, manifest_of, shape_of, top_in, tree_in}
 use Rattle.osm_index.specs.Snapshots.{HoldsPublication}
-use Rattle.tree_node.specs.declared.edition.Edition.{Edition}
+use Rattle.osm_keys.specs.declared.edition.Edition.{Edition}
 use Rattle.osm_index.specs.declared.snapshot.Snapshot.{Snapshot}
 use Rattle.osm_keys.specs.Manifests.{manifest}
 use Rattle.osm_index.proofs.ItemLemmas.{from_list, in_list}

@@ -15,7 +15,7 @@ use Rattle.tree_node.proofs.shared.TreeSame.{one_list}
 use Rattle.osm_keys.specs.Entries.{object_entry}
 use Rattle.osm_keys.specs.Publications.{Publication, shape_in, shape_of, top_in, tree_in}
 use Rattle.osm_index.specs.Snapshots.{HoldsPublication}
-use Rattle.tree_node.specs.declared.edition.Edition.{Edition}
+use Rattle.osm_keys.specs.declared.edition.Edition.{Edition}
 use Rattle.osm_index.specs.declared.snapshot.Snapshot.{Snapshot}
 use Rattle.osm_index.proofs.SnapshotLemmas.{objects_listed}
 use Rattle.osm_index.proofs.TreeNodes.{is_tree}

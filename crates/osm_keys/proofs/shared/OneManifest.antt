@@ -8,8 +8,8 @@ use Rattle.tree_node.specs.declared.tree.Tree.TheVariants.{Objects, Tags, Cells,
 use Rattle.osm_keys.specs.Manifests.{HasSequence, HaveWidth, all_tops, edition_bytes, manifest}
 use Rattle.tree_node.proofs.shared.TreeLaws.{digest_len}
 use Rattle.osm_keys.specs.Publications.{Publication, shape_of, top_in}
-use Rattle.tree_node.specs.declared.edition.Edition.{Edition}
-use Rattle.tree_node.specs.declared.edition.Edition.TheVariants as editions
+use Rattle.osm_keys.specs.declared.edition.Edition.{Edition}
+use Rattle.osm_keys.specs.declared.edition.Edition.TheVariants as editions
 use Rattle.osm_keys.proofs.ReadLemmas.{one_rest}
 
 -- what comes after `OSMM`

@@ -11,7 +11,7 @@ use Rattle.tree_node.specs.Trees.{HasTree, levels, top_of}
 use Rattle.tree_node.specs.declared.tree.Tree.{Tree}
 use Rattle.osm_keys.specs.Entries.{AreEntriesOf}
 use Rattle.osm_keys.specs.Publications.{HasTooMany, IsPublication, IsPublicationOf, Publication, root_of, shape_of, top_in}
-use Rattle.tree_node.specs.declared.edition.Edition.{Edition}
+use Rattle.osm_keys.specs.declared.edition.Edition.{Edition}
 use Rattle.osm_keys.proofs.shared.EntriesFit.{has_tree}
 use Rattle.osm_keys.proofs.shared.OneManifest.{manifest_same}
 use Rattle.osm_keys.specs.Manifests.{manifest}

@@ -1,7 +1,6 @@
 //! Editions of roots.
 
-/// Under which rules a root was made (this project, docs/FORMATS.md). It stands here, with the digests, for all who name a
-/// root: those who make it, and those who read the words that ask for it.
+/// Under which rules a root was made (this project, docs/FORMATS.md). A manifest says it.
 #[derive(Clone, Copy, Debug, PartialEq, Eq)]
 pub enum Edition {
     /// Trees of the first shape, and a manifest without a sequence.
