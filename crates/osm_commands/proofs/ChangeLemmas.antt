@@ -38,7 +38,7 @@ reached_most n m p q few by =
     let same : (m - n) + n ≡ m = omega arith in
     subst (λ (j : ℕ). IsReachedBy j p q) same (reached_plus (m - n) n p q by)
 
--- at the end, and where the door fails
+-- at the end, and where the listener fails
 pub reached_end : (n m : ℕ) (p : Publication) (now : Snapshot) → n ≤ m
     → (q : Publication) × HoldsPublication now q × IsReachedBy n p q
     → (q : Publication) × HoldsPublication now q × IsReachedBy m p q

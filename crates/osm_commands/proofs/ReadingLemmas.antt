@@ -131,7 +131,7 @@ made_of_all None p changes now new same only makes = tt
 made_of_all (Some text) p changes now new same only (q, makes, held) = λ all holds.
     (q, held, subst (λ (xs : List Change). IsMade p xs (Ok q)) (same ∙ only all holds) makes)
 
--- ---- what a drawer found, one after the other
+-- ---- what a source found, one after the other
 
 -- it was asked once, and what it gave was published or refused
 pub one_found : (told now : Option (List Found)) (old new : Snapshot) (result : Result (Unit {0}) ChangesFault)

@@ -88,7 +88,7 @@ abbrev pub IsReachedBy : ℕ → Publication → Publication → Type 0
 IsReachedBy zero p q = q ≡ p
 IsReachedBy (suc n) p q = IsReachedBy n p q ⊎ ((m : Publication) × IsReachedBy n p m × IsPublishedFrom m q)
 
--- why what was found isn't published: the drawer refused, or the file that it gave is
+-- why what was found isn't published: the source refused, or the file that it gave is
 abbrev pub ExplainsFound : Found → Publication → ChangesFault → Type 0
 ExplainsFound nothing p fault = (fault ≡ Memory) ⊎ (fault ≡ Device)
 ExplainsFound (file known) p fault = (left : Option (List ℕ)) × ExplainsChanges known left p fault

@@ -1,6 +1,6 @@
 pub mod Ask
 pub mod ChangeFiles
-pub mod Drawers
+pub mod ChangeSources
 pub mod Faults
 pub mod Files
 pub mod ListeningLines

@@ -36,6 +36,6 @@ pub data AppendInTurn (first second third : Writing) : Type 0 where
   UpToThird : HasGained first.output first.text → HasGained second.output second.text → HasBegun third.output third.text → AppendInTurn first second third
 
 -- a call of a device that failed is told as a device that failed, and no other
-abbrev pub IsTold : {E : Type 0} → Result (Unit {0}) E → Result (Unit {0}) CommandFault → Type 0
-IsTold (Ok done) result = result ≡ Ok done
-IsTold (Err error) result = result ≡ Err Device
+abbrev pub IsFlushOutcome : {E : Type 0} → Result (Unit {0}) E → Result (Unit {0}) CommandFault → Type 0
+IsFlushOutcome (Ok done) result = result ≡ Ok done
+IsFlushOutcome (Err error) result = result ≡ Err Device

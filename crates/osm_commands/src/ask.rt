@@ -6,7 +6,7 @@ ghost use Rattle.osm_commands.specs.Ask.{Explains, IsAnswer, IsBegun, ask_editio
 ghost use Rattle.osm_commands.specs.TreeRoots.{IsOutsideOrTrees};
 
 use crate::command_fault::CommandFault;
-use crate::outlet::Outlet;
+use crate::flushing_writer::FlushingWriter;
 use crate::read_snapshot::read_snapshot;
 use crate::write_whole::write_whole;
 use osm_check::{Verdict, check};
@@ -30,7 +30,7 @@ use std::io::Read;
 /// left where it stood.
 ///
 /// Clauses that speak of the input's bytes do so where the reader tells them.
-pub fn ask<R: Read, B: BuildProgress, W: Outlet>(
+pub fn ask<R: Read, B: BuildProgress, W: FlushingWriter>(
     alloc: Global,
     query: &[u8],
     input: &mut R,

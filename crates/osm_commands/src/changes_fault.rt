@@ -29,7 +29,7 @@ pub enum ChangesFault {
 impl From<CommandFault> for ChangesFault {
     ghost from_gives = { λ refused fault. fault ≡ fault_of_command refused };
 
-    /// A drawer or a reader is refused by out of memory, by a device, or by what the file says.
+    /// A source or a reader is refused by out of memory, by a device, or by what the file says.
     fn from(refused: CommandFault) -> ChangesFault {
         match refused {
             CommandFault::Opl(load) => ChangesFault::Opl(load),

@@ -11,7 +11,7 @@ ghost use Rattle.osm_commands.specs.Files.{ExplainsThree, IfThree, IsBegunVerdic
 ghost use Rattle.osm_commands.specs.RootLines.{verdict_line};
 
 use crate::command_fault::CommandFault;
-use crate::outlet::Outlet;
+use crate::flushing_writer::FlushingWriter;
 use crate::read_whole::read_whole;
 use crate::verdict_line::verdict_line;
 use crate::write_whole::write_whole;
@@ -30,7 +30,7 @@ use std::io::Read;
 /// output failed a beginning of the line. The readers are left where they stood.
 ///
 /// Clauses that speak of the readers' bytes do so where they tell them.
-pub fn check<Q: Read, A: Read, P: Read, W: Outlet>(
+pub fn check<Q: Read, A: Read, P: Read, W: FlushingWriter>(
     alloc: Global,
     root: &Digest,
     query: &mut Q,

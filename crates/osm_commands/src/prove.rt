@@ -8,7 +8,7 @@ ghost use Rattle.osm_commands.specs.Files.{ExplainsFiles, IfBoth, IsBegunProof, 
 ghost use Rattle.osm_commands.specs.TreeRoots.{publication_line};
 
 use crate::command_fault::CommandFault;
-use crate::outlet::Outlet;
+use crate::flushing_writer::FlushingWriter;
 use crate::read_snapshot::read_snapshot;
 use crate::read_whole::read_whole;
 use crate::root_line::root_line;
@@ -31,7 +31,7 @@ use std::io::Read;
 /// failed the texts before it and a beginning of its own. The readers are left where they stood.
 ///
 /// Clauses that speak of the readers' bytes do so where they tell them.
-pub fn prove<R: Read, Q: Read, B: BuildProgress, A: Outlet, P: Outlet, W: Outlet>(
+pub fn prove<R: Read, Q: Read, B: BuildProgress, A: FlushingWriter, P: FlushingWriter, W: FlushingWriter>(
     alloc: Global,
     input: &mut R,
     query: &mut Q,

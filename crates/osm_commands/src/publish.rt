@@ -8,7 +8,7 @@ ghost use Rattle.osm_keys.specs.Publications.{Publication};
 ghost use Rattle.osm_commands.specs.TreeRoots.{ExplainsTrees, IsBegunTreeRoot, IsOutsideOrTrees, IsPublicationIn, publication_line};
 
 use crate::command_fault::CommandFault;
-use crate::outlet::Outlet;
+use crate::flushing_writer::FlushingWriter;
 use crate::read_snapshot::read_snapshot;
 use crate::root_line::root_line;
 use crate::write_whole::write_whole;
@@ -28,7 +28,7 @@ use std::io::Read;
 /// left where it stood.
 ///
 /// Clauses that speak of the input's bytes do so where the reader tells them.
-pub fn publish<R: Read, B: BuildProgress, W: Outlet>(
+pub fn publish<R: Read, B: BuildProgress, W: FlushingWriter>(
     alloc: Global,
     input: &mut R,
     edition: Edition,

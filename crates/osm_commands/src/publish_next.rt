@@ -7,7 +7,7 @@ ghost use Rattle.osm_commands.specs.ChangeFiles.{ExplainsFound, IsNext, asked_af
 ghost use Rattle.osm_traffic.specs.Published.{Found, HasPublished, HasTaken, TakesFound};
 
 use crate::changes_fault::ChangesFault;
-use crate::drawer::Drawer;
+use crate::change_source::ChangeSource;
 use crate::publish_changes::publish_changes;
 use osm_desk::Desk;
 use osm_index::Edition;
@@ -15,61 +15,61 @@ use std::alloc::Global;
 use std::io::Write;
 
 /// Publishes the next change file, as `publish_found` does. A file that is refused is told in one line of `errors`.
-pub(crate) fn publish_next<D: Drawer, E: Write>(
+pub(crate) fn publish_next<C: ChangeSource, E: Write>(
     alloc: Global,
     desk: &mut Desk,
-    drawer: &mut D,
+    source: &mut C,
     errors: &mut E,
 )
-    ensures asked { IfSome (D.asked drawer.old) (λ before. D.asked drawer.new ≡ Some (asked_after desk.old.snapshot.edition before)) }
+    ensures asked { IfSome (C.asked source.old) (λ before. C.asked source.new ≡ Some (asked_after desk.old.snapshot.edition before)) }
     // What is in force is as before, or what changes that a file holds make of it:
     ensures in_force { (p : Publication) → HoldsPublication desk.old.snapshot p → HasPublished p desk.new.snapshot }
-    // those of the file that the drawer gave.
-    ensures found { TakesFound (D.found drawer.old) (D.found drawer.new) desk.old.snapshot desk.new.snapshot }
+    // those of the file that the source gave.
+    ensures found { TakesFound (C.found source.old) (C.found source.new) desk.old.snapshot desk.new.snapshot }
     ensures connections { desk.new.connections ≡ desk.old.connections }
 {
-    if let Err(fault) = publish_found(alloc, desk, drawer) {
+    if let Err(fault) = publish_found(alloc, desk, source) {
         // Where the line can't be written, connections are served all the same.
         let _ = writeln!(errors, "{fault}");
     }
 }
 
-/// Asks the drawer once for the change file of the next sequence number, and publishes the changes where it is there.
+/// Asks the source once for the change file of the next sequence number, and publishes the changes where it is there.
 /// A file that is refused changes nothing. Where the sequence is at its greatest, and in the first edition, which has
-/// none, the drawer isn't asked.
-pub(crate) fn publish_found<D: Drawer>(
+/// none, the source isn't asked.
+pub(crate) fn publish_found<C: ChangeSource>(
     alloc: Global,
     desk: &mut Desk,
-    drawer: &mut D,
+    source: &mut C,
 ) -> Result<(), ChangesFault>
-    ensures asked { IfSome (D.asked drawer.old) (λ before. D.asked drawer.new ≡ Some (asked_after desk.old.snapshot.edition before)) }
+    ensures asked { IfSome (C.asked source.old) (λ before. C.asked source.new ≡ Some (asked_after desk.old.snapshot.edition before)) }
     ensures in_force { (p : Publication) → HoldsPublication desk.old.snapshot p → HasPublished p desk.new.snapshot }
-    ensures found { TakesFound (D.found drawer.old) (D.found drawer.new) desk.old.snapshot desk.new.snapshot }
+    ensures found { TakesFound (C.found source.old) (C.found source.new) desk.old.snapshot desk.new.snapshot }
     ensures connections { desk.new.connections ≡ desk.old.connections }
 {
     let Some(sequence) = next_sequence(desk.snapshot().edition()) else {
         return Ok(());
     };
-    publish_file(alloc, desk, drawer, sequence)
+    publish_file(alloc, desk, source, sequence)
 }
 
 /// Publishes the changes of the file with this sequence number, where it is there.
-fn publish_file<D: Drawer>(
+fn publish_file<C: ChangeSource>(
     alloc: Global,
     desk: &mut Desk,
-    drawer: &mut D,
+    source: &mut C,
     sequence: u64,
 ) -> Result<(), ChangesFault>
-    ensures asked { IfSome (D.asked drawer.old) (λ before. D.asked drawer.new ≡ Some (sequence ∷ before)) }
+    ensures asked { IfSome (C.asked source.old) (λ before. C.asked source.new ≡ Some (sequence ∷ before)) }
     ensures in_force { (p : Publication) → HoldsPublication desk.old.snapshot p → HasPublished p desk.new.snapshot }
-    // The changes of the file that the drawer gave are published, where it gave one, or it is told why not.
-    ensures found { IfSome (D.found drawer.old) (λ before. (found : Found) × (D.found drawer.new ≡ Some (found ∷ before))
+    // The changes of the file that the source gave are published, where it gave one, or it is told why not.
+    ensures found { IfSome (C.found source.old) (λ before. (found : Found) × (C.found source.new ≡ Some (found ∷ before))
         × ((p : Publication) → HoldsPublication desk.old.snapshot p
         → MatchResult result (λ _. HasTaken found p desk.new.snapshot) (ExplainsFound found p))) }
     ensures unchanged { OnErr result (IsAsBefore desk.old.snapshot desk.new.snapshot) }
     ensures connections { desk.new.connections ≡ desk.old.connections }
 {
-    let Some(mut file) = drawer.change_file(sequence)? else {
+    let Some(mut file) = source.change_file(sequence)? else {
         return Ok(());
     };
     publish_changes(alloc, desk, &mut file)

@@ -3,7 +3,7 @@
 ghost use Rattle.std.specs.Prelude.{◌≡◌, ◌⊎◌, ◌+◌, ◌<◌, ℕ, IfErr, IfSome, OnErr, OnOk, Some};
 
 use crate::command_fault::CommandFault;
-use crate::door::Door;
+use crate::listener::Listener;
 use osm_index::Snapshot;
 use std::alloc::Global;
 use std::io::Write;
@@ -14,29 +14,29 @@ use std::io::Write;
 ///
 /// # Errors
 ///
-/// `Device` or `Memory` where the door has no further connection; fewer were taken then.
-pub fn serve<D: Door, E: Write>(
+/// `Device` or `Memory` where the listener has no further connection; fewer were taken then.
+pub fn serve<L: Listener, E: Write>(
     alloc: Global,
     snapshot: &Snapshot,
-    door: &mut D,
+    listener: &mut L,
     connections: u32,
     errors: &mut E,
 ) -> Result<(), CommandFault>
     // So many connections were taken,
-    ensures all { OnOk result (IfSome (D.given door.old) (λ n. D.given door.new ≡ Some (n + connections))) }
-    // and fewer where the door fails.
-    ensures fewer { OnErr result (IfSome (D.given door.old) (λ n. (k : ℕ) × (k < connections) × (D.given door.new ≡ Some (n + k)))) }
+    ensures all { OnOk result (IfSome (L.accepted listener.old) (λ n. L.accepted listener.new ≡ Some (n + connections))) }
+    // and fewer where the listener fails.
+    ensures fewer { OnErr result (IfSome (L.accepted listener.old) (λ n. (k : ℕ) × (k < connections) × (L.accepted listener.new ≡ Some (n + k)))) }
     ensures outside { IfErr result (λ fault. (fault ≡ CommandFault.Memory) ⊎ (fault ≡ CommandFault.Device)) }
 {
     let mut taken = 0;
     while taken < connections {
-        let (mut reader, mut writer) = door.next()?;
+        let (mut reader, mut writer) = listener.accept()?;
         taken += 1;
         if let Err(fault) = osm_gate::serve(alloc, &mut reader, &mut writer, snapshot) {
             // Where the line can't be written, the next connection is served all the same.
             let _ = writeln!(errors, "{fault}");
         }
-        door.end(reader, writer);
+        listener.close(reader, writer);
     }
     Ok(())
 }

@@ -5,12 +5,12 @@ ghost use Rattle.std.specs.Io.KnownBytes.{Appends};
 ghost use Rattle.osm_gate.specs.Written.{AppendsFront};
 
 use crate::command_fault::CommandFault;
-use crate::outlet::Outlet;
+use crate::flushing_writer::FlushingWriter;
 
 /// Writes the text as [`osm_gate::write_whole`] does, and flushes the writer.
 ///
 /// Refused with `Device` where a call fails or takes nothing; a beginning of the text is written then.
-pub fn write_whole<W: Outlet>(writer: &mut W, text: &[u8]) -> Result<(), CommandFault>
+pub fn write_whole<W: FlushingWriter>(writer: &mut W, text: &[u8]) -> Result<(), CommandFault>
     // The whole text is written.
     ensures whole { OnOk result (Appends (W.contents writer.old) (W.contents writer.new) text.now) }
     // Whatever happens, no more than a beginning of it.
@@ -20,7 +20,7 @@ pub fn write_whole<W: Outlet>(writer: &mut W, text: &[u8]) -> Result<(), Command
     ensures device { IfErr result (λ fault. fault ≡ CommandFault.Device) }
 {
     match osm_gate::write_whole(writer, text) {
-        Ok(()) => writer.hand_on(),
+        Ok(()) => writer.flush_all(),
         Err(_) => Err(CommandFault::Device),
     }
 }

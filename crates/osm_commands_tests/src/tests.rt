@@ -3,13 +3,11 @@
 
 mod changing;
 mod files;
-mod narrow_outlet;
+mod flushing_narrow_writer;
 mod serving;
 
-use narrow_outlet::NarrowOutlet;
-use osm_commands::ask::ask;
-use osm_commands::command_fault::CommandFault;
-use osm_commands::status::Status;
+use flushing_narrow_writer::FlushingNarrowWriter;
+use osm_commands::{CommandFault, Status, ask};
 use osm_index::Unwatched;
 use std::alloc::Global;
 use std::process::Abort;
@@ -32,7 +30,7 @@ const FIRST_ANSWER: &str = "n1 Thighway=crossing x13.4 y52.5\n";
 #[test]
 fn flushes_fail(rt: HostRuntime) {
     let alloc = rt.alloc();
-    let mut output = NarrowOutlet {
+    let mut output = FlushingNarrowWriter {
         writer: NarrowWriter {
             taken: Vec::new(alloc),
             at_once: 64,

@@ -2,8 +2,7 @@
 
 ghost use Rattle.std.specs.Prelude.{true};
 
-use osm_commands::command_fault::CommandFault;
-use osm_commands::outlet::{Outlet, told};
+use osm_commands::{CommandFault, FlushingWriter, flush_outcome};
 use std::io;
 use std::io::{IsTerminal, Stdout, Write};
 
@@ -44,10 +43,10 @@ impl Write for CleanOutput<'_> {
     }
 }
 
-impl Outlet for CleanOutput<'_> {
+impl FlushingWriter for CleanOutput<'_> {
     ghost is_flushed = { λ _. true };
 
-    fn hand_on(&mut self) -> Result<(), CommandFault> {
-        told(self.flush())
+    fn flush_all(&mut self) -> Result<(), CommandFault> {
+        flush_outcome(self.flush())
     }
 }

@@ -1,7 +1,7 @@
 //! What a fault means, in words, below its line.
 
 use osm_codes::{caret_lines, explain, file_hint, query_hint};
-use osm_commands::command_fault::CommandFault;
+use osm_commands::CommandFault;
 use std::alloc::AllocError;
 use std::io;
 use std::io::{IsTerminal, Write};

@@ -6,7 +6,7 @@
 
 mod building;
 mod clean_output;
-mod folder_drawer;
+mod change_folder;
 mod in_words;
 mod input_file;
 mod output_file;
@@ -15,7 +15,7 @@ mod watched;
 
 use crate::building::Building;
 use crate::clean_output::CleanOutput;
-use crate::folder_drawer::FolderDrawer;
+use crate::change_folder::ChangeFolder;
 use crate::in_words::{Subject, Trouble, tell_in_words};
 use crate::input_file::InputFile;
 use crate::output_file::OutputFile;
@@ -23,15 +23,7 @@ use crate::progress::Progress;
 use crate::watched::Watched;
 use command_line::{Job, WordsFault, read_words};
 use osm_codes::explain;
-use osm_commands::ask::ask;
-use osm_commands::check::check;
-use osm_commands::command_fault::CommandFault;
-use osm_commands::drawer_lookout::DrawerLookout;
-use osm_commands::listening_line::listening_line;
-use osm_commands::prove::prove;
-use osm_commands::publish::publish;
-use osm_commands::read_snapshot::read_snapshot;
-use osm_commands::status::Status;
+use osm_commands::{ChangeLookout, CommandFault, Status, ask, check, listening_line, prove, publish, read_snapshot};
 use osm_desk::Desk;
 use osm_index::Snapshot;
 use osm_sockets::Sockets;
@@ -56,8 +48,8 @@ fn main(rt: HostRuntime) -> ExitCode {
 
 /// Does what the words ask for, and tells of a fault on standard error.
 fn run(rt: &HostRuntime) -> Status {
-    match job(rt) {
-        Ok(job) => done(rt, job),
+    match read_job(rt) {
+        Ok(job) => run_job(rt, job),
         Err(WordsFault::Usage(text)) => {
             // The text ends with a line feed of its own.
             let _ = write!(rt.stderr(), "{text}");
@@ -67,12 +59,12 @@ fn run(rt: &HostRuntime) -> Status {
             let _ = writeln!(rt.stderr(), "{fault}");
             Status::Refused
         }
-        Err(WordsFault::Memory) => ended(rt, Err(CommandFault::Memory), &NOTHING),
+        Err(WordsFault::Memory) => report(rt, Err(CommandFault::Memory), &NOTHING),
     }
 }
 
 /// Runs the command with its files.
-fn done(rt: &HostRuntime, job: Job) -> Status {
+fn run_job(rt: &HostRuntime, job: Job) -> Status {
     match job {
         Job::Ask { query } => ask_input(rt, &query),
         Job::Publish { file, edition } => publish_file(rt, &file, edition),
@@ -120,7 +112,7 @@ fn ask_input(rt: &HostRuntime, query: &str) -> Status {
         name: "standard input",
         error: input.error(),
     }];
-    ended(
+    report(
         rt,
         outcome,
         &Subject {
@@ -148,7 +140,7 @@ fn publish_file(rt: &HostRuntime, file: &str, edition: Edition) -> Status {
         name: file,
         error: input.error(),
     }];
-    ended(
+    report(
         rt,
         outcome,
         &Subject {
@@ -198,7 +190,7 @@ fn prove_files(
         answer.trouble(),
         proof.trouble(),
     ];
-    ended(
+    report(
         rt,
         outcome,
         &Subject {
@@ -244,7 +236,7 @@ fn check_files(
     ];
     match outcome {
         Ok(verdict) => Status::from(verdict),
-        Err(fault) => ended(
+        Err(fault) => report(
             rt,
             Err(fault),
             &Subject {
@@ -278,7 +270,7 @@ fn serve_file(
         name: file,
         error: input.error(),
     }];
-    ended(
+    report(
         rt,
         Err(fault),
         &Subject {
@@ -300,7 +292,7 @@ fn serve_snapshot(
     match listen(rt, port, changes.is_some()) {
         Ok((sockets, address)) => {
             let outcome = serve_over(rt, snapshot, sockets, address, connections, changes);
-            ended(rt, outcome, &NOTHING)
+            report(rt, outcome, &NOTHING)
         }
         Err(error) => port_refused(rt, port, &error),
     }
@@ -313,13 +305,13 @@ fn port_refused(rt: &HostRuntime, port: u16, error: &io::Error) -> Status {
         _ => CommandFault::Device,
     };
     let Ok(name) = format!(in rt.alloc(); "port {port}") else {
-        return ended(rt, Err(fault), &NOTHING);
+        return report(rt, Err(fault), &NOTHING);
     };
     let troubles = &[Trouble {
         name: &name,
         error: error.raw_os_error(),
     }];
-    ended(
+    report(
         rt,
         Err(fault),
         &Subject {
@@ -358,7 +350,7 @@ fn serve_over(
     // Where standard error takes nothing, it serves all the same.
     let _ = write!(errors, "{line}");
     let mut desk = Desk::new(alloc, snapshot);
-    let mut lookout = DrawerLookout::new(alloc, FolderDrawer::new(rt, changes));
+    let mut lookout = ChangeLookout::new(alloc, ChangeFolder::new(rt, changes));
     serve_many(
         alloc,
         &mut desk,
@@ -376,7 +368,7 @@ fn explain_code(rt: &HostRuntime, code: &str) -> Status {
     match explain(code) {
         Some(row) => match writeln!(rt.stdout(), "{row}") {
             Ok(()) => Status::Done,
-            Err(_) => ended(rt, Err(CommandFault::Device), &NOTHING),
+            Err(_) => report(rt, Err(CommandFault::Device), &NOTHING),
         },
         None => {
             let _ = writeln!(rt.stderr(), "no such code");
@@ -414,7 +406,7 @@ const NOTHING: Subject<'static> = Subject {
 };
 
 /// How the program ends after a command. A fault is told in one line, and then in words where somebody looks.
-fn ended(rt: &HostRuntime, outcome: Result<(), CommandFault>, subject: &Subject<'_>) -> Status {
+fn report(rt: &HostRuntime, outcome: Result<(), CommandFault>, subject: &Subject<'_>) -> Status {
     match outcome {
         Ok(()) => Status::Done,
         Err(fault) => {
@@ -427,12 +419,12 @@ fn ended(rt: &HostRuntime, outcome: Result<(), CommandFault>, subject: &Subject<
 }
 
 /// What the words of the command line ask for.
-fn job(rt: &HostRuntime) -> Result<Job, WordsFault> {
-    read_words(rt.alloc(), words(rt)?)
+fn read_job(rt: &HostRuntime) -> Result<Job, WordsFault> {
+    read_words(rt.alloc(), read_args(rt)?)
 }
 
 /// The words of the command line, the program's own name first.
-fn words(rt: &HostRuntime) -> Result<Vec<String>, WordsFault> {
+fn read_args(rt: &HostRuntime) -> Result<Vec<String>, WordsFault> {
     match env::args(rt) {
         Ok(words) => Ok(words.collect(rt.alloc())?),
         Err(error) if error.kind() == ErrorKind::OutOfMemory => Err(WordsFault::Memory),

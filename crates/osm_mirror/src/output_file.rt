@@ -3,8 +3,7 @@
 ghost use Rattle.std.specs.Prelude.{◌≡◌, true};
 
 use crate::in_words::Trouble;
-use osm_commands::command_fault::CommandFault;
-use osm_commands::outlet::{Outlet, told};
+use osm_commands::{CommandFault, FlushingWriter, flush_outcome};
 use std::fs::File;
 use std::io;
 use std::io::Write;
@@ -90,10 +89,10 @@ impl Write for OutputFile<'_> {
     }
 }
 
-impl Outlet for OutputFile<'_> {
+impl FlushingWriter for OutputFile<'_> {
     ghost is_flushed = { λ _. true };
 
-    fn hand_on(&mut self) -> Result<(), CommandFault> {
-        told(self.flush())
+    fn flush_all(&mut self) -> Result<(), CommandFault> {
+        flush_outcome(self.flush())
     }
 }

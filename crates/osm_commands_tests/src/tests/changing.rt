@@ -5,10 +5,7 @@ ghost use Rattle.std.specs.Prelude.{◌≡◌, IfOk, None};
 
 use super::ALL_KINDS;
 use super::serving::Inputs;
-use osm_commands::command_fault::CommandFault;
-use osm_commands::drawer::Drawer;
-use osm_commands::read_snapshot::read_snapshot;
-use osm_commands::serve_changing::serve_changing;
+use osm_commands::{ChangeSource, CommandFault, read_snapshot, serve_desk};
 use osm_desk::Desk;
 use osm_index::{Edition, Unwatched};
 use std::alloc::{AllocError, Global};
@@ -19,7 +16,7 @@ use std::test::Fail;
 /// A GET of the root, after which the connection ends.
 const ROOT_REQUEST: &str = "GET /api/root HTTP/1.1\r\nConnection: close\r\n\r\n";
 
-/// What a drawer says when it is asked.
+/// What a source says when it is asked.
 #[derive(Clone, Copy)]
 enum Found {
     File(&'static str),
@@ -28,7 +25,7 @@ enum Found {
     NoMemory,
 }
 
-/// A drawer that says these things, one a question, and then has nothing more; it keeps what it was asked for.
+/// A source that says these things, one a question, and then has nothing more; it keeps what it was asked for.
 #[derive(Drop)]
 struct Answers {
     alloc: Global,
@@ -36,7 +33,7 @@ struct Answers {
     asked: Vec<u64>,
 }
 
-impl Drawer for Answers {
+impl ChangeSource for Answers {
     type Reader = Cursor<Vec<u8>>;
 
     ghost asked = { λ _. None };
@@ -59,8 +56,8 @@ impl Drawer for Answers {
 /// A server's surroundings: where its changes and its connections come from, and its lines of errors.
 #[derive(Drop)]
 struct Site {
-    drawer: Answers,
-    door: Inputs,
+    source: Answers,
+    listener: Inputs,
     errors: Vec<u8>,
 }
 
@@ -68,25 +65,25 @@ impl Site {
     /// No changes and no connections yet.
     fn new(alloc: Global) -> Site {
         Site {
-            drawer: Answers {
+            source: Answers {
                 alloc,
                 left: VecDeque::new(alloc),
                 asked: Vec::new(alloc),
             },
-            door: Inputs::new(alloc),
+            listener: Inputs::new(alloc),
             errors: Vec::new(alloc),
         }
     }
 }
 
-/// Surroundings with this number of clients who ask for the root, whose drawer says these things.
+/// Surroundings with this number of clients who ask for the root, whose source says these things.
 fn site_of(alloc: Global, says: &[Found], number: u32) -> Result<Site, AllocError> {
     let mut site = Site::new(alloc);
     for found in says {
-        site.drawer.left.push_back(*found)?;
+        site.source.left.push_back(*found)?;
     }
     for _ in 0..number {
-        site.door.add(ROOT_REQUEST)?;
+        site.listener.add(ROOT_REQUEST)?;
     }
     Ok(site)
 }
@@ -108,18 +105,18 @@ fn desk_at(alloc: Global, sequence: u64) -> Result<Desk, Fail>
 fn serve_at(alloc: Global, desk: &mut Desk, site: &mut Site, number: u32) -> Result<(), Fail>
     requires { desk.old.connections ≡ empty }
 {
-    serve_changing(
+    serve_desk(
         alloc,
         desk,
-        &mut site.drawer,
-        &mut site.door,
+        &mut site.source,
+        &mut site.listener,
         number,
         &mut site.errors,
     )?;
     Ok(())
 }
 
-/// What comes of serving the set of all kinds to this number of clients, where the drawer says these things.
+/// What comes of serving the set of all kinds to this number of clients, where the source says these things.
 fn served(alloc: Global, says: &[Found], number: u32) -> Result<Site, Fail> {
     let mut site = site_of(alloc, says, number)?;
     let mut desk = desk_at(alloc, 0)?;
@@ -165,7 +162,7 @@ r100 Ttype=route Mw10@outer,n99@stop,r100@
 
 const DELETE_WAY: &str = "w10 v2 dD\n";
 
-/// What each client's connection finds in the drawer: a file is published before the client is served; a refused one is
+/// What each client's connection finds in the source: a file is published before the client is served; a refused one is
 /// told in a line, the same sequence is asked for again, and what was in force stays.
 #[test]
 fn files_change_what_is_served_and_refused_ones_change_nothing(
@@ -186,10 +183,10 @@ fn files_change_what_is_served_and_refused_ones_change_nothing(
     sets[0] = (ALL_KINDS, 0);
     sets[7] = (WITHOUT_NODE, 2);
     let site = served(alloc, &says, 8)?;
-    assert!(rt; site.door.written.as_slice() == responses(alloc, &sets)?.as_bytes());
+    assert!(rt; site.listener.written.as_slice() == responses(alloc, &sets)?.as_bytes());
     assert!(rt;
         site.errors.as_slice() == b"I2 w10\nO9 line 2 byte 8\nI3 n5\ndevice\nno memory\n".as_slice()
     );
-    assert!(rt; site.drawer.asked.as_slice() == [1, 1, 2, 2, 2, 2, 2, 2].as_slice());
+    assert!(rt; site.source.asked.as_slice() == [1, 1, 2, 2, 2, 2, 2, 2].as_slice());
     Ok(())
 }

@@ -3,11 +3,7 @@
 
 use super::{ALL_KINDS, FIRST, FIRST_ANSWER, is_done};
 use osm_check::Digest;
-use osm_commands::check::check;
-use osm_commands::command_fault::CommandFault;
-use osm_commands::prove::prove;
-use osm_commands::publish::publish;
-use osm_commands::status::Status;
+use osm_commands::{CommandFault, Status, check, prove, publish};
 use osm_index::{Edition, Unwatched};
 use std::alloc::Global;
 use std::process::Abort;

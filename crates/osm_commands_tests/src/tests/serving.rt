@@ -1,13 +1,9 @@
-//! `serve` over doors of the test's own, and the line with which a server begins.
+//! `serve` over listeners of the test's own, and the line with which a server begins.
 
 ghost use Rattle.std.specs.Prelude.{None};
 
 use super::ALL_KINDS;
-use osm_commands::command_fault::CommandFault;
-use osm_commands::door::Door;
-use osm_commands::listening_line::listening_line;
-use osm_commands::read_snapshot::read_snapshot;
-use osm_commands::serve::serve;
+use osm_commands::{CommandFault, Listener, listening_line, read_snapshot, serve};
 use osm_index::{Edition, Snapshot, Unwatched};
 use std::alloc::{AllocError, Global};
 use std::collections::VecDeque;
@@ -22,7 +18,7 @@ const ROOT: &str = "75a22f59df64013528dcb5e169ed9fd2305ff00f4b700f271af080582a6e
 const REQUEST: &str =
     "POST /api/interpreter HTTP/1.1\r\nContent-Length: 16\r\nConnection: close\r\n\r\nnode(1);out ids;";
 
-/// A door that gives these inputs, one a connection, and then fails; what is written is kept.
+/// A listener that gives these inputs, one a connection, and then fails; what is written is kept.
 #[derive(Drop)]
 pub(super) struct Inputs {
     alloc: Global,
@@ -31,7 +27,7 @@ pub(super) struct Inputs {
 }
 
 impl Inputs {
-    /// A door without inputs.
+    /// A listener without inputs.
     pub(super) fn new(alloc: Global) -> Inputs {
         Inputs {
             alloc,
@@ -48,21 +44,21 @@ impl Inputs {
     }
 }
 
-impl Door for Inputs {
+impl Listener for Inputs {
     type Reader = Cursor<Vec<u8>>;
 
     type Writer = Vec<u8>;
 
-    ghost given = { λ _. None };
+    ghost accepted = { λ _. None };
 
-    fn next(&mut self) -> Result<(Cursor<Vec<u8>>, Vec<u8>), CommandFault> {
+    fn accept(&mut self) -> Result<(Cursor<Vec<u8>>, Vec<u8>), CommandFault> {
         match self.left.pop_front() {
             Some(bytes) => Ok((Cursor::new(bytes), Vec::new(self.alloc))),
             None => Err(CommandFault::Device),
         }
     }
 
-    fn end(&mut self, _reader: Cursor<Vec<u8>>, writer: Vec<u8>) {
+    fn close(&mut self, _reader: Cursor<Vec<u8>>, writer: Vec<u8>) {
         let _ = self.written.extend_from_slice(&writer);
     }
 }
@@ -93,29 +89,29 @@ fn responses(alloc: Global, number: usize) -> Result<String, Fail> {
 fn serve_two(
     alloc: Global,
     snapshot: &Snapshot,
-    door: &mut Inputs,
+    listener: &mut Inputs,
     number: u32,
 ) -> Result<Result<(), CommandFault>, AllocError> {
-    door.add(REQUEST)?;
-    door.add(REQUEST)?;
+    listener.add(REQUEST)?;
+    listener.add(REQUEST)?;
     let mut errors = Vec::new(alloc);
-    Ok(serve(alloc, snapshot, door, number, &mut errors))
+    Ok(serve(alloc, snapshot, listener, number, &mut errors))
 }
 
-/// As many connections are served as are asked for, or as come before the door fails.
+/// As many connections are served as are asked for, or as come before the listener fails.
 #[test]
 fn serves_from_a_door(rt: HostRuntime) -> Result<(), Fail> {
     let alloc = rt.alloc();
     let snapshot = snapshot(alloc)?;
     for (number, outcome, served) in [(1, Ok(()), 1), (3, Err(CommandFault::Device), 2)] {
-        let mut door = Inputs::new(alloc);
-        let ended = serve_two(alloc, &snapshot, &mut door, number)?;
+        let mut listener = Inputs::new(alloc);
+        let ended = serve_two(alloc, &snapshot, &mut listener, number)?;
         assert!(rt;
-            ended == outcome && door.left.len() == 2 - served,
+            ended == outcome && listener.left.len() == 2 - served,
             "{number}"
         );
         assert!(rt;
-            door.written.as_slice() == responses(alloc, served)?.as_bytes(),
+            listener.written.as_slice() == responses(alloc, served)?.as_bytes(),
             "{number}"
         );
     }

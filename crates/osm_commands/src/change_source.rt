@@ -1,14 +1,14 @@
 //! Where change files come from.
 
 ghost use Rattle.std.specs.Prelude.{◌≡◌, ◌⊎◌, ◌∷◌, ℕ, IfErr, IfSome, List, Option, Some};
-ghost use Rattle.osm_commands.specs.Drawers.{found_in};
+ghost use Rattle.osm_commands.specs.ChangeSources.{found_in};
 ghost use Rattle.osm_traffic.specs.Published.{Found};
 
 use crate::command_fault::CommandFault;
 use std::io::Read;
 
 /// Gives the change file of a sequence number, where there is one.
-pub trait Drawer {
+pub trait ChangeSource {
     /// What a change file is read from.
     type Reader: Read + Drop;
 

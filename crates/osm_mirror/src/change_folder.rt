@@ -3,8 +3,7 @@
 ghost use Rattle.std.specs.Option.{option_copied};
 ghost use Rattle.std.specs.Prelude.{◌≡◌, ◌⊎◌, IfErr, None};
 
-use osm_commands::command_fault::CommandFault;
-use osm_commands::drawer::Drawer;
+use osm_commands::{ChangeSource, CommandFault};
 use std::fs::File;
 use std::io::ErrorKind;
 use std::marker::Model;
@@ -12,12 +11,12 @@ use std::marker::Model;
 /// The folder in which a site puts the change files of its publications, each as `<sequence>.opl`; or no folder at all,
 /// in which no file is found. Contracts see the folder's name.
 #[derive(Drop)]
-pub(crate) struct FolderDrawer<'a> {
+pub(crate) struct ChangeFolder<'a> {
     rt: &'a HostRuntime,
     folder: Option<&'a str>,
 }
 
-impl<'a> Model for FolderDrawer<'a> {
+impl<'a> Model for ChangeFolder<'a> {
     ghost use Rattle.std.specs.Option.{option_copied};
     ghost use Rattle.std.specs.Prelude.{List, Option, ℕ};
 
@@ -26,16 +25,16 @@ impl<'a> Model for FolderDrawer<'a> {
     ghost view = { λ d. option_copied d.folder };
 }
 
-impl<'a> FolderDrawer<'a> {
+impl<'a> ChangeFolder<'a> {
     /// The folder of this name, which isn't looked at yet.
-    pub(crate) fn new(rt: &'a HostRuntime, folder: Option<&'a str>) -> FolderDrawer<'a>
+    pub(crate) fn new(rt: &'a HostRuntime, folder: Option<&'a str>) -> ChangeFolder<'a>
         ensures { result ≡ option_copied folder.entry }
     {
-        FolderDrawer { rt, folder }
+        ChangeFolder { rt, folder }
     }
 }
 
-impl Drawer for FolderDrawer<'_> {
+impl ChangeSource for ChangeFolder<'_> {
     type Reader = File;
 
     ghost asked = { λ _. None };

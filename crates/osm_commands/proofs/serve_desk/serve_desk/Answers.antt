@@ -7,7 +7,7 @@ use Rattle.osm_desk.specs.Contents.{Contents}
 use Rattle.osm_desk.specs.Desks.{Connections}
 use Rattle.osm_commands.proofs.ChangeLemmas.{asked_more, reached_end, reached_next}
 use Rattle.osm_traffic.proofs.shared.FoundLemmas.{found_after, found_kept}
-use Rattle.osm_commands.proofs.serve_changing.serve_changing.Goals as goal
+use Rattle.osm_commands.proofs.serve_desk.serve_desk.Goals as goal
 
 pub returns-in_err-reader-clause-reached : goal.returns-in_err-reader-clause-reached
 returns-in_err-reader-clause-reached g c = λ p holds.
@@ -24,15 +24,15 @@ serve_on-requires-clause-room g c =
 
 pub loop-taken-preserved : goal.loop-taken-preserved
 loop-taken-preserved g c =
-    let more : IfSome (g.D.Door.given c.args.door.now) (λ n. g.D.Door.given c.end.new.self ≡ Some (n + (c.loop-taken.taken + 1))) = search rules in
+    let more : IfSome (g.L.Listener.accepted c.args.listener.now) (λ n. g.L.Listener.accepted c.close.new.self ≡ Some (n + (c.loop-taken.taken + 1))) = search rules in
     record {
       few = search rules;
-      given = more;
+      accepted = more;
       reached = λ p holds. reached_next c.loop-taken.taken p c.loop-taken.desk c.publish_next.new.desk c.serve_on.new.self (c.loop-taken.invariant.reached p holds) c.publish_next.ensures.in_force c.serve_on.ensures.forgotten;
-      asked = asked_more (g.R.Drawer.asked c.args.drawer.now) (g.R.Drawer.asked c.loop-taken.drawer) (g.R.Drawer.asked c.publish_next.new.drawer) c.loop-taken.desk.snapshot.edition c.loop-taken.taken
+      asked = asked_more (g.C.ChangeSource.asked c.args.source.now) (g.C.ChangeSource.asked c.loop-taken.source) (g.C.ChangeSource.asked c.publish_next.new.source) c.loop-taken.desk.snapshot.edition c.loop-taken.taken
           c.loop-taken.invariant.asked c.publish_next.ensures.asked;
-      found = found_after (g.R.Drawer.found c.args.drawer.now) (g.R.Drawer.found c.loop-taken.drawer) (g.R.Drawer.found c.publish_next.new.drawer) c.args.desk.now.snapshot c.loop-taken.desk.snapshot c.serve_on.new.self.snapshot
-          c.loop-taken.invariant.found (found_kept (g.R.Drawer.found c.loop-taken.drawer) (g.R.Drawer.found c.publish_next.new.drawer) c.loop-taken.desk.snapshot c.publish_next.new.desk.snapshot c.serve_on.new.self.snapshot
+      found = found_after (g.C.ChangeSource.found c.args.source.now) (g.C.ChangeSource.found c.loop-taken.source) (g.C.ChangeSource.found c.publish_next.new.source) c.args.desk.now.snapshot c.loop-taken.desk.snapshot c.serve_on.new.self.snapshot
+          c.loop-taken.invariant.found (found_kept (g.C.ChangeSource.found c.loop-taken.source) (g.C.ChangeSource.found c.publish_next.new.source) c.loop-taken.desk.snapshot c.publish_next.new.desk.snapshot c.serve_on.new.self.snapshot
           (ap (λ (d : Contents). d.snapshot) c.serve_on.ensures.forgotten) c.publish_next.ensures.found);
       none_open = ap (λ (d : Contents). d.connections) c.serve_on.ensures.forgotten ∙ (c.publish_next.ensures.connections ∙ c.loop-taken.invariant.none_open);
     }

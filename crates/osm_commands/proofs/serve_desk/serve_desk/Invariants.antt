@@ -6,15 +6,15 @@ use Rattle.osm_keys.specs.Publications.{Publication}
 use Rattle.osm_index.specs.Snapshots.{HoldsPublication}
 use Rattle.osm_commands.specs.ChangeFiles.{IsReachedBy}
 use Rattle.osm_traffic.specs.Published.{TakesFound}
-use Rattle.osm_commands.proofs.serve_changing.serve_changing.Given as goal
+use Rattle.osm_commands.proofs.serve_desk.serve_desk.Given as goal
 
 abbrev pub invariant-loop-taken : goal.invariant-loop-taken
 invariant-loop-taken g l = record {
   few : l.taken ≤ l.connections;
-  given : IfSome (g.D.Door.given l.initial.door) (λ n. g.D.Door.given l.door ≡ Some (n + l.taken));
+  accepted : IfSome (g.L.Listener.accepted l.initial.listener) (λ n. g.L.Listener.accepted l.listener ≡ Some (n + l.taken));
   reached : (p : Publication) → HoldsPublication l.initial.desk.snapshot p → (q : Publication) × HoldsPublication l.desk.snapshot q × IsReachedBy l.taken p q;
-  asked : IfSome (g.R.Drawer.asked l.initial.drawer) (λ before. (more : List ℕ) × (g.R.Drawer.asked l.drawer ≡ Some (more ++ before)) × (length more ≤ l.taken));
-  found : TakesFound (g.R.Drawer.found l.initial.drawer) (g.R.Drawer.found l.drawer) l.initial.desk.snapshot l.desk.snapshot;
+  asked : IfSome (g.C.ChangeSource.asked l.initial.source) (λ before. (more : List ℕ) × (g.C.ChangeSource.asked l.source ≡ Some (more ++ before)) × (length more ≤ l.taken));
+  found : TakesFound (g.C.ChangeSource.found l.initial.source) (g.C.ChangeSource.found l.source) l.initial.desk.snapshot l.desk.snapshot;
   none_open : l.desk.connections ≡ empty;
 }
 

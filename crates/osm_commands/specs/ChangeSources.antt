@@ -1,4 +1,4 @@
--- What drawers of change files say.
+-- What sources of change files say.
 -- Source: this project.
 use Rattle.std.specs.Prelude.{ℕ, List, Option, Some, None, Result, Ok, Err}
 use Rattle.osm_traffic.specs.Published.{Found, file, nothing}

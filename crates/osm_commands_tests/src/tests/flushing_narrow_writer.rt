@@ -2,19 +2,18 @@
 
 ghost use Rattle.std.specs.Prelude.{true};
 
-use osm_commands::command_fault::CommandFault;
-use osm_commands::outlet::{Outlet, told};
+use osm_commands::{CommandFault, FlushingWriter, flush_outcome};
 use std::io;
 use std::io::Write;
 use test_devices::NarrowWriter;
 
 /// A [`NarrowWriter`], which hands on by its flush.
 #[derive(Drop)]
-pub(super) struct NarrowOutlet {
+pub(super) struct FlushingNarrowWriter {
     pub(super) writer: NarrowWriter,
 }
 
-impl Write for NarrowOutlet {
+impl Write for FlushingNarrowWriter {
     fn write(&mut self, buf: &[u8]) -> io::Result<usize> {
         self.writer.write(buf)
     }
@@ -24,10 +23,10 @@ impl Write for NarrowOutlet {
     }
 }
 
-impl Outlet for NarrowOutlet {
+impl FlushingWriter for FlushingNarrowWriter {
     ghost is_flushed = { λ _. true };
 
-    fn hand_on(&mut self) -> Result<(), CommandFault> {
-        told(self.flush())
+    fn flush_all(&mut self) -> Result<(), CommandFault> {
+        flush_outcome(self.flush())
     }
 }

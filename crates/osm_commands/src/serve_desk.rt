@@ -8,15 +8,15 @@ ghost use Rattle.osm_commands.specs.ChangeFiles.{IsReachedBy};
 ghost use Rattle.osm_traffic.specs.Published.{TakesFound};
 
 use crate::command_fault::CommandFault;
-use crate::door::Door;
-use crate::drawer::Drawer;
+use crate::listener::Listener;
+use crate::change_source::ChangeSource;
 use crate::publish_next::publish_next;
 use osm_desk::Desk;
 use std::alloc::Global;
 use std::io::Write;
 
 /// Serves this number of connections on the desk, one after the other, numbered from 0. Before it reads from a client
-/// that has come, it asks the drawer once for the change file of the next sequence number, and publishes it: all
+/// that has come, it asks the source once for the change file of the next sequence number, and publishes it: all
 /// responses of the connection are over what is in force then. A file that is refused is told in one line of `errors`,
 /// as `I2 w10` or `O9 line 1 byte 8`; what was in force stays, and the same file is asked for at the next connection. A
 /// connection that ends badly is told in one line too (`G1` to `G4`), and the next is taken. The program serves by
@@ -24,43 +24,43 @@ use std::io::Write;
 ///
 /// # Errors
 ///
-/// `Device` or `Memory` where the door has no further connection; fewer were taken then.
-pub fn serve_changing<D: Door, R: Drawer, E: Write>(
+/// `Device` or `Memory` where the listener has no further connection; fewer were taken then.
+pub fn serve_desk<L: Listener, C: ChangeSource, E: Write>(
     alloc: Global,
     desk: &mut Desk,
-    drawer: &mut R,
-    door: &mut D,
+    source: &mut C,
+    listener: &mut L,
     connections: u32,
     errors: &mut E,
 ) -> Result<(), CommandFault>
     requires { desk.old.connections ≡ empty }
     // So many connections were taken,
-    ensures all { OnOk result (IfSome (D.given door.old) (λ n. D.given door.new ≡ Some (n + connections))) }
-    // and fewer where the door fails.
-    ensures fewer { OnErr result (IfSome (D.given door.old) (λ n. (k : ℕ) × (k < connections) × (D.given door.new ≡ Some (n + k)))) }
+    ensures all { OnOk result (IfSome (L.accepted listener.old) (λ n. L.accepted listener.new ≡ Some (n + connections))) }
+    // and fewer where the listener fails.
+    ensures fewer { OnErr result (IfSome (L.accepted listener.old) (λ n. (k : ℕ) × (k < connections) × (L.accepted listener.new ≡ Some (n + k)))) }
     ensures outside { IfErr result (λ fault. (fault ≡ CommandFault.Memory) ⊎ (fault ≡ CommandFault.Device)) }
     // What is in force has been made of what was by one change file after the other, at most one a connection.
     ensures reached { (p : Publication) → HoldsPublication desk.old.snapshot p
         → (q : Publication) × HoldsPublication desk.new.snapshot q × IsReachedBy connections p q }
-    // The drawer was asked at most once a connection.
-    ensures asked { IfSome (R.asked drawer.old) (λ before. (more : List ℕ)
-        × (R.asked drawer.new ≡ Some (more ++ before)) × (length more ≤ connections)) }
-    // It has been made by the files that the drawer gave, one after the other, but those that were refused.
-    ensures found { TakesFound (R.found drawer.old) (R.found drawer.new) desk.old.snapshot desk.new.snapshot }
+    // The source was asked at most once a connection.
+    ensures asked { IfSome (C.asked source.old) (λ before. (more : List ℕ)
+        × (C.asked source.new ≡ Some (more ++ before)) × (length more ≤ connections)) }
+    // It has been made by the files that the source gave, one after the other, but those that were refused.
+    ensures found { TakesFound (C.found source.old) (C.found source.new) desk.old.snapshot desk.new.snapshot }
     // No connection is open.
     ensures none_open { desk.new.connections ≡ empty }
 {
     let mut taken = 0;
     while taken < connections {
-        let (mut reader, mut writer) = door.next()?;
-        // Now and not before the door was waited at: so a file that came while it was is published in time.
-        publish_next(alloc, desk, drawer, errors);
+        let (mut reader, mut writer) = listener.accept()?;
+        // Now and not before the listener was waited at: so a file that came while it was is published in time.
+        publish_next(alloc, desk, source, errors);
         if let Err(fault) = desk.serve_on(taken, &mut reader, &mut writer) {
             // Where the line can't be written, the next connection is served all the same.
             let _ = writeln!(errors, "{fault}");
         }
         taken += 1;
-        door.end(reader, writer);
+        listener.close(reader, writer);
     }
     Ok(())
 }

@@ -1,9 +1,9 @@
-//! A lookout for the change files of a drawer.
+//! A lookout for the change files of a source.
 
 ghost use Rattle.std.specs.Prelude.{◌≡◌};
 
 use crate::changes_fault::ChangesFault;
-use crate::drawer::Drawer;
+use crate::change_source::ChangeSource;
 use crate::publish_next::publish_found;
 use osm_desk::Desk;
 use osm_traffic::Lookout;
@@ -11,43 +11,43 @@ use std::alloc::Global;
 use std::io::Write;
 use std::marker::Model;
 
-/// Looks for the change file of the next sequence number in a drawer. Contracts see it as the drawer.
+/// Looks for the change file of the next sequence number in a source. Contracts see it as the source.
 #[derive(Drop)]
-pub struct DrawerLookout<R> {
+pub struct ChangeLookout<C> {
     alloc: Global,
-    drawer: R,
+    source: C,
     /// Why the last file was refused, if it was.
     told: Option<ChangesFault>,
 }
 
-impl<R> Model for DrawerLookout<R> {
-    ghost Value = { R };
+impl<C> Model for ChangeLookout<C> {
+    ghost Value = { C };
 
-    ghost view = { λ s. s.drawer };
+    ghost view = { λ s. s.source };
 }
 
-impl<R: Drawer> DrawerLookout<R> {
+impl<C: ChangeSource> ChangeLookout<C> {
     /// Nothing was looked for yet.
-    pub fn new(alloc: Global, drawer: R) -> DrawerLookout<R>
-        ensures { result ≡ drawer }
+    pub fn new(alloc: Global, source: C) -> ChangeLookout<C>
+        ensures { result ≡ source }
     {
-        DrawerLookout {
+        ChangeLookout {
             alloc,
-            drawer,
+            source,
             told: None,
         }
     }
 }
 
-impl<R: Drawer> Lookout for DrawerLookout<R> {
-    ghost found = { λ s. R.found s };
+impl<C: ChangeSource> Lookout for ChangeLookout<C> {
+    ghost found = { λ s. C.found s };
 
-    /// Asks the drawer once for the change file of the next sequence number, and publishes its changes where it is there.
+    /// Asks the source once for the change file of the next sequence number, and publishes its changes where it is there.
     /// A file that is refused changes nothing, and is told in one line of `errors`, but once as long as it is refused for
     /// the same reason each time. Where the sequence is at its greatest, and in the first edition, which has none, the
-    /// drawer isn't asked.
+    /// source isn't asked.
     fn look<E: Write>(&mut self, desk: &mut Desk, errors: &mut E) {
-        let refusal = publish_found(self.alloc, desk, &mut self.drawer).err();
+        let refusal = publish_found(self.alloc, desk, &mut self.source).err();
         if refusal == self.told {
             return;
         }
