@@ -284,7 +284,7 @@ def check_statuses(tally, page):
             "bad root": ["check", "0" * 63, file, file, file],
             "bad edition": ["publish", file, "--edition", "3"],
             "O9 line 1 byte 8": ["publish", file],
-            "Q11 byte 7": ["prove", "/dev/null", file, file, file],
+            "Q11 byte 7": ["prove", "/dev/null", file, Path(room) / "a", Path(room) / "p"],
             "device": ["publish", Path(room) / "none"],
             "no memory": ["publish", file],
         }

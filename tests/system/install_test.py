@@ -15,6 +15,8 @@ from runs import SECONDS, TOP, Outcome, Tally
 
 INSTALLED = {
     "bin/osm_mirror": 0o755,
+    "lib/systemd/system/osm_mirror-watch@.service": 0o644,
+    "lib/systemd/system/osm_mirror-watch@.timer": 0o644,
     "lib/systemd/system/osm_mirror@.service": 0o644,
     "share/doc/osm-mirror/CHANGELOG.md": 0o644,
     "share/doc/osm-mirror/DEPLOYING.md": 0o644,

@@ -179,18 +179,33 @@ def check_pipelined(tally):
         tally.check("pipelined ends", outcome == Outcome(b"", b"", 0), outcome)
 
 
+def taken_tardily(client):
+    """How many bytes a client gets that takes some 20 KB a second, and after how many seconds nothing more comes."""
+    begun, taken = time.monotonic(), 0
+    try:
+        while part := client.recv(2048):
+            taken += len(part)
+            time.sleep(0.1)
+    except ConnectionResetError:
+        pass
+    return taken, time.monotonic() - begun
+
+
 def check_large(tally):
-    """A client that reads 10 MB slowly gets all of it, and others are answered meanwhile; one that reads nothing is let go."""
+    """A client that reads 10 MB slowly gets all of it, and others are answered meanwhile. One that reads nothing is let go, and
+    so is one that reads less than 1 MiB in ten seconds, though it never is silent."""
     line = b"n%d v1 dV c1 t2020-01-01T00:00:00Z i1 uA Thighway=crossing,name=%060d x13.4 y52.5\n"
     with tempfile.TemporaryDirectory() as room:
         file = Path(room) / "large.opl"
         text = b"".join(line % (number, number) for number in range(1, LARGE_COUNT + 1))
         file.write_bytes(text)
         ask_all = b"POST /api/interpreter HTTP/1.1\r\nContent-Length: 14\r\n\r\nnode;out meta;"
-        with server(file, "--connections", 42) as running:
-            with running.connect() as slow, running.connect() as stuck:
-                for client in (slow, stuck):
+        with server(file, "--connections", 43) as running, ThreadPoolExecutor(1) as worker:
+            with running.connect() as slow, running.connect() as stuck, running.connect() as tardy:
+                for client in (slow, stuck, tardy):
                     client.setsockopt(socket.SOL_SOCKET, socket.SO_RCVBUF, 1 << 16)
+                tardy.sendall(ask_all)
+                taking = worker.submit(taken_tardily, tardy)
                 stuck.sendall(ask_all)
                 slow.sendall(ask_all)
                 parts = []
@@ -206,8 +221,11 @@ def check_large(tally):
                 # It has taken nothing for longer than ten seconds.
                 got = all_of(stuck)
                 tally.check("one that takes nothing is let go", len(got) < len(text), len(got))
+                taken, took = taking.result()
+                # (what the system holds for the client counts as taken)
+                tally.check("one that takes too little is let go", taken < len(text) and 9 < took < 60, taken, took)
             outcome = running.ended()
-            tally.check("the one that took nothing is told", outcome == Outcome(b"", b"G2\n", 0), outcome)
+            tally.check("both are told", outcome == Outcome(b"", b"G2\nG2\n", 0), outcome)
 
 
 def main():

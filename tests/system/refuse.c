@@ -3,7 +3,7 @@
  * Calls are counted from the start of `main`, each kind by itself, from 1:
  *   REFUSE_ALLOCATION=N  the Nth malloc, calloc or realloc answers null, with ENOMEM
  *   REFUSE_READ=N        the Nth read fails
- *   REFUSE_WRITE=N       the Nth write fails
+ *   REFUSE_WRITE=N       the Nth write fails; likewise REFUSE_SYNC (fsync) and REFUSE_RENAME
  *   REFUSE_RECV=N        the Nth recv fails; likewise REFUSE_SEND, REFUSE_ACCEPT, REFUSE_SOCKET, REFUSE_BIND,
  *                        REFUSE_LISTEN and REFUSE_NAME (getsockname)
  *   REFUSE_ERRNO=E       with this errno (EIO where it is left out); 0: the call answers 0 in place of failing
@@ -38,6 +38,7 @@ struct calls {
 };
 
 static struct calls allocations, reads, writes, recvs, sends, accepts, sockets, binds, listens, names;
+static struct calls syncs, renames;
 static unsigned long most_read, most_written;
 static int refused_with = EIO;
 static const char *mark, *count_file;
@@ -102,6 +103,18 @@ ssize_t write(int file, const void *bytes, size_t count) {
     if (is_refused(&writes))
         return refusal();
     return syscall(SYS_write, file, bytes, shortened(count, most_written));
+}
+
+int fsync(int file) {
+    if (is_refused(&syncs))
+        return (int)refusal();
+    return (int)syscall(SYS_fsync, file);
+}
+
+int rename(const char *from, const char *to) {
+    if (is_refused(&renames))
+        return (int)refusal();
+    return (int)syscall(SYS_renameat2, AT_FDCWD, from, AT_FDCWD, to, 0);
 }
 
 ssize_t recv(int socket, void *bytes, size_t count, int flags) {
@@ -175,6 +188,8 @@ int __libc_start_main(main_type *main, int count, char **words, void (*init)(voi
     allocations.refused = number("REFUSE_ALLOCATION");
     reads.refused = number("REFUSE_READ");
     writes.refused = number("REFUSE_WRITE");
+    syncs.refused = number("REFUSE_SYNC");
+    renames.refused = number("REFUSE_RENAME");
     recvs.refused = number("REFUSE_RECV");
     sends.refused = number("REFUSE_SEND");
     accepts.refused = number("REFUSE_ACCEPT");

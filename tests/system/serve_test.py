@@ -9,11 +9,15 @@ import http.client
 import os
 import shutil
 import socket
+import ssl
 import subprocess
 import tempfile
+import threading
 import time
+from collections import Counter
+from concurrent.futures import ThreadPoolExecutor
 from contextlib import contextmanager
-from itertools import count
+from itertools import count, cycle
 from pathlib import Path
 from urllib.parse import quote
 
@@ -40,8 +44,8 @@ def root_of(name, edition):
 class Server:
     """A server that runs, and the line that it began with."""
 
-    def __init__(self, file, words, environment):
-        command = [PROGRAM, "serve", file, "0", *words]
+    def __init__(self, file, words, environment, port=0):
+        command = [PROGRAM, "serve", file, str(port), *words]
         # Unbuffered: what follows the first line has to stay in the pipe for `communicate`, which reads past a buffer.
         self.process = subprocess.Popen(
             command, bufsize=0, stdout=subprocess.PIPE, stderr=subprocess.PIPE, env=environment
@@ -396,13 +400,17 @@ def check_fetch(tally, site, name, environment=None):
 
 
 @contextmanager
-def nginx_before(ports, room):
-    """nginx with the example's configuration over these ports, listening on a port of its own, which is given."""
+def nginx_before(ports, room, *changes):
+    """nginx with the example's configuration over these ports, listening on a port of its own, which is given. Changes are
+    pairs of a text of the configuration and the one that stands for it here."""
     with socket.create_server(("127.0.0.1", 0)) as free:
         port = free.getsockname()[1]
     text = NGINX.read_text(encoding="utf-8").replace("/run/osm-mirror", str(room)).replace(":8443", f":{port}")
     for written, is_one in zip((8081, 8082), ports):
         text = text.replace(f":{written}", f":{is_one}")
+    for old, new in changes:
+        assert old in text, old
+        text = text.replace(old, new)
     (room / "nginx.conf").write_text(text, encoding="utf-8")
     key, certificate = room / "key.pem", room / "certificate.pem"
     subprocess.run(
@@ -440,6 +448,99 @@ def check_nginx(tally):
             # (some versions of curl show their progress all the same)
             holds = (outcome.stdout, outcome.status) == (ANSWER * 200, 0)
             tally.check("200 requests through nginx", holds, outcome.stderr, len(outcome.stdout))
+            outcome = run(["curl", "--silent", "--cacert", room / "certificate.pem", "--write-out", "%{http_code}",
+                           "--output", "/dev/null", f"{site}/"])
+            tally.check("nginx has nothing but /api/", outcome.stdout == b"404", outcome)
+    check_restarts(tally)
+    check_stuck(tally)
+
+
+def statuses_through(port, trust, bodies, is_over):
+    """The statuses of requests through nginx, one after the other over kept connections, until it is over."""
+    context = ssl.create_default_context(cafile=trust)
+    statuses = Counter()
+    client = http.client.HTTPSConnection("localhost", port, context=context, timeout=SECONDS)
+    for body in cycle(bodies):
+        if is_over():
+            break
+        client.request("GET" if body is None else "POST", "/api/interpreter?data=" + quote(QUERY), body)
+        response = client.getresponse()
+        is_answer = response.read() == ANSWER
+        statuses[response.status if is_answer or response.status != 200 else "another answer"] += 1
+        if response.will_close:
+            client.close()
+        time.sleep(0.012)
+    client.close()
+    return statuses
+
+
+def check_restarts(tally):
+    """Two mirrors behind nginx are restarted in turn, and hardly a request fails: each is asked of the other one."""
+    with tempfile.TemporaryDirectory() as folder:
+        room = Path(folder)
+        room.chmod(0o755)
+        mirrors = [Server(set_file(b"F"), (), None) for _ in range(2)]
+        ports = [mirror.port for mirror in mirrors]
+        try:
+            with nginx_before(ports, room) as port, ThreadPoolExecutor() as workers:
+                ends_at = time.monotonic() + 4
+                asking = [
+                    workers.submit(statuses_through, port, room / "certificate.pem", bodies, lambda: time.monotonic() > ends_at)
+                    for bodies in ([None], [f"data={quote(QUERY)}"])
+                ]
+                for place in (0, 1, 0, 1):
+                    time.sleep(0.6)
+                    mirrors[place].process.kill()
+                    mirrors[place].ended()
+                    time.sleep(0.2)
+                    mirrors[place] = Server(set_file(b"F"), (), None, ports[place])
+                counted = sum((it.result() for it in asking), Counter())
+        finally:
+            for mirror in mirrors:
+                mirror.process.kill()
+                mirror.ended()
+        asked = counted.total()
+        holds = set(counted) <= {200, 502} and counted[200] >= asked - 3 and asked >= 200
+        tally.check("a rolling restart behind nginx", holds, dict(counted))
+
+
+@contextmanager
+def silent_mirror():
+    """A port that takes connections and never answers, and the list of those that it has taken."""
+    taken = []
+    with socket.create_server(("127.0.0.1", 0)) as listening:
+        listening.settimeout(0.05)
+        stopped = threading.Event()
+
+        def take():
+            while not stopped.is_set():
+                try:
+                    taken.append(listening.accept()[0])
+                except TimeoutError:
+                    pass
+
+        taking = threading.Thread(target=take)
+        taking.start()
+        try:
+            yield listening.getsockname()[1], taken
+        finally:
+            stopped.set()
+            taking.join()
+            for connection in taken:
+                connection.close()
+
+
+def check_stuck(tally):
+    """A request that keeps one mirror busy until nginx gives it up isn't asked of the next one as well."""
+    with tempfile.TemporaryDirectory() as folder, silent_mirror() as (one, at_one), silent_mirror() as (two, at_two):
+        room = Path(folder)
+        room.chmod(0o755)
+        with nginx_before((one, two), room, ("proxy_read_timeout 120s", "proxy_read_timeout 1s")) as port:
+            words = ["curl", "--silent", "--cacert", room / "certificate.pem", "--write-out", "%{http_code}",
+                     "--output", "/dev/null", "--data-urlencode", f"data={QUERY}", f"https://localhost:{port}/api/interpreter"]
+            outcome = run(words)
+            times = len(at_one) + len(at_two)
+            tally.check("a stuck query is asked of one mirror", (outcome.stdout, times) == (b"504", 1), outcome, times)
 
 
 def main():

@@ -44,10 +44,13 @@ impl<C: ChangeSource> Lookout for ChangeLookout<C> {
 
     /// Asks the source once for the change file of the next sequence number, and publishes its changes where it is there.
     /// A file that is refused changes nothing, and is told in one line of `errors`, but once as long as it is refused for
-    /// the same reason each time. Where the sequence is at its greatest, and in the first edition, which has none, the
-    /// source isn't asked.
+    /// the same reason each time. The source is told of a file that is refused for what it says. Where the sequence is at its
+    /// greatest, and in the first edition, which has none, the source isn't asked.
     fn look<E: Write>(&mut self, desk: &mut Desk, errors: &mut E) {
         let refusal = publish_found(self.alloc, desk, &mut self.source).err();
+        if let Some(ChangesFault::Opl(_) | ChangesFault::Apply(_)) = refusal {
+            self.source.note_refused();
+        }
         if refusal == self.told {
             return;
         }

@@ -24,4 +24,10 @@ pub trait ChangeSource {
         ensures asks { IfSome (asked self.old) (λ before. asked self.new ≡ Some (sequence ∷ before)) }
         ensures finds { IfSome (found self.old) (λ before. found self.new ≡ Some (found_in Self.Reader.remaining result ∷ before)) }
         ensures outside { IfErr result (λ fault. (fault ≡ CommandFault.Memory) ⊎ (fault ≡ CommandFault.Device)) };
+
+    /// Notes that the file which it gave last was refused for what it says: as long as that file stays as it is, it doesn't
+    /// have to be given again.
+    fn note_refused(&mut self)
+        ensures asked { asked self.new ≡ asked self.old }
+        ensures found { found self.new ≡ found self.old };
 }

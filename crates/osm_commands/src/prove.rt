@@ -11,6 +11,7 @@ use crate::command_fault::CommandFault;
 use crate::flushing_writer::FlushingWriter;
 use crate::read_snapshot::read_snapshot;
 use crate::read_whole::read_whole;
+use crate::replacing_writer::{ReplacingWriter, put_both_in_place};
 use crate::root_line::root_line;
 use crate::write_whole::write_whole;
 use osm_index::{BuildProgress, Edition};
@@ -19,7 +20,8 @@ use std::io::Read;
 
 /// Reads the input as the OPL text of a set of objects, then the query's bytes, and writes the answer, its
 /// proof and, to the output, the set's root in this edition as `publish` does. Each is written once all of them
-/// are made, in this order.
+/// are made, in this order. Answer and proof are put in their places, in this order, once both are written and before
+/// the root is.
 ///
 /// # Errors
 ///
@@ -31,7 +33,14 @@ use std::io::Read;
 /// failed the texts before it and a beginning of its own. The readers are left where they stood.
 ///
 /// Clauses that speak of the readers' bytes do so where they tell them.
-pub fn prove<R: Read, Q: Read, B: BuildProgress, A: FlushingWriter, P: FlushingWriter, W: FlushingWriter>(
+pub fn prove<
+    R: Read,
+    Q: Read,
+    B: BuildProgress,
+    A: ReplacingWriter,
+    P: ReplacingWriter,
+    W: FlushingWriter,
+>(
     alloc: Global,
     input: &mut R,
     query: &mut Q,
@@ -48,7 +57,10 @@ pub fn prove<R: Read, Q: Read, B: BuildProgress, A: FlushingWriter, P: FlushingW
         × Appends (P.contents proof.old) (P.contents proof.new) nodes
         × Appends (W.contents output.old) (W.contents output.new) (publication_line p))) }
     // Nothing is held back then.
-    ensures flushed { OnOk result ((A.is_flushed answer.new ≡ true) × (P.is_flushed proof.new ≡ true) × (W.is_flushed output.new ≡ true)) }
+    ensures flushed { OnOk result ((A.is_flushed answer.new ≡ true) × (P.is_flushed proof.new ≡ true)
+        × (W.is_flushed output.new ≡ true)) }
+    // Answer and proof are in their places.
+    ensures placed { OnOk result ((A.is_in_place answer.new ≡ true) × (P.is_in_place proof.new ≡ true)) }
     // What has an answer is answered, unless memory or a device fails, the query never ends, or the trees can't be made.
     ensures only { IfBoth (R.remaining input.old) (Q.remaining query.old) (λ file bytes. (text : List ℕ) (answer : IsAnswer file bytes text)
         → IfErr result (IsOutsideFiles answer.set edition)) }
@@ -73,5 +85,6 @@ pub fn prove<R: Read, Q: Read, B: BuildProgress, A: FlushingWriter, P: FlushingW
     let line = root_line(alloc, &proved.root)?;
     write_whole(answer, &proved.answer)?;
     write_whole(proof, &proved.proof)?;
+    put_both_in_place(answer, proof)?;
     write_whole(output, line.as_bytes())
 }

@@ -9,6 +9,7 @@ mod clean_output;
 mod change_folder;
 mod in_words;
 mod input_file;
+mod one_file;
 mod output_file;
 mod progress;
 mod watched;
@@ -18,6 +19,7 @@ use crate::clean_output::CleanOutput;
 use crate::change_folder::ChangeFolder;
 use crate::in_words::{Subject, Trouble, tell_in_words};
 use crate::input_file::InputFile;
+use crate::one_file::are_one_file;
 use crate::output_file::OutputFile;
 use crate::progress::Progress;
 use crate::watched::Watched;
@@ -108,10 +110,7 @@ fn ask_input(rt: &HostRuntime, query: &str) -> Status {
     );
     input.clear();
     building.clear();
-    let troubles = &[Trouble {
-        name: "standard input",
-        error: input.error(),
-    }];
+    let troubles = &[trouble_of("standard input", input.error())];
     report(
         rt,
         outcome,
@@ -136,10 +135,7 @@ fn publish_file(rt: &HostRuntime, file: &str, edition: Edition) -> Status {
     );
     input.clear();
     building.clear();
-    let troubles = &[Trouble {
-        name: file,
-        error: input.error(),
-    }];
+    let troubles = &[trouble_of(file, input.error())];
     report(
         rt,
         outcome,
@@ -151,7 +147,8 @@ fn publish_file(rt: &HostRuntime, file: &str, edition: Edition) -> Status {
     )
 }
 
-/// Writes the answer to the query of a file over the set of a file, and its proof, and tells the root.
+/// Writes the answer to the query of a file over the set of a file, and its proof, and tells the root. What is written may
+/// not be read as well, nor written twice: that is refused before anything is read.
 fn prove_files(
     rt: &HostRuntime,
     file: &str,
@@ -160,45 +157,78 @@ fn prove_files(
     proof_file: &str,
     edition: Edition,
 ) -> Status {
+    for other in [file, query_file, proof_file] {
+        if are_one_file(rt, answer_file, other) {
+            return refuse_one_file(rt, answer_file, other);
+        }
+    }
+    for other in [file, query_file] {
+        if are_one_file(rt, proof_file, other) {
+            return refuse_one_file(rt, proof_file, other);
+        }
+    }
+    prove_into(
+        rt,
+        file,
+        query_file,
+        &mut OutputFile::new(rt, answer_file),
+        &mut OutputFile::new(rt, proof_file),
+        edition,
+    )
+}
+
+/// How the program ends where one file has two names that a command may not have for one file.
+fn refuse_one_file(rt: &HostRuntime, name: &str, other: &str) -> Status {
+    let fault = CommandFault::Device;
+    let errors = &mut rt.stderr();
+    // Where standard error takes nothing, the status still tells.
+    let _ = writeln!(errors, "{fault}");
+    if errors.is_terminal() {
+        let _ = writeln!(errors, "{name} and {other} are one file: what is written needs a file of its own");
+    }
+    fault.status()
+}
+
+/// As `prove_files`, once the files are known to be different ones.
+fn prove_into(
+    rt: &HostRuntime,
+    file: &str,
+    query_file: &str,
+    answer: &mut OutputFile<'_>,
+    proof: &mut OutputFile<'_>,
+    edition: Edition,
+) -> Status {
     let mut input = watched_file(rt, file);
     let mut query = quiet_file(rt, query_file);
-    let mut answer = OutputFile::new(rt, answer_file);
-    let mut proof = OutputFile::new(rt, proof_file);
     let mut building = Building::new(rt);
+    let output = &mut CleanOutput::new(rt);
     let outcome = prove(
         rt.alloc(),
         &mut input,
         &mut query,
         edition,
         &mut building,
-        &mut answer,
-        &mut proof,
-        &mut CleanOutput::new(rt),
+        answer,
+        proof,
+        output,
     );
     input.clear();
     building.clear();
+    answer.discard();
+    proof.discard();
     let text = text_of_query(rt, query_file, &outcome);
     let troubles = &[
-        Trouble {
-            name: file,
-            error: input.error(),
-        },
-        Trouble {
-            name: query_file,
-            error: query.error(),
-        },
+        trouble_of(file, input.error()),
+        trouble_of(query_file, query.error()),
         answer.trouble(),
         proof.trouble(),
     ];
-    report(
-        rt,
-        outcome,
-        &Subject {
-            front: input.front(),
-            query: &text,
-            troubles,
-        },
-    )
+    let subject = &Subject {
+        front: input.front(),
+        query: &text,
+        troubles,
+    };
+    report(rt, outcome, subject)
 }
 
 /// Tells whether the answer of a file is right.
@@ -221,18 +251,9 @@ fn check_files(
         &mut rt.stdout(),
     );
     let troubles = &[
-        Trouble {
-            name: query_file,
-            error: query.error(),
-        },
-        Trouble {
-            name: answer_file,
-            error: answer.error(),
-        },
-        Trouble {
-            name: proof_file,
-            error: proof.error(),
-        },
+        trouble_of(query_file, query.error()),
+        trouble_of(answer_file, answer.error()),
+        trouble_of(proof_file, proof.error()),
     ];
     match outcome {
         Ok(verdict) => Status::from(verdict),
@@ -266,10 +287,7 @@ fn serve_file(
         Ok(snapshot) => return serve_snapshot(rt, snapshot, port, connections, changes),
         Err(fault) => fault,
     };
-    let troubles = &[Trouble {
-        name: file,
-        error: input.error(),
-    }];
+    let troubles = &[trouble_of(file, input.error())];
     report(
         rt,
         Err(fault),
@@ -307,10 +325,7 @@ fn port_refused(rt: &HostRuntime, port: u16, error: &io::Error) -> Status {
     let Ok(name) = format!(in rt.alloc(); "port {port}") else {
         return report(rt, Err(fault), &NOTHING);
     };
-    let troubles = &[Trouble {
-        name: &name,
-        error: error.raw_os_error(),
-    }];
+    let troubles = &[trouble_of(&name, error.raw_os_error())];
     report(
         rt,
         Err(fault),
@@ -396,6 +411,11 @@ fn text_of_query(rt: &HostRuntime, path: &str, outcome: &Result<(), CommandFault
         },
         _ => Vec::new(rt.alloc()),
     }
+}
+
+/// What the system said of a file or a socket of this name.
+fn trouble_of(name: &str, error: Option<i32>) -> Trouble<'_> {
+    Trouble { name, error }
 }
 
 /// No input, no query, no file.

@@ -1,21 +1,29 @@
-//! A file that is made when it is first written.
+//! A file that is written beside its place.
 
 ghost use Rattle.std.specs.Prelude.{◌≡◌, true};
 
 use crate::in_words::Trouble;
-use osm_commands::{CommandFault, FlushingWriter, flush_outcome};
-use std::fs::File;
-use std::io;
-use std::io::Write;
+use osm_commands::{CommandFault, FlushingWriter, ReplacingWriter, flush_outcome};
+use std::fs::{File, OpenOptions};
+use std::io::{ErrorKind, Write};
 use std::marker::Model;
+use std::{fs, io};
 
-/// A file that is made, or emptied, when it is first written or flushed: so a refused command leaves the file
-/// that was there. A file that can't be made is a writer that fails. Contracts see its path.
+/// How many names are tried for the file beside a place.
+const NAME_LIMIT: u32 = 100;
+
+/// A file that is made when it is first written or flushed: so a refused command leaves the file that was there. It is made
+/// beside its place, as `NAME.0.part` (or with the next number that is free), and is renamed once it is whole and on the
+/// device. So a full disk, or a program that is killed, leaves the file that was there too. What is no regular file, as a
+/// link, a pipe or a terminal, is written as it stands. A file that can't be made is a writer that fails. Contracts see its
+/// path.
 #[derive(Drop)]
 pub(crate) struct OutputFile<'a> {
     rt: &'a HostRuntime,
     path: &'a str,
     file: Option<File>,
+    /// The name that the file has until it is put in its place; none where it is there from the first.
+    aside: Option<String>,
     /// The system's number of the last failure.
     error: Option<i32>,
 }
@@ -37,6 +45,7 @@ impl<'a> OutputFile<'a> {
             rt,
             path,
             file: None,
+            aside: None,
             error: None,
         }
     }
@@ -49,12 +58,62 @@ impl<'a> OutputFile<'a> {
         }
     }
 
+    /// Removes what was written and isn't in its place.
+    pub(crate) fn discard(&mut self) {
+        if let Some(name) = self.aside.take() {
+            // Where it can't be removed, the file that was there stays all the same.
+            let _ = fs::remove_file(self.rt, &name);
+        }
+    }
+
     /// Makes the file, where it isn't made yet.
     fn make(&mut self) -> io::Result<()> {
         if self.file.is_none() {
-            let made = File::create(self.rt, self.path);
+            let made = self.made();
             self.file = Some(self.noted(made)?);
         }
+        Ok(())
+    }
+
+    /// The file, made beside its place, with the mode of the file that is there. What is no regular file is opened.
+    fn made(&mut self) -> io::Result<File> {
+        match fs::symlink_metadata(self.rt, self.path) {
+            Ok(found) if !found.is_file() => File::create(self.rt, self.path),
+            Ok(found) => {
+                let file = self.made_beside()?;
+                file.set_permissions(found.permissions())?;
+                Ok(file)
+            }
+            Err(_) => self.made_beside(),
+        }
+    }
+
+    /// A new file beside its place.
+    fn made_beside(&mut self) -> io::Result<File> {
+        for number in 0..NAME_LIMIT {
+            let name = format!(in self.rt.alloc(); "{}.{number}.part", self.path)?;
+            match new_file(self.rt, &name) {
+                Ok(file) => {
+                    self.aside = Some(name);
+                    return Ok(file);
+                }
+                Err(error) if error.kind() == ErrorKind::AlreadyExists => {}
+                Err(error) => return Err(error),
+            }
+        }
+        Err(io::Error::from(ErrorKind::AlreadyExists))
+    }
+
+    /// Puts the file in its place, once the device has it.
+    fn settle(&mut self) -> io::Result<()> {
+        let Some(name) = &self.aside else {
+            return Ok(());
+        };
+        if let Some(file) = &self.file {
+            file.sync_all()?;
+        }
+        fs::rename(self.rt, name, self.path)?;
+        self.aside = None;
         Ok(())
     }
 
@@ -67,6 +126,11 @@ impl<'a> OutputFile<'a> {
         }
         outcome
     }
+}
+
+/// A file that isn't there yet, opened for writing.
+fn new_file(rt: &HostRuntime, name: &str) -> io::Result<File> {
+    OpenOptions::new().write(true).create_new(true).open(rt, name)
 }
 
 impl Write for OutputFile<'_> {
@@ -94,5 +158,14 @@ impl FlushingWriter for OutputFile<'_> {
 
     fn flush_all(&mut self) -> Result<(), CommandFault> {
         flush_outcome(self.flush())
+    }
+}
+
+impl ReplacingWriter for OutputFile<'_> {
+    ghost is_in_place = { λ _. true };
+
+    fn put_in_place(&mut self) -> Result<(), CommandFault> {
+        let settled = self.settle();
+        flush_outcome(self.noted(settled))
     }
 }

@@ -3,6 +3,9 @@
 /// How long a client may keep its connection without sending a byte, or without taking one, in seconds.
 pub(crate) const IDLE_SECONDS: u64 = 10;
 
+/// How many bytes of an answer a client has to take in each [`IDLE_SECONDS`], once it is behind.
+pub(crate) const PACE_BYTES: u64 = 1_048_576;
+
 /// How long a client may take to send a request, from its first byte on, in seconds.
 pub(crate) const REQUEST_SECONDS: u64 = 60;
 

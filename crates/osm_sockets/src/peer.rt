@@ -3,7 +3,7 @@
 ghost use Rattle.std.specs.Prelude.{◌≤◌, IfOk, length, take};
 ghost use Rattle.osm_traffic.specs.Pieces.{IsCut};
 
-use crate::patience::{IDLE_SECONDS, LINGER_READS, LINGER_SECONDS, REQUEST_SECONDS};
+use crate::patience::{IDLE_SECONDS, LINGER_READS, LINGER_SECONDS, PACE_BYTES, REQUEST_SECONDS};
 use mio::net::TcpStream;
 use osm_traffic::give_piece;
 use std::alloc::{AllocError, Global};
@@ -42,6 +42,9 @@ pub(crate) struct Peer {
     heard: Instant,
     /// When the first byte came of a request that hasn't been answered yet.
     begun: Option<Instant>,
+    /// Since when it is behind, and how many bytes it has taken since.
+    behind_since: Option<Instant>,
+    taken: u64,
 }
 
 /// What a read of the socket found.
@@ -82,6 +85,8 @@ impl Peer {
             reads_left: LINGER_READS,
             heard: now,
             begun: None,
+            behind_since: None,
+            taken: 0,
         })
     }
 
@@ -163,16 +168,31 @@ impl Peer {
                     None
                 };
                 // Fewer bytes than given needn't be all that it takes: the next write tells.
-                self.is_behind = count < bytes.len();
+                if count < bytes.len() {
+                    self.fall_behind(now, count);
+                } else {
+                    self.is_behind = false;
+                    self.behind_since = None;
+                }
                 self.is_stuck = false;
                 Ok(count)
             }
             Err(error) => {
-                self.is_behind = true;
+                self.fall_behind(now, 0);
                 self.is_stuck = error.kind() == ErrorKind::WouldBlock;
                 Err(error)
             }
         }
+    }
+
+    /// Notes that it has taken no more than these bytes of what it was given.
+    fn fall_behind(&mut self, now: Instant, count: usize) {
+        self.is_behind = true;
+        if self.behind_since.is_none() {
+            self.behind_since = Some(now);
+            self.taken = 0;
+        }
+        self.taken = self.taken.saturating_add(count as u64);
     }
 
     /// Tells the client that nothing more comes, and tells whether it is to be read on until it closes its side too.
@@ -208,12 +228,24 @@ impl Peer {
         if self.is_leaving {
             return now.duration_since(self.heard) >= Duration::from_secs(LINGER_SECONDS);
         }
-        if now.duration_since(self.heard) >= Duration::from_secs(IDLE_SECONDS) {
+        if now.duration_since(self.heard) >= Duration::from_secs(IDLE_SECONDS) || self.is_slow(now) {
             return true;
         }
         match self.begun {
             Some(begun) => {
                 !self.is_behind && now.duration_since(begun) >= Duration::from_secs(REQUEST_SECONDS)
+            }
+            None => false,
+        }
+    }
+
+    /// Whether it takes what it is given too slowly: less than [`PACE_BYTES`] in each [`IDLE_SECONDS`], over all the time
+    /// that it has been behind.
+    fn is_slow(&self, now: Instant) -> bool {
+        match self.behind_since {
+            Some(since) => {
+                let periods = (self.taken / PACE_BYTES).saturating_add(1);
+                now.duration_since(since) >= Duration::from_secs(IDLE_SECONDS.saturating_mul(periods))
             }
             None => false,
         }

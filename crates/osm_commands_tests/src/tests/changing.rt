@@ -51,6 +51,8 @@ impl ChangeSource for Answers {
             Some(Found::Nothing) | None => Ok(None),
         }
     }
+
+    fn note_refused(&mut self) {}
 }
 
 /// A server's surroundings: where its changes and its connections come from, and its lines of errors.

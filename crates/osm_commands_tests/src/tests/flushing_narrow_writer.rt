@@ -1,4 +1,4 @@
-//! A writer that takes few bytes a call, as an outlet.
+//! A writer that takes few bytes a call, and can be flushed.
 
 ghost use Rattle.std.specs.Prelude.{true};
 
@@ -7,7 +7,7 @@ use std::io;
 use std::io::Write;
 use test_devices::NarrowWriter;
 
-/// A [`NarrowWriter`], which hands on by its flush.
+/// A [`NarrowWriter`] with a flush.
 #[derive(Drop)]
 pub(super) struct FlushingNarrowWriter {
     pub(super) writer: NarrowWriter,
