@@ -35,6 +35,7 @@ MODULES = {
     "osm_prove": ("answer_tests", "proofs"),
     "osm_check": ("answer_tests", "verdicts"),
     "osm_gate": ("answer_tests", "connections"),
+    "osm_serving": ("osm_commands_tests", "changing"),
 }
 
 # Crates whose allocations serve_test.py refuses in the program: a test is one thread, which can't wait for itself at the

@@ -7,8 +7,6 @@ use Rattle.osm_prove.specs.declared.prove_fault.ProveFault.{ProveFault}
 use Rattle.osm_prove.specs.declared.prove_fault.ProveFault.TheVariants as refusals
 use Rattle.osm_index.specs.declared.fault.IndexFault.{IndexFault}
 use Rattle.osm_index.specs.declared.fault.IndexFault.TheVariants as indexes
-use Rattle.osm_traffic.specs.declared.traffic_fault.TrafficFault.{TrafficFault}
-use Rattle.osm_traffic.specs.declared.traffic_fault.TrafficFault.TheVariants as traffic
 use Rattle.osm_commands.specs.declared.command_fault.CommandFault.{CommandFault}
 use Rattle.osm_commands.specs.declared.command_fault.CommandFault.TheVariants.{Opl, Query, Endless, Clash, TooMany, Memory, Device}
 use Rattle.osm_commands.specs.declared.status.Status.{Status}
@@ -43,9 +41,3 @@ abbrev pub fault_of_index : IndexFault → CommandFault
 fault_of_index indexes.Clash = Clash
 fault_of_index indexes.TooMany = TooMany
 fault_of_index indexes.Memory = Memory
-
--- what sockets that give no further connection are to a command: those that never end are a device
-abbrev pub fault_of_traffic : TrafficFault → CommandFault
-fault_of_traffic traffic.Memory = Memory
-fault_of_traffic traffic.Device = Device
-fault_of_traffic traffic.Endless = Device

@@ -1,6 +1,4 @@
 pub mod Ask
-pub mod ChangeFiles
-pub mod ChangeSources
 pub mod Faults
 pub mod Files
 pub mod ListeningLines

@@ -1,14 +1,13 @@
 //! Why a command isn't carried out.
 
 ghost use Rattle.std.specs.Prelude.{◌≡◌};
-ghost use Rattle.osm_commands.specs.Faults.{fault_of_index, fault_of_load, fault_of_prove, fault_of_traffic, status_of};
+ghost use Rattle.osm_commands.specs.Faults.{fault_of_index, fault_of_load, fault_of_prove, status_of};
 ghost use Rattle.osm_commands.specs.declared.command_fault.CommandFault.TheVariants.{Memory};
 
 use crate::status::Status;
 use opl_codec::{LoadFault, OplCause};
 use osm_index::IndexFault;
 use osm_prove::ProveFault;
-use osm_traffic::TrafficFault;
 use ql_syntax::QlFault;
 use std::alloc::AllocError;
 use thiserror::Error;
@@ -87,18 +86,6 @@ impl From<IndexFault> for CommandFault {
             IndexFault::Clash => CommandFault::Clash,
             IndexFault::TooMany => CommandFault::TooMany,
             IndexFault::Memory => CommandFault::Memory,
-        }
-    }
-}
-
-impl From<TrafficFault> for CommandFault {
-    ghost from_gives = { λ refused fault. fault ≡ fault_of_traffic refused };
-
-    /// Sockets that never end are a device that failed.
-    fn from(refused: TrafficFault) -> CommandFault {
-        match refused {
-            TrafficFault::Memory => CommandFault::Memory,
-            TrafficFault::Device | TrafficFault::Endless => CommandFault::Device,
         }
     }
 }

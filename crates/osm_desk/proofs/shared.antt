@@ -1,2 +1,3 @@
 -- Lemmas that crates above cite.
+pub mod FoundLemmas
 pub mod StillHeld

@@ -5,6 +5,7 @@ pub mod Faults
 pub mod Happenings
 pub mod Made
 pub mod OneConnection
+pub mod Published
 pub mod Runs
 pub mod Stepping
 pub mod Told

@@ -2,7 +2,8 @@
 //!
 //! A [`Desk`] takes one event after the other: a connection is opened, a piece of its bytes arrives, it ends, or changes
 //! are published. Each connection gets what it would get alone: the laws say so over what happens, whatever the others
-//! do in between. [`Desk::serve_on`] drives one connection over a reader and a writer.
+//! do in between. [`Desk::serve_on`] drives one connection over a reader and a writer. A [`Lookout`] looks for changes to
+//! publish.
 #![tactic(auto)]
 
 mod desk;
@@ -10,6 +11,7 @@ mod desk_fault;
 mod event;
 mod laws;
 mod limits;
+mod lookout;
 mod open_connection;
 mod serving;
 
@@ -21,3 +23,4 @@ pub use laws::{
     runs_tell_each_its_own, success_carries_the_root,
 };
 pub use limits::CONNECTION_LIMIT;
+pub use lookout::Lookout;

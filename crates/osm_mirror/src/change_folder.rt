@@ -3,7 +3,8 @@
 ghost use Rattle.std.specs.Option.{option_copied};
 ghost use Rattle.std.specs.Prelude.{◌≡◌, ◌⊎◌, IfErr, None};
 
-use osm_commands::{ChangeSource, CommandFault};
+use osm_commands::CommandFault;
+use osm_serving::ChangeSource;
 use std::fs;
 use std::fs::{File, Metadata};
 use std::io;

@@ -4,6 +4,9 @@
 //! files and its socket, tells of a fault and ends with the status.
 #![tactic(auto)]
 
+ghost use Rattle.std.specs.Prelude.{◌≡◌};
+ghost use Rattle.osm_mirror.specs.Faults.{fault_of_traffic};
+
 mod building;
 mod clean_output;
 mod change_folder;
@@ -25,17 +28,18 @@ use crate::progress::Progress;
 use crate::watched::Watched;
 use command_line::{Job, WordsFault, read_words};
 use osm_codes::explain;
-use osm_commands::{ChangeLookout, CommandFault, Status, ask, check, listening_line, prove, publish, read_snapshot};
+use osm_commands::{CommandFault, Status, ask, check, listening_line, prove, publish, read_snapshot};
 use osm_desk::Desk;
 use osm_index::Snapshot;
+use osm_keys::Edition;
+use osm_serving::ChangeLookout;
 use osm_sockets::Sockets;
-use osm_traffic::serve_many;
+use osm_traffic::{TrafficFault, serve_many};
 use std::io::{ErrorKind, IsTerminal, Write};
 use std::net::SocketAddr;
 use std::process::ExitCode;
 use std::time::Duration;
 use std::{env, fs, io};
-use osm_keys::Edition;
 use tree_node::Digest;
 
 /// How often change files are looked for while connections are kept, in milliseconds.
@@ -366,16 +370,30 @@ fn serve_over(
     let _ = write!(errors, "{line}");
     let mut desk = Desk::new(alloc, snapshot);
     let mut lookout = ChangeLookout::new(alloc, ChangeFolder::new(rt, changes));
-    serve_many(
+    match serve_many(
         alloc,
         &mut desk,
         &mut lookout,
         &mut sockets,
         connections,
         errors,
-    )?;
-    sockets.settle();
-    Ok(())
+    ) {
+        Ok(()) => {
+            sockets.settle();
+            Ok(())
+        }
+        Err(fault) => Err(fault_of_traffic(fault)),
+    }
+}
+
+/// What sockets that give no further connection are to the command: those that never end are a device that failed.
+fn fault_of_traffic(fault: TrafficFault) -> CommandFault
+    ensures { result ≡ fault_of_traffic fault }
+{
+    match fault {
+        TrafficFault::Memory => CommandFault::Memory,
+        TrafficFault::Device | TrafficFault::Endless => CommandFault::Device,
+    }
 }
 
 /// Says what a code means.

@@ -6,4 +6,3 @@ pub mod DeedLemmas
 pub mod RunLemmas
 pub mod PastLemmas
 pub mod StandLemmas
-pub mod shared

@@ -26,7 +26,7 @@ use Rattle.osm_traffic.specs.declared.traffic.Room.{Room}
 use Rattle.osm_traffic.specs.declared.traffic.Room.TheVariants.{Free}
 use Rattle.osm_traffic.specs.Entries.{Entry, Writes, brought, came, left, left_by, noted, took}
 use Rattle.osm_traffic.specs.Pieces.{IsCut}
-use Rattle.osm_traffic.specs.Published.{HasPublished, IsPublishedFrom}
+use Rattle.osm_desk.specs.Published.{HasPublished, IsPublishedFrom}
 use Rattle.osm_traffic.specs.internal.Standing.{IsOwed, Stands, Waiting}
 use Rattle.osm_traffic.proofs.DeedLemmas.{other, quiet, same}
 use Rattle.osm_traffic.proofs.MapLemmas.{get-put_other, get-put_same, get-removed_none, get-removed_other, get-removed_same, len-put_new, len-put_old, len-removed_some, removed-none}

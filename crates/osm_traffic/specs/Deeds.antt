@@ -12,7 +12,7 @@ use Rattle.osm_desk.specs.declared.desk_fault.DeskFault.{DeskFault}
 use Rattle.osm_desk.specs.declared.limits.TheConstants.{CONNECTION_LIMIT}
 use Rattle.osm_index.specs.declared.apply_fault.ApplyFault.{ApplyFault}
 use Rattle.osm_traffic.specs.Pieces.{IsCut}
-use Rattle.osm_traffic.specs.Published.{IsPublishedFrom}
+use Rattle.osm_desk.specs.Published.{IsPublishedFrom}
 use Rattle.osm_traffic.specs.Entries as entries
 use Rattle.osm_traffic.specs.Entries.{Entry, brought, came, left, took}
 use Rattle.osm_traffic.specs.declared.traffic.Room.{Room}

@@ -2,14 +2,13 @@
 //!
 //! What happens at the sockets is told one thing after the other ([`Traffic`]), and each is a step of the desk. What a
 //! connection has coming is kept for it until its socket takes it. Changes are published meanwhile, where somebody looks
-//! for them ([`Lookout`]). [`serve_many`] is the loop. The laws say what each connection gets, whatever happens, in
+//! for them ([`osm_desk::Lookout`]). [`serve_many`] is the loop. The laws say what each connection gets, whatever happens, in
 //! whatever order.
 #![tactic(auto)]
 
 mod hearing;
 mod laws;
 mod leaving;
-mod lookout;
 mod output;
 mod outputs;
 mod pieces;
@@ -20,7 +19,6 @@ mod welcome;
 mod writing;
 
 pub use laws::{each_is_handed_its_own, serving_is_a_run};
-pub use lookout::Lookout;
 pub use pieces::give_piece;
 pub use serving::serve_many;
 pub use traffic::{News, Reading, Room, Traffic, Writing};

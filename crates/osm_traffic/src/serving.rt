@@ -8,18 +8,17 @@ ghost use Rattle.osm_keys.specs.Publications.{Publication};
 ghost use Rattle.osm_index.specs.Snapshots.{HoldsPublication};
 ghost use Rattle.osm_traffic.specs.Deeds.{Deed, Serves, arrivals, desk_after, log_of};
 ghost use Rattle.osm_traffic.specs.Entries.{Entry};
-ghost use Rattle.osm_traffic.specs.Published.{TakesFound};
+ghost use Rattle.osm_desk.specs.Published.{TakesFound};
 ghost use Rattle.osm_traffic.specs.internal.Standing.{Moves, Stops};
 
 use crate::hearing::listen;
 use crate::leaving::let_go;
-use crate::lookout::Lookout;
 use crate::outputs::Outputs;
 use crate::traffic::{News, Room, Traffic};
 use crate::traffic_fault::TrafficFault;
 use crate::welcome::welcome;
 use crate::writing::hand;
-use osm_desk::{CONNECTION_LIMIT, Desk};
+use osm_desk::{CONNECTION_LIMIT, Desk, Lookout};
 use std::alloc::Global;
 use std::io::Write;
 

@@ -3,17 +3,16 @@
 ghost use Rattle.std.specs.FinMap.{len};
 ghost use Rattle.std.specs.Prelude.{◌≡◌, ◌<◌, ◌+◌, IfOk, List, OnErr, Option, if◌then◌else◌};
 ghost use Rattle.osm_traffic.specs.Entries.{Entry, noted, came};
-ghost use Rattle.osm_traffic.specs.Published.{TakesFound};
+ghost use Rattle.osm_desk.specs.Published.{TakesFound};
 ghost use Rattle.osm_traffic.specs.internal.Standing.{Moves, Stops};
 
 use crate::leaving::tell;
-use crate::lookout::Lookout;
 use crate::output::Output;
 use crate::outputs::Outputs;
 use crate::traffic::Traffic;
 use crate::traffic_fault::TrafficFault;
 use crate::writing::hand;
-use osm_desk::{CONNECTION_LIMIT, Desk};
+use osm_desk::{CONNECTION_LIMIT, Desk, Lookout};
 use osm_gate::GateFault;
 use std::alloc::AllocError;
 use std::io::Write;

@@ -5,9 +5,10 @@ ghost use Rattle.std.specs.Prelude.{◌≡◌, IfOk, None};
 
 use super::ALL_KINDS;
 use super::serving::Inputs;
-use osm_commands::{ChangeSource, CommandFault, read_snapshot, serve_desk};
+use osm_commands::{CommandFault, read_snapshot};
 use osm_desk::Desk;
 use osm_index::{Edition, Unwatched};
+use osm_serving::{ChangeSource, serve_desk};
 use std::alloc::{AllocError, Global};
 use std::collections::VecDeque;
 use std::io::Cursor;

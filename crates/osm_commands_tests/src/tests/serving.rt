@@ -3,8 +3,9 @@
 ghost use Rattle.std.specs.Prelude.{None};
 
 use super::ALL_KINDS;
-use osm_commands::{CommandFault, Listener, listening_line, read_snapshot, serve};
+use osm_commands::{CommandFault, listening_line, read_snapshot};
 use osm_index::{Edition, Snapshot, Unwatched};
+use osm_serving::{Listener, serve};
 use std::alloc::{AllocError, Global};
 use std::collections::VecDeque;
 use std::io::{Cursor, Write};

@@ -1,7 +1,7 @@
 //! A lookout that finds nothing.
 
 use osm_desk::Desk;
-use osm_traffic::Lookout;
+use osm_desk::Lookout;
 use std::io::Write;
 
 /// Finds no changes.

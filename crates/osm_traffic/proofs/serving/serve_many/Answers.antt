@@ -1,5 +1,5 @@
 use Rattle.std.proofs.Common.{◌≡◌, ◌∙◌, ◌+◌, [], ap, sym, refl, arith, rules}
-use Rattle.osm_traffic.proofs.shared.FoundLemmas.{found_after, none_found}
+use Rattle.osm_desk.proofs.shared.FoundLemmas.{found_after, none_found}
 use Rattle.osm_traffic.proofs.StandLemmas.{moved}
 use Rattle.std.specs.Prelude.{if◌then◌else◌}
 use Rattle.osm_desk.specs.Desks.{fresh}

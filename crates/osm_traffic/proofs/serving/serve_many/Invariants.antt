@@ -5,7 +5,7 @@ use Rattle.osm_keys.specs.Publications.{Publication}
 use Rattle.osm_index.specs.Snapshots.{HoldsPublication}
 use Rattle.osm_traffic.specs.Deeds.{Deed}
 use Rattle.osm_traffic.specs.Entries.{Entry}
-use Rattle.osm_traffic.specs.Published.{TakesFound}
+use Rattle.osm_desk.specs.Published.{TakesFound}
 use Rattle.osm_traffic.specs.internal.Standing.{Stands}
 use Rattle.osm_traffic.proofs.serving.serve_many.Given as goal
 

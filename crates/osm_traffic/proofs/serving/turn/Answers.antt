@@ -1,5 +1,5 @@
 use Rattle.std.proofs.Common.{refl}
-use Rattle.osm_traffic.proofs.shared.FoundLemmas.{none_found}
+use Rattle.osm_desk.proofs.shared.FoundLemmas.{none_found}
 use Rattle.osm_traffic.proofs.StandLemmas.{looked}
 use Rattle.osm_traffic.proofs.serving.turn.Goals as goal
 

@@ -2,7 +2,7 @@ use Rattle.std.proofs.Common.{◌∙◌, ◌<◌, ◌+◌, ap, sym, refl, subst}
 use Rattle.std.specs.FinMap.{len}
 use Rattle.osm_desk.specs.Desks.{Connections}
 use Rattle.osm_traffic.specs.Entries.{taken_by}
-use Rattle.osm_traffic.proofs.shared.FoundLemmas.{found_kept, none_found}
+use Rattle.osm_desk.proofs.shared.FoundLemmas.{found_kept, none_found}
 use Rattle.osm_traffic.proofs.StandLemmas.{looked, moved, on_err_any}
 use Rattle.osm_traffic.proofs.welcome.welcome.Goals as goal
 

@@ -1,0 +1,25 @@
+//! Changes that are published meanwhile.
+
+ghost use Rattle.std.specs.Prelude.{◌≡◌, List, Option};
+ghost use Rattle.osm_keys.specs.Publications.{Publication};
+ghost use Rattle.osm_index.specs.Snapshots.{HoldsPublication};
+ghost use Rattle.osm_desk.specs.Published.{Found, HasPublished, TakesFound};
+
+use crate::desk::Desk;
+use std::io::Write;
+
+/// Looks for changes, and publishes what it finds.
+pub trait Lookout {
+    /// What it has found so far, the last one first, where it tells.
+    ghost found: { Self → Option (List Found) };
+
+    /// Looks for changes once, and publishes them at the desk where there are some. Changes that are refused are told in
+    /// one line of `errors`, and what was in force stays.
+    fn look<E: Write>(&mut self, desk: &mut Desk, errors: &mut E)
+        // What is in force is as before, or what changes that a file holds make of it:
+        ensures in_force { (p : Publication) → HoldsPublication desk.old.snapshot p → HasPublished p desk.new.snapshot }
+        // those that were found.
+        ensures found { TakesFound (found self.old) (found self.new) desk.old.snapshot desk.new.snapshot }
+        // All connections stay.
+        ensures connections { desk.new.connections ≡ desk.old.connections };
+}

@@ -1,0 +1,2 @@
+pub mod ChangeFiles
+pub mod ChangeSources

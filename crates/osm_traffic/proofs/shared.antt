@@ -1,2 +1,0 @@
--- Lemmas that crates above cite.
-pub mod FoundLemmas
