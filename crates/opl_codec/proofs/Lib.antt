@@ -1,6 +1,5 @@
 pub mod shared
 pub mod ReadPieces
-pub mod Cuts
 pub mod ReadFields
 pub mod ReadCoordinates
 pub mod KeyOrder

@@ -2,7 +2,7 @@
 use Rattle.std.proofs.Common.{◌≡◌, ◌≢◌, ℕ, ◌+◌, ◌-◌, ◌<◌, ◌≤◌, List, [], ◌∷◌, ◌++◌, length, true, false, if◌then◌else◌, refl, sym, ◌∙◌, ap, subst, arith, append-nil, append_assoc, length-append}
 use Rattle.std.specs.List.{filter}
 use Rattle.std.proofs.lemmas.List.Elements.{filter-append}
-use Rattle.opl_codec.specs.Fields.{onto_first}
+use Rattle.byte_io.specs.Pieces.{onto_first}
 use Rattle.opl_codec.specs.LineFields.{is_blank, is_some_text, between_blanks, fields, FieldAt}
 use Rattle.opl_codec.specs.internal.FieldCuts.{AreBlanks, HasNoBlank, StartsBlank, IsNextField, HasRead}
 

@@ -2,7 +2,7 @@
 use Rattle.std.proofs.Common.{◌≡◌, ℕ, List, [], ◌∷◌, ◌++◌, Option, None, Some, Result, Ok, Err, refl, sym, ◌∙◌, ap, inl, inr, append_assoc, append-nil}
 use Rattle.std.specs.Prelude.{IfErr, MatchResult}
 use Rattle.std.specs.Io.KnownBytes.{Consumes, IsAtEnd, Keeps, prepend_known}
-use Rattle.opl_codec.specs.Fields.{Lacks, pieces}
+use Rattle.byte_io.specs.Pieces.{Lacks, pieces}
 use Rattle.opl_codec.specs.LineChanges.{IsSkipped, Spells}
 use Rattle.opl_codec.specs.LineFaults.{StandsAt}
 use Rattle.opl_codec.specs.internal.Buffering.{IsFaultOf}

@@ -6,7 +6,8 @@ use Rattle.osm_model.specs.declared.axis.Axis.TheVariants as axes
 use Rattle.osm_model.specs.declared.kind.Kind.{Kind}
 use Rattle.osm_model.specs.Limits.{IsShort}
 use Rattle.osm_model.specs.declared.limits.TheConstants.{LIST_LIMIT}
-use Rattle.opl_codec.specs.Fields.{field, letter_of, onto_first, pieces}
+use Rattle.byte_io.specs.Pieces.{onto_first, pieces}
+use Rattle.opl_codec.specs.Fields.{field, letter_of}
 use Rattle.opl_codec.specs.LineFaults.{FieldFault}
 use Rattle.opl_codec.specs.LineLetters.{letter_byte, belongs}
 use Rattle.opl_codec.specs.LineParts.{AreTags, IsMissing, IsSpelled, Says}

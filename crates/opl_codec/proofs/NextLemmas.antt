@@ -2,7 +2,7 @@
 use Rattle.std.proofs.Common.{◌≡◌, ℕ, ◌+◌, List, [], ◌∷◌, ◌++◌, length, length-append, arith, Option, None, Some, Result, Ok, Err, ◌⊎◌, inl, inr, true, refl, sym, ◌∙◌, subst, append_assoc, append-nil}
 use Rattle.std.specs.List.{AllByRecursion}
 use Rattle.std.proofs.KnownBytes.{Consumes-trans}
-use Rattle.opl_codec.specs.Fields.{pieces}
+use Rattle.byte_io.specs.Pieces.{pieces}
 use Rattle.opl_codec.specs.LineChanges.{IsSkipped}
 use Rattle.opl_codec.specs.LineReads.{AreEnded, Ends, IsEnd, IsWholeLine, LinePlace, Says, Stops, Takes, no_memory}
 use Rattle.opl_codec.specs.internal.Buffering.{SkippedTo, StopsNext, TakesLine}

@@ -1,6 +1,6 @@
 -- The pieces of a text that is longer by another.
 use Rattle.std.proofs.Common.{◌≡◌, ◌≢◌, ℕ, List, [], ◌∷◌, ◌++◌, true, false, ◌==◌, if◌then◌else◌, refl, sym, ◌∙◌, ap}
-use Rattle.opl_codec.specs.Fields.{pieces, onto_first}
+use Rattle.byte_io.specs.Pieces.{pieces, onto_first}
 use Rattle.opl_codec.proofs.ReadPieces.{some_piece}
 
 -- the last piece of the first text goes on with the first piece of the second

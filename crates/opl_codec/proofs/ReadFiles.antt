@@ -5,7 +5,8 @@ use Rattle.std.specs.List.{AllByRecursion}
 use Rattle.std.proofs.KnownBytes.{Consumes-nil, prepend_known-nil}
 use Rattle.osm_model.specs.Elements.{Element}
 use Rattle.osm_model.specs.Sets.{HasDistinctReferences}
-use Rattle.opl_codec.specs.Fields.{Each, pieces}
+use Rattle.byte_io.specs.Pieces.{pieces}
+use Rattle.opl_codec.specs.Fields.{Each}
 use Rattle.opl_codec.specs.Files.{IsAtFault, IsNoChange, PutSet, SpellsChanges, StopsAt, StopsChanges, StopsFile, spoken_of}
 use Rattle.opl_codec.specs.LineReads.{AreEnded, AreSkipped, Ends, IsEnd, IsRefused, IsUnread, IsWholeLine, LinePlace, Says, Stops, StopsLine, Takes, no_memory}
 use Rattle.opl_codec.specs.LineChanges.{IsSkipped, Spells, SpellsObject}

@@ -12,7 +12,8 @@ use Rattle.osm_model.specs.Sets.{HasDistinctReferences, IsObjectSet}
 use Rattle.osm_model.specs.declared.reference.Ref.{Ref}
 use Rattle.osm_model.proofs.shared.References.{refs_total}
 use Rattle.osm_model.proofs.shared.UniqueTags.{same_order}
-use Rattle.opl_codec.specs.Fields.{Each, pieces}
+use Rattle.byte_io.specs.Pieces.{pieces}
+use Rattle.opl_codec.specs.Fields.{Each}
 use Rattle.opl_codec.specs.Files.{HoldsChanges, HoldsSet, IsAtFault, IsCutOff, IsReaderOrMemory, PutSet, SpellsChanges, StopsChanges, StopsFile, spoken_of}
 use Rattle.opl_codec.specs.LineReads.{IsRefused, IsUnread, no_memory}
 use Rattle.opl_codec.specs.LineChanges.{IsSkipped, Spells, SpellsObject}

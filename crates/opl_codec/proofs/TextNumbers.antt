@@ -7,7 +7,8 @@ use Rattle.std.proofs.lemmas.Int.{ints}
 use Rattle.std.proofs.lemmas.Bool.Decides.{nat_tests}
 use Rattle.osm_model.specs.Degrees.{IsDegrees, IsFraction, sign, point}
 use Rattle.osm_model.proofs.shared.OneNumeral.{decimal_digits}
-use Rattle.opl_codec.specs.Fields.{IsInteger, Lacks}
+use Rattle.byte_io.specs.Pieces.{Lacks}
+use Rattle.opl_codec.specs.Fields.{IsInteger}
 use Rattle.opl_codec.proofs.TextPieces.{lacks_append, digits_lack}
 
 -- a whole number's text spells it

@@ -11,7 +11,7 @@ use Rattle.std.proofs.Math.Nat.{pow-succ', one-le-pow, mod-eq_of_lt, add-mul, mu
 use lib.Utf8.{scalar, scalars, encodes, scalar_cases}
 use Rattle.osm_model.specs.CanonicalLine.{is_literal, hex, hex_digits, hex_places, escaped, escaped_char}
 use Rattle.osm_model.specs.Limits.{HasNoNul}
-use Rattle.opl_codec.specs.Fields.{Lacks}
+use Rattle.byte_io.specs.Pieces.{Lacks}
 use Rattle.opl_codec.specs.Texts.{is_free, IsEscape, SpellsText}
 use Rattle.osm_model.proofs.shared.Each.{all_append}
 use Rattle.opl_codec.proofs.TextsJoined.{spells_none, spells_byte, spells_escape, spells_append}

@@ -5,7 +5,8 @@ use Rattle.std.specs.List.{AllByRecursion}
 use Rattle.std.proofs.lemmas.Bool.{eqb-true}
 use Rattle.osm_model.specs.Bytes.{comma}
 use Rattle.osm_model.specs.declared.limits.TheConstants.{LIST_LIMIT}
-use Rattle.opl_codec.specs.Fields.{pieces, Each}
+use Rattle.byte_io.specs.Pieces.{pieces}
+use Rattle.opl_codec.specs.Fields.{Each}
 use Rattle.opl_codec.specs.Values.{items}
 use Rattle.opl_codec.specs.ValueFaults.{ListFault, further_by, items_len, IsSpelled, IsTooLong}
 use Rattle.opl_codec.specs.declared.value_fault.ValueFault.{ValueFault}

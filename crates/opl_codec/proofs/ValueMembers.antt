@@ -5,7 +5,7 @@ use Rattle.osm_model.specs.CanonicalLine.{kind_letter}
 use Rattle.osm_model.specs.declared.kind.Kind.{Kind}
 use Rattle.osm_model.specs.declared.kind.Kind.TheVariants as kinds
 use Rattle.osm_model.specs.declared.reference.Ref.{Ref}
-use Rattle.opl_codec.specs.Fields.{Lacks}
+use Rattle.byte_io.specs.Pieces.{Lacks}
 use Rattle.opl_codec.specs.Members.{SpellsReference, HasTarget, MemberFault}
 use Rattle.opl_codec.specs.ValueFaults.{TextFault, further_by}
 use Rattle.opl_codec.specs.declared.value_fault.ValueFault.{ValueFault}

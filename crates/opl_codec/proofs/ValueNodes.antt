@@ -7,7 +7,8 @@ use Rattle.std.proofs.lemmas.Bool.{eqb-true}
 use Rattle.std.proofs.lemmas.Bool.Decides.{nat_tests}
 use Rattle.osm_model.specs.Degrees.{sign, IsDigits}
 use Rattle.osm_model.specs.Letters.{longitude_letter, node_letter}
-use Rattle.opl_codec.specs.Fields.{Lacks, IsInteger}
+use Rattle.byte_io.specs.Pieces.{Lacks}
+use Rattle.opl_codec.specs.Fields.{IsInteger}
 use Rattle.opl_codec.specs.Values.{SpellsNode, SpellsNumber}
 use Rattle.opl_codec.specs.ValueFaults.{IsLocated}
 

@@ -1,23 +1,8 @@
 -- How a line is cut into fields, apart from how it is read.
 -- Source: Osmium's OPL manual: fields in any order, each with a letter.
-use Rattle.std.specs.Prelude.{◌≡◌, ℕ, ℤ, Bool, false, ◌==◌, if◌then◌else◌, List, [], ◌∷◌, ◌++◌, Option, Some, None, ⊤}
-use Rattle.std.specs.List.{AllByRecursion}
+use Rattle.std.specs.Prelude.{◌≡◌, ℕ, ℤ, Bool, ◌==◌, if◌then◌else◌, List, [], ◌∷◌, ◌++◌, Option, Some, None, ⊤}
 use Rattle.std.specs.Str.Parse.{digits_value}
 use Rattle.osm_model.specs.Degrees.{sign, with_sign, IsDigits}
-
--- a byte put in front of the first piece
-abbrev pub onto_first : ℕ → List (List ℕ) → List (List ℕ)
-onto_first byte [] = (byte ∷ []) ∷ []
-onto_first byte (piece ∷ pieces) = (byte ∷ piece) ∷ pieces
-
--- what comes before, between and after the separators
-abbrev pub pieces : ℕ → List ℕ → List (List ℕ)
-pieces separator [] = [] ∷ []
-pieces separator (byte ∷ bytes) = if byte == separator then [] ∷ pieces separator bytes else onto_first byte (pieces separator bytes)
-
--- the byte doesn't come in the text
-abbrev pub Lacks : ℕ → List ℕ → Type 0
-Lacks byte text = AllByRecursion (λ other. (other == byte) ≡ false) text
 
 -- the letter of a field, 0 where there is none
 abbrev pub letter_of : List ℕ → ℕ

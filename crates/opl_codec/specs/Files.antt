@@ -7,7 +7,8 @@ use Rattle.osm_model.specs.Bytes.{line_feed}
 use Rattle.osm_model.specs.Elements.{Element}
 use Rattle.osm_model.specs.Sets.{HasDistinctReferences, IsObjectSet}
 use Rattle.osm_model.specs.declared.reference.Ref.{Ref}
-use Rattle.opl_codec.specs.Fields.{pieces, Each}
+use Rattle.byte_io.specs.Pieces.{pieces}
+use Rattle.opl_codec.specs.Fields.{Each}
 use Rattle.opl_codec.specs.LineChanges.{is_skipped, Spells, SpellsObject}
 use Rattle.opl_codec.specs.LineReads.{IsRefused, IsUnread}
 use Rattle.opl_codec.specs.declared.cause.OplCause.{OplCause}

@@ -2,7 +2,6 @@ pub mod Fields
 pub mod Files
 pub mod Refusals
 pub mod Text
-pub mod PieceReads
 pub mod LineReads
 pub mod LineReaders
 pub mod internal

@@ -3,7 +3,7 @@
 -- and that there may be several blanks, is this project's.
 use Rattle.std.specs.Prelude.{◌≡◌, ◌≢◌, ℕ, Bool, true, false, ◌==◌, ◌||◌, if◌then◌else◌, List, [], ◌∷◌, ◌++◌, length, filter}
 use Rattle.osm_model.specs.Bytes.{carriage_return, hash, space, tab}
-use Rattle.opl_codec.specs.Fields.{onto_first}
+use Rattle.byte_io.specs.Pieces.{onto_first}
 
 -- a space or a tab
 abbrev pub is_blank : ℕ → Bool

@@ -4,7 +4,7 @@ use Rattle.std.specs.Prelude.{◌≡◌, ℕ, Bool, true, ◌+◌, ◌<◌, ◌�
 use Rattle.std.specs.List.{AllByRecursion}
 use Rattle.std.specs.Io.KnownBytes.{Consumes, IsAtEnd}
 use Rattle.osm_model.specs.Bytes.{line_feed}
-use Rattle.opl_codec.specs.Fields.{pieces}
+use Rattle.byte_io.specs.Pieces.{pieces}
 use Rattle.opl_codec.specs.LineChanges.{IsSkipped, Spells}
 use Rattle.opl_codec.specs.LineFaults.{StandsAt}
 use Rattle.opl_codec.specs.declared.cause.OplCause.TheVariants as causes

@@ -12,7 +12,8 @@ use Rattle.osm_model.specs.Moments.{Moment, IsMoment}
 use Rattle.osm_model.specs.declared.axis.Axis.{Axis}
 use Rattle.osm_model.specs.declared.limits.TheConstants.{LIST_LIMIT}
 use Rattle.osm_model.specs.declared.tag.Tag.{Tag}
-use Rattle.opl_codec.specs.Fields.{pieces, Each, IsInteger}
+use Rattle.byte_io.specs.Pieces.{pieces}
+use Rattle.opl_codec.specs.Fields.{Each, IsInteger}
 use Rattle.opl_codec.specs.Texts.{SpellsText}
 
 -- ---- numbers, moments, coordinates

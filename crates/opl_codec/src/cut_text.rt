@@ -1,7 +1,7 @@
 //! Texts that are UTF-8, cut at the ASCII byte that separates their parts.
 
 ghost use Rattle.std.specs.Prelude.{◌≡◌, ◌+◌, ◌<◌, ◌∷◌, [], length, MatchOption, slice_index, IsTrue, ◌↔◌};
-ghost use Rattle.opl_codec.specs.Fields.{pieces};
+ghost use Rattle.byte_io.specs.Pieces.{pieces};
 
 use memchr::memchr;
 

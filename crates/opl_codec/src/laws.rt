@@ -8,11 +8,10 @@ ghost use Rattle.osm_model.specs.Elements.{Element};
 ghost use Rattle.osm_model.specs.Limits.{IsElement, HasNoNul};
 ghost use Rattle.osm_model.specs.CanonicalLine.{canonical_line, escaped};
 ghost use Rattle.opl_codec.specs.Canonical.{IsCanonicalNumber, IsCanonicalText, IsCanonicalVersion};
-ghost use Rattle.opl_codec.specs.Fields.{pieces};
+ghost use Rattle.byte_io.specs.Pieces.{pieces};
 ghost use Rattle.opl_codec.specs.LineChanges.{Spells};
 ghost use Rattle.opl_codec.specs.Text.{text_of};
 ghost use Rattle.opl_codec.specs.declared.line.TheConstants.{LONGEST_LINE};
-ghost use Rattle.opl_codec.specs.declared.piece_reader.TheConstants.{PIECE_LIMIT, READ_LIMIT};
 
 use crate::change::Change;
 use osm_model::OutMode;
@@ -49,10 +48,7 @@ pub fn one_escaped_text()
     ensures only { (spelled text : List ℕ) → IsCanonicalText spelled text → spelled ≡ escaped text }
 {}
 
-/// A law: the limits of a line and of reading a file, as numbers: the bytes of a line without its LF, the bytes of
-/// a piece, and the reads of a file.
+/// A law: the limit of a line as a number, in bytes, without its LF. Those of reading a file are `byte_io`'s.
 pub fn limits_law()
-    ensures line { LONGEST_LINE ≡ 2 ^ 25 }
-    ensures piece { PIECE_LIMIT ≡ 65536 }
-    ensures reads { READ_LIMIT ≡ 2 ^ 32 }
+    ensures { LONGEST_LINE ≡ 2 ^ 25 }
 {}

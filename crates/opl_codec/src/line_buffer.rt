@@ -2,7 +2,7 @@
 
 ghost use Rattle.std.specs.Prelude.{◌≡◌, ◌≢◌, ◌+◌, ◌<◌, ◌≤◌, ◌++◌, ◌∷◌, ◌⊎◌, [], List, ℕ, None, length, drop, take, MatchOption, IfOk, IfErr, OnOk, Ok, ◌^◌, Option, false, true};
 ghost use Rattle.std.specs.Io.KnownBytes.{Consumes, IsAtEnd, Keeps};
-ghost use Rattle.opl_codec.specs.Fields.{pieces};
+ghost use Rattle.byte_io.specs.Pieces.{pieces};
 ghost use Rattle.opl_codec.specs.LineReads.{IsNext, IsRefused, IsTooLong, IsUnread, no_memory};
 ghost use Rattle.opl_codec.specs.LineReaders.{place, unread};
 ghost use Rattle.opl_codec.specs.internal.Buffering.{GoesOn, IsFaultOf, IsSound, IsStep, SaysOrSkipped};
@@ -13,8 +13,7 @@ use crate::cause::OplCause;
 use crate::change::Change;
 use crate::fault::{LoadFault, OplFault};
 use crate::line::{LONGEST_LINE, read_line};
-use crate::piece_reader::{PieceFault, PieceReader};
-use crate::separator::cut;
+use byte_io::{PieceFault, PieceReader, split_once};
 use std::alloc::{AllocError, Global};
 use std::io::Read;
 
@@ -117,7 +116,7 @@ impl LineBuffer {
         ensures { MatchOption result (pieces 10 (unread self.now) ≡ unread self.now ∷ [])
             (λ len. (line : List ℕ) × (rest : List ℕ) × (unread self.now ≡ line ++ 10 ∷ rest) × (len ≡ length line) × (pieces 10 line ≡ line ∷ [])) }
     {
-        match cut(self.unread(), b'\n') {
+        match split_once(self.unread(), b'\n') {
             Some((line, _)) => Some(line.len()),
             None => None,
         }

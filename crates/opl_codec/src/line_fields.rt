@@ -19,7 +19,11 @@ use osm_model::Ref;
 use std::alloc::Global;
 
 /// The object that a line names, and what its further fields say; the text is the line's content.
-pub(crate) fn read_parts(alloc: Global, line: &[u8], text: &str) -> Result<(Ref, LineParts), OplFault>
+pub(crate) fn read_parts(
+    alloc: Global,
+    line: &[u8],
+    text: &str,
+) -> Result<(Ref, LineParts), OplFault>
     requires of_line { text.now ≡ content line.now }
     requires short { length line.now ≤ LONGEST_LINE }
     ensures read { IfOk result (λ p. AreRead text.now p.0 p.1) }

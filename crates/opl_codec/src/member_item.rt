@@ -11,9 +11,9 @@ use crate::kind_letter::kind_of;
 use crate::list_item::{ListItem, read_list, shifted_by};
 use crate::make_text::make_text;
 use crate::number::read_number;
-use crate::separator::cut;
 use crate::text_len::check_text;
 use crate::value_fault::ValueFault;
+use byte_io::split_once;
 use osm_model::{Member, Ref, TEXT_LIMIT};
 use std::alloc::Global;
 
@@ -78,7 +78,7 @@ fn cut_target(spelled: &str) -> Option<(Ref, &str)>
     ensures { MatchOption result ((role : List ℕ) (place : ℕ) → HasTarget spelled.now role place → ⊥)
         (λ parts. (target : List ℕ) × (spelled.now ≡ target ++ at_sign ∷ parts.1.now) × SpellsReference target parts.0) }
 {
-    let Some((text, _)) = cut(spelled.as_bytes(), b'@') else {
+    let Some((text, _)) = split_once(spelled.as_bytes(), b'@') else {
         return None;
     };
     let Some(target) = read_reference(text) else {

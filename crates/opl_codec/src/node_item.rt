@@ -8,8 +8,8 @@ ghost use Rattle.opl_codec.specs.ValueFaults.{IsLocated, NodesFault};
 
 use crate::list_item::{ListItem, read_list};
 use crate::number::read_number;
-use crate::separator::cut;
 use crate::value_fault::ValueFault;
+use byte_io::split_once;
 use std::alloc::Global;
 
 /// The nodes of a text, in their order.
@@ -51,7 +51,7 @@ impl ListItem for i64 {
 fn is_located(text: &[u8]) -> bool
     ensures { IsTrue result ↔ IsLocated (node_letter ∷ text.now) }
 {
-    match cut(text, b'x') {
+    match split_once(text, b'x') {
         Some((digits, _)) => read_number(digits).is_some(),
         None => false,
     }

@@ -1,7 +1,6 @@
 -- What decimal text says in 1e-7 degree, apart from how it is read or written.
 -- Source: degrees as Osmium's OPL manual and the OpenStreetMap API 0.6 spell them; without exponents (this project).
 use Rattle.std.specs.Prelude.{◌≡◌, ◌≢◌, ℕ, ◌-◌, ◌*◌, ◌^◌, ◌<◌, ◌≤◌, ℤ, pos, neg_ℤ, unsigned_abs, Bool, true, false, List, [], ◌∷◌, ◌++◌, length, Option, Some, None, ⊤}
-use Rattle.std.specs.Char.{digit_value}
 use Rattle.std.specs.Str.Parse.{AllDigits, digits_value}
 use Rattle.osm_model.specs.Bytes.{hyphen, dot}
 use Rattle.osm_model.specs.declared.axis.Axis.{Axis}
@@ -84,8 +83,3 @@ IsFault text axis ObjectTwice = ⊥
 IsFault text axis KeyTwice = ⊥
 IsFault text axis LimitPassed = ⊥
 IsFault text axis NulInText = ⊥
-
--- a digit doesn't come first
-abbrev pub BeginsOtherwise : List ℕ → Type 0
-BeginsOtherwise [] = ⊤
-BeginsOtherwise (byte ∷ bytes) = 10 ≤ digit_value byte

@@ -1,9 +1,10 @@
 //! The parts of decimal text.
 
-ghost use Rattle.std.specs.Prelude.{◌≡◌, ◌≤◌, ℕ, IsTrue, ◌↔◌, length, take, drop, Option, IfSome, IfNone, List, ◌++◌};
-ghost use Rattle.std.specs.Str.Parse.{AllDigits};
-ghost use Rattle.osm_model.specs.Degrees.{Decimal, Spells, BeginsOtherwise, decimals, IsDigits, IsFraction, point};
+ghost use Rattle.std.specs.Prelude.{◌≡◌, IsTrue, ◌↔◌, Option, IfSome, IfNone, List, ℕ, ◌++◌};
+ghost use Rattle.osm_model.specs.Degrees.{Decimal, Spells, decimals, IsDigits, IsFraction, point};
 ghost use Rattle.osm_model.specs.DecimalParts.{decimal_of, fraction_of};
+
+use byte_io::digits_len;
 
 /// The parts of a decimal, in its text.
 #[derive(Clone, Copy, Debug)]
@@ -38,8 +39,11 @@ pub(crate) fn split(text: &[u8]) -> Option<Parts<'_>>
 
 /// The parts of a decimal after its sign.
 fn split_unsigned(negative: bool, text: &[u8]) -> Option<Parts<'_>>
-    ensures found { IfSome result (λ p. (p.negative ≡ negative) × IsDigits p.whole.now × IsFraction (fraction_of p.fraction) × (text.now ≡ p.whole.now ++ point (fraction_of p.fraction))) }
-    ensures none { IfNone result ((whole : List ℕ) (f : Option (List ℕ)) → IsDigits whole → IsFraction f → text.now ≡ whole ++ point f → ⊥) }
+    ensures found { IfSome result (λ p. (p.negative ≡ negative)
+        × IsDigits p.whole.now × IsFraction (fraction_of p.fraction)
+        × (text.now ≡ p.whole.now ++ point (fraction_of p.fraction))) }
+    ensures none { IfNone result ((whole : List ℕ) (f : Option (List ℕ)) → IsDigits whole
+        → IsFraction f → text.now ≡ whole ++ point f → ⊥) }
 {
     let len = digits_len(text);
     if len == 0 {
@@ -74,18 +78,4 @@ fn are_digits(text: &[u8]) -> bool
         [] => false,
         _ => digits_len(text) == text.len(),
     }
-}
-
-/// How many decimal digits a text begins with, in ASCII. Linear in them; it takes no memory.
-pub fn digits_len(text: &[u8]) -> usize
-    ensures within { result ≤ length text.now }
-    ensures digits { AllDigits 10 (take result text.now) }
-    ensures stop { BeginsOtherwise (drop result text.now) }
-{
-    for (i, byte) in text.iter().enumerate() {
-        if !byte.is_ascii_digit() {
-            return i;
-        }
-    }
-    text.len()
 }

@@ -40,7 +40,6 @@ pub use axis::Axis;
 pub use body::Body;
 pub use box_area::BoxArea;
 pub use coord::Coord;
-pub use decimal::digits_len;
 pub use degrees::{one_value, read_degrees};
 pub use degrees_text::{DegreesText, reads_back, write_degrees};
 pub use edge::{Edge, compares_as_degrees, one_decimal};

@@ -12,7 +12,7 @@ use Rattle.osm_model.specs.declared.body.Body.{Body}
 use Rattle.osm_model.specs.declared.body.Body.TheVariants.{Node, Way, Rel}
 use Rattle.osm_model.specs.declared.meta.Meta.{Meta}
 use Rattle.osm_model.specs.declared.tag.Tag.{Tag}
-use Rattle.opl_codec.specs.Fields.{Lacks, pieces}
+use Rattle.byte_io.specs.Pieces.{Lacks, pieces}
 use Rattle.opl_codec.specs.LineFields.{is_blank, is_some_text, between_blanks, fields, content}
 use Rattle.opl_codec.proofs.TextPieces.{one_piece}
 use Rattle.opl_codec.proofs.shared.CanonicalLists.{escaped_graphic, all_joined, tags_graphic, reference_graphic, nodes_graphic, members_graphic}

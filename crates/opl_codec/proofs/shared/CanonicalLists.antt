@@ -17,7 +17,8 @@ use Rattle.osm_model.specs.declared.kind.Kind.TheVariants as kinds
 use Rattle.osm_model.specs.declared.member.Member.{Member}
 use Rattle.osm_model.specs.declared.reference.Ref.{Ref}
 use Rattle.osm_model.specs.declared.tag.Tag.{Tag}
-use Rattle.opl_codec.specs.Fields.{pieces, Each, Lacks}
+use Rattle.byte_io.specs.Pieces.{pieces, Lacks}
+use Rattle.opl_codec.specs.Fields.{Each}
 use Rattle.opl_codec.specs.Members.{SpellsReference, SpellsMember, SpellsMembers}
 use Rattle.opl_codec.specs.Texts.{SpellsText}
 use Rattle.opl_codec.specs.Values.{items, SpellsTag, SpellsNode, SpellsTags, SpellsNodes}

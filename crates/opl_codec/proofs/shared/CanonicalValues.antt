@@ -17,7 +17,8 @@ use Rattle.osm_model.specs.Letters.{time_mark, zone_mark}
 use Rattle.osm_model.specs.Moments.{Moment, IsMoment}
 use Rattle.osm_model.proofs.shared.OneNumeral.{decimal_digits}
 use Rattle.osm_model.proofs.shared.ReadBack.{reads_back}
-use Rattle.opl_codec.specs.Fields.{IsInteger, Lacks}
+use Rattle.byte_io.specs.Pieces.{Lacks}
+use Rattle.opl_codec.specs.Fields.{IsInteger}
 use Rattle.opl_codec.specs.Values.{SpellsVersion, SpellsNumber, SpellsStamp, SpellsCoordinate}
 use Rattle.opl_codec.proofs.TextNumbers.{signed_decimal_spells}
 use Rattle.osm_model.proofs.shared.Each.{all_append, all_weaker}

@@ -4,7 +4,7 @@ use Rattle.osm_model.specs.Bytes.{line_feed}
 use Rattle.osm_model.specs.CanonicalLine.{canonical_line}
 use Rattle.osm_model.specs.Elements.{Element}
 use Rattle.osm_model.specs.Limits.{IsElement}
-use Rattle.opl_codec.specs.Fields.{Lacks}
+use Rattle.byte_io.specs.Pieces.{Lacks}
 use Rattle.opl_codec.specs.Text.{text_of}
 use Rattle.osm_model.specs.declared.out_mode.OutMode.TheVariants as modes
 use Rattle.opl_codec.proofs.shared.CanonicalFields.{line_lacks_line_feed}

@@ -8,7 +8,7 @@ use Rattle.std.proofs.lemmas.Bool.Decides.{nat_tests, eqb_tells}
 use Rattle.osm_model.specs.Bytes.{at_sign, carriage_return, comma, equals_sign, line_feed, percent, space, tab}
 use Rattle.osm_model.specs.CanonicalLine.{escaped}
 use Rattle.osm_model.specs.Limits.{HasNoNul}
-use Rattle.opl_codec.specs.Fields.{Lacks}
+use Rattle.byte_io.specs.Pieces.{Lacks}
 use Rattle.opl_codec.specs.Texts.{is_free, Character, Itself, Escape, IsCharacter, spelling, SpellsText, IsText, TextMisfit, BadEscapeIn}
 use Rattle.osm_model.proofs.shared.Each.{all_append, all_weaker}
 use Rattle.opl_codec.proofs.TextsParts.{StopsText, same_texts}

@@ -4,7 +4,7 @@ use Rattle.std.specs.Prelude.{◌≡◌, ℕ, ◌+◌, ◌*◌, ◌≤◌, ◌�
 use Rattle.std.specs.List.{AllByRecursion}
 use Rattle.std.specs.Io.KnownBytes.{IsAtEnd}
 use Rattle.osm_model.specs.Bytes.{line_feed}
-use Rattle.opl_codec.specs.Fields.{pieces}
+use Rattle.byte_io.specs.Pieces.{pieces}
 use Rattle.opl_codec.specs.LineChanges.{IsSkipped, Spells}
 use Rattle.opl_codec.specs.LineReaders.{unread}
 use Rattle.opl_codec.specs.LineReads.{AreEnded, IsEnd, IsRefused, IsWholeLine, LinePlace, StopsLine, Takes, no_memory}
@@ -13,7 +13,7 @@ use Rattle.opl_codec.specs.declared.fault.LoadFault.{LoadFault}
 use Rattle.opl_codec.specs.declared.fault.OplFault.{OplFault}
 use Rattle.opl_codec.specs.declared.line_buffer.LineBuffer.{LineBuffer}
 use Rattle.opl_codec.specs.declared.line_buffer.Step.{Step}
-use Rattle.opl_codec.specs.declared.piece_reader.TheConstants.{PIECE_LIMIT, READ_LIMIT}
+use Rattle.byte_io.specs.declared.piece_reader.TheConstants.{PIECE_LIMIT, READ_LIMIT}
 use Rattle.opl_codec.specs.declared.line_buffer.Step.TheVariants as steps
 
 -- what always holds of a buffer that goes on

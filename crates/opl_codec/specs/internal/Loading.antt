@@ -11,7 +11,7 @@ use Rattle.osm_model.specs.Bytes.{line_feed}
 use Rattle.osm_model.specs.Elements.{Element, ref_cmp}
 use Rattle.osm_model.specs.Sets.{HasDistinctReferences}
 use Rattle.osm_model.specs.declared.reference.Ref.{Ref}
-use Rattle.opl_codec.specs.Fields.{pieces}
+use Rattle.byte_io.specs.Pieces.{pieces}
 use Rattle.opl_codec.specs.LineReads.{AreEnded, IsEnd, LinePlace, Takes, no_memory}
 use Rattle.opl_codec.specs.LineReaders.{unread}
 use Rattle.opl_codec.specs.declared.cause.OplCause.{OplCause}

@@ -2,7 +2,7 @@ use Rattle.std.proofs.Common.{arith, ◌<◌, ◌≡◌, ℕ, List, length, get_
 use Rattle.std.specs.List.{slice_range}
 use Rattle.std.proofs.lemmas.Grind.{common_steps}
 use Rattle.std.proofs.lemmas.Str.{IsCharBoundary-after_ascii}
-use Rattle.opl_codec.proofs.ReadPieces.{cut_none, cut_some, stood}
+use Rattle.byte_io.proofs.shared.FoundPieces.{cut_none, cut_some, stood}
 use Rattle.opl_codec.proofs.cut_text.first_piece.Goals as goal
 
 pub range_from-requires : goal.range_from-requires

@@ -1,6 +1,6 @@
 use Rattle.std.proofs.Common.{◌≡◌, ◌++◌, ◌∷◌, ◌+◌, [], length, arith}
 use Rattle.osm_model.specs.Bytes.{comma}
-use Rattle.opl_codec.specs.Fields.{pieces}
+use Rattle.byte_io.specs.Pieces.{pieces}
 use Rattle.opl_codec.specs.ValueFaults.{items_len, IsSpelled}
 use Rattle.opl_codec.proofs.ReadPieces.{pieces_left}
 use Rattle.opl_codec.proofs.shared.ReadLiterals.{not_empty}

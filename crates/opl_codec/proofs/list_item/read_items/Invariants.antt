@@ -1,6 +1,6 @@
 use Rattle.std.proofs.Common.{◌≡◌, ◌++◌, ℕ, List}
 use Rattle.osm_model.specs.Bytes.{comma}
-use Rattle.opl_codec.specs.Fields.{pieces}
+use Rattle.byte_io.specs.Pieces.{pieces}
 use Rattle.opl_codec.specs.internal.ListParts.{AreFirst}
 use Rattle.opl_codec.proofs.ReadPieces.{pieces_left, left_len}
 use Rattle.opl_codec.proofs.ValueLists.{LeavesAfter}

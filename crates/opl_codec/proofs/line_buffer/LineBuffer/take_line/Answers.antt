@@ -1,10 +1,10 @@
 use Rattle.std.proofs.Common.{◌≡◌, ℕ, List, append-nil, ◌∷◌, [], ◌∙◌, ap, sym, subst, arith, length, length-append, drop}
 use Rattle.std.proofs.KnownBytes.{Consumes-trans}
 use Rattle.std.proofs.lemmas.Result.{err_from_is_err_and}
-use Rattle.opl_codec.specs.Fields.{pieces}
+use Rattle.byte_io.specs.Pieces.{pieces}
 use Rattle.std.specs.Io.KnownBytes.{Consumes, prepend_known}
 use Rattle.opl_codec.specs.declared.line_buffer.LineBuffer.{LineBuffer}
-use Rattle.opl_codec.specs.PieceReads.{PieceRead}
+use Rattle.byte_io.specs.PieceReads.{PieceRead}
 use Rattle.opl_codec.specs.LineReaders.{unread}
 use Rattle.opl_codec.proofs.LineLemmas.{buffer_filled}
 use Rattle.opl_codec.proofs.StepLemmas.{Comes, kept_line, kept_read, not_both, step_ended, step_last, step_long, step_unread}

@@ -1,6 +1,6 @@
 use Rattle.std.proofs.Common.{◌≡◌, ◌+◌, ◌-◌, ◌^◌, ◌∷◌, [], length, true}
 use Rattle.std.specs.Io.KnownBytes.{Consumes, IsAtEnd, prepend_known}
-use Rattle.opl_codec.specs.Fields.{pieces}
+use Rattle.byte_io.specs.Pieces.{pieces}
 use Rattle.opl_codec.specs.LineReaders.{unread}
 use Rattle.opl_codec.specs.internal.Buffering.{IsSound}
 use Rattle.opl_codec.proofs.line_buffer.LineBuffer.take_line.Given as goal

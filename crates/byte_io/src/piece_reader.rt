@@ -2,16 +2,16 @@
 
 ghost use Rattle.std.specs.Prelude.{◌≡◌, ◌≤◌, ◌<◌, ◌+◌, [], length, IfOk, IfErr, OnOk, OnErr, MatchBool};
 ghost use Rattle.std.specs.Io.KnownBytes.{Consumes, IsAtEnd, Keeps};
-ghost use Rattle.opl_codec.specs.declared.piece_reader.TheConstants.{PIECE_LIMIT, READ_LIMIT};
+ghost use Rattle.byte_io.specs.declared.piece_reader.TheConstants.{PIECE_LIMIT, READ_LIMIT};
 
 use std::io::Read;
 use std::marker::Model;
 
 /// The greatest number of bytes that one read asks for.
-const PIECE_LIMIT: usize = 65_536;
+pub const PIECE_LIMIT: usize = 65_536;
 
 /// The greatest number of reads of one reader.
-const READ_LIMIT: u64 = 4_294_967_296;
+pub const READ_LIMIT: u64 = 4_294_967_296;
 
 /// Why there is no next piece.
 #[derive(Clone, Copy, Debug, PartialEq, Eq)]
@@ -34,8 +34,8 @@ pub struct PieceReader {
 
 impl Model for PieceReader {
     ghost use Rattle.std.specs.Prelude.{◌≤◌, take};
-    ghost use Rattle.opl_codec.specs.PieceReads.{PieceRead};
-    ghost use Rattle.opl_codec.specs.declared.piece_reader.TheConstants.{PIECE_LIMIT, READ_LIMIT};
+    ghost use Rattle.byte_io.specs.PieceReads.{PieceRead};
+    ghost use Rattle.byte_io.specs.declared.piece_reader.TheConstants.{PIECE_LIMIT, READ_LIMIT};
 
     ghost Value = { PieceRead };
 
@@ -63,9 +63,11 @@ impl PieceReader {
     /// refused with `Endless`.
     pub fn read_next<R: Read>(&mut self, reader: &mut R) -> Result<bool, PieceFault>
         // The piece is what the reader has next.
-        ensures read { OnOk result (Consumes (R.remaining reader.old) (R.remaining reader.new) self.new.last) }
+        ensures read { OnOk result
+            (Consumes (R.remaining reader.old) (R.remaining reader.new) self.new.last) }
         // There is one, or the reader is at its end.
-        ensures more { IfOk result (λ more. MatchBool more (0 < length self.new.last) ((self.new.last ≡ []) × IsAtEnd (R.remaining reader.new))) }
+        ensures more { IfOk result (λ more. MatchBool more (0 < length self.new.last)
+            ((self.new.last ≡ []) × IsAtEnd (R.remaining reader.new))) }
         ensures counted { OnOk result (self.new.reads ≡ self.old.reads + 1) }
         ensures few { self.new.reads ≤ READ_LIMIT }
         // A refusal takes no byte of the reader, and leaves no piece.
@@ -73,7 +75,8 @@ impl PieceReader {
         ensures none { OnErr result (self.new.last ≡ []) }
         ensures short { length self.new.last ≤ PIECE_LIMIT }
         // It is refused as endless only after 2^32 reads.
-        ensures endless { IfErr result (λ fault. fault ≡ PieceFault.Endless → self.old.reads ≡ READ_LIMIT) }
+        ensures endless { IfErr result
+            (λ fault. fault ≡ PieceFault.Endless → self.old.reads ≡ READ_LIMIT) }
     {
         self.len = 0;
         if self.reads >= READ_LIMIT {

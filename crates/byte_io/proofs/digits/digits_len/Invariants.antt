@@ -1,6 +1,6 @@
 use Rattle.std.proofs.Common.{take}
 use Rattle.std.specs.Str.Parse.{AllDigits}
-use Rattle.osm_model.proofs.decimal.digits_len.Given as goal
+use Rattle.byte_io.proofs.digits.digits_len.Given as goal
 
 abbrev pub invariant-loop-i : goal.invariant-loop-i
 invariant-loop-i l = AllDigits 10 (take l.i l.text)

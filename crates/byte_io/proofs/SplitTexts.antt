@@ -1,7 +1,7 @@
 -- Texts and a byte that comes in them or doesn't, by places.
 use Rattle.std.proofs.Common.{◌≡◌, ℕ, zero, suc, ◌+◌, ◌<◌, List, [], ◌∷◌, ◌++◌, length, get_or, take, drop, Bool, true, false, ◌==◌, refl, ap, arith, add-one}
 use Rattle.std.proofs.lemmas.Bool.{eqb-true}
-use Rattle.opl_codec.specs.Fields.{Lacks}
+use Rattle.byte_io.specs.Pieces.{Lacks}
 
 false_from : (b : Bool) → (b ≡ true → ⊥) → b ≡ false
 false_from true h = absurd (h refl)
@@ -19,11 +19,11 @@ module _ (byte : ℕ) where
   lacks_before (c ∷ text) zero lt h = tt
   lacks_before (c ∷ text) (suc at) lt h = (false_from (c == byte) (h 0 (omega arith)), lacks_before text at (omega arith) (λ k below. h (suc k) (omega arith)))
 
-  cut_by : (text : List ℕ) (at : ℕ) → at < length text → get_or text at 0 ≡ byte → text ≡ take at text ++ byte ∷ drop (suc at) text
-  cut_by [] at lt e = absurd (omega arith)
-  cut_by (c ∷ text) zero lt e = ap (λ x. x ∷ text) e
-  cut_by (c ∷ text) (suc at) lt e = ap (λ t. c ∷ t) (cut_by text at (omega arith) e)
+  split_by : (text : List ℕ) (at : ℕ) → at < length text → get_or text at 0 ≡ byte → text ≡ take at text ++ byte ∷ drop (suc at) text
+  split_by [] at lt e = absurd (omega arith)
+  split_by (c ∷ text) zero lt e = ap (λ x. x ∷ text) e
+  split_by (c ∷ text) (suc at) lt e = ap (λ t. c ∷ t) (split_by text at (omega arith) e)
 
-  -- the text is cut at the byte at this place
-  pub cut_at : (text : List ℕ) (at : ℕ) → at < length text → (get_or text at 0 == byte) ≡ true → text ≡ take at text ++ byte ∷ drop (at + 1) text
-  cut_at text at lt e = rw add-one (cut_by text at lt (eqb-true (get_or text at 0) byte e))
+  -- the text is split at the byte at this place
+  pub split_at : (text : List ℕ) (at : ℕ) → at < length text → (get_or text at 0 == byte) ≡ true → text ≡ take at text ++ byte ∷ drop (at + 1) text
+  split_at text at lt e = rw add-one (split_by text at lt (eqb-true (get_or text at 0) byte e))

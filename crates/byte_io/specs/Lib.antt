@@ -1,0 +1,4 @@
+pub mod Digits
+pub mod PieceReads
+pub mod Pieces
+pub mod Written
