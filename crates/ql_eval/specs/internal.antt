@@ -16,5 +16,4 @@ pub mod Counting
 pub mod Printing
 pub mod Giving
 pub mod Told
-pub mod Uses
 pub mod Objects

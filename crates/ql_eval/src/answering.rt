@@ -13,7 +13,7 @@ ghost use Rattle.ql_eval.specs.Questions.{NeededBy};
 ghost use Rattle.ql_eval.specs.Written.{HasWritten};
 ghost use Rattle.ql_eval.specs.internal.Links.{AreAllThere};
 ghost use Rattle.ql_eval.specs.internal.Giving.{AllSetsGiven};
-ghost use Rattle.ql_eval.specs.internal.Uses.{nodes_around};
+ghost use Rattle.tree_walk.specs.Uses.{nodes_around};
 
 use crate::fault::EvalFault;
 use crate::print::print;

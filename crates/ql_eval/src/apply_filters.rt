@@ -15,7 +15,7 @@ ghost use Rattle.ql_eval.specs.internal.Links.{AreAllThere, AreThere};
 ghost use Rattle.ql_eval.specs.internal.Selecting.{IsKeptBy, IsTestAsk};
 ghost use Rattle.ql_eval.specs.internal.Narrowing.{IsNamedByAll};
 ghost use Rattle.ql_eval.specs.internal.Giving.{AllGiven, AllSetsGiven};
-ghost use Rattle.ql_eval.specs.internal.Uses.{nodes_around};
+ghost use Rattle.tree_walk.specs.Uses.{nodes_around};
 
 use crate::fault::EvalFault;
 use crate::filter_by_object::filter_by_object;

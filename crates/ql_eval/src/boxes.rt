@@ -21,7 +21,7 @@ ghost use Rattle.ql_eval.specs.Questions.{NeededBy};
 ghost use Rattle.ql_eval.specs.internal.Boxes.{IsCellsAsk, IsFoundIn};
 ghost use Rattle.ql_eval.specs.Forms.{HasForm, HaveForm};
 ghost use Rattle.ql_eval.specs.internal.Entries.{AreMisread, IsMisread, IsSaid, PlacesIn, SaysIn};
-ghost use Rattle.ql_eval.specs.internal.Uses.{nodes_around};
+ghost use Rattle.tree_walk.specs.Uses.{nodes_around};
 
 use crate::cell_entry::read_cell_entry;
 use crate::fault::EvalFault;

@@ -12,7 +12,7 @@ ghost use Rattle.ql_eval.specs.internal.Chains.{IsEnd, IsEndAsk, Leads, LeadsAsk
 ghost use Rattle.ql_eval.specs.internal.Founds.{Goes, IsConsistent};
 ghost use Rattle.ql_eval.specs.internal.Links.{AreThere};
 ghost use Rattle.ql_eval.specs.internal.Giving.{AllGiven};
-ghost use Rattle.ql_eval.specs.internal.Uses.{nodes_around};
+ghost use Rattle.tree_walk.specs.Uses.{nodes_around};
 
 use crate::fault::EvalFault;
 use crate::found::Found;

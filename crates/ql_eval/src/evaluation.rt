@@ -1,26 +1,24 @@
 //! The answer to a query, from what a shelf holds.
 
 ghost use Rattle.std.specs.Prelude.{◌≡◌, ◌-◌, ◌^◌, ◌<◌, ◌⊎◌, ℕ, Err, IfErr, IfOk, List, OnErr, OnOk, length};
-ghost use Rattle.tree_node.specs.Digests.{digest};
 ghost use Rattle.tree_node.specs.Outcomes.{EndsWell, Outcome};
 ghost use Rattle.tree_node.specs.Shelves.{HasNone, IsClashFree, SameNodes};
 ghost use Rattle.tree_walk.specs.Walked.{HasWalked};
 ghost use Rattle.tree_walk.specs.WalksGiven.{HasGiven};
-ghost use Rattle.osm_keys.specs.Manifests.{manifest_bytes, top_among};
+ghost use Rattle.osm_keys.specs.Manifests.{top_among};
 ghost use Rattle.osm_keys.specs.Publications.{IsPublication, Publication, root_of};
 ghost use Rattle.ql_syntax.specs.LawfulQueries.{IsQuery};
 ghost use Rattle.ql_syntax.specs.StatementViews.{statements_of};
-ghost use Rattle.ql_meaning.specs.Meanings.{Means};
 ghost use Rattle.ref_sets.specs.NamedSets.{nothing_named};
 ghost use Rattle.ql_eval.specs.Asks.{AskedByAll, IsNeeded};
 ghost use Rattle.ql_eval.specs.Faults.{cause_of_evaluation};
 ghost use Rattle.ql_eval.specs.Forms.{HaveForm};
-ghost use Rattle.ql_eval.specs.Openings.{HasMalformed, IsUnder};
+ghost use Rattle.ql_eval.specs.Openings.{HasMalformed, IsHeldUnder, IsUnder, nodes_after};
 ghost use Rattle.ql_eval.specs.Questions.{NeededBy};
 ghost use Rattle.ql_eval.specs.Told.{HasFault};
-ghost use Rattle.ql_eval.specs.Written.{HasWritten};
+ghost use Rattle.ql_eval.specs.Written.{HasWritten, HasWrittenMeaning};
 ghost use Rattle.ql_eval.specs.internal.Told.{IsTold};
-ghost use Rattle.ql_eval.specs.internal.Uses.{nodes_around};
+ghost use Rattle.tree_walk.specs.Uses.{nodes_around};
 
 use crate::answering::answer_all;
 use crate::fault::EvalFault;
@@ -63,32 +61,40 @@ pub fn evaluate<'a, S: Shelf<'a>, T: Sink>(
     ensures stays { SameNodes (S.holds shelf.old) (S.holds shelf.new) }
     ensures grows { (bytes : List ℕ) → S.used shelf.old bytes → S.used shelf.new bytes }
     ensures kept { T.kept sink.new ≡ T.kept sink.old }
-    ensures refused { OnErr result ((text : List ℕ) → T.stands sink.old text → T.stands sink.new text) }
+    ensures refused { OnErr result
+        ((text : List ℕ) → T.stands sink.old text → T.stands sink.new text) }
     // E4 with `Missing` where no held node has the root.
-    ensures none { HasNone (S.holds shelf.new) root.now.0 → result ≡ Err (EvalFault.Manifest ManifestFault.Missing) }
+    ensures none { HasNone (S.holds shelf.new) root.now.0
+        → result ≡ Err (EvalFault.Manifest ManifestFault.Missing) }
     // and with `Malformed` where what is held under it is no manifest, memory apart.
     ensures malformed { HasMalformed (S.holds shelf.new) root.now.0
-        → (result ≡ Err (EvalFault.Manifest ManifestFault.Malformed)) ⊎ (result ≡ Err EvalFault.Memory) }
+        → (result ≡ Err (EvalFault.Manifest ManifestFault.Malformed))
+        ⊎ (result ≡ Err EvalFault.Memory) }
     // Each fault is true of the nodes, whoever made them.
     ensures told { IfErr result (HasFault (S.holds shelf.new) (S.used shelf.new) root.now.0) }
     // Whatever the root is of, the report counts the walks and what they fetched.
-    ensures report { IfOk result (λ report. (found : Manifest) × S.holds shelf.new (manifest_bytes found) × (digest (manifest_bytes found) ≡ root.now.0)
-        × HasWalked (record { held = S.holds shelf.new; before = λ bytes. S.used shelf.old bytes ⊎ (bytes ≡ manifest_bytes found); after = S.used shelf.new }) 0 report.ranges 0 report.fetched) }
+    ensures report { IfOk result (λ report. (found : Manifest)
+        × IsHeldUnder (S.holds shelf.new) root.now.0 found
+        × HasWalked (nodes_after found S.holds S.used shelf.old shelf.new) 0 report.ranges 0 report.fetched) }
     // These walks are the report's: each gave what its nodes say, from the tops that the manifest names on, and all entries
     // that they gave are of their trees' forms.
-    ensures walks { IfOk result (λ report. (found : Manifest) × S.holds shelf.new (manifest_bytes found) × (digest (manifest_bytes found) ≡ root.now.0)
-        × HasGiven (top_among found.tops) HaveForm (record { held = S.holds shelf.new; before = λ bytes. S.used shelf.old bytes ⊎ (bytes ≡ manifest_bytes found); after = S.used shelf.new }) 0 report.ranges 0 report.fetched) }
+    ensures walks { IfOk result (λ report. (found : Manifest)
+        × IsHeldUnder (S.holds shelf.new) root.now.0 found
+        × HasGiven (top_among found.tops) HaveForm
+        (nodes_after found S.holds S.used shelf.old shelf.new) 0 report.ranges 0 report.fetched) }
     // Under the root of a publication: its answer, by just the needed nodes.
     ensures answer { (p : Publication) → IsPublication p → root.now.0 ≡ root_of p
-        → Outcome cause_of_evaluation (λ _. (text : List ℕ) × Means p.objects (statements_of query.now) text × HasWritten (T.stands sink.old) (T.stands sink.new) text)
+        → Outcome cause_of_evaluation
+        (λ _. HasWrittenMeaning p (statements_of query.now) (T.stands sink.old) (T.stands sink.new))
         (IsNeeded p (statements_of query.now))
-        (record { held = S.holds shelf.new; before = S.used shelf.old; after = S.used shelf.new }) result }
+        (nodes_around S.holds S.used shelf.old shelf.new) result }
     // Over a shelf that holds all needed nodes, memory alone refuses it, and no clash is left to speak of.
     ensures served { (p : Publication) → IsPublication p → root.now.0 ≡ root_of p
         → ((bytes : List ℕ) → IsNeeded p (statements_of query.now) bytes → S.holds shelf.new bytes)
-        → EndsWell cause_of_evaluation (λ _. (text : List ℕ) × Means p.objects (statements_of query.now) text × HasWritten (T.stands sink.old) (T.stands sink.new) text)
+        → EndsWell cause_of_evaluation
+        (λ _. HasWrittenMeaning p (statements_of query.now) (T.stands sink.old) (T.stands sink.new))
         (IsNeeded p (statements_of query.now))
-        (record { held = S.holds shelf.new; before = S.used shelf.old; after = S.used shelf.new }) result }
+        (nodes_around S.holds S.used shelf.old shelf.new) result }
 {
     let len = sink.len();
     let manifest = open_manifest(root, shelf)?;
@@ -131,8 +137,7 @@ fn run_over<'a, S: Shelf<'a>, T: Sink>(
     ensures answer { (p : Publication) → IsPublication p → IsUnder p manifest
         → IsQuery (statements_of statements.now)
         → Outcome cause_of_evaluation
-        (λ _. (text : List ℕ) × Means p.objects (statements_of statements.now) text
-        × HasWritten (T.stands sink.old) (T.stands sink.new) text)
+        (λ _. HasWrittenMeaning p (statements_of statements.now) (T.stands sink.old) (T.stands sink.new))
         (NeededBy p (AskedByAll p (statements_of statements.now) nothing_named))
         (nodes_around S.holds S.used shelf.old shelf.new) result }
 {

@@ -19,7 +19,7 @@ ghost use Rattle.ql_eval.specs.Told.{IsAbsent};
 ghost use Rattle.ql_eval.specs.internal.Entries.{AreMisread, IsPutBy};
 ghost use Rattle.ql_eval.specs.internal.Objects.{AreAbsent, Remembers};
 ghost use Rattle.ql_eval.specs.internal.Told.{IsTold};
-ghost use Rattle.ql_eval.specs.internal.Uses.{nodes_around};
+ghost use Rattle.tree_walk.specs.Uses.{nodes_around};
 
 use crate::fault::EvalFault;
 use crate::objects::object_in;

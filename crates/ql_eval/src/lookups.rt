@@ -18,7 +18,7 @@ ghost use Rattle.ql_eval.specs.internal.Told.{IsTold};
 ghost use Rattle.ql_eval.specs.Questions.{Answers, HasNoNulIn, IsCountOf, NeedsAsk, count_ask, names_ask, range_asked, tree_asked};
 ghost use Rattle.ql_eval.specs.internal.Entries.{TargetFits};
 ghost use Rattle.ql_eval.specs.internal.Views.{question_of};
-ghost use Rattle.ql_eval.specs.internal.Uses.{nodes_around};
+ghost use Rattle.tree_walk.specs.Uses.{nodes_around};
 
 use crate::fault::EvalFault;
 use crate::names::names_in;

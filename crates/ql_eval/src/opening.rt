@@ -3,10 +3,10 @@
 ghost use Rattle.std.specs.Prelude.{◌≡◌, ◌⊎◌, ℕ, Err, IfErr, IfOk, List, OnErr, true};
 ghost use Rattle.osm_keys.specs.Manifests.{manifest_bytes};
 ghost use Rattle.osm_keys.specs.Publications.{Publication, manifest_of, root_of};
-ghost use Rattle.tree_node.specs.Digests.{digest};
 ghost use Rattle.tree_node.specs.Outcomes.{Outcome};
 ghost use Rattle.tree_node.specs.Shelves.{GrownBy, HasNone, SameNodes};
-ghost use Rattle.ql_eval.specs.Openings.{HasMalformed, IsUnder, cause_of_manifest};
+ghost use Rattle.tree_walk.specs.Uses.{nodes_around};
+ghost use Rattle.ql_eval.specs.Openings.{HasMalformed, IsHeldUnder, IsUnder, cause_of_manifest};
 
 use osm_keys::{Manifest, read_manifest};
 use thiserror::Error;
@@ -53,18 +53,21 @@ pub fn open_manifest<'a, S: Shelf<'a>>(
     ensures stays { SameNodes (S.holds shelf.old) (S.holds shelf.new) }
     ensures grows { (bytes : List ℕ) → S.used shelf.old bytes → S.used shelf.new bytes }
     // What it gives is held under the root, and the used nodes grow by just its bytes.
-    ensures held { IfOk result (λ found. S.holds shelf.new (manifest_bytes found) × (digest (manifest_bytes found) ≡ root.now.0)) }
-    ensures grown { IfOk result (λ found. GrownBy (S.used shelf.old) (S.used shelf.new) (manifest_bytes found)) }
+    ensures held { IfOk result (IsHeldUnder (S.holds shelf.new) root.now.0) }
+    ensures grown { IfOk result
+        (λ found. GrownBy (S.used shelf.old) (S.used shelf.new) (manifest_bytes found)) }
     // Each refusal says what the shelf holds, or that it takes memory.
     ensures missing { result ≡ Err ManifestFault.Missing → HasNone (S.holds shelf.new) root.now.0 }
     ensures none { HasNone (S.holds shelf.new) root.now.0 → result ≡ Err ManifestFault.Missing }
-    ensures malformed { result ≡ Err ManifestFault.Malformed → HasMalformed (S.holds shelf.new) root.now.0 }
-    ensures other { HasMalformed (S.holds shelf.new) root.now.0 → (result ≡ Err ManifestFault.Malformed) ⊎ (result ≡ Err ManifestFault.Memory) }
+    ensures malformed { result ≡ Err ManifestFault.Malformed
+        → HasMalformed (S.holds shelf.new) root.now.0 }
+    ensures other { HasMalformed (S.holds shelf.new) root.now.0
+        → (result ≡ Err ManifestFault.Malformed) ⊎ (result ≡ Err ManifestFault.Memory) }
     ensures memory { result ≡ Err ManifestFault.Memory → S.takes_memory ≡ true }
     // Under the root of a publication: its tops, by its manifest alone.
     ensures answer { (p : Publication) → root.now.0 ≡ root_of p
         → Outcome cause_of_manifest (λ found. IsUnder p found) (λ bytes. bytes ≡ manifest_of p)
-        (record { held = S.holds shelf.new; before = S.used shelf.old; after = S.used shelf.new }) result }
+        (nodes_around S.holds S.used shelf.old shelf.new) result }
 {
     let bytes = shelf.fetch(root)?;
     match read_manifest(bytes) {

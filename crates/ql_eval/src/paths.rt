@@ -11,7 +11,7 @@ ghost use Rattle.ql_eval.specs.Questions.{NeededBy};
 ghost use Rattle.ql_eval.specs.internal.Links.{AreThere};
 ghost use Rattle.ql_eval.specs.internal.Paths.{IsAt, IsBelowOf};
 ghost use Rattle.ql_eval.specs.internal.Giving.{AllGiven};
-ghost use Rattle.ql_eval.specs.internal.Uses.{nodes_around};
+ghost use Rattle.tree_walk.specs.Uses.{nodes_around};
 
 use crate::fault::EvalFault;
 use crate::kinds::{first_kind, last_kind};

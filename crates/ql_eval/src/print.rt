@@ -16,7 +16,7 @@ ghost use Rattle.ql_eval.specs.internal.Links.{AreThere, IsObjectAsk};
 ghost use Rattle.ql_eval.specs.internal.Objects.{AreKnownThere, IsKnownThere};
 ghost use Rattle.ql_eval.specs.internal.Printing.{line_at, lines_at, name_line, name_lines};
 ghost use Rattle.ql_eval.specs.internal.Giving.{AllGiven};
-ghost use Rattle.ql_eval.specs.internal.Uses.{nodes_around};
+ghost use Rattle.tree_walk.specs.Uses.{nodes_around};
 
 use crate::fault::EvalFault;
 use crate::sink::Sink;

@@ -12,7 +12,7 @@ ghost use Rattle.ql_eval.specs.Faults.{cause_of_evaluation};
 ghost use Rattle.ql_eval.specs.Questions.{NeededBy};
 ghost use Rattle.ql_eval.specs.internal.Links.{AreThere, IsMemberAsk, IsMemberBelow};
 ghost use Rattle.ql_eval.specs.internal.Giving.{AllGiven};
-ghost use Rattle.ql_eval.specs.internal.Uses.{nodes_around};
+ghost use Rattle.tree_walk.specs.Uses.{nodes_around};
 
 use crate::chains::{Direction, closure};
 use crate::fault::EvalFault;

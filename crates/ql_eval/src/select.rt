@@ -16,7 +16,7 @@ ghost use Rattle.ql_eval.specs.Faults.{cause_of_evaluation};
 ghost use Rattle.ql_eval.specs.Questions.{NeededBy};
 ghost use Rattle.ql_eval.specs.internal.Links.{AreAllThere};
 ghost use Rattle.ql_eval.specs.internal.Giving.{AllGiven, AllSetsGiven};
-ghost use Rattle.ql_eval.specs.internal.Uses.{nodes_around};
+ghost use Rattle.tree_walk.specs.Uses.{nodes_around};
 
 use crate::apply_filters::apply_filters;
 use crate::candidates::find_candidates;

@@ -61,14 +61,21 @@ impl<'s, 'a, S: Shelf<'a>> Source for ShelfSource<'s, 'a, S> {
 
     ghost gave = { λ o r. IsGivenOrThere (S.used o.shelf.now) o.manifest o.objects.now r };
 
-    ghost tells = { λ o fault. AreAbsent (S.used o.shelf.now) o.manifest o.objects.now → IsTold (S.holds o.shelf.now) (S.used o.shelf.now) o.manifest fault };
+    ghost tells = { λ o fault. AreAbsent (S.used o.shelf.now) o.manifest o.objects.now
+        → IsTold (S.holds o.shelf.now) (S.used o.shelf.now) o.manifest fault };
 
     ghost later = { λ o n. (o.shelf.ghost_name ≡ n.shelf.ghost_name) × (o.manifest ≡ n.manifest)
-        × SameNodes (S.holds o.shelf.now) (S.holds n.shelf.now) × ((bytes : List ℕ) → S.used o.shelf.now bytes → S.used n.shelf.now bytes)
-        × ((p : Publication) → IsUnder p o.manifest → Remembers p (S.used o.shelf.now) o.objects.now → Remembers p (S.used n.shelf.now) n.objects.now)
-        × ((r : Ref) (object : Option Element) → get ref_cmp o.objects.now r ≡ Some object → get ref_cmp n.objects.now r ≡ Some object)
-        × (AreAbsent (S.used o.shelf.now) o.manifest o.objects.now → AreAbsent (S.used n.shelf.now) n.manifest n.objects.now)
-        × ((r : Ref) → IsGivenOrThere (S.used o.shelf.now) o.manifest o.objects.now r → IsGivenOrThere (S.used n.shelf.now) n.manifest n.objects.now r) };
+        × SameNodes (S.holds o.shelf.now) (S.holds n.shelf.now)
+        × ((bytes : List ℕ) → S.used o.shelf.now bytes → S.used n.shelf.now bytes)
+        × ((p : Publication) → IsUnder p o.manifest
+        → Remembers p (S.used o.shelf.now) o.objects.now
+        → Remembers p (S.used n.shelf.now) n.objects.now)
+        × ((r : Ref) (object : Option Element) → get ref_cmp o.objects.now r ≡ Some object
+        → get ref_cmp n.objects.now r ≡ Some object)
+        × (AreAbsent (S.used o.shelf.now) o.manifest o.objects.now
+        → AreAbsent (S.used n.shelf.now) n.manifest n.objects.now)
+        × ((r : Ref) → IsGivenOrThere (S.used o.shelf.now) o.manifest o.objects.now r
+        → IsGivenOrThere (S.used n.shelf.now) n.manifest n.objects.now r) };
 
     ghost walked = { λ o n. HasGiven (top_among n.manifest.tops) HaveForm (record { held = S.holds n.shelf.now; before = S.used o.shelf.now; after = S.used n.shelf.now })
         o.tally.calls n.tally.calls o.tally.fetches n.tally.fetches };

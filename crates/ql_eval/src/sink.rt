@@ -22,8 +22,10 @@ pub trait Sink {
     /// memory; then the text is what it was.
     fn put(&mut self, bytes: &[u8]) -> Result<(), AllocError>
         ensures kept { kept self.new ≡ kept self.old }
-        ensures put { OnOk result ((text : List ℕ) → stands self.old text → stands self.new (text ++ bytes.now)) }
-        ensures refused { OnErr result ((text : List ℕ) → stands self.old text → stands self.new text) }
+        ensures put { OnOk result
+            ((text : List ℕ) → stands self.old text → stands self.new (text ++ bytes.now)) }
+        ensures refused { OnErr result
+            ((text : List ℕ) → stands self.old text → stands self.new text) }
         ensures memory { OnErr result (takes_memory ≡ true) };
 
     /// Cuts a text that has this many bytes to its first ones. Of a shorter text nothing is said. It takes no

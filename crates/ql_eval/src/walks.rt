@@ -16,7 +16,7 @@ ghost use Rattle.osm_keys.specs.Publications.{IsPublication, Publication};
 ghost use Rattle.ql_eval.specs.Forms.{HaveForm};
 ghost use Rattle.ql_eval.specs.Openings.{IsUnder};
 ghost use Rattle.ql_eval.specs.Questions.{Counted, Listed, NeedsAsk};
-ghost use Rattle.ql_eval.specs.internal.Uses.{nodes_around};
+ghost use Rattle.tree_walk.specs.Uses.{nodes_around};
 
 use osm_keys::Manifest;
 use std::alloc::Global;
