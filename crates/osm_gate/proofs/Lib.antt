@@ -7,6 +7,7 @@ pub mod HeadEndLemmas
 pub mod HeadLemmas
 pub mod NoMemory
 pub mod OneResponse
+pub mod QueryResponses
 pub mod RequestLemmas
 pub mod RespondingLemmas
 pub mod ResponseLemmas

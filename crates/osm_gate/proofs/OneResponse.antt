@@ -1,19 +1,22 @@
 -- Requests have one text of responses at most over a publication.
-use Rattle.std.proofs.Common.{◌≡◌, ◌∙◌, ℕ, Bool, true, false, List, [], ◌∷◌, ◌++◌, ap, sym, subst}
+use Rattle.std.proofs.Common.{◌≡◌, ◌∙◌, ℕ, Bool, true, false, List, [], ◌∷◌, ◌++◌, ap, inl, inr, sym, subst}
 use Rattle.std.specs.Prelude.{Option, Some, None}
-use Rattle.osm_keys.specs.Publications.{IsPublication, Publication}
-use Rattle.osm_prove.specs.Proved.{IsProofOf, IsProved}
+use Rattle.osm_keys.specs.Publications.{IsPublication, Publication, root_of}
+use Rattle.osm_prove.specs.Proved.{IsAnswer, IsProofOf, IsProved}
 use Rattle.osm_prove.proofs.shared.ProofLaws.{one_proof}
 use Rattle.ql_meaning.specs.Meanings.{Means}
 use Rattle.ql_meaning.proofs.shared.Laws.{one_meaning}
 use Rattle.ql_syntax.specs.Statements.{Statements}
+use Rattle.ql_syntax.specs.declared.fault.QlFault.{QlFault}
 use Rattle.ql_syntax.proofs.shared.QueryLaws.{one_fault, one_query, reads_or_not}
 use Rattle.osm_gate.specs.Connections.{Responds, RespondsToOne}
 use Rattle.osm_gate.specs.Forms.{query_of}
 use Rattle.osm_gate.specs.Requests.{Asked, Outcome, asked, refused}
 use Rattle.osm_gate.specs.ResponseTexts.{Response, response_text}
-use Rattle.osm_gate.specs.Responses.{ByMethod, ByQuery, ByRoute, IsOutcomeOf, IsResponse, QueryOutcome, answered, by_outcome, ends, method_of, not_read}
+use Rattle.osm_gate.specs.Responses.{ByMethod, ByQuery, ByRoute, GivesAt, IsResponse, TellsFault, checked_body, ends, fault_text, found, method_of, refusal}
 use Rattle.osm_gate.specs.Routes.{path_of, route_of}
+use Rattle.osm_gate.specs.declared.endpoint.Endpoint.{Endpoint}
+use Rattle.osm_gate.specs.declared.endpoint.Endpoint.TheVariants.{Answer, AnswerWithProof}
 use Rattle.osm_gate.specs.declared.method.Method.{Method}
 use Rattle.osm_gate.specs.declared.method.Method.TheVariants.{Get, Other, Post}
 use Rattle.osm_gate.specs.declared.query_text.QuerySource.TheVariants.{Body, Target}
@@ -29,23 +32,32 @@ module _ (p : Publication) (is : IsPublication p) where
         one_proof p second.statements x y (subst (λ (s : Statements). IsProofOf p s x) same first.proof_is) second.proof_is,
       )
 
-  one_outcome : (query : List ℕ) (first second : QueryOutcome) → IsOutcomeOf p query first → IsOutcomeOf p query second → first ≡ second
-  unfolding IsOutcomeOf
-  one_outcome query (not_read fault) (not_read other) has has_too = ap not_read (one_fault query fault other has has_too)
-  one_outcome query (not_read fault) (answered root answer proof) has (under, proved) =
-      absurd (reads_or_not query proved.statements fault proved.reads has)
-  one_outcome query (answered root answer proof) (not_read fault) (under, proved) has =
-      absurd (reads_or_not query proved.statements fault proved.reads has)
-  one_outcome query (answered root answer proof) (answered other text listing) (under, proved) (under_too, proved_too) =
-      let same_root : root ≡ other = under ∙ sym under_too in
-      let (same, same_proof) = same_answer query answer text proof listing proved proved_too in
-      λ i. answered (same_root i) (same i) (same_proof i)
+  one_answer : (query a b : List ℕ) → IsAnswer p query a → IsAnswer p query b → a ≡ b
+  one_answer query a b first second =
+      let same = one_query query first.statements second.statements first.reads second.reads in
+      one_meaning p.objects second.statements a b is.set (subst (λ (s : Statements). Means p.objects s a) same first.means) second.means
+
+  one_given : (endpoint : Endpoint) (closes : Bool) (query : List ℕ) (r s : Response)
+      → GivesAt endpoint closes p query r → GivesAt endpoint closes p query s → r ≡ s
+  one_given Answer closes query r s (a, first, same) (b, second, same_too) =
+      same ∙ ap (found closes (root_of p) false) (one_answer query a b first second) ∙ sym same_too
+  one_given AnswerWithProof closes query r s (a, x, first, same) (b, y, second, same_too) =
+      let (answers, proofs) = same_answer query a b x y first second in
+      same ∙ (λ i. found closes (root_of p) true (checked_body (root_of p) (answers i) (proofs i))) ∙ sym same_too
+
+  -- what has an answer has no fault
+  no_fault : (endpoint : Endpoint) (closes : Bool) (query : List ℕ) (r s : Response) → GivesAt endpoint closes p query r → TellsFault closes query s → ⊥
+  no_fault Answer closes query r s (answer, is, same) (fault, has, same_too) = reads_or_not query is.statements fault is.reads has
+  no_fault AnswerWithProof closes query r s (answer, proof, is, same) (fault, has, same_too) = reads_or_not query is.statements fault is.reads has
 
   one_by_query : (reply : Reply) (query : Option (List ℕ)) (r s : Response)
       → ByQuery reply p query r → ByQuery reply p query s → r ≡ s
   one_by_query reply None r s first second = first ∙ sym second
-  one_by_query reply (Some query) r s (outcome, is_of, same) (other, is_of_too, same_too) =
-      same ∙ ap (by_outcome reply) (one_outcome query outcome other is_of is_of_too) ∙ sym same_too
+  one_by_query reply (Some query) r s (inl (fault, has, same)) (inl (other, has_too, same_too)) =
+      same ∙ ap (λ (f : QlFault). refusal reply.closes 400 (fault_text f)) (one_fault query fault other has has_too) ∙ sym same_too
+  one_by_query reply (Some query) r s (inl tells) (inr gives) = absurd (no_fault reply.endpoint reply.closes query s r gives tells)
+  one_by_query reply (Some query) r s (inr gives) (inl tells) = absurd (no_fault reply.endpoint reply.closes query r s gives tells)
+  one_by_query reply (Some query) r s (inr first) (inr second) = one_given reply.endpoint reply.closes query r s first second
 
   one_by_method : (reply : Reply) (a : Asked) (method : Method) (r s : Response)
       → ByMethod reply p a method r → ByMethod reply p a method s → r ≡ s

@@ -1,13 +1,13 @@
 -- The response that a request has over a publication.
 -- Source: this project; the statuses are those of RFC 9110, section 15, and RFC 6585, section 5.
-use Rattle.std.specs.Prelude.{◌≡◌, ℕ, Bool, true, false, ◌||◌, List, [], ◌∷◌, ◌++◌, length, Option, Some, None, if◌then◌else◌, codes}
+use Rattle.std.specs.Prelude.{◌≡◌, ◌⊎◌, ℕ, Bool, true, false, ◌||◌, List, [], ◌∷◌, ◌++◌, length, Option, Some, None, if◌then◌else◌, codes}
 use Rattle.std.specs.Fmt.{decimal}
 use Rattle.std.specs.Int.{to_be_bytes, w64}
 use Rattle.std.specs.Str.{bytes_eq}
 use Rattle.hex.specs.Hex.{encode_lower}
 use Rattle.osm_model.specs.Bytes.{line_feed}
 use Rattle.osm_keys.specs.Publications.{Publication, root_of}
-use Rattle.osm_prove.specs.Proved.{IsProved}
+use Rattle.osm_prove.specs.Proved.{IsAnswer, IsProved}
 use Rattle.ql_syntax.specs.Queries.{HasFault}
 use Rattle.ql_syntax.specs.Refusals.{code_text}
 use Rattle.ql_syntax.specs.declared.fault.QlFault.{QlFault}
@@ -50,39 +50,30 @@ found closes root is_binary body = record {
 
 -- ---- queries
 
--- what comes of a query: why it doesn't read, or a root, and the answer and the proof under it
-pub data QueryOutcome : Type 0 where
-  not_read : QlFault → QueryOutcome
-  answered : List ℕ → List ℕ → List ℕ → QueryOutcome
-
--- it is the query's fault, or the publication's root, the query's meaning over its set, and the one proof
-unfoldable pub IsOutcomeOf : Publication → List ℕ → QueryOutcome → Type 0
-IsOutcomeOf p query (not_read fault) = HasFault query fault
-IsOutcomeOf p query (answered root answer proof) = (root ≡ root_of p) × IsProved p query answer proof
-
 -- the code of the cause, and the place: `Q7 byte 5`
 abbrev pub fault_text : QlFault → List ℕ
 fault_text fault = code_text fault.cause ++ (codes " byte " ++ decimal fault.byte)
 
--- the answer alone, or what a client can check: the root, the length of the answer in eight bytes, the answer
--- and the proof
-abbrev pub answer_body : Endpoint → List ℕ → List ℕ → List ℕ → List ℕ
-answer_body AnswerWithProof root answer proof = root ++ (to_be_bytes w64 (length answer) ++ (answer ++ proof))
-answer_body Answer root answer proof = answer
+-- the response says why the query doesn't read
+abbrev pub TellsFault : Bool → List ℕ → Response → Type 0
+TellsFault closes query r = (fault : QlFault) × HasFault query fault × (r ≡ refusal closes 400 (fault_text fault))
 
--- what a client can check isn't text
-abbrev pub is_binary_at : Endpoint → Bool
-is_binary_at AnswerWithProof = true
-is_binary_at Answer = false
+-- what a client can check: the root, the length of the answer in eight bytes, the answer and the proof
+abbrev pub checked_body : List ℕ → List ℕ → List ℕ → List ℕ
+checked_body root answer proof = root ++ (to_be_bytes w64 (length answer) ++ (answer ++ proof))
 
-abbrev pub by_outcome : Reply → QueryOutcome → Response
-by_outcome reply (not_read fault) = refusal reply.closes 400 (fault_text fault)
-by_outcome reply (answered root answer proof) =
-    found reply.closes root (is_binary_at reply.endpoint) (answer_body reply.endpoint root answer proof)
+-- under the publication's root the response gives the query's meaning over its set: alone, or with its one proof, as what
+-- a client can check, which isn't text
+abbrev pub GivesAt : Endpoint → Bool → Publication → List ℕ → Response → Type 0
+GivesAt Answer closes p query r =
+    (answer : List ℕ) × IsAnswer p query answer × (r ≡ found closes (root_of p) false answer)
+GivesAt AnswerWithProof closes p query r =
+    (answer : List ℕ) × (proof : List ℕ) × IsProved p query answer proof
+    × (r ≡ found closes (root_of p) true (checked_body (root_of p) answer proof))
 
 abbrev pub ByQuery : Reply → Publication → Option (List ℕ) → Response → Type 0
 ByQuery reply p None r = r ≡ refusal reply.closes 400 (codes "no data")
-ByQuery reply p (Some query) r = (outcome : QueryOutcome) × IsOutcomeOf p query outcome × (r ≡ by_outcome reply outcome)
+ByQuery reply p (Some query) r = TellsFault reply.closes query r ⊎ GivesAt reply.endpoint reply.closes p query r
 
 -- ---- methods and routes
 

@@ -15,7 +15,6 @@ mod head_end;
 mod laws;
 mod limits;
 mod method;
-mod query_outcome;
 mod query_response;
 mod query_text;
 mod refusal;

@@ -1,54 +1,59 @@
 //! The response to a query.
 
-ghost use Rattle.std.specs.Prelude.{◌≡◌, ◌++◌, IfOk, OnOk, true};
+ghost use Rattle.std.specs.Prelude.{◌≡◌, ◌++◌, IfOk, OnOk, Some, false, true};
 ghost use Rattle.std.specs.String.{string_bytes};
+ghost use Rattle.osm_keys.specs.Publications.{Publication};
+ghost use Rattle.osm_index.specs.Snapshots.{HoldsPublication};
+ghost use Rattle.ql_syntax.specs.declared.fault.QlFault.{QlFault};
 ghost use Rattle.osm_gate.specs.ResponseTexts.{response_text};
-ghost use Rattle.osm_gate.specs.Responses.{answer_body, by_outcome, fault_text, found};
-ghost use Rattle.osm_gate.specs.declared.endpoint.Endpoint.TheVariants.{AnswerWithProof};
-ghost use Rattle.osm_gate.specs.internal.Adding.{outcome_of};
+ghost use Rattle.osm_gate.specs.Responses.{ByQuery, checked_body, fault_text, found, refusal};
+ghost use Rattle.osm_gate.specs.internal.Adding.{AddsResponse};
 
 use crate::endpoint::Endpoint;
 use crate::reply::Reply;
 use crate::response::{write_ok, write_refusal};
 use http::StatusCode;
-use osm_prove::Proved;
+use osm_index::Snapshot;
+use osm_prove::{Answered, ProveFault, Proved, answer, prove};
 use ql_syntax::QlFault;
 use std::alloc::{AllocError, Global};
 
-/// Appends the response to a query of which this came. Out of memory it leaves what it wrote.
-pub(crate) fn write_query_response(
+/// Appends the response to a query: what its endpoint gives, or why the query doesn't read. Out of memory it leaves
+/// what it wrote.
+pub(crate) fn respond_to_query(
     alloc: Global,
     output: &mut Vec<u8>,
     reply: Reply,
-    outcome: &Result<Proved, QlFault>,
+    snapshot: &Snapshot,
+    query: &[u8],
 ) -> Result<(), AllocError>
-    ensures { OnOk result (output.new.items ≡ output.old.items ++ response_text (by_outcome reply (outcome_of outcome.now))) }
+    ensures { (p : Publication) → HoldsPublication snapshot.now p
+        → OnOk result (AddsResponse (ByQuery reply p (Some query.now)) output.old.items output.new.items) }
 {
-    match outcome {
-        Err(fault) => {
-            let text = fault_text(alloc, fault)?;
-            let status = StatusCode::BAD_REQUEST;
-            write_refusal(alloc, output, reply.closes, status, text.as_str())
-        }
-        Ok(proved) => match reply.endpoint {
-            Endpoint::Answer => {
-                let body = [proved.answer.as_slice()];
-                write_ok(alloc, output, reply.closes, &proved.root, false, &body)
-            }
-            Endpoint::AnswerWithProof => {
-                write_answer_with_proof(alloc, output, reply.closes, proved)
-            }
+    match reply.endpoint {
+        Endpoint::Answer => match answer(alloc, snapshot, query) {
+            Ok(answered) => write_answer(alloc, output, reply.closes, &answered),
+            Err(fault) => write_fault(alloc, output, reply.closes, fault),
+        },
+        Endpoint::AnswerWithProof => match prove(alloc, snapshot, query) {
+            Ok(proved) => write_answer_with_proof(alloc, output, reply.closes, &proved),
+            Err(fault) => write_fault(alloc, output, reply.closes, fault),
         },
     }
 }
 
-/// The code of the cause, and the place.
-fn fault_text(alloc: Global, fault: &QlFault) -> Result<String, AllocError>
-    ensures { IfOk result (λ text. string_bytes text ≡ fault_text fault.now) }
+/// Appends the answer.
+fn write_answer(
+    alloc: Global,
+    output: &mut Vec<u8>,
+    closes: bool,
+    answered: &Answered,
+) -> Result<(), AllocError>
+    ensures { OnOk result (output.new.items ≡ output.old.items
+        ++ response_text (found closes answered.now.root.0 false answered.now.answer.items)) }
 {
-    let cause = fault.cause;
-    let byte = fault.byte;
-    format!(in alloc; "{cause} byte {byte}")
+    let body = [answered.answer.as_slice()];
+    write_ok(alloc, output, closes, &answered.root, false, &body)
 }
 
 /// Appends what a client can check: the root, the length of the answer, the answer and the proof.
@@ -58,8 +63,9 @@ fn write_answer_with_proof(
     closes: bool,
     proved: &Proved,
 ) -> Result<(), AllocError>
-    ensures { OnOk result (output.new.items ≡ output.old.items ++ response_text (found closes proved.now.root.0 true
-        (answer_body AnswerWithProof proved.now.root.0 proved.now.answer.items proved.now.proof.items))) }
+    ensures { OnOk result (output.new.items ≡ output.old.items
+        ++ response_text (found closes proved.now.root.0 true
+        (checked_body proved.now.root.0 proved.now.answer.items proved.now.proof.items))) }
 {
     let answer = proved.answer.as_slice();
     let length = (answer.len() as u64).to_be_bytes();
@@ -70,4 +76,33 @@ fn write_answer_with_proof(
         proved.proof.as_slice(),
     ];
     write_ok(alloc, output, closes, &proved.root, true, &body)
+}
+
+/// Appends why a query doesn't read. It is refused where memory had run out already.
+fn write_fault(
+    alloc: Global,
+    output: &mut Vec<u8>,
+    closes: bool,
+    fault: ProveFault,
+) -> Result<(), AllocError>
+    ensures { OnOk result ((of_query : QlFault) × (fault ≡ ProveFault.Query of_query)
+        × (output.new.items ≡ output.old.items ++ response_text (refusal closes 400 (fault_text of_query)))) }
+{
+    match fault {
+        ProveFault::Query(fault) => {
+            let text = fault_text(alloc, &fault)?;
+            let status = StatusCode::BAD_REQUEST;
+            write_refusal(alloc, output, closes, status, text.as_str())
+        }
+        ProveFault::Memory => Err(AllocError),
+    }
+}
+
+/// The code of the cause, and the place.
+fn fault_text(alloc: Global, fault: &QlFault) -> Result<String, AllocError>
+    ensures { IfOk result (λ text. string_bytes text ≡ fault_text fault.now) }
+{
+    let cause = fault.cause;
+    let byte = fault.byte;
+    format!(in alloc; "{cause} byte {byte}")
 }

@@ -11,8 +11,7 @@ ghost use Rattle.osm_gate.specs.internal.Adding.{AddsResponse};
 ghost use Rattle.osm_gate.specs.internal.Decisions.{asked_of};
 
 use crate::method::{Method, method_of};
-use crate::query_outcome::prove_query;
-use crate::query_response::write_query_response;
+use crate::query_response::respond_to_query;
 use crate::query_text::{QuerySource, query_of};
 use crate::refusal::Refusal;
 use crate::reply::Reply;
@@ -102,8 +101,7 @@ fn answer(
         let status = StatusCode::BAD_REQUEST;
         return write_refusal(alloc, output, reply.closes, status, "no data");
     };
-    let outcome = prove_query(alloc, snapshot, query.as_bytes())?;
-    write_query_response(alloc, output, reply, &outcome)
+    respond_to_query(alloc, output, reply, snapshot, query.as_bytes())
 }
 
 fn respond_root(

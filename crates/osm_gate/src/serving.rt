@@ -21,6 +21,8 @@ use std::io::{Read, Write};
 /// Responds to the requests of one connection, until its input ends or the connection does: nothing is read after that.
 /// It is read in pieces of at most 8,192 bytes, and the responses to each piece are written before the next is read.
 ///
+/// This serves one connection at a time; the program serves many by `osm_traffic::serve_many`, over a [`Gate`] for each.
+///
 /// # Errors
 ///
 /// `Reader` (G1) where a read failed: what was read before has its responses. `Writer` (G2) where a write failed or

@@ -1,5 +1,5 @@
 -- The nodes that an evaluation used, as the proof lists them.
-use Rattle.std.proofs.Common.{◌≡◌, ℕ, ◌↔◌, List, inl, inr, sym, subst}
+use Rattle.std.proofs.Common.{◌≡◌, ℕ, ◌↔◌, List, inl, inr}
 use Rattle.std.specs.List.{AllByRecursion-prop, Contains}
 use Rattle.std.proofs.Math.Bridge.{le_prop}
 use Rattle.std.proofs.Math.Logic.{∥∥₁_elim}
@@ -63,11 +63,11 @@ proof_of_needed p statements nodes proof is are e = record {
   needed = are.needed;
 }
 
--- a stock that has the nodes of the publication holds what the query needs, as a shelf over it does
-pub all_held : (p : Publication) (statements : Statements) (lent stock : Stock) (old new : List ℕ → Type 0) → lent ≡ stock → SameNodes (HasNode lent) old → SameNodes old new
+-- a shelf over a stock that has the nodes of the publication holds what the query needs, and goes on to hold it
+pub all_held : (p : Publication) (statements : Statements) (stock : Stock) (old new : List ℕ → Type 0) → SameNodes (HasNode stock) old → SameNodes old new
     → ((x : List ℕ) → HasNode stock x ↔ IsNodeIn p x) → (x : List ℕ) → IsNeeded p statements x → new x
-all_held p statements lent stock old new same holds stays nodes x needed =
-    (stays x).1 ((holds x).1 (subst (λ (s : Stock). HasNode s x) (sym same) ((nodes x).1 (needed_in p statements x needed))))
+all_held p statements stock old new holds stays nodes x needed =
+    (stays x).1 ((holds x).1 ((nodes x).1 (needed_in p statements x needed)))
 
 -- what fits a proof isn't known of one publication alone
 pub fits_from : (nodes : List (List ℕ)) → ∥ FitsProof nodes ∥₁ → FitsProof nodes

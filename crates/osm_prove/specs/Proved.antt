@@ -10,6 +10,12 @@ use Rattle.ql_meaning.specs.Meanings.{Means}
 use Rattle.ql_eval.specs.Asks.{IsNeeded}
 use Rattle.osm_prove.specs.Proofs.{AreRising, Lists}
 
+-- the query reads, and the answer is its meaning over the publication's objects
+pub record IsAnswer (p : Publication) (query answer : List ℕ) : Type 0 where
+  pub statements : Statements
+  pub reads : Reads query statements
+  pub means : Means p.objects statements answer
+
 -- the proof lists just the nodes that the query needs, by rising digest
 pub record IsProofOf (p : Publication) (statements : Statements) (proof : List ℕ) : Type 0 where
   pub nodes : List (List ℕ)

@@ -8,7 +8,7 @@ use ql_syntax::{QlCause, QlFault};
 use std::alloc::AllocError;
 use thiserror::Error;
 
-/// Why there is no answer with its proof.
+/// Why there is no answer, with its proof or without.
 #[derive(Clone, Copy, Debug, PartialEq, Eq, Error)]
 pub enum ProveFault {
     /// The query doesn't read: `Q11 byte 7`.

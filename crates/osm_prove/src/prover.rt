@@ -1,7 +1,6 @@
 //! An answer and its proof, as a mirror makes them.
 
-ghost use Rattle.std.specs.Prelude.{◌≡◌, ◌⊎◌, Err, IfErr, IfOk, IsTrue};
-ghost use Rattle.tree_node.specs.Outcomes.{NoMemory};
+ghost use Rattle.std.specs.Prelude.{◌≡◌, ◌⊎◌, Err, IfErr, IfOk};
 ghost use Rattle.osm_keys.specs.Publications.{Publication, root_of};
 ghost use Rattle.osm_index.specs.Snapshots.{HoldsPublication};
 ghost use Rattle.ql_syntax.specs.Queries.{HasFault, Reads};
@@ -9,18 +8,17 @@ ghost use Rattle.ql_syntax.specs.StatementViews.{statements_of};
 ghost use Rattle.ql_syntax.specs.Statements.{Statements};
 ghost use Rattle.ql_syntax.specs.declared.fault.QlFault.{QlFault};
 ghost use Rattle.ql_meaning.specs.Meanings.{Means};
-ghost use Rattle.ql_eval.specs.Faults.{cause_of_evaluation};
 ghost use Rattle.osm_prove.specs.Proved.{IsProofOf, IsProved};
 
+use crate::evaluation::evaluate_over;
 use crate::proof_writer::write_proof;
 use crate::prove_fault::ProveFault;
 use crate::proved::Proved;
+use crate::query_reader::read_query;
 use osm_index::Snapshot;
-use ql_eval::{EvalFault, ManifestFault, evaluate};
-use ql_syntax::{Query, parse};
+use ql_syntax::Query;
 use std::alloc::{AllocError, Global};
 use tree_node::Recorder;
-use tree_walk::WalkFault;
 
 /// The answer to a query over a snapshot, its root, and the proof by which a checker says yes to them. The
 /// query is these bytes as they stand.
@@ -40,7 +38,7 @@ pub fn prove(alloc: Global, snapshot: &Snapshot, query: &[u8]) -> Result<Proved,
     // one that reads is refused for memory alone.
     ensures only { (statements : Statements) → Reads query.now statements → IfErr result (λ fault. fault ≡ ProveFault.Memory) }
 {
-    let parsed = parse(alloc, query)?;
+    let parsed = read_query(alloc, query)?;
     let (answer, proof) = answer_with_proof(alloc, snapshot, &parsed)?;
     Ok(Proved {
         root: *snapshot.root(),
@@ -59,34 +57,8 @@ fn answer_with_proof(
         × IsProofOf p (statements_of query.now) both.1.items) }
 {
     let mut shelf = Recorder::new(alloc, snapshot.stock());
-    let mut answer = Vec::new(alloc);
-    match evaluate(alloc, query, snapshot.root(), &mut shelf, &mut answer) {
-        Ok(_) => {}
-        Err(fault) => return Err(memory_alone(fault)),
-    }
+    let answer = evaluate_over(alloc, snapshot, query, &mut shelf)?;
     let parts = shelf.parts()?;
     let proof = write_proof(alloc, &parts)?;
     Ok((answer, proof))
-}
-
-/// What an evaluation over a snapshot is refused for.
-fn memory_alone(fault: EvalFault) -> AllocError
-    requires { ∥ cause_of_evaluation fault ≡ NoMemory ∥₁ }
-{
-    if !is_memory(fault) {
-        unreachable!("the snapshot holds each node that a query needs");
-    }
-    AllocError
-}
-
-/// Whether an evaluation was refused for memory, wherever it ran out.
-fn is_memory(fault: EvalFault) -> bool
-    ensures { cause_of_evaluation fault ≡ NoMemory → IsTrue result }
-{
-    match fault {
-        EvalFault::Memory => true,
-        EvalFault::Walk(fault) => matches!(fault, WalkFault::Memory),
-        EvalFault::Manifest(fault) => matches!(fault, ManifestFault::Memory),
-        EvalFault::Form | EvalFault::Absent => false,
-    }
 }

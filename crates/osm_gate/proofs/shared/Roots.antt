@@ -1,11 +1,13 @@
 -- The root in a response.
-use Rattle.std.proofs.Common.{◌≡◌, ◌∙◌, ℕ, Bool, true, false, List, ap, sym, arith}
+use Rattle.std.proofs.Common.{◌≡◌, ◌∙◌, ℕ, Bool, List, ap, inl, inr, sym, arith}
 use Rattle.std.specs.Prelude.{Option, Some, None}
 use Rattle.osm_gate.specs.Forms.{query_of}
 use Rattle.osm_gate.specs.Requests.{Asked}
 use Rattle.osm_gate.specs.ResponseTexts.{Response}
-use Rattle.osm_gate.specs.Responses.{ByMethod, ByQuery, ByRoute, IsOutcomeOf, IsResponse, QueryOutcome, answered, by_outcome, ends, method_of, not_read, root_by_method}
+use Rattle.osm_gate.specs.Responses.{ByMethod, ByQuery, ByRoute, GivesAt, IsResponse, ends, method_of, root_by_method}
 use Rattle.osm_gate.specs.Routes.{path_of, route_of}
+use Rattle.osm_gate.specs.declared.endpoint.Endpoint.{Endpoint}
+use Rattle.osm_gate.specs.declared.endpoint.Endpoint.TheVariants.{Answer, AnswerWithProof}
 use Rattle.osm_gate.specs.declared.method.Method.{Method}
 use Rattle.osm_gate.specs.declared.method.Method.TheVariants.{Get, Other, Post}
 use Rattle.osm_gate.specs.declared.query_text.QuerySource.TheVariants.{Body, Target}
@@ -17,15 +19,14 @@ use Rattle.osm_keys.specs.Publications.{Publication, root_of}
 other-status : (r : Response) (n : ℕ) (root : List ℕ) → r.head.status ≡ n → (n ≡ 200 → ⊥) → r.head.status ≡ 200 → r.head.root ≡ Some root
 other-status r n root is apart ok = absurd (apart (sym is ∙ ok))
 
-outcome-root : (reply : Reply) (p : Publication) (query : List ℕ) (outcome : QueryOutcome) (r : Response)
-    → IsOutcomeOf p query outcome → r ≡ by_outcome reply outcome → r.head.status ≡ 200 → r.head.root ≡ Some (root_of p)
-unfolding IsOutcomeOf
-outcome-root reply p query (not_read fault) r is_of is ok = other-status r 400 (root_of p) (ap (λ (r : Response). r.head.status) is) (λ e. omega arith) ok
-outcome-root reply p query (answered root answer proof) r is_of is ok = ap (λ (r : Response). r.head.root) is ∙ ap (λ (root : List ℕ). Some root) is_of.0
+given-root : (endpoint : Endpoint) (closes : Bool) (p : Publication) (query : List ℕ) (r : Response) → GivesAt endpoint closes p query r → r.head.root ≡ Some (root_of p)
+given-root Answer closes p query r (answer, is_answer, is) = ap (λ (r : Response). r.head.root) is
+given-root AnswerWithProof closes p query r (answer, proof, is_proved, is) = ap (λ (r : Response). r.head.root) is
 
 query-root : (reply : Reply) (p : Publication) (q : Option (List ℕ)) (r : Response) → ByQuery reply p q r → r.head.status ≡ 200 → r.head.root ≡ Some (root_of p)
 query-root reply p None r is ok = other-status r 400 (root_of p) (ap (λ (r : Response). r.head.status) is) (λ e. omega arith) ok
-query-root reply p (Some query) r (outcome, is_of, is) ok = outcome-root reply p query outcome r is_of is ok
+query-root reply p (Some query) r (inl (fault, has, is)) ok = other-status r 400 (root_of p) (ap (λ (r : Response). r.head.status) is) (λ e. omega arith) ok
+query-root reply p (Some query) r (inr gives) ok = given-root reply.endpoint reply.closes p query r gives
 
 method-root : (reply : Reply) (p : Publication) (a : Asked) (m : Method) (r : Response) → ByMethod reply p a m r → r.head.status ≡ 200 → r.head.root ≡ Some (root_of p)
 method-root reply p a Get r is ok = query-root reply p (query_of Target a) r is ok

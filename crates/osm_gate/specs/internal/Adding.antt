@@ -1,12 +1,9 @@
 -- What the code writes responses from, and what it has added to its output.
-use Rattle.std.specs.Prelude.{◌≡◌, ℕ, List, ◌++◌, Result, Ok, Err, option_map}
+use Rattle.std.specs.Prelude.{◌≡◌, ℕ, List, ◌++◌, option_map}
 use Rattle.std.specs.Borrow.{Bor}
 use Rattle.std.specs.List.{flat_map}
 use Rattle.std.specs.String.{string_bytes}
-use Rattle.ql_syntax.specs.declared.fault.QlFault.{QlFault}
-use Rattle.osm_prove.specs.declared.proved.Proved.{Proved}
 use Rattle.osm_gate.specs.ResponseTexts.{HeadParts, Response, response_text}
-use Rattle.osm_gate.specs.Responses.{QueryOutcome, answered, not_read}
 use Rattle.osm_gate.specs.declared.query_text.QueryText.{QueryText}
 use Rattle.osm_gate.specs.declared.query_text.QueryText.TheVariants.{Body, Form}
 use Rattle.osm_gate.specs.declared.response.ResponseHead.{ResponseHead}
@@ -30,10 +27,6 @@ response_of head body = record { head = parts_of head; body = joined body }
 abbrev pub text_of : QueryText → List ℕ
 text_of (Form text) = string_bytes text
 text_of (Body body) = body.now
-
-abbrev pub outcome_of : Result Proved QlFault → QueryOutcome
-outcome_of (Ok proved) = answered proved.root.0 proved.answer.items proved.proof.items
-outcome_of (Err fault) = not_read fault
 
 -- a response was added of which this is so
 abbrev pub AddsResponse : (Response → Type 0) → List ℕ → List ℕ → Type 0

@@ -3,7 +3,7 @@
 
 use crate::tests::{snapshot_of, texts_of_sets};
 use osm_index::Edition;
-use osm_prove::{ProofFault, ProveFault, prove, read_proof};
+use osm_prove::{ProofFault, ProveFault, answer, prove, read_proof};
 use std::process::Abort;
 use std::test::Fail;
 
@@ -34,4 +34,20 @@ fn refused_memory_is_told_and_then_all_is_given(rt: HostRuntime) -> Result<(), F
     };
     assert_eq!(rt; proved.answer.as_slice(), b"n1\n".as_slice());
     check_read(&rt, &proved.proof)
+}
+
+#[test]
+fn an_answer_alone_is_given_within_memory(rt: HostRuntime) -> Result<(), Fail> {
+    let alloc = rt.alloc();
+    let snapshot = snapshot_of(alloc, texts_of_sets::ALL_KINDS, Edition::One)?;
+    let query = b"node[\"highway\"];out ids;";
+    let answered = match answer(alloc, &snapshot, query) {
+        Ok(answered) => answered,
+        Err(fault) => {
+            assert_eq!(rt; fault, ProveFault::Memory);
+            answer(alloc, &snapshot, query)?
+        }
+    };
+    assert_eq!(rt; answered.answer.as_slice(), b"n1\n".as_slice());
+    Ok(())
 }

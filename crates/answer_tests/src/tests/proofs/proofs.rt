@@ -6,7 +6,7 @@ use crate::tests::{snapshot_of, texts_of_sets};
 use opl_codec::read_set;
 use osm_index::{Edition, Snapshot};
 use osm_model::ObjectSet;
-use osm_prove::{prove, read_proof, write_proof};
+use osm_prove::{answer, prove, read_proof, write_proof};
 use ql_plain::answer_plain;
 use ql_syntax::parse;
 use std::alloc::Global;
@@ -96,6 +96,20 @@ fn only_the_leaf_that_is_met_is_listed(rt: HostRuntime) -> Result<(), Fail> {
         assert_eq!(rt; proved.answer.as_slice(), answer.as_bytes());
         let parts = read_proof(alloc, &proved.proof)?;
         assert_eq!(rt; parts.len(), nodes);
+    }
+    Ok(())
+}
+
+/// The same answers, under the root of the snapshot.
+#[test]
+fn answers_come_without_their_proofs(rt: HostRuntime) -> Result<(), Fail> {
+    let alloc = rt.alloc();
+    let set = texts_of_sets::sixty_five(alloc)?;
+    let snapshot = snapshot_of(alloc, set.as_str(), Edition::One)?;
+    for (query, wanted) in [("node(64);out ids;", "n64\n"), ("node(66);out ids;", "")] {
+        let answered = answer(alloc, &snapshot, query.as_bytes())?;
+        assert_eq!(rt; &answered.root, snapshot.root());
+        assert_eq!(rt; answered.answer.as_slice(), wanted.as_bytes());
     }
     Ok(())
 }

@@ -1,26 +1,8 @@
-use Rattle.std.proofs.Common.{◌≡◌, inl, inr, Err, ap, sym, ◌∙◌}
 use Rattle.std.proofs.lemmas.Result.{err_from_is_err_and}
-use Rattle.osm_prove.specs.Refusals.{refusal_of}
-use Rattle.osm_prove.specs.declared.prove_fault.ProveFault.TheVariants.{Query}
-use Rattle.osm_prove.proofs.Refusals.{fault_told, told_fault}
+use Rattle.osm_prove.proofs.Refusals.{passed_on}
 use Rattle.osm_prove.proofs.prover.prove.Goals as goal
 
 pub returns-in_err-parsed-clause-refused : goal.returns-in_err-parsed-clause-refused
 returns-in_err-parsed-clause-refused c =
     let told = err_from_is_err_and c.from_residual.result c.from_residual.ensures.1 in
-    λ fault has. elim (fault_told c.in_err-parsed.field-0.0 fault (c.in_err-parsed.ensures.faults fault has).1) [
-      | inl query ↦ inl (told.1 ∙ ap (λ e. Err e) (told.2 ∙ query))
-      | inr memory ↦ inr (told.1 ∙ ap (λ e. Err e) (told.2 ∙ memory))
-    ]
-
-pub returns-in_err-parsed-clause-told : goal.returns-in_err-parsed-clause-told
-returns-in_err-parsed-clause-told c =
-    let told = err_from_is_err_and c.from_residual.result c.from_residual.ensures.1 in
-    λ fault is.
-    let one : refusal_of c.in_err-parsed.field-0.0 ≡ Query fault = let same = sym (told.1 ∙ ap (λ e. Err e) told.2) ∙ is in cc in
-    told_fault c.args.query.now c.in_err-parsed.field-0.0 fault c.in_err-parsed.ensures.refused one
-
-pub returns-in_err-parsed-clause-only : goal.returns-in_err-parsed-clause-only
-returns-in_err-parsed-clause-only c =
-    let told = err_from_is_err_and c.from_residual.result c.from_residual.ensures.1 in
-    λ statements reads. rw (told.1, told.2) (ap refusal_of (c.in_err-parsed.ensures.only statements reads).1)
+    λ fault has. passed_on c.from_residual.result told.0 c.in_err-parsed.field-0.0 fault told.1 told.2 (c.in_err-parsed.ensures.refused fault has)
