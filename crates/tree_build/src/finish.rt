@@ -4,7 +4,7 @@ ghost use Rattle.std.specs.List.{AllByRecursion};
 ghost use Rattle.std.specs.Prelude.{◌≡◌, ◌⊎◌, ◌<◌, ◌≤◌, ◌-◌, ℕ, List, [], IfOk, IfSome, None, OnOk, length};
 ghost use Rattle.tree_build.specs.Changing.{Change};
 ghost use Rattle.tree_build.specs.Rebuilding.{IsOldTree, IsRebuilt, changed_entries, digests_of, nodes_of};
-ghost use Rattle.tree_build.specs.internal.Edits.{Each, IsNewNode, IsOldNode};
+ghost use Rattle.tree_build.specs.internal.Edits.{IsNewNode, StandForNodes};
 ghost use Rattle.tree_build.specs.declared.piece.NewPiece.{NewPiece as New};
 ghost use Rattle.tree_build.specs.internal.FoundTops.{HaveGained, IsFound, IsTopRead};
 ghost use Rattle.tree_build.specs.internal.Telling.{node_digest};
@@ -184,14 +184,14 @@ fn push_edit_diff(
     added: &mut Vec<NewNode>,
     gone: &mut Vec<Digest>,
 ) -> Result<(), AllocError>
-    ensures { (opened came : List Node) → Each IsOldNode edit.entry.olds.items opened → Each IsNewNode edit.entry.news.items came
-        → AllByRecursion IsNode opened → AllByRecursion IsNode came
+    ensures { (opened came : List Node) → StandForNodes edit.entry.olds.items edit.entry.news.items opened came
         → OnOk result (IsTold top_level level opened came (nodes_of added.old.items) (nodes_of added.new.items)
         (digests_of gone.old.items) (digests_of gone.new.items)) }
 {
+    let LevelEdit { olds, news } = edit;
     if level <= top_level {
-        push_level_diff(edit, added, gone)?;
+        push_level_diff(olds.as_slice(), news, added, gone)?;
         return Ok(());
     }
-    push_gone_digests(edit.olds.as_slice(), gone)
+    push_gone_digests(olds.as_slice(), gone)
 }

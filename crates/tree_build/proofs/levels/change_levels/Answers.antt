@@ -9,8 +9,8 @@ use Rattle.tree_build.specs.internal.Steps.{IsEdit}
 use Rattle.tree_build.specs.Rebuilding.{changes_of}
 use Rattle.tree_build.specs.internal.ItemChanges.{change_meant, changes_meant}
 use Rattle.tree_build.specs.internal.LeafItems.{entry_of}
-use Rattle.tree_build.proofs.TreeEdits.{edit_inner, edit_leaves, given_inner, given_leaves, held_of, levels_first, levels_more, next_of, nodes_new, nodes_old, old_then, at_top, none_next, tree_edit}
-use Rattle.tree_build.proofs.ReasonLevels.{has_next, reasoned_first, reasoned_next, reasons_inner, reasons_leaves}
+use Rattle.tree_build.proofs.TreeEdits.{edit_inner, edit_leaves, given_inner, given_leaves, held_of, levels_first, levels_more, next_of, nodes_new, nodes_old, old_then, at_top, has_next, none_next, tree_edit}
+use Rattle.tree_build.proofs.ReasonLevels.{reasoned_first, reasoned_next, reasons_inner, reasons_leaves}
 use Rattle.tree_build.proofs.UsedLemmas.{read_more}
 use Rattle.tree_build.proofs.ErrLemmas.{if_err}
 use Rattle.tree_build.proofs.levels.change_levels.Goals as goal

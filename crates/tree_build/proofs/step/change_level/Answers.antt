@@ -1,7 +1,6 @@
 use Rattle.std.proofs.Common.{List, ◌⊎◌, inl, length, map, refl, sym, ap, subst, arith}
-use Rattle.std.specs.List.{AllByRecursion, flat_map}
+use Rattle.std.specs.List.{flat_map}
 use Rattle.tree_node.specs.NodeRefs.{node_read, number_of}
-use Rattle.tree_node.specs.Nodes.{Binding}
 use Rattle.tree_node.specs.Trees.{Two, ends_by, level_at, levels, pieces}
 use Rattle.tree_build.proofs.DescentLemmas.{level_some_at}
 use Rattle.tree_build.proofs.SeekStates.{held_then}

@@ -1,5 +1,5 @@
 use Rattle.std.proofs.Common.{◌-◌, ◌<◌, ◌≤◌, List, length, map, drop, ◌⊎◌, ℕ, take}
-use Rattle.std.specs.List.{AllByRecursion, flat_map}
+use Rattle.std.specs.List.{flat_map}
 use Rattle.tree_node.specs.NodeRefs.{number_of}
 use Rattle.tree_node.specs.Nodes.{Binding}
 use Rattle.tree_node.specs.Shelves.{SameNodes}
