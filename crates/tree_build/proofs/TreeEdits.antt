@@ -17,7 +17,7 @@ use Rattle.tree_build.specs.internal.Edits.{StandForNodes}
 use Rattle.tree_build.specs.internal.RisingChanges.{AreOwnAndRising}
 use Rattle.tree_build.specs.internal.Steps.{CanStep, IsEdit}
 use Rattle.tree_build.specs.internal.Towers.{tower}
-use Rattle.tree_build.specs.internal.TreeEdits.{AreEdits, HasNext, HaveOpened, IsTreeEdit}
+use Rattle.tree_build.specs.internal.TreeEdits.{AreEdits, HasNext, HasTopLevel, HaveOpened, IsTreeEdit}
 use Rattle.tree_build.specs.declared.levels.TreeEdit.{TreeEdit}
 use Rattle.tree_build.specs.internal.Weaving.{IsIn, Woven, none, left, right}
 use Rattle.tree_build.specs.declared.step.LevelEdit.{LevelEdit}
@@ -205,6 +205,9 @@ held_of held top changes tree entries is = record { is_tree = is.is_tree; has = 
 
 pub old_then : (old new : List ℕ → Type 0) (top : List ℕ) (changes : List (Change Binding)) (tree : ℕ) (entries : List Binding) → ((x : List ℕ) → old x → new x) → IsOldTree old top changes tree entries → IsOldTree new top changes tree entries
 old_then old new top changes tree entries more is = record { is_tree = is.is_tree; has = is.has; is_top = is.is_top; holds = λ x of. more x (is.holds x of); rising = is.rising; changed_has = is.changed_has }
+
+pub top_level_then : (old new : List ℕ → Type 0) (top : List ℕ) (changes : List (Change Binding)) (tree : ℕ) (entries : List Binding) (top_level : ℕ) → ((x : List ℕ) → old x → new x) → HasTopLevel old top changes tree entries top_level → HasTopLevel new top changes tree entries top_level
+top_level_then old new top changes tree entries top_level more has = record { is = old_then old new top changes tree entries more has.is; height = has.height }
 
 -- what a step of the leaves is given
 pub given_leaves : (held : List ℕ → Type 0) (top : List ℕ) (changes : List EntryChange) (tree : ℕ) (entries : List Binding) (given : List (Change Binding)) → given ≡ changes_of changes → 1 ≤ length changes → IsOldTree held top (changes_of changes) tree entries

@@ -21,8 +21,8 @@ taken node = record { key = greatest_of node; put = None }
 abbrev pub put : Node → Change Link
 put node = record { key = greatest_of node; put = Some (link_to node) }
 
--- The old nodes and the new ones, those of the old that aren't new, those of the new that aren't old, and the changes from
--- the items that stand for the old ones to those that stand for the new.
+-- The old nodes and the new ones, those of the old that aren't new, those of the new that aren't old, and the changes
+-- from the items that stand for the old ones to those that stand for the new.
 pub data Differ : List Node → List Node → List Node → List Node → List (Change Link) → Type 0 where
   nothing : Differ [] [] [] [] []
   gone_last : (o : Node) (os lost gained : List Node) (cs : List (Change Link)) → Differ os [] lost gained cs → Differ (o ∷ os) [] (o ∷ lost) gained (taken o ∷ cs)
@@ -69,8 +69,8 @@ abbrev pub step_changes : List OldNode → Bool → Node → List (Change Link)
 step_changes olds true node = gone_changes olds ++ put node ∷ []
 step_changes olds false node = gone_changes olds
 
--- At a new node these old ones are gone, and these are left. What the lists differ by from there on makes, with this node
--- and these changes, what they differ by.
+-- At a new node these old ones are gone, and these are left. What the lists differ by from there on makes, with this
+-- node and these changes, what they differ by.
 pub record GoesOn (olds : List Node) (new : Node) (gone rest : List OldNode) (gained : List Node) (changes : List (Change Link)) : Type 0 where
   pub lost : List Node
   pub lost_stand : Each IsOldNode gone lost
