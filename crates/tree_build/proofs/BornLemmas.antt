@@ -1,5 +1,5 @@
--- What the greatest key of a new node says of the old level: a change has it, or the old node that is sought for it shares
--- an item with the new one.
+-- What the greatest key of a new node says of the old level: a change has it, or the old node that is sought for it
+-- shares an item with the new one.
 use Rattle.std.proofs.Common.{◌≡◌, ℕ, ◌≤◌, List, [], ◌∷◌, ◌++◌, length, map, ◌⊎◌, inl, inr, Bool, Option, None, Some, refl, sym, ap, subst, ◌∙◌, append_assoc, arith}
 use Rattle.std.specs.Prelude.{IfSome}
 use Rattle.std.specs.List.{flat_map, AllByRecursion}

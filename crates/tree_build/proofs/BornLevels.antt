@@ -11,16 +11,10 @@ use Rattle.tree_build.specs.Rebuilding.{changed_entries}
 use Rattle.tree_build.specs.internal.RisingChanges.{AreOwnAndRising}
 use Rattle.tree_build.specs.internal.Steps.{IsLevel, keys_changed}
 use Rattle.tree_build.specs.internal.Towers.{tower}
-use Rattle.tree_build.specs.internal.TreeEdits.{HasNext}
-use Rattle.tree_build.specs.declared.step.LevelEdit.{LevelEdit}
 use Rattle.tree_build.proofs.BornLemmas.{AreBorn, all_born}
 use Rattle.tree_build.proofs.LevelsLemmas.{tower_step}
 use Rattle.tree_build.proofs.OldLevels.{all_last, all_some, flat_over, inner_level, leaf_level, leaves_at, old_rises, tower_first, tower_next, tower_rises}
 use Rattle.tree_build.proofs.TreeEdits.{NextChanges, items_changed, next_own}
-
-pub next_changes : (old new : List Node) (edit : LevelEdit) (cs : List (Change Link)) → HasNext old new edit cs → NextChanges old new cs
-next_changes old new edit cs next =
-    record { kept = next.is.kept; opened = next.is.opened; came = next.is.came; lost = next.lost; gained = next.gained; was = next.is.was; is = next.is.is; parent_changes = next.parent_changes }
 
 module _ (tree : ℕ) (entries : List Binding) (changes : List (Change Binding)) (is_tree : IsTree tree) (has : HasTree entries) (changed_has : HasTree (changed_entries entries changes)) where
   abbrev after : List Binding

@@ -68,8 +68,8 @@ none_clash old new tree gained free (a, b, is_a, is_b, parent_changes, same) = p
 
 -- ---- from level to level
 
--- The levels up to one of them were put, and what an inner node says of each node of that one is at hand. The next level
--- has this number.
+-- The levels up to one of them were put, and what an inner node says of each node of that one is at hand. The next
+-- level has this number.
 pub record Rising (shape : Shape) (tree : ℕ) (entries : List Binding) (level : ℕ) (links : List Link) (old new : List ℕ → Type 0) : Type 0 where
   pub nodes : List Node
   pub below : List (List Node)

@@ -1,5 +1,5 @@
--- The changes that two lists of nodes differ by take the items of the one level to those of the other; the nodes that the
--- one list has and the other hasn't.
+-- The changes that two lists of nodes differ by take the items of the one level to those of the other; the nodes that
+-- the one list has and the other hasn't.
 use Rattle.std.proofs.Common.{◌≡◌, ◌≢◌, ℕ, List, [], ◌∷◌, map, ◌⊎◌, inl, inr, Option, None, Some, refl, sym, ap, subst, ◌∙◌}
 use Rattle.std.specs.Prelude.{IfSome}
 use Rattle.std.specs.List.{AllByRecursion}

@@ -10,10 +10,12 @@ use Rattle.tree_node.specs.Shelves.{IsClashFree}
 use Rattle.tree_node.specs.Trees.{HasTree, IsNodeOf, Two, level_at, levels, no_node}
 use Rattle.tree_build.specs.Changing.{Change}
 use Rattle.tree_build.specs.Rebuilding.{AreDifferent, IsAmong, IsOldTree, IsRebuilt, changed_entries, digests_of, nodes_of}
+use Rattle.tree_build.specs.declared.levels.TreeEdit.{TreeEdit}
 use Rattle.tree_build.specs.declared.rebuilt.Rebuilt.{Rebuilt}
 use Rattle.tree_build.specs.declared.step.LevelEdit.{LevelEdit}
-use Rattle.tree_build.specs.internal.FoundTops.{AreOnce, IsFound, IsOpened}
+use Rattle.tree_build.specs.internal.FoundTops.{AreOnce, CanFindTop, IsFound, IsOpened}
 use Rattle.tree_build.specs.internal.Telling.{node_digest}
+use Rattle.tree_build.specs.internal.TreeEdits.{HasTreeEdit}
 use Rattle.tree_build.specs.internal.TreeTelling.{HaveTold}
 use Rattle.tree_build.specs.internal.Weaving.{IsIn}
 use Rattle.tree_build.proofs.LevelsLemmas.{all_rise, in_none, in_range, level_in, low_or_past, nodes_in}
@@ -215,6 +217,12 @@ module _ (held : List ℕ → Type 0) (old_top : List ℕ) (changes : List (Chan
       }
 
 -- ---- whether the old top stays
+
+-- the top is found from the edits of a tree
+pub can_find_top : (held : List ℕ → Type 0) (top : List ℕ) (changes : List (Change Binding)) (tree : ℕ) (entries : List Binding) (edited : TreeEdit) (given : Option Digest) → HasTreeEdit held top changes tree entries edited
+    → (given ≡ None → edited.stays ≡ false) → CanFindTop held top changes tree entries given edited.edits.items
+can_find_top held top changes tree entries edited given has none =
+    record { is = has.is; are = has.edit.are; opened = has.edit.opened; some = has.edit.some; high = has.edit.within; whole = λ e. has.edit.whole (none e) }
 
 pub none_stays : (b : Bool) (top : Digest) (o : Option Digest) → o ≡ then_some b top → o ≡ None → b ≡ false
 none_stays true top o is none = absurd (let t : Some top ≡ None = sym is ∙ none in cc)

@@ -1,4 +1,4 @@
--- A piece that is taken in while something is in hand is no piece of the new list: what it begins with stands in the
+-- A piece that is taken in while something is pending is no piece of the new list: what it begins with stands in the
 -- midst of one.
 use Rattle.std.proofs.Common.{◌≡◌, ◌≢◌, ℕ, ◌+◌, List, [], ◌∷◌, ◌++◌, length, ◌⊎◌, inl, inr, Bool, true, false, cond, refl, sym, ap, subst}
 use Rattle.std.specs.List.{AllByRecursion}
@@ -22,26 +22,26 @@ module _ {X : Type 0} (key : X → List ℕ) (ends : ℕ → X → Bool) where
 
   -- what all items have, the first ones of all pieces have
   pieces_begin : (P : X → Type 0) (pending xs : List X) → AllByRecursion P pending → AllByRecursion P xs → AllByRecursion (Begins P) (pieces_from ends pending xs)
-  pieces_begin P [] [] in_hand all = tt
-  pieces_begin P (h ∷ hs) [] in_hand all = (in_hand.0, tt)
-  pieces_begin P pending (x ∷ xs) in_hand all =
+  pieces_begin P [] [] all_pending all = tt
+  pieces_begin P (h ∷ hs) [] all_pending all = (all_pending.0, tt)
+  pieces_begin P pending (x ∷ xs) all_pending all =
       subst (λ (ps : List (List X)). AllByRecursion (Begins P) ps) (sym (pieces_step ends pending x xs))
       (chosen (λ (ps : List (List X)). AllByRecursion (Begins P) ps) (ends (length pending + 1) x) ((pending ++ x ∷ []) ∷ pieces_from ends [] xs) (pieces_from ends (pending ++ x ∷ []) xs)
-      (λ _. (begins_more P pending x in_hand all.0, pieces_begin P [] xs tt all.1))
-      (λ _. pieces_begin P (pending ++ x ∷ []) xs (all_append P pending (x ∷ []) in_hand (all.0, tt)) all.1))
+      (λ _. (begins_more P pending x all_pending all.0, pieces_begin P [] xs tt all.1))
+      (λ _. pieces_begin P (pending ++ x ∷ []) xs (all_append P pending (x ∷ []) all_pending (all.0, tt)) all.1))
 
   done_begin : (P : X → Type 0) (pending xs : List X) → AllByRecursion P pending → AllByRecursion P xs → AllByRecursion (Begins P) (done_by ends pending xs) × AllByRecursion P (pending_after ends pending xs)
-  done_begin P pending [] in_hand all = (tt, in_hand)
-  done_begin P pending (x ∷ xs) in_hand all = step (ends (length pending + 1) x) (done_begin P [] xs tt all.1) (done_begin P (pending ++ x ∷ []) xs (all_append P pending (x ∷ []) in_hand (all.0, tt)) all.1)
+  done_begin P pending [] all_pending all = (tt, all_pending)
+  done_begin P pending (x ∷ xs) all_pending all = step (ends (length pending + 1) x) (done_begin P [] xs tt all.1) (done_begin P (pending ++ x ∷ []) xs (all_append P pending (x ∷ []) all_pending (all.0, tt)) all.1)
     where
       step : (b : Bool)
           → AllByRecursion (Begins P) (done_by ends [] xs) × AllByRecursion P (pending_after ends [] xs)
           → AllByRecursion (Begins P) (done_by ends (pending ++ x ∷ []) xs) × AllByRecursion P (pending_after ends (pending ++ x ∷ []) xs)
           → AllByRecursion (Begins P) (cond b ((pending ++ x ∷ []) ∷ done_by ends [] xs) (done_by ends (pending ++ x ∷ []) xs)) × AllByRecursion P (cond b (pending_after ends [] xs) (pending_after ends (pending ++ x ∷ []) xs))
-      step true p q = ((begins_more P pending x in_hand all.0, p.0), p.1)
+      step true p q = ((begins_more P pending x all_pending all.0, p.0), p.1)
       step false p q = q
 
-  -- of a list with something in hand the first piece begins with that, the others with an item of the list
+  -- of a list with something pending the first piece begins with that, the others with an item of the list
   first_or_other : (P Q : X → Type 0) (h : X) (hs xs : List X) → P h → AllByRecursion Q xs → AllByRecursion (λ (p : List X). Begins P p ⊎ Begins Q p) (pieces_from ends (h ∷ hs) xs)
   first_or_other P Q h hs [] has all = (inl has, tt)
   first_or_other P Q h hs (x ∷ xs) has all =
@@ -74,10 +74,10 @@ module _ {X : Type 0} (key : X → List ℕ) (ends : ℕ → X → Bool) where
     all_either [] all = tt
     all_either (p ∷ ps) all = (elim all.0 [ inl low ↦ begins_below p low | inr high ↦ begins_above p high ], all_either ps all.1)
 
-    pub in_hand : (pending xs : List X) → pending ≢ [] → AllByRecursion (λ (y : X). IsBelow (key y) (key x)) pending → AllByRecursion (λ (y : X). IsBelow (key x) (key y)) xs
+    pub pending_before : (pending xs : List X) → pending ≢ [] → AllByRecursion (λ (y : X). IsBelow (key y) (key x)) pending → AllByRecursion (λ (y : X). IsBelow (key x) (key y)) xs
         → AllByRecursion IsOther (pieces_from ends pending (x ∷ xs))
-    in_hand [] xs some low high = absurd (some refl)
-    in_hand (h ∷ hs) xs some low high =
+    pending_before [] xs some low high = absurd (some refl)
+    pending_before (h ∷ hs) xs some low high =
         let P : X → Type 0 = λ (y : X). IsBelow (key y) (key x) in
         let Q : X → Type 0 = λ (y : X). IsBelow (key x) (key y) in
         chosen (λ (ps : List (List X)). AllByRecursion IsOther ps) (ends (length (h ∷ hs) + 1) x) ((h ∷ (hs ++ x ∷ [])) ∷ pieces_from ends [] xs) (pieces_from ends (h ∷ (hs ++ x ∷ [])) xs)
@@ -88,7 +88,7 @@ module _ {X : Type 0} (key : X → List ℕ) (ends : ℕ → X → Bool) where
         above_all [] all = tt
         above_all (p ∷ ps) all = (begins_above p all.0, above_all ps all.1)
 
-    -- Where something is in hand when an old piece comes, this piece is none of the new ones.
+    -- Where something is pending when an old piece comes, this piece is none of the new ones.
     pub taken_in : (before behind : List X) → pending_after ends [] before ≢ []
         → AllByRecursion (λ (y : X). IsBelow (key y) (key x)) before → AllByRecursion (λ (y : X). IsBelow (key x) (key y)) behind
         → AllByRecursion (λ (p : List X). p ≢ x ∷ rest) (pieces ends (before ++ x ∷ behind))
@@ -96,4 +96,4 @@ module _ {X : Type 0} (key : X → List ℕ) (ends : ℕ → X → Bool) where
         let parts = done_begin (λ (y : X). IsBelow (key y) (key x)) [] before tt low in
         subst (λ (ps : List (List X)). AllByRecursion IsOther ps) (sym (pieces_append ends [] before (x ∷ behind)))
         (all_append IsOther (done_by ends [] before) (pieces_from ends (pending_after ends [] before) (x ∷ behind))
-        (all_below (done_by ends [] before) parts.0) (in_hand (pending_after ends [] before) behind some parts.1 high))
+        (all_below (done_by ends [] before) parts.0) (pending_before (pending_after ends [] before) behind some parts.1 high))

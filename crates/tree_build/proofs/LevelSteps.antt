@@ -1,4 +1,4 @@
--- How the cutting of a changed level goes on, piece by piece of the old level: what was made so far, what is in hand,
+-- How the cutting of a changed level goes on, piece by piece of the old level: what was made so far, what is pending,
 -- the old pieces and the changes still to come.
 use Rattle.std.proofs.Common.{◌≡◌, ℕ, List, [], ◌∷◌, ◌++◌, Bool, sym, ap, ◌∙◌, append_assoc}
 use Rattle.std.specs.List.{AllByRecursion}
@@ -14,7 +14,7 @@ use Rattle.tree_build.proofs.RecutLemmas.{front_cut, front_pieces, pieces_append
 use Rattle.tree_build.proofs.ChangeLemmas.{IsUpToOwn, changed_behind, changed_split}
 
 module _ {X : Type 0} (key : X → List ℕ) (ends : ℕ → X → Bool) (goal : List (List X)) where
-  -- The pieces that are wanted: those made, and those of what is in hand with the old pieces to come under the changes
+  -- The pieces that are wanted: those made, and those of what is pending with the old pieces to come under the changes
   -- to come.
   pub record IsCutTo (made : List (List X)) (pending : List X) (back : List (List X)) (changes : List (Change X)) : Type 0 where
     pub rest : goal ≡ made ++ pieces_from ends pending (changed key (join back) changes)
@@ -23,7 +23,7 @@ module _ {X : Type 0} (key : X → List ℕ) (ends : ℕ → X → Bool) (goal :
   pub cut_start : (items : List X) (changes : List (Change X)) → goal ≡ pieces ends (changed key items changes) → IsCutTo [] [] (pieces ends items) changes
   cut_start items changes e = record { rest = e ∙ ap (λ (xs : List X). pieces ends (changed key xs changes)) (sym (pieces_join ends [] items)) }
 
-  -- nothing is in hand, and no change is of the next old piece: it stays, unread
+  -- nothing is pending, and no change is of the next old piece: it stays, unread
   pub cut_keep : (made : List (List X)) (piece : List X) (back : List (List X)) (changes : List (Change X)) → IsCutTo made [] (piece ∷ back) changes → IsClosed ends piece
       → AllByRecursion (λ (c : Change X). AllByRecursion (λ (x : X). IsBelow (key x) c.key) piece) changes → IsCutTo (made ++ piece ∷ []) [] back changes
   cut_keep made piece back changes so closed above = record {
@@ -45,7 +45,7 @@ module _ {X : Type 0} (key : X → List ℕ) (ends : ℕ → X → Bool) (goal :
         ∙ sym (append_assoc made (done_by ends pending (changed key piece here)) (pieces_from ends (pending_after ends pending (changed key piece here)) (changed key (join back) others)));
   }
 
-  -- the last old piece is opened, with all changes that are left; what is in hand then is the last piece
+  -- the last old piece is opened, with all changes that are left; what is pending then is the last piece
   pub cut_last : (made : List (List X)) (pending piece : List X) (changes : List (Change X)) → IsCutTo made pending (piece ∷ []) changes
       → goal ≡ made ++ done_by ends pending (changed key piece changes) ++ pieces_from ends (pending_after ends pending (changed key piece changes)) []
   cut_last made pending piece changes so =
@@ -55,11 +55,11 @@ module _ {X : Type 0} (key : X → List ℕ) (ends : ℕ → X → Bool) (goal :
       ∙ ap (λ (ps : List (List X)). made ++ ps) (pieces_append ends pending (changed key piece changes) [])
       ∙ sym (append_assoc made (done_by ends pending (changed key piece changes)) (pieces_from ends (pending_after ends pending (changed key piece changes)) []))
 
-  -- no change is left and nothing is in hand: all old pieces to come stay
+  -- no change is left and nothing is pending: all old pieces to come stay
   pub cut_rest : (made back : List (List X)) → IsCutTo made [] back [] → ArePieces ends back → goal ≡ made ++ back
   cut_rest made back so are = so.rest ∙ ap (λ (ps : List (List X)). made ++ ps) (pieces_of_join ends back are)
 
-  -- nothing is in hand, and no change is of some old pieces that others follow: they stay, unread
+  -- nothing is pending, and no change is of some old pieces that others follow: they stay, unread
   pub cut_skip : (made kept : List (List X)) (piece : List X) (back : List (List X)) (changes : List (Change X)) → IsCutTo made [] (kept ++ piece ∷ back) changes → ArePieces ends (kept ++ piece ∷ back)
       → AllByRecursion (λ (c : Change X). AllByRecursion (λ (x : X). IsBelow (key x) c.key) (join kept)) changes → IsCutTo (made ++ kept) [] (piece ∷ back) changes
   cut_skip made kept piece back changes so are above = record {

@@ -3,7 +3,7 @@ use Rattle.std.proofs.Common.{◌≡◌, ℕ, zero, suc, ◌+◌, ◌<◌, ◌�
 use Rattle.std.specs.List.{AllByRecursion}
 use Rattle.std.proofs.Math.Seq.{get_or-append_seam}
 use Rattle.tree_node.specs.Nodes.{Binding, Inner, Leaf, Link, Node}
-use Rattle.tree_node.specs.Trees.{Two, ends_by, entries_in, is_marked_entry, is_marked_link, level_at, levels, link_to, links_in, one_at_least, pieces}
+use Rattle.tree_node.specs.Trees.{Two, ends_by, is_marked_entry, is_marked_link, level_at, levels, link_to, one_at_least, pieces}
 use Rattle.tree_node.proofs.shared.TreeLaws.{pair_at, whole}
 use Rattle.tree_build.specs.internal.Unmarked.{IsUnmarkedInside}
 use Rattle.tree_build.specs.Cuts.{EndsNoSooner}

@@ -1,4 +1,4 @@
--- How far the cutting of some items has come: what was made of them, and what is in hand.
+-- How far the cutting of some items has come: what was made of them, and what is pending.
 use Rattle.std.proofs.Common.{◌≡◌, ℕ, zero, suc, ◌+◌, ◌<◌, ◌≤◌, List, [], ◌∷◌, ◌++◌, length, get_or, drop, map, take, Bool, true, false, cond, refl, sym, ap, subst, ◌∙◌, append_assoc, add-one, arith}
 use Rattle.std.proofs.lemmas.List.{append-nil, map-append, take_more}
 use Rattle.std.proofs.Math.Seq.{drop-cons}
@@ -9,7 +9,7 @@ use Rattle.tree_build.specs.declared.piece.NewPiece.{NewPiece}
 use Rattle.tree_build.specs.internal.Cutting.{done_by, pending_after}
 use Rattle.tree_build.specs.internal.Edits.{Each, HaveCome, IsNewNode}
 use Rattle.tree_build.specs.internal.Steps.{HaveGoneOn}
-use Rattle.tree_build.proofs.RecutLemmas.{done_append, hand_append}
+use Rattle.tree_build.proofs.RecutLemmas.{done_append, pending_append}
 
 -- ---- what is left of a list that a loop goes over
 
@@ -57,16 +57,16 @@ module _ {X : Type 0} (Fit : List X → Type 0) (ends : ℕ → X → Bool) (nod
     pub made : List Node
     pub come : HaveCome before after made
     pub whole : map node (done_by ends first items) ≡ made ++ map node (done_by ends pending rest)
-    pub hands : pending_after ends first items ≡ pending_after ends pending rest
+    pub pending_is : pending_after ends first items ≡ pending_after ends pending rest
 
   pub cutting_start : (first items : List X) (news : List NewPiece) → Fit (first ++ items) → IsCutting first items news news first items
-  cutting_start first items news fit = record { fit = fit; made = []; come = come_none news; whole = refl; hands = refl }
+  cutting_start first items news fit = record { fit = fit; made = []; come = come_none news; whole = refl; pending_is = refl }
 
   module _ (parts : (xs ys : List X) → Fit (xs ++ ys) → Fit xs × Fit ys) (first items : List X) (before mid : List NewPiece) (pending : List X) (x : X) (rest : List X) (so : IsCutting first items before mid pending (x ∷ rest)) where
     fit_all : Fit ((pending ++ x ∷ []) ++ rest)
     fit_all = subst Fit (sym (append_assoc pending (x ∷ []) rest)) so.fit
 
-    -- the item can be taken in hand
+    -- the item can be pending too
     pub cutting_fit : Fit (pending ++ x ∷ [])
     cutting_fit = (parts (pending ++ x ∷ []) rest fit_all).0
 
@@ -87,20 +87,20 @@ module _ {X : Type 0} (Fit : List X → Type 0) (ends : ℕ → X → Bool) (nod
           ∙ ap (λ (ps : List (List X)). so.made ++ map node ps) (done_append ends pending (x ∷ []) rest)
           ∙ ap (λ (ns : List Node). so.made ++ ns) (map-append node (done_by ends pending (x ∷ [])) (done_by ends (pending_after ends pending (x ∷ [])) rest))
           ∙ sym (append_assoc so.made (map node (done_by ends pending (x ∷ []))) (map node (done_by ends (pending_after ends pending (x ∷ [])) rest)));
-      hands = so.hands ∙ hand_append ends pending (x ∷ []) rest;
+      pending_is = so.pending_is ∙ pending_append ends pending (x ∷ []) rest;
     })
 
   -- all were taken
   pub cutting_done : (first items : List X) (before after : List NewPiece) (pending : List X) → IsCutting first items before after pending [] → HaveCome before after (map node (done_by ends first items))
   cutting_done first items before after pending so = subst (λ (ns : List Node). HaveCome before after ns) (sym (so.whole ∙ append-nil so.made)) so.come
 
--- ---- what is in hand behind some items
+-- ---- what is pending behind some items
 
 module _ {X : Type 0} (ends : ℕ → X → Bool) where
-  -- the pieces that ended, and what is in hand, are what there was
-  pub hand_joins : (pending xs : List X) → join (done_by ends pending xs) ++ pending_after ends pending xs ≡ pending ++ xs
-  hand_joins pending [] = sym (append-nil pending)
-  hand_joins pending (x ∷ xs) = step (ends (length pending + 1) x) (hand_joins [] xs) (hand_joins (pending ++ x ∷ []) xs)
+  -- the pieces that ended, and what is pending, are what there was
+  pub pending_joins : (pending xs : List X) → join (done_by ends pending xs) ++ pending_after ends pending xs ≡ pending ++ xs
+  pending_joins pending [] = sym (append-nil pending)
+  pending_joins pending (x ∷ xs) = step (ends (length pending + 1) x) (pending_joins [] xs) (pending_joins (pending ++ x ∷ []) xs)
     where
       step : (b : Bool) → join (done_by ends [] xs) ++ pending_after ends [] xs ≡ xs → join (done_by ends (pending ++ x ∷ []) xs) ++ pending_after ends (pending ++ x ∷ []) xs ≡ (pending ++ x ∷ []) ++ xs
           → join (cond b ((pending ++ x ∷ []) ∷ done_by ends [] xs) (done_by ends (pending ++ x ∷ []) xs)) ++ cond b (pending_after ends [] xs) (pending_after ends (pending ++ x ∷ []) xs) ≡ pending ++ x ∷ xs
@@ -108,23 +108,23 @@ module _ {X : Type 0} (ends : ℕ → X → Bool) where
       step false one two = two ∙ append_assoc pending (x ∷ []) xs
 
   module _ (Fit : List X → Type 0) (parts : (xs ys : List X) → Fit (xs ++ ys) → Fit xs × Fit ys) where
-    -- what is in hand fits, where all did
-    pub hand_fits : (pending xs others : List X) → Fit (pending ++ (xs ++ others)) → Fit (pending_after ends pending xs ++ others)
-    hand_fits pending xs others fit =
+    -- what is pending fits, where all did
+    pub pending_fits : (pending xs others : List X) → Fit (pending ++ (xs ++ others)) → Fit (pending_after ends pending xs ++ others)
+    pending_fits pending xs others fit =
         (parts (join (done_by ends pending xs)) (pending_after ends pending xs ++ others)
         (subst Fit
-        (sym (append_assoc pending xs others) ∙ ap (λ (ys : List X). ys ++ others) (sym (hand_joins pending xs)) ∙ append_assoc (join (done_by ends pending xs)) (pending_after ends pending xs) others)
+        (sym (append_assoc pending xs others) ∙ ap (λ (ys : List X). ys ++ others) (sym (pending_joins pending xs)) ∙ append_assoc (join (done_by ends pending xs)) (pending_after ends pending xs) others)
         fit)).1
 
     pub last_fits : (pending xs : List X) → Fit (pending ++ xs) → Fit (pending_after ends pending xs)
-    last_fits pending xs fit = (parts (join (done_by ends pending xs)) (pending_after ends pending xs) (subst Fit (sym (hand_joins pending xs)) fit)).1
+    last_fits pending xs fit = (parts (join (done_by ends pending xs)) (pending_after ends pending xs) (subst Fit (sym (pending_joins pending xs)) fit)).1
 
   -- the items were cut, and the level closed where they are its last
-  pub gone_on : (over : List X → Node) (is_last : Bool) (pending : List X) (news : List NewPiece) (items others mid_hand next : List X) (mid later : List NewPiece)
-      → HaveCome news mid (map over (done_by ends pending others)) → mid_hand ≡ pending_after ends pending others → others ≡ items
-      → HaveCome mid later (map over (cond is_last (pieces_from ends mid_hand []) [])) → next ≡ cond is_last [] mid_hand → HaveGoneOn ends over is_last pending news items next later
-  gone_on over is_last pending news items others mid_hand next mid later cut pending_is same come next_is =
-      let all : mid_hand ≡ pending_after ends pending items = pending_is ∙ ap (pending_after ends pending) same in
+  pub gone_on : (over : List X → Node) (is_last : Bool) (pending : List X) (news : List NewPiece) (items others mid_pending next : List X) (mid later : List NewPiece)
+      → HaveCome news mid (map over (done_by ends pending others)) → mid_pending ≡ pending_after ends pending others → others ≡ items
+      → HaveCome mid later (map over (cond is_last (pieces_from ends mid_pending []) [])) → next ≡ cond is_last [] mid_pending → HaveGoneOn ends over is_last pending news items next later
+  gone_on over is_last pending news items others mid_pending next mid later cut pending_is same come next_is =
+      let all : mid_pending ≡ pending_after ends pending items = pending_is ∙ ap (pending_after ends pending) same in
       let last : HaveCome mid later (map over (cond is_last (pieces_from ends (pending_after ends pending items) []) [])) =
       subst (λ (h : List X). HaveCome mid later (map over (cond is_last (pieces_from ends h []) []))) all come in
       let first : HaveCome news mid (map over (done_by ends pending items)) = subst (λ (ys : List X). HaveCome news mid (map over (done_by ends pending ys))) same cut in

@@ -14,12 +14,13 @@ use Rattle.tree_build.specs.internal.Weaving.{IsIn}
 use Rattle.tree_build.specs.declared.old_node.OldNode.{OldNode}
 use Rattle.tree_build.specs.declared.step.LevelEdit.{LevelEdit}
 use Rattle.tree_build.proofs.BornLemmas.{AreBorn}
-use Rattle.tree_build.proofs.BornLevels.{born_inner, born_leaves, next_changes}
+use Rattle.tree_build.proofs.BornLevels.{born_inner, born_leaves}
 use Rattle.tree_build.proofs.CountedLemmas.{IsCounted, parent_counts, sought_link, way_counts}
 use Rattle.tree_build.proofs.LevelsLemmas.{empty_tree, in_all, in_range, nodes_in, tower_in}
 use Rattle.tree_build.proofs.NextSought.{IsFoundIn, next_opened, sought_in}
 use Rattle.tree_build.proofs.OldLevels.{leaf_level, leaves_at, old_rises, tower_rises}
 use Rattle.tree_build.proofs.ParentLemmas.{one_spelling}
+use Rattle.tree_build.proofs.TreeEdits.{next_changes}
 use Rattle.tree_build.proofs.WeaveLemmas.{in_back, woven_second}
 
 -- ---- lists

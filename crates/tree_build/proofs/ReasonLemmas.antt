@@ -23,7 +23,7 @@ use Rattle.tree_build.specs.declared.piece.NewPiece.{NewPiece}
 use Rattle.tree_build.proofs.DescentLemmas.{all_parts}
 use Rattle.tree_build.proofs.ChangeLemmas.{all_append, all_of, changed_behind, up_to_below}
 use Rattle.tree_build.proofs.ChangedLaw.{once_rises}
-use Rattle.tree_build.proofs.GoneLemmas.{in_hand}
+use Rattle.tree_build.proofs.GoneLemmas.{pending_before}
 use Rattle.tree_build.proofs.NextLemmas.{either_way}
 use Rattle.tree_build.proofs.StepItems.{all_above, items_up_to, rise_back}
 use Rattle.tree_build.proofs.StepLoops.{found, none_meant, rest_is, split_at}
@@ -60,7 +60,7 @@ module _ {X : Type 0} (key : X → List ℕ) (ends : ℕ → X → Bool) (items 
   abbrev new_nodes : List Node
   new_nodes = map over (wanted_pieces key ends items over Fit nodes changes)
 
-  -- with something in hand, and all changes to come above it, the next node is gone
+  -- with something pending, and all changes to come above it, the next node is gone
   module _ (olds : List OldNode) (news : List NewPiece) (pending : List X) (rest : List (Change X)) (others : List Node) (node : Node) (behind : List Node) (so : StepAt key ends items over Fit nodes changes others (node ∷ behind) olds news pending rest) where
     some_others : (pending ≡ [] → ⊥) → 1 ≤ length others
     some_others some = elim so.following [
@@ -105,7 +105,7 @@ module _ {X : Type 0} (key : X → List ℕ) (ends : ℕ → X → Bool) (items 
             none_over key x xs items over back_is node has (wanted_pieces key ends items over Fit nodes changes)
             (subst (λ (ps : List (List X)). AllByRecursion (λ (p : List X). p ≢ x ∷ xs) ps) (sym here)
             (all_append (λ (p : List X). p ≢ x ∷ xs) so.made (pieces_from ends pending (x ∷ (xs ++ changed key (join (map items behind)) rest))) (made_others key x xs so.made low.0)
-            (in_hand key ends x xs pending (xs ++ changed key (join (map items behind)) rest) some low.1 high))) is
+            (pending_before key ends x xs pending (xs ++ changed key (join (map items behind)) rest) some low.1 high))) is
 
     -- it is sought for one of the changes to come, or gone
     pub reason_held : (pending ≡ [] → ⊥) → IsReason nodes new_nodes (keys_changed rest) node

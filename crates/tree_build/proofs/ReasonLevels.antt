@@ -1,26 +1,17 @@
 -- Why nodes were opened, level after level.
 use Rattle.std.proofs.Common.{◌≡◌, ℕ, suc, ◌+◌, ◌<◌, List, [], ◌∷◌, ◌++◌, length, map, refl, sym, subst, arith}
-use Rattle.std.specs.List.{flat_map, AllByRecursion}
-use Rattle.tree_node.specs.Nodes.{Binding, Inner, IsNode, Leaf, Link, Node}
+use Rattle.std.specs.List.{flat_map}
+use Rattle.tree_node.specs.Nodes.{Binding, Inner, Leaf, Link, Node}
 use Rattle.tree_node.specs.Trees.{Two, ends_by, entries_in, is_marked_entry, is_marked_link, level_at, levels, links_in, pieces}
 use Rattle.tree_build.specs.Changing.{Change, changed}
 use Rattle.tree_build.specs.Rebuilding.{IsOldTree, changed_entries, changes_of, keys_of_changes}
 use Rattle.tree_build.specs.declared.change.EntryChange.{EntryChange}
 use Rattle.tree_build.specs.declared.old_node.OldNode.{OldNode}
 use Rattle.tree_build.specs.declared.step.LevelEdit.{LevelEdit}
-use Rattle.tree_build.specs.internal.Differing.{Differ}
-use Rattle.tree_build.specs.internal.Edits.{Each, IsNewNode, IsOldNode}
-use Rattle.tree_build.specs.internal.Steps.{HaveReasons, IsEdit, keys_changed}
+use Rattle.tree_build.specs.internal.Steps.{HaveReasons, keys_changed}
 use Rattle.tree_build.specs.internal.Towers.{tower}
 use Rattle.tree_build.specs.internal.TreeEdits.{AreReasoned, HasNext}
-use Rattle.tree_build.proofs.TreeEdits.{NextChanges, inner_are, leaves_are, woven_all}
-
-pub has_next : (old new : List Node) (edit : LevelEdit) (cs : List (Change Link)) → IsEdit old new edit → AllByRecursion IsNode old → AllByRecursion IsNode new
-    → ((olds news : List Node) → Each IsOldNode edit.olds.items olds → Each IsNewNode edit.news.items news → AllByRecursion IsNode olds → AllByRecursion IsNode news → (lost : List Node) × (gained : List Node) × Differ olds news lost gained cs)
-    → HasNext old new edit cs
-has_next old new edit cs is old_are new_are differs =
-    let (lost, gained, d) = differs is.opened is.came is.olds_stand is.news_stand (woven_all IsNode is.kept is.opened old is.was old_are) (woven_all IsNode is.kept is.came new is.is new_are) in
-    record { is = is; lost = lost; gained = gained; parent_changes = d }
+use Rattle.tree_build.proofs.TreeEdits.{NextChanges, inner_are, leaves_are}
 
 pub reasons_leaves : (held : List ℕ → Type 0) (top : List ℕ) (changes : List EntryChange) (tree : ℕ) (entries : List Binding) (given : List (Change Binding)) → given ≡ changes_of changes → IsOldTree held top (changes_of changes) tree entries → (olds : List OldNode)
     → HaveReasons (level_at (levels Two tree entries) 0) (map (Leaf tree) (pieces (ends_by Two is_marked_entry) (changed (λ (entry : Binding). entry.key) (flat_map entries_in (level_at (levels Two tree entries) 0)) given))) (keys_changed given) (keys_changed given) olds

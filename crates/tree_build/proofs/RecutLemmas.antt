@@ -5,10 +5,11 @@ use Rattle.tree_node.specs.Trees.{pieces, pieces_from}
 use Rattle.tree_node.proofs.shared.PieceLemmas.{pieces_step, chosen, join}
 use Rattle.tree_build.specs.internal.Cutting.{pending_after, done_by, EndsWithCut, IsClosed, ArePieces}
 
--- ---- cutting goes on from what is in hand
+-- ---- cutting goes on from what is pending
 
 module _ {X : Type 0} (ends : ℕ → X → Bool) where
-  -- Cutting a list in two parts: the pieces that end within the first, and then those of the second from what is in hand.
+  -- Cutting a list in two parts: the pieces that end within the first, and then those of the second from what is
+  -- pending.
   pub pieces_append : (pending xs ys : List X) → pieces_from ends pending (xs ++ ys) ≡ done_by ends pending xs ++ pieces_from ends (pending_after ends pending xs) ys
   pieces_append pending [] ys = refl
   pieces_append pending (x ∷ xs) ys =
@@ -23,9 +24,9 @@ module _ {X : Type 0} (ends : ℕ → X → Bool) where
       step true p q = ap (λ (ps : List (List X)). (pending ++ x ∷ []) ∷ ps) p
       step false p q = q
 
-  pub hand_append : (pending xs ys : List X) → pending_after ends pending (xs ++ ys) ≡ pending_after ends (pending_after ends pending xs) ys
-  hand_append pending [] ys = refl
-  hand_append pending (x ∷ xs) ys = step (ends (length pending + 1) x) (hand_append [] xs ys) (hand_append (pending ++ x ∷ []) xs ys)
+  pub pending_append : (pending xs ys : List X) → pending_after ends pending (xs ++ ys) ≡ pending_after ends (pending_after ends pending xs) ys
+  pending_append pending [] ys = refl
+  pending_append pending (x ∷ xs) ys = step (ends (length pending + 1) x) (pending_append [] xs ys) (pending_append (pending ++ x ∷ []) xs ys)
     where
       step : (b : Bool)
           → pending_after ends [] (xs ++ ys) ≡ pending_after ends (pending_after ends [] xs) ys
@@ -72,33 +73,33 @@ module _ {X : Type 0} (ends : ℕ → X → Bool) where
 
   -- two parts that end with cuts end with one
   pub cut_append : (xs ys : List X) → EndsWithCut ends xs → EndsWithCut ends ys → EndsWithCut ends (xs ++ ys)
-  cut_append xs ys p q = hand_append [] xs ys ∙ ap (λ (pending : List X). pending_after ends pending ys) p ∙ q
+  cut_append xs ys p q = pending_append [] xs ys ∙ ap (λ (pending : List X). pending_after ends pending ys) p ∙ q
 
   -- ---- the pieces of a list are closed, but for the last
 
-  -- a hand that cutting comes to
-  pub record IsHand (pending : List X) : Type 0 where
+  -- pending items that cutting comes to
+  pub record IsPending (pending : List X) : Type 0 where
     pub none : done_by ends [] pending ≡ []
     pub all : pending_after ends [] pending ≡ pending
 
-  pub no_hand : IsHand []
-  no_hand = record { none = refl; all = refl }
+  pub none_pending : IsPending []
+  none_pending = record { none = refl; all = refl }
 
-  hand_more : (pending : List X) (x : X) → IsHand pending → ends (length pending + 1) x ≡ false → IsHand (pending ++ x ∷ [])
-  hand_more pending x is e = record {
+  pending_more : (pending : List X) (x : X) → IsPending pending → ends (length pending + 1) x ≡ false → IsPending (pending ++ x ∷ [])
+  pending_more pending x is e = record {
     none = done_append [] pending (x ∷ []) ∙ ap (λ (ps : List (List X)). ps ++ done_by ends (pending_after ends [] pending) (x ∷ [])) is.none
         ∙ ap (λ (h : List X). done_by ends h (x ∷ [])) is.all
         ∙ ap (λ b. cond b ((pending ++ x ∷ []) ∷ []) []) e;
-    all = hand_append [] pending (x ∷ []) ∙ ap (λ (h : List X). pending_after ends h (x ∷ [])) is.all
+    all = pending_append [] pending (x ∷ []) ∙ ap (λ (h : List X). pending_after ends h (x ∷ [])) is.all
         ∙ ap (λ b. cond b [] (pending ++ x ∷ [])) e;
   }
 
-  hand_ends : (pending : List X) (x : X) → IsHand pending → ends (length pending + 1) x ≡ true → IsClosed ends (pending ++ x ∷ [])
-  hand_ends pending x is e = record {
+  pending_ends : (pending : List X) (x : X) → IsPending pending → ends (length pending + 1) x ≡ true → IsClosed ends (pending ++ x ∷ [])
+  pending_ends pending x is e = record {
     one = done_append [] pending (x ∷ []) ∙ ap (λ (ps : List (List X)). ps ++ done_by ends (pending_after ends [] pending) (x ∷ [])) is.none
         ∙ ap (λ (h : List X). done_by ends h (x ∷ [])) is.all
         ∙ ap (λ b. cond b ((pending ++ x ∷ []) ∷ []) []) e;
-    cut = hand_append [] pending (x ∷ []) ∙ ap (λ (h : List X). pending_after ends h (x ∷ [])) is.all
+    cut = pending_append [] pending (x ∷ []) ∙ ap (λ (h : List X). pending_after ends h (x ∷ [])) is.all
         ∙ ap (λ b. cond b [] (pending ++ x ∷ [])) e;
   }
 
@@ -109,24 +110,24 @@ module _ {X : Type 0} (ends : ℕ → X → Bool) where
   closed_front piece [] closed are = closed_one piece closed
   closed_front piece (next ∷ others) closed are = (closed, are)
 
-  last_piece : (pending : List X) → IsHand pending → ArePieces ends (pieces_from ends pending [])
+  last_piece : (pending : List X) → IsPending pending → ArePieces ends (pieces_from ends pending [])
   last_piece [] is = tt
   last_piece (y ∷ ys) is =
       ap (pieces ends) (sym (append-nil (y ∷ ys))) ∙ pieces_append [] (y ∷ ys) []
       ∙ ap (λ (ps : List (List X)). ps ++ pieces_from ends (pending_after ends [] (y ∷ ys)) []) is.none
       ∙ ap (λ (h : List X). pieces_from ends h []) is.all
 
-  pieces_are_from : (pending xs : List X) → IsHand pending → ArePieces ends (pieces_from ends pending xs)
+  pieces_are_from : (pending xs : List X) → IsPending pending → ArePieces ends (pieces_from ends pending xs)
   pieces_are_from pending [] is = last_piece pending is
   pieces_are_from pending (x ∷ xs) is =
       subst (λ (ps : List (List X)). ArePieces ends ps) (sym (pieces_step ends pending x xs))
       (chosen (λ (ps : List (List X)). ArePieces ends ps) (ends (length pending + 1) x) ((pending ++ x ∷ []) ∷ pieces_from ends [] xs) (pieces_from ends (pending ++ x ∷ []) xs)
-      (λ e. closed_front (pending ++ x ∷ []) (pieces_from ends [] xs) (hand_ends pending x is e) (pieces_are_from [] xs no_hand))
-      (λ e. pieces_are_from (pending ++ x ∷ []) xs (hand_more pending x is e)))
+      (λ e. closed_front (pending ++ x ∷ []) (pieces_from ends [] xs) (pending_ends pending x is e) (pieces_are_from [] xs none_pending))
+      (λ e. pieces_are_from (pending ++ x ∷ []) xs (pending_more pending x is e)))
 
   -- the pieces of a list are closed, but for the last
   pub pieces_are : (xs : List X) → ArePieces ends (pieces ends xs)
-  pieces_are xs = pieces_are_from [] xs no_hand
+  pieces_are xs = pieces_are_from [] xs none_pending
 
   -- and such pieces are those of what they join to
   pub pieces_of_join : (ps : List (List X)) → ArePieces ends ps → pieces ends (join ps) ≡ ps

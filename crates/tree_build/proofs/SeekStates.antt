@@ -3,7 +3,7 @@ use Rattle.std.proofs.Common.{◌≡◌, ◌↔◌, IsTrue, ◌≤◌, ◌<◌, 
 use Rattle.tree_node.specs.Nodes.{Binding, Link, Node, level_of, spelling}
 use Rattle.tree_node.specs.Shelves.{SameNodes}
 use Rattle.tree_node.specs.Trees.{Two, levels, links_in}
-use Rattle.tree_build.specs.internal.Holding.{HoldsNode, HoldsTree, IsHeld, IsHeldTree, IsOnWay, IsSoughtNode}
+use Rattle.tree_build.specs.internal.Holding.{HoldsNode, HoldsTree, IsHeld, IsHeldLevel, IsHeldTree, IsOnWay, IsSoughtNode}
 use Rattle.tree_build.specs.internal.Seeking.{IsSought}
 use Rattle.tree_build.proofs.DescentLemmas.{IsHeldAt, sought_child, sought_level, sought_links, sought_top}
 
@@ -132,3 +132,6 @@ module _ (held0 used0 : List ℕ → Type 0) (top : List ℕ) (level : ℕ) (wan
 -- what a shelf holds stays held
 pub holds_then : (old new : List ℕ → Type 0) (top : List ℕ) (level : ℕ) → SameNodes old new → HoldsTree old top level → HoldsTree new top level
 holds_then old new top level same has = record { tree = has.tree; entries = has.entries; is = held_then old new top has.tree has.entries (λ x h. (same x).1 h) has.is; has_level = has.has_level }
+
+pub level_then : (old new : List ℕ → Type 0) (top : List ℕ) (tree level : ℕ) (entries : List Binding) → ((x : List ℕ) → old x → new x) → IsHeldLevel old top tree level entries → IsHeldLevel new top tree level entries
+level_then old new top tree level entries more has = record { is = held_then old new top tree entries more has.is; within = has.within }

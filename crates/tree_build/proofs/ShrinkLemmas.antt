@@ -10,7 +10,7 @@ use Rattle.tree_build.specs.Changing.{Change}
 use Rattle.tree_build.specs.Rebuilding.{IsOldTree, changed_entries}
 use Rattle.tree_build.specs.internal.Edits.{Each, IsNewNode}
 use Rattle.tree_build.specs.internal.Holding.{IsHeld}
-use Rattle.tree_build.specs.internal.Shrinking.{HasShrunk, IsOnlyChild, passed, stayed, stayed_at}
+use Rattle.tree_build.specs.internal.Shrinking.{CanShrink, HasShrunk, IsOnlyChild, passed, stayed, stayed_at}
 use Rattle.tree_build.specs.internal.Steps.{IsEdit}
 use Rattle.tree_build.specs.internal.Telling.{node_digest}
 use Rattle.tree_build.specs.internal.Towers.{tower}
@@ -20,6 +20,7 @@ use Rattle.tree_build.specs.declared.piece.NewPiece.{NewPiece}
 use Rattle.tree_build.specs.declared.step.LevelEdit.{LevelEdit}
 use Rattle.tree_build.proofs.DescentLemmas.{lone}
 use Rattle.tree_build.proofs.OldLevels.{tower_first, tower_nodes}
+use Rattle.tree_build.proofs.TreeEdits.{old_then}
 use Rattle.tree_build.proofs.WeaveLemmas.{in_woven, woven_first, woven_second}
 
 -- ---- lists
@@ -191,3 +192,16 @@ module _ (held : List ℕ → Type 0) (top : List ℕ) (changes : List (Change B
         | inl it ↦ subst (λ (m : Node). IsNewNode new m) it all.0
         | inr never ↦ absurd never
       ]
+
+-- what can shrink can still, where more is held
+pub shrink_then : (old new : List ℕ → Type 0) (tree : ℕ) (top : List ℕ) (changes : List (Change Binding)) (entries : List Binding) (edits : List LevelEdit) (digest : List ℕ) → ((x : List ℕ) → old x → new x)
+    → CanShrink old tree top changes entries edits digest → CanShrink new tree top changes entries edits digest
+shrink_then old new tree top changes entries edits digest more can =
+    record { is = old_then old new top changes tree entries more can.is; are = can.are; high = can.high; one = can.one; digest_is = can.digest_is }
+
+-- a tree shrinks, whose edits are also these
+pub shrinks : (held : List ℕ → Type 0) (tree : ℕ) (top : List ℕ) (changes : List (Change Binding)) (entries : List Binding) (edits others : List LevelEdit) (digest : List ℕ) → IsOldTree held top changes tree entries
+    → AreEdits (levels Two tree entries) (tower Two tree (changed_entries entries changes)) 0 edits → length edits ≤ length (levels Two tree entries) → length (tower Two tree (changed_entries entries changes) (length edits - 1)) ≡ 1
+    → digest ≡ node_digest (get_or (tower Two tree (changed_entries entries changes) (length edits - 1)) 0 no_node) → edits ≡ others → CanShrink held tree top changes entries others digest
+shrinks held tree top changes entries edits others digest is are high one digest_is same =
+    subst (λ (es : List LevelEdit). CanShrink held tree top changes entries es digest) same (record { is = is; are = are; high = high; one = one; digest_is = digest_is })

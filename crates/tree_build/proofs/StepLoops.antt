@@ -45,9 +45,9 @@ module _ {T X : Type 0} (meaning : T → X) (key : X → List ℕ) (ends : ℕ �
       → (tree : List (List Node)) (level : ℕ) → level_at tree level ≡ nodes → (node : Node) (is_last : Bool) → IsSoughtNode tree level wanted.0.now wanted.1 node is_last → IsFound olds news pending done node is_last
   found parts olds news pending done state rest rest_same wanted wants tree level same node is_last is = elim wants [
     | inl (empty, change, others, rest_are, key_is, above_is) ↦
-        let no_hand : map meaning pending ≡ [] = ap (map meaning) empty in
+        let none_pending : map meaning pending ≡ [] = ap (map meaning) empty in
         let left : changes_meant meaning (drop done cs) ≡ change_meant meaning change ∷ changes_meant meaning others = ap (changes_meant meaning) (sym rest_same ∙ rest_are) in
-        let at = subst (λ (h : List X). StepAt key ends items over Fit nodes (changes_meant meaning cs) state.front state.back olds news h (change_meant meaning change ∷ changes_meant meaning others)) no_hand
+        let at = subst (λ (h : List X). StepAt key ends items over Fit nodes (changes_meant meaning cs) state.front state.back olds news h (change_meant meaning change ∷ changes_meant meaning others)) none_pending
         (subst (λ (ds : List (Change X)). StepAt key ends items over Fit nodes (changes_meant meaning cs) state.front state.back olds news (map meaning pending) ds) left state.at) in
         let sought = subst (λ (ns : List Node). IsSought greatest_of change.key.now false ns is.front node is.back) same
         (subst (λ (k : List ℕ). IsSought greatest_of k false (level_at tree level) is.front node is.back) key_is
@@ -56,7 +56,7 @@ module _ {T X : Type 0} (meaning : T → X) (key : X → List ℕ) (ends : ℕ �
         record {
           others = is.front;
           behind = is.back;
-          at = subst (λ (h : List X). StepAt key ends items over Fit nodes (changes_meant meaning cs) is.front (node ∷ is.back) olds news h (changes_meant meaning (drop done cs))) (sym no_hand)
+          at = subst (λ (h : List X). StepAt key ends items over Fit nodes (changes_meant meaning cs) is.front (node ∷ is.back) olds news h (changes_meant meaning (drop done cs))) (sym none_pending)
               (subst (λ (ds : List (Change X)). StepAt key ends items over Fit nodes (changes_meant meaning cs) is.front (node ∷ is.back) olds news [] ds) (sym left) next.at);
           last = is.is_last;
         }
@@ -117,8 +117,8 @@ module _ {T X : Type 0} (meaning : T → X) (key : X → List ℕ) (ends : ℕ �
     pub own : AreOwnAndRising key (changes_meant meaning here)
     pub fit : Fit (map meaning pending ++ changed key (items node) (changes_meant meaning here))
     pub room : length olds < length nodes
-    pub then_state : (next_hand : List T) (after : List NewPiece) → HaveGoneOn ends over is_last (map meaning pending) news (changed key (items node) (changes_meant meaning here)) (map meaning next_hand) after
-        → StepState key ends items over Fit nodes (changes_meant meaning cs) (olds ++ old ∷ []) after (map meaning next_hand) (changes_meant meaning (drop next cs))
+    pub then_state : (next_pending : List T) (after : List NewPiece) → HaveGoneOn ends over is_last (map meaning pending) news (changed key (items node) (changes_meant meaning here)) (map meaning next_pending) after
+        → StepState key ends items over Fit nodes (changes_meant meaning cs) (olds ++ old ∷ []) after (map meaning next_pending) (changes_meant meaning (drop next cs))
 
   pub turn : (parts : (xs ys : List X) → Fit (xs ++ ys) → Fit xs × Fit ys) (olds : List OldNode) (news : List NewPiece) (pending : List T) (done : ℕ)
       → StepState key ends items over Fit nodes (changes_meant meaning cs) olds news (map meaning pending) (changes_meant meaning (drop done cs))
@@ -142,8 +142,8 @@ module _ {T X : Type 0} (meaning : T → X) (key : X → List ℕ) (ends : ℕ �
         own = taken_own key ends items over Fit nodes (changes_meant meaning cs) can parts olds news (map meaning pending) (changes_meant meaning (drop done cs)) f.others node f.behind f.at is_last _ _ split;
         fit = taken_fit key ends items over Fit nodes (changes_meant meaning cs) can parts olds news (map meaning pending) (changes_meant meaning (drop done cs)) f.others node f.behind f.at is_last _ _ split;
         room = step_room key ends items over Fit nodes (changes_meant meaning cs) can olds news (map meaning pending) (changes_meant meaning (drop done cs)) f.others (node ∷ f.behind) f.at (omega arith);
-        then_state = λ next_hand after gone.
-            step_taken key ends items over Fit nodes (changes_meant meaning cs) can parts olds news (map meaning pending) (changes_meant meaning (drop done cs)) f.others node f.behind f.at is_last _ _ split old stands (map meaning next_hand) after gone;
+        then_state = λ next_pending after gone.
+            step_taken key ends items over Fit nodes (changes_meant meaning cs) can parts olds news (map meaning pending) (changes_meant meaning (drop done cs)) f.others node f.behind f.at is_last _ _ split old stands (map meaning next_pending) after gone;
       })
 
   -- ---- at the start, and at the end
@@ -186,11 +186,11 @@ module _ {T X : Type 0} (meaning : T → X) (key : X → List ℕ) (ends : ℕ �
   some_of olds news is edit same = omega (arith, is.some, ap (length {A = OldNode}) same)
 
   pub went_then : (olds : List OldNode) (news : List NewPiece) (pending : List T) (next : ℕ) (here : List (ItemChange T)) (node : Node) (is_last : Bool) (old : OldNode) → IsTurn olds news pending next here node is_last old
-      → (next_olds : List OldNode) (after : List NewPiece) (next_hand : List T) → next_olds ≡ olds ++ old ∷ []
-      → HaveGoneOn ends over is_last (map meaning pending) news (changed key (items node) (changes_meant meaning here)) (map meaning next_hand) after
-      → StepState key ends items over Fit nodes (changes_meant meaning cs) next_olds after (map meaning next_hand) (changes_meant meaning (drop next cs))
-  went_then olds news pending next here node is_last old t next_olds after next_hand same gone =
-      subst (λ (os : List OldNode). StepState key ends items over Fit nodes (changes_meant meaning cs) os after (map meaning next_hand) (changes_meant meaning (drop next cs))) (sym same) (t.then_state next_hand after gone)
+      → (next_olds : List OldNode) (after : List NewPiece) (next_pending : List T) → next_olds ≡ olds ++ old ∷ []
+      → HaveGoneOn ends over is_last (map meaning pending) news (changed key (items node) (changes_meant meaning here)) (map meaning next_pending) after
+      → StepState key ends items over Fit nodes (changes_meant meaning cs) next_olds after (map meaning next_pending) (changes_meant meaning (drop next cs))
+  went_then olds news pending next here node is_last old t next_olds after next_pending same gone =
+      subst (λ (os : List OldNode). StepState key ends items over Fit nodes (changes_meant meaning cs) os after (map meaning next_pending) (changes_meant meaning (drop next cs))) (sym same) (t.then_state next_pending after gone)
 
   pub falls : (olds next_olds : List OldNode) (old : OldNode) → length olds < length nodes → next_olds ≡ olds ++ old ∷ [] → 536870912 - length next_olds < 536870912 - length olds
   falls olds next_olds old room same = omega (arith, room, can.level.few, ap (length {A = OldNode}) same, length-append olds (old ∷ []))
@@ -200,12 +200,12 @@ within_rest {X} xs done count within few = omega (arith, few, ap (length {A = X}
 
 -- ---- what is wanted next
 
--- the first change, with nothing in hand
+-- the first change, with nothing pending
 pub wanted_first : {T : Type 0} (olds : List OldNode) (pending : List T) (rest : List (ItemChange T)) (change : ItemChange T) → pending ≡ [] → slice_get rest 0 ≡ Some change → IsWanted olds pending rest (Some (change.key, false))
 wanted_first olds pending [] change empty first = absurd cc
 wanted_first olds pending (c ∷ cs) change empty first = let same : c ≡ change = cc in inl (empty, change, cs, ap (λ (d : ItemChange _). d ∷ cs) same, refl, refl)
 
--- nothing, with nothing in hand and no change
+-- nothing, with nothing pending and no change
 pub wanted_none : {T : Type 0} (olds : List OldNode) (pending : List T) (rest : List (ItemChange T)) → pending ≡ [] → slice_get rest 0 ≡ None → IsWanted olds pending rest None
 wanted_none olds pending [] empty first = inl (empty, refl)
 wanted_none olds pending (c ∷ cs) empty first = absurd cc
@@ -213,7 +213,7 @@ wanted_none olds pending (c ∷ cs) empty first = absurd cc
 not_none : {T : Type 0} (pending : List T) → 1 ≤ length pending → pending ≢ []
 not_none {T} pending some = λ none. absurd (omega (arith, some, ap (length {A = T}) none))
 
--- what lies above the last node, with something in hand
+-- what lies above the last node, with something pending
 pub wanted_after : {T : Type 0} (olds : List OldNode) (pending : List T) (rest : List (ItemChange T)) (old : OldNode) → 1 ≤ length pending → slice_get olds (length olds - 1) ≡ Some old
     → IsWanted olds pending rest (Some (old.greatest, true))
 wanted_after olds pending rest old some last =

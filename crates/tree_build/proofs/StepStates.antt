@@ -1,4 +1,4 @@
--- How far a step has come in its level: the old nodes so far, what stands in their place, what is in hand, and the old
+-- How far a step has come in its level: the old nodes so far, what stands in their place, what is pending, and the old
 -- nodes and the changes to come.
 use Rattle.std.proofs.Common.{◌≡◌, ℕ, ◌+◌, ◌<◌, ◌≤◌, List, [], ◌∷◌, ◌++◌, length, map, ◌⊎◌, inl, inr, Bool, true, false, cond, refl, sym, ap, subst, ◌∙◌, append_assoc, length-append, arith}
 use Rattle.std.specs.List.{flat_map, AllByRecursion}
@@ -18,7 +18,7 @@ use Rattle.tree_build.specs.internal.Weaving.{Woven, none, left, right}
 use Rattle.tree_build.specs.declared.old_node.OldNode.{OldNode}
 use Rattle.tree_build.specs.declared.piece.NewPiece.{NewPiece}
 use Rattle.tree_build.proofs.ChangeLemmas.{IsUpToOwn, all_of, changed_behind, changed_split}
-use Rattle.tree_build.proofs.PendingLemmas.{each_append, hand_fits}
+use Rattle.tree_build.proofs.PendingLemmas.{each_append, pending_fits}
 use Rattle.tree_build.proofs.LevelSteps.{IsCutTo, cut_last, cut_open, cut_rest, cut_skip}
 use Rattle.tree_build.proofs.NextLemmas.{sought_next}
 use Rattle.tree_build.proofs.StepItems.{items_above, items_below, items_up_to, join_mapped, map_made, pieces_after, sought_behind}
@@ -140,7 +140,7 @@ module _ {X : Type 0} (key : X → List ℕ) (ends : ℕ → X → Bool) (items 
     unread front more back (c ∷ cs) whole all = (items_below key ends items over nodes can.level c.key front more back whole all.0, unread front more back cs whole all.1)
 
     module _ (parts : (xs ys : List X) → Fit (xs ++ ys) → Fit xs × Fit ys) where
-      -- nothing is in hand: the next change decides, and the nodes before its own stay unread
+      -- nothing is pending: the next change decides, and the nodes before its own stay unread
       pub next_sought : (olds : List OldNode) (news : List NewPiece) (front back : List Node) (c : Change X) (cs : List (Change X)) → StepAt front back olds news [] (c ∷ cs)
           → (others : List Node) (node : Node) (behind : List Node) → IsSought greatest_of c.key false nodes others node behind → IsNext olds news [] (c ∷ cs) others node behind
       next_sought olds news front back c cs so others node behind sought =
@@ -204,7 +204,7 @@ module _ {X : Type 0} (key : X → List ℕ) (ends : ℕ → X → Bool) (items 
               (subst (λ (ps : List (List X)). ArePieces ends ps) split (pieces_after key ends items over nodes can.level front ((m ∷ more) ++ node ∷ behind) whole two))
               (subst (λ (xs : List X). AllByRecursion (λ (c : Change X). AllByRecursion (λ (x : X). IsBelow (key x) c.key) xs) rest) (sym (join_mapped items (m ∷ more))) low)
 
-    -- with something in hand it is the node after the last one
+    -- with something pending it is the node after the last one
     pub next_after : (olds : List OldNode) (news : List NewPiece) (pending : List X) (rest : List (Change X)) (front back : List Node) → StepAt front back olds news pending rest → (pending ≡ [] → ⊥)
         → (before : List OldNode) (old : OldNode) → olds ≡ before ++ old ∷ []
         → (others : List Node) (node : Node) (behind : List Node) → IsSought greatest_of old.greatest.now true nodes others node behind → IsNext olds news pending rest others node behind
@@ -367,7 +367,7 @@ module _ {X : Type 0} (key : X → List ℕ) (ends : ℕ → X → Bool) (items 
                     own = own_parts.1;
                     above = above_next more.2;
                     fit = subst (λ (h : List X). Fit (h ++ changed key (flat_map items behind) later)) (sym next_is)
-                        (hand_fits ends Fit parts pending merged (changed key (flat_map items behind) later) (subst (λ (xs : List X). Fit (pending ++ xs)) (items_split goes) so.fit));
+                        (pending_fits ends Fit parts pending merged (changed key (flat_map items behind) later) (subst (λ (xs : List X). Fit (pending ++ xs)) (items_split goes) so.fit));
                     following = inr last_next;
                     ended = inl more.0;
                     some = some_next;
@@ -429,10 +429,10 @@ module _ {X : Type 0} (key : X → List ℕ) (ends : ℕ → X → Bool) (items 
       pub some : 1 ≤ length olds
 
     pub step_done : (olds : List OldNode) (news : List NewPiece) (pending : List X) (rest : List (Change X)) → StepState olds news pending rest → pending ≡ [] → rest ≡ [] → IsDone olds news
-    step_done olds news pending rest state no_hand no_rest =
+    step_done olds news pending rest state none_pending no_rest =
         let so = state.at in
         let some : 1 ≤ length olds = omega (arith, so.some, ap (length {A = Change X}) no_rest) in
-        let cut = subst (λ (h : List X). IsCutTo key ends wanted_pieces so.made h (map items state.back) []) no_hand (subst (λ (cs : List (Change X)). IsCutTo key ends wanted_pieces so.made pending (map items state.back) cs) no_rest so.cut) in
+        let cut = subst (λ (h : List X). IsCutTo key ends wanted_pieces so.made h (map items state.back) []) none_pending (subst (λ (cs : List (Change X)). IsCutTo key ends wanted_pieces so.made pending (map items state.back) cs) no_rest so.cut) in
         let goal_is : wanted_pieces ≡ so.made ++ map items state.back = cut_rest key ends wanted_pieces so.made (map items state.back) cut (pieces_left state.front state.back so.whole
         (omega (arith, some, each_length IsOldNode olds so.opened so.olds_stand, woven_length so.kept so.opened state.front so.was))) in
         record {

@@ -1,18 +1,11 @@
 -- Telling of a tree's levels one by one.
 use Rattle.std.proofs.Common.{◌≡◌, ℕ, suc, ◌+◌, List, [], ◌∷◌, refl, subst, arith}
-use Rattle.std.specs.List.{AllByRecursion}
-use Rattle.tree_node.specs.Nodes.{IsNode, Node}
+use Rattle.tree_node.specs.Nodes.{Node}
 use Rattle.tree_node.specs.Trees.{level_at}
 use Rattle.tree_build.specs.internal.Steps.{IsEdit}
 use Rattle.tree_build.specs.internal.TreeEdits.{AreEdits}
 use Rattle.tree_build.specs.internal.TreeTelling.{HaveTold, IsTold}
-use Rattle.tree_build.specs.internal.Weaving.{Woven, none, left, right}
 use Rattle.tree_build.specs.declared.step.LevelEdit.{LevelEdit}
-
-pub second_nodes : (xs ys zs : List Node) → Woven xs ys zs → AllByRecursion IsNode zs → AllByRecursion IsNode ys
-second_nodes _ _ _ none all = tt
-second_nodes _ _ _ (left x xs ys zs w) all = second_nodes xs ys zs w all.1
-second_nodes _ _ _ (right y xs ys zs w) all = (all.0, second_nodes xs ys zs w all.1)
 
 -- what is told of the rest makes up what is told of all
 pub record AreTelling (old : List (List Node)) (new : ℕ → List Node) (top : ℕ) (all : List LevelEdit) (are : AreEdits old new 0 all)

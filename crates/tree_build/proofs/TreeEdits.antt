@@ -12,12 +12,12 @@ use Rattle.tree_build.specs.Rebuilding.{IsOldTree, change_of, changed_entries, c
 use Rattle.tree_build.specs.declared.change.EntryChange.{EntryChange}
 use Rattle.tree_build.specs.internal.Holding.{IsHeldTree}
 use Rattle.tree_build.specs.internal.Building.{AreWithin}
-use Rattle.tree_build.specs.internal.Differing.{Differ, nothing, gone_last, gone, came_last, came, same, replaced}
-use Rattle.tree_build.specs.internal.Edits.{Each, IsNewNode, IsOldNode}
+use Rattle.tree_build.specs.internal.Differing.{Differ, TheyDiffer, nothing, gone_last, gone, came_last, came, same, replaced}
+use Rattle.tree_build.specs.internal.Edits.{StandForNodes}
 use Rattle.tree_build.specs.internal.RisingChanges.{AreOwnAndRising}
 use Rattle.tree_build.specs.internal.Steps.{CanStep, IsEdit}
 use Rattle.tree_build.specs.internal.Towers.{tower}
-use Rattle.tree_build.specs.internal.TreeEdits.{AreEdits, HaveOpened, IsTreeEdit}
+use Rattle.tree_build.specs.internal.TreeEdits.{AreEdits, HasNext, HasTopLevel, HaveOpened, IsTreeEdit}
 use Rattle.tree_build.specs.declared.levels.TreeEdit.{TreeEdit}
 use Rattle.tree_build.specs.internal.Weaving.{IsIn, Woven, none, left, right}
 use Rattle.tree_build.specs.declared.step.LevelEdit.{LevelEdit}
@@ -60,12 +60,28 @@ pub record NextChanges (old new : List Node) (cs : List (Change Link)) : Type 0 
   pub is : Woven kept came new
   pub parent_changes : Differ opened came lost gained cs
 
+-- what an edit has stands for nodes of the old level and of the new one
+pub edit_stands : (old new : List Node) (edit : LevelEdit) (is : IsEdit old new edit) → AllByRecursion IsNode old → AllByRecursion IsNode new → StandForNodes edit.olds.items edit.news.items is.opened is.came
+edit_stands old new edit is old_are new_are = record {
+  olds_stand = is.olds_stand;
+  news_stand = is.news_stand;
+  old_are = woven_all IsNode is.kept is.opened old is.was old_are;
+  new_are = woven_all IsNode is.kept is.came new is.is new_are;
+}
+
+pub has_next : (old new : List Node) (edit : LevelEdit) (cs : List (Change Link)) → IsEdit old new edit → AllByRecursion IsNode old → AllByRecursion IsNode new
+    → ((olds news : List Node) → StandForNodes edit.olds.items edit.news.items olds news → TheyDiffer olds news cs) → HasNext old new edit cs
+has_next old new edit cs is old_are new_are differs =
+    let d = differs is.opened is.came (edit_stands old new edit is old_are new_are) in
+    record { is = is; lost = d.lost; gained = d.gained; parent_changes = d.parent_changes }
+
+pub next_changes : (old new : List Node) (edit : LevelEdit) (cs : List (Change Link)) → HasNext old new edit cs → NextChanges old new cs
+next_changes old new edit cs next =
+    record { kept = next.is.kept; opened = next.is.opened; came = next.is.came; lost = next.lost; gained = next.gained; was = next.is.was; is = next.is.is; parent_changes = next.parent_changes }
+
 pub next_of : (old new : List Node) (edit : LevelEdit) (cs : List (Change Link)) → IsEdit old new edit → AllByRecursion IsNode old → AllByRecursion IsNode new
-    → ((olds news : List Node) → Each IsOldNode edit.olds.items olds → Each IsNewNode edit.news.items news → AllByRecursion IsNode olds → AllByRecursion IsNode news → (lost : List Node) × (gained : List Node) × Differ olds news lost gained cs)
-    → NextChanges old new cs
-next_of old new edit cs is old_are new_are differs =
-    let (lost, gained, d) = differs is.opened is.came is.olds_stand is.news_stand (woven_all IsNode is.kept is.opened old is.was old_are) (woven_all IsNode is.kept is.came new is.is new_are) in
-    record { kept = is.kept; opened = is.opened; came = is.came; lost = lost; gained = gained; was = is.was; is = is.is; parent_changes = d }
+    → ((olds news : List Node) → StandForNodes edit.olds.items edit.news.items olds news → TheyDiffer olds news cs) → NextChanges old new cs
+next_of old new edit cs is old_are new_are differs = next_changes old new edit cs (has_next old new edit cs is old_are new_are differs)
 
 module _ (old new : List Node) (cs : List (Change Link)) (next : NextChanges old new cs) (old_rises : AreRisingFrom None (map greatest_of old)) (new_rises : AreRisingFrom None (map greatest_of new)) where
   pub next_own : AreOwnAndRising (λ (link : Link). link.greatest) cs
@@ -189,6 +205,9 @@ held_of held top changes tree entries is = record { is_tree = is.is_tree; has = 
 
 pub old_then : (old new : List ℕ → Type 0) (top : List ℕ) (changes : List (Change Binding)) (tree : ℕ) (entries : List Binding) → ((x : List ℕ) → old x → new x) → IsOldTree old top changes tree entries → IsOldTree new top changes tree entries
 old_then old new top changes tree entries more is = record { is_tree = is.is_tree; has = is.has; is_top = is.is_top; holds = λ x of. more x (is.holds x of); rising = is.rising; changed_has = is.changed_has }
+
+pub top_level_then : (old new : List ℕ → Type 0) (top : List ℕ) (changes : List (Change Binding)) (tree : ℕ) (entries : List Binding) (top_level : ℕ) → ((x : List ℕ) → old x → new x) → HasTopLevel old top changes tree entries top_level → HasTopLevel new top changes tree entries top_level
+top_level_then old new top changes tree entries top_level more has = record { is = old_then old new top changes tree entries more has.is; height = has.height }
 
 -- what a step of the leaves is given
 pub given_leaves : (held : List ℕ → Type 0) (top : List ℕ) (changes : List EntryChange) (tree : ℕ) (entries : List Binding) (given : List (Change Binding)) → given ≡ changes_of changes → 1 ≤ length changes → IsOldTree held top (changes_of changes) tree entries

@@ -64,8 +64,8 @@ module _ {X : Type 0} (key : X → List ℕ) where
     | inr there ↦ woven_apart (Some (key y)) xs ys zs w rise.1 n one there
   ]
 
-  -- Of two levels that share some nodes: the one has a node that the other hasn't just where the node is of its own part
-  -- and not of the other's. With the new level first: the added ones; with the old level first: the gone ones.
+  -- Of two levels that share some nodes: the one has a node that the other hasn't just where the node is of its own
+  -- part and not of the other's. With the new level first: the added ones; with the old level first: the gone ones.
   pub only_one : (shared own others these those : List X) → Woven shared own these → Woven shared others those → Rise None these
       → (n : X) → (IsIn n these × ¬ IsIn n those) ↔ (IsIn n own × ¬ IsIn n others)
   only_one shared own others these those one two rise n = (

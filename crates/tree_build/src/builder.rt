@@ -38,24 +38,31 @@ pub fn build(
 ) -> Result<Digest, BuildFault>
     requires { HasTree (bindings_of entries.now) }
     // It gives the digest of the top of the tree of these entries.
-    ensures top { let built = levels (shape_of shape) (number_of tree) (bindings_of entries.now) in
+    ensures top { let built = levels (shape_of shape) (number_of tree)
+        (bindings_of entries.now) in
         IfOk result (λ key. key.0 ≡ digest_word (top_of built)) }
     // The stock has gained the nodes of the tree and no other.
-    ensures gained { let built = levels (shape_of shape) (number_of tree) (bindings_of entries.now) in
+    ensures gained { let built = levels (shape_of shape) (number_of tree)
+        (bindings_of entries.now) in
         OnOk result (GrownByAll (HasNode stock.old) (HasNode stock.new) (IsNodeOf built)) }
     // Whatever the result, each node that was held is held,
     ensures kept { (bytes : List ℕ) → HasNode stock.old bytes → HasNode stock.new bytes }
     // and each node that is held was held or is a node of the tree.
-    ensures only_its_nodes { let built = levels (shape_of shape) (number_of tree) (bindings_of entries.now) in
-        (bytes : List ℕ) → HasNode stock.new bytes → HasNode stock.old bytes ⊎ IsNodeOf built bytes }
+    ensures only_its_nodes { let built = levels (shape_of shape) (number_of tree)
+        (bindings_of entries.now) in
+        (bytes : List ℕ) → HasNode stock.new bytes
+        → HasNode stock.old bytes ⊎ IsNodeOf built bytes }
     // Where it tells of a clash, two different nodes have one digest: a node of the tree, and a node of
     // the stock as it was or of the tree.
-    ensures clash { let built = levels (shape_of shape) (number_of tree) (bindings_of entries.now) in
+    ensures clash { let built = levels (shape_of shape) (number_of tree)
+        (bindings_of entries.now) in
         result ≡ Err BuildFault.Clash
         → Clash (λ bytes. HasNode stock.old bytes ⊎ IsNodeOf built bytes) (IsNodeOf built) }
     // Where there is such a clash, the tree isn't built.
-    ensures decided { let built = levels (shape_of shape) (number_of tree) (bindings_of entries.now) in
-        Clash (λ bytes. HasNode stock.old bytes ⊎ IsNodeOf built bytes) (IsNodeOf built) → IsErr result }
+    ensures decided { let built = levels (shape_of shape) (number_of tree)
+        (bindings_of entries.now) in
+        Clash (λ bytes. HasNode stock.old bytes ⊎ IsNodeOf built bytes) (IsNodeOf built)
+        → IsErr result }
 {
     let mut children = put_leaves(alloc, entries, tree, shape, stock)?;
     let mut level = 1;

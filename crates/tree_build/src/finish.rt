@@ -1,15 +1,14 @@
 //! The new tree, from how the levels of the old one change.
 
 ghost use Rattle.std.specs.List.{AllByRecursion};
-ghost use Rattle.std.specs.Prelude.{◌≡◌, ◌⊎◌, ◌<◌, ◌≤◌, ◌-◌, ℕ, List, [], IfOk, IfSome, None, OnOk, length};
+ghost use Rattle.std.specs.Prelude.{◌≡◌, ◌⊎◌, ◌<◌, ◌≤◌, ℕ, List, [], IfOk, OnOk, length};
 ghost use Rattle.tree_build.specs.Changing.{Change};
-ghost use Rattle.tree_build.specs.Rebuilding.{IsOldTree, IsRebuilt, changed_entries, digests_of, nodes_of};
-ghost use Rattle.tree_build.specs.internal.Edits.{Each, IsNewNode, IsOldNode};
+ghost use Rattle.tree_build.specs.Rebuilding.{IsRebuilt, changed_entries, digests_of, nodes_of};
+ghost use Rattle.tree_build.specs.internal.Edits.{IsNewNode, StandForNodes};
 ghost use Rattle.tree_build.specs.declared.piece.NewPiece.{NewPiece as New};
-ghost use Rattle.tree_build.specs.internal.FoundTops.{HaveGained, IsFound, IsTopRead};
+ghost use Rattle.tree_build.specs.internal.FoundTops.{CanFindTop, HaveGained, IsFound, IsTopRead, TopStays};
 ghost use Rattle.tree_build.specs.internal.Telling.{node_digest};
-ghost use Rattle.tree_build.specs.internal.Towers.{tower};
-ghost use Rattle.tree_build.specs.internal.TreeEdits.{AreEdits, HaveOpened, IsTreeEdit};
+ghost use Rattle.tree_build.specs.internal.TreeEdits.{AreEdits, HasTreeEdit};
 ghost use Rattle.tree_build.specs.internal.TreeTelling.{HaveTold, IsTold};
 ghost use Rattle.tree_node.specs.NodeRefs.{number_of};
 ghost use Rattle.tree_node.specs.Nodes.{Binding, IsNode, Leaf, Node};
@@ -37,20 +36,21 @@ pub(crate) fn finish<'a, 'c, S: Shelf<'a>>(
     edited: TreeEdit<'c>,
 ) -> Result<Rebuilt, AllocError>
     requires { (changes : List (Change Binding)) × (entries : List Binding)
-        × IsOldTree (S.holds shelf.old) old_top.now.0 changes (number_of tree) entries
-        × IsTreeEdit (levels Two (number_of tree) entries) (tower Two (number_of tree) (changed_entries entries changes)) edited }
+        × HasTreeEdit (S.holds shelf.old) old_top.now.0 changes (number_of tree) entries edited }
     ensures stays { SameNodes (S.holds shelf.old) (S.holds shelf.new) }
     ensures grows { (bytes : List ℕ) → S.used shelf.old bytes → S.used shelf.new bytes }
     ensures rebuilt { (changes : List (Change Binding)) (entries : List Binding)
-        → IsOldTree (S.holds shelf.new) old_top.now.0 changes (number_of tree) entries
-        → IsTreeEdit (levels Two (number_of tree) entries) (tower Two (number_of tree) (changed_entries entries changes)) edited.entry
-        → IfOk result (IsRebuilt (levels Two (number_of tree) entries) (levels Two (number_of tree) (changed_entries entries changes))) }
+        → HasTreeEdit (S.holds shelf.new) old_top.now.0 changes (number_of tree) entries
+        edited.entry
+        → IfOk result (IsRebuilt (levels Two (number_of tree) entries)
+        (levels Two (number_of tree) (changed_entries entries changes))) }
     // It reads just nodes that are gone, and, where the tree loses levels, the new top.
     ensures used { (changes : List (Change Binding)) (entries : List Binding)
-        → IsOldTree (S.holds shelf.new) old_top.now.0 changes (number_of tree) entries
-        → IsTreeEdit (levels Two (number_of tree) entries) (tower Two (number_of tree) (changed_entries entries changes)) edited.entry
+        → HasTreeEdit (S.holds shelf.new) old_top.now.0 changes (number_of tree) entries
+        edited.entry
         → IfOk result (λ rebuilt. (bytes : List ℕ) → S.used shelf.new bytes
-        → S.used shelf.old bytes ⊎ IsTopRead (levels Two (number_of tree) entries) (levels Two (number_of tree) (changed_entries entries changes)) bytes) }
+        → S.used shelf.old bytes ⊎ IsTopRead (levels Two (number_of tree) entries)
+        (levels Two (number_of tree) (changed_entries entries changes)) bytes) }
 {
     let TreeEdit { mut edits, stays } = edited;
     let mut added = Vec::new(alloc);
@@ -78,32 +78,22 @@ fn find_top<'a, 'c, S: Shelf<'a>>(
     gone: &mut Vec<Digest>,
 ) -> Result<Top, AllocError>
     requires { (top : List ℕ) × (changes : List (Change Binding)) × (entries : List Binding)
-        × IsOldTree (S.holds shelf.old) top changes (number_of tree) entries
-        × AreEdits (levels Two (number_of tree) entries) (tower Two (number_of tree) (changed_entries entries changes)) 0 edits.old.items
-        × HaveOpened edits.old.items × (1 ≤ length edits.old.items)
-        × (length edits.old.items ≤ length (levels Two (number_of tree) entries))
-        × (old ≡ None → length edits.old.items ≡ length (levels Two (number_of tree) entries)) }
+        × CanFindTop (S.holds shelf.old) top changes (number_of tree) entries old edits.old.items }
     ensures stays { SameNodes (S.holds shelf.old) (S.holds shelf.new) }
     ensures grows { (bytes : List ℕ) → S.used shelf.old bytes → S.used shelf.new bytes }
     ensures found { (top : List ℕ) (changes : List (Change Binding)) (entries : List Binding)
-        → IsOldTree (S.holds shelf.new) top changes (number_of tree) entries
-        → AreEdits (levels Two (number_of tree) entries) (tower Two (number_of tree) (changed_entries entries changes)) 0 edits.old.items
-        → HaveOpened edits.old.items → 1 ≤ length edits.old.items
-        → length edits.old.items ≤ length (levels Two (number_of tree) entries)
-        → (old ≡ None → length edits.old.items ≡ length (levels Two (number_of tree) entries))
-        → IfSome old (λ digest. (digest.0 ≡ top)
-        × (level_at (levels Two (number_of tree) entries) (length edits.old.items - 1) ≡ tower Two (number_of tree) (changed_entries entries changes) (length edits.old.items - 1)))
-        → IfOk result (λ found. IsFound (levels Two (number_of tree) entries) (levels Two (number_of tree) (changed_entries entries changes)) edits.new.items
-        (nodes_of added.old.items) (nodes_of added.new.items) (digests_of gone.old.items) (digests_of gone.new.items) found.digest.0 found.level) }
+        → CanFindTop (S.holds shelf.new) top changes (number_of tree) entries old edits.old.items
+        → TopStays top changes (number_of tree) entries old edits.old.items
+        → IfOk result (λ found. IsFound (levels Two (number_of tree) entries)
+        (levels Two (number_of tree) (changed_entries entries changes)) edits.new.items
+        (nodes_of added.old.items) (nodes_of added.new.items)
+        (digests_of gone.old.items) (digests_of gone.new.items) found.digest.0 found.level) }
     // It reads just nodes that are gone, and, where the tree loses levels, the new top.
     ensures used { (top : List ℕ) (changes : List (Change Binding)) (entries : List Binding)
-        → IsOldTree (S.holds shelf.new) top changes (number_of tree) entries
-        → AreEdits (levels Two (number_of tree) entries) (tower Two (number_of tree) (changed_entries entries changes)) 0 edits.old.items
-        → HaveOpened edits.old.items → 1 ≤ length edits.old.items
-        → length edits.old.items ≤ length (levels Two (number_of tree) entries)
-        → (old ≡ None → length edits.old.items ≡ length (levels Two (number_of tree) entries))
+        → CanFindTop (S.holds shelf.new) top changes (number_of tree) entries old edits.old.items
         → IfOk result (λ found. (bytes : List ℕ) → S.used shelf.new bytes
-        → S.used shelf.old bytes ⊎ IsTopRead (levels Two (number_of tree) entries) (levels Two (number_of tree) (changed_entries entries changes)) bytes) }
+        → S.used shelf.old bytes ⊎ IsTopRead (levels Two (number_of tree) entries)
+        (levels Two (number_of tree) (changed_entries entries changes)) bytes) }
 {
     let last = edits.len() - 1;
     if let Some(digest) = old {
@@ -139,7 +129,8 @@ fn put_empty_leaf<'c>(
 ) -> Result<Digest, AllocError>
     requires { 1 ≤ length edits.old.items }
     ensures { IfOk result (λ digest. (digest.0 ≡ node_digest (Leaf (number_of tree) []))
-        × ((leaf : New) × IsNewNode leaf (Leaf (number_of tree) []) × HaveGained leaf edits.old.items edits.new.items)) }
+        × ((leaf : New) × IsNewNode leaf (Leaf (number_of tree) [])
+        × HaveGained leaf edits.old.items edits.new.items)) }
 {
     let leaf = empty_leaf(alloc, tree)?;
     let digest = leaf.node.digest;
@@ -163,9 +154,12 @@ fn push_tree_diff(
     added: &mut Vec<NewNode>,
     gone: &mut Vec<Digest>,
 ) -> Result<(), AllocError>
-    ensures { (old : List (List Node)) (new : ℕ → List Node) (are : AreEdits old new 0 edits.entry.items)
-        → ((level : ℕ) → level < length edits.entry.items → AllByRecursion IsNode (level_at old level) × AllByRecursion IsNode (new level))
-        → OnOk result (HaveTold old new top_level 0 edits.entry.items are (nodes_of added.old.items) (nodes_of added.new.items)
+    ensures { (old : List (List Node)) (new : ℕ → List Node)
+        (are : AreEdits old new 0 edits.entry.items)
+        → ((level : ℕ) → level < length edits.entry.items
+        → AllByRecursion IsNode (level_at old level) × AllByRecursion IsNode (new level))
+        → OnOk result (HaveTold old new top_level 0 edits.entry.items are
+        (nodes_of added.old.items) (nodes_of added.new.items)
         (digests_of gone.old.items) (digests_of gone.new.items)) }
 {
     let mut level = 0;
@@ -184,14 +178,16 @@ fn push_edit_diff(
     added: &mut Vec<NewNode>,
     gone: &mut Vec<Digest>,
 ) -> Result<(), AllocError>
-    ensures { (opened came : List Node) → Each IsOldNode edit.entry.olds.items opened → Each IsNewNode edit.entry.news.items came
-        → AllByRecursion IsNode opened → AllByRecursion IsNode came
-        → OnOk result (IsTold top_level level opened came (nodes_of added.old.items) (nodes_of added.new.items)
+    ensures { (opened came : List Node)
+        → StandForNodes edit.entry.olds.items edit.entry.news.items opened came
+        → OnOk result (IsTold top_level level opened came
+        (nodes_of added.old.items) (nodes_of added.new.items)
         (digests_of gone.old.items) (digests_of gone.new.items)) }
 {
+    let LevelEdit { olds, news } = edit;
     if level <= top_level {
-        push_level_diff(edit, added, gone)?;
+        push_level_diff(olds.as_slice(), news, added, gone)?;
         return Ok(());
     }
-    push_gone_digests(edit.olds.as_slice(), gone)
+    push_gone_digests(olds.as_slice(), gone)
 }

@@ -63,7 +63,8 @@ fn level_over<'c>(
 ) -> Result<Vec<NewPiece<'c>>, AllocError>
     requires { AreWithin (links_of children.now) }
     ensures { IfOk result (λ news. Each IsNewNode news.items
-        (map (Inner (number_of tree) level) (pieces (ends_by Two is_marked_link) (links_of children.now)))) }
+        (map (Inner (number_of tree) level)
+        (pieces (ends_by Two is_marked_link) (links_of children.now)))) }
 {
     let mut news = Vec::new(alloc);
     let mut pending = Vec::new(alloc);

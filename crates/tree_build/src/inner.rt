@@ -55,7 +55,8 @@ fn put_inner<'a>(
 ) -> Result<Child<'a>, BuildFault>
     requires few { length children.now ≤ ITEM_LIMIT }
     requires within { AreWithin (links_of children.now) }
-    ensures link { IfOk result (λ child. link_of child ≡ link_to (inner_of tree level children.now)) }
+    ensures link { IfOk result
+        (λ child. link_of child ≡ link_to (inner_of tree level children.now)) }
     ensures put { PutAll result (HasNode stock.old) (HasNode stock.new)
         (inner_of tree level children.now ∷ []) }
 {
@@ -109,7 +110,8 @@ pub(crate) fn entries_below(children: &[Child<'_>]) -> u64
 fn inner_len(children: &[Child<'_>]) -> usize
     requires few { length children.now ≤ ITEM_LIMIT }
     requires within { AreWithin (links_of children.now) }
-    ensures { result ≡ 4 + sum_by (λ (link : Link). 42 + length link.greatest) (links_of children.now) }
+    ensures { result
+        ≡ 4 + sum_by (λ (link : Link). 42 + length link.greatest) (links_of children.now) }
 {
     let mut len = 4;
     for child in children {

@@ -44,7 +44,8 @@ pub fn levels_law()
         < length (level_at (levels shape tree entries) level) }
     // until the last level has one, the top.
     ensures top { (shape : Shape) (tree : ℕ) (entries : List Binding)
-        → length (level_at (levels shape tree entries) (length (levels shape tree entries) - 1)) ≡ 1 }
+        → length (level_at (levels shape tree entries) (length (levels shape tree entries) - 1))
+        ≡ 1 }
     // There are at most 30 levels.
     ensures few { (shape : Shape) (tree : ℕ) (entries : List Binding)
         → HasTree entries → length (levels shape tree entries) ≤ 30 }
@@ -72,7 +73,8 @@ pub fn pieces_law()
 pub fn cuts_law()
     // The entries are cut into the leaves,
     ensures leaves { (shape : Shape) (tree : ℕ) (entries : List Binding) → entries ≢ []
-        → IsCut shape is_marked_entry entries (map entries_in (level_at (levels shape tree entries) 0)) }
+        → IsCut shape is_marked_entry entries
+        (map entries_in (level_at (levels shape tree entries) 0)) }
     // and the items that stand for the nodes of a level are cut into the nodes of the next one.
     ensures above { (shape : Shape) (tree : ℕ) (entries : List Binding) (level : ℕ)
         → level + 1 < length (levels shape tree entries)
@@ -120,8 +122,10 @@ pub fn nodes_law()
     // The items of a level state how many entries are below the nodes that they stand for.
     ensures stated { (shape : Shape) (tree : ℕ) (entries : List Binding) (level : ℕ)
         → level + 1 < length (levels shape tree entries)
-        → map (λ (link : Link). link.number) (flat_map links_in (level_at (levels shape tree entries) (level + 1)))
-        ≡ map (λ (part : List Binding). length part) (entries_at (levels shape tree entries) level) }
+        → map (λ (link : Link). link.number)
+        (flat_map links_in (level_at (levels shape tree entries) (level + 1)))
+        ≡ map (λ (part : List Binding). length part)
+        (entries_at (levels shape tree entries) level) }
 {}
 
 /// The law of tops: the digest of a top stands for one list alone. Two lists whose trees have one
@@ -140,12 +144,14 @@ pub fn changed_list_law()
     // An entry is there afterwards where a change puts it, or where it was there and no change names its key,
     // and nowhere else.
     ensures members { (entries : List Binding) (changes : List EntryChange)
-        → AreRisingFrom None (keys_of entries) → AreRisingFrom None (keys_of_changes (changes_of changes))
+        → AreRisingFrom None (keys_of entries)
+        → AreRisingFrom None (keys_of_changes (changes_of changes))
         → (entry : Binding) → Contains (changed_entries entries (changes_of changes)) entry
         ↔ (IsPutBy (changes_of changes) entry
         ⊎ (Contains entries entry × ¬ Contains (keys_of_changes (changes_of changes)) entry.key)) }
     // The keys strictly rise.
     ensures rising { (entries : List Binding) (changes : List EntryChange)
-        → AreRisingFrom None (keys_of entries) → AreRisingFrom None (keys_of_changes (changes_of changes))
+        → AreRisingFrom None (keys_of entries)
+        → AreRisingFrom None (keys_of_changes (changes_of changes))
         → AreRisingFrom None (keys_of (changed_entries entries (changes_of changes))) }
 {}

@@ -26,7 +26,8 @@ pub(crate) fn put_leaves<'a>(
     stock: &mut Stock,
 ) -> Result<Vec<Child<'a>>, BuildFault>
     requires { AllByRecursion FitsTree (bindings_of entries.now) }
-    ensures links { let nodes = leaves (shape_of shape) (number_of tree) (bindings_of entries.now) in
+    ensures links { let nodes = leaves (shape_of shape) (number_of tree)
+        (bindings_of entries.now) in
         IfOk result (λ children. links_of children.items ≡ map link_to nodes) }
     ensures put { let nodes = leaves (shape_of shape) (number_of tree) (bindings_of entries.now) in
         PutAll result (HasNode stock.old) (HasNode stock.new) nodes }
@@ -54,7 +55,8 @@ fn put_leaf<'a>(
     requires few { length entries.now ≤ ITEM_LIMIT }
     requires fit { AllByRecursion FitsTree (bindings_of entries.now) }
     ensures link { IfOk result (λ child. link_of child ≡ link_to (leaf_of tree entries.now)) }
-    ensures put { PutAll result (HasNode stock.old) (HasNode stock.new) (leaf_of tree entries.now ∷ []) }
+    ensures put { PutAll result (HasNode stock.old) (HasNode stock.new)
+        (leaf_of tree entries.now ∷ []) }
 {
     let digest = stock.put(leaf_bytes(alloc, tree, entries)?)?;
     Ok(Child {

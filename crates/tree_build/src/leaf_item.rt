@@ -50,7 +50,8 @@ pub(crate) fn old_items<'x>(
     entries: Entries<'x>,
 ) -> Result<Vec<LeafItem<'x>>, AllocError>
     requires { EndsNoSooner Two is_marked_entry entries }
-    ensures { IfOk result (λ items. map (λ item. binding_of item.entry) items.items ≡ entries.entry) }
+    ensures { IfOk result
+        (λ items. map (λ item. binding_of item.entry) items.items ≡ entries.entry) }
 {
     let number = entries.number() as usize;
     let mut items = Vec::with_capacity(alloc, number)?;
@@ -69,7 +70,8 @@ pub(crate) fn entries_of<'x>(
     alloc: Global,
     items: &[LeafItem<'x>],
 ) -> Result<Vec<Entry<'x>>, AllocError>
-    ensures { IfOk result (λ entries. bindings_of entries.items ≡ map (λ item. binding_of item.entry) items.now) }
+    ensures { IfOk result
+        (λ entries. bindings_of entries.items ≡ map (λ item. binding_of item.entry) items.now) }
 {
     let mut entries = Vec::with_capacity(alloc, items.len())?;
     for item in items {

@@ -61,10 +61,12 @@ pub(crate) trait NodeItem: Cut + Copy {
     ghost parts: { (items others : List Meaning) → Fit (items ++ others) → Fit items × Fit others };
 
     /// The items of the node that is made of some are these.
-    ghost same_items: { (tree level : ℕ) (items : List Meaning) → items_in (node_over tree level items) ≡ items };
+    ghost same_items: { (tree level : ℕ) (items : List Meaning)
+        → items_in (node_over tree level items) ≡ items };
 
     /// Where no item inside of a node is marked, none of these is.
-    ghost unmarked: { (node : Node) → IsUnmarkedInside node → EndsNoSooner Two marked_in (items_in node) };
+    ghost unmarked: { (node : Node) → IsUnmarkedInside node
+        → EndsNoSooner Two marked_in (items_in node) };
 }
 
 /// The items of the nodes of a level, which lie in the bytes of nodes or in changes.

@@ -1,11 +1,11 @@
 //! Changing a tree from level to level.
 
-ghost use Rattle.std.specs.Prelude.{◌≡◌, ◌⊎◌, ◌+◌, ◌≤◌, ◌<◌, ◌↔◌, ℕ, List, IfOk, IsTrue, length};
-ghost use Rattle.tree_build.specs.Rebuilding.{IsOldTree, change_of, changed_entries, changes_of, keys_of_changes};
+ghost use Rattle.std.specs.Prelude.{◌≡◌, ◌⊎◌, ◌≤◌, ◌<◌, ◌↔◌, ℕ, List, IfOk, IsTrue, length};
+ghost use Rattle.tree_build.specs.Rebuilding.{change_of, changed_entries, changes_of, keys_of_changes};
 ghost use Rattle.tree_build.specs.internal.ItemChanges.{change_meant, changes_meant};
 ghost use Rattle.tree_build.specs.internal.LeafItems.{entry_of};
 ghost use Rattle.tree_build.specs.internal.Towers.{tower};
-ghost use Rattle.tree_build.specs.internal.TreeEdits.{HaveAllReasons, IsRead, IsTreeEdit};
+ghost use Rattle.tree_build.specs.internal.TreeEdits.{HasTopLevel, HaveAllReasons, IsRead, IsTreeEdit};
 ghost use Rattle.tree_node.specs.NodeRefs.{number_of};
 ghost use Rattle.tree_node.specs.Nodes.{Binding};
 ghost use Rattle.tree_node.specs.Shelves.{SameNodes};
@@ -39,24 +39,31 @@ pub(crate) fn change_levels<'a, S: Shelf<'a>>(
     top_level: u8,
     changes: &'a [EntryChange],
 ) -> Result<TreeEdit<'a>, AllocError>
-    requires { (entries : List Binding) × IsOldTree (S.holds shelf.old) top.now.0 (changes_of changes.now) (number_of tree) entries
-        × (top_level + 1 ≡ length (levels Two (number_of tree) entries)) × (1 ≤ length changes.now) }
+    requires { (entries : List Binding) × (1 ≤ length changes.now)
+        × HasTopLevel (S.holds shelf.old) top.now.0 (changes_of changes.now) (number_of tree)
+        entries top_level }
     ensures stays { SameNodes (S.holds shelf.old) (S.holds shelf.new) }
     ensures grows { (bytes : List ℕ) → S.used shelf.old bytes → S.used shelf.new bytes }
-    ensures edited { (entries : List Binding) → IsOldTree (S.holds shelf.new) top.now.0 (changes_of changes.now) (number_of tree) entries
-        → top_level + 1 ≡ length (levels Two (number_of tree) entries)
+    ensures edited { (entries : List Binding)
+        → HasTopLevel (S.holds shelf.new) top.now.0 (changes_of changes.now) (number_of tree)
+        entries top_level
         → IfOk result (IsTreeEdit (levels Two (number_of tree) entries)
         (tower Two (number_of tree) (changed_entries entries (changes_of changes.now)))) }
     // It reads just what is on the ways to the nodes that were opened.
-    ensures used { (entries : List Binding) → IsOldTree (S.holds shelf.new) top.now.0 (changes_of changes.now) (number_of tree) entries
-        → top_level + 1 ≡ length (levels Two (number_of tree) entries)
+    ensures used { (entries : List Binding)
+        → HasTopLevel (S.holds shelf.new) top.now.0 (changes_of changes.now) (number_of tree)
+        entries top_level
         → IfOk result (λ edited. (bytes : List ℕ) → S.used shelf.new bytes
-        → S.used shelf.old bytes ⊎ IsRead (levels Two (number_of tree) entries) 0 edited.edits.items bytes) }
-    // Each level opened its nodes for a reason: for a change, of the caller's or of the level below, or as they are gone.
-    ensures reasons { (entries : List Binding) → IsOldTree (S.holds shelf.new) top.now.0 (changes_of changes.now) (number_of tree) entries
-        → top_level + 1 ≡ length (levels Two (number_of tree) entries)
+        → S.used shelf.old bytes
+        ⊎ IsRead (levels Two (number_of tree) entries) 0 edited.edits.items bytes) }
+    // Each level opened its nodes for a reason: for a change, of the caller's or of the level below, or as they are
+    // gone.
+    ensures reasons { (entries : List Binding)
+        → HasTopLevel (S.holds shelf.new) top.now.0 (changes_of changes.now) (number_of tree)
+        entries top_level
         → IfOk result (λ edited. HaveAllReasons (levels Two (number_of tree) entries)
-        (tower Two (number_of tree) (changed_entries entries (changes_of changes.now))) (keys_of_changes (changes_of changes.now)) edited.edits.items) }
+        (tower Two (number_of tree) (changed_entries entries (changes_of changes.now)))
+        (keys_of_changes (changes_of changes.now)) edited.edits.items) }
 {
     let mut edits: Vec<LevelEdit<'a>> = Vec::new(alloc);
     let items: Vec<ItemChange<'a, LeafItem<'a>>> = item_changes(alloc, changes)?;

@@ -20,6 +20,7 @@ mod level_diff;
 mod level_item;
 mod levels;
 mod merge;
+mod node_merge;
 mod old_node;
 mod open_piece;
 mod parent_changes;

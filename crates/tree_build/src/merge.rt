@@ -18,7 +18,8 @@ pub(crate) fn split_at_key<'x, 's, T: LevelItem<'x>>(
 ) -> (&'s [T], &'s [T])
     ensures below { AllByRecursion (λ item. IsBelow (T.key_of item) key.now) result.0.now }
     ensures changed { (change : Change _) → change.key ≡ key.now
-        → changed_once T.key_of items.now change ≡ result.0.now ++ (one_or_none change.put ++ result.1.now) }
+        → changed_once T.key_of items.now change
+        ≡ result.0.now ++ (one_or_none change.put ++ result.1.now) }
 {
     let mut at = 0;
     for item in items {
@@ -50,7 +51,8 @@ pub(crate) fn merge<'x, T: LevelItem<'x>>(
     changes: &[ItemChange<'x, T>],
 ) -> Result<Vec<T>, AllocError>
     requires { AreOwnAndRising T.key_of (changes_in changes.now) }
-    ensures { IfOk result (λ merged. merged.items ≡ changed T.key_of items.now (changes_in changes.now)) }
+    ensures { IfOk result
+        (λ merged. merged.items ≡ changed T.key_of items.now (changes_in changes.now)) }
 {
     let mut merged = Vec::new(alloc);
     let mut rest = items;

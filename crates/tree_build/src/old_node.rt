@@ -41,7 +41,8 @@ pub(crate) fn fetch_held<'a, S: Shelf<'a>>(
         → IfOk result (λ found. node_read found.node ≡ node) }
     ensures old { IfOk result (λ found. IsOldNode found.old (node_read found.node)) }
     ensures used { (node : Node) → IsHeld (S.holds shelf.new) key.now.0 node
-        → (bytes : List ℕ) → S.used shelf.new bytes → S.used shelf.old bytes ⊎ (bytes ≡ spelling node) }
+        → (bytes : List ℕ) → S.used shelf.new bytes
+        → S.used shelf.old bytes ⊎ (bytes ≡ spelling node) }
 {
     match shelf.fetch_node(key) {
         Ok(Fetched { bytes, read }) => match read {

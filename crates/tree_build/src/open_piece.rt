@@ -1,4 +1,4 @@
-//! Making new nodes: cutting on from what is in hand.
+//! Making new nodes: cutting on from what is pending.
 
 ghost use Rattle.std.specs.Prelude.{◌≡◌, ◌++◌, ◌∷◌, ◌≤◌, ◌<◌, [], IfOk, OnOk, length, map};
 ghost use Rattle.tree_build.specs.internal.Cutting.{done_by, pending_after};
@@ -14,7 +14,7 @@ use crate::shape::Shape;
 use std::alloc::{AllocError, Global};
 use tree_node::{NewNode, Tree};
 
-/// Takes the items in hand, one after the other, and makes the nodes of the pieces that end.
+/// Adds the items to the pending ones, one after the other, and makes the nodes of the pieces that end.
 pub(crate) fn cut<'c, T: LevelItem<'c>>(
     alloc: Global,
     tree: Tree,
@@ -25,10 +25,13 @@ pub(crate) fn cut<'c, T: LevelItem<'c>>(
 ) -> Result<(), AllocError>
     requires few { length pending.old.items < ITEM_LIMIT }
     requires fit { T.Fit (map T.meaning pending.old.items ++ map T.meaning items.now) }
-    ensures news { OnOk result (HaveCome news.old.items news.new.items (map (T.node_over (number_of tree) level)
-        (done_by (ends_by Two T.marked_in) (map T.meaning pending.old.items) (map T.meaning items.now)))) }
+    ensures news { OnOk result (HaveCome news.old.items news.new.items
+        (map (T.node_over (number_of tree) level)
+        (done_by (ends_by Two T.marked_in) (map T.meaning pending.old.items)
+        (map T.meaning items.now)))) }
     ensures pending { OnOk result (map T.meaning pending.new.items
-        ≡ pending_after (ends_by Two T.marked_in) (map T.meaning pending.old.items) (map T.meaning items.now)) }
+        ≡ pending_after (ends_by Two T.marked_in) (map T.meaning pending.old.items)
+        (map T.meaning items.now)) }
     ensures few { OnOk result (length pending.new.items < ITEM_LIMIT) }
 {
     for item in items {
@@ -37,7 +40,7 @@ pub(crate) fn cut<'c, T: LevelItem<'c>>(
     Ok(())
 }
 
-/// Takes the item in hand, and makes the node of the piece where it ends there.
+/// Adds the item to the pending ones, and makes the node of the piece where it ends there.
 fn cut_one<'c, T: LevelItem<'c>>(
     alloc: Global,
     tree: Tree,
@@ -48,10 +51,13 @@ fn cut_one<'c, T: LevelItem<'c>>(
 ) -> Result<(), AllocError>
     requires few { length pending.old.items < ITEM_LIMIT }
     requires fit { T.Fit (map T.meaning pending.old.items ++ T.meaning item.now ∷ []) }
-    ensures news { OnOk result (HaveCome news.old.items news.new.items (map (T.node_over (number_of tree) level)
-        (done_by (ends_by Two T.marked_in) (map T.meaning pending.old.items) (T.meaning item.now ∷ [])))) }
+    ensures news { OnOk result (HaveCome news.old.items news.new.items
+        (map (T.node_over (number_of tree) level)
+        (done_by (ends_by Two T.marked_in) (map T.meaning pending.old.items)
+        (T.meaning item.now ∷ [])))) }
     ensures pending { OnOk result (map T.meaning pending.new.items
-        ≡ pending_after (ends_by Two T.marked_in) (map T.meaning pending.old.items) (T.meaning item.now ∷ [])) }
+        ≡ pending_after (ends_by Two T.marked_in) (map T.meaning pending.old.items)
+        (T.meaning item.now ∷ [])) }
     ensures few { OnOk result (length pending.new.items < ITEM_LIMIT) }
 {
     pending.push(*item)?;
@@ -61,7 +67,7 @@ fn cut_one<'c, T: LevelItem<'c>>(
     Ok(())
 }
 
-/// Makes the node of what is in hand, where something is: the last piece of its level.
+/// Makes the node of the pending items, where there are any: the last piece of its level.
 pub(crate) fn close<'c, T: LevelItem<'c>>(
     alloc: Global,
     tree: Tree,
@@ -71,7 +77,8 @@ pub(crate) fn close<'c, T: LevelItem<'c>>(
 ) -> Result<(), AllocError>
     requires few { length pending.old.items < ITEM_LIMIT }
     requires fit { T.Fit (map T.meaning pending.old.items) }
-    ensures news { OnOk result (HaveCome news.old.items news.new.items (map (T.node_over (number_of tree) level)
+    ensures news { OnOk result (HaveCome news.old.items news.new.items
+        (map (T.node_over (number_of tree) level)
         (pieces_from (ends_by Two T.marked_in) (map T.meaning pending.old.items) []))) }
     ensures pending { OnOk result (pending.new.items ≡ []) }
 {
@@ -81,7 +88,7 @@ pub(crate) fn close<'c, T: LevelItem<'c>>(
     push_node(alloc, tree, level, pending, news)
 }
 
-/// Makes the node of what is in hand, and empties the hand.
+/// Makes the node of the pending items, and leaves none.
 fn push_node<'c, T: LevelItem<'c>>(
     alloc: Global,
     tree: Tree,

@@ -20,7 +20,8 @@ use tree_node::{Digest, Shelf};
 /// this holds whatever their digests are.
 ///
 /// The shelf has to hold the old tree, whose top has this digest. The keys of the changes rise, and the
-/// changed list has a tree. The changes are borrowed for as long as the bytes that the shelf gives. Without changes it gives the old tree's top, and fetches nothing.
+/// changed list has a tree. The changes are borrowed for as long as the bytes that the shelf gives. Without
+/// changes it gives the old tree's top, and fetches nothing.
 ///
 /// It fetches the nodes on the ways from the top to the changes' keys, and beyond them only nodes that
 /// are gone, each as often as it goes by: its time grows with the changes and the nodes that change, times
@@ -50,7 +51,8 @@ pub fn rebuild<'a, S: Shelf<'a>>(
         → let old = levels Two tree entries in
         let new = levels Two tree (changed_entries entries (changes_of changes.now)) in
         AreClashFree old new
-        → IfOk result (λ rebuilt. GrownByAtMost (length rebuilt.gone.items + length changes.now * length old)
+        → IfOk result (λ rebuilt. GrownByAtMost
+        (length rebuilt.gone.items + length changes.now * length old)
         (S.used shelf.old) (S.used shelf.new)) }
 {
     if changes.is_empty() {

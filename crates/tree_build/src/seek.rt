@@ -1,12 +1,12 @@
 //! Going down a tree towards a key.
 
-ghost use Rattle.std.specs.Prelude.{◌≡◌, ◌≤◌, ◌<◌, ◌⊎◌, ◌↔◌, ◌&&◌, [], ℕ, List, IfOk, IsTrue, OnOk, length};
+ghost use Rattle.std.specs.Prelude.{◌≡◌, ◌≤◌, ◌⊎◌, ◌↔◌, ◌&&◌, [], ℕ, List, IfOk, IsTrue, OnOk, length};
 ghost use Rattle.tree_build.specs.internal.Edits.{IsOldNode};
 ghost use Rattle.tree_node.specs.NodeRefs.{link_of, node_read};
 ghost use Rattle.tree_node.specs.Nodes.{Binding, Link};
 ghost use Rattle.tree_node.specs.Shelves.{SameNodes};
 ghost use Rattle.tree_node.specs.Trees.{Two, levels, links_in};
-ghost use Rattle.tree_build.specs.internal.Holding.{HoldsTree, IsHeldTree, IsOnWay, IsSoughtNode};
+ghost use Rattle.tree_build.specs.internal.Holding.{HoldsTree, IsHeldLevel, IsOnWay, IsSoughtNode};
 ghost use Rattle.tree_build.specs.internal.Seeking.{IsSought, Reaches};
 
 use crate::old_node::{OpenNode, fetch_held, level_in};
@@ -43,7 +43,8 @@ pub(crate) fn pick_child<'a>(
 ) -> (Child<'a>, bool)
     requires { 1 ≤ length children }
     ensures { (front back : List Link)
-        × IsSought (λ (link : Link). link.greatest) wanted.now above children.entry front (link_of result.0) back
+        × IsSought (λ (link : Link). link.greatest) wanted.now above
+        children.entry front (link_of result.0) back
         × (IsTrue result.1 ↔ (back ≡ [])) }
 {
     let mut rest = children;
@@ -61,7 +62,8 @@ pub(crate) fn pick_child<'a>(
 fn child_of<'a>(node: &NodeRef<'a>, wanted: &[u8], above: bool) -> (Child<'a>, bool)
     requires { 1 ≤ length (links_in (node_read node.now)) }
     ensures { (front back : List Link)
-        × IsSought (λ (link : Link). link.greatest) wanted.now above (links_in (node_read node.now)) front (link_of result.0) back
+        × IsSought (λ (link : Link). link.greatest) wanted.now above
+        (links_in (node_read node.now)) front (link_of result.0) back
         × (IsTrue result.1 ↔ (back ≡ [])) }
 {
     match node {
@@ -89,12 +91,13 @@ pub(crate) fn seek<'a, S: Shelf<'a>>(
     requires { HoldsTree (S.holds shelf.old) top.now.0 level }
     ensures stays { SameNodes (S.holds shelf.old) (S.holds shelf.new) }
     ensures grows { (bytes : List ℕ) → S.used shelf.old bytes → S.used shelf.new bytes }
-    ensures node { (tree : ℕ) (entries : List Binding) → IsHeldTree (S.holds shelf.new) top.now.0 tree entries
-        → level < length (levels Two tree entries)
-        → IfOk result (λ found. IsSoughtNode (levels Two tree entries) level wanted.now above (node_read found.0.node) found.1) }
+    ensures node { (tree : ℕ) (entries : List Binding)
+        → IsHeldLevel (S.holds shelf.new) top.now.0 tree level entries
+        → IfOk result (λ found. IsSoughtNode (levels Two tree entries) level wanted.now above
+        (node_read found.0.node) found.1) }
     ensures old { IfOk result (λ found. IsOldNode found.0.old (node_read found.0.node)) }
-    ensures used { (tree : ℕ) (entries : List Binding) → IsHeldTree (S.holds shelf.new) top.now.0 tree entries
-        → level < length (levels Two tree entries)
+    ensures used { (tree : ℕ) (entries : List Binding)
+        → IsHeldLevel (S.holds shelf.new) top.now.0 tree level entries
         → OnOk result ((bytes : List ℕ) → S.used shelf.new bytes
         → S.used shelf.old bytes ⊎ IsOnWay (levels Two tree entries) level wanted.now above bytes) }
 {

@@ -1,19 +1,17 @@
 //! Coming down to the top of a tree that lost levels.
 
-ghost use Rattle.std.specs.Prelude.{◌≡◌, ◌⊎◌, ◌∷◌, ◌++◌, ◌≤◌, ◌-◌, ◌==◌, [], ℕ, List, IfOk, OnOk, if◌then◌else◌, length, slice_index_or};
+ghost use Rattle.std.specs.Prelude.{◌≡◌, ◌⊎◌, ◌∷◌, ◌++◌, ◌≤◌, ◌==◌, [], ℕ, List, IfOk, OnOk, if◌then◌else◌, length};
 ghost use Rattle.tree_build.specs.Changing.{Change};
-ghost use Rattle.tree_build.specs.Rebuilding.{IsOldTree, changed_entries, digests_of};
+ghost use Rattle.tree_build.specs.Rebuilding.{changed_entries, digests_of};
 ghost use Rattle.tree_build.specs.internal.Edits.{IsNewNode};
 ghost use Rattle.tree_build.specs.internal.Holding.{HoldsNode, IsHeld};
-ghost use Rattle.tree_build.specs.internal.Shrinking.{HasShrunk, IsOnlyChild, IsReadBy};
-ghost use Rattle.tree_build.specs.internal.Telling.{node_digest};
+ghost use Rattle.tree_build.specs.internal.Shrinking.{CanShrink, HasShrunk, IsOnlyChild, IsReadBy};
 ghost use Rattle.tree_build.specs.internal.Towers.{tower};
-ghost use Rattle.tree_build.specs.internal.TreeEdits.{AreEdits};
 ghost use Rattle.tree_build.specs.declared.piece.NewPiece.{NewPiece as New};
 ghost use Rattle.tree_node.specs.Nodes.{Binding, IsNode, Node, spelling};
 ghost use Rattle.tree_node.specs.NodeRefs.{node_read};
 ghost use Rattle.tree_node.specs.Shelves.{SameNodes};
-ghost use Rattle.tree_node.specs.Trees.{Two, levels, no_node};
+ghost use Rattle.tree_node.specs.Trees.{Two};
 
 use crate::old_node::fetch_held;
 use crate::step::LevelEdit;
@@ -35,31 +33,24 @@ pub(crate) fn shrink_top<'a, 'c, S: Shelf<'a>>(
     digest: &Digest,
     gone: &mut Vec<Digest>,
 ) -> Result<Top, AllocError>
-    requires { (tree : ℕ) × (top : List ℕ) × (changes : List (Change Binding)) × (entries : List Binding)
-        × IsOldTree (S.holds shelf.old) top changes tree entries
-        × AreEdits (levels Two tree entries) (tower Two tree (changed_entries entries changes)) 0 edits.now
-        × (1 ≤ length edits.now) × (length edits.now ≤ length (levels Two tree entries))
-        × (length (tower Two tree (changed_entries entries changes) (length edits.now - 1)) ≡ 1)
-        × (digest.now.0 ≡ node_digest (slice_index_or (tower Two tree (changed_entries entries changes) (length edits.now - 1)) 0 no_node)) }
+    requires { (tree : ℕ) × (top : List ℕ) × (changes : List (Change Binding))
+        × (entries : List Binding) × (1 ≤ length edits.now)
+        × CanShrink (S.holds shelf.old) tree top changes entries edits.now digest.now.0 }
     ensures stays { SameNodes (S.holds shelf.old) (S.holds shelf.new) }
     ensures grows { (bytes : List ℕ) → S.used shelf.old bytes → S.used shelf.new bytes }
-    ensures settled { (tree : ℕ) (top : List ℕ) (changes : List (Change Binding)) (entries : List Binding)
-        → IsOldTree (S.holds shelf.new) top changes tree entries
-        → AreEdits (levels Two tree entries) (tower Two tree (changed_entries entries changes)) 0 edits.now
-        → length edits.now ≤ length (levels Two tree entries)
-        → length (tower Two tree (changed_entries entries changes) (length edits.now - 1)) ≡ 1
-        → digest.now.0 ≡ node_digest (slice_index_or (tower Two tree (changed_entries entries changes) (length edits.now - 1)) 0 no_node)
-        → IfOk result (λ found. HasShrunk (tower Two tree (changed_entries entries changes)) edits.now
-        (digests_of gone.old.items) (digests_of gone.new.items) found.digest.0 found.level) }
+    ensures settled { (tree : ℕ) (top : List ℕ) (changes : List (Change Binding))
+        (entries : List Binding)
+        → CanShrink (S.holds shelf.new) tree top changes entries edits.now digest.now.0
+        → IfOk result (λ found. HasShrunk (tower Two tree (changed_entries entries changes))
+        edits.now (digests_of gone.old.items) (digests_of gone.new.items)
+        found.digest.0 found.level) }
     // It reads just the nodes that aren't new on its way down.
-    ensures used { (tree : ℕ) (top : List ℕ) (changes : List (Change Binding)) (entries : List Binding)
-        → IsOldTree (S.holds shelf.new) top changes tree entries
-        → AreEdits (levels Two tree entries) (tower Two tree (changed_entries entries changes)) 0 edits.now
-        → length edits.now ≤ length (levels Two tree entries)
-        → length (tower Two tree (changed_entries entries changes) (length edits.now - 1)) ≡ 1
-        → digest.now.0 ≡ node_digest (slice_index_or (tower Two tree (changed_entries entries changes) (length edits.now - 1)) 0 no_node)
+    ensures used { (tree : ℕ) (top : List ℕ) (changes : List (Change Binding))
+        (entries : List Binding)
+        → CanShrink (S.holds shelf.new) tree top changes entries edits.now digest.now.0
         → IfOk result (λ found. (bytes : List ℕ) → S.used shelf.new bytes
-        → S.used shelf.old bytes ⊎ IsReadBy (tower Two tree (changed_entries entries changes)) edits.now found.level bytes) }
+        → S.used shelf.old bytes ⊎ IsReadBy (tower Two tree (changed_entries entries changes))
+        edits.now found.level bytes) }
 {
     let mut level = edits.len() - 1;
     let mut top = *digest;
@@ -97,10 +88,13 @@ fn only_child_at<'a, 'c, S: Shelf<'a>>(
     ensures grows { (bytes : List ℕ) → S.used shelf.old bytes → S.used shelf.new bytes }
     ensures child { (node : Node) → IsNode node
         → (edit.now.news.items ≡ [] → IsHeld (S.holds shelf.new) digest.now.0 node)
-        → ((new : New) (others : List New) → edit.now.news.items ≡ new ∷ others → IsNewNode new node)
+        → ((new : New) (others : List New) → edit.now.news.items ≡ new ∷ others
+        → IsNewNode new node)
         → IfOk result (IsOnlyChild node) }
-    ensures used { (node : Node) → (edit.now.news.items ≡ [] → IsHeld (S.holds shelf.new) digest.now.0 node)
-        → (bytes : List ℕ) → S.used shelf.new bytes → S.used shelf.old bytes ⊎ ((edit.now.news.items ≡ []) × (bytes ≡ spelling node)) }
+    ensures used { (node : Node)
+        → (edit.now.news.items ≡ [] → IsHeld (S.holds shelf.new) digest.now.0 node)
+        → (bytes : List ℕ) → S.used shelf.new bytes
+        → S.used shelf.old bytes ⊎ ((edit.now.news.items ≡ []) × (bytes ≡ spelling node)) }
 {
     match edit.news.first() {
         Some(new) => Ok(only_child(new.node.bytes.as_slice())),

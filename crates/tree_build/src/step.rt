@@ -1,19 +1,19 @@
 //! Changing one level of a tree.
 
-ghost use Rattle.std.specs.List.{AllByRecursion, flat_map};
+ghost use Rattle.std.specs.List.{AllByRecursion};
 ghost use Rattle.std.specs.Prelude.{◌≡◌, ◌<◌, ◌≤◌, ◌⊎◌, ◌++◌, ◌∷◌, [], ℕ, List, IfOk, OnOk, IsTrue, false, drop, if◌then◌else◌, length, map, take};
 ghost use Rattle.tree_build.specs.Changing.{changed};
 ghost use Rattle.tree_build.specs.Cuts.{EndsNoSooner};
 ghost use Rattle.tree_build.specs.internal.Edits.{HaveCome};
-ghost use Rattle.tree_build.specs.internal.Holding.{IsHeldTree, IsOnWayTo};
+ghost use Rattle.tree_build.specs.internal.Holding.{IsHeldLevel, IsOnWayTo};
 ghost use Rattle.tree_build.specs.internal.ItemChanges.{changes_meant};
 ghost use Rattle.tree_build.specs.internal.RisingChanges.{AreOwnAndRising, IsUpTo};
-ghost use Rattle.tree_build.specs.internal.Steps.{CanStep, FirstIsAbove, HaveGoneOn, HaveReasons, IsEdit, IsWanted, keys_changed};
+ghost use Rattle.tree_build.specs.internal.Steps.{CanChange, FirstIsAbove, HaveGoneOn, HaveReasons, IsEdit, IsWanted, changed_nodes, keys_changed, nodes_at};
 ghost use Rattle.tree_node.specs.declared.limits.TheConstants.{ITEM_LIMIT};
 ghost use Rattle.tree_node.specs.NodeRefs.{node_read, number_of};
 ghost use Rattle.tree_node.specs.Nodes.{Binding};
 ghost use Rattle.tree_node.specs.Shelves.{SameNodes};
-ghost use Rattle.tree_node.specs.Trees.{Two, ends_by, level_at, levels, pieces, pieces_from};
+ghost use Rattle.tree_node.specs.Trees.{Two, ends_by, levels, pieces_from};
 
 use crate::level_item::{ItemChange, LevelItem};
 use crate::merge::merge;
@@ -61,34 +61,34 @@ pub(crate) fn change_level<'a, S: Shelf<'a>, T: LevelItem<'a>>(
     place: OldLevel,
     changes: &[ItemChange<'a, T>],
 ) -> Result<LevelEdit<'a>, AllocError>
-    requires { (entries : List Binding) × IsHeldTree (S.holds shelf.old) place.top.0 (number_of place.tree) entries
-        × (place.level < length (levels Two (number_of place.tree) entries))
-        × CanStep T.key_in (ends_by Two T.marked_in) T.items_in (T.node_over (number_of place.tree) place.level) T.Fit
-        (level_at (levels Two (number_of place.tree) entries) place.level) (changes_meant T.meaning changes.now) }
+    requires { (entries : List Binding)
+        × CanChange (S.holds shelf.old) place T.key_in T.marked_in T.items_in T.node_over T.Fit
+        entries (changes_meant T.meaning changes.now) }
     ensures stays { SameNodes (S.holds shelf.old) (S.holds shelf.new) }
     ensures grows { (bytes : List ℕ) → S.used shelf.old bytes → S.used shelf.new bytes }
     // It has the old nodes and the new ones by which the level and the changed level differ,
-    ensures edited { (entries : List Binding) → IsHeldTree (S.holds shelf.new) place.top.0 (number_of place.tree) entries
-        → place.level < length (levels Two (number_of place.tree) entries)
-        → let nodes = level_at (levels Two (number_of place.tree) entries) place.level in
-        CanStep T.key_in (ends_by Two T.marked_in) T.items_in (T.node_over (number_of place.tree) place.level) T.Fit nodes (changes_meant T.meaning changes.now)
-        → IfOk result (λ edit. IsEdit nodes (map (T.node_over (number_of place.tree) place.level) (pieces (ends_by Two T.marked_in)
-        (changed T.key_in (flat_map T.items_in nodes) (changes_meant T.meaning changes.now)))) edit) }
+    ensures edited { (entries : List Binding)
+        → CanChange (S.holds shelf.new) place T.key_in T.marked_in T.items_in T.node_over T.Fit
+        entries (changes_meant T.meaning changes.now)
+        → IfOk result (IsEdit (nodes_at place entries) (changed_nodes place T.key_in T.marked_in
+        T.items_in T.node_over entries (changes_meant T.meaning changes.now))) }
     // and one old node or more.
     ensures some { IfOk result (λ edit. 1 ≤ length edit.olds.items) }
     // It reads just what is on the ways to these old nodes.
-    ensures used { (entries : List Binding) → IsHeldTree (S.holds shelf.new) place.top.0 (number_of place.tree) entries
-        → place.level < length (levels Two (number_of place.tree) entries)
+    ensures used { (entries : List Binding)
+        → IsHeldLevel (S.holds shelf.new) place.top.0 (number_of place.tree) place.level entries
         → IfOk result (λ edit. (bytes : List ℕ) → S.used shelf.new bytes
-        → S.used shelf.old bytes ⊎ IsOnWayTo (levels Two (number_of place.tree) entries) place.level edit.olds.items bytes) }
+        → S.used shelf.old bytes ⊎ IsOnWayTo (levels Two (number_of place.tree) entries)
+        place.level edit.olds.items bytes) }
     // They are sought for a change or are gone, and those that are sought for a change are among them.
-    ensures reasons { (entries : List Binding) → IsHeldTree (S.holds shelf.new) place.top.0 (number_of place.tree) entries
-        → place.level < length (levels Two (number_of place.tree) entries)
-        → let nodes = level_at (levels Two (number_of place.tree) entries) place.level in
-        CanStep T.key_in (ends_by Two T.marked_in) T.items_in (T.node_over (number_of place.tree) place.level) T.Fit nodes (changes_meant T.meaning changes.now)
-        → IfOk result (λ edit. HaveReasons nodes (map (T.node_over (number_of place.tree) place.level) (pieces (ends_by Two T.marked_in)
-        (changed T.key_in (flat_map T.items_in nodes) (changes_meant T.meaning changes.now))))
-        (keys_changed (changes_meant T.meaning changes.now)) (keys_changed (changes_meant T.meaning changes.now)) edit.olds.items) }
+    ensures reasons { (entries : List Binding)
+        → CanChange (S.holds shelf.new) place T.key_in T.marked_in T.items_in T.node_over T.Fit
+        entries (changes_meant T.meaning changes.now)
+        → IfOk result (λ edit. HaveReasons (nodes_at place entries)
+        (changed_nodes place T.key_in T.marked_in T.items_in T.node_over entries
+        (changes_meant T.meaning changes.now))
+        (keys_changed (changes_meant T.meaning changes.now))
+        (keys_changed (changes_meant T.meaning changes.now)) edit.olds.items) }
 {
     let mut work = start(alloc);
     let mut done = 0;
@@ -114,7 +114,7 @@ fn start<'c, T>(alloc: Global) -> LevelWork<'c, T>
     }
 }
 
-/// The key that is sought next, and whether a node above it is wanted: while something is in hand, the
+/// The key that is sought next, and whether a node above it is wanted: while items are pending, the
 /// node after the last one; else that of the next change.
 fn next_wanted<'c, T>(
     work: &LevelWork<'c, T>,
@@ -146,14 +146,16 @@ fn take<'c, T: LevelItem<'c>>(
 ) -> Result<(), AllocError>
     requires few { length work.old.pending.items < ITEM_LIMIT }
     requires own { AreOwnAndRising T.key_in (changes_meant T.meaning here.now) }
-    requires fit { T.Fit (map T.meaning work.old.pending.items
-        ++ changed T.key_in (T.items_in (node_read found.node)) (changes_meant T.meaning here.now)) }
+    requires fit { T.Fit (map T.meaning work.old.pending.items ++ changed T.key_in
+        (T.items_in (node_read found.node)) (changes_meant T.meaning here.now)) }
     requires no_sooner { EndsNoSooner Two T.marked_in (T.items_in (node_read found.node)) }
     ensures few { OnOk result (length work.new.pending.items < ITEM_LIMIT) }
     ensures olds { OnOk result (work.new.olds.items ≡ work.old.olds.items ++ found.entry.old ∷ []) }
-    ensures went_on { OnOk result (HaveGoneOn (ends_by Two T.marked_in) (T.node_over (number_of place.tree) place.level) is_last
+    ensures went_on { OnOk result (HaveGoneOn (ends_by Two T.marked_in)
+        (T.node_over (number_of place.tree) place.level) is_last
         (map T.meaning work.old.pending.items) work.old.news.items
-        (changed T.key_in (T.items_in (node_read found.entry.node)) (changes_meant T.meaning here.now))
+        (changed T.key_in (T.items_in (node_read found.entry.node))
+        (changes_meant T.meaning here.now))
         (map T.meaning work.new.pending.items) work.new.news.items) }
 {
     let items = T::items_of(alloc, found.node)?;
@@ -171,7 +173,7 @@ fn take<'c, T: LevelItem<'c>>(
     Ok(())
 }
 
-/// Makes the node of what is in hand, where the level ends there.
+/// Makes the node of the pending items, where the level ends there.
 fn end_level<'c, T: LevelItem<'c>>(
     alloc: Global,
     place: OldLevel,
@@ -181,9 +183,12 @@ fn end_level<'c, T: LevelItem<'c>>(
 ) -> Result<(), AllocError>
     requires few { length pending.old.items < ITEM_LIMIT }
     requires fit { T.Fit (map T.meaning pending.old.items) }
-    ensures news { OnOk result (HaveCome news.old.items news.new.items (map (T.node_over (number_of place.tree) place.level)
-        (if is_last then pieces_from (ends_by Two T.marked_in) (map T.meaning pending.old.items) [] else []))) }
-    ensures pending { OnOk result (map T.meaning pending.new.items ≡ (if is_last then [] else map T.meaning pending.old.items)) }
+    ensures news { OnOk result (HaveCome news.old.items news.new.items
+        (map (T.node_over (number_of place.tree) place.level) (if is_last
+        then pieces_from (ends_by Two T.marked_in) (map T.meaning pending.old.items) []
+        else []))) }
+    ensures pending { OnOk result (map T.meaning pending.new.items
+        ≡ (if is_last then [] else map T.meaning pending.old.items)) }
     ensures few { OnOk result (length pending.new.items < ITEM_LIMIT) }
 {
     if is_last {

@@ -14,15 +14,15 @@ use Rattle.tree_build.specs.Cuts.{AllButLast, EndsByShape, EndsNoSooner, IsCut}
 
 -- ---- the pieces that the definition of trees gives
 
--- what is in hand: no item after its first is marked, in the second shape
+-- what is pending: no item after its first is marked, in the second shape
 abbrev pub MayGoOn : {X : Type 0} → Shape → (X → Bool) → List X → Type 0
 MayGoOn One marked piece = ⊤
 MayGoOn Two marked piece = (k : ℕ) → 1 ≤ k → k < length piece → HoldsAt (λ x. marked x ≡ false) piece k
 
--- nothing is in hand
-none_in_hand : {X : Type 0} (shape : Shape) (marked : X → Bool) → MayGoOn shape marked []
-none_in_hand One marked = tt
-none_in_hand Two marked = λ k some lt. absurd (omega (arith, lt))
+-- nothing is pending
+none_pending : {X : Type 0} (shape : Shape) (marked : X → Bool) → MayGoOn shape marked []
+none_pending One marked = tt
+none_pending Two marked = λ k some lt. absurd (omega (arith, lt))
 
 -- what may go on has ended no sooner
 no_sooner : {X : Type 0} (shape : Shape) (marked : X → Bool) (piece : List X) → MayGoOn shape marked piece → EndsNoSooner shape marked piece
@@ -36,7 +36,7 @@ no_sooner_more Two marked piece x may = λ k some lt d.
     let here : k < length piece = omega (arith, lt, length-append piece (x ∷ [])) in
     subst (λ y. marked y ≡ false) (sym (get_or_append_left piece (x ∷ []) d k here)) (may k some here d)
 
--- where no piece ends, what is in hand with the item may go on
+-- where no piece ends, what is pending with the item may go on
 pub goes_on : {X : Type 0} (shape : Shape) (marked : X → Bool) (piece : List X) (x : X) → MayGoOn shape marked piece → ends_by shape marked (length piece + 1) x ≡ false → MayGoOn shape marked (piece ++ x ∷ [])
 goes_on One marked piece x may goes = tt
 goes_on {X} Two marked piece x may goes = λ k some lt d. elim (cases_lt k (length piece)) [
@@ -98,14 +98,14 @@ ends_from {X} shape marked piece (x ∷ xs) may =
     let Right : List (List X) → Type 0 = λ ps. AllButLast (EndsByShape shape marked) ps × AllByRecursion (EndsNoSooner shape marked) ps in
     subst Right (sym (pieces_step (ends_by shape marked) piece x xs))
     (chosen Right (ends_by shape marked (length piece + 1) x) ((piece ++ x ∷ []) ∷ pieces_from (ends_by shape marked) [] xs) (pieces_from (ends_by shape marked) (piece ++ x ∷ []) xs)
-    (λ ends. let rest = ends_from shape marked [] xs (none_in_hand shape marked) in
+    (λ ends. let rest = ends_from shape marked [] xs (none_pending shape marked) in
     (ended_first (EndsByShape shape marked) (piece ++ x ∷ []) (pieces_from (ends_by shape marked) [] xs) (ends_here shape marked piece x ends) rest.0, (no_sooner_more shape marked piece x may, rest.1)))
     (λ goes. ends_from shape marked (piece ++ x ∷ []) xs (goes_on shape marked piece x may goes)))
 
 -- the list is cut into its pieces
 pub is_cut : {X : Type 0} (shape : Shape) (marked : X → Bool) (xs : List X) → IsCut shape marked xs (pieces (ends_by shape marked) xs)
 is_cut shape marked xs =
-    let ends = ends_from shape marked [] xs (none_in_hand shape marked) in
+    let ends = ends_from shape marked [] xs (none_pending shape marked) in
     record {
       joined = pieces_join (ends_by shape marked) [] xs;
       sized = pieces_sized shape marked xs;

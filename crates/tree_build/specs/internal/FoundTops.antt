@@ -1,11 +1,15 @@
 -- What the finding of the new tree's top leaves to be told.
-use Rattle.std.specs.Prelude.{◌≡◌, ℕ, suc, ◌<◌, ◌≤◌, List, [], ◌∷◌, ◌++◌, ◌⊎◌, ◌↔◌, length, map, None, ⊤}
+use Rattle.std.specs.Prelude.{◌≡◌, ℕ, suc, ◌-◌, ◌<◌, ◌≤◌, List, [], ◌∷◌, ◌++◌, ◌⊎◌, ◌↔◌, length, map, Option, None, IfSome, ⊤}
 use Rattle.std.specs.List.{AllByRecursion}
 use Rattle.tree_node.specs.Digests.{digest}
-use Rattle.tree_node.specs.Nodes.{AreRisingFrom, IsNode, Node, level_of, spelling}
-use Rattle.tree_node.specs.Trees.{greatest_of, level_at, top_of}
+use Rattle.tree_node.specs.Nodes.{AreRisingFrom, Binding, IsNode, Node, level_of, spelling}
+use Rattle.tree_node.specs.Trees.{Two, greatest_of, level_at, levels, top_of}
+use Rattle.tree_node.specs.declared.digest.Digest.{Digest}
+use Rattle.tree_build.specs.Changing.{Change}
+use Rattle.tree_build.specs.Rebuilding.{IsOldTree, changed_entries}
 use Rattle.tree_build.specs.internal.Telling.{node_digest}
-use Rattle.tree_build.specs.internal.TreeEdits.{AreEdits}
+use Rattle.tree_build.specs.internal.Towers.{tower}
+use Rattle.tree_build.specs.internal.TreeEdits.{AreEdits, HaveOpened}
 use Rattle.tree_build.specs.internal.Weaving.{IsIn}
 use Rattle.tree_build.specs.declared.piece.NewPiece.{NewPiece}
 use Rattle.tree_build.specs.declared.step.LevelEdit.{LevelEdit}
@@ -45,9 +49,9 @@ pub record IsPassed (old : List (List Node)) (new : ℕ → List Node) (edits : 
   pub above : top < level
   pub kept : IsKept old new 0 edits are level node
 
--- The new tree's top is found, at this level of the edits: up to it these are the levels of the new tree, and the levels
--- above have none, but that those above all edits are the old ones or have come. The nodes that the edits don't tell of
--- were told.
+-- The new tree's top is found, at this level of the edits: up to it these are the levels of the new tree, and the
+-- levels above have none, but that those above all edits are the old ones or have come. The nodes that the edits
+-- don't tell of were told.
 pub record IsFound (old new : List (List Node)) (edits : List LevelEdit) (added later gone lost_later : List (List ℕ)) (top : List ℕ) (level : ℕ) : Type 0 where
   pub levels : ℕ → List Node
   pub are : AreEdits old levels 0 edits
@@ -67,6 +71,20 @@ pub record IsFound (old new : List (List Node)) (edits : List LevelEdit) (added 
   pub passed_in : (node : Node) → IsIn node passed ↔ IsPassed old levels edits are level node
   pub passed_once : AreOnce passed
   pub top_is : top ≡ digest (top_of new)
+
+-- The set holds an old tree, and these edits change its levels: all of them, where no digest of the top is given.
+pub record CanFindTop (held : List ℕ → Type 0) (top : List ℕ) (changes : List (Change Binding)) (tree : ℕ) (entries : List Binding) (given : Option Digest) (edits : List LevelEdit) : Type 0 where
+  pub is : IsOldTree held top changes tree entries
+  pub are : AreEdits (levels Two tree entries) (tower Two tree (changed_entries entries changes)) 0 edits
+  pub opened : HaveOpened edits
+  pub some : 1 ≤ length edits
+  pub high : length edits ≤ length (levels Two tree entries)
+  pub whole : given ≡ None → length edits ≡ length (levels Two tree entries)
+
+-- where a digest is given, it is that of the old top, and the last of the levels is as it was
+abbrev pub TopStays : List ℕ → List (Change Binding) → ℕ → List Binding → Option Digest → List LevelEdit → Type 0
+TopStays top changes tree entries given edits =
+    IfSome given (λ (d : Digest). (d.0 ≡ top) × (level_at (levels Two tree entries) (length edits - 1) ≡ tower Two tree (changed_entries entries changes) (length edits - 1)))
 
 -- the bytes are a node of the old tree that the new one hasn't
 pub record IsGoneNode (old new : List (List Node)) (bytes : List ℕ) : Type 0 where

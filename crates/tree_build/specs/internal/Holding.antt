@@ -26,6 +26,11 @@ pub record IsHeldTree (held : List ℕ → Type 0) (top : List ℕ) (tree : ℕ)
   pub is_top : top ≡ digest (top_of (levels Two tree entries))
   pub holds : (bytes : List ℕ) → IsNodeOf (levels Two tree entries) bytes → held bytes
 
+-- the set holds that tree, which has the level
+pub record IsHeldLevel (held : List ℕ → Type 0) (top : List ℕ) (tree level : ℕ) (entries : List Binding) : Type 0 where
+  pub is : IsHeldTree held top tree entries
+  pub within : level < length (levels Two tree entries)
+
 -- the set holds a tree with this top, which has the level
 pub record HoldsTree (held : List ℕ → Type 0) (top : List ℕ) (level : ℕ) : Type 0 where
   pub tree : ℕ

@@ -1,9 +1,13 @@
 -- Coming down to the top of a tree that lost levels.
 use Rattle.std.specs.Prelude.{◌≡◌, ◌≢◌, ℕ, zero, suc, ◌+◌, ◌-◌, ◌<◌, ◌≤◌, List, [], ◌∷◌, ◌++◌, ◌⊎◌, length, map, Option, None, Some, ◌==◌, if◌then◌else◌, slice_index_or}
-use Rattle.tree_node.specs.Nodes.{Link, Node, spelling}
-use Rattle.tree_node.specs.Trees.{links_in, no_node}
+use Rattle.tree_node.specs.Nodes.{Binding, Link, Node, spelling}
+use Rattle.tree_node.specs.Trees.{Two, levels, links_in, no_node}
 use Rattle.tree_node.specs.declared.digest.Digest.{Digest}
+use Rattle.tree_build.specs.Changing.{Change}
+use Rattle.tree_build.specs.Rebuilding.{IsOldTree, changed_entries}
 use Rattle.tree_build.specs.internal.Telling.{node_digest}
+use Rattle.tree_build.specs.internal.Towers.{tower}
+use Rattle.tree_build.specs.internal.TreeEdits.{AreEdits}
 use Rattle.tree_build.specs.declared.step.LevelEdit.{LevelEdit}
 
 -- the digest of the node's only child, where it has one child
@@ -26,8 +30,8 @@ abbrev pub passed : (ℕ → List Node) → ℕ → ℕ → List Node
 passed stays last zero = []
 passed stays last (suc steps) = passed stays last steps ++ stays (last - steps)
 
--- The new tree's top is at this level: the last one, or one to which levels with one node lead down from it. The nodes that
--- were passed and aren't new are gone.
+-- The new tree's top is at this level: the last one, or one to which levels with one node lead down from it. The
+-- nodes that were passed and aren't new are gone.
 pub record HasShrunk (new : ℕ → List Node) (edits : List LevelEdit) (gone later : List (List ℕ)) (top : List ℕ) (level : ℕ) : Type 0 where
   pub steps : ℕ
   pub at : level + steps + 1 ≡ length edits
@@ -35,6 +39,14 @@ pub record HasShrunk (new : ℕ → List Node) (edits : List LevelEdit) (gone la
   pub first : (level ≡ 0) ⊎ (2 ≤ length (new (level - 1)))
   pub top_is : top ≡ node_digest (slice_index_or (new level) 0 no_node)
   pub gone_are : later ≡ gone ++ map node_digest (passed (stayed_at new 0 edits) (length edits - 1) steps)
+
+-- The set holds an old tree, and these edits change its levels up to one with one new node, which has this digest.
+pub record CanShrink (held : List ℕ → Type 0) (tree : ℕ) (top : List ℕ) (changes : List (Change Binding)) (entries : List Binding) (edits : List LevelEdit) (digest : List ℕ) : Type 0 where
+  pub is : IsOldTree held top changes tree entries
+  pub are : AreEdits (levels Two tree entries) (tower Two tree (changed_entries entries changes)) 0 edits
+  pub high : length edits ≤ length (levels Two tree entries)
+  pub one : length (tower Two tree (changed_entries entries changes) (length edits - 1)) ≡ 1
+  pub digest_is : digest ≡ node_digest (slice_index_or (tower Two tree (changed_entries entries changes) (length edits - 1)) 0 no_node)
 
 -- the one node of a level from this one on, whose edit has no new ones
 pub record IsReadBy (new : ℕ → List Node) (edits : List LevelEdit) (level : ℕ) (bytes : List ℕ) : Type 0 where

@@ -3,12 +3,14 @@ use Rattle.std.specs.Prelude.{◌≡◌, ℕ, ◌≤◌, List, [], ◌∷◌, �
 use Rattle.std.specs.List.{AllByRecursion, flat_map}
 use Rattle.std.specs.Borrow.{Bor}
 use Rattle.tree_node.specs.declared.limits.TheConstants.{ENTRY_LIMIT}
-use Rattle.tree_node.specs.Nodes.{AreRisingFrom, Node}
+use Rattle.tree_node.specs.NodeRefs.{number_of}
+use Rattle.tree_node.specs.Nodes.{AreRisingFrom, Binding, Node}
 use Rattle.tree_node.specs.Order.{IsBelow}
-use Rattle.tree_node.specs.Trees.{greatest_of, last_key, pieces_from}
+use Rattle.tree_node.specs.Trees.{Two, ends_by, greatest_of, last_key, level_at, levels, pieces, pieces_from}
 use Rattle.tree_build.specs.Changing.{Change, changed}
 use Rattle.tree_build.specs.internal.Cutting.{ArePieces, done_by, pending_after}
 use Rattle.tree_build.specs.internal.Edits.{Each, HaveCome, IsNewNode, IsOldNode}
+use Rattle.tree_build.specs.internal.Holding.{IsHeldLevel}
 use Rattle.tree_build.specs.internal.RisingChanges.{AreOwnAndRising}
 use Rattle.tree_build.specs.internal.Seeking.{IsSought}
 use Rattle.tree_build.specs.internal.Weaving.{IsIn, Woven}
@@ -16,6 +18,7 @@ use Rattle.tree_build.specs.declared.old_node.OldNode.{OldNode}
 use Rattle.tree_build.specs.declared.level_item.ItemChange.{ItemChange}
 use Rattle.tree_build.specs.declared.piece.NewPiece.{NewPiece}
 use Rattle.tree_build.specs.declared.step.LevelEdit.{LevelEdit}
+use Rattle.tree_build.specs.declared.step.OldLevel.{OldLevel}
 
 -- the nodes are the pieces of their items, each with an item or more
 pub record HavePieces {X : Type 0} (ends : ℕ → X → Bool) (items : Node → List X) (nodes : List Node) : Type 0 where
@@ -38,6 +41,21 @@ pub record CanStep {X : Type 0} (key : X → List ℕ) (ends : ℕ → X → Boo
   pub own : AreOwnAndRising key changes
   pub fit : Fit (changed key (flat_map items nodes) changes)
 
+-- the nodes of the level
+abbrev pub nodes_at : OldLevel → List Binding → List Node
+nodes_at place entries = level_at (levels Two (number_of place.tree) entries) place.level
+
+-- the set holds a tree with the level, which can be changed so
+pub record CanChange {X : Type 0} (held : List ℕ → Type 0) (place : OldLevel) (key : X → List ℕ) (marked : X → Bool) (items : Node → List X) (over : ℕ → ℕ → List X → Node) (Fit : List X → Type 0)
+    (entries : List Binding) (changes : List (Change X)) : Type 0 where
+  pub level : IsHeldLevel held place.top.0 (number_of place.tree) place.level entries
+  pub can : CanStep key (ends_by Two marked) items (over (number_of place.tree) place.level) Fit (nodes_at place entries) changes
+
+-- the nodes of the changed level
+abbrev pub changed_nodes : {X : Type 0} → OldLevel → (X → List ℕ) → (X → Bool) → (Node → List X) → (ℕ → ℕ → List X → Node) → List Binding → List (Change X) → List Node
+changed_nodes place key marked items over entries changes =
+    map (over (number_of place.tree) place.level) (pieces (ends_by Two marked) (changed key (flat_map items (nodes_at place entries)) changes))
+
 -- the old level and the new one share some nodes, and the edit has the others of each
 pub record IsEdit (old new : List Node) (edit : LevelEdit) : Type 0 where
   pub kept : List Node
@@ -48,7 +66,7 @@ pub record IsEdit (old new : List Node) (edit : LevelEdit) : Type 0 where
   pub olds_stand : Each IsOldNode edit.olds.items opened
   pub news_stand : Each IsNewNode edit.news.items came
 
--- what is sought next: with something in hand the node after the last one that was opened, else that of the next change
+-- what is sought next: with something pending the node after the last one that was opened, else that of the next change
 abbrev pub IsWanted : {T : Type 0} → List OldNode → List T → List (ItemChange T) → Option (Bor (List ℕ) × Bool) → Type 0
 IsWanted olds pending rest None = ((pending ≡ []) × (rest ≡ [])) ⊎ ((pending ≢ []) × (olds ≡ []))
 IsWanted {T} olds pending rest (Some wanted) =
@@ -60,7 +78,7 @@ abbrev pub FirstIsAbove : {T : Type 0} → List ℕ → List (ItemChange T) → 
 FirstIsAbove key [] = ⊤
 FirstIsAbove key (change ∷ changes) = IsBelow key change.key.now
 
--- the cutting of these items has gone on from what was in hand, and has come to the list's end where they are the last
+-- the cutting of these items has gone on from what was pending, and has come to the list's end where they are the last
 pub record HaveGoneOn {X : Type 0} (ends : ℕ → X → Bool) (over : List X → Node) (is_last : Bool) (pending : List X) (news : List NewPiece) (items next : List X) (later : List NewPiece) : Type 0 where
   pub come : HaveCome news later (map over (done_by ends pending items ++ (if is_last then pieces_from ends (pending_after ends pending items) [] else [])))
   pub pending_is : next ≡ (if is_last then [] else pending_after ends pending items)

@@ -1,12 +1,14 @@
 -- How the levels of a tree change, from the leaves up.
-use Rattle.std.specs.Prelude.{◌≡◌, ◌⊎◌, ℕ, suc, ◌-◌, ◌≤◌, List, [], ◌∷◌, length, IsTrue, false, ⊤}
+use Rattle.std.specs.Prelude.{◌≡◌, ◌⊎◌, ℕ, suc, ◌+◌, ◌-◌, ◌≤◌, List, [], ◌∷◌, length, IsTrue, false, ⊤}
 use Rattle.std.specs.List.{AllByRecursion}
-use Rattle.tree_node.specs.Nodes.{Link, Node}
-use Rattle.tree_node.specs.Trees.{level_at}
+use Rattle.tree_node.specs.Nodes.{Binding, Link, Node}
+use Rattle.tree_node.specs.Trees.{Two, level_at, levels}
 use Rattle.tree_build.specs.Changing.{Change}
+use Rattle.tree_build.specs.Rebuilding.{IsOldTree, changed_entries}
 use Rattle.tree_build.specs.internal.Differing.{Differ}
 use Rattle.tree_build.specs.internal.Holding.{IsOnWayTo}
 use Rattle.tree_build.specs.internal.Steps.{HaveReasons, IsEdit, keys_changed}
+use Rattle.tree_build.specs.internal.Towers.{tower}
 use Rattle.tree_build.specs.declared.levels.TreeEdit.{TreeEdit}
 use Rattle.tree_build.specs.declared.step.LevelEdit.{LevelEdit}
 
@@ -28,6 +30,16 @@ pub record IsTreeEdit (old : List (List Node)) (new : ℕ → List Node) (edited
   pub same : IsTrue edited.stays → level_at old (length edited.edits.items - 1) ≡ new (length edited.edits.items - 1)
   pub whole : edited.stays ≡ false → length edited.edits.items ≡ length old
 
+-- the set holds an old tree, and its top has this level
+pub record HasTopLevel (held : List ℕ → Type 0) (top : List ℕ) (changes : List (Change Binding)) (tree : ℕ) (entries : List Binding) (top_level : ℕ) : Type 0 where
+  pub is : IsOldTree held top changes tree entries
+  pub height : top_level + 1 ≡ length (levels Two tree entries)
+
+-- the set holds an old tree, and its levels changed so
+pub record HasTreeEdit (held : List ℕ → Type 0) (top : List ℕ) (changes : List (Change Binding)) (tree : ℕ) (entries : List Binding) (edited : TreeEdit) : Type 0 where
+  pub is : IsOldTree held top changes tree entries
+  pub edit : IsTreeEdit (levels Two tree entries) (tower Two tree (changed_entries entries changes)) edited
+
 -- it is on the way to a node that one of the edits opened, of the levels from this one on
 abbrev pub IsRead : List (List Node) → ℕ → List LevelEdit → List ℕ → Type 0
 IsRead old level [] bytes = ⊥
@@ -40,8 +52,8 @@ pub record HasNext (old new : List Node) (edit : LevelEdit) (changes : List (Cha
   pub gained : List Node
   pub parent_changes : Differ is.opened is.came lost gained changes
 
--- Of the levels from this one on, of which the first is changed at these keys: each has opened its nodes for a reason, and
--- gives the next one its changes, the last one those at the last keys.
+-- Of the levels from this one on, of which the first is changed at these keys: each has opened its nodes for a
+-- reason, and gives the next one its changes, the last one those at the last keys.
 abbrev pub AreReasoned : List (List Node) → (ℕ → List Node) → ℕ → List (List ℕ) → List LevelEdit → List (List ℕ) → Type 0
 AreReasoned old new level keys [] last = keys ≡ last
 AreReasoned old new level keys (edit ∷ edits) last =

@@ -7,19 +7,28 @@ use Rattle.tree_build.specs.Rebuilding.{changed_entries, digests_of, nodes_of}
 use Rattle.tree_node.specs.declared.new_node.NewNode.{NewNode}
 use Rattle.tree_build.specs.internal.FoundTops.{IsFound}
 use Rattle.tree_build.specs.internal.Towers.{tower}
-use Rattle.tree_build.proofs.FinishLemmas.{is_rebuilt, none_stays, some_stays}
+use Rattle.tree_build.proofs.FinishLemmas.{can_find_top, is_rebuilt, none_stays, some_stays}
 use Rattle.tree_build.proofs.TreeEdits.{nodes_old}
 use Rattle.tree_build.proofs.finish.finish.Goals as goal
 
+pub find_top-requires : goal.find_top-requires
+find_top-requires g c κs =
+    let (changes, entries, has) = c.requires in (
+      (refl, tt),
+      (c.args.old_top.now.0, changes, entries, can_find_top _ _ _ _ _ _ _ has (λ none. none_stays c.args.edited.stays c.args.old_top.now c.then_some-old.result c.then_some-old.ensures none)),
+    )
+
 pub returns-clause-rebuilt : goal.returns-clause-rebuilt
-returns-clause-rebuilt g c = λ changes entries is edit.
+returns-clause-rebuilt g c = λ changes entries has.
+    let is = has.is in
+    let edit = has.edit in
     let tree = number_of c.args.tree in
     let after = changed_entries entries changes in
     let old = levels Two tree entries in
     let edits = c.args.edited.edits.items in
     let same_top : ℕ → Digest → Type 0 = λ (n : ℕ) (d : Digest). (d.0 ≡ c.args.old_top.now.0) × (level_at old n ≡ tower Two tree after n) in
-    let gives = c.in_ok-top.ensures.found c.args.old_top.now.0 changes entries is edit.are edit.opened edit.some edit.within
-    (λ none. edit.whole (none_stays c.args.edited.stays c.args.old_top.now c.then_some-old.result c.then_some-old.ensures none))
+    let gives = c.in_ok-top.ensures.found c.args.old_top.now.0 changes entries
+    (can_find_top _ _ _ _ _ _ _ has (λ none. none_stays c.args.edited.stays c.args.old_top.now c.then_some-old.result c.then_some-old.ensures none))
     (some_stays (same_top (length edits - 1)) c.args.edited.stays c.args.old_top.now c.then_some-old.result c.then_some-old.ensures (λ stays. (refl, edit.same stays))) in
     let added_none = subst (λ (ns : List NewNode). IsFound old (levels Two tree after) c.find_top.new.edits.items (nodes_of ns) (nodes_of c.find_top.new.added.items) (digests_of c.new-gone.result.items) (digests_of c.find_top.new.gone.items) c.in_ok-top.top.digest.0 c.in_ok-top.top.level)
     c.new-added.ensures.items gives in
@@ -32,6 +41,6 @@ returns-clause-rebuilt g c = λ changes entries is edit.
     c.in_ok-top.top.digest.0 c.in_ok-top.top.level found told (record { top = c.in_ok-top.top.digest; added = c.push_tree_diff.new.added; gone = c.push_tree_diff.new.gone }) refl refl refl
 
 pub returns-clause-used : goal.returns-clause-used
-returns-clause-used g c = λ changes entries is edit.
-    c.in_ok-top.ensures.used c.args.old_top.now.0 changes entries is edit.are edit.opened edit.some edit.within
-    (λ none. edit.whole (none_stays c.args.edited.stays c.args.old_top.now c.then_some-old.result c.then_some-old.ensures none))
+returns-clause-used g c = λ changes entries has.
+    c.in_ok-top.ensures.used c.args.old_top.now.0 changes entries
+    (can_find_top _ _ _ _ _ _ _ has (λ none. none_stays c.args.edited.stays c.args.old_top.now c.then_some-old.result c.then_some-old.ensures none))

@@ -2,8 +2,8 @@ use Rattle.std.proofs.Common.{◌≡◌, [], List, length, sym, ap, subst, ◌�
 use Rattle.std.specs.Vec.Iter.{into_iter_items}
 use Rattle.tree_build.specs.Rebuilding.{digests_of, nodes_of}
 use Rattle.tree_build.specs.declared.step.LevelEdit.{LevelEdit}
-use Rattle.tree_build.proofs.TellAllLemmas.{AreTelling, second_nodes, tellings_done, tellings_next, tellings_start}
-use Rattle.tree_build.proofs.TreeEdits.{empty_list}
+use Rattle.tree_build.proofs.TellAllLemmas.{AreTelling, tellings_done, tellings_next, tellings_start}
+use Rattle.tree_build.proofs.TreeEdits.{edit_stands, empty_list}
 use Rattle.tree_build.proofs.finish.push_tree_diff.Goals as goal
 
 pub loop-edit-init : goal.loop-edit-init
@@ -27,7 +27,7 @@ loop-edit-preserved c =
           (c.loop-edit.invariant.so_far old new are nodes) in
           let here = nodes c.loop-edit.level (omega (arith, c.loop-edit.invariant.level_is, ap length steps.0)) in
           tellings_next old new c.args.top_level c.args.edits.items are c.loop-edit.level _ _ _ _ _ _ _ _ so (λ is.
-          c.in_ok-push_edit_diff.ensures is.opened is.came is.olds_stand is.news_stand (second_nodes is.kept is.opened _ is.was here.0) (second_nodes is.kept is.came _ is.is here.1));
+          c.in_ok-push_edit_diff.ensures is.opened is.came (edit_stands _ _ _ is here.0 here.1));
     }
 
 pub returns : goal.returns

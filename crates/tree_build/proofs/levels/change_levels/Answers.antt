@@ -9,17 +9,17 @@ use Rattle.tree_build.specs.internal.Steps.{IsEdit}
 use Rattle.tree_build.specs.Rebuilding.{changes_of}
 use Rattle.tree_build.specs.internal.ItemChanges.{change_meant, changes_meant}
 use Rattle.tree_build.specs.internal.LeafItems.{entry_of}
-use Rattle.tree_build.proofs.TreeEdits.{edit_inner, edit_leaves, given_inner, given_leaves, held_of, levels_first, levels_more, next_of, nodes_new, nodes_old, old_then, at_top, none_next, tree_edit}
-use Rattle.tree_build.proofs.ReasonLevels.{has_next, reasoned_first, reasoned_next, reasons_inner, reasons_leaves}
+use Rattle.tree_build.proofs.TreeEdits.{edit_inner, edit_leaves, given_inner, given_leaves, held_of, levels_first, levels_more, next_of, nodes_new, nodes_old, old_then, at_top, has_next, none_next, top_level_then, tree_edit}
+use Rattle.tree_build.proofs.ReasonLevels.{reasoned_first, reasoned_next, reasons_inner, reasons_leaves}
 use Rattle.tree_build.proofs.UsedLemmas.{read_more}
 use Rattle.tree_build.proofs.ErrLemmas.{if_err}
 use Rattle.tree_build.proofs.levels.change_levels.Goals as goal
 
 pub change_level-requires : goal.change_level-requires
 change_level-requires g c = λ k.
-    let (entries, is, height, some) = c.requires in
+    let (entries, some, old) = c.requires in
     let given : changes_meant entry_of c.as_slice.result.now ≡ changes_of c.args.changes.now = ap (changes_meant entry_of) c.as_slice.ensures.value ∙ c.in_ok-items.ensures in
-    ((refl, tt), (entries, held_of _ _ _ _ _ is, omega arith, given_leaves _ _ c.args.changes.now (number_of c.args.tree) entries _ given some is))
+    ((refl, tt), (entries, record { level = record { is = held_of _ _ _ _ _ old.is; within = omega (arith, old.height) }; can = given_leaves _ _ c.args.changes.now (number_of c.args.tree) entries _ given some old.is }))
 
 pub levels-init : goal.levels-init
 levels-init g c = record {
@@ -27,46 +27,47 @@ levels-init g c = record {
   grows = c.change_level.ensures.grows;
   low = omega arith;
   count = ap length c.in_ok-push.ensures.items ∙ ap (λ xs. length (xs ++ c.in_ok-leaves.leaves ∷ [])) c.new-edits.ensures.items;
-  used = λ entries is height x h.
-      let now = old_then _ (g.S.Shelf.holds c.change_level.new.shelf) _ _ _ _ (λ y k. (c.change_level.ensures.stays y).1 k) is in
+  used = λ entries old x h.
+      let now = old_then _ (g.S.Shelf.holds c.change_level.new.shelf) _ _ _ _ (λ y k. (c.change_level.ensures.stays y).1 k) old.is in
       read_more (levels Two (number_of c.args.tree) entries) 0 [] c.push.new.self.items c.in_ok-leaves.leaves x (g.S.Shelf.used c.args.shelf.now x) (g.S.Shelf.used c.args.shelf.now x)
       (c.in_ok-push.ensures.items ∙ ap (λ xs. xs ++ c.in_ok-leaves.leaves ∷ []) c.new-edits.ensures.items) refl (λ k. inl k)
-      (c.in_ok-leaves.ensures.used entries (held_of _ _ _ _ _ now) (omega arith) x h);
-  state = λ entries is height.
+      (c.in_ok-leaves.ensures.used entries (record { is = held_of _ _ _ _ _ now; within = omega (arith, old.height) }) x h);
+  state = λ entries old.
       let given : changes_meant entry_of c.as_slice.result.now ≡ changes_of c.args.changes.now = ap (changes_meant entry_of) c.as_slice.ensures.value ∙ c.in_ok-items.ensures in
-      let (some_entries, some_is, some_height, some) = c.requires in
-      let now = old_then _ (g.S.Shelf.holds c.change_level.new.shelf) _ _ _ _ (λ x h. (c.change_level.ensures.stays x).1 h) is in
-      let gives = c.in_ok-leaves.ensures.edited entries (held_of _ _ _ _ _ now) (omega arith) (given_leaves _ _ c.args.changes.now (number_of c.args.tree) entries _ given some is) in
-      let edit = edit_leaves _ _ c.args.changes.now (number_of c.args.tree) entries _ given is c.in_ok-leaves.leaves gives in
-      let next = next_of _ _ c.in_ok-leaves.leaves (changes_meant link_of c.in_ok-next.next.items) edit (nodes_old (number_of c.args.tree) entries (changes_of c.args.changes.now) is.is_tree is.has is.changed_has 0 (omega arith))
-      (nodes_new (number_of c.args.tree) entries (changes_of c.args.changes.now) is.is_tree is.has is.changed_has 0 (omega arith)) c.in_ok-next.ensures in
+      let (some_entries, some, some_old) = c.requires in
+      let now = old_then _ (g.S.Shelf.holds c.change_level.new.shelf) _ _ _ _ (λ x h. (c.change_level.ensures.stays x).1 h) old.is in
+      let gives = c.in_ok-leaves.ensures.edited entries (record { level = record { is = held_of _ _ _ _ _ now; within = omega (arith, old.height) }; can = given_leaves _ _ c.args.changes.now (number_of c.args.tree) entries _ given some old.is }) in
+      let edit = edit_leaves _ _ c.args.changes.now (number_of c.args.tree) entries _ given old.is c.in_ok-leaves.leaves gives in
+      let next = next_of _ _ c.in_ok-leaves.leaves (changes_meant link_of c.in_ok-next.next.items) edit (nodes_old (number_of c.args.tree) entries (changes_of c.args.changes.now) old.is.is_tree old.is.has old.is.changed_has 0 (omega (arith, old.height)))
+      (nodes_new (number_of c.args.tree) entries (changes_of c.args.changes.now) old.is.is_tree old.is.has old.is.changed_has 0 (omega (arith, old.height))) c.in_ok-next.ensures in
       levels_first _ _ _ c.in_ok-leaves.leaves _ (c.in_ok-push.ensures.items ∙ ap (λ xs. xs ++ c.in_ok-leaves.leaves ∷ []) c.new-edits.ensures.items) edit c.in_ok-leaves.ensures.some next;
-  reasons = λ entries is height.
+  reasons = λ entries old.
       let given : changes_meant entry_of c.as_slice.result.now ≡ changes_of c.args.changes.now = ap (changes_meant entry_of) c.as_slice.ensures.value ∙ c.in_ok-items.ensures in
-      let (some_entries, some_is, some_height, some) = c.requires in
-      let now = old_then _ (g.S.Shelf.holds c.change_level.new.shelf) _ _ _ _ (λ x h. (c.change_level.ensures.stays x).1 h) is in
-      let can = given_leaves _ _ c.args.changes.now (number_of c.args.tree) entries _ given some is in
-      let edit = edit_leaves _ _ c.args.changes.now (number_of c.args.tree) entries _ given is c.in_ok-leaves.leaves (c.in_ok-leaves.ensures.edited entries (held_of _ _ _ _ _ now) (omega arith) can) in
-      let next = has_next _ _ c.in_ok-leaves.leaves (changes_meant link_of c.in_ok-next.next.items) edit (nodes_old (number_of c.args.tree) entries (changes_of c.args.changes.now) is.is_tree is.has is.changed_has 0 (omega arith))
-      (nodes_new (number_of c.args.tree) entries (changes_of c.args.changes.now) is.is_tree is.has is.changed_has 0 (omega arith)) c.in_ok-next.ensures in
+      let (some_entries, some, some_old) = c.requires in
+      let now = old_then _ (g.S.Shelf.holds c.change_level.new.shelf) _ _ _ _ (λ x h. (c.change_level.ensures.stays x).1 h) old.is in
+      let can = given_leaves _ _ c.args.changes.now (number_of c.args.tree) entries _ given some old.is in
+      let edit = edit_leaves _ _ c.args.changes.now (number_of c.args.tree) entries _ given old.is c.in_ok-leaves.leaves (c.in_ok-leaves.ensures.edited entries (record { level = record { is = held_of _ _ _ _ _ now; within = omega (arith, old.height) }; can = can })) in
+      let next = has_next _ _ c.in_ok-leaves.leaves (changes_meant link_of c.in_ok-next.next.items) edit (nodes_old (number_of c.args.tree) entries (changes_of c.args.changes.now) old.is.is_tree old.is.has old.is.changed_has 0 (omega (arith, old.height)))
+      (nodes_new (number_of c.args.tree) entries (changes_of c.args.changes.now) old.is.is_tree old.is.has old.is.changed_has 0 (omega (arith, old.height))) c.in_ok-next.ensures in
       reasoned_first _ _ _ _ c.in_ok-leaves.leaves _ (c.in_ok-push.ensures.items ∙ ap (λ xs. xs ++ c.in_ok-leaves.leaves ∷ []) c.new-edits.ensures.items)
-      (reasons_leaves _ _ c.args.changes.now (number_of c.args.tree) entries _ given is c.in_ok-leaves.leaves.olds.items (c.in_ok-leaves.ensures.reasons entries (held_of _ _ _ _ _ now) (omega arith) can)) next;
+      (reasons_leaves _ _ c.args.changes.now (number_of c.args.tree) entries _ given old.is c.in_ok-leaves.leaves.olds.items (c.in_ok-leaves.ensures.reasons entries (record { level = record { is = held_of _ _ _ _ _ now; within = omega (arith, old.height) }; can = can }))) next;
 }
 
 pub change_level-requires-in-levels : goal.change_level-requires-in-levels
 change_level-requires-in-levels g c = λ k.
-    let (entries, is, height, some) = c.requires in
+    let (entries, some, old) = c.requires in
     let on = c.goes_on.ensures.0 c.levels-test.true in
-    let state = c.levels.invariant.state entries is height in
+    let state = c.levels.invariant.state entries old in
     let given : changes_meant link_of c.as_slice-in-levels-2.result.now ≡ changes_meant link_of c.levels.next.items = ap (changes_meant link_of) c.as_slice-in-levels-2.ensures.value in
     let has : 1 ≤ length (changes_meant link_of c.levels.next.items) = omega (arith, on.1, ap length c.as_slice-in-levels.ensures.value, length-map c.levels.next.items (change_meant link_of)) in
-    let below : c.levels.level + 1 < length (levels Two (number_of c.args.tree) entries) = omega (arith, on.0) in (
+    let below : c.levels.level + 1 < length (levels Two (number_of c.args.tree) entries) = omega (arith, on.0, old.height) in (
       (refl, tt),
       (
         entries,
-        held_of _ _ _ _ _ (old_then _ (g.S.Shelf.holds c.levels.shelf) _ _ _ _ (λ x h. (c.levels.invariant.stays x).1 h) is),
-        below,
-        given_inner _ _ c.args.changes.now (number_of c.args.tree) entries is c.levels.level (c.levels.level + 1) (add-one c.levels.level) below _ _ given state.next has,
+        record {
+          level = record { is = held_of _ _ _ _ _ (old_then _ (g.S.Shelf.holds c.levels.shelf) _ _ _ _ (λ x h. (c.levels.invariant.stays x).1 h) old.is); within = below };
+          can = given_inner _ _ c.args.changes.now (number_of c.args.tree) entries old.is c.levels.level (c.levels.level + 1) (add-one c.levels.level) below _ _ given state.next has;
+        },
       ),
     )
 
@@ -78,64 +79,66 @@ levels-preserved g c =
       grows = λ x h. c.change_level-in-levels.ensures.grows x (c.levels.invariant.grows x h);
       low = omega (arith, on.0);
       count = omega (arith, ap length c.in_ok-push-2.ensures.items, length-append c.levels.edits.items (c.in_ok-edit.edit ∷ []), c.levels.invariant.count);
-      used = λ entries is height x h.
-          let below : c.levels.level + 1 < length (levels Two (number_of c.args.tree) entries) = omega (arith, on.0) in
-          let now = old_then _ (g.S.Shelf.holds c.change_level-in-levels.new.shelf) _ _ _ _ (λ y k. (c.change_level-in-levels.ensures.stays y).1 ((c.levels.invariant.stays y).1 k)) is in
+      used = λ entries old x h.
+          let below : c.levels.level + 1 < length (levels Two (number_of c.args.tree) entries) = omega (arith, on.0, old.height) in
+          let now = old_then _ (g.S.Shelf.holds c.change_level-in-levels.new.shelf) _ _ _ _ (λ y k. (c.change_level-in-levels.ensures.stays y).1 ((c.levels.invariant.stays y).1 k)) old.is in
           read_more (levels Two (number_of c.args.tree) entries) (c.levels.level + 1) c.levels.edits.items c.push-in-levels.new.self.items c.in_ok-edit.edit x (g.S.Shelf.used c.args.shelf.now x) (g.S.Shelf.used c.levels.shelf x)
-          c.in_ok-push-2.ensures.items c.levels.invariant.count (c.levels.invariant.used entries is height x)
-          (c.in_ok-edit.ensures.used entries (held_of _ _ _ _ _ now) below x h);
-      state = λ entries is height.
-          let state = c.levels.invariant.state entries is height in
+          c.in_ok-push-2.ensures.items c.levels.invariant.count (c.levels.invariant.used entries old x)
+          (c.in_ok-edit.ensures.used entries (record { is = held_of _ _ _ _ _ now; within = below }) x h);
+      state = λ entries old.
+          let state = c.levels.invariant.state entries old in
           let given : changes_meant link_of c.as_slice-in-levels-2.result.now ≡ changes_meant link_of c.levels.next.items = ap (changes_meant link_of) c.as_slice-in-levels-2.ensures.value in
           let has : 1 ≤ length (changes_meant link_of c.levels.next.items) = omega (arith, on.1, ap length c.as_slice-in-levels.ensures.value, length-map c.levels.next.items (change_meant link_of)) in
-          let below : c.levels.level + 1 < length (levels Two (number_of c.args.tree) entries) = omega (arith, on.0) in
-          let now = old_then _ (g.S.Shelf.holds c.change_level-in-levels.new.shelf) _ _ _ _ (λ x h. (c.change_level-in-levels.ensures.stays x).1 ((c.levels.invariant.stays x).1 h)) is in
-          let gives = c.in_ok-edit.ensures.edited entries (held_of _ _ _ _ _ now) below
-          (given_inner _ _ c.args.changes.now (number_of c.args.tree) entries is c.levels.level (c.levels.level + 1) (add-one c.levels.level) below _ _ given state.next has) in
-          let edit = edit_inner _ _ c.args.changes.now (number_of c.args.tree) entries is c.levels.level (c.levels.level + 1) (add-one c.levels.level) below _ state.next c.in_ok-edit.edit
+          let below : c.levels.level + 1 < length (levels Two (number_of c.args.tree) entries) = omega (arith, on.0, old.height) in
+          let now = old_then _ (g.S.Shelf.holds c.change_level-in-levels.new.shelf) _ _ _ _ (λ x h. (c.change_level-in-levels.ensures.stays x).1 ((c.levels.invariant.stays x).1 h)) old.is in
+          let gives = c.in_ok-edit.ensures.edited entries (record {
+            level = record { is = held_of _ _ _ _ _ now; within = below };
+            can = given_inner _ _ c.args.changes.now (number_of c.args.tree) entries old.is c.levels.level (c.levels.level + 1) (add-one c.levels.level) below _ _ given state.next has;
+          }) in
+          let edit = edit_inner _ _ c.args.changes.now (number_of c.args.tree) entries old.is c.levels.level (c.levels.level + 1) (add-one c.levels.level) below _ state.next c.in_ok-edit.edit
           (subst (λ cs. IsEdit (level_at (levels Two (number_of c.args.tree) entries) (c.levels.level + 1))
           (map (Inner (number_of c.args.tree) (c.levels.level + 1)) (pieces (ends_by Two is_marked_link) (changed (λ (link : Link). link.greatest) (flat_map links_in (level_at (levels Two (number_of c.args.tree) entries) (c.levels.level + 1))) cs))) c.in_ok-edit.edit) given gives) in
           let next = next_of _ _ c.in_ok-edit.edit (changes_meant link_of c.in_ok-next-2.next.items) edit
-          (nodes_old (number_of c.args.tree) entries (changes_of c.args.changes.now) is.is_tree is.has is.changed_has (c.levels.level + 1) below)
-          (nodes_new (number_of c.args.tree) entries (changes_of c.args.changes.now) is.is_tree is.has is.changed_has (c.levels.level + 1) below) c.in_ok-next-2.ensures in
+          (nodes_old (number_of c.args.tree) entries (changes_of c.args.changes.now) old.is.is_tree old.is.has old.is.changed_has (c.levels.level + 1) below)
+          (nodes_new (number_of c.args.tree) entries (changes_of c.args.changes.now) old.is.is_tree old.is.has old.is.changed_has (c.levels.level + 1) below) c.in_ok-next-2.ensures in
           levels_more _ _ c.levels.level (c.levels.level + 1) _ _ c.in_ok-edit.edit _ _ state (sym c.levels.invariant.count) c.in_ok-push-2.ensures.items edit c.in_ok-edit.ensures.some next;
-      reasons = λ entries is height.
-          let state = c.levels.invariant.state entries is height in
+      reasons = λ entries old.
+          let state = c.levels.invariant.state entries old in
           let given : changes_meant link_of c.as_slice-in-levels-2.result.now ≡ changes_meant link_of c.levels.next.items = ap (changes_meant link_of) c.as_slice-in-levels-2.ensures.value in
           let has : 1 ≤ length (changes_meant link_of c.levels.next.items) = omega (arith, on.1, ap length c.as_slice-in-levels.ensures.value, length-map c.levels.next.items (change_meant link_of)) in
-          let below : c.levels.level + 1 < length (levels Two (number_of c.args.tree) entries) = omega (arith, on.0) in
-          let now = old_then _ (g.S.Shelf.holds c.change_level-in-levels.new.shelf) _ _ _ _ (λ x h. (c.change_level-in-levels.ensures.stays x).1 ((c.levels.invariant.stays x).1 h)) is in
-          let can = given_inner _ _ c.args.changes.now (number_of c.args.tree) entries is c.levels.level (c.levels.level + 1) (add-one c.levels.level) below _ _ given state.next has in
-          let gives = c.in_ok-edit.ensures.edited entries (held_of _ _ _ _ _ now) below can in
-          let edit = edit_inner _ _ c.args.changes.now (number_of c.args.tree) entries is c.levels.level (c.levels.level + 1) (add-one c.levels.level) below _ state.next c.in_ok-edit.edit
+          let below : c.levels.level + 1 < length (levels Two (number_of c.args.tree) entries) = omega (arith, on.0, old.height) in
+          let now = old_then _ (g.S.Shelf.holds c.change_level-in-levels.new.shelf) _ _ _ _ (λ x h. (c.change_level-in-levels.ensures.stays x).1 ((c.levels.invariant.stays x).1 h)) old.is in
+          let can = given_inner _ _ c.args.changes.now (number_of c.args.tree) entries old.is c.levels.level (c.levels.level + 1) (add-one c.levels.level) below _ _ given state.next has in
+          let gives = c.in_ok-edit.ensures.edited entries (record { level = record { is = held_of _ _ _ _ _ now; within = below }; can = can }) in
+          let edit = edit_inner _ _ c.args.changes.now (number_of c.args.tree) entries old.is c.levels.level (c.levels.level + 1) (add-one c.levels.level) below _ state.next c.in_ok-edit.edit
           (subst (λ cs. IsEdit (level_at (levels Two (number_of c.args.tree) entries) (c.levels.level + 1))
           (map (Inner (number_of c.args.tree) (c.levels.level + 1)) (pieces (ends_by Two is_marked_link) (changed (λ (link : Link). link.greatest) (flat_map links_in (level_at (levels Two (number_of c.args.tree) entries) (c.levels.level + 1))) cs))) c.in_ok-edit.edit) given gives) in
           let next = has_next _ _ c.in_ok-edit.edit (changes_meant link_of c.in_ok-next-2.next.items) edit
-          (nodes_old (number_of c.args.tree) entries (changes_of c.args.changes.now) is.is_tree is.has is.changed_has (c.levels.level + 1) below)
-          (nodes_new (number_of c.args.tree) entries (changes_of c.args.changes.now) is.is_tree is.has is.changed_has (c.levels.level + 1) below) c.in_ok-next-2.ensures in
-          reasoned_next _ _ (c.levels.level + 1) _ _ _ _ c.in_ok-edit.edit _ (sym c.levels.invariant.count) c.in_ok-push-2.ensures.items (c.levels.invariant.reasons entries is height)
-          (reasons_inner _ _ c.args.changes.now (number_of c.args.tree) entries is c.levels.level (c.levels.level + 1) (add-one c.levels.level) below _ _ given state.next c.in_ok-edit.edit.olds.items (c.in_ok-edit.ensures.reasons entries (held_of _ _ _ _ _ now) below can)) next;
+          (nodes_old (number_of c.args.tree) entries (changes_of c.args.changes.now) old.is.is_tree old.is.has old.is.changed_has (c.levels.level + 1) below)
+          (nodes_new (number_of c.args.tree) entries (changes_of c.args.changes.now) old.is.is_tree old.is.has old.is.changed_has (c.levels.level + 1) below) c.in_ok-next-2.ensures in
+          reasoned_next _ _ (c.levels.level + 1) _ _ _ _ c.in_ok-edit.edit _ (sym c.levels.invariant.count) c.in_ok-push-2.ensures.items (c.levels.invariant.reasons entries old)
+          (reasons_inner _ _ c.args.changes.now (number_of c.args.tree) entries old.is c.levels.level (c.levels.level + 1) (add-one c.levels.level) below _ _ given state.next c.in_ok-edit.edit.olds.items (c.in_ok-edit.ensures.reasons entries (record { level = record { is = held_of _ _ _ _ _ now; within = below }; can = can }))) next;
     }
 
 pub returns-clause-edited : goal.returns-clause-edited
-returns-clause-edited g c = λ entries is height.
-    let was = old_then _ (g.S.Shelf.holds c.args.shelf.now) _ _ _ _ (λ x h. (c.levels.invariant.stays x).0 h) is in
-    let state = c.levels.invariant.state entries was height in
-    tree_edit _ _ c.args.changes.now (number_of c.args.tree) entries was c.levels.level c.args.top_level c.levels.edits.items _ state height c.levels.invariant.low c.levels.invariant.count
+returns-clause-edited g c = λ entries old.
+    let was = top_level_then _ (g.S.Shelf.holds c.args.shelf.now) _ _ _ _ _ (λ x h. (c.levels.invariant.stays x).0 h) old in
+    let state = c.levels.invariant.state entries was in
+    tree_edit _ _ c.args.changes.now (number_of c.args.tree) entries was.is c.levels.level c.args.top_level c.levels.edits.items _ state old.height c.levels.invariant.low c.levels.invariant.count
     (record { edits = c.levels.edits; stays = c.is_empty-stays.result }) refl
     (none_next (change_meant link_of) c.levels.next.items (vec_len c.levels.next) c.is_empty-stays.result c.levels.next.ok.0 c.is_empty-stays.ensures)
     (λ some. at_top c.levels.next.items (vec_len c.levels.next) c.levels.level c.args.top_level (length c.as_slice-in-levels.result.now) c.is_empty-stays.result c.goes_on.result c.levels.next.ok.0
     (ap length c.as_slice-in-levels.ensures.value) c.is_empty-stays.ensures some c.goes_on.ensures.1 c.levels-test.false c.levels.invariant.low)
 
 pub returns-clause-used : goal.returns-clause-used
-returns-clause-used g c = λ entries is height.
-    let was = old_then _ (g.S.Shelf.holds c.args.shelf.now) _ _ _ _ (λ x h. (c.levels.invariant.stays x).0 h) is in
-    c.levels.invariant.used entries was height
+returns-clause-used g c = λ entries old.
+    let was = top_level_then _ (g.S.Shelf.holds c.args.shelf.now) _ _ _ _ _ (λ x h. (c.levels.invariant.stays x).0 h) old in
+    c.levels.invariant.used entries was
 
 pub returns-clause-reasons : goal.returns-clause-reasons
-returns-clause-reasons g c = λ entries is height.
-    let was = old_then _ (g.S.Shelf.holds c.args.shelf.now) _ _ _ _ (λ x h. (c.levels.invariant.stays x).0 h) is in
-    (_, c.levels.invariant.reasons entries was height)
+returns-clause-reasons g c = λ entries old.
+    let was = top_level_then _ (g.S.Shelf.holds c.args.shelf.now) _ _ _ _ _ (λ x h. (c.levels.invariant.stays x).0 h) old in
+    (_, c.levels.invariant.reasons entries was)
 
 pub returns-in_err-next-2-clause-stays : goal.returns-in_err-next-2-clause-stays
 returns-in_err-next-2-clause-stays g c =
@@ -158,13 +161,13 @@ pub returns-in_err-items-clause-grows : goal.returns-in_err-items-clause-grows
 returns-in_err-items-clause-grows g c = λ x h. h
 
 pub returns-in_err-items-clause-edited : goal.returns-in_err-items-clause-edited
-returns-in_err-items-clause-edited g c = λ entries is height. if_err _ c.from_residual.result c.from_residual.ensures.0
+returns-in_err-items-clause-edited g c = λ entries old. if_err _ c.from_residual.result c.from_residual.ensures.0
 
 pub returns-in_err-items-clause-used : goal.returns-in_err-items-clause-used
-returns-in_err-items-clause-used g c = λ entries is height. if_err _ c.from_residual.result c.from_residual.ensures.0
+returns-in_err-items-clause-used g c = λ entries old. if_err _ c.from_residual.result c.from_residual.ensures.0
 
 pub returns-in_err-items-clause-reasons : goal.returns-in_err-items-clause-reasons
-returns-in_err-items-clause-reasons g c = λ entries is height. if_err _ c.from_residual.result c.from_residual.ensures.0
+returns-in_err-items-clause-reasons g c = λ entries old. if_err _ c.from_residual.result c.from_residual.ensures.0
 
 pub returns-in_err-leaves-clause-stays : goal.returns-in_err-leaves-clause-stays
 returns-in_err-leaves-clause-stays g c = c.change_level.ensures.stays
@@ -173,13 +176,13 @@ pub returns-in_err-leaves-clause-grows : goal.returns-in_err-leaves-clause-grows
 returns-in_err-leaves-clause-grows g c = c.change_level.ensures.grows
 
 pub returns-in_err-leaves-clause-edited : goal.returns-in_err-leaves-clause-edited
-returns-in_err-leaves-clause-edited g c = λ entries is height. if_err _ c.from_residual-in_err-leaves.result c.from_residual-in_err-leaves.ensures.0
+returns-in_err-leaves-clause-edited g c = λ entries old. if_err _ c.from_residual-in_err-leaves.result c.from_residual-in_err-leaves.ensures.0
 
 pub returns-in_err-leaves-clause-used : goal.returns-in_err-leaves-clause-used
-returns-in_err-leaves-clause-used g c = λ entries is height. if_err _ c.from_residual-in_err-leaves.result c.from_residual-in_err-leaves.ensures.0
+returns-in_err-leaves-clause-used g c = λ entries old. if_err _ c.from_residual-in_err-leaves.result c.from_residual-in_err-leaves.ensures.0
 
 pub returns-in_err-leaves-clause-reasons : goal.returns-in_err-leaves-clause-reasons
-returns-in_err-leaves-clause-reasons g c = λ entries is height. if_err _ c.from_residual-in_err-leaves.result c.from_residual-in_err-leaves.ensures.0
+returns-in_err-leaves-clause-reasons g c = λ entries old. if_err _ c.from_residual-in_err-leaves.result c.from_residual-in_err-leaves.ensures.0
 
 pub returns-in_err-next-clause-stays : goal.returns-in_err-next-clause-stays
 returns-in_err-next-clause-stays g c = c.change_level.ensures.stays
@@ -188,13 +191,13 @@ pub returns-in_err-next-clause-grows : goal.returns-in_err-next-clause-grows
 returns-in_err-next-clause-grows g c = c.change_level.ensures.grows
 
 pub returns-in_err-next-clause-edited : goal.returns-in_err-next-clause-edited
-returns-in_err-next-clause-edited g c = λ entries is height. if_err _ c.from_residual-in_err-next.result c.from_residual-in_err-next.ensures.0
+returns-in_err-next-clause-edited g c = λ entries old. if_err _ c.from_residual-in_err-next.result c.from_residual-in_err-next.ensures.0
 
 pub returns-in_err-next-clause-used : goal.returns-in_err-next-clause-used
-returns-in_err-next-clause-used g c = λ entries is height. if_err _ c.from_residual-in_err-next.result c.from_residual-in_err-next.ensures.0
+returns-in_err-next-clause-used g c = λ entries old. if_err _ c.from_residual-in_err-next.result c.from_residual-in_err-next.ensures.0
 
 pub returns-in_err-next-clause-reasons : goal.returns-in_err-next-clause-reasons
-returns-in_err-next-clause-reasons g c = λ entries is height. if_err _ c.from_residual-in_err-next.result c.from_residual-in_err-next.ensures.0
+returns-in_err-next-clause-reasons g c = λ entries old. if_err _ c.from_residual-in_err-next.result c.from_residual-in_err-next.ensures.0
 
 pub returns-in_err-push-clause-stays : goal.returns-in_err-push-clause-stays
 returns-in_err-push-clause-stays g c = c.change_level.ensures.stays
@@ -203,13 +206,13 @@ pub returns-in_err-push-clause-grows : goal.returns-in_err-push-clause-grows
 returns-in_err-push-clause-grows g c = c.change_level.ensures.grows
 
 pub returns-in_err-push-clause-edited : goal.returns-in_err-push-clause-edited
-returns-in_err-push-clause-edited g c = λ entries is height. if_err _ c.from_residual-in_err-push.result c.from_residual-in_err-push.ensures.0
+returns-in_err-push-clause-edited g c = λ entries old. if_err _ c.from_residual-in_err-push.result c.from_residual-in_err-push.ensures.0
 
 pub returns-in_err-push-clause-used : goal.returns-in_err-push-clause-used
-returns-in_err-push-clause-used g c = λ entries is height. if_err _ c.from_residual-in_err-push.result c.from_residual-in_err-push.ensures.0
+returns-in_err-push-clause-used g c = λ entries old. if_err _ c.from_residual-in_err-push.result c.from_residual-in_err-push.ensures.0
 
 pub returns-in_err-push-clause-reasons : goal.returns-in_err-push-clause-reasons
-returns-in_err-push-clause-reasons g c = λ entries is height. if_err _ c.from_residual-in_err-push.result c.from_residual-in_err-push.ensures.0
+returns-in_err-push-clause-reasons g c = λ entries old. if_err _ c.from_residual-in_err-push.result c.from_residual-in_err-push.ensures.0
 
 pub returns-in_err-edit-clause-stays : goal.returns-in_err-edit-clause-stays
 returns-in_err-edit-clause-stays g c =
@@ -219,31 +222,31 @@ pub returns-in_err-edit-clause-grows : goal.returns-in_err-edit-clause-grows
 returns-in_err-edit-clause-grows g c = λ x h. c.change_level-in-levels.ensures.grows x (c.levels.invariant.grows x h)
 
 pub returns-in_err-edit-clause-edited : goal.returns-in_err-edit-clause-edited
-returns-in_err-edit-clause-edited g c = λ entries is height. if_err _ c.from_residual-in_err-edit.result c.from_residual-in_err-edit.ensures.0
+returns-in_err-edit-clause-edited g c = λ entries old. if_err _ c.from_residual-in_err-edit.result c.from_residual-in_err-edit.ensures.0
 
 pub returns-in_err-edit-clause-used : goal.returns-in_err-edit-clause-used
-returns-in_err-edit-clause-used g c = λ entries is height. if_err _ c.from_residual-in_err-edit.result c.from_residual-in_err-edit.ensures.0
+returns-in_err-edit-clause-used g c = λ entries old. if_err _ c.from_residual-in_err-edit.result c.from_residual-in_err-edit.ensures.0
 
 pub returns-in_err-edit-clause-reasons : goal.returns-in_err-edit-clause-reasons
-returns-in_err-edit-clause-reasons g c = λ entries is height. if_err _ c.from_residual-in_err-edit.result c.from_residual-in_err-edit.ensures.0
+returns-in_err-edit-clause-reasons g c = λ entries old. if_err _ c.from_residual-in_err-edit.result c.from_residual-in_err-edit.ensures.0
 
 pub returns-in_err-next-2-clause-edited : goal.returns-in_err-next-2-clause-edited
-returns-in_err-next-2-clause-edited g c = λ entries is height. if_err _ c.from_residual-in_err-next-2.result c.from_residual-in_err-next-2.ensures.0
+returns-in_err-next-2-clause-edited g c = λ entries old. if_err _ c.from_residual-in_err-next-2.result c.from_residual-in_err-next-2.ensures.0
 
 pub returns-in_err-next-2-clause-used : goal.returns-in_err-next-2-clause-used
-returns-in_err-next-2-clause-used g c = λ entries is height. if_err _ c.from_residual-in_err-next-2.result c.from_residual-in_err-next-2.ensures.0
+returns-in_err-next-2-clause-used g c = λ entries old. if_err _ c.from_residual-in_err-next-2.result c.from_residual-in_err-next-2.ensures.0
 
 pub returns-in_err-next-2-clause-reasons : goal.returns-in_err-next-2-clause-reasons
-returns-in_err-next-2-clause-reasons g c = λ entries is height. if_err _ c.from_residual-in_err-next-2.result c.from_residual-in_err-next-2.ensures.0
+returns-in_err-next-2-clause-reasons g c = λ entries old. if_err _ c.from_residual-in_err-next-2.result c.from_residual-in_err-next-2.ensures.0
 
 pub returns-in_err-push-2-clause-edited : goal.returns-in_err-push-2-clause-edited
-returns-in_err-push-2-clause-edited g c = λ entries is height. if_err _ c.from_residual-in_err-push-2.result c.from_residual-in_err-push-2.ensures.0
+returns-in_err-push-2-clause-edited g c = λ entries old. if_err _ c.from_residual-in_err-push-2.result c.from_residual-in_err-push-2.ensures.0
 
 pub returns-in_err-push-2-clause-used : goal.returns-in_err-push-2-clause-used
-returns-in_err-push-2-clause-used g c = λ entries is height. if_err _ c.from_residual-in_err-push-2.result c.from_residual-in_err-push-2.ensures.0
+returns-in_err-push-2-clause-used g c = λ entries old. if_err _ c.from_residual-in_err-push-2.result c.from_residual-in_err-push-2.ensures.0
 
 pub returns-in_err-push-2-clause-reasons : goal.returns-in_err-push-2-clause-reasons
-returns-in_err-push-2-clause-reasons g c = λ entries is height. if_err _ c.from_residual-in_err-push-2.result c.from_residual-in_err-push-2.ensures.0
+returns-in_err-push-2-clause-reasons g c = λ entries old. if_err _ c.from_residual-in_err-push-2.result c.from_residual-in_err-push-2.ensures.0
 
 pub returns-clause-stays : goal.returns-clause-stays
 returns-clause-stays g c = c.levels.invariant.stays

@@ -47,7 +47,7 @@ returns-clause-pending g c =
     let so = subst (λ (rest : List M). IsCutting g.T.NodeItem.Fit (ends_by Two g.T.NodeItem.marked_in) (g.T.NodeItem.node_over (number_of c.args.tree) c.args.level)
     (map g.T.NodeItem.meaning c.args.pending.now.items) (map g.T.NodeItem.meaning c.args.items.now) c.args.news.now.items c.loop-item.news.items
     (map g.T.NodeItem.meaning c.loop-item.pending.items) rest) end c.loop-item.invariant.cutting in
-    sym so.hands
+    sym so.pending_is
 
 pub returns-clause-few : goal.returns-clause-few
 returns-clause-few g c = c.loop-item.invariant.few

@@ -4,7 +4,7 @@ use Rattle.tree_node.specs.Trees.{Two, ends_by}
 use Rattle.tree_build.proofs.PendingLemmas.{IsCutting}
 use Rattle.tree_build.proofs.open_piece.cut.Given as goal
 
--- what was made and is in hand, with the items to come, is what all of them make
+-- what was made and is pending, with the items to come, is what all of them make
 abbrev pub invariant-loop-item : goal.invariant-loop-item
 invariant-loop-item g l = record {
   few : length l.pending.items < 64;

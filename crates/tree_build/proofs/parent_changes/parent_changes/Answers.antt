@@ -1,54 +1,48 @@
-use Rattle.std.proofs.Common.{◌≡◌, ◌+◌, ◌-◌, ◌∷◌, ◌++◌, [], List, length, take, drop, suc, sym, ap, subst, ◌∙◌, add-one, arith}
-use Rattle.std.proofs.lemmas.List.{drop-drop, length-drop}
-use Rattle.std.proofs.Math.Seq.{drop-cons, drop-length}
+use Rattle.std.proofs.Common.{◌≡◌, ◌+◌, ◌++◌, [], List, length, drop, sym, ap, subst, ◌∙◌, arith}
 use Rattle.tree_node.specs.NodeRefs.{link_of}
 use Rattle.tree_build.specs.declared.old_node.OldNode.{OldNode}
-use Rattle.tree_build.specs.declared.piece.NewPiece.{NewPiece}
-use Rattle.tree_build.specs.internal.Differing.{GoesOn}
-use Rattle.tree_build.specs.internal.Edits.{Each, IsOldNode}
+use Rattle.tree_build.specs.internal.Differing.{Differ, gained_by, gone_changes}
+use Rattle.tree_build.specs.internal.Edits.{StandForNodes}
 use Rattle.tree_build.specs.internal.ItemChanges.{changes_meant}
-use Rattle.tree_build.proofs.DifferLemmas.{IsDiffering, gone_changes, differing_done, differing_next, differing_start}
-use Rattle.tree_build.proofs.StepLoops.{rest_is}
+use Rattle.tree_build.proofs.DifferLemmas.{IsMerging, merging_done, merging_next, merging_start, next_item}
+use Rattle.tree_build.proofs.GrowLemmas.{none_left}
+use Rattle.tree_build.proofs.StepLoops.{rest_is, within_rest}
 use Rattle.tree_build.proofs.parent_changes.parent_changes.Goals as goal
 
 pub loop-new-init : goal.loop-new-init
 loop-new-init c = record {
   within = omega arith;
-  so_far = λ olds news one two three four. differing_start olds news _ _ _ (ap (changes_meant link_of) c.new-changes.ensures.items) one two three four;
+  so_far = λ olds news stand. ([], [], merging_start olds news _ _ _ (ap (changes_meant link_of) c.new-changes.ensures.items) stand);
 }
 
 pub loop-new-preserved : goal.loop-new-preserved
 loop-new-preserved c =
     let olds_now = c.as_slice-olds.result.now in
-    let done = c.loop-new.done in
-    let count = c.in_ok-done.field-0 in
-    let items : olds_now ≡ c.args.edit.now.olds.items = c.as_slice-olds.ensures.value in
-    let slice : take (length olds_now - done) (drop done olds_now) ≡ drop done c.args.edit.now.olds.items = rest_is olds_now done ∙ ap (drop done) items in
-    let ahead : drop count (take (length olds_now - done) (drop done olds_now)) ≡ drop (done + count) c.args.edit.now.olds.items =
-    ap (drop count) slice ∙ drop-drop count done c.args.edit.now.olds.items in
-    let next : drop c.loop-new.new-index c.args.edit.now.news.items ≡ c.new-item.result ∷ drop (c.loop-new.new-index + 1) c.args.edit.now.news.items =
-    ap (drop c.loop-new.new-index) (sym c.deref-new-items.ensures.value)
-    ∙ drop-cons c.deref-new-items.result.now c.loop-new.new-index c.new-item.result c.loop-new-test.true
-    ∙ ap (λ (x : NewPiece). x ∷ drop (suc c.loop-new.new-index) c.deref-new-items.result.now) (sym c.new-item.is)
-    ∙ ap (λ n. c.new-item.result ∷ drop n c.deref-new-items.result.now) (sym (add-one c.loop-new.new-index))
-    ∙ ap (λ (xs : List NewPiece). c.new-item.result ∷ drop (c.loop-new.new-index + 1) xs) c.deref-new-items.ensures.value in
-    record {
-      within = omega (arith, c.in_ok-done.ensures.within, ap length slice, length-drop done c.args.edit.now.olds.items, c.loop-new.invariant.within);
-      so_far = λ olds news one two three four.
-          let so = subst (λ (xs : List NewPiece). IsDiffering olds news (drop done c.args.edit.now.olds.items) xs (changes_meant link_of c.loop-new.changes.items)) next
-          (c.loop-new.invariant.so_far olds news one two three four) in
-          differing_next olds news _ _ _ _ _ _ so (λ nodes node stand stands are is.
-          let (lost, gained, more, whole, goes) = c.in_ok-done.ensures.goes_on nodes node (subst (λ (os : List OldNode). Each IsOldNode os nodes) (sym slice) stand) stands are is in
-          (lost, gained, more, whole, subst (λ (os : List OldNode). GoesOn nodes node os lost gained more) ahead goes));
+    let changes = changes_meant link_of c.loop-new.changes.items in
+    let step = c.merge_step-step.result in record {
+      within = within_rest olds_now c.loop-new.done step.up_to c.loop-new.invariant.within c.merge_step-step.ensures.within;
+      so_far = λ olds news stand.
+          let (lost, gained, so) = c.loop-new.invariant.so_far olds news stand in
+          let next = next_item c.deref-new-items.result.now c.args.edit.now.news.items c.loop-new.new-index c.new-item.result c.deref-new-items.ensures.value c.loop-new-test.true c.new-item.is in
+          let on = merging_next olds news olds_now c.loop-new.done step.up_to lost gained changes _ _ _ _ _ _ next so c.merge_step-step.ensures.goes_on in
+          let more_lost = lost ++ on.now_lost in
+          let more_gained = gained ++ gained_by step.is_new on.node in (
+            more_lost,
+            more_gained,
+            subst (λ cs. IsMerging olds news (drop (c.loop-new.done + step.up_to) olds_now) (drop (c.loop-new.new-index + 1) c.args.edit.now.news.items) more_lost more_gained cs)
+                (sym (c.in_ok-push_step_changes.ensures on.node on.stands)) on.merging,
+          );
     }
 
 pub returns : goal.returns
-returns c = λ olds news one two three four.
+returns c = λ olds news stand.
     let olds_now = c.as_slice-olds.result.now in
-    let done = c.loop-new.done in
-    let slice : take (length olds_now - done) (drop done olds_now) ≡ drop done c.args.edit.now.olds.items = rest_is olds_now done ∙ ap (drop done) c.as_slice-olds.ensures.value in
-    let end : drop c.loop-new.new-index c.args.edit.now.news.items ≡ [] =
-    (let n : c.loop-new.new-index ≡ length c.args.edit.now.news.items = omega (arith, ap length c.deref-new-items.ensures.value) in ap (λ n. drop n c.args.edit.now.news.items) n ∙ drop-length c.args.edit.now.news.items) in
-    let so = subst (λ (xs : List NewPiece). IsDiffering olds news (drop done c.args.edit.now.olds.items) xs (changes_meant link_of c.loop-new.changes.items)) end (c.loop-new.invariant.so_far olds news one two three four) in
-    let d = differing_done olds news _ _ _ so (c.in_ok-push_gone.ensures ∙ ap (λ (os : List OldNode). changes_meant link_of c.loop-new.changes.items ++ gone_changes os) slice) in
-    (d.lost, d.gained, d.parent_changes)
+    let changes = changes_meant link_of c.loop-new.changes.items in
+    let (lost, gained, so) = c.loop-new.invariant.so_far olds news (subst (λ (os : List OldNode). StandForNodes os c.args.edit.now.news.items olds news) (sym c.as_slice-olds.ensures.value) stand) in
+    let end : drop c.loop-new.new-index c.args.edit.now.news.items ≡ [] = none_left c.args.edit.now.news.items c.loop-new.new-index (omega (arith, ap length c.deref-new-items.ensures.value)) in
+    let done = merging_done olds news _ _ lost gained changes end so in
+    record {
+      lost = lost ++ done.left;
+      gained = gained;
+      parent_changes = subst (λ cs. Differ olds news (lost ++ done.left) gained cs) (sym (c.in_ok-push_gone.ensures ∙ ap (λ (os : List OldNode). changes ++ gone_changes os) (rest_is olds_now c.loop-new.done))) done.parent_changes;
+    }

@@ -7,6 +7,7 @@ use Rattle.tree_build.specs.Rebuilding.{AreClashFree, GrownByAtMost, IsOldTree, 
 use Rattle.std.specs.Prelude.{IfOk}
 use Rattle.tree_build.specs.declared.rebuilt.Rebuilt.{Rebuilt}
 use Rattle.tree_build.specs.internal.FoundTops.{IsTopRead}
+use Rattle.tree_build.specs.internal.TreeEdits.{HasTopLevel}
 use Rattle.tree_build.proofs.BoundLemmas.{grown}
 use Rattle.tree_build.proofs.OldLevels.{own_changes}
 use Rattle.tree_build.proofs.RebuildLemmas.{no_changes, some_changes, top_says, unchanged}
@@ -31,9 +32,11 @@ change_levels-requires g c = λ k.
       (refl, tt),
       (
         c.requires.entries,
-        subst (λ t. IsOldTree (g.S.Shelf.holds c.fetch_held.new.shelf) c.args.top.now.0 (changes_of c.args.changes.now) t c.requires.entries) (sym number) now,
-        subst (λ t. c.level_in.result + 1 ≡ length (levels Two t c.requires.entries)) (sym number) height,
         some_changes c.args.changes.now c.if-is_empty.ensures,
+        record {
+          is = subst (λ t. IsOldTree (g.S.Shelf.holds c.fetch_held.new.shelf) c.args.top.now.0 (changes_of c.args.changes.now) t c.requires.entries) (sym number) now;
+          height = subst (λ t. c.level_in.result + 1 ≡ length (levels Two t c.requires.entries)) (sym number) height;
+        },
       ),
     )
 
@@ -46,7 +49,7 @@ finish-requires g c = λ k.
     let now = old_then _ (g.S.Shelf.holds c.change_levels.new.shelf) _ _ _ _ (λ x h. (c.change_levels.ensures.stays x).1 ((c.fetch_held.ensures.stays x).1 h)) c.requires.is in
     let here = subst (λ t. IsOldTree (g.S.Shelf.holds c.change_levels.new.shelf) c.args.top.now.0 (changes_of c.args.changes.now) t c.requires.entries) (sym number) now in
     let high = subst (λ t. c.level_in.result + 1 ≡ length (levels Two t c.requires.entries)) (sym number) height in
-    ((refl, tt), (changes_of c.args.changes.now, c.requires.entries, here, c.in_ok-edited.ensures.edited c.requires.entries here high))
+    ((refl, tt), (changes_of c.args.changes.now, c.requires.entries, record { is = here; edit = c.in_ok-edited.ensures.edited c.requires.entries (record { is = here; height = high }) }))
 
 pub returns-then-is_empty-clause-rebuilt : goal.returns-then-is_empty-clause-rebuilt
 returns-then-is_empty-clause-rebuilt g c = λ tree entries is.
@@ -69,7 +72,7 @@ returns-clause-rebuilt g c = λ tree entries after.
     let there = subst (λ t. IsOldTree (g.S.Shelf.holds c.change_levels.new.shelf) c.args.top.now.0 (changes_of c.args.changes.now) t entries) (sym number) mid in
     let end = subst (λ t. IsOldTree (g.S.Shelf.holds c.finish.new.shelf) c.args.top.now.0 (changes_of c.args.changes.now) t entries) (sym number) after in
     let high = subst (λ t. c.level_in.result + 1 ≡ length (levels Two t entries)) (sym number) height in
-    let gives = c.finish.ensures.rebuilt (changes_of c.args.changes.now) entries end (c.in_ok-edited.ensures.edited entries there high) in
+    let gives = c.finish.ensures.rebuilt (changes_of c.args.changes.now) entries (record { is = end; edit = c.in_ok-edited.ensures.edited entries (record { is = there; height = high }) }) in
     subst (λ t. IfOk c.finish.result (IsRebuilt (levels Two t entries) (levels Two t (changed_entries entries (changes_of c.args.changes.now))))) number gives
 
 pub returns-clause-used : goal.returns-clause-used
@@ -91,7 +94,8 @@ returns-clause-used g c = λ tree entries after free.
     let top_is = subst (λ t. spelling says.node ≡ top_of (levels Two t entries)) (sym number) says.spelled in
     let old = levels Two (number_of c.tree-tree.result) entries in
     let new = levels Two (number_of c.tree-tree.result) (changed_entries entries changes) in
-    let edit = c.in_ok-edited.ensures.edited entries there high in
+    let mid_old : HasTopLevel (g.S.Shelf.holds c.change_levels.new.shelf) c.args.top.now.0 changes (number_of c.tree-tree.result) entries c.level_in.result = record { is = there; height = high } in
+    let edit = c.in_ok-edited.ensures.edited entries mid_old in
     let bounded = if_ok_both
     (IsRebuilt old new)
     (λ (rebuilt : Rebuilt). (bytes : List ℕ) → After bytes → g.S.Shelf.used c.change_levels.new.shelf bytes ⊎ IsTopRead old new bytes)
@@ -99,17 +103,17 @@ returns-clause-used g c = λ tree entries after free.
     c.finish.result
     (λ rebuilt told reads. grown (number_of c.tree-tree.result) entries changes end.is_tree end.has end.changed_has no_clash (own_changes c.args.changes.now end.rising)
     (omega (arith, some_changes c.args.changes.now c.if-is_empty.ensures, length-map c.args.changes.now change_of)) rebuilt told
-    c.in_ok-edited.edited.edits.items edit.within (c.in_ok-edited.ensures.reasons entries there high) Before After
+    c.in_ok-edited.edited.edits.items edit.within (c.in_ok-edited.ensures.reasons entries mid_old) Before After
     (λ bytes h. elim (reads bytes h) [
       | inr down ↦ inr (inr (inr down))
-      | inl later ↦ elim (c.in_ok-edited.ensures.used entries there high bytes later) [
+      | inl later ↦ elim (c.in_ok-edited.ensures.used entries mid_old bytes later) [
         | inr read ↦ inr (inr (inl read))
         | inl first ↦ elim (c.fetch_held.ensures.used says.node held bytes first) [ inl before ↦ inl before | inr top ↦ inr (inl (top ∙ top_is)) ]
       ]
     ])
     (length c.args.changes.now) (length-map c.args.changes.now change_of))
-    (c.finish.ensures.rebuilt changes entries end edit)
-    (c.finish.ensures.used changes entries end edit) in
+    (c.finish.ensures.rebuilt changes entries (record { is = end; edit = edit }))
+    (c.finish.ensures.used changes entries (record { is = end; edit = edit })) in
     subst (λ t. IfOk c.finish.result (λ (rebuilt : Rebuilt). GrownByAtMost (length rebuilt.gone.items + length c.args.changes.now * length (levels Two t entries)) Before After)) number bounded
 
 pub returns-in_err-old-clause-stays : goal.returns-in_err-old-clause-stays

@@ -48,7 +48,7 @@ loop-found-preserved g c =
     }
 
 pub returns-clause-node : goal.returns-clause-node
-returns-clause-node g c = λ tree entries is lt. seek_done _ _ _ _ _ _ _ _ _ _ c.loop-found.invariant.state (omega arith) tree entries is lt
+returns-clause-node g c = λ tree entries held. seek_done _ _ _ _ _ _ _ _ _ _ c.loop-found.invariant.state (omega arith) tree entries held.is held.within
 
 pub returns-clause-used : goal.returns-clause-used
-returns-clause-used g c = λ tree entries is lt. seek_used _ _ _ _ _ _ _ _ _ _ c.loop-found.invariant.state tree entries is lt
+returns-clause-used g c = λ tree entries held. seek_used _ _ _ _ _ _ _ _ _ _ c.loop-found.invariant.state tree entries held.is held.within

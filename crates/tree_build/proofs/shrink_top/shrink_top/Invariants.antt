@@ -1,13 +1,11 @@
-use Rattle.std.proofs.Common.{◌≡◌, ◌⊎◌, ◌+◌, ◌-◌, ◌<◌, ◌≤◌, ℕ, List, length, get_or}
+use Rattle.std.proofs.Common.{◌⊎◌, ◌+◌, ◌<◌, ℕ, List, length}
 use Rattle.tree_node.specs.Nodes.{Binding}
 use Rattle.tree_node.specs.Shelves.{SameNodes}
-use Rattle.tree_node.specs.Trees.{Two, levels, no_node}
+use Rattle.tree_node.specs.Trees.{Two}
 use Rattle.tree_build.specs.Changing.{Change}
-use Rattle.tree_build.specs.Rebuilding.{IsOldTree, changed_entries, digests_of}
-use Rattle.tree_build.specs.internal.Shrinking.{IsReadBy}
-use Rattle.tree_build.specs.internal.Telling.{node_digest}
+use Rattle.tree_build.specs.Rebuilding.{changed_entries, digests_of}
+use Rattle.tree_build.specs.internal.Shrinking.{CanShrink, IsReadBy}
 use Rattle.tree_build.specs.internal.Towers.{tower}
-use Rattle.tree_build.specs.internal.TreeEdits.{AreEdits}
 use Rattle.tree_build.proofs.ShrinkLemmas.{IsSettling}
 use Rattle.tree_build.proofs.shrink_top.shrink_top.Given as goal
 
@@ -17,15 +15,9 @@ invariant-down g l = record {
   stays : SameNodes (g.S.Shelf.holds l.fn.shelf) (g.S.Shelf.holds l.shelf);
   grows : (bytes : List _) → g.S.Shelf.used l.fn.shelf bytes → g.S.Shelf.used l.shelf bytes;
   within : l.level < length l.edits;
-  used : (tree : ℕ) (top : List ℕ) (changes : List (Change Binding)) (entries : List Binding) → IsOldTree (g.S.Shelf.holds l.fn.shelf) top changes tree entries
-      → AreEdits (levels Two tree entries) (tower Two tree (changed_entries entries changes)) 0 l.edits → length l.edits ≤ length (levels Two tree entries)
-      → length (tower Two tree (changed_entries entries changes) (length l.edits - 1)) ≡ 1
-      → l.digest.0 ≡ node_digest (get_or (tower Two tree (changed_entries entries changes) (length l.edits - 1)) 0 no_node)
+  used : (tree : ℕ) (top : List ℕ) (changes : List (Change Binding)) (entries : List Binding) → CanShrink (g.S.Shelf.holds l.fn.shelf) tree top changes entries l.edits l.digest.0
       → (bytes : List ℕ) → g.S.Shelf.used l.shelf bytes → g.S.Shelf.used l.fn.shelf bytes ⊎ IsReadBy (tower Two tree (changed_entries entries changes)) l.edits (l.level + 1) bytes;
-  state : (tree : ℕ) (top : List ℕ) (changes : List (Change Binding)) (entries : List Binding) → IsOldTree (g.S.Shelf.holds l.fn.shelf) top changes tree entries
-      → AreEdits (levels Two tree entries) (tower Two tree (changed_entries entries changes)) 0 l.edits → length l.edits ≤ length (levels Two tree entries)
-      → length (tower Two tree (changed_entries entries changes) (length l.edits - 1)) ≡ 1
-      → l.digest.0 ≡ node_digest (get_or (tower Two tree (changed_entries entries changes) (length l.edits - 1)) 0 no_node)
+  state : (tree : ℕ) (top : List ℕ) (changes : List (Change Binding)) (entries : List Binding) → CanShrink (g.S.Shelf.holds l.fn.shelf) tree top changes entries l.edits l.digest.0
       → IsSettling tree (changed_entries entries changes) l.edits (digests_of l.fn.gone.items) (digests_of l.gone.items) l.top.0 l.level;
 }
 

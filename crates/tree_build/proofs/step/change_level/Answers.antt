@@ -1,13 +1,10 @@
-use Rattle.std.proofs.Common.{List, ◌⊎◌, inl, length, map, refl, sym, ap, subst, arith}
-use Rattle.std.specs.List.{AllByRecursion, flat_map}
+use Rattle.std.proofs.Common.{List, ◌⊎◌, inl, length, refl, sym, ap, subst, arith}
 use Rattle.tree_node.specs.NodeRefs.{node_read, number_of}
-use Rattle.tree_node.specs.Nodes.{Binding}
-use Rattle.tree_node.specs.Trees.{Two, ends_by, level_at, levels, pieces}
+use Rattle.tree_node.specs.Trees.{Two, ends_by, levels}
 use Rattle.tree_build.proofs.DescentLemmas.{level_some_at}
-use Rattle.tree_build.proofs.SeekStates.{held_then}
-use Rattle.tree_build.specs.Changing.{changed}
+use Rattle.tree_build.proofs.SeekStates.{level_then}
 use Rattle.tree_build.specs.internal.ItemChanges.{changes_meant}
-use Rattle.tree_build.specs.internal.Steps.{HaveReasons, keys_changed}
+use Rattle.tree_build.specs.internal.Steps.{CanChange, HaveReasons, changed_nodes, keys_changed, nodes_at}
 use Rattle.tree_build.specs.internal.Holding.{IsOnWayTo}
 use Rattle.tree_build.specs.declared.old_node.OldNode.{OldNode}
 use Rattle.tree_build.proofs.ReasonLemmas.{first_reasons, last_reasons, next_reasons}
@@ -21,117 +18,120 @@ pub loop-wanted-init : goal.loop-wanted-init
 loop-wanted-init g c = record {
   stays = λ x. ((λ h. h), (λ h. h));
   grows = λ x h. h;
-  used = λ entries is lt x h. inl h;
-  state = λ entries is lt can.
-      start_state g.T.NodeItem.meaning g.T.NodeItem.key_in (ends_by Two g.T.NodeItem.marked_in) g.T.NodeItem.items_in (g.T.NodeItem.node_over (number_of c.args.place.tree) c.args.place.level) g.T.NodeItem.Fit (level_at (levels Two (number_of c.args.place.tree) entries) c.args.place.level) c.args.changes.now can (level_some_at (number_of c.args.place.tree) entries c.args.place.level lt) _ _ _
+  used = λ entries held x h. inl h;
+  state = λ entries has.
+      start_state g.T.NodeItem.meaning g.T.NodeItem.key_in (ends_by Two g.T.NodeItem.marked_in) g.T.NodeItem.items_in (g.T.NodeItem.node_over (number_of c.args.place.tree) c.args.place.level) g.T.NodeItem.Fit (nodes_at c.args.place entries) c.args.changes.now has.can (level_some_at (number_of c.args.place.tree) entries c.args.place.level has.level.within) _ _ _
       c.start-work.ensures.olds c.start-work.ensures.news c.start-work.ensures.pending;
-  reasons = λ entries is lt can. first_reasons g.T.NodeItem.meaning g.T.NodeItem.key_in (ends_by Two g.T.NodeItem.marked_in) g.T.NodeItem.items_in (g.T.NodeItem.node_over (number_of c.args.place.tree) c.args.place.level) g.T.NodeItem.Fit (level_at (levels Two (number_of c.args.place.tree) entries) c.args.place.level) c.args.changes.now can (g.met.T.NodeItem.same_items (number_of c.args.place.tree) c.args.place.level) c.start-work.result.olds.items c.start-work.ensures.olds;
+  reasons = λ entries has. first_reasons g.T.NodeItem.meaning g.T.NodeItem.key_in (ends_by Two g.T.NodeItem.marked_in) g.T.NodeItem.items_in (g.T.NodeItem.node_over (number_of c.args.place.tree) c.args.place.level) g.T.NodeItem.Fit (nodes_at c.args.place entries) c.args.changes.now has.can (g.met.T.NodeItem.same_items (number_of c.args.place.tree) c.args.place.level) c.start-work.result.olds.items c.start-work.ensures.olds;
   few = omega (arith, ap length c.start-work.ensures.pending);
   within = omega arith;
 }
 
 pub seek-requires : goal.seek-requires
 seek-requires g c = λ k.
-    let (entries, is, lt, can) = c.requires in (
+    let (entries, has) = c.requires in
+    let held_now = level_then (g.S.Shelf.holds c.args.shelf.now) (g.S.Shelf.holds c.loop-wanted.shelf) c.args.place.top.0 (number_of c.args.place.tree) c.args.place.level entries (λ x h. (c.loop-wanted.invariant.stays x).1 h) has.level in (
       (refl, tt),
       record {
         tree = number_of c.args.place.tree;
         entries = entries;
-        is = held_then (g.S.Shelf.holds c.args.shelf.now) (g.S.Shelf.holds c.loop-wanted.shelf) c.args.place.top.0 (number_of c.args.place.tree) entries (λ x h. (c.loop-wanted.invariant.stays x).1 h) is;
-        has_level = lt;
+        is = held_now.is;
+        has_level = has.level.within;
       },
     )
 
 pub take-requires : goal.take-requires
 take-requires g c κs =
-    let (entries, is, lt, can) = c.requires in
-    let held_now = held_then (g.S.Shelf.holds c.args.shelf.now) (g.S.Shelf.holds c.seek.new.shelf) c.args.place.top.0 (number_of c.args.place.tree) entries
-    (λ x h. (c.seek.ensures.stays x).1 ((c.loop-wanted.invariant.stays x).1 h)) is in
-    let t = turn g.T.NodeItem.meaning g.T.NodeItem.key_in (ends_by Two g.T.NodeItem.marked_in) g.T.NodeItem.items_in (g.T.NodeItem.node_over (number_of c.args.place.tree) c.args.place.level) g.T.NodeItem.Fit (level_at (levels Two (number_of c.args.place.tree) entries) c.args.place.level) c.args.changes.now can g.met.T.NodeItem.parts _ _ c.loop-wanted.work.pending.items c.loop-wanted.done (c.loop-wanted.invariant.state entries is lt can) (c.in-Some.wanted, c.in-Some.above) c.in-Some.ensures
-    (levels Two (number_of c.args.place.tree) entries) c.args.place.level refl (node_read c.in_ok-found.found.node) c.in_ok-found.is_last (c.in_ok-found.ensures.node (number_of c.args.place.tree) entries held_now lt)
+    let (entries, has) = c.requires in
+    let held_now = level_then (g.S.Shelf.holds c.args.shelf.now) (g.S.Shelf.holds c.seek.new.shelf) c.args.place.top.0 (number_of c.args.place.tree) c.args.place.level entries
+    (λ x h. (c.seek.ensures.stays x).1 ((c.loop-wanted.invariant.stays x).1 h)) has.level in
+    let t = turn g.T.NodeItem.meaning g.T.NodeItem.key_in (ends_by Two g.T.NodeItem.marked_in) g.T.NodeItem.items_in (g.T.NodeItem.node_over (number_of c.args.place.tree) c.args.place.level) g.T.NodeItem.Fit (nodes_at c.args.place entries) c.args.changes.now has.can g.met.T.NodeItem.parts _ _ c.loop-wanted.work.pending.items c.loop-wanted.done (c.loop-wanted.invariant.state entries has) (c.in-Some.wanted, c.in-Some.above) c.in-Some.ensures
+    (levels Two (number_of c.args.place.tree) entries) c.args.place.level refl (node_read c.in_ok-found.found.node) c.in_ok-found.is_last (c.in_ok-found.ensures.node (number_of c.args.place.tree) entries held_now)
     c.in_ok-found.found.old c.in_ok-found.ensures.old c.count_up_to.result c.count_up_to.ensures.last c.count_up_to.ensures.up_to c.count_up_to.ensures.above in
-    let inside = sought_inside (number_of c.args.place.tree) entries c.args.place.level lt _ _ (node_read c.in_ok-found.found.node) c.in_ok-found.is_last (c.in_ok-found.ensures.node (number_of c.args.place.tree) entries held_now lt) in
+    let inside = sought_inside (number_of c.args.place.tree) entries c.args.place.level has.level.within _ _ (node_read c.in_ok-found.found.node) c.in_ok-found.is_last (c.in_ok-found.ensures.node (number_of c.args.place.tree) entries held_now) in
     ((refl, tt), (c.loop-wanted.invariant.few, (t.own, (t.fit, g.met.T.NodeItem.unmarked (node_read c.in_ok-found.found.node) inside))))
 
 pub loop-wanted-smaller : goal.loop-wanted-smaller
 loop-wanted-smaller g c =
-    let (entries, is, lt, can) = c.requires in
-    let held_now = held_then (g.S.Shelf.holds c.args.shelf.now) (g.S.Shelf.holds c.seek.new.shelf) c.args.place.top.0 (number_of c.args.place.tree) entries
-    (λ x h. (c.seek.ensures.stays x).1 ((c.loop-wanted.invariant.stays x).1 h)) is in
-    let t = turn g.T.NodeItem.meaning g.T.NodeItem.key_in (ends_by Two g.T.NodeItem.marked_in) g.T.NodeItem.items_in (g.T.NodeItem.node_over (number_of c.args.place.tree) c.args.place.level) g.T.NodeItem.Fit (level_at (levels Two (number_of c.args.place.tree) entries) c.args.place.level) c.args.changes.now can g.met.T.NodeItem.parts _ _ c.loop-wanted.work.pending.items c.loop-wanted.done (c.loop-wanted.invariant.state entries is lt can) (c.in-Some.wanted, c.in-Some.above) c.in-Some.ensures
-    (levels Two (number_of c.args.place.tree) entries) c.args.place.level refl (node_read c.in_ok-found.found.node) c.in_ok-found.is_last (c.in_ok-found.ensures.node (number_of c.args.place.tree) entries held_now lt)
+    let (entries, has) = c.requires in
+    let held_now = level_then (g.S.Shelf.holds c.args.shelf.now) (g.S.Shelf.holds c.seek.new.shelf) c.args.place.top.0 (number_of c.args.place.tree) c.args.place.level entries
+    (λ x h. (c.seek.ensures.stays x).1 ((c.loop-wanted.invariant.stays x).1 h)) has.level in
+    let t = turn g.T.NodeItem.meaning g.T.NodeItem.key_in (ends_by Two g.T.NodeItem.marked_in) g.T.NodeItem.items_in (g.T.NodeItem.node_over (number_of c.args.place.tree) c.args.place.level) g.T.NodeItem.Fit (nodes_at c.args.place entries) c.args.changes.now has.can g.met.T.NodeItem.parts _ _ c.loop-wanted.work.pending.items c.loop-wanted.done (c.loop-wanted.invariant.state entries has) (c.in-Some.wanted, c.in-Some.above) c.in-Some.ensures
+    (levels Two (number_of c.args.place.tree) entries) c.args.place.level refl (node_read c.in_ok-found.found.node) c.in_ok-found.is_last (c.in_ok-found.ensures.node (number_of c.args.place.tree) entries held_now)
     c.in_ok-found.found.old c.in_ok-found.ensures.old c.count_up_to.result c.count_up_to.ensures.last c.count_up_to.ensures.up_to c.count_up_to.ensures.above in
-    falls g.T.NodeItem.meaning g.T.NodeItem.key_in (ends_by Two g.T.NodeItem.marked_in) g.T.NodeItem.items_in (g.T.NodeItem.node_over (number_of c.args.place.tree) c.args.place.level) g.T.NodeItem.Fit (level_at (levels Two (number_of c.args.place.tree) entries) c.args.place.level) c.args.changes.now can _ _ _ t.room c.in_ok-take.ensures.olds
+    falls g.T.NodeItem.meaning g.T.NodeItem.key_in (ends_by Two g.T.NodeItem.marked_in) g.T.NodeItem.items_in (g.T.NodeItem.node_over (number_of c.args.place.tree) c.args.place.level) g.T.NodeItem.Fit (nodes_at c.args.place entries) c.args.changes.now has.can _ _ _ t.room c.in_ok-take.ensures.olds
 
 pub loop-wanted-preserved : goal.loop-wanted-preserved
 loop-wanted-preserved g c = record {
   stays = λ x. ((λ h. (c.loop-wanted.invariant.stays x).0 ((c.seek.ensures.stays x).0 h)), (λ h. (c.seek.ensures.stays x).1 ((c.loop-wanted.invariant.stays x).1 h)));
   grows = λ x h. c.seek.ensures.grows x (c.loop-wanted.invariant.grows x h);
-  used = λ entries is lt x h.
-      let held_now = held_then (g.S.Shelf.holds c.args.shelf.now) (g.S.Shelf.holds c.seek.new.shelf) c.args.place.top.0 (number_of c.args.place.tree) entries
-      (λ y k. (c.seek.ensures.stays y).1 ((c.loop-wanted.invariant.stays y).1 k)) is in
+  used = λ entries held x h.
+      let held_now = level_then (g.S.Shelf.holds c.args.shelf.now) (g.S.Shelf.holds c.seek.new.shelf) c.args.place.top.0 (number_of c.args.place.tree) c.args.place.level entries
+      (λ y k. (c.seek.ensures.stays y).1 ((c.loop-wanted.invariant.stays y).1 k)) held in
       way_more (levels Two (number_of c.args.place.tree) entries) c.args.place.level c.loop-wanted.work.olds.items c.take.new.work.olds.items c.in_ok-found.found.old c.in_ok-take.ensures.olds
-      c.in-Some.wanted.now c.in-Some.above (node_read c.in_ok-found.found.node) c.in_ok-found.is_last (c.in_ok-found.ensures.node (number_of c.args.place.tree) entries held_now lt) c.in_ok-found.ensures.old x (g.S.Shelf.used c.args.shelf.now x) (g.S.Shelf.used c.loop-wanted.shelf x)
-      (c.loop-wanted.invariant.used entries is lt x) (c.in_ok-found.ensures.used (number_of c.args.place.tree) entries held_now lt x h);
-  state = λ entries is lt can.
-      let held_now = held_then (g.S.Shelf.holds c.args.shelf.now) (g.S.Shelf.holds c.seek.new.shelf) c.args.place.top.0 (number_of c.args.place.tree) entries
-      (λ x h. (c.seek.ensures.stays x).1 ((c.loop-wanted.invariant.stays x).1 h)) is in
-      let t = turn g.T.NodeItem.meaning g.T.NodeItem.key_in (ends_by Two g.T.NodeItem.marked_in) g.T.NodeItem.items_in (g.T.NodeItem.node_over (number_of c.args.place.tree) c.args.place.level) g.T.NodeItem.Fit (level_at (levels Two (number_of c.args.place.tree) entries) c.args.place.level) c.args.changes.now can g.met.T.NodeItem.parts _ _ c.loop-wanted.work.pending.items c.loop-wanted.done (c.loop-wanted.invariant.state entries is lt can) (c.in-Some.wanted, c.in-Some.above) c.in-Some.ensures
-      (levels Two (number_of c.args.place.tree) entries) c.args.place.level refl (node_read c.in_ok-found.found.node) c.in_ok-found.is_last (c.in_ok-found.ensures.node (number_of c.args.place.tree) entries held_now lt)
+      c.in-Some.wanted.now c.in-Some.above (node_read c.in_ok-found.found.node) c.in_ok-found.is_last (c.in_ok-found.ensures.node (number_of c.args.place.tree) entries held_now) c.in_ok-found.ensures.old x (g.S.Shelf.used c.args.shelf.now x) (g.S.Shelf.used c.loop-wanted.shelf x)
+      (c.loop-wanted.invariant.used entries held x) (c.in_ok-found.ensures.used (number_of c.args.place.tree) entries held_now x h);
+  state = λ entries has.
+      let held_now = level_then (g.S.Shelf.holds c.args.shelf.now) (g.S.Shelf.holds c.seek.new.shelf) c.args.place.top.0 (number_of c.args.place.tree) c.args.place.level entries
+      (λ x h. (c.seek.ensures.stays x).1 ((c.loop-wanted.invariant.stays x).1 h)) has.level in
+      let t = turn g.T.NodeItem.meaning g.T.NodeItem.key_in (ends_by Two g.T.NodeItem.marked_in) g.T.NodeItem.items_in (g.T.NodeItem.node_over (number_of c.args.place.tree) c.args.place.level) g.T.NodeItem.Fit (nodes_at c.args.place entries) c.args.changes.now has.can g.met.T.NodeItem.parts _ _ c.loop-wanted.work.pending.items c.loop-wanted.done (c.loop-wanted.invariant.state entries has) (c.in-Some.wanted, c.in-Some.above) c.in-Some.ensures
+      (levels Two (number_of c.args.place.tree) entries) c.args.place.level refl (node_read c.in_ok-found.found.node) c.in_ok-found.is_last (c.in_ok-found.ensures.node (number_of c.args.place.tree) entries held_now)
       c.in_ok-found.found.old c.in_ok-found.ensures.old c.count_up_to.result c.count_up_to.ensures.last c.count_up_to.ensures.up_to c.count_up_to.ensures.above in
-      went_then g.T.NodeItem.meaning g.T.NodeItem.key_in (ends_by Two g.T.NodeItem.marked_in) g.T.NodeItem.items_in (g.T.NodeItem.node_over (number_of c.args.place.tree) c.args.place.level) g.T.NodeItem.Fit (level_at (levels Two (number_of c.args.place.tree) entries) c.args.place.level) c.args.changes.now can _ _ _ _ _ _ _ _ t _ _ c.take.new.work.pending.items c.in_ok-take.ensures.olds c.in_ok-take.ensures.went_on;
-  reasons = λ entries is lt can.
-      let held_now = held_then (g.S.Shelf.holds c.args.shelf.now) (g.S.Shelf.holds c.seek.new.shelf) c.args.place.top.0 (number_of c.args.place.tree) entries
-      (λ x h. (c.seek.ensures.stays x).1 ((c.loop-wanted.invariant.stays x).1 h)) is in
-      next_reasons g.T.NodeItem.meaning g.T.NodeItem.key_in (ends_by Two g.T.NodeItem.marked_in) g.T.NodeItem.items_in (g.T.NodeItem.node_over (number_of c.args.place.tree) c.args.place.level) g.T.NodeItem.Fit (level_at (levels Two (number_of c.args.place.tree) entries) c.args.place.level) c.args.changes.now can (g.met.T.NodeItem.same_items (number_of c.args.place.tree) c.args.place.level) g.met.T.NodeItem.parts _ _ c.loop-wanted.work.pending.items c.loop-wanted.done (c.loop-wanted.invariant.state entries is lt can) (c.in-Some.wanted, c.in-Some.above) c.in-Some.ensures
-      (levels Two (number_of c.args.place.tree) entries) c.args.place.level refl (node_read c.in_ok-found.found.node) c.in_ok-found.is_last (c.in_ok-found.ensures.node (number_of c.args.place.tree) entries held_now lt)
-      c.in_ok-found.found.old c.in_ok-found.ensures.old c.count_up_to.result c.count_up_to.ensures.last c.count_up_to.ensures.up_to c.count_up_to.ensures.above (c.loop-wanted.invariant.reasons entries is lt can) c.take.new.work.olds.items c.in_ok-take.ensures.olds;
+      went_then g.T.NodeItem.meaning g.T.NodeItem.key_in (ends_by Two g.T.NodeItem.marked_in) g.T.NodeItem.items_in (g.T.NodeItem.node_over (number_of c.args.place.tree) c.args.place.level) g.T.NodeItem.Fit (nodes_at c.args.place entries) c.args.changes.now has.can _ _ _ _ _ _ _ _ t _ _ c.take.new.work.pending.items c.in_ok-take.ensures.olds c.in_ok-take.ensures.went_on;
+  reasons = λ entries has.
+      let held_now = level_then (g.S.Shelf.holds c.args.shelf.now) (g.S.Shelf.holds c.seek.new.shelf) c.args.place.top.0 (number_of c.args.place.tree) c.args.place.level entries
+      (λ x h. (c.seek.ensures.stays x).1 ((c.loop-wanted.invariant.stays x).1 h)) has.level in
+      next_reasons g.T.NodeItem.meaning g.T.NodeItem.key_in (ends_by Two g.T.NodeItem.marked_in) g.T.NodeItem.items_in (g.T.NodeItem.node_over (number_of c.args.place.tree) c.args.place.level) g.T.NodeItem.Fit (nodes_at c.args.place entries) c.args.changes.now has.can (g.met.T.NodeItem.same_items (number_of c.args.place.tree) c.args.place.level) g.met.T.NodeItem.parts _ _ c.loop-wanted.work.pending.items c.loop-wanted.done (c.loop-wanted.invariant.state entries has) (c.in-Some.wanted, c.in-Some.above) c.in-Some.ensures
+      (levels Two (number_of c.args.place.tree) entries) c.args.place.level refl (node_read c.in_ok-found.found.node) c.in_ok-found.is_last (c.in_ok-found.ensures.node (number_of c.args.place.tree) entries held_now)
+      c.in_ok-found.found.old c.in_ok-found.ensures.old c.count_up_to.result c.count_up_to.ensures.last c.count_up_to.ensures.up_to c.count_up_to.ensures.above (c.loop-wanted.invariant.reasons entries has) c.take.new.work.olds.items c.in_ok-take.ensures.olds;
   few = c.in_ok-take.ensures.few;
   within = within_rest c.args.changes.now _ _ c.loop-wanted.invariant.within c.count_up_to.ensures.within;
 }
 
 pub returns-clause-edited : goal.returns-clause-edited
-returns-clause-edited g c = λ entries is lt can.
-    let was = held_then (g.S.Shelf.holds c.loop-wanted.shelf) (g.S.Shelf.holds c.args.shelf.now) c.args.place.top.0 (number_of c.args.place.tree) entries (λ x h. (c.loop-wanted.invariant.stays x).0 h) is in
-    let done = end_state g.T.NodeItem.meaning g.T.NodeItem.key_in (ends_by Two g.T.NodeItem.marked_in) g.T.NodeItem.items_in (g.T.NodeItem.node_over (number_of c.args.place.tree) c.args.place.level) g.T.NodeItem.Fit (level_at (levels Two (number_of c.args.place.tree) entries) c.args.place.level) c.args.changes.now can _ _ c.loop-wanted.work.pending.items c.loop-wanted.done (c.loop-wanted.invariant.state entries was lt can) c.in_default.ensures in
-    edit_of g.T.NodeItem.meaning g.T.NodeItem.key_in (ends_by Two g.T.NodeItem.marked_in) g.T.NodeItem.items_in (g.T.NodeItem.node_over (number_of c.args.place.tree) c.args.place.level) g.T.NodeItem.Fit (level_at (levels Two (number_of c.args.place.tree) entries) c.args.place.level) c.args.changes.now can _ _ done c.finish.result (ap (λ v. v.items) c.finish.ensures.olds) (ap (λ v. v.items) c.finish.ensures.news)
+returns-clause-edited g c = λ entries has.
+    let was = level_then (g.S.Shelf.holds c.loop-wanted.shelf) (g.S.Shelf.holds c.args.shelf.now) c.args.place.top.0 (number_of c.args.place.tree) c.args.place.level entries (λ x h. (c.loop-wanted.invariant.stays x).0 h) has.level in
+    let was_all : CanChange (g.S.Shelf.holds c.args.shelf.now) c.args.place g.T.NodeItem.key_in g.T.NodeItem.marked_in g.T.NodeItem.items_in g.T.NodeItem.node_over g.T.NodeItem.Fit entries (changes_meant g.T.NodeItem.meaning c.args.changes.now) = record { level = was; can = has.can } in
+    let done = end_state g.T.NodeItem.meaning g.T.NodeItem.key_in (ends_by Two g.T.NodeItem.marked_in) g.T.NodeItem.items_in (g.T.NodeItem.node_over (number_of c.args.place.tree) c.args.place.level) g.T.NodeItem.Fit (nodes_at c.args.place entries) c.args.changes.now has.can _ _ c.loop-wanted.work.pending.items c.loop-wanted.done (c.loop-wanted.invariant.state entries was_all) c.in_default.ensures in
+    edit_of g.T.NodeItem.meaning g.T.NodeItem.key_in (ends_by Two g.T.NodeItem.marked_in) g.T.NodeItem.items_in (g.T.NodeItem.node_over (number_of c.args.place.tree) c.args.place.level) g.T.NodeItem.Fit (nodes_at c.args.place entries) c.args.changes.now has.can _ _ done c.finish.result (ap (λ v. v.items) c.finish.ensures.olds) (ap (λ v. v.items) c.finish.ensures.news)
 
 pub returns-clause-some : goal.returns-clause-some
 returns-clause-some g c =
-    let (entries, is, lt, can) = c.requires in
-    let done = end_state g.T.NodeItem.meaning g.T.NodeItem.key_in (ends_by Two g.T.NodeItem.marked_in) g.T.NodeItem.items_in (g.T.NodeItem.node_over (number_of c.args.place.tree) c.args.place.level) g.T.NodeItem.Fit (level_at (levels Two (number_of c.args.place.tree) entries) c.args.place.level) c.args.changes.now can _ _ c.loop-wanted.work.pending.items c.loop-wanted.done (c.loop-wanted.invariant.state entries is lt can) c.in_default.ensures in
-    some_of g.T.NodeItem.meaning g.T.NodeItem.key_in (ends_by Two g.T.NodeItem.marked_in) g.T.NodeItem.items_in (g.T.NodeItem.node_over (number_of c.args.place.tree) c.args.place.level) g.T.NodeItem.Fit (level_at (levels Two (number_of c.args.place.tree) entries) c.args.place.level) c.args.changes.now can _ _ done c.finish.result (ap (λ v. v.items) c.finish.ensures.olds)
+    let (entries, has) = c.requires in
+    let done = end_state g.T.NodeItem.meaning g.T.NodeItem.key_in (ends_by Two g.T.NodeItem.marked_in) g.T.NodeItem.items_in (g.T.NodeItem.node_over (number_of c.args.place.tree) c.args.place.level) g.T.NodeItem.Fit (nodes_at c.args.place entries) c.args.changes.now has.can _ _ c.loop-wanted.work.pending.items c.loop-wanted.done (c.loop-wanted.invariant.state entries has) c.in_default.ensures in
+    some_of g.T.NodeItem.meaning g.T.NodeItem.key_in (ends_by Two g.T.NodeItem.marked_in) g.T.NodeItem.items_in (g.T.NodeItem.node_over (number_of c.args.place.tree) c.args.place.level) g.T.NodeItem.Fit (nodes_at c.args.place entries) c.args.changes.now has.can _ _ done c.finish.result (ap (λ v. v.items) c.finish.ensures.olds)
 
 pub returns-in_err-take-clause-stays : goal.returns-in_err-take-clause-stays
 returns-in_err-take-clause-stays g c =
     λ x. ((λ h. (c.loop-wanted.invariant.stays x).0 ((c.seek.ensures.stays x).0 h)), (λ h. (c.seek.ensures.stays x).1 ((c.loop-wanted.invariant.stays x).1 h)))
 
 pub returns-clause-used : goal.returns-clause-used
-returns-clause-used g c = λ entries is lt x h.
-    let was = held_then (g.S.Shelf.holds c.loop-wanted.shelf) (g.S.Shelf.holds c.args.shelf.now) c.args.place.top.0 (number_of c.args.place.tree) entries (λ y k. (c.loop-wanted.invariant.stays y).0 k) is in
+returns-clause-used g c = λ entries held x h.
+    let was = level_then (g.S.Shelf.holds c.loop-wanted.shelf) (g.S.Shelf.holds c.args.shelf.now) c.args.place.top.0 (number_of c.args.place.tree) c.args.place.level entries (λ y k. (c.loop-wanted.invariant.stays y).0 k) held in
     subst (λ (os : List OldNode). g.S.Shelf.used c.args.shelf.now x ⊎ IsOnWayTo (levels Two (number_of c.args.place.tree) entries) c.args.place.level os x) (sym (ap (λ v. v.items) c.finish.ensures.olds))
-    (c.loop-wanted.invariant.used entries was lt x h)
+    (c.loop-wanted.invariant.used entries was x h)
 
 pub returns-clause-reasons : goal.returns-clause-reasons
-returns-clause-reasons g c = λ entries is lt can.
-    let was = held_then (g.S.Shelf.holds c.loop-wanted.shelf) (g.S.Shelf.holds c.args.shelf.now) c.args.place.top.0 (number_of c.args.place.tree) entries (λ x h. (c.loop-wanted.invariant.stays x).0 h) is in
-    let nodes = level_at (levels Two (number_of c.args.place.tree) entries) c.args.place.level in
+returns-clause-reasons g c = λ entries has.
+    let was = level_then (g.S.Shelf.holds c.loop-wanted.shelf) (g.S.Shelf.holds c.args.shelf.now) c.args.place.top.0 (number_of c.args.place.tree) c.args.place.level entries (λ x h. (c.loop-wanted.invariant.stays x).0 h) has.level in
+    let was_all : CanChange (g.S.Shelf.holds c.args.shelf.now) c.args.place g.T.NodeItem.key_in g.T.NodeItem.marked_in g.T.NodeItem.items_in g.T.NodeItem.node_over g.T.NodeItem.Fit entries (changes_meant g.T.NodeItem.meaning c.args.changes.now) = record { level = was; can = has.can } in
+    let nodes = nodes_at c.args.place entries in
     let keys = keys_changed (changes_meant g.T.NodeItem.meaning c.args.changes.now) in
-    let new = map (g.T.NodeItem.node_over (number_of c.args.place.tree) c.args.place.level) (pieces (ends_by Two g.T.NodeItem.marked_in) (changed g.T.NodeItem.key_in (flat_map g.T.NodeItem.items_in nodes) (changes_meant g.T.NodeItem.meaning c.args.changes.now))) in
+    let new = changed_nodes c.args.place g.T.NodeItem.key_in g.T.NodeItem.marked_in g.T.NodeItem.items_in g.T.NodeItem.node_over entries (changes_meant g.T.NodeItem.meaning c.args.changes.now) in
     subst (λ (os : List OldNode). HaveReasons nodes new keys keys os) (sym (ap (λ v. v.items) c.finish.ensures.olds))
-    (last_reasons g.T.NodeItem.meaning g.T.NodeItem.key_in (ends_by Two g.T.NodeItem.marked_in) g.T.NodeItem.items_in (g.T.NodeItem.node_over (number_of c.args.place.tree) c.args.place.level) g.T.NodeItem.Fit (level_at (levels Two (number_of c.args.place.tree) entries) c.args.place.level) c.args.changes.now can (g.met.T.NodeItem.same_items (number_of c.args.place.tree) c.args.place.level) c.loop-wanted.work.olds.items c.loop-wanted.work.news.items c.loop-wanted.work.pending.items c.loop-wanted.done (c.loop-wanted.invariant.state entries was lt can) c.in_default.ensures (c.loop-wanted.invariant.reasons entries was lt can))
+    (last_reasons g.T.NodeItem.meaning g.T.NodeItem.key_in (ends_by Two g.T.NodeItem.marked_in) g.T.NodeItem.items_in (g.T.NodeItem.node_over (number_of c.args.place.tree) c.args.place.level) g.T.NodeItem.Fit (nodes_at c.args.place entries) c.args.changes.now has.can (g.met.T.NodeItem.same_items (number_of c.args.place.tree) c.args.place.level) c.loop-wanted.work.olds.items c.loop-wanted.work.news.items c.loop-wanted.work.pending.items c.loop-wanted.done (c.loop-wanted.invariant.state entries was_all) c.in_default.ensures (c.loop-wanted.invariant.reasons entries was_all))
 
 pub returns-in_err-found-clause-edited : goal.returns-in_err-found-clause-edited
-returns-in_err-found-clause-edited g c = λ entries is lt can. if_err _ c.from_residual.result c.from_residual.ensures.0
+returns-in_err-found-clause-edited g c = λ entries has. if_err _ c.from_residual.result c.from_residual.ensures.0
 
 pub returns-in_err-found-clause-some : goal.returns-in_err-found-clause-some
 returns-in_err-found-clause-some g c = if_err _ c.from_residual.result c.from_residual.ensures.0
 
 pub returns-in_err-found-clause-used : goal.returns-in_err-found-clause-used
-returns-in_err-found-clause-used g c = λ entries is lt. if_err _ c.from_residual.result c.from_residual.ensures.0
+returns-in_err-found-clause-used g c = λ entries held. if_err _ c.from_residual.result c.from_residual.ensures.0
 
 pub returns-in_err-found-clause-reasons : goal.returns-in_err-found-clause-reasons
-returns-in_err-found-clause-reasons g c = λ entries is lt can. if_err _ c.from_residual.result c.from_residual.ensures.0
+returns-in_err-found-clause-reasons g c = λ entries has. if_err _ c.from_residual.result c.from_residual.ensures.0
 
 pub returns-in_err-found-clause-stays : goal.returns-in_err-found-clause-stays
 returns-in_err-found-clause-stays g c =
@@ -144,16 +144,16 @@ pub returns-in_err-take-clause-grows : goal.returns-in_err-take-clause-grows
 returns-in_err-take-clause-grows g c = λ x h. c.seek.ensures.grows x (c.loop-wanted.invariant.grows x h)
 
 pub returns-in_err-take-clause-edited : goal.returns-in_err-take-clause-edited
-returns-in_err-take-clause-edited g c = λ entries is lt can. if_err _ c.from_residual-in_err-take.result c.from_residual-in_err-take.ensures.0
+returns-in_err-take-clause-edited g c = λ entries has. if_err _ c.from_residual-in_err-take.result c.from_residual-in_err-take.ensures.0
 
 pub returns-in_err-take-clause-some : goal.returns-in_err-take-clause-some
 returns-in_err-take-clause-some g c = if_err _ c.from_residual-in_err-take.result c.from_residual-in_err-take.ensures.0
 
 pub returns-in_err-take-clause-used : goal.returns-in_err-take-clause-used
-returns-in_err-take-clause-used g c = λ entries is lt. if_err _ c.from_residual-in_err-take.result c.from_residual-in_err-take.ensures.0
+returns-in_err-take-clause-used g c = λ entries held. if_err _ c.from_residual-in_err-take.result c.from_residual-in_err-take.ensures.0
 
 pub returns-in_err-take-clause-reasons : goal.returns-in_err-take-clause-reasons
-returns-in_err-take-clause-reasons g c = λ entries is lt can. if_err _ c.from_residual-in_err-take.result c.from_residual-in_err-take.ensures.0
+returns-in_err-take-clause-reasons g c = λ entries has. if_err _ c.from_residual-in_err-take.result c.from_residual-in_err-take.ensures.0
 
 pub returns-clause-stays : goal.returns-clause-stays
 returns-clause-stays g c = c.loop-wanted.invariant.stays

@@ -1,5 +1,5 @@
 use Rattle.tree_build.proofs.DifferLemmas.{first_reaches}
-use Rattle.tree_build.proofs.parent_changes.count_below.Goals as goal
+use Rattle.tree_build.proofs.node_merge.count_below.Goals as goal
 
 pub returns-then-not-is_below-clause-first : goal.returns-then-not-is_below-clause-first
 returns-then-not-is_below-clause-first c =

@@ -1,7 +1,7 @@
 use Rattle.std.proofs.Common.{◌≡◌, take}
 use Rattle.std.specs.List.{AllByRecursion}
 use Rattle.tree_node.specs.Order.{IsBelow}
-use Rattle.tree_build.proofs.parent_changes.count_below.Given as goal
+use Rattle.tree_build.proofs.node_merge.count_below.Given as goal
 
 -- the nodes so far are below the key
 abbrev pub invariant-loop-old : goal.invariant-loop-old
