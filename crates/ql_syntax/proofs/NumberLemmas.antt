@@ -4,7 +4,8 @@ use Rattle.std.specs.Borrow.{Bor}
 use Rattle.std.specs.Str.Parse.{AllDigits}
 use Rattle.std.proofs.Math.Seq.{take-append_seam}
 use Rattle.std.proofs.lemmas.List.{take-append-drop}
-use Rattle.osm_model.specs.Degrees.{IsDigits, IsFraction, BeginsOtherwise, sign, point, spelling}
+use Rattle.byte_io.specs.Digits.{BeginsOtherwise}
+use Rattle.osm_model.specs.Degrees.{IsDigits, IsFraction, sign, point, spelling}
 use Rattle.osm_model.specs.DecimalParts.{fraction_of}
 use Rattle.ql_syntax.specs.declared.cause.QlCause.{QlCause}
 use Rattle.ql_syntax.specs.declared.number.Fraction.{Fraction}

@@ -8,7 +8,8 @@ use Rattle.ql_syntax.specs.declared.cause.QlCause.{QlCause}
 use Rattle.ql_syntax.proofs.WordStarts.{a_word_byte}
 use Rattle.std.specs.Char.{digit_value}
 use Rattle.std.specs.List.{list_all}
-use Rattle.osm_model.specs.Degrees.{IsDigits, BeginsOtherwise, sign, point}
+use Rattle.byte_io.specs.Digits.{BeginsOtherwise}
+use Rattle.osm_model.specs.Degrees.{IsDigits, sign, point}
 use Rattle.ql_syntax.specs.Gaps.{GapEnd, After, Open, gap, Between}
 use Rattle.ql_syntax.specs.Numbers.{IsNoNumber, IsMisfit, is_minus}
 use Rattle.ql_syntax.specs.TokenRules.{Next, next_token, pass, run_here, word_at, a_word, number_here, number_at, a_number, name_after, a_name, into}

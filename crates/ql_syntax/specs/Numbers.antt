@@ -3,7 +3,8 @@
 -- exponents (this project).
 use Rattle.std.specs.Prelude.{◌≡◌, ℕ, ◌==◌, Bool, false, List, [], ◌∷◌, ◌++◌, None}
 use Rattle.osm_model.specs.Bytes.{dot, hyphen}
-use Rattle.osm_model.specs.Degrees.{Decimal, IsDecimal, BeginsOtherwise, sign, spelling}
+use Rattle.byte_io.specs.Digits.{BeginsOtherwise}
+use Rattle.osm_model.specs.Degrees.{Decimal, IsDecimal, sign, spelling}
 use Rattle.ql_syntax.specs.declared.cause.QlCause.{QlCause}
 use Rattle.ql_syntax.specs.declared.cause.QlCause.TheVariants as causes
 use Rattle.ql_syntax.specs.Words.{begins_with}

@@ -1,14 +1,15 @@
 //! Numbers.
 
 ghost use Rattle.std.specs.Prelude.{◌≡◌, ◌++◌, false, IfOk, IfErr};
-ghost use Rattle.osm_model.specs.Degrees.{BeginsOtherwise, sign};
+ghost use Rattle.byte_io.specs.Digits.{BeginsOtherwise};
+ghost use Rattle.osm_model.specs.Degrees.{sign};
 ghost use Rattle.ql_syntax.specs.Words.{begins_with};
 ghost use Rattle.ql_syntax.specs.Numbers.{IsNoNumber, IsMisfit, is_minus};
 ghost use Rattle.ql_syntax.specs.internal.NumberParts.{IsNumberOf, IsFractionOf};
 
 use crate::cause::QlCause;
 use crate::syntax_error::SyntaxError;
-use osm_model::digits_len;
+use byte_io::digits_len;
 
 /// The number at the front of a text, and what is left after it.
 #[derive(Clone, Copy)]

@@ -19,7 +19,10 @@ use std::alloc::Global;
 /// The filter after its `[`, and what is left after its `]`.
 ///
 /// `OutsideProfile` at a `~` or a `!~`, wherever it stands inside.
-pub(crate) fn read_tag_filter(alloc: Global, text: &[u8]) -> Result<(Filter<'_>, &[u8]), SyntaxError<'_>>
+pub(crate) fn read_tag_filter(
+    alloc: Global,
+    text: &[u8],
+) -> Result<(Filter<'_>, &[u8]), SyntaxError<'_>>
     ensures { Follows tag_filter the_filter text.now result }
 {
     let token = next_token(text)?;

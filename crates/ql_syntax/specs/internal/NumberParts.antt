@@ -1,7 +1,8 @@
 -- The parts of a number in its text, as a decimal.
 use Rattle.std.specs.Prelude.{◌≡◌, ℕ, List, ◌∷◌, ◌++◌, None}
 use Rattle.osm_model.specs.Bytes.{dot}
-use Rattle.osm_model.specs.Degrees.{Decimal, IsFraction, BeginsOtherwise, point, spelling}
+use Rattle.byte_io.specs.Digits.{BeginsOtherwise}
+use Rattle.osm_model.specs.Degrees.{Decimal, IsFraction, point, spelling}
 use Rattle.osm_model.specs.DecimalParts.{fraction_of}
 use Rattle.ql_syntax.specs.declared.number.Number.{Number}
 use Rattle.ql_syntax.specs.declared.number.Fraction.{Fraction}
