@@ -5,8 +5,8 @@ ghost use Rattle.osm_keys.specs.Manifests.{HaveWidth, all_tops, edition_bytes, m
 ghost use Rattle.osm_keys.specs.declared.edition.Edition.{Edition};
 ghost use Rattle.tree_node.specs.declared.tree.Tree.{Tree};
 
-use std::alloc::AllocError;
 use crate::edition::Edition;
+use std::alloc::AllocError;
 use tree_node::Digest;
 
 /// What the root of a set is the digest of: the edition, and the digests of the tops of the four trees

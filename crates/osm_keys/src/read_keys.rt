@@ -8,7 +8,7 @@ ghost use Rattle.osm_model.specs.declared.reference.Ref.{Ref};
 ghost use Rattle.osm_keys.specs.Keys.{IsCell, IsTagText, back_key, cell_bytes, cell_value, id_bytes, ref_key, tag_key};
 
 use crate::grid::{LAST_COLUMN, LAST_ROW};
-use opl_codec::cut;
+use byte_io::split_once;
 use osm_model::{Axis, Coord, Kind, Ref, TEXT_LIMIT};
 use simdutf8::compat::from_utf8;
 
@@ -134,7 +134,7 @@ fn read_ended(bytes: &[u8]) -> Option<(&[u8], &[u8])>
     ensures text { IfSome result (λ found. IsTagText found.0.now) }
     ensures none { IsNone result → (text rest : List ℕ) → IsTagText text → bytes.now ≢ text ++ 0 ∷ rest }
 {
-    let (text, rest) = cut(bytes, 0)?;
+    let (text, rest) = split_once(bytes, 0)?;
     if text.len() > TEXT_LIMIT {
         return None;
     }

@@ -1,6 +1,6 @@
 use Rattle.std.proofs.Common.{ℕ, List, length, ap, subst, sym, arith}
 use Rattle.std.specs.Str.{IsUtf8}
-use Rattle.opl_codec.specs.Fields.{Lacks}
+use Rattle.byte_io.specs.Pieces.{Lacks}
 use Rattle.osm_keys.proofs.ReadLemmas.{lacks_no_nul, lacks_none, one_text}
 use Rattle.osm_keys.proofs.read_keys.read_ended.Goals as goal
 
