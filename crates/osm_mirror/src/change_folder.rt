@@ -5,12 +5,11 @@ ghost use Rattle.std.specs.Prelude.{◌≡◌, ◌⊎◌, IfErr, None};
 
 use osm_commands::CommandFault;
 use osm_serving::ChangeSource;
-use std::fs;
 use std::fs::{File, Metadata};
-use std::io;
 use std::io::ErrorKind;
 use std::marker::Model;
 use std::os::unix::fs::MetadataExt;
+use std::{fs, io};
 
 /// The folder in which a site puts the change files of its publications, each as `<sequence>.opl`; or no folder at all,
 /// in which no file is found. A file that was refused is given again once it has changed. Contracts see the folder's name.

@@ -8,8 +8,8 @@ ghost use Rattle.std.specs.Prelude.{◌≡◌};
 ghost use Rattle.osm_mirror.specs.Faults.{fault_of_traffic};
 
 mod building;
-mod clean_output;
 mod change_folder;
+mod clean_output;
 mod in_words;
 mod input_file;
 mod one_file;
@@ -18,8 +18,8 @@ mod progress;
 mod watched;
 
 use crate::building::Building;
-use crate::clean_output::CleanOutput;
 use crate::change_folder::ChangeFolder;
+use crate::clean_output::CleanOutput;
 use crate::in_words::{Subject, Trouble, tell_in_words};
 use crate::input_file::InputFile;
 use crate::one_file::are_one_file;
@@ -28,7 +28,9 @@ use crate::progress::Progress;
 use crate::watched::Watched;
 use command_line::{Job, WordsFault, read_words};
 use osm_codes::explain;
-use osm_commands::{CommandFault, Status, ask, check, listening_line, prove, publish, read_snapshot};
+use osm_commands::{
+    CommandFault, Status, ask, check, listening_line, prove, publish, read_snapshot,
+};
 use osm_desk::Desk;
 use osm_index::Snapshot;
 use osm_keys::Edition;
@@ -188,7 +190,10 @@ fn refuse_one_file(rt: &HostRuntime, name: &str, other: &str) -> Status {
     // Where standard error takes nothing, the status still tells.
     let _ = writeln!(errors, "{fault}");
     if errors.is_terminal() {
-        let _ = writeln!(errors, "{name} and {other} are one file: what is written needs a file of its own");
+        let _ = writeln!(
+            errors,
+            "{name} and {other} are one file: what is written needs a file of its own"
+        );
     }
     fault.status()
 }

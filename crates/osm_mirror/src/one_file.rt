@@ -1,9 +1,8 @@
 //! Whether two names are of one file.
 
-use std::fs;
-use std::io;
 use std::os::unix::fs::MetadataExt;
 use std::path::Path;
+use std::{fs, io};
 
 /// What a name is of, as far as it says which file is written.
 #[derive(Clone, Copy, Drop, PartialEq, Eq)]
@@ -42,7 +41,11 @@ fn new_place<'a>(rt: &HostRuntime, path: &'a str) -> io::Result<Option<Place<'a>
     let (Some(folder), Some(name)) = (path.parent(), path.file_name()) else {
         return Ok(None);
     };
-    let folder = if folder.as_str().is_empty() { Path::new(".") } else { folder };
+    let folder = if folder.as_str().is_empty() {
+        Path::new(".")
+    } else {
+        folder
+    };
     let found = fs::metadata(rt, folder)?;
     Ok(Some(Place {
         device: found.dev(),

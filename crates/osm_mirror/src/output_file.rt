@@ -130,7 +130,10 @@ impl<'a> OutputFile<'a> {
 
 /// A file that isn't there yet, opened for writing.
 fn new_file(rt: &HostRuntime, name: &str) -> io::Result<File> {
-    OpenOptions::new().write(true).create_new(true).open(rt, name)
+    OpenOptions::new()
+        .write(true)
+        .create_new(true)
+        .open(rt, name)
 }
 
 impl Write for OutputFile<'_> {

@@ -2,11 +2,10 @@
 
 ghost use Rattle.std.specs.Prelude.{◌≡◌};
 
-use crate::changes_fault::ChangesFault;
 use crate::change_source::ChangeSource;
+use crate::changes_fault::ChangesFault;
 use crate::publish_next::publish_found;
-use osm_desk::Desk;
-use osm_desk::Lookout;
+use osm_desk::{Desk, Lookout};
 use std::alloc::Global;
 use std::io::Write;
 use std::marker::Model;

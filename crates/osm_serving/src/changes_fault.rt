@@ -4,8 +4,8 @@ ghost use Rattle.std.specs.Prelude.{◌≡◌};
 ghost use Rattle.osm_serving.specs.ChangeFiles.{fault_of_apply, fault_of_command};
 ghost use Rattle.osm_commands.specs.Faults.{fault_of_load};
 
-use osm_commands::CommandFault;
 use opl_codec::LoadFault;
+use osm_commands::CommandFault;
 use osm_index::ApplyFault;
 use thiserror::Error;
 

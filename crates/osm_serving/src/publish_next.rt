@@ -6,8 +6,8 @@ ghost use Rattle.osm_index.specs.Snapshots.{HoldsPublication, IsAsBefore};
 ghost use Rattle.osm_serving.specs.ChangeFiles.{ExplainsFound, IsNext, asked_after};
 ghost use Rattle.osm_desk.specs.Published.{Found, HasPublished, HasTaken, TakesFound};
 
-use crate::changes_fault::ChangesFault;
 use crate::change_source::ChangeSource;
+use crate::changes_fault::ChangesFault;
 use crate::publish_changes::publish_changes;
 use osm_desk::Desk;
 use osm_index::Edition;

@@ -2,8 +2,8 @@
 
 ghost use Rattle.std.specs.Prelude.{◌≡◌, ◌⊎◌, ◌+◌, ◌<◌, ℕ, IfErr, IfSome, OnErr, OnOk, Some};
 
-use osm_commands::CommandFault;
 use crate::listener::Listener;
+use osm_commands::CommandFault;
 use osm_index::Snapshot;
 use std::alloc::Global;
 use std::io::Write;

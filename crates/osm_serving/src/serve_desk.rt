@@ -7,10 +7,10 @@ ghost use Rattle.osm_index.specs.Snapshots.{HoldsPublication};
 ghost use Rattle.osm_serving.specs.ChangeFiles.{IsReachedBy};
 ghost use Rattle.osm_desk.specs.Published.{TakesFound};
 
-use osm_commands::CommandFault;
-use crate::listener::Listener;
 use crate::change_source::ChangeSource;
+use crate::listener::Listener;
 use crate::publish_next::publish_next;
+use osm_commands::CommandFault;
 use osm_desk::Desk;
 use std::alloc::Global;
 use std::io::Write;

@@ -228,7 +228,9 @@ impl Peer {
         if self.is_leaving {
             return now.duration_since(self.heard) >= Duration::from_secs(LINGER_SECONDS);
         }
-        if now.duration_since(self.heard) >= Duration::from_secs(IDLE_SECONDS) || self.is_slow(now) {
+        if now.duration_since(self.heard) >= Duration::from_secs(IDLE_SECONDS)
+            || self.is_slow(now)
+        {
             return true;
         }
         match self.begun {
@@ -245,7 +247,8 @@ impl Peer {
         match self.behind_since {
             Some(since) => {
                 let periods = (self.taken / PACE_BYTES).saturating_add(1);
-                now.duration_since(since) >= Duration::from_secs(IDLE_SECONDS.saturating_mul(periods))
+                now.duration_since(since)
+                    >= Duration::from_secs(IDLE_SECONDS.saturating_mul(periods))
             }
             None => false,
         }

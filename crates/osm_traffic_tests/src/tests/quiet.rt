@@ -1,7 +1,6 @@
 //! A lookout that finds nothing.
 
-use osm_desk::Desk;
-use osm_desk::Lookout;
+use osm_desk::{Desk, Lookout};
 use std::io::Write;
 
 /// Finds no changes.
