@@ -23,8 +23,8 @@ use Rattle.tree_walk.proofs.MeetLemmas.{above_outer, covered_is_in}
 
 -- ---- the entries below each child
 
--- The entries below each child are as its parent states them: their keys rise from its left bound to its greatest key, and
--- there are as many as it says.
+-- The entries below each child are as its parent states them: their keys rise from its left bound to its greatest
+-- key, and there are as many as it says.
 abbrev pub AreFit : Option (List ℕ) → List Link → List (List Binding) → Type 0
 AreFit left [] [] = Unit {0}
 AreFit left [] (part ∷ parts) = ⊥
@@ -169,8 +169,8 @@ module _ (closing : Bool) where
   none_below range outer left most (l ∷ ls) (p ∷ ps) found shut no_higher rise below (inr too) =
       none_below range outer (Some l.greatest) most ls ps found shut (no_higher_next outer left l.greatest no_higher rise.0) rise.1 below.1 too.1
 
-  -- The entries in the range below the nodes of a level that are opened: those below their children that are opened, and
-  -- those of their children that stay closed.
+  -- The entries in the range below the nodes of a level that are opened: those below their children that are opened,
+  -- and those of their children that stay closed.
   pub nodes_account : (range : Range) (tree level : ℕ) (left : Option (List ℕ)) (ps : List (List Link)) (parts : List (List Binding)) (spots : List (Option (List ℕ) × Node)) (closed : List (Option (List ℕ) × Link)) (found : List Binding)
       → AllByRecursion IsSized ps → AreRisingFrom left (greatests_of (join ps)) → AreFit left (join ps) parts → AreThose (IsOpenNode closing range) (placed greatest_of left (map (Inner tree level) ps)) spots
       → AreThose (IsClosedChild closing range) (children_of_all spots) closed → AreBelow closing range left (join ps) parts found

@@ -2,7 +2,7 @@
 use Rattle.std.proofs.Common.{◌≡◌, ℕ, zero, suc, ◌-◌, ◌<◌, ◌≤◌, List, [], ◌∷◌, ◌++◌, length, get_or, Option, Result, Err, inl, inr, refl, sym, ap, subst, ◌∙◌, arith}
 use Rattle.std.specs.List.{AllByRecursion, Contains}
 use Rattle.std.specs.Prelude.{IfErr}
-use Rattle.tree_node.specs.Nodes.{Inner, Link, Node, spelling}
+use Rattle.tree_node.specs.Nodes.{Inner, Link}
 use Rattle.tree_walk.specs.Choices.{AreThose}
 use Rattle.tree_walk.specs.Reasons.{Child, FromParent, FromTop, HasReason, IsAccepted, IsReason, IsWanted, Top, Wanted, left_wanted}
 use Rattle.tree_walk.specs.Spans.{children_placed}
@@ -11,16 +11,9 @@ use Rattle.tree_walk.specs.Given.{wanted_of}
 use Rattle.tree_walk.specs.declared.pending.Pending.{Pending}
 use Rattle.tree_walk.specs.declared.fault.WalkFault.{WalkFault}
 use Rattle.tree_walk.specs.declared.fault.WalkFault.TheVariants as faults
+use Rattle.tree_walk.proofs.shared.WantedLaws.{wanted_more}
 
 -- ---- more used nodes
-
-pub accepted_more : (used later : List ℕ → Type 0) (tree : ℕ) (wanted : Wanted) (node : Node) → ((x : List ℕ) → used x → later x) → IsAccepted used tree wanted node → IsAccepted later tree wanted node
-accepted_more used later tree wanted node grows is = record { read = (is.read.0, (grows (spelling node) is.read.1.0, is.read.1.1)); kind = is.kind; stated = is.stated }
-
-pub wanted_more : (used later : List ℕ → Type 0) (tree : ℕ) (top : List ℕ) (wanted : Wanted) → ((x : List ℕ) → used x → later x) → IsWanted used tree top wanted → IsWanted later tree top wanted
-wanted_more used later tree top wanted grows FromTop = FromTop
-wanted_more used later tree top wanted grows (FromParent above parent level left link is accepted at among) =
-    FromParent above parent level left link (wanted_more used later tree top above grows is) (accepted_more used later tree above parent grows accepted) at among
 
 pub all_wanted_more : (used later : List ℕ → Type 0) (tree : ℕ) (top : List ℕ) (level : ℕ) (spots : List (Option (List ℕ) × Link)) → ((x : List ℕ) → used x → later x) → AreWanted used tree top level spots → AreWanted later tree top level spots
 all_wanted_more used later tree top level [] grows all = tt

@@ -4,3 +4,4 @@ pub mod GivenLaws
 pub mod KeyLemmas
 pub mod WalkedLaws
 pub mod WalksGivenLaws
+pub mod WantedLaws

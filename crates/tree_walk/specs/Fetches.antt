@@ -32,8 +32,8 @@ pub record HasFetched (shelf : ShelfUse) (from to : ℕ) (nodes : List (List ℕ
   pub all_held : AllByRecursion shelf.held nodes
   pub counted : to ≡ counted_up from (length nodes)
 
--- Which nodes a walk fetched, over any nodes whatever: different ones, each of a node's form, one at least; and where it
--- is refused perhaps none, and perhaps one more, which may be any.
+-- Which nodes a walk fetched, over any nodes whatever: different ones, each of a node's form, one at least; and where
+-- it is refused perhaps none, and perhaps one more, which may be any.
 abbrev pub Fetches : {A : Type 0} → Result A WalkFault → ShelfUse → ℕ → ℕ → Type 0
 Fetches (Ok value) shelf from to =
     (nodes : List (List ℕ)) × HasFetched shelf from to nodes × AreDifferent nodes × AllByRecursion IsNodeText nodes × (1 ≤ length nodes)

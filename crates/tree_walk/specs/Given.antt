@@ -26,8 +26,8 @@ ReachesAbove range bound = IsBelow bound range.hi ⊎ ((range.under ≡ true) ×
 abbrev pub GoesOnAbove : Range → Option (List ℕ) → Type 0
 GoesOnAbove range left = IfSome left (λ bound. ReachesAbove range bound)
 
--- A walk enters the child, which is as its parent states it: the child doesn't end below lo, the range goes on above the
--- child's left bound, and it isn't one of those that stay closed.
+-- A walk enters the child, which is as its parent states it: the child doesn't end below lo, the range goes on above
+-- the child's left bound, and it isn't one of those that stay closed.
 pub record IsEntered (Closed : Option (List ℕ) × Link → Type 0) (range : Range) (child : Option (List ℕ) × Link) : Type 0 where
   pub low : IsAtMost range.lo child.1.greatest
   pub high : GoesOnAbove range child.0

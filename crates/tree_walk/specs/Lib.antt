@@ -5,6 +5,7 @@ pub mod Ranges
 pub mod Reasons
 pub mod Refusals
 pub mod Spans
+pub mod Uses
 pub mod Walked
 pub mod WalksGiven
 pub mod Walks

@@ -31,8 +31,8 @@ Agrees spot node = StartAbove spot.0 (node_keys node) × ((greatest_of node ≡ 
 
 -- ---- what a walk wants
 
--- A node that a walk wants: the top of the tree, which has this digest, or a child at this level, with its left bound and
--- what its parent states of it.
+-- A node that a walk wants: the top of the tree, which has this digest, or a child at this level, with its left bound
+-- and what its parent states of it.
 pub data Wanted : Type 0 where
   Top : (top : List ℕ) → Wanted
   Child : (level : ℕ) (left : Option (List ℕ)) (link : Link) → Wanted
@@ -80,8 +80,8 @@ pub data IsWanted (used : List ℕ → Type 0) (tree : ℕ) (top : List ℕ) : W
 
 -- ---- what is wrong with it
 
--- V1: no held node has the digest; V2: what was given isn't of a node's form, by that fault; V3: it is a node of another
--- tree or level; V4: it isn't as its parent states. Memory says nothing of the nodes.
+-- V1: no held node has the digest; V2: what was given isn't of a node's form, by that fault; V3: it is a node of
+-- another tree or level; V4: it isn't as its parent states. Memory says nothing of the nodes.
 abbrev pub IsReason : ℕ → (held used : List ℕ → Type 0) → Wanted → WalkFault → Type 0
 IsReason tree held used wanted faults.Missing = HasNone held (digest_wanted wanted)
 IsReason tree held used wanted (faults.Malformed fault) = (bytes : List ℕ) × IsGiven used wanted bytes × IsFault bytes fault

@@ -17,7 +17,7 @@ MeetsAt range tree level place =
 abbrev pub IsMet : Range → List (List Node) → List ℕ → Type 0
 IsMet range tree bytes = (level place : ℕ) × Stands tree level place bytes × MeetsAt range tree level place
 
--- these bytes are a node of the tree that a count of the range needs: it meets the range, and the range doesn't cover it
+-- these bytes are a node of the tree that a count needs: it meets the range, and the range doesn't cover it
 abbrev pub IsMetCounted : Range → List (List Node) → List ℕ → Type 0
 IsMetCounted range tree bytes =
     (level place : ℕ) × Stands tree level place bytes × MeetsAt range tree level place × ¬ IsCovered range (left_at (level_at tree level) place) (greatest_of (node_in tree level place))

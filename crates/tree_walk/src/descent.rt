@@ -6,17 +6,17 @@ ghost use Rattle.tree_node.specs.Nodes.{AreRisingFrom, Binding, Link, Node, keys
 ghost use Rattle.tree_node.specs.Outcomes.{Outcome};
 ghost use Rattle.tree_node.specs.Shelves.{HasNone, SameNodes};
 ghost use Rattle.tree_node.specs.Trees.{Shape, levels};
-ghost use Rattle.tree_walk.specs.Choices.{AreThose};
 ghost use Rattle.tree_walk.specs.Fetches.{Fetches, IsNodeText, cause_of, counted_up};
-ghost use Rattle.tree_walk.specs.internal.Accounts.{Account, AreBelowLevel, Gains, GathersAll};
-ghost use Rattle.tree_walk.specs.internal.Openings.{IsClosedChild, IsOpenChild, IsOpened, IsOpenedIn, IsReached};
+ghost use Rattle.tree_walk.specs.internal.Accounts.{GathersAll, GathersBelow, GathersClosed, GathersEntries};
+ghost use Rattle.tree_walk.specs.internal.Openings.{IsClosedChild, IsOpened, IsOpenedIn, IsReached};
 ghost use Rattle.tree_walk.specs.internal.Pendings.{AreInOrder, AreStated, AreWanted, FetchesBelow, FetchesLevel, IsBetweenLevels, IsOfLevel, IsOneOf, spots_of};
 ghost use Rattle.tree_walk.specs.internal.Gatherings.{GathersFrom, ReadsLevel};
 ghost use Rattle.tree_walk.specs.Given.{entries_of_all, wanted_of};
 ghost use Rattle.tree_walk.specs.Reasons.{HasReason, Top};
 ghost use Rattle.tree_walk.specs.Spans.{children_of_all};
 ghost use Rattle.tree_walk.specs.Ranges.{IsIn, range_of};
-ghost use Rattle.tree_walk.specs.Walks.{IsEntryIn, IsTopOf};
+ghost use Rattle.tree_walk.specs.Uses.{nodes_around};
+ghost use Rattle.tree_walk.specs.Walks.{IsTopOf};
 
 use crate::fault::WalkFault;
 use crate::gather::Gather;
@@ -49,19 +49,21 @@ pub(crate) fn gather<'a, S: Shelf<'a>, G: Gather<'a>>(
     ensures stays { SameNodes (S.holds shelf.old) (S.holds shelf.new) }
     ensures grows { (bytes : List ℕ) → S.used shelf.old bytes → S.used shelf.new bytes }
     ensures calls { tally.new.calls ≡ counted_up tally.old.calls 1 }
-    ensures fetches { Fetches result
-        (record { held = S.holds shelf.new; before = S.used shelf.old; after = S.used shelf.new })
+    ensures fetches { Fetches result (nodes_around S.holds S.used shelf.old shelf.new)
         tally.old.fetches tally.new.fetches }
-    ensures told { IfErr result (HasReason (number_of tree) top.now.0 (S.holds shelf.new) (S.used shelf.new)) }
+    ensures told { IfErr result
+        (HasReason (number_of tree) top.now.0 (S.holds shelf.new) (S.used shelf.new)) }
     ensures none { HasNone (S.holds shelf.new) top.now.0 → result ≡ Err WalkFault.Missing }
-    ensures gives { OnOk result (GathersFrom G.gathers (IsClosedChild G.closing (range_of range.now)) IsNodeText
-        (record { held = S.holds shelf.new; before = S.used shelf.old; after = S.used shelf.new })
-        tally.old.fetches tally.new.fetches (number_of tree) (range_of range.now) (Top top.now.0 ∷ []) gathered.old gathered.new) }
+    ensures gives { OnOk result (GathersFrom G.gathers
+        (IsClosedChild G.closing (range_of range.now)) IsNodeText
+        (nodes_around S.holds S.used shelf.old shelf.new) tally.old.fetches tally.new.fetches
+        (number_of tree) (range_of range.now) (Top top.now.0 ∷ []) gathered.old gathered.new) }
     ensures answer { (shape : Shape) (entries : List Binding)
         → IsTopOf shape (number_of tree) entries top.now.0
-        → Outcome cause_of (λ _. GathersAll G.gathers G.closing (range_of range.now) entries gathered.old gathered.new)
+        → Outcome cause_of
+        (λ _. GathersAll G.gathers G.closing (range_of range.now) entries gathered.old gathered.new)
         (IsOpened G.closing (range_of range.now) (levels shape (number_of tree) entries))
-        (record { held = S.holds shelf.new; before = S.used shelf.old; after = S.used shelf.new }) result }
+        (nodes_around S.holds S.used shelf.old shelf.new) result }
 {
     tally.count_call();
     match open(shelf, top, tree, tally)? {
@@ -97,23 +99,25 @@ fn descend<'a, S: Shelf<'a>, G: Gather<'a>>(
     ensures stays { SameNodes (S.holds shelf.old) (S.holds shelf.new) }
     ensures grows { (bytes : List ℕ) → S.used shelf.old bytes → S.used shelf.new bytes }
     ensures fetches { FetchesBelow (suc level) result
-        (record { held = S.holds shelf.new; before = S.used shelf.old; after = S.used shelf.new })
-        tally.old.fetches tally.new.fetches }
+        (nodes_around S.holds S.used shelf.old shelf.new) tally.old.fetches tally.new.fetches }
     ensures told { (top : List ℕ)
-        → AreWanted (S.used shelf.old) (number_of way.now.tree) top level (spots_of pending.entry.items)
-        → IfErr result (HasReason (number_of way.now.tree) top (S.holds shelf.new) (S.used shelf.new)) }
-    ensures gives { OnOk result (GathersFrom G.gathers (IsClosedChild G.closing (range_of way.now.range.now)) (IsBetweenLevels 0 (suc level))
-        (record { held = S.holds shelf.new; before = S.used shelf.old; after = S.used shelf.new })
-        tally.old.fetches tally.new.fetches (number_of way.now.tree) (range_of way.now.range.now)
+        → AreWanted (S.used shelf.old) (number_of way.now.tree) top level
+        (spots_of pending.entry.items)
+        → IfErr result
+        (HasReason (number_of way.now.tree) top (S.holds shelf.new) (S.used shelf.new)) }
+    ensures gives { OnOk result (GathersFrom G.gathers
+        (IsClosedChild G.closing (range_of way.now.range.now)) (IsBetweenLevels 0 (suc level))
+        (nodes_around S.holds S.used shelf.old shelf.new) tally.old.fetches tally.new.fetches
+        (number_of way.now.tree) (range_of way.now.range.now)
         (map (wanted_of level) (spots_of pending.entry.items)) gathered.old gathered.new) }
     ensures answer { (shape : Shape) (entries : List Binding)
-        → IsReached G.closing shape (number_of way.now.tree) entries (range_of way.now.range.now) level (spots_of pending.entry.items)
-        → Outcome cause_of (λ _. (closed : List (Option (List ℕ) × Link)) × (found all : List Binding)
-        × Gains G.gathers gathered.old gathered.new closed found
-        × Account G.closing closed found all
-        × AreBelowLevel G.closing (range_of way.now.range.now) (levels shape (number_of way.now.tree) entries) level all)
-        (IsOpenedIn G.closing (range_of way.now.range.now) (levels shape (number_of way.now.tree) entries) 0 level)
-        (record { held = S.holds shelf.new; before = S.used shelf.old; after = S.used shelf.new }) result }
+        → IsReached G.closing shape (number_of way.now.tree) entries (range_of way.now.range.now)
+        level (spots_of pending.entry.items)
+        → Outcome cause_of (λ _. GathersBelow G.gathers G.closing (range_of way.now.range.now)
+        (levels shape (number_of way.now.tree) entries) level gathered.old gathered.new)
+        (IsOpenedIn G.closing (range_of way.now.range.now)
+        (levels shape (number_of way.now.tree) entries) 0 level)
+        (nodes_around S.holds S.used shelf.old shelf.new) result }
 {
     let mut pending = pending;
     let mut level = level;
@@ -141,23 +145,27 @@ fn open_level<'a, S: Shelf<'a>, G: Gather<'a>>(
     ensures stays { SameNodes (S.holds shelf.old) (S.holds shelf.new) }
     ensures grows { (bytes : List ℕ) → S.used shelf.old bytes → S.used shelf.new bytes }
     ensures fetches { FetchesLevel level result
-        (record { held = S.holds shelf.new; before = S.used shelf.old; after = S.used shelf.new })
-        tally.old.fetches tally.new.fetches }
+        (nodes_around S.holds S.used shelf.old shelf.new) tally.old.fetches tally.new.fetches }
     ensures order { IfOk result (λ pending. AreInOrder None (spots_of pending.items)) }
-    ensures told { (top : List ℕ) → AreWanted (S.used shelf.old) (number_of way.now.tree) top level (spots_of nodes.now)
-        → IfErr result (HasReason (number_of way.now.tree) top (S.holds shelf.new) (S.used shelf.new)) }
-    ensures wanted { (top : List ℕ) → AreWanted (S.used shelf.old) (number_of way.now.tree) top level (spots_of nodes.now)
-        → IfOk result (λ pending. AreWanted (S.used shelf.new) (number_of way.now.tree) top (level - 1) (spots_of pending.items)) }
-    ensures gives { IfOk result (λ pending. ReadsLevel G.gathers (IsClosedChild G.closing (range_of way.now.range.now))
-        (record { held = S.holds shelf.new; before = S.used shelf.old; after = S.used shelf.new })
-        tally.old.fetches tally.new.fetches (number_of way.now.tree) level (range_of way.now.range.now)
+    ensures told { (top : List ℕ)
+        → AreWanted (S.used shelf.old) (number_of way.now.tree) top level (spots_of nodes.now)
+        → IfErr result
+        (HasReason (number_of way.now.tree) top (S.holds shelf.new) (S.used shelf.new)) }
+    ensures wanted { (top : List ℕ)
+        → AreWanted (S.used shelf.old) (number_of way.now.tree) top level (spots_of nodes.now)
+        → IfOk result (λ pending. AreWanted (S.used shelf.new) (number_of way.now.tree) top
+        (level - 1) (spots_of pending.items)) }
+    ensures gives { IfOk result (λ pending. ReadsLevel G.gathers
+        (IsClosedChild G.closing (range_of way.now.range.now))
+        (nodes_around S.holds S.used shelf.old shelf.new) tally.old.fetches tally.new.fetches
+        (number_of way.now.tree) level (range_of way.now.range.now)
         (spots_of nodes.now) (spots_of pending.items) gathered.old gathered.new) }
-    ensures answer { (spots : List (Option (List ℕ) × Node)) → AreStated (number_of way.now.tree) level (spots_of nodes.now) spots
-        → Outcome cause_of (λ pending. AreThose (IsOpenChild G.closing (range_of way.now.range.now)) (children_of_all spots) (spots_of pending.items)
-        × ((closed : List (Option (List ℕ) × Link)) × AreThose (IsClosedChild G.closing (range_of way.now.range.now)) (children_of_all spots) closed
-        × Gains G.gathers gathered.old gathered.new closed []))
-        (IsOneOf spots)
-        (record { held = S.holds shelf.new; before = S.used shelf.old; after = S.used shelf.new }) result }
+    ensures answer { (spots : List (Option (List ℕ) × Node))
+        → AreStated (number_of way.now.tree) level (spots_of nodes.now) spots
+        → Outcome cause_of (λ pending. GathersClosed G.gathers G.closing
+        (range_of way.now.range.now) (children_of_all spots) (spots_of pending.items)
+        gathered.old gathered.new)
+        (IsOneOf spots) (nodes_around S.holds S.used shelf.old shelf.new) result }
 {
     let mut pending: Vec<Pending<'a>> = Vec::new(way.alloc);
     for node in nodes {
@@ -180,19 +188,21 @@ fn take_leaves<'a, S: Shelf<'a>, G: Gather<'a>>(
     ensures stays { SameNodes (S.holds shelf.old) (S.holds shelf.new) }
     ensures grows { (bytes : List ℕ) → S.used shelf.old bytes → S.used shelf.new bytes }
     ensures fetches { FetchesLevel 0 result
-        (record { held = S.holds shelf.new; before = S.used shelf.old; after = S.used shelf.new })
-        tally.old.fetches tally.new.fetches }
-    ensures told { (top : List ℕ) → AreWanted (S.used shelf.old) (number_of way.now.tree) top 0 (spots_of nodes.now)
-        → IfErr result (HasReason (number_of way.now.tree) top (S.holds shelf.new) (S.used shelf.new)) }
-    ensures gives { OnOk result (GathersFrom G.gathers (IsClosedChild G.closing (range_of way.now.range.now)) (IsOfLevel 0)
-        (record { held = S.holds shelf.new; before = S.used shelf.old; after = S.used shelf.new })
-        tally.old.fetches tally.new.fetches (number_of way.now.tree) (range_of way.now.range.now)
+        (nodes_around S.holds S.used shelf.old shelf.new) tally.old.fetches tally.new.fetches }
+    ensures told { (top : List ℕ)
+        → AreWanted (S.used shelf.old) (number_of way.now.tree) top 0 (spots_of nodes.now)
+        → IfErr result
+        (HasReason (number_of way.now.tree) top (S.holds shelf.new) (S.used shelf.new)) }
+    ensures gives { OnOk result (GathersFrom G.gathers
+        (IsClosedChild G.closing (range_of way.now.range.now)) (IsOfLevel 0)
+        (nodes_around S.holds S.used shelf.old shelf.new) tally.old.fetches tally.new.fetches
+        (number_of way.now.tree) (range_of way.now.range.now)
         (map (wanted_of 0) (spots_of nodes.now)) gathered.old gathered.new) }
-    ensures answer { (spots : List (Option (List ℕ) × Node)) → AreStated (number_of way.now.tree) 0 (spots_of nodes.now) spots
-        → Outcome cause_of (λ _. (found : List Binding) × AreThose (IsEntryIn (range_of way.now.range.now)) (entries_of_all spots) found
-        × Gains G.gathers gathered.old gathered.new [] found)
-        (IsOneOf spots)
-        (record { held = S.holds shelf.new; before = S.used shelf.old; after = S.used shelf.new }) result }
+    ensures answer { (spots : List (Option (List ℕ) × Node))
+        → AreStated (number_of way.now.tree) 0 (spots_of nodes.now) spots
+        → Outcome cause_of (λ _. GathersEntries G.gathers (range_of way.now.range.now)
+        (entries_of_all spots) gathered.old gathered.new)
+        (IsOneOf spots) (nodes_around S.holds S.used shelf.old shelf.new) result }
 {
     for node in nodes {
         let entries = open_leaf(shelf, node, way.tree, tally)?;
@@ -208,9 +218,8 @@ fn take<'a, G: Gather<'a>>(
     gathered: &mut G,
 ) -> Result<(), AllocError>
     requires { AreRisingFrom None (keys_of entries) }
-    ensures { OnOk result ((found : List Binding)
-        × AreThose (IsEntryIn (range_of range.now)) entries.entry found
-        × Gains G.gathers gathered.old gathered.new [] found) }
+    ensures { OnOk result (GathersEntries G.gathers (range_of range.now) entries.entry
+        gathered.old gathered.new) }
 {
     for item in entries.skip_below(range.lo) {
         if !range.reaches(item.key) {

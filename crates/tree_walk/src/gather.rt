@@ -23,8 +23,10 @@ pub(crate) trait Gather<'a> {
 
     /// Whether this child stays closed. Then all that its parent states of it is gathered.
     fn closes(&mut self, range: &KeyRange<'_>, left: Option<&'a [u8]>, child: &Child<'a>) -> bool
-        ensures told { IsTrue result ↔ IsClosed closing (range_of range.now) (option_copied left.entry) child.now.greatest.now }
-        ensures closed { result ≡ true → Gains gathers self.old self.new ((option_copied left.entry, link_of child.now) ∷ []) [] }
+        ensures told { IsTrue result ↔ IsClosed closing (range_of range.now)
+            (option_copied left.entry) child.now.greatest.now }
+        ensures closed { result ≡ true → Gains gathers self.old self.new
+            ((option_copied left.entry, link_of child.now) ∷ []) [] }
         ensures opened { result ≡ false → Gains gathers self.old self.new [] [] };
 
     /// Gathers an entry.
@@ -69,7 +71,8 @@ pub(crate) struct Counted {
 impl<'a> Gather<'a> for Counted {
     ghost closing = { true };
 
-    ghost gathers = { λ counted closed entries. counted.number ≡ capped (sum_stated closed + length entries) };
+    ghost gathers = { λ counted closed entries.
+        counted.number ≡ capped (sum_stated closed + length entries) };
 
     fn closes(&mut self, range: &KeyRange<'_>, left: Option<&'a [u8]>, child: &Child<'a>) -> bool {
         let closed = range.covers(left, child.greatest);

@@ -18,26 +18,31 @@ pub fn empty_law()
 
 /// The law of one key: in the range from a key to itself that key stands alone.
 pub fn point_law()
-    ensures { (key other : List ℕ) → IsIn (record { lo = key; hi = key; under = false }) other ↔ (other ≡ key) }
+    ensures { (key other : List ℕ)
+        → IsIn (record { lo = key; hi = key; under = false }) other ↔ (other ≡ key) }
 {}
 
 /// The law of prefixes: in the range of a key and those that it begins stand exactly the keys that it
 /// begins, itself too.
 pub fn prefix_law()
-    ensures { (front key : List ℕ) → IsIn (record { lo = front; hi = front; under = true }) key ↔ Begins front key }
+    ensures { (front key : List ℕ)
+        → IsIn (record { lo = front; hi = front; under = true }) key ↔ Begins front key }
 {}
 
 /// The law of what a walk finds: it is known from the list and the range.
 pub fn found_law()
     // An entry is found exactly where it is one of the list and its key is in the range.
-    ensures among { (range : Range) (entries found : List Binding) → AreThose (IsEntryIn range) entries found
-        → (entry : Binding) → Contains found entry ↔ (Contains entries entry × IsEntryIn range entry) }
+    ensures among { (range : Range) (entries found : List Binding)
+        → AreThose (IsEntryIn range) entries found → (entry : Binding)
+        → Contains found entry ↔ (Contains entries entry × IsEntryIn range entry) }
     // The keys that are found rise as those of the list do.
-    ensures rising { (range : Range) (entries found : List Binding) → AreThose (IsEntryIn range) entries found
+    ensures rising { (range : Range) (entries found : List Binding)
+        → AreThose (IsEntryIn range) entries found
         → AreRisingFrom None (keys_of entries) → AreRisingFrom None (keys_of found) }
     // Nothing else is found.
     ensures unique { (range : Range) (entries found others : List Binding)
-        → AreThose (IsEntryIn range) entries found → AreThose (IsEntryIn range) entries others → found ≡ others }
+        → AreThose (IsEntryIn range) entries found → AreThose (IsEntryIn range) entries others
+        → found ≡ others }
 {}
 
 /// The law of the left edge: a node without a left bound meets a range that contains its `lo` exactly
@@ -93,7 +98,8 @@ pub fn spans_law()
     // parent's left bound, each other the greatest key that its parent states of the child before it.
     ensures children { (shape : Shape) (tree : ℕ) (entries : List Binding) (level : ℕ)
         → suc level < length (levels shape tree entries)
-        → children_of_all (placed greatest_of None (level_at (levels shape tree entries) (suc level)))
+        → children_of_all
+        (placed greatest_of None (level_at (levels shape tree entries) (suc level)))
         ≡ children_placed None (map link_to (level_at (levels shape tree entries) level)) }
     // A child meets a range only where its parent does, and where a range covers a node it covers the
     // node's children, and so all below it.

@@ -30,7 +30,8 @@ pub(crate) struct Pending<'a> {
 impl<'a> Pending<'a> {
     /// Whether an inner node with these children is as its parent states.
     pub(crate) fn is_inner(&self, children: &Children<'a>) -> bool
-        ensures { (tree level : ℕ) → IsTrue result ↔ Agrees (spot_of self.now) (Inner tree level children.now) }
+        ensures { (tree level : ℕ)
+            → IsTrue result ↔ Agrees (spot_of self.now) (Inner tree level children.now) }
     {
         let starts = match children.again().next() {
             Some(first) => is_above(self.left, first.greatest),
@@ -66,10 +67,13 @@ pub(crate) fn pick<'a, G: Gather<'a>>(
     requires rising { AreRisingFrom (option_copied left) (greatests_of children) }
     ensures { OnOk result ((picked closed : List (Option (List ℕ) × Link))
         × (spots_of pending.new.items ≡ spots_of pending.old.items ++ picked)
-        × AreThose (IsOpenChild G.closing (range_of range.now)) (children_placed (option_copied left.entry) children.entry) picked
-        × AreThose (IsClosedChild G.closing (range_of range.now)) (children_placed (option_copied left.entry) children.entry) closed
+        × AreThose (IsOpenChild G.closing (range_of range.now))
+        (children_placed (option_copied left.entry) children.entry) picked
+        × AreThose (IsClosedChild G.closing (range_of range.now))
+        (children_placed (option_copied left.entry) children.entry) closed
         × Gains G.gathers gathered.old gathered.new closed []
-        × AreThose (IsEntered (IsClosedChild G.closing (range_of range.now)) (range_of range.now)) (children_placed (option_copied left.entry) children.entry) picked) }
+        × AreThose (IsEntered (IsClosedChild G.closing (range_of range.now)) (range_of range.now))
+        (children_placed (option_copied left.entry) children.entry) picked) }
 {
     let (before, children) = children.skip_below(range.lo);
     let mut bound = before.or(left);

@@ -10,6 +10,7 @@ ghost use Rattle.tree_node.specs.Outcomes.{Outcome};
 ghost use Rattle.tree_walk.specs.internal.Pendings.{IsStated, Opens, spot_of};
 ghost use Rattle.tree_walk.specs.Given.{wanted_of};
 ghost use Rattle.tree_walk.specs.Reasons.{Agrees, IsAccepted, IsReason, Top};
+ghost use Rattle.tree_walk.specs.Uses.{nodes_around};
 
 use crate::fault::WalkFault;
 use crate::pending::Pending;
@@ -27,16 +28,18 @@ pub(crate) fn open<'a, S: Shelf<'a>>(
     ensures stays { SameNodes (S.holds shelf.old) (S.holds shelf.new) }
     ensures grows { (bytes : List ℕ) → S.used shelf.old bytes → S.used shelf.new bytes }
     ensures opens { Opens node_read result
-        (record { held = S.holds shelf.new; before = S.used shelf.old; after = S.used shelf.new })
-        tally.old.fetches tally.new.fetches }
+        (nodes_around S.holds S.used shelf.old shelf.new) tally.old.fetches tally.new.fetches }
     ensures tree { IfOk result (λ node. tree_of (node_read node) ≡ number_of tree) }
-    ensures accepted { IfOk result (λ node. IsAccepted (S.used shelf.new) (number_of tree) (Top key.now.0) (node_read node)) }
-    ensures told { IfErr result (IsReason (number_of tree) (S.holds shelf.new) (S.used shelf.new) (Top key.now.0)) }
+    ensures accepted { IfOk result (λ node. IsAccepted (S.used shelf.new) (number_of tree)
+        (Top key.now.0) (node_read node)) }
+    ensures told { IfErr result
+        (IsReason (number_of tree) (S.holds shelf.new) (S.used shelf.new) (Top key.now.0)) }
     ensures none { HasNone (S.holds shelf.new) key.now.0 → result ≡ Err WalkFault.Missing }
     ensures memory { result ≡ Err WalkFault.Memory → S.takes_memory ≡ true }
-    ensures answer { (node : Node) → IsNode node → tree_of node ≡ number_of tree → key.now.0 ≡ digest (spelling node)
+    ensures answer { (node : Node) → IsNode node → tree_of node ≡ number_of tree
+        → key.now.0 ≡ digest (spelling node)
         → Outcome cause_of (λ found. node_read found ≡ node) (λ bytes. bytes ≡ spelling node)
-        (record { held = S.holds shelf.new; before = S.used shelf.old; after = S.used shelf.new }) result }
+        (nodes_around S.holds S.used shelf.old shelf.new) result }
 {
     let read = shelf.fetch_node(key)?.read;
     tally.count_fetch();
@@ -60,16 +63,18 @@ pub(crate) fn open_inner<'a, S: Shelf<'a>>(
     ensures stays { SameNodes (S.holds shelf.old) (S.holds shelf.new) }
     ensures grows { (bytes : List ℕ) → S.used shelf.old bytes → S.used shelf.new bytes }
     ensures opens { Opens (Inner (number_of tree) level) result
-        (record { held = S.holds shelf.new; before = S.used shelf.old; after = S.used shelf.new })
-        tally.old.fetches tally.new.fetches }
-    ensures agrees { IfOk result (λ children. Agrees (spot_of pending.now) (Inner (number_of tree) level children)) }
+        (nodes_around S.holds S.used shelf.old shelf.new) tally.old.fetches tally.new.fetches }
+    ensures agrees { IfOk result
+        (λ children. Agrees (spot_of pending.now) (Inner (number_of tree) level children)) }
     ensures accepted { IfOk result (λ children. IsAccepted (S.used shelf.new) (number_of tree)
         (wanted_of level (spot_of pending.now)) (Inner (number_of tree) level children)) }
-    ensures told { IfErr result (IsReason (number_of tree) (S.holds shelf.new) (S.used shelf.new) (wanted_of level (spot_of pending.now))) }
+    ensures told { IfErr result (IsReason (number_of tree) (S.holds shelf.new) (S.used shelf.new)
+        (wanted_of level (spot_of pending.now))) }
     ensures memory { result ≡ Err WalkFault.Memory → S.takes_memory ≡ true }
     ensures answer { (node : Node) → IsStated (number_of tree) level (spot_of pending.now) node
-        → Outcome cause_of (λ children. Inner (number_of tree) level children ≡ node) (λ bytes. bytes ≡ spelling node)
-        (record { held = S.holds shelf.new; before = S.used shelf.old; after = S.used shelf.new }) result }
+        → Outcome cause_of (λ children. Inner (number_of tree) level children ≡ node)
+        (λ bytes. bytes ≡ spelling node)
+        (nodes_around S.holds S.used shelf.old shelf.new) result }
 {
     match open(shelf, &pending.child.digest, tree, tally)? {
         NodeRef::Inner {
@@ -100,16 +105,18 @@ pub(crate) fn open_leaf<'a, S: Shelf<'a>>(
     ensures stays { SameNodes (S.holds shelf.old) (S.holds shelf.new) }
     ensures grows { (bytes : List ℕ) → S.used shelf.old bytes → S.used shelf.new bytes }
     ensures opens { Opens (Leaf (number_of tree)) result
-        (record { held = S.holds shelf.new; before = S.used shelf.old; after = S.used shelf.new })
-        tally.old.fetches tally.new.fetches }
-    ensures agrees { IfOk result (λ entries. Agrees (spot_of pending.now) (Leaf (number_of tree) entries)) }
+        (nodes_around S.holds S.used shelf.old shelf.new) tally.old.fetches tally.new.fetches }
+    ensures agrees { IfOk result
+        (λ entries. Agrees (spot_of pending.now) (Leaf (number_of tree) entries)) }
     ensures accepted { IfOk result (λ entries. IsAccepted (S.used shelf.new) (number_of tree)
         (wanted_of 0 (spot_of pending.now)) (Leaf (number_of tree) entries)) }
-    ensures told { IfErr result (IsReason (number_of tree) (S.holds shelf.new) (S.used shelf.new) (wanted_of 0 (spot_of pending.now))) }
+    ensures told { IfErr result (IsReason (number_of tree) (S.holds shelf.new) (S.used shelf.new)
+        (wanted_of 0 (spot_of pending.now))) }
     ensures memory { result ≡ Err WalkFault.Memory → S.takes_memory ≡ true }
     ensures answer { (node : Node) → IsStated (number_of tree) 0 (spot_of pending.now) node
-        → Outcome cause_of (λ entries. Leaf (number_of tree) entries ≡ node) (λ bytes. bytes ≡ spelling node)
-        (record { held = S.holds shelf.new; before = S.used shelf.old; after = S.used shelf.new }) result }
+        → Outcome cause_of (λ entries. Leaf (number_of tree) entries ≡ node)
+        (λ bytes. bytes ≡ spelling node)
+        (nodes_around S.holds S.used shelf.old shelf.new) result }
 {
     match open(shelf, &pending.child.digest, tree, tally)? {
         NodeRef::Leaf { tree: _, entries } => {

@@ -11,6 +11,7 @@ ghost use Rattle.tree_walk.specs.Fetches.{Fetches, cause_of, counted_up};
 ghost use Rattle.tree_walk.specs.Given.{IsWalk, SoMany, These};
 ghost use Rattle.tree_walk.specs.Ranges.{IsIn, range_of};
 ghost use Rattle.tree_walk.specs.Reasons.{HasReason};
+ghost use Rattle.tree_walk.specs.Uses.{nodes_around};
 ghost use Rattle.tree_walk.specs.Walks.{IsEntryIn, IsMet, IsMetCounted, IsTopOf};
 
 use crate::descent::gather;
@@ -49,24 +50,24 @@ pub fn range<'a, S: Shelf<'a>>(
     ensures grows { (bytes : List ℕ) → S.used shelf.old bytes → S.used shelf.new bytes }
     // One call was counted, and the fetched nodes, which differ.
     ensures calls { tally.new.calls ≡ counted_up tally.old.calls 1 }
-    ensures fetches { Fetches result
-        (record { held = S.holds shelf.new; before = S.used shelf.old; after = S.used shelf.new })
+    ensures fetches { Fetches result (nodes_around S.holds S.used shelf.old shelf.new)
         tally.old.fetches tally.new.fetches }
     // A refusal tells what is wrong with a node that it came to want,
-    ensures told { IfErr result (HasReason (number_of tree) top.now.0 (S.holds shelf.new) (S.used shelf.new)) }
+    ensures told { IfErr result
+        (HasReason (number_of tree) top.now.0 (S.holds shelf.new) (S.used shelf.new)) }
     // and it is V1 where the top isn't held.
     ensures none { HasNone (S.holds shelf.new) top.now.0 → result ≡ Err WalkFault.Missing }
     // Whatever the nodes are: those that it fetched, one at least, and no others give these entries.
     ensures gives { IfOk result (λ found. IsWalk
-        (record { held = S.holds shelf.new; before = S.used shelf.old; after = S.used shelf.new })
-        tally.old.fetches tally.new.fetches
+        (nodes_around S.holds S.used shelf.old shelf.new) tally.old.fetches tally.new.fetches
         tree top.now.0 (range_of range.now) (These (bindings_of found.items))) }
     // Under the top of a tree: exactly the entries in the range, from exactly the nodes that meet it.
     ensures answer { (shape : Shape) (entries : List Binding)
         → IsTopOf shape (number_of tree) entries top.now.0
-        → Outcome cause_of (λ found. AreThose (IsEntryIn (range_of range.now)) entries (bindings_of found.items))
+        → Outcome cause_of
+        (λ found. AreThose (IsEntryIn (range_of range.now)) entries (bindings_of found.items))
         (IsMet (range_of range.now) (levels shape (number_of tree) entries))
-        (record { held = S.holds shelf.new; before = S.used shelf.old; after = S.used shelf.new }) result }
+        (nodes_around S.holds S.used shelf.old shelf.new) result }
 {
     let mut found: Found<'a> = Found {
         items: Vec::new(alloc),
@@ -97,25 +98,25 @@ pub fn count<'a, S: Shelf<'a>>(
     ensures grows { (bytes : List ℕ) → S.used shelf.old bytes → S.used shelf.new bytes }
     // One call was counted, and the fetched nodes, which differ.
     ensures calls { tally.new.calls ≡ counted_up tally.old.calls 1 }
-    ensures fetches { Fetches result
-        (record { held = S.holds shelf.new; before = S.used shelf.old; after = S.used shelf.new })
+    ensures fetches { Fetches result (nodes_around S.holds S.used shelf.old shelf.new)
         tally.old.fetches tally.new.fetches }
     // A refusal tells what is wrong with a node that it came to want,
-    ensures told { IfErr result (HasReason (number_of tree) top.now.0 (S.holds shelf.new) (S.used shelf.new)) }
+    ensures told { IfErr result
+        (HasReason (number_of tree) top.now.0 (S.holds shelf.new) (S.used shelf.new)) }
     // and it is V1 where the top isn't held.
     ensures none { HasNone (S.holds shelf.new) top.now.0 → result ≡ Err WalkFault.Missing }
     // Whatever the nodes are: those that it fetched, one at least, and no others give this number.
     ensures gives { IfOk result (λ number. IsWalk
-        (record { held = S.holds shelf.new; before = S.used shelf.old; after = S.used shelf.new })
-        tally.old.fetches tally.new.fetches
+        (nodes_around S.holds S.used shelf.old shelf.new) tally.old.fetches tally.new.fetches
         tree top.now.0 (range_of range.now) (SoMany number)) }
     // Under the top of a tree: the number of the entries in the range, from exactly the nodes that meet it and that it
     // doesn't cover.
     ensures answer { (shape : Shape) (entries : List Binding)
         → IsTopOf shape (number_of tree) entries top.now.0
-        → Outcome cause_of (λ number. IsCount (IsEntryIn (range_of range.now)) entries number)
+        → Outcome cause_of
+        (λ number. IsCount (IsEntryIn (range_of range.now)) entries number)
         (IsMetCounted (range_of range.now) (levels shape (number_of tree) entries))
-        (record { held = S.holds shelf.new; before = S.used shelf.old; after = S.used shelf.new }) result }
+        (nodes_around S.holds S.used shelf.old shelf.new) result }
 {
     let mut counted = Counted { number: 0 };
     gather(alloc, shelf, top, tree, range, tally, &mut counted)?;

@@ -15,8 +15,9 @@ use Rattle.tree_walk.specs.Reasons.{Child, FromParent, FromTop, IsAccepted, IsOf
 use Rattle.tree_walk.specs.Spans.{children_of_all, children_placed}
 use Rattle.tree_walk.specs.Walks.{IsEntryIn}
 use Rattle.tree_walk.proofs.FetchLemmas.{all_append}
-use Rattle.tree_walk.proofs.ReasonLemmas.{accepted_more, all_of, all_those}
+use Rattle.tree_walk.proofs.ReasonLemmas.{all_of, all_those}
 use Rattle.tree_walk.proofs.shared.FoundLemmas.{contains_parts, none, those_among}
+use Rattle.tree_walk.proofs.shared.WantedLaws.{accepted_more}
 
 -- ---- more nodes that were used give the same
 

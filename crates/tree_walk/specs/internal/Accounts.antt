@@ -6,7 +6,7 @@ use Rattle.tree_walk.specs.Choices.{AreThose}
 use Rattle.tree_walk.specs.Given.{sum_stated}
 use Rattle.tree_walk.specs.Ranges.{Range}
 use Rattle.tree_walk.specs.Walks.{IsEntryIn}
-use Rattle.tree_walk.specs.internal.Openings.{IsOpen}
+use Rattle.tree_walk.specs.internal.Openings.{IsClosedChild, IsOpen, IsOpenChild}
 
 -- what was gathered has gained these closed children and these entries, whatever it had before
 abbrev pub Gains : {G : Type 0} → (G → List (Option (List ℕ) × Link) → List Binding → Type 0) → G → G → List (Option (List ℕ) × Link) → List Binding → Type 0
@@ -30,6 +30,22 @@ AreBelow closing range left (link ∷ links) (part ∷ parts) all =
 -- all entries in the range below the nodes of this level that are opened are these
 abbrev pub AreBelowLevel : Bool → Range → List (List Node) → ℕ → List Binding → Type 0
 AreBelowLevel closing range tree level all = AreBelow closing range None (map link_to (level_at tree level)) (entries_at tree level) all
+
+-- what was gathered has gained those of these entries that are in the range
+abbrev pub GathersEntries : {G : Type 0} → (G → List (Option (List ℕ) × Link) → List Binding → Type 0) → Range → List Binding → G → G → Type 0
+GathersEntries gathers range entries old new = (found : List Binding) × AreThose (IsEntryIn range) entries found × Gains gathers old new [] found
+
+-- these of the children are opened, and what was gathered has gained those that stay closed
+abbrev pub GathersClosed : {G : Type 0} → (G → List (Option (List ℕ) × Link) → List Binding → Type 0) → Bool → Range → (children opened : List (Option (List ℕ) × Link)) → G → G → Type 0
+GathersClosed gathers closing range children opened old new =
+    AreThose (IsOpenChild closing range) children opened
+    × ((closed : List (Option (List ℕ) × Link)) × AreThose (IsClosedChild closing range) children closed × Gains gathers old new closed [])
+
+-- From this level down: what was gathered has gained closed children and entries, which account for all entries in the
+-- range below those nodes of the level that are opened.
+abbrev pub GathersBelow : {G : Type 0} → (G → List (Option (List ℕ) × Link) → List Binding → Type 0) → Bool → Range → List (List Node) → ℕ → G → G → Type 0
+GathersBelow gathers closing range tree level old new =
+    (closed : List (Option (List ℕ) × Link)) × (found all : List Binding) × Gains gathers old new closed found × Account closing closed found all × AreBelowLevel closing range tree level all
 
 -- A whole walk: what was gathered has gained closed children and entries, which account for all entries in the range.
 abbrev pub GathersAll : {G : Type 0} → (G → List (Option (List ℕ) × Link) → List Binding → Type 0) → Bool → Range → List Binding → G → G → Type 0

@@ -12,6 +12,7 @@ use Rattle.tree_walk.specs.Fetches.{cause_of}
 use Rattle.tree_node.specs.Outcomes.{Outcome}
 use Rattle.tree_walk.specs.internal.Pendings.{AreWanted, FetchesBelow, IsBetweenLevels, IsOfLevel, spots_of}
 use Rattle.tree_walk.specs.Ranges.{range_of}
+use Rattle.tree_walk.specs.Uses.{nodes_around}
 use Rattle.tree_walk.specs.declared.fault.WalkFault.{WalkFault}
 use Rattle.tree_walk.specs.declared.pending.Pending.{Pending}
 use Rattle.tree_walk.proofs.DescentFetches.{FetchingDown, down_last, down_start, down_step, down_stop}
@@ -23,7 +24,7 @@ use Rattle.tree_walk.proofs.descent.descend.Goals as goal
 
 pub returns-in_err-pending-clause-fetches : goal.returns-in_err-pending-clause-fetches
 returns-in_err-pending-clause-fetches g c =
-    subst (λ (r : Result (Unit {0}) WalkFault). FetchesBelow (suc c.args.level) r (record { held = g.S.Shelf.holds c.open_level.new.shelf; before = g.S.Shelf.used c.args.shelf.now; after = g.S.Shelf.used c.open_level.new.shelf }) c.args.tally.now.fetches c.open_level.new.tally.fetches)
+    subst (λ (r : Result (Unit {0}) WalkFault). FetchesBelow (suc c.args.level) r (nodes_around g.S.Shelf.holds g.S.Shelf.used c.args.shelf.now c.open_level.new.shelf) c.args.tally.now.fetches c.open_level.new.tally.fetches)
     (sym (err_is c.from_residual.result c.in_err-pending.field-0.0 c.from_residual.ensures.1))
     (down_stop (suc c.args.level) (g.S.Shelf.used c.args.shelf.now) c.args.tally.now.fetches (Vec Pending) (Unit {0}) c.in_err-pending.field-0.0 c.loop-level.level (g.S.Shelf.holds c.loop-level.shelf) (g.S.Shelf.holds c.open_level.new.shelf)
     (g.S.Shelf.used c.loop-level.shelf) (g.S.Shelf.used c.open_level.new.shelf) c.loop-level.tally.fetches c.open_level.new.tally.fetches (omega (arith, c.loop-level.invariant.within))
@@ -33,7 +34,7 @@ pub returns-in_err-pending-clause-answer : goal.returns-in_err-pending-clause-an
 returns-in_err-pending-clause-answer g c = λ shape entries reached.
     subst (λ (r : Result (Unit {0}) WalkFault). Outcome cause_of (λ (_ : Unit {0}). (closed : List (Option (List ℕ) × Link)) × (found all : List Binding) × Gains g.G.Gather.gathers c.args.gathered.now c.open_level.new.gathered closed found
     × Account g.G.Gather.closing closed found all × AreBelowLevel g.G.Gather.closing (range_of c.args.way.now.range.now) (levels shape (number_of c.args.way.now.tree) entries) c.args.level all) (IsOpenedIn g.G.Gather.closing (range_of c.args.way.now.range.now) (levels shape (number_of c.args.way.now.tree) entries) 0 c.args.level)
-    (record { held = g.S.Shelf.holds c.open_level.new.shelf; before = g.S.Shelf.used c.args.shelf.now; after = g.S.Shelf.used c.open_level.new.shelf }) r)
+    (nodes_around g.S.Shelf.holds g.S.Shelf.used c.args.shelf.now c.open_level.new.shelf) r)
     (sym (err_is c.from_residual.result c.in_err-pending.field-0.0 c.from_residual.ensures.1))
     (record {
       ends = honest_down_stop g.G.Gather.gathers g.G.Gather.closing (number_of c.args.way.now.tree) (range_of c.args.way.now.range.now) c.args.level (spots_of c.args.pending.items) c.args.gathered.now (cause_of c.in_err-pending.field-0.0) c.loop-level.level (spots_of c.loop-level.pending.items) c.loop-level.gathered
@@ -54,7 +55,7 @@ loop-level-preserved g c =
       grows = λ bytes was. c.open_level.ensures.grows bytes (c.loop-level.invariant.grows bytes was);
       order = c.in_ok-pending.ensures.order;
       wanted = λ top all. c.in_ok-pending.ensures.wanted top (subst (λ (ps : List Pending). AreWanted (g.S.Shelf.used c.loop-level.shelf) (number_of c.args.way.now.tree) top c.loop-level.level (spots_of ps)) (sym c.as_slice.ensures.value) (c.loop-level.invariant.wanted top all));
-      fetches = subst (λ (n : ℕ). FetchingDown n (suc c.args.level) (record { held = g.S.Shelf.holds c.open_level.new.shelf; before = g.S.Shelf.used c.args.shelf.now; after = g.S.Shelf.used c.open_level.new.shelf }) c.args.tally.now.fetches c.open_level.new.tally.fetches) (sym same) fetched;
+      fetches = subst (λ (n : ℕ). FetchingDown n (suc c.args.level) (nodes_around g.S.Shelf.holds g.S.Shelf.used c.args.shelf.now c.open_level.new.shelf) c.args.tally.now.fetches c.open_level.new.tally.fetches) (sym same) fetched;
       honest = honest_down_step g.G.Gather.gathers g.G.Gather.closing (number_of c.args.way.now.tree) (range_of c.args.way.now.range.now) c.args.level (spots_of c.args.pending.items) c.args.gathered.now (λ (pending : Vec Pending). spots_of pending.items) cause_of c.in_ok-pending.pending (c.loop-level.level - 1)
           (spots_of c.loop-level.pending.items) c.loop-level.gathered c.open_level.new.gathered (g.S.Shelf.holds c.open_level.new.shelf) (g.S.Shelf.used c.args.shelf.now) (g.S.Shelf.used c.loop-level.shelf) (g.S.Shelf.used c.open_level.new.shelf) (omega (arith, same, c.loop-level.invariant.within))
           (rw same c.loop-level.invariant.honest) c.open_level.ensures.grows (rw (same, sym c.as_slice.ensures.value) c.in_ok-pending.ensures.answer);
@@ -68,7 +69,7 @@ returns-clause-fetches g c =
     let last : c.loop-level.level ≡ 0 = omega (arith, c.loop-level-test.false) in
     down_last (suc c.args.level) (g.S.Shelf.used c.args.shelf.now) c.args.tally.now.fetches c.take_leaves.result (g.S.Shelf.holds c.loop-level.shelf) (g.S.Shelf.holds c.take_leaves.new.shelf)
     (g.S.Shelf.used c.loop-level.shelf) (g.S.Shelf.used c.take_leaves.new.shelf) c.loop-level.tally.fetches c.take_leaves.new.tally.fetches (omega arith)
-    (subst (λ (n : ℕ). FetchingDown (suc n) (suc c.args.level) (record { held = g.S.Shelf.holds c.loop-level.shelf; before = g.S.Shelf.used c.args.shelf.now; after = g.S.Shelf.used c.loop-level.shelf }) c.args.tally.now.fetches c.loop-level.tally.fetches) last c.loop-level.invariant.fetches)
+    (subst (λ (n : ℕ). FetchingDown (suc n) (suc c.args.level) (nodes_around g.S.Shelf.holds g.S.Shelf.used c.args.shelf.now c.loop-level.shelf) c.args.tally.now.fetches c.loop-level.tally.fetches) last c.loop-level.invariant.fetches)
     c.take_leaves.ensures.stays c.take_leaves.ensures.fetches
 
 pub returns-clause-answer : goal.returns-clause-answer

@@ -3,6 +3,7 @@ use Rattle.tree_node.specs.NodeRefs.{number_of}
 use Rattle.tree_node.specs.Shelves.{SameNodes}
 use Rattle.tree_walk.specs.internal.Pendings.{AreInOrder, AreWanted, spots_of}
 use Rattle.tree_walk.specs.Ranges.{range_of}
+use Rattle.tree_walk.specs.Uses.{nodes_around}
 use Rattle.tree_walk.specs.internal.Openings.{IsClosedChild}
 use Rattle.tree_walk.proofs.GivenDown.{GatheringDown}
 use Rattle.tree_walk.proofs.DescentFetches.{FetchingDown}
@@ -17,7 +18,7 @@ invariant-loop-level g l = record {
   stays : SameNodes (g.S.Shelf.holds l.fn.shelf) (g.S.Shelf.holds l.shelf);
   grows : (bytes : List ℕ) → g.S.Shelf.used l.fn.shelf bytes → g.S.Shelf.used l.shelf bytes;
   order : AreInOrder None (spots_of l.pending.items);
-  fetches : FetchingDown (suc l.level) (suc l.fn.level) (record { held = g.S.Shelf.holds l.shelf; before = g.S.Shelf.used l.fn.shelf; after = g.S.Shelf.used l.shelf }) l.fn.tally.fetches l.tally.fetches;
+  fetches : FetchingDown (suc l.level) (suc l.fn.level) (nodes_around g.S.Shelf.holds g.S.Shelf.used l.fn.shelf l.shelf) l.fn.tally.fetches l.tally.fetches;
   wanted : (top : List ℕ) → AreWanted (g.S.Shelf.used l.fn.shelf) (number_of l.way.tree) top l.fn.level (spots_of l.fn.pending.items)
       → AreWanted (g.S.Shelf.used l.shelf) (number_of l.way.tree) top l.level (spots_of l.pending.items);
   honest : HonestDown g.G.Gather.gathers g.G.Gather.closing (number_of l.way.tree) (range_of l.way.range.now) l.fn.level (spots_of l.fn.pending.items) l.fn.gathered l.level (spots_of l.pending.items) l.gathered (g.S.Shelf.used l.fn.shelf) (g.S.Shelf.used l.shelf);

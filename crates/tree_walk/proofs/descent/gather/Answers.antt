@@ -21,6 +21,7 @@ use Rattle.tree_node.proofs.shared.Results.{err_is}
 use Rattle.tree_walk.proofs.ReasonLemmas.{all_those, children_wanted, refused_for, refused_memory, refused_missing}
 use Rattle.tree_walk.specs.Reasons.{FromTop, IsAccepted, IsWanted, Top}
 use Rattle.tree_walk.specs.Spans.{children_placed}
+use Rattle.tree_walk.specs.Uses.{nodes_around}
 use Rattle.tree_walk.proofs.SpotOrder.{order_of_top}
 use Rattle.tree_walk.proofs.TopLemmas.{gathers_inner, gathers_leaf, honest_inner, honest_leaf, honest_refused, honest_then, is_tree, of_top, top_fetched, top_refused, top_then_down, top_then_refused}
 use Rattle.tree_walk.proofs.descent.gather.Goals as goal
@@ -35,7 +36,7 @@ returns-in_err-entries-clause-answer g c = λ shape entries is.
     let tree_is = is_tree c.args.tree in
     let top = top_is shape (number_of c.args.tree) entries tree_is is.has in
     subst (λ (r : Result (Unit {0}) WalkFault). Outcome cause_of (λ (_ : Unit {0}). GathersAll g.G.Gather.gathers g.G.Gather.closing (range_of c.args.range.now) entries c.args.gathered.now c.args.gathered.now) (IsOpened g.G.Gather.closing (range_of c.args.range.now) (levels shape (number_of c.args.tree) entries))
-    (record { held = g.S.Shelf.holds c.open.new.shelf; before = g.S.Shelf.used c.args.shelf.now; after = g.S.Shelf.used c.open.new.shelf }) r)
+    (nodes_around g.S.Shelf.holds g.S.Shelf.used c.args.shelf.now c.open.new.shelf) r)
     (sym (err_is c.from_residual.result c.in_err-entries.field-0.0 c.from_residual.ensures.1))
     (record {
       ends = honest_refused g.G.Gather.closing shape (number_of c.args.tree) entries (range_of c.args.range.now) (cause_of c.in_err-entries.field-0.0) (g.S.Shelf.holds c.open.new.shelf) (g.S.Shelf.used c.open.new.shelf)
@@ -54,14 +55,14 @@ returns-in_err-pick-in-Inner-clause-fetches g c =
 
 pub take-requires : goal.take-requires
 take-requires g c κs =
-    let top = subst (λ (n : Node). FetchedNode n (record { held = g.S.Shelf.holds c.open.new.shelf; before = g.S.Shelf.used c.args.shelf.now; after = g.S.Shelf.used c.open.new.shelf }) c.count_call.new.self.fetches c.open.new.tally.fetches) (ap node_read c.in-Leaf.is) c.in_ok-entries.ensures.opens in
+    let top = subst (λ (n : Node). FetchedNode n (nodes_around g.S.Shelf.holds g.S.Shelf.used c.args.shelf.now c.open.new.shelf) c.count_call.new.self.fetches c.open.new.tally.fetches) (ap node_read c.in-Leaf.is) c.in_ok-entries.ensures.opens in
     ((refl, tt), top.spells.0.3)
 
 pub descend-requires : goal.descend-requires
 descend-requires g c κs =
     let picked = c.in_ok-pick-in-Inner.ensures in
     let are : spots_of c.pick.new.pending.items ≡ picked.0 = picked.2 ∙ ap (λ (ps : List Pending). spots_of ps ++ picked.0) c.new-pending.ensures.items in
-    let top = subst (λ (n : Node). FetchedNode n (record { held = g.S.Shelf.holds c.open.new.shelf; before = g.S.Shelf.used c.args.shelf.now; after = g.S.Shelf.used c.open.new.shelf }) c.count_call.new.self.fetches c.open.new.tally.fetches) (ap node_read c.in-Inner.is) c.in_ok-entries.ensures.opens in
+    let top = subst (λ (n : Node). FetchedNode n (nodes_around g.S.Shelf.holds g.S.Shelf.used c.args.shelf.now c.open.new.shelf) c.count_call.new.self.fetches c.open.new.tally.fetches) (ap node_read c.in-Inner.is) c.in_ok-entries.ensures.opens in
     ((refl, tt), (c.requires, rw are (order_of_top (IsOpenChild g.G.Gather.closing (range_of c.args.range.now)) c.in-Inner.children picked.0 top.spells.0.6 picked.3)))
 
 pub returns-in_ok-take-in-Leaf-clause-fetches : goal.returns-in_ok-take-in-Leaf-clause-fetches
@@ -88,7 +89,7 @@ returns-in_ok-take-in-Leaf-clause-answer g c = λ shape entries is.
 
 pub returns-in_ok-pick-in-Inner-clause-fetches : goal.returns-in_ok-pick-in-Inner-clause-fetches
 returns-in_ok-pick-in-Inner-clause-fetches g c =
-    let top = subst (λ (n : Node). FetchedNode n (record { held = g.S.Shelf.holds c.open.new.shelf; before = g.S.Shelf.used c.args.shelf.now; after = g.S.Shelf.used c.open.new.shelf }) c.count_call.new.self.fetches c.open.new.tally.fetches) (ap node_read c.in-Inner.is) c.in_ok-entries.ensures.opens in
+    let top = subst (λ (n : Node). FetchedNode n (nodes_around g.S.Shelf.holds g.S.Shelf.used c.args.shelf.now c.open.new.shelf) c.count_call.new.self.fetches c.open.new.tally.fetches) (ap node_read c.in-Inner.is) c.in_ok-entries.ensures.opens in
     let level : suc (c.in-Inner.level - 1) ≡ c.in-Inner.level = omega (arith, top.spells.0.1) in
     rw (sym c.count_call.ensures.fetches) (top_then_down c.descend.result (number_of c.in-Inner.tree) (c.in-Inner.level - 1) c.in-Inner.children (g.S.Shelf.holds c.open.new.shelf) (g.S.Shelf.holds c.descend.new.shelf)
     (g.S.Shelf.used c.args.shelf.now) (g.S.Shelf.used c.open.new.shelf) (g.S.Shelf.used c.descend.new.shelf) c.count_call.new.self.fetches c.open.new.tally.fetches c.descend.new.tally.fetches
@@ -102,7 +103,7 @@ returns-in_ok-pick-in-Inner-clause-answer g c = λ shape entries is.
     let node = node_in (levels shape (number_of c.args.tree) entries) (length (levels shape (number_of c.args.tree) entries) - 1) 0 in
     let picked = c.in_ok-pick-in-Inner.ensures in
     let are : spots_of c.pick.new.pending.items ≡ picked.0 = picked.2 ∙ ap (λ (ps : List Pending). spots_of ps ++ picked.0) c.new-pending.ensures.items in
-    let top = subst (λ (n : Node). FetchedNode n (record { held = g.S.Shelf.holds c.open.new.shelf; before = g.S.Shelf.used c.args.shelf.now; after = g.S.Shelf.used c.open.new.shelf }) c.count_call.new.self.fetches c.open.new.tally.fetches) (ap node_read c.in-Inner.is) c.in_ok-entries.ensures.opens in
+    let top = subst (λ (n : Node). FetchedNode n (nodes_around g.S.Shelf.holds g.S.Shelf.used c.args.shelf.now c.open.new.shelf) c.count_call.new.self.fetches c.open.new.tally.fetches) (ap node_read c.in-Inner.is) c.in_ok-entries.ensures.opens in
     let level : suc (c.in-Inner.level - 1) ≡ c.in-Inner.level = omega (arith, top.spells.0.1) in
     record {
       ends = elim ((c.in_ok-entries.ensures.answer node top_at.0 top_at.1 is.is_top).ends) [
@@ -155,7 +156,7 @@ returns-in_ok-pick-in-Inner-clause-told g c =
     let used = g.S.Shelf.used c.open.new.shelf in
     let picked = c.in_ok-pick-in-Inner.ensures in
     let are : spots_of c.pick.new.pending.items ≡ picked.0 = picked.2 ∙ ap (λ (ps : List Pending). spots_of ps ++ picked.0) c.new-pending.ensures.items in
-    let top = subst (λ (n : Node). FetchedNode n (record { held = g.S.Shelf.holds c.open.new.shelf; before = g.S.Shelf.used c.args.shelf.now; after = g.S.Shelf.used c.open.new.shelf }) c.count_call.new.self.fetches c.open.new.tally.fetches) (ap node_read c.in-Inner.is) c.in_ok-entries.ensures.opens in
+    let top = subst (λ (n : Node). FetchedNode n (nodes_around g.S.Shelf.holds g.S.Shelf.used c.args.shelf.now c.open.new.shelf) c.count_call.new.self.fetches c.open.new.tally.fetches) (ap node_read c.in-Inner.is) c.in_ok-entries.ensures.opens in
     let level : suc (c.in-Inner.level - 1) ≡ c.in-Inner.level = omega (arith, top.spells.0.1) in
     let accepted = subst (λ (n : Node). IsAccepted used tree (Top c.args.top.now.0) n) (ap node_read c.in-Inner.is ∙ ap (λ (l : ℕ). Inner (number_of c.in-Inner.tree) l c.in-Inner.children) (sym level)) c.in_ok-entries.ensures.accepted in
     let children = children_wanted used tree c.args.top.now.0 (Top c.args.top.now.0) (number_of c.in-Inner.tree) (c.in-Inner.level - 1) c.in-Inner.children FromTop accepted in

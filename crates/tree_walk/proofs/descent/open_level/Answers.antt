@@ -18,6 +18,7 @@ use Rattle.tree_walk.specs.declared.pending.Pending.{Pending}
 use Rattle.tree_walk.proofs.AccountLemmas.{gains_none, gains_then}
 use Rattle.tree_walk.proofs.FetchLemmas.{same_then}
 use Rattle.tree_walk.specs.Given.{IsEntered}
+use Rattle.tree_walk.specs.Uses.{nodes_around}
 use Rattle.tree_walk.proofs.GivenLevels.{ReadingLevel, reading_end, reading_start, reading_step, reading_texts, those_of_next}
 use Rattle.tree_walk.proofs.HonestLemmas.{HonestSoFar, honest_end, honest_start, honest_step, honest_stop}
 use Rattle.tree_walk.proofs.LevelFetches.{FetchingLevel, level_end, level_refused, level_start, level_step, level_stopped}
@@ -54,7 +55,7 @@ returns-in_err-children-clause-answer g c = λ all stated.
 pub returns-in_err-pick-clause-fetches : goal.returns-in_err-pick-clause-fetches
 returns-in_err-pick-clause-fetches g c =
     let so = c.loop-node.invariant.level in
-    let before = subst (λ (rest : List (Option (List ℕ) × Link)). FetchingLevel c.args.level so.0 (record { held = g.S.Shelf.holds c.loop-node.shelf; before = g.S.Shelf.used c.args.shelf.now; after = g.S.Shelf.used c.loop-node.shelf }) c.args.tally.now.fetches c.loop-node.tally.fetches rest)
+    let before = subst (λ (rest : List (Option (List ℕ) × Link)). FetchingLevel c.args.level so.0 (nodes_around g.S.Shelf.holds g.S.Shelf.used c.args.shelf.now c.loop-node.shelf) c.args.tally.now.fetches c.loop-node.tally.fetches rest)
     (rest_is c.args.nodes.now c.loop-node.node-index _ c.loop-node-test.true) so.1 in
     let next = level_step c.args.level (g.S.Shelf.used c.args.shelf.now) c.args.tally.now.fetches so.0 (g.S.Shelf.holds c.loop-node.shelf) (g.S.Shelf.holds c.open_inner.new.shelf) (g.S.Shelf.used c.loop-node.shelf) (g.S.Shelf.used c.open_inner.new.shelf)
     c.loop-node.tally.fetches c.open_inner.new.tally.fetches _ (spots_of (drop (c.loop-node.node-index + 1) c.args.nodes.now)) (Inner (number_of c.args.way.now.tree) c.args.level c.in_ok-children.children)
@@ -71,7 +72,7 @@ loop-node-preserved g c =
     let found = spots_of c.loop-node.pending.items in
     let so = c.loop-node.invariant.level in
     let node = Inner (number_of c.args.way.now.tree) c.args.level c.in_ok-children.children in
-    let before = subst (λ (rest : List (Option (List ℕ) × Link)). FetchingLevel c.args.level so.0 (record { held = g.S.Shelf.holds c.loop-node.shelf; before = g.S.Shelf.used c.args.shelf.now; after = g.S.Shelf.used c.loop-node.shelf }) c.args.tally.now.fetches c.loop-node.tally.fetches rest)
+    let before = subst (λ (rest : List (Option (List ℕ) × Link)). FetchingLevel c.args.level so.0 (nodes_around g.S.Shelf.holds g.S.Shelf.used c.args.shelf.now c.loop-node.shelf) c.args.tally.now.fetches c.loop-node.tally.fetches rest)
     (rest_is c.args.nodes.now c.loop-node.node-index _ c.loop-node-test.true) so.1 in
     let next = level_step c.args.level (g.S.Shelf.used c.args.shelf.now) c.args.tally.now.fetches so.0 (g.S.Shelf.holds c.loop-node.shelf) (g.S.Shelf.holds c.open_inner.new.shelf) (g.S.Shelf.used c.loop-node.shelf) (g.S.Shelf.used c.open_inner.new.shelf)
     c.loop-node.tally.fetches c.open_inner.new.tally.fetches _ rest node before c.open_inner.ensures.stays c.in_ok-children.ensures.opens refl c.in_ok-children.ensures.agrees.1.0 in

@@ -10,6 +10,7 @@ use Rattle.tree_walk.specs.Given.{IsEntered}
 use Rattle.tree_walk.specs.Spans.{children_of_all, children_placed}
 use Rattle.tree_walk.specs.internal.Pendings.{AreWanted, spots_of}
 use Rattle.tree_walk.specs.Ranges.{range_of}
+use Rattle.tree_walk.specs.Uses.{nodes_around}
 use Rattle.tree_walk.proofs.GivenLevels.{ReadingLevel}
 use Rattle.tree_walk.proofs.HonestLemmas.{HonestSoFar}
 use Rattle.tree_walk.proofs.LevelFetches.{FetchingLevel}
@@ -23,7 +24,7 @@ invariant-loop-node g l = record {
   calls : l.tally.calls ≡ l.fn.tally.calls;
   stays : SameNodes (g.S.Shelf.holds l.fn.shelf) (g.S.Shelf.holds l.shelf);
   grows : (bytes : List ℕ) → g.S.Shelf.used l.fn.shelf bytes → g.S.Shelf.used l.shelf bytes;
-  level : (low : Option (List ℕ)) × FetchingLevel l.level low (record { held = g.S.Shelf.holds l.shelf; before = g.S.Shelf.used l.fn.shelf; after = g.S.Shelf.used l.shelf }) l.fn.tally.fetches l.tally.fetches (spots_of (drop l.node-index l.nodes))
+  level : (low : Option (List ℕ)) × FetchingLevel l.level low (nodes_around g.S.Shelf.holds g.S.Shelf.used l.fn.shelf l.shelf) l.fn.tally.fetches l.tally.fetches (spots_of (drop l.node-index l.nodes))
       × IsOrderedUpTo low (spots_of l.pending.items);
   wanted : (top : List ℕ) → AreWanted (g.S.Shelf.used l.fn.shelf) (number_of l.way.tree) top l.level (spots_of l.nodes)
       → AreWanted (g.S.Shelf.used l.shelf) (number_of l.way.tree) top (l.level - 1) (spots_of l.pending.items);

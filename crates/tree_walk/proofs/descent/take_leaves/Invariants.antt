@@ -9,6 +9,7 @@ use Rattle.tree_walk.specs.Choices.{AreThose}
 use Rattle.tree_walk.specs.Given.{entries_of_all}
 use Rattle.tree_walk.specs.Ranges.{range_of}
 use Rattle.tree_walk.specs.Walks.{IsEntryIn}
+use Rattle.tree_walk.specs.Uses.{nodes_around}
 use Rattle.tree_walk.proofs.GivenLevels.{ReadingLevel}
 use Rattle.tree_walk.proofs.HonestLemmas.{HonestSoFar}
 use Rattle.tree_walk.proofs.LevelFetches.{FetchingLevel}
@@ -20,7 +21,7 @@ invariant-loop-node g l = record {
   calls : l.tally.calls ≡ l.fn.tally.calls;
   stays : SameNodes (g.S.Shelf.holds l.fn.shelf) (g.S.Shelf.holds l.shelf);
   grows : (bytes : List ℕ) → g.S.Shelf.used l.fn.shelf bytes → g.S.Shelf.used l.shelf bytes;
-  level : (low : Option (List ℕ)) × FetchingLevel 0 low (record { held = g.S.Shelf.holds l.shelf; before = g.S.Shelf.used l.fn.shelf; after = g.S.Shelf.used l.shelf }) l.fn.tally.fetches l.tally.fetches (spots_of (drop l.node-index l.nodes));
+  level : (low : Option (List ℕ)) × FetchingLevel 0 low (nodes_around g.S.Shelf.holds g.S.Shelf.used l.fn.shelf l.shelf) l.fn.tally.fetches l.tally.fetches (spots_of (drop l.node-index l.nodes));
   honest : (those : List Binding) × Gains g.G.Gather.gathers l.fn.gathered l.gathered [] those
       × HonestSoFar (λ (spot : Option (List ℕ) × Node). entries_in spot.1) (IsEntryIn (range_of l.way.range.now)) (number_of l.way.tree) 0 (spots_of l.nodes) (spots_of (drop l.node-index l.nodes)) those
       (g.S.Shelf.used l.fn.shelf) (g.S.Shelf.used l.shelf);

@@ -11,8 +11,8 @@ use Rattle.tree_walk.specs.Ranges.{IsAtMost, range_of}
 use Rattle.tree_walk.proofs.ChoiceLemmas.{ArePicked}
 use Rattle.tree_walk.proofs.pending.pick.Given as goal
 
--- the children so far that are opened were put after those before them, those that stay closed were gathered, and the keys
--- to come rise from lo on
+-- the children so far that are opened were put after those before them, those that stay closed were gathered, and the
+-- keys to come rise from lo on
 abbrev pub invariant-loop-child : goal.invariant-loop-child
 invariant-loop-child g l = record {
   rising : AreRisingFrom (option_copied l.bound) (greatests_of l.child-iterator);

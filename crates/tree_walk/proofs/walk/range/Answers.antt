@@ -2,6 +2,7 @@ use Rattle.std.proofs.Common.{[], Err, refl, ap}
 use Rattle.tree_node.specs.NodeRefs.{bindings_of, number_of}
 use Rattle.tree_node.specs.Trees.{levels}
 use Rattle.tree_walk.specs.Ranges.{range_of}
+use Rattle.tree_walk.specs.Uses.{nodes_around}
 use Rattle.tree_walk.proofs.CallLemmas.{found_all, met_is, walk_found}
 use Rattle.tree_node.proofs.shared.OutcomeLaws.{outcome_as, outcome_stops}
 use Rattle.tree_node.proofs.shared.Results.{err_is}
@@ -29,5 +30,5 @@ returns-clause-answer g c = λ shape entries is.
 pub returns-clause-gives : goal.returns-clause-gives
 returns-clause-gives g c =
     let given = c.in_ok-gather.ensures.gives in
-    walk_found (record { held = g.S.Shelf.holds c.gather.new.shelf; before = g.S.Shelf.used c.args.shelf.now; after = g.S.Shelf.used c.gather.new.shelf }) c.args.tally.now.fetches c.gather.new.tally.fetches c.args.tree c.args.top.now.0 (range_of c.args.range.now)
+    walk_found (nodes_around g.S.Shelf.holds g.S.Shelf.used c.args.shelf.now c.gather.new.shelf) c.args.tally.now.fetches c.gather.new.tally.fetches c.args.tree c.args.top.now.0 (range_of c.args.range.now)
     given.nodes given.closed given.found c.gather.new.gathered.items.items given.fetched given.differ given.texts given.gives (given.gains [] [] (ap bindings_of c.new.ensures.items))

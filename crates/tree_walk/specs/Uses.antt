@@ -1,0 +1,8 @@
+-- The nodes of a shelf around a call.
+-- Source: this project.
+use Rattle.std.specs.Prelude.{ℕ, List}
+use Rattle.tree_node.specs.Outcomes.{ShelfUse}
+
+-- what was used before and after a call, of what is held after it
+abbrev pub nodes_around : {S : Type 0} → (holds used : S → List ℕ → Type 0) → S → S → ShelfUse
+nodes_around holds used old new = record { held = holds new; before = used old; after = used new }
