@@ -1,9 +1,11 @@
 -- Where a head ends doesn't change with what follows, and is looked for from where a look ended.
-use Rattle.std.proofs.Common.{◌≡◌, ◌∙◌, ◌<◌, ◌≤◌, ◌+◌, ◌-◌, ◌≢◌, get_or, ℕ, Bool, true, false, List, [], ◌∷◌, ◌++◌, ap, sym, refl, arith, length, drop, take}
-use Rattle.std.specs.Prelude.{Option, Some, None, option_map, ◌⊎◌, if◌then◌else◌, zero, suc, ◌&&◌, ◌==◌, nat_lt}
-use Rattle.std.proofs.lemmas.Bool.{and_parts}
+use Rattle.std.proofs.Common.{◌≡◌, ◌∙◌, ◌<◌, ◌≤◌, ◌+◌, ◌-◌, ◌≢◌, get_or, min, ℕ, Bool, true, false, List, [], ◌∷◌, ◌++◌, ap, inl, inr, sym, subst, refl, arith, length, drop, take}
+use Rattle.std.specs.Prelude.{Option, Some, None, option_map, if◌then◌else◌, zero, suc, ◌&&◌, ◌==◌, nat_lt}
+use Rattle.std.proofs.lemmas.Bool.{and_parts, cases_lt}
 use Rattle.std.proofs.lemmas.Bool.Decides.{nat_tests}
-use Rattle.std.proofs.lemmas.List.{drop_more}
+use Rattle.std.proofs.lemmas.List.{drop-drop, drop_all, drop_more, get_or-drop, length-drop}
+use Rattle.std.proofs.Math.Seq.{take_all}
+use Rattle.memchr.specs.Find.{NoneBefore, Nowhere, Passes, is_byte}
 use Rattle.osm_gate.specs.HeadEnds.{empty_line, head_length}
 
 -- ---- the empty line
@@ -113,23 +115,110 @@ head_length-since zero k a is none = let zero_is : k ≡ 0 = omega arith in rw z
 head_length-since (suc zero) k a is none = let zero_is : k ≡ 0 = omega arith in rw zero_is (shift-zero (head_length a))
 head_length-since (suc (suc j)) k a is none = let same : k ≡ j = omega arith in rw same (head_length-from j a none)
 
--- ---- one place further
+-- ---- from line feed to line feed
 
+-- no head ends before this place
 abbrev pub Passed : ℕ → List ℕ → Type 0
 Passed at a = head_length a ≡ option_map (λ n. at + n) (head_length (drop at a))
+
+-- what comes from this place on, as a slice is
+pub rest_is : (at : ℕ) (a : List ℕ) → take (length a - at) (drop at a) ≡ drop at a
+rest_is at a = take_all (length a - at) (drop at a) (omega (arith, length-drop at a))
+
+-- the first line feed
+pub record FirstFeed (a : List ℕ) (len : ℕ) : Type 0 where
+  pub within : len < length a
+  pub here : get_or a len 0 ≡ 10
+  pub none : (k : ℕ) → k < len → get_or a k 0 ≢ 10
+
+feed_is : (b : ℕ) → (b == 10) ≡ true → b ≡ 10
+feed_is b e = grind (arith, nat_tests)
+
+feed_tested : (b : ℕ) → b ≡ 10 → (b == 10) ≡ true
+feed_tested b e = grind (arith, nat_tests)
+
+pub first_feed : (found a : List ℕ) (len : ℕ) → found ≡ a
+    → NoneBefore (Passes (is_byte 10) found) 0 (length found) len × Passes (is_byte 10) found len → FirstFeed a len
+first_feed found a len same is = subst (λ (s : List ℕ). FirstFeed s len) same (record {
+  within = is.0.high;
+  here = feed_is (get_or found len 0) is.1;
+  none = λ k lt e. is.0.before k (omega arith) lt (feed_tested (get_or found k 0) e);
+})
+
+pub no_feed : (found a : List ℕ) → found ≡ a → Nowhere (Passes (is_byte 10) found) 0 (length found) → (k : ℕ) → k < length a → get_or a k 0 ≢ 10
+no_feed found a same none = subst (λ (s : List ℕ). (k : ℕ) → k < length s → get_or s k 0 ≢ 10) same (λ k lt e. none k (omega arith) lt (feed_tested (get_or found k 0) e))
+
+shift-add : (at k : ℕ) (o : Option ℕ) → option_map (λ n. at + n) (option_map (λ n. k + n) o) ≡ option_map (λ n. (at + k) + n) o
+shift-add at k None = refl
+shift-add at k (Some n) = ap (λ (m : ℕ). Some m) (omega arith)
 
 shift-more : (at : ℕ) (o : Option ℕ) → option_map (λ n. at + n) (option_map (λ n. suc n) o) ≡ option_map (λ n. (at + 1) + n) o
 shift-more at None = refl
 shift-more at (Some n) = ap (λ (k : ℕ). Some k) (omega arith)
 
-not_ended : (x : ℕ) (a : List ℕ) → (x ≢ 10) ⊎ (empty_line a ≡ 0) → here x a ≡ false
-not_ended x a h = grind (arith, nat_tests)
+other-here : (x : ℕ) (a : List ℕ) → x ≢ 10 → here x a ≡ false
+other-here x a h = grind (arith, nat_tests)
 
-pub passed-more : (at : ℕ) (a : List ℕ) → at < length a → Passed at a
-    → (get_or a at 0 ≢ 10) ⊎ (empty_line (drop (at + 1) a) ≡ 0) → Passed (at + 1) a
-passed-more at a inside so_far not =
-    let rest = drop (at + 1) a in
-    let first = drop_more a at 0 inside in
-    let is : here (get_or a at 0) rest ≡ false = not_ended (get_or a at 0) rest not in
-    so_far ∙ ap (λ (t : List ℕ). option_map (λ n. at + n) (head_length t)) first
-    ∙ rw is (shift-more at (head_length rest))
+none-here : (x : ℕ) (a : List ℕ) → empty_line a ≡ 0 → here x a ≡ false
+none-here x a h = grind (arith, nat_tests)
+
+is-here : (x : ℕ) (a : List ℕ) → x ≡ 10 → 0 < empty_line a → here x a ≡ true
+is-here x a h some = grind (arith, nat_tests)
+
+-- no head ends where no line feed comes
+without_feed : (k : ℕ) (a : List ℕ) → ((i : ℕ) → i < k → get_or a i 0 ≢ 10) → Passed k a
+without_feed zero a none = shift-zero (head_length a)
+without_feed (suc k) [] none = refl
+without_feed (suc k) (x ∷ a) none =
+    let is : here x a ≡ false = other-here x a (none 0 (omega arith)) in
+    rw is (ap (option_map (λ n. suc n)) (without_feed k a (λ i lt. none (suc i) (omega arith))) ∙ shift-suc k (head_length (drop k a)))
+
+passed-then : (at k : ℕ) (a : List ℕ) → Passed at a → Passed k (drop at a) → Passed (at + k) a
+passed-then at k a first second =
+    first ∙ ap (option_map (λ n. at + n)) second ∙ shift-add at k (head_length (drop k (drop at a)))
+    ∙ ap (λ (t : List ℕ). option_map (λ n. (at + k) + n) (head_length t)) (drop-drop k at a)
+
+-- nor at a line feed that no empty line follows
+pub passed-feed : (at len next : ℕ) (a : List ℕ) → next ≡ at + (len + 1) → Passed at a → FirstFeed (drop at a) len → empty_line (drop next a) ≡ 0
+    → Passed next a
+passed-feed at len next a is so_far feed none =
+    let next_is : next ≡ (at + len) + 1 = omega arith in
+    let inside : at + len < length a = omega (arith, feed.within, length-drop at a) in
+    let before = passed-then at len a so_far (without_feed len (drop at a) feed.none) in
+    let rest = drop ((at + len) + 1) a in
+    let not : here (get_or a (at + len) 0) rest ≡ false = none-here (get_or a (at + len) 0) rest (subst (λ n. empty_line (drop n a) ≡ 0) next_is none) in
+    subst (λ n. Passed n a) (sym next_is) (before ∙ ap (λ (t : List ℕ). option_map (λ n. (at + len) + n) (head_length t)) (drop_more a (at + len) 0 inside)
+    ∙ rw not (shift-more (at + len) (head_length rest)))
+
+-- at one that an empty line follows, it ends with that line
+pub ended-feed : (at len next line : ℕ) (a : List ℕ) → next ≡ at + (len + 1) → Passed at a → FirstFeed (drop at a) len → line ≡ empty_line (drop next a) → 0 < line
+    → Some (next + line) ≡ head_length a
+ended-feed at len next line a is so_far feed line_is some =
+    let next_is : next ≡ (at + len) + 1 = omega arith in
+    let inside : at + len < length a = omega (arith, feed.within, length-drop at a) in
+    let before = passed-then at len a so_far (without_feed len (drop at a) feed.none) in
+    let rest = drop ((at + len) + 1) a in
+    let follows : line ≡ empty_line rest = subst (λ n. line ≡ empty_line (drop n a)) next_is line_is in
+    let ten : get_or a (at + len) 0 ≡ 10 = sym (get_or-drop at a len 0) ∙ feed.here in
+    let ends : here (get_or a (at + len) 0) rest ≡ true = is-here (get_or a (at + len) 0) rest ten (omega arith) in
+    let found : head_length (get_or a (at + len) 0 ∷ rest) ≡ Some (suc (empty_line rest)) = rw ends refl in
+    let sum : next + line ≡ (at + len) + suc (empty_line rest) = omega arith in
+    ap (λ (n : ℕ). Some n) sum
+    ∙ sym (before ∙ ap (λ (t : List ℕ). option_map (λ n. (at + len) + n) (head_length t)) (drop_more a (at + len) 0 inside) ∙ ap (option_map (λ n. (at + len) + n)) found)
+
+-- and no head ends where no further line feed comes
+pub passed-all : (at : ℕ) (a : List ℕ) → Passed at a → ((k : ℕ) → k < length (drop at a) → get_or (drop at a) k 0 ≢ 10) → None ≡ head_length a
+passed-all at a so_far none =
+    let rest = drop at a in
+    sym (passed-then at (length rest) a so_far (without_feed (length rest) rest none)
+    ∙ ap (λ (t : List ℕ). option_map (λ n. (at + length rest) + n) (head_length t)) (drop_all (at + length rest) a (omega (arith, length-drop at a))))
+
+-- what was looked at may be longer than the bytes
+pub passed-least : (k at : ℕ) (a : List ℕ) → at ≡ min k (length a) → Passed k a → Passed at a
+passed-least k at a is so_far = elim (cases_lt k (length a)) [
+  | inl fits ↦ let same : at ≡ k = omega arith in subst (λ n. Passed n a) (sym same) so_far
+  | inr more ↦
+      let same : at ≡ length a = omega arith in
+      so_far ∙ ap (λ (t : List ℕ). option_map (λ n. k + n) (head_length t)) (drop_all k a (omega arith))
+      ∙ ap (λ (t : List ℕ). option_map (λ n. at + n) (head_length t)) (sym (drop_all at a (omega arith)))
+]

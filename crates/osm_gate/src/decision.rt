@@ -9,7 +9,7 @@ ghost use Rattle.osm_gate.specs.declared.limits.TheConstants.{HEAD_LIMIT, LINE_L
 
 use crate::fields::{asks_close, body_len};
 use crate::head::read_head;
-use crate::head_end::{count_line_feeds, head_end};
+use crate::head_ends::{count_line_feeds, head_end};
 use crate::limits::{FIELD_LIMIT, HEAD_LIMIT, LINE_LIMIT};
 use crate::refusal::Refusal;
 use crate::request::Request;

@@ -11,7 +11,7 @@ mod fields;
 mod gate;
 mod gate_fault;
 mod head;
-mod head_end;
+mod head_ends;
 mod laws;
 mod limits;
 mod method;
@@ -31,6 +31,7 @@ mod target;
 pub use connection::Connection;
 pub use gate::Gate;
 pub use gate_fault::GateFault;
+pub use head_ends::head_end;
 pub use laws::{
     head_is_the_grammars, limits_law, nothing_after_the_end, one_response, pieces_ask_the_same,
     responses_stand_in_order, rests_are_short,

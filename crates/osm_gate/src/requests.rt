@@ -12,7 +12,7 @@ ghost use Rattle.osm_gate.specs.internal.Steps.{StepIs, rest_at};
 ghost use Rattle.osm_gate.specs.declared.limits.TheConstants.{HEAD_LIMIT};
 
 use crate::decision::{Decision, first_request};
-use crate::head_end::without_breaks;
+use crate::head_ends::without_breaks;
 use crate::respond::{refuse, respond};
 use crate::route::Route;
 use matchit::Router;

@@ -4,6 +4,7 @@ use super::rows::{End, ROWS, Row, Sent};
 use super::{LATER_ROOT, ROOT, ROOT_OF_NONE, Seen, checked, fed, fed_bytewise};
 use crate::tests::snapshot_of;
 use crate::tests::texts_of_sets::ALL_KINDS;
+use osm_gate::head_end;
 use osm_index::{Edition, Snapshot};
 use std::alloc::Global;
 use std::process::Abort;
@@ -128,5 +129,15 @@ fn answers_come_with_their_proofs(rt: HostRuntime) -> Result<(), Fail> {
             End::Open,
         )?;
     }
+    Ok(())
+}
+
+/// A line feed alone ends a line too.
+#[test]
+fn heads_end_with_an_empty_line(rt: HostRuntime) -> Result<(), Fail> {
+    let two_lines = b"GET / HTTP/1.1\r\nHost: a\r\n\r\nGET";
+    assert_eq!(rt; head_end(two_lines, 0), Some(27));
+    assert_eq!(rt; head_end(b"GET / HTTP/1.1\n\n", 0), Some(16));
+    assert_eq!(rt; head_end(b"GET / HTTP/1.1\r\nHost: a\r\n", 0), None);
     Ok(())
 }

@@ -1,6 +1,6 @@
 use Rattle.std.proofs.Common.{◌≡◌, length}
 use Rattle.osm_gate.specs.HeadEnds.{skip_breaks}
-use Rattle.osm_gate.proofs.head_end.without_breaks.Given as goal
+use Rattle.osm_gate.proofs.head_ends.without_breaks.Given as goal
 
 abbrev pub invariant-loop-rest : goal.invariant-loop-rest
 invariant-loop-rest l = skip_breaks l.rest ≡ skip_breaks l.bytes

@@ -3,22 +3,22 @@
 ghost use Rattle.std.specs.Prelude.{◌≡◌, None, take};
 ghost use Rattle.osm_gate.specs.HeadEnds.{empty_line, head_length, line_feeds, skip_breaks};
 
-/// The length of the head at the front of these bytes, its empty line included. The first `scanned` bytes are
-/// known to hold no complete head; only the last two of them are looked at again.
-pub(crate) fn head_end(bytes: &[u8], scanned: usize) -> Option<usize>
+use memchr::memchr;
+
+/// The length of the head at the front of these bytes, its empty line included; `None` where no head ends in them. The
+/// first `scanned` bytes are known to hold no complete head; only the last two of them are looked at again. Linear in
+/// the other bytes; it takes no memory.
+pub fn head_end(bytes: &[u8], scanned: usize) -> Option<usize>
     requires { head_length (take scanned bytes.now) ≡ None }
     ensures { result ≡ head_length bytes.now }
 {
-    let mut at = scanned.saturating_sub(2);
-    while at < bytes.len() {
-        if bytes[at] == b'\n' {
-            let (_, after) = bytes.split_at(at + 1);
-            let line = empty_line_at(after);
-            if line > 0 {
-                return Some(at + 1 + line);
-            }
+    let mut at = scanned.saturating_sub(2).min(bytes.len());
+    while let Some(len) = memchr(b'\n', &bytes[at..]) {
+        at += len + 1;
+        let line = empty_line_at(&bytes[at..]);
+        if line > 0 {
+            return Some(at + line);
         }
-        at += 1;
     }
     None
 }
