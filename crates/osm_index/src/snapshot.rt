@@ -29,11 +29,10 @@ use crate::node_changes::{put_nodes, remove_nodes};
 use crate::object_changes::object_changes;
 use crate::update::{Update, update_of};
 use opl_codec::Change;
-use osm_keys::{Manifest, write_manifest};
+use osm_keys::{Edition, Manifest, write_manifest};
 use osm_model::{ObjectSet, Ref};
 use std::alloc::{AllocError, Global};
 use tree_build::{BuildFault, Entry, Shape, build};
-use osm_keys::Edition;
 use tree_node::{Digest, ENTRY_LIMIT, PutFault, Stock, Tree};
 
 /// A set of objects in an edition, with the nodes of its trees, its manifest and its root: the type keeps

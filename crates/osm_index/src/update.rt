@@ -9,9 +9,8 @@ ghost use Rattle.osm_index.specs.internal.Updates.{IsUpdate};
 
 use crate::changed_trees::ChangedTrees;
 use crate::node_changes::digests_of;
-use osm_keys::{Manifest, write_manifest};
+use osm_keys::{Edition, Manifest, write_manifest};
 use std::alloc::{AllocError, Global};
-use osm_keys::Edition;
 use tree_node::{Digest, NewNode};
 
 /// What a snapshot becomes by changes, and the nodes that come and go; all that takes memory, but for the stock.
