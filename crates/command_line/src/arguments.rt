@@ -64,7 +64,10 @@ pub(crate) fn and_wanted<'a>(
 }
 
 /// The command with one more option.
-pub(crate) fn and_option<'a>(command: Command<'a>, option: Arg<'a>) -> Result<Command<'a>, AllocError>
+pub(crate) fn and_option<'a>(
+    command: Command<'a>,
+    option: Arg<'a>,
+) -> Result<Command<'a>, AllocError>
     requires command { (fields_of command).has_globals ≡ false }
     requires option { option.global ≡ false }
     ensures { IfOk result (IsCommand (with_rule (app_of command.entry) (rule_of option.entry))) }

@@ -9,8 +9,8 @@ ghost use Rattle.command_line.specs.internal.Commands.{IsCommand};
 use crate::arguments::and_option;
 use crate::words_fault::WordsFault;
 use clap::{Arg, ArgMatches, Command, value_parser};
-use std::alloc::{AllocError, Global};
 use osm_keys::Edition;
+use std::alloc::{AllocError, Global};
 
 const EDITION: &str = "edition";
 

@@ -13,8 +13,8 @@ use crate::edition_options::{and_edition_options, edition_of};
 use crate::job::Job;
 use crate::words_fault::WordsFault;
 use clap::{Arg, ArgMatches, Command, value_parser};
-use std::alloc::{AllocError, Global};
 use osm_keys::Edition;
+use std::alloc::{AllocError, Global};
 
 /// The name of the command.
 pub(crate) const SERVE: &str = "serve";
