@@ -13,13 +13,13 @@ use Rattle.osm_model.specs.declared.reference.Ref.{Ref}
 use Rattle.osm_keys.specs.Manifests.{top_among}
 use Rattle.osm_keys.specs.declared.manifest.Manifest.{Manifest}
 use Rattle.tree_node.specs.NodeRefs.{number_of}
-use Rattle.tree_node.specs.Nodes.{Binding, Leaf, spelling}
+use Rattle.tree_node.specs.Nodes.{Binding, Leaf}
 use Rattle.tree_node.specs.declared.tree.Tree.{Tree}
 use Rattle.tree_node.specs.declared.tree.Tree.TheVariants.{Cells}
 use Rattle.tree_node.proofs.shared.OutcomeLaws.{Nodes, uses}
 use Rattle.tree_walk.specs.Given.{IsGivenEntry, IsWalk, These}
 use Rattle.tree_walk.specs.Ranges.{Range}
-use Rattle.tree_walk.specs.Reasons.{FromParent, FromTop, IsWanted, Wanted}
+use Rattle.tree_walk.proofs.shared.WantedLaws.{accepted_more, wanted_more}
 use Rattle.tree_walk.proofs.shared.GivenLaws.{given_entry, gives_more}
 use Rattle.ref_sets.proofs.shared.Adding.{first_or_in_rest, none}
 use Rattle.ref_sets.specs.Adding.{Adds}
@@ -66,19 +66,13 @@ module _ {gave : Ref → Type 0} where
 
 -- ---- entries
 
-wanted_more : (used later : Nodes) (tree : ℕ) (top : List ℕ) (wanted : Wanted) → ((x : List ℕ) → used x → later x) → IsWanted used tree top wanted → IsWanted later tree top wanted
-wanted_more used later tree top wanted grows FromTop = FromTop
-wanted_more used later tree top wanted grows (FromParent above parent level left link is accepted at among) =
-    FromParent above parent level left link (wanted_more used later tree top above grows is)
-    (record { read = (accepted.read.0, (grows (spelling parent) accepted.read.1.0, accepted.read.1.1)); kind = accepted.kind; stated = accepted.stated }) at among
-
 -- more nodes that were used give the same entry
 entry_more : (used later : Nodes) (tree : ℕ) (top : List ℕ) (range : Range) (entry : Binding) → ((x : List ℕ) → used x → later x) → IsGivenEntry used tree top range entry → IsGivenEntry later tree top range entry
 entry_more used later tree top range entry grows is = record {
   wanted = is.wanted;
   entries = is.entries;
   is_wanted = wanted_more used later tree top is.wanted grows is.is_wanted;
-  accepted = record { read = (is.accepted.read.0, (grows (spelling (Leaf tree is.entries)) is.accepted.read.1.0, is.accepted.read.1.1)); kind = is.accepted.kind; stated = is.accepted.stated };
+  accepted = accepted_more used later tree is.wanted (Leaf tree is.entries) grows is.accepted;
   among = is.among;
   within = is.within;
 }
