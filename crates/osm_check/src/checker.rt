@@ -47,14 +47,17 @@ pub fn check(
     // The headline: under the root of any publication, a yes says that the answer is the query's meaning over its
     // set, and the proof the one proof of it, unless a node of the publication and a node that stands in the proof
     // are two with one digest.
-    ensures headline { (p : Publication) (report : Report) → IsPublication p → root.now.0 ≡ root_of p → result ≡ Ok (Verdict.Yes report)
+    ensures headline { (p : Publication) (report : Report) → IsPublication p
+        → root.now.0 ≡ root_of p → result ≡ Ok (Verdict.Yes report)
         → IsProved p query.now answer.now proof.now ⊎ Clash (IsNodeIn p) (StandsIn proof.now) }
     // An honest mirror is always accepted.
-    ensures honest { (p : Publication) → IsPublication p → root.now.0 ≡ root_of p → IsProved p query.now answer.now proof.now → IfOk result IsYes }
+    ensures honest { (p : Publication) → IsPublication p → root.now.0 ≡ root_of p
+        → IsProved p query.now answer.now proof.now → IfOk result IsYes }
     // The verdict is the one that is owed,
     ensures verdict { IfOk result (IsVerdict query.now root.now.0 answer.now proof.now) }
     // and under the root of a publication the one that is owed is given, with the same exception.
-    ensures only { (p : Publication) (owed : Verdict) → IsPublication p → root.now.0 ≡ root_of p → TellsOf p query.now answer.now proof.now owed
+    ensures only { (p : Publication) (owed : Verdict) → IsPublication p → root.now.0 ≡ root_of p
+        → TellsOf p query.now answer.now proof.now owed
         → IfOk result (λ verdict. AreAlike verdict owed) ⊎ Clash (IsNodeIn p) (StandsIn proof.now) }
 {
     decide(alloc, query, root, answer, proof)
@@ -84,7 +87,8 @@ fn decide(
 
 /// The verdict on a query that isn't read: out of memory is none.
 fn refused(fault: QlFault) -> Result<Verdict, AllocError>
-    ensures verdict { IfOk result (λ verdict. (verdict ≡ Verdict.No (Why.QueryRefused fault)) × (fault.cause ≢ QlCause.Memory)) }
+    ensures verdict { IfOk result (λ verdict. (verdict ≡ Verdict.No (Why.QueryRefused fault))
+        × (fault.cause ≢ QlCause.Memory)) }
     ensures memory { IfErr result (λ _. fault.cause ≡ QlCause.Memory) }
 {
     match fault.cause {
@@ -103,7 +107,8 @@ fn judge<'a>(
 ) -> Result<Verdict, AllocError>
     requires fit { FitsProof (nodes_of parts.items) }
     requires rising { HaveRisingDigests parts.items }
-    ensures { IfOk result (IsJudged root.now.0 (statements_of query.now) answer.now (nodes_of parts.entry.items)) }
+    ensures { IfOk result (IsJudged root.now.0 (statements_of query.now) answer.now
+        (nodes_of parts.entry.items)) }
 {
     let mut bag = Bag::new(alloc, parts)?;
     let mut matcher = Matcher::new(answer);
@@ -122,7 +127,8 @@ fn judge<'a>(
 
 /// The verdict where an evaluation was refused: out of memory is none.
 fn stopped(fault: EvalFault) -> Result<Verdict, AllocError>
-    ensures { MatchResult result (λ verdict. (why : Why) × (why_of fault ≡ Some why) × (verdict ≡ Verdict.No why)) (λ _. why_of fault ≡ None) }
+    ensures { MatchResult result (λ verdict. (why : Why) × (why_of fault ≡ Some why)
+        × (verdict ≡ Verdict.No why)) (λ _. why_of fault ≡ None) }
 {
     match fault {
         EvalFault::Walk(WalkFault::Missing) | EvalFault::Manifest(ManifestFault::Missing) => {

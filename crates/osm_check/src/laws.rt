@@ -16,6 +16,8 @@ pub fn under_root()
 
 /// A law: of a publication one verdict at most is true, but for what a yes counts.
 pub fn one_verdict()
-    ensures { (query answer proof : List ℕ) (p : Publication) (first second : Verdict) → IsPublication p
-        → TellsOf p query answer proof first → TellsOf p query answer proof second → AreAlike first second }
+    ensures { (query answer proof : List ℕ) (p : Publication) (first second : Verdict)
+        → IsPublication p
+        → TellsOf p query answer proof first → TellsOf p query answer proof second
+        → AreAlike first second }
 {}

@@ -36,8 +36,10 @@ impl<'a> Matcher<'a> {
     /// The first byte, from 0, at which what was written differs from what is expected: the length of the
     /// shorter of the two, where it begins the other, and none where they are the same.
     pub fn difference(&self) -> Option<u64>
-        ensures none { (text : List ℕ) → StandsFor self.now text → result ≡ None → text ≡ expected_of self.now }
-        ensures place { (text : List ℕ) → StandsFor self.now text → IfSome result (IsFirstDifference text (expected_of self.now)) }
+        ensures none { (text : List ℕ) → StandsFor self.now text → result ≡ None
+            → text ≡ expected_of self.now }
+        ensures place { (text : List ℕ) → StandsFor self.now text
+            → IfSome result (IsFirstDifference text (expected_of self.now)) }
     {
         match self.first {
             Some(place) => Some(place),
@@ -81,7 +83,8 @@ fn parting(expected: &[u8], len: u64, first: Option<u64>, bytes: &[u8]) -> Optio
     requires place { (at : ℕ) → first ≡ Some at → at ≤ length expected.now }
     ensures within { result ≡ None → len + length bytes.now ≤ length expected.now }
     ensures place { (at : ℕ) → result ≡ Some at → at ≤ length expected.now }
-    ensures parts { (text : List ℕ) → Matches expected.now len first text → IsParted expected.now (text ++ bytes.now) result }
+    ensures parts { (text : List ℕ) → Matches expected.now len first text
+        → IsParted expected.now (text ++ bytes.now) result }
 {
     match first {
         Some(place) => Some(place),
@@ -110,7 +113,8 @@ fn common_len(first: &[u8], second: &[u8]) -> usize
 
 /// The place, where it comes before the end.
 fn before(place: Option<u64>, end: u64) -> Option<u64>
-    ensures { MatchOption place (result ≡ None) (λ at. ((at < end) × (result ≡ Some at)) ⊎ ((end ≤ at) × (result ≡ None))) }
+    ensures { MatchOption place (result ≡ None) (λ at. ((at < end) × (result ≡ Some at))
+        ⊎ ((end ≤ at) × (result ≡ None))) }
 {
     match place {
         Some(place) if place < end => Some(place),

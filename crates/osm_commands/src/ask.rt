@@ -39,14 +39,17 @@ pub fn ask<R: Read, B: BuildProgress, W: FlushingWriter>(
 ) -> Result<(), CommandFault>
     // The output has gained exactly the answer.
     ensures answered { OnOk result (IfSome (R.remaining input.old) (λ file. (text : List ℕ)
-        × IsAnswer file query.now text × Appends (W.contents output.old) (W.contents output.new) text)) }
+        × IsAnswer file query.now text × Appends (W.contents output.old)
+        (W.contents output.new) text)) }
     // Nothing is held back then.
     ensures flushed { OnOk result (W.is_flushed output.new ≡ true) }
     // What has an answer is answered, unless memory or a device fails, or the trees can't be made.
-    ensures only { IfSome (R.remaining input.old) (λ file. (text : List ℕ) (answer : IsAnswer file query.now text)
+    ensures only { IfSome (R.remaining input.old) (λ file.
+        (text : List ℕ) (answer : IsAnswer file query.now text)
         → IfErr result (IsOutsideOrTrees answer.set ask_edition)) }
     // Which fault it is.
-    ensures refused { IfSome (R.remaining input.old) (λ file. IfErr result (Explains file (R.remaining input.new) ask_edition query.now)) }
+    ensures refused { IfSome (R.remaining input.old) (λ file.
+        IfErr result (Explains file (R.remaining input.new) ask_edition query.now)) }
     // Nothing is written but where a device fails,
     ensures nothing { IfErr result (λ fault. fault ≢ CommandFault.Device
         → Keeps (W.contents output.old) (W.contents output.new)) }

@@ -41,24 +41,33 @@ pub fn check<Q: Read, A: Read, P: Read, W: FlushingWriter>(
     // The headline: under the root of any publication, a yes says that the answer is the query's meaning over its
     // set, and the proof the one proof of it, unless a node of the publication and a node that stands in the proof
     // are two with one digest.
-    ensures headline { IfThree (Q.remaining query.old) (A.remaining answer.old) (P.remaining proof.old)
-        (λ query_bytes answer_bytes proof_bytes. (p : Publication) (report : Report) → IsPublication p → root.now.0 ≡ root_of p
-        → result ≡ Ok (Verdict.Yes report) → IsProved p query_bytes answer_bytes proof_bytes ⊎ Clash (IsNodeIn p) (StandsIn proof_bytes)) }
+    ensures headline { IfThree (Q.remaining query.old) (A.remaining answer.old)
+        (P.remaining proof.old)
+        (λ query_bytes answer_bytes proof_bytes. (p : Publication) (report : Report)
+        → IsPublication p → root.now.0 ≡ root_of p
+        → result ≡ Ok (Verdict.Yes report) → IsProved p query_bytes answer_bytes proof_bytes
+        ⊎ Clash (IsNodeIn p) (StandsIn proof_bytes)) }
     // An honest mirror is always accepted.
-    ensures honest { IfThree (Q.remaining query.old) (A.remaining answer.old) (P.remaining proof.old)
-        (λ query_bytes answer_bytes proof_bytes. (p : Publication) → IsPublication p → root.now.0 ≡ root_of p
+    ensures honest { IfThree (Q.remaining query.old) (A.remaining answer.old)
+        (P.remaining proof.old)
+        (λ query_bytes answer_bytes proof_bytes. (p : Publication) → IsPublication p
+        → root.now.0 ≡ root_of p
         → IsProved p query_bytes answer_bytes proof_bytes → IfOk result IsYes) }
     // The verdict is the one that is owed, and the output has gained exactly its line.
-    ensures told { IfOk result (λ verdict. IfThree (Q.remaining query.old) (A.remaining answer.old) (P.remaining proof.old)
-        (λ query_bytes answer_bytes proof_bytes. IsVerdict query_bytes root.now.0 answer_bytes proof_bytes verdict)
+    ensures told { IfOk result (λ verdict. IfThree (Q.remaining query.old) (A.remaining answer.old)
+        (P.remaining proof.old)
+        (λ query_bytes answer_bytes proof_bytes.
+        IsVerdict query_bytes root.now.0 answer_bytes proof_bytes verdict)
         × Appends (W.contents output.old) (W.contents output.new) (verdict_line verdict)) }
     // Nothing is held back then.
     ensures flushed { OnOk result (W.is_flushed output.new ≡ true) }
     // It is refused only out of memory, for a device, or for a file without an end.
     ensures refused { IfErr result IsUnread }
     // Only a file of 2^32 bytes or more is told to have no end.
-    ensures endless { IfThree (Q.remaining query.old) (A.remaining answer.old) (P.remaining proof.old)
-        (λ query_bytes answer_bytes proof_bytes. IfErr result (ExplainsThree query_bytes answer_bytes proof_bytes)) }
+    ensures endless { IfThree (Q.remaining query.old) (A.remaining answer.old)
+        (P.remaining proof.old)
+        (λ query_bytes answer_bytes proof_bytes. IfErr result
+        (ExplainsThree query_bytes answer_bytes proof_bytes)) }
     // The answer is read only after the query, to its end,
     ensures answer_later { (answer.new ≡ answer.old) ⊎ IsAtEnd (Q.remaining query.new) }
     // and the proof after the answer.
@@ -68,7 +77,8 @@ pub fn check<Q: Read, A: Read, P: Read, W: FlushingWriter>(
         → Keeps (W.contents output.old) (W.contents output.new)) }
     // and never anything but a beginning of the verdict's line.
     ensures begun { IfThree (Q.remaining query.old) (A.remaining answer.old) (P.remaining proof.old)
-        (λ query_bytes answer_bytes proof_bytes. IsBegunVerdict query_bytes root.now.0 answer_bytes proof_bytes
+        (λ query_bytes answer_bytes proof_bytes.
+        IsBegunVerdict query_bytes root.now.0 answer_bytes proof_bytes
         (W.contents output.old) (W.contents output.new)) }
 {
     let query = read_whole(alloc, query)?;

@@ -17,7 +17,8 @@ pub fn listening_line(
     snapshot: &Snapshot,
 ) -> Result<String, AllocError>
     ensures { (p : Publication) → HoldsPublication snapshot.now p
-        → IfOk result (λ line. string_bytes line ≡ listening_text address (length p.objects) (root_of p)) }
+        → IfOk result (λ line. string_bytes line ≡ listening_text address (length p.objects)
+        (root_of p)) }
 {
     let count = snapshot.object_count(alloc)?;
     line_over(alloc, address, count, snapshot.root())

@@ -51,23 +51,30 @@ pub fn prove<
     output: &mut W,
 ) -> Result<(), CommandFault>
     // The writers have gained exactly the answer, its proof and the root's line.
-    ensures proved { OnOk result (IfBoth (R.remaining input.old) (Q.remaining query.old) (λ file bytes.
-        (p : Publication) × (text : List ℕ) × (nodes : List ℕ) × IsProvedIn file bytes edition p text nodes
+    ensures proved { OnOk result (IfBoth (R.remaining input.old) (Q.remaining query.old)
+        (λ file bytes.
+        (p : Publication) × (text : List ℕ) × (nodes : List ℕ)
+        × IsProvedIn file bytes edition p text nodes
         × Appends (A.contents answer.old) (A.contents answer.new) text
         × Appends (P.contents proof.old) (P.contents proof.new) nodes
         × Appends (W.contents output.old) (W.contents output.new) (publication_line p))) }
     // Nothing is held back then.
-    ensures flushed { OnOk result ((A.is_flushed answer.new ≡ true) × (P.is_flushed proof.new ≡ true)
+    ensures flushed { OnOk result ((A.is_flushed answer.new ≡ true)
+        × (P.is_flushed proof.new ≡ true)
         × (W.is_flushed output.new ≡ true)) }
     // Answer and proof are in their places.
-    ensures placed { OnOk result ((A.is_in_place answer.new ≡ true) × (P.is_in_place proof.new ≡ true)) }
+    ensures placed { OnOk result ((A.is_in_place answer.new ≡ true)
+        × (P.is_in_place proof.new ≡ true)) }
     // What has an answer is answered, unless memory or a device fails, the query never ends, or the trees can't be made.
-    ensures only { IfBoth (R.remaining input.old) (Q.remaining query.old) (λ file bytes. (text : List ℕ) (answer : IsAnswer file bytes text)
+    ensures only { IfBoth (R.remaining input.old) (Q.remaining query.old)
+        (λ file bytes. (text : List ℕ) (answer : IsAnswer file bytes text)
         → IfErr result (IsOutsideFiles answer.set edition)) }
     // Which fault it is.
-    ensures refused { IfBoth (R.remaining input.old) (Q.remaining query.old) (λ file bytes. IfErr result (ExplainsFiles file (R.remaining input.new) edition bytes)) }
+    ensures refused { IfBoth (R.remaining input.old) (Q.remaining query.old)
+        (λ file bytes. IfErr result (ExplainsFiles file (R.remaining input.new) edition bytes)) }
     // The query is read only after the input, and where its trees are made.
-    ensures query_later { (query.new ≡ query.old) ⊎ IfSome (R.remaining input.old) (λ file. HoldsTrees file edition) }
+    ensures query_later { (query.new ≡ query.old) ⊎ IfSome (R.remaining input.old)
+        (λ file. HoldsTrees file edition) }
     // Nothing is written but where a device fails,
     ensures nothing { IfErr result (λ fault. fault ≢ CommandFault.Device
         → Keeps (A.contents answer.old) (A.contents answer.new)
@@ -75,7 +82,8 @@ pub fn prove<
         × Keeps (W.contents output.old) (W.contents output.new)) }
     // and never anything but the three texts in their order: after one that lacks its end nothing.
     ensures begun { IfBoth (R.remaining input.old) (Q.remaining query.old) (λ file bytes.
-        IsBegunProof file bytes edition (record { before = A.contents answer.old; after = A.contents answer.new })
+        IsBegunProof file bytes edition
+        (record { before = A.contents answer.old; after = A.contents answer.new })
         (record { before = P.contents proof.old; after = P.contents proof.new })
         (record { before = W.contents output.old; after = W.contents output.new })) }
 {

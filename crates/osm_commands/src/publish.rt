@@ -37,14 +37,16 @@ pub fn publish<R: Read, B: BuildProgress, W: FlushingWriter>(
 ) -> Result<(), CommandFault>
     // The output has gained exactly the line of the root of a publication of the set that the file holds.
     ensures published { OnOk result (IfSome (R.remaining input.old) (λ file. (p : Publication)
-        × IsPublicationIn file edition p × Appends (W.contents output.old) (W.contents output.new) (publication_line p))) }
+        × IsPublicationIn file edition p × Appends (W.contents output.old) (W.contents output.new)
+        (publication_line p))) }
     // Nothing is held back then.
     ensures flushed { OnOk result (W.is_flushed output.new ≡ true) }
     // What holds a set is published, unless memory or a device fails, or its trees can't be made.
     ensures only { IfSome (R.remaining input.old) (λ file. (set : List Element) → HoldsSet file set
         → IfErr result (IsOutsideOrTrees set edition)) }
     // Which fault it is.
-    ensures refused { IfSome (R.remaining input.old) (λ file. IfErr result (ExplainsTrees file (R.remaining input.new) edition)) }
+    ensures refused { IfSome (R.remaining input.old) (λ file.
+        IfErr result (ExplainsTrees file (R.remaining input.new) edition)) }
     // Nothing is written but where a device fails,
     ensures nothing { IfErr result (λ fault. fault ≢ CommandFault.Device
         → Keeps (W.contents output.old) (W.contents output.new)) }

@@ -35,7 +35,8 @@ pub fn read_snapshot<R: Read, B: BuildProgress>(
     ensures only { IfSome (R.remaining input.old) (λ file. (set : List Element) → HoldsSet file set
         → IfErr result (IsOutsideOrTrees set edition)) }
     // Which fault it is.
-    ensures refused { IfSome (R.remaining input.old) (λ file. IfErr result (ExplainsTrees file (R.remaining input.new) edition)) }
+    ensures refused { IfSome (R.remaining input.old) (λ file.
+        IfErr result (ExplainsTrees file (R.remaining input.new) edition)) }
 {
     let set = read_set(alloc, input)?;
     Ok(Snapshot::build_watched(alloc, set, edition, progress)?)

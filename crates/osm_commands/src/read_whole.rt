@@ -24,10 +24,12 @@ pub fn read_whole<R: Read>(alloc: Global, reader: &mut R) -> Result<Vec<u8>, Com
     ensures ended { IsReadSo (R.remaining reader.old) (R.remaining reader.new) result }
     // So it was read to its end, and the bytes are all that the reader had left,
     ensures end { OnOk result (IsAtEnd (R.remaining reader.new)) }
-    ensures read { IfOk result (λ bytes. IfSome (R.remaining reader.old) (λ left. bytes.items ≡ left)) }
+    ensures read { IfOk result (λ bytes. IfSome (R.remaining reader.old)
+        (λ left. bytes.items ≡ left)) }
     ensures refused { IfErr result IsUnread }
     // and a file that is refused as endless has 2^32 bytes at least.
-    ensures endless { IfSome (R.remaining reader.old) (λ left. IfErr result (λ fault. fault ≡ CommandFault.Endless → 2 ^ 32 ≤ length left)) }
+    ensures endless { IfSome (R.remaining reader.old) (λ left. IfErr result
+        (λ fault. fault ≡ CommandFault.Endless → 2 ^ 32 ≤ length left)) }
 {
     let mut bytes = Vec::new(alloc);
     let mut piece = [0; PIECE_LIMIT];

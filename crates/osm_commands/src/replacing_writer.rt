@@ -36,12 +36,15 @@ pub(crate) fn put_both_in_place<A: ReplacingWriter, P: ReplacingWriter>(
     first: &mut A,
     second: &mut P,
 ) -> Result<(), CommandFault>
-    ensures placed { OnOk result ((A.is_in_place first.new ≡ true) × (P.is_in_place second.new ≡ true)) }
+    ensures placed { OnOk result ((A.is_in_place first.new ≡ true)
+        × (P.is_in_place second.new ≡ true)) }
     // The second is put in its place after the first,
     ensures in_order { OnErr result (P.is_in_place second.new ≡ P.is_in_place second.old) }
-    ensures flushed { OnOk result ((A.is_flushed first.new ≡ A.is_flushed first.old) × (P.is_flushed second.new ≡ P.is_flushed second.old)) }
+    ensures flushed { OnOk result ((A.is_flushed first.new ≡ A.is_flushed first.old)
+        × (P.is_flushed second.new ≡ P.is_flushed second.old)) }
     // and neither gains anything.
-    ensures kept { Keeps (A.contents first.old) (A.contents first.new) × Keeps (P.contents second.old) (P.contents second.new) }
+    ensures kept { Keeps (A.contents first.old) (A.contents first.new)
+        × Keeps (P.contents second.old) (P.contents second.new) }
     ensures device { IfErr result (λ fault. fault ≡ CommandFault.Device) }
 {
     first.put_in_place()?;

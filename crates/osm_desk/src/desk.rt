@@ -99,7 +99,8 @@ impl Desk {
     /// After a refusal all is as before.
     pub fn step(&mut self, event: Event) -> Result<Vec<(u32, Vec<u8>)>, DeskFault>
         // It does what the definition of a step says, or is refused as that says; the law of events is about such turns.
-        ensures turn { IsTurn self.old (record { event = event; answer = answer_of result; after = self.new }) }
+        ensures turn { IsTurn self.old
+            (record { event = event; answer = answer_of result; after = self.new }) }
         // An event of a connection leaves the snapshot, a publication the connections.
         ensures leaves { LeavesRest event self.old self.new }
     {
@@ -110,11 +111,14 @@ impl Desk {
     fn take(&mut self, event: Event) -> Result<Vec<(u32, Vec<u8>)>, DeskFault>
         // As the definition of a step says, over whatever publication the snapshot holds.
         ensures steps { (p : Publication) → HoldsPublication self.old.snapshot p
-            → IfOk result (λ answers. HasStepped (desk_over self.old p) event (texts_of answers.items) self.new) }
+            → IfOk result (λ answers. HasStepped (desk_over self.old p) event
+            (texts_of answers.items) self.new) }
         // It is refused as that says, and out of memory only where it may be.
-        ensures refused { (p : Publication) → HoldsPublication self.old.snapshot p → IfErr result (IsRefusal (desk_over self.old p) event) }
+        ensures refused { (p : Publication) → HoldsPublication self.old.snapshot p
+            → IfErr result (IsRefusal (desk_over self.old p) event) }
         // A refusal changes nothing,
-        ensures unchanged { OnErr result ((self.new.connections ≡ self.old.connections) × IsAsBefore self.old.snapshot self.new.snapshot) }
+        ensures unchanged { OnErr result ((self.new.connections ≡ self.old.connections)
+            × IsAsBefore self.old.snapshot self.new.snapshot) }
         // and an event of a connection leaves the snapshot, a publication the connections.
         ensures leaves { LeavesRest event self.old self.new }
     {
@@ -148,7 +152,8 @@ impl Desk {
     /// `AlreadyOpen` (D1) where it is open, else `NoRoom` (D3) where 64 are, else `Memory` where an allocation was refused.
     /// After a refusal all is as before.
     pub fn open(&mut self, number: u32) -> Result<(), DeskFault>
-        ensures opened { OnOk result (IsFree self.old number × (self.new ≡ with_rest self.old number (open_rest []))) }
+        ensures opened { OnOk result (IsFree self.old number
+            × (self.new ≡ with_rest self.old number (open_rest []))) }
         ensures refused { IfErr result (RefusesOpening self.old number) }
         ensures unchanged { OnErr result (self.new ≡ self.old) }
     {
@@ -172,10 +177,13 @@ impl Desk {
     /// the piece was taken.
     pub fn hear(&mut self, number: u32, piece: &[u8]) -> Result<Vec<u8>, AllocError>
         ensures responses { (p : Publication) → HoldsPublication self.old.snapshot p
-            → IfOk result (λ text. Responds p (heard_next (rest_of self.old number) piece.now).outcomes text.items) }
-        ensures rest { OnOk result (rest_of self.new number ≡ (heard_next (rest_of self.old number) piece.now).rest) }
+            → IfOk result (λ text. Responds p
+            (heard_next (rest_of self.old number) piece.now).outcomes text.items) }
+        ensures rest { OnOk result (rest_of self.new number
+            ≡ (heard_next (rest_of self.old number) piece.now).rest) }
         ensures open { IsSome (get self.old.connections number)
-            → OnOk result (self.new ≡ with_rest self.old number (heard_next (rest_of self.old number) piece.now).rest) }
+            → OnOk result (self.new ≡ with_rest self.old number
+            (heard_next (rest_of self.old number) piece.now).rest) }
         ensures others { without self.new number ≡ without self.old number }
         ensures unchanged { OnErr result (self.new ≡ self.old) }
     {
@@ -188,7 +196,8 @@ impl Desk {
     /// Takes a piece of a connection, and gives the responses with its number.
     fn arrive(&mut self, number: u32, piece: &[u8]) -> Result<Vec<(u32, Vec<u8>)>, DeskFault>
         ensures responses { (p : Publication) → HoldsPublication self.old.snapshot p
-            → IfOk result (λ answers. HasArrived (desk_over self.old p) number piece.now (texts_of answers.items) self.new) }
+            → IfOk result (λ answers. HasArrived (desk_over self.old p) number piece.now
+            (texts_of answers.items) self.new) }
         ensures refused { IfErr result (RefusesPiece self.old number) }
         ensures unchanged { OnErr result (self.new ≡ self.old) }
         ensures snapshot { self.new.snapshot ≡ self.old.snapshot }
@@ -220,8 +229,10 @@ impl Desk {
     /// snapshot of the first edition none are published; after a refusal all is as before.
     pub fn publish(&mut self, changes: &[Change]) -> Result<(), ApplyFault>
         ensures made { (p : Publication) → HoldsPublication self.old.snapshot p
-            → OnOk result ((q : Publication) × IsMade p changes.now (Ok q) × HoldsPublication self.new.snapshot q) }
-        ensures refused { (p : Publication) → HoldsPublication self.old.snapshot p → IfErr result (RefusesChanges p changes.now) }
+            → OnOk result ((q : Publication) × IsMade p changes.now (Ok q)
+            × HoldsPublication self.new.snapshot q) }
+        ensures refused { (p : Publication) → HoldsPublication self.old.snapshot p
+            → IfErr result (RefusesChanges p changes.now) }
         ensures connections { self.new.connections ≡ self.old.connections }
         ensures unchanged { OnErr result (IsAsBefore self.old.snapshot self.new.snapshot) }
     {

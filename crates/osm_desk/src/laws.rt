@@ -25,8 +25,10 @@ ghost use Rattle.osm_desk.specs.declared.limits.TheConstants.{CONNECTION_LIMIT};
 /// have made. Each turn is what clause `turn` of [`crate::Desk::step`] says of one event; events that were refused out of
 /// memory are left out. That holds where the connection never is opened while 64 others are open.
 pub fn events_tell_each_its_own()
-    ensures told { (c : ℕ) (before : Contents) (turns : List Turn) (p : Publication) → before.connections ≡ empty → HoldsPublication before.snapshot p
-        → AreTurns before turns → HasRoom c before turns → IsTold c (events_of turns) p (texts_to c turns) }
+    ensures told { (c : ℕ) (before : Contents) (turns : List Turn) (p : Publication)
+        → before.connections ≡ empty → HoldsPublication before.snapshot p
+        → AreTurns before turns → HasRoom c before turns
+        → IsTold c (events_of turns) p (texts_to c turns) }
     // The events of the other connections have no part in it.
     ensures alone { (c : ℕ) (events : List Event) (p : Publication) (texts : List (List ℕ))
         → IsTold c events p texts ↔ IsTold c (own_events c events) p texts }
@@ -40,34 +42,41 @@ pub fn limits_law()
 /// A law: whatever happens, a desk tells a connection what that one's own bytes ask, over the publication that is in
 /// force when each request is complete. That holds where the connection never is opened while 64 others are open.
 pub fn each_is_told_its_own()
-    ensures { (c : ℕ) (hs : List Happening) (p : Publication) → FindsRoom c (fresh p) hs → given c (replies (fresh p) hs) ≡ told c hs p }
+    ensures { (c : ℕ) (hs : List Happening) (p : Publication) → FindsRoom c (fresh p) hs
+        → given c (replies (fresh p) hs) ≡ told c hs p }
 {}
 
 /// A law: what happens to the other connections has no part in it.
 pub fn others_change_nothing()
-    ensures { (c : ℕ) (hs : List Happening) (p : Publication) → told c hs p ≡ told c (alone c hs) p }
+    ensures { (c : ℕ) (hs : List Happening) (p : Publication)
+        → told c hs p ≡ told c (alone c hs) p }
 {}
 
 /// A law: what a connection gets in a run of the code are the responses to what it is told, by all that happened but
 /// what was refused out of memory. That each step of the code is a step of such a run, the clauses of `Desk::step` say.
 pub fn runs_tell_each_its_own()
-    ensures { (c : ℕ) (run : List Done) (p : Publication) → Ran (fresh p) run → FindsRoom c (fresh p) (stood run)
+    ensures { (c : ℕ) (run : List Done) (p : Publication) → Ran (fresh p) run
+        → FindsRoom c (fresh p) (stood run)
         → RespondAll (told c (stood run) p) (got c run) }
 {}
 
 /// A law: a response of status 200 carries the root of the publication that it is over.
 pub fn success_carries_the_root()
-    ensures { (p : Publication) (a : Asked) (r : Response) → IsResponse p a r → r.head.status ≡ 200 → r.head.root ≡ Some (root_of p) }
+    ensures { (p : Publication) (a : Asked) (r : Response) → IsResponse p a r → r.head.status ≡ 200
+        → r.head.root ≡ Some (root_of p) }
 {}
 
 /// A law: changes of a publication have one outcome.
 pub fn one_outcome()
     // What they make is one set in one edition, and so has one root;
-    ensures made { (p q r : Publication) (all : List Change) → IsMade p all (Ok q) → IsMade p all (Ok r)
+    ensures made { (p q r : Publication) (all : List Change) → IsMade p all (Ok q)
+        → IsMade p all (Ok r)
         → (q.objects ≡ r.objects) × (q.edition ≡ r.edition) × (root_of q ≡ root_of r) }
     // they aren't refused where they make one,
-    ensures apart { (p q : Publication) (all : List Change) (fault : ApplyFault) → IsMade p all (Ok q) → ¬ IsMade p all (Err fault) }
+    ensures apart { (p q : Publication) (all : List Change) (fault : ApplyFault)
+        → IsMade p all (Ok q) → ¬ IsMade p all (Err fault) }
     // and are refused in one way.
-    ensures refused { (p : Publication) (all : List Change) (fault other : ApplyFault) → IsMade p all (Err fault) → IsMade p all (Err other)
+    ensures refused { (p : Publication) (all : List Change) (fault other : ApplyFault)
+        → IsMade p all (Err fault) → IsMade p all (Err other)
         → fault ≡ other }
 {}

@@ -17,9 +17,11 @@ pub trait Lookout {
     /// one line of `errors`, and what was in force stays.
     fn look<E: Write>(&mut self, desk: &mut Desk, errors: &mut E)
         // What is in force is as before, or what changes that a file holds make of it:
-        ensures in_force { (p : Publication) → HoldsPublication desk.old.snapshot p → HasPublished p desk.new.snapshot }
+        ensures in_force { (p : Publication) → HoldsPublication desk.old.snapshot p
+            → HasPublished p desk.new.snapshot }
         // those that were found.
-        ensures found { TakesFound (found self.old) (found self.new) desk.old.snapshot desk.new.snapshot }
+        ensures found { TakesFound (found self.old) (found self.new)
+            desk.old.snapshot desk.new.snapshot }
         // All connections stay.
         ensures connections { desk.new.connections ≡ desk.old.connections };
 }

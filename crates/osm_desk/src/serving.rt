@@ -32,10 +32,21 @@ impl Desk {
         requires room { len self.old.connections < CONNECTION_LIMIT }
         // What was read, piece by piece, and what was written, whichever way it ended.
         ensures ended { (p : Publication) → HoldsPublication self.old.snapshot p
-            → HasEnded p (record { unread = R.remaining reader.old; left = R.remaining reader.new; before = W.contents writer.old; after = W.contents writer.new }) result }
+            → HasEnded p (record {
+              unread = R.remaining reader.old;
+              left = R.remaining reader.new;
+              before = W.contents writer.old;
+              after = W.contents writer.new;
+            }) result }
         // So what was written responds to the whole input, where nothing broke off.
         ensures done { (p : Publication) → HoldsPublication self.old.snapshot p
-            → OnOk result (HasServed p (record { unread = R.remaining reader.old; left = R.remaining reader.new; before = W.contents writer.old; after = W.contents writer.new })) }
+            → OnOk result (HasServed p
+            (record {
+              unread = R.remaining reader.old;
+              left = R.remaining reader.new;
+              before = W.contents writer.old;
+              after = W.contents writer.new;
+            })) }
         // The desk is as before.
         ensures forgotten { self.new ≡ self.old }
     {

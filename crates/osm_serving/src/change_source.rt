@@ -21,9 +21,12 @@ pub trait ChangeSource {
     /// The change file that makes the publication with this sequence number; none where there is no such file.
     /// Refused with `Device` where the file can't be opened, with `Memory` where memory runs out.
     fn change_file(&mut self, sequence: u64) -> Result<Option<Self::Reader>, CommandFault>
-        ensures asks { IfSome (asked self.old) (λ before. asked self.new ≡ Some (sequence ∷ before)) }
-        ensures finds { IfSome (found self.old) (λ before. found self.new ≡ Some (found_in Self.Reader.remaining result ∷ before)) }
-        ensures outside { IfErr result (λ fault. (fault ≡ CommandFault.Memory) ⊎ (fault ≡ CommandFault.Device)) };
+        ensures asks { IfSome (asked self.old) (λ before.
+            asked self.new ≡ Some (sequence ∷ before)) }
+        ensures finds { IfSome (found self.old) (λ before.
+            found self.new ≡ Some (found_in Self.Reader.remaining result ∷ before)) }
+        ensures outside { IfErr result (λ fault. (fault ≡ CommandFault.Memory)
+            ⊎ (fault ≡ CommandFault.Device)) };
 
     /// Notes that the file which it gave last was refused for what it says: as long as that file stays as it is, it doesn't
     /// have to be given again.

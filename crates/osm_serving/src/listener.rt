@@ -19,9 +19,11 @@ pub trait Listener {
     /// Waits for the next connection. Refused with `Device` where none can be taken, with `Memory` where memory
     /// runs out.
     fn accept(&mut self) -> Result<(Self::Reader, Self::Writer), CommandFault>
-        ensures one_more { OnOk result (IfSome (accepted self.old) (λ n. accepted self.new ≡ Some (suc n))) }
+        ensures one_more { OnOk result (IfSome (accepted self.old)
+            (λ n. accepted self.new ≡ Some (suc n))) }
         ensures none { OnErr result (accepted self.new ≡ accepted self.old) }
-        ensures outside { IfErr result (λ fault. (fault ≡ CommandFault.Memory) ⊎ (fault ≡ CommandFault.Device)) };
+        ensures outside { IfErr result (λ fault. (fault ≡ CommandFault.Memory)
+            ⊎ (fault ≡ CommandFault.Device)) };
 
     /// Closes a connection, so that what was written to it still arrives.
     fn close(&mut self, reader: Self::Reader, writer: Self::Writer)

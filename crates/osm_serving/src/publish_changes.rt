@@ -33,8 +33,10 @@ pub fn publish_changes<R: Read>(
         → OnOk result (HasMade (R.remaining file.old) p desk.new.snapshot) }
     // Changes that a file holds are published, unless they are refused, or memory or a device fails.
     ensures only { (p : Publication) → HoldsPublication desk.old.snapshot p
-        → IfSome (R.remaining file.old) (λ text. (changes : List ChangeWord) → HoldsChanges text changes
-        → MatchResult result (λ _. HasMadeOf changes p desk.new.snapshot) (IsOutsideOrRefused p changes)) }
+        → IfSome (R.remaining file.old) (λ text. (changes : List ChangeWord)
+        → HoldsChanges text changes
+        → MatchResult result (λ _. HasMadeOf changes p desk.new.snapshot)
+        (IsOutsideOrRefused p changes)) }
     // Which fault it is.
     ensures refused { (p : Publication) → HoldsPublication desk.old.snapshot p
         → IfErr result (ExplainsChanges (R.remaining file.old) (R.remaining file.new) p) }

@@ -21,11 +21,14 @@ pub(crate) fn publish_next<C: ChangeSource, E: Write>(
     source: &mut C,
     errors: &mut E,
 )
-    ensures asked { IfSome (C.asked source.old) (λ before. C.asked source.new ≡ Some (asked_after desk.old.snapshot.edition before)) }
+    ensures asked { IfSome (C.asked source.old) (λ before.
+        C.asked source.new ≡ Some (asked_after desk.old.snapshot.edition before)) }
     // What is in force is as before, or what changes that a file holds make of it:
-    ensures in_force { (p : Publication) → HoldsPublication desk.old.snapshot p → HasPublished p desk.new.snapshot }
+    ensures in_force { (p : Publication) → HoldsPublication desk.old.snapshot p
+        → HasPublished p desk.new.snapshot }
     // those of the file that the source gave.
-    ensures found { TakesFound (C.found source.old) (C.found source.new) desk.old.snapshot desk.new.snapshot }
+    ensures found { TakesFound (C.found source.old)
+        (C.found source.new) desk.old.snapshot desk.new.snapshot }
     ensures connections { desk.new.connections ≡ desk.old.connections }
 {
     if let Err(fault) = publish_found(alloc, desk, source) {
@@ -42,9 +45,12 @@ pub(crate) fn publish_found<C: ChangeSource>(
     desk: &mut Desk,
     source: &mut C,
 ) -> Result<(), ChangesFault>
-    ensures asked { IfSome (C.asked source.old) (λ before. C.asked source.new ≡ Some (asked_after desk.old.snapshot.edition before)) }
-    ensures in_force { (p : Publication) → HoldsPublication desk.old.snapshot p → HasPublished p desk.new.snapshot }
-    ensures found { TakesFound (C.found source.old) (C.found source.new) desk.old.snapshot desk.new.snapshot }
+    ensures asked { IfSome (C.asked source.old) (λ before.
+        C.asked source.new ≡ Some (asked_after desk.old.snapshot.edition before)) }
+    ensures in_force { (p : Publication) → HoldsPublication desk.old.snapshot p
+        → HasPublished p desk.new.snapshot }
+    ensures found { TakesFound (C.found source.old)
+        (C.found source.new) desk.old.snapshot desk.new.snapshot }
     ensures connections { desk.new.connections ≡ desk.old.connections }
 {
     let Some(sequence) = next_sequence(desk.snapshot().edition()) else {
@@ -60,10 +66,13 @@ fn publish_file<C: ChangeSource>(
     source: &mut C,
     sequence: u64,
 ) -> Result<(), ChangesFault>
-    ensures asked { IfSome (C.asked source.old) (λ before. C.asked source.new ≡ Some (sequence ∷ before)) }
-    ensures in_force { (p : Publication) → HoldsPublication desk.old.snapshot p → HasPublished p desk.new.snapshot }
+    ensures asked { IfSome (C.asked source.old) (λ before.
+        C.asked source.new ≡ Some (sequence ∷ before)) }
+    ensures in_force { (p : Publication) → HoldsPublication desk.old.snapshot p
+        → HasPublished p desk.new.snapshot }
     // The changes of the file that the source gave are published, where it gave one, or it is told why not.
-    ensures found { IfSome (C.found source.old) (λ before. (found : Found) × (C.found source.new ≡ Some (found ∷ before))
+    ensures found { IfSome (C.found source.old) (λ before. (found : Found)
+        × (C.found source.new ≡ Some (found ∷ before))
         × ((p : Publication) → HoldsPublication desk.old.snapshot p
         → MatchResult result (λ _. HasTaken found p desk.new.snapshot) (ExplainsFound found p))) }
     ensures unchanged { OnErr result (IsAsBefore desk.old.snapshot desk.new.snapshot) }

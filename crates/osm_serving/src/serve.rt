@@ -23,10 +23,13 @@ pub fn serve<L: Listener, E: Write>(
     errors: &mut E,
 ) -> Result<(), CommandFault>
     // So many connections were taken,
-    ensures all { OnOk result (IfSome (L.accepted listener.old) (λ n. L.accepted listener.new ≡ Some (n + connections))) }
+    ensures all { OnOk result (IfSome (L.accepted listener.old)
+        (λ n. L.accepted listener.new ≡ Some (n + connections))) }
     // and fewer where the listener fails.
-    ensures fewer { OnErr result (IfSome (L.accepted listener.old) (λ n. (k : ℕ) × (k < connections) × (L.accepted listener.new ≡ Some (n + k)))) }
-    ensures outside { IfErr result (λ fault. (fault ≡ CommandFault.Memory) ⊎ (fault ≡ CommandFault.Device)) }
+    ensures fewer { OnErr result (IfSome (L.accepted listener.old)
+        (λ n. (k : ℕ) × (k < connections) × (L.accepted listener.new ≡ Some (n + k)))) }
+    ensures outside { IfErr result (λ fault. (fault ≡ CommandFault.Memory)
+        ⊎ (fault ≡ CommandFault.Device)) }
 {
     let mut taken = 0;
     while taken < connections {

@@ -35,10 +35,13 @@ pub fn serve_desk<L: Listener, C: ChangeSource, E: Write>(
 ) -> Result<(), CommandFault>
     requires { desk.old.connections ≡ empty }
     // So many connections were taken,
-    ensures all { OnOk result (IfSome (L.accepted listener.old) (λ n. L.accepted listener.new ≡ Some (n + connections))) }
+    ensures all { OnOk result (IfSome (L.accepted listener.old)
+        (λ n. L.accepted listener.new ≡ Some (n + connections))) }
     // and fewer where the listener fails.
-    ensures fewer { OnErr result (IfSome (L.accepted listener.old) (λ n. (k : ℕ) × (k < connections) × (L.accepted listener.new ≡ Some (n + k)))) }
-    ensures outside { IfErr result (λ fault. (fault ≡ CommandFault.Memory) ⊎ (fault ≡ CommandFault.Device)) }
+    ensures fewer { OnErr result (IfSome (L.accepted listener.old)
+        (λ n. (k : ℕ) × (k < connections) × (L.accepted listener.new ≡ Some (n + k)))) }
+    ensures outside { IfErr result (λ fault. (fault ≡ CommandFault.Memory)
+        ⊎ (fault ≡ CommandFault.Device)) }
     // What is in force has been made of what was by one change file after the other, at most one a connection.
     ensures reached { (p : Publication) → HoldsPublication desk.old.snapshot p
         → (q : Publication) × HoldsPublication desk.new.snapshot q × IsReachedBy connections p q }
@@ -46,7 +49,8 @@ pub fn serve_desk<L: Listener, C: ChangeSource, E: Write>(
     ensures asked { IfSome (C.asked source.old) (λ before. (more : List ℕ)
         × (C.asked source.new ≡ Some (more ++ before)) × (length more ≤ connections)) }
     // It has been made by the files that the source gave, one after the other, but those that were refused.
-    ensures found { TakesFound (C.found source.old) (C.found source.new) desk.old.snapshot desk.new.snapshot }
+    ensures found { TakesFound (C.found source.old)
+        (C.found source.new) desk.old.snapshot desk.new.snapshot }
     // No connection is open.
     ensures none_open { desk.new.connections ≡ empty }
 {
