@@ -34,26 +34,26 @@ HasPublished p snapshot = (q : Publication) × HoldsPublication snapshot q × ((
 
 -- what is said to a question for a change file: a file, with its bytes where its reader tells them; or no file, since
 -- there is none, or it can't be had
-pub data Found : Type 0 where
-  file : Option (List ℕ) → Found
-  nothing : Found
+pub data FoundFile : Type 0 where
+  file : Option (List ℕ) → FoundFile
+  nothing : FoundFile
 
 -- what was found makes the one publication of the other: a file by its changes; where nothing was found they are the same
-abbrev pub IsMadeBy : Found → Publication → Publication → Type 0
+abbrev pub IsMadeBy : FoundFile → Publication → Publication → Type 0
 IsMadeBy nothing p q = q ≡ p
 IsMadeBy (file known) p q = IsMadeFrom known p q
 
 -- the snapshot holds what that makes of what was in force
-abbrev pub HasTaken : Found → Publication → Snapshot → Type 0
+abbrev pub HasTaken : FoundFile → Publication → Snapshot → Type 0
 HasTaken found p snapshot = (q : Publication) × HoldsPublication snapshot q × IsMadeBy found p q
 
 -- all that was found, the last first, makes it, each by its changes; but what is refused changes nothing
-abbrev pub IsMadeByAll : List Found → Publication → Publication → Type 0
+abbrev pub IsMadeByAll : List FoundFile → Publication → Publication → Type 0
 IsMadeByAll [] p q = q ≡ p
 IsMadeByAll (found ∷ before) p q = (m : Publication) × IsMadeByAll before p m × (IsMadeBy found m q ⊎ (q ≡ m))
 
 -- what was found from the old state to the new one, where it is told, makes what the new snapshot holds of what the old
 -- one held
-abbrev pub TakesFound : (told now : Option (List Found)) (old new : Snapshot) → Type 0
-TakesFound told now old new = IfSome told (λ before. (more : List Found) × (now ≡ Some (more ++ before))
+abbrev pub TakesFound : (told now : Option (List FoundFile)) (old new : Snapshot) → Type 0
+TakesFound told now old new = IfSome told (λ before. (more : List FoundFile) × (now ≡ Some (more ++ before))
     × ((p : Publication) → HoldsPublication old p → (q : Publication) × HoldsPublication new q × IsMadeByAll more p q))

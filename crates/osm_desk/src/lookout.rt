@@ -3,7 +3,7 @@
 ghost use Rattle.std.specs.Prelude.{◌≡◌, List, Option};
 ghost use Rattle.osm_keys.specs.Publications.{Publication};
 ghost use Rattle.osm_index.specs.Snapshots.{HoldsPublication};
-ghost use Rattle.osm_desk.specs.Published.{Found, HasPublished, TakesFound};
+ghost use Rattle.osm_desk.specs.Published.{FoundFile, HasPublished, TakesFound};
 
 use crate::desk::Desk;
 use std::io::Write;
@@ -11,7 +11,7 @@ use std::io::Write;
 /// Looks for changes, and publishes what it finds.
 pub trait Lookout {
     /// What it has found so far, the last one first, where it tells.
-    ghost found: { Self → Option (List Found) };
+    ghost found: { Self → Option (List FoundFile) };
 
     /// Looks for changes once, and publishes them at the desk where there are some. Changes that are refused are told in
     /// one line of `errors`, and what was in force stays.

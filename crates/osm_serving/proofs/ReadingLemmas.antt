@@ -14,7 +14,7 @@ use Rattle.osm_index.specs.declared.apply_fault.ApplyFault.TheVariants as refusa
 use Rattle.osm_index.specs.declared.snapshot.Snapshot.{Snapshot}
 use Rattle.osm_desk.specs.Made.{IsMade, RefusesChanges}
 use Rattle.osm_serving.specs.ChangeFiles.{ExplainsChanges, ExplainsFound, HasMade, HasMadeOf, HoldsNoChanges, IsOutsideOrRefused, fault_of_apply, fault_of_command}
-use Rattle.osm_desk.specs.Published.{Found, GivesChanges, HasPublished, HasTaken, IsMadeByAll, TakesFound}
+use Rattle.osm_desk.specs.Published.{FoundFile, GivesChanges, HasPublished, HasTaken, IsMadeByAll, TakesFound}
 use Rattle.osm_desk.proofs.shared.StillHeld.{still_held}
 use Rattle.osm_serving.proofs.ChangeLemmas.{left_in_force}
 use Rattle.osm_commands.specs.Faults.{fault_of_cause, fault_of_load}
@@ -134,9 +134,9 @@ made_of_all (Some text) p changes now new same only (q, makes, held) = λ all ho
 -- ---- what a source found, one after the other
 
 -- it was asked once, and what it gave was published or refused
-pub one_found : (told now : Option (List Found)) (old new : Snapshot) (result : Result (Unit {0}) ChangesFault)
+pub one_found : (told now : Option (List FoundFile)) (old new : Snapshot) (result : Result (Unit {0}) ChangesFault)
     → OnErr result (IsAsBefore old new)
-    → IfSome told (λ before. (found : Found) × (now ≡ Some (found ∷ before))
+    → IfSome told (λ before. (found : FoundFile) × (now ≡ Some (found ∷ before))
     × ((p : Publication) → HoldsPublication old p → MatchResult result (λ _. HasTaken found p new) (ExplainsFound found p)))
     → TakesFound told now old new
 one_found None now old new result unchanged finds = tt

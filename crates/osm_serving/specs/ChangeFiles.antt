@@ -13,7 +13,7 @@ use Rattle.osm_index.specs.declared.apply_fault.ApplyFault.TheVariants as refusa
 use Rattle.osm_keys.specs.declared.edition.Edition.{Edition}
 use Rattle.osm_keys.specs.declared.edition.Edition.TheVariants as editions
 use Rattle.osm_desk.specs.Made.{IsMade}
-use Rattle.osm_desk.specs.Published.{Found, GivesChanges, IsMadeFrom, IsPublishedFrom, file, nothing}
+use Rattle.osm_desk.specs.Published.{FoundFile, GivesChanges, IsMadeFrom, IsPublishedFrom, file, nothing}
 use Rattle.osm_serving.specs.declared.changes_fault.ChangesFault.{ChangesFault}
 use Rattle.osm_serving.specs.declared.changes_fault.ChangesFault.TheVariants.{Apply, Opl, Memory, Device}
 use Rattle.osm_commands.specs.declared.command_fault.CommandFault.{CommandFault}
@@ -89,6 +89,6 @@ IsReachedBy zero p q = q ≡ p
 IsReachedBy (suc n) p q = IsReachedBy n p q ⊎ ((m : Publication) × IsReachedBy n p m × IsPublishedFrom m q)
 
 -- why what was found isn't published: the source refused, or the file that it gave is
-abbrev pub ExplainsFound : Found → Publication → ChangesFault → Type 0
+abbrev pub ExplainsFound : FoundFile → Publication → ChangesFault → Type 0
 ExplainsFound nothing p fault = (fault ≡ Memory) ⊎ (fault ≡ Device)
 ExplainsFound (file known) p fault = (left : Option (List ℕ)) × ExplainsChanges known left p fault

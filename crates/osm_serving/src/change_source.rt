@@ -2,7 +2,7 @@
 
 ghost use Rattle.std.specs.Prelude.{◌≡◌, ◌⊎◌, ◌∷◌, ℕ, IfErr, IfSome, List, Option, Some};
 ghost use Rattle.osm_serving.specs.ChangeSources.{found_in};
-ghost use Rattle.osm_desk.specs.Published.{Found};
+ghost use Rattle.osm_desk.specs.Published.{FoundFile};
 
 use osm_commands::CommandFault;
 use std::io::Read;
@@ -16,7 +16,7 @@ pub trait ChangeSource {
     ghost asked: { Self → Option (List ℕ) };
 
     /// What it said to each question, the last one first, where it tells.
-    ghost found: { Self → Option (List Found) };
+    ghost found: { Self → Option (List FoundFile) };
 
     /// The change file that makes the publication with this sequence number; none where there is no such file.
     /// Refused with `Device` where the file can't be opened, with `Memory` where memory runs out.

@@ -4,7 +4,7 @@ ghost use Rattle.std.specs.Prelude.{◌≡◌, ◌∷◌, IfSome, MatchResult, O
 ghost use Rattle.osm_keys.specs.Publications.{Publication};
 ghost use Rattle.osm_index.specs.Snapshots.{HoldsPublication, IsAsBefore};
 ghost use Rattle.osm_serving.specs.ChangeFiles.{ExplainsFound, IsNext, asked_after};
-ghost use Rattle.osm_desk.specs.Published.{Found, HasPublished, HasTaken, TakesFound};
+ghost use Rattle.osm_desk.specs.Published.{FoundFile, HasPublished, HasTaken, TakesFound};
 
 use crate::change_source::ChangeSource;
 use crate::changes_fault::ChangesFault;
@@ -71,7 +71,7 @@ fn publish_file<C: ChangeSource>(
     ensures in_force { (p : Publication) → HoldsPublication desk.old.snapshot p
         → HasPublished p desk.new.snapshot }
     // The changes of the file that the source gave are published, where it gave one, or it is told why not.
-    ensures found { IfSome (C.found source.old) (λ before. (found : Found)
+    ensures found { IfSome (C.found source.old) (λ before. (found : FoundFile)
         × (C.found source.new ≡ Some (found ∷ before))
         × ((p : Publication) → HoldsPublication desk.old.snapshot p
         → MatchResult result (λ _. HasTaken found p desk.new.snapshot) (ExplainsFound found p))) }

@@ -49,7 +49,7 @@ pub(crate) struct Peer {
 
 /// What a read of the socket found.
 #[derive(Clone, Copy, Debug, PartialEq, Eq)]
-pub(crate) enum Found {
+pub(crate) enum SocketRead {
     /// Some bytes.
     Bytes,
     /// Nothing yet.
@@ -111,29 +111,29 @@ impl Peer {
     }
 
     /// Reads from the socket where all that was read before has been given on.
-    pub(crate) fn fill(&mut self, now: Instant) -> Found {
+    pub(crate) fn fill(&mut self, now: Instant) -> SocketRead {
         if self.from < self.end {
-            return Found::Bytes;
+            return SocketRead::Bytes;
         }
         self.from = 0;
         self.end = 0;
         match self.stream.read(&mut self.bytes) {
             Ok(0) => {
                 self.has_ended = true;
-                Found::End
+                SocketRead::End
             }
             Ok(count) => {
                 self.end = count;
                 self.heard = now;
                 // Fewer bytes than asked needn't be all that there are: the next read tells.
-                Found::Bytes
+                SocketRead::Bytes
             }
             Err(error) if error.kind() == ErrorKind::WouldBlock => {
                 self.is_readable = false;
-                Found::Nothing
+                SocketRead::Nothing
             }
-            Err(error) if error.kind() == ErrorKind::Interrupted => Found::Again,
-            Err(_) => Found::Broken,
+            Err(error) if error.kind() == ErrorKind::Interrupted => SocketRead::Again,
+            Err(_) => SocketRead::Broken,
         }
     }
 
@@ -206,20 +206,20 @@ impl Peer {
     }
 
     /// Reads on at a connection that was let go.
-    pub(crate) fn read_on(&mut self) -> Found {
+    pub(crate) fn read_on(&mut self) -> SocketRead {
         match self.stream.read(&mut self.bytes) {
-            Ok(0) => Found::End,
+            Ok(0) => SocketRead::End,
             Ok(_) => {
                 self.reads_left = self.reads_left.saturating_sub(1);
                 if self.reads_left > 0 {
-                    Found::Again
+                    SocketRead::Again
                 } else {
-                    Found::End
+                    SocketRead::End
                 }
             }
-            Err(error) if error.kind() == ErrorKind::WouldBlock => Found::Nothing,
-            Err(error) if error.kind() == ErrorKind::Interrupted => Found::Again,
-            Err(_) => Found::Broken,
+            Err(error) if error.kind() == ErrorKind::WouldBlock => SocketRead::Nothing,
+            Err(error) if error.kind() == ErrorKind::Interrupted => SocketRead::Again,
+            Err(_) => SocketRead::Broken,
         }
     }
 

@@ -2,7 +2,7 @@
 
 use crate::listener::{LISTENER, Listener};
 use crate::patience::{LINGER_LIMIT, RETRY_MILLISECONDS, SWEEP_MILLISECONDS};
-use crate::peer::{Found, Peer};
+use crate::peer::{Peer, SocketRead};
 use mio::event::Event;
 use mio::net::TcpStream;
 use mio::{Events, Interest, Poll, Token};
@@ -184,9 +184,9 @@ impl<'a> Sockets<'a> {
             return;
         };
         let stays = match peer.read_on() {
-            Found::Again => enqueue(&mut self.queue, peer),
-            Found::Nothing => true,
-            Found::Bytes | Found::End | Found::Broken => false,
+            SocketRead::Again => enqueue(&mut self.queue, peer),
+            SocketRead::Nothing => true,
+            SocketRead::Bytes | SocketRead::End | SocketRead::Broken => false,
         };
         if !stays {
             self.close(at);
@@ -324,10 +324,10 @@ impl<'a> Traffic for Sockets<'a> {
             return Reading::Gone;
         };
         let count = match peer.fill(self.now) {
-            Found::Bytes => peer.give(piece, self.now),
-            Found::Nothing | Found::Again => 0,
-            Found::End => return Reading::Ended,
-            Found::Broken => return Reading::Gone,
+            SocketRead::Bytes => peer.give(piece, self.now),
+            SocketRead::Nothing | SocketRead::Again => 0,
+            SocketRead::End => return Reading::Ended,
+            SocketRead::Broken => return Reading::Gone,
         };
         if peer.has_turn() && !enqueue(&mut self.queue, peer) {
             return Reading::Gone;

@@ -28,7 +28,7 @@ use Rattle.ref_sets.specs.NamedSets.{nothing_named, put, Env}
 use Rattle.ql_meaning.specs.Meanings.{cut, given_by}
 use Rattle.ql_syntax.specs.Statements.{Statement, Select, Recurse, Item, Union, Minus, Print}
 use Rattle.ql_eval.specs.Forms.{Names}
-use Rattle.ql_eval.specs.Told.{IsNamedIn}
+use Rattle.ql_eval.specs.TrueFaults.{IsNamedIn}
 use Rattle.ql_eval.specs.declared.fault.EvalFault.{EvalFault}
 use Rattle.ql_eval.specs.internal.Entries.{IsSaid, SaysIn}
 use Rattle.ql_eval.specs.internal.Giving.{AllGiven, AllSetsGiven}

@@ -25,7 +25,7 @@ use Rattle.osm_keys.specs.declared.manifest.Manifest.{Manifest}
 use Rattle.tree_node.specs.declared.tree.Tree.TheVariants.{Objects}
 use Rattle.tree_walk.specs.Given.{These}
 use Rattle.tree_walk.proofs.shared.GivenLaws.{gives_more}
-use Rattle.ql_eval.specs.Told.{IsAbsent}
+use Rattle.ql_eval.specs.TrueFaults.{IsAbsent}
 use Rattle.ql_eval.specs.Faults.{cause_of_evaluation}
 use Rattle.ql_eval.specs.Questions.{NeedsAsk, object_ask}
 use Rattle.ql_eval.specs.internal.Objects.{AreAbsent, IsKnownObject, IsKnownParent, IsKnownThere, Remembers}

@@ -22,8 +22,8 @@ use Rattle.tree_walk.proofs.shared.GivenLaws.{given_entry, gives_more}
 use Rattle.tree_walk.proofs.shared.WalksGivenLaws.{given_one}
 use Rattle.ql_eval.specs.Faults.{fault_of_walk}
 use Rattle.ql_eval.specs.Forms.{HaveForm}
-use Rattle.ql_eval.specs.Told.{IsAbsent}
-use Rattle.ql_eval.specs.internal.Told.{IsTold}
+use Rattle.ql_eval.specs.TrueFaults.{IsAbsent}
+use Rattle.ql_eval.specs.internal.TrueFaults.{IsTrueUnder}
 use Rattle.ql_eval.specs.declared.fault.EvalFault.{EvalFault}
 use Rattle.ql_eval.specs.internal.Entries.{AreMisread, IsPutBy}
 
@@ -44,7 +44,7 @@ walk_counted top_of held old new calls later from to tree range (Err f) called w
 -- ---- what is told
 
 -- a refused walk has its reason
-pub walk_told : (held used : Nodes) (m : Manifest) (tree : Tree) (fault : WalkFault) → HasReason (number_of tree) (top_among m.tops tree) held used fault → IsTold held used m (fault_of_walk fault)
+pub walk_told : (held used : Nodes) (m : Manifest) (tree : Tree) (fault : WalkFault) → HasReason (number_of tree) (top_among m.tops tree) held used fault → IsTrueUnder held used m (fault_of_walk fault)
 walk_told held used m tree walks.Missing reason = ((λ (e : walks.Missing ≡ walks.Memory). cc), tree, reason)
 walk_told held used m tree (walks.Malformed fault) reason = ((λ (e : walks.Malformed fault ≡ walks.Memory). cc), tree, reason)
 walk_told held used m tree walks.WrongTreeOrLevel reason = ((λ (e : walks.WrongTreeOrLevel ≡ walks.Memory). cc), tree, reason)
@@ -53,11 +53,11 @@ walk_told held used m tree walks.Memory reason = tt
 
 -- entries that couldn't be read are told to be of another form
 pub read_told : {B : Type 0} (held old used : Nodes) (m : Manifest) (from to : ℕ) (tree : Tree) (range : Range) (found : List Binding) (result : Result B EvalFault)
-    → IsWalk (uses held old used) from to tree (top_among m.tops tree) range (These found) → IfErr result (AreMisread tree found) → IfErr result (IsTold held used m)
+    → IsWalk (uses held old used) from to tree (top_among m.tops tree) range (These found) → IfErr result (AreMisread tree found) → IfErr result (IsTrueUnder held used m)
 read_told held old used m from to tree range found (Ok b) walk refused = tt
 read_told held old used m from to tree range found (Err fault) walk refused = elim refused [
-  | inl memory ↦ subst (IsTold held used m) (sym memory) tt
-  | inr form ↦ subst (IsTold held used m) (sym form.0) (record {
+  | inl memory ↦ subst (IsTrueUnder held used m) (sym memory) tt
+  | inr form ↦ subst (IsTrueUnder held used m) (sym form.0) (record {
     tree = tree;
     range = range;
     entry = form.1.0;

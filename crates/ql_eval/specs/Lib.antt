@@ -4,7 +4,7 @@ pub mod Faults
 pub mod Refusals
 pub mod Questions
 pub mod Forms
-pub mod Told
+pub mod TrueFaults
 pub mod Asks
 pub mod Written
 pub mod internal

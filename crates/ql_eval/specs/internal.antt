@@ -15,5 +15,5 @@ pub mod Narrowing
 pub mod Counting
 pub mod Printing
 pub mod Giving
-pub mod Told
+pub mod TrueFaults
 pub mod Objects

@@ -14,9 +14,9 @@ ghost use Rattle.ref_sets.specs.Adding.{Adds};
 ghost use Rattle.ql_eval.specs.Asks.{IsAskedInBox, IsInBox};
 ghost use Rattle.ql_eval.specs.Faults.{cause_of_evaluation};
 ghost use Rattle.ql_eval.specs.Openings.{IsUnder};
-ghost use Rattle.ql_eval.specs.Told.{IsNamedIn};
+ghost use Rattle.ql_eval.specs.TrueFaults.{IsNamedIn};
 ghost use Rattle.ql_eval.specs.internal.Giving.{AllGiven};
-ghost use Rattle.ql_eval.specs.internal.Told.{IsTold};
+ghost use Rattle.ql_eval.specs.internal.TrueFaults.{IsTrueUnder};
 ghost use Rattle.ql_eval.specs.Questions.{NeededBy};
 ghost use Rattle.ql_eval.specs.internal.Boxes.{IsCellsAsk, IsFoundIn};
 ghost use Rattle.ql_eval.specs.Forms.{HasForm, HaveForm};
@@ -46,7 +46,7 @@ pub(crate) fn find_in_box<'a, S: Shelf<'a>>(
     ensures walked { OnOk result (HasGiven (top_among manifest.now.tops) HaveForm
         (nodes_around S.holds S.used shelf.old shelf.new)
         tally.old.calls tally.new.calls tally.old.fetches tally.new.fetches) }
-    ensures told { IfErr result (IsTold (S.holds shelf.new) (S.used shelf.new) manifest.now) }
+    ensures told { IfErr result (IsTrueUnder (S.holds shelf.new) (S.used shelf.new) manifest.now) }
     ensures named { IfOk result (AllGiven (IsNamedIn (S.used shelf.new) manifest.now)) }
     ensures answer { (p : Publication) → IsPublication p → IsUnder p manifest.now
         → Outcome cause_of_evaluation
@@ -78,7 +78,7 @@ fn add_range<'a, S: Shelf<'a>>(
     ensures walked { OnOk result (HasGiven (top_among manifest.now.tops) HaveForm
         (nodes_around S.holds S.used shelf.old shelf.new)
         tally.old.calls tally.new.calls tally.old.fetches tally.new.fetches) }
-    ensures told { IfErr result (IsTold (S.holds shelf.new) (S.used shelf.new) manifest.now) }
+    ensures told { IfErr result (IsTrueUnder (S.holds shelf.new) (S.used shelf.new) manifest.now) }
     ensures named { OnOk result
         (AllGiven (IsNamedIn (S.used shelf.new) manifest.now) names.new.items) }
     ensures answer { (p : Publication) → IsPublication p → IsUnder p manifest.now

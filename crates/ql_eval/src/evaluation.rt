@@ -13,11 +13,11 @@ ghost use Rattle.ref_sets.specs.NamedSets.{nothing_named};
 ghost use Rattle.ql_eval.specs.Asks.{AskedByAll, IsNeeded};
 ghost use Rattle.ql_eval.specs.Faults.{cause_of_evaluation};
 ghost use Rattle.ql_eval.specs.Forms.{HaveForm};
-ghost use Rattle.ql_eval.specs.Openings.{HasMalformed, IsHeldUnder, IsUnder, nodes_after};
+ghost use Rattle.ql_eval.specs.Openings.{HasMalformed, IsUnder, nodes_after};
 ghost use Rattle.ql_eval.specs.Questions.{NeededBy};
-ghost use Rattle.ql_eval.specs.Told.{HasFault};
+ghost use Rattle.ql_eval.specs.TrueFaults.{HoldsUnder, IsTrueFault};
 ghost use Rattle.ql_eval.specs.Written.{HasWritten, HasWrittenMeaning};
-ghost use Rattle.ql_eval.specs.internal.Told.{IsTold};
+ghost use Rattle.ql_eval.specs.internal.TrueFaults.{IsTrueUnder};
 ghost use Rattle.tree_walk.specs.Uses.{nodes_around};
 
 use crate::answering::answer_all;
@@ -71,17 +71,16 @@ pub fn evaluate<'a, S: Shelf<'a>, T: Sink>(
         → (result ≡ Err (EvalFault.Manifest ManifestFault.Malformed))
         ⊎ (result ≡ Err EvalFault.Memory) }
     // Each fault is true of the nodes, whoever made them.
-    ensures told { IfErr result (HasFault (S.holds shelf.new) (S.used shelf.new) root.now.0) }
+    ensures told { IfErr result (IsTrueFault (S.holds shelf.new) (S.used shelf.new) root.now.0) }
     // Whatever the root is of, the report counts the walks and what they fetched.
-    ensures report { IfOk result (λ report. (found : Manifest)
-        × IsHeldUnder (S.holds shelf.new) root.now.0 found
-        × HasWalked (nodes_after found S.holds S.used shelf.old shelf.new) 0 report.ranges 0 report.fetched) }
+    ensures report { IfOk result (λ report. HoldsUnder (S.holds shelf.new) root.now.0 (λ found.
+        HasWalked (nodes_after found S.holds S.used shelf.old shelf.new)
+        0 report.ranges 0 report.fetched)) }
     // These walks are the report's: each gave what its nodes say, from the tops that the manifest names on, and all entries
     // that they gave are of their trees' forms.
-    ensures walks { IfOk result (λ report. (found : Manifest)
-        × IsHeldUnder (S.holds shelf.new) root.now.0 found
-        × HasGiven (top_among found.tops) HaveForm
-        (nodes_after found S.holds S.used shelf.old shelf.new) 0 report.ranges 0 report.fetched) }
+    ensures walks { IfOk result (λ report. HoldsUnder (S.holds shelf.new) root.now.0 (λ found.
+        HasGiven (top_among found.tops) HaveForm (nodes_after found S.holds S.used shelf.old shelf.new)
+        0 report.ranges 0 report.fetched)) }
     // Under the root of a publication: its answer, by just the needed nodes.
     ensures answer { (p : Publication) → IsPublication p → root.now.0 ≡ root_of p
         → Outcome cause_of_evaluation
@@ -131,7 +130,7 @@ fn run_over<'a, S: Shelf<'a>, T: Sink>(
     ensures held { (bytes : List ℕ) → S.used shelf.new bytes → S.holds shelf.new bytes }
     ensures walked { OnOk result (HasGiven (top_among manifest.tops) HaveForm
         (nodes_around S.holds S.used shelf.old shelf.new) 0 tally.new.calls 0 tally.new.fetches) }
-    ensures told { IfErr result (IsTold (S.holds shelf.new) (S.used shelf.new) manifest) }
+    ensures told { IfErr result (IsTrueUnder (S.holds shelf.new) (S.used shelf.new) manifest) }
     ensures kept { T.kept sink.new ≡ T.kept sink.old }
     ensures wrote { (text : List ℕ) × HasWritten (T.stands sink.old) (T.stands sink.new) text }
     ensures answer { (p : Publication) → IsPublication p → IsUnder p manifest

@@ -15,10 +15,10 @@ ghost use Rattle.ql_eval.specs.Faults.{cause_of_evaluation};
 ghost use Rattle.ql_eval.specs.Forms.{HaveForm};
 ghost use Rattle.ql_eval.specs.Openings.{IsUnder};
 ghost use Rattle.ql_eval.specs.Questions.{NeedsAsk, object_ask};
-ghost use Rattle.ql_eval.specs.Told.{IsAbsent};
+ghost use Rattle.ql_eval.specs.TrueFaults.{IsAbsent};
 ghost use Rattle.ql_eval.specs.internal.Entries.{AreMisread, IsPutBy};
 ghost use Rattle.ql_eval.specs.internal.Objects.{AreAbsent, Remembers};
-ghost use Rattle.ql_eval.specs.internal.Told.{IsTold};
+ghost use Rattle.ql_eval.specs.internal.TrueFaults.{IsTrueUnder};
 ghost use Rattle.tree_walk.specs.Uses.{nodes_around};
 
 use crate::fault::EvalFault;
@@ -53,7 +53,7 @@ pub(crate) fn look_up<'a, S: Shelf<'a>>(
     ensures walked { OnOk result (HasGiven (top_among manifest.now.tops) HaveForm
         (nodes_around S.holds S.used shelf.old shelf.new)
         tally.old.calls tally.new.calls tally.old.fetches tally.new.fetches) }
-    ensures told { IfErr result (IsTold (S.holds shelf.new) (S.used shelf.new) manifest.now) }
+    ensures told { IfErr result (IsTrueUnder (S.holds shelf.new) (S.used shelf.new) manifest.now) }
     ensures keeps { (r : Ref) (object : Option Element) → get ref_cmp objects.old r ≡ Some object
         → get ref_cmp objects.new r ≡ Some object }
     ensures known { OnOk result
@@ -90,7 +90,7 @@ fn find_object<'a, S: Shelf<'a>>(
     ensures walked { OnOk result (HasGiven (top_among manifest.now.tops) HaveForm
         (nodes_around S.holds S.used shelf.old shelf.new)
         tally.old.calls tally.new.calls tally.old.fetches tally.new.fetches) }
-    ensures told { IfErr result (IsTold (S.holds shelf.new) (S.used shelf.new) manifest.now) }
+    ensures told { IfErr result (IsTrueUnder (S.holds shelf.new) (S.used shelf.new) manifest.now) }
     ensures absent { IfOk result
         (λ object. object ≡ None → IsAbsent (S.used shelf.new) manifest.now name) }
     ensures answer { (p : Publication) → IsPublication p → IsUnder p manifest.now

@@ -12,9 +12,9 @@ ghost use Rattle.ql_meaning.specs.Values.{IsRefOf};
 ghost use Rattle.ql_eval.specs.Faults.{cause_of_evaluation};
 ghost use Rattle.ql_eval.specs.Forms.{HaveForm};
 ghost use Rattle.ql_eval.specs.Openings.{IsUnder};
-ghost use Rattle.ql_eval.specs.Told.{IsNamedIn};
+ghost use Rattle.ql_eval.specs.TrueFaults.{IsNamedIn};
 ghost use Rattle.ql_eval.specs.internal.Giving.{AllGiven};
-ghost use Rattle.ql_eval.specs.internal.Told.{IsTold};
+ghost use Rattle.ql_eval.specs.internal.TrueFaults.{IsTrueUnder};
 ghost use Rattle.ql_eval.specs.Questions.{Answers, HasNoNulIn, IsCountOf, NeedsAsk, count_ask, names_ask, range_asked, tree_asked};
 ghost use Rattle.ql_eval.specs.internal.Entries.{TargetFits};
 ghost use Rattle.ql_eval.specs.internal.Views.{question_of};
@@ -48,7 +48,7 @@ pub(crate) fn find_names<'a, S: Shelf<'a>>(
     ensures walked { OnOk result (HasGiven (top_among manifest.now.tops) HaveForm
         (nodes_around S.holds S.used shelf.old shelf.new)
         tally.old.calls tally.new.calls tally.old.fetches tally.new.fetches) }
-    ensures told { IfErr result (IsTold (S.holds shelf.new) (S.used shelf.new) manifest.now) }
+    ensures told { IfErr result (IsTrueUnder (S.holds shelf.new) (S.used shelf.new) manifest.now) }
     ensures named { IfOk result (AllGiven (IsNamedIn (S.used shelf.new) manifest.now)) }
     ensures answer { (p : Publication) → IsPublication p → IsUnder p manifest.now
         → HasNoNulIn (question_of question.now)
@@ -76,7 +76,7 @@ pub(crate) fn count_names<'a, S: Shelf<'a>>(
     ensures walked { OnOk result (HasGiven (top_among manifest.now.tops) HaveForm
         (nodes_around S.holds S.used shelf.old shelf.new)
         tally.old.calls tally.new.calls tally.old.fetches tally.new.fetches) }
-    ensures told { IfErr result (IsTold (S.holds shelf.new) (S.used shelf.new) manifest.now) }
+    ensures told { IfErr result (IsTrueUnder (S.holds shelf.new) (S.used shelf.new) manifest.now) }
     ensures answer { (p : Publication) → IsPublication p → IsUnder p manifest.now
         → Outcome cause_of_evaluation (IsCountOf p (question_of question.now))
         (NeedsAsk p (count_ask (question_of question.now)))

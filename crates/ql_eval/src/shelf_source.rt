@@ -48,7 +48,7 @@ impl<'s, 'a, S: Shelf<'a>> Source for ShelfSource<'s, 'a, S> {
     ghost use Rattle.osm_keys.specs.Publications.{Publication};
     ghost use Rattle.ql_eval.specs.Openings.{IsUnder};
     ghost use Rattle.ql_eval.specs.internal.Objects.{AreAbsent, IsGivenOrThere, IsToldAbsent, Remembers};
-    ghost use Rattle.ql_eval.specs.internal.Told.{IsTold};
+    ghost use Rattle.ql_eval.specs.internal.TrueFaults.{IsTrueUnder};
     ghost use Rattle.tree_walk.proofs.shared.WalksGivenLaws.{given_none, given_then};
 
     ghost holds = { λ o. S.holds o.shelf.now };
@@ -62,7 +62,7 @@ impl<'s, 'a, S: Shelf<'a>> Source for ShelfSource<'s, 'a, S> {
     ghost gave = { λ o r. IsGivenOrThere (S.used o.shelf.now) o.manifest o.objects.now r };
 
     ghost tells = { λ o fault. AreAbsent (S.used o.shelf.now) o.manifest o.objects.now
-        → IsTold (S.holds o.shelf.now) (S.used o.shelf.now) o.manifest fault };
+        → IsTrueUnder (S.holds o.shelf.now) (S.used o.shelf.now) o.manifest fault };
 
     ghost later = { λ o n. (o.shelf.ghost_name ≡ n.shelf.ghost_name) × (o.manifest ≡ n.manifest)
         × SameNodes (S.holds o.shelf.now) (S.holds n.shelf.now)

@@ -13,7 +13,7 @@ use Rattle.osm_keys.specs.Publications.{IsPublication, Publication}
 use Rattle.tree_node.specs.Outcomes.{Clash}
 use Rattle.osm_keys.specs.declared.manifest.Manifest.{Manifest}
 use Rattle.ql_eval.specs.Questions.{NeedsAsk, object_ask}
-use Rattle.ql_eval.specs.Told.{IsAbsent, IsNamedIn}
+use Rattle.ql_eval.specs.TrueFaults.{IsAbsent, IsNamedIn}
 
 -- reading the line ran out of memory
 abbrev pub IsForMemory : Result (Option Change) OplFault → Type 0

@@ -14,7 +14,7 @@ use Rattle.ql_eval.proofs.BoxLemmas.{range_added}
 use Rattle.ql_eval.proofs.EachLemmas.{needed_one, one_needed}
 use Rattle.osm_keys.specs.Manifests.{top_among}
 use Rattle.ql_eval.specs.Forms.{HaveForm}
-use Rattle.ql_eval.specs.internal.Told.{IsTold}
+use Rattle.ql_eval.specs.internal.TrueFaults.{IsTrueUnder}
 use Rattle.ql_eval.proofs.StepLemmas.{refused_as, then_read, walk_cause}
 use Rattle.ql_eval.proofs.WalkLemmas.{read_told, walk_read, walk_told}
 use Rattle.std.proofs.Common.{refl}
@@ -41,7 +41,7 @@ returns-clause-answer g c = λ p is under.
 
 pub returns-in_err-found-clause-told : goal.returns-in_err-found-clause-told
 returns-in_err-found-clause-told g c =
-    refused_as (IsTold (g.S.Shelf.holds c.entries_in.new.shelf) (g.S.Shelf.used c.entries_in.new.shelf) c.args.manifest.now) c.from_residual.result _ c.from_residual.ensures.1
+    refused_as (IsTrueUnder (g.S.Shelf.holds c.entries_in.new.shelf) (g.S.Shelf.used c.entries_in.new.shelf) c.args.manifest.now) c.from_residual.result _ c.from_residual.ensures.1
     (walk_told _ _ c.args.manifest.now Cells _ c.in_err-found.ensures.told)
 
 pub returns-clause-walked : goal.returns-clause-walked

@@ -1,4 +1,4 @@
-use Rattle.ql_eval.specs.Told.{IsNamedIn}
+use Rattle.ql_eval.specs.TrueFaults.{IsNamedIn}
 use Rattle.ql_eval.specs.internal.Giving.{AllGiven}
 use Rattle.std.proofs.Common.{ℕ, List, []}
 use Rattle.tree_node.specs.Shelves.{SameNodes}

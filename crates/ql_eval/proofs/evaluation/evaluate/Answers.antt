@@ -10,7 +10,7 @@ use Rattle.osm_keys.specs.Manifests.{top_among}
 use Rattle.tree_walk.proofs.shared.WalksGivenLaws.{given_from, given_walked}
 use Rattle.ql_eval.specs.Forms.{HaveForm}
 use Rattle.ql_eval.specs.Questions.{NeededBy}
-use Rattle.ql_eval.specs.Told.{HasFault}
+use Rattle.ql_eval.specs.TrueFaults.{IsTrueFault}
 use Rattle.ql_eval.proofs.Openings.{opening_cause}
 use Rattle.ql_eval.proofs.StepLemmas.{refused_as}
 use Rattle.ql_eval.proofs.ToldLemmas.{opening_told, told_under}
@@ -62,7 +62,7 @@ returns-in_err-manifest-clause-answer g c = λ p is root.
 
 pub returns-in_err-manifest-clause-told : goal.returns-in_err-manifest-clause-told
 returns-in_err-manifest-clause-told g c =
-    refused_as (HasFault (g.S.Shelf.holds c.open_manifest.new.shelf) (g.S.Shelf.used c.open_manifest.new.shelf) c.args.root.now.0) c.from_residual.result _ c.from_residual.ensures.1
+    refused_as (IsTrueFault (g.S.Shelf.holds c.open_manifest.new.shelf) (g.S.Shelf.used c.open_manifest.new.shelf) c.args.root.now.0) c.from_residual.result _ c.from_residual.ensures.1
     (opening_told _ _ _ c.open_manifest.result _ c.in_err-manifest.was c.open_manifest.ensures.missing c.open_manifest.ensures.malformed)
 
 pub returns-in-Err-clause-told : goal.returns-in-Err-clause-told

@@ -13,7 +13,7 @@ use Rattle.ql_eval.proofs.ObjectLemmas.{object_read}
 use Rattle.osm_keys.specs.Manifests.{top_among}
 use Rattle.tree_walk.specs.Given.{IsWalk, These}
 use Rattle.ql_eval.specs.Forms.{HaveForm}
-use Rattle.ql_eval.specs.internal.Told.{IsTold}
+use Rattle.ql_eval.specs.internal.TrueFaults.{IsTrueUnder}
 use Rattle.ql_eval.proofs.StepLemmas.{refused_as, then_read, walk_cause}
 use Rattle.ql_eval.proofs.WalkLemmas.{none_given, read_told, walk_read, walk_told}
 use Rattle.ql_eval.proofs.known.find_object.Goals as goal
@@ -41,7 +41,7 @@ returns-clause-answer g c = λ p is under.
 
 pub returns-in_err-found-clause-told : goal.returns-in_err-found-clause-told
 returns-in_err-found-clause-told g c =
-    refused_as (IsTold (g.S.Shelf.holds c.entries_in.new.shelf) (g.S.Shelf.used c.entries_in.new.shelf) c.args.manifest.now) c.from_residual.result _ c.from_residual.ensures.1
+    refused_as (IsTrueUnder (g.S.Shelf.holds c.entries_in.new.shelf) (g.S.Shelf.used c.entries_in.new.shelf) c.args.manifest.now) c.from_residual.result _ c.from_residual.ensures.1
     (walk_told _ _ c.args.manifest.now Objects _ c.in_err-found.ensures.told)
 
 pub returns-clause-walked : goal.returns-clause-walked

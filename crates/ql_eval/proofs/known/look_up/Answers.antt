@@ -7,7 +7,7 @@ use Rattle.osm_model.specs.declared.reference.Ref.{Ref}
 use Rattle.tree_node.proofs.shared.OutcomeLaws.{outcome_as}
 use Rattle.ref_sets.proofs.shared.References.{same_order}
 use Rattle.ql_eval.proofs.KnownLemmas.{absent_later, absent_one_more, added_known, keeps_known, known_again, known_now, known_there, remembers_later, remembers_one_more}
-use Rattle.ql_eval.specs.internal.Told.{IsTold}
+use Rattle.ql_eval.specs.internal.TrueFaults.{IsTrueUnder}
 use Rattle.ql_eval.proofs.StepLemmas.{refused_as}
 use Rattle.ql_eval.proofs.known.look_up.Goals as goal
 
@@ -73,4 +73,4 @@ returns-clause-absent g c = λ absent.
 
 pub returns-in_err-object-clause-told : goal.returns-in_err-object-clause-told
 returns-in_err-object-clause-told g c =
-    refused_as (IsTold (g.S.Shelf.holds c.find_object.new.shelf) (g.S.Shelf.used c.find_object.new.shelf) c.args.manifest.now) c.from_residual.result _ c.from_residual.ensures.1 c.in_err-object.ensures.told
+    refused_as (IsTrueUnder (g.S.Shelf.holds c.find_object.new.shelf) (g.S.Shelf.used c.find_object.new.shelf) c.args.manifest.now) c.from_residual.result _ c.from_residual.ensures.1 c.in_err-object.ensures.told

@@ -6,7 +6,7 @@ use Rattle.tree_walk.specs.Ranges.{Range}
 use Rattle.tree_walk.specs.Walks.{IsEntryIn}
 use Rattle.ql_eval.specs.Questions.{Ask, Counted, NeedsAsk, range_asked}
 use Rattle.ql_eval.specs.internal.Views.{question_of}
-use Rattle.ql_eval.specs.internal.Told.{IsTold}
+use Rattle.ql_eval.specs.internal.TrueFaults.{IsTrueUnder}
 use Rattle.ql_eval.proofs.StepLemmas.{refused_as, walk_cause}
 use Rattle.ql_eval.proofs.WalkLemmas.{walk_told}
 use Rattle.ql_eval.proofs.lookups.count_names.Goals as goal
@@ -32,5 +32,5 @@ returns-clause-answer g c = λ p is under.
 
 pub returns-in_err-count-clause-told : goal.returns-in_err-count-clause-told
 returns-in_err-count-clause-told g c =
-    refused_as (IsTold (g.S.Shelf.holds c.count_in.new.shelf) (g.S.Shelf.used c.count_in.new.shelf) c.args.manifest.now) c.from_residual-in_err-count.result _ c.from_residual-in_err-count.ensures.1
+    refused_as (IsTrueUnder (g.S.Shelf.holds c.count_in.new.shelf) (g.S.Shelf.used c.count_in.new.shelf) c.args.manifest.now) c.from_residual-in_err-count.result _ c.from_residual-in_err-count.ensures.1
     (walk_told _ _ c.args.manifest.now c.tree_of.result _ c.in_err-count.ensures.told)

@@ -14,7 +14,7 @@ use Rattle.ql_eval.specs.internal.Entries.{AreMisread, IsSaid}
 use Rattle.ql_eval.specs.internal.Views.{question_of}
 use Rattle.ql_eval.proofs.EntryLemmas.{answered}
 use Rattle.osm_keys.specs.Manifests.{top_among}
-use Rattle.ql_eval.specs.internal.Told.{IsTold}
+use Rattle.ql_eval.specs.internal.TrueFaults.{IsTrueUnder}
 use Rattle.ql_eval.proofs.StepLemmas.{refused_as, then_read, walk_cause}
 use Rattle.ql_eval.proofs.WalkLemmas.{read_told, walk_read, walk_told}
 use Rattle.ql_eval.proofs.GivenLemmas.{read_named}
@@ -48,7 +48,7 @@ returns-clause-answer g c = λ p is under clean.
 
 pub returns-in_err-found-clause-told : goal.returns-in_err-found-clause-told
 returns-in_err-found-clause-told g c =
-    refused_as (IsTold (g.S.Shelf.holds c.entries_in.new.shelf) (g.S.Shelf.used c.entries_in.new.shelf) c.args.manifest.now) c.from_residual-in_err-found.result _ c.from_residual-in_err-found.ensures.1
+    refused_as (IsTrueUnder (g.S.Shelf.holds c.entries_in.new.shelf) (g.S.Shelf.used c.entries_in.new.shelf) c.args.manifest.now) c.from_residual-in_err-found.result _ c.from_residual-in_err-found.ensures.1
     (walk_told _ _ c.args.manifest.now c.tree_of-tree.result _ c.in_err-found.ensures.told)
 
 pub returns-clause-walked : goal.returns-clause-walked

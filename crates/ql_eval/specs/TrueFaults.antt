@@ -57,11 +57,11 @@ HoldsUnder held root So = (found : Manifest) × held (manifest_bytes found) × (
 
 -- the fault is true of the nodes: E1 that a walk had its reason, E2 that an entry isn't of its form, E3 that an entry
 -- names an object that isn't there, E4 that no manifest is held under the root. Out of memory says nothing of them.
-abbrev pub HasFault : (held used : List ℕ → Type 0) → (root : List ℕ) → EvalFault → Type 0
-HasFault held used root (faults.Walk fault) = HoldsUnder held root (λ found. HasWalkFault held used found fault)
-HasFault held used root faults.Form = HoldsUnder held root (HasMalformedEntry used)
-HasFault held used root faults.Absent = HoldsUnder held root (λ found. (r : Ref) × IsNamedIn used found r × IsAbsent used found r)
-HasFault held used root (faults.Manifest openings.Missing) = HasNone held root
-HasFault held used root (faults.Manifest openings.Malformed) = HasMalformed held root
-HasFault held used root (faults.Manifest openings.Memory) = ⊥
-HasFault held used root faults.Memory = ⊤
+abbrev pub IsTrueFault : (held used : List ℕ → Type 0) → (root : List ℕ) → EvalFault → Type 0
+IsTrueFault held used root (faults.Walk fault) = HoldsUnder held root (λ found. HasWalkFault held used found fault)
+IsTrueFault held used root faults.Form = HoldsUnder held root (HasMalformedEntry used)
+IsTrueFault held used root faults.Absent = HoldsUnder held root (λ found. (r : Ref) × IsNamedIn used found r × IsAbsent used found r)
+IsTrueFault held used root (faults.Manifest openings.Missing) = HasNone held root
+IsTrueFault held used root (faults.Manifest openings.Malformed) = HasMalformed held root
+IsTrueFault held used root (faults.Manifest openings.Memory) = ⊥
+IsTrueFault held used root faults.Memory = ⊤
