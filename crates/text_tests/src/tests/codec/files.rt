@@ -1,7 +1,8 @@
 //! Files as sets and as lines: pieces of any size, failing readers, refused memory. Rows of files are read by the
 //! program, in tests/system/text_rows_test.py.
 
-use opl_codec::{Change, LineReader, LoadFault, OplCause, OplFault, PieceReader, cut, read_set};
+use byte_io::{PieceReader, split_once};
+use opl_codec::{Change, LineReader, LoadFault, OplCause, OplFault, read_set};
 use osm_model::{Kind, ObjectSet, Ref};
 use std::alloc::Global;
 use std::io::Read;
@@ -137,6 +138,6 @@ fn pieces_end_where_the_reader_does(rt: HostRuntime) {
     let mut reader = b"ab\nc".as_slice();
     let mut pieces = PieceReader::new();
     assert!(rt; pieces.read_next(&mut reader) == Ok(true));
-    assert!(rt; cut(pieces.last(), b'\n') == Some((b"ab".as_slice(), b"c".as_slice())));
+    assert!(rt; split_once(pieces.last(), b'\n') == Some((b"ab".as_slice(), b"c".as_slice())));
     assert!(rt; pieces.read_next(&mut reader) == Ok(false));
 }

@@ -1,8 +1,9 @@
 //! Texts, codes, degrees and moments. Rows of degrees and moments are read by the program, in tests/system.
 
 use super::made::text;
+use byte_io::digits_len;
 use osm_model::{
-    Axis, ModelFault, Stamp, Text, digits_len, hex_places, is_literal, read_degrees, write_degrees,
+    Axis, ModelFault, Stamp, Text, hex_places, is_literal, read_degrees, write_degrees,
 };
 use std::alloc::AllocError;
 use std::process::Abort;
