@@ -34,6 +34,7 @@ use osm_commands::read_snapshot::read_snapshot;
 use osm_commands::status::Status;
 use osm_desk::Desk;
 use osm_index::Snapshot;
+use osm_keys::Edition;
 use osm_sockets::Sockets;
 use osm_traffic::serve_many;
 use std::io::{ErrorKind, IsTerminal, Write};
@@ -41,7 +42,6 @@ use std::net::SocketAddr;
 use std::process::ExitCode;
 use std::time::Duration;
 use std::{env, fs, io};
-use osm_keys::Edition;
 use tree_node::Digest;
 
 /// How often change files are looked for while connections are kept, in milliseconds.
