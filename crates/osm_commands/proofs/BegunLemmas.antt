@@ -15,7 +15,7 @@ use Rattle.osm_commands.specs.Ask.{IsAnswer, IsBegun}
 use Rattle.osm_commands.specs.Files.{IfBoth, IfThree, IsBegunProof, IsBegunVerdict, IsProvedIn}
 use Rattle.osm_commands.specs.RootLines.{verdict_line}
 use Rattle.osm_commands.specs.TreeRoots.{IsPublicationIn, publication_line}
-use Rattle.osm_gate.specs.Written.{AppendsFront}
+use Rattle.byte_io.specs.Written.{AppendsFront}
 use Rattle.osm_commands.specs.Written.{AppendInTurn, Output, UpToFirst, UpToSecond, UpToThird, Writing}
 use Rattle.osm_commands.specs.declared.command_fault.CommandFault.{CommandFault}
 use Rattle.osm_commands.specs.declared.command_fault.CommandFault.TheVariants.{Device}

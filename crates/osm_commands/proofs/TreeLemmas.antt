@@ -13,7 +13,7 @@ use Rattle.osm_index.specs.declared.fault.IndexFault.{IndexFault}
 use Rattle.osm_index.specs.declared.fault.IndexFault.TheVariants as indexes
 use Rattle.osm_commands.specs.Faults.{fault_of_cause, fault_of_index, fault_of_load}
 use Rattle.osm_commands.specs.TreeRoots.{ExplainsTrees, HasClashingNodes, IsBegunTreeRoot, IsOutsideOrTrees, IsPublicationIn, IsUnheld, publication_line}
-use Rattle.osm_gate.specs.Written.{AppendsFront}
+use Rattle.byte_io.specs.Written.{AppendsFront}
 use Rattle.osm_commands.specs.declared.command_fault.CommandFault.{CommandFault}
 
 -- ---- a set that isn't read

@@ -12,7 +12,7 @@ use Rattle.ql_syntax.specs.Queries.{HasFault, Reads}
 use Rattle.ql_syntax.specs.Statements.{Statements}
 use Rattle.ql_meaning.specs.Meanings.{Means}
 use Rattle.osm_commands.specs.TreeRoots.{ExplainsTrees, IsPublicationIn}
-use Rattle.osm_gate.specs.Written.{AppendsFront}
+use Rattle.byte_io.specs.Written.{AppendsFront}
 use Rattle.osm_commands.specs.declared.command_fault.CommandFault.{CommandFault}
 use Rattle.osm_commands.specs.declared.command_fault.CommandFault.TheVariants.{Query}
 

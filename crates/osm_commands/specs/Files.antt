@@ -11,7 +11,7 @@ use Rattle.osm_check.specs.declared.verdict.Verdict.{Verdict}
 use Rattle.osm_commands.specs.Ask.{Explains, HoldsTrees}
 use Rattle.osm_commands.specs.RootLines.{verdict_line}
 use Rattle.osm_commands.specs.TreeRoots.{IsOutsideOrTrees, IsPublicationIn, publication_line}
-use Rattle.osm_gate.specs.Written.{AppendsFront}
+use Rattle.byte_io.specs.Written.{AppendsFront}
 use Rattle.osm_commands.specs.Written.{AppendInTurn, IsUntouched, Output}
 use Rattle.osm_commands.specs.declared.command_fault.CommandFault.{CommandFault}
 use Rattle.osm_commands.specs.declared.command_fault.CommandFault.TheVariants.{Endless, Memory, Device}

@@ -4,7 +4,7 @@ use Rattle.std.specs.Prelude.{◌≡◌, ℕ, List, Option, Result, Ok, Err}
 use Rattle.osm_commands.specs.declared.command_fault.CommandFault.{CommandFault}
 use Rattle.osm_commands.specs.declared.command_fault.CommandFault.TheVariants.{Device}
 use Rattle.std.specs.Io.KnownBytes.{Appends, Keeps}
-use Rattle.osm_gate.specs.Written.{AppendsFront}
+use Rattle.byte_io.specs.Written.{AppendsFront}
 
 -- the bytes of a writer before a call and after it, as far as it tells them
 pub record Output : Type 0 where

@@ -2,12 +2,12 @@
 
 ghost use Rattle.std.specs.Prelude.{◌≡◌, IfErr, OnOk, true};
 ghost use Rattle.std.specs.Io.KnownBytes.{Appends};
-ghost use Rattle.osm_gate.specs.Written.{AppendsFront};
+ghost use Rattle.byte_io.specs.Written.{AppendsFront};
 
 use crate::command_fault::CommandFault;
 use crate::outlet::Outlet;
 
-/// Writes the text as [`osm_gate::write_whole`] does, and flushes the writer.
+/// Writes the text as [`byte_io::write_whole`] does, and flushes the writer.
 ///
 /// Refused with `Device` where a call fails or takes nothing; a beginning of the text is written then.
 pub fn write_whole<W: Outlet>(writer: &mut W, text: &[u8]) -> Result<(), CommandFault>
@@ -19,7 +19,7 @@ pub fn write_whole<W: Outlet>(writer: &mut W, text: &[u8]) -> Result<(), Command
     ensures flushed { OnOk result (W.is_flushed writer.new ≡ true) }
     ensures device { IfErr result (λ fault. fault ≡ CommandFault.Device) }
 {
-    match osm_gate::write_whole(writer, text) {
+    match byte_io::write_whole(writer, text) {
         Ok(()) => writer.hand_on(),
         Err(_) => Err(CommandFault::Device),
     }

@@ -12,7 +12,7 @@ use Rattle.std.proofs.Math.Seq.{take-append-add, take-append_seam}
 use Rattle.osm_keys.specs.Publications.{Publication}
 use Rattle.osm_gate.specs.Connections.{Heard, Responds, RespondsTo, Rest, heard, heard_next}
 use Rattle.osm_gate.specs.Serving.{AreRead, Exchange, HasBegun, HasBrokenOff, HasEnded, HasGivenUp, IsPiece, but_last, is_closed_by, longest_piece, most_reads}
-use Rattle.osm_gate.specs.Written.{AppendsFront}
+use Rattle.byte_io.specs.Written.{AppendsFront}
 use Rattle.osm_gate.specs.declared.gate_fault.GateFault.{GateFault}
 use Rattle.osm_gate.specs.declared.gate_fault.GateFault.TheVariants.{Memory, Writer}
 use Rattle.osm_gate.proofs.ConnectionLemmas.{cut}
@@ -115,10 +115,10 @@ responds-before p pieces piece x is = subst (λ (ps : List (List ℕ)). Responds
 -- ---- how it breaks off
 
 -- a writer fails
-pub broken_writer : (p : Publication) (e : Exchange) (result : Result (Unit {0}) GateFault) (fault : GateFault) → IsErrAnd result (λ told. told ≡ fault)
-    → fault ≡ Writer → HasBegun p e → HasEnded p e result
-broken_writer p e (Ok done) fault told is begun = absurd told
-broken_writer p e (Err other) fault told is begun = subst (HasBrokenOff p e) (sym (told ∙ is)) begun
+pub broken_writer : (p : Publication) (e : Exchange) (result : Result (Unit {0}) GateFault) → IsErrAnd result (λ told. told ≡ Writer)
+    → HasBegun p e → HasEnded p e result
+broken_writer p e (Ok done) told begun = absurd told
+broken_writer p e (Err other) told begun = subst (HasBrokenOff p e) (sym told) begun
 
 -- memory runs out
 pub given_up : (p : Publication) (e : Exchange) (fault : GateFault) → (fault ≡ Memory) ⊎ (fault ≡ Writer) → (fault ≡ Memory → HasGivenUp p e) → HasBegun p e

@@ -8,5 +8,4 @@ pub mod ResponseTexts
 pub mod Responses
 pub mod Routes
 pub mod Serving
-pub mod Written
 pub mod internal

@@ -7,7 +7,7 @@ use Rattle.osm_keys.specs.Publications.{Publication}
 use Rattle.osm_gate.specs.Connections.{RespondsTo, heard}
 use Rattle.osm_gate.specs.ResponseTexts.{response_text}
 use Rattle.osm_gate.specs.Responses.{refusal}
-use Rattle.osm_gate.specs.Written.{AppendsFront}
+use Rattle.byte_io.specs.Written.{AppendsFront}
 use Rattle.osm_gate.specs.declared.gate_fault.GateFault.{GateFault}
 use Rattle.osm_gate.specs.declared.gate_fault.GateFault.TheVariants.{Endless, Memory, Reader, Writer}
 

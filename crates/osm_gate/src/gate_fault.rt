@@ -1,5 +1,6 @@
 //! Why a connection is given up.
 
+use byte_io::NotWritten;
 use thiserror::Error;
 
 /// Why a connection is given up. Its text is its code.
@@ -17,4 +18,15 @@ pub enum GateFault {
     /// G4: 1,048,576 reads were made, and the connection didn't end.
     #[error("G4")]
     Endless,
+}
+
+impl From<NotWritten> for GateFault {
+    ghost use Rattle.std.specs.Prelude.{◌≡◌};
+    ghost use Rattle.osm_gate.specs.declared.gate_fault.GateFault.TheVariants.{Writer};
+
+    ghost from_gives = { λ _ fault. fault ≡ Writer };
+
+    fn from(_fault: NotWritten) -> GateFault {
+        GateFault::Writer
+    }
 }

@@ -28,7 +28,6 @@ mod route;
 mod serving;
 mod snapshot_connection;
 mod target;
-mod writing;
 
 pub use connection::Connection;
 pub use gate::Gate;
@@ -38,4 +37,3 @@ pub use laws::{
     responses_stand_in_order, rests_are_short,
 };
 pub use serving::{send_out_of_memory, serve, serve_connection};
-pub use writing::write_whole;

@@ -6,14 +6,14 @@ ghost use Rattle.osm_keys.specs.Publications.{Publication};
 ghost use Rattle.osm_index.specs.Snapshots.{HoldsPublication};
 ghost use Rattle.osm_gate.specs.Connections.{open_rest};
 ghost use Rattle.osm_gate.specs.Serving.{HasEnded, HasServed, no_memory};
-ghost use Rattle.osm_gate.specs.Written.{AppendsFront};
+ghost use Rattle.byte_io.specs.Written.{AppendsFront};
 
 use crate::connection::Connection;
 use crate::gate::Gate;
 use crate::gate_fault::GateFault;
 use crate::limits::{PIECE_LIMIT, READ_LIMIT};
 use crate::snapshot_connection::SnapshotConnection;
-use crate::writing::write_whole;
+use byte_io::{NotWritten, write_whole};
 use osm_index::Snapshot;
 use std::alloc::Global;
 use std::io::{Read, Write};
@@ -102,7 +102,7 @@ pub fn send_out_of_memory<W: Write>(writer: &mut W) -> GateFault
 {
     match write_whole(writer, no_memory()) {
         Ok(()) => GateFault::Memory,
-        Err(fault) => fault,
+        Err(NotWritten) => GateFault::Writer,
     }
 }
 

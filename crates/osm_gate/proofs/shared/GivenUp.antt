@@ -4,7 +4,7 @@ use Rattle.std.specs.Prelude.{Option}
 use Rattle.std.specs.Io.KnownBytes.{Appends}
 use Rattle.osm_keys.specs.Publications.{Publication}
 use Rattle.osm_gate.specs.Serving.{HasBrokenOff, no_memory}
-use Rattle.osm_gate.specs.Written.{AppendsFront}
+use Rattle.byte_io.specs.Written.{AppendsFront}
 use Rattle.osm_gate.specs.declared.gate_fault.GateFault.{GateFault}
 use Rattle.osm_gate.specs.declared.gate_fault.GateFault.TheVariants.{Memory, Writer}
 use Rattle.osm_gate.proofs.ServeLemmas.{given_up, read-none}

@@ -62,7 +62,7 @@ returns-in_err-write_whole-clause-ended g c = λ p over.
     let gate : Rest = g.C.Connection.rest c.loop-reads.connection in
     let more : List ℕ = c.deref.result.now in
     let to_piece : Responds p (heard_next gate piece).outcomes more = rw c.deref.ensures.value (c.in-Ok-feed.ensures.responses p (g.met.C.Connection.same_over _ _ p c.loop-reads.invariant.later over)) in
-    broken_writer p _ c.from_residual.result _ c.from_residual.ensures.1 c.in_err-write_whole.ensures.fault (
+    broken_writer p _ c.from_residual.result c.from_residual.ensures.1 (
       pieces ++ piece ∷ [],
       text ++ more,
       all,
