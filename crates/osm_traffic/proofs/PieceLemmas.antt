@@ -1,60 +1,14 @@
 -- Where a piece is cut.
-use Rattle.std.proofs.Common.{◌≡◌, ◌∙◌, ◌<◌, ◌≤◌, ◌+◌, ◌≢◌, get_or, min, ℕ, Bool, true, false, List, [], ◌∷◌, ap, sym, refl, subst, arith, length, drop, take}
-use Rattle.std.specs.Prelude.{Option, Some, None, option_map, ◌⊎◌, if◌then◌else◌, zero, suc, ◌&&◌, ◌==◌, nat_lt}
+use Rattle.std.proofs.Common.{◌≡◌, ◌∙◌, ◌<◌, ◌≤◌, min, ℕ, Bool, true, false, List, [], ◌∷◌, ap, sym, refl, subst, arith, length, take}
+use Rattle.std.specs.Prelude.{Option, Some, None, option_map, if◌then◌else◌, zero, suc, ◌&&◌, ◌==◌, nat_lt}
 use Rattle.std.proofs.lemmas.Bool.{and_parts}
 use Rattle.std.proofs.lemmas.Bool.Decides.{nat_tests}
-use Rattle.std.proofs.lemmas.List.{drop_all, drop_more}
 use Rattle.std.proofs.Math.Seq.{length-take-le, take-take, take_all}
 use Rattle.osm_gate.specs.HeadEnds.{empty_line, head_length}
 use Rattle.osm_traffic.specs.Pieces.{IsCut, cut_length, cut_or}
 
 abbrev here : ℕ → List ℕ → Bool
 here b bytes = b == 10 && nat_lt 0 (empty_line bytes)
-
--- ---- no head ends before this place
-
-abbrev pub Passed : ℕ → List ℕ → Type 0
-Passed at a = head_length a ≡ option_map (λ n. at + n) (head_length (drop at a))
-
-shift-zero : (o : Option ℕ) → o ≡ option_map (λ n. 0 + n) o
-shift-zero None = refl
-shift-zero (Some n) = ap (λ (k : ℕ). Some k) (omega arith)
-
-shift-more : (at : ℕ) (o : Option ℕ) → option_map (λ n. at + n) (option_map (λ n. suc n) o) ≡ option_map (λ n. (at + 1) + n) o
-shift-more at None = refl
-shift-more at (Some n) = ap (λ (k : ℕ). Some k) (omega arith)
-
-not_here : (x : ℕ) (a : List ℕ) → (x ≢ 10) ⊎ (empty_line a ≡ 0) → here x a ≡ false
-not_here x a h = grind (arith, nat_tests)
-
-is_here : (x : ℕ) (a : List ℕ) → x ≡ 10 → 0 < empty_line a → here x a ≡ true
-is_here x a h some = grind (arith, nat_tests)
-
-pub passed-none : (a : List ℕ) → Passed 0 a
-passed-none a = shift-zero (head_length a)
-
-pub passed-more : (at : ℕ) (a : List ℕ) → at < length a → Passed at a → (get_or a at 0 ≢ 10) ⊎ (empty_line (drop (at + 1) a) ≡ 0) → Passed (at + 1) a
-passed-more at a inside so_far not =
-    let rest = drop (at + 1) a in
-    let first = drop_more a at 0 inside in
-    let is : here (get_or a at 0) rest ≡ false = not_here (get_or a at 0) rest not in
-    so_far ∙ ap (λ (t : List ℕ). option_map (λ n. at + n) (head_length t)) first
-    ∙ rw is (shift-more at (head_length rest))
-
-pub passed-all : (at : ℕ) (a : List ℕ) → length a ≤ at → Passed at a → length a ≡ cut_length a
-passed-all at a all so_far = sym (ap (cut_or (length a)) (so_far ∙ ap (λ (t : List ℕ). option_map (λ n. at + n) (head_length t)) (drop_all at a all)))
-
-pub passed-found : (at : ℕ) (a : List ℕ) → at < length a → Passed at a → get_or a at 0 ≡ 10 → 0 < empty_line (drop (at + 1) a)
-    → (at + 1) + empty_line (drop (at + 1) a) ≡ cut_length a
-passed-found at a inside so_far feed some =
-    let rest = drop (at + 1) a in
-    let first = drop_more a at 0 inside in
-    let is : here (get_or a at 0) rest ≡ true = is_here (get_or a at 0) rest feed some in
-    let found : head_length (get_or a at 0 ∷ rest) ≡ Some (suc (empty_line rest)) = rw is refl in
-    let where_it_ends : head_length a ≡ Some (at + suc (empty_line rest)) =
-    so_far ∙ ap (λ (t : List ℕ). option_map (λ n. at + n) (head_length t)) first ∙ ap (option_map (λ n. at + n)) found in
-    let sum : (at + 1) + empty_line rest ≡ at + suc (empty_line rest) = omega arith in
-    sum ∙ sym (ap (cut_or (length a)) where_it_ends)
 
 -- ---- what was cut ends there
 

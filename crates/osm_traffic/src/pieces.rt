@@ -1,8 +1,9 @@
 //! How what is read is cut into pieces.
 
 ghost use Rattle.std.specs.Prelude.{◌≡◌, ◌<◌, ◌≤◌, length, take};
-ghost use Rattle.osm_gate.specs.HeadEnds.{empty_line};
 ghost use Rattle.osm_traffic.specs.Pieces.{IsCut, cut_length};
+
+use osm_gate::head_end;
 
 /// Puts the front of the bytes into the piece, up to the first empty line and with it, as far as there is room, and tells
 /// how long it is. It takes no memory.
@@ -24,27 +25,5 @@ pub fn give_piece(bytes: &[u8], piece: &mut [u8]) -> usize
 fn cut(bytes: &[u8]) -> usize
     ensures { result ≡ cut_length bytes.now }
 {
-    let mut at = 0;
-    while at < bytes.len() {
-        if bytes[at] == b'\n' {
-            let (_, after) = bytes.split_at(at + 1);
-            let line = empty_line(after);
-            if line > 0 {
-                return at + 1 + line;
-            }
-        }
-        at += 1;
-    }
-    bytes.len()
-}
-
-/// The length of the empty line at the front of these bytes, LF or CR LF; 0 where there is none.
-fn empty_line(bytes: &[u8]) -> usize
-    ensures { result ≡ empty_line bytes.now }
-{
-    match bytes {
-        [b'\n', ..] => 1,
-        [b'\r', b'\n', ..] => 2,
-        _ => 0,
-    }
+    head_end(bytes, 0).unwrap_or(bytes.len())
 }
