@@ -5,32 +5,32 @@
 //! [`Status`].
 #![tactic(auto)]
 
-mod ask;
-mod check;
+mod ask_command;
+mod check_command;
 mod command_fault;
 mod flushing_writer;
-mod listening_line;
-mod prove;
-mod publish;
-mod read_snapshot;
-mod read_whole;
+mod listening_lines;
+mod prove_command;
+mod publish_command;
 mod replacing_writer;
-mod root_line;
+mod root_lines;
+mod snapshot_reader;
 mod status;
-mod verdict_line;
-mod write_whole;
+mod verdict_lines;
+mod whole_reader;
+mod whole_writer;
 
-pub use ask::ask;
-pub use check::check;
+pub use ask_command::ask;
+pub use check_command::check;
 pub use command_fault::CommandFault;
 pub use flushing_writer::{FlushingWriter, flush_outcome};
-pub use listening_line::listening_line;
-pub use prove::prove;
-pub use publish::publish;
-pub use read_snapshot::read_snapshot;
-pub use read_whole::read_whole;
+pub use listening_lines::listening_line;
+pub use prove_command::prove;
+pub use publish_command::publish;
 pub use replacing_writer::ReplacingWriter;
-pub use root_line::root_line;
+pub use root_lines::root_line;
+pub use snapshot_reader::read_snapshot;
 pub use status::Status;
-pub use verdict_line::verdict_line;
-pub use write_whole::write_whole;
+pub use verdict_lines::verdict_line;
+pub use whole_reader::read_whole;
+pub use whole_writer::write_whole;

@@ -9,16 +9,16 @@
 mod change_lookout;
 mod change_source;
 mod changes_fault;
+mod changes_publisher;
+mod desk_server;
 mod listener;
-mod publish_changes;
 mod publish_next;
-mod serve;
-mod serve_desk;
+mod snapshot_server;
 
 pub use change_lookout::ChangeLookout;
 pub use change_source::ChangeSource;
 pub use changes_fault::ChangesFault;
+pub use changes_publisher::publish_changes;
+pub use desk_server::serve_desk;
 pub use listener::Listener;
-pub use publish_changes::publish_changes;
-pub use serve::serve;
-pub use serve_desk::serve_desk;
+pub use snapshot_server::serve;

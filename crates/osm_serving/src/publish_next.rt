@@ -8,7 +8,7 @@ ghost use Rattle.osm_desk.specs.Published.{FoundFile, HasPublished, HasTaken, Ta
 
 use crate::change_source::ChangeSource;
 use crate::changes_fault::ChangesFault;
-use crate::publish_changes::publish_changes;
+use crate::changes_publisher::publish_changes;
 use osm_desk::Desk;
 use osm_index::Edition;
 use std::alloc::Global;

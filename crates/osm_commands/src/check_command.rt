@@ -1,0 +1,91 @@
+//! The command `check ROOT QUERYFILE ANSWERFILE PROOFFILE`.
+
+ghost use Rattle.std.specs.Prelude.{◌≡◌, ◌≢◌, ◌⊎◌, IfErr, IfOk, Ok, OnOk, true};
+ghost use Rattle.std.specs.Io.KnownBytes.{Appends, IsAtEnd, Keeps};
+ghost use Rattle.tree_node.specs.Outcomes.{Clash};
+ghost use Rattle.osm_keys.specs.Publications.{IsNodeIn, IsPublication, Publication, root_of};
+ghost use Rattle.osm_prove.specs.Proved.{IsProved};
+ghost use Rattle.ql_eval.specs.declared.evaluation.Report.{Report};
+ghost use Rattle.osm_check.specs.Verdicts.{IsVerdict, IsYes, StandsIn};
+ghost use Rattle.osm_commands.specs.Files.{ExplainsThree, IfThree, IsBegunVerdict, IsUnread};
+ghost use Rattle.osm_commands.specs.RootLines.{verdict_line};
+
+use crate::command_fault::CommandFault;
+use crate::flushing_writer::FlushingWriter;
+use crate::verdict_lines::verdict_line;
+use crate::whole_reader::read_whole;
+use crate::whole_writer::write_whole;
+use osm_check::{Digest, Verdict};
+use std::alloc::Global;
+use std::io::Read;
+
+/// Reads the query's bytes, then the answer's, then the proof's, decides by the root and them alone whether
+/// the answer is right, and writes the verdict: `yes`, or `no` and the reason, and LF. The root may be of
+/// either edition.
+///
+/// # Errors
+///
+/// `Endless` where a file was read 2^32 times without an end; `Memory` where an allocation was refused;
+/// `Device` where a read failed, or the write failed or took nothing. Nothing is written then, but where the
+/// output failed a beginning of the line. The readers are left where they stood.
+///
+/// Clauses that speak of the readers' bytes do so where they tell them.
+pub fn check<Q: Read, A: Read, P: Read, W: FlushingWriter>(
+    alloc: Global,
+    root: &Digest,
+    query: &mut Q,
+    answer: &mut A,
+    proof: &mut P,
+    output: &mut W,
+) -> Result<Verdict, CommandFault>
+    // The headline: under the root of any publication, a yes says that the answer is the query's meaning over its
+    // set, and the proof the one proof of it, unless a node of the publication and a node that stands in the proof
+    // are two with one digest.
+    ensures headline { IfThree (Q.remaining query.old) (A.remaining answer.old)
+        (P.remaining proof.old)
+        (λ query_bytes answer_bytes proof_bytes. (p : Publication) (report : Report)
+        → IsPublication p → root.now.0 ≡ root_of p
+        → result ≡ Ok (Verdict.Yes report) → IsProved p query_bytes answer_bytes proof_bytes
+        ⊎ Clash (IsNodeIn p) (StandsIn proof_bytes)) }
+    // An honest mirror is always accepted.
+    ensures honest { IfThree (Q.remaining query.old) (A.remaining answer.old)
+        (P.remaining proof.old)
+        (λ query_bytes answer_bytes proof_bytes. (p : Publication) → IsPublication p
+        → root.now.0 ≡ root_of p
+        → IsProved p query_bytes answer_bytes proof_bytes → IfOk result IsYes) }
+    // The verdict is the one that is owed, and the output has gained exactly its line.
+    ensures told { IfOk result (λ verdict. IfThree (Q.remaining query.old) (A.remaining answer.old)
+        (P.remaining proof.old)
+        (λ query_bytes answer_bytes proof_bytes.
+        IsVerdict query_bytes root.now.0 answer_bytes proof_bytes verdict)
+        × Appends (W.contents output.old) (W.contents output.new) (verdict_line verdict)) }
+    // Nothing is held back then.
+    ensures flushed { OnOk result (W.is_flushed output.new ≡ true) }
+    // It is refused only out of memory, for a device, or for a file without an end.
+    ensures refused { IfErr result IsUnread }
+    // Only a file of 2^32 bytes or more is told to have no end.
+    ensures endless { IfThree (Q.remaining query.old) (A.remaining answer.old)
+        (P.remaining proof.old)
+        (λ query_bytes answer_bytes proof_bytes. IfErr result
+        (ExplainsThree query_bytes answer_bytes proof_bytes)) }
+    // The answer is read only after the query, to its end,
+    ensures answer_later { (answer.new ≡ answer.old) ⊎ IsAtEnd (Q.remaining query.new) }
+    // and the proof after the answer.
+    ensures proof_later { (proof.new ≡ proof.old) ⊎ IsAtEnd (A.remaining answer.new) }
+    // Nothing is written but where a device fails,
+    ensures nothing { IfErr result (λ fault. fault ≢ CommandFault.Device
+        → Keeps (W.contents output.old) (W.contents output.new)) }
+    // and never anything but a beginning of the verdict's line.
+    ensures begun { IfThree (Q.remaining query.old) (A.remaining answer.old) (P.remaining proof.old)
+        (λ query_bytes answer_bytes proof_bytes.
+        IsBegunVerdict query_bytes root.now.0 answer_bytes proof_bytes
+        (W.contents output.old) (W.contents output.new)) }
+{
+    let query = read_whole(alloc, query)?;
+    let answer = read_whole(alloc, answer)?;
+    let proof = read_whole(alloc, proof)?;
+    let verdict = osm_check::check(alloc, &query, root, &answer, &proof)?;
+    let line = verdict_line(alloc, &verdict)?;
+    write_whole(output, line.as_bytes())?;
+    Ok(verdict)
+}
