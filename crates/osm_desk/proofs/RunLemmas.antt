@@ -48,7 +48,7 @@ all-append [] us (x ∷ xs) ys a b = absurd a
 all-append (t ∷ ts) us [] ys a b = absurd a
 all-append (t ∷ ts) us (x ∷ xs) ys a b = (a.0, all-append ts us xs ys a.1 b)
 
-pick : (b : Bool) (t : Told) (x : List ℕ) (ts : List Told) (xs : List (List ℕ)) → Responds t.publication t.outcomes x → RespondAll ts xs
+pick : (b : Bool) (t : Told) (x : List ℕ) (ts : List Told) (xs : List (List ℕ)) → Responds t.publication t.requests x → RespondAll ts xs
     → RespondAll (if b then t ∷ ts else ts) (if b then x ∷ xs else xs)
 pick true t x ts xs one more = (one, more)
 pick false t x ts xs one more = more

@@ -7,7 +7,7 @@ use Rattle.std.specs.Option.{option_copied_mut}
 use Rattle.std.specs.Result.{IsErrAnd}
 use Rattle.std.specs.Prelude.{Option, Some, None, Result, Ok, Err, IfErr, IfOk, IsSome, is_ok, is_some, if◌then◌else◌}
 use Rattle.opl_codec.specs.declared.change.Change.{Change}
-use Rattle.osm_gate.specs.Connections.{Responds, Rest, heard_next, open_rest}
+use Rattle.osm_gate.specs.Connections.{Responds, Rest, requests_next, open_rest}
 use Rattle.osm_keys.specs.Publications.{Publication}
 use Rattle.osm_index.specs.declared.apply_fault.ApplyFault.{ApplyFault}
 use Rattle.osm_index.specs.declared.apply_fault.ApplyFault.TheVariants as refusals
@@ -82,14 +82,14 @@ module _ (d : Contents) (n : ℕ) (p : Publication) where
   -- ---- a piece
 
   pub arrive_steps : (piece text : List ℕ) (answers : List (ℕ × List ℕ)) (new : Contents) → HoldsPublication d.snapshot p → IsSome (get d.connections n)
-      → Responds p (heard_next (rest_of d n) piece).outcomes text → answers ≡ (n, text) ∷ [] → new ≡ with_rest d n (heard_next (rest_of d n) piece).rest
+      → Responds p (requests_next (rest_of d n) piece).complete text → answers ≡ (n, text) ∷ [] → new ≡ with_rest d n (requests_next (rest_of d n) piece).rest
       → HasArrived over n piece answers new
   arrive_steps piece text answers new holds some responds one is =
       let (r, found) = some_by (get d.connections n) some in
       let rest_is : rest_of d n ≡ r = ap rest_if found in
-      let to_piece : Responds p (heard_next r piece).outcomes text = subst (λ (r : Rest). Responds p (heard_next r piece).outcomes text) rest_is responds in
+      let to_piece : Responds p (requests_next r piece).complete text = subst (λ (r : Rest). Responds p (requests_next r piece).complete text) rest_is responds in
       let gives : Gives (arrive_step over n piece (Some r)).reply answers = rw one (refl, to_piece, tt) in
-      let left : new ≡ with_rest d n (heard_next r piece).rest = is ∙ ap (λ (r : Rest). with_rest d n (heard_next r piece).rest) rest_is in
+      let left : new ≡ with_rest d n (requests_next r piece).rest = is ∙ ap (λ (r : Rest). with_rest d n (requests_next r piece).rest) rest_is in
       stepped over (arrived n piece) (arrive_step over n piece (Some r)) answers new (ap (arrive_step over n piece) found) gives
       (held_in d new p (ap (λ (d : Contents). d.snapshot) left) holds, ap (λ (d : Contents). d.connections) left)
 

@@ -5,7 +5,7 @@ use Rattle.std.specs.BTreeMap.{BTreeMap}
 use Rattle.std.specs.FinMap.{from_entries, get, len}
 use Rattle.std.specs.Ordering.{nat_cmp}
 use Rattle.std.specs.Prelude.{Some, None, Result, Ok, Err, IfOk, OnErr, OnOk}
-use Rattle.osm_gate.specs.Connections.{Rest, closed_rest, heard_next}
+use Rattle.osm_gate.specs.Connections.{Rest, closed_rest, requests_next}
 use Rattle.osm_keys.specs.Publications.{Publication}
 use Rattle.osm_index.specs.Snapshots.{HoldsPublication}
 use Rattle.osm_index.specs.declared.snapshot.Snapshot.{Snapshot}
@@ -44,17 +44,17 @@ module _ (d : Contents) (snapshot : Snapshot) (m : BTreeMap ℕ Rest) (is : view
     pub others_in : without (view_of snapshot m') n ≡ without d n
     others_in = ap (λ (d : Contents). without d n) put_in ∙ ap (λ c. let d : Contents = record { snapshot = d.snapshot; connections = c } in d) (removed-put d.connections n r')
 
-    pub left_in : (piece : List ℕ) → r' ≡ (heard_next r piece).rest → rest_of (view_of snapshot m') n ≡ (heard_next (rest_of d n) piece).rest
+    pub left_in : (piece : List ℕ) → r' ≡ (requests_next r piece).rest → rest_of (view_of snapshot m') n ≡ (requests_next (rest_of d n) piece).rest
     left_in piece next =
         ap (λ (d : Contents). rest_of d n) put_in
         ∙ ap rest_if (get-put_same d.connections n r')
         ∙ next
-        ∙ ap (λ (r : Rest). (heard_next r piece).rest) (sym rest_is)
+        ∙ ap (λ (r : Rest). (requests_next r piece).rest) (sym rest_is)
 
-    pub heard_in : (piece : List ℕ) → r' ≡ (heard_next r piece).rest → view_of snapshot m' ≡ with_rest d n (heard_next (rest_of d n) piece).rest
+    pub heard_in : (piece : List ℕ) → r' ≡ (requests_next r piece).rest → view_of snapshot m' ≡ with_rest d n (requests_next (rest_of d n) piece).rest
     heard_in piece next =
         put_in
-        ∙ ap (with_rest d n) (next ∙ ap (λ (r : Rest). (heard_next r piece).rest) (sym rest_is))
+        ∙ ap (with_rest d n) (next ∙ ap (λ (r : Rest). (requests_next r piece).rest) (sym rest_is))
 
     pub kept_in : r' ≡ r → view_of snapshot m' ≡ d
     kept_in same =
@@ -63,10 +63,10 @@ module _ (d : Contents) (snapshot : Snapshot) (m : BTreeMap ℕ Rest) (is : view
         ∙ is
 
 -- a connection that isn't open takes nothing
-pub closed_rest_in : (d : Contents) (n : ℕ) (piece : List ℕ) → get d.connections n ≡ None → rest_of d n ≡ (heard_next (rest_of d n) piece).rest
+pub closed_rest_in : (d : Contents) (n : ℕ) (piece : List ℕ) → get d.connections n ≡ None → rest_of d n ≡ (requests_next (rest_of d n) piece).rest
 closed_rest_in d n piece none =
     let is : rest_of d n ≡ closed_rest = ap rest_if none in
-    is ∙ ap (λ (r : Rest). (heard_next r piece).rest) (sym is)
+    is ∙ ap (λ (r : Rest). (requests_next r piece).rest) (sym is)
 
 pub held_inside : (d : Contents) (snapshot : Snapshot) (m : BTreeMap ℕ Rest) (p : Publication) → view_of snapshot m ≡ d → HoldsPublication d.snapshot p → HoldsPublication snapshot p
 held_inside d snapshot m p is holds = subst (λ (s : Snapshot). HoldsPublication s p) (sym (ap (λ (d : Contents). d.snapshot) is)) holds

@@ -6,7 +6,7 @@ use Rattle.std.specs.FinMap.{get, get-empty, insert, len, remove}
 use Rattle.std.specs.Ordering.{nat_cmp}
 use Rattle.std.specs.Prelude.{◌==◌, Option, Some, None, Result, Ok, Err, if◌then◌else◌, nat_lt, option_map}
 use Rattle.osm_gate.proofs.shared.Pieces.{pieces}
-use Rattle.osm_gate.specs.Connections.{Heard, Rest, heard, heard_next, open_rest}
+use Rattle.osm_gate.specs.Connections.{Requests, Rest, requests_in, requests_next, open_rest}
 use Rattle.osm_keys.specs.Publications.{Publication}
 use Rattle.osm_index.specs.declared.apply_fault.ApplyFault.{ApplyFault}
 use Rattle.osm_desk.specs.Desks.{Desk, Step, Told, arrive_step, end_step, fresh, open_step, publish_step, quietly, refuse, replies, step}
@@ -64,19 +64,19 @@ told-alone c (published made ∷ es) p life = told-alone c es (in_force p made) 
 
 -- what is left of a life's bytes
 abbrev rest_after : List ℕ → Rest
-rest_after bytes = (heard bytes).rest
+rest_after bytes = (requests_in bytes).rest
 
 abbrev kept : Option (List ℕ) → Option Rest
 kept life = option_map rest_after life
 
 -- the requests that end in a piece are those that the rest hears with it
-ending-next : (bytes piece : List ℕ) → ending bytes piece ≡ (heard_next (rest_after bytes) piece).outcomes
+ending-next : (bytes piece : List ℕ) → ending bytes piece ≡ (requests_next (rest_after bytes) piece).complete
 ending-next bytes piece =
-    ap (λ (s : Heard). drop (length (heard bytes).outcomes) s.outcomes) (pieces bytes piece)
-    ∙ drop-append_seam (heard bytes).outcomes (heard_next (rest_after bytes) piece).outcomes
+    ap (λ (s : Requests). drop (length (requests_in bytes).complete) s.complete) (pieces bytes piece)
+    ∙ drop-append_seam (requests_in bytes).complete (requests_next (rest_after bytes) piece).complete
 
-rest-next : (bytes piece : List ℕ) → rest_after (bytes ++ piece) ≡ (heard_next (rest_after bytes) piece).rest
-rest-next bytes piece = ap (λ (s : Heard). s.rest) (pieces bytes piece)
+rest-next : (bytes piece : List ℕ) → rest_after (bytes ++ piece) ≡ (requests_next (rest_after bytes) piece).rest
+rest-next bytes piece = ap (λ (s : Requests). s.rest) (pieces bytes piece)
 
 -- a step gives c what it is told, and keeps what is left of its life
 record MovesTo (c : ℕ) (d : Desk) (life : Option (List ℕ)) (e : Happening) (s : Step) : Type 0 where
@@ -112,8 +112,8 @@ quiet-open c n d apart None = elim (nat_lt (len d.connections) CONNECTION_LIMIT)
 quiet-arrive : (c n : ℕ) (piece : List ℕ) (d : Desk) (apart : n ≡ c → ⊥) → (n == c) ≡ false → (o : Option Rest) → Quiet c d (arrive_step d n piece o)
 quiet-arrive c n piece d apart e None = record { nothing = refl; same = refl; same_publication = refl }
 quiet-arrive c n piece d apart e (Some r) = record {
-  nothing = ap (λ b. if b then (let t : Told = record { outcomes = (heard_next r piece).outcomes; publication = d.publication } in t) ∷ [] else []) e;
-  same = get-put_other d.connections n (heard_next r piece).rest c apart;
+  nothing = ap (λ b. if b then (let t : Told = record { requests = (requests_next r piece).complete; publication = d.publication } in t) ∷ [] else []) e;
+  same = get-put_other d.connections n (requests_next r piece).rest c apart;
   same_publication = refl;
 }
 
@@ -155,15 +155,15 @@ arrive-own c piece d None h =
       tells = λ es. ap (λ b. if b then told_from c d.publication None es else told_from c d.publication None es) (own c);
     })
 arrive-own c piece d (Some bytes) h =
-    let given_now : Told = record { outcomes = (heard_next (rest_after bytes) piece).outcomes; publication = d.publication } in
+    let given_now : Told = record { requests = (requests_next (rest_after bytes) piece).complete; publication = d.publication } in
     subst (MovesTo c d (Some bytes) (arrived c piece)) (sym (ap (arrive_step d c piece) h)) (record {
       front = given_now ∷ [];
       next = Some (bytes ++ piece);
       gives = ap (λ b. if b then given_now ∷ [] else []) (own c);
-      keeps = get-put_same d.connections c (heard_next (rest_after bytes) piece).rest ∙ ap (λ (r : Rest). Some r) (sym (rest-next bytes piece));
+      keeps = get-put_same d.connections c (requests_next (rest_after bytes) piece).rest ∙ ap (λ (r : Rest). Some r) (sym (rest-next bytes piece));
       tells = λ es.
           ap (λ b. if b then told_piece d.publication (Some bytes) piece (told_from c d.publication (Some (bytes ++ piece)) es) else told_from c d.publication (Some bytes) es) (own c)
-          ∙ ap (λ os. (let t : Told = record { outcomes = os; publication = d.publication } in t) ∷ told_from c d.publication (Some (bytes ++ piece)) es) (ending-next bytes piece);
+          ∙ ap (λ os. (let t : Told = record { requests = os; publication = d.publication } in t) ∷ told_from c d.publication (Some (bytes ++ piece)) es) (ending-next bytes piece);
     })
 
 end-own : (c : ℕ) (d : Desk) (life : Option (List ℕ)) → get d.connections c ≡ kept life → MovesTo c d life (ended c) (step d (ended c))

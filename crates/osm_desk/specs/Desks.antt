@@ -3,8 +3,8 @@
 use Rattle.std.specs.FinMap.{FinMap, empty, get, insert, len, remove}
 use Rattle.std.specs.Ordering.{nat_cmp}
 use Rattle.std.specs.Prelude.{ℕ, List, [], ◌∷◌, Option, Some, None, Result, Ok, Err, if◌then◌else◌, nat_lt}
-use Rattle.osm_gate.specs.Connections.{Rest, heard_next, open_rest}
-use Rattle.osm_gate.specs.Requests.{Outcome}
+use Rattle.osm_gate.specs.Connections.{Rest, requests_next, open_rest}
+use Rattle.osm_gate.specs.Requests.{Request}
 use Rattle.osm_keys.specs.Publications.{Publication}
 use Rattle.osm_index.specs.declared.apply_fault.ApplyFault.{ApplyFault}
 use Rattle.osm_desk.specs.Happenings.{Happening, arrived, ended, opened, published}
@@ -22,7 +22,7 @@ pub record Desk : Type 0 where
 
 -- some requests, and the publication that was in force when they were complete
 pub record Told : Type 0 where
-  pub outcomes : List Outcome
+  pub requests : List Request
   pub publication : Publication
 
 -- what is told to connections, by their numbers, and the desk after that
@@ -50,8 +50,8 @@ open_step d n None =
 abbrev pub arrive_step : Desk → ℕ → List ℕ → Option Rest → Step
 arrive_step d n piece None = refuse d NotOpen
 arrive_step d n piece (Some rest) = record {
-  reply = Ok ((n, record { outcomes = (heard_next rest piece).outcomes; publication = d.publication }) ∷ []);
-  desk = record { publication = d.publication; connections = insert d.connections n (heard_next rest piece).rest };
+  reply = Ok ((n, record { requests = (requests_next rest piece).complete; publication = d.publication }) ∷ []);
+  desk = record { publication = d.publication; connections = insert d.connections n (requests_next rest piece).rest };
 }
 
 abbrev pub end_step : Desk → ℕ → Option Rest → Step

@@ -51,4 +51,4 @@ abbrev pub RespondAll : List Told → List (List ℕ) → Type 0
 RespondAll [] [] = Unit {0}
 RespondAll [] (text ∷ texts) = ⊥
 RespondAll (t ∷ ts) [] = ⊥
-RespondAll (t ∷ ts) (text ∷ texts) = Responds t.publication t.outcomes text × RespondAll ts texts
+RespondAll (t ∷ ts) (text ∷ texts) = Responds t.publication t.requests text × RespondAll ts texts

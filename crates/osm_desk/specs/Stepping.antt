@@ -30,7 +30,7 @@ abbrev pub RespondEach : List (ℕ × Told) → List (ℕ × List ℕ) → Type 
 RespondEach [] [] = Unit {0}
 RespondEach [] (a ∷ answers) = ⊥
 RespondEach (t ∷ ts) [] = ⊥
-RespondEach (t ∷ ts) (a ∷ answers) = (a.0 ≡ t.0) × Responds t.1.publication t.1.outcomes a.1 × RespondEach ts answers
+RespondEach (t ∷ ts) (a ∷ answers) = (a.0 ≡ t.0) × Responds t.1.publication t.1.requests a.1 × RespondEach ts answers
 
 -- the step isn't refused, and these are the answers to what it tells
 abbrev pub Gives : Result (List (ℕ × Told)) DeskFault → List (ℕ × List ℕ) → Type 0

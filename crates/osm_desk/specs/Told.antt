@@ -3,8 +3,8 @@
 use Rattle.std.specs.FinMap.{len, remove}
 use Rattle.std.specs.List.{filter}
 use Rattle.std.specs.Prelude.{◌≡◌, ◌==◌, ◌<◌, ℕ, Bool, true, List, [], ◌∷◌, ◌++◌, length, drop, Option, Some, None, Result, Ok, Err, if◌then◌else◌}
-use Rattle.osm_gate.specs.Connections.{heard}
-use Rattle.osm_gate.specs.Requests.{Outcome}
+use Rattle.osm_gate.specs.Connections.{requests_in}
+use Rattle.osm_gate.specs.Requests.{Request}
 use Rattle.osm_keys.specs.Publications.{Publication}
 use Rattle.osm_index.specs.declared.apply_fault.ApplyFault.{ApplyFault}
 use Rattle.osm_desk.specs.Desks.{Desk, Told, step}
@@ -18,8 +18,8 @@ in_force p (Err fault) = p
 in_force p (Ok new) = new
 
 -- the requests of these bytes and the piece after them that are complete only with the piece
-abbrev pub ending : List ℕ → List ℕ → List Outcome
-ending bytes piece = drop (length (heard bytes).outcomes) (heard (bytes ++ piece)).outcomes
+abbrev pub ending : List ℕ → List ℕ → List Request
+ending bytes piece = drop (length (requests_in bytes).complete) (requests_in (bytes ++ piece)).complete
 
 -- the life of a connection is the bytes since it was opened; none while it isn't open
 abbrev pub begun : Option (List ℕ) → Option (List ℕ)
@@ -32,7 +32,7 @@ longer (Some bytes) piece = Some (bytes ++ piece)
 
 abbrev pub told_piece : Publication → Option (List ℕ) → List ℕ → List Told → List Told
 told_piece p None piece later = later
-told_piece p (Some bytes) piece later = record { outcomes = ending bytes piece; publication = p } ∷ later
+told_piece p (Some bytes) piece later = record { requests = ending bytes piece; publication = p } ∷ later
 
 abbrev pub told_from : ℕ → Publication → Option (List ℕ) → List Happening → List Told
 told_from c p life [] = []

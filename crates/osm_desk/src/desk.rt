@@ -3,7 +3,7 @@
 ghost use Rattle.std.specs.Bool.{OnFalse};
 ghost use Rattle.std.specs.FinMap.{empty, get, len};
 ghost use Rattle.std.specs.Prelude.{◌≡◌, ◌<◌, ◌≤◌, ◌↔◌, IfErr, IfOk, IsSome, IsTrue, None, OnErr, OnOk, [], is_some};
-ghost use Rattle.osm_gate.specs.Connections.{Responds, heard_next, open_rest};
+ghost use Rattle.osm_gate.specs.Connections.{Responds, requests_next, open_rest};
 ghost use Rattle.osm_keys.specs.Publications.{Publication};
 ghost use Rattle.osm_index.specs.Snapshots.{HoldsPublication, IsAsBefore};
 ghost use Rattle.osm_desk.specs.Contents.{desk_over, fresh_contents};
@@ -177,13 +177,13 @@ impl Desk {
     /// the piece was taken.
     pub fn hear(&mut self, number: u32, piece: &[u8]) -> Result<Vec<u8>, AllocError>
         ensures responses { (p : Publication) → HoldsPublication self.old.snapshot p
-            → IfOk result (λ text. Responds p
-            (heard_next (rest_of self.old number) piece.now).outcomes text.items) }
+            → IfOk result (λ text.
+            Responds p (requests_next (rest_of self.old number) piece.now).complete text.items) }
         ensures rest { OnOk result (rest_of self.new number
-            ≡ (heard_next (rest_of self.old number) piece.now).rest) }
+            ≡ (requests_next (rest_of self.old number) piece.now).rest) }
         ensures open { IsSome (get self.old.connections number)
             → OnOk result (self.new ≡ with_rest self.old number
-            (heard_next (rest_of self.old number) piece.now).rest) }
+            (requests_next (rest_of self.old number) piece.now).rest) }
         ensures others { without self.new number ≡ without self.old number }
         ensures unchanged { OnErr result (self.new ≡ self.old) }
     {

@@ -4,18 +4,18 @@ use Rattle.std.specs.Prelude.{None, ◌⊎◌}
 use Rattle.std.proofs.lemmas.List.{take-append-le, take_all, length-take}
 use Rattle.std.proofs.lemmas.Bool.{cases_lt}
 use Rattle.std.proofs.Math.Seq.{take-append-add, take-append_seam}
-use Rattle.osm_gate.specs.Connections.{Heard, heard, heard_next, open_rest}
+use Rattle.osm_gate.specs.Connections.{Requests, requests_in, requests_next, open_rest}
 use Rattle.osm_gate.specs.HeadEnds.{head_length, skip_breaks}
 use Rattle.osm_gate.specs.Requests.{first_request}
 use Rattle.osm_gate.specs.declared.limits.TheConstants.{HEAD_LIMIT}
 use Rattle.osm_gate.specs.internal.Kept.{IsOpen}
 use Rattle.osm_gate.proofs.BreakLemmas.{skip-some}
-use Rattle.osm_gate.proofs.ConnectionLemmas.{heard-none}
+use Rattle.osm_gate.proofs.ConnectionLemmas.{requests_in-none}
 
 -- ---- an open one
 
 pub next-open : (is_closed : Bool) (bytes piece : List ℕ) → is_closed ≡ false
-    → heard_next (record { is_closed = is_closed; bytes = bytes }) piece ≡ heard (bytes ++ piece)
+    → requests_next (record { is_closed = is_closed; bytes = bytes }) piece ≡ requests_in (bytes ++ piece)
 next-open is_closed bytes piece e = rw e refl
 
 -- ---- one that waits for a body
@@ -33,14 +33,14 @@ still-waits needed bytes piece is short =
       waits = λ more below. rw append_assoc (is.waits (piece ++ more) (rw append_assoc at below));
     }
 
-pub waits-heard : (needed : ℕ) (bytes piece : List ℕ) → IsOpen needed bytes → length (bytes ++ piece) < needed
-    → heard (bytes ++ piece) ≡ record { outcomes = []; rest = open_rest (bytes ++ piece) }
-waits-heard needed bytes piece is short =
+pub waits-requests_in : (needed : ℕ) (bytes piece : List ℕ) → IsOpen needed bytes → length (bytes ++ piece) < needed
+    → requests_in (bytes ++ piece) ≡ record { complete = []; rest = open_rest (bytes ++ piece) }
+waits-requests_in needed bytes piece is short =
     let some = is.some (omega arith) in
     let starts = starts-more bytes piece is.starts some in
     let none : first_request (skip_breaks (bytes ++ piece)) ≡ None = rw starts (is.waits piece short) in
-    heard-none (bytes ++ piece) none
-    ∙ ap (λ (t : List ℕ). let s : Heard = record { outcomes = []; rest = open_rest t } in s) starts
+    requests_in-none (bytes ++ piece) none
+    ∙ ap (λ (t : List ℕ). let s : Requests = record { complete = []; rest = open_rest t } in s) starts
 
 -- ---- where the look for the head's end begins
 

@@ -11,9 +11,9 @@ use Rattle.ql_syntax.specs.declared.fault.QlFault.{QlFault}
 use Rattle.ql_syntax.proofs.shared.QueryLaws.{one_fault, one_query, reads_or_not}
 use Rattle.osm_gate.specs.Connections.{Responds, RespondsToOne}
 use Rattle.osm_gate.specs.Forms.{query_of}
-use Rattle.osm_gate.specs.Requests.{Asked, Outcome, asked, refused}
+use Rattle.osm_gate.specs.Requests.{Asked, Request, asked, refused}
 use Rattle.osm_gate.specs.ResponseTexts.{Response, response_text}
-use Rattle.osm_gate.specs.Responses.{ByMethod, ByQuery, ByRoute, GivesAt, IsResponse, TellsFault, checked_body, ends, fault_text, found, method_of, refusal}
+use Rattle.osm_gate.specs.Responses.{ByMethod, ByQuery, ByRoute, GivesAt, IsResponse, TellsFault, checked_body, ends, fault_text, ok_response, method_of, refusal}
 use Rattle.osm_gate.specs.Routes.{path_of, route_of}
 use Rattle.osm_gate.specs.declared.endpoint.Endpoint.{Endpoint}
 use Rattle.osm_gate.specs.declared.endpoint.Endpoint.TheVariants.{Answer, AnswerWithProof}
@@ -40,10 +40,10 @@ module _ (p : Publication) (is : IsPublication p) where
   one_given : (endpoint : Endpoint) (closes : Bool) (query : List ℕ) (r s : Response)
       → GivesAt endpoint closes p query r → GivesAt endpoint closes p query s → r ≡ s
   one_given Answer closes query r s (a, first, same) (b, second, same_too) =
-      same ∙ ap (found closes (root_of p) false) (one_answer query a b first second) ∙ sym same_too
+      same ∙ ap (ok_response closes (root_of p) false) (one_answer query a b first second) ∙ sym same_too
   one_given AnswerWithProof closes query r s (a, x, first, same) (b, y, second, same_too) =
       let (answers, proofs) = same_answer query a b x y first second in
-      same ∙ (λ i. found closes (root_of p) true (checked_body (root_of p) (answers i) (proofs i))) ∙ sym same_too
+      same ∙ (λ i. ok_response closes (root_of p) true (checked_body (root_of p) (answers i) (proofs i))) ∙ sym same_too
 
   -- what has an answer has no fault
   no_fault : (endpoint : Endpoint) (closes : Bool) (query : List ℕ) (r s : Response) → GivesAt endpoint closes p query r → TellsFault closes query s → ⊥
@@ -76,12 +76,12 @@ module _ (p : Publication) (is : IsPublication p) where
   unfolding IsResponse
   one_to_asked a r s first second = one_by_route (ends a) a (route_of (path_of a.target)) r s first second
 
-  one_to_outcome : (outcome : Outcome) (x y : List ℕ) → RespondsToOne p outcome x → RespondsToOne p outcome y → x ≡ y
-  one_to_outcome (refused refusal) x y first second = first ∙ sym second
-  one_to_outcome (asked a) x y (r, first, text) (s, second, other) =
+  one_to_request : (request : Request) (x y : List ℕ) → RespondsToOne p request x → RespondsToOne p request y → x ≡ y
+  one_to_request (refused refusal) x y first second = first ∙ sym second
+  one_to_request (asked a) x y (r, first, text) (s, second, other) =
       text ∙ ap response_text (one_to_asked a r s first second) ∙ sym other
 
-  pub one_response : (outcomes : List Outcome) (x y : List ℕ) → Responds p outcomes x → Responds p outcomes y → x ≡ y
+  pub one_response : (requests : List Request) (x y : List ℕ) → Responds p requests x → Responds p requests y → x ≡ y
   one_response [] x y first second = first ∙ sym second
-  one_response (outcome ∷ outcomes) x y (a, b, one, more, whole) (c, d, one_too, more_too, whole_too) =
-      whole ∙ (λ i. one_to_outcome outcome a c one one_too i ++ one_response outcomes b d more more_too i) ∙ sym whole_too
+  one_response (request ∷ requests) x y (a, b, one, more, whole) (c, d, one_too, more_too, whole_too) =
+      whole ∙ (λ i. one_to_request request a c one one_too i ++ one_response requests b d more more_too i) ∙ sym whole_too

@@ -6,7 +6,7 @@ use Rattle.ql_syntax.specs.declared.fault.QlFault.{QlFault}
 use Rattle.osm_keys.specs.Publications.{Publication, root_of}
 use Rattle.osm_prove.specs.Proved.{IsProved}
 use Rattle.osm_gate.specs.ResponseTexts.{response_text}
-use Rattle.osm_gate.specs.Responses.{ByQuery, GivesAt, checked_body, fault_text, found, refusal}
+use Rattle.osm_gate.specs.Responses.{ByQuery, GivesAt, checked_body, fault_text, ok_response, refusal}
 use Rattle.osm_gate.specs.declared.endpoint.Endpoint.{Endpoint}
 use Rattle.osm_gate.specs.declared.endpoint.Endpoint.TheVariants.{AnswerWithProof}
 use Rattle.osm_gate.specs.declared.reply.Reply.{Reply}
@@ -14,10 +14,10 @@ use Rattle.osm_gate.specs.internal.Adding.{AddsResponse}
 
 module _ (reply : Reply) (p : Publication) (query old new : List ℕ) where
   pub proved_added : (root answer proof : List ℕ) → reply.endpoint ≡ AnswerWithProof → (root ≡ root_of p) × IsProved p query answer proof
-      → new ≡ old ++ response_text (found reply.closes root true (checked_body root answer proof)) → AddsResponse (ByQuery reply p (Some query)) old new
+      → new ≡ old ++ response_text (ok_response reply.closes root true (checked_body root answer proof)) → AddsResponse (ByQuery reply p (Some query)) old new
   proved_added root answer proof at (under, is) added =
-      let r = found reply.closes root true (checked_body root answer proof) in
-      let gives : GivesAt AnswerWithProof reply.closes p query r = (answer, proof, is, ap (λ (root : List ℕ). found reply.closes root true (checked_body root answer proof)) under) in
+      let r = ok_response reply.closes root true (checked_body root answer proof) in
+      let gives : GivesAt AnswerWithProof reply.closes p query r = (answer, proof, is, ap (λ (root : List ℕ). ok_response reply.closes root true (checked_body root answer proof)) under) in
       (r, inr (subst (λ (endpoint : Endpoint). GivesAt endpoint reply.closes p query r) (sym at) gives), added)
 
   pub fault_added : (fault : QlFault) → HasFault query fault

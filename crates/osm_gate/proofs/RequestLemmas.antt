@@ -32,7 +32,7 @@ with_body-takes n after h (Err refusal) some d e = refuse-takes refusal n _ some
 with_body-takes n after h (Ok k) some d e = go (nat_lt (length after) k) refl e
   where
     go : (b : Bool) → nat_lt (length after) k ≡ b
-        → (if b then None else Some (record { outcome = asked (asked_with h (take k after)); used = n + k })) ≡ Some d
+        → (if b then None else Some (record { request = asked (asked_with h (take k after)); used = n + k })) ≡ Some d
         → (0 < d.used) × (d.used ≤ n + length after)
     go true t e = cc
     go false t e =
@@ -77,7 +77,7 @@ with_body-stays n after more h (Err refusal) d e = e
 with_body-stays n after more h (Ok k) d e = go (nat_lt (length after) k) refl e
   where
     go : (b : Bool) → nat_lt (length after) k ≡ b
-        → (if b then None else Some (record { outcome = asked (asked_with h (take k after)); used = n + k })) ≡ Some d
+        → (if b then None else Some (record { request = asked (asked_with h (take k after)); used = n + k })) ≡ Some d
         → with_body n (after ++ more) h (Ok k) ≡ Some d
     go true t e = cc
     go false t e =

@@ -10,7 +10,7 @@ use Rattle.std.proofs.lemmas.List.Elements.{All-append}
 use Rattle.std.proofs.lemmas.List.Folds.{concat-append}
 use Rattle.std.proofs.Math.Seq.{take-append-add, take-append_seam}
 use Rattle.osm_keys.specs.Publications.{Publication}
-use Rattle.osm_gate.specs.Connections.{Heard, Responds, RespondsTo, Rest, heard, heard_next}
+use Rattle.osm_gate.specs.Connections.{Requests, Responds, RespondsTo, Rest, requests_in, requests_next}
 use Rattle.osm_gate.specs.Serving.{AreRead, Exchange, HasBegun, HasBrokenOff, HasEnded, HasGivenUp, IsPiece, but_last, is_closed_by, longest_piece, most_reads}
 use Rattle.byte_io.specs.Written.{AppendsFront}
 use Rattle.osm_gate.specs.declared.gate_fault.GateFault.{GateFault}
@@ -88,24 +88,24 @@ more_front old mid new x y h (k, within, begun) =
     (length x + k, omega (arith, within, length-append x y), rw (take-append-add x y k) (Appends-trans old mid new x (take k y) h begun))
 
 -- what a front and a piece ask, by the gate between them
-asked_on : (front piece : List ℕ) (gate : Rest) → gate ≡ (heard front).rest
-    → (heard (front ++ piece)).outcomes ≡ (heard front).outcomes ++ (heard_next gate piece).outcomes
+asked_on : (front piece : List ℕ) (gate : Rest) → gate ≡ (requests_in front).rest
+    → (requests_in (front ++ piece)).complete ≡ (requests_in front).complete ++ (requests_next gate piece).complete
 asked_on front piece gate is =
-    ap (λ (s : Heard). s.outcomes) (cut front piece)
-    ∙ ap (λ (r : Rest). (heard front).outcomes ++ (heard_next r piece).outcomes) (sym is)
+    ap (λ (s : Requests). s.complete) (cut front piece)
+    ∙ ap (λ (r : Rest). (requests_in front).complete ++ (requests_next r piece).complete) (sym is)
 
-pub rest-on : (pieces : List (List ℕ)) (piece : List ℕ) (gate : Rest) → gate ≡ (heard (concat pieces)).rest
-    → (heard_next gate piece).rest ≡ (heard (concat (pieces ++ piece ∷ []))).rest
+pub rest-on : (pieces : List (List ℕ)) (piece : List ℕ) (gate : Rest) → gate ≡ (requests_in (concat pieces)).rest
+    → (requests_next gate piece).rest ≡ (requests_in (concat (pieces ++ piece ∷ []))).rest
 rest-on pieces piece gate is =
-    ap (λ (r : Rest). (heard_next r piece).rest) is
-    ∙ sym (ap (λ (s : Heard). s.rest) (cut (concat pieces) piece))
-    ∙ ap (λ (bytes : List ℕ). (heard bytes).rest) (sym (concat-more pieces piece))
+    ap (λ (r : Rest). (requests_next r piece).rest) is
+    ∙ sym (ap (λ (s : Requests). s.rest) (cut (concat pieces) piece))
+    ∙ ap (λ (bytes : List ℕ). (requests_in bytes).rest) (sym (concat-more pieces piece))
 
-pub responds-on : (p : Publication) (pieces : List (List ℕ)) (piece x y : List ℕ) (gate : Rest) → gate ≡ (heard (concat pieces)).rest
-    → RespondsTo p (concat pieces) x → Responds p (heard_next gate piece).outcomes y → RespondsTo p (concat (pieces ++ piece ∷ [])) (x ++ y)
+pub responds-on : (p : Publication) (pieces : List (List ℕ)) (piece x y : List ℕ) (gate : Rest) → gate ≡ (requests_in (concat pieces)).rest
+    → RespondsTo p (concat pieces) x → Responds p (requests_next gate piece).complete y → RespondsTo p (concat (pieces ++ piece ∷ [])) (x ++ y)
 responds-on p pieces piece x y gate is one two =
     let front = concat pieces in
-    rw (concat-more pieces piece, asked_on front piece gate is) (responds-append p (heard front).outcomes (heard_next gate piece).outcomes x y one two)
+    rw (concat-more pieces piece, asked_on front piece gate is) (responds-append p (requests_in front).complete (requests_next gate piece).complete x y one two)
 
 -- what was read before one piece more has its responses
 pub responds-before : (p : Publication) (pieces : List (List ℕ)) (piece x : List ℕ) → RespondsTo p (concat pieces) x
@@ -132,18 +132,18 @@ given_up p e fault (inr writer) whole begun = subst (HasBrokenOff p e) (sym writ
 -- over whatever publication the connection is over
 abbrev pub Served : (Publication → Type 0) → Exchange → Rest → ℕ → Type 0
 Served over e gate reads = (pieces : List (List ℕ)) × (length pieces ≡ reads) × AreRead e.unread e.left pieces
-    × (is_closed_by pieces ≡ false) × (gate ≡ (heard (concat pieces)).rest)
+    × (is_closed_by pieces ≡ false) × (gate ≡ (requests_in (concat pieces)).rest)
     × ((p : Publication) → over p → (text : List ℕ) × RespondsTo p (concat pieces) text × Appends e.before e.after text)
 
 -- after the end of a connection nothing more is asked
-closed_on : (front more : List ℕ) → (heard front).rest.is_closed ≡ true → (heard (front ++ more)).outcomes ≡ (heard front).outcomes
+closed_on : (front more : List ℕ) → (requests_in front).rest.is_closed ≡ true → (requests_in (front ++ more)).complete ≡ (requests_in front).complete
 closed_on front more is =
-    asked_on front more (heard front).rest refl
-    ∙ rw is (append-nil (heard front).outcomes)
+    asked_on front more (requests_in front).rest refl
+    ∙ rw is (append-nil (requests_in front).complete)
 
 -- so what was written responds to the whole input
 pub closed_whole : (p : Publication) (a b : Option (List ℕ)) (front text : List ℕ) (old new : Option (List ℕ)) → Consumes a b front
-    → (heard front).rest.is_closed ≡ true → RespondsTo p front text → Appends old new text
+    → (requests_in front).rest.is_closed ≡ true → RespondsTo p front text → Appends old new text
     → IfSome a (λ input. (t : List ℕ) × RespondsTo p input t × Appends old new t)
 closed_whole p None b front text old new consumed is_shut responds h = tt
 closed_whole p (Some input) None front text old new consumed is_shut responds h = absurd consumed

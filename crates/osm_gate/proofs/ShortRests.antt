@@ -8,7 +8,7 @@ use Rattle.std.proofs.lemmas.Bool.Decides.{nat_tests}
 use Rattle.std.proofs.lemmas.List.{length-drop}
 use Rattle.httparse.specs.Grammar.{RequestHead}
 use Rattle.httparse.specs.Spans.{name_and_value}
-use Rattle.osm_gate.specs.Connections.{ends_with, heard, heard_after, heard_within}
+use Rattle.osm_gate.specs.Connections.{ends_with, requests_in, requests_from, requests_within}
 use Rattle.osm_gate.specs.Fields.{FieldPair, body_length, framing, is_named, length_of, values_named}
 use Rattle.osm_gate.specs.HeadEnds.{head_length, line_feeds, skip_breaks}
 use Rattle.osm_gate.specs.Heads.{head_of}
@@ -51,7 +51,7 @@ body-open n after h (Err refusal) fits e = cc
 body-open n after h (Ok k) fits e = go (nat_lt (length after) k) refl e
   where
     go : (b : Bool) → nat_lt (length after) k ≡ b
-        → (if◌then◌else◌ {A = Option Decided} b None (Some (record { outcome = asked (asked_with h (take k after)); used = n + k }))) ≡ None
+        → (if◌then◌else◌ {A = Option Decided} b None (Some (record { request = asked (asked_with h (take k after)); used = n + k }))) ≡ None
         → length after < BODY_LIMIT
     go true t e = let most = fits k refl in grind (arith, nat_tests)
     go false t e = cc
@@ -84,15 +84,15 @@ request-open bytes e = end-open bytes (head_length (take HEAD_LIMIT bytes)) refl
 
 -- ---- what is left
 
-within-short : (n : ℕ) (bytes : List ℕ) → length bytes ≤ n → length (heard_within n bytes).rest.bytes < HEAD_LIMIT + BODY_LIMIT
+within-short : (n : ℕ) (bytes : List ℕ) → length bytes ≤ n → length (requests_within n bytes).rest.bytes < HEAD_LIMIT + BODY_LIMIT
 within-short zero bytes few = let fits = skip-fits bytes in omega arith
 within-short (suc n) bytes few = go (first_request (skip_breaks bytes)) refl (λ rest fits. within-short n rest fits)
   where
     go : (o : Option Decided) → first_request (skip_breaks bytes) ≡ o
-        → ((rest : List ℕ) → length rest ≤ n → length (heard_within n rest).rest.bytes < HEAD_LIMIT + BODY_LIMIT)
-        → length (heard_after (heard_within n) (skip_breaks bytes) o).rest.bytes < HEAD_LIMIT + BODY_LIMIT
+        → ((rest : List ℕ) → length rest ≤ n → length (requests_within n rest).rest.bytes < HEAD_LIMIT + BODY_LIMIT)
+        → length (requests_from (requests_within n) (skip_breaks bytes) o).rest.bytes < HEAD_LIMIT + BODY_LIMIT
     go None e later = request-open (skip_breaks bytes) e
-    go (Some d) e later = ended (ends_with d.outcome)
+    go (Some d) e later = ended (ends_with d.request)
       where
         left : List ℕ
         left = drop d.used (skip_breaks bytes)
@@ -101,9 +101,9 @@ within-short (suc n) bytes few = go (first_request (skip_breaks bytes)) refl (λ
         shorter = let progress = request-progresses (skip_breaks bytes) d e in
             omega (arith, progress.0, progress.1, skip-fits bytes, length-drop d.used (skip_breaks bytes), few)
 
-        ended : (b : Bool) → length (chosen_of b (d.outcome ∷ []) (heard_within n left)).rest.bytes < HEAD_LIMIT + BODY_LIMIT
+        ended : (b : Bool) → length (chosen_of b (d.request ∷ []) (requests_within n left)).rest.bytes < HEAD_LIMIT + BODY_LIMIT
         ended true = omega arith
         ended false = later left shorter
 
-pub rest-short : (bytes : List ℕ) → length (heard bytes).rest.bytes < HEAD_LIMIT + BODY_LIMIT
+pub rest-short : (bytes : List ℕ) → length (requests_in bytes).rest.bytes < HEAD_LIMIT + BODY_LIMIT
 rest-short bytes = within-short (length bytes) bytes (omega arith)

@@ -5,15 +5,15 @@ use Rattle.std.proofs.lemmas.List.{length-drop, drop-drop}
 use Rattle.osm_keys.specs.Publications.{Publication}
 use Rattle.osm_index.specs.Snapshots.{HoldsPublication}
 use Rattle.osm_index.specs.declared.snapshot.Snapshot.{Snapshot}
-use Rattle.osm_gate.specs.Connections.{Heard, Responds, RespondsTo, closed_rest, heard, open_rest, preceded}
+use Rattle.osm_gate.specs.Connections.{Requests, Responds, RespondsTo, closed_rest, requests_in, open_rest, joined_requests}
 use Rattle.osm_gate.specs.HeadEnds.{begins_with_break, head_length, is_break, skip_breaks}
-use Rattle.osm_gate.specs.Requests.{Outcome, first_request}
+use Rattle.osm_gate.specs.Requests.{Request, first_request}
 use Rattle.osm_gate.specs.declared.limits.TheConstants.{HEAD_LIMIT}
 use Rattle.osm_gate.specs.declared.requests.Step.TheVariants.{Ended, Next, Open}
 use Rattle.osm_gate.specs.internal.Kept.{IsOpen}
 use Rattle.osm_gate.specs.internal.Steps.{StepIs}
 use Rattle.osm_gate.proofs.BreakLemmas.{skip-none}
-use Rattle.osm_gate.proofs.ConnectionLemmas.{heard-last, heard-more, heard-stop}
+use Rattle.osm_gate.proofs.ConnectionLemmas.{requests_in-last, requests_in-more, requests_in-stop}
 use Rattle.osm_gate.proofs.RequestLemmas.{request-progresses}
 use Rattle.osm_gate.proofs.RespondingLemmas.{responds-append}
 
@@ -62,48 +62,48 @@ open-body bytes needed begins missing waits = record { starts = skip-none bytes 
 
 -- ---- one step of the loop
 
--- the responses so far are those to these requests, and then the rest is heard
+-- the responses so far are those to these requests, and the others are those of the rest
 abbrev pub SoFar : Snapshot → List ℕ → List ℕ → List ℕ → Type 0
-SoFar snapshot bytes rest text = (outcomes : List Outcome) × (heard bytes ≡ preceded outcomes (heard rest))
-    × ((p : Publication) → HoldsPublication snapshot p → Responds p outcomes text)
+SoFar snapshot bytes rest text = (requests : List Request) × (requests_in bytes ≡ joined_requests requests (requests_in rest))
+    × ((p : Publication) → HoldsPublication snapshot p → Responds p requests text)
 
 module _ (snapshot : Snapshot) (bytes rest start old new : List ℕ) (starts : start ≡ skip_breaks rest) (so_far : SoFar snapshot bytes rest old) where
   pub step-open : (needed : ℕ) → StepIs (Open needed) snapshot start old new
-      → ((p : Publication) → HoldsPublication snapshot p → RespondsTo p bytes new) × ((heard bytes).rest ≡ open_rest start)
+      → ((p : Publication) → HoldsPublication snapshot p → RespondsTo p bytes new) × ((requests_in bytes).rest ≡ open_rest start)
   step-open needed step =
-      let (outcomes, said, responds) = so_far in
+      let (requests, said, responds) = so_far in
       let none = rw starts at step.0 in
-      let whole = heard-stop bytes rest outcomes none said in
-      let same : (heard bytes).outcomes ≡ outcomes = ap (λ (s : Heard). s.outcomes) whole in
-      (λ p holds. rw (same, step.2) (responds p holds), ap (λ (s : Heard). s.rest) whole ∙ ap open_rest (sym starts))
+      let whole = requests_in-stop bytes rest requests none said in
+      let same : (requests_in bytes).complete ≡ requests = ap (λ (s : Requests). s.complete) whole in
+      (λ p holds. rw (same, step.2) (responds p holds), ap (λ (s : Requests). s.rest) whole ∙ ap open_rest (sym starts))
 
   pub step-ended : StepIs Ended snapshot start old new
-      → ((p : Publication) → HoldsPublication snapshot p → RespondsTo p bytes new) × ((heard bytes).rest ≡ closed_rest)
+      → ((p : Publication) → HoldsPublication snapshot p → RespondsTo p bytes new) × ((requests_in bytes).rest ≡ closed_rest)
   step-ended step =
-      let (outcomes, said, responds) = so_far in
+      let (requests, said, responds) = so_far in
       let (d, first, ends, adds) = step in
       let is = rw starts at first in
-      let whole = heard-last bytes rest outcomes d is ends said in
-      let same : (heard bytes).outcomes ≡ outcomes ++ d.outcome ∷ [] = ap (λ (s : Heard). s.outcomes) whole in (
+      let whole = requests_in-last bytes rest requests d is ends said in
+      let same : (requests_in bytes).complete ≡ requests ++ d.request ∷ [] = ap (λ (s : Requests). s.complete) whole in (
         λ p holds. let (text, one, added) = adds p holds in
-            rw (same, added) (responds-append p outcomes (d.outcome ∷ []) old text (responds p holds) one),
-        ap (λ (s : Heard). s.rest) whole,
+            rw (same, added) (responds-append p requests (d.request ∷ []) old text (responds p holds) one),
+        ap (λ (s : Requests). s.rest) whole,
       )
 
   pub step-next : (used : ℕ) → StepIs (Next used) snapshot start old new
       → (0 < used) × (used ≤ length start) × SoFar snapshot bytes (drop used start) new
   step-next used step =
-      let (outcomes, said, responds) = so_far in
+      let (requests, said, responds) = so_far in
       let (d, first, stays, adds, same) = step in
       let is = rw starts at first in
       let progress = request-progresses start d first in
-      let more = heard-more bytes rest outcomes d is stays said in (
+      let more = requests_in-more bytes rest requests d is stays said in (
         omega (arith, progress.0, same),
         omega (arith, progress.1, same),
         (
-          outcomes ++ d.outcome ∷ [],
-          more ∙ (λ i. preceded (outcomes ++ d.outcome ∷ []) (heard (drop (same i) ((sym starts) i)))),
+          requests ++ d.request ∷ [],
+          more ∙ (λ i. joined_requests (requests ++ d.request ∷ []) (requests_in (drop (same i) ((sym starts) i)))),
           λ p holds. let (text, one, added) = adds p holds in
-              rw added (responds-append p outcomes (d.outcome ∷ []) old text (responds p holds) one),
+              rw added (responds-append p requests (d.request ∷ []) old text (responds p holds) one),
         ),
       )

@@ -4,7 +4,7 @@
 use Rattle.std.specs.Prelude.{◌≡◌, ℕ, Bool, true, false, List, [], ◌∷◌, ◌++◌, Option, Some, None, drop, length, zero, suc, if◌then◌else◌}
 use Rattle.osm_keys.specs.Publications.{Publication}
 use Rattle.osm_gate.specs.HeadEnds.{skip_breaks}
-use Rattle.osm_gate.specs.Requests.{Decided, Outcome, asked, first_request, refused}
+use Rattle.osm_gate.specs.Requests.{Decided, Request, asked, first_request, refused}
 use Rattle.osm_gate.specs.ResponseTexts.{Response, response_text}
 use Rattle.osm_gate.specs.Responses.{IsResponse, ends, refused_response}
 
@@ -19,55 +19,57 @@ open_rest bytes = record { is_closed = false; bytes = bytes }
 abbrev pub closed_rest : Rest
 closed_rest = record { is_closed = true; bytes = [] }
 
--- the requests, and what is left
-pub record Heard : Type 0 where
-  pub outcomes : List Outcome
+-- the complete requests, and what is left
+pub record Requests : Type 0 where
+  pub complete : List Request
   pub rest : Rest
 
--- these requests come before what is heard
-abbrev pub preceded : List Outcome → Heard → Heard
-preceded outcomes heard = record { outcomes = outcomes ++ heard.outcomes; rest = heard.rest }
+-- these requests come first
+abbrev pub joined_requests : List Request → Requests → Requests
+joined_requests first later = record { complete = first ++ later.complete; rest = later.rest }
 
 -- the connection ends after the response to this request
-abbrev pub ends_with : Outcome → Bool
+abbrev pub ends_with : Request → Bool
 ends_with (refused refusal) = true
 ends_with (asked a) = ends a
 
--- the first request of these bytes, and what is heard after it; or none
-abbrev pub heard_after : (List ℕ → Heard) → List ℕ → Option Decided → Heard
-heard_after later bytes None = record { outcomes = []; rest = open_rest bytes }
-heard_after later bytes (Some d) =
-    if ends_with d.outcome then record { outcomes = d.outcome ∷ []; rest = closed_rest }
-    else preceded (d.outcome ∷ []) (later (drop d.used bytes))
+-- the first request of these bytes, and those after it; or none
+abbrev pub requests_from : (List ℕ → Requests) → List ℕ → Option Decided → Requests
+requests_from later bytes None = record { complete = []; rest = open_rest bytes }
+requests_from later bytes (Some d) =
+    if ends_with d.request then record { complete = d.request ∷ []; rest = closed_rest }
+    else joined_requests (d.request ∷ []) (later (drop d.used bytes))
 
 -- at most so many requests of these bytes
-abbrev pub heard_within : ℕ → List ℕ → Heard
-heard_within zero bytes = record { outcomes = []; rest = open_rest (skip_breaks bytes) }
-heard_within (suc n) bytes = heard_after (heard_within n) (skip_breaks bytes) (first_request (skip_breaks bytes))
+abbrev pub requests_within : ℕ → List ℕ → Requests
+requests_within zero bytes = record { complete = []; rest = open_rest (skip_breaks bytes) }
+requests_within (suc n) bytes =
+    requests_from (requests_within n) (skip_breaks bytes) (first_request (skip_breaks bytes))
 
 -- all requests of these bytes: each takes a byte at least
-abbrev pub heard : List ℕ → Heard
-heard bytes = heard_within (length bytes) bytes
+abbrev pub requests_in : List ℕ → Requests
+requests_in bytes = requests_within (length bytes) bytes
 
 -- the same of what is left and a further piece: nothing more once the connection is closed
-abbrev pub heard_on : Bool → List ℕ → Heard
-heard_on true bytes = record { outcomes = []; rest = closed_rest }
-heard_on false bytes = heard bytes
+abbrev pub requests_on : Bool → List ℕ → Requests
+requests_on true bytes = record { complete = []; rest = closed_rest }
+requests_on false bytes = requests_in bytes
 
-abbrev pub heard_next : Rest → List ℕ → Heard
-heard_next rest piece = heard_on rest.is_closed (rest.bytes ++ piece)
+abbrev pub requests_next : Rest → List ℕ → Requests
+requests_next rest piece = requests_on rest.is_closed (rest.bytes ++ piece)
 
 -- the text is the response to this request
-abbrev pub RespondsToOne : Publication → Outcome → List ℕ → Type 0
+abbrev pub RespondsToOne : Publication → Request → List ℕ → Type 0
 RespondsToOne p (refused refusal) text = text ≡ response_text (refused_response refusal)
 RespondsToOne p (asked a) text = (r : Response) × IsResponse p a r × (text ≡ response_text r)
 
 -- the text is the responses to these requests, one after the other
-abbrev pub Responds : Publication → List Outcome → List ℕ → Type 0
+abbrev pub Responds : Publication → List Request → List ℕ → Type 0
 Responds p [] text = text ≡ []
-Responds p (outcome ∷ outcomes) text =
-    (first : List ℕ) × (later : List ℕ) × RespondsToOne p outcome first × Responds p outcomes later × (text ≡ first ++ later)
+Responds p (request ∷ requests) text =
+    (first : List ℕ) × (later : List ℕ) × RespondsToOne p request first
+    × Responds p requests later × (text ≡ first ++ later)
 
 -- the text is the responses to all requests of these bytes
 abbrev pub RespondsTo : Publication → List ℕ → List ℕ → Type 0
-RespondsTo p bytes text = Responds p (heard bytes).outcomes text
+RespondsTo p bytes text = Responds p (requests_in bytes).complete text

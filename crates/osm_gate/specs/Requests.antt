@@ -18,17 +18,17 @@ pub record Asked : Type 0 where
   pub closes : Bool
 
 -- it is refused as it stands, or it is to be answered
-pub data Outcome : Type 0 where
-  refused : Refusal → Outcome
-  asked : Asked → Outcome
+pub data Request : Type 0 where
+  refused : Refusal → Request
+  asked : Asked → Request
 
 -- a request, and how many bytes it takes
 pub record Decided : Type 0 where
-  pub outcome : Outcome
+  pub request : Request
   pub used : ℕ
 
 abbrev pub refuse : Refusal → ℕ → Option Decided
-refuse refusal used = Some (record { outcome = refused refusal; used = used })
+refuse refusal used = Some (record { request = refused refusal; used = used })
 
 -- by HTTP/1.0, or by a field, the connection ends after this request
 abbrev pub ends_after : RequestHead → Bool
@@ -42,7 +42,7 @@ abbrev pub with_body : ℕ → List ℕ → RequestHead → Result ℕ Refusal �
 with_body n after h (Err refusal) = refuse refusal n
 with_body n after h (Ok k) =
     if nat_lt (length after) k then None
-    else Some (record { outcome = asked (asked_with h (take k after)); used = n + k })
+    else Some (record { request = asked (asked_with h (take k after)); used = n + k })
 
 -- these bytes follow a head of n bytes, which httparse reads, or doesn't
 abbrev pub after_head : ℕ → List ℕ → Option RequestHead → Option Decided

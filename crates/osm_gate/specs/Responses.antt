@@ -35,15 +35,15 @@ refusal closes status text = record {
   body = text ++ line_feed ∷ [];
 }
 
-abbrev pub not_allowed : Bool → List ℕ → Response
-not_allowed closes methods = record {
+abbrev pub not_allowed_response : Bool → List ℕ → Response
+not_allowed_response closes methods = record {
   head = record { status = 405; is_binary = false; root = None; allow = Some methods; closes = closes };
   body = codes "method not allowed" ++ line_feed ∷ [];
 }
 
 -- what was asked for, under this root
-abbrev pub found : Bool → List ℕ → Bool → List ℕ → Response
-found closes root is_binary body = record {
+abbrev pub ok_response : Bool → List ℕ → Bool → List ℕ → Response
+ok_response closes root is_binary body = record {
   head = record { status = 200; is_binary = is_binary; root = Some root; allow = None; closes = closes };
   body = body;
 }
@@ -56,7 +56,8 @@ fault_text fault = code_text fault.cause ++ (codes " byte " ++ decimal fault.byt
 
 -- the response says why the query doesn't read
 abbrev pub TellsFault : Bool → List ℕ → Response → Type 0
-TellsFault closes query r = (fault : QlFault) × HasFault query fault × (r ≡ refusal closes 400 (fault_text fault))
+TellsFault closes query r =
+    (fault : QlFault) × HasFault query fault × (r ≡ refusal closes 400 (fault_text fault))
 
 -- what a client can check: the root, the length of the answer in eight bytes, the answer and the proof
 abbrev pub checked_body : List ℕ → List ℕ → List ℕ → List ℕ
@@ -66,14 +67,15 @@ checked_body root answer proof = root ++ (to_be_bytes w64 (length answer) ++ (an
 -- a client can check, which isn't text
 abbrev pub GivesAt : Endpoint → Bool → Publication → List ℕ → Response → Type 0
 GivesAt Answer closes p query r =
-    (answer : List ℕ) × IsAnswer p query answer × (r ≡ found closes (root_of p) false answer)
+    (answer : List ℕ) × IsAnswer p query answer × (r ≡ ok_response closes (root_of p) false answer)
 GivesAt AnswerWithProof closes p query r =
     (answer : List ℕ) × (proof : List ℕ) × IsProved p query answer proof
-    × (r ≡ found closes (root_of p) true (checked_body (root_of p) answer proof))
+    × (r ≡ ok_response closes (root_of p) true (checked_body (root_of p) answer proof))
 
 abbrev pub ByQuery : Reply → Publication → Option (List ℕ) → Response → Type 0
 ByQuery reply p None r = r ≡ refusal reply.closes 400 (codes "no data")
-ByQuery reply p (Some query) r = TellsFault reply.closes query r ⊎ GivesAt reply.endpoint reply.closes p query r
+ByQuery reply p (Some query) r =
+    TellsFault reply.closes query r ⊎ GivesAt reply.endpoint reply.closes p query r
 
 -- ---- methods and routes
 
@@ -83,13 +85,13 @@ method_of method = if bytes_eq method (codes "GET") then Get else (if bytes_eq m
 abbrev pub ByMethod : Reply → Publication → Asked → Method → Response → Type 0
 ByMethod reply p a Get r = ByQuery reply p (query_of Target a) r
 ByMethod reply p a Post r = ByQuery reply p (query_of Body a) r
-ByMethod reply p a Other r = r ≡ not_allowed reply.closes (codes "GET, POST")
+ByMethod reply p a Other r = r ≡ not_allowed_response reply.closes (codes "GET, POST")
 
 -- the root in hexadecimal digits
 abbrev pub root_by_method : Bool → List ℕ → Method → Response
-root_by_method closes root Get = found closes root false (encode_lower root ++ line_feed ∷ [])
-root_by_method closes root Post = not_allowed closes (codes "GET")
-root_by_method closes root Other = not_allowed closes (codes "GET")
+root_by_method closes root Get = ok_response closes root false (encode_lower root ++ line_feed ∷ [])
+root_by_method closes root Post = not_allowed_response closes (codes "GET")
+root_by_method closes root Other = not_allowed_response closes (codes "GET")
 
 abbrev pub ByRoute : Bool → Publication → Asked → Option Route → Response → Type 0
 ByRoute closes p a None r = r ≡ refusal closes 404 (codes "not found")

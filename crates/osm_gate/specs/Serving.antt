@@ -4,7 +4,7 @@ use Rattle.std.specs.Prelude.{◌≡◌, ◌⊎◌, ◌<◌, ◌≤◌, ◌-◌,
 use Rattle.std.specs.Io.KnownBytes.{Appends, Consumes, IsAtEnd}
 use Rattle.std.specs.List.{All, concat}
 use Rattle.osm_keys.specs.Publications.{Publication}
-use Rattle.osm_gate.specs.Connections.{RespondsTo, heard}
+use Rattle.osm_gate.specs.Connections.{RespondsTo, requests_in}
 use Rattle.osm_gate.specs.ResponseTexts.{response_text}
 use Rattle.osm_gate.specs.Responses.{refusal}
 use Rattle.byte_io.specs.Written.{AppendsFront}
@@ -37,7 +37,7 @@ most_reads = 1048576
 
 -- the connection has ended after these pieces: no further bytes have a response
 abbrev pub is_closed_by : List (List ℕ) → Bool
-is_closed_by pieces = (heard (concat pieces)).rest.is_closed
+is_closed_by pieces = (requests_in (concat pieces)).rest.is_closed
 
 -- the pieces before the last one
 abbrev pub but_last : List (List ℕ) → List (List ℕ)

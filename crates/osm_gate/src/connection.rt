@@ -2,7 +2,7 @@
 
 ghost use Rattle.std.specs.Prelude.{◌≡◌, IfOk, OnOk};
 ghost use Rattle.osm_keys.specs.Publications.{Publication};
-ghost use Rattle.osm_gate.specs.Connections.{Responds, Rest, heard_next};
+ghost use Rattle.osm_gate.specs.Connections.{Responds, Rest, requests_next};
 
 use std::alloc::AllocError;
 
@@ -21,8 +21,10 @@ pub trait Connection {
     /// closed. Refused only where memory runs out.
     fn feed(&mut self, piece: &[u8]) -> Result<Vec<u8>, AllocError>
         ensures responses { (p : Publication) → over self.old p
-            → IfOk result (λ responses. Responds p (heard_next (rest self.old) piece.now).outcomes responses.items) }
-        ensures rest { OnOk result (rest self.new ≡ (heard_next (rest self.old) piece.now).rest) }
+            → IfOk result (λ responses.
+            Responds p (requests_next (rest self.old) piece.now).complete responses.items) }
+        ensures rest { OnOk result (
+            rest self.new ≡ (requests_next (rest self.old) piece.now).rest) }
         ensures later { later self.old self.new };
 
     /// Whether the connection has ended: no further bytes have a response.

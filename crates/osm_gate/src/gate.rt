@@ -3,7 +3,7 @@
 ghost use Rattle.std.specs.Prelude.{◌≡◌, ◌≤◌, IfOk, OnErr, [], drop, length};
 ghost use Rattle.osm_keys.specs.Publications.{Publication};
 ghost use Rattle.osm_index.specs.Snapshots.{HoldsPublication};
-ghost use Rattle.osm_gate.specs.Connections.{Responds, Rest, heard_next, open_rest};
+ghost use Rattle.osm_gate.specs.Connections.{Responds, Rest, requests_next, open_rest};
 ghost use Rattle.osm_gate.specs.internal.Kept.{IsKept};
 
 use crate::requests::respond_to_all;
@@ -75,9 +75,11 @@ impl Gate {
     pub fn feed(&mut self, piece: &[u8], snapshot: &Snapshot) -> Result<Vec<u8>, AllocError>
         // What is given responds to the requests of what was left and of this piece,
         ensures responses { (p : Publication) → HoldsPublication snapshot.now p
-            → IfOk result (λ responses. Responds p (heard_next self.old piece.now).outcomes responses.items) }
+            → IfOk result (λ responses.
+            Responds p (requests_next self.old piece.now).complete responses.items) }
         // and what is left of both is left.
-        ensures rest { IfOk result (λ responses. self.new ≡ (heard_next self.old piece.now).rest) }
+        ensures rest { IfOk result (λ responses.
+            self.new ≡ (requests_next self.old piece.now).rest) }
         // Out of memory the gate is as before: no part of the piece was taken.
         ensures unchanged { OnErr result (self.new ≡ self.old) }
     {

@@ -3,9 +3,9 @@
 ghost use Rattle.std.specs.Prelude.{◌≡◌, ◌↔◌, ◌++◌, ◌+◌, ◌^◌, ◌<◌, ℕ, List, Some, [], length, true};
 ghost use Rattle.httparse.specs.Grammar.{RequestHead};
 ghost use Rattle.osm_keys.specs.Publications.{IsPublication, Publication};
-ghost use Rattle.osm_gate.specs.Connections.{Responds, Rest, closed_rest, heard, heard_next, preceded};
+ghost use Rattle.osm_gate.specs.Connections.{Responds, Rest, closed_rest, requests_in, requests_next, joined_requests};
 ghost use Rattle.osm_gate.specs.Heads.{IsHead, head_of};
-ghost use Rattle.osm_gate.specs.Requests.{Outcome};
+ghost use Rattle.osm_gate.specs.Requests.{Request};
 ghost use Rattle.osm_gate.specs.declared.limits.TheConstants.{BODY_LIMIT, DIGIT_LIMIT, FIELD_LIMIT, HEAD_LIMIT, LINE_LIMIT, PIECE_LIMIT, READ_LIMIT};
 ghost use Rattle.osm_gate.specs.Serving.{longest_piece, most_reads};
 
@@ -17,31 +17,34 @@ pub fn head_is_the_grammars()
 /// A law: some bytes and then others ask what the first ask, and then what is left of them and the others ask. So
 /// pieces may be cut anywhere.
 pub fn pieces_ask_the_same()
-    ensures { (a b : List ℕ) → heard (a ++ b) ≡ preceded (heard a).outcomes (heard_next (heard a).rest b) }
+    ensures { (a b : List ℕ) → requests_in (a ++ b)
+        ≡ joined_requests (requests_in a).complete (requests_next (requests_in a).rest b) }
 {}
 
 /// A law: after the end of a connection no bytes ask anything, and nothing is left of them.
 pub fn nothing_after_the_end()
     ensures { (rest : Rest) (piece : List ℕ) → rest.is_closed ≡ true
-        → ((heard_next rest piece).outcomes ≡ []) × ((heard_next rest piece).rest ≡ closed_rest) }
+        → ((requests_next rest piece).complete ≡ [])
+        × ((requests_next rest piece).rest ≡ closed_rest) }
 {}
 
 /// A law: what responds to some requests and then to others is what responds to the first, and then what responds
 /// to the others.
 pub fn responses_stand_in_order()
-    ensures { (p : Publication) (first second : List Outcome) (text : List ℕ) → Responds p (first ++ second) text
+    ensures { (p : Publication) (first second : List Request) (text : List ℕ)
+        → Responds p (first ++ second) text
         → (a : List ℕ) × (b : List ℕ) × Responds p first a × Responds p second b × (text ≡ a ++ b) }
 {}
 
 /// A law: requests have one text of responses at most over a publication.
 pub fn one_response()
-    ensures { (p : Publication) (outcomes : List Outcome) (first second : List ℕ) → IsPublication p
-        → Responds p outcomes first → Responds p outcomes second → first ≡ second }
+    ensures { (p : Publication) (requests : List Request) (first second : List ℕ) → IsPublication p
+        → Responds p requests first → Responds p requests second → first ≡ second }
 {}
 
 /// A law: what is left of a connection is shorter than the longest head and the longest body together.
 pub fn rests_are_short()
-    ensures { (bytes : List ℕ) → length (heard bytes).rest.bytes < HEAD_LIMIT + BODY_LIMIT }
+    ensures { (bytes : List ℕ) → length (requests_in bytes).rest.bytes < HEAD_LIMIT + BODY_LIMIT }
 {}
 
 /// A law: the limits of a request and of a connection, as numbers: the bytes, the fields and the line feeds of a head, the

@@ -6,7 +6,7 @@ ghost use Rattle.osm_keys.specs.Publications.{Publication};
 ghost use Rattle.osm_index.specs.Snapshots.{HoldsPublication};
 ghost use Rattle.ql_syntax.specs.declared.fault.QlFault.{QlFault};
 ghost use Rattle.osm_gate.specs.ResponseTexts.{response_text};
-ghost use Rattle.osm_gate.specs.Responses.{ByQuery, checked_body, fault_text, found, refusal};
+ghost use Rattle.osm_gate.specs.Responses.{ByQuery, checked_body, fault_text, ok_response, refusal};
 ghost use Rattle.osm_gate.specs.internal.Adding.{AddsResponse};
 
 use crate::endpoint::Endpoint;
@@ -28,7 +28,8 @@ pub(crate) fn respond_to_query(
     query: &[u8],
 ) -> Result<(), AllocError>
     ensures { (p : Publication) → HoldsPublication snapshot.now p
-        → OnOk result (AddsResponse (ByQuery reply p (Some query.now)) output.old.items output.new.items) }
+        → OnOk result (AddsResponse (ByQuery reply p (Some query.now))
+        output.old.items output.new.items) }
 {
     match reply.endpoint {
         Endpoint::Answer => match answer(alloc, snapshot, query) {
@@ -50,7 +51,7 @@ fn write_answer(
     answered: &Answered,
 ) -> Result<(), AllocError>
     ensures { OnOk result (output.new.items ≡ output.old.items
-        ++ response_text (found closes answered.now.root.0 false answered.now.answer.items)) }
+        ++ response_text (ok_response closes answered.now.root.0 false answered.now.answer.items)) }
 {
     let body = [answered.answer.as_slice()];
     write_ok(alloc, output, closes, &answered.root, false, &body)
@@ -64,7 +65,7 @@ fn write_answer_with_proof(
     proved: &Proved,
 ) -> Result<(), AllocError>
     ensures { OnOk result (output.new.items ≡ output.old.items
-        ++ response_text (found closes proved.now.root.0 true
+        ++ response_text (ok_response closes proved.now.root.0 true
         (checked_body proved.now.root.0 proved.now.answer.items proved.now.proof.items))) }
 {
     let answer = proved.answer.as_slice();
@@ -86,7 +87,8 @@ fn write_fault(
     fault: ProveFault,
 ) -> Result<(), AllocError>
     ensures { OnOk result ((of_query : QlFault) × (fault ≡ ProveFault.Query of_query)
-        × (output.new.items ≡ output.old.items ++ response_text (refusal closes 400 (fault_text of_query)))) }
+        × (output.new.items ≡ output.old.items
+        ++ response_text (refusal closes 400 (fault_text of_query)))) }
 {
     match fault {
         ProveFault::Query(fault) => {

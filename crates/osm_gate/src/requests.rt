@@ -3,7 +3,7 @@
 ghost use Rattle.std.specs.Prelude.{◌≡◌, ◌≤◌, IfOk, IfSome, None, drop, false, length, take};
 ghost use Rattle.osm_keys.specs.Publications.{Publication};
 ghost use Rattle.osm_index.specs.Snapshots.{HoldsPublication};
-ghost use Rattle.osm_gate.specs.Connections.{RespondsTo, heard};
+ghost use Rattle.osm_gate.specs.Connections.{RespondsTo, requests_in};
 ghost use Rattle.osm_gate.specs.HeadEnds.{begins_with_break, head_length, skip_breaks};
 ghost use Rattle.osm_gate.specs.Requests.{first_request};
 ghost use Rattle.osm_gate.specs.Routes.{route_rows};
@@ -50,7 +50,7 @@ pub(crate) fn respond_to_all(
     requires router { router.now ≡ route_rows }
     requires scanned { head_length (take scanned (take HEAD_LIMIT (skip_breaks bytes.now))) ≡ None }
     ensures responses { (p : Publication) → HoldsPublication snapshot.now p → IfOk result (λ both. RespondsTo p bytes.now both.0.items) }
-    ensures rest { IfOk result (λ both. (heard bytes.now).rest ≡ rest_at bytes.now both.1) }
+    ensures rest { IfOk result (λ both. (requests_in bytes.now).rest ≡ rest_at bytes.now both.1) }
     ensures open { IfOk result (λ both. IfSome both.1 (λ open_at. (open_at.at ≤ length bytes.now) × IsOpen open_at.needed (drop open_at.at bytes.now))) }
 {
     let mut responses = Vec::new(alloc);

@@ -6,8 +6,8 @@ ghost use Rattle.std.specs.String.{string_bytes};
 ghost use Rattle.hex.specs.Hex.{encode_lower};
 ghost use Rattle.http.specs.StatusCode.{status_text};
 ghost use Rattle.osm_gate.specs.ResponseTexts.{close_if, content_type, field_if, field_line, head_text, line_end, response_text};
-ghost use Rattle.osm_gate.specs.Responses.{found, not_allowed, refusal};
-ghost use Rattle.osm_gate.specs.internal.Adding.{joined, parts_of, response_of};
+ghost use Rattle.osm_gate.specs.Responses.{ok_response, not_allowed_response, refusal};
+ghost use Rattle.osm_gate.specs.internal.Adding.{body_of, parts_of, response_of};
 
 use http::StatusCode;
 use std::alloc::{AllocError, Global};
@@ -35,7 +35,8 @@ pub(crate) fn write_ok(
     is_binary: bool,
     body: &[&[u8]],
 ) -> Result<(), AllocError>
-    ensures { OnOk result (output.new.items ≡ output.old.items ++ response_text (found closes root.now.0 is_binary (joined body.now))) }
+    ensures { OnOk result (output.new.items ≡ output.old.items
+        ++ response_text (ok_response closes root.now.0 is_binary (body_of body.now))) }
 {
     let head = ResponseHead {
         status: StatusCode::OK,
@@ -74,7 +75,8 @@ pub(crate) fn write_not_allowed(
     closes: bool,
     methods: &str,
 ) -> Result<(), AllocError>
-    ensures { OnOk result (output.new.items ≡ output.old.items ++ response_text (not_allowed closes methods.now)) }
+    ensures { OnOk result (output.new.items ≡ output.old.items
+        ++ response_text (not_allowed_response closes methods.now)) }
 {
     let head = ResponseHead {
         status: StatusCode::METHOD_NOT_ALLOWED,
@@ -110,7 +112,7 @@ pub(crate) fn write_response(
 
 /// The number of bytes of all parts; none where that is no `usize`.
 fn total_len(parts: &[&[u8]]) -> Option<usize>
-    ensures { IfSome result (λ len. len ≡ length (joined parts.now)) }
+    ensures { IfSome result (λ len. len ≡ length (body_of parts.now)) }
 {
     let mut len: usize = 0;
     for part in parts {

@@ -11,7 +11,7 @@ use Rattle.osm_desk.specs.Happenings.{Happening, arrived, ended, opened, publish
 use Rattle.osm_desk.specs.Runs.{IsRefusedBy}
 use Rattle.osm_desk.specs.OneConnection.{IsFree, RefusesOpening, rest_if, rest_of, with_rest, without}
 use Rattle.osm_desk.specs.Stepping.{Gives}
-use Rattle.osm_gate.specs.Connections.{Responds, Rest, heard_next, open_rest}
+use Rattle.osm_gate.specs.Connections.{Responds, Rest, requests_next, open_rest}
 use Rattle.osm_gate.specs.Serving.{no_memory}
 use Rattle.osm_keys.specs.Publications.{Publication}
 use Rattle.osm_index.specs.Snapshots.{HoldsPublication}
@@ -272,20 +272,20 @@ module _ (wanted : ℕ) (d : Desk) (base : List Entry) (deeds : List Deed) (log 
     fed_now opens = true_if (is_fed n deeds) (λ isnt. let none = ap is_some (s.gone n isnt) in let no = sym opens ∙ none in cc)
 
     pub hears_ok : (contents' : Contents) (text : List ℕ) → IsSome (get contents.connections n)
-        → ((p : Publication) → HoldsPublication contents.snapshot p → Responds p (heard_next (rest_of contents n) piece).outcomes text)
-        → contents' ≡ with_rest contents n (heard_next (rest_of contents n) piece).rest
+        → ((p : Publication) → HoldsPublication contents.snapshot p → Responds p (requests_next (rest_of contents n) piece).complete text)
+        → contents' ≡ with_rest contents n (requests_next (rest_of contents n) piece).rest
         → Stands wanted d base (stepped (arrived n piece) (Ok ((n, text) ∷ [])) ∷ deeds) (noted (brought n piece) log) (insert outputs n text) contents' taken
     hears_ok contents' text opens responds new =
         let (r, found) = some_by (get contents.connections n) opens in
         let rest_is : rest_of contents n ≡ r = ap (λ o. rest_if o) found in
         let at : get D.connections n ≡ Some r = ap (λ (all : Connections). get all n) (sym same_connections) ∙ found in
         let its : text_for n (arrived n piece) (Ok ((n, text) ∷ [])) ≡ text = same n (text ++ []) [] ∙ append-nil text in
-        let gives : Gives (arrive_step D n piece (Some r)).reply ((n, text) ∷ []) = (refl, subst (λ (r : Rest). Responds D.publication (heard_next r piece).outcomes text) rest_is (responds D.publication s.desk.0), tt) in
-        let grown : contents'.connections ≡ insert contents.connections n (heard_next (rest_of contents n) piece).rest = ap (λ (c : Contents). c.connections) new in
+        let gives : Gives (arrive_step D n piece (Some r)).reply ((n, text) ∷ []) = (refl, subst (λ (r : Rest). Responds D.publication (requests_next r piece).complete text) rest_is (responds D.publication s.desk.0), tt) in
+        let grown : contents'.connections ≡ insert contents.connections n (requests_next (rest_of contents n) piece).rest = ap (λ (c : Contents). c.connections) new in
         let held : HoldsPublication contents'.snapshot D.publication = subst (λ (c : Contents). HoldsPublication c.snapshot D.publication) (sym new) s.desk.0 in
-        let joined : contents'.connections ≡ insert D.connections n (heard_next r piece).rest =
-        ap (λ (c : Contents). c.connections) new ∙ ap (λ (all : Connections). insert all n (heard_next (rest_of contents n) piece).rest) same_connections
-        ∙ ap (λ (r : Rest). insert D.connections n (heard_next r piece).rest) rest_is in
+        let joined : contents'.connections ≡ insert D.connections n (requests_next r piece).rest =
+        ap (λ (c : Contents). c.connections) new ∙ ap (λ (all : Connections). insert all n (requests_next (rest_of contents n) piece).rest) same_connections
+        ∙ ap (λ (r : Rest). insert D.connections n (requests_next r piece).rest) rest_is in
         record {
           logged = ap (noted (brought n piece)) s.logged;
           ran = (subst (λ (t : Step). Gives t.reply ((n, text) ∷ [])) (sym (ap (arrive_step D n piece) at)) gives, s.ran);

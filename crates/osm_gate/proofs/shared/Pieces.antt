@@ -1,7 +1,7 @@
 -- What the bytes of a connection ask doesn't depend on how they are cut.
 use Rattle.std.proofs.Common.{◌≡◌, ℕ, List, ◌++◌}
 use Rattle.osm_gate.proofs.ConnectionLemmas.{cut}
-use Rattle.osm_gate.specs.Connections.{heard, heard_next, preceded}
+use Rattle.osm_gate.specs.Connections.{requests_in, requests_next, joined_requests}
 
-pub pieces : (a b : List ℕ) → heard (a ++ b) ≡ preceded (heard a).outcomes (heard_next (heard a).rest b)
+pub pieces : (a b : List ℕ) → requests_in (a ++ b) ≡ joined_requests (requests_in a).complete (requests_next (requests_in a).rest b)
 pieces = cut

@@ -18,11 +18,11 @@ parts_of head = record {
 }
 
 -- the parts of a body, one after the other
-abbrev pub joined : List (Bor (List ℕ)) → List ℕ
-joined parts = flat_map (λ (part : Bor (List ℕ)). part.now) parts
+abbrev pub body_of : List (Bor (List ℕ)) → List ℕ
+body_of parts = flat_map (λ (part : Bor (List ℕ)). part.now) parts
 
 abbrev pub response_of : ResponseHead → List (Bor (List ℕ)) → Response
-response_of head body = record { head = parts_of head; body = joined body }
+response_of head body = record { head = parts_of head; body = body_of body }
 
 abbrev pub text_of : QueryText → List ℕ
 text_of (Form text) = string_bytes text

@@ -12,7 +12,8 @@ abbrev pub decided_of : Decision → Option Decided
 decided_of HeadOpen = None
 decided_of (BodyOpen needed) = None
 decided_of (Refused refusal used) = refuse refusal used
-decided_of (Complete request used) = Some (record { outcome = asked (asked_of request); used = used })
+decided_of (Complete request used) =
+    Some (record { request = asked (asked_of request); used = used })
 
 -- the fact at the number, where bytes of a body are missing
 abbrev pub IfBodyOpen : Decision → (ℕ → Type 0) → Type 0

@@ -4,23 +4,25 @@ use Rattle.osm_keys.specs.Publications.{Publication}
 use Rattle.osm_index.specs.Snapshots.{HoldsPublication}
 use Rattle.osm_index.specs.declared.snapshot.Snapshot.{Snapshot}
 use Rattle.osm_gate.specs.Connections.{Responds, Rest, closed_rest, ends_with, open_rest}
-use Rattle.osm_gate.specs.Requests.{Decided, Outcome, first_request}
+use Rattle.osm_gate.specs.Requests.{Decided, Request, first_request}
 use Rattle.osm_gate.specs.declared.requests.Open.{Open as Place}
 use Rattle.osm_gate.specs.declared.requests.Step.{Step}
 use Rattle.osm_gate.specs.declared.requests.Step.TheVariants.{Ended, Next, Open}
 use Rattle.osm_gate.specs.internal.Kept.{IsOpen}
 
 -- the response to this request was added, over whatever publication the snapshot holds
-abbrev pub Adds : Snapshot → Outcome → List ℕ → List ℕ → Type 0
-Adds snapshot outcome old new = (p : Publication) → HoldsPublication snapshot p
-    → (text : List ℕ) × Responds p (outcome ∷ []) text × (new ≡ old ++ text)
+abbrev pub Adds : Snapshot → Request → List ℕ → List ℕ → Type 0
+Adds snapshot request old new = (p : Publication) → HoldsPublication snapshot p
+    → (text : List ℕ) × Responds p (request ∷ []) text × (new ≡ old ++ text)
 
 abbrev pub StepIs : Step → Snapshot → List ℕ → List ℕ → List ℕ → Type 0
 StepIs (Open needed) snapshot bytes old new = (first_request bytes ≡ None) × IsOpen needed bytes × (new ≡ old)
 StepIs Ended snapshot bytes old new =
-    (d : Decided) × (first_request bytes ≡ Some d) × (ends_with d.outcome ≡ true) × Adds snapshot d.outcome old new
+    (d : Decided) × (first_request bytes ≡ Some d) × (ends_with d.request ≡ true)
+    × Adds snapshot d.request old new
 StepIs (Next used) snapshot bytes old new =
-    (d : Decided) × (first_request bytes ≡ Some d) × (ends_with d.outcome ≡ false) × Adds snapshot d.outcome old new × (d.used ≡ used)
+    (d : Decided) × (first_request bytes ≡ Some d) × (ends_with d.request ≡ false)
+    × Adds snapshot d.request old new × (d.used ≡ used)
 
 abbrev pub rest_at : List ℕ → Option Place → Rest
 rest_at bytes None = closed_rest

@@ -2,4 +2,4 @@ use Rattle.osm_gate.proofs.OneResponse as lemmas
 use Rattle.osm_gate.proofs.laws.one_response.Goals as goal
 
 pub returns : goal.returns
-returns c = λ p outcomes first second is to_first to_second. lemmas.one_response p is outcomes first second to_first to_second
+returns c = λ p requests first second is to_first to_second. lemmas.one_response p is requests first second to_first to_second

@@ -10,7 +10,7 @@ use Rattle.osm_gate.proofs.requests.respond_to_first.Goals as goal
 pub returns-then-branch : goal.returns-then-branch
 returns-then-branch c =
     let a = asked_of c.in-Complete.request in
-    let d : Decided = record { outcome = asked a; used = c.in-Complete.used } in (
+    let d : Decided = record { request = asked a; used = c.in-Complete.used } in (
       d,
       sym c.in-Complete.ensures.decided,
       sym c.in_ok-respond-in-Complete.ensures.closes ∙ c.if-branch.true,
@@ -21,7 +21,7 @@ returns-then-branch c =
 pub returns-else-branch : goal.returns-else-branch
 returns-else-branch c =
     let a = asked_of c.in-Complete.request in
-    let d : Decided = record { outcome = asked a; used = c.in-Complete.used } in (
+    let d : Decided = record { request = asked a; used = c.in-Complete.used } in (
       d,
       sym c.in-Complete.ensures.decided,
       sym c.in_ok-respond-in-Complete.ensures.closes ∙ c.if-branch.false,
@@ -43,7 +43,7 @@ returns-in-BodyOpen c = (
 
 pub returns-in_ok-refuse-in-Refused : goal.returns-in_ok-refuse-in-Refused
 returns-in_ok-refuse-in-Refused c =
-    let d : Decided = record { outcome = refused c.in-Refused.refusal; used = c.in-Refused.used } in
+    let d : Decided = record { request = refused c.in-Refused.refusal; used = c.in-Refused.used } in
     let text = response_text (refused_response c.in-Refused.refusal) in (
       d,
       sym c.in-Refused.ensures.decided,

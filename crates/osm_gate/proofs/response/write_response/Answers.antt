@@ -1,13 +1,13 @@
 use Rattle.std.proofs.Common.{◌≡◌, ◌∙◌, ap, ◌++◌, rules, arith, append_assoc, List, ℕ, take}
 use Rattle.std.proofs.lemmas.List.{take_all}
 use Rattle.osm_gate.specs.ResponseTexts.{head_text, response_text}
-use Rattle.osm_gate.specs.internal.Adding.{joined, parts_of}
+use Rattle.osm_gate.specs.internal.Adding.{body_of, parts_of}
 use Rattle.osm_gate.proofs.response.write_response.Goals as goal
 
 pub returns : goal.returns
 unfolding response_text
 returns c =
-    let body = joined c.args.body.now in
+    let body = body_of c.args.body.now in
     let head = parts_of c.args.head.now in
     let old = c.args.output.now.items in
     let first : c.extend_from_slice.new.self.items ≡ old ++ head_text head c.in-Some.body_len = search rules in

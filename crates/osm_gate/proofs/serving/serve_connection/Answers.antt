@@ -1,6 +1,6 @@
 use Rattle.std.proofs.Common.{◌≡◌, ◌≤◌, ◌<◌, ◌∙◌, ◌++◌, ◌∷◌, [], List, ℕ, ap, false, rules, length, take, sym, true, inl, inr}
 use Rattle.std.proofs.KnownBytes.{Appends-trans}
-use Rattle.osm_gate.specs.Connections.{Responds, Rest, heard_next}
+use Rattle.osm_gate.specs.Connections.{Responds, Rest, requests_next}
 use Rattle.osm_gate.specs.Serving.{longest_piece, most_reads}
 use Rattle.osm_gate.proofs.ServeLemmas.{broken_writer, closed_whole, ended_whole, given_up, is_piece, more_front, one_longer, read-end, read-kept, read-more, responds-before, responds-on, rest-on}
 use Rattle.osm_gate.proofs.serving.serve_connection.Goals as goal
@@ -61,7 +61,7 @@ returns-in_err-write_whole-clause-ended g c = λ p over.
     let all = read-more _ _ _ pieces piece are opened few (is_piece _ _ some within small) c.in-Ok.ensures.bytes.0 in
     let gate : Rest = g.C.Connection.rest c.loop-reads.connection in
     let more : List ℕ = c.deref.result.now in
-    let to_piece : Responds p (heard_next gate piece).outcomes more = rw c.deref.ensures.value (c.in-Ok-feed.ensures.responses p (g.met.C.Connection.same_over _ _ p c.loop-reads.invariant.later over)) in
+    let to_piece : Responds p (requests_next gate piece).complete more = rw c.deref.ensures.value (c.in-Ok-feed.ensures.responses p (g.met.C.Connection.same_over _ _ p c.loop-reads.invariant.later over)) in
     broken_writer p _ c.from_residual.result c.from_residual.ensures.1 (
       pieces ++ piece ∷ [],
       text ++ more,
@@ -81,7 +81,7 @@ returns-then-closed-clause-ended g c = λ p over.
     let all = read-more _ _ _ pieces piece are opened few (is_piece _ _ some within small) c.in-Ok.ensures.bytes.0 in
     let gate : Rest = g.C.Connection.rest c.loop-reads.connection in
     let more : List ℕ = c.deref.result.now in
-    let to_piece : Responds p (heard_next gate piece).outcomes more = rw c.deref.ensures.value (c.in-Ok-feed.ensures.responses p (g.met.C.Connection.same_over _ _ p c.loop-reads.invariant.later over)) in
+    let to_piece : Responds p (requests_next gate piece).complete more = rw c.deref.ensures.value (c.in-Ok-feed.ensures.responses p (g.met.C.Connection.same_over _ _ p c.loop-reads.invariant.later over)) in
     let now_is = c.in-Ok-feed.ensures.rest ∙ rest-on pieces piece gate gate_is in
     let is_shut : (g.C.Connection.rest c.feed.new.self).is_closed ≡ true = sym c.closed.ensures ∙ c.if-closed.true in (
       pieces ++ piece ∷ [],
@@ -104,7 +104,7 @@ returns-then-closed-clause-done g c = λ p over.
     let all = read-more _ _ _ pieces piece are opened few (is_piece _ _ some within small) c.in-Ok.ensures.bytes.0 in
     let gate : Rest = g.C.Connection.rest c.loop-reads.connection in
     let more : List ℕ = c.deref.result.now in
-    let to_piece : Responds p (heard_next gate piece).outcomes more = rw c.deref.ensures.value (c.in-Ok-feed.ensures.responses p (g.met.C.Connection.same_over _ _ p c.loop-reads.invariant.later over)) in
+    let to_piece : Responds p (requests_next gate piece).complete more = rw c.deref.ensures.value (c.in-Ok-feed.ensures.responses p (g.met.C.Connection.same_over _ _ p c.loop-reads.invariant.later over)) in
     let now_is = c.in-Ok-feed.ensures.rest ∙ rest-on pieces piece gate gate_is in
     let is_shut : (g.C.Connection.rest c.feed.new.self).is_closed ≡ true = sym c.closed.ensures ∙ c.if-closed.true in
     closed_whole p _ _ _ (text ++ more) _ _ all.consumed (ap (λ (r : Rest). r.is_closed) (sym now_is) ∙ is_shut)
@@ -134,7 +134,7 @@ loop-reads-preserved g c =
         now_is,
         λ p over.
             let (text, to_all, written) = responds p over in
-            let to_piece : Responds p (heard_next gate piece).outcomes more = rw c.deref.ensures.value (c.in-Ok-feed.ensures.responses p (g.met.C.Connection.same_over _ _ p c.loop-reads.invariant.later over)) in (
+            let to_piece : Responds p (requests_next gate piece).complete more = rw c.deref.ensures.value (c.in-Ok-feed.ensures.responses p (g.met.C.Connection.same_over _ _ p c.loop-reads.invariant.later over)) in (
               text ++ more,
               responds-on p pieces piece text more gate gate_is to_all to_piece,
               Appends-trans _ _ _ _ _ written c.in_ok-write_whole.ensures.whole,

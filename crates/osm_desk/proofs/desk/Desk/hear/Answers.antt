@@ -1,7 +1,7 @@
 use Rattle.std.proofs.Common.{ap, rules, sym, subst, ◌∙◌, ◌≡◌}
 use Rattle.std.specs.Option.{option_copied_mut}
 use Rattle.std.specs.Prelude.{IfOk, is_some}
-use Rattle.osm_gate.specs.Connections.{Responds, Rest, heard_next}
+use Rattle.osm_gate.specs.Connections.{Responds, Rest, requests_next}
 use Rattle.osm_desk.specs.Contents.{Contents}
 use Rattle.osm_desk.specs.OneConnection.{rest_if, rest_of}
 use Rattle.osm_desk.proofs.StepLemmas.{none_lent}
@@ -11,7 +11,7 @@ use Rattle.osm_desk.proofs.desk.Desk.hear.Goals as goal
 pub returns-in_default-clause-responses : goal.returns-in_default-clause-responses
 returns-in_default-clause-responses c = λ p holds.
     let none = found _ c.self.inside.snapshot c.self.inside.gates c.self.view_is c.args.number ∙ sym c.get_mut.ensures.value ∙ none_lent _ c.in_default.not-Some in
-    subst (λ (r : Rest). Responds p (heard_next r c.args.piece.now).outcomes c.new.result.items) (sym (ap rest_if none)) c.new.ensures.items
+    subst (λ (r : Rest). Responds p (requests_next r c.args.piece.now).complete c.new.result.items) (sym (ap rest_if none)) c.new.ensures.items
 
 pub returns-in_default-clause-rest : goal.returns-in_default-clause-rest
 returns-in_default-clause-rest c =
@@ -29,7 +29,7 @@ pub returns-clause-responses : goal.returns-clause-responses
 returns-clause-responses c = λ p holds.
     let some = sym c.get_mut.ensures.value ∙ ap option_copied_mut c.in-Some.is in
     let is = rest_is _ c.self.inside.snapshot c.self.inside.gates c.self.view_is c.args.number c.in-Some.gate.now c.feed.new.self (c.get_mut.follows.lender c.feed.new.self) some (c.get_mut.follows.holds c.feed.new.self) in
-    subst (λ (r : Rest). IfOk c.feed.result (λ text. Responds p (heard_next r c.args.piece.now).outcomes text.items)) (sym is)
+    subst (λ (r : Rest). IfOk c.feed.result (λ text. Responds p (requests_next r c.args.piece.now).complete text.items)) (sym is)
     (c.feed.ensures.responses p (held_inside _ c.self.inside.snapshot c.self.inside.gates p c.self.view_is holds))
 
 pub returns-clause-rest : goal.returns-clause-rest

@@ -1,7 +1,7 @@
 use Rattle.std.proofs.Common.{rules, ◌≡◌, ◌∙◌, ap, sym, arith, [], ◌++◌, ◌<◌, length, inl, inr}
 use Rattle.std.specs.Prelude.{◌⊎◌}
-use Rattle.osm_gate.specs.Connections.{Heard, Rest, heard_next}
-use Rattle.osm_gate.proofs.FeedLemmas.{next-open, still-waits, waits-heard, scanned-before}
+use Rattle.osm_gate.specs.Connections.{Requests, Rest, requests_next}
+use Rattle.osm_gate.proofs.FeedLemmas.{next-open, still-waits, waits-requests_in, scanned-before}
 use Rattle.osm_gate.proofs.gate.Gate.feed.Goals as goal
 use Rattle.osm_gate.proofs.gate.Gate.feed.Goals.{then-self-eq0, else-self-eq0}
 
@@ -24,9 +24,9 @@ returns-then-len-self-clause-responses c =
     let whole = ap length items in
     let short : length (c.self.inside.rest.items ++ c.args.piece.now) < c.self.inside.needed = omega (arith, size, whole, c.if-len-self.true) in
     let said = next-open c.self.inside.is_closed c.self.inside.rest.items c.args.piece.now c.if-self.false
-    ∙ waits-heard c.self.inside.needed c.self.inside.rest.items c.args.piece.now c.self.invariant.is_open short in
+    ∙ waits-requests_in c.self.inside.needed c.self.inside.rest.items c.args.piece.now c.self.invariant.is_open short in
     let none : c.new-then-len-self.result.items ≡ [] = search rules in
-    let nothing = ap (λ (r : Rest). (heard_next r c.args.piece.now).outcomes) (sym c.self.view_is) ∙ ap (λ (s : Heard). s.outcomes) said in
+    let nothing = ap (λ (r : Rest). (requests_next r c.args.piece.now).complete) (sym c.self.view_is) ∙ ap (λ (s : Requests). s.complete) said in
     λ p holds. rw nothing none
 
 pub returns-then-len-self-clause-rest : goal.returns-then-len-self-clause-rest
@@ -36,10 +36,10 @@ returns-then-len-self-clause-rest c =
     let whole = ap length items in
     let short : length (c.self.inside.rest.items ++ c.args.piece.now) < c.self.inside.needed = omega (arith, size, whole, c.if-len-self.true) in
     let said = next-open c.self.inside.is_closed c.self.inside.rest.items c.args.piece.now c.if-self.false
-    ∙ waits-heard c.self.inside.needed c.self.inside.rest.items c.args.piece.now c.self.invariant.is_open short in
+    ∙ waits-requests_in c.self.inside.needed c.self.inside.rest.items c.args.piece.now c.self.invariant.is_open short in
     let now_open : c.self.inside.is_closed ≡ _ = c.if-self.false in
     (λ i. record { is_closed = now_open i; bytes = items i })
-    ∙ sym (ap (λ (r : Rest). (heard_next r c.args.piece.now).rest) (sym c.self.view_is) ∙ ap (λ (s : Heard). s.rest) said)
+    ∙ sym (ap (λ (r : Rest). (requests_next r c.args.piece.now).rest) (sym c.self.view_is) ∙ ap (λ (s : Requests). s.rest) said)
 
 pub respond_to_all-requires-clause-scanned : goal.respond_to_all-requires-clause-scanned
 respond_to_all-requires-clause-scanned c =
