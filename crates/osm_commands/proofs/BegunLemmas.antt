@@ -1,5 +1,5 @@
 -- What `prove`, `ask` and `check` have written where they end.
-use Rattle.std.proofs.Common.{◌≡◌, ◌≢◌, ◌⊎◌, ℕ, List, Option, None, Some, Result, Ok, Err, IfErr, IfSome, OnOk, ap, inl, inr, subst, ◌∙◌}
+use Rattle.std.proofs.Common.{◌≡◌, ◌≢◌, ◌⊎◌, ℕ, List, Option, None, Some, Result, Ok, Err, IfErr, IfSome, OnOk, ap, inl, inr, subst, take, ◌∙◌}
 use Rattle.std.specs.declared.alloc.AllocError.{AllocError}
 use Rattle.std.proofs.KnownBytes.{Keeps-refl}
 use Rattle.std.specs.Io.KnownBytes.{Appends, Keeps}
@@ -28,6 +28,17 @@ same output = record { before = output; after = output }
 
 abbrev pub writing : List ℕ → Option (List ℕ) → Option (List ℕ) → Writing
 writing text old new = record { text = text; output = record { before = old; after = new } }
+
+-- what a writer has gained it keeps, where a later call writes nothing
+pub gained_kept : (old mid new : Option (List ℕ)) (text : List ℕ) → Appends old mid text → Keeps mid new → Appends old new text
+gained_kept None mid new text gained kept = tt
+gained_kept (Some xs) None new text gained kept = absurd gained
+gained_kept (Some xs) (Some ys) None text gained kept = absurd kept
+gained_kept (Some xs) (Some ys) (Some zs) text gained kept = kept ∙ gained
+
+-- and so it is with a beginning
+pub begun_kept : (old mid new : Option (List ℕ)) (text : List ℕ) → AppendsFront old mid text → Keeps mid new → AppendsFront old new text
+begun_kept old mid new text (k, few, gained) kept = (k, few, gained_kept old mid new (take k text) gained kept)
 
 -- nothing is written
 pub unwritten : (first second : Option (List ℕ)) (edition : Edition) (answer proof root : Option (List ℕ)) → IfBoth first second (λ file bytes. IsBegunProof file bytes edition (same answer) (same proof) (same root))

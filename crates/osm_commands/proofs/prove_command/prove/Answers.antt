@@ -6,7 +6,7 @@ use Rattle.osm_prove.specs.declared.prove_fault.ProveFault.TheVariants as refusa
 use Rattle.osm_commands.specs.RootLines.{digest_line}
 use Rattle.osm_commands.specs.declared.command_fault.CommandFault.TheVariants.{Memory}
 use Rattle.osm_commands.proofs.AskLemmas.{explained_unmade, explained_unproved, outside_unmade, outside_unproved, trees_held}
-use Rattle.osm_commands.proofs.BegunLemmas.{kept, unwritten, proved_files, answer_begun, proof_begun, root_begun, written_in_turn, written_whole}
+use Rattle.osm_commands.proofs.BegunLemmas.{begun_kept, gained_kept, kept, unwritten, proved_files, answer_begun, proof_begun, root_begun, written_in_turn, written_whole}
 use Rattle.osm_commands.proofs.FileLemmas.{device_failed, explained_failed, explained_files, explained_unread, failed, outside_failed, outside_files, outside_unread, same_read, unread}
 use Rattle.osm_commands.proofs.prove_command.prove.Goals as goal
 
@@ -118,6 +118,18 @@ returns-in_err-write_whole-2-clause-begun g c =
     (proved_files (g.R.Read.remaining c.args.input.now) (g.Q.Read.remaining c.args.query.now) c.args.edition p c.in_ok-query.query.items c.deref.result.now text nodes of_file c.in_ok-query.ensures.read c.deref.ensures.value made.1)
     (proof_begun c.deref-2.result.now c.deref-3.result.now text _ _ _ _ _ _ _ c.deref-2.ensures.value c.in_ok-write_whole.ensures.whole c.deref-3.ensures.value c.write_whole-2.ensures.begun)
 
+pub returns-in_err-put_both_in_place-clause-begun : goal.returns-in_err-put_both_in_place-clause-begun
+returns-in_err-put_both_in_place-clause-begun g c =
+    let (p, held, of_file) = c.in_ok-snapshot.ensures.made in
+    let text = c.in_ok-proved.proved.answer.items in
+    let nodes = c.in_ok-proved.proved.proof.items in
+    let made = c.in_ok-proved.ensures.proved p held in
+    written_in_turn (g.R.Read.remaining c.args.input.now) (g.Q.Read.remaining c.args.query.now) c.args.edition p text nodes _ _ _ _ _ _
+    (proved_files (g.R.Read.remaining c.args.input.now) (g.Q.Read.remaining c.args.query.now) c.args.edition p c.in_ok-query.query.items c.deref.result.now text nodes of_file c.in_ok-query.ensures.read c.deref.ensures.value made.1)
+    (proof_begun c.deref-2.result.now c.deref-3.result.now text _ _ _ _ _ _ _ c.deref-2.ensures.value
+    (gained_kept _ _ _ _ c.in_ok-write_whole.ensures.whole c.in_err-put_both_in_place.ensures.kept.0) c.deref-3.ensures.value
+    (begun_kept _ _ _ _ c.in_ok-write_whole-2.ensures.begun c.in_err-put_both_in_place.ensures.kept.1))
+
 pub returns-clause-only : goal.returns-clause-only
 returns-clause-only g c =
     outside_failed (g.R.Read.remaining c.args.input.now) (g.Q.Read.remaining c.args.query.now) c.args.edition c.write_whole-3.result (device_failed c.write_whole-3.result c.write_whole-3.ensures.device)
@@ -135,7 +147,8 @@ returns-clause-begun g c =
     written_in_turn (g.R.Read.remaining c.args.input.now) (g.Q.Read.remaining c.args.query.now) c.args.edition p text nodes _ _ _ _ _ _
     (proved_files (g.R.Read.remaining c.args.input.now) (g.Q.Read.remaining c.args.query.now) c.args.edition p c.in_ok-query.query.items c.deref.result.now text nodes of_file c.in_ok-query.ensures.read c.deref.ensures.value made.1)
     (root_begun c.deref-2.result.now c.deref-3.result.now c.as_bytes.result.now text _ _ _ _ _ _ _ _
-    c.deref-2.ensures.value c.in_ok-write_whole.ensures.whole c.deref-3.ensures.value c.in_ok-write_whole-2.ensures.whole
+    c.deref-2.ensures.value (gained_kept _ _ _ _ c.in_ok-write_whole.ensures.whole c.in_ok-put_both_in_place.ensures.kept.0)
+    c.deref-3.ensures.value (gained_kept _ _ _ _ c.in_ok-write_whole-2.ensures.whole c.in_ok-put_both_in_place.ensures.kept.1)
     (c.as_bytes.ensures.value ∙ c.in_ok-line.ensures ∙ ap digest_line made.0) c.write_whole-3.ensures.begun)
 
 pub returns-clause-proved : goal.returns-clause-proved
@@ -146,5 +159,6 @@ returns-clause-proved g c =
     let made = c.in_ok-proved.ensures.proved p held in
     written_whole (g.R.Read.remaining c.args.input.now) (g.Q.Read.remaining c.args.query.now) c.args.edition p c.deref-2.result.now c.deref-3.result.now c.as_bytes.result.now text nodes _ _ _ _ _ _ _
     (proved_files (g.R.Read.remaining c.args.input.now) (g.Q.Read.remaining c.args.query.now) c.args.edition p c.in_ok-query.query.items c.deref.result.now text nodes of_file c.in_ok-query.ensures.read c.deref.ensures.value made.1)
-    c.deref-2.ensures.value c.in_ok-write_whole.ensures.whole c.deref-3.ensures.value c.in_ok-write_whole-2.ensures.whole
+    c.deref-2.ensures.value (gained_kept _ _ _ _ c.in_ok-write_whole.ensures.whole c.in_ok-put_both_in_place.ensures.kept.0)
+    c.deref-3.ensures.value (gained_kept _ _ _ _ c.in_ok-write_whole-2.ensures.whole c.in_ok-put_both_in_place.ensures.kept.1)
     (c.as_bytes.ensures.value ∙ c.in_ok-line.ensures ∙ ap digest_line made.0) c.write_whole-3.ensures.whole
