@@ -104,16 +104,22 @@ impl<'a> OutputFile<'a> {
         Err(io::Error::from(ErrorKind::AlreadyExists))
     }
 
-    /// Puts the file in its place, once the device has it.
-    fn settle(&mut self) -> io::Result<()> {
-        let Some(name) = &self.aside else {
-            return Ok(());
+    /// Waits until the device has all that was written beside the place.
+    fn reach_device(&mut self) -> io::Result<()> {
+        self.flush()?;
+        let reached = match (&self.file, &self.aside) {
+            (Some(file), Some(_)) => file.sync_all(),
+            _ => Ok(()),
         };
-        if let Some(file) = &self.file {
-            file.sync_all()?;
+        self.noted(reached)
+    }
+
+    /// Renames the file to its place.
+    fn settle(&mut self) -> io::Result<()> {
+        if let Some(name) = &self.aside {
+            fs::rename(self.rt, name, self.path)?;
+            self.aside = None;
         }
-        fs::rename(self.rt, name, self.path)?;
-        self.aside = None;
         Ok(())
     }
 
@@ -159,8 +165,9 @@ impl Write for OutputFile<'_> {
 impl FlushingWriter for OutputFile<'_> {
     ghost is_flushed = { λ _. true };
 
+    /// The device has it then: so of two files both are there before one of them is put in its place.
     fn flush_all(&mut self) -> Result<(), CommandFault> {
-        flush_outcome(self.flush())
+        flush_outcome(self.reach_device())
     }
 }
 
