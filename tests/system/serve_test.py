@@ -469,7 +469,7 @@ def statuses_through(port, trust, bodies, is_over):
         statuses[response.status if is_answer or response.status != 200 else "another answer"] += 1
         if response.will_close:
             client.close()
-        time.sleep(0.012)
+        time.sleep(0.025)
     client.close()
     return statuses
 
