@@ -4,6 +4,7 @@ send 2,000 requests in one piece or read 10 MB slowly, each beside others that h
 import socket
 import struct
 import tempfile
+import threading
 import time
 from concurrent.futures import ThreadPoolExecutor
 from pathlib import Path
@@ -179,16 +180,13 @@ def check_pipelined(tally):
         tally.check("pipelined ends", outcome == Outcome(b"", b"", 0), outcome)
 
 
-def taken_tardily(client):
-    """How many bytes a client gets that takes some 20 KB a second, and after how many seconds nothing more comes."""
-    begun, taken = time.monotonic(), 0
+def take_tardily(client, is_over):
+    """Takes some 20 KB a second until it is over, or nothing more comes."""
     try:
-        while part := client.recv(2048):
-            taken += len(part)
+        while not is_over.is_set() and client.recv(2048):
             time.sleep(0.1)
     except ConnectionResetError:
         pass
-    return taken, time.monotonic() - begun
 
 
 def check_large(tally):
@@ -201,11 +199,13 @@ def check_large(tally):
         file.write_bytes(text)
         ask_all = b"POST /api/interpreter HTTP/1.1\r\nContent-Length: 14\r\n\r\nnode;out meta;"
         with server(file, "--connections", 43) as running, ThreadPoolExecutor(1) as worker:
+            at_first, is_over = running.descriptors(), threading.Event()
             with running.connect() as slow, running.connect() as stuck, running.connect() as tardy:
                 for client in (slow, stuck, tardy):
                     client.setsockopt(socket.SOL_SOCKET, socket.SO_RCVBUF, 1 << 16)
                 tardy.sendall(ask_all)
-                taking = worker.submit(taken_tardily, tardy)
+                begun = time.monotonic()
+                taking = worker.submit(take_tardily, tardy, is_over)
                 stuck.sendall(ask_all)
                 slow.sendall(ask_all)
                 parts = []
@@ -221,9 +221,15 @@ def check_large(tally):
                 # It has taken nothing for longer than ten seconds.
                 got = all_of(stuck)
                 tally.check("one that takes nothing is let go", len(got) < len(text), len(got))
-                taken, took = taking.result()
-                # (what the system holds for the client counts as taken)
-                tally.check("one that takes too little is let go", taken < len(text) and 9 < took < 60, taken, took)
+                slow.close()
+                stuck.close()
+                while running.descriptors() > at_first and time.monotonic() - begun < 90:
+                    time.sleep(0.2)
+                took = time.monotonic() - begun
+                is_over.set()
+                taking.result()
+                # (what the system holds for the client counts as taken: ten seconds more for each MiB)
+                tally.check("one that takes too little is let go", 9 < took < 85, took)
             outcome = running.ended()
             tally.check("both are told", outcome == Outcome(b"", b"G2\nG2\n", 0), outcome)
 
