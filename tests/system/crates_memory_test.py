@@ -35,12 +35,11 @@ MODULES = {
     "osm_prove": ("answer_tests", "proofs"),
     "osm_check": ("answer_tests", "verdicts"),
     "osm_gate": ("answer_tests", "connections"),
-    "osm_serving": ("osm_commands_tests", "changing"),
 }
 
-# Crates whose allocations serve_test.py refuses in the program: a test is one thread, which can't wait for itself at the
-# other end of a socket.
-TESTED_IN_THE_PROGRAM = {"osm_sockets"}
+# Crates whose allocations are refused in the program: serve_test.py does it for the sockets, since a test is one thread,
+# which can't wait for itself at the other end of a socket; changes_test.py does it for change files that are published.
+TESTED_IN_THE_PROGRAM = {"osm_sockets", "osm_serving"}
 
 
 def crates():
