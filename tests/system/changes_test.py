@@ -130,6 +130,38 @@ def check_kept(tally):
             tally.check("a kept connection ends", outcome == Outcome(b"", b"I2 n99\n", 0), outcome)
 
 
+def bytes_read(running):
+    """How many bytes the process has read so far, of files and sockets."""
+    text = Path(f"/proc/{running.process.pid}/io").read_text(encoding="ascii")
+    return next(int(line.split()[1]) for line in text.splitlines() if line.startswith("rchar:"))
+
+
+def check_unread(tally):
+    """A named pipe in place of a change file holds nobody up, and is told once. A file that was refused isn't read again
+    until it has changed, though it is looked for four times a second: it is written anew in place, with as many bytes."""
+    with folders() as (changes, ready):
+        (ready / "set.opl").write_bytes(without(set_file(b"F").read_bytes(), b"w10 "))
+        roots = [root_of(b"F", b"2").encode(), published(ready / "set.opl", 1)]
+        with server(set_file(b"F"), "--connections", 3, "--changes", changes) as running:
+            os.mkfifo(changes / "1.opl")
+            begun = time.monotonic()
+            tally.check("a named pipe", root_at(running) == roots[0] and time.monotonic() - begun < 2)
+            time.sleep(0.6)
+            refused = b"w11 v2 dD\n" + b"#" * 100_000 + b"\n"
+            put(changes / "1.opl", refused, ready)
+            time.sleep(0.6)
+            before = bytes_read(running)
+            time.sleep(1.2)
+            read = bytes_read(running) - before
+            tally.check("a refused file is read once", root_at(running) == roots[0] and read < 100_000, read)
+            with open(changes / "1.opl", "r+b") as file:
+                file.write(DELETE_WAY)
+            time.sleep(0.6)
+            tally.check("a file that was mended in place", root_at(running) == roots[1])
+            outcome = running.ended()
+            tally.check("each is told once", outcome == Outcome(b"", b"device\nI2 w11\n", 0), outcome)
+
+
 def check_osmium(tally):
     """A change file as `osmium derive-changes` (1.15) writes it of two extracts: the root is that of the newer one."""
     moved, kept = b"n1 v2 dV c0 t i0 u Thighway=bus_stop x13.4 y52.5\n", b"n2 v1 dV c0 t i0 u T x13.4000001 y52.5\n"
@@ -332,6 +364,7 @@ def main():
     check_words(tally)
     check_files(tally)
     check_kept(tally)
+    check_unread(tally)
     check_osmium(tally)
     check_allocations(tally)
     check_soak(tally)
