@@ -18,6 +18,10 @@ pub record Exchange : Type 0 where
   pub before : Option (List ℕ)
   pub after : Option (List ℕ)
 
+-- the same of a reader and a writer that tell their bytes so
+abbrev pub exchange_of : {R W : Type 0} → (remaining : R → Option (List ℕ)) → (contents : W → Option (List ℕ)) → (was is : R) → (old new : W) → Exchange
+exchange_of remaining contents was is old new = record { unread = remaining was; left = remaining is; before = contents old; after = contents new }
+
 -- the fixed response where memory runs out
 unfoldable pub no_memory : List ℕ
 no_memory = response_text (refusal true 503 (codes "no memory"))

@@ -34,8 +34,10 @@ pub(crate) fn first_request(bytes: &[u8], scanned: usize) -> Decision<'_>
     requires scanned { head_length (take scanned (take HEAD_LIMIT bytes.now)) ≡ None }
     ensures decided { decided_of result ≡ first_request bytes.now }
     ensures open { OnHeadOpen result (head_length (take HEAD_LIMIT bytes.now) ≡ None) }
-    ensures waits { IfBodyOpen result (λ needed. (more : List ℕ) → length (bytes.now ++ more) < needed → first_request (bytes.now ++ more) ≡ None) }
-    ensures missing { IfBodyOpen result (λ needed. (0 < length bytes.now) × (length bytes.now < needed)) }
+    ensures waits { IfBodyOpen result (λ needed. (more : List ℕ)
+        → length (bytes.now ++ more) < needed → first_request (bytes.now ++ more) ≡ None) }
+    ensures missing { IfBodyOpen result (λ needed. (0 < length bytes.now)
+        × (length bytes.now < needed)) }
 {
     let Some(length) = head_end(window(bytes), scanned) else {
         if bytes.len() < HEAD_LIMIT {
@@ -72,9 +74,11 @@ fn decide_head<'a>(head: &'a [u8], after: &'a [u8]) -> Decision<'a>
     requires begins { begins_with_break head.now ≡ false }
     requires lines { line_feeds head.now ≤ LINE_LIMIT }
     requires short { length head.now ≤ HEAD_LIMIT }
-    ensures decided { decided_of result ≡ after_head (length head.now) after.now (head_of head.now) }
+    ensures decided { decided_of result
+        ≡ after_head (length head.now) after.now (head_of head.now) }
     ensures whole { OnHeadOpen result ⊥ }
-    ensures waits { IfBodyOpen result (λ needed. (more : List ℕ) → length head.now + length (after.now ++ more) < needed
+    ensures waits { IfBodyOpen result (λ needed. (more : List ℕ)
+        → length head.now + length (after.now ++ more) < needed
         → after_head (length head.now) (after.now ++ more) (head_of head.now) ≡ None) }
     ensures missing { IfBodyOpen result (λ needed. length head.now + length after.now < needed) }
 {

@@ -56,7 +56,8 @@ fn is_name(name: &[u8], wanted: &[u8]) -> bool
 /// The number that the field `Content-Length` gives; none where there is no such field.
 fn content_length(head: &[u8], headers: &[HeaderSpan]) -> Result<Option<u64>, Refusal>
     requires { All (IsHeaderWithin (length head.now)) headers.now }
-    ensures { result ≡ length_of (values_named (codes "content-length") (map (header_bytes head.now) headers.now)) }
+    ensures { result ≡ length_of (values_named (codes "content-length")
+        (map (header_bytes head.now) headers.now)) }
 {
     let mut found: Option<&[u8]> = None;
     for header in headers {

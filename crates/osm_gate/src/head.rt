@@ -16,9 +16,11 @@ pub(crate) fn read_head(head: &[u8], headers: &mut [HeaderSpan]) -> Option<Reque
     requires begins { begins_with_break head.now ≡ false }
     requires lines { line_feeds head.now ≤ LINE_LIMIT }
     requires room { FIELD_LIMIT ≤ length headers.old }
-    ensures within { IfSome result (λ spans. IsRequestWithin head.now headers.new spans × (spans.len ≡ length head.now)) }
+    ensures within { IfSome result (λ spans. IsRequestWithin head.now headers.new spans
+        × (spans.len ≡ length head.now)) }
     ensures none { IfNone result (head_of head.now ≡ None) }
-    ensures some { IfSome result (λ spans. (h : RequestHead) × (head_of head.now ≡ Some h) × IsRequestAt head.now headers.new spans h) }
+    ensures some { IfSome result (λ spans. (h : RequestHead) × (head_of head.now ≡ Some h)
+        × IsRequestAt head.now headers.new spans h) }
 {
     let Ok(Status::Complete(found)) = parse_request(head, headers) else {
         return None;

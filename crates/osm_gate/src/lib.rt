@@ -36,4 +36,4 @@ pub use laws::{
     head_is_the_grammars, limits_law, nothing_after_the_end, one_response, pieces_ask_the_same,
     responses_stand_in_order, rests_are_short,
 };
-pub use serving::{send_out_of_memory, serve, serve_connection};
+pub use serving::{no_memory_response, send_out_of_memory, serve, serve_connection};

@@ -46,7 +46,8 @@ pub(crate) fn query_of<'a>(
     source: QuerySource,
     request: &Request<'a>,
 ) -> Result<Option<QueryText<'a>>, AllocError>
-    ensures { IfOk result (λ query. option_map text_of query ≡ query_of source (asked_of request.now)) }
+    ensures { IfOk result (λ query. option_map text_of query
+        ≡ query_of source (asked_of request.now)) }
 {
     let form = match source {
         QuerySource::Target => split_target(request.target).1,

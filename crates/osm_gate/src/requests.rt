@@ -49,9 +49,11 @@ pub(crate) fn respond_to_all(
 ) -> Result<(Vec<u8>, Option<Open>), AllocError>
     requires router { router.now ≡ route_rows }
     requires scanned { head_length (take scanned (take HEAD_LIMIT (skip_breaks bytes.now))) ≡ None }
-    ensures responses { (p : Publication) → HoldsPublication snapshot.now p → IfOk result (λ both. RespondsTo p bytes.now both.0.items) }
+    ensures responses { (p : Publication) → HoldsPublication snapshot.now p
+        → IfOk result (λ both. RespondsTo p bytes.now both.0.items) }
     ensures rest { IfOk result (λ both. (requests_in bytes.now).rest ≡ rest_at bytes.now both.1) }
-    ensures open { IfOk result (λ both. IfSome both.1 (λ open_at. (open_at.at ≤ length bytes.now) × IsOpen open_at.needed (drop open_at.at bytes.now))) }
+    ensures open { IfOk result (λ both. IfSome both.1 (λ open_at. (open_at.at ≤ length bytes.now)
+        × IsOpen open_at.needed (drop open_at.at bytes.now))) }
 {
     let mut responses = Vec::new(alloc);
     let mut rest = bytes;
@@ -85,7 +87,8 @@ fn respond_to_first(
     requires router { router.now ≡ route_rows }
     requires begins { begins_with_break bytes.now ≡ false }
     requires scanned { head_length (take scanned (take HEAD_LIMIT bytes.now)) ≡ None }
-    ensures { IfOk result (λ step. StepIs step snapshot.now bytes.now responses.old.items responses.new.items) }
+    ensures { IfOk result
+        (λ step. StepIs step snapshot.now bytes.now responses.old.items responses.new.items) }
 {
     match first_request(bytes, scanned) {
         Decision::HeadOpen => Ok(Step::Open { needed: 0 }),

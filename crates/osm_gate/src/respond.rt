@@ -36,7 +36,8 @@ pub(crate) fn respond(
 ) -> Result<bool, AllocError>
     requires { router.now ≡ route_rows }
     ensures text { (p : Publication) → HoldsPublication snapshot.now p
-        → OnOk result (AddsResponse (IsResponse p (asked_of request.now)) output.old.items output.new.items) }
+        → OnOk result (AddsResponse (IsResponse p (asked_of request.now))
+        output.old.items output.new.items) }
     ensures closes { IfOk result (λ closes. closes ≡ ends (asked_of request.now)) }
 {
     let closes = request.closes || request.method == b"HEAD".as_slice();
@@ -55,7 +56,8 @@ fn respond_on(
     route: Option<Route>,
 ) -> Result<(), AllocError>
     ensures { (p : Publication) → HoldsPublication snapshot.now p
-        → OnOk result (AddsResponse (ByRoute closes p (asked_of request.now) route) output.old.items output.new.items) }
+        → OnOk result (AddsResponse (ByRoute closes p (asked_of request.now) route)
+        output.old.items output.new.items) }
 {
     let method = method_of(request.method);
     match route {
@@ -77,7 +79,8 @@ fn respond_query(
     method: Method,
 ) -> Result<(), AllocError>
     ensures { (p : Publication) → HoldsPublication snapshot.now p
-        → OnOk result (AddsResponse (ByMethod reply p (asked_of request.now) method) output.old.items output.new.items) }
+        → OnOk result (AddsResponse (ByMethod reply p (asked_of request.now) method)
+        output.old.items output.new.items) }
 {
     match method {
         Method::Get => answer(alloc, output, reply, snapshot, QuerySource::Target, request),
@@ -95,7 +98,8 @@ fn answer(
     request: &Request<'_>,
 ) -> Result<(), AllocError>
     ensures { (p : Publication) → HoldsPublication snapshot.now p
-        → OnOk result (AddsResponse (ByQuery reply p (query_of source (asked_of request.now))) output.old.items output.new.items) }
+        → OnOk result (AddsResponse (ByQuery reply p (query_of source (asked_of request.now)))
+        output.old.items output.new.items) }
 {
     let Some(query) = query_of(alloc, source, request)? else {
         let status = StatusCode::BAD_REQUEST;
@@ -111,7 +115,8 @@ fn respond_root(
     snapshot: &Snapshot,
     method: Method,
 ) -> Result<(), AllocError>
-    ensures { OnOk result (output.new.items ≡ output.old.items ++ response_text (root_by_method closes snapshot.now.root.0 method)) }
+    ensures { OnOk result (output.new.items ≡ output.old.items
+        ++ response_text (root_by_method closes snapshot.now.root.0 method)) }
 {
     if method != Method::Get {
         return write_not_allowed(alloc, output, closes, "GET");
@@ -127,7 +132,8 @@ pub(crate) fn refuse(
     output: &mut Vec<u8>,
     refusal: Refusal,
 ) -> Result<(), AllocError>
-    ensures { OnOk result (output.new.items ≡ output.old.items ++ response_text (refused_response refusal)) }
+    ensures { OnOk result (output.new.items ≡ output.old.items
+        ++ response_text (refused_response refusal)) }
 {
     write_refusal(alloc, output, true, refusal.status(), refusal.text())
 }

@@ -56,7 +56,8 @@ pub(crate) fn write_refusal(
     status: StatusCode,
     text: &str,
 ) -> Result<(), AllocError>
-    ensures { OnOk result (output.new.items ≡ output.old.items ++ response_text (refusal closes status text.now)) }
+    ensures { OnOk result (output.new.items ≡ output.old.items
+        ++ response_text (refusal closes status text.now)) }
 {
     let head = ResponseHead {
         status,
@@ -97,7 +98,8 @@ pub(crate) fn write_response(
     head: &ResponseHead<'_>,
     body: &[&[u8]],
 ) -> Result<(), AllocError>
-    ensures { OnOk result (output.new.items ≡ output.old.items ++ response_text (response_of head.now body.now)) }
+    ensures { OnOk result (output.new.items ≡ output.old.items
+        ++ response_text (response_of head.now body.now)) }
 {
     let Some(body_len) = total_len(body) else {
         return Err(AllocError);
@@ -137,7 +139,8 @@ fn head_text(alloc: Global, head: &ResponseHead<'_>, body_len: usize) -> Result<
 }
 
 fn status_line(alloc: Global, status: &StatusCode) -> Result<String, AllocError>
-    ensures { IfOk result (λ line. string_bytes line ≡ codes "HTTP/1.1 " ++ status_text status.now ++ line_end) }
+    ensures { IfOk result (λ line. string_bytes line ≡ codes "HTTP/1.1 " ++ status_text status.now
+        ++ line_end) }
 {
     format!(in alloc; "HTTP/1.1 {status}\r\n")
 }
@@ -160,7 +163,8 @@ fn number_text(alloc: Global, number: usize) -> Result<String, AllocError>
 
 fn push_root(alloc: Global, text: &mut String, root: Option<&Digest>) -> Result<(), AllocError>
     ensures { OnOk result (string_bytes text.new ≡ string_bytes text.old
-        ++ field_if (codes "Osm-Root") (option_map encode_lower (option_map (λ root. root.now.0) root.entry))) }
+        ++ field_if (codes "Osm-Root") (option_map encode_lower (option_map
+        (λ root. root.now.0) root.entry))) }
 {
     match root {
         None => Ok(()),
@@ -192,7 +196,8 @@ fn push_close(text: &mut String, closes: bool) -> Result<(), AllocError>
 }
 
 fn push_field(text: &mut String, name: &str, value: &str) -> Result<(), AllocError>
-    ensures { OnOk result (string_bytes text.new ≡ string_bytes text.old ++ field_line name.now value.now) }
+    ensures { OnOk result (string_bytes text.new ≡ string_bytes text.old
+        ++ field_line name.now value.now) }
 {
     text.push_str(name)?;
     text.push_str(": ")?;

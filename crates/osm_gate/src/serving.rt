@@ -5,7 +5,7 @@ ghost use Rattle.std.specs.Io.KnownBytes.{Appends};
 ghost use Rattle.osm_keys.specs.Publications.{Publication};
 ghost use Rattle.osm_index.specs.Snapshots.{HoldsPublication};
 ghost use Rattle.osm_gate.specs.Connections.{open_rest};
-ghost use Rattle.osm_gate.specs.Serving.{HasEnded, HasServed, no_memory};
+ghost use Rattle.osm_gate.specs.Serving.{HasEnded, HasServed, exchange_of, no_memory};
 ghost use Rattle.byte_io.specs.Written.{AppendsFront};
 
 use crate::connection::Connection;
@@ -39,10 +39,12 @@ pub fn serve<R: Read, W: Write>(
 ) -> Result<(), GateFault>
     // What was read, piece by piece, and what was written, whichever way it ended.
     ensures ended { (p : Publication) → HoldsPublication snapshot.now p
-        → HasEnded p (record { unread = R.remaining reader.old; left = R.remaining reader.new; before = W.contents writer.old; after = W.contents writer.new }) result }
+        → HasEnded p (exchange_of R.remaining W.contents
+        reader.old reader.new writer.old writer.new) result }
     // So what was written responds to the whole input, where nothing broke off.
     ensures done { (p : Publication) → HoldsPublication snapshot.now p
-        → OnOk result (HasServed p (record { unread = R.remaining reader.old; left = R.remaining reader.new; before = W.contents writer.old; after = W.contents writer.new })) }
+        → OnOk result (HasServed p (exchange_of R.remaining W.contents
+        reader.old reader.new writer.old writer.new)) }
 {
     let Ok(gate) = Gate::new(alloc) else {
         return Err(send_out_of_memory(writer));
@@ -65,10 +67,12 @@ pub fn serve_connection<C: Connection, R: Read, W: Write>(
     requires { C.rest connection.old ≡ open_rest [] }
     // What was read, piece by piece, and what was written, whichever way it ended.
     ensures ended { (p : Publication) → C.over connection.old p
-        → HasEnded p (record { unread = R.remaining reader.old; left = R.remaining reader.new; before = W.contents writer.old; after = W.contents writer.new }) result }
+        → HasEnded p (exchange_of R.remaining W.contents
+        reader.old reader.new writer.old writer.new) result }
     // So what was written responds to the whole input, where nothing broke off.
     ensures done { (p : Publication) → C.over connection.old p
-        → OnOk result (HasServed p (record { unread = R.remaining reader.old; left = R.remaining reader.new; before = W.contents writer.old; after = W.contents writer.new })) }
+        → OnOk result (HasServed p (exchange_of R.remaining W.contents
+        reader.old reader.new writer.old writer.new)) }
     // It is the same connection.
     ensures later { C.later connection.old connection.new }
 {
@@ -97,19 +101,20 @@ pub fn serve_connection<C: Connection, R: Read, W: Write>(
 /// took nothing.
 pub fn send_out_of_memory<W: Write>(writer: &mut W) -> GateFault
     // The fixed response is written, unless the writer fails,
-    ensures whole { result ≡ GateFault.Memory → Appends (W.contents writer.old) (W.contents writer.new) no_memory }
+    ensures whole { result ≡ GateFault.Memory
+        → Appends (W.contents writer.old) (W.contents writer.new) no_memory }
     // and whatever happens, no more than a beginning of it.
     ensures begun { AppendsFront (W.contents writer.old) (W.contents writer.new) no_memory }
     ensures kinds { (result ≡ GateFault.Memory) ⊎ (result ≡ GateFault.Writer) }
 {
-    match write_whole(writer, no_memory()) {
+    match write_whole(writer, no_memory_response()) {
         Ok(()) => GateFault::Memory,
         Err(NotWritten) => GateFault::Writer,
     }
 }
 
-/// The fixed response where memory runs out.
-fn no_memory() -> &'static [u8]
+/// The fixed response where memory runs out: of status 503, after which the connection ends.
+pub fn no_memory_response() -> &'static [u8]
     ensures { result.now ≡ no_memory }
 {
     b"HTTP/1.1 503 Service Unavailable\r\nContent-Type: text/plain; charset=utf-8\r\nContent-Length: 10\r\nConnection: close\r\n\r\nno memory\n"

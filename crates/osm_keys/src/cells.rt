@@ -52,7 +52,8 @@ fn append_row(
     columns: Columns,
     ranges: &mut Vec<OwnedRange>,
 ) -> Result<(), AllocError>
-    ensures { OnOk result (ranges.new.items ≡ ranges.old.items ++ map (cell_range row) (columns_in columns)) }
+    ensures { OnOk result (ranges.new.items ≡ ranges.old.items
+        ++ map (cell_range row) (columns_in columns)) }
 {
     match columns {
         Columns::None => Ok(()),
@@ -71,7 +72,8 @@ fn append_span(
     span: ColumnSpan,
     ranges: &mut Vec<OwnedRange>,
 ) -> Result<(), AllocError>
-    ensures { OnOk result (ranges.new.items ≡ ranges.old.items ++ cell_range row (ends_of span) ∷ []) }
+    ensures { OnOk result (ranges.new.items ≡ ranges.old.items
+        ++ cell_range row (ends_of span) ∷ []) }
 {
     let range = OwnedRange::of_cells(alloc, row, span.first, span.last)?;
     ranges.push(range)?;

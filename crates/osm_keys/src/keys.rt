@@ -56,7 +56,8 @@ pub fn append_tag_key(
     name: Ref,
     out: &mut Vec<u8>,
 ) -> Result<(), AllocError>
-    ensures written { OnOk result (out.new.items ≡ out.old.items ++ tag_key key.now value.now name) }
+    ensures written { OnOk result (out.new.items ≡ out.old.items
+        ++ tag_key key.now value.now name) }
     ensures unchanged { OnErr result (out.new.items ≡ out.old.items) }
 {
     let start = out.len();
@@ -69,7 +70,8 @@ pub fn append_tag_key(
 
 /// Appends the parts of a tag's key; out of memory it leaves what it wrote.
 fn append_parts(key: &[u8], value: &[u8], name: Ref, out: &mut Vec<u8>) -> Result<(), AllocError>
-    ensures written { OnOk result (out.new.items ≡ out.old.items ++ tag_key key.now value.now name) }
+    ensures written { OnOk result (out.new.items ≡ out.old.items
+        ++ tag_key key.now value.now name) }
     ensures extended { OnErr result (take (length out.old.items) out.new.items ≡ out.old.items) }
 {
     append_ended(key, out)?;

@@ -34,7 +34,8 @@ ghost use Rattle.osm_keys.specs.declared.edition.Edition.{Edition};
 
 /// The law of publications: a set of objects has one in an edition, and so one root.
 pub fn publication_law()
-    ensures entries { (p q : Publication) → IsPublication p → IsPublication q → p.objects ≡ q.objects
+    ensures entries { (p q : Publication) → IsPublication p → IsPublication q
+        → p.objects ≡ q.objects
         → (tree : Tree) → p.entries tree ≡ q.entries tree }
     ensures root { (p q : Publication) → IsPublication p → IsPublication q → p.objects ≡ q.objects
         → p.edition ≡ q.edition → root_of p ≡ root_of q }
@@ -48,52 +49,63 @@ pub fn publication_law()
 /// The law of manifests: their bytes determine the four tops, the shape of the trees, and the edition with
 /// its sequence.
 pub fn manifest_law()
-    ensures tops { (edition other : Edition) (tops others : Tree → List ℕ) → HaveWidth tops → HaveWidth others
+    ensures tops { (edition other : Edition) (tops others : Tree → List ℕ) → HaveWidth tops
+        → HaveWidth others
         → manifest edition tops ≡ manifest other others → (tree : Tree) → tops tree ≡ others tree }
     ensures shape { (edition other : Edition) (tops others : Tree → List ℕ)
         → manifest edition tops ≡ manifest other others → shape_of edition ≡ shape_of other }
-    ensures edition { (edition other : Edition) (tops others : Tree → List ℕ) → HasSequence edition → HasSequence other
+    ensures edition { (edition other : Edition) (tops others : Tree → List ℕ) → HasSequence edition
+        → HasSequence other
         → manifest edition tops ≡ manifest other others → edition ≡ other }
 {}
 
 /// The law of the order of references: their keys rise as they do, by kind and then by id.
 pub fn key_order_law()
-    ensures { (r s : Ref) → FitsSigned w64 r.id → FitsSigned w64 s.id → (ref_cmp r s ≡ Less) ↔ IsBelow (ref_key r) (ref_key s) }
+    ensures { (r s : Ref) → FitsSigned w64 r.id → FitsSigned w64 s.id → (ref_cmp r s ≡ Less)
+        ↔ IsBelow (ref_key r) (ref_key s) }
 {}
 
 /// The law of the range of one object: it finds that object's entry, where the object is in the set.
 pub fn object_law()
-    ensures { (p : Publication) → IsPublication p → (r : Ref) → FitsSigned w64 r.id → (found : List Binding)
+    ensures { (p : Publication) → IsPublication p → (r : Ref) → FitsSigned w64 r.id
+        → (found : List Binding)
         → AreThose (IsEntryIn (object_range r)) (p.entries Objects) found
-        → (b : Binding) → Contains found b ↔ ((o : Element) × (object_at p.objects r ≡ Some o) × (b ≡ object_entry o)) }
+        → (b : Binding) → Contains found b ↔ ((o : Element) × (object_at p.objects r ≡ Some o)
+        × (b ≡ object_entry o)) }
 {}
 
 /// The law of the range of a kind: it finds just the entries of the objects of that kind, by rising id.
 pub fn kind_law()
     ensures found { (p : Publication) → IsPublication p → (kind : Kind) (found : List Binding)
         → AreThose (IsEntryIn (kind_range kind)) (p.entries Objects) found
-        → (b : Binding) → Contains found b ↔ ((o : Element) × Contains p.objects o × (kind_of o.body ≡ kind) × (b ≡ object_entry o)) }
+        → (b : Binding) → Contains found b ↔ ((o : Element) × Contains p.objects o
+        × (kind_of o.body ≡ kind) × (b ≡ object_entry o)) }
     // Their keys rise, and so do their references (`key_order_law`).
     ensures rising { (p : Publication) → IsPublication p → (kind : Kind) (found : List Binding)
-        → AreThose (IsEntryIn (kind_range kind)) (p.entries Objects) found → AreRisingFrom None (keys_of found) }
+        → AreThose (IsEntryIn (kind_range kind)) (p.entries Objects) found
+        → AreRisingFrom None (keys_of found) }
 {}
 
 /// The law of a tag range: it finds just the objects of the kind that have the tag. Key and value have no
 /// NUL, as those of objects.
 pub fn tag_law()
-    ensures { (p : Publication) → IsPublication p → (key value : List ℕ) → HasNoNul key → HasNoNul value
+    ensures { (p : Publication) → IsPublication p → (key value : List ℕ) → HasNoNul key
+        → HasNoNul value
         → (kind : Option Kind) (found : List Binding)
         → AreThose (IsEntryIn (tag_range key value kind)) (p.entries Tags) found
-        → (b : Binding) → Contains found b ↔ ((o : Element) × Contains p.objects o × IsKindOf kind (reference o)
+        → (b : Binding) → Contains found b ↔ ((o : Element) × Contains p.objects o
+        × IsKindOf kind (reference o)
         × HasTag o key value × (b ≡ tag_entry key value (reference o))) }
 {}
 
 /// The law of the range of a tag's key: it finds just the objects that have a tag with that key. The key
 /// has no NUL, as those of objects.
 pub fn tag_key_law()
-    ensures { (p : Publication) → IsPublication p → (key : List ℕ) → HasNoNul key → (found : List Binding)
+    ensures { (p : Publication) → IsPublication p → (key : List ℕ) → HasNoNul key
+        → (found : List Binding)
         → AreThose (IsEntryIn (tag_key_range key)) (p.entries Tags) found
-        → (b : Binding) → Contains found b ↔ ((o : Element) × (value : List ℕ) × Contains p.objects o × HasNoNul value
+        → (b : Binding) → Contains found b ↔ ((o : Element) × (value : List ℕ)
+        × Contains p.objects o × HasNoNul value
         × HasTag o key value × (b ≡ tag_entry key value (reference o))) }
 {}
 
@@ -106,36 +118,46 @@ pub fn cell_law()
     // A range finds just the entries of the nodes whose keys are in it.
     ensures found { (p : Publication) → IsPublication p → (range : Range) (found : List Binding)
         → AreThose (IsEntryIn range) (p.entries Cells) found
-        → (entry : Binding) → Contains found entry ↔ ((o : Element) × (place : Place) × Contains p.objects o
-        × (o.body ≡ bodies.Node place) × IsIn range (cell_key place o.id) × (entry ≡ cell_entry place o.id)) }
+        → (entry : Binding) → Contains found entry ↔ ((o : Element) × (place : Place)
+        × Contains p.objects o
+        × (o.body ≡ bodies.Node place) × IsIn range (cell_key place o.id)
+        × (entry ≡ cell_entry place o.id)) }
     // A node that the box holds is in one of its ranges,
-    ensures held { (p : Publication) → IsPublication p → (b : ExactBox) (ranges : List Range) → AreCellRanges b ranges
-        → (o : Element) → Contains p.objects o → (place : Place) → o.body ≡ bodies.Node place → Holds b place
+    ensures held { (p : Publication) → IsPublication p → (b : ExactBox) (ranges : List Range)
+        → AreCellRanges b ranges
+        → (o : Element) → Contains p.objects o → (place : Place) → o.body ≡ bodies.Node place
+        → Holds b place
         → (range : Range) × Contains ranges range × IsIn range (cell_key place o.id) }
     // and a node is in one at most, unless a cell is in two.
-    ensures once { (p : Publication) → IsPublication p → (b : ExactBox) (ranges : List Range) (are : AreCellRanges b ranges)
+    ensures once { (p : Publication) → IsPublication p
+        → (b : ExactBox) (ranges : List Range) (are : AreCellRanges b ranges)
         → (o : Element) → Contains p.objects o → (place : Place) → o.body ≡ bodies.Node place
         → (¬ IsAbove b.west.value b.east.value) ⊎ (column are.east < column are.west)
         → (k j : ℕ) (x y : Range) → slice_get ranges k ≡ Some x → slice_get ranges j ≡ Some y
         → IsIn x (cell_key place o.id) → IsIn y (cell_key place o.id) → k ≡ j }
     // There are two ranges for each row of the earth at most.
-    ensures few { (b : ExactBox) (ranges : List Range) → AreCellRanges b ranges → length ranges ≤ 3602 }
+    ensures few { (b : ExactBox) (ranges : List Range) → AreCellRanges b ranges
+        → length ranges ≤ 3602 }
 {}
 
 /// The law of a back range: it finds just the objects of the kind that list the target, which needn't be
 /// in the set.
 pub fn back_law()
-    ensures { (p : Publication) → IsPublication p → (target : Ref) → FitsSigned w64 target.id → (kind : Option Kind) (found : List Binding)
+    ensures { (p : Publication) → IsPublication p → (target : Ref) → FitsSigned w64 target.id
+        → (kind : Option Kind) (found : List Binding)
         → AreThose (IsEntryIn (back_range target kind)) (p.entries Backs) found
-        → (b : Binding) → Contains found b ↔ ((o : Element) × Contains p.objects o × IsKindOf kind (reference o)
+        → (b : Binding) → Contains found b ↔ ((o : Element) × Contains p.objects o
+        × IsKindOf kind (reference o)
         × BodyLists o.body target × (b ≡ back_entry target (reference o))) }
 {}
 
 /// The law of entries: their keys and their values are bytes. So what walks and counts ask of a tree holds
 /// of each tree of a publication.
 pub fn entries_are_bytes()
-    ensures keys { (p : Publication) → IsPublication p → (tree : Tree) → AllByRecursion (λ (entry : Binding). AreBytes entry.key) (p.entries tree) }
-    ensures values { (p : Publication) → IsPublication p → (tree : Tree) → AllByRecursion (λ (entry : Binding). AreBytes entry.value) (p.entries tree) }
+    ensures keys { (p : Publication) → IsPublication p → (tree : Tree)
+        → AllByRecursion (λ (entry : Binding). AreBytes entry.key) (p.entries tree) }
+    ensures values { (p : Publication) → IsPublication p → (tree : Tree)
+        → AllByRecursion (λ (entry : Binding). AreBytes entry.value) (p.entries tree) }
     // The digest of a tree's top is one that a walk may begin with.
     ensures tops { (p : Publication) → IsPublication p → (tree : Tree)
         → IsTopOf (shape_in p) (number_of tree) (p.entries tree) (top_in p tree) }

@@ -81,7 +81,8 @@ pub fn read_manifest(bytes: &[u8]) -> Option<Manifest>
     ensures some { IfSome result (λ found. bytes.now ≡ manifest_bytes found) }
     ensures width { IfSome result (λ found. HaveWidth (top_among found.tops)) }
     // Where nothing is read, the bytes are the manifest of no edition and no four tops.
-    ensures none { IsNone result → (edition : Edition) (tops : Tree → List ℕ) → HaveWidth tops → bytes.now ≢ manifest edition tops }
+    ensures none { IsNone result → (edition : Edition) (tops : Tree → List ℕ) → HaveWidth tops
+        → bytes.now ≢ manifest edition tops }
 {
     let rest = bytes.strip_prefix(b"OSMM")?;
     let (edition, rest) = read_edition(rest)?;
@@ -92,7 +93,8 @@ pub fn read_manifest(bytes: &[u8]) -> Option<Manifest>
 /// The edition at the front of these bytes, and the bytes after it.
 fn read_edition(bytes: &[u8]) -> Option<(Edition, &[u8])>
     ensures some { IfSome result (λ found. bytes.now ≡ edition_bytes found.0 ++ found.1.now) }
-    ensures none { IsNone result → (edition : Edition) (rest : List ℕ) → bytes.now ≢ edition_bytes edition ++ rest }
+    ensures none { IsNone result → (edition : Edition) (rest : List ℕ)
+        → bytes.now ≢ edition_bytes edition ++ rest }
 {
     let (number, rest) = bytes.split_first()?;
     match *number {

@@ -71,9 +71,11 @@ pub fn read_back_key(key: &[u8]) -> Option<BackKey>
 /// id of a node; none where it isn't such a key (this project's trees, docs/FORMATS.md). Whether the node's
 /// location lies in the cell isn't known from the key. It takes no memory.
 pub fn read_cell_key(key: &[u8]) -> Option<CellKey>
-    ensures some { IfSome result (λ found. key.now ≡ cell_bytes found.row found.column ++ id_bytes found.id) }
+    ensures some { IfSome result (λ found. key.now ≡ cell_bytes found.row found.column
+        ++ id_bytes found.id) }
     ensures cell { IfSome result (λ found. IsCell found.row found.column) }
-    ensures none { IsNone result → (row column : ℕ) (id : ℤ) → IsCell row column → key.now ≢ cell_bytes row column ++ id_bytes id }
+    ensures none { IsNone result → (row column : ℕ) (id : ℤ) → IsCell row column
+        → key.now ≢ cell_bytes row column ++ id_bytes id }
 {
     let (row, rest) = key.split_first_chunk()?;
     let (column, id) = rest.split_first_chunk()?;
@@ -114,9 +116,11 @@ fn is_place(lon: i32, lat: i32) -> bool
 /// without NUL, of at most 4,096 bytes, and may be empty. It is none where the bytes aren't such a key (this
 /// project's trees, docs/FORMATS.md). Linear in the bytes; it takes no memory.
 pub fn read_tag_key(key: &[u8]) -> Option<TagKey<'_>>
-    ensures some { IfSome result (λ found. key.now ≡ tag_key found.key.now found.value.now found.name) }
+    ensures some { IfSome result
+        (λ found. key.now ≡ tag_key found.key.now found.value.now found.name) }
     ensures texts { IfSome result (λ found. IsTagText found.key.now × IsTagText found.value.now) }
-    ensures none { IsNone result → (text value : List ℕ) (name : Ref) → IsTagText text → IsTagText value → key.now ≢ tag_key text value name }
+    ensures none { IsNone result → (text value : List ℕ) (name : Ref) → IsTagText text
+        → IsTagText value → key.now ≢ tag_key text value name }
 {
     let (text, rest) = read_ended(key)?;
     let (value, name) = read_ended(rest)?;
@@ -132,7 +136,8 @@ pub fn read_tag_key(key: &[u8]) -> Option<TagKey<'_>>
 fn read_ended(bytes: &[u8]) -> Option<(&[u8], &[u8])>
     ensures some { IfSome result (λ found. bytes.now ≡ found.0.now ++ 0 ∷ found.1.now) }
     ensures text { IfSome result (λ found. IsTagText found.0.now) }
-    ensures none { IsNone result → (text rest : List ℕ) → IsTagText text → bytes.now ≢ text ++ 0 ∷ rest }
+    ensures none { IsNone result → (text rest : List ℕ) → IsTagText text
+        → bytes.now ≢ text ++ 0 ∷ rest }
 {
     let (text, rest) = split_once(bytes, 0)?;
     if text.len() > TEXT_LIMIT {

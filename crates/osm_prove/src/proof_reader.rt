@@ -24,7 +24,8 @@ pub fn read_proof<'a>(alloc: Global, bytes: &'a [u8]) -> Result<Vec<Part<'a>>, P
     // P1 comes where the bytes list no nodes at all,
     ensures malformed { result ≡ Err ProofFault.Malformed → ¬ IsProof bytes.now }
     // and P2 where they list nodes that don't rise.
-    ensures not_rising { result ≡ Err ProofFault.NotRising → (nodes : List (List ℕ)) × Lists bytes.now nodes × ¬ AreRising nodes }
+    ensures not_rising { result ≡ Err ProofFault.NotRising → (nodes : List (List ℕ))
+        × Lists bytes.now nodes × ¬ AreRising nodes }
 {
     let parts = read_parts(alloc, bytes)?;
     if !are_rising(&parts) {
@@ -60,8 +61,10 @@ fn read_parts<'a>(alloc: Global, bytes: &'a [u8]) -> Result<Vec<Part<'a>>, Proof
 /// The number of nodes that a proof states, and what follows it.
 fn read_head(bytes: &[u8]) -> Option<(u32, &[u8])>
     ensures few { IfSome result (λ found. found.0 < 2 ^ 32) }
-    ensures some { IfSome result (λ found. bytes.now ≡ front ++ (to_be_bytes w32 found.0 ++ found.1.now)) }
-    ensures none { IsNone result → (count : ℕ) (rest : List ℕ) → bytes.now ≢ front ++ (to_be_bytes w32 count ++ rest) }
+    ensures some { IfSome result (λ found. bytes.now ≡ front
+        ++ (to_be_bytes w32 found.0 ++ found.1.now)) }
+    ensures none { IsNone result → (count : ℕ) (rest : List ℕ)
+        → bytes.now ≢ front ++ (to_be_bytes w32 count ++ rest) }
 {
     read_number(bytes.strip_prefix(FRONT)?)
 }
@@ -70,7 +73,8 @@ fn read_head(bytes: &[u8]) -> Option<(u32, &[u8])>
 fn read_node(bytes: &[u8]) -> Option<(&[u8], &[u8])>
     ensures short { IfSome result (λ found. length found.0.now < 2 ^ 32) }
     ensures some { IfSome result (λ found. bytes.now ≡ marked found.0.now ++ found.1.now) }
-    ensures none { IsNone result → (node rest : List ℕ) → length node < 2 ^ 32 → bytes.now ≢ marked node ++ rest }
+    ensures none { IsNone result → (node rest : List ℕ) → length node < 2 ^ 32
+        → bytes.now ≢ marked node ++ rest }
 {
     let (len, rest) = read_number(bytes)?;
     rest.split_at_checked(len as usize)
@@ -79,7 +83,8 @@ fn read_node(bytes: &[u8]) -> Option<(&[u8], &[u8])>
 /// The number of four bytes at the front of these, and what follows it.
 fn read_number(bytes: &[u8]) -> Option<(u32, &[u8])>
     ensures some { IfSome result (λ found. bytes.now ≡ to_be_bytes w32 found.0 ++ found.1.now) }
-    ensures none { IsNone result → (number : ℕ) (rest : List ℕ) → bytes.now ≢ to_be_bytes w32 number ++ rest }
+    ensures none { IsNone result → (number : ℕ) (rest : List ℕ)
+        → bytes.now ≢ to_be_bytes w32 number ++ rest }
 {
     let (number, rest) = bytes.split_first_chunk()?;
     Some((u32::from_be_bytes(*number), rest))

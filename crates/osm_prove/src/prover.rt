@@ -29,14 +29,18 @@ use tree_node::Recorder;
 /// Refused with `Query` exactly where the query doesn't read, and else only where memory runs out.
 pub fn prove(alloc: Global, snapshot: &Snapshot, query: &[u8]) -> Result<Proved, ProveFault>
     // What is given is the root, the query's meaning over the snapshot's set, and the one proof.
-    ensures proved { (p : Publication) → HoldsPublication snapshot.now p → IfOk result (λ proved. (proved.root.0 ≡ root_of p)
+    ensures proved { (p : Publication) → HoldsPublication snapshot.now p
+        → IfOk result (λ proved. (proved.root.0 ≡ root_of p)
         × IsProved p query.now proved.answer.items proved.proof.items) }
     // A query with a fault is refused with it, unless memory runs out,
-    ensures refused { (fault : QlFault) → HasFault query.now fault → (result ≡ Err (ProveFault.Query fault)) ⊎ (result ≡ Err ProveFault.Memory) }
+    ensures refused { (fault : QlFault) → HasFault query.now fault
+        → (result ≡ Err (ProveFault.Query fault)) ⊎ (result ≡ Err ProveFault.Memory) }
     // and no other is told;
-    ensures told { (fault : QlFault) → result ≡ Err (ProveFault.Query fault) → HasFault query.now fault }
+    ensures told { (fault : QlFault) → result ≡ Err (ProveFault.Query fault)
+        → HasFault query.now fault }
     // one that reads is refused for memory alone.
-    ensures only { (statements : Statements) → Reads query.now statements → IfErr result (λ fault. fault ≡ ProveFault.Memory) }
+    ensures only { (statements : Statements) → Reads query.now statements
+        → IfErr result (λ fault. fault ≡ ProveFault.Memory) }
 {
     let parsed = read_query(alloc, query)?;
     let (answer, proof) = answer_with_proof(alloc, snapshot, &parsed)?;
@@ -53,7 +57,8 @@ fn answer_with_proof(
     snapshot: &Snapshot,
     query: &Query<'_>,
 ) -> Result<(Vec<u8>, Vec<u8>), AllocError>
-    ensures { (p : Publication) → HoldsPublication snapshot.now p → IfOk result (λ both. Means p.objects (statements_of query.now) both.0.items
+    ensures { (p : Publication) → HoldsPublication snapshot.now p
+        → IfOk result (λ both. Means p.objects (statements_of query.now) both.0.items
         × IsProofOf p (statements_of query.now) both.1.items) }
 {
     let mut shelf = Recorder::new(alloc, snapshot.stock());

@@ -1,4 +1,3 @@
-pub mod NoMemory
 pub mod MapLemmas
 pub mod OutputLemmas
 pub mod PieceLemmas

@@ -24,7 +24,8 @@ pub(crate) fn listen<T: Traffic, E: Write>(
     number: u32,
     piece: &mut [u8],
 )
-    ensures kept { Keeps (T.log traffic.old) (T.log traffic.new) outputs.old outputs.new desk.old desk.new }
+    ensures kept { Keeps (T.log traffic.old) (T.log traffic.new)
+        outputs.old outputs.new desk.old desk.new }
     ensures snapshot { desk.new.snapshot ≡ desk.old.snapshot }
 {
     if !may_read(desk, outputs, number) {
@@ -59,7 +60,9 @@ fn hear<E: Write>(desk: &mut Desk, outputs: &mut Outputs, errors: &mut E, number
     requires idle { get outputs.old number ≡ Some [] }
     requires open { IsSome (get desk.old.connections number) }
     requires cut { IsCut piece.now }
-    ensures kept { (log : Option (List Entry)) → Keeps log (noted (brought number piece.now) log) outputs.old outputs.new desk.old desk.new }
+    ensures kept { (log : Option (List Entry))
+        → Keeps log (noted (brought number piece.now) log)
+        outputs.old outputs.new desk.old desk.new }
     ensures snapshot { desk.new.snapshot ≡ desk.old.snapshot }
 {
     let Ok(text) = desk.hear(number, piece) else {

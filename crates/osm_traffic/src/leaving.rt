@@ -20,7 +20,8 @@ pub(crate) fn part<T: Traffic>(
 )
     requires known { IsSome (get outputs.old number) }
     requires idle { whole ≡ true → get outputs.old number ≡ Some [] }
-    ensures kept { Keeps (T.log traffic.old) (T.log traffic.new) outputs.old outputs.new desk.old desk.new }
+    ensures kept { Keeps (T.log traffic.old) (T.log traffic.new)
+        outputs.old outputs.new desk.old desk.new }
     ensures snapshot { desk.new.snapshot ≡ desk.old.snapshot }
 {
     traffic.end(number, whole);
@@ -38,7 +39,8 @@ pub(crate) fn break_off<T: Traffic, E: Write>(
     fault: GateFault,
 )
     requires { IsSome (get outputs.old number) }
-    ensures kept { Keeps (T.log traffic.old) (T.log traffic.new) outputs.old outputs.new desk.old desk.new }
+    ensures kept { Keeps (T.log traffic.old) (T.log traffic.new)
+        outputs.old outputs.new desk.old desk.new }
     ensures snapshot { desk.new.snapshot ≡ desk.old.snapshot }
 {
     tell(errors, fault);
@@ -54,7 +56,8 @@ pub(crate) fn let_go<T: Traffic, E: Write>(
     errors: &mut E,
     number: u32,
 )
-    ensures kept { Keeps (T.log traffic.old) (T.log traffic.new) outputs.old outputs.new desk.old desk.new }
+    ensures kept { Keeps (T.log traffic.old) (T.log traffic.new)
+        outputs.old outputs.new desk.old desk.new }
     ensures snapshot { desk.new.snapshot ≡ desk.old.snapshot }
 {
     let Some(output) = outputs.output(number) else {

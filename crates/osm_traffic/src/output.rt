@@ -4,6 +4,7 @@ ghost use Rattle.std.specs.Prelude.{◌≡◌, ◌≤◌, length, drop, []};
 ghost use Rattle.osm_gate.specs.Serving.{no_memory};
 ghost use Rattle.osm_traffic.specs.internal.Texts.{bytes_of};
 
+use osm_gate::no_memory_response;
 use std::marker::Model;
 
 /// What is written to a connection.
@@ -117,13 +118,6 @@ fn bytes_of(text: &Text) -> &[u8]
     match text {
         Text::Nothing => &[],
         Text::Answers(text) => text,
-        Text::Apology => no_memory(),
+        Text::Apology => no_memory_response(),
     }
-}
-
-/// The fixed response where memory runs out.
-fn no_memory() -> &'static [u8]
-    ensures { result.now ≡ no_memory }
-{
-    b"HTTP/1.1 503 Service Unavailable\r\nContent-Type: text/plain; charset=utf-8\r\nContent-Length: 10\r\nConnection: close\r\n\r\nno memory\n"
 }

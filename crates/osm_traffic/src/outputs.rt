@@ -88,7 +88,8 @@ impl Outputs {
     /// So many bytes of what the connection has coming were taken.
     pub(crate) fn advance(&mut self, number: u32, count: usize)
         requires { IfSome (get self.old number) (λ bytes. count ≤ length bytes) }
-        ensures { IfSome (get self.old number) (λ bytes. self.new ≡ insert self.old number (drop count bytes)) }
+        ensures { IfSome (get self.old number) (λ bytes. self.new
+            ≡ insert self.old number (drop count bytes)) }
     {
         let Some(output) = self.outputs.get_mut(&number) else {
             return;

@@ -45,11 +45,15 @@ pub fn serve_many<L: Lookout, T: Traffic, E: Write>(
 ) -> Result<(), TrafficFault>
     requires { desk.old.connections ≡ empty }
     // Whatever happens, in whatever order, what went in and out is what a run of the desk says.
-    ensures served { (p : Publication) (base : List Entry) → HoldsPublication desk.old.snapshot p → T.log traffic.old ≡ Some base
-        → (deeds : List Deed) × (T.log traffic.new ≡ Some (log_of deeds ++ base)) × Serves connections (fresh p) deeds
-        × StandsFor desk.new (desk_after (fresh p) deeds) × OnOk result (arrivals deeds ≡ connections) }
+    ensures served { (p : Publication) (base : List Entry) → HoldsPublication desk.old.snapshot p
+        → T.log traffic.old ≡ Some base
+        → (deeds : List Deed) × (T.log traffic.new ≡ Some (log_of deeds ++ base))
+        × Serves connections (fresh p) deeds
+        × StandsFor desk.new (desk_after (fresh p) deeds)
+        × OnOk result (arrivals deeds ≡ connections) }
     // What is in force has been made by what the lookout found, one after the other, but what was refused.
-    ensures found { TakesFound (L.found lookout.old) (L.found lookout.new) desk.old.snapshot desk.new.snapshot }
+    ensures found { TakesFound (L.found lookout.old) (L.found lookout.new)
+        desk.old.snapshot desk.new.snapshot }
     ensures none_open { OnOk result (desk.new.connections ≡ empty) }
 {
     let mut outputs = Outputs::new(alloc);
@@ -81,7 +85,8 @@ pub fn serve_many<L: Lookout, T: Traffic, E: Write>(
 /// Whether a further connection may be taken: where one is wanted, and fewer than 64 are open.
 fn room_for(desk: &Desk, outputs: &Outputs, taken: u32, connections: u32) -> Room
     ensures { (result ≡ Room.Free)
-        ↔ ((taken < connections) × (len outputs.now < CONNECTION_LIMIT) × (len desk.now.connections < CONNECTION_LIMIT)) }
+        ↔ ((taken < connections) × (len outputs.now < CONNECTION_LIMIT)
+        × (len desk.now.connections < CONNECTION_LIMIT)) }
 {
     if taken >= connections {
         Room::Closed
@@ -94,7 +99,8 @@ fn room_for(desk: &Desk, outputs: &Outputs, taken: u32, connections: u32) -> Roo
 
 /// Whether fewer than 64 connections are open.
 fn has_room(desk: &Desk, outputs: &Outputs) -> bool
-    ensures { IsTrue result ↔ ((len outputs.now < CONNECTION_LIMIT) × (len desk.now.connections < CONNECTION_LIMIT)) }
+    ensures { IsTrue result ↔ ((len outputs.now < CONNECTION_LIMIT)
+        × (len desk.now.connections < CONNECTION_LIMIT)) }
 {
     outputs.count() < CONNECTION_LIMIT && !desk.is_full()
 }
@@ -112,11 +118,15 @@ fn turn<L: Lookout, T: Traffic, E: Write>(
     room: Room,
 ) -> Result<bool, TrafficFault>
     requires room { room ≡ Room.Free → len desk.old.connections < CONNECTION_LIMIT }
-    ensures stands { IfOk result (λ is. Moves (T.log traffic.old) (T.log traffic.new) outputs.old outputs.new desk.old desk.new
+    ensures stands { IfOk result
+        (λ is. Moves (T.log traffic.old) (T.log traffic.new)
+        outputs.old outputs.new desk.old desk.new
         number (if is then number + 1 else number)) }
-    ensures refused { OnErr result (Stops (T.log traffic.old) (T.log traffic.new) outputs.old outputs.new desk.old desk.new number) }
+    ensures refused { OnErr result (Stops (T.log traffic.old) (T.log traffic.new)
+        outputs.old outputs.new desk.old desk.new number) }
     ensures only_room { IfOk result (λ is. is ≡ true → room ≡ Room.Free) }
-    ensures found { TakesFound (L.found lookout.old) (L.found lookout.new) desk.old.snapshot desk.new.snapshot }
+    ensures found { TakesFound (L.found lookout.old) (L.found lookout.new)
+        desk.old.snapshot desk.new.snapshot }
 {
     match news {
         News::Waiting => match room {

@@ -27,10 +27,14 @@ pub(crate) fn welcome<L: Lookout, T: Traffic, E: Write>(
     number: u32,
 ) -> Result<bool, TrafficFault>
     requires room { len desk.old.connections < CONNECTION_LIMIT }
-    ensures stands { IfOk result (λ is. Moves (T.log traffic.old) (T.log traffic.new) outputs.old outputs.new desk.old desk.new
+    ensures stands { IfOk result
+        (λ is. Moves (T.log traffic.old) (T.log traffic.new)
+        outputs.old outputs.new desk.old desk.new
         number (if is then number + 1 else number)) }
-    ensures refused { OnErr result (Stops (T.log traffic.old) (T.log traffic.new) outputs.old outputs.new desk.old desk.new number) }
-    ensures found { TakesFound (L.found lookout.old) (L.found lookout.new) desk.old.snapshot desk.new.snapshot }
+    ensures refused { OnErr result (Stops (T.log traffic.old) (T.log traffic.new)
+        outputs.old outputs.new desk.old desk.new number) }
+    ensures found { TakesFound (L.found lookout.old) (L.found lookout.new)
+        desk.old.snapshot desk.new.snapshot }
 {
     if !traffic.take(number)? {
         return Ok(false);
@@ -53,7 +57,8 @@ fn open<E: Write>(
     number: u32,
 ) -> Result<(), AllocError>
     requires room { len desk.old.connections < CONNECTION_LIMIT }
-    ensures stands { (log : Option (List Entry)) → Moves log (noted (came number) log) outputs.old outputs.new desk.old desk.new
+    ensures stands { (log : Option (List Entry))
+        → Moves log (noted (came number) log) outputs.old outputs.new desk.old desk.new
         number (number + 1) }
     ensures snapshot { desk.new.snapshot ≡ desk.old.snapshot }
 {

@@ -19,7 +19,8 @@ pub(crate) fn hand<T: Traffic, E: Write>(
     errors: &mut E,
     number: u32,
 )
-    ensures kept { Keeps (T.log traffic.old) (T.log traffic.new) outputs.old outputs.new desk.old desk.new }
+    ensures kept { Keeps (T.log traffic.old) (T.log traffic.new)
+        outputs.old outputs.new desk.old desk.new }
     ensures snapshot { desk.new.snapshot ≡ desk.old.snapshot }
 {
     let Some(output) = outputs.output(number) else {
