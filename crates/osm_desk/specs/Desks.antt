@@ -4,7 +4,7 @@ use Rattle.std.specs.FinMap.{FinMap, empty, get, insert, len, remove}
 use Rattle.std.specs.Ordering.{nat_cmp}
 use Rattle.std.specs.Prelude.{ℕ, List, [], ◌∷◌, Option, Some, None, Result, Ok, Err, if◌then◌else◌, nat_lt}
 use Rattle.osm_gate.specs.Connections.{Rest, requests_next, open_rest}
-use Rattle.osm_gate.specs.Requests.{Request}
+use Rattle.http_messages.specs.Requests.{Request}
 use Rattle.osm_keys.specs.Publications.{Publication}
 use Rattle.osm_index.specs.declared.apply_fault.ApplyFault.{ApplyFault}
 use Rattle.osm_desk.specs.Happenings.{Happening, arrived, ended, opened, published}

@@ -4,7 +4,7 @@ use Rattle.std.specs.FinMap.{len, remove}
 use Rattle.std.specs.List.{filter}
 use Rattle.std.specs.Prelude.{◌≡◌, ◌==◌, ◌<◌, ℕ, Bool, true, List, [], ◌∷◌, ◌++◌, length, drop, Option, Some, None, Result, Ok, Err, if◌then◌else◌}
 use Rattle.osm_gate.specs.Connections.{requests_in}
-use Rattle.osm_gate.specs.Requests.{Request}
+use Rattle.http_messages.specs.Requests.{Request}
 use Rattle.osm_keys.specs.Publications.{Publication}
 use Rattle.osm_index.specs.declared.apply_fault.ApplyFault.{ApplyFault}
 use Rattle.osm_desk.specs.Desks.{Desk, Told, step}

@@ -2,11 +2,11 @@
 use Rattle.std.proofs.Common.{◌≡◌, ◌∙◌, ◌≤◌, ℕ, Bool, true, false, List, [], ◌∷◌, ◌++◌, ap, sym, refl, arith, length, drop, append_assoc, append-nil, length-append}
 use Rattle.std.specs.Prelude.{Option, Some, None, zero, suc, if◌then◌else◌}
 use Rattle.std.proofs.lemmas.List.{length-drop, drop-append-le}
-use Rattle.osm_gate.specs.HeadEnds.{skip_breaks}
+use Rattle.http_messages.specs.HeadEnds.{skip_breaks}
 use Rattle.osm_gate.specs.Connections.{Requests, closed_rest, ends_with, requests_in, requests_from, requests_next, requests_within, open_rest, joined_requests}
-use Rattle.osm_gate.specs.Requests.{Decided, Request, first_request}
-use Rattle.osm_gate.proofs.BreakLemmas.{skip-append, skip-fits, skip-some, skip-twice}
-use Rattle.osm_gate.proofs.RequestLemmas.{request-progresses, request-stays}
+use Rattle.http_messages.specs.Requests.{Decided, Request, first_request}
+use Rattle.http_messages.proofs.shared.BreakLemmas.{skip-append, skip-fits, skip-some, skip-twice}
+use Rattle.http_messages.proofs.shared.RequestLemmas.{request-progresses, request-stays}
 
 joined_requests-twice : (x y : List Request) (s : Requests) → joined_requests x (joined_requests y s) ≡ joined_requests (x ++ y) s
 joined_requests-twice x y s = ap (λ (z : List Request). let r : Requests = record { complete = z; rest = s.rest } in r) (sym (append_assoc x y s.complete))

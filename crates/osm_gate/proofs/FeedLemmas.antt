@@ -5,11 +5,11 @@ use Rattle.std.proofs.lemmas.List.{take-append-le, take_all, length-take}
 use Rattle.std.proofs.lemmas.Bool.{cases_lt}
 use Rattle.std.proofs.Math.Seq.{take-append-add, take-append_seam}
 use Rattle.osm_gate.specs.Connections.{Requests, requests_in, requests_next, open_rest}
-use Rattle.osm_gate.specs.HeadEnds.{head_length, skip_breaks}
-use Rattle.osm_gate.specs.Requests.{first_request}
-use Rattle.osm_gate.specs.declared.limits.TheConstants.{HEAD_LIMIT}
+use Rattle.http_messages.specs.HeadEnds.{head_length, skip_breaks}
+use Rattle.http_messages.specs.Requests.{first_request}
+use Rattle.http_messages.specs.declared.limits.TheConstants.{HEAD_LIMIT}
 use Rattle.osm_gate.specs.internal.Kept.{IsOpen}
-use Rattle.osm_gate.proofs.BreakLemmas.{skip-some}
+use Rattle.http_messages.proofs.shared.BreakLemmas.{skip-some}
 use Rattle.osm_gate.proofs.ConnectionLemmas.{requests_in-none}
 
 -- ---- an open one

@@ -1,14 +1,9 @@
 pub mod shared
-pub mod BreakLemmas
 pub mod ConnectionLemmas
 pub mod FeedLemmas
-pub mod FieldLemmas
-pub mod HeadEndLemmas
-pub mod HeadLemmas
 pub mod NoMemory
 pub mod OneResponse
 pub mod QueryResponses
-pub mod RequestLemmas
 pub mod RespondingLemmas
 pub mod ResponseLemmas
 pub mod RouteLemmas

@@ -10,16 +10,17 @@ use Rattle.ql_syntax.specs.Statements.{Statements}
 use Rattle.ql_syntax.specs.declared.fault.QlFault.{QlFault}
 use Rattle.ql_syntax.proofs.shared.QueryLaws.{one_fault, one_query, reads_or_not}
 use Rattle.osm_gate.specs.Connections.{Responds, RespondsToOne}
-use Rattle.osm_gate.specs.Forms.{query_of}
-use Rattle.osm_gate.specs.Requests.{Asked, Request, asked, refused}
+use Rattle.http_messages.specs.Forms.{query_of}
+use Rattle.http_messages.specs.Requests.{Asked, Request, asked, refused}
 use Rattle.osm_gate.specs.ResponseTexts.{Response, response_text}
 use Rattle.osm_gate.specs.Responses.{ByMethod, ByQuery, ByRoute, GivesAt, IsResponse, TellsFault, checked_body, ends, fault_text, ok_response, method_of, refusal}
-use Rattle.osm_gate.specs.Routes.{path_of, route_of}
+use Rattle.osm_gate.specs.Routes.{route_of}
+use Rattle.http_messages.specs.Targets.{path_of}
 use Rattle.osm_gate.specs.declared.endpoint.Endpoint.{Endpoint}
 use Rattle.osm_gate.specs.declared.endpoint.Endpoint.TheVariants.{Answer, AnswerWithProof}
 use Rattle.osm_gate.specs.declared.method.Method.{Method}
 use Rattle.osm_gate.specs.declared.method.Method.TheVariants.{Get, Other, Post}
-use Rattle.osm_gate.specs.declared.query_text.QuerySource.TheVariants.{Body, Target}
+use Rattle.http_messages.specs.declared.query_text.QuerySource.TheVariants.{Body, Target}
 use Rattle.osm_gate.specs.declared.reply.Reply.{Reply}
 use Rattle.osm_gate.specs.declared.route.Route.{Route}
 use Rattle.osm_gate.specs.declared.route.Route.TheVariants.{Query, Root}

@@ -2,7 +2,7 @@
 use Rattle.std.proofs.Common.{◌≡◌, ◌∙◌, ℕ, List, [], ◌∷◌, ◌++◌, ap, sym, refl, append_assoc, append-nil}
 use Rattle.osm_keys.specs.Publications.{Publication}
 use Rattle.osm_gate.specs.Connections.{Responds, RespondsToOne}
-use Rattle.osm_gate.specs.Requests.{Request}
+use Rattle.http_messages.specs.Requests.{Request}
 
 module _ (p : Publication) where
   pub responds-append : (xs ys : List Request) (a b : List ℕ) → Responds p xs a → Responds p ys b → Responds p (xs ++ ys) (a ++ b)

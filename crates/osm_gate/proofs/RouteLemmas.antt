@@ -1,47 +1,15 @@
--- Where the mark of a target stands, and which texts are paths.
-use Rattle.std.proofs.Common.{◌≡◌, ◌∙◌, ◌<◌, ◌≤◌, ◌+◌, ap, sym, refl, arith, List, ℕ, [], Bool, true, false, length}
-use Rattle.std.specs.Prelude.{Some, None, option_map, position, ◌==◌, IsUtf8, nat_lt, if◌then◌else◌}
-use Rattle.std.specs.List.{position_or_len}
+-- Which texts are paths.
+use Rattle.std.proofs.Common.{◌≡◌, ◌∙◌, ap, sym, refl, List, ℕ, Bool, true, false}
+use Rattle.std.specs.Prelude.{Some, None, option_map, IsUtf8, if◌then◌else◌}
 use Rattle.std.specs.Str.{is_utf8}
 use Rattle.std.proofs.lemmas.Str.{IsUtf8-from_is_utf8, is_utf8-from_IsUtf8}
-use Rattle.std.proofs.lemmas.Bool.Decides.{nat_tests}
-use Rattle.std.proofs.lemmas.List.{take_all, drop_all}
 use Rattle.matchit.specs.Seek.{first}
 use Rattle.matchit.specs.Rows.{RowsOf}
 use Rattle.matchit.specs.Router.{RouteOf, Refused, nearest}
 use Rattle.matchit.specs.declared.error.InsertError.{InsertError}
 use Rattle.matchit.specs.declared.error.InsertError.TheVariants.{Conflict, OutOfMemory, InvalidParamSegment, InvalidParam, InvalidCatchAll}
-use Rattle.osm_gate.specs.Routes.{path_of, query_part, route_of, route_rows}
+use Rattle.osm_gate.specs.Routes.{route_of, route_rows}
 use Rattle.osm_gate.specs.declared.route.Route.{Route}
-use Rattle.osm_gate.specs.declared.target.TheConstants.{QUESTION_MARK}
-
-abbrev is_mark : ℕ → Bool
-is_mark b = b == QUESTION_MARK
-
-pub mark-some : (t : List ℕ) (k : ℕ) → position is_mark t ≡ Some k → (k ≡ position_or_len is_mark t) × (k < length t)
-mark-some t k e = go (nat_lt (position_or_len is_mark t) (length t)) refl e
-  where
-    go : (c : Bool) → nat_lt (position_or_len is_mark t) (length t) ≡ c
-        → (if c then Some (position_or_len is_mark t) else None) ≡ Some k → (k ≡ position_or_len is_mark t) × (k < length t)
-    go true hit e =
-        let same : position_or_len is_mark t ≡ k = cc in
-        let inside : position_or_len is_mark t < length t = grind (arith, nat_tests) in
-        (sym same, omega arith)
-    go false miss e = cc
-
-pub mark-none : (t : List ℕ) → position is_mark t ≡ None → length t ≤ position_or_len is_mark t
-mark-none t e = go (nat_lt (position_or_len is_mark t) (length t)) refl e
-  where
-    go : (c : Bool) → nat_lt (position_or_len is_mark t) (length t) ≡ c
-        → (if c then Some (position_or_len is_mark t) else None) ≡ None → length t ≤ position_or_len is_mark t
-    go true hit e = cc
-    go false miss e = grind (arith, nat_tests)
-
-pub path-none : (t : List ℕ) → position is_mark t ≡ None → t ≡ path_of t
-path-none t e = sym (take_all (position_or_len is_mark t) t (mark-none t e))
-
-pub part-none : (t : List ℕ) → position is_mark t ≡ None → [] ≡ query_part t
-part-none t e = let past = mark-none t e in sym (drop_all (position_or_len is_mark t + 1) t (omega arith))
 
 pub route-none : (path : List ℕ) → ¬ (IsUtf8 path) → None ≡ route_of path
 unfolding route_of

@@ -9,16 +9,16 @@ use Rattle.std.proofs.lemmas.List.{length-drop}
 use Rattle.httparse.specs.Grammar.{RequestHead}
 use Rattle.httparse.specs.Spans.{name_and_value}
 use Rattle.osm_gate.specs.Connections.{ends_with, requests_in, requests_from, requests_within}
-use Rattle.osm_gate.specs.Fields.{FieldPair, body_length, framing, is_named, length_of, values_named}
-use Rattle.osm_gate.specs.HeadEnds.{head_length, line_feeds, skip_breaks}
-use Rattle.osm_gate.specs.Heads.{head_of}
-use Rattle.osm_gate.specs.Requests.{Decided, after_head, asked, asked_with, by_end, first_request, refuse, with_body}
-use Rattle.osm_gate.specs.declared.limits.TheConstants.{BODY_LIMIT, HEAD_LIMIT, LINE_LIMIT}
-use Rattle.osm_gate.specs.declared.refusal.Refusal.{Refusal}
-use Rattle.osm_gate.specs.declared.refusal.Refusal.TheVariants.{HeadTooLarge, TooLarge, TransferCoding}
-use Rattle.osm_gate.proofs.BreakLemmas.{skip-fits}
+use Rattle.http_messages.specs.Fields.{FieldPair, body_length, framing, is_named, length_of, values_named}
+use Rattle.http_messages.specs.HeadEnds.{head_length, line_feeds, skip_breaks}
+use Rattle.http_messages.specs.Heads.{head_of}
+use Rattle.http_messages.specs.Requests.{Decided, after_head, asked, asked_with, by_end, first_request, refuse, with_body}
+use Rattle.http_messages.specs.declared.limits.TheConstants.{BODY_LIMIT, HEAD_LIMIT, LINE_LIMIT}
+use Rattle.http_messages.specs.declared.refusal.Refusal.{Refusal}
+use Rattle.http_messages.specs.declared.refusal.Refusal.TheVariants.{HeadTooLarge, TooLarge, TransferCoding}
+use Rattle.http_messages.proofs.shared.BreakLemmas.{skip-fits}
 use Rattle.osm_gate.proofs.ConnectionLemmas.{chosen_of}
-use Rattle.osm_gate.proofs.RequestLemmas.{end-fits, request-progresses}
+use Rattle.http_messages.proofs.shared.RequestLemmas.{end-fits, request-progresses}
 
 -- ---- bodies
 

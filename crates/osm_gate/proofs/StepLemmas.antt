@@ -6,15 +6,15 @@ use Rattle.osm_keys.specs.Publications.{Publication}
 use Rattle.osm_index.specs.Snapshots.{HoldsPublication}
 use Rattle.osm_index.specs.declared.snapshot.Snapshot.{Snapshot}
 use Rattle.osm_gate.specs.Connections.{Requests, Responds, RespondsTo, closed_rest, requests_in, open_rest, joined_requests}
-use Rattle.osm_gate.specs.HeadEnds.{begins_with_break, head_length, is_break, skip_breaks}
-use Rattle.osm_gate.specs.Requests.{Request, first_request}
-use Rattle.osm_gate.specs.declared.limits.TheConstants.{HEAD_LIMIT}
+use Rattle.http_messages.specs.HeadEnds.{begins_with_break, head_length, is_break, skip_breaks}
+use Rattle.http_messages.specs.Requests.{Request, first_request}
+use Rattle.http_messages.specs.declared.limits.TheConstants.{HEAD_LIMIT}
 use Rattle.osm_gate.specs.declared.requests.Step.TheVariants.{Ended, Next, Open}
 use Rattle.osm_gate.specs.internal.Kept.{IsOpen}
 use Rattle.osm_gate.specs.internal.Steps.{StepIs}
-use Rattle.osm_gate.proofs.BreakLemmas.{skip-none}
+use Rattle.http_messages.proofs.shared.BreakLemmas.{skip-none}
 use Rattle.osm_gate.proofs.ConnectionLemmas.{requests_in-last, requests_in-more, requests_in-stop}
-use Rattle.osm_gate.proofs.RequestLemmas.{request-progresses}
+use Rattle.http_messages.proofs.shared.RequestLemmas.{request-progresses}
 use Rattle.osm_gate.proofs.RespondingLemmas.{responds-append}
 
 -- the bytes from some place on

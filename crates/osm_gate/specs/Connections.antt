@@ -3,8 +3,8 @@
 -- Source: RFC 9112, sections 2.2, 9.3 and 9.6; after which responses the connection ends is this project's.
 use Rattle.std.specs.Prelude.{◌≡◌, ℕ, Bool, true, false, List, [], ◌∷◌, ◌++◌, Option, Some, None, drop, length, zero, suc, if◌then◌else◌}
 use Rattle.osm_keys.specs.Publications.{Publication}
-use Rattle.osm_gate.specs.HeadEnds.{skip_breaks}
-use Rattle.osm_gate.specs.Requests.{Decided, Request, asked, first_request, refused}
+use Rattle.http_messages.specs.HeadEnds.{skip_breaks}
+use Rattle.http_messages.specs.Requests.{Decided, Request, asked, first_request, refused}
 use Rattle.osm_gate.specs.ResponseTexts.{Response, response_text}
 use Rattle.osm_gate.specs.Responses.{IsResponse, ends, refused_response}
 

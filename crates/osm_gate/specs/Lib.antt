@@ -1,9 +1,4 @@
 pub mod Connections
-pub mod Fields
-pub mod Forms
-pub mod HeadEnds
-pub mod Heads
-pub mod Requests
 pub mod ResponseTexts
 pub mod Responses
 pub mod Routes

@@ -11,17 +11,18 @@ use Rattle.osm_prove.specs.Proved.{IsAnswer, IsProved}
 use Rattle.ql_syntax.specs.Queries.{HasFault}
 use Rattle.ql_syntax.specs.Refusals.{code_text}
 use Rattle.ql_syntax.specs.declared.fault.QlFault.{QlFault}
-use Rattle.osm_gate.specs.Forms.{query_of}
-use Rattle.osm_gate.specs.Requests.{Asked}
+use Rattle.http_messages.specs.Forms.{query_of}
+use Rattle.http_messages.specs.Refusals.{refusal_status, refusal_text}
+use Rattle.http_messages.specs.Requests.{Asked}
+use Rattle.http_messages.specs.Targets.{path_of}
 use Rattle.osm_gate.specs.ResponseTexts.{Response}
-use Rattle.osm_gate.specs.Routes.{path_of, route_of}
+use Rattle.osm_gate.specs.Routes.{route_of}
 use Rattle.osm_gate.specs.declared.endpoint.Endpoint.{Endpoint}
 use Rattle.osm_gate.specs.declared.endpoint.Endpoint.TheVariants.{Answer, AnswerWithProof}
 use Rattle.osm_gate.specs.declared.method.Method.{Method}
 use Rattle.osm_gate.specs.declared.method.Method.TheVariants.{Get, Other, Post}
-use Rattle.osm_gate.specs.declared.query_text.QuerySource.TheVariants.{Body, Target}
-use Rattle.osm_gate.specs.declared.refusal.Refusal.{Refusal}
-use Rattle.osm_gate.specs.declared.refusal.Refusal.TheVariants.{BadHead, BadLength, HeadTooLarge, LengthRequired, TooLarge, TransferCoding}
+use Rattle.http_messages.specs.declared.query_text.QuerySource.TheVariants.{Body, Target}
+use Rattle.http_messages.specs.declared.refusal.Refusal.{Refusal}
 use Rattle.osm_gate.specs.declared.reply.Reply.{Reply}
 use Rattle.osm_gate.specs.declared.route.Route.{Route}
 use Rattle.osm_gate.specs.declared.route.Route.TheVariants.{Query, Root}
@@ -107,22 +108,6 @@ unfoldable pub IsResponse : Publication → Asked → Response → Type 0
 IsResponse p a r = ByRoute (ends a) p a (route_of (path_of a.target)) r
 
 -- ---- requests that are refused as they stand
-
-abbrev pub refusal_status : Refusal → ℕ
-refusal_status HeadTooLarge = 431
-refusal_status BadHead = 400
-refusal_status TransferCoding = 501
-refusal_status BadLength = 400
-refusal_status LengthRequired = 411
-refusal_status TooLarge = 413
-
-abbrev pub refusal_text : Refusal → List ℕ
-refusal_text HeadTooLarge = codes "head too large"
-refusal_text BadHead = codes "bad head"
-refusal_text TransferCoding = codes "transfer coding"
-refusal_text BadLength = codes "bad length"
-refusal_text LengthRequired = codes "length required"
-refusal_text TooLarge = codes "too large"
 
 -- the connection ends after each
 abbrev pub refused_response : Refusal → Response

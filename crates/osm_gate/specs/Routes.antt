@@ -2,21 +2,12 @@
 -- Source: RFC 9112, section 3.2; the paths are this project's. What a path matches is matchit's.
 use Rattle.std.specs.Prelude.{ℕ, List, [], ◌∷◌, Option, None, option_map, if◌then◌else◌, codes}
 use Rattle.std.specs.Str.{is_utf8}
-use Rattle.form_urlencoded.specs.Form.{split_once}
 use Rattle.matchit.specs.Router.{RouteOf}
 use Rattle.matchit.specs.Rows.{RowsOf}
 use Rattle.matchit.specs.Seek.{first}
 use Rattle.osm_gate.specs.declared.route.Route.{Route}
 use Rattle.osm_gate.specs.declared.endpoint.Endpoint.TheVariants.{Answer, AnswerWithProof}
 use Rattle.osm_gate.specs.declared.route.Route.TheVariants.{Query, Root}
-use Rattle.osm_gate.specs.declared.target.TheConstants.{QUESTION_MARK}
-
--- a target's path and its query part, before and after the first `?`; the path isn't decoded
-abbrev pub path_of : List ℕ → List ℕ
-path_of target = (split_once QUESTION_MARK target).0
-
-abbrev pub query_part : List ℕ → List ℕ
-query_part target = (split_once QUESTION_MARK target).1
 
 -- a route without parameters
 abbrev pub plain_route : List ℕ → Route → List ℕ × RouteOf Route

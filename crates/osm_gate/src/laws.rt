@@ -1,18 +1,12 @@
-//! Laws of heads and of connections, and of the limits.
+//! Laws of connections, and of their limits.
 
-ghost use Rattle.std.specs.Prelude.{◌≡◌, ◌↔◌, ◌++◌, ◌+◌, ◌^◌, ◌<◌, ℕ, List, Some, [], length, true};
-ghost use Rattle.httparse.specs.Grammar.{RequestHead};
+ghost use Rattle.std.specs.Prelude.{◌≡◌, ◌++◌, ◌+◌, ◌^◌, ◌<◌, ℕ, List, [], length, true};
 ghost use Rattle.osm_keys.specs.Publications.{IsPublication, Publication};
 ghost use Rattle.osm_gate.specs.Connections.{Responds, Rest, closed_rest, requests_in, requests_next, joined_requests};
-ghost use Rattle.osm_gate.specs.Heads.{IsHead, head_of};
-ghost use Rattle.osm_gate.specs.Requests.{Request};
-ghost use Rattle.osm_gate.specs.declared.limits.TheConstants.{BODY_LIMIT, DIGIT_LIMIT, FIELD_LIMIT, HEAD_LIMIT, LINE_LIMIT, PIECE_LIMIT, READ_LIMIT};
+ghost use Rattle.http_messages.specs.Requests.{Request};
+ghost use Rattle.http_messages.specs.declared.limits.TheConstants.{BODY_LIMIT, HEAD_LIMIT};
+ghost use Rattle.osm_gate.specs.declared.limits.TheConstants.{PIECE_LIMIT, READ_LIMIT};
 ghost use Rattle.osm_gate.specs.Serving.{longest_piece, most_reads};
-
-/// A law: bytes are found to be a head exactly where httparse's grammar reads them as it.
-pub fn head_is_the_grammars()
-    ensures { (bytes : List ℕ) (h : RequestHead) → (head_of bytes ≡ Some h) ↔ IsHead bytes h }
-{}
 
 /// A law: some bytes and then others ask what the first ask, and then what is left of them and the others ask. So
 /// pieces may be cut anywhere.
@@ -47,14 +41,8 @@ pub fn rests_are_short()
     ensures { (bytes : List ℕ) → length (requests_in bytes).rest.bytes < HEAD_LIMIT + BODY_LIMIT }
 {}
 
-/// A law: the limits of a request and of a connection, as numbers: the bytes, the fields and the line feeds of a head, the
-/// bytes of a body, the digits that tell them, the bytes of a piece, and the reads of a connection.
+/// A law: the limits of a connection, as numbers: the bytes of a piece, and the reads.
 pub fn limits_law()
-    ensures head { HEAD_LIMIT ≡ 8192 }
-    ensures fields { FIELD_LIMIT ≡ 64 }
-    ensures lines { LINE_LIMIT ≡ 66 }
-    ensures body { BODY_LIMIT ≡ 2 ^ 20 }
-    ensures digits { DIGIT_LIMIT ≡ 19 }
     ensures pieces { (PIECE_LIMIT ≡ 8192) × (longest_piece ≡ 8192) }
     ensures reads { (READ_LIMIT ≡ 2 ^ 20) × (most_reads ≡ 2 ^ 20) }
 {}

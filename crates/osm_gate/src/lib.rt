@@ -5,35 +5,26 @@
 #![tactic(auto)]
 
 mod connection;
-mod decision;
 mod endpoint;
-mod fields;
 mod gate;
 mod gate_fault;
-mod head;
-mod head_ends;
 mod laws;
 mod limits;
 mod method;
 mod query_response;
-mod query_text;
-mod refusal;
 mod reply;
-mod request;
 mod requests;
 mod respond;
 mod response;
 mod route;
 mod serving;
 mod snapshot_connection;
-mod target;
 
 pub use connection::Connection;
 pub use gate::Gate;
 pub use gate_fault::GateFault;
-pub use head_ends::head_end;
 pub use laws::{
-    head_is_the_grammars, limits_law, nothing_after_the_end, one_response, pieces_ask_the_same,
-    responses_stand_in_order, rests_are_short,
+    limits_law, nothing_after_the_end, one_response, pieces_ask_the_same, responses_stand_in_order,
+    rests_are_short,
 };
 pub use serving::{no_memory_response, send_out_of_memory, serve, serve_connection};

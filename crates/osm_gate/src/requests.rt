@@ -4,17 +4,16 @@ ghost use Rattle.std.specs.Prelude.{◌≡◌, ◌≤◌, IfOk, IfSome, None, dr
 ghost use Rattle.osm_keys.specs.Publications.{Publication};
 ghost use Rattle.osm_index.specs.Snapshots.{HoldsPublication};
 ghost use Rattle.osm_gate.specs.Connections.{RespondsTo, requests_in};
-ghost use Rattle.osm_gate.specs.HeadEnds.{begins_with_break, head_length, skip_breaks};
-ghost use Rattle.osm_gate.specs.Requests.{first_request};
+ghost use Rattle.http_messages.specs.HeadEnds.{begins_with_break, head_length, skip_breaks};
+ghost use Rattle.http_messages.specs.Requests.{first_request};
 ghost use Rattle.osm_gate.specs.Routes.{route_rows};
 ghost use Rattle.osm_gate.specs.internal.Kept.{IsOpen};
 ghost use Rattle.osm_gate.specs.internal.Steps.{StepIs, rest_at};
-ghost use Rattle.osm_gate.specs.declared.limits.TheConstants.{HEAD_LIMIT};
+ghost use Rattle.http_messages.specs.declared.limits.TheConstants.{HEAD_LIMIT};
 
-use crate::decision::{Decision, first_request};
-use crate::head_ends::without_breaks;
 use crate::respond::{refuse, respond};
 use crate::route::Route;
+use http_messages::{Decision, first_request, without_breaks};
 use matchit::Router;
 use osm_index::Snapshot;
 use std::alloc::{AllocError, Global};

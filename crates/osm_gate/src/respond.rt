@@ -3,23 +3,20 @@
 ghost use Rattle.std.specs.Prelude.{◌≡◌, ◌++◌, IfOk, OnOk};
 ghost use Rattle.osm_keys.specs.Publications.{Publication};
 ghost use Rattle.osm_index.specs.Snapshots.{HoldsPublication};
-ghost use Rattle.osm_gate.specs.Forms.{query_of};
+ghost use Rattle.http_messages.specs.Forms.{query_of};
 ghost use Rattle.osm_gate.specs.ResponseTexts.{response_text};
 ghost use Rattle.osm_gate.specs.Responses.{ByMethod, ByQuery, ByRoute, IsResponse, ends, refused_response, root_by_method};
 ghost use Rattle.osm_gate.specs.Routes.{route_rows};
 ghost use Rattle.osm_gate.specs.internal.Adding.{AddsResponse};
-ghost use Rattle.osm_gate.specs.internal.Decisions.{asked_of};
+ghost use Rattle.http_messages.specs.Decisions.{asked_of};
 
 use crate::method::{Method, method_of};
 use crate::query_response::respond_to_query;
-use crate::query_text::{QuerySource, query_of};
-use crate::refusal::Refusal;
 use crate::reply::Reply;
-use crate::request::Request;
 use crate::response::{write_not_allowed, write_ok, write_refusal};
 use crate::route::{Route, route_of};
-use crate::target::split_target;
 use http::StatusCode;
+use http_messages::{QuerySource, Refusal, Request, query_of, split_target};
 use matchit::Router;
 use osm_index::Snapshot;
 use std::alloc::{AllocError, Global};

@@ -4,7 +4,7 @@ use Rattle.std.specs.Prelude.{Option, Some, None, option_map, if◌then◌else�
 use Rattle.std.proofs.lemmas.Bool.{and_parts}
 use Rattle.std.proofs.lemmas.Bool.Decides.{nat_tests}
 use Rattle.std.proofs.Math.Seq.{length-take-le, take-take, take_all}
-use Rattle.osm_gate.specs.HeadEnds.{empty_line, head_length}
+use Rattle.http_messages.specs.HeadEnds.{empty_line, head_length}
 use Rattle.osm_traffic.specs.Pieces.{IsCut, cut_length, cut_or}
 
 abbrev here : ℕ → List ℕ → Bool

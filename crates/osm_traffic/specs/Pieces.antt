@@ -1,7 +1,7 @@
 -- How what is read of a connection is cut into pieces: after each empty line, where a head may end.
 -- Source: this project; where a head ends is that of osm_gate.
 use Rattle.std.specs.Prelude.{◌≡◌, ℕ, List, Option, Some, None, length}
-use Rattle.osm_gate.specs.HeadEnds.{head_length}
+use Rattle.http_messages.specs.HeadEnds.{head_length}
 
 abbrev pub cut_or : ℕ → Option ℕ → ℕ
 cut_or all None = all

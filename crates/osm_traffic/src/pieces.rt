@@ -3,7 +3,7 @@
 ghost use Rattle.std.specs.Prelude.{◌≡◌, ◌<◌, ◌≤◌, length, take};
 ghost use Rattle.osm_traffic.specs.Pieces.{IsCut, cut_length};
 
-use osm_gate::head_end;
+use http_messages::head_end;
 
 /// Puts the front of the bytes into the piece, up to the first empty line and with it, as far as there is room, and tells
 /// how long it is. It takes no memory.

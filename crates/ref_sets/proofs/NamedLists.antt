@@ -27,16 +27,16 @@ module _ (name : List ℕ) (new : NamedSet) (named : new.name.now ≡ name) (oth
   apart_from : (s : NamedSet) → bytes_eq s.name.now name ≡ false → bytes_eq name other ≡ true → bytes_eq s.name.now other ≡ false
   apart_from s not same = subst (λ (n : List ℕ). bytes_eq s.name.now n ≡ false) (same_bytes name other same) not
 
-  pub put_in_place : (sets : List NamedSet) (at : ℕ) → IsPlaceOf sets name at → lists_of (set sets at new) other ≡ put name new.refs (lists_of sets) other
+  pub put_in_place : (sets : List NamedSet) (at : ℕ) → IsPlaceOf sets name at → lists_of (set sets at new) other ≡ put name new.refs.value (lists_of sets) other
   put_in_place [] at place = absurd (omega (arith, place.within))
   put_in_place (s ∷ sets) zero place =
       let new_is : bytes_eq new.name.now other ≡ bytes_eq name other = ap (λ (n : List ℕ). bytes_eq n other) named in
       let old_is : bytes_eq s.name.now other ≡ bytes_eq name other = ap (λ (n : List ℕ). bytes_eq n other) (same_bytes s.name.now name (place.named s)) in
-      ap (λ (b : Bool). if b then new.refs else lists_of sets other) new_is
-      ∙ same_step (bytes_eq name other) new.refs s.refs (lists_of sets other)
-      ∙ ap (λ (b : Bool). if bytes_eq name other then new.refs else (if b then s.refs else lists_of sets other)) (sym old_is)
+      ap (λ (b : Bool). if b then new.refs.value else lists_of sets other) new_is
+      ∙ same_step (bytes_eq name other) new.refs.value s.refs.value (lists_of sets other)
+      ∙ ap (λ (b : Bool). if bytes_eq name other then new.refs.value else (if b then s.refs.value else lists_of sets other)) (sym old_is)
   put_in_place (s ∷ sets) (suc at) place =
-      other_step (bytes_eq name other) (bytes_eq s.name.now other) new.refs s.refs (lists_of sets other) (lists_of (set sets at new) other)
+      other_step (bytes_eq name other) (bytes_eq s.name.now other) new.refs.value s.refs.value (lists_of sets other) (lists_of (set sets at new) other)
       (apart_from s (place.first zero s (omega arith)))
       (put_in_place sets at (record {
         within = omega (arith, place.within);
@@ -44,9 +44,9 @@ module _ (name : List ℕ) (new : NamedSet) (named : new.name.now ≡ name) (oth
         first = λ k d lt. place.first (suc k) d (omega (arith, lt));
       }))
 
-  pub put_last : (sets : List NamedSet) → ((k : ℕ) (d : NamedSet) → k < length sets → bytes_eq (get_or sets k d).name.now name ≡ false) → lists_of (sets ++ new ∷ []) other ≡ put name new.refs (lists_of sets) other
-  put_last [] none = ap (λ (n : List ℕ). if bytes_eq n other then new.refs else []) named
+  pub put_last : (sets : List NamedSet) → ((k : ℕ) (d : NamedSet) → k < length sets → bytes_eq (get_or sets k d).name.now name ≡ false) → lists_of (sets ++ new ∷ []) other ≡ put name new.refs.value (lists_of sets) other
+  put_last [] none = ap (λ (n : List ℕ). if bytes_eq n other then new.refs.value else []) named
   put_last (s ∷ sets) none =
-      other_step (bytes_eq name other) (bytes_eq s.name.now other) new.refs s.refs (lists_of sets other) (lists_of (sets ++ new ∷ []) other)
+      other_step (bytes_eq name other) (bytes_eq s.name.now other) new.refs.value s.refs.value (lists_of sets other) (lists_of (sets ++ new ∷ []) other)
       (apart_from s (none zero s (omega arith)))
       (put_last sets (λ k d lt. none (suc k) d (omega (arith, lt))))

@@ -19,4 +19,4 @@ nothing_named name = []
 -- what each name has: the first set with it, and none where no set has it
 abbrev pub lists_of : List NamedSet → Env
 lists_of [] name = []
-lists_of (set ∷ sets) name = if bytes_eq set.name.now name then set.refs else lists_of sets name
+lists_of (set ∷ sets) name = if bytes_eq set.name.now name then set.refs.value else lists_of sets name

@@ -1,16 +1,18 @@
 //! The named sets of a query.
 
-ghost use Rattle.std.specs.Prelude.{◌≡◌, ◌<◌, [], ℕ, IfNone, IfSome, OnOk, bytes_eq, false, length, slice_index_or, true};
+ghost use Rattle.std.specs.Prelude.{◌≡◌, ◌<◌, [], ℕ, IfNone, IfOk, IfSome, OnOk, bytes_eq, false, length, slice_index_or, true};
 ghost use Rattle.ref_sets.specs.NamedSets.{nothing_named, put, lists_of};
 ghost use Rattle.ref_sets.specs.internal.NamedSetPlaces.{IsPlaceOf};
 
 use crate::named_set::NamedSet;
 use crate::ref_set::RefSet;
 use std::alloc::{AllocError, Global};
+use std::rc::Rc;
 
 /// The sets that statements wrote. A search goes over all names: a query has some thousands at most.
 #[derive(Drop)]
 pub struct NamedSets<'q> {
+    alloc: Global,
     /// Each name once.
     pub named: Vec<NamedSet<'q>>,
     /// The set of a name that was never written.
@@ -24,6 +26,7 @@ impl<'q> NamedSets<'q> {
         ensures { lists_of result.named.items ≡ nothing_named }
     {
         NamedSets {
+            alloc,
             named: Vec::new(alloc),
             nothing: RefSet::new(alloc),
         }
@@ -48,9 +51,37 @@ impl<'q> NamedSets<'q> {
         &self.nothing
     }
 
+    /// The set with this name, as one of its owners: it stays as it is whatever is written later. Nothing is copied.
+    /// Refused where memory runs out, which only the empty set of a name that was never written takes.
+    pub fn shared(&self, name: &[u8]) -> Result<Rc<RefSet>, AllocError>
+        ensures { IfOk result (λ refs. refs.value ≡ lists_of self.now.named.items name.now) }
+    {
+        for named in &self.named {
+            if named.name == name {
+                return named.refs.clone();
+            }
+        }
+        let Ok(refs) = Rc::new(self.alloc, RefSet::new(self.alloc)) else {
+            return Err(AllocError);
+        };
+        Ok(refs)
+    }
+
     /// Writes a set, in place of the one that had the name.
     pub fn write(&mut self, name: &'q [u8], refs: RefSet) -> Result<(), AllocError>
-        ensures { OnOk result (lists_of self.new.named.items ≡ put name.now refs (lists_of self.old.named.items)) }
+        ensures { OnOk result (lists_of self.new.named.items
+            ≡ put name.now refs (lists_of self.old.named.items)) }
+    {
+        let Ok(refs) = Rc::new(self.alloc, refs) else {
+            return Err(AllocError);
+        };
+        self.write_shared(name, refs)
+    }
+
+    /// Writes a set that has other owners too, in place of the one that had the name. Nothing is copied.
+    pub fn write_shared(&mut self, name: &'q [u8], refs: Rc<RefSet>) -> Result<(), AllocError>
+        ensures { OnOk result (lists_of self.new.named.items
+            ≡ put name.now refs.value (lists_of self.old.named.items)) }
     {
         match self.place_of(name) {
             Some(place) => {
@@ -67,7 +98,8 @@ impl<'q> NamedSets<'q> {
     /// Where the set with this name is.
     fn place_of(&self, name: &[u8]) -> Option<usize>
         ensures found { IfSome result (λ at. IsPlaceOf self.now.named.items name.now at) }
-        ensures none { IfNone result ((k : ℕ) (d : _) → k < length self.now.named.items → bytes_eq (slice_index_or self.now.named.items k d).name.now name.now ≡ false) }
+        ensures none { IfNone result ((k : ℕ) (d : _) → k < length self.now.named.items
+            → bytes_eq (slice_index_or self.now.named.items k d).name.now name.now ≡ false) }
     {
         self.named.iter().position(|named| named.name == name)
     }

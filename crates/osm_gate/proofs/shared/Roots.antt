@@ -1,16 +1,17 @@
 -- The root in a response.
 use Rattle.std.proofs.Common.{◌≡◌, ◌∙◌, ℕ, Bool, List, ap, inl, inr, sym, arith}
 use Rattle.std.specs.Prelude.{Option, Some, None}
-use Rattle.osm_gate.specs.Forms.{query_of}
-use Rattle.osm_gate.specs.Requests.{Asked}
+use Rattle.http_messages.specs.Forms.{query_of}
+use Rattle.http_messages.specs.Requests.{Asked}
 use Rattle.osm_gate.specs.ResponseTexts.{Response}
 use Rattle.osm_gate.specs.Responses.{ByMethod, ByQuery, ByRoute, GivesAt, IsResponse, ends, method_of, root_by_method}
-use Rattle.osm_gate.specs.Routes.{path_of, route_of}
+use Rattle.osm_gate.specs.Routes.{route_of}
+use Rattle.http_messages.specs.Targets.{path_of}
 use Rattle.osm_gate.specs.declared.endpoint.Endpoint.{Endpoint}
 use Rattle.osm_gate.specs.declared.endpoint.Endpoint.TheVariants.{Answer, AnswerWithProof}
 use Rattle.osm_gate.specs.declared.method.Method.{Method}
 use Rattle.osm_gate.specs.declared.method.Method.TheVariants.{Get, Other, Post}
-use Rattle.osm_gate.specs.declared.query_text.QuerySource.TheVariants.{Body, Target}
+use Rattle.http_messages.specs.declared.query_text.QuerySource.TheVariants.{Body, Target}
 use Rattle.osm_gate.specs.declared.reply.Reply.{Reply}
 use Rattle.osm_gate.specs.declared.route.Route.{Route}
 use Rattle.osm_gate.specs.declared.route.Route.TheVariants.{Query, Root}

@@ -2,10 +2,7 @@
 use Rattle.std.specs.Prelude.{◌≡◌, ℕ, List, ◌++◌, option_map}
 use Rattle.std.specs.Borrow.{Bor}
 use Rattle.std.specs.List.{flat_map}
-use Rattle.std.specs.String.{string_bytes}
 use Rattle.osm_gate.specs.ResponseTexts.{HeadParts, Response, response_text}
-use Rattle.osm_gate.specs.declared.query_text.QueryText.{QueryText}
-use Rattle.osm_gate.specs.declared.query_text.QueryText.TheVariants.{Body, Form}
 use Rattle.osm_gate.specs.declared.response.ResponseHead.{ResponseHead}
 
 abbrev pub parts_of : ResponseHead → HeadParts
@@ -23,10 +20,6 @@ body_of parts = flat_map (λ (part : Bor (List ℕ)). part.now) parts
 
 abbrev pub response_of : ResponseHead → List (Bor (List ℕ)) → Response
 response_of head body = record { head = parts_of head; body = body_of body }
-
-abbrev pub text_of : QueryText → List ℕ
-text_of (Form text) = string_bytes text
-text_of (Body body) = body.now
 
 -- a response was added of which this is so
 abbrev pub AddsResponse : (Response → Type 0) → List ℕ → List ℕ → Type 0

@@ -2,10 +2,10 @@
 use Rattle.std.specs.Prelude.{◌≡◌, ℕ, ◌<◌, Bool, true, List, [], ◌++◌, None, take, length}
 use Rattle.matchit.specs.Router.{RouteOf}
 use Rattle.matchit.specs.Rows.{RowsOf}
-use Rattle.osm_gate.specs.HeadEnds.{head_length, skip_breaks}
-use Rattle.osm_gate.specs.Requests.{first_request}
+use Rattle.http_messages.specs.HeadEnds.{head_length, skip_breaks}
+use Rattle.http_messages.specs.Requests.{first_request}
 use Rattle.osm_gate.specs.Routes.{route_rows}
-use Rattle.osm_gate.specs.declared.limits.TheConstants.{HEAD_LIMIT}
+use Rattle.http_messages.specs.declared.limits.TheConstants.{HEAD_LIMIT}
 use Rattle.osm_gate.specs.declared.route.Route.{Route}
 
 -- the bytes begin with no complete request: their head isn't complete, or no request is with fewer bytes than needed

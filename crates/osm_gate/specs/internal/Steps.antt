@@ -4,7 +4,7 @@ use Rattle.osm_keys.specs.Publications.{Publication}
 use Rattle.osm_index.specs.Snapshots.{HoldsPublication}
 use Rattle.osm_index.specs.declared.snapshot.Snapshot.{Snapshot}
 use Rattle.osm_gate.specs.Connections.{Responds, Rest, closed_rest, ends_with, open_rest}
-use Rattle.osm_gate.specs.Requests.{Decided, Request, first_request}
+use Rattle.http_messages.specs.Requests.{Decided, Request, first_request}
 use Rattle.osm_gate.specs.declared.requests.Open.{Open as Place}
 use Rattle.osm_gate.specs.declared.requests.Step.{Step}
 use Rattle.osm_gate.specs.declared.requests.Step.TheVariants.{Ended, Next, Open}

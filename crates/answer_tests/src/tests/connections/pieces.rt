@@ -4,7 +4,7 @@ use super::rows::{End, ROWS, Row, Sent};
 use super::{LATER_ROOT, ROOT, ROOT_OF_NONE, Seen, checked, fed, fed_bytewise};
 use crate::tests::snapshot_of;
 use crate::tests::texts_of_sets::ALL_KINDS;
-use osm_gate::head_end;
+use http_messages::head_end;
 use osm_index::{Edition, Snapshot};
 use std::alloc::Global;
 use std::process::Abort;

@@ -1,9 +1,9 @@
 use Rattle.std.proofs.Common.{◌∙◌, ap, refl, arith, length, []}
-use Rattle.osm_gate.specs.HeadEnds.{begins_with_break, skip_breaks}
+use Rattle.http_messages.specs.HeadEnds.{begins_with_break, skip_breaks}
 use Rattle.osm_gate.specs.Connections.{open_rest}
 use Rattle.osm_gate.specs.internal.Steps.{StepIs}
 use Rattle.osm_gate.specs.declared.requests.Step.TheVariants.{Open, Ended, Next}
-use Rattle.osm_gate.proofs.BreakLemmas.{skip-begins, skip-fits}
+use Rattle.http_messages.proofs.shared.BreakLemmas.{skip-begins, skip-fits}
 use Rattle.osm_gate.proofs.StepLemmas.{tail-skip, tail-drop, tail-place, tail-whole, step-open, step-ended, step-next}
 use Rattle.osm_gate.proofs.requests.respond_to_all.Goals as goal
 

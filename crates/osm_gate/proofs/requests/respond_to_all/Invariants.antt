@@ -1,8 +1,8 @@
 -- The responses so far, and then what the rest asks.
 use Rattle.std.proofs.Common.{◌≡◌, length, take}
 use Rattle.std.specs.Prelude.{None}
-use Rattle.osm_gate.specs.HeadEnds.{head_length, skip_breaks}
-use Rattle.osm_gate.specs.declared.limits.TheConstants.{HEAD_LIMIT}
+use Rattle.http_messages.specs.HeadEnds.{head_length, skip_breaks}
+use Rattle.http_messages.specs.declared.limits.TheConstants.{HEAD_LIMIT}
 use Rattle.osm_gate.proofs.StepLemmas.{IsTail, SoFar}
 use Rattle.osm_gate.proofs.requests.respond_to_all.Given as goal
 

@@ -1,8 +1,8 @@
 use Rattle.std.proofs.Common.{◌∙◌, sym, refl}
-use Rattle.osm_gate.specs.Requests.{Decided, asked, refused}
+use Rattle.http_messages.specs.Requests.{Decided, asked, refused}
 use Rattle.osm_gate.specs.ResponseTexts.{response_text}
 use Rattle.osm_gate.specs.Responses.{refused_response}
-use Rattle.osm_gate.specs.internal.Decisions.{asked_of}
+use Rattle.http_messages.specs.Decisions.{asked_of}
 use Rattle.osm_gate.proofs.RespondingLemmas.{responds-one}
 use Rattle.osm_gate.proofs.StepLemmas.{open-body, open-head}
 use Rattle.osm_gate.proofs.requests.respond_to_first.Goals as goal

@@ -1,0 +1,5 @@
+pub mod shared
+pub mod FieldLemmas
+pub mod HeadEndLemmas
+pub mod HeadLemmas
+pub mod TargetLemmas

@@ -1,0 +1,3 @@
+-- Lemmas for the crates above.
+pub mod BreakLemmas
+pub mod RequestLemmas

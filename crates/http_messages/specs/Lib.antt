@@ -1,0 +1,9 @@
+pub mod Decisions
+pub mod Fields
+pub mod Forms
+pub mod HeadEnds
+pub mod Heads
+pub mod QueryTexts
+pub mod Refusals
+pub mod Requests
+pub mod Targets

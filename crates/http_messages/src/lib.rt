@@ -1,0 +1,25 @@
+//! What the bytes of an HTTP connection begin with: a request, its head, its fields and the query that it carries.
+//!
+//! [`first_request`] says whether the bytes begin with a complete request, with a part of one, or with one that is
+//! refused as it stands. [`query_of`] finds the query that a request carries. Nothing here answers anything.
+#![tactic(auto)]
+
+mod decision;
+mod fields;
+mod head;
+mod head_ends;
+mod laws;
+mod limits;
+mod query_text;
+mod refusal;
+mod request;
+mod target;
+
+pub use decision::{Decision, first_request};
+pub use head_ends::{head_end, without_breaks};
+pub use laws::{head_is_the_grammars, limits_law};
+pub use limits::{BODY_LIMIT, DIGIT_LIMIT, FIELD_LIMIT, HEAD_LIMIT, LINE_LIMIT};
+pub use query_text::{QuerySource, QueryText, query_of};
+pub use refusal::Refusal;
+pub use request::Request;
+pub use target::{QUESTION_MARK, split_target};
