@@ -11,6 +11,7 @@ pub mod NextLemmas
 pub mod SpokenLines
 pub mod ReferenceLists
 pub mod ReadFiles
+pub mod ChangeFileLemmas
 pub mod StoppedFiles
 pub mod WriteSteps
 pub mod WriteLists

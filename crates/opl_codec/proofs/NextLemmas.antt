@@ -34,8 +34,8 @@ not_end r step found e f g = cc
 pub not_end_refused : (r : Result Step LoadFault) (load : LoadFault) → r ≡ Err load → r ≡ Ok steps.End → ⊥
 not_end_refused r load e f = cc
 
-pub skip_more : (old mid new : LinePlace) (come : SkippedTo old mid) → (mid.is_ended ≡ true → ⊥) → TakesLine mid new None → SkippedTo old new
-skip_more old mid new come goes_on step = go come.lines step.whole
+pub skip_more : (old mid new : LinePlace) (kept comment : List ℕ) (come : SkippedTo old mid) → (mid.is_ended ≡ true → ⊥) → TakesLine mid new kept comment None → SkippedTo old new
+skip_more old mid new kept comment come goes_on step = go come.lines step.whole
   where
     counted : AreEnded come.text come.skipped → new.lines ≡ old.lines + length (come.skipped ++ step.line ∷ [])
     counted ended = omega (arith, step.counted, come.counted ended, length-append come.skipped (step.line ∷ []))
@@ -59,8 +59,8 @@ skip_more old mid new come goes_on step = go come.lines step.whole
       counted = λ _. counted ended;
     }
 
-pub says_next : (old mid new : LinePlace) (change : Change) (come : SkippedTo old mid) → (mid.is_ended ≡ true → ⊥) → TakesLine mid new (Some change) → Says old new new.lines change
-says_next old mid new change come goes_on step = go come.lines
+pub says_next : (old mid new : LinePlace) (kept comment : List ℕ) (change : Change) (come : SkippedTo old mid) → (mid.is_ended ≡ true → ⊥) → TakesLine mid new kept comment (Some change) → Says old new new.lines change
+says_next old mid new kept comment change come goes_on step = go come.lines
   where
     go : AreEnded come.text come.skipped ⊎ ((pieces 10 come.text ≡ come.skipped) × IsEnd mid) → Says old new new.lines change
     go (inr over) = absurd (goes_on over.1.found)

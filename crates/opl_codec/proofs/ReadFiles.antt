@@ -255,10 +255,10 @@ put_refused (Some file) left b mid number change load objects r goes_on s (inr w
 
 -- ---- changes
 
-changes_skipped : (lines more : List (List ℕ)) (changes : List Change) → SpellsChanges lines changes → AllByRecursion IsSkipped more → SpellsChanges (lines ++ more) changes
+pub changes_skipped : (lines more : List (List ℕ)) (changes : List Change) → SpellsChanges lines changes → AllByRecursion IsSkipped more → SpellsChanges (lines ++ more) changes
 changes_skipped lines more changes put none = subst (λ ls. Each Spells ls changes) (sym (spoken-with_skipped lines more none)) put
 
-change_more : (changes : List Change) (change : Change) (lines : List (List ℕ)) (line : List ℕ) → SpellsChanges lines changes → Spells line change → SpellsChanges (lines ++ line ∷ []) (changes ++ change ∷ [])
+pub change_more : (changes : List Change) (change : Change) (lines : List (List ℕ)) (line : List ℕ) → SpellsChanges lines changes → Spells line change → SpellsChanges (lines ++ line ∷ []) (changes ++ change ∷ [])
 change_more changes change lines line put spells =
     let one : spoken_of (line ∷ []) ≡ line ∷ [] = spoken-unskipped line [] (unskipped line change spells) in
     let all : spoken_of (lines ++ line ∷ []) ≡ spoken_of lines ++ line ∷ [] = spoken-append lines (line ∷ []) ∙ ap (λ ls. spoken_of lines ++ ls) one in

@@ -1,11 +1,13 @@
 -- One line more of a reader, or why there is none.
 use Rattle.std.proofs.Common.{◌≡◌, ℕ, suc, add-one, ◌+◌, ◌-◌, ◌≤◌, List, [], ◌∷◌, ◌++◌, length, length-append, take, drop, arith, Option, Result, Ok, Err, IfOk, IfErr, ◌⊎◌, inl, inr, Bool, true, false, refl, sym, ◌∙◌, ap, subst, append_assoc, append-nil}
+use Rattle.std.specs.Global.{Vec}
 use Rattle.std.specs.Io.KnownBytes.{Consumes, IsAtEnd, Keeps, prepend_known}
 use Rattle.std.proofs.KnownBytes.{Consumes-trans}
 use Rattle.byte_io.specs.Pieces.{pieces}
 use Rattle.opl_codec.specs.LineReads.{IsRefused, IsTooLong, IsUnread, Takes, no_memory}
 use Rattle.opl_codec.specs.LineReaders.{place, unread}
-use Rattle.opl_codec.specs.internal.Buffering.{IsStep, SaysOrSkipped}
+use Rattle.std.specs.Prelude.{OnOk}
+use Rattle.opl_codec.specs.internal.Buffering.{IsStep, SaysOrSkipped, comment_after}
 use Rattle.opl_codec.specs.internal.Loading.{IsTold}
 use Rattle.opl_codec.specs.declared.change.Change.{Change}
 use Rattle.opl_codec.specs.declared.fault.LoadFault.{LoadFault}
@@ -35,6 +37,11 @@ pub record Comes (k0 k : Option (List ℕ)) (b0 b : LineBuffer) : Type 0 where
   pub fits : length (unread b) ≤ b.total
   pub taken : b.total + length (unread b0) ≡ b0.total + length b.pending.items + length (unread b)
   pub lines : b.lines ≡ b0.lines
+  pub comment : b.comment ≡ b0.comment
+
+-- the comment that is kept after a line, where nothing was kept since the first state
+next_comment : (b0 b : LineBuffer) (comment : List ℕ) (text line : List ℕ) → b.comment ≡ b0.comment → text ≡ line → comment ≡ comment_after b.comment.items text → comment ≡ comment_after b0.comment.items line
+next_comment b0 b comment text line kept same is = is ∙ ap (λ (v : Vec ℕ). comment_after v.items text) kept ∙ ap (comment_after b0.comment.items) same
 
 module _ (k0 k : Option (List ℕ)) (b0 b n : LineBuffer) (h : Comes k0 k b0 b) where
   -- the line that ends in the unread bytes
@@ -57,19 +64,21 @@ module _ (k0 k : Option (List ℕ)) (b0 b n : LineBuffer) (h : Comes k0 k b0 b) 
   pub step_ended : (line rest : List ℕ) (len : ℕ) (r : Result Step LoadFault)
       → unread b ≡ line ++ 10 ∷ rest → len ≡ length line → pieces 10 line ≡ line ∷ [] → unread n ≡ drop (len + 1) (unread b) → n.total ≡ b.total → n.lines ≡ b.lines + 1
       → IfOk r (λ step. (found : Option Change) × (step ≡ steps.Line found) × SaysOrSkipped (b.pending.items ++ take len (unread b)) found)
+      → OnOk r (n.comment.items ≡ comment_after b.comment.items (b.pending.items ++ take len (unread b)))
       → IfErr r (λ load. (load ≡ no_memory) ⊎ ((load.line ≡ b.lines + 1) × IsRefused (b.pending.items ++ take len (unread b)) load.fault))
-      → IsStep (place k0 b0) (place k n) r
-  step_ended line rest len (Ok step) cut long one is same counted said fault =
-      subst (λ (s : Step). IsStep (place k0 b0) (place k n) (Ok s)) (sym said.1) (record {
+      → IsStep (place k0 b0) (place k n) b0.comment.items n.comment.items r
+  step_ended line rest len (Ok step) cut long one is same counted said kept fault =
+      subst (λ (s : Step). IsStep (place k0 b0) (place k n) b0.comment.items n.comment.items (Ok s)) (sym said.1) (record {
         text = b.pending.items ++ (line ++ 10 ∷ []);
         line = b.pending.items ++ line;
         takes = ended_takes line rest len cut long is same;
         whole = inl (ended_line line one);
         says = subst (λ (l : List ℕ). SaysOrSkipped l said.0) (same_line line rest len cut long) said.2;
         counted = omega (arith, counted, h.lines);
+        comment_is = next_comment b0 b n.comment.items _ _ h.comment (same_line line rest len cut long) kept;
       })
-  step_ended line rest len (Err load) cut long one is same counted said (inl memory) = inl memory
-  step_ended line rest len (Err load) cut long one is same counted said (inr why) = inr (record {
+  step_ended line rest len (Err load) cut long one is same counted said kept (inl memory) = inl memory
+  step_ended line rest len (Err load) cut long one is same counted said kept (inr why) = inr (record {
     text = b.pending.items ++ (line ++ 10 ∷ []);
     line = b.pending.items ++ line;
     takes = ended_takes line rest len cut long is same;
@@ -86,30 +95,34 @@ module _ (k0 k : Option (List ℕ)) (b0 b n : LineBuffer) (h : Comes k0 k b0 b) 
 
   last_step : (step : Step) → unread b ≡ [] → IsAtEnd k → unread n ≡ unread b → n.total ≡ b.total → n.is_ended ≡ true
       → ((step ≡ steps.End) × (b.pending.items ≡ []) × (n.lines ≡ b.lines)) ⊎ ((found : Option Change) × (step ≡ steps.Line found) × SaysOrSkipped b.pending.items found × (n.lines ≡ b.lines + 1))
-      → IsStep (place k0 b0) (place k n) (Ok step)
-  last_step step none end is same stays (inl over) =
-      subst (λ (s : Step). IsStep (place k0 b0) (place k n) (Ok s)) (sym over.0) (
+      → n.comment.items ≡ comment_after b.comment.items b.pending.items
+      → IsStep (place k0 b0) (place k n) b0.comment.items n.comment.items (Ok step)
+  last_step step none end is same stays (inl over) kept =
+      subst (λ (s : Step). IsStep (place k0 b0) (place k n) b0.comment.items n.comment.items (Ok s)) (sym over.0) (
         subst (λ (t : List ℕ). Takes (place k0 b0) (place k n) t) over.1 (last_takes none is same),
         record { found = stays; none = buffer_ends k (unread n) (is ∙ none) end },
         over.2 ∙ h.lines,
+        next_comment b0 b n.comment.items _ _ h.comment over.1 kept,
       )
-  last_step step none end is same stays (inr said) =
-      subst (λ (s : Step). IsStep (place k0 b0) (place k n) (Ok s)) (sym said.1) (record {
+  last_step step none end is same stays (inr said) kept =
+      subst (λ (s : Step). IsStep (place k0 b0) (place k n) b0.comment.items n.comment.items (Ok s)) (sym said.1) (record {
         text = b.pending.items;
         line = b.pending.items;
         takes = last_takes none is same;
         whole = inr (h.line, record { found = stays; none = buffer_ends k (unread n) (is ∙ none) end });
         says = said.2;
         counted = omega (arith, said.3, h.lines);
+        comment_is = next_comment b0 b n.comment.items b.pending.items b.pending.items h.comment refl kept;
       })
 
   pub step_last : (r : Result Step LoadFault) → unread b ≡ [] → IsAtEnd k → unread n ≡ unread b → n.total ≡ b.total → n.is_ended ≡ true
       → IfOk r (λ step. ((step ≡ steps.End) × (b.pending.items ≡ []) × (n.lines ≡ b.lines)) ⊎ ((found : Option Change) × (step ≡ steps.Line found) × SaysOrSkipped b.pending.items found × (n.lines ≡ b.lines + 1)))
+      → OnOk r (n.comment.items ≡ comment_after b.comment.items b.pending.items)
       → IfErr r (λ load. (load ≡ no_memory) ⊎ ((load.line ≡ b.lines + 1) × IsRefused b.pending.items load.fault))
-      → IsStep (place k0 b0) (place k n) r
-  step_last (Ok step) none end is same stays said fault = last_step step none end is same stays said
-  step_last (Err load) none end is same stays said (inl memory) = inl memory
-  step_last (Err load) none end is same stays said (inr why) = inr (record {
+      → IsStep (place k0 b0) (place k n) b0.comment.items n.comment.items r
+  step_last (Ok step) none end is same stays said kept fault = last_step step none end is same stays said kept
+  step_last (Err load) none end is same stays said kept (inl memory) = inl memory
+  step_last (Err load) none end is same stays said kept (inr why) = inr (record {
     text = b.pending.items;
     line = b.pending.items;
     takes = last_takes none is same;
@@ -126,7 +139,7 @@ module _ (k0 k : Option (List ℕ)) (b0 b n : LineBuffer) (h : Comes k0 k b0 b) 
 
   pub step_long : (load : LoadFault) → pieces 10 (unread b) ≡ unread b ∷ [] → unread n ≡ [] → n.total ≡ b.total
       → (load ≡ no_memory) ⊎ ((load.line ≡ b.lines + 1) × IsTooLong (b.pending.items ++ unread b) load.fault)
-      → IsStep (place k0 b0) (place k n) (Err load)
+      → IsStep (place k0 b0) (place k n) b0.comment.items n.comment.items (Err load)
   step_long load one none same (inl memory) = inl memory
   step_long load one none same (inr why) = inr (record {
     text = b.pending.items ++ unread b;
@@ -139,7 +152,7 @@ module _ (k0 k : Option (List ℕ)) (b0 b n : LineBuffer) (h : Comes k0 k b0 b) 
 -- the reader gave no more
 pub step_unread : (k0 k m : Option (List ℕ)) (b0 b n : LineBuffer) (h : Comes k0 k b0 b) (load : LoadFault)
     → unread b ≡ [] → unread n ≡ [] → Keeps k m → n.total ≡ b.total → (load.line ≡ b.lines + 1) × IsUnread b.total load.fault
-    → IsStep (place k0 b0) (place m n) (Err load)
+    → IsStep (place k0 b0) (place m n) b0.comment.items n.comment.items (Err load)
 step_unread k0 k m b0 b n h load none still keeps same why = inr (record {
   text = b.pending.items;
   line = b.pending.items;

@@ -1,6 +1,8 @@
 -- What a file says: the set of the objects that its lines are, or the changes, in order.
 -- Source: Osmium's OPL manual: one object a line, or one change; lines end with LF.
-use Rattle.std.specs.Prelude.{◌≡◌, ◌⊎◌, ℕ, ◌+◌, not, List, [], ◌∷◌, ◌++◌, length, filter, Option, Some}
+use Rattle.std.specs.Global.{Vec}
+use Rattle.std.specs.List.{find}
+use Rattle.std.specs.Prelude.{◌≡◌, ◌⊎◌, ℕ, ◌+◌, not, if◌then◌else◌, List, [], ◌∷◌, ◌++◌, length, reverse, filter, Option, Some, None, option_and_then, option_map}
 use Rattle.std.specs.List.Sorted.{IsPermutation}
 use Rattle.std.specs.Io.KnownBytes.{Consumes}
 use Rattle.osm_model.specs.Bytes.{line_feed}
@@ -10,10 +12,12 @@ use Rattle.osm_model.specs.declared.reference.Ref.{Ref}
 use Rattle.byte_io.specs.Pieces.{pieces}
 use Rattle.opl_codec.specs.Fields.{Each}
 use Rattle.opl_codec.specs.LineChanges.{is_skipped, Spells, SpellsObject}
+use Rattle.opl_codec.specs.LineFields.{is_comment, is_some_text}
 use Rattle.opl_codec.specs.LineReads.{IsRefused, IsUnread}
 use Rattle.opl_codec.specs.declared.cause.OplCause.{OplCause}
 use Rattle.opl_codec.specs.declared.cause.OplCause.TheVariants as causes
 use Rattle.opl_codec.specs.declared.change.Change.{Change}
+use Rattle.opl_codec.specs.declared.change_file.ChangeFile.{ChangeFile}
 use Rattle.opl_codec.specs.declared.change.Change.TheVariants as changes
 use Rattle.opl_codec.specs.declared.fault.LoadFault.{LoadFault}
 use Rattle.opl_codec.specs.declared.fault.OplFault.{OplFault}
@@ -90,3 +94,22 @@ IsNoChange _ line fault = IsRefused line fault
 -- why no changes are read of a file
 abbrev pub StopsChanges : List ℕ → Option (List ℕ) → LoadFault → Type 0
 StopsChanges file left load = StopsAt SpellsChanges IsNoChange file left load
+
+-- ---- the comment that a file ends with
+
+-- the last of the lines that isn't empty
+abbrev pub last_line : List (List ℕ) → Option (List ℕ)
+last_line lines = find is_some_text (reverse lines)
+
+-- the line, where it is a comment
+abbrev pub if_comment : List ℕ → Option (List ℕ)
+if_comment line = if is_comment line then Some line else None
+
+-- the last line of the file that isn't empty, without its LF, where it is a comment
+abbrev pub end_comment : List ℕ → Option (List ℕ)
+end_comment file = option_and_then if_comment (last_line (pieces line_feed file))
+
+-- the file holds these changes, and ends with this comment
+pub record HoldsChangeFile (file : List ℕ) (found : ChangeFile) : Type 0 where
+  pub changes : HoldsChanges file found.changes.items
+  pub comment : end_comment file ≡ option_map (λ (comment : Vec ℕ). comment.items) found.end_comment

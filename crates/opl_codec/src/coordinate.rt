@@ -25,7 +25,8 @@ pub(crate) fn read_degrees_field(text: &[u8], axis: Axis) -> Result<Option<i32>,
 
 /// What the model's fault is in a field.
 fn value_fault_of(fault: ModelFault) -> ValueFault
-    ensures { (text : List ℕ) (axis : Axis) → text ≢ [] → IsFault text axis fault → CoordinateFault axis text result }
+    ensures { (text : List ℕ) (axis : Axis) → text ≢ [] → IsFault text axis fault
+        → CoordinateFault axis text result }
 {
     match fault {
         ModelFault::OutOfRange => ValueFault::Limit,

@@ -10,7 +10,8 @@ use memchr::memchr;
 pub(crate) fn first_piece(text: &str, byte: u8) -> (&str, Option<&str>)
     requires { byte < 128 }
     ensures { MatchOption result.1 (pieces byte text.now ≡ result.0.now ∷ [])
-        (λ more. (pieces byte text.now ≡ result.0.now ∷ pieces byte more.now) × (length result.0.now + 1 + length more.now ≡ length text.now)) }
+        (λ more. (pieces byte text.now ≡ result.0.now ∷ pieces byte more.now)
+        × (length result.0.now + 1 + length more.now ≡ length text.now)) }
 {
     match memchr(byte, text.as_bytes()) {
         Some(at) => (&text[..at], Some(&text[at + 1..])),

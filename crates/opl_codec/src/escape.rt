@@ -14,7 +14,8 @@ const MOST_DIGITS: usize = 8;
 pub(crate) fn read_escape(text: &[u8]) -> Option<(char, usize)>
     ensures { MatchOption result (¬ (BeginsEscape text.now)) (λ escape.
         (escape.1 < length text.now) × (slice_index text.now escape.1 ≡ percent)
-        × IsEscape (take escape.1 text.now) × (digits_value 16 (take escape.1 text.now) ≡ escape.0)) }
+        × IsEscape (take escape.1 text.now) × (digits_value 16 (take escape.1 text.now)
+        ≡ escape.0)) }
 {
     let (code, digits) = read_hexadecimal(text)?;
     if digits == 0 || code == 0 || text.get(digits) != Some(&b'%') {
@@ -28,7 +29,8 @@ pub(crate) fn read_escape(text: &[u8]) -> Option<(char, usize)>
 /// `None` where they are more than an escape may have.
 fn read_hexadecimal(text: &[u8]) -> Option<(u32, usize)>
     ensures { MatchOption result ((9 ≤ length text.now) × AllDigits 16 (take 9 text.now)) (λ found.
-        IsHexadecimalFront text.now found.1 × (found.1 ≤ 8) × (digits_value 16 (take found.1 text.now) ≡ found.0)) }
+        IsHexadecimalFront text.now found.1 × (found.1 ≤ 8)
+        × (digits_value 16 (take found.1 text.now) ≡ found.0)) }
 {
     let mut code = 0u32;
     for (place, byte) in text.iter().enumerate() {

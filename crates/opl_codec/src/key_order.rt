@@ -8,7 +8,8 @@ use osm_model::{Tag, keys_rise, sort_tags};
 
 /// The same tags, in an order of their own, or `None` where two have one key.
 pub(crate) fn with_distinct_keys(mut tags: Vec<Tag>) -> Option<Vec<Tag>>
-    ensures found { IfSome result (λ found. IsPermutation tags.items found.items × HasDistinctKeys found.items) }
+    ensures found { IfSome result (λ found. IsPermutation tags.items found.items
+        × HasDistinctKeys found.items) }
     ensures none { IfNone result (¬ (HasDistinctKeys tags.items)) }
 {
     // Most tags come in the order of their keys.

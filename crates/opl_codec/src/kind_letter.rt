@@ -8,7 +8,8 @@ use osm_model::Kind;
 
 /// The kind of object whose letter this is.
 pub(crate) fn kind_of(letter: u8) -> Option<Kind>
-    ensures { MatchOption result ((kind : Kind) → letter ≢ kind_letter kind) (λ kind. letter ≡ kind_letter kind) }
+    ensures { MatchOption result ((kind : Kind) → letter ≢ kind_letter kind)
+        (λ kind. letter ≡ kind_letter kind) }
 {
     match letter {
         b'n' => Some(Kind::Node),

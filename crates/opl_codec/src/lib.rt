@@ -6,6 +6,7 @@
 
 mod cause;
 mod change;
+mod change_file;
 mod coordinate;
 mod cut_text;
 mod escape;
@@ -43,11 +44,14 @@ mod write_text;
 
 pub use cause::OplCause;
 pub use change::Change;
+pub use change_file::ChangeFile;
 pub use fault::{LoadFault, OplFault};
 pub use laws::{limits_law, one_escaped_text, one_line, one_number_text, text_is_read};
 pub use line::{one_change, read_line};
 pub use line_reader::LineReader;
-pub use load::{one_change_list, one_set, read_changes, read_set, stopped_holds_none};
+pub use load::{
+    one_change_list, one_set, read_change_file, read_changes, read_set, stopped_holds_none,
+};
 pub use osm_model::OutMode;
 pub use write_line::write_object;
 pub use write_reference::append_reference;

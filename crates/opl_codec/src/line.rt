@@ -75,7 +75,9 @@ pub fn read_line(alloc: Global, line: &[u8]) -> Result<Option<Change>, OplFault>
     // What is read is what the line says.
     ensures read { IfOk result (λ found. MatchOption found (IsSkipped line.now) (Spells line.now)) }
     // What the line says is read, unless memory runs out.
-    ensures only { (change : Change) → Spells line.now change → MatchResult result (λ found. found ≡ Some change) (λ fault. fault.cause ≡ OplCause.Memory) }
+    ensures only { (change : Change) → Spells line.now change
+        → MatchResult result (λ found. found ≡ Some change)
+        (λ fault. fault.cause ≡ OplCause.Memory) }
     // A skipped line is read as none.
     ensures skipped { IsSkipped line.now → result ≡ Ok None }
     // A refusal's cause stands at its place.

@@ -17,7 +17,8 @@ pub(crate) struct NextField<'a> {
 
 /// The next field of this text; `None` where it has but blanks.
 pub(crate) fn next_field(text: &str) -> Option<NextField<'_>>
-    ensures { MatchOption result (AreBlanks text.now) (λ next. IsNextField text.now next.gap next.field.now next.rest.now) }
+    ensures { MatchOption result (AreBlanks text.now)
+        (λ next. IsNextField text.now next.gap next.field.now next.rest.now) }
 {
     let gap = blanks_len(text.as_bytes());
     if gap == text.len() {

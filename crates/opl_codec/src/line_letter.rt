@@ -36,7 +36,8 @@ pub(crate) enum LineLetter {
 impl LineLetter {
     /// The letter that this byte is.
     pub(crate) fn of(byte: u8) -> Option<LineLetter>
-        ensures { MatchOption result ((letter : LineLetter) → letter_byte letter ≢ byte) (λ letter. letter_byte letter ≡ byte) }
+        ensures { MatchOption result ((letter : LineLetter) → letter_byte letter ≢ byte)
+            (λ letter. letter_byte letter ≡ byte) }
     {
         match byte {
             b'v' => Some(LineLetter::Version),

@@ -83,7 +83,8 @@ fn tags_of(alloc: Global, tags: Option<TagList>) -> Vec<Tag>
 fn place_of(lon: Option<Option<i32>>, lat: Option<Option<i32>>) -> Option<Coord>
     requires lon_within { MatchOption lon ⊤ (λ lon. IsWithin axes.Lon lon) }
     requires lat_within { MatchOption lat ⊤ (λ lat. IsWithin axes.Lat lat) }
-    ensures { MatchOption result (LacksPlace lon lat) (λ place. (lon ≡ Some (Some place.lon)) × (lat ≡ Some (Some place.lat))) }
+    ensures { MatchOption result (LacksPlace lon lat) (λ place. (lon ≡ Some (Some place.lon))
+        × (lat ≡ Some (Some place.lat))) }
 {
     match (lon, lat) {
         (Some(Some(lon)), Some(Some(lat))) => Some(Coord::new(lon, lat)),
@@ -99,7 +100,8 @@ fn body_of(
     nodes: Option<NodeList>,
     members: Option<MemberList>,
 ) -> Option<Body>
-    ensures { MatchOption result ((kind ≡ kinds.Node) × (place ≡ None)) (λ body. IsBodyWith kind place nodes members body) }
+    ensures { MatchOption result ((kind ≡ kinds.Node) × (place ≡ None))
+        (λ body. IsBodyWith kind place nodes members body) }
 {
     match kind {
         Kind::Node => Some(Body::Node(place?)),

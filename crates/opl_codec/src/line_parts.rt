@@ -86,9 +86,12 @@ impl LineParts {
         byte: usize,
     ) -> Result<(), OplFault>
         requires { byte + 1 + length field.now < 2 ^ 64 }
-        ensures ok { (done : List (List ℕ)) → Says done self.old → OnOk result (IsTaken kind done field.now self.new) }
-        ensures refused { (line : List ℕ) (there : FieldAt (content line) field.now byte) → letter_of line ≡ kind_letter kind
-            → Says (drop 1 (fields there.front)) self.old → IfErr result (λ fault. StandsAt line fault.cause fault.byte) }
+        ensures ok { (done : List (List ℕ)) → Says done self.old
+            → OnOk result (IsTaken kind done field.now self.new) }
+        ensures refused { (line : List ℕ) (there : FieldAt (content line) field.now byte)
+            → letter_of line ≡ kind_letter kind
+            → Says (drop 1 (fields there.front)) self.old → IfErr result
+            (λ fault. StandsAt line fault.cause fault.byte) }
     {
         let Some(letter) = letter_of(field) else {
             return Err(OplFault {
@@ -164,7 +167,8 @@ impl LineParts {
 
 /// The letter of a field.
 fn letter_of(field: &str) -> Option<LineLetter>
-    ensures { MatchOption result ((letter : LineLetter) → letter_byte letter ≢ letter_of field.now) (λ letter. letter_byte letter ≡ letter_of field.now) }
+    ensures { MatchOption result ((letter : LineLetter) → letter_byte letter ≢ letter_of field.now)
+        (λ letter. letter_byte letter ≡ letter_of field.now) }
 {
     let [first, ..] = field.as_bytes() else {
         return None;

@@ -15,7 +15,7 @@ use std::marker::Model;
 ///
 /// It reads pieces of at most 65,536 bytes, in time linear in the bytes, and holds one line at a time: a
 /// line that lies whole in a piece is read where it lies, and one that crosses pieces is gathered in a
-/// buffer that is used again.
+/// buffer that is used again. The last comment is kept in a buffer too.
 #[derive(Drop)]
 pub struct LineReader<R: Read> {
     reader: R,
@@ -59,11 +59,13 @@ impl<R: Read> LineReader<R> {
     /// calls are refused with the same fault, and read nothing.
     pub fn next_change(&mut self) -> Result<Option<(u64, Change)>, LoadFault>
         // A fault is told again.
-        ensures again { IfSome self.old.fault (λ fault. (result ≡ Err fault) × (self.new ≡ self.old)) }
+        ensures again { IfSome self.old.fault (λ fault. (result ≡ Err fault)
+            × (self.new ≡ self.old)) }
         // What is told is what comes next,
         ensures next { IfNone self.old.fault (IsNext self.old.at self.new.at result) }
         // nothing more after the end,
-        ensures over { IfNone self.old.fault (self.old.at.is_ended ≡ true → (result ≡ Ok None) × (self.new ≡ self.old)) }
+        ensures over { IfNone self.old.fault (self.old.at.is_ended ≡ true → (result ≡ Ok None)
+            × (self.new ≡ self.old)) }
         // and a fault is kept.
         ensures kept { IfErr result (λ fault. self.new.fault ≡ Some fault) }
         ensures goes_on { OnOk result (self.new.fault ≡ None) }

@@ -38,8 +38,10 @@ pub(crate) trait ListItem: Sized + Drop {
 
 /// The items that commas separate; an empty text has none. At most [`LIST_LIMIT`].
 pub(crate) fn read_list<T: ListItem>(alloc: Global, text: &str) -> Result<Vec<T>, ValueFault>
-    ensures read { IfOk result (λ list. Each T.spells (items text.now) list.items × (length list.items ≤ LIST_LIMIT)) }
-    ensures refused { IfErr result (λ fault. ListFault (IsSpelled T.spells) T.bad (IsTooLong T.spells text.now) text.now fault) }
+    ensures read { IfOk result (λ list. Each T.spells (items text.now) list.items
+        × (length list.items ≤ LIST_LIMIT)) }
+    ensures refused { IfErr result
+        (λ fault. ListFault (IsSpelled T.spells) T.bad (IsTooLong T.spells text.now) text.now fault) }
 {
     let list = read_items(alloc, text)?;
     if list.len() > LIST_LIMIT {
@@ -52,7 +54,8 @@ pub(crate) fn read_list<T: ListItem>(alloc: Global, text: &str) -> Result<Vec<T>
 /// have.
 fn read_items<T: ListItem>(alloc: Global, text: &str) -> Result<Vec<T>, ValueFault>
     ensures read { IfOk result (λ list. AreFirst T.spells (items text.now) list.items) }
-    ensures refused { IfErr result (λ fault. ListFault (IsSpelled T.spells) T.bad ⊥ text.now fault) }
+    ensures refused { IfErr result
+        (λ fault. ListFault (IsSpelled T.spells) T.bad ⊥ text.now fault) }
 {
     if text.is_empty() {
         return Ok(Vec::new(alloc));
@@ -80,7 +83,8 @@ fn room(text: &str) -> usize
 /// Adds the item, unless there is already one more than a list may have. So many are refused anyway;
 /// further ones are read only because one of them may be bad.
 fn push_up_to_limit<T: ListItem>(item: T, list: &mut Vec<T>) -> Result<(), AllocError>
-    ensures { (parts : List (List ℕ)) (spelled : List ℕ) → T.spells spelled item → AreFirst T.spells parts list.old.items
+    ensures { (parts : List (List ℕ)) (spelled : List ℕ) → T.spells spelled item
+        → AreFirst T.spells parts list.old.items
         → OnOk result (AreFirst T.spells (parts ++ spelled ∷ []) list.new.items) }
 {
     if list.len() <= LIST_LIMIT {

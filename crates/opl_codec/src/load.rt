@@ -1,19 +1,20 @@
 //! Sets of objects and lists of changes, read from files.
 
-ghost use Rattle.std.specs.Prelude.{[], ◌∷◌, ◌++◌, ◌≡◌, ◌⊎◌, ◌≤◌, ◌^◌, ℕ, IfErr, IfSome, IfOk, List, MatchResult, OnOk, Option, length};
+ghost use Rattle.std.specs.Prelude.{[], ◌∷◌, ◌++◌, ◌≡◌, ◌⊎◌, ◌≤◌, ◌^◌, ℕ, IfErr, IfSome, IfOk, List, MatchOption, MatchResult, OnOk, Option, length};
 ghost use Rattle.osm_model.specs.Elements.{Element, reference, references};
-ghost use Rattle.opl_codec.specs.Files.{HoldsChanges, HoldsSet, IsReaderOrMemory, PutSet, SpellsChanges, StopsChanges, StopsFile};
+ghost use Rattle.opl_codec.specs.Files.{HoldsChangeFile, HoldsChanges, HoldsSet, IsReaderOrMemory, PutSet, StopsChanges, StopsFile};
 ghost use Rattle.opl_codec.specs.LineReads.{no_memory};
 ghost use Rattle.opl_codec.specs.declared.change.Change.{Change as ChangeWord};
 ghost use Rattle.opl_codec.specs.declared.fault.LoadFault.{LoadFault};
 ghost use Rattle.opl_codec.specs.LineReaders.{place};
-ghost use Rattle.opl_codec.specs.internal.Buffering.{GoesOn};
-ghost use Rattle.opl_codec.specs.internal.Loading.{IsUnput, Knows, Puts, ReadsAll, ReadsTo, start};
+ghost use Rattle.opl_codec.specs.internal.Buffering.{GoesOn, IsKept};
+ghost use Rattle.opl_codec.specs.internal.Loading.{IsUnput, Knows, Puts, ReadsAll, ReadsTo, SpellsFile, start};
 
 use crate::cause::OplCause;
 use crate::change::Change;
+use crate::change_file::ChangeFile;
 use crate::fault::LoadFault;
-use crate::line_buffer::LineBuffer;
+use crate::line_buffer::{LineBuffer, Step};
 use crate::references::References;
 use osm_model::{Object, ObjectSet};
 use std::alloc::{AllocError, Global};
@@ -24,9 +25,9 @@ use std::io::Read;
 /// ends where it gives no bytes.
 ///
 /// It reads pieces of at most 65,536 bytes. Where the objects come by rising reference, as in
-/// extracts, it takes time linear in the bytes, and keeps nothing but the objects and the beginning of
-/// one line, at most 2^25 bytes. From the first that doesn't rise on, it also keeps their references,
-/// and takes n log n.
+/// extracts, it takes time linear in the bytes, and keeps nothing but the objects, the beginning of one
+/// line and the last comment, at most 2^25 bytes each. From the first that doesn't rise on, it also keeps
+/// their references, and takes n log n.
 ///
 /// Refused by the first line with a fault, lines from 1: the line's own (see `read_line`), where
 /// `LineTooLong` is reported as soon as too many bytes of a line were read, whether it ends or not;
@@ -42,13 +43,15 @@ pub fn read_set<R: Read>(alloc: Global, reader: &mut R) -> Result<ObjectSet, Loa
     // Whatever the reader declares of its bytes, what is read is a set that a file holds.
     ensures held { IfOk result (λ set. (file : List ℕ) × HoldsSet file set) }
     // What the file holds is read, unless the reader failed, never ended, or memory ran out.
-    ensures only { IfSome (R.remaining reader.old) (λ file. (objects : List Element) → HoldsSet file objects
+    ensures only { IfSome (R.remaining reader.old) (λ file. (objects : List Element)
+        → HoldsSet file objects
         → MatchResult result (λ set. set ≡ objects) (λ fault. IsReaderOrMemory fault.fault.cause)) }
     // A file that is refused as endless has 2^32 bytes at least.
     ensures endless { IfSome (R.remaining reader.old) (λ file. IfErr result (λ fault.
         fault.fault.cause ≡ OplCause.Endless → 2 ^ 32 ≤ length file)) }
     // A refusal names the line that can't be read, and the byte in it.
-    ensures refused { IfSome (R.remaining reader.old) (λ file. IfErr result (λ load. (load ≡ no_memory) ⊎ StopsFile file (R.remaining reader.new) load)) }
+    ensures refused { IfSome (R.remaining reader.old) (λ file. IfErr result
+        (λ load. (load ≡ no_memory) ⊎ StopsFile file (R.remaining reader.new) load)) }
     // Out of memory is told of no line.
     ensures memory { IfErr result (λ load. load.fault.cause ≡ OplCause.Memory → load ≡ no_memory) }
 {
@@ -62,7 +65,8 @@ pub fn read_set<R: Read>(alloc: Global, reader: &mut R) -> Result<ObjectSet, Loa
 /// The objects that the lines of a reader put, in their order.
 fn read_objects<R: Read>(alloc: Global, reader: &mut R) -> Result<Vec<Object>, LoadFault>
     ensures read { IfOk result (λ objects. ReadsAll PutSet (R.remaining reader.old) objects.items) }
-    ensures refused { IfSome (R.remaining reader.old) (λ file. IfErr result (λ load. (load ≡ no_memory) ⊎ StopsFile file (R.remaining reader.new) load)) }
+    ensures refused { IfSome (R.remaining reader.old) (λ file. IfErr result
+        (λ load. (load ≡ no_memory) ⊎ StopsFile file (R.remaining reader.new) load)) }
     ensures memory { IfErr result (λ load. load.fault.cause ≡ OplCause.Memory → load ≡ no_memory) }
 {
     let mut buffer = LineBuffer::new(alloc);
@@ -83,7 +87,8 @@ fn put_all<R: Read>(
     requires come { ReadsTo PutSet (start (R.remaining reader.old)) (place (R.remaining reader.old) buffer.old) objects.old.items }
     requires known { Knows known.old (references objects.old.items) }
     ensures read { OnOk result (ReadsAll PutSet (R.remaining reader.old) objects.new.items) }
-    ensures refused { IfSome (R.remaining reader.old) (λ file. IfErr result (λ load. (load ≡ no_memory) ⊎ StopsFile file (R.remaining reader.new) load)) }
+    ensures refused { IfSome (R.remaining reader.old) (λ file. IfErr result
+        (λ load. (load ≡ no_memory) ⊎ StopsFile file (R.remaining reader.new) load)) }
     ensures memory { IfErr result (λ load. load.fault.cause ≡ OplCause.Memory → load ≡ no_memory) }
 {
     while let Some((line, change)) = buffer.next_change(reader)? {
@@ -102,7 +107,8 @@ fn put(
     requires { Knows known.old (references objects.old.items) }
     ensures put { OnOk result (Puts objects.old.items objects.new.items change) }
     ensures known { OnOk result (Knows known.new (references objects.new.items)) }
-    ensures refused { IfErr result (λ load. (load ≡ no_memory) ⊎ ((load.line ≡ line) × IsUnput objects.old.items change load.fault)) }
+    ensures refused { IfErr result (λ load. (load ≡ no_memory)
+        ⊎ ((load.line ≡ line) × IsUnput objects.old.items change load.fault)) }
 {
     match change {
         Change::Put(object) => put_object(objects, known, line, object),
@@ -120,7 +126,8 @@ fn put_object(
     requires { Knows known.old (references objects.old.items) }
     ensures put { OnOk result (objects.new.items ≡ objects.old.items ++ object ∷ []) }
     ensures known { OnOk result (Knows known.new (references objects.new.items)) }
-    ensures refused { IfErr result (λ load. (load ≡ no_memory) ⊎ ((load.line ≡ line) × IsUnput objects.old.items (Change.Put object) load.fault)) }
+    ensures refused { IfErr result (λ load. (load ≡ no_memory)
+        ⊎ ((load.line ≡ line) × IsUnput objects.old.items (Change.Put object) load.fault)) }
 {
     add_reference(known, objects, line, &object)?;
     append_object(objects, object)?;
@@ -135,8 +142,10 @@ fn add_reference(
     object: &Object,
 ) -> Result<(), LoadFault>
     requires { Knows known.old (references objects.now) }
-    ensures known { OnOk result (Knows known.new (references objects.now ++ reference object.now ∷ [])) }
-    ensures refused { IfErr result (λ load. (load ≡ no_memory) ⊎ ((load.line ≡ line) × IsUnput objects.now (Change.Put object.now) load.fault)) }
+    ensures known { OnOk result (Knows known.new (references objects.now
+        ++ reference object.now ∷ [])) }
+    ensures refused { IfErr result (λ load. (load ≡ no_memory)
+        ⊎ ((load.line ≡ line) × IsUnput objects.now (Change.Put object.now) load.fault)) }
 {
     if !known.add(objects, object.reference())? {
         return Err(LoadFault::at(line, OplCause::OutsideModel));
@@ -156,7 +165,7 @@ fn append_object(objects: &mut Vec<Object>, object: Object) -> Result<(), AllocE
 /// last may lack; skipped ones are passed over. The reader ends where it gives no bytes.
 ///
 /// It reads pieces of at most 65,536 bytes, in time linear in the bytes, and keeps nothing but the
-/// changes and the beginning of one line, at most 2^25 bytes.
+/// changes, the beginning of one line and the last comment, at most 2^25 bytes each.
 ///
 /// Refused as `read_set` refuses, by the first line with a fault; but a line may delete an object, and
 /// several may change the same one. `Memory`, at line 0 and byte 0, may come in place of any answer.
@@ -164,49 +173,92 @@ fn append_object(objects: &mut Vec<Object>, object: Object) -> Result<(), AllocE
 /// Source: Osmium's OPL manual; the limits, the causes and their places are this project's.
 pub fn read_changes<R: Read>(alloc: Global, reader: &mut R) -> Result<Vec<Change>, LoadFault>
     // What is read is what the file holds.
-    ensures read { IfSome (R.remaining reader.old) (λ file. IfOk result (λ changes. HoldsChanges file changes.items)) }
+    ensures read { IfSome (R.remaining reader.old) (λ file. IfOk result
+        (λ changes. HoldsChanges file changes.items)) }
     // Whatever the reader declares of its bytes, what is read are changes that a file holds.
     ensures held { IfOk result (λ changes. (file : List ℕ) × HoldsChanges file changes.items) }
     // What the file holds is read, unless the reader failed, never ended, or memory ran out.
-    ensures only { IfSome (R.remaining reader.old) (λ file. (changes : List ChangeWord) → HoldsChanges file changes
-        → MatchResult result (λ read. read.items ≡ changes) (λ fault. IsReaderOrMemory fault.fault.cause)) }
+    ensures only { IfSome (R.remaining reader.old) (λ file. (changes : List ChangeWord)
+        → HoldsChanges file changes
+        → MatchResult result (λ read. read.items ≡ changes)
+        (λ fault. IsReaderOrMemory fault.fault.cause)) }
     // A file that is refused as endless has 2^32 bytes at least.
     ensures endless { IfSome (R.remaining reader.old) (λ file. IfErr result (λ fault.
         fault.fault.cause ≡ OplCause.Endless → 2 ^ 32 ≤ length file)) }
     // A refusal names the line that can't be read, and the byte in it.
-    ensures refused { IfSome (R.remaining reader.old) (λ file. IfErr result (λ load. (load ≡ no_memory) ⊎ StopsChanges file (R.remaining reader.new) load)) }
+    ensures refused { IfSome (R.remaining reader.old) (λ file. IfErr result
+        (λ load. (load ≡ no_memory) ⊎ StopsChanges file (R.remaining reader.new) load)) }
     // Out of memory is told of no line.
     ensures memory { IfErr result (λ load. load.fault.cause ≡ OplCause.Memory → load ≡ no_memory) }
 {
-    let changes = list_changes(alloc, reader)?;
-    Ok(changes)
+    let file = read_change_file(alloc, reader)?;
+    Ok(file.changes)
 }
 
-/// What the lines of a reader say, in their order.
-fn list_changes<R: Read>(alloc: Global, reader: &mut R) -> Result<Vec<Change>, LoadFault>
-    ensures read { IfOk result (λ changes. ReadsAll SpellsChanges (R.remaining reader.old) changes.items) }
-    ensures refused { IfSome (R.remaining reader.old) (λ file. IfErr result (λ load. (load ≡ no_memory) ⊎ StopsChanges file (R.remaining reader.new) load)) }
+/// The changes that a file holds, as `read_changes` reads them, and the comment that it ends with: its last
+/// line that isn't empty, where that begins with `#`. Refused as `read_changes` refuses.
+///
+/// Source: Osmium's OPL manual, by which comments are skipped; that one at the end is told is this project's.
+pub fn read_change_file<R: Read>(alloc: Global, reader: &mut R) -> Result<ChangeFile, LoadFault>
+    // What is read is what the file holds, and the comment at its end.
+    ensures read { IfSome (R.remaining reader.old) (λ file.
+        IfOk result (HoldsChangeFile file)) }
+    // Whatever the reader declares of its bytes, what is read is what a file holds.
+    ensures held { IfOk result (λ found. (file : List ℕ) × HoldsChangeFile file found) }
+    // What the file holds is read, unless the reader failed, never ended, or memory ran out.
+    ensures only { IfSome (R.remaining reader.old) (λ file. (changes : List ChangeWord)
+        → HoldsChanges file changes
+        → MatchResult result (λ found. found.changes.items ≡ changes)
+        (λ fault. IsReaderOrMemory fault.fault.cause)) }
+    // A file that is refused as endless has 2^32 bytes at least.
+    ensures endless { IfSome (R.remaining reader.old) (λ file. IfErr result (λ fault.
+        fault.fault.cause ≡ OplCause.Endless → 2 ^ 32 ≤ length file)) }
+    // A refusal names the line that can't be read, and the byte in it.
+    ensures refused { IfSome (R.remaining reader.old) (λ file. IfErr result (λ load.
+        (load ≡ no_memory) ⊎ StopsChanges file (R.remaining reader.new) load)) }
+    // Out of memory is told of no line.
+    ensures memory { IfErr result (λ load. load.fault.cause ≡ OplCause.Memory → load ≡ no_memory) }
+{
+    let file = take_file(alloc, reader)?;
+    Ok(file)
+}
+
+/// What the lines of a reader say, in their order, and the comment at their end.
+fn take_file<R: Read>(alloc: Global, reader: &mut R) -> Result<ChangeFile, LoadFault>
+    ensures read { IfOk result (λ found. (comment : List ℕ)
+        × ReadsAll SpellsFile (R.remaining reader.old) (found.changes.items, comment)
+        × IsKept comment found.end_comment) }
+    ensures refused { IfSome (R.remaining reader.old) (λ file. IfErr result (λ load.
+        (load ≡ no_memory) ⊎ StopsChanges file (R.remaining reader.new) load)) }
     ensures memory { IfErr result (λ load. load.fault.cause ≡ OplCause.Memory → load ≡ no_memory) }
 {
     let mut buffer = LineBuffer::new(alloc);
     let mut changes = Vec::new(alloc);
-    while let Some((_, change)) = buffer.next_change(reader)? {
-        append(&mut changes, change)?;
+    while let Step::Line(found) = buffer.take_line(reader)? {
+        append(&mut changes, found)?;
     }
-    Ok(changes)
+    let end_comment = buffer.into_comment();
+    Ok(ChangeFile {
+        changes,
+        end_comment,
+    })
 }
 
-/// Puts a change after these.
-fn append(changes: &mut Vec<Change>, change: Change) -> Result<(), AllocError>
-    ensures { OnOk result (changes.new.items ≡ changes.old.items ++ change ∷ []) }
+/// Puts the change that a line says, if it says one, after these.
+fn append(changes: &mut Vec<Change>, found: Option<Change>) -> Result<(), AllocError>
+    ensures { OnOk result (MatchOption found (changes.new.items ≡ changes.old.items)
+        (λ change. changes.new.items ≡ changes.old.items ++ change ∷ [])) }
 {
-    changes.push(change)?;
+    if let Some(change) = found {
+        changes.push(change)?;
+    }
     Ok(())
 }
 
 /// A law: a file holds one list of changes at most (`HoldsChanges` of `specs/Files.antt`).
 pub fn one_change_list()
-    ensures { (file : List ℕ) (a b : List ChangeWord) → HoldsChanges file a → HoldsChanges file b → a ≡ b }
+    ensures { (file : List ℕ) (a b : List ChangeWord) → HoldsChanges file a → HoldsChanges file b
+        → a ≡ b }
 {}
 
 /// A law: a file holds one set at most (`HoldsSet` of `specs/Files.antt`).
@@ -217,5 +269,7 @@ pub fn one_set()
 /// A law: a file that has a line at which it stops (`StopsFile` of `specs/Files.antt`) holds no set,
 /// unless it is its reader that failed or never ended.
 pub fn stopped_holds_none()
-    ensures { (file : List ℕ) (left : Option (List ℕ)) (load : LoadFault) (objects : List Element) → StopsFile file left load → (¬ (IsReaderOrMemory load.fault.cause)) → HoldsSet file objects → ⊥ }
+    ensures { (file : List ℕ) (left : Option (List ℕ)) (load : LoadFault) (objects : List Element)
+        → StopsFile file left load → (¬ (IsReaderOrMemory load.fault.cause)) → HoldsSet file objects
+        → ⊥ }
 {}

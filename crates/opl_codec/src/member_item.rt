@@ -22,7 +22,8 @@ use std::alloc::Global;
 /// Refused with `Limit` where they are more than [`osm_model::LIST_LIMIT`] or a role has more than
 /// [`TEXT_LIMIT`] bytes.
 pub(crate) fn read_members(alloc: Global, text: &str) -> Result<Vec<Member>, ValueFault>
-    ensures read { IfOk result (λ members. SpellsMembers text.now members.items × MembersFit members.items) }
+    ensures read { IfOk result (λ members. SpellsMembers text.now members.items
+        × MembersFit members.items) }
     ensures refused { IfErr result (λ fault. MembersFault text.now fault) }
 {
     let members: Vec<Member> = read_list(alloc, text)?;
@@ -60,7 +61,8 @@ impl ListItem for Member {
 
 /// What a member refers to, and its role as it is spelled.
 fn cut_member(spelled: &str) -> Result<(Ref, &str), ValueFault>
-    ensures parts { IfOk result (λ parts. (target : List ℕ) × (spelled.now ≡ target ++ at_sign ∷ parts.1.now) × SpellsReference target parts.0) }
+    ensures parts { IfOk result (λ parts. (target : List ℕ)
+        × (spelled.now ≡ target ++ at_sign ∷ parts.1.now) × SpellsReference target parts.0) }
     ensures role { IfOk result (λ parts. IsText parts.1.now) }
     ensures refused { IfErr result (λ fault. MemberFault spelled.now fault) }
 {
@@ -75,8 +77,10 @@ fn cut_member(spelled: &str) -> Result<(Ref, &str), ValueFault>
 
 /// What a member refers to, and the text after its `@`.
 fn cut_target(spelled: &str) -> Option<(Ref, &str)>
-    ensures { MatchOption result ((role : List ℕ) (place : ℕ) → HasTarget spelled.now role place → ⊥)
-        (λ parts. (target : List ℕ) × (spelled.now ≡ target ++ at_sign ∷ parts.1.now) × SpellsReference target parts.0) }
+    ensures { MatchOption result ((role : List ℕ) (place : ℕ) → HasTarget spelled.now role place
+        → ⊥)
+        (λ parts. (target : List ℕ) × (spelled.now ≡ target ++ at_sign ∷ parts.1.now)
+        × SpellsReference target parts.0) }
 {
     let Some((text, _)) = split_once(spelled.as_bytes(), b'@') else {
         return None;
@@ -89,7 +93,8 @@ fn cut_target(spelled: &str) -> Option<(Ref, &str)>
 
 /// The reference that is spelled so: the letter of a kind and an id.
 fn read_reference(text: &[u8]) -> Option<Ref>
-    ensures { MatchOption result ((target : Ref) → SpellsReference text.now target → ⊥) (λ target. SpellsReference text.now target) }
+    ensures { MatchOption result ((target : Ref) → SpellsReference text.now target → ⊥)
+        (λ target. SpellsReference text.now target) }
 {
     let [letter, digits @ ..] = text else {
         return None;

@@ -11,7 +11,8 @@ use osm_model::Stamp;
 /// The moment `YYYY-MM-DDThh:mm:ssZ` in the ranges of [`Stamp`], or `Some(None)` where there is no
 /// text.
 pub(crate) fn read_stamp(text: &[u8]) -> Option<Option<Stamp>>
-    ensures { MatchOption result ((s : Option Moment) → SpellsStamp text.now s → ⊥) (λ s. SpellsStamp text.now s) }
+    ensures { MatchOption result ((s : Option Moment) → SpellsStamp text.now s → ⊥)
+        (λ s. SpellsStamp text.now s) }
 {
     if text.is_empty() {
         return Some(None);
@@ -21,7 +22,8 @@ pub(crate) fn read_stamp(text: &[u8]) -> Option<Option<Stamp>>
 
 /// The moment that is spelled so.
 fn read_moment(text: &[u8]) -> Option<Stamp>
-    ensures { MatchOption result ((m : Moment) → SpellsStamp text.now (Some m) → ⊥) (λ m. SpellsStamp text.now (Some m)) }
+    ensures { MatchOption result ((m : Moment) → SpellsStamp text.now (Some m) → ⊥)
+        (λ m. SpellsStamp text.now (Some m)) }
 {
     let (century, after_century) = read_two(text)?;
     let (year, after_year) = read_two(after_century)?;
@@ -46,7 +48,8 @@ fn is_zone(text: &[u8]) -> bool
 
 /// The number of the two digits after the separator with which a text begins, and the text after them.
 fn read_part(separator: u8, text: &[u8]) -> Option<(u8, &[u8])>
-    ensures { MatchOption result ((n : ℕ) (rest : List ℕ) → BeginsWithPart separator text.now n rest → ⊥) (λ part. BeginsWithPart separator text.now part.0 part.1.now) }
+    ensures { MatchOption result ((n : ℕ) (rest : List ℕ) → BeginsWithPart separator text.now n rest
+        → ⊥) (λ part. BeginsWithPart separator text.now part.0 part.1.now) }
 {
     let [first, digits @ ..] = text else {
         return None;
@@ -59,7 +62,8 @@ fn read_part(separator: u8, text: &[u8]) -> Option<(u8, &[u8])>
 
 /// The number of the two digits with which a text begins, and the text after them.
 fn read_two(text: &[u8]) -> Option<(u8, &[u8])>
-    ensures { MatchOption result ((n : ℕ) (rest : List ℕ) → BeginsWithTwo text.now n rest → ⊥) (λ two. BeginsWithTwo text.now two.0 two.1.now) }
+    ensures { MatchOption result ((n : ℕ) (rest : List ℕ) → BeginsWithTwo text.now n rest → ⊥)
+        (λ two. BeginsWithTwo text.now two.0 two.1.now) }
 {
     let [tens, ones, rest @ ..] = text else {
         return None;

@@ -16,7 +16,8 @@ use std::alloc::Global;
 ///
 /// Refused with `Limit` where they are more than [`osm_model::LIST_LIMIT`].
 pub(crate) fn read_nodes(alloc: Global, text: &str) -> Result<Vec<i64>, ValueFault>
-    ensures read { IfOk result (λ ids. SpellsNodes text.now ids.items × (length ids.items ≤ LIST_LIMIT)) }
+    ensures read { IfOk result (λ ids. SpellsNodes text.now ids.items
+        × (length ids.items ≤ LIST_LIMIT)) }
     ensures refused { IfErr result (λ fault. NodesFault text.now fault) }
 {
     read_list(alloc, text)

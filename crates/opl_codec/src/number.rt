@@ -8,7 +8,8 @@ ghost use Rattle.opl_codec.specs.Values.{SpellsNumber, SpellsVersion, SpellsVisi
 /// The value of a whole number of 64 bits: an optional `-` and one or more digits. Leading zeros are
 /// allowed, any number of them.
 pub(crate) fn read_number(text: &[u8]) -> Option<i64>
-    ensures { MatchOption result ((z : ℤ) → SpellsNumber text.now z → ⊥) (λ z. SpellsNumber text.now z) }
+    ensures { MatchOption result ((z : ℤ) → SpellsNumber text.now z → ⊥)
+        (λ z. SpellsNumber text.now z) }
 {
     match text {
         [b'-', digits @ ..] => 0i64.checked_sub_unsigned(read_digits(digits)?),
@@ -18,14 +19,16 @@ pub(crate) fn read_number(text: &[u8]) -> Option<i64>
 
 /// The value of a version: one or more digits, in 32 bits. Leading zeros are allowed.
 pub(crate) fn read_version(text: &[u8]) -> Option<u32>
-    ensures { MatchOption result ((n : ℕ) → SpellsVersion text.now n → ⊥) (λ n. SpellsVersion text.now n) }
+    ensures { MatchOption result ((n : ℕ) → SpellsVersion text.now n → ⊥)
+        (λ n. SpellsVersion text.now n) }
 {
     u32::try_from(read_digits(text)?).ok()
 }
 
 /// Whether an object is visible: `V` where it is, `D` where it is deleted.
 pub(crate) fn read_visible(text: &[u8]) -> Option<bool>
-    ensures { MatchOption result ((b : Bool) → SpellsVisible text.now b → ⊥) (λ b. SpellsVisible text.now b) }
+    ensures { MatchOption result ((b : Bool) → SpellsVisible text.now b → ⊥)
+        (λ b. SpellsVisible text.now b) }
 {
     match text {
         [b'V'] => Some(true),
@@ -36,7 +39,8 @@ pub(crate) fn read_visible(text: &[u8]) -> Option<bool>
 
 /// The number that these digits make, or the greatest one where it is greater.
 fn read_digits(digits: &[u8]) -> Option<u64>
-    ensures { MatchOption result (¬ (IsDigits digits.now)) (λ n. IsDigits digits.now × (n ≡ min (digits_value 10 digits.now) (2 ^ 64 - 1))) }
+    ensures { MatchOption result (¬ (IsDigits digits.now)) (λ n. IsDigits digits.now
+        × (n ≡ min (digits_value 10 digits.now) (2 ^ 64 - 1))) }
 {
     if digits.is_empty() {
         return None;

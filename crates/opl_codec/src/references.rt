@@ -30,7 +30,8 @@ impl References {
     /// Adds the reference of the object that comes after these, and says whether it is a new one.
     pub(crate) fn add(&mut self, objects: &[Object], name: Ref) -> Result<bool, AllocError>
         requires { Knows self.old (references objects.now) }
-        ensures { IfOk result (λ is_new. MatchBool is_new (Knows self.new (references objects.now ++ name ∷ [])) (¬ (AreApart (references objects.now ++ name ∷ [])))) }
+        ensures { IfOk result (λ is_new. MatchBool is_new (Knows self.new (references objects.now
+            ++ name ∷ [])) (¬ (AreApart (references objects.now ++ name ∷ [])))) }
     {
         if let Some(kept) = &mut self.kept {
             return insert(kept, name);
@@ -47,7 +48,8 @@ impl References {
 
 /// Whether the reference is above that of the last object.
 fn is_above(objects: &[Object], name: Ref) -> bool
-    ensures { IsTrue result → IsStrictlySortedBy ref_cmp (references objects.now) → IsStrictlySortedBy ref_cmp (references objects.now ++ name ∷ []) }
+    ensures { IsTrue result → IsStrictlySortedBy ref_cmp (references objects.now)
+        → IsStrictlySortedBy ref_cmp (references objects.now ++ name ∷ []) }
 {
     match objects.last() {
         None => true,

@@ -23,7 +23,8 @@ use std::alloc::Global;
 /// Refused with `Limit` where they are more than [`osm_model::LIST_LIMIT`], a key or a value has more
 /// than [`TEXT_LIMIT`] bytes, or two have one key.
 pub(crate) fn read_tags(alloc: Global, text: &str) -> Result<TagList, ValueFault>
-    ensures read { IfOk result (λ tags. (written : List Tag) × SpellsTags text.now written × IsPermutation written tags × TagsFit tags) }
+    ensures read { IfOk result (λ tags. (written : List Tag) × SpellsTags text.now written
+        × IsPermutation written tags × TagsFit tags) }
     ensures refused { IfErr result (λ fault. TagsFault text.now fault) }
 {
     let tags: Vec<Tag> = read_list(alloc, text)?;

@@ -11,7 +11,8 @@ use crate::value_fault::ValueFault;
 /// How far a text goes: just so many bytes at the beginning are a text, and no text goes on after
 /// them. An error is the place of a `%` that begins no escape; what stands before it is a text.
 pub(crate) fn text_len(bytes: &[u8]) -> Result<usize, usize>
-    ensures { MatchResult result (λ len. IsTextFront bytes.now len) (λ at. BadEscapeIn bytes.now at) }
+    ensures { MatchResult result (λ len. IsTextFront bytes.now len)
+        (λ at. BadEscapeIn bytes.now at) }
 {
     let mut len = 0;
     while len < bytes.len() {

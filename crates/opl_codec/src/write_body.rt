@@ -14,7 +14,8 @@ use std::alloc::AllocError;
 /// Appends a space and the fields of a body, a space between two.
 #[tactic(auto, using(crate::proofs::WriteSteps::one_field))]
 pub(crate) fn append_body(body: &Body, out: &mut Vec<u8>) -> Result<(), AllocError>
-    ensures ok { OnOk result (out.new.items ≡ out.old.items ++ flat_map (λ f. space ∷ f) (body_fields body.now)) }
+    ensures ok { OnOk result (out.new.items ≡ out.old.items
+        ++ flat_map (λ f. space ∷ f) (body_fields body.now)) }
     ensures err { OnErr result (take (length out.old.items) out.new.items ≡ out.old.items) }
 {
     match body {
@@ -25,7 +26,9 @@ pub(crate) fn append_body(body: &Body, out: &mut Vec<u8>) -> Result<(), AllocErr
 }
 
 fn append_place(place: Coord, out: &mut Vec<u8>) -> Result<(), AllocError>
-    ensures ok { OnOk result (out.new.items ≡ out.old.items ++ (space ∷ longitude_letter ∷ degrees place.lon) ++ (space ∷ latitude_letter ∷ degrees place.lat)) }
+    ensures ok { OnOk result (out.new.items ≡ out.old.items
+        ++ (space ∷ longitude_letter ∷ degrees place.lon)
+        ++ (space ∷ latitude_letter ∷ degrees place.lat)) }
     ensures err { OnErr result (take (length out.old.items) out.new.items ≡ out.old.items) }
 {
     append_labelled_degrees(b" x", place.lon(), out)?;
@@ -55,7 +58,8 @@ fn append_nodes(nodes: &[i64], out: &mut Vec<u8>) -> Result<(), AllocError>
 
 /// Appends each of these nodes after a comma.
 fn append_other_nodes(nodes: &[i64], out: &mut Vec<u8>) -> Result<(), AllocError>
-    ensures ok { OnOk result (out.new.items ≡ out.old.items ++ flat_map (λ x. comma ∷ node_text x) nodes.now) }
+    ensures ok { OnOk result (out.new.items ≡ out.old.items
+        ++ flat_map (λ x. comma ∷ node_text x) nodes.now) }
     ensures err { OnErr result (take (length out.old.items) out.new.items ≡ out.old.items) }
 {
     for node in nodes {
@@ -100,7 +104,8 @@ fn append_members(members: &[Member], out: &mut Vec<u8>) -> Result<(), AllocErro
 
 /// Appends each of these members after a comma.
 fn append_other_members(members: &[Member], out: &mut Vec<u8>) -> Result<(), AllocError>
-    ensures ok { OnOk result (out.new.items ≡ out.old.items ++ flat_map (λ x. comma ∷ member_text x) members.now) }
+    ensures ok { OnOk result (out.new.items ≡ out.old.items
+        ++ flat_map (λ x. comma ∷ member_text x) members.now) }
     ensures err { OnErr result (take (length out.old.items) out.new.items ≡ out.old.items) }
 {
     for member in members {

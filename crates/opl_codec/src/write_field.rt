@@ -21,7 +21,8 @@ pub(crate) fn append_name(object: &Object, out: &mut Vec<u8>) -> Result<(), Allo
 
 /// Appends a space and the fields of the metadata, a space between two.
 pub(crate) fn append_meta(meta: &Meta, out: &mut Vec<u8>) -> Result<(), AllocError>
-    ensures ok { OnOk result (out.new.items ≡ out.old.items ++ flat_map (λ f. 32 ∷ f) (meta_fields meta.now)) }
+    ensures ok { OnOk result (out.new.items ≡ out.old.items
+        ++ flat_map (λ f. 32 ∷ f) (meta_fields meta.now)) }
     ensures err { OnErr result (take (length out.old.items) out.new.items ≡ out.old.items) }
 {
     append_change(meta, out)?;
@@ -30,7 +31,10 @@ pub(crate) fn append_meta(meta: &Meta, out: &mut Vec<u8>) -> Result<(), AllocErr
 
 /// The version, that it is visible, the changeset and the moment.
 fn append_change(meta: &Meta, out: &mut Vec<u8>) -> Result<(), AllocError>
-    ensures ok { OnOk result (out.new.items ≡ out.old.items ++ ((32 ∷ 118 ∷ decimal meta.now.version) ++ ((32 ∷ 100 ∷ 86 ∷ []) ++ ((32 ∷ 99 ∷ signed_decimal meta.now.changeset) ++ (32 ∷ 116 ∷ moment meta.now.stamp))))) }
+    ensures ok { OnOk result (out.new.items ≡ out.old.items
+        ++ ((32 ∷ 118 ∷ decimal meta.now.version) ++ ((32 ∷ 100 ∷ 86 ∷ [])
+        ++ ((32 ∷ 99 ∷ signed_decimal meta.now.changeset)
+        ++ (32 ∷ 116 ∷ moment meta.now.stamp))))) }
     ensures err { OnErr result (take (length out.old.items) out.new.items ≡ out.old.items) }
 {
     append_labelled_number(b" v", i64::from(meta.version), out)?;
@@ -40,7 +44,8 @@ fn append_change(meta: &Meta, out: &mut Vec<u8>) -> Result<(), AllocError>
 
 /// Who made the change.
 fn append_author(meta: &Meta, out: &mut Vec<u8>) -> Result<(), AllocError>
-    ensures ok { OnOk result (out.new.items ≡ out.old.items ++ ((32 ∷ 105 ∷ signed_decimal meta.now.uid) ++ (32 ∷ 117 ∷ escaped meta.now.user))) }
+    ensures ok { OnOk result (out.new.items ≡ out.old.items
+        ++ ((32 ∷ 105 ∷ signed_decimal meta.now.uid) ++ (32 ∷ 117 ∷ escaped meta.now.user))) }
     ensures err { OnErr result (take (length out.old.items) out.new.items ≡ out.old.items) }
 {
     append_labelled_number(b" i", meta.uid, out)?;
@@ -50,7 +55,8 @@ fn append_author(meta: &Meta, out: &mut Vec<u8>) -> Result<(), AllocError>
 
 /// Appends a number after these letters.
 fn append_labelled_number(label: &[u8], number: i64, out: &mut Vec<u8>) -> Result<(), AllocError>
-    ensures ok { OnOk result (out.new.items ≡ out.old.items ++ (label.now ++ signed_decimal number)) }
+    ensures ok { OnOk result (out.new.items ≡ out.old.items
+        ++ (label.now ++ signed_decimal number)) }
     ensures err { OnErr result (take (length out.old.items) out.new.items ≡ out.old.items) }
 {
     out.extend_from_slice(label)?;
@@ -72,7 +78,8 @@ pub(crate) fn append_tags(tags: &[Tag], out: &mut Vec<u8>) -> Result<(), AllocEr
 
 /// Appends each of these tags after a comma.
 fn append_other_tags(tags: &[Tag], out: &mut Vec<u8>) -> Result<(), AllocError>
-    ensures ok { OnOk result (out.new.items ≡ out.old.items ++ flat_map (λ x. comma ∷ tag_text x) tags.now) }
+    ensures ok { OnOk result (out.new.items ≡ out.old.items
+        ++ flat_map (λ x. comma ∷ tag_text x) tags.now) }
     ensures err { OnErr result (take (length out.old.items) out.new.items ≡ out.old.items) }
 {
     for tag in tags {

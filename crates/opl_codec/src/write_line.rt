@@ -44,7 +44,8 @@ fn append_line(object: &Object, mode: OutMode, out: &mut Vec<u8>) -> Result<(), 
 }
 
 fn append_fields(object: &Object, mode: OutMode, out: &mut Vec<u8>) -> Result<(), AllocError>
-    ensures ok { OnOk result (out.new.items ≡ out.old.items ++ join_with_byte 32 (fields_of object.now mode)) }
+    ensures ok { OnOk result (out.new.items ≡ out.old.items
+        ++ join_with_byte 32 (fields_of object.now mode)) }
     ensures err { OnErr result (take (length out.old.items) out.new.items ≡ out.old.items) }
 {
     append_name(object, out)?;
@@ -62,7 +63,8 @@ fn append_fields(object: &Object, mode: OutMode, out: &mut Vec<u8>) -> Result<()
 
 /// Appends a space, the tags, and the fields of the body, a space before each.
 fn append_said(object: &Object, out: &mut Vec<u8>) -> Result<(), AllocError>
-    ensures ok { OnOk result (out.new.items ≡ out.old.items ++ flat_map (λ f. 32 ∷ f) (tags_field object.now.tags ∷ body_fields object.now.body)) }
+    ensures ok { OnOk result (out.new.items ≡ out.old.items
+        ++ flat_map (λ f. 32 ∷ f) (tags_field object.now.tags ∷ body_fields object.now.body)) }
     ensures err { OnErr result (take (length out.old.items) out.new.items ≡ out.old.items) }
 {
     append_tags(object.tags(), out)?;

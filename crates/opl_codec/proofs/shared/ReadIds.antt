@@ -1,8 +1,7 @@
 -- Whole numbers of 64 bits.
-use Rattle.std.proofs.Common.{◌≡◌, ℕ, zero, suc, ◌+◌, ◌-◌, ◌*◌, ◌<◌, ◌≤◌, min, List, [], ◌∷◌, ◌++◌, length, get_or, drop, Bool, None, ℤ, sym, ◌∙◌, ap, arith, append-nil, add-one, drop-cons}
-use Rattle.std.specs.Char.{digit_value, IsNotAsciiDigit}
+use Rattle.std.proofs.Common.{◌≡◌, ℕ, zero, suc, ◌+◌, ◌*◌, ◌<◌, ◌≤◌, min, List, [], ◌∷◌, ◌++◌, length, get_or, drop, Bool, None, ℤ, sym, ◌∙◌, ap, arith, append-nil, add-one, drop-cons}
+use Rattle.std.specs.Char.{digit_value}
 use Rattle.std.specs.Str.Parse.{AllDigits, digits_value, digits_value_after}
-use Rattle.std.proofs.lemmas.Bool.Decides.{nat_tests}
 use Rattle.osm_model.specs.Degrees.{sign, with_sign, Spells, Decimal}
 use Rattle.osm_model.proofs.shared.OneDecimal.{one_decimal}
 use Rattle.osm_model.proofs.shared.Digits.{capped_more}

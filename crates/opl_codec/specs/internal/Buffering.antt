@@ -1,11 +1,13 @@
 -- A reader's bytes that were read and not yet told.
 -- Source: this project.
-use Rattle.std.specs.Prelude.{◌≡◌, ℕ, ◌+◌, ◌*◌, ◌≤◌, ◌⊎◌, true, false, List, [], Option, Some, None, Result, ⊤, Ok, Err, MatchOption, length}
+use Rattle.std.specs.Global.{Vec}
+use Rattle.std.specs.Prelude.{◌≡◌, ◌≢◌, ℕ, ◌+◌, ◌*◌, ◌≤◌, ◌⊎◌, true, false, if◌then◌else◌, List, [], ◌∷◌, Option, Some, None, Result, ⊤, Ok, Err, MatchOption, length}
 use Rattle.std.specs.List.{AllByRecursion}
 use Rattle.std.specs.Io.KnownBytes.{IsAtEnd}
 use Rattle.osm_model.specs.Bytes.{line_feed}
 use Rattle.byte_io.specs.Pieces.{pieces}
 use Rattle.opl_codec.specs.LineChanges.{IsSkipped, Spells}
+use Rattle.opl_codec.specs.LineFields.{is_comment}
 use Rattle.opl_codec.specs.LineReaders.{unread}
 use Rattle.opl_codec.specs.LineReads.{AreEnded, IsEnd, IsRefused, IsWholeLine, LinePlace, StopsLine, Takes, no_memory}
 use Rattle.opl_codec.specs.declared.change.Change.{Change}
@@ -34,14 +36,25 @@ SaysOrSkipped line found = MatchOption found (IsSkipped line) (Spells line)
 abbrev pub IsFaultOf : List ℕ → OplFault → Type 0
 IsFaultOf line fault = (fault ≡ no_memory.fault) ⊎ IsRefused line fault
 
--- one line more was read
-pub record TakesLine (old new : LinePlace) (found : Option Change) : Type 0 where
+-- the comment that is kept after a line, where this one was before it; nothing is kept of a line that is none, and an
+-- empty line leaves what there is
+abbrev pub comment_after : List ℕ → List ℕ → List ℕ
+comment_after kept [] = kept
+comment_after kept (byte ∷ bytes) = if is_comment (byte ∷ bytes) then byte ∷ bytes else []
+
+-- the comment is this one; there is none where nothing was kept
+abbrev pub IsKept : List ℕ → Option (Vec ℕ) → Type 0
+IsKept kept found = MatchOption found (kept ≡ []) (λ comment. (comment.items ≡ kept) × (kept ≢ []))
+
+-- one line more was read, and the one comment is kept after the other
+pub record TakesLine (old new : LinePlace) (kept comment : List ℕ) (found : Option Change) : Type 0 where
   pub text : List ℕ
   pub line : List ℕ
   pub takes : Takes old new text
   pub whole : IsWholeLine text line new
   pub says : SaysOrSkipped line found
   pub counted : new.lines ≡ old.lines + 1
+  pub comment_is : comment ≡ comment_after kept line
 
 -- the line after those that were read has this fault
 pub record StopsNext (old new : LinePlace) (load : LoadFault) : Type 0 where
@@ -57,10 +70,11 @@ pub record GoesOn (known : Option (List ℕ)) (b : LineBuffer) : Type 0 where
   pub empty : b.pending.items ≡ []
   pub end : b.is_ended ≡ true → IsAtEnd known
 
-abbrev pub IsStep : LinePlace → LinePlace → Result Step LoadFault → Type 0
-IsStep old new (Ok (steps.Line found)) = TakesLine old new found
-IsStep old new (Ok steps.End) = Takes old new [] × IsEnd new × (new.lines ≡ old.lines)
-IsStep old new (Err load) = (load ≡ no_memory) ⊎ StopsNext old new load
+-- what comes next of a reader, and the comments that are kept before and after that
+abbrev pub IsStep : LinePlace → LinePlace → List ℕ → List ℕ → Result Step LoadFault → Type 0
+IsStep old new kept comment (Ok (steps.Line found)) = TakesLine old new kept comment found
+IsStep old new kept comment (Ok steps.End) = Takes old new [] × IsEnd new × (new.lines ≡ old.lines) × (comment ≡ kept)
+IsStep old new kept comment (Err load) = (load ≡ no_memory) ⊎ StopsNext old new load
 
 -- a reader that told no fault yet goes on
 abbrev pub GoesOnUnless : Option LoadFault → Option (List ℕ) → LineBuffer → Type 0

@@ -1,6 +1,6 @@
 -- A file that is being read, line by line.
 -- Source: this project.
-use Rattle.std.specs.Prelude.{◌≡◌, ◌⊎◌, ℕ, ◌+◌, false, List, [], ◌∷◌, ◌++◌, length, Option, MatchOption}
+use Rattle.std.specs.Prelude.{◌≡◌, ◌⊎◌, ℕ, ◌+◌, false, List, [], ◌∷◌, ◌++◌, length, Option, MatchOption, option_and_then, unwrap_or}
 use Rattle.std.specs.BTreeSet.{BTreeSet, contains}
 use Rattle.std.specs.Io.KnownBytes.{Consumes, IsAtEnd}
 use Rattle.std.specs.List.{IsDistinct}
@@ -12,6 +12,7 @@ use Rattle.osm_model.specs.Elements.{Element, ref_cmp}
 use Rattle.osm_model.specs.Sets.{HasDistinctReferences}
 use Rattle.osm_model.specs.declared.reference.Ref.{Ref}
 use Rattle.byte_io.specs.Pieces.{pieces}
+use Rattle.opl_codec.specs.Files.{SpellsChanges, if_comment, last_line}
 use Rattle.opl_codec.specs.LineReads.{AreEnded, IsEnd, LinePlace, Takes, no_memory}
 use Rattle.opl_codec.specs.LineReaders.{unread}
 use Rattle.opl_codec.specs.declared.cause.OplCause.{OplCause}
@@ -77,3 +78,12 @@ abbrev pub IsUnput : List Element → Change → OplFault → Type 0
 IsUnput objects change fault =
     ((fault ≡ record { cause = causes.Deleted; byte = 0 }) × ((name : Ref) × (change ≡ changes.Delete name)))
     ⊎ ((fault ≡ record { cause = causes.OutsideModel; byte = 0 }) × ((o : Element) × (change ≡ changes.Put o) × (¬ (HasDistinctReferences (objects ++ o ∷ [])))))
+
+-- the comment that the lines end with, or nothing
+abbrev pub comment_in : List (List ℕ) → List ℕ
+comment_in lines = unwrap_or (option_and_then if_comment (last_line lines)) []
+
+-- the lines are these changes, and end with this comment
+pub record SpellsFile (lines : List (List ℕ)) (found : List Change × List ℕ) : Type 0 where
+  pub changes : SpellsChanges lines found.0
+  pub comment : found.1 ≡ comment_in lines

@@ -1,11 +1,8 @@
-use Rattle.std.proofs.lemmas.Result.{err_from_is_err_and}
-use Rattle.opl_codec.proofs.StoppedFiles.{changes_known, changes_only_by_reader, only_changes}
+use Rattle.opl_codec.proofs.ChangeFileLemmas.{changes_of_file}
 use Rattle.opl_codec.proofs.load.read_changes.Goals as goal
 
-pub returns-in_err-changes-clause-only : goal.returns-in_err-changes-clause-only
-returns-in_err-changes-clause-only g c =
-    let p = err_from_is_err_and c.from_residual.result c.from_residual.ensures.1 in
-    rw (p.1, p.2) (changes_only_by_reader _ _ _ c.in_err-changes.ensures.refused)
+pub returns-clause-read : goal.returns-clause-read
+returns-clause-read g c = changes_of_file _ c.in_ok-file.file c.in_ok-file.ensures.read
 
-pub returns-clause-only : goal.returns-clause-only
-returns-clause-only g c = only_changes _ _ (changes_known _ _ c.in_ok-changes.ensures.read)
+pub returns-clause-held : goal.returns-clause-held
+returns-clause-held g c = (c.in_ok-file.ensures.held.0, c.in_ok-file.ensures.held.1.changes)

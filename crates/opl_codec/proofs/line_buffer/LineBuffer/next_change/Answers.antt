@@ -12,7 +12,7 @@ loop-change-preserved g c =
     let is = c.in-Line-None.is in
     record {
       goes_on = c.in_ok-take_line.ensures.goes_on;
-      come = skip_more _ _ _ i.come (λ over. not_end c.take_line.result c.in_ok-take_line.field-0 _ was is (c.take_line.ensures.ended over).0) step;
+      come = skip_more _ _ _ _ _ i.come (λ over. not_end c.take_line.result c.in_ok-take_line.field-0 _ was is (c.take_line.ensures.ended over).0) step;
       over = λ ended. absurd (not_end c.take_line.result c.in_ok-take_line.field-0 _ was is (c.take_line.ensures.ended (ap (λ (b : LineBuffer). b.is_ended) (i.over ended).0 ∙ ended)).0);
     }
 
@@ -22,7 +22,7 @@ returns-in-Line-Some-clause-next g c =
     let step = rw (c.in-Line-Some.is, c.in-Line-Some.field-0-is) at c.in_ok-take_line.ensures.step in
     let was = c.in_ok-take_line.was in
     let is = c.in-Line-Some.is in
-    says_next _ _ _ _ i.come (λ over. not_end c.take_line.result c.in_ok-take_line.field-0 _ was is (c.take_line.ensures.ended over).0) step
+    says_next _ _ _ _ _ _ i.come (λ over. not_end c.take_line.result c.in_ok-take_line.field-0 _ was is (c.take_line.ensures.ended over).0) step
 
 pub returns-in_err-take_line-clause-next : goal.returns-in_err-take_line-clause-next
 returns-in_err-take_line-clause-next g c =

@@ -3,7 +3,8 @@ use Rattle.opl_codec.specs.LineReads.{IsRefused, no_memory}
 use Rattle.opl_codec.specs.declared.change.Change.{Change}
 use Rattle.opl_codec.specs.declared.line_buffer.Step.TheVariants as steps
 use Rattle.opl_codec.specs.LineReaders.{unread}
-use Rattle.opl_codec.specs.internal.Buffering.{SaysOrSkipped}
+use Rattle.std.specs.Prelude.{OnOk}
+use Rattle.opl_codec.specs.internal.Buffering.{SaysOrSkipped, comment_after}
 use Rattle.opl_codec.proofs.StepLemmas.{told_of}
 use Rattle.opl_codec.proofs.line_buffer.LineBuffer.take_ended.Goals as goal
 
@@ -25,3 +26,11 @@ returns-clause-refused c =
 
 pub returns-clause-told : goal.returns-clause-told
 returns-clause-told c = told_of _ _ c.read_numbered.ensures.told
+
+pub returns-clause-comment : goal.returns-clause-comment
+returns-clause-comment c =
+    let from = c.args.self.now.from in
+    let len : from + c.args.len - from ≡ c.args.len = omega arith in
+    let end : take (from + c.args.len - from) (drop from c.last.result.now) ≡ take c.args.len (unread c.args.self.now) =
+    ap (λ (n : ℕ). take n (drop from c.last.result.now)) len ∙ ap (λ (bytes : List ℕ). take c.args.len (drop from bytes)) c.last.ensures in
+    subst (λ (text : List ℕ). OnOk c.read_numbered.result (c.read_numbered.new.comment.items ≡ comment_after c.args.self.now.comment.items (c.args.self.now.pending.items ++ text))) end c.read_numbered.ensures.comment

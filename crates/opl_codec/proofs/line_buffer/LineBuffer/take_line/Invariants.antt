@@ -12,6 +12,7 @@ invariant-loop-len g l = record {
   sound : IsSound l.self;
   taken : l.self.total + length (unread l.initial.self) ≡ l.initial.self.total + length l.self.pending.items + length (unread l.self);
   lines : l.self.lines ≡ l.initial.self.lines;
+  comment : l.self.comment ≡ l.initial.self.comment;
   ended : l.initial.self.is_ended ≡ true → (l.self ≡ l.initial.self) × (l.reader ≡ l.initial.reader);
   end : l.self.is_ended ≡ true → IsAtEnd (g.R.Read.remaining l.reader);
 }
