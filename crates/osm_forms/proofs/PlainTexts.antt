@@ -3,13 +3,13 @@ use Rattle.std.proofs.Common.{◌≡◌, ℕ, ◌<◌, ◌≤◌, List, [], ◌�
 use Rattle.std.specs.List.{list_all}
 use Rattle.std.specs.Prelude.{encode_utf8}
 use Rattle.std.specs.Str.{IsUtf8, chars}
-use Rattle.std.proofs.lemmas.Bool.{cases_eq, cases_lt, true≢false, ne_eqb, le-leb, and_parts, not-true, or_parts, eqb-false, ltb-false}
+use Rattle.std.proofs.lemmas.Bool.{cases_lt, true≢false, ne_eqb, le-leb, and_parts, not-true, or_parts, eqb-false, ltb-false}
 use Rattle.std.proofs.lemmas.Str.{encode_ascii, encodes-chars}
 use lib.Utf8.{encode, encodes}
 use Rattle.json.specs.Print.{escape_byte, escape}
 use Rattle.json.specs.Run.{is_plain}
 use Rattle.json.proofs.Printed.Strings.{escape_byte_plain}
-use Rattle.osm_forms.specs.XmlText.{replacement, xml_character, xml_text}
+use Rattle.osm_forms.specs.XmlText.{xml_character, xml_text}
 use Rattle.osm_forms.specs.internal.PlainBytes.{is_plain_byte}
 
 -- ---- JSON

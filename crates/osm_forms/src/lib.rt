@@ -19,4 +19,4 @@ mod xml_object;
 mod xml_text;
 
 pub use form::Form;
-pub use laws::commas_between;
+pub use laws::{commas_between, json_document_is_read, json_object_is_read};
