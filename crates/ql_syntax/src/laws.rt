@@ -1,6 +1,7 @@
-//! Laws: bytes are one query at most, or have one fault; and what the limits are.
+//! Laws: bytes are one query at most, or have one fault; a query asks for one format at most; and what the limits are.
 
-ghost use Rattle.std.specs.Prelude.{◌≡◌, ◌≢◌, ◌≤◌, ◌⊎◌, ◌-◌, ℕ, List, [], length, drop};
+ghost use Rattle.std.specs.Prelude.{◌≡◌, ◌≢◌, ◌≤◌, ◌⊎◌, ◌-◌, ℕ, List, [], Option, length, drop};
+ghost use Rattle.ql_syntax.specs.Formats.{HasFormat};
 ghost use Rattle.ql_syntax.specs.Grammar as grammar;
 ghost use Rattle.ql_syntax.specs.LawfulQueries.{IsQuery};
 ghost use Rattle.ql_syntax.specs.Queries.{HasFault, Reads, query};
@@ -8,6 +9,7 @@ ghost use Rattle.ql_syntax.specs.Statements.{Statements};
 ghost use Rattle.ql_syntax.specs.declared.cause.QlCause.{QlCause};
 ghost use Rattle.ql_syntax.specs.declared.cause.QlCause.TheVariants as causes;
 ghost use Rattle.ql_syntax.specs.declared.fault.QlFault.{QlFault};
+ghost use Rattle.ql_syntax.specs.declared.format.Format.{Format};
 ghost use Rattle.ql_syntax.specs.declared.parser.TheConstants.{TEXT_LIMIT};
 ghost use Rattle.ql_syntax.specs.declared.statements.TheConstants.{NESTING_LIMIT};
 
@@ -27,6 +29,11 @@ pub fn never_both()
 pub fn one_fault()
     ensures { (bytes : List ℕ) (first second : QlFault) → HasFault bytes first
         → HasFault bytes second → first ≡ second }
+{}
+
+/// A law: the settings of bytes ask for one format at most.
+pub fn one_format()
+    ensures { (bytes : List ℕ) (first second : Option Format) → HasFormat bytes first → HasFormat bytes second → first ≡ second }
 {}
 
 /// A law: bytes read as a query or have a fault.

@@ -14,7 +14,7 @@ use crate::cause::QlCause;
 use crate::fault::QlFault;
 use crate::list::appended;
 use crate::query::Query;
-use crate::settings::skip_settings;
+use crate::settings::read_settings;
 use crate::statement::Stmt;
 use crate::statements::read_top_statement;
 use crate::syntax_error::SyntaxError;
@@ -93,7 +93,7 @@ fn fault_at(text: &[u8], error: SyntaxError<'_>) -> QlFault
 fn read_query(alloc: Global, text: &[u8]) -> Result<(Vec<Stmt<'_>>, &[u8]), SyntaxError<'_>>
     ensures { Follows query the_query text.now result }
 {
-    let rest = skip_settings(text)?;
+    let (_, rest) = read_settings(text)?;
     read_statements(alloc, rest)
 }
 
