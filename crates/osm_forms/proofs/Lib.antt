@@ -1,0 +1,10 @@
+pub mod Steps
+pub mod Commas
+pub mod PlainTexts
+pub mod JsonTrailing
+pub mod JsonPrinted
+pub mod JsonNumbers
+pub mod JsonObjects
+pub mod JsonDepths
+pub mod JsonKeeps
+pub mod JsonDocuments

@@ -1,0 +1,7 @@
+pub mod internal
+pub mod Words
+pub mod JsonText
+pub mod JsonValues
+pub mod XmlText
+pub mod Forms
+pub mod Documents
