@@ -16,40 +16,51 @@ ghost use Rattle.ql_meaning.specs.Values.{IsChain, IsParent, IsSelected};
 
 /// A law: a query means one text over a set of objects.
 pub fn one_meaning()
-    ensures { (objects : List Element) (statements : Statements) (first second : List ℕ) → IsObjectSet objects → Means objects statements first → Means objects statements second → first ≡ second }
+    ensures { (objects : List Element) (statements : Statements) (first second : List ℕ)
+        → IsObjectSet objects → Means objects statements first → Means objects statements second
+        → first ≡ second }
 {}
 
 /// A law: `nwr` takes just what `node`, `way` and `rel` with the same filters take together.
 pub fn nwr_is_all_kinds()
-    ensures { (objects : List Element) (env : Env) (filters : List Filter) (o : Element) → IsSelected objects env picks.Nwr filters o
-        ↔ (IsSelected objects env picks.Node filters o ⊎ (IsSelected objects env picks.Way filters o ⊎ IsSelected objects env picks.Rel filters o)) }
+    ensures { (objects : List Element) (env : Env) (filters : List Filter) (o : Element)
+        → IsSelected objects env picks.Nwr filters o
+        ↔ (IsSelected objects env picks.Node filters o ⊎ (IsSelected objects env picks.Way filters o
+        ⊎ IsSelected objects env picks.Rel filters o)) }
 {}
 
 /// A law: a number in an out cuts what it prints off, and changes nothing of what comes before.
 pub fn out_number_cuts()
-    ensures { (objects : List Element) (refs : List Ref) (mode : OutMode) (most : ℕ) → (rest : List ℕ) × (printed_of objects refs mode None ≡ printed_of objects refs mode (Some most) ++ rest) }
+    ensures { (objects : List Element) (refs : List Ref) (mode : OutMode) (most : ℕ)
+        → (rest : List ℕ) × (printed_of objects refs mode None
+        ≡ printed_of objects refs mode (Some most) ++ rest) }
 {}
 
 /// A law: an out prints each object once, by kind and rising id.
 pub fn printed_once_in_order()
-    ensures { (objects : List Element) (refs : List Ref) (limit : Option ℕ) → IsObjectSet objects → IsStrictlySortedBy ref_cmp (references (cut limit (filter (λ o. is_in refs o) objects))) }
+    ensures { (objects : List Element) (refs : List Ref) (limit : Option ℕ) → IsObjectSet objects
+        → IsStrictlySortedBy ref_cmp (references (cut limit (filter (λ o. is_in refs o) objects))) }
 {}
 
 /// A law: a chain ends at an object just where one link leads to it, or a chain leads to some object and a link from
 /// there to it. So what `>>` and `<<` give is closed under links.
 pub fn chains_link_by_link()
     ensures { (objects : List Element) (first last : Element) → IsChain objects first last
-        ↔ (IsParent objects first last ⊎ ((next : Element) × IsChain objects first next × IsParent objects next last)) }
+        ↔ (IsParent objects first last ⊎ ((next : Element) × IsChain objects first next
+        × IsParent objects next last)) }
 {}
 
 /// A law: the meaning of a query depends on the set of the objects alone: two lists of sets with the same members give
 /// the same texts.
 pub fn order_is_no_matter()
-    ensures { (first second : List Element) (statements : Statements) (text : List ℕ) → IsObjectSet first → IsObjectSet second → ((o : Element) → Contains first o ↔ Contains second o)
+    ensures { (first second : List Element) (statements : Statements) (text : List ℕ)
+        → IsObjectSet first → IsObjectSet second → ((o : Element) → Contains first o
+        ↔ Contains second o)
         → Means first statements text → Means second statements text }
 {}
 
 /// A law: a query has a meaning over every list of objects. By `one_meaning` it is the only one over a set.
 pub fn has_meaning()
-    ensures { (objects : List Element) (statements : Statements) → (text : List ℕ) × Means objects statements text }
+    ensures { (objects : List Element) (statements : Statements) → (text : List ℕ)
+        × Means objects statements text }
 {}

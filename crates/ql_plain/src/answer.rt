@@ -42,7 +42,8 @@ fn answer_statement<'q>(
     text: &mut Vec<u8>,
 ) -> Result<(), AllocError>
     ensures after { OnOk result (After set.now (statement_of statement.now) (lists_of sets.old.named.items) (lists_of sets.new.named.items)) }
-    ensures told { OnOk result (text.new.items ≡ text.old.items ++ told set.now (statement_of statement.now) (lists_of sets.old.named.items)) }
+    ensures told { OnOk result (text.new.items ≡ text.old.items
+        ++ told set.now (statement_of statement.now) (lists_of sets.old.named.items)) }
 {
     match statement {
         Stmt::Print(out) => print(

@@ -19,7 +19,8 @@ use std::alloc::{AllocError, Global};
 
 /// `>>`: what chains lead down to from a set.
 pub(crate) fn down_all(alloc: Global, set: &ObjectSet, from: &RefSet) -> Result<RefSet, AllocError>
-    ensures { IfOk result (λ refs. IsSetOf refs (IsRefOf set.now (IsReached set.now recursions.DownAll from.now))) }
+    ensures { IfOk result
+        (λ refs. IsSetOf refs (IsRefOf set.now (IsReached set.now recursions.DownAll from.now))) }
 {
     // For the proof alone: a reference names one object.
     let _ = set.as_slice();
@@ -30,7 +31,8 @@ pub(crate) fn down_all(alloc: Global, set: &ObjectSet, from: &RefSet) -> Result<
 
 /// `<<`: from what chains lead down to a set.
 pub(crate) fn up_all(alloc: Global, set: &ObjectSet, from: &RefSet) -> Result<RefSet, AllocError>
-    ensures { IfOk result (λ refs. IsSetOf refs (IsRefOf set.now (IsReached set.now recursions.UpAll from.now))) }
+    ensures { IfOk result
+        (λ refs. IsSetOf refs (IsRefOf set.now (IsReached set.now recursions.UpAll from.now))) }
 {
     // For the proof alone: a reference names one object.
     let _ = set.as_slice();
@@ -43,7 +45,8 @@ pub(crate) fn up_all(alloc: Global, set: &ObjectSet, from: &RefSet) -> Result<Re
 /// nothing new is found.
 fn reached(alloc: Global, steps: &[Step], from: &RefSet) -> Result<RefSet, AllocError>
     requires { IsSortedByKey (λ step. step.from) ref_cmp steps.now }
-    ensures { IfOk result (λ refs. IsSetOf refs (λ r. (s : Ref) × Contains from.now s × IsPath steps.now s r)) }
+    ensures { IfOk result (λ refs. IsSetOf refs (λ r. (s : Ref) × Contains from.now s
+        × IsPath steps.now s r)) }
 {
     let names = from.as_slice();
     let mut found = Found::new(alloc);

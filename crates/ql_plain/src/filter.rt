@@ -25,7 +25,9 @@ pub(crate) fn kept_by(
     sets: &NamedSets<'_>,
     set: &ObjectSet,
 ) -> Result<RefSet, AllocError>
-    ensures { IfOk result (λ refs. Keeps set.now refs (λ o. Passes set.now (lists_of sets.now.named.items) o (filter_of filter.now))) }
+    ensures { IfOk result
+        (λ refs. Keeps set.now refs
+        (λ o. Passes set.now (lists_of sets.now.named.items) o (filter_of filter.now))) }
 {
     // For the proof alone: a reference names one object.
     let _ = set.as_slice();
@@ -61,7 +63,8 @@ fn with_ids(alloc: Global, ids: &[i64]) -> Result<RefSet, AllocError>
 
 /// Where a path leads from a set.
 fn on_path(alloc: Global, path: Path, from: &RefSet, set: &ObjectSet) -> Result<RefSet, AllocError>
-    ensures { IfOk result (λ refs. IsSetOf refs (IsRefOf set.now (IsOnPath set.now from.now path))) }
+    ensures { IfOk result
+        (λ refs. IsSetOf refs (IsRefOf set.now (IsOnPath set.now from.now path))) }
 {
     match path {
         Path::W => below(alloc, set, from, Kind::Way),
@@ -74,7 +77,8 @@ fn on_path(alloc: Global, path: Path, from: &RefSet, set: &ObjectSet) -> Result<
 
 /// The objects that a filter keeps which looks at an object alone.
 fn passing(alloc: Global, filter: &Filter<'_>, set: &ObjectSet) -> Result<RefSet, AllocError>
-    ensures { IfOk result (λ refs. IsSetOf refs (IsRefOf set.now (λ o. PassesAlone (filter_of filter.now) o))) }
+    ensures { IfOk result (λ refs. IsSetOf refs (IsRefOf set.now
+        (λ o. PassesAlone (filter_of filter.now) o))) }
 {
     let objects = set.as_slice();
     let mut refs = Vec::new(alloc);

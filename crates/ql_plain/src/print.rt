@@ -17,7 +17,8 @@ pub(crate) fn print(
     limit: Option<u64>,
     text: &mut Vec<u8>,
 ) -> Result<(), AllocError>
-    ensures { OnOk result (text.new.items ≡ text.old.items ++ printed_of set.now refs.now mode limit) }
+    ensures { OnOk result (text.new.items
+        ≡ text.old.items ++ printed_of set.now refs.now mode limit) }
 {
     let objects = set.as_slice();
     let mut left = limit.unwrap_or(objects.len() as u64);

@@ -18,7 +18,8 @@ pub(crate) fn recurse(
     from: &RefSet,
     set: &ObjectSet,
 ) -> Result<RefSet, AllocError>
-    ensures { IfOk result (λ refs. IsSetOf refs (IsRefOf set.now (IsReached set.now how from.now))) }
+    ensures { IfOk result
+        (λ refs. IsSetOf refs (IsRefOf set.now (IsReached set.now how from.now))) }
 {
     match how {
         Recursion::Down => down(alloc, set, from),

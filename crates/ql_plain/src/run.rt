@@ -64,7 +64,8 @@ fn run_all<'q>(
     sets: &mut NamedSets<'q>,
     set: &ObjectSet,
 ) -> Result<Vec<Ref>, AllocError>
-    ensures { IfOk result (λ given. AfterAll set.now (statements_of parts.now) (lists_of sets.old.named.items) (lists_of sets.new.named.items) given.items) }
+    ensures { IfOk result
+        (λ given. AfterAll set.now (statements_of parts.now) (lists_of sets.old.named.items) (lists_of sets.new.named.items) given.items) }
 {
     let mut given = Vec::new(alloc);
     for part in parts {

@@ -22,7 +22,8 @@ pub(crate) fn select(
     sets: &NamedSets<'_>,
     set: &ObjectSet,
 ) -> Result<RefSet, AllocError>
-    ensures { IfOk result (λ refs. IsSetOf refs (IsRefOf set.now (IsSelected set.now (lists_of sets.now.named.items) kind (filters_of filters.now)))) }
+    ensures { IfOk result
+        (λ refs. IsSetOf refs (IsRefOf set.now (IsSelected set.now (lists_of sets.now.named.items) kind (filters_of filters.now)))) }
 {
     let mut refs = picked(alloc, kind, set)?;
     for filter in filters {

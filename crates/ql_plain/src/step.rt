@@ -59,7 +59,8 @@ fn compare(first: Ref, second: Ref) -> Ordering
 /// The steps that start at a reference. Two binary searches.
 pub(crate) fn steps_from(steps: &[Step], name: Ref) -> &[Step]
     requires { IsSortedByKey (λ step. step.from) ref_cmp steps.now }
-    ensures { (step : _) → Contains result.now step ↔ (Contains steps.now step × (step.from ≡ name)) }
+    ensures { (step : _) → Contains result.now step ↔ (Contains steps.now step
+        × (step.from ≡ name)) }
 {
     let first = steps.partition_point(|step| compare(step.from, name).is_lt());
     let rest = &steps[first..];

@@ -11,6 +11,7 @@ use Rattle.ql_syntax.specs.Settings.{format, format_named, count, setting_named,
 use Rattle.ql_syntax.specs.StatementRules.{recursion, item, out_of, print_at, print, statement_named, word_statement, set_statement_named, set_word_statement, recursion_or_item, set_statement, recursion_at, plain_statement, part, union, difference, block, statement, top_statement}
 use Rattle.ql_syntax.specs.Statements.{Statement}
 use Rattle.ql_syntax.specs.TagFilters.{tag_filter, tag_rest, tag_value, tag_text, tag_text_at, tag_close, not_in_tag}
+use Rattle.ql_syntax.specs.declared.format.Format.{Format}
 use Rattle.ql_syntax.specs.declared.level.Level.{Level}
 use Rattle.ql_syntax.specs.declared.level.Level.TheVariants as levels
 use Rattle.ql_syntax.specs.declared.out_options.OutOptions.{OutOptions}
@@ -33,7 +34,7 @@ use Rattle.ql_syntax.proofs.DefiniteTokens.{definite_token, definite_run, defini
 
 -- settings
 format_named_is : (place : List ℕ) (word : FormatWord) → Definite (format_named place word)
-format_named_is place formats.Known = definite_give tt
+format_named_is place (formats.Known format) = definite_give (Some format)
 format_named_is place formats.LeftOut = definite_refuse _ place
 format_named_is place formats.Unknown = definite_refuse _ place
 
@@ -43,7 +44,7 @@ format_is = definite_then _ definite_word (λ word. definite_case _ _ (format_na
 
 count_is : Definite count
 unfolding count
-count_is = definite_then _ definite_number (λ number. definite_then _ (definite_count number.number number.place) (λ value. definite_give tt))
+count_is = definite_then _ definite_number (λ number. definite_then _ (definite_count number.number number.place) (λ value. definite_give None))
 
 setting_named_is : (place : List ℕ) (word : SettingWord) → Definite (setting_named place word)
 setting_named_is place setting_words.Format = definite_then _ (definite_pass kinds.Colon) (λ colon. format_is)
@@ -53,15 +54,15 @@ setting_named_is place setting_words.Unknown = definite_refuse _ place
 
 setting_is : Definite setting
 unfolding setting setting_value
-setting_is = definite_then _ definite_word (λ word. definite_then _ (definite_case _ _ (setting_named_is word.place)) (λ value. definite_pass kinds.CloseBracket))
+setting_is = definite_then _ definite_word (λ word. definite_then _ (definite_case _ _ (setting_named_is word.place)) (λ value. definite_then _ (definite_pass kinds.CloseBracket) (λ close. definite_give value)))
 
-setting_round_is : (state : Unit {0}) → Definite (setting_round state)
+setting_round_is : (before : Option Format) → Definite (setting_round before)
 unfolding setting_round
-setting_round_is state = definite_then _ setting_is (λ found. definite_then _ definite_token (λ next. definite_choose _ (definite_give _) (definite_choose _ (definite_give _) (definite_unexpected next))))
+setting_round_is before = definite_then _ setting_is (λ found. definite_then _ definite_token (λ next. definite_choose _ (definite_give _) (definite_choose _ (definite_give _) (definite_unexpected next))))
 
-settings_is : Definite settings
+pub settings_is : Definite settings
 unfolding settings
-settings_is = definite_then _ definite_token (λ next. definite_choose _ (definite_repeat setting_round_is tt) (definite_from next.place (definite_give tt)))
+settings_is = definite_then _ definite_token (λ next. definite_choose _ (definite_repeat setting_round_is None) (definite_from next.place (definite_give None)))
 
 -- filters by tags
 not_in_tag_is : {A : Type 0} (next : Next) → Definite (not_in_tag {A = A} next)

@@ -87,6 +87,6 @@ semicolon_row : query.stops (codes ";") causes.UnexpectedCharacter (codes ";")
 unfolding query settings gather repeat gather_round top_statement statement plain_statement ◌>>=◌ choose from give by_case unexpected refuse next_token
 semicolon_row =
     let found : Next = record { kind = kinds.Semicolon; place = codes ";" } in
-    Second tt (codes ";") (record { front = found; middle = []; front_reads = record { after_gap = refl; kind_is = refl; rest_is = refl }; back_reads = inr (λ e. cc, (refl, refl)) })
+    Second None (codes ";") (record { front = found; middle = []; front_reads = record { after_gap = refl; kind_is = refl; rest_is = refl }; back_reads = inr (λ e. cc, (refl, refl)) })
     (First (Here [] (codes ";") (First (Second found [] (record { after_gap = refl; kind_is = refl; rest_is = refl })
     (inr (λ e. cc, First (Second found [] (record { after_gap = refl; kind_is = refl; rest_is = refl }) (inr (λ e. cc, inr (λ e. cc, inr (λ e. cc, (refl, refl))))))))))))

@@ -20,6 +20,7 @@ use Rattle.ql_syntax.specs.WholeNumbers.{id_of, count_of}
 use Rattle.ql_syntax.specs.Words.{IsNoName}
 use Rattle.ql_syntax.specs.declared.cause.QlCause.{QlCause}
 use Rattle.ql_syntax.specs.declared.cause.QlCause.TheVariants as causes
+use Rattle.ql_syntax.specs.declared.format.Format.{Format}
 use Rattle.ql_syntax.specs.declared.level.Level.{Level}
 use Rattle.ql_syntax.specs.declared.level.Level.TheVariants as levels
 use Rattle.ql_syntax.specs.declared.out_options.OutOptions.{OutOptions}
@@ -254,7 +255,7 @@ module _ {whole : List ℕ} where
 
   -- settings
   in_format_named : (place : List ℕ) (case : FormatWord) → Ends whole place → Inside whole Anywhere (format_named place case)
-  in_format_named place formats.Known at = inside_give tt tt
+  in_format_named place (formats.Known format) at = inside_give _ tt
   in_format_named place formats.LeftOut at = inside_refuse _ tt at
   in_format_named place formats.Unknown at = inside_refuse _ tt at
 
@@ -264,7 +265,7 @@ module _ {whole : List ℕ} where
 
   in_count : Inside whole Anywhere count
   unfolding count
-  in_count = inside_then _ in_a_number (λ found at. inside_then _ (in_count_of _ _ at) (λ value is. inside_give tt tt))
+  in_count = inside_then _ in_a_number (λ found at. inside_then _ (in_count_of _ _ at) (λ value is. inside_give _ tt))
 
   in_setting_named : (place : List ℕ) (case : SettingWord) → Ends whole place → Inside whole Anywhere (setting_named place case)
   in_setting_named place setting_words.Format at = inside_then _ (in_pass _) (λ colon is. in_format)
@@ -278,15 +279,15 @@ module _ {whole : List ℕ} where
 
   in_setting : Inside whole Anywhere setting
   unfolding setting
-  in_setting = inside_then _ in_a_word (λ name at. inside_then _ (in_setting_value name at) (λ value is. in_pass _))
+  in_setting = inside_then _ in_a_word (λ name at. inside_then _ (in_setting_value name at) (λ asked is. inside_then _ (in_pass _) (λ close is. inside_give _ tt)))
 
-  in_setting_round : (state : Unit {0}) → Inside whole Anywhere (setting_round state)
+  in_setting_round : (before : Option Format) → Inside whole Anywhere (setting_round before)
   unfolding setting_round
-  in_setting_round state = inside_then _ in_setting (λ found is. inside_then _ inside_token (λ next at. inside_choose (λ is. inside_give _ tt) (inside_choose (λ is. inside_give _ tt) (inside_unexpected next at))))
+  in_setting_round before = inside_then _ in_setting (λ found is. inside_then _ inside_token (λ next at. inside_choose (λ is. inside_give _ tt) (inside_choose (λ is. inside_give _ tt) (inside_unexpected next at))))
 
   in_settings : Inside whole Anywhere settings
   unfolding settings
-  in_settings = inside_then _ inside_token (λ next at. inside_choose (λ is. inside_repeat in_setting_round tt) (inside_from at (inside_give tt tt)))
+  in_settings = inside_then _ inside_token (λ next at. inside_choose (λ is. inside_repeat in_setting_round None) (inside_from at (inside_give _ tt)))
 
   -- statements
   in_recursion : (start : List ℕ) (how : Recursion) → Inside whole Anywhere (recursion start how)

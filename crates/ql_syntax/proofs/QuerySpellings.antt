@@ -1,20 +1,23 @@
 -- Queries are spelled as rules read them.
-use Rattle.std.proofs.Common.{◌≡◌, ℕ, List, [], None, Some, refl, sym, subst, inl, inr}
+use Rattle.std.proofs.Common.{◌≡◌, ℕ, List, [], ◌∷◌, Option, None, Some, refl, sym, subst, inl, inr}
 use Rattle.std.specs.List.{AllByRecursion}
+use Rattle.ql_syntax.specs.Formats.{settings_asking, last_format}
 use Rattle.ql_syntax.specs.Grammar as grammar
 use Rattle.ql_syntax.specs.LawfulQueries.{IsTop, IsQuery}
 use Rattle.ql_syntax.specs.Queries.{query}
 use Rattle.ql_syntax.specs.Rules.{Rule, ◌>>=◌, give, gather}
 use Rattle.ql_syntax.specs.Spellings.{Both, the_end}
 use Rattle.ql_syntax.specs.StatementRules.{top_statement}
+use Rattle.ql_syntax.specs.Settings.{settings}
 use Rattle.ql_syntax.specs.Statements.{Statement, Statements, Select, Recurse, Item, Union, Minus, Print, End, Then, row_of}
+use Rattle.ql_syntax.specs.declared.format.Format.{Format}
 use Rattle.ql_syntax.specs.declared.level.Level.TheVariants as levels
 use Rattle.ql_syntax.specs.declared.token_kind.TokenKind.{TokenKind}
 use Rattle.ql_syntax.specs.declared.token_kind.TokenKind.TheVariants as kinds
 use Rattle.ql_syntax.proofs.GatherSpellings.{reads_gather}
 use Rattle.ql_syntax.proofs.GivesRules.{IsAt}
-use Rattle.ql_syntax.proofs.SettingSpellings.{settings_sound, reads_settings, reads_no_settings}
-use Rattle.ql_syntax.proofs.SpellingLemmas.{alike, from_token, both, spelled_to, other_kind, shifts_then, Reading, reads_then, reads_give, reads_as, reads_yes, reads_no, reads_from, reads_token}
+use Rattle.ql_syntax.proofs.SettingSpellings.{settings_asked, settings_sound, reads_settings, reads_no_settings}
+use Rattle.ql_syntax.proofs.SpellingLemmas.{Alike, alike, from_token, both, spelled_to, other_kind, shifts_then, Reading, reads_then, reads_give, reads_as, reads_yes, reads_no, reads_from, reads_token}
 use Rattle.ql_syntax.proofs.StatementReadings.{list_of, row_again, each_spelled, first_token, not_first, reads_statement, shift_reading}
 use Rattle.ql_syntax.proofs.StatementSpellings.{shifts_statement, shifts_gather, shifts_top, statements_sound}
 use Rattle.ql_syntax.proofs.TokenSpellings.{IsPunctuation, end_token}
@@ -77,17 +80,25 @@ no_settings (Then s all) text middle rest these end =
     let f = first_token s text these.middle these.front in
     record { kind = (f.next).kind; after = f.after; is = record { next = f.next; at = f.at; is = refl }; other = not_first kinds.OpenBracket f.begins (λ e. cc) (λ e. cc) (λ e. cc) refl }
 
+-- settings, or none, are read so, and what is left is what follows them
+pub record Begun (text middle : List ℕ) (asked : List (Option Format)) : Type 0 where
+  pub place : List ℕ
+  pub settings_read : settings.reads text (last_format asked) place
+  pub alike : Alike place middle
+
+pub begun : (asked : List (Option Format)) (all : Statements) (text middle rest : List ℕ) → settings_asking asked text middle → Both (grammar.row all) the_end middle rest → Begun text middle asked
+begun [] all text middle rest none these =
+    let first = no_settings all middle these.middle rest these.front these.back in
+    let here = subst (λ (t : List ℕ). IsPunctuation first.kind t first.after) none first.is in
+    record { place = (here.next).place; settings_read = (reads_no_settings here first.other).reads; alike = subst (λ (t : List ℕ). Alike (here.next).place t) (sym none) (from_token here.at) }
+begun (first ∷ more) all text middle rest some these = record { place = middle; settings_read = (reads_settings first more some).reads; alike = alike middle }
+
 reads_query : (text : List ℕ) (all : Statements) → IsQuery all → grammar.query all text [] → Reading query text all []
 unfolding query
-reads_query text all such g = from_settings g.front
-  where
-    from_settings : grammar.settings text g.middle → Reading query text all []
-    from_settings (inl some) = reads_then _ (reads_settings some) (reads_all all g.middle (g.back).middle [] such (g.back).front (g.back).back)
-    from_settings (inr none) =
-        let first = no_settings all g.middle (g.back).middle [] (g.back).front (g.back).back in
-        let here = subst (λ (t : List ℕ). IsPunctuation first.kind t first.after) none first.is in
-        let statements = subst (λ (t : List ℕ). Reading all_statements t all []) none (reads_all all g.middle (g.back).middle [] such (g.back).front (g.back).back) in
-        reads_then _ (reads_no_settings here first.other) (shift_reading (shifts_then _ (shifts_gather shifts_top [])) (from_token here.at) statements)
+reads_query text all such g =
+    let asked = settings_asked g.front in
+    let begin = begun asked.0 all text g.middle [] asked.1 g.back in
+    reads_then _ (record { reads = begin.settings_read }) (shift_reading (shifts_then _ (shifts_gather shifts_top [])) begin.alike (reads_all all g.middle (g.back).middle [] such (g.back).front (g.back).back))
 
 pub query_reads : (text : List ℕ) (all : Statements) → IsQuery all → grammar.query all text [] → query.reads text all []
 query_reads text all such g = (reads_query text all such g).reads

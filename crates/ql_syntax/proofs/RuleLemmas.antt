@@ -42,6 +42,12 @@ read_of {rule = rule} {view = view} {text = text} {x = x} (Read y same reads) = 
 read_of (Stopped stop same stops) = absurd (cc)
 read_of (NoMemory scarce stop same memory) = absurd (cc)
 
+-- where a reader that takes no memory stops its rule does
+pub stops_of : {A X : Type 0} {rule : Rule A} {view : X → A × List ℕ} {text : List ℕ} {stop : SyntaxError} → Keeps rule view text (Err stop) → rule.stops text stop.cause stop.rest.now
+stops_of (Read x same reads) = absurd (cc)
+stops_of {rule = rule} {text = text} {stop = stop} (Stopped other same stops) = let e : other ≡ stop = cc in subst (λ (s : SyntaxError). rule.stops text s.cause s.rest.now) e stops
+stops_of (NoMemory scarce stop same memory) = absurd scarce
+
 -- what is read, seen in another way
 pub follows_as : {M N : Type 0} {A X Y : Type 0} {rule : Rule A} {v : Y → A × List ℕ} {view : X → A × List ℕ} {text : List ℕ} {y : Y} {x : X} → Outcome M rule v text (Ok y) → (v y).0 ≡ (view x).0 → (v y).1 ≡ (view x).1 → Outcome N rule view text (Ok x)
 follows_as {rule = rule} {v = v} {view = view} {text = text} {y = y} {x = x} follows value rest =

@@ -11,6 +11,7 @@ use Rattle.ql_syntax.specs.Settings.{format, format_named, count, setting_named,
 use Rattle.ql_syntax.specs.StatementRules.{recursion, item, out_of, print_at, print, statement_named, word_statement, set_statement_named, set_word_statement, recursion_or_item, set_statement, recursion_at, plain_statement, part, union, difference, block, statement, top_statement}
 use Rattle.ql_syntax.specs.Statements.{Statement}
 use Rattle.ql_syntax.specs.TagFilters.{tag_filter, tag_rest, tag_value, tag_text, tag_text_at, tag_close, not_in_tag}
+use Rattle.ql_syntax.specs.declared.format.Format.{Format}
 use Rattle.ql_syntax.specs.declared.level.Level.{Level}
 use Rattle.ql_syntax.specs.declared.level.Level.TheVariants as levels
 use Rattle.ql_syntax.specs.declared.out_options.OutOptions.{OutOptions}
@@ -40,7 +41,7 @@ use Rattle.ql_syntax.proofs.TotalTokens.{is_kind, is_true, total_token, total_ru
 
 -- settings
 format_named_is : (place : List ℕ) (word : FormatWord) → Total (format_named place word)
-format_named_is place formats.Known = total_give tt
+format_named_is place (formats.Known format) = total_give (Some format)
 format_named_is place formats.LeftOut = total_refuse _ place
 format_named_is place formats.Unknown = total_refuse _ place
 
@@ -50,7 +51,7 @@ format_is = total_then _ total_word (λ word. total_case _ _ (format_named_is wo
 
 count_is : Total count
 unfolding count
-count_is = total_then _ total_number (λ number. total_then _ (total_count number.number number.place) (λ value. total_give tt))
+count_is = total_then _ total_number (λ number. total_then _ (total_count number.number number.place) (λ value. total_give None))
 
 setting_named_is : (place : List ℕ) (word : SettingWord) → Total (setting_named place word)
 setting_named_is place setting_words.Format = total_then _ (total_pass kinds.Colon) (λ colon. format_is)
@@ -60,15 +61,15 @@ setting_named_is place setting_words.Unknown = total_refuse _ place
 
 setting_is : Total setting
 unfolding setting setting_value
-setting_is = total_then _ total_word (λ word. total_then _ (total_case _ _ (setting_named_is word.place)) (λ value. total_pass kinds.CloseBracket))
+setting_is = total_then _ total_word (λ word. total_then _ (total_case _ _ (setting_named_is word.place)) (λ value. total_then _ (total_pass kinds.CloseBracket) (λ close. total_give value)))
 
-setting_round_is : (state : Unit {0}) → Total (setting_round state)
+setting_round_is : (before : Option Format) → Total (setting_round before)
 unfolding setting_round
-setting_round_is state = total_then _ setting_is (λ found. total_then _ total_token (λ next. total_choose (is_kind _ _) (λ is. total_give _) (total_choose (is_kind _ _) (λ is. total_give _) (total_unexpected next))))
+setting_round_is before = total_then _ setting_is (λ found. total_then _ total_token (λ next. total_choose (is_kind _ _) (λ is. total_give _) (total_choose (is_kind _ _) (λ is. total_give _) (total_unexpected next))))
 
 settings_is : Total settings
 unfolding settings
-settings_is = total_then _ total_token (λ next. total_choose (is_kind _ _) (λ is. total_repeat setting_round_is (λ state. where_shorter round_shorter) tt) (total_from next.place ((total_give tt).at next.place)))
+settings_is = total_then _ total_token (λ next. total_choose (is_kind _ _) (λ is. total_repeat setting_round_is (λ before. where_shorter (round_shorter before)) None) (total_from next.place ((total_give {A = Option Format} None).at next.place)))
 
 -- filters by tags
 not_in_tag_is : {A : Type 0} (next : Next) → Total (not_in_tag {A = A} next)

@@ -6,6 +6,7 @@ use Rattle.std.specs.Option.{unwrap_or}
 use Rattle.std.specs.Prelude.{codes, bytes_eq, Option, None, Some}
 use Rattle.osm_model.specs.declared.out_mode.OutMode.{OutMode}
 use Rattle.osm_model.specs.declared.out_mode.OutMode.TheVariants as modes
+use Rattle.ql_syntax.specs.Formats.{format_word}
 use Rattle.ql_syntax.specs.Grammar as grammar
 use Rattle.ql_syntax.specs.OutWords as out_words
 use Rattle.ql_syntax.specs.OutWords.{out_word}
@@ -17,6 +18,8 @@ use Rattle.ql_syntax.specs.Spellings.{Spelling, AfterGap, word, ◌or◌}
 use Rattle.ql_syntax.specs.StatementWords as statement_words
 use Rattle.ql_syntax.specs.StatementWords.{statement_word, known_word}
 use Rattle.ql_syntax.specs.Words.{IsRun}
+use Rattle.ql_syntax.specs.declared.format.Format.{Format}
+use Rattle.ql_syntax.specs.declared.format.Format.TheVariants as named
 use Rattle.ql_syntax.specs.declared.out_word.OutWord.{OutWord}
 use Rattle.ql_syntax.specs.declared.out_word.OutWord.TheVariants as outs
 use Rattle.ql_syntax.specs.declared.path.Path.{Path}
@@ -56,7 +59,7 @@ setting_spelled settings.LeftOut = anything
 setting_spelled settings.Unknown = anything
 
 abbrev pub format_spelled : FormatWord → Spelling
-format_spelled formats.Known = word "json" or word "xml"
+format_spelled (formats.Known format) = format_word format
 format_spelled formats.LeftOut = anything
 format_spelled formats.Unknown = anything
 
@@ -141,8 +144,8 @@ module _ {text rest : List ℕ} (w : List ℕ) (spelled : IsWordOf (λ (v : List
   format_said : At_format (format_of w)
   format_said =
       by_test At_format _ formats.LeftOut _ (λ t. tt)
-      (by_test At_format (bytes_eq w (codes "json") || bytes_eq w (codes "xml")) formats.Known formats.Unknown (is_either _ _ (λ t. inl (is_said (codes "json") t)) (λ t. inr (is_said (codes "xml") t)))
-      tt)
+      (by_test At_format (bytes_eq w (codes "json")) (formats.Known named.Json) _ (is_said (codes "json"))
+      (by_test At_format (bytes_eq w (codes "xml")) (formats.Known named.Xml) formats.Unknown (is_said (codes "xml")) tt))
 
   pub format_is : (case : FormatWord) → format_of w ≡ case → format_spelled case text rest
   format_is case is = subst At_format is format_said
@@ -204,9 +207,9 @@ pub count_setting_token : {text rest : List ℕ} → (word "timeout" or word "ma
 count_setting_token (inl w) = word_token (codes "timeout") w refl refl
 count_setting_token (inr w) = word_token (codes "maxsize") w refl refl
 
-pub format_token : {text rest : List ℕ} → (word "json" or word "xml") text rest → IsWordOf (λ (w : List ℕ). format_of w ≡ formats.Known) text rest
-format_token (inl w) = word_token (codes "json") w refl refl
-format_token (inr w) = word_token (codes "xml") w refl refl
+pub format_token : (format : Format) {text rest : List ℕ} → format_word format text rest → IsWordOf (λ (w : List ℕ). format_of w ≡ formats.Known format) text rest
+format_token named.Json w = word_token (codes "json") w refl refl
+format_token named.Xml w = word_token (codes "xml") w refl refl
 
 pub ids_token : (pick : Pick) {text rest : List ℕ} → word "id" text rest → IsWordOf (λ (w : List ℕ). selector_word pick w ≡ selectors.Ids) text rest
 ids_token pick w = word_token (codes "id") w refl refl

@@ -25,6 +25,7 @@ pub mod StatementViews
 pub mod StatementRules
 pub mod Spellings
 pub mod Grammar
+pub mod Formats
 pub mod Queries
 pub mod LawfulQueries
 pub mod internal

@@ -3,6 +3,7 @@
 -- project's.
 use Rattle.std.specs.Prelude.{ℕ, Bool, ◌||◌, if◌then◌else◌, List, [], ◌∷◌, codes, bytes_eq}
 use Rattle.ql_syntax.specs.Words.{is_one_of}
+use Rattle.ql_syntax.specs.declared.format.Format.TheVariants as named
 use Rattle.ql_syntax.specs.declared.setting_word.SettingWord.{SettingWord}
 use Rattle.ql_syntax.specs.declared.setting_word.SettingWord.TheVariants as settings
 use Rattle.ql_syntax.specs.declared.setting_word.FormatWord.{FormatWord}
@@ -26,5 +27,6 @@ is_left_out_format word = is_one_of word (codes "csv" ∷ codes "custom" ∷ cod
 abbrev pub format_of : List ℕ → FormatWord
 format_of word =
     if is_left_out_format word then formats.LeftOut
-    else if bytes_eq word (codes "json") || bytes_eq word (codes "xml") then formats.Known
+    else if bytes_eq word (codes "json") then formats.Known named.Json
+    else if bytes_eq word (codes "xml") then formats.Known named.Xml
     else formats.Unknown

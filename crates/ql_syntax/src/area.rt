@@ -56,7 +56,8 @@ fn area_of<'a>(
     requires west { Spells west.text.now (decimal_of west) }
     requires north { Spells north.text.now (decimal_of north) }
     requires east { Spells east.text.now (decimal_of east) }
-    ensures { (text : List ℕ) → Keeps (area (corners_of south.entry.number west.entry north.entry east.entry) south.entry.place.now) (λ found. (found, text)) text result }
+    ensures { (text : List ℕ)
+        → Keeps (area (corners_of south.entry.number west.entry north.entry east.entry) south.entry.place.now) (λ found. (found, text)) text result }
 {
     match new_box(south.number, west, north, east) {
         Ok(area) => Ok(area),
@@ -75,8 +76,11 @@ fn new_box<'a>(
     requires west { Spells west.text.now (decimal_of west) }
     requires north { Spells north.text.now (decimal_of north) }
     requires east { Spells east.text.now (decimal_of east) }
-    ensures made { IfOk result (λ found. AreBox (corners_of south.entry west.entry north.entry east.entry) × (found ≡ box_of (corners_of south.entry west.entry north.entry east.entry))) }
-    ensures refused { IfErr result (λ _. ¬ (AreBox (corners_of south.entry west.entry north.entry east.entry))) }
+    ensures made { IfOk result
+        (λ found. AreBox (corners_of south.entry west.entry north.entry east.entry)
+        × (found ≡ box_of (corners_of south.entry west.entry north.entry east.entry))) }
+    ensures refused { IfErr result
+        (λ _. ¬ (AreBox (corners_of south.entry west.entry north.entry east.entry))) }
 {
     let south = Edge::read(south.text, Axis::Lat)?;
     let west = Edge::read(west.text, Axis::Lon)?;

@@ -76,7 +76,8 @@ fn read_digits(text: &[u8]) -> Hexadecimal
     ensures four { result.len ≤ 4 }
     ensures digits { AllDigits 16 (take result.len text.now) }
     ensures value { result.value ≡ digits_value 16 (take result.len text.now) }
-    ensures stop { result.len < 4 → result.len < length text.now → 16 ≤ digit_value (slice_index text.now result.len) }
+    ensures stop { result.len < 4 → result.len < length text.now
+        → 16 ≤ digit_value (slice_index text.now result.len) }
 {
     let mut value = 0;
     let len = text.len().min(4);

@@ -13,7 +13,8 @@ use crate::syntax_error::SyntaxError;
 #[inline(always)]
 pub(crate) fn skip_gap(text: &[u8]) -> Result<&[u8], SyntaxError<'_>>
     ensures read { IfOk result (λ rest. gap Between text.now ≡ After rest.now) }
-    ensures refused { IfErr result (λ error. (error.cause ≡ QlCause.Unclosed) × (gap Between text.now ≡ Open error.rest.now)) }
+    ensures refused { IfErr result (λ error. (error.cause ≡ QlCause.Unclosed)
+        × (gap Between text.now ≡ Open error.rest.now)) }
     ensures within { IfOk result (λ rest. length rest.now ≤ length text.now) }
 {
     match text {
@@ -26,7 +27,8 @@ pub(crate) fn skip_gap(text: &[u8]) -> Result<&[u8], SyntaxError<'_>>
 #[inline(never)]
 fn skip_pieces(text: &[u8]) -> Result<&[u8], SyntaxError<'_>>
     ensures read { IfOk result (λ rest. gap Between text.now ≡ After rest.now) }
-    ensures refused { IfErr result (λ error. (error.cause ≡ QlCause.Unclosed) × (gap Between text.now ≡ Open error.rest.now)) }
+    ensures refused { IfErr result (λ error. (error.cause ≡ QlCause.Unclosed)
+        × (gap Between text.now ≡ Open error.rest.now)) }
     ensures within { IfOk result (λ rest. length rest.now ≤ length text.now) }
 {
     let mut rest = text;
@@ -39,8 +41,10 @@ fn skip_pieces(text: &[u8]) -> Result<&[u8], SyntaxError<'_>>
 /// What follows the blank or the comment that comes first, where one does.
 fn after_piece(text: &[u8]) -> Result<Option<&[u8]>, SyntaxError<'_>>
     ensures read { IfOk result (λ after. MatchOption after (gap Between text.now ≡ After text.now)
-        (λ rest. (gap Between text.now ≡ gap Between rest.now) × (length rest.now < length text.now))) }
-    ensures refused { IfErr result (λ error. (error.cause ≡ QlCause.Unclosed) × (gap Between text.now ≡ Open error.rest.now)) }
+        (λ rest. (gap Between text.now ≡ gap Between rest.now)
+        × (length rest.now < length text.now))) }
+    ensures refused { IfErr result (λ error. (error.cause ≡ QlCause.Unclosed)
+        × (gap Between text.now ≡ Open error.rest.now)) }
 {
     match text {
         [first, rest @ ..] if is_blank(*first) => Ok(Some(rest)),
@@ -75,8 +79,10 @@ fn line_end(text: &[u8]) -> &[u8]
 
 /// What follows the `*/` that comes first, where one does.
 fn after_block(text: &[u8]) -> Option<&[u8]>
-    ensures { MatchOption result ((comment : List ℕ) → gap (InBlock comment) text.now ≡ Open comment)
-        (λ rest. ((comment : List ℕ) → gap (InBlock comment) text.now ≡ gap Between rest.now) × (length rest.now ≤ length text.now)) }
+    ensures { MatchOption result ((comment : List ℕ) → gap (InBlock comment) text.now
+        ≡ Open comment)
+        (λ rest. ((comment : List ℕ) → gap (InBlock comment) text.now ≡ gap Between rest.now)
+        × (length rest.now ≤ length text.now)) }
 {
     for i in 1..text.len() {
         if text[i - 1] == b'*' && text[i] == b'/' {

@@ -9,6 +9,7 @@ mod cause;
 mod escape;
 mod fault;
 mod filter;
+mod format;
 mod gap;
 mod laws;
 mod level;
@@ -44,9 +45,10 @@ mod word;
 pub use cause::QlCause;
 pub use fault::QlFault;
 pub use filter::Filter;
+pub use format::Format;
 pub use laws::{
     fault_place, faults_are_not_memory, lawful_queries, limits_law, never_both, one_fault,
-    one_language, one_of_both, one_query, stops_within,
+    one_format, one_language, one_of_both, one_query, stops_within,
 };
 pub use name::Name;
 pub use parser::parse;
@@ -55,4 +57,5 @@ pub use pick::Pick;
 pub use ql_text::QlText;
 pub use query::Query;
 pub use recursion::Recursion;
+pub use settings::asked_format;
 pub use statement::{Out, Stmt};

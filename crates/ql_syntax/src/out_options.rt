@@ -79,7 +79,8 @@ fn read_round<'a>(
 impl OutOptions {
     /// The options with this word too.
     fn with_word(self, word: WordSpot<'_>) -> Result<OutOptions, SyntaxError<'_>>
-        ensures { (text : List ℕ) → Keeps (with_word self (word_of word.entry)) (λ options. (options, text)) text result }
+        ensures { (text : List ℕ) → Keeps (with_word self (word_of word.entry))
+            (λ options. (options, text)) text result }
     {
         match out_word(word.word) {
             OutWord::Mode(mode) => once(
@@ -106,7 +107,8 @@ impl OutOptions {
     /// The options with this number too.
     fn with_number(self, number: NumberSpot<'_>) -> Result<OutOptions, SyntaxError<'_>>
         requires { AllDigits 10 number.number.whole.now }
-        ensures { (text : List ℕ) → Keeps (with_number self (number_of number.entry)) (λ options. (options, text)) text result }
+        ensures { (text : List ℕ) → Keeps (with_number self (number_of number.entry))
+            (λ options. (options, text)) text result }
     {
         once(self.limit.is_some(), number.place, self)?;
         let limit = number.count()?;

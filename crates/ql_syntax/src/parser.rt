@@ -14,7 +14,7 @@ use crate::cause::QlCause;
 use crate::fault::QlFault;
 use crate::list::appended;
 use crate::query::Query;
-use crate::settings::skip_settings;
+use crate::settings::read_settings;
 use crate::statement::Stmt;
 use crate::statements::read_top_statement;
 use crate::syntax_error::SyntaxError;
@@ -37,11 +37,14 @@ pub fn parse(alloc: Global, text: &[u8]) -> Result<Query<'_>, QlFault>
     // What is read is spelled so.
     ensures read { IfOk result (λ query. Reads text.now (statements_of query)) }
     // What is spelled so is read, unless memory runs out.
-    ensures only { (statements : Statements) → Reads text.now statements → IfOk result (λ query. statements_of query ≡ statements) × IfErr result (λ fault. fault ≡ memory_fault) }
+    ensures only { (statements : Statements) → Reads text.now statements
+        → IfOk result (λ query. statements_of query ≡ statements)
+        × IfErr result (λ fault. fault ≡ memory_fault) }
     // Which fault it is: out of memory, at byte 0, or the text's own.
     ensures refused { IfErr result (λ fault. (fault ≡ memory_fault) ⊎ HasFault text.now fault) }
     // What has a fault is refused with it, unless memory runs out.
-    ensures faults { (fault : QlFault) → HasFault text.now fault → IfOk result (λ _. ⊥) × IfErr result (λ told. (told ≡ memory_fault) ⊎ (told ≡ fault)) }
+    ensures faults { (fault : QlFault) → HasFault text.now fault → IfOk result (λ _. ⊥)
+        × IfErr result (λ told. (told ≡ memory_fault) ⊎ (told ≡ fault)) }
 {
     read_text(alloc, text)
 }
@@ -73,7 +76,8 @@ fn read_text(alloc: Global, text: &[u8]) -> Result<Query<'_>, QlFault>
 fn fault_at(text: &[u8], error: SyntaxError<'_>) -> QlFault
     ensures cause { result.cause ≡ error.entry.cause }
     ensures memory { error.entry.cause ≡ QlCause.Memory → result.byte ≡ 0 }
-    ensures byte { (error.entry.cause ≡ QlCause.Memory) ⊎ (result.byte ≡ length text.now - length error.entry.rest.now) }
+    ensures byte { (error.entry.cause ≡ QlCause.Memory) ⊎ (result.byte
+        ≡ length text.now - length error.entry.rest.now) }
 {
     let byte = match error.cause {
         QlCause::Memory => 0,
@@ -89,7 +93,7 @@ fn fault_at(text: &[u8], error: SyntaxError<'_>) -> QlFault
 fn read_query(alloc: Global, text: &[u8]) -> Result<(Vec<Stmt<'_>>, &[u8]), SyntaxError<'_>>
     ensures { Follows query the_query text.now result }
 {
-    let rest = skip_settings(text)?;
+    let (_, rest) = read_settings(text)?;
     read_statements(alloc, rest)
 }
 

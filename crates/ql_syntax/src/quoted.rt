@@ -77,7 +77,8 @@ fn take_pieces<'a>(
     content: &mut Vec<u8>,
 ) -> Result<Option<&'a [u8]>, SyntaxError<'a>>
     requires { 0 < length text.now }
-    ensures read { IfOk result (λ next. MatchOption next (Closes (slice_index text.now 0) place.now content.old.items content.new.items)
+    ensures read { IfOk result
+        (λ next. MatchOption next (Closes (slice_index text.now 0) place.now content.old.items content.new.items)
         (λ rest. Takes (slice_index text.now 0) place.now rest.now content.old.items content.new.items)) }
     ensures refused { IfErr result (λ error. IsMemoryOr (StopsInside text.now place.now) error) }
 {
@@ -102,7 +103,8 @@ fn take_escape<'a>(
 ) -> Result<&'a [u8], SyntaxError<'a>>
     requires some { 0 < length place.now }
     requires escape { slice_index place.now 0 ≡ 92 }
-    ensures read { IfOk result (λ rest. (quote : ℕ) → Takes quote place.now rest.now content.old.items content.new.items) }
+    ensures read { IfOk result
+        (λ rest. (quote : ℕ) → Takes quote place.now rest.now content.old.items content.new.items) }
     ensures refused { IfErr result (λ error. IsMemoryOr (StopsInside text.now place.now) error) }
 {
     match split_escape(&place[1..]) {

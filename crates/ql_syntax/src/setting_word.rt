@@ -3,6 +3,8 @@
 ghost use Rattle.std.specs.Prelude.{◌≡◌};
 ghost use Rattle.ql_syntax.specs.SettingWords.{format_of, is_left_out_format, is_left_out_setting, setting_of};
 
+use crate::format::Format;
+
 /// What the first word of a setting begins.
 #[derive(Clone, Copy)]
 pub(crate) enum SettingWord {
@@ -19,8 +21,8 @@ pub(crate) enum SettingWord {
 /// What the word of a format names.
 #[derive(Clone, Copy)]
 pub(crate) enum FormatWord {
-    /// A format that is read, and has no effect: `json` or `xml`.
-    Known,
+    /// A format: `json` or `xml`.
+    Known(Format),
     /// A format that the profile leaves out.
     LeftOut,
     /// No format.
@@ -52,7 +54,8 @@ pub(crate) fn format_of(word: &[u8]) -> FormatWord
 {
     match word {
         _ if is_left_out_format(word) => FormatWord::LeftOut,
-        b"json" | b"xml" => FormatWord::Known,
+        b"json" => FormatWord::Known(Format::Json),
+        b"xml" => FormatWord::Known(Format::Xml),
         _ => FormatWord::Unknown,
     }
 }

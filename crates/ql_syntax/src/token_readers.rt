@@ -43,7 +43,8 @@ impl<'a> NumberSpot<'a> {
     /// none.
     pub(crate) fn id(self) -> Result<i64, SyntaxError<'a>>
         requires { AllDigits 10 self.number.whole.now }
-        ensures { (text : List ℕ) → Keeps (id_of (number_of self.entry).number self.entry.place.now) (λ id. (id, text)) text result }
+        ensures { (text : List ℕ) → Keeps (id_of (number_of self.entry).number self.entry.place.now)
+            (λ id. (id, text)) text result }
     {
         id_of(self.number).ok_or(SyntaxError::at(QlCause::NumberOutOfRange, self.place))
     }
@@ -52,7 +53,9 @@ impl<'a> NumberSpot<'a> {
     /// is none.
     pub(crate) fn count(self) -> Result<u64, SyntaxError<'a>>
         requires { AllDigits 10 self.number.whole.now }
-        ensures { (text : List ℕ) → Keeps (count_of (number_of self.entry).number self.entry.place.now) (λ count. (count, text)) text result }
+        ensures { (text : List ℕ)
+            → Keeps (count_of (number_of self.entry).number self.entry.place.now)
+            (λ count. (count, text)) text result }
     {
         count_of(self.number).ok_or(SyntaxError::at(QlCause::NumberOutOfRange, self.place))
     }

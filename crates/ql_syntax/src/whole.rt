@@ -39,7 +39,8 @@ pub(crate) fn count_of(number: Number<'_>) -> Option<u64>
 /// The number that digits make, where it fits 64 bits.
 fn size_of_digits(digits: &[u8]) -> Option<u64>
     requires { AllDigits 10 digits.now }
-    ensures { MatchOption result (2 ^ 64 ≤ digits_value 10 digits.now) (λ size. (size ≡ digits_value 10 digits.now) × (size < 2 ^ 64)) }
+    ensures { MatchOption result (2 ^ 64 ≤ digits_value 10 digits.now)
+        (λ size. (size ≡ digits_value 10 digits.now) × (size < 2 ^ 64)) }
 {
     let mut size = 0u64;
     for digit in digits {

@@ -42,7 +42,8 @@ pub(crate) fn split_word(text: &[u8]) -> Option<Run<'_>>
 /// text ends there.
 pub(crate) fn split_name<'a>(dot: &'a [u8], after: &'a [u8]) -> Result<Run<'a>, SyntaxError<'a>>
     ensures name { IfOk result (λ found. IsName after.now found.run.now found.rest.now) }
-    ensures refused { IfErr result (λ error. IsNoName dot.now after.now error.cause error.rest.now) }
+    ensures refused { IfErr result
+        (λ error. IsNoName dot.now after.now error.cause error.rest.now) }
 {
     match split_word(after) {
         Some(found) => Ok(found),

@@ -1,9 +1,10 @@
 -- What the private readers give, without where it lies in memory.
 use Rattle.std.specs.Borrow.{Bor}
-use Rattle.std.specs.Prelude.{ℕ, List}
+use Rattle.std.specs.Prelude.{ℕ, List, Option}
 use Rattle.ql_syntax.specs.Rules.{Round, More, Done}
 use Rattle.ql_syntax.specs.internal.NumberParts.{decimal_of}
 use Rattle.ql_syntax.specs.TokenRules.{Next, Word, Number}
+use Rattle.ql_syntax.specs.declared.format.Format.{Format}
 use Rattle.ql_syntax.specs.declared.out_options.OutOptions.{OutOptions}
 use Rattle.ql_syntax.specs.declared.token_readers.WordSpot.{WordSpot}
 use Rattle.ql_syntax.specs.declared.token_readers.NumberSpot.{NumberSpot}
@@ -37,21 +38,20 @@ the_number spot = (number_of spot, spot.number.rest.now)
 abbrev pub the_bytes : (List ℕ × Bor (List ℕ)) → List ℕ × List ℕ
 the_bytes found = (found.0, found.1.now)
 
--- whether a round is followed by another
-abbrev pub round_of : reader.Round → Round (Unit {0}) (Unit {0})
-round_of rounds.More = More tt
-round_of rounds.Done = Done tt
+-- the format that settings ask for
+abbrev pub the_format : (Option Format × Bor (List ℕ)) → Option Format × List ℕ
+the_format found = (found.0, found.1.now)
 
-abbrev pub the_round : (reader.Round × Bor (List ℕ)) → Round (Unit {0}) (Unit {0}) × List ℕ
-the_round found = (round_of found.0, found.1.now)
+-- a state, and whether another round follows
+abbrev pub round_of : {S : Type 0} → reader.Round → S → Round S S
+round_of rounds.More state = More state
+round_of rounds.Done state = Done state
+
+abbrev pub the_setting_round : (reader.Round × Option Format × Bor (List ℕ)) → Round (Option Format) (Option Format) × List ℕ
+the_setting_round found = (round_of found.0 found.1, found.2.now)
 
 abbrev pub the_options : (OutOptions × Bor (List ℕ)) → OutOptions × List ℕ
 the_options found = (found.0, found.1.now)
 
--- whether more options may follow
-abbrev pub option_round : reader.Round → OutOptions → Round OutOptions OutOptions
-option_round rounds.More options = More options
-option_round rounds.Done options = Done options
-
 abbrev pub the_option_round : (reader.Round × OutOptions × Bor (List ℕ)) → Round OutOptions OutOptions × List ℕ
-the_option_round found = (option_round found.0 found.1, found.2.now)
+the_option_round found = (round_of found.0 found.1, found.2.now)

@@ -1,7 +1,7 @@
 use Rattle.ql_syntax.specs.declared.round.Round.{Round}
 use Rattle.std.proofs.Common.{ap, refl}
 use Rattle.ql_syntax.specs.Outs.{out_options}
-use Rattle.ql_syntax.specs.internal.Views.{option_round}
+use Rattle.ql_syntax.specs.internal.Views.{round_of}
 use Rattle.ql_syntax.proofs.OutLengths.{out_round_shorter}
 use Rattle.ql_syntax.proofs.RoundLemmas.{Start, follows_rounds, reaches_next}
 use Rattle.ql_syntax.proofs.RuleLemmas.{follows_as, keeps_exit, read_of}
@@ -18,11 +18,11 @@ returns-in_err-round c =
 pub returns-in-Done : goal.returns-in-Done
 unfolding out_options
 returns-in-Done c =
-    follows_rounds c.loop-round.invariant (follows_as c.in_ok-round.ensures (ap (λ (round : Round). option_round round c.in_ok-round.seen) c.in-Done.is) refl)
+    follows_rounds c.loop-round.invariant (follows_as c.in_ok-round.ensures (ap (λ (round : Round). round_of round c.in_ok-round.seen) c.in-Done.is) refl)
 
 pub loop-round-smaller : goal.loop-round-smaller
 loop-round-smaller c = (out_round_shorter c.loop-round.options).below _ _ _ (read_of c.in_ok-round.ensures)
 
 pub loop-round-preserved : goal.loop-round-preserved
 loop-round-preserved c =
-    reaches_next c.loop-round.invariant c.in_ok-round.ensures (ap (λ (round : Round). option_round round c.in_ok-round.seen) c.in-More.is)
+    reaches_next c.loop-round.invariant c.in_ok-round.ensures (ap (λ (round : Round). round_of round c.in_ok-round.seen) c.in-More.is)

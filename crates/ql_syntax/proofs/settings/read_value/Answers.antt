@@ -1,6 +1,6 @@
 use Rattle.ql_syntax.proofs.RuleLemmas.{follows_case, follows_refuse, keeps_stop, follows_then}
 use Rattle.ql_syntax.specs.Settings.{setting_value}
-use Rattle.ql_syntax.proofs.settings.skip_value.Goals as goal
+use Rattle.ql_syntax.proofs.settings.read_value.Goals as goal
 
 pub returns-in_err-pass-in-Format : goal.returns-in_err-pass-in-Format
 unfolding setting_value
@@ -15,12 +15,12 @@ returns-in_err-pass-in-Count c =
 pub returns-in_ok-pass-in-Format : goal.returns-in_ok-pass-in-Format
 unfolding setting_value
 returns-in_ok-pass-in-Format c =
-    follows_case _ c.in-Format.ensures (follows_then _ c.in_ok-pass-in-Format.ensures c.skip_format.ensures)
+    follows_case _ c.in-Format.ensures (follows_then _ c.in_ok-pass-in-Format.ensures c.read_format.ensures)
 
 pub returns-in_ok-pass-in-Count : goal.returns-in_ok-pass-in-Count
 unfolding setting_value
 returns-in_ok-pass-in-Count c =
-    follows_case _ c.in-Count.ensures (follows_then _ c.in_ok-pass-in-Count.ensures c.skip_count.ensures)
+    follows_case _ c.in-Count.ensures (follows_then _ c.in_ok-pass-in-Count.ensures c.read_count.ensures)
 
 pub returns-in-LeftOut : goal.returns-in-LeftOut
 unfolding setting_value

@@ -1,7 +1,7 @@
 use Rattle.ql_syntax.proofs.RuleLemmas.{follows_give, keeps_stop, follows_then}
 use Rattle.ql_syntax.specs.Settings.{count}
 use Rattle.std.proofs.Common.{refl}
-use Rattle.ql_syntax.proofs.settings.skip_count.Goals as goal
+use Rattle.ql_syntax.proofs.settings.read_count.Goals as goal
 
 pub returns-in_err-spot : goal.returns-in_err-spot
 unfolding count

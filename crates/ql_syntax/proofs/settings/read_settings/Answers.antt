@@ -1,7 +1,7 @@
 use Rattle.ql_syntax.proofs.RuleLemmas.{follows_from, follows_give, follows_no, keeps_stop, follows_then, follows_yes}
 use Rattle.ql_syntax.specs.Settings.{settings}
 use Rattle.std.proofs.Common.{refl}
-use Rattle.ql_syntax.proofs.settings.skip_settings.Goals as goal
+use Rattle.ql_syntax.proofs.settings.read_settings.Goals as goal
 
 pub returns-in_err-first : goal.returns-in_err-first
 unfolding settings
@@ -10,7 +10,7 @@ returns-in_err-first c = keeps_stop _ c.in_err-first.ensures c.from_residual.ens
 pub returns-in-OpenBracket : goal.returns-in-OpenBracket
 unfolding settings
 returns-in-OpenBracket c =
-    follows_then _ c.in_ok-first.ensures (follows_yes _ c.in-OpenBracket.is c.skip_rounds.ensures)
+    follows_then _ c.in_ok-first.ensures (follows_yes _ c.in-OpenBracket.is c.read_rounds.ensures)
 
 pub returns-in_default : goal.returns-in_default
 unfolding settings

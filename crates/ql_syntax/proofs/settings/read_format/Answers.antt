@@ -1,7 +1,7 @@
 use Rattle.ql_syntax.proofs.RuleLemmas.{follows_case, follows_give, follows_refuse, keeps_stop, follows_then}
 use Rattle.ql_syntax.specs.Settings.{format}
 use Rattle.std.proofs.Common.{refl}
-use Rattle.ql_syntax.proofs.settings.skip_format.Goals as goal
+use Rattle.ql_syntax.proofs.settings.read_format.Goals as goal
 
 pub returns-in_err-found : goal.returns-in_err-found
 unfolding format
