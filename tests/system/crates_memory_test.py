@@ -34,6 +34,7 @@ MODULES = {
     "ql_eval": ("answer_tests", "evaluations"),
     "osm_prove": ("answer_tests", "proofs"),
     "osm_check": ("answer_tests", "verdicts"),
+    "http_messages": ("answer_tests", "connections"),
     "osm_gate": ("answer_tests", "connections"),
 }
 
