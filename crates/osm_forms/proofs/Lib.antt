@@ -8,3 +8,7 @@ pub mod JsonObjects
 pub mod JsonDepths
 pub mod JsonKeeps
 pub mod JsonDocuments
+pub mod Stamps
+pub mod XmlValues
+pub mod XmlNames
+pub mod XmlSpelled

@@ -19,4 +19,6 @@ mod xml_object;
 mod xml_text;
 
 pub use form::Form;
-pub use laws::{commas_between, json_document_is_read, json_object_is_read};
+pub use laws::{
+    commas_between, json_document_is_read, json_object_is_read, xml_document_is_well_formed,
+};
