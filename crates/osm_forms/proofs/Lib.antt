@@ -12,3 +12,5 @@ pub mod Stamps
 pub mod XmlValues
 pub mod XmlNames
 pub mod XmlSpelled
+pub mod XmlUnique
+pub mod XmlKeeps

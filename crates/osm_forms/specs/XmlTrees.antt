@@ -110,3 +110,25 @@ object_tree o mode = element (kind_word (kind_of o.body)) (attribute (codes "id"
 abbrev pub document_tree : List Element → OutMode → Tree
 document_tree objects mode =
     element (codes "osm") (attribute (codes "version") (codes "0.6") ∷ attribute (codes "generator") (codes "osm_mirror") ∷ []) (line_end (lines (map (λ o. object_tree o mode) objects)))
+
+-- ---- objects as XML holds them
+
+abbrev pub held_tag : Tag → Tag
+held_tag tag = record { key = held_text tag.key; value = held_text tag.value }
+
+abbrev pub held_member : Member → Member
+held_member m = record { target = m.target; role = held_text m.role }
+
+abbrev pub held_body : Body → Body
+held_body (bodies.Node place) = bodies.Node place
+held_body (bodies.Way nodes) = bodies.Way nodes
+held_body (bodies.Rel members) = bodies.Rel (map held_member members)
+
+-- the object with U+FFFD for each character of its texts that XML can't hold
+abbrev pub held_element : Element → Element
+held_element o = record {
+  id = o.id;
+  meta = record { version = o.meta.version; changeset = o.meta.changeset; stamp = o.meta.stamp; uid = o.meta.uid; user = held_text o.meta.user };
+  tags = map held_tag o.tags;
+  body = held_body o.body;
+}
