@@ -86,13 +86,13 @@ other_members x y xs ys e = cc
 
 -- ---- numbers, moments and degrees
 
-same_signed : (y z : ℤ) → FitsSigned w64 y → FitsSigned w64 z → signed_decimal y ≡ signed_decimal z → y ≡ z
+pub same_signed : (y z : ℤ) → FitsSigned w64 y → FitsSigned w64 z → signed_decimal y ≡ signed_decimal z → y ≡ z
 same_signed y z fy fz e = one_number (signed_decimal z) y z (subst (λ text. SpellsNumber text y) e (number_spells y fy)) (number_spells z fz)
 
-same_degrees : (y z : ℤ) → unsigned_abs y ≤ 1800000000 → unsigned_abs z ≤ 1800000000 → degrees y ≡ degrees z → y ≡ z
+pub same_degrees : (y z : ℤ) → unsigned_abs y ≤ 1800000000 → unsigned_abs z ≤ 1800000000 → degrees y ≡ degrees z → y ≡ z
 same_degrees y z wy wz e = one_value (degrees z) y z (subst (λ text. IsDegrees text y) e (reads_back y wy)) (reads_back z wz)
 
-same_moment : (m n : Moment) → IsMoment m → IsMoment n → moment (Some m) ≡ moment (Some n) → Some m ≡ Some n
+pub same_moment : (m n : Moment) → IsMoment m → IsMoment n → moment (Some m) ≡ moment (Some n) → Some m ≡ Some n
 same_moment m n im in' e = one_stamp (moment (Some n)) (Some m) (Some n) (subst (λ text. SpellsStamp text (Some m)) e (stamp_spells (Some m) im)) (stamp_spells (Some n) in')
 
 -- ---- members that may be missing
@@ -196,7 +196,7 @@ same_ids (x ∷ s) (y ∷ t) fs ft e =
     let rest : map id_value s ≡ map id_value t = cc in
     ap₂ (λ z zs. z ∷ zs) (same_signed x y fs.0 ft.0 (same_number _ _ first)) (same_ids s t fs.1 ft.1 rest)
 
-same_kind : (k l : Kind) → kind_word k ≡ kind_word l → k ≡ l
+pub same_kind : (k l : Kind) → kind_word k ≡ kind_word l → k ≡ l
 same_kind kinds.Node kinds.Node e = refl
 same_kind kinds.Node kinds.Way e = absurd (true≢false (sym (same_bytes (codes "node") (codes "way") e)))
 same_kind kinds.Node kinds.Rel e = absurd (true≢false (sym (same_bytes (codes "node") (codes "relation") e)))
@@ -234,7 +234,7 @@ same_all_members (x ∷ s) (y ∷ t) fs ft e =
 
 -- ---- bodies
 
-same_place : (p q : Place) → p.lon ≡ q.lon → p.lat ≡ q.lat → p ≡ q
+pub same_place : (p q : Place) → p.lon ≡ q.lon → p.lat ≡ q.lat → p ≡ q
 same_place p q lon lat = let made : ℤ → ℤ → Place = λ lon lat. record { lon = lon; lat = lat } in ap₂ made lon lat
 
 -- bodies of one kind, and what stands after them
@@ -312,10 +312,10 @@ begins_from_changeset k o changeset rest = begins_after k (codes "changeset") (k
 begins_from_version : (k : List ℕ) (o : Element) → bytes_eq (codes "version") k ≡ false → BeginsOther k (from_changeset o) → BeginsOther k (from_version o)
 begins_from_version k o version rest = begins_after k (codes "version") (known_number (codes "version") (pos o.meta.version)) (from_changeset o) (number_optional (codes "version") (pos o.meta.version)) version rest
 
-version_fits : (m : Meta) → MetaInRange m → FitsSigned w64 (pos m.version)
+pub version_fits : (m : Meta) → MetaInRange m → FitsSigned w64 (pos m.version)
 version_fits m is = let small = is.version in omega (arith, ints)
 
-same_version : (m n : ℕ) → pos m ≡ pos n → m ≡ n
+pub same_version : (m n : ℕ) → pos m ≡ pos n → m ≡ n
 same_version m n e = cc
 
 version_other : (o : Element) → BeginsOther (codes "version") (from_changeset o)

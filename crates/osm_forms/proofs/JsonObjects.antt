@@ -1,16 +1,15 @@
 -- The JSON text of an object is that of its value.
-use Rattle.std.proofs.Common.{◌≡◌, ℕ, ◌/◌, ◌%◌, ◌<◌, ◌≤◌, ℤ, pos, List, [], ◌∷◌, ◌++◌, true, false, cond, map, Option, Some, None, MatchOption, codes, refl, sym, ap, ap₂, ◌∙◌, arith, append_assoc, append-nil}
+use Rattle.std.proofs.Common.{◌≡◌, ℕ, ℤ, pos, List, [], ◌∷◌, ◌++◌, true, false, cond, map, Option, Some, None, MatchOption, codes, refl, sym, ap, ap₂, ◌∙◌, append_assoc, append-nil}
 use Rattle.std.specs.Bool.{⊤}
 use Rattle.std.specs.Fmt.{signed_decimal}
-use Rattle.std.specs.List.{AllByRecursion, join_with_byte}
+use Rattle.std.specs.List.{join_with_byte}
 use Rattle.std.specs.Ordering.{int_eq}
 use Rattle.std.proofs.lemmas.List.Concat.{flat_map-append}
 use Rattle.json.specs.Json.{number, string}
-use Rattle.json.specs.Print.{escape, escape_byte, quoted}
-use Rattle.json.proofs.Printed.Strings.{escape_byte_plain}
+use Rattle.json.specs.Print.{escape_byte, quoted}
 use Rattle.osm_model.specs.Bytes.{comma}
 use Rattle.osm_model.specs.CanonicalDegrees.{degrees}
-use Rattle.osm_model.specs.CanonicalLine.{four_digits, moment, two_digits}
+use Rattle.osm_model.specs.CanonicalLine.{moment}
 use Rattle.osm_model.specs.Elements.{Element, kind_of}
 use Rattle.osm_model.specs.Limits.{IsElement, MetaInRange}
 use Rattle.osm_model.specs.Moments.{IsMoment, Moment}
@@ -23,10 +22,10 @@ use Rattle.osm_model.specs.declared.meta.Meta.{Meta}
 use Rattle.osm_model.specs.declared.out_mode.OutMode.{OutMode}
 use Rattle.osm_model.specs.declared.out_mode.OutMode.TheVariants as modes
 use Rattle.osm_model.specs.declared.tag.Tag.{Tag}
-use Rattle.osm_model.proofs.shared.Each.{all_append}
 use Rattle.osm_forms.specs.JsonText.{json_author, json_body, json_change, json_member, json_meta, json_moment, json_number, json_of, json_rest, json_string, json_tag, json_tags, json_user}
 use Rattle.osm_forms.specs.JsonValues.{Named, array_of, author_members, body_members, change_members, id_value, kept_members, known_moment, known_number, known_user, member_value, meta_members, object_of, object_value, tag_member, tags_members}
 use Rattle.osm_forms.specs.Words.{kind_word}
+use Rattle.osm_forms.proofs.Stamps.{moment_bytes, stamp_bytes}
 use Rattle.osm_forms.proofs.JsonPrinted.{array_text, joined_members, named_text, next_named, number_text, object_text, string_text, text_of}
 
 -- ---- members that are numbers or strings
@@ -55,47 +54,7 @@ next-append xs ys = flat_map-append (λ m. comma ∷ named_text m) xs ys
 both_next : (xs ys : List Named) (first second : List ℕ) → next_named xs ≡ first → next_named ys ≡ second → next_named (xs ++ ys) ≡ first ++ second
 both_next xs ys first second e f = next-append xs ys ∙ ap₂ (λ x y. x ++ y) e f
 
--- ---- moments
-
--- from `-` to `Z`: such bytes aren't escaped
-abbrev IsStampByte : ℕ → Type 0
-IsStampByte byte = (45 ≤ byte) × (byte ≤ 90)
-
-stamp_byte : (byte : ℕ) → IsStampByte byte → escape_byte byte ≡ byte ∷ []
-stamp_byte byte is = let low = is.0 in let high = is.1 in escape_byte_plain byte (λ e. omega arith) (λ e. omega arith) (omega arith)
-
-stamp_bytes : (text : List ℕ) → AllByRecursion IsStampByte text → escape text ≡ text
-stamp_bytes [] all = refl
-stamp_bytes (byte ∷ text) all = ap₂ (λ x y. x ++ y) (stamp_byte byte all.0) (stamp_bytes text all.1)
-
-two_bytes : (n : ℕ) → n < 100 → AllByRecursion IsStampByte (two_digits n)
-two_bytes n small = ((omega arith, omega arith), ((omega arith, omega arith), tt))
-
-four_bytes : (n : ℕ) → n < 10000 → AllByRecursion IsStampByte (four_digits n)
-four_bytes n small = all_append IsStampByte (two_digits (n / 100)) (two_digits (n % 100)) (two_bytes (n / 100) (omega arith)) (two_bytes (n % 100) (omega arith))
-
--- two digits after a mark, and before more
-abbrev marked : ℕ → ℕ → List ℕ → List ℕ
-marked mark n rest = (mark ∷ two_digits n) ++ rest
-
-marked_bytes : (mark n : ℕ) (rest : List ℕ) → IsStampByte mark → n < 100 → AllByRecursion IsStampByte rest → AllByRecursion IsStampByte (marked mark n rest)
-marked_bytes mark n rest is small after = (is, all_append IsStampByte (two_digits n) rest (two_bytes n small) after)
-
-abbrev time_text : Moment → List ℕ
-time_text m = marked 84 m.hour (marked 58 m.minute (marked 58 m.second (90 ∷ [])))
-
-time_bytes : (m : Moment) → IsMoment m → AllByRecursion IsStampByte (time_text m)
-time_bytes m is =
-    let second = marked_bytes 58 m.second (90 ∷ []) (omega arith, omega arith) (omega (arith, is.second)) ((omega arith, omega arith), tt) in
-    let minute = marked_bytes 58 m.minute (marked 58 m.second (90 ∷ [])) (omega arith, omega arith) (omega (arith, is.minute)) second in
-    marked_bytes 84 m.hour (marked 58 m.minute (marked 58 m.second (90 ∷ []))) (omega arith, omega arith) (omega (arith, is.hour)) minute
-
-moment_bytes : (m : Moment) → IsMoment m → AllByRecursion IsStampByte (moment (Some m))
-unfolding moment
-moment_bytes m is =
-    let day = marked_bytes 45 m.day (time_text m) (omega arith, omega arith) (omega (arith, is.day)) (time_bytes m is) in
-    let month = marked_bytes 45 m.month (marked 45 m.day (time_text m)) (omega arith, omega arith) (omega (arith, is.month)) day in
-    all_append IsStampByte (four_digits m.year) (marked 45 m.month (marked 45 m.day (time_text m))) (four_bytes m.year (omega (arith, is.year))) month
+-- ---- what is known of the last change
 
 known_moment_text : (stamp : Option Moment) → MatchOption stamp ⊤ (λ m. IsMoment m) → next_named (known_moment stamp) ≡ json_moment stamp
 unfolding escape_byte
@@ -109,8 +68,6 @@ known_user_text : (user : List ℕ) → next_named (known_user user) ≡ json_us
 unfolding escape_byte json_string
 known_user_text [] = refl
 known_user_text (b ∷ bytes) = one_next (codes "user", string (b ∷ bytes)) ∙ ap (λ text. comma ∷ text) (string_named (codes "user") (b ∷ bytes))
-
--- ---- what is known of the last change
 
 version_text : (z : ℤ) → next_named (known_number (codes "version") z) ≡ json_number (codes ",\"version\":") z
 unfolding escape_byte

@@ -8,3 +8,9 @@ pub mod JsonObjects
 pub mod JsonDepths
 pub mod JsonKeeps
 pub mod JsonDocuments
+pub mod Stamps
+pub mod XmlValues
+pub mod XmlNames
+pub mod XmlSpelled
+pub mod XmlUnique
+pub mod XmlKeeps

@@ -3,5 +3,7 @@ pub mod Words
 pub mod JsonText
 pub mod JsonValues
 pub mod XmlText
+pub mod XmlDocuments
+pub mod XmlTrees
 pub mod Forms
 pub mod Documents

@@ -1,33 +1,70 @@
 //! Documents around the text of objects.
 
-ghost use Rattle.std.specs.Prelude.{◌≡◌, ◌++◌, drop, length, take, OnErr, OnOk};
+ghost use Rattle.std.specs.Prelude.{◌≡◌, ◌++◌, ◌≤◌, drop, length, take, OnErr, OnOk};
 ghost use Rattle.osm_forms.specs.Documents.{document_in, json_header, json_trailer, xml_header, xml_trailer};
 
 use crate::form::Form;
-use crate::number::append_words;
+use crate::number::append_bytes;
 use std::alloc::AllocError;
 
-/// Appends the document around the text of objects.
+/// The document around the text of objects, in parts: one after the other they are the document. They borrow the text.
+#[derive(Clone, Copy, Debug)]
+pub struct DocumentParts<'a> {
+    /// What stands before the objects.
+    pub header: &'static [u8],
+    /// The objects: the text, in JSON without its first byte, the comma.
+    pub body: &'a [u8],
+    /// What stands after the objects.
+    pub trailer: &'static [u8],
+}
+
+/// The parts of the document around the text of objects.
 #[tactic(auto, unfolding(crate::specs::Documents::document_in))]
-pub(crate) fn append_document(form: Form, text: &[u8], out: &mut Vec<u8>) -> Result<(), AllocError>
-    ensures ok { OnOk result (out.new.items ≡ out.old.items ++ document_in form text.now) }
-    ensures err { OnErr result (take (length out.old.items) out.new.items ≡ out.old.items) }
+pub(crate) fn document_parts(form: Form, text: &[u8]) -> DocumentParts<'_>
+    ensures parts { result.header.now ++ (result.body.now ++ result.trailer.now)
+        ≡ document_in form text.now }
+    ensures few { (length result.header.now ≤ 100) × (length result.trailer.now ≤ 10) }
 {
     match form {
-        Form::Opl => out.extend_from_slice(text),
-        Form::Json => append_json_document(text, out),
-        Form::Xml => append_xml_document(text, out),
+        Form::Opl => opl_parts(text),
+        Form::Json => json_parts(text),
+        Form::Xml => xml_parts(text),
     }
 }
 
-fn append_json_document(text: &[u8], out: &mut Vec<u8>) -> Result<(), AllocError>
-    ensures ok { OnOk result (out.new.items ≡ out.old.items
-        ++ (json_header ++ (drop 1 text.now ++ json_trailer))) }
-    ensures err { OnErr result (take (length out.old.items) out.new.items ≡ out.old.items) }
+fn opl_parts(text: &[u8]) -> DocumentParts<'_>
+    ensures parts { result.header.now ++ (result.body.now ++ result.trailer.now) ≡ text.now }
+    ensures few { (length result.header.now ≤ 100) × (length result.trailer.now ≤ 10) }
 {
-    append_json_header(out)?;
-    append_bytes(without_first(text), out)?;
-    append_json_trailer(out)
+    DocumentParts {
+        header: b"",
+        body: text,
+        trailer: b"",
+    }
+}
+
+fn json_parts(text: &[u8]) -> DocumentParts<'_>
+    ensures parts { result.header.now ++ (result.body.now ++ result.trailer.now)
+        ≡ json_header ++ (drop 1 text.now ++ json_trailer) }
+    ensures few { (length result.header.now ≤ 100) × (length result.trailer.now ≤ 10) }
+{
+    DocumentParts {
+        header: json_header(),
+        body: without_first(text),
+        trailer: json_trailer(),
+    }
+}
+
+fn xml_parts(text: &[u8]) -> DocumentParts<'_>
+    ensures parts { result.header.now ++ (result.body.now ++ result.trailer.now)
+        ≡ xml_header ++ (text.now ++ xml_trailer) }
+    ensures few { (length result.header.now ≤ 100) × (length result.trailer.now ≤ 10) }
+{
+    DocumentParts {
+        header: xml_header(),
+        body: text,
+        trailer: xml_trailer(),
+    }
 }
 
 /// All but the first byte.
@@ -40,53 +77,45 @@ fn without_first(text: &[u8]) -> &[u8]
     }
 }
 
-fn append_json_header(out: &mut Vec<u8>) -> Result<(), AllocError>
-    ensures ok { OnOk result (out.new.items ≡ out.old.items ++ json_header) }
-    ensures err { OnErr result (take (length out.old.items) out.new.items ≡ out.old.items) }
+fn json_header() -> &'static [u8]
+    ensures { result.now ≡ json_header }
 {
-    append_words(
-        "{\"version\":0.6,\"generator\":\"osm_mirror\",\"elements\":[",
-        out,
-    )
+    b"{\"version\":0.6,\"generator\":\"osm_mirror\",\"elements\":["
 }
 
-fn append_json_trailer(out: &mut Vec<u8>) -> Result<(), AllocError>
-    ensures ok { OnOk result (out.new.items ≡ out.old.items ++ json_trailer) }
-    ensures err { OnErr result (take (length out.old.items) out.new.items ≡ out.old.items) }
+fn json_trailer() -> &'static [u8]
+    ensures { result.now ≡ json_trailer }
 {
-    append_words("\n]}\n", out)
+    b"\n]}\n"
 }
 
-fn append_xml_document(text: &[u8], out: &mut Vec<u8>) -> Result<(), AllocError>
-    ensures ok { OnOk result (out.new.items ≡ out.old.items
-        ++ (xml_header ++ (text.now ++ xml_trailer))) }
-    ensures err { OnErr result (take (length out.old.items) out.new.items ≡ out.old.items) }
+fn xml_header() -> &'static [u8]
+    ensures { result.now ≡ xml_header }
 {
-    append_xml_header(out)?;
-    append_bytes(text, out)?;
-    append_xml_trailer(out)
+    b"<?xml version=\"1.0\" encoding=\"UTF-8\"?>\n<osm version=\"0.6\" generator=\"osm_mirror\">\n"
 }
 
-fn append_xml_header(out: &mut Vec<u8>) -> Result<(), AllocError>
-    ensures ok { OnOk result (out.new.items ≡ out.old.items ++ xml_header) }
-    ensures err { OnErr result (take (length out.old.items) out.new.items ≡ out.old.items) }
+fn xml_trailer() -> &'static [u8]
+    ensures { result.now ≡ xml_trailer }
 {
-    append_words(
-        "<?xml version=\"1.0\" encoding=\"UTF-8\"?>\n<osm version=\"0.6\" generator=\"osm_mirror\">\n",
-        out,
-    )
+    b"</osm>\n"
 }
 
-fn append_xml_trailer(out: &mut Vec<u8>) -> Result<(), AllocError>
-    ensures ok { OnOk result (out.new.items ≡ out.old.items ++ xml_trailer) }
-    ensures err { OnErr result (take (length out.old.items) out.new.items ≡ out.old.items) }
+/// How many bytes the document around the text of objects has.
+pub(crate) fn document_len(form: Form, text: &[u8]) -> usize
+    ensures { result ≡ length (document_in form text.now) }
 {
-    append_words("</osm>\n", out)
+    let parts = document_parts(form, text);
+    parts.header.len() + parts.body.len() + parts.trailer.len()
 }
 
-fn append_bytes(bytes: &[u8], out: &mut Vec<u8>) -> Result<(), AllocError>
-    ensures ok { OnOk result (out.new.items ≡ out.old.items ++ bytes.now) }
+/// Appends the document around the text of objects.
+pub(crate) fn append_document(form: Form, text: &[u8], out: &mut Vec<u8>) -> Result<(), AllocError>
+    ensures ok { OnOk result (out.new.items ≡ out.old.items ++ document_in form text.now) }
     ensures err { OnErr result (take (length out.old.items) out.new.items ≡ out.old.items) }
 {
-    out.extend_from_slice(bytes)
+    let parts = document_parts(form, text);
+    append_bytes(parts.header, out)?;
+    append_bytes(parts.body, out)?;
+    append_bytes(parts.trailer, out)
 }

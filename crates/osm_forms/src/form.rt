@@ -6,7 +6,7 @@ ghost use Rattle.osm_forms.specs.Forms.{form_name, form_text};
 ghost use Rattle.osm_forms.specs.JsonText.{json_of, json_ref};
 ghost use Rattle.osm_forms.specs.XmlText.{xml_end, xml_of, xml_ref};
 
-use crate::document::append_document;
+use crate::document::{DocumentParts, append_document, document_len, document_parts};
 use crate::json_object::{append_json_object, append_json_ref};
 use crate::number::append_words;
 use crate::xml_object::{append_xml_end, append_xml_object, append_xml_ref};
@@ -83,6 +83,22 @@ impl Form {
             out.truncate(start);
         }
         appended
+    }
+
+    /// The same document as [`Form::write_document`] appends, in parts that borrow the text: for writers, and where the
+    /// length of the document comes before it. It takes no memory.
+    pub fn document_parts(self, text: &[u8]) -> DocumentParts<'_>
+        ensures { result.header.now ++ (result.body.now ++ result.trailer.now)
+            ≡ document_in self text.now }
+    {
+        document_parts(self, text)
+    }
+
+    /// How many bytes the document around a text has.
+    pub fn document_len(self, text: &[u8]) -> usize
+        ensures { result ≡ length (document_in self text.now) }
+    {
+        document_len(self, text)
     }
 
     /// The media type of a document, as the field Content-Type of HTTP gives it. Clients of Overpass want those of JSON

@@ -18,5 +18,9 @@ mod xml_list;
 mod xml_object;
 mod xml_text;
 
+pub use document::DocumentParts;
 pub use form::Form;
-pub use laws::{commas_between, json_document_is_read, json_object_is_read};
+pub use laws::{
+    commas_between, json_document_is_read, json_object_is_read, xml_document_is_well_formed,
+    xml_object_is_read,
+};

@@ -38,6 +38,14 @@ pub(crate) fn append_words(words: &str, out: &mut Vec<u8>) -> Result<(), AllocEr
     out.extend_from_slice(words.as_bytes())
 }
 
+/// Appends bytes as they are.
+pub(crate) fn append_bytes(bytes: &[u8], out: &mut Vec<u8>) -> Result<(), AllocError>
+    ensures ok { OnOk result (out.new.items ≡ out.old.items ++ bytes.now) }
+    ensures err { OnErr result (take (length out.old.items) out.new.items ≡ out.old.items) }
+{
+    out.extend_from_slice(bytes)
+}
+
 /// The name of a kind.
 pub(crate) fn kind_word(kind: Kind) -> &'static str
     ensures { result.now ≡ kind_word kind }
