@@ -1,0 +1,21 @@
+use Rattle.std.proofs.Common.{arith}
+use Rattle.osm_gate.proofs.FieldLemmas.{digits-more, length-parts}
+use Rattle.mirror_reply.proofs.fields.parse_length.Goals as goal
+
+pub overflow_mul-length : goal.overflow_mul-length
+overflow_mul-length c =
+    let (short, all) = length-parts c.args.value.now c.requires in
+    let more = digits-more c.args.value.now c.loop-byte.byte-index all short c.loop-byte-test.true in
+    omega (arith, more.0, more.1, c.loop-byte.invariant)
+
+pub overflow_add-length : goal.overflow_add-length
+overflow_add-length c =
+    let (short, all) = length-parts c.args.value.now c.requires in
+    let more = digits-more c.args.value.now c.loop-byte.byte-index all short c.loop-byte-test.true in
+    omega (arith, more.0, more.1, c.loop-byte.invariant)
+
+pub loop-byte-preserved : goal.loop-byte-preserved
+loop-byte-preserved c =
+    let (short, all) = length-parts c.args.value.now c.requires in
+    let more = digits-more c.args.value.now c.loop-byte.byte-index all short c.loop-byte-test.true in
+    omega (arith, more.0, c.loop-byte.invariant, c.from.ensures)

@@ -1,0 +1,33 @@
+-- How far a fetch has come between two of its steps.
+use Rattle.std.specs.Prelude.{◌≡◌, ℕ, ◌<◌, List, [], ◌∷◌, ◌++◌, length, Result, Ok, Err}
+use Rattle.mirror_reply.specs.Calls.{Call, broken, bytes_received, bytes_sent, ended, opened, received, sent, unsent}
+use Rattle.mirror_reply.specs.Fetches.{IsOpened, reads}
+use Rattle.mirror_reply.specs.declared.fetch_fault.FetchFault.{FetchFault}
+use Rattle.mirror_reply.specs.declared.fetch_fault.FetchFault.TheVariants.{Silent}
+
+-- the request is sent, and nothing else happened
+pub record IsReady (request : List ℕ) (calls : List Call) : Type 0 where
+  pub is_opened : IsOpened calls
+  pub all_sent : bytes_sent calls ≡ request
+  pub none_received : bytes_received calls ≡ []
+  pub none_read : reads calls ≡ 0
+
+-- it is sent but for some bytes
+pub record IsBegun (request : List ℕ) (calls : List Call) : Type 0 where
+  pub is_opened : IsOpened calls
+  pub unsent_bytes : (rest : List ℕ) × (request ≡ bytes_sent calls ++ rest) × (0 < length rest)
+  pub none_received : bytes_received calls ≡ []
+
+-- the last call sent nothing
+abbrev pub HasStuck : List ℕ → List Call → Type 0
+HasStuck request [] = ⊥
+HasStuck request (opened is ∷ before) = ⊥
+HasStuck request (sent bytes ∷ before) = IsBegun request before × (bytes ≡ [])
+HasStuck request (unsent ∷ before) = IsBegun request before
+HasStuck request (received bytes ∷ before) = ⊥
+HasStuck request (ended ∷ before) = ⊥
+HasStuck request (broken ∷ before) = ⊥
+
+abbrev pub HasSent : List ℕ → List Call → Result (Unit {0}) FetchFault → Type 0
+HasSent request calls (Ok done) = IsReady request calls
+HasSent request calls (Err fault) = (fault ≡ Silent) × HasStuck request calls
