@@ -19,16 +19,16 @@ NoFeed [] = Unit {0}
 NoFeed (b ∷ bytes) = ((b == 10) ≡ false) × NoFeed bytes
 
 other_byte : (test : ℕ → Bool) → test 10 ≡ false → (b : ℕ) → test b ≡ true → (b == 10) ≡ false
-other_byte test no b yes = go (b == 10) refl
+other_byte test lacks b passes = go (b == 10) refl
   where
     go : (c : Bool) → (b == 10) ≡ c → (b == 10) ≡ false
     go false e = e
-    go true e = let same : b ≡ 10 = grind (arith, nat_tests) in let both : true ≡ false = sym yes ∙ ap test same ∙ no in cc both
+    go true e = let same : b ≡ 10 = grind (arith, nat_tests) in let both : true ≡ false = sym passes ∙ ap test same ∙ lacks in cc both
 
 no_feed : (test : ℕ → Bool) → test 10 ≡ false → (w : List ℕ) → AllPass test w → NoFeed w
-no_feed test no [] all = tt
-no_feed test no (b ∷ w) all =
-    (other_byte test no b (All-head (λ v. IsTrue (test v)) b w all), no_feed test no w (All-tail (λ v. IsTrue (test v)) b w all))
+no_feed test lacks [] all = tt
+no_feed test lacks (b ∷ w) all =
+    (other_byte test lacks b (All-head (λ v. IsTrue (test v)) b w all), no_feed test lacks w (All-tail (λ v. IsTrue (test v)) b w all))
 
 shift-zero : (o : Option ℕ) → o ≡ option_map (λ n. 0 + n) o
 shift-zero None = refl
@@ -40,9 +40,9 @@ shift-suc k (Some n) = ap (λ (k : ℕ). Some k) (omega arith)
 
 -- no head ends among them
 pub past_bytes : (w rest : List ℕ) → NoFeed w → head_length (w ++ rest) ≡ option_map (λ n. length w + n) (head_length rest)
-past_bytes [] rest no = shift-zero (head_length rest)
-past_bytes (b ∷ w) rest no =
-    rw no.0 (ap (option_map (λ n. suc n)) (past_bytes w rest no.1) ∙ shift-suc (length w) (head_length rest))
+past_bytes [] rest lacks = shift-zero (head_length rest)
+past_bytes (b ∷ w) rest lacks =
+    rw lacks.0 (ap (option_map (λ n. suc n)) (past_bytes w rest lacks.1) ∙ shift-suc (length w) (head_length rest))
 
 -- nor at the end of a line that no empty line follows
 past_end : (e : LineEnd) (rest : List ℕ) → empty_line rest ≡ 0
@@ -66,9 +66,11 @@ stops-empty (b ∷ c ∷ rest) s = grind (arith, nat_tests)
 -- but at the end of one that an empty line follows
 at_last : (e last : LineEnd) (rest : List ℕ)
     → head_length (print_end e ++ (print_end last ++ rest)) ≡ Some (length (print_end e) + length (print_end last))
-at_last lf lf rest = refl
+at_last lf lf [] = refl
+at_last lf lf (b ∷ rest) = refl
 at_last lf crlf rest = refl
-at_last crlf lf rest = refl
+at_last crlf lf [] = refl
+at_last crlf lf (b ∷ rest) = refl
 at_last crlf crlf rest = refl
 
 token-no_feed : is_token_byte 10 ≡ false
@@ -79,8 +81,8 @@ field-no_feed : (f : Field) → IsField f → NoFeed (f.name ++ 58 ∷ f.raw)
 field-no_feed f is = go f.name (no_feed is_token_byte token-no_feed f.name is.name.1)
   where
     go : (w : List ℕ) → NoFeed w → NoFeed (w ++ 58 ∷ f.raw)
-    go [] no = (refl, no_feed is_value_byte refl f.raw is.raw)
-    go (b ∷ w) no = (no.0, go w no.1)
+    go [] lacks = (refl, no_feed is_value_byte refl f.raw is.raw)
+    go (b ∷ w) lacks = (lacks.0, go w lacks.1)
 
 some-plus : (a b : ℕ) (o : Option ℕ) → o ≡ Some b → option_map (λ n. a + n) o ≡ Some (a + b)
 some-plus a b o e = rw e refl
@@ -115,8 +117,8 @@ reason-no_feed None all = tt
 reason-no_feed (Some phrase) all = (refl, no_feed is_value_byte refl phrase all)
 
 append-no_feed : (a b : List ℕ) → NoFeed a → NoFeed b → NoFeed (a ++ b)
-append-no_feed [] b no also = also
-append-no_feed (x ∷ a) b no also = (no.0, append-no_feed a b no.1 also)
+append-no_feed [] b lacks also = also
+append-no_feed (x ∷ a) b lacks also = (lacks.0, append-no_feed a b lacks.1 also)
 
 version-no_feed : (minor : ℕ) → minor ≤ 1 → NoFeed (print_version minor)
 version-no_feed minor small = (refl, (refl, (refl, (refl, (refl, (refl, (refl, (grind (arith, nat_tests), tt))))))))
@@ -141,7 +143,7 @@ pub head-ends : (h : ResponseHead) (after : List ℕ) → ReadsResponse (print_r
     → head_length (print_response h ++ after) ≡ Some (length (print_response h))
 head-ends h after is none =
     let line = status_line h in
-    let no : NoFeed line = append-no_feed (print_version h.minor) (32 ∷ (h.digits ++ print_reason h.reason)) (version-no_feed h.minor is.0.minor)
+    let lacks : NoFeed line = append-no_feed (print_version h.minor) (32 ∷ (h.digits ++ print_reason h.reason)) (version-no_feed h.minor is.0.minor)
         (refl, append-no_feed h.digits (print_reason h.reason) (no_feed is_ascii_digit refl h.digits is.0.digits.1) (reason-no_feed h.reason is.0.reason)) in
     let size : length (print_response h) + length after ≡ length line + (length (print_end h.line_end) + (length (flat_map print_field h.fields) + (length (print_end h.last) + length after))) =
         sym (length-append (print_response h) after) ∙ ap length (print-parts h after none)
@@ -149,6 +151,6 @@ head-ends h after is none =
         ∙ ap (λ n. length (print_end h.line_end) + n) (length-append (flat_map print_field h.fields) _
         ∙ ap (λ n. length (flat_map print_field h.fields) + n) (length-append (print_end h.last) after))) in
     ap head_length (print-parts h after none)
-    ∙ past_bytes line (print_end h.line_end ++ (flat_map print_field h.fields ++ (print_end h.last ++ after))) no
+    ∙ past_bytes line (print_end h.line_end ++ (flat_map print_field h.fields ++ (print_end h.last ++ after))) lacks
     ∙ some-plus (length line) _ _ (section_end h.line_end h.fields h.last after is.0.fields)
     ∙ ap (λ (k : ℕ). Some k) (omega arith)

@@ -23,13 +23,10 @@ use Rattle.mirror_reply.proofs.EndLemmas.{head-ends}
 
 pub take-past : (n : ℕ) (a b : List ℕ) → length a ≤ n → take n (a ++ b) ≡ a ++ take (n - length a) b
 take-past n [] b fits = ap (λ (k : ℕ). take k b) (omega arith)
-take-past n (x ∷ a) b fits = go n fits
-  where
-    go : (n : ℕ) → length (x ∷ a) ≤ n → take n ((x ∷ a) ++ b) ≡ (x ∷ a) ++ take (n - length (x ∷ a)) b
-    go zero fits = absurd (omega arith)
-    go (suc n) fits =
-        let same : n - length a ≡ suc n - length (x ∷ a) = omega arith in
-        ap (λ (t : List ℕ). x ∷ t) (take-past n a b (omega arith)) ∙ ap (λ (k : ℕ). x ∷ (a ++ take k b)) same
+take-past zero (x ∷ a) b fits = absurd (omega arith)
+take-past (suc n) (x ∷ a) b fits =
+    let same : n - length a ≡ suc n - length (x ∷ a) = omega arith in
+    ap (λ (t : List ℕ). x ∷ t) (take-past n a b (omega arith)) ∙ ap (λ (k : ℕ). x ∷ (a ++ take k b)) same
 
 -- ---- the head's end
 

@@ -10,7 +10,7 @@ use Rattle.std.proofs.lemmas.Bool.Decides.{nat_tests}
 use Rattle.std.proofs.lemmas.Fmt.{decimal_is_IsNumeral, length-decimal-le}
 use Rattle.std.proofs.lemmas.List.Elements.{All-cons, All-get_or, All-head, All-nil, All-tail}
 use Rattle.std.proofs.lemmas.List.Sums.{AllPass-from_list_all, list_all-from_AllPass}
-use Rattle.std.proofs.lemmas.Nat.Bytes.{from_be_bytes-to_be_bytes_8}
+use Rattle.std.proofs.lemmas.Nat.{from_be_bytes-to_be_bytes_8}
 use Rattle.hex.specs.Hex.{encode_lower, encode_with, lower_digits}
 use Rattle.hex.proofs.HexLemmas.{length-encode_with}
 use Rattle.httparse.specs.Grammar.{AllPass, Field, IsField, IsResponseHead, IsToken, LineEnd, crlf, is_ows, is_token_byte, is_value_byte, print_end, print_field, print_response, ResponseHead, skip_ows, status_code, trim_ows}
@@ -119,9 +119,10 @@ fields-fit closes root size bytes small =
     let P : ℕ → Type 0 = λ v. IsTrue (is_value_byte v) in
     let numeral = decimal_is_IsNumeral size small in
     let length_fits : AllPass is_value_byte (decimal size) = pass-map is_ascii_digit is_value_byte digit-value_byte (decimal size) (digits-pass (decimal size) numeral.0.1) in
-    All-cons IsField (field (codes "Content-Type") (codes "application/octet-stream")) _
+    All-cons IsField (field (codes "Content-Type") (codes "application/octet-stream"))
+    (field (codes "Content-Length") (decimal size) ∷ field (codes "Osm-Root") (encode_lower root) ∷ close_fields closes)
     (record { name = token-like (codes "Content-Type") refl (lit< tt); raw = AllPass-from_list_all is_value_byte (codes " application/octet-stream") refl })
-    (All-cons IsField (field (codes "Content-Length") (decimal size)) _
+    (All-cons IsField (field (codes "Content-Length") (decimal size)) (field (codes "Osm-Root") (encode_lower root) ∷ close_fields closes)
     (record { name = token-like (codes "Content-Length") refl (lit< tt); raw = All-cons P 32 (decimal size) refl length_fits })
     (All-cons IsField (field (codes "Osm-Root") (encode_lower root)) (close_fields closes)
     (record { name = token-like (codes "Osm-Root") refl (lit< tt); raw = All-cons P 32 (encode_lower root) refl (hex-pass root bytes) })

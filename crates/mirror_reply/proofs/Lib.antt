@@ -1,3 +1,4 @@
+pub mod AskingLemmas
 pub mod BodyLemmas
 pub mod EndLemmas
 pub mod HeadLemmas

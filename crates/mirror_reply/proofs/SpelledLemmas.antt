@@ -59,7 +59,8 @@ pub reply-spelled : (limit : ℕ) (closed : Bool) (received root answer proof : 
 reply-spelled limit closed received root answer proof (unfinished, is, e) = absurd (lacks closed ClosedEarly root answer proof (sym e))
 reply-spelled limit closed received root answer proof (no_head, is, e) = cc
 reply-spelled limit closed received root answer proof (head h after, is, e) =
-    let (ok, size, told, fits, body) = status-says limit closed (status_code h) (told_length (fields_of h)) after root answer proof (sym e) in
+    let (ok, sized) = status-says limit closed (status_code h) (told_length (fields_of h)) after root answer proof (sym e) in
+    let (size, told, fits, body) = sized in
     record { h = h; after = after; begins = is; ok = ok; size = size; told = told; within = fits; body = body }
 
 pub reply-stands : (limit : ℕ) (closed : Bool) (received root answer proof : List ℕ) → HasReply limit received root answer proof

@@ -73,3 +73,49 @@ text-taken limit bytes received text (later, split, inl none) is =
     subst (λ (t : List ℕ). HasText t text) (sym same) is
 text-taken limit bytes received text (later, split, inr settled) is =
     subst (λ (t : List ℕ). HasText t text) (sym split) (text-settled limit bytes later text settled is)
+
+-- ---- of a reply that contracts see as what it keeps
+
+module _ (kept : Kept) (limit : ℕ) (inside bytes received : List ℕ) (view : record { limit = limit; bytes = inside } ≡ kept) (same : bytes ≡ inside) (taken : HasTaken kept received) where
+  taken-inside : HasTaken (record { limit = limit; bytes = bytes }) received
+  taken-inside =
+      subst (λ (b : List ℕ). HasTaken (record { limit = limit; bytes = b }) received) (sym same)
+      (subst (λ (k : Kept). HasTaken k received) (sym view) taken)
+
+  limit-is : limit ≡ kept.limit
+  limit-is = ap (λ (k : Kept). k.limit) view
+
+  pub view-tells : (closed : Bool) (p : Progress) → SaysOf limit closed bytes p → Tells kept.limit closed received p
+  view-tells closed p says = subst (λ n. Tells n closed received p) limit-is (tells-taken limit closed bytes received p taken-inside says)
+
+  pub view-text : (text : List ℕ) → HasText bytes text → HasText received text
+  view-text text is = text-taken limit bytes received text taken-inside is
+
+  pub view-reply : (r a p : List ℕ) → Stands limit false bytes (replied r a p) → HasReply kept.limit received r a p
+  view-reply r a p is = subst (λ n. HasReply n received r a p) limit-is (reply-spelled limit false received r a p (stands-taken limit false bytes received (replied r a p) taken-inside is))
+
+  pub view-none : ((r a p : List ℕ) → Stands limit false bytes (replied r a p) → ⊥) → (r a p : List ℕ) → HasReply kept.limit received r a p → ⊥
+  view-none none r a p is = none r a p (back taken-inside (reply-stands limit false received r a p (subst (λ n. HasReply n received r a p) (sym limit-is) is)))
+    where
+      back : HasTaken (record { limit = limit; bytes = bytes }) received → Stands limit false received (replied r a p) → Stands limit false bytes (replied r a p)
+      back (later, split, inl none) is =
+          let whole : received ≡ bytes = split ∙ ap (λ (t : List ℕ). bytes ++ t) none ∙ append-nil bytes in
+          subst (λ (t : List ℕ). Stands limit false t (replied r a p)) whole is
+      back (later, split, inr (t, stands, settled)) is =
+          let there : Stands limit false (bytes ++ later) (replied r a p) = subst (λ (x : List ℕ). Stands limit false x (replied r a p)) split is in
+          let one = stands-unique limit false (bytes ++ later) t (replied r a p) (settled-append limit false bytes later t stands settled) there in
+          subst (Stands limit false bytes) one stands
+
+-- the bytes kept of a whole reply are one
+pub whole-kept : (kept : Kept) (received : List ℕ) → HasTaken kept received → Tells kept.limit false received Whole → Tells kept.limit false kept.bytes Whole
+whole-kept kept received taken (r, a, p, is) =
+    (r, a, p, reply-spelled kept.limit false kept.bytes r a p (back taken (reply-stands kept.limit false received r a p is)))
+  where
+    back : HasTaken kept received → Stands kept.limit false received (replied r a p) → Stands kept.limit false kept.bytes (replied r a p)
+    back (later, split, inl none) is =
+        let whole : received ≡ kept.bytes = split ∙ ap (λ (t : List ℕ). kept.bytes ++ t) none ∙ append-nil kept.bytes in
+        subst (λ (t : List ℕ). Stands kept.limit false t (replied r a p)) whole is
+    back (later, split, inr (t, stands, settled)) is =
+        let there : Stands kept.limit false (kept.bytes ++ later) (replied r a p) = subst (λ (x : List ℕ). Stands kept.limit false x (replied r a p)) split is in
+        let one = stands-unique kept.limit false (kept.bytes ++ later) t (replied r a p) (settled-append kept.limit false kept.bytes later t stands settled) there in
+        subst (Stands kept.limit false kept.bytes) one stands

@@ -34,9 +34,14 @@ IsOpened (received bytes ∷ before) = IsOpened before
 IsOpened (ended ∷ before) = IsOpened before
 IsOpened (broken ∷ before) = IsOpened before
 
--- the request is sent, but for some bytes of it, and nothing was received
+-- it is sent but for some bytes, and nothing was received
+pub record IsBegun (request : List ℕ) (calls : List Call) : Type 0 where
+  pub is_opened : IsOpened calls
+  pub unsent_bytes : (rest : List ℕ) × (request ≡ bytes_sent calls ++ rest) × (0 < length rest)
+  pub none_received : bytes_received calls ≡ []
+
 abbrev pub IsAsking : Fetch → List Call → Type 0
-IsAsking f calls = IsOpened calls × ((rest : List ℕ) × (f.request ≡ bytes_sent calls ++ rest) × (0 < length rest)) × (bytes_received calls ≡ [])
+IsAsking f calls = IsBegun f.request calls
 
 -- the request is sent
 abbrev pub HasAsked : Fetch → List Call → Type 0
@@ -46,15 +51,19 @@ HasAsked f calls = IsOpened calls × (bytes_sent calls ≡ f.request)
 abbrev pub IsWaiting : Fetch → List Call → Type 0
 IsWaiting f calls = HasAsked f calls × Stands f.kept.limit false (bytes_received calls) waits
 
--- the last call failed, or took nothing, or so many reads were made and there is no end
+-- the last call failed, or took nothing
+abbrev pub HasStopped : Fetch → List Call → Type 0
+HasStopped f [] = ⊥
+HasStopped f (opened is ∷ before) = ⊥
+HasStopped f (sent bytes ∷ before) = IsAsking f before × (bytes ≡ [])
+HasStopped f (unsent ∷ before) = IsAsking f before
+HasStopped f (received bytes ∷ before) = ⊥
+HasStopped f (ended ∷ before) = ⊥
+HasStopped f (broken ∷ before) = IsWaiting f before
+
+-- that, or so many reads were made and there is no end
 abbrev pub IsSilent : Fetch → List Call → Type 0
-IsSilent f [] = ⊥
-IsSilent f (opened is ∷ before) = ⊥
-IsSilent f (sent bytes ∷ before) = IsAsking f before × (bytes ≡ [])
-IsSilent f (unsent ∷ before) = IsAsking f before
-IsSilent f (received bytes ∷ before) = IsWaiting f (received bytes ∷ before) × (suc (reads before) ≡ READ_LIMIT)
-IsSilent f (ended ∷ before) = ⊥
-IsSilent f (broken ∷ before) = IsWaiting f before
+IsSilent f calls = HasStopped f calls ⊎ (IsWaiting f calls × (reads calls ≡ READ_LIMIT))
 
 -- the mirror has closed
 abbrev pub is_closed : List Call → Bool

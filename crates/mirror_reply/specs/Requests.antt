@@ -3,7 +3,6 @@
 use Rattle.std.specs.Prelude.{ℕ, Bool, ◌&&◌, List, ◌++◌, length, codes, nat_lt}
 use Rattle.std.specs.List.{list_all}
 use Rattle.std.specs.Fmt.{decimal}
-use Rattle.osm_gate.specs.ResponseTexts.{field_line, line_end}
 
 -- a visible ASCII character: neither a space nor an end of a line can stand in the name
 abbrev pub is_host_byte : ℕ → Bool
@@ -16,12 +15,9 @@ is_host_text host = nat_lt 0 (length host) && list_all is_host_byte host
 -- the head of a request whose body has so many bytes
 abbrev pub head_text : List ℕ → ℕ → List ℕ
 head_text host body_len =
-    codes "POST /api/checked HTTP/1.1" ++ line_end
-    ++ field_line (codes "Host") host
-    ++ field_line (codes "Connection") (codes "close")
-    ++ field_line (codes "Content-Type") (codes "text/plain; charset=utf-8")
-    ++ field_line (codes "Content-Length") (decimal body_len)
-    ++ line_end
+    codes "POST /api/checked HTTP/1.1\r\nHost: " ++ host
+    ++ codes "\r\nConnection: close\r\nContent-Type: text/plain; charset=utf-8\r\nContent-Length: " ++ decimal body_len
+    ++ codes "\r\n\r\n"
 
 unfoldable pub request_text : List ℕ → List ℕ → List ℕ
 request_text host query = head_text host (length query) ++ query

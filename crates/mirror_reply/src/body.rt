@@ -62,9 +62,12 @@ pub(crate) fn split_body(body: &[u8]) -> Option<Parts<'_>>
         return None;
     }
     let proof_at = PREFIX_SIZE + len as usize;
+    let root = &body[..ROOT_SIZE];
+    let answer = &body[PREFIX_SIZE..proof_at];
+    let proof = &body[proof_at..];
     Some(Parts {
-        root: &body[..ROOT_SIZE],
-        answer: &body[PREFIX_SIZE..proof_at],
-        proof: &body[proof_at..],
+        root,
+        answer,
+        proof,
     })
 }

@@ -56,7 +56,8 @@ fn send_whole<D: Dial>(dial: &mut D, bytes: &[u8]) -> Result<(), FetchFault>
     let mut done = 0;
     while done < bytes.len() {
         match dial.send(&bytes[done..]) {
-            Some(0) | None => return Err(FetchFault::Silent),
+            None => return Err(FetchFault::Silent),
+            Some(0) => return Err(FetchFault::Silent),
             Some(taken) => done += taken,
         }
     }

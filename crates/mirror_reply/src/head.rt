@@ -1,6 +1,6 @@
 //! The head of a response.
 
-ghost use Rattle.std.specs.Prelude.{◌≡◌, ◌≤◌, ◌<◌, ◌^◌, ◌++◌, List, ℕ, IfNone, IfSome, Some, length};
+ghost use Rattle.std.specs.Prelude.{◌≡◌, ◌≢◌, ◌≤◌, ◌<◌, ◌^◌, ◌++◌, List, ℕ, IfNone, IfSome, Some, length};
 ghost use Rattle.httparse.specs.Grammar.{ResponseHead, status_code};
 ghost use Rattle.httparse.specs.Spans.{IsResponseWithin};
 ghost use Rattle.osm_gate.specs.HeadEnds.{begins_with_break};
@@ -21,8 +21,9 @@ use httparse::spans::{EMPTY_HEADER_SPAN, HeaderSpan, ResponseSpans, parse_respon
 /// What a response says whose bytes these are, up to the first empty line and with it.
 pub(crate) fn read_stage(head: &[u8], limit: u64) -> Stage
     requires { length head.now ≤ HEAD_LIMIT }
-    ensures { (after : List ℕ) → head_end (head.now ++ after) ≡ Some (length head.now)
+    ensures stage { (after : List ℕ) → head_end (head.now ++ after) ≡ Some (length head.now)
         → IsStage limit (head.now ++ after) result }
+    ensures complete { result ≢ Stage.Head }
 {
     let mut headers = [EMPTY_HEADER_SPAN; FIELD_LIMIT];
     let Some(found) = read_head(head, &mut headers) else {
@@ -65,7 +66,8 @@ fn stage_after(head: &[u8], status: u16, len: Option<u64>, limit: u64) -> Stage
     requires says { (h : ResponseHead) × IsHead head.now h × (status ≡ status_code h) × (len ≡ told_length (fields_of h)) }
     requires small { IfSome len (λ n. n < 10 ^ 19) }
     requires short { length head.now ≤ HEAD_LIMIT }
-    ensures { (after : List ℕ) → IsStage limit (head.now ++ after) result }
+    ensures stage { (after : List ℕ) → IsStage limit (head.now ++ after) result }
+    ensures complete { result ≢ Stage.Head }
 {
     let start = head.len();
     if status != 200 {

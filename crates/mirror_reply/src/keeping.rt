@@ -1,7 +1,6 @@
 //! Keeping the bytes of a response, as far as they matter.
 
-ghost use Rattle.std.specs.Prelude.{◌≡◌, ◌<◌, ◌≤◌, IfOk, OnErr, OnOk, false, length};
-ghost use Rattle.mirror_reply.specs.Standings.{Stands, waits};
+ghost use Rattle.std.specs.Prelude.{◌≡◌, ◌≢◌, ◌<◌, IfOk, OnErr, OnOk, length};
 ghost use Rattle.mirror_reply.specs.internal.Stages.{IsStage, Keeps, Pushes};
 ghost use Rattle.mirror_reply.specs.Heads.{BeginsWith, unfinished};
 
@@ -20,13 +19,32 @@ pub(crate) fn keep(bytes: &mut Vec<u8>, limit: u64, stage: Stage, piece: &[u8]) 
     ensures unchanged { OnErr result (bytes.new.items ≡ bytes.old.items) }
     ensures needed { OnErr result (0 < length piece.now) }
 {
+    if let Stage::Head = stage {
+        return keep_head(bytes, limit, piece);
+    }
+    keep_rest(bytes, limit, stage, piece)?;
+    Ok(stage)
+}
+
+/// Keeps what matters of what comes after the head.
+fn keep_rest(
+    bytes: &mut Vec<u8>,
+    limit: u64,
+    stage: Stage,
+    piece: &[u8],
+) -> Result<(), AllocError>
+    requires known { IsStage limit bytes.old.items stage }
+    requires complete { stage ≢ Stage.Head }
+    ensures stage { OnOk result (IsStage limit bytes.new.items stage) }
+    ensures kept { OnOk result (Keeps limit bytes.old.items bytes.new.items piece.now) }
+    ensures unchanged { OnErr result (bytes.new.items ≡ bytes.old.items) }
+    ensures needed { OnErr result (0 < length piece.now) }
+{
+    let _limit = limit;
     match stage {
-        Stage::Head => keep_head(bytes, limit, piece),
-        Stage::Body { end, .. } | Stage::Text { end, .. } => {
-            push_up_to(bytes, piece, end)?;
-            Ok(stage)
-        }
-        Stage::Failed(_) => Ok(stage),
+        Stage::Body { end, .. } => push_up_to(bytes, piece, end),
+        Stage::Text { end, .. } => push_up_to(bytes, piece, end),
+        Stage::Head | Stage::Failed(_) => Ok(()),
     }
 }
 
@@ -47,11 +65,8 @@ fn keep_head(bytes: &mut Vec<u8>, limit: u64, piece: &[u8]) -> Result<Stage, All
         return Ok(Stage::Failed(ReplyFault::BadHead));
     };
     let stage = read_stage(&bytes[..len], limit);
-    let (Stage::Body { end, .. } | Stage::Text { end, .. }) = stage else {
-        return Ok(stage);
-    };
     let used = bytes.len() - before;
-    match push_up_to(bytes, &piece[used..], end) {
+    match keep_rest(bytes, limit, stage, &piece[used..]) {
         Ok(()) => Ok(stage),
         Err(error) => {
             bytes.truncate(before);

@@ -1,9 +1,9 @@
 //! The request that asks a mirror.
 
 ghost use Rattle.std.specs.Prelude.{◌≡◌, ◌++◌, IfOk, OnErr, OnOk, true};
-ghost use Rattle.std.specs.Fmt.{decimal};
+ghost use Rattle.std.specs.List.{list_all};
 ghost use Rattle.std.specs.String.{string_bytes};
-ghost use Rattle.mirror_reply.specs.Requests.{head_text, is_host_text, request_text};
+ghost use Rattle.mirror_reply.specs.Requests.{head_text, is_host_byte, is_host_text, request_text};
 
 use std::alloc::{AllocError, Global};
 
@@ -13,7 +13,13 @@ use std::alloc::{AllocError, Global};
 pub fn is_host(text: &str) -> bool
     ensures { result ≡ is_host_text text.now }
 {
-    !text.is_empty() && text.as_bytes().iter().all(|byte| *byte > 32 && *byte < 127)
+    !text.is_empty() && are_host_bytes(text.as_bytes())
+}
+
+fn are_host_bytes(bytes: &[u8]) -> bool
+    ensures { result ≡ list_all is_host_byte bytes.now }
+{
+    bytes.iter().all(|byte| *byte > 32 && *byte < 127)
 }
 
 /// Appends the request that asks a mirror for the answer to this query, with its proof. `host` is the mirror's name, as
@@ -22,6 +28,7 @@ pub fn is_host(text: &str) -> bool
 /// A mirror reads a body that begins with `data=` as a form. No such text reads as a query, so ask `ql_syntax::parse` first.
 ///
 /// Refused only where memory runs out.
+#[tactic(auto, unfolding(crate::specs::Requests::request_text))]
 pub fn write_request(
     alloc: Global,
     output: &mut Vec<u8>,
@@ -48,5 +55,12 @@ pub fn write_request(
 fn head_text(alloc: Global, host: &str, body_len: usize) -> Result<String, AllocError>
     ensures { IfOk result (λ text. string_bytes text ≡ head_text host.now body_len) }
 {
-    format!(in alloc; "POST /api/checked HTTP/1.1\r\nHost: {host}\r\nConnection: close\r\nContent-Type: text/plain; charset=utf-8\r\nContent-Length: {body_len}\r\n\r\n")
+    let number = format!(in alloc; "{body_len}")?;
+    let mut text = String::new(alloc);
+    text.push_str("POST /api/checked HTTP/1.1\r\nHost: ")?;
+    text.push_str(host)?;
+    text.push_str("\r\nConnection: close\r\nContent-Type: text/plain; charset=utf-8\r\nContent-Length: ")?;
+    text.push_str(number.as_str())?;
+    text.push_str("\r\n\r\n")?;
+    Ok(text)
 }

@@ -3,7 +3,7 @@ use Rattle.std.specs.Prelude.{◌≡◌, ◌≢◌, ◌⊎◌, ℕ, ◌+◌, ◌
 use Rattle.httparse.specs.Grammar.{ResponseHead, status_code}
 use Rattle.mirror_reply.specs.Heads.{BeginsWith, HasHead, fields_of, unfinished}
 use Rattle.mirror_reply.specs.Lengths.{told_length}
-use Rattle.mirror_reply.specs.Standings.{HasFault, Standing, Stands, failed, replied, text_len, waits}
+use Rattle.mirror_reply.specs.Standings.{HasFault, HasText, Standing, Stands, failed, replied, text_len, waits}
 use Rattle.mirror_reply.specs.Taken.{IsSettled}
 use Rattle.mirror_reply.specs.declared.limits.TheConstants.{HEAD_LIMIT, PREFIX_SIZE}
 use Rattle.mirror_reply.specs.declared.progress.Progress.{Progress}
@@ -39,7 +39,8 @@ abbrev pub IsStage : ℕ → List ℕ → Stage → Type 0
 IsStage limit bytes stage.Head = BeginsWith bytes unfinished
 IsStage limit bytes (stage.Body start end) = HasBodyAt limit bytes start end
 IsStage limit bytes (stage.Text status start end) = HasTextAt bytes status start end
-IsStage limit bytes (stage.Failed fault) = (closed : Bool) (more : List ℕ) → HasFault limit closed (bytes ++ more) fault
+IsStage limit bytes (stage.Failed fault) =
+    (closed : Bool) (more : List ℕ) → HasFault limit closed (bytes ++ more) fault × HasText (bytes ++ more) []
 
 -- what is said of a standing
 abbrev pub Says : Standing → Progress → Type 0

@@ -1,5 +1,6 @@
-use Rattle.std.proofs.Common.{arith}
-use Rattle.osm_gate.proofs.FieldLemmas.{digits-more, length-parts}
+use Rattle.std.proofs.Common.{ap, arith, take_all}
+use Rattle.std.specs.Str.Parse.{digits_value}
+use Rattle.osm_gate.proofs.FieldLemmas.{digits-more, digits-small, length-parts}
 use Rattle.mirror_reply.proofs.fields.parse_length.Goals as goal
 
 pub overflow_mul-length : goal.overflow_mul-length
@@ -19,3 +20,10 @@ loop-byte-preserved c =
     let (short, all) = length-parts c.args.value.now c.requires in
     let more = digits-more c.args.value.now c.loop-byte.byte-index all short c.loop-byte-test.true in
     omega (arith, more.0, c.loop-byte.invariant, c.from.ensures)
+
+pub returns-clause-bound : goal.returns-clause-bound
+returns-clause-bound c =
+    let value = c.args.value.now in
+    let (short, all) = length-parts value c.requires in
+    let whole = ap (digits_value 10) (take_all c.loop-byte.byte-index value c.loop-byte-test.false) in
+    omega (arith, c.loop-byte.invariant, whole, digits-small value all short)
