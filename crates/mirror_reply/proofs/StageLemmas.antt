@@ -308,3 +308,10 @@ pub stage-now : (limit : ℕ) (bytes : List ℕ) (n : ℕ) (known : Stage) → h
     → ((after : List ℕ) → head_end (take n bytes ++ after) ≡ Some (length (take n bytes)) → IsStage limit (take n bytes ++ after) known)
     → IsStage limit bytes known
 stage-now limit bytes n known e fits is = subst (λ (t : List ℕ). IsStage limit t known) (append-nil bytes) (stage-later limit bytes [] n known e fits is)
+
+-- the bytes that were looked at before hold no complete head
+pub scanned-none : (old middle shown piece : List ℕ) (before : ℕ) → BeginsWith old unfinished → Pushes old middle piece HEAD_LIMIT → before ≡ length old → shown ≡ middle
+    → head_length (take before shown) ≡ None
+scanned-none old middle shown piece before begins is size same =
+    let front : take before shown ≡ old = ap (take before) (same ∙ is.pushed) ∙ take_at old (take is.count piece) before (sym size) in
+    ap head_length front ∙ sym (window-is old (omega (arith, begins.1))) ∙ begins.0

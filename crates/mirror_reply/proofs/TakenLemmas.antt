@@ -119,3 +119,14 @@ whole-kept kept received taken (r, a, p, is) =
         let there : Stands kept.limit false (kept.bytes ++ later) (replied r a p) = subst (λ (x : List ℕ). Stands kept.limit false x (replied r a p)) split is in
         let one = stands-unique kept.limit false (kept.bytes ++ later) t (replied r a p) (settled-append kept.limit false kept.bytes later t stands settled) there in
         subst (Stands kept.limit false kept.bytes) one stands
+
+module _ (kept : Kept) (limit : ℕ) (inside bytes received piece : List ℕ) (view : record { limit = limit; bytes = inside } ≡ kept) (same : bytes ≡ inside) (taken : HasTaken kept received) where
+  pub view-settled : IsSettled limit bytes → HasTaken kept (received ++ piece)
+  view-settled settled =
+      subst (λ (k : Kept). HasTaken k (received ++ piece)) view
+      (taken-settled limit inside received piece (subst (λ (k : Kept). HasTaken k received) (sym view) taken) (subst (IsSettled limit) same settled))
+
+  pub view-kept : (new : List ℕ) → Stands limit false bytes waits → Keeps limit inside new piece → HasTaken (record { limit = limit; bytes = new }) (received ++ piece)
+  view-kept new is keeps =
+      taken-kept limit inside new received piece (subst (λ (k : Kept). HasTaken k received) (sym view) taken)
+      (subst (λ (b : List ℕ). Stands limit false b waits) same is) keeps

@@ -44,7 +44,8 @@ fn keep_rest(
     match stage {
         Stage::Body { end, .. } => push_up_to(bytes, piece, end),
         Stage::Text { end, .. } => push_up_to(bytes, piece, end),
-        Stage::Head | Stage::Failed(_) => Ok(()),
+        Stage::Failed(_) => Ok(()),
+        Stage::Head => Ok(()),
     }
 }
 
