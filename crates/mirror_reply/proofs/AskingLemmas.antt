@@ -78,10 +78,9 @@ module _ (request : List ℕ) (kept : Kept) (count : ℕ) (calls : List Call) (i
       → HasTaken after (bytes_received calls ++ piece) → Ends (record { request = request; kept = after }) (received piece ∷ calls) (Err (Reply fault))
   ends-failed after piece fault same told taken = (is.asked, subst (λ n. HasFault n false (bytes_received calls ++ piece) fault) (sym same) told, taken)
 
-  pub ends-starved : (after : Kept) (piece : List ℕ) (fault : FetchFault) → after ≡ kept → fault ≡ Memory → Ends (record { request = request; kept = after }) (received piece ∷ calls) (Err fault)
-  ends-starved after piece fault same e =
-      subst (λ (f : FetchFault). Ends (record { request = request; kept = after }) (received piece ∷ calls) (Err f)) (sym e)
-      (subst (λ (k : Kept). Ends (record { request = request; kept = k }) (received piece ∷ calls) (Err Memory)) (sym same) (waiting, is.taken))
+  pub ends-starved : (after : Kept) (piece : List ℕ) → after ≡ kept → Ends (record { request = request; kept = after }) (received piece ∷ calls) (Err Memory)
+  ends-starved after piece same =
+      subst (λ (k : Kept). Ends (record { request = request; kept = k }) (received piece ∷ calls) (Err Memory)) (sym same) (waiting, is.taken)
 
   pub ends-broken : Ends (record { request = request; kept = kept }) (broken ∷ calls) (Err Silent)
   ends-broken = (inl waiting, is.taken)

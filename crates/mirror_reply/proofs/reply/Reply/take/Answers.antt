@@ -1,5 +1,5 @@
-use Rattle.std.proofs.Common.{◌++◌, ap, false, refl, subst}
-use Rattle.mirror_reply.specs.Taken.{Kept, Tells}
+use Rattle.std.proofs.Common.{◌++◌, List, ap, false, refl, subst, ℕ}
+use Rattle.mirror_reply.specs.Taken.{HasTaken, Kept, Tells}
 use Rattle.mirror_reply.proofs.TakenLemmas.{says-settled, says-waits, view-kept, view-settled, view-tells}
 use Rattle.mirror_reply.proofs.reply.Reply.take.Goals as goal
 
@@ -8,7 +8,7 @@ returns-in_default c =
     let limit = c.self.inside.limit in
     let inside = c.self.inside.bytes.items in
     let settled = says-settled limit c.deref.result.now c.progress_of-progress.result c.progress_of-progress.ensures c.in_default.not-More in
-    let later = λ received taken.
+    let later = λ (received : List ℕ) (taken : HasTaken c.args.self.now received).
         view-settled c.args.self.now limit inside c.deref.result.now received c.args.piece.now c.self.view_is c.deref.ensures.value taken settled in
     record {
       told = λ received taken.
