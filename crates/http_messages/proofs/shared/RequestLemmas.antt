@@ -9,7 +9,7 @@ use Rattle.httparse.specs.Grammar.{RequestHead}
 use Rattle.httparse.specs.Spans.{name_and_value}
 use Rattle.http_messages.specs.HeadEnds.{head_length, line_feeds}
 use Rattle.http_messages.specs.Heads.{head_of}
-use Rattle.http_messages.proofs.HeadEndLemmas.{head_length-fits, head_length-append}
+use Rattle.http_messages.proofs.shared.HeadEndLemmas.{head_length-fits, head_length-append}
 use Rattle.http_messages.specs.Fields.{framing}
 use Rattle.http_messages.specs.Requests.{Decided, refuse, asked_with, asked, with_body, after_head, by_end, first_request}
 use Rattle.http_messages.specs.Decisions.{IfBodyOpen}

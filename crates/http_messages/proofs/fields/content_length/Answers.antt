@@ -2,7 +2,7 @@ use Rattle.std.proofs.Common.{◌∙◌, ap, sym, List, ℕ, ◌∷◌, ◌++◌
 use Rattle.std.specs.Prelude.{map}
 use Rattle.httparse.specs.Spans.{header_bytes}
 use Rattle.http_messages.specs.Fields.{values_named, same_name}
-use Rattle.http_messages.proofs.FieldLemmas.{named-no, named-yes, found_values, found-none}
+use Rattle.http_messages.proofs.shared.FieldLemmas.{named-no, named-yes, found_values, found-none}
 use Rattle.http_messages.proofs.fields.content_length.Goals as goal
 use Rattle.http_messages.proofs.fields.content_length.Goals.{then-is_name+else-is_some, else-is_name}
 

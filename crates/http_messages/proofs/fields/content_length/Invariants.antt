@@ -3,7 +3,7 @@ use Rattle.std.proofs.Common.{◌≡◌, map, drop, codes, ◌++◌}
 use Rattle.httparse.specs.Spans.{header_bytes}
 use Rattle.http_messages.specs.Fields.{values_named}
 use Rattle.http_messages.proofs.fields.content_length.Given as goal
-use Rattle.http_messages.proofs.FieldLemmas.{found_values}
+use Rattle.http_messages.proofs.shared.FieldLemmas.{found_values}
 
 abbrev pub invariant-loop-header : goal.invariant-loop-header
 invariant-loop-header l =

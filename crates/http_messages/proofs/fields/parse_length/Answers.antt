@@ -1,5 +1,5 @@
 use Rattle.std.proofs.Common.{arith}
-use Rattle.http_messages.proofs.FieldLemmas.{digits-more, length-parts}
+use Rattle.http_messages.proofs.shared.FieldLemmas.{digits-more, length-parts}
 use Rattle.http_messages.proofs.fields.parse_length.Goals as goal
 
 pub overflow_mul-length : goal.overflow_mul-length

@@ -1,7 +1,7 @@
 use Rattle.std.proofs.Common.{◌≡◌, ◌∙◌, ◌+◌, ◌-◌, ap, arith, drop, length, refl, take}
 use Rattle.std.proofs.lemmas.List.{length-drop}
 use Rattle.http_messages.specs.HeadEnds.{empty_line}
-use Rattle.http_messages.proofs.HeadEndLemmas.{ended-feed, first_feed, head_length-since, no_feed, passed-all, passed-feed, passed-least, rest_is}
+use Rattle.http_messages.proofs.shared.HeadEndLemmas.{ended-feed, first_feed, head_length-since, no_feed, passed-all, passed-feed, passed-least, rest_is}
 use Rattle.http_messages.proofs.head_ends.head_end.Goals as goal
 
 pub loop-len-init : goal.loop-len-init

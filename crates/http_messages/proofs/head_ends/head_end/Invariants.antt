@@ -1,6 +1,6 @@
 -- No head ends before this place.
 use Rattle.std.proofs.Common.{◌-◌, ◌≤◌, length}
-use Rattle.http_messages.proofs.HeadEndLemmas.{Passed}
+use Rattle.http_messages.proofs.shared.HeadEndLemmas.{Passed}
 use Rattle.http_messages.proofs.head_ends.head_end.Given as goal
 
 abbrev pub invariant-loop-len : goal.invariant-loop-len

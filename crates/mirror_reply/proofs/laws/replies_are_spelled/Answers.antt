@@ -1,0 +1,5 @@
+use Rattle.mirror_reply.proofs.SpelledLemmas.{reply-iff}
+use Rattle.mirror_reply.proofs.laws.replies_are_spelled.Goals as goal
+
+pub returns : goal.returns
+returns c = reply-iff

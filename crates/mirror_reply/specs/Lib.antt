@@ -1,0 +1,9 @@
+pub mod Calls
+pub mod Fetches
+pub mod Heads
+pub mod Lengths
+pub mod Replies
+pub mod Requests
+pub mod Standings
+pub mod Taken
+pub mod internal
