@@ -108,6 +108,7 @@ stuck-ends request kept calls fault e stuck fresh =
   where
     nothing : (bytes : List ℕ) → bytes ≡ [] → HasTaken kept bytes
     nothing bytes none = ([], none ∙ sym (append-nil kept.bytes ∙ fresh), inl refl)
+
     go : (calls : List Call) → HasStuck request calls → Ends (record { request = request; kept = kept }) calls (Err Silent)
     go [] stuck = absurd stuck
     go (opened is ∷ before) stuck = absurd stuck

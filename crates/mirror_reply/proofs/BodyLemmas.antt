@@ -89,10 +89,10 @@ whole_body-append size after more room fits all =
     let same = answer_len-append after more (omega arith) in
     let root : take 32 (after ++ more) ≡ take 32 after = take-append-le 32 after more (omega arith) in
     let answer : take (answer_len (after ++ more)) (drop 40 (after ++ more)) ≡ take (answer_len after) (drop 40 after) =
-        ap (λ n. take n (drop 40 (after ++ more))) same ∙ ap (take (answer_len after)) (drop-append-le 40 after more (omega arith))
-        ∙ take-append-le (answer_len after) (drop 40 after) more (omega (arith, length-drop 40 after)) in
+    ap (λ n. take n (drop 40 (after ++ more))) same ∙ ap (take (answer_len after)) (drop-append-le 40 after more (omega arith))
+    ∙ take-append-le (answer_len after) (drop 40 after) more (omega (arith, length-drop 40 after)) in
     let proof : drop (40 + answer_len (after ++ more)) (take size (after ++ more)) ≡ drop (40 + answer_len after) (take size after) =
-        ap (λ n. drop (40 + n) (take size (after ++ more))) same ∙ ap (drop (40 + answer_len after)) (take-append-le size after more all) in
+    ap (λ n. drop (40 + n) (take size (after ++ more))) same ∙ ap (drop (40 + answer_len after)) (take-append-le size after more all) in
     λ i. replied (root i) (answer i) (proof i)
 
 pub body-append : (closed : Bool) (size : ℕ) (after more : List ℕ) → by_body false size after ≢ waits → by_body closed size (after ++ more) ≡ by_body false size after
@@ -102,7 +102,7 @@ body-append closed size after more = body-cases false size after (λ s. s ≢ wa
     (λ a b c other. body-bad closed size (after ++ more) a (omega (arith, length-append after more)) (subst (λ n. size - 40 < n) (sym (answer_len-append after more b)) c))
     (λ a b c d other. absurd (other refl))
     (λ a b c d other. body-whole closed size (after ++ more) a (subst (λ n. n ≤ size - 40) (sym (answer_len-append after more b)) c) (omega (arith, length-append after more))
-        ∙ whole_body-append size after more a c d)
+    ∙ whole_body-append size after more a c d)
 
 -- a body that has come says something
 pub body-decided : (closed : Bool) (size : ℕ) (after : List ℕ) → size ≤ length after → by_body closed size after ≢ waits
@@ -128,8 +128,8 @@ body-parts size after room fits all =
     let b : drop 32 after ≡ take 8 (drop 32 after) ++ rest = sym (take-append-drop 8 (drop 32 after)) ∙ ap (λ (t : List ℕ). take 8 (drop 32 after) ++ t) (drop-drop 8 32 after) in
     let c : rest ≡ take n rest ++ drop n rest = sym (take-append-drop n rest) in
     let d : drop n rest ≡ drop (40 + n) (take size after) ++ drop size after =
-        drop-drop n 40 after ∙ ap (drop (40 + n)) (sym (take-append-drop size after))
-        ∙ drop-append-le (40 + n) (take size after) (drop size after) (omega (arith, length-take-le size after all)) in
+    drop-drop n 40 after ∙ ap (drop (40 + n)) (sym (take-append-drop size after))
+    ∙ drop-append-le (40 + n) (take size after) (drop size after) (omega (arith, length-take-le size after all)) in
     record {
       len = take 8 (drop 32 after);
       rest = drop size after;
@@ -146,24 +146,24 @@ body-spelled closed size after root answer proof is =
     let text = root ++ (is.len ++ tail) in
     let part = root ++ (is.len ++ (answer ++ proof)) in
     let sizes : length text ≡ 40 + (length answer + (length proof + length is.rest)) =
-        omega (arith, length-append root (is.len ++ tail), length-append is.len tail, length-append answer (proof ++ is.rest), length-append proof is.rest, is.root_size, is.len_size) in
+    omega (arith, length-append root (is.len ++ tail), length-append is.len tail, length-append answer (proof ++ is.rest), length-append proof is.rest, is.root_size, is.len_size) in
     let after32 : drop 32 text ≡ is.len ++ tail = drop_at root (is.len ++ tail) 32 is.root_size in
     let len_is : answer_len text ≡ length answer = ap (λ (t : List ℕ). from_be_bytes w64 (take 8 t)) after32 ∙ ap (from_be_bytes w64) (take_at is.len tail 8 is.len_size) ∙ is.answer_size in
     let after40 : drop 40 text ≡ tail = sym (drop-drop 8 32 text) ∙ ap (drop 8) after32 ∙ drop_at is.len tail 8 is.len_size in
     let split : text ≡ part ++ is.rest =
-        sym (append_assoc root (is.len ++ (answer ++ proof)) is.rest
-        ∙ ap (λ (t : List ℕ). root ++ t) (append_assoc is.len (answer ++ proof) is.rest ∙ ap (λ (t : List ℕ). is.len ++ t) (append_assoc answer proof is.rest))) in
+    sym (append_assoc root (is.len ++ (answer ++ proof)) is.rest
+    ∙ ap (λ (t : List ℕ). root ++ t) (append_assoc is.len (answer ++ proof) is.rest ∙ ap (λ (t : List ℕ). is.len ++ t) (append_assoc answer proof is.rest))) in
     let part_size : length part ≡ size =
-        omega (arith, is.whole, length-append root (is.len ++ (answer ++ proof)), length-append is.len (answer ++ proof), length-append answer proof, is.root_size, is.len_size) in
+    omega (arith, is.whole, length-append root (is.len ++ (answer ++ proof)), length-append is.len (answer ++ proof), length-append answer proof, is.root_size, is.len_size) in
     let whole : take size text ≡ part = ap (take size) split ∙ take_at part is.rest size part_size in
     let part32 : drop 32 part ≡ is.len ++ (answer ++ proof) = drop_at root (is.len ++ (answer ++ proof)) 32 is.root_size in
     let part40 : drop 40 part ≡ answer ++ proof = sym (drop-drop 8 32 part) ∙ ap (drop 8) part32 ∙ drop_at is.len (answer ++ proof) 8 is.len_size in
     let root_is : take 32 text ≡ root = take_at root (is.len ++ tail) 32 is.root_size in
     let answer_is : take (answer_len text) (drop 40 text) ≡ answer =
-        ap (λ n. take n (drop 40 text)) len_is ∙ ap (take (length answer)) after40 ∙ take_at answer (proof ++ is.rest) (length answer) refl in
+    ap (λ n. take n (drop 40 text)) len_is ∙ ap (take (length answer)) after40 ∙ take_at answer (proof ++ is.rest) (length answer) refl in
     let proof_is : drop (40 + answer_len text) (take size text) ≡ proof =
-        ap (λ n. drop (40 + n) (take size text)) len_is ∙ ap (drop (40 + length answer)) whole
-        ∙ sym (drop-drop (length answer) 40 part) ∙ ap (drop (length answer)) part40 ∙ drop_at answer proof (length answer) refl in
+    ap (λ n. drop (40 + n) (take size text)) len_is ∙ ap (drop (40 + length answer)) whole
+    ∙ sym (drop-drop (length answer) 40 part) ∙ ap (drop (length answer)) part40 ∙ drop_at answer proof (length answer) refl in
     ap (by_body closed size) is.spelled
     ∙ body-whole closed size text (omega (arith, is.whole)) (omega (arith, len_is, is.whole)) (omega (arith, sizes, is.whole))
     ∙ (λ i. replied (root_is i) (answer_is i) (proof_is i))

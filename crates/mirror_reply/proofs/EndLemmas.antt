@@ -96,17 +96,17 @@ section_end e (f ∷ fs) last rest all =
     let is = All-head IsField f fs all in
     let tail = flat_map print_field fs ++ (print_end last ++ rest) in
     let named : f.name ++ 58 ∷ (f.raw ++ (print_end f.end ++ tail)) ≡ (f.name ++ 58 ∷ f.raw) ++ (print_end f.end ++ tail) =
-        sym (append_assoc f.name (58 ∷ f.raw) (print_end f.end ++ tail)) in
+    sym (append_assoc f.name (58 ∷ f.raw) (print_end f.end ++ tail)) in
     let whole : flat_map print_field (f ∷ fs) ++ (print_end last ++ rest) ≡ (f.name ++ 58 ∷ f.raw) ++ (print_end f.end ++ tail) =
-        append_assoc (print_field f) (flat_map print_field fs) (print_end last ++ rest) ∙ print_field-append f tail ∙ named in
+    append_assoc (print_field f) (flat_map print_field fs) (print_end last ++ rest) ∙ print_field-append f tail ∙ named in
     let stops = stops-empty _ (Stops_token f.name (58 ∷ (f.raw ++ (print_end f.end ++ tail))) is.name.0 is.name.1) in
     let none : empty_line ((f.name ++ 58 ∷ f.raw) ++ (print_end f.end ++ tail)) ≡ 0 = ap empty_line (sym named) ∙ stops in
     let more = section_end f.end fs last rest (All-tail IsField f fs all) in
     let line = past_bytes (f.name ++ 58 ∷ f.raw) (print_end f.end ++ tail) (field-no_feed f is) in
     let at_field : head_length ((f.name ++ 58 ∷ f.raw) ++ (print_end f.end ++ tail)) ≡ Some (length (f.name ++ 58 ∷ f.raw) + (length (print_end f.end) + (length (flat_map print_field fs) + length (print_end last)))) =
-        line ∙ some-plus (length (f.name ++ 58 ∷ f.raw)) _ (head_length (print_end f.end ++ tail)) more in
+    line ∙ some-plus (length (f.name ++ 58 ∷ f.raw)) _ (head_length (print_end f.end ++ tail)) more in
     let sizes : length (flat_map print_field (f ∷ fs)) ≡ (length (f.name ++ 58 ∷ f.raw) + length (print_end f.end)) + length (flat_map print_field fs) =
-        length-append (print_field f) (flat_map print_field fs) ∙ ap (λ n. n + length (flat_map print_field fs)) (length-append (f.name ++ 58 ∷ f.raw) (print_end f.end)) in
+    length-append (print_field f) (flat_map print_field fs) ∙ ap (λ n. n + length (flat_map print_field fs)) (length-append (f.name ++ 58 ∷ f.raw) (print_end f.end)) in
     ap (λ (t : List ℕ). head_length (print_end e ++ t)) whole
     ∙ past_end e ((f.name ++ 58 ∷ f.raw) ++ (print_end f.end ++ tail)) none
     ∙ some-plus (length (print_end e)) _ (head_length ((f.name ++ 58 ∷ f.raw) ++ (print_end f.end ++ tail))) at_field
@@ -144,12 +144,12 @@ pub head-ends : (h : ResponseHead) (after : List ℕ) → ReadsResponse (print_r
 head-ends h after is none =
     let line = status_line h in
     let lacks : NoFeed line = append-no_feed (print_version h.minor) (32 ∷ (h.digits ++ print_reason h.reason)) (version-no_feed h.minor is.0.minor)
-        (refl, append-no_feed h.digits (print_reason h.reason) (no_feed is_ascii_digit refl h.digits is.0.digits.1) (reason-no_feed h.reason is.0.reason)) in
+    (refl, append-no_feed h.digits (print_reason h.reason) (no_feed is_ascii_digit refl h.digits is.0.digits.1) (reason-no_feed h.reason is.0.reason)) in
     let size : length (print_response h) + length after ≡ length line + (length (print_end h.line_end) + (length (flat_map print_field h.fields) + (length (print_end h.last) + length after))) =
-        sym (length-append (print_response h) after) ∙ ap length (print-parts h after none)
-        ∙ length-append line _ ∙ ap (λ n. length line + n) (length-append (print_end h.line_end) _
-        ∙ ap (λ n. length (print_end h.line_end) + n) (length-append (flat_map print_field h.fields) _
-        ∙ ap (λ n. length (flat_map print_field h.fields) + n) (length-append (print_end h.last) after))) in
+    sym (length-append (print_response h) after) ∙ ap length (print-parts h after none)
+    ∙ length-append line _ ∙ ap (λ n. length line + n) (length-append (print_end h.line_end) _
+    ∙ ap (λ n. length (print_end h.line_end) + n) (length-append (flat_map print_field h.fields) _
+    ∙ ap (λ n. length (flat_map print_field h.fields) + n) (length-append (print_end h.last) after))) in
     ap head_length (print-parts h after none)
     ∙ past_bytes line (print_end h.line_end ++ (flat_map print_field h.fields ++ (print_end h.last ++ after))) lacks
     ∙ some-plus (length line) _ _ (section_end h.line_end h.fields h.last after is.0.fields)

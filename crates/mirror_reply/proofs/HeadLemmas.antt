@@ -74,7 +74,7 @@ HasHead-before received more h after n e is =
     let same : length text ≡ n = cc (head_end-append received more n e) in
     let fits = end-fits received n e in
     let front : take n received ≡ text =
-        sym (take-append-le n received more fits.0) ∙ ap (take n) is.reads.1 ∙ take_at text after n same in
+    sym (take-append-le n received more fits.0) ∙ ap (take n) is.reads.1 ∙ take_at text after n same in
     record {
       reads = (is.reads.0, sym (take-append-drop n received) ∙ ap (λ (t : List ℕ). t ++ drop n received) front);
       starts = is.starts;
@@ -119,7 +119,7 @@ blank-none (lf ∷ es) rest e = cc
 reads-starts : (bytes : List ℕ) (h : ResponseHead) (rest : List ℕ) → begins_with_break bytes ≡ false → ReadsResponse bytes h rest → h.blank ≡ []
 reads-starts bytes h rest begins is =
     let whole : bytes ≡ print_blank h.blank ++ (print_version h.minor ++ 32 ∷ (h.digits ++ (print_reason h.reason ++ (print_end h.line_end ++ (print_section h.fields h.last ++ rest))))) =
-        is.1 ∙ print_response-append h rest in
+    is.1 ∙ print_response-append h rest in
     blank-none h.blank _ (rw whole at begins)
 
 pub head-length : (bytes : List ℕ) (h : ResponseHead) → ReadsResponse bytes h [] → length (print_response h) ≡ length bytes
@@ -156,6 +156,6 @@ read-none bytes headers r room finds fits other h is =
 pub read-breaks : (bytes : List ℕ) → begins_with_break bytes ≡ true → HasNone bytes
 read-breaks bytes begins h is =
     let whole : bytes ≡ print_blank [] ++ (print_version h.minor ++ 32 ∷ (h.digits ++ (print_reason h.reason ++ (print_end h.line_end ++ (print_section h.fields h.last ++ []))))) =
-        is.reads.1 ∙ print_response-append h []
-        ∙ ap (λ (b : List LineEnd). print_blank b ++ (print_version h.minor ++ 32 ∷ (h.digits ++ (print_reason h.reason ++ (print_end h.line_end ++ (print_section h.fields h.last ++ [])))))) is.starts in
+    is.reads.1 ∙ print_response-append h []
+    ∙ ap (λ (b : List LineEnd). print_blank b ++ (print_version h.minor ++ 32 ∷ (h.digits ++ (print_reason h.reason ++ (print_end h.line_end ++ (print_section h.fields h.last ++ [])))))) is.starts in
     let both : false ≡ true = ap begins_with_break (sym whole) ∙ begins in cc both

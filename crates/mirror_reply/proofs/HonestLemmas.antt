@@ -171,7 +171,7 @@ honest-told closes root size small =
     let numeral = decimal_is_IsNumeral size (omega arith) in
     let all : AllPass is_ascii_digit (decimal size) = digits-pass (decimal size) numeral.0.1 in
     let trimmed : trim_ows (32 ∷ decimal size) ≡ decimal size = trim_ows_space (decimal size) (digits-skip (decimal size) all)
-        (digits-skip (reverse (decimal size)) (AllPass-reverse is_ascii_digit (decimal size) all)) in
+    (digits-skip (reverse (decimal size)) (AllPass-reverse is_ascii_digit (decimal size) all)) in
     let few : length (decimal size) ≤ 19 = length-decimal-le 19 size (lit< tt) small (omega arith) in
     let is : is_length (decimal size) ≡ true = length-like (decimal size) numeral.0.0 few all in
     named closes ∙ ap (λ (v : List ℕ). one_length (v ∷ [])) trimmed ∙ rw is (ap (λ (n : ℕ). Some n) numeral.1)
@@ -195,7 +195,7 @@ honest-reply limit closes root answer proof digest bytes fits small =
     let body = checked_body root answer proof in
     let len_size : length len ≡ 8 = refl in
     let size : length body ≡ 40 + (length answer + length proof) =
-        omega (arith, length-append root (len ++ (answer ++ proof)), length-append len (answer ++ proof), length-append answer proof, digest, len_size) in
+    omega (arith, length-append root (len ++ (answer ++ proof)), length-append len (answer ++ proof), length-append answer proof, digest, len_size) in
     let h = honest_head closes root (length body) in
     let below : length body < 10 ^ 19 = omega arith in
     record {

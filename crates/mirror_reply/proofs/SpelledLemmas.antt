@@ -24,13 +24,13 @@ body-says closed size after root answer proof = body-cases closed size after (λ
     (λ a b c e. cc)
     (λ a b c d e. absurd (lacks closed ClosedEarly root answer proof e))
     (λ a b c d e.
-        let same_root : take 32 after ≡ root = cc in
-        let same_answer : take (answer_len after) (drop 40 after) ≡ answer = cc in
-        let same_proof : drop (40 + answer_len after) (take size after) ≡ proof = cc in
-        subst (λ (p : List ℕ). IsBody size after root answer p) same_proof
-        (subst (λ (x : List ℕ). IsBody size after root x (drop (40 + answer_len after) (take size after))) same_answer
-        (subst (λ (r : List ℕ). IsBody size after r (take (answer_len after) (drop 40 after)) (drop (40 + answer_len after) (take size after))) same_root
-        (body-parts size after a c d))))
+    let same_root : take 32 after ≡ root = cc in
+    let same_answer : take (answer_len after) (drop 40 after) ≡ answer = cc in
+    let same_proof : drop (40 + answer_len after) (take size after) ≡ proof = cc in
+    subst (λ (p : List ℕ). IsBody size after root answer p) same_proof
+    (subst (λ (x : List ℕ). IsBody size after root x (drop (40 + answer_len after) (take size after))) same_answer
+    (subst (λ (r : List ℕ). IsBody size after r (take (answer_len after) (drop 40 after)) (drop (40 + answer_len after) (take size after))) same_root
+    (body-parts size after a c d))))
 
 -- the size of a reply's body, and the body
 abbrev Sized : ℕ → Option ℕ → List ℕ → List ℕ → List ℕ → List ℕ → Type 0

@@ -247,7 +247,7 @@ pushed-keeps limit old new piece end is settles =
     let k = is.count in
     let rest = drop k piece in
     let split : old ++ piece ≡ new ++ rest =
-        ap (λ (t : List ℕ). old ++ t) (sym (take-append-drop k piece)) ∙ sym (append_assoc old (take k piece) rest) ∙ ap (λ (t : List ℕ). t ++ rest) (sym is.pushed) in
+    ap (λ (t : List ℕ). old ++ t) (sym (take-append-drop k piece)) ∙ sym (append_assoc old (take k piece) rest) ∙ ap (λ (t : List ℕ). t ++ rest) (sym is.pushed) in
     (rest, split, go is.enough)
   where
     go : (is.count ≡ length piece) ⊎ (end ≤ length new) → (drop is.count piece ≡ []) ⊎ IsSettled limit new
@@ -277,7 +277,7 @@ stage-later limit bytes more n known e fits is =
     let ends : head_end bytes ≡ Some n = window-is bytes fits ∙ e in
     let size : length (take n bytes) ≡ n = length-take-le n bytes (end-fits bytes n ends).0 in
     let whole : take n bytes ++ (drop n bytes ++ more) ≡ bytes ++ more =
-        sym (append_assoc (take n bytes) (drop n bytes) more) ∙ ap (λ (t : List ℕ). t ++ more) (take-append-drop n bytes) in
+    sym (append_assoc (take n bytes) (drop n bytes) more) ∙ ap (λ (t : List ℕ). t ++ more) (take-append-drop n bytes) in
     subst (λ (t : List ℕ). IsStage limit t known) whole
     (is (drop n bytes ++ more) (ap head_end whole ∙ head_end-append bytes more n ends ∙ ap (λ (k : ℕ). Some k) (sym size)))
 
@@ -299,8 +299,8 @@ kept-twice limit old middle new piece used first is place (later, split, how) =
     let grown : length middle ≡ length old + is.count = ap length is.pushed ∙ length-append old (take is.count piece) ∙ ap (λ n. length old + n) (length-take-le is.count piece is.fits) in
     let same : used ≡ is.count = omega arith in
     let one : old ++ piece ≡ middle ++ drop used piece =
-        ap (λ (t : List ℕ). old ++ t) (sym (take-append-drop is.count piece)) ∙ sym (append_assoc old (take is.count piece) (drop is.count piece))
-        ∙ ap (λ (t : List ℕ). t ++ drop is.count piece) (sym is.pushed) ∙ ap (λ n. middle ++ drop n piece) (sym same) in
+    ap (λ (t : List ℕ). old ++ t) (sym (take-append-drop is.count piece)) ∙ sym (append_assoc old (take is.count piece) (drop is.count piece))
+    ∙ ap (λ (t : List ℕ). t ++ drop is.count piece) (sym is.pushed) ∙ ap (λ n. middle ++ drop n piece) (sym same) in
     (later, one ∙ split, how)
 
 -- the stage of the head, of the bytes that were read

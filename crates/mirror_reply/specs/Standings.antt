@@ -31,7 +31,7 @@ by_body closed size after =
     else if nat_lt (size - PREFIX_SIZE) (answer_len after) then failed BadBody
     else if nat_lt (length after) size then lacking closed ClosedEarly
     else replied (take ROOT_SIZE after) (take (answer_len after) (drop PREFIX_SIZE after))
-        (drop (PREFIX_SIZE + answer_len after) (take size after))
+    (drop (PREFIX_SIZE + answer_len after) (take size after))
 
 -- the length of the body is this one, or isn't said
 abbrev pub by_length : ℕ → Bool → Option ℕ → List ℕ → Standing

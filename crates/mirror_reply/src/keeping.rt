@@ -12,7 +12,12 @@ use http_messages::head_end;
 use std::alloc::AllocError;
 
 /// Keeps what matters of the piece, and says what is known then.
-pub(crate) fn keep(bytes: &mut Vec<u8>, limit: u64, stage: Stage, piece: &[u8]) -> Result<Stage, AllocError>
+pub(crate) fn keep(
+    bytes: &mut Vec<u8>,
+    limit: u64,
+    stage: Stage,
+    piece: &[u8],
+) -> Result<Stage, AllocError>
     requires { IsStage limit bytes.old.items stage }
     ensures stage { IfOk result (IsStage limit bytes.new.items) }
     ensures kept { OnOk result (Keeps limit bytes.old.items bytes.new.items piece.now) }
@@ -27,12 +32,7 @@ pub(crate) fn keep(bytes: &mut Vec<u8>, limit: u64, stage: Stage, piece: &[u8]) 
 }
 
 /// Keeps what matters of what comes after the head.
-fn keep_rest(
-    bytes: &mut Vec<u8>,
-    limit: u64,
-    stage: Stage,
-    piece: &[u8],
-) -> Result<(), AllocError>
+fn keep_rest(bytes: &mut Vec<u8>, limit: u64, stage: Stage, piece: &[u8]) -> Result<(), AllocError>
     requires known { IsStage limit bytes.old.items stage }
     requires complete { stage ≢ Stage.Head }
     ensures stage { OnOk result (IsStage limit bytes.new.items stage) }
@@ -40,7 +40,6 @@ fn keep_rest(
     ensures unchanged { OnErr result (bytes.new.items ≡ bytes.old.items) }
     ensures needed { OnErr result (0 < length piece.now) }
 {
-    let _limit = limit;
     match stage {
         Stage::Body { end, .. } => push_up_to(bytes, piece, end),
         Stage::Text { end, .. } => push_up_to(bytes, piece, end),

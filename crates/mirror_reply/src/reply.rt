@@ -4,6 +4,7 @@ ghost use Rattle.std.specs.Prelude.{◌≡◌, ◌≢◌, ◌++◌, ◌<◌, ℕ
 ghost use Rattle.mirror_reply.specs.Replies.{HasReply};
 ghost use Rattle.mirror_reply.specs.Standings.{HasFault, HasText, Stands, waits};
 ghost use Rattle.mirror_reply.specs.Taken.{HasTaken, Tells};
+
 use crate::keeping::keep;
 use crate::parts::Parts;
 use crate::progress::Progress;

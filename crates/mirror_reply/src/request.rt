@@ -59,7 +59,9 @@ fn head_text(alloc: Global, host: &str, body_len: usize) -> Result<String, Alloc
     let mut text = String::new(alloc);
     text.push_str("POST /api/checked HTTP/1.1\r\nHost: ")?;
     text.push_str(host)?;
-    text.push_str("\r\nConnection: close\r\nContent-Type: text/plain; charset=utf-8\r\nContent-Length: ")?;
+    text.push_str(
+        "\r\nConnection: close\r\nContent-Type: text/plain; charset=utf-8\r\nContent-Length: ",
+    )?;
     text.push_str(number.as_str())?;
     text.push_str("\r\n\r\n")?;
     Ok(text)

@@ -8,7 +8,10 @@ pub(crate) enum Stage {
     /// The head isn't complete.
     Head,
     /// The status is 200, and the body is from `start` to `end`: 40 bytes at least, and as many as the limit at most.
-    Body { start: usize, end: usize },
+    Body {
+        start: usize,
+        end: usize,
+    },
     /// The status is another one, and the text to keep is from `start` to `end`.
     Text {
         status: u16,

@@ -15,7 +15,6 @@ pub(crate) fn progress_of(bytes: &[u8], limit: u64, stage: Stage, closed: bool) 
     requires { IsStage limit bytes.now stage }
     ensures { SaysOf limit closed bytes.now result }
 {
-    let _limit = limit;
     match stage {
         Stage::Head => lacking(closed, ReplyFault::ClosedEarly),
         Stage::Failed(fault) => Progress::Failed(fault),
@@ -36,7 +35,6 @@ pub(crate) fn parts_of(bytes: &[u8], limit: u64, stage: Stage) -> Option<Parts<'
         (replied parts.root.now parts.answer.now parts.proof.now)) }
     ensures none { IfNone result ((root answer proof : List ℕ) → ¬ (Stands limit false bytes.now (replied root answer proof))) }
 {
-    let _limit = limit;
     let Stage::Body { start, end } = stage else {
         return None;
     };
@@ -51,7 +49,6 @@ pub(crate) fn text_of(bytes: &[u8], limit: u64, stage: Stage) -> &[u8]
     requires { IsStage limit bytes.now stage }
     ensures { HasText bytes.now result.now }
 {
-    let _limit = limit;
     let Stage::Text { start, end, .. } = stage else {
         return &[];
     };

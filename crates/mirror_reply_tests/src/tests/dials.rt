@@ -75,7 +75,10 @@ fn fetches(rt: HostRuntime) -> Result<(), Fail> {
         let mut dial = FakeDial::new(rt.alloc(), &bytes, at_once, 0);
         let mut reply = Reply::new(rt.alloc(), LIMIT);
         fetch_reply(rt.alloc(), &mut dial, "mirror", b"out;", &mut reply)?;
-        assert_eq!(rt; dial.sent.as_slice(), b"POST /api/checked HTTP/1.1\r\nHost: mirror\r\nConnection: close\r\nContent-Type: text/plain; charset=utf-8\r\nContent-Length: 4\r\n\r\nout;".as_slice());
+        assert_eq!(rt;
+            dial.sent.as_slice(),
+            b"POST /api/checked HTTP/1.1\r\nHost: mirror\r\nConnection: close\r\nContent-Type: text/plain; charset=utf-8\r\nContent-Length: 4\r\n\r\nout;".as_slice()
+        );
         let answer = reply.parts().map(|parts| parts.answer);
         assert_eq!(rt; answer, Some(b"abc".as_slice()));
     }
@@ -108,9 +111,24 @@ fn each_call_fails(rt: HostRuntime) -> Result<(), Fail> {
 fn no_reply(rt: HostRuntime) -> Result<(), Fail> {
     let refused = b"HTTP/1.1 400 Bad Request\r\nContent-Length: 10\r\n\r\nQ7 byte 5\n".as_slice();
     let rows = [
-        (refused, 8, FetchFault::Reply(ReplyFault::BadStatus(400)), b"Q7 byte 5\n".as_slice()),
-        (HEAD, 8, FetchFault::Reply(ReplyFault::ClosedEarly), b"".as_slice()),
-        (b"".as_slice(), 8, FetchFault::Reply(ReplyFault::ClosedEarly), b"".as_slice()),
+        (
+            refused,
+            8,
+            FetchFault::Reply(ReplyFault::BadStatus(400)),
+            b"Q7 byte 5\n".as_slice(),
+        ),
+        (
+            HEAD,
+            8,
+            FetchFault::Reply(ReplyFault::ClosedEarly),
+            b"".as_slice(),
+        ),
+        (
+            b"".as_slice(),
+            8,
+            FetchFault::Reply(ReplyFault::ClosedEarly),
+            b"".as_slice(),
+        ),
         (HEAD, 0, FetchFault::Silent, b"".as_slice()),
     ];
     for (bytes, at_once, fault, text) in rows {

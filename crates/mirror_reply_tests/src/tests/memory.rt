@@ -26,7 +26,10 @@ fn takes_within_memory(rt: HostRuntime) -> Result<(), Fail> {
     assert_eq!(rt; take(&rt, &mut reply, &HEAD[9..])?, Progress::More);
     assert_eq!(rt; take(&rt, &mut reply, &BODY[..40])?, Progress::More);
     assert_eq!(rt; take(&rt, &mut reply, &BODY[40..])?, Progress::Whole);
-    assert_eq!(rt; reply.parts().map(|parts| parts.proof), Some(b"proof".as_slice()));
+    assert_eq!(rt;
+        reply.parts().map(|parts| parts.proof),
+        Some(b"proof".as_slice())
+    );
     Ok(())
 }
 

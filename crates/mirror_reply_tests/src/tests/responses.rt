@@ -12,25 +12,70 @@ fn heads_say(rt: HostRuntime) -> Result<(), Fail> {
     let bad_length = Says::Fault(ReplyFault::BadLength, b"");
     let rows: [(&[u8], Says<'_>); 20] = [
         // As a mirror writes it.
-        (b"HTTP/1.1 200 OK\r\nContent-Type: application/octet-stream\r\nContent-Length: 48\r\nOsm-Root: 5252525252525252525252525252525252525252525252525252525252525252\r\nConnection: close\r\n\r\n", whole),
+        (
+            b"HTTP/1.1 200 OK\r\nContent-Type: application/octet-stream\r\nContent-Length: 48\r\nOsm-Root: 5252525252525252525252525252525252525252525252525252525252525252\r\nConnection: close\r\n\r\n",
+            whole,
+        ),
         (b"HTTP/1.0 200\ncontent-LENGTH:48\n\n", whole),
-        (b"HTTP/1.1 200 OK\r\nContent-Length:\t0000000000000000048 \r\n\r\n", whole),
-        (b"HTTP/1.1 200 OK\r\nContent-Length: 00000000000000000048\r\n\r\n", bad_length),
-        (b"HTTP/1.1 200 OK\r\nContent-Length: +48\r\n\r\n", bad_length),
-        (b"HTTP/1.1 200 OK\r\nContent-Length: 4 8\r\n\r\n", bad_length),
+        (
+            b"HTTP/1.1 200 OK\r\nContent-Length:\t0000000000000000048 \r\n\r\n",
+            whole,
+        ),
+        (
+            b"HTTP/1.1 200 OK\r\nContent-Length: 00000000000000000048\r\n\r\n",
+            bad_length,
+        ),
+        (
+            b"HTTP/1.1 200 OK\r\nContent-Length: +48\r\n\r\n",
+            bad_length,
+        ),
+        (
+            b"HTTP/1.1 200 OK\r\nContent-Length: 4 8\r\n\r\n",
+            bad_length,
+        ),
         (b"HTTP/1.1 200 OK\r\nContent-Length:\r\n\r\n", bad_length),
-        (b"HTTP/1.1 200 OK\r\nContent-Length: 48\r\nContent-Length: 48\r\n\r\n", bad_length),
-        (b"HTTP/1.1 200 OK\r\nContent-Length: 48, 48\r\n\r\n", bad_length),
+        (
+            b"HTTP/1.1 200 OK\r\nContent-Length: 48\r\nContent-Length: 48\r\n\r\n",
+            bad_length,
+        ),
+        (
+            b"HTTP/1.1 200 OK\r\nContent-Length: 48, 48\r\n\r\n",
+            bad_length,
+        ),
         (b"HTTP/1.1 200 OK\r\n\r\n", bad_length),
-        (b"HTTP/1.1 200 OK\r\nContent-Length: 48\r\ntransfer-encoding: chunked\r\n\r\n", bad_length),
-        (b"HTTP/1.1 200 OK\r\nContent-Length: 48\r\nContent-Encoding: gzip\r\n\r\n", bad_length),
-        (b"HTTP/1.1 200 OK\r\nContent-Length: 51\r\n\r\n", Says::Fault(ReplyFault::TooLong, b"")),
-        (b"HTTP/1.1 200 OK\r\nContent-Length: 50\r\n\r\n", Says::FaultAtEnd(ReplyFault::ClosedEarly, b"")),
-        (b"HTTP/1.1 200 OK\r\nContent-Length: 39\r\n\r\n", Says::Fault(ReplyFault::BadBody, b"")),
-        (b"HTTP/1.1 200 OK\r\nContent-Length: 42\r\n\r\n", Says::Fault(ReplyFault::BadBody, b"")),
-        (b"\r\nHTTP/1.1 200 OK\r\nContent-Length: 48\r\n\r\n", bad_head),
+        (
+            b"HTTP/1.1 200 OK\r\nContent-Length: 48\r\ntransfer-encoding: chunked\r\n\r\n",
+            bad_length,
+        ),
+        (
+            b"HTTP/1.1 200 OK\r\nContent-Length: 48\r\nContent-Encoding: gzip\r\n\r\n",
+            bad_length,
+        ),
+        (
+            b"HTTP/1.1 200 OK\r\nContent-Length: 51\r\n\r\n",
+            Says::Fault(ReplyFault::TooLong, b""),
+        ),
+        (
+            b"HTTP/1.1 200 OK\r\nContent-Length: 50\r\n\r\n",
+            Says::FaultAtEnd(ReplyFault::ClosedEarly, b""),
+        ),
+        (
+            b"HTTP/1.1 200 OK\r\nContent-Length: 39\r\n\r\n",
+            Says::Fault(ReplyFault::BadBody, b""),
+        ),
+        (
+            b"HTTP/1.1 200 OK\r\nContent-Length: 42\r\n\r\n",
+            Says::Fault(ReplyFault::BadBody, b""),
+        ),
+        (
+            b"\r\nHTTP/1.1 200 OK\r\nContent-Length: 48\r\n\r\n",
+            bad_head,
+        ),
         (b"HTTP/2 200 OK\r\nContent-Length: 48\r\n\r\n", bad_head),
-        (b"HTTP/1.1 200 OK\r\nContent-Length: 48\r\n folded\r\n\r\n", bad_head),
+        (
+            b"HTTP/1.1 200 OK\r\nContent-Length: 48\r\n folded\r\n\r\n",
+            bad_head,
+        ),
         (b"hello\r\n\r\n", bad_head),
     ];
     for (head, says) in rows {
@@ -43,20 +88,56 @@ fn heads_say(rt: HostRuntime) -> Result<(), Fail> {
 #[test]
 fn lies_say(rt: HostRuntime) -> Result<(), Fail> {
     let rows: [(&[u8], Says<'_>); 14] = [
-        (b"HTTP/1.1 500 Oops\r\nContent-Length: 3\r\n\r\nno\n", Says::Fault(ReplyFault::BadStatus(500), b"no\n")),
-        (b"HTTP/1.1 400 Bad\r\nContent-Length: 10\r\n\r\nQ7 byte 5\n and more", Says::Fault(ReplyFault::BadStatus(400), b"Q7 byte 5\n")),
-        (b"HTTP/1.1 302 Found\r\nLocation: http://127.0.0.1/\r\nContent-Length: 0\r\n\r\n", Says::Fault(ReplyFault::BadStatus(302), b"")),
-        (b"HTTP/1.1 100 Continue\r\n\r\nHTTP", Says::FaultAtEnd(ReplyFault::BadStatus(100), b"HTTP")),
-        (b"HTTP/1.1 404 Not Found\r\nTransfer-Encoding: chunked\r\n\r\n0\r\n\r\n", Says::FaultAtEnd(ReplyFault::BadStatus(404), b"0\r\n\r\n")),
+        (
+            b"HTTP/1.1 500 Oops\r\nContent-Length: 3\r\n\r\nno\n",
+            Says::Fault(ReplyFault::BadStatus(500), b"no\n"),
+        ),
+        (
+            b"HTTP/1.1 400 Bad\r\nContent-Length: 10\r\n\r\nQ7 byte 5\n and more",
+            Says::Fault(ReplyFault::BadStatus(400), b"Q7 byte 5\n"),
+        ),
+        (
+            b"HTTP/1.1 302 Found\r\nLocation: http://127.0.0.1/\r\nContent-Length: 0\r\n\r\n",
+            Says::Fault(ReplyFault::BadStatus(302), b""),
+        ),
+        (
+            b"HTTP/1.1 100 Continue\r\n\r\nHTTP",
+            Says::FaultAtEnd(ReplyFault::BadStatus(100), b"HTTP"),
+        ),
+        (
+            b"HTTP/1.1 404 Not Found\r\nTransfer-Encoding: chunked\r\n\r\n0\r\n\r\n",
+            Says::FaultAtEnd(ReplyFault::BadStatus(404), b"0\r\n\r\n"),
+        ),
         (b"hello\r\n\r\nthere", Says::Fault(ReplyFault::BadHead, b"")),
         (b"", Says::FaultAtEnd(ReplyFault::ClosedEarly, b"")),
-        (b"HTTP/1.1 200 OK\r\nContent-Length: 48\r\n", Says::FaultAtEnd(ReplyFault::ClosedEarly, b"")),
-        (b"HTTP/1.1 200 OK\r\nContent-Length: 20\r\n\r\nRRRRRRRRRRRRRRRRRRRR", Says::Fault(ReplyFault::BadBody, b"")),
-        (b"HTTP/1.1 200 OK\r\nContent-Length: 48\r\n\r\nRRRRRRRRRRRRRRRRRRRRRRRRRRRRRRRR\x80\0\0\0\0\0\0\0", Says::Fault(ReplyFault::BadBody, b"")),
-        (b"HTTP/1.1 200 OK\r\nContent-Length: 48\r\n\r\nRRRRRRRRRRRRRRRRRRRRRRRRRRRRRRRR\0\0\0\0\0\0\0\x09abcproo", Says::Fault(ReplyFault::BadBody, b"")),
-        (b"HTTP/1.1 200 OK\r\nContent-Length: 48\r\n\r\nRRRRRRRRRRRRRRRRRRRRRRRRRRRRRRRR\0\0\0\0\0\0\0\x08abcproofxxxx", Says::Reply(b"abcproof", b"")),
-        (b"HTTP/1.1 200 OK\r\nContent-Length: 40\r\n\r\nRRRRRRRRRRRRRRRRRRRRRRRRRRRRRRRR\0\0\0\0\0\0\0\0xxxx", Says::Reply(b"", b"")),
-        (b"HTTP/1.1 200 OK\r\nContent-Length: 48\r\n\r\nRRRRRRRRRRRRRRRRRRRRRRRRRRRRRRRR\0\0\0\0\0\0\0\x03abcproo", Says::FaultAtEnd(ReplyFault::ClosedEarly, b"")),
+        (
+            b"HTTP/1.1 200 OK\r\nContent-Length: 48\r\n",
+            Says::FaultAtEnd(ReplyFault::ClosedEarly, b""),
+        ),
+        (
+            b"HTTP/1.1 200 OK\r\nContent-Length: 20\r\n\r\nRRRRRRRRRRRRRRRRRRRR",
+            Says::Fault(ReplyFault::BadBody, b""),
+        ),
+        (
+            b"HTTP/1.1 200 OK\r\nContent-Length: 48\r\n\r\nRRRRRRRRRRRRRRRRRRRRRRRRRRRRRRRR\x80\0\0\0\0\0\0\0",
+            Says::Fault(ReplyFault::BadBody, b""),
+        ),
+        (
+            b"HTTP/1.1 200 OK\r\nContent-Length: 48\r\n\r\nRRRRRRRRRRRRRRRRRRRRRRRRRRRRRRRR\0\0\0\0\0\0\0\x09abcproo",
+            Says::Fault(ReplyFault::BadBody, b""),
+        ),
+        (
+            b"HTTP/1.1 200 OK\r\nContent-Length: 48\r\n\r\nRRRRRRRRRRRRRRRRRRRRRRRRRRRRRRRR\0\0\0\0\0\0\0\x08abcproofxxxx",
+            Says::Reply(b"abcproof", b""),
+        ),
+        (
+            b"HTTP/1.1 200 OK\r\nContent-Length: 40\r\n\r\nRRRRRRRRRRRRRRRRRRRRRRRRRRRRRRRR\0\0\0\0\0\0\0\0xxxx",
+            Says::Reply(b"", b""),
+        ),
+        (
+            b"HTTP/1.1 200 OK\r\nContent-Length: 48\r\n\r\nRRRRRRRRRRRRRRRRRRRRRRRRRRRRRRRR\0\0\0\0\0\0\0\x03abcproo",
+            Says::FaultAtEnd(ReplyFault::ClosedEarly, b""),
+        ),
     ];
     for (bytes, says) in rows {
         check(&rt, bytes, says)?;
@@ -66,7 +147,11 @@ fn lies_say(rt: HostRuntime) -> Result<(), Fail> {
 
 /// A head of so many bytes, whose last field is as long as needed.
 fn long_head(rt: &impl AllocGlobal, len: usize) -> Result<Vec<u8>, Fail> {
-    let mut head = response(rt.alloc(), b"HTTP/1.1 200 OK\r\nContent-Length: 48\r\nX: ", b"")?;
+    let mut head = response(
+        rt.alloc(),
+        b"HTTP/1.1 200 OK\r\nContent-Length: 48\r\nX: ",
+        b"",
+    )?;
     while head.len().saturating_add(4) < len {
         head.push(b'x')?;
     }
@@ -88,7 +173,11 @@ fn limits_of_heads(rt: HostRuntime) -> Result<(), Fail> {
         (63, Says::Reply(b"abc".as_slice(), b"proof".as_slice())),
         (64, Says::Fault(ReplyFault::BadHead, b"")),
     ] {
-        let mut head = response(rt.alloc(), b"HTTP/1.1 200 OK\r\nContent-Length: 48\r\n", b"")?;
+        let mut head = response(
+            rt.alloc(),
+            b"HTTP/1.1 200 OK\r\nContent-Length: 48\r\n",
+            b"",
+        )?;
         for _ in 0..fields {
             head.extend_from_slice(b"a:\r\n")?;
         }

@@ -53,7 +53,7 @@ returns-clause-none c =
     let len = length-take-le size (drop start bytes) all in
     none-map c.split_body.result _ _ c.split_body.ensures.none λ e r a p stands.
     let fails : Stands c.args.limit false bytes (failed BadBody) = subst (Stands c.args.limit false bytes)
-        (sym (body-taken size (drop start bytes) all) ∙ ap (λ n. by_body false n (take size (drop start bytes))) (sym len) ∙ e)
-        (body-stands c.args.limit false bytes start c.in-Body.end is) in
+    (sym (body-taken size (drop start bytes) all) ∙ ap (λ n. by_body false n (take size (drop start bytes))) (sym len) ∙ e)
+    (body-stands c.args.limit false bytes start c.in-Body.end is) in
     let same = stands-unique c.args.limit false bytes (failed BadBody) (replied r a p) fails stands in
     cc same
