@@ -1,5 +1,5 @@
 -- The tree of an object in mode Meta tells the whole object, but for the characters that XML can't hold.
-use Rattle.std.proofs.Common.{◌≡◌, ◌≢◌, ℕ, ℤ, pos, FitsSigned, List, [], ◌∷◌, ◌++◌, Bool, true, false, cond, map, inl, inr, ◌⊎◌, Option, Some, None, MatchOption, codes, bytes_eq, refl, sym, ap, ap₂, ◌∙◌, subst, arith, append_assoc}
+use Rattle.std.proofs.Common.{◌≡◌, ℕ, ℤ, pos, FitsSigned, List, [], ◌∷◌, ◌++◌, Bool, true, false, cond, map, inl, inr, ◌⊎◌, Option, Some, None, MatchOption, codes, bytes_eq, refl, sym, ap, ap₂, ◌∙◌, subst, arith, append_assoc}
 use Rattle.std.specs.Bool.{⊤}
 use Rattle.std.specs.Fmt.{signed_decimal}
 use Rattle.std.specs.Int.{w64}
@@ -9,7 +9,6 @@ use Rattle.std.proofs.lemmas.Bool.{true≢false}
 use Rattle.std.proofs.lemmas.Bool.Decides.{Decides-int_eq}
 use Rattle.std.proofs.lemmas.List.Elements.{recursion_from_All}
 use Rattle.std.proofs.lemmas.Slice.Eq.{bytes_eq-Decides}
-use Rattle.osm_model.specs.CanonicalDegrees.{degrees}
 use Rattle.osm_model.specs.CanonicalLine.{moment}
 use Rattle.osm_model.specs.Elements.{Element, kind_of}
 use Rattle.osm_model.specs.Limits.{BodyInRange, IsElement}
@@ -23,7 +22,6 @@ use Rattle.osm_model.specs.declared.out_mode.OutMode.TheVariants as modes
 use Rattle.osm_model.specs.declared.reference.Ref.{Ref}
 use Rattle.osm_model.specs.declared.tag.Tag.{Tag}
 use Rattle.osm_model.proofs.shared.ObjectParts.{same_element, same_meta}
-use Rattle.osm_forms.specs.Words.{kind_word}
 use Rattle.osm_forms.specs.XmlDocuments.{Attribute, Content, SpellsTree, Tree, child, element, nothing}
 use Rattle.osm_forms.specs.XmlText.{xml_of}
 use Rattle.osm_forms.specs.XmlTrees.{attribute, body_trees, children, held_body, held_characters, held_element, held_member, held_tag, held_text, kept_attributes, kept_trees, known_moment, known_number, known_user, member_tree, node_tree, object_tree, place_attributes, tag_tree}

@@ -135,8 +135,16 @@ fn append_next_json(object: &Object, mode: OutMode, out: &mut Vec<u8>) -> Result
         ++ (44 ∷ 10 ∷ json_of object.now mode)) }
     ensures err { OnErr result (take (length out.old.items) out.new.items ≡ out.old.items) }
 {
-    append_words(",\n", out)?;
+    append_comma(out)?;
     append_json_object(object, mode, out)
+}
+
+/// Appends what stands between two JSON objects.
+fn append_comma(out: &mut Vec<u8>) -> Result<(), AllocError>
+    ensures ok { OnOk result (out.new.items ≡ out.old.items ++ (44 ∷ 10 ∷ [])) }
+    ensures err { OnErr result (take (length out.old.items) out.new.items ≡ out.old.items) }
+{
+    append_words(",\n", out)
 }
 
 fn append_xml_line(object: &Object, mode: OutMode, out: &mut Vec<u8>) -> Result<(), AllocError>
@@ -171,7 +179,7 @@ fn append_json_name(name: Ref, out: &mut Vec<u8>) -> Result<(), AllocError>
     ensures ok { OnOk result (out.new.items ≡ out.old.items ++ form_name Form.Json name) }
     ensures err { OnErr result (take (length out.old.items) out.new.items ≡ out.old.items) }
 {
-    append_words(",\n", out)?;
+    append_comma(out)?;
     append_json_ref(name, out)?;
     append_words("}", out)
 }

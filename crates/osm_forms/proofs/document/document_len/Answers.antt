@@ -1,4 +1,4 @@
-use Rattle.std.proofs.Common.{arith, ap, length, length-append, ◌++◌, sym, ◌∙◌}
+use Rattle.std.proofs.Common.{arith, ap, length, length-append, ◌++◌}
 use Rattle.osm_forms.proofs.document.document_len.Goals as goal
 
 pub returns : goal.returns
