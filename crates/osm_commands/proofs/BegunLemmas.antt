@@ -1,5 +1,5 @@
 -- What `prove`, `ask` and `check` have written where they end.
-use Rattle.std.proofs.Common.{◌≡◌, ◌≢◌, ◌⊎◌, ℕ, List, Option, None, Some, Result, Ok, Err, IfErr, IfSome, OnOk, ap, inl, inr, subst, take, ◌∙◌}
+use Rattle.std.proofs.Common.{◌≡◌, ◌≢◌, ◌⊎◌, ℕ, List, Option, None, Some, Result, Ok, Err, IfErr, IfSome, OnOk, ap, inl, inr, subst, sym, take, ◌∙◌}
 use Rattle.std.specs.declared.alloc.AllocError.{AllocError}
 use Rattle.std.proofs.KnownBytes.{Keeps-refl}
 use Rattle.std.specs.Io.KnownBytes.{Appends, Keeps}
@@ -8,7 +8,7 @@ use Rattle.osm_keys.specs.Publications.{IsNodeIn, IsPublication, Publication, ro
 use Rattle.osm_keys.specs.declared.edition.Edition.{Edition}
 use Rattle.osm_prove.specs.Proved.{IsProved}
 use Rattle.ql_eval.specs.declared.evaluation.Report.{Report}
-use Rattle.osm_check.specs.Verdicts.{IsVerdict, StandsIn}
+use Rattle.osm_check.specs.Verdicts.{IsVerdict, IsYes, StandsIn}
 use Rattle.osm_check.specs.declared.verdict.Verdict.{Verdict}
 use Rattle.osm_check.specs.declared.verdict.Verdict.TheVariants.{Yes}
 use Rattle.osm_commands.specs.Ask.{IsAnswer, IsBegun}
@@ -16,7 +16,9 @@ use Rattle.osm_commands.specs.Files.{IfBoth, IfThree, IsBegunProof, IsBegunVerdi
 use Rattle.osm_commands.specs.RootLines.{verdict_line}
 use Rattle.osm_commands.specs.TreeRoots.{IsPublicationIn, publication_line}
 use Rattle.byte_io.specs.Written.{AppendsFront}
+use Rattle.osm_commands.specs.WholeFiles.{ReadsAs}
 use Rattle.osm_commands.specs.Written.{AppendInTurn, Output, UpToFirst, UpToSecond, UpToThird, Writing}
+use Rattle.osm_commands.proofs.QueryLemmas.{proved_same, same_proved, same_verdict}
 use Rattle.osm_commands.specs.declared.command_fault.CommandFault.{CommandFault}
 use Rattle.osm_commands.specs.declared.command_fault.CommandFault.TheVariants.{Device}
 
@@ -130,27 +132,52 @@ whole_answer (Some file) query written text old new (Ok done) answer is whole = 
 
 -- ---- `check`
 
--- what is said of the bytes that were checked is said of those that the readers told
-pub told_of : (P : List ℕ → List ℕ → List ℕ → Type 0) (first second third : Option (List ℕ)) (query answer proof query_read answer_read proof_read : List ℕ)
+-- what is said of the bytes that were checked is said of those that the readers told, where it may be said of each file
+-- that reads as the query does
+told_of : (P : List ℕ → List ℕ → List ℕ → Type 0) (first second third : Option (List ℕ)) (query answer proof query_read answer_read proof_read : List ℕ)
+    → ((file : List ℕ) → ReadsAs query file → P query answer proof → P file answer proof)
     → query ≡ query_read → answer ≡ answer_read → proof ≡ proof_read
-    → IfSome first (λ left. query_read ≡ left) → IfSome second (λ left. answer_read ≡ left) → IfSome third (λ left. proof_read ≡ left)
+    → IfSome first (ReadsAs query_read) → IfSome second (λ left. answer_read ≡ left) → IfSome third (λ left. proof_read ≡ left)
     → P query answer proof → IfThree first second third P
-told_of P None second third query answer proof x y z e f g q a p said = tt
-told_of P (Some _) None third query answer proof x y z e f g q a p said = tt
-told_of P (Some _) (Some _) None query answer proof x y z e f g q a p said = tt
-told_of P (Some u) (Some v) (Some w) query answer proof x y z e f g q a p said =
-    subst (λ (b : List ℕ). P b v w) (e ∙ q) (subst (λ (b : List ℕ). P query b w) (f ∙ a) (subst (λ (b : List ℕ). P query answer b) (g ∙ p) said))
+told_of P None second third query answer proof x y z same e f g q a p said = tt
+told_of P (Some _) None third query answer proof x y z same e f g q a p said = tt
+told_of P (Some _) (Some _) None query answer proof x y z same e f g q a p said = tt
+told_of P (Some u) (Some v) (Some w) query answer proof x y z same e f g q a p said =
+    subst (λ (b : List ℕ). P u b w) (f ∙ a) (subst (λ (b : List ℕ). P u answer b) (g ∙ p)
+    (same u (subst (λ (b : List ℕ). ReadsAs b u) (sym e) q) said))
+
+-- the verdict that is owed on the bytes that were checked is owed on those that the readers told
+pub verdict_told : (first second third : Option (List ℕ)) (root query answer proof query_read answer_read proof_read : List ℕ) (verdict : Verdict)
+    → query ≡ query_read → answer ≡ answer_read → proof ≡ proof_read
+    → IfSome first (ReadsAs query_read) → IfSome second (λ left. answer_read ≡ left) → IfSome third (λ left. proof_read ≡ left)
+    → IsVerdict query root answer proof verdict → IfThree first second third (λ q a n. IsVerdict q root a n verdict)
+verdict_told first second third root query answer proof x y z verdict e f g q a n is =
+    told_of (λ b c d. IsVerdict b root c d verdict) first second third query answer proof x y z
+    (λ file same said. same_verdict query file root answer proof verdict same said) e f g q a n is
+
+-- an honest answer that was accepted is one of the bytes that the readers told
+pub honest_told : (first second third : Option (List ℕ)) (root query answer proof query_read answer_read proof_read : List ℕ) (verdict : Verdict)
+    → query ≡ query_read → answer ≡ answer_read → proof ≡ proof_read
+    → IfSome first (ReadsAs query_read) → IfSome second (λ left. answer_read ≡ left) → IfSome third (λ left. proof_read ≡ left)
+    → ((p : Publication) → IsPublication p → root ≡ root_of p → IsProved p query answer proof → IsYes verdict)
+    → IfThree first second third (λ q a n. (p : Publication) → IsPublication p → root ≡ root_of p → IsProved p q a n → IsYes verdict)
+honest_told first second third root query answer proof x y z verdict e f g q a n says =
+    told_of (λ b c d. (p : Publication) → IsPublication p → root ≡ root_of p → IsProved p b c d → IsYes verdict) first second third query answer proof x y z
+    (λ file same said. λ p is under proved. said p is under (same_proved p query file answer proof same proved)) e f g q a n says
 
 -- what a yes says of the bytes that were checked it says of those that the readers told
 pub headline_told : (first second third : Option (List ℕ)) (root query answer proof query_read answer_read proof_read : List ℕ) (verdict : Verdict)
     (told : Result Verdict AllocError) (result : Result Verdict CommandFault) → told ≡ Ok verdict → result ≡ Ok verdict
     → query ≡ query_read → answer ≡ answer_read → proof ≡ proof_read
-    → IfSome first (λ left. query_read ≡ left) → IfSome second (λ left. answer_read ≡ left) → IfSome third (λ left. proof_read ≡ left)
+    → IfSome first (ReadsAs query_read) → IfSome second (λ left. answer_read ≡ left) → IfSome third (λ left. proof_read ≡ left)
     → ((p : Publication) (report : Report) → IsPublication p → root ≡ root_of p → told ≡ Ok (Yes report) → IsProved p query answer proof ⊎ Clash (IsNodeIn p) (StandsIn proof))
     → IfThree first second third (λ q a n. (p : Publication) (report : Report) → IsPublication p → root ≡ root_of p → result ≡ Ok (Yes report) → IsProved p q a n ⊎ Clash (IsNodeIn p) (StandsIn n))
 headline_told first second third root query answer proof x y z verdict told result t r e f g q a n says =
     told_of (λ b c d. (p : Publication) (report : Report) → IsPublication p → root ≡ root_of p → result ≡ Ok (Yes report) → IsProved p b c d ⊎ Clash (IsNodeIn p) (StandsIn d))
-    first second third query answer proof x y z e f g q a n
+    first second third query answer proof x y z (λ file same said. λ p report is under yes. elim (said p report is under yes) [
+      | inl proved ↦ inl (proved_same p query file answer proof same proved)
+      | inr clash ↦ inr clash
+    ]) e f g q a n
     (λ p report is same yes. let yes_verdict : verdict ≡ Yes report = cc in says p report is same (t ∙ ap (λ (v : Verdict). Ok v) yes_verdict))
 
 -- a beginning of its line is written

@@ -1,20 +1,12 @@
 -- Files that are read whole, and faults of `prove` from those of the calls that it makes.
-use Rattle.std.proofs.Common.{◌≡◌, ◌⊎◌, ℕ, List, [], ◌++◌, Option, None, Some, Result, Ok, Err, IfSome, IfErr, IsErrAnd, inl, inr, refl, sym, subst, ap, ◌∙◌, append-nil}
-use Rattle.std.specs.Io.KnownBytes.{Consumes, IsAtEnd}
+use Rattle.std.proofs.Common.{◌≡◌, ◌⊎◌, ℕ, List, Option, None, Some, Result, Ok, Err, IfSome, IfErr, IsErrAnd, inl, inr, refl, sym, subst}
 use Rattle.osm_model.specs.Elements.{Element}
 use Rattle.osm_keys.specs.declared.edition.Edition.{Edition}
 use Rattle.osm_commands.specs.Ask.{Explains, HoldsTrees, IsAnswer}
 use Rattle.osm_commands.specs.Files.{ExplainsFiles, IfBoth, IsEndless, IsOutsideFiles, IsUnread}
 use Rattle.osm_commands.specs.TreeRoots.{IsOutsideOrTrees}
 use Rattle.osm_commands.specs.declared.command_fault.CommandFault.{CommandFault}
-use Rattle.osm_commands.specs.declared.command_fault.CommandFault.TheVariants.{Opl, Query, Endless, Clash, TooMany, Memory, Device}
-
--- where no byte is left, all bytes were read
-pub whole : (old mid new : Option (List ℕ)) (front : List ℕ) → Consumes old mid front → Consumes mid new [] → IsAtEnd new → IfSome old (λ left. front ≡ left)
-whole None mid new front h k end = tt
-whole (Some file) None new front h k end = absurd h
-whole (Some file) (Some rest) None front h k end = absurd k
-whole (Some file) (Some rest) (Some left) front h k end = sym (h ∙ ap (λ r. front ++ r) (k ∙ end) ∙ append-nil front)
+use Rattle.osm_commands.specs.declared.command_fault.CommandFault.TheVariants.{Opl, Query, Endless, TooLarge, Clash, TooMany, Memory, Device}
 
 -- the bytes that were read are those that the reader told
 pub same_read : (second : Option (List ℕ)) (read bytes : List ℕ) → second ≡ Some bytes → IfSome second (λ left. read ≡ left) → read ≡ bytes
@@ -37,6 +29,7 @@ explains_files : (file : List ℕ) (left : Option (List ℕ)) (edition : Edition
 explains_files file left edition bytes (Opl load) why = why
 explains_files file left edition bytes (Query refused) why = why
 explains_files file left edition bytes Endless why = absurd why
+explains_files file left edition bytes TooLarge why = absurd why
 explains_files file left edition bytes Clash why = why
 explains_files file left edition bytes TooMany why = why
 explains_files file left edition bytes Memory why = tt

@@ -1,5 +1,7 @@
 pub mod AskLemmas
 pub mod BegunLemmas
 pub mod FileLemmas
+pub mod FrontLemmas
+pub mod QueryLemmas
 pub mod TreeLemmas
 pub mod WholeFileLemmas

@@ -1,16 +1,17 @@
 -- Pieces that are read of a file.
-use Rattle.std.proofs.Common.{◌≡◌, ◌≤◌, ◌<◌, ◌∙◌, ◌+◌, ◌^◌, ℕ, suc, List, [], ◌∷◌, ◌++◌, Option, None, Some, IfSome, Result, Ok, Err, IfErr, IfOk, ap, sym, subst, arith, length, take, append-nil, length-append}
+use Rattle.std.proofs.Common.{◌≡◌, ◌≤◌, ◌∙◌, ◌+◌, ℕ, suc, List, [], ◌∷◌, ◌++◌, Option, Result, Ok, Err, ap, sym, subst, arith, length, take, append-nil, length-append}
 use Rattle.std.specs.Global.{Vec}
-use Rattle.std.specs.Io.KnownBytes.{Consumes, IsAtEnd, Keeps}
+use Rattle.std.specs.Io.KnownBytes.{Consumes, Keeps}
 use Rattle.std.specs.List.{All, concat, slice_index_or}
 use Rattle.std.specs.Result.{IsErrAnd}
 use Rattle.std.proofs.KnownBytes.{Consumes-kept, Consumes-nil, Consumes-trans}
 use Rattle.std.proofs.lemmas.List.{length-take-le}
 use Rattle.std.proofs.lemmas.List.Elements.{All-append}
 use Rattle.std.proofs.lemmas.List.Folds.{concat-append}
-use Rattle.osm_commands.specs.WholeFiles.{AreRead, BreaksOff, HasRead, IsPiece, IsReadSo, longest_piece, most_reads}
+use Rattle.osm_commands.specs.WholeFiles.{AreRead, BreaksOff, HasReadUpTo, IsPiece, longest_piece, most_reads}
+use Rattle.osm_commands.specs.internal.Fronts.{IsFrontRead}
 use Rattle.osm_commands.specs.declared.command_fault.CommandFault.{CommandFault}
-use Rattle.osm_commands.specs.declared.command_fault.CommandFault.TheVariants.{Endless, Memory, Device}
+use Rattle.osm_commands.specs.declared.command_fault.CommandFault.TheVariants.{Memory}
 
 one_piece : (piece : List ℕ) → IsPiece piece → All IsPiece (piece ∷ [])
 one_piece piece is = λ k d inside.
@@ -53,22 +54,19 @@ read-end unread mid left pieces are none = record {
 }
 
 -- memory ran out
-pub broken_memory : (unread left : Option (List ℕ)) (result : Result (Vec ℕ) CommandFault) (fault : CommandFault) → IsErrAnd result (λ told. told ≡ fault) → fault ≡ Memory
-    → HasRead unread left (λ pieces. length pieces ≤ most_reads) → IsReadSo unread left result
-broken_memory unread left (Ok bytes) fault told is read = absurd told
-broken_memory unread left (Err other) fault told is read = subst (BreaksOff unread left) (sym (told ∙ is)) read
+pub broken_memory : (limit : ℕ) (unread left : Option (List ℕ)) (result : Result (Vec ℕ) CommandFault) (fault : CommandFault) → IsErrAnd result (λ told. told ≡ fault) → fault ≡ Memory
+    → HasReadUpTo (limit + 1) unread left (λ pieces. length pieces ≤ most_reads) → IsFrontRead limit unread left result
+broken_memory limit unread left (Ok bytes) fault told is read = absurd told
+broken_memory limit unread left (Err other) fault told is read = subst (BreaksOff (HasReadUpTo (limit + 1) unread left)) (sym (told ∙ is)) read
+
+-- so many bytes more
+pub longer : (pieces : List (List ℕ)) (piece : List ℕ) → length (concat (pieces ++ piece ∷ [])) ≡ length (concat pieces) + length piece
+longer pieces piece = ap length (concat-more pieces piece) ∙ length-append (concat pieces) piece
 
 -- each piece has a byte
-long : (pieces : List (List ℕ)) → All IsPiece pieces → length pieces ≤ length (concat pieces)
+pub long : (pieces : List (List ℕ)) → All IsPiece pieces → length pieces ≤ length (concat pieces)
 long [] all = omega arith
 long (piece ∷ pieces) all =
     let first = all 0 piece (omega arith) in
     let later = long pieces (λ k d inside. all (suc k) d (omega (arith, inside))) in
     omega (arith, first.0, later, length-append piece (concat pieces))
-
-pub long_file : (unread left : Option (List ℕ)) (pieces : List (List ℕ)) (P : Type 0) → AreRead unread left pieces → length pieces ≡ most_reads
-    → IfSome unread (λ all. P → 2 ^ 32 ≤ length all)
-long_file None left pieces P are number = tt
-long_file (Some all) None pieces P are number = absurd are.consumed
-long_file (Some all) (Some rest) pieces P are number = λ _.
-    omega (arith, number, long pieces are.sized, ap length are.consumed, length-append (concat pieces) rest)

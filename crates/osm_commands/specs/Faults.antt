@@ -8,7 +8,7 @@ use Rattle.osm_prove.specs.declared.prove_fault.ProveFault.TheVariants as refusa
 use Rattle.osm_index.specs.declared.fault.IndexFault.{IndexFault}
 use Rattle.osm_index.specs.declared.fault.IndexFault.TheVariants as indexes
 use Rattle.osm_commands.specs.declared.command_fault.CommandFault.{CommandFault}
-use Rattle.osm_commands.specs.declared.command_fault.CommandFault.TheVariants.{Opl, Query, Endless, Clash, TooMany, Memory, Device}
+use Rattle.osm_commands.specs.declared.command_fault.CommandFault.TheVariants.{Opl, Query, Endless, TooLarge, Clash, TooMany, Memory, Device}
 use Rattle.osm_commands.specs.declared.status.Status.{Status}
 use Rattle.osm_commands.specs.declared.status.Status.TheVariants.{Refused, Failed}
 
@@ -17,6 +17,7 @@ abbrev pub status_of : CommandFault → Status
 status_of (Opl load) = Refused
 status_of (Query refused) = Refused
 status_of Endless = Refused
+status_of TooLarge = Failed
 status_of Clash = Refused
 status_of TooMany = Refused
 status_of Memory = Failed

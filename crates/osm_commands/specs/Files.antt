@@ -1,6 +1,6 @@
 -- What the commands `prove` and `check` write, and when they write nothing.
 -- Source: this project.
-use Rattle.std.specs.Prelude.{◌≡◌, ℕ, ◌≤◌, ◌^◌, ◌⊎◌, List, Option, Some, None, length, ⊤}
+use Rattle.std.specs.Prelude.{◌≡◌, ℕ, ◌≤◌, ◌^◌, ◌⊎◌, List, Option, Some, None, IfSome, length, ⊤}
 use Rattle.std.specs.Io.KnownBytes.{Keeps}
 use Rattle.osm_model.specs.Elements.{Element}
 use Rattle.osm_keys.specs.Publications.{Publication}
@@ -12,9 +12,10 @@ use Rattle.osm_commands.specs.Ask.{Explains, HoldsTrees}
 use Rattle.osm_commands.specs.RootLines.{verdict_line}
 use Rattle.osm_commands.specs.TreeRoots.{IsOutsideOrTrees, IsPublicationIn, publication_line}
 use Rattle.byte_io.specs.Written.{AppendsFront}
+use Rattle.osm_commands.specs.WholeFiles.{IsTooLarge}
 use Rattle.osm_commands.specs.Written.{AppendInTurn, IsUntouched, Output}
 use Rattle.osm_commands.specs.declared.command_fault.CommandFault.{CommandFault}
-use Rattle.osm_commands.specs.declared.command_fault.CommandFault.TheVariants.{Endless, Memory, Device}
+use Rattle.osm_commands.specs.declared.command_fault.CommandFault.TheVariants.{Endless, TooLarge, Memory, Device}
 
 -- what is said of two readers' bytes, where both tell them
 abbrev pub IfBoth : Option (List ℕ) → Option (List ℕ) → (List ℕ → List ℕ → Type 0) → Type 0
@@ -56,13 +57,25 @@ IsBegunProof file query edition answer proof root =
 
 -- ---- `check`
 
--- the fault lies outside the three files' bytes
+-- a file wasn't read: the fault lies outside its bytes
 abbrev pub IsUnread : CommandFault → Type 0
 IsUnread fault = (fault ≡ Endless) ⊎ ((fault ≡ Memory) ⊎ (fault ≡ Device))
 
--- a file is told to have no end only where one of the three is so long
-abbrev pub ExplainsThree : List ℕ → List ℕ → List ℕ → CommandFault → Type 0
-ExplainsThree query answer proof fault = fault ≡ Endless → IsEndless query ⊎ (IsEndless answer ⊎ IsEndless proof)
+-- a file wasn't read whole
+abbrev pub IsUnreadOrTooLarge : CommandFault → Type 0
+IsUnreadOrTooLarge fault = (fault ≡ TooLarge) ⊎ IsUnread fault
+
+-- a file that tells its bytes isn't too large
+abbrev pub FitsWithin : Option ℕ → Option (List ℕ) → Type 0
+FitsWithin limit known = IfSome known (λ bytes. ¬ (IsTooLarge limit bytes))
+
+-- a file is told to have no end only where the answer or the proof is so long
+abbrev pub ExplainsEndless : (answer proof : List ℕ) → CommandFault → Type 0
+ExplainsEndless answer proof fault = fault ≡ Endless → IsEndless answer ⊎ IsEndless proof
+
+-- a file is told to be too large only where the answer is, or the answer isn't and the proof is
+abbrev pub ExplainsTooLarge : (limit : Option ℕ) (answer proof : List ℕ) → CommandFault → Type 0
+ExplainsTooLarge limit answer proof fault = fault ≡ TooLarge → IsTooLarge limit answer ⊎ (¬ (IsTooLarge limit answer) × IsTooLarge limit proof)
 
 -- the output has gained nothing, or a beginning of the verdict's line
 abbrev pub IsBegunVerdict : (query root answer proof : List ℕ) (old new : Option (List ℕ)) → Type 0

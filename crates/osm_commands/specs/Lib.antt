@@ -6,4 +6,6 @@ pub mod RootLines
 pub mod Statuses
 pub mod TreeRoots
 pub mod WholeFiles
+pub mod WholeLines
 pub mod Written
+pub mod internal

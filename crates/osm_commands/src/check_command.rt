@@ -1,19 +1,21 @@
-//! The command `check ROOT QUERYFILE ANSWERFILE PROOFFILE`.
+//! The command `check ROOT QUERYFILE ANSWERFILE PROOFFILE [--max-size BYTES]`.
 
-ghost use Rattle.std.specs.Prelude.{◌≡◌, ◌≢◌, ◌⊎◌, IfErr, IfOk, Ok, OnOk, true};
+ghost use Rattle.std.specs.Prelude.{◌≡◌, ◌≢◌, ◌⊎◌, ◌+◌, IfErr, IfOk, Ok, OnOk, true};
 ghost use Rattle.std.specs.Io.KnownBytes.{Appends, IsAtEnd, Keeps};
 ghost use Rattle.tree_node.specs.Outcomes.{Clash};
 ghost use Rattle.osm_keys.specs.Publications.{IsNodeIn, IsPublication, Publication, root_of};
 ghost use Rattle.osm_prove.specs.Proved.{IsProved};
 ghost use Rattle.ql_eval.specs.declared.evaluation.Report.{Report};
 ghost use Rattle.osm_check.specs.Verdicts.{IsVerdict, IsYes, StandsIn};
-ghost use Rattle.osm_commands.specs.Files.{ExplainsThree, IfThree, IsBegunVerdict, IsUnread};
+ghost use Rattle.osm_commands.specs.Files.{ExplainsEndless, ExplainsTooLarge, FitsWithin, IfBoth, IfThree, IsBegunVerdict, IsUnreadOrTooLarge};
 ghost use Rattle.osm_commands.specs.RootLines.{verdict_line};
+ghost use Rattle.osm_commands.specs.WholeFiles.{IsQueryRead, TakesAtMost, TakesWithin, longest_query};
 
 use crate::command_fault::CommandFault;
 use crate::flushing_writer::FlushingWriter;
+use crate::query_reader::read_query;
 use crate::verdict_lines::verdict_line;
-use crate::whole_reader::read_whole;
+use crate::whole_reader::read_within;
 use crate::whole_writer::write_whole;
 use osm_check::{Digest, Verdict};
 use std::alloc::Global;
@@ -23,11 +25,15 @@ use std::io::Read;
 /// the answer is right, and writes the verdict: `yes`, or `no` and the reason, and LF. The root may be of
 /// either edition.
 ///
+/// Of the query's file no more is read than 65,537 bytes: a longer one is refused as a query (`C1 Q9`) whatever follows.
+/// Of the answer's and the proof's file, each, no more is read than the limit in bytes and one, if there is a limit.
+///
 /// # Errors
 ///
-/// `Endless` where a file was read 2^32 times without an end; `Memory` where an allocation was refused;
-/// `Device` where a read failed, or the write failed or took nothing. Nothing is written then, but where the
-/// output failed a beginning of the line. The readers are left where they stood.
+/// `Endless` where the answer or the proof was read 2^32 times without an end; `TooLarge` where one of them has more bytes
+/// than the limit, and then nothing is judged; `Memory` where an allocation was refused; `Device` where a read failed, or
+/// the write failed or took nothing. They come in the order of reading. Nothing is written then, but where the output
+/// failed a beginning of the line. The readers are left where they stood.
 ///
 /// Clauses that speak of the readers' bytes do so where they tell them.
 pub fn check<Q: Read, A: Read, P: Read, W: FlushingWriter>(
@@ -36,6 +42,7 @@ pub fn check<Q: Read, A: Read, P: Read, W: FlushingWriter>(
     query: &mut Q,
     answer: &mut A,
     proof: &mut P,
+    limit: Option<u64>,
     output: &mut W,
 ) -> Result<Verdict, CommandFault>
     // The headline: under the root of any publication, a yes says that the answer is the query's meaning over its
@@ -61,17 +68,28 @@ pub fn check<Q: Read, A: Read, P: Read, W: FlushingWriter>(
         × Appends (W.contents output.old) (W.contents output.new) (verdict_line verdict)) }
     // Nothing is held back then.
     ensures flushed { OnOk result (W.is_flushed output.new ≡ true) }
-    // It is refused only out of memory, for a device, or for a file without an end.
-    ensures refused { IfErr result IsUnread }
+    // It is refused only out of memory, for a device, or for a file without an end or that is too large.
+    ensures refused { IfErr result IsUnreadOrTooLarge }
     // Only a file of 2^32 bytes or more is told to have no end.
-    ensures endless { IfThree (Q.remaining query.old) (A.remaining answer.old)
-        (P.remaining proof.old)
-        (λ query_bytes answer_bytes proof_bytes. IfErr result
-        (ExplainsThree query_bytes answer_bytes proof_bytes)) }
-    // The answer is read only after the query, to its end,
-    ensures answer_later { (answer.new ≡ answer.old) ⊎ IsAtEnd (Q.remaining query.new) }
-    // and the proof after the answer.
-    ensures proof_later { (proof.new ≡ proof.old) ⊎ IsAtEnd (A.remaining answer.new) }
+    ensures endless { IfBoth (A.remaining answer.old) (P.remaining proof.old)
+        (λ answer_bytes proof_bytes. IfErr result (ExplainsEndless answer_bytes proof_bytes)) }
+    // Only a file that is larger than the limit is told to be too large: the answer, or else the proof.
+    ensures too_large { IfBoth (A.remaining answer.old) (P.remaining proof.old)
+        (λ answer_bytes proof_bytes. IfErr result
+        (ExplainsTooLarge limit answer_bytes proof_bytes)) }
+    // Where one is, there is no verdict.
+    ensures fits { OnOk result (FitsWithin limit (A.remaining answer.old)
+        × FitsWithin limit (P.remaining proof.old)) }
+    // Whatever happens, no more is taken of the files than what can matter.
+    ensures takes { TakesAtMost (longest_query + 1) (Q.remaining query.old) (Q.remaining query.new)
+        × TakesWithin limit (A.remaining answer.old) (A.remaining answer.new)
+        × TakesWithin limit (P.remaining proof.old) (P.remaining proof.new) }
+    // The answer is read only after the query,
+    ensures answer_later { (answer.new ≡ answer.old)
+        ⊎ IsQueryRead (Q.remaining query.old) (Q.remaining query.new) }
+    // and the proof after the answer, to its end, and where that isn't too large.
+    ensures proof_later { (proof.new ≡ proof.old)
+        ⊎ (IsAtEnd (A.remaining answer.new) × FitsWithin limit (A.remaining answer.old)) }
     // Nothing is written but where a device fails,
     ensures nothing { IfErr result (λ fault. fault ≢ CommandFault.Device
         → Keeps (W.contents output.old) (W.contents output.new)) }
@@ -81,9 +99,9 @@ pub fn check<Q: Read, A: Read, P: Read, W: FlushingWriter>(
         IsBegunVerdict query_bytes root.now.0 answer_bytes proof_bytes
         (W.contents output.old) (W.contents output.new)) }
 {
-    let query = read_whole(alloc, query)?;
-    let answer = read_whole(alloc, answer)?;
-    let proof = read_whole(alloc, proof)?;
+    let query = read_query(alloc, query)?;
+    let answer = read_within(alloc, answer, limit)?;
+    let proof = read_within(alloc, proof, limit)?;
     let verdict = osm_check::check(alloc, &query, root, &answer, &proof)?;
     let line = verdict_line(alloc, &verdict)?;
     write_whole(output, line.as_bytes())?;

@@ -24,6 +24,9 @@ pub enum CommandFault {
     /// The file of a query, an answer or a proof was read 2^32 times without an end.
     #[error("O15")]
     Endless,
+    /// The file of an answer or a proof has more bytes than the limit that was given.
+    #[error("too large")]
+    TooLarge,
     /// Two different nodes of the set's trees have one digest.
     #[error("I1")]
     Clash,
@@ -49,7 +52,7 @@ impl CommandFault {
             | CommandFault::Endless
             | CommandFault::Clash
             | CommandFault::TooMany => Status::Refused,
-            CommandFault::Memory | CommandFault::Device => Status::Failed,
+            CommandFault::TooLarge | CommandFault::Memory | CommandFault::Device => Status::Failed,
         }
     }
 }

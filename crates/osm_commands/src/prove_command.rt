@@ -29,8 +29,9 @@ use std::io::Read;
 /// objects, or was read 2^32 times without an end; `TooMany` where a tree of the set would have more than 2^29
 /// entries, else `Clash` where two different nodes of the trees have one digest; `Endless` where the query was
 /// read 2^32 times without an end; `Query` where it doesn't read; `Memory` where an allocation was refused;
-/// `Device` where a read failed, or a write failed or took nothing. Nothing is written then, but where a writer
-/// failed the texts before it and a beginning of its own. The readers are left where they stood.
+/// `Device` where a read failed, a write failed or took nothing, or a text can't be put in its place. Nothing is written
+/// then, but where a writer failed the texts before it and a beginning of its own. Where the answer can't be put in its
+/// place, the proof isn't put in its place either, and the root isn't written. The readers are left where they stood.
 ///
 /// Clauses that speak of the readers' bytes do so where they tell them.
 pub fn prove<

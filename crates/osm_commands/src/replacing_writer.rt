@@ -1,6 +1,6 @@
 //! Writers whose text takes the place of an older one.
 
-ghost use Rattle.std.specs.Prelude.{◌≡◌, Bool, IfErr, OnErr, OnOk, true};
+ghost use Rattle.std.specs.Prelude.{◌≡◌, ◌⊎◌, Bool, IfErr, OnErr, OnOk, true};
 ghost use Rattle.std.specs.Io.KnownBytes.{Keeps};
 
 use crate::command_fault::CommandFault;
@@ -30,16 +30,19 @@ impl ReplacingWriter for Vec<u8> {
     }
 }
 
-/// Puts two texts in their places, one after the other. Refused with `Device` where one can't be: then the second one isn't
-/// put there, and where it is the first that can't be, neither is.
+/// Puts two texts in their places, one after the other. Refused with `Device` where one can't be put there: the second one
+/// then isn't, and where it is the first that can't be, neither is.
 pub(crate) fn put_both_in_place<A: ReplacingWriter, P: ReplacingWriter>(
     first: &mut A,
     second: &mut P,
 ) -> Result<(), CommandFault>
     ensures placed { OnOk result ((A.is_in_place first.new ≡ true)
         × (P.is_in_place second.new ≡ true)) }
-    // The second is put in its place after the first,
-    ensures in_order { OnErr result (P.is_in_place second.new ≡ P.is_in_place second.old) }
+    // The second is put in its place after the first: where the first can't be, the second isn't touched,
+    ensures in_order { OnErr result (((A.is_in_place first.new ≡ A.is_in_place first.old)
+        × (second.new ≡ second.old))
+        ⊎ ((A.is_in_place first.new ≡ true)
+        × (P.is_in_place second.new ≡ P.is_in_place second.old))) }
     ensures flushed { OnOk result ((A.is_flushed first.new ≡ A.is_flushed first.old)
         × (P.is_flushed second.new ≡ P.is_flushed second.old)) }
     // and neither gains anything.

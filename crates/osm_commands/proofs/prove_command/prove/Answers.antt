@@ -162,3 +162,11 @@ returns-clause-proved g c =
     c.deref-2.ensures.value (gained_kept _ _ _ _ c.in_ok-write_whole.ensures.whole c.in_ok-put_both_in_place.ensures.kept.0)
     c.deref-3.ensures.value (gained_kept _ _ _ _ c.in_ok-write_whole-2.ensures.whole c.in_ok-put_both_in_place.ensures.kept.1)
     (c.as_bytes.ensures.value ∙ c.in_ok-line.ensures ∙ ap digest_line made.0) c.write_whole-3.ensures.whole
+
+pub returns-in_err-put_both_in_place-clause-only : goal.returns-in_err-put_both_in_place-clause-only
+returns-in_err-put_both_in_place-clause-only g c =
+    outside_failed (g.R.Read.remaining c.args.input.now) (g.Q.Read.remaining c.args.query.now) c.args.edition c.from_residual-in_err-put_both_in_place.result (failed c.from_residual-in_err-put_both_in_place.result c.in_err-put_both_in_place.field-0.0 c.from_residual-in_err-put_both_in_place.ensures.1 (inr c.in_err-put_both_in_place.ensures.device))
+
+pub returns-in_err-put_both_in_place-clause-refused : goal.returns-in_err-put_both_in_place-clause-refused
+returns-in_err-put_both_in_place-clause-refused g c =
+    explained_failed (g.R.Read.remaining c.args.input.now) _ (g.Q.Read.remaining c.args.query.now) c.args.edition c.from_residual-in_err-put_both_in_place.result (failed c.from_residual-in_err-put_both_in_place.result c.in_err-put_both_in_place.field-0.0 c.from_residual-in_err-put_both_in_place.ensures.1 (inr c.in_err-put_both_in_place.ensures.device))
