@@ -1,6 +1,7 @@
 // Shows an answer that was checked: as a map, as a list and as text, and the object that is chosen.
 
 import { byId, download, element } from "./dom.js";
+import { withNodes } from "./editor.js";
 import { geoJsonOf, shapesOf } from "./geometry.js";
 import { AnswerMap } from "./map.js";
 import { keyOf, merged, readOpl } from "./opl.js";
@@ -125,7 +126,7 @@ export class Answer {
     if (unplaced > 0) notes.push(SAY.unplaced(unplaced));
     if (relations > 0) notes.push(SAY.relations(relations));
     byId("notes").textContent = notes.join(" ");
-    byId("add-nodes").hidden = undrawn === 0;
+    byId("add-nodes").hidden = undrawn === 0 || withNodes(new TextDecoder().decode(this.#query)) === null;
   }
 
   #showText(text) {

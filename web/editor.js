@@ -98,7 +98,7 @@ export class Editor {
 
 /**
  * The query with `(._;>;);`, or the same of the set that is printed, before its last out statement; null where there is
- * none. Texts between quotes and comments are passed over.
+ * none, or where that stands there already. Texts between quotes and comments are passed over.
  */
 export function withNodes(query) {
   const tokens = /"(?:\\[^]|[^"\\])*"|'(?:\\[^]|[^'\\])*'|\/\/[^\n]*|\/\*[^]*?\*\/|(?:\.([A-Za-z_]\w*)\s*)?\bout\b(?!\s*[:\]=!])/g;
@@ -107,5 +107,6 @@ export function withNodes(query) {
   if (last === null) return null;
   const set = last[1];
   const added = set === undefined || set === "_" ? "(._;>;);" : `(.${set};.${set} >;)->.${set};`;
-  return query.slice(0, last.index) + added + query.slice(last.index);
+  const before = query.slice(0, last.index);
+  return before.trimEnd().endsWith(added) ? null : before + added + query.slice(last.index);
 }

@@ -18,7 +18,8 @@ function isOutline(way, ends) {
 
 /**
  * The shapes of objects, each with the object, `points` (longitude and latitude in degrees) and `form`: "point", "line" or
- * "outline". `undrawn` counts the ways that lack nodes, `unplaced` the nodes without a place, `relations` the relations.
+ * "outline". `undrawn` counts the ways of which a node isn't here, `unplaced` the nodes and ways of which no line says where
+ * they are, `relations` the relations.
  */
 export function shapesOf(objects) {
   const places = new Map();
@@ -42,8 +43,8 @@ function addNode(found, object, places) {
 
 function addWay(found, object, places) {
   const points = (object.nodes ?? []).map((id) => places.get(id));
-  const isWhole = points.length > 1 && points.every((point) => point !== undefined);
-  if (isWhole) found.shapes.push({ object, form: isOutline(object, points) ? "outline" : "line", points });
+  if (points.length < 2) found.unplaced += 1;
+  else if (points.every((point) => point !== undefined)) found.shapes.push({ object, form: isOutline(object, points) ? "outline" : "line", points });
   else found.undrawn += 1;
 }
 

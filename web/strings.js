@@ -186,7 +186,7 @@ export const SAY = {
   // The answer
   undrawn: (ways) =>
     `${counted(ways, "way")} can't be drawn: ${ways === 1 ? "its" : "their"} nodes aren't in the answer.`,
-  unplaced: (count) => `${counted(count, "node")} without a place: the out mode leaves it out.`,
+  unplaced: (count) => `${counted(count, "object")} without a place, as the out mode leaves it out, or a way has no nodes.`,
   relations: (count) => `${counted(count, "relation")} ${count === 1 ? "is" : "are"} in the list only.`,
   cutText: (bytes) => `\n… (${size(bytes)} in all; download it as OPL for the rest)`,
   canvas: (nodes, ways) => `Map of the answer: ${counted(nodes, "node")}, ${counted(ways, "way")} drawn`,

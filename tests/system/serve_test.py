@@ -449,8 +449,8 @@ def check_nginx(tally):
             holds = (outcome.stdout, outcome.status) == (ANSWER * 200, 0)
             tally.check("200 requests through nginx", holds, outcome.stderr, len(outcome.stdout))
             outcome = run(["curl", "--silent", "--cacert", room / "certificate.pem", "--write-out", "%{http_code}",
-                           "--output", "/dev/null", f"{site}/"])
-            tally.check("nginx has nothing but /api/", outcome.stdout == b"404", outcome)
+                           "--output", "/dev/null", f"{site}/nothing"])
+            tally.check("nginx has nothing but the page and /api/", outcome.stdout == b"404", outcome)
     check_restarts(tally)
     check_stuck(tally)
 

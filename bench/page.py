@@ -1,0 +1,69 @@
+"""What bench/page.sh measures: page.py EXTRACT FOLDER RUNS."""
+
+import json
+import subprocess
+import sys
+from pathlib import Path
+
+TOP = Path(__file__).resolve().parents[1]
+sys.path.insert(0, str(TOP / "tests/system"))
+# pylint: disable=wrong-import-position
+import browser
+import page_test
+
+PROGRAM = TOP / "crates/osm_mirror/out/osm_mirror"
+QUERIES = [
+    ("an id", "node(4998);out;"),
+    ("a box", "node(51.9900,12.9900,52.0100,13.0100);out;"),
+    ("a tag", 'nwr["name"="Weg"];out;'),
+]
+
+# In the page: the medians of a check, in a worker as the page's own, and of the whole call.
+SCRIPT = """(async () => {
+  const module = await WebAssembly.compile(await (await fetch('out/%s')).arrayBuffer());
+  const { Checker } = await import('./checker.js');
+  const checker = new Checker(module);
+  const bytes = async (name) => new Uint8Array(await (await fetch('/data/' + name)).arrayBuffer());
+  const [query, answer, proof] = await Promise.all(['query', 'answer', 'proof'].map(bytes));
+  const root = Uint8Array.from('%s'.match(/../g), (it) => parseInt(it, 16));
+  const checks = [], calls = [];
+  let first = 0, verdict = null;
+  for (let run = 0; run < %d; run++) {
+    const begun = performance.now();
+    verdict = await checker.check(query, root, answer, proof);
+    calls.push(performance.now() - begun);
+    checks.push(verdict.milliseconds);
+    if (run === 0) first = verdict.milliseconds;
+  }
+  checker.stop();
+  const median = (list) => list.sort((a, b) => a - b)[list.length >> 1];
+  return [verdict.status, first, median(checks), median(calls), verdict.memory];
+})()"""
+
+
+def main():
+    extract, folder, runs = sys.argv[1], Path(sys.argv[2]), int(sys.argv[3])
+    room = folder / "page"
+    room.mkdir(exist_ok=True)
+    modules = sorted(it.name for it in (TOP / "web/out").glob("*.wasm"))
+    words = browser.program()
+    with page_test.page_server(room) as site, browser.browser(words) as page:
+        page_test.opened(page, site)
+        for name, query in QUERIES:
+            (room / "query").write_text(query, encoding="utf-8")
+            files = [room / it for it in ("query", "answer", "proof")]
+            root = subprocess.run([PROGRAM, "prove", extract, *files], capture_output=True, text=True, check=True).stdout.strip()
+            said = subprocess.run([folder / "page_check", root, *files, str(runs)], capture_output=True, text=True, check=True).stdout
+            status, native = said.split()
+            assert status == "0", said
+            print(f"{name}, {query}: answer {files[1].stat().st_size}, proof {files[2].stat().st_size}; native {float(native):.2f} ms")
+            for module in modules:
+                status, first, check, call, memory = page.value(SCRIPT % (module, root, runs))
+                assert status == "yes", status
+                print(f"    {module}: first {first:.1f}, median {check:.1f} ms, {check / float(native):.2f} times native; "
+                      f"whole call {call:.1f} ms; memory {memory / 2**20:.0f} MiB")
+    print(json.dumps({it: (TOP / "web/out" / it).stat().st_size for it in modules}))
+
+
+if __name__ == "__main__":
+    main()
