@@ -25,4 +25,5 @@ pub mod AppliedLemmas
 pub mod UpdateLemmas
 pub mod SnapshotLemmas
 pub mod ApplyLemmas
+pub mod TakenOver
 pub mod EntryObjects

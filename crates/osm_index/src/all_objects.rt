@@ -53,7 +53,8 @@ fn read_objects(alloc: Global, entries: &[Item<'_>]) -> Result<Vec<Object>, Allo
 /// The object whose canonical line this is.
 pub(crate) fn read_object(alloc: Global, line: &[u8]) -> Result<Object, AllocError>
     requires { ∥ IsLineOfSome line.now ∥₁ }
-    ensures { (o : Element) → IsElement o → line.now ≡ canonical_line o → IfOk result (λ object. object ≡ o) }
+    ensures { (o : Element) → IsElement o → line.now ≡ canonical_line o
+        → IfOk result (λ object. object ≡ o) }
 {
     match read_line(alloc, line) {
         Ok(Some(Change::Put(object))) => Ok(object),

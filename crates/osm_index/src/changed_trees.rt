@@ -42,10 +42,14 @@ pub(crate) fn change_trees(
     stock: &Stock,
 ) -> Result<ChangedTrees, ApplyFault>
     requires { ∥ AreSomeHeldTrees removed.now puts.now tops.now (HasNode stock.now) ∥₁ }
-    ensures changed { (p : Publication) (set : List Element) → AreHeldTrees p removed.now puts.now set tops.now (HasNode stock.now)
-        → IfOk result (λ trees. (q : Publication) × IsPublicationOf set (edition_after p.edition) q × AreChangedTrees p q trees) }
-    ensures refused { IfErr result (λ fault. (fault ≡ ApplyFault.Memory) ⊎ (fault ≡ ApplyFault.TooMany)) }
-    ensures too_many { (p : Publication) (set : List Element) → AreHeldTrees p removed.now puts.now set tops.now (HasNode stock.now)
+    ensures changed { (p : Publication) (set : List Element)
+        → AreHeldTrees p removed.now puts.now set tops.now (HasNode stock.now)
+        → IfOk result (λ trees. (q : Publication) × IsPublicationOf set (edition_after p.edition) q
+        × AreChangedTrees p q trees) }
+    ensures refused { IfErr result (λ fault. (fault ≡ ApplyFault.Memory)
+        ⊎ (fault ≡ ApplyFault.TooMany)) }
+    ensures too_many { (p : Publication) (set : List Element)
+        → AreHeldTrees p removed.now puts.now set tops.now (HasNode stock.now)
         → IfErr result (λ fault. fault ≡ ApplyFault.TooMany → HasTooMany set) }
 {
     let objects = change_tree(alloc, removed, puts, Tree::Objects, &tops[0], stock)?;
@@ -62,11 +66,14 @@ fn all_of(
     cells: Rebuilt,
     backs: Rebuilt,
 ) -> Result<ChangedTrees, AllocError>
-    ensures tops { IfOk result (λ trees. trees.tops ≡ objects.top ∷ tags.top ∷ cells.top ∷ backs.top ∷ []) }
+    ensures tops { IfOk result
+        (λ trees. trees.tops ≡ objects.top ∷ tags.top ∷ cells.top ∷ backs.top ∷ []) }
     ensures added { IfOk result (λ trees.
-        trees.added.items ≡ ((objects.added.items ++ tags.added.items) ++ cells.added.items) ++ backs.added.items) }
+        trees.added.items ≡ ((objects.added.items ++ tags.added.items) ++ cells.added.items)
+        ++ backs.added.items) }
     ensures gone { IfOk result (λ trees.
-        trees.gone.items ≡ ((objects.gone.items ++ tags.gone.items) ++ cells.gone.items) ++ backs.gone.items) }
+        trees.gone.items ≡ ((objects.gone.items ++ tags.gone.items) ++ cells.gone.items)
+        ++ backs.gone.items) }
 {
     let tops = [objects.top, tags.top, cells.top, backs.top];
     let mut added = objects.added;
@@ -102,10 +109,14 @@ fn change_tree(
     stock: &Stock,
 ) -> Result<Rebuilt, ApplyFault>
     requires { ∥ HoldsSomeChanging removed.now puts.now tree top.now.0 (HasNode stock.now) ∥₁ }
-    ensures changed { (p : Publication) (set : List Element) → HoldsChanging p removed.now puts.now set tree top.now.0 (HasNode stock.now)
-        → IfOk result (λ rebuilt. (new : List Binding) × IsChangedTree set tree (p.entries tree) new rebuilt) }
-    ensures refused { IfErr result (λ fault. (fault ≡ ApplyFault.Memory) ⊎ (fault ≡ ApplyFault.TooMany)) }
-    ensures too_many { (p : Publication) (set : List Element) → HoldsChanging p removed.now puts.now set tree top.now.0 (HasNode stock.now)
+    ensures changed { (p : Publication) (set : List Element)
+        → HoldsChanging p removed.now puts.now set tree top.now.0 (HasNode stock.now)
+        → IfOk result
+        (λ rebuilt. (new : List Binding) × IsChangedTree set tree (p.entries tree) new rebuilt) }
+    ensures refused { IfErr result (λ fault. (fault ≡ ApplyFault.Memory)
+        ⊎ (fault ≡ ApplyFault.TooMany)) }
+    ensures too_many { (p : Publication) (set : List Element)
+        → HoldsChanging p removed.now puts.now set tree top.now.0 (HasNode stock.now)
         → IfErr result (λ fault. fault ≡ ApplyFault.TooMany → HasTooMany set) }
 {
     let Some(changes) = tree_changes(alloc, removed, puts, tree, top, stock)? else {
@@ -125,8 +136,10 @@ fn tree_changes(
     stock: &Stock,
 ) -> Result<Option<Vec<EntryChange>>, AllocError>
     requires { ∥ HoldsSomeChanging removed.now puts.now tree top.now.0 (HasNode stock.now) ∥₁ }
-    ensures rising { IfOk result (λ found. MatchOption found ⊤ (λ all. AreRisingFrom None (keys_of_changes (changes_of all.items)))) }
-    ensures changed { (p : Publication) (set : List Element) → HoldsChanging p removed.now puts.now set tree top.now.0 (HasNode stock.now)
+    ensures rising { IfOk result (λ found. MatchOption found ⊤
+        (λ all. AreRisingFrom None (keys_of_changes (changes_of all.items)))) }
+    ensures changed { (p : Publication) (set : List Element)
+        → HoldsChanging p removed.now puts.now set tree top.now.0 (HasNode stock.now)
         → IfOk result (λ found. MatchOption found (HasTooMany set)
         (λ all. (length (changed_entries (p.entries tree) (changes_of all.items)) ≤ ENTRY_LIMIT)
         × AreEntriesOf set tree (changed_entries (p.entries tree) (changes_of all.items)))) }

@@ -20,7 +20,8 @@ pub(crate) fn entry_changes(
 ) -> Result<Vec<EntryChange>, AllocError>
     requires old { AreRisingFrom None (keys_of (bindings_of old.now)) }
     requires new { AreRisingFrom None (keys_of (bindings_of new.now)) }
-    ensures { IfOk result (λ changes. TurnEntries (bindings_of old.now) (bindings_of new.now) (changes_of changes.items)) }
+    ensures { IfOk result
+        (λ changes. TurnEntries (bindings_of old.now) (bindings_of new.now) (changes_of changes.items)) }
 {
     let mut changes = Vec::new(alloc);
     let mut at = 0;
@@ -39,7 +40,8 @@ fn split_at_key<'a, 'e>(
     entries: &'e [Entry<'a>],
     key: &[u8],
 ) -> (&'e [Entry<'a>], Option<Entry<'a>>)
-    ensures { (bindings_of result.0.now, option_map binding_of result.1) ≡ parts_at_key key.now (bindings_of entries.now) }
+    ensures { (bindings_of result.0.now, option_map binding_of result.1)
+        ≡ parts_at_key key.now (bindings_of entries.now) }
 {
     let mut at = 0;
     for entry in entries {
@@ -62,7 +64,8 @@ fn change_entry(
     changes: &mut Vec<EntryChange>,
 ) -> Result<(), AllocError>
     ensures { OnOk result (changes_of changes.new.items
-        ≡ changes_of changes.old.items ++ change_between (binding_of old.now) (option_map binding_of new.entry)) }
+        ≡ changes_of changes.old.items
+        ++ change_between (binding_of old.now) (option_map binding_of new.entry)) }
 {
     match new {
         Some(new) => {

@@ -54,7 +54,8 @@ impl EntryList {
     /// sorts 48 bytes more an entry, and as much again for those of the longest run of keys with one start.
     pub fn sorted(&self, alloc: Global) -> Result<Vec<Entry<'_>>, AllocError>
         // The keys strictly rise,
-        ensures rising { IfOk result (λ entries. AreRisingFrom None (keys_of (bindings_of entries.items))) }
+        ensures rising { IfOk result
+            (λ entries. AreRisingFrom None (keys_of (bindings_of entries.items))) }
         // and where no two entries of the list have one key but equal ones, they are those of the list.
         ensures members { IsKeyed self.now → IfOk result (λ entries.
             (b : Binding) → Contains (bindings_of entries.items) b ↔ Contains self.now b) }
@@ -85,7 +86,9 @@ fn lend<'a>(alloc: Global, bytes: &'a [u8], spans: &[Span]) -> Result<Vec<Entry<
 
 /// Whether each key is below the next.
 fn keys_rise(entries: &[Entry<'_>]) -> bool
-    ensures { IsTrue result → AllAdjacentBelow (λ first second. IsBelow first.key.now second.key.now) entries.now (length entries.now) }
+    ensures { IsTrue result
+        → AllAdjacentBelow
+        (λ first second. IsBelow first.key.now second.key.now) entries.now (length entries.now) }
 {
     for i in 1..entries.len() {
         if !is_below(entries[i - 1].key, entries[i].key) {

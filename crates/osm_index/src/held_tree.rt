@@ -30,7 +30,8 @@ pub(crate) fn entries_in<'a>(
     requires some { IsIn (range_of keys.now) keys.now.lo.now }
     requires held { ∥ HoldsSome tree top.now.0 (RecorderHolds shelf.old) ∥₁ }
     ensures found { (p : Publication) → HoldsTree p tree top.now.0 (RecorderHolds shelf.old)
-        → IfOk result (λ found. AreThose (IsEntryIn (range_of keys.now)) (p.entries tree) (bindings_of found.items)) }
+        → IfOk result
+        (λ found. AreThose (IsEntryIn (range_of keys.now)) (p.entries tree) (bindings_of found.items)) }
     ensures stays { SameNodes (RecorderHolds shelf.old) (RecorderHolds shelf.new) }
 {
     let mut tally = Tally::default();

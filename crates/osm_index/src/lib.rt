@@ -1,16 +1,19 @@
 //! The digest trees of a set of objects: how they are built and changed, and the root that stands for them.
 //!
-//! [`Snapshot::build`] builds all four trees and makes the manifest and the root; [`Snapshot::apply`] changes them.
+//! [`Snapshot::build`] builds all four trees and makes the manifest and the root; [`Snapshot::apply`] changes them, and
+//! [`Snapshot::apply_announced`] does so where the new root is one that was announced.
 //! [`entries_of`] lists the entries of one tree. What the trees hold, and the keys in which a question about a set is
 //! answered, stand in `osm_keys`, whose items this crate exports too.
 #![tactic(auto)]
 
 mod all_objects;
+mod announced_fault;
 mod apply_fault;
 mod build_progress;
 mod change_refusals;
 mod changed_trees;
 mod delta;
+mod digits;
 mod entry_changes;
 mod entry_list;
 mod fault;
@@ -26,6 +29,7 @@ mod snapshot;
 mod sort_entries;
 mod update;
 
+pub use announced_fault::AnnouncedFault;
 pub use apply_fault::ApplyFault;
 pub use build_progress::{BuildProgress, Unwatched};
 pub use delta::Delta;

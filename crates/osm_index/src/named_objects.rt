@@ -51,7 +51,8 @@ fn list_named(
 ) -> Result<Vec<Object>, AllocError>
     requires { ∥ HoldsSome Objects top.now.0 (HasNode stock.now) ∥₁ }
     ensures { (p : Publication) → HoldsTree p Objects top.now.0 (HasNode stock.now)
-        → IfOk result (λ objects. objects.items ≡ filter_map (object_at p.objects) (names_of changes.now)) }
+        → IfOk result
+        (λ objects. objects.items ≡ filter_map (object_at p.objects) (names_of changes.now)) }
 {
     // One shelf for all, which reads the nodes near the top once.
     let mut shelf = stock.shelf(alloc);
@@ -72,7 +73,8 @@ fn push_named(
 ) -> Result<(), AllocError>
     requires { ∥ HoldsSome Objects top.now.0 (RecorderHolds shelf.old) ∥₁ }
     ensures pushed { (p : Publication) → HoldsTree p Objects top.now.0 (RecorderHolds shelf.old)
-        → OnOk result (objects.new.items ≡ objects.old.items ++ filter_map (object_at p.objects) (name ∷ [])) }
+        → OnOk result (objects.new.items ≡ objects.old.items
+        ++ filter_map (object_at p.objects) (name ∷ [])) }
     ensures stays { SameNodes (RecorderHolds shelf.old) (RecorderHolds shelf.new) }
 {
     if let Some(object) = named_object(alloc, shelf, top, name)? {

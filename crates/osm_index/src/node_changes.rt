@@ -31,12 +31,15 @@ pub(crate) fn put_nodes(
     digests: &[Digest],
 ) -> Result<(), ApplyFault>
     requires same { digests.now ≡ map (λ node. node.digest) nodes.items }
-    requires new { (bytes : List ℕ) → IsAmong (nodes_of nodes.items) bytes → ¬ HasNode stock.old bytes }
+    requires new { (bytes : List ℕ) → IsAmong (nodes_of nodes.items) bytes
+        → ¬ HasNode stock.old bytes }
     ensures put { OnOk result (GrownByAll (HasNode stock.old) (HasNode stock.new) (IsAmong (nodes_of nodes.items))) }
     ensures unchanged { OnErr result (SameNodes (HasNode stock.old) (HasNode stock.new)) }
     ensures clash { result ≡ Err ApplyFault.Clash
-        → Clash (λ bytes. HasNode stock.old bytes ⊎ IsAmong (nodes_of nodes.items) bytes) (IsAmong (nodes_of nodes.items)) }
-    ensures fault { IfErr result (λ fault. (fault ≡ ApplyFault.Clash) ⊎ (fault ≡ ApplyFault.Memory)) }
+        → Clash (λ bytes. HasNode stock.old bytes
+        ⊎ IsAmong (nodes_of nodes.items) bytes) (IsAmong (nodes_of nodes.items)) }
+    ensures fault { IfErr result (λ fault. (fault ≡ ApplyFault.Clash)
+        ⊎ (fault ≡ ApplyFault.Memory)) }
 {
     let mut number = 0;
     for node in nodes {
@@ -62,7 +65,8 @@ fn fault_of(fault: PutFault) -> ApplyFault
 /// Takes away the nodes with these digests.
 pub(crate) fn remove_nodes(stock: &mut Stock, digests: &[Digest])
     ensures { (bytes : List ℕ)
-        → HasNode stock.new bytes ↔ (HasNode stock.old bytes × ¬ IsAmong (digests_of digests.now) (digest_word bytes)) }
+        → HasNode stock.new bytes ↔ (HasNode stock.old bytes
+        × ¬ IsAmong (digests_of digests.now) (digest_word bytes)) }
 {
     for digest in digests {
         stock.remove(digest);

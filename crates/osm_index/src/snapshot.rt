@@ -13,15 +13,18 @@ ghost use Rattle.tree_build.specs.Shapes.{shape_of as shape_word};
 ghost use Rattle.osm_index.specs.Applying.{AreApart, AreApplicable, IsApplied, IsDeltaOf, IsFirstMissing, IsFirstTwice, IsLast, IsNodeOfEither, edition_after};
 ghost use Rattle.osm_keys.specs.Entries.{AreEntriesOf};
 ghost use Rattle.osm_index.specs.Holdings.{HoldSome};
-ghost use Rattle.osm_keys.specs.Publications.{HasTooMany, IsNodeIn, IsPublicationOf, Publication, shape_of};
-ghost use Rattle.osm_index.specs.internal.Updates.{IsNext, IsUpdateBy, RefusesUpdate};
+ghost use Rattle.hex.specs.Hex.{encode_lower};
+ghost use Rattle.osm_keys.specs.Publications.{HasTooMany, IsNodeIn, IsPublicationOf, Publication, root_of, shape_of};
+ghost use Rattle.osm_index.specs.internal.Updates.{IsNext, IsUpdate, IsUpdateBy, RefusesUpdate};
 ghost use Rattle.osm_index.specs.internal.Putting.{AreAllFour, EndsTree, EndsTrees};
 
 use crate::all_objects::all_objects;
+use crate::announced_fault::AnnouncedFault;
 use crate::apply_fault::ApplyFault;
 use crate::build_progress::{BuildProgress, Unwatched};
 use crate::changed_trees::change_trees;
 use crate::delta::Delta;
+use crate::digits::are_digits_of;
 use crate::fault::IndexFault;
 use crate::held_tree::entry_count;
 use crate::listing::entries_of;
@@ -58,11 +61,13 @@ impl Snapshot {
     /// where two different nodes have one digest; `Memory` may come in place of any answer.
     pub fn build(alloc: Global, set: ObjectSet, edition: Edition) -> Result<Snapshot, IndexFault>
         // The snapshot holds a publication of this set in this edition.
-        ensures made { IfOk result (λ snapshot. (p : Publication) × HoldsPublication snapshot p × (p.objects ≡ set) × (snapshot.edition ≡ edition)) }
+        ensures made { IfOk result (λ snapshot. (p : Publication) × HoldsPublication snapshot p
+            × (p.objects ≡ set) × (snapshot.edition ≡ edition)) }
         // There are too many entries where it says so,
         ensures too_many { result ≡ Err IndexFault.TooMany → HasTooMany set }
         // and two nodes of a publication clash where it says so.
-        ensures clash { result ≡ Err IndexFault.Clash → (p : Publication) × IsPublicationOf set edition p × Clash (IsNodeIn p) (IsNodeIn p) }
+        ensures clash { result ≡ Err IndexFault.Clash → (p : Publication)
+            × IsPublicationOf set edition p × Clash (IsNodeIn p) (IsNodeIn p) }
     {
         Snapshot::build_watched(alloc, set, edition, &mut Unwatched)
     }
@@ -75,9 +80,11 @@ impl Snapshot {
         progress: &mut B,
     ) -> Result<Snapshot, IndexFault>
         // As `build`.
-        ensures made { IfOk result (λ snapshot. (p : Publication) × HoldsPublication snapshot p × (p.objects ≡ set) × (snapshot.edition ≡ edition)) }
+        ensures made { IfOk result (λ snapshot. (p : Publication) × HoldsPublication snapshot p
+            × (p.objects ≡ set) × (snapshot.edition ≡ edition)) }
         ensures too_many { result ≡ Err IndexFault.TooMany → HasTooMany set }
-        ensures clash { result ≡ Err IndexFault.Clash → (p : Publication) × IsPublicationOf set edition p × Clash (IsNodeIn p) (IsNodeIn p) }
+        ensures clash { result ≡ Err IndexFault.Clash → (p : Publication)
+            × IsPublicationOf set edition p × Clash (IsNodeIn p) (IsNodeIn p) }
     {
         let mut stock = Stock::new(alloc);
         let Some(tops) = put_trees(alloc, &set, edition, &mut stock, progress)? else {
@@ -113,35 +120,131 @@ impl Snapshot {
     /// the snapshot is as before.
     pub fn apply(&mut self, alloc: Global, changes: &[Change]) -> Result<Delta, ApplyFault>
         // The snapshot holds a publication of the changed set at the next sequence.
-        ensures applied { (p : Publication) → HoldsPublication self.old p → OnOk result ((q : Publication) × HoldsPublication self.new q
+        ensures applied { (p : Publication) → HoldsPublication self.old p
+            → OnOk result ((q : Publication) × HoldsPublication self.new q
             × IsApplied p.objects changes.now q.objects × (q.edition ≡ edition_after p.edition)) }
         // The delta is of all nodes, the manifests too.
         ensures delta { IfOk result (λ delta. (p q : Publication)
             → HoldsPublication self.old p → HoldsPublication self.new q → IsDeltaOf p q delta) }
         // No refusal holds where it succeeds: no two different nodes of both have one digest, either.
-        ensures applicable { (p : Publication) → HoldsPublication self.old p → OnOk result (AreApplicable p.objects p.edition changes.now) }
+        ensures applicable { (p : Publication) → HoldsPublication self.old p
+            → OnOk result (AreApplicable p.objects p.edition changes.now) }
         ensures no_clash { OnOk result ((p q : Publication)
-            → HoldsPublication self.old p → HoldsPublication self.new q → IsClashFree (IsNodeOfEither p q)) }
+            → HoldsPublication self.old p → HoldsPublication self.new q
+            → IsClashFree (IsNodeOfEither p q)) }
         // After a refusal all is as before.
         ensures stays { OnErr result (IsAsBefore self.old self.new) }
         // No sequence comes after the set's where it says so, and only there.
         ensures last { (result ≡ Err ApplyFault.LastSequence) ↔ IsLast self.old.edition }
         // Else two changes are of one object where it says so; else a deleted object isn't there;
-        ensures twice { (p : Publication) → HoldsPublication self.old p → (r : Ref) → result ≡ Err (ApplyFault.ChangedTwice r)
+        ensures twice { (p : Publication) → HoldsPublication self.old p → (r : Ref)
+            → result ≡ Err (ApplyFault.ChangedTwice r)
             → (¬ IsLast self.old.edition) × IsFirstTwice changes.now r }
-        ensures missing { (p : Publication) → HoldsPublication self.old p → (r : Ref) → result ≡ Err (ApplyFault.NotThere r)
-            → (¬ IsLast self.old.edition) × AreApart changes.now × IsFirstMissing p.objects changes.now r }
+        ensures missing { (p : Publication) → HoldsPublication self.old p → (r : Ref)
+            → result ≡ Err (ApplyFault.NotThere r)
+            → (¬ IsLast self.old.edition) × AreApart changes.now
+            × IsFirstMissing p.objects changes.now r }
         // else there are too many entries; else two nodes of the old and the new publication clash.
-        ensures too_many { (p : Publication) → HoldsPublication self.old p → result ≡ Err ApplyFault.TooMany
+        ensures too_many { (p : Publication) → HoldsPublication self.old p
+            → result ≡ Err ApplyFault.TooMany
             → AreApplicable p.objects p.edition changes.now
             × ((set : List Element) × IsApplied p.objects changes.now set × HasTooMany set) }
-        ensures clash { (p : Publication) → HoldsPublication self.old p → result ≡ Err ApplyFault.Clash
+        ensures clash { (p : Publication) → HoldsPublication self.old p
+            → result ≡ Err ApplyFault.Clash
             → AreApplicable p.objects p.edition changes.now
             × ((q : Publication) × IsApplied p.objects changes.now q.objects
             × IsPublicationOf q.objects (edition_after p.edition) q
             × Clash (IsNodeOfEither p q) (IsNodeOfEither p q)) }
     {
         let update = self.prepare_update(alloc, changes)?;
+        self.take_over(update)
+    }
+
+    /// Publishes a changed set at the next sequence, as [`Snapshot::apply`] does, where the text is what its root is
+    /// announced to be: the root's 64 hexadecimal digits in lower case. The roots are compared before anything changes.
+    ///
+    /// Refused as `apply` refuses; and by `OtherRoot` (I6), which comes after `TooMany` and before `Clash`, where the
+    /// root of the changed set at the next sequence has other digits than the text. After a refusal the snapshot is as
+    /// before.
+    pub fn apply_announced(
+        &mut self,
+        alloc: Global,
+        changes: &[Change],
+        announced: &[u8],
+    ) -> Result<Delta, AnnouncedFault>
+        // As `apply`,
+        ensures applied { (p : Publication) → HoldsPublication self.old p
+            → OnOk result ((q : Publication) × HoldsPublication self.new q
+            × IsApplied p.objects changes.now q.objects × (q.edition ≡ edition_after p.edition)) }
+        // and the root is the one that is announced.
+        ensures announced { OnOk result (announced.now ≡ encode_lower self.new.root.0) }
+        ensures delta { IfOk result (λ delta. (p q : Publication)
+            → HoldsPublication self.old p → HoldsPublication self.new q → IsDeltaOf p q delta) }
+        ensures applicable { (p : Publication) → HoldsPublication self.old p
+            → OnOk result (AreApplicable p.objects p.edition changes.now) }
+        ensures no_clash { OnOk result ((p q : Publication)
+            → HoldsPublication self.old p → HoldsPublication self.new q
+            → IsClashFree (IsNodeOfEither p q)) }
+        // After a refusal all is as before.
+        ensures stays { OnErr result (IsAsBefore self.old self.new) }
+        // The changes are refused as by `apply`: no sequence comes after the set's,
+        ensures last { (result ≡ Err (AnnouncedFault.Apply ApplyFault.LastSequence))
+            ↔ IsLast self.old.edition }
+        // else two changes are of one object; else a deleted object isn't there; else there are too many entries;
+        ensures twice { (p : Publication) → HoldsPublication self.old p → (r : Ref)
+            → result ≡ Err (AnnouncedFault.Apply (ApplyFault.ChangedTwice r))
+            → (¬ IsLast self.old.edition) × IsFirstTwice changes.now r }
+        ensures missing { (p : Publication) → HoldsPublication self.old p → (r : Ref)
+            → result ≡ Err (AnnouncedFault.Apply (ApplyFault.NotThere r))
+            → (¬ IsLast self.old.edition) × AreApart changes.now
+            × IsFirstMissing p.objects changes.now r }
+        ensures too_many { (p : Publication) → HoldsPublication self.old p
+            → result ≡ Err (AnnouncedFault.Apply ApplyFault.TooMany)
+            → AreApplicable p.objects p.edition changes.now
+            × ((set : List Element) × IsApplied p.objects changes.now set × HasTooMany set) }
+        // else what they make has another root than is announced; else it has that one, and two nodes clash.
+        ensures other_root { (p : Publication) → HoldsPublication self.old p
+            → result ≡ Err AnnouncedFault.OtherRoot
+            → AreApplicable p.objects p.edition changes.now
+            × ((q : Publication) × IsApplied p.objects changes.now q.objects
+            × IsPublicationOf q.objects (edition_after p.edition) q
+            × (announced.now ≢ encode_lower (root_of q))) }
+        ensures clash { (p : Publication) → HoldsPublication self.old p
+            → result ≡ Err (AnnouncedFault.Apply ApplyFault.Clash)
+            → AreApplicable p.objects p.edition changes.now
+            × ((q : Publication) × IsApplied p.objects changes.now q.objects
+            × IsPublicationOf q.objects (edition_after p.edition) q
+            × (announced.now ≡ encode_lower (root_of q))
+            × Clash (IsNodeOfEither p q) (IsNodeOfEither p q)) }
+    {
+        let update = self.prepare_update(alloc, changes)?;
+        if !are_digits_of(announced, &update.root) {
+            return Err(AnnouncedFault::OtherRoot);
+        }
+        let delta = self.take_over(update)?;
+        Ok(delta)
+    }
+
+    /// Takes over what changes make of the snapshot, and tells which nodes come and which go. Refused where two nodes
+    /// clash, or memory runs out; then the snapshot is as before.
+    fn take_over(&mut self, update: Update) -> Result<Delta, ApplyFault>
+        requires listed { update.added.items ≡ map (λ node. node.digest) update.nodes.items }
+        requires made { (p : Publication) → HoldsPublication self.old p
+            → (q : Publication) × IsUpdate p q update }
+        ensures held { (p q : Publication) → HoldsPublication self.old p → IsUpdate p q update
+            → OnOk result (HoldsPublication self.new q) }
+        ensures root { OnOk result (self.new.root ≡ update.root) }
+        ensures delta { IfOk result (λ delta. (p q : Publication)
+            → HoldsPublication self.old p → HoldsPublication self.new q → IsDeltaOf p q delta) }
+        ensures no_clash { OnOk result ((p q : Publication)
+            → HoldsPublication self.old p → HoldsPublication self.new q
+            → IsClashFree (IsNodeOfEither p q)) }
+        ensures stays { OnErr result (IsAsBefore self.old self.new) }
+        ensures refused { IfErr result (λ fault. (fault ≡ ApplyFault.Clash)
+            ⊎ (fault ≡ ApplyFault.Memory)) }
+        ensures clash { (p q : Publication) → HoldsPublication self.old p → IsUpdate p q update
+            → result ≡ Err ApplyFault.Clash → Clash (IsNodeOfEither p q) (IsNodeOfEither p q) }
+    {
         let added = update.added;
         put_nodes(&mut self.stock, update.nodes, &added)?;
         // Nothing refuses from here on.
@@ -155,9 +258,12 @@ impl Snapshot {
 
     /// What the changes make of the snapshot. It reads the object tree for the objects that they name.
     fn prepare_update(&self, alloc: Global, changes: &[Change]) -> Result<Update, ApplyFault>
-        ensures listed { IfOk result (λ update. update.added.items ≡ map (λ node. node.digest) update.nodes.items) }
-        ensures made { (p : Publication) → HoldsPublication self.now p → IfOk result (IsUpdateBy p changes.now) }
-        ensures refused { (p : Publication) → HoldsPublication self.now p → IfErr result (RefusesUpdate p changes.now) }
+        ensures listed { IfOk result (λ update. update.added.items
+            ≡ map (λ node. node.digest) update.nodes.items) }
+        ensures made { (p : Publication) → HoldsPublication self.now p
+            → IfOk result (IsUpdateBy p changes.now) }
+        ensures refused { (p : Publication) → HoldsPublication self.now p
+            → IfErr result (RefusesUpdate p changes.now) }
         ensures last { (result ≡ Err ApplyFault.LastSequence) ↔ IsLast self.now.edition }
     {
         let edition = edition_after(self.edition)?;
@@ -174,7 +280,8 @@ impl Snapshot {
 
     /// The number of objects: read from the nodes on the way from the object tree's top to its first leaf.
     pub fn object_count(&self, alloc: Global) -> Result<u64, AllocError>
-        ensures { (p : Publication) → HoldsPublication self.now p → IfOk result (λ number. number ≡ length p.objects) }
+        ensures { (p : Publication) → HoldsPublication self.now p
+            → IfOk result (λ number. number ≡ length p.objects) }
     {
         entry_count(alloc, Tree::Objects, &self.manifest.tops[0], &self.stock)
     }
@@ -202,7 +309,8 @@ impl Snapshot {
 
     /// The set, read back from the object tree. Linear in the objects' lines.
     pub fn objects(&self, alloc: Global) -> Result<ObjectSet, AllocError>
-        ensures { (p : Publication) → HoldsPublication self.now p → IfOk result (λ set. set ≡ p.objects) }
+        ensures { (p : Publication) → HoldsPublication self.now p
+            → IfOk result (λ set. set ≡ p.objects) }
     {
         all_objects(alloc, &self.manifest.tops[0], &self.stock)
     }

@@ -32,7 +32,8 @@ fn append_runs<'a>(
     entries: &mut Vec<Entry<'a>>,
 ) -> Result<(), AllocError>
     requires { IsSortedByKey numbers_of order prefixed.now }
-    ensures { All IsByFirstBytes prefixed.now → OnOk result (AppendsInOrder (items_of prefixed.now) entries.old.items entries.new.items) }
+    ensures { All IsByFirstBytes prefixed.now
+        → OnOk result (AppendsInOrder (items_of prefixed.now) entries.old.items entries.new.items) }
 {
     let mut buffer = Vec::new(alloc);
     let mut start = 0;
@@ -78,7 +79,8 @@ fn append_run<'a>(
     buffer: &mut Vec<PrefixedEntry<'a>>,
     entries: &mut Vec<Entry<'a>>,
 ) -> Result<(), AllocError>
-    ensures { HaveOneStart run.now → OnOk result (AppendsInOrder (items_of run.now) entries.old.items entries.new.items) }
+    ensures { HaveOneStart run.now
+        → OnOk result (AppendsInOrder (items_of run.now) entries.old.items entries.new.items) }
 {
     if run.len() == 1 {
         return append_items(run, entries);

@@ -35,9 +35,12 @@ pub(crate) fn update_of(
     trees: ChangedTrees,
     old_root: &Digest,
 ) -> Result<Update, AllocError>
-    ensures listed { IfOk result (λ update. update.added.items ≡ map (λ node. node.digest) update.nodes.items) }
-    ensures made { (p q : Publication) → IsPublicationOf q.objects edition q → AreChangedTrees p q trees
-        → old_root.now.0 ≡ root_of p → manifest_of p ≢ manifest_of q → IsClashFree (IsNodeIn p) → IfOk result (IsUpdate p q) }
+    ensures listed { IfOk result (λ update. update.added.items
+        ≡ map (λ node. node.digest) update.nodes.items) }
+    ensures made { (p q : Publication) → IsPublicationOf q.objects edition q
+        → AreChangedTrees p q trees
+        → old_root.now.0 ≡ root_of p → manifest_of p ≢ manifest_of q → IsClashFree (IsNodeIn p)
+        → IfOk result (IsUpdate p q) }
 {
     let tops = trees.tops;
     let manifest = Manifest { edition, tops };
