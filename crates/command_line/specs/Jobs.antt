@@ -11,7 +11,7 @@ use Rattle.command_line.specs.PublishCommand.{publish_name}
 use Rattle.command_line.specs.ProveCommand.{prove_name}
 use Rattle.command_line.specs.CheckCommand.{IsRootText, check_name}
 use Rattle.command_line.specs.ExplainCommand.{explain_name}
-use Rattle.command_line.specs.Numbers.{IsNumber}
+use Rattle.command_line.specs.Numbers.{IsNumber, IsNumberOrNone}
 use Rattle.command_line.specs.ServeCommand.{CantServe, MayTake, serve_name}
 use Rattle.command_line.specs.declared.job.Job.{Job}
 use Rattle.command_line.specs.declared.job.Job.TheVariants.{Ask, Publish, Prove, Check, Serve, Explain}
@@ -28,11 +28,12 @@ Gives (Prove file query answer proof edition) name rows = (name ≡ prove_name)
     × (string_bytes answer ≡ text_of (codes "ANSWERFILE") rows)
     × (string_bytes proof ≡ text_of (codes "PROOFFILE") rows)
     × AsksForEdition (first_of (codes "edition") rows) (one_of (codes "sequence") rows) edition
-Gives (Check root query answer proof) name rows = (name ≡ check_name)
+Gives (Check root query answer proof max_size) name rows = (name ≡ check_name)
     × (decode_of (text_of (codes "ROOT") rows) ≡ Ok root.0)
     × (string_bytes query ≡ text_of (codes "QUERYFILE") rows)
     × (string_bytes answer ≡ text_of (codes "ANSWERFILE") rows)
     × (string_bytes proof ≡ text_of (codes "PROOFFILE") rows)
+    × IsNumberOrNone 64 (one_of (codes "max-size") rows) max_size
 Gives (Serve file port connections edition changes) name rows = (name ≡ serve_name)
     × (string_bytes file ≡ text_of (codes "FILE") rows)
     × IsNumber 16 0 (one_of (codes "PORT") rows) port

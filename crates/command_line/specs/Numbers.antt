@@ -12,3 +12,8 @@ IsNumberText bits text = IsNumeral 10 (without_leading_plus text) × (digits_val
 abbrev pub IsNumber : ℕ → ℕ → Option Text → ℕ → Type 0
 IsNumber bits other None number = number ≡ other
 IsNumber bits other (Some text) number = (IsNumberText bits text → number ≡ digits_value 10 (without_leading_plus text)) × (¬ (IsNumberText bits text) → number ≡ other)
+
+-- the number that the text writes, if there is a text; none where it is no such number, which `clap` refuses
+abbrev pub IsNumberOrNone : ℕ → Option Text → Option ℕ → Type 0
+IsNumberOrNone bits None number = number ≡ None
+IsNumberOrNone bits (Some text) number = (IsNumberText bits text → number ≡ Some (digits_value 10 (without_leading_plus text))) × (¬ (IsNumberText bits text) → number ≡ None)

@@ -2,6 +2,7 @@
 -- Source: this project; what `clap` takes, and what it matches, is its own.
 use Rattle.std.specs.Prelude.{◌≡◌, [], ◌∷◌, List, Option, Some, None, codes, true}
 use Rattle.clap.specs.Words.{Row, Text, subcommand_of, takes}
+use Rattle.command_line.specs.CheckCommand.{check_name}
 use Rattle.command_line.specs.CommandLine.{program_app}
 use Rattle.command_line.specs.ServeCommand.{serve_name}
 
@@ -26,3 +27,7 @@ command_words program command texts = program ∷ command ∷ texts_follow ∷ t
 abbrev pub serve_words : (program file : Text) → List Text
 serve_words program file = program ∷ serve_name ∷ codes "--connections" ∷ codes "9" ∷ codes "--changes" ∷ codes "new"
     ∷ codes "--edition" ∷ codes "2" ∷ codes "--sequence" ∷ codes "7" ∷ texts_follow ∷ file ∷ codes "65535" ∷ []
+
+-- and of `check`
+abbrev pub check_words : (program root query answer proof : Text) → List Text
+check_words program root query answer proof = program ∷ check_name ∷ codes "--max-size" ∷ codes "65536" ∷ texts_follow ∷ root ∷ query ∷ answer ∷ proof ∷ []

@@ -81,7 +81,8 @@ pub(crate) fn text_of(
     matches: &ArgMatches<'_>,
     argument: Argument,
 ) -> Result<String, AllocError>
-    ensures { IfOk result (λ s. string_bytes s ≡ text_of argument.name.now (rows_of (found_of matches.now))) }
+    ensures { IfOk result
+        (λ s. string_bytes s ≡ text_of argument.name.now (rows_of (found_of matches.now))) }
 {
     String::from_str(alloc, matches.get_str(argument.name).unwrap_or(""))
 }

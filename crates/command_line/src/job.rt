@@ -33,7 +33,7 @@ pub enum Job {
         /// The edition of the root.
         edition: Edition,
     },
-    /// `check ROOT QUERYFILE ANSWERFILE PROOFFILE`: tell whether an answer is right.
+    /// `check ROOT QUERYFILE ANSWERFILE PROOFFILE [--max-size BYTES]`: tell whether an answer is right.
     Check {
         /// The root, which the word ROOT tells in 64 hexadecimal digits of either case.
         root: Digest,
@@ -43,6 +43,8 @@ pub enum Job {
         answer_file: String,
         /// The file whose bytes are the proof.
         proof_file: String,
+        /// The most bytes that the answer may have, and the proof, if there is a limit.
+        max_size: Option<u64>,
     },
     /// `serve FILE PORT [--connections N] [--changes DIR] [--edition 1|2] [--sequence N]`: answer queries over HTTP.
     Serve {

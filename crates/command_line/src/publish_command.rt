@@ -31,7 +31,8 @@ pub(crate) fn publish_command<'a>(alloc: Global) -> Result<Command<'a>, AllocErr
 /// What the matches of this command ask for. `BadEdition` where the word after `--edition` is neither `1` nor `2`.
 pub(crate) fn publish_job(alloc: Global, matches: &ArgMatches<'_>) -> Result<Job, WordsFault>
     ensures given { IfOk result (λ job. Gives job publish_name (rows_of (found_of matches.now))) }
-    ensures refused { IfErr result (λ fault. (fault ≡ WordsFault.Memory) ⊎ ((fault ≡ WordsFault.BadEdition)
+    ensures refused { IfErr result (λ fault. (fault ≡ WordsFault.Memory)
+        ⊎ ((fault ≡ WordsFault.BadEdition)
         × IsBadEdition (first_of (codes "edition") (rows_of (found_of matches.now))))) }
 {
     let file = text_of(alloc, matches, FILE)?;

@@ -81,7 +81,8 @@ fn changes_option<'a>(alloc: Global) -> Arg<'a>
 /// where it is `1` and a folder of changes is named: only the second edition has a next sequence.
 pub(crate) fn serve_job(alloc: Global, matches: &ArgMatches<'_>) -> Result<Job, WordsFault>
     ensures given { IfOk result (λ job. Gives job serve_name (rows_of (found_of matches.now))) }
-    ensures refused { IfErr result (λ fault. (fault ≡ WordsFault.Memory) ⊎ ((fault ≡ WordsFault.BadEdition)
+    ensures refused { IfErr result (λ fault. (fault ≡ WordsFault.Memory)
+        ⊎ ((fault ≡ WordsFault.BadEdition)
         × CantServe (first_of (codes "edition") (rows_of (found_of matches.now))) (first_of (codes "changes") (rows_of (found_of matches.now))))) }
 {
     let edition = edition_of(matches)?;
@@ -103,10 +104,13 @@ fn changes_of(
     matches: &ArgMatches<'_>,
     edition: Edition,
 ) -> Result<Option<String>, WordsFault>
-    ensures given { IfOk result (λ changes. option_map string_bytes changes ≡ first_of (codes "changes") (rows_of (found_of matches.now))) }
+    ensures given { IfOk result (λ changes. option_map string_bytes changes
+        ≡ first_of (codes "changes") (rows_of (found_of matches.now))) }
     ensures may { IfOk result (λ changes. MayTake changes edition) }
-    ensures refused { IfErr result (λ fault. (fault ≡ WordsFault.Memory) ⊎ ((fault ≡ WordsFault.BadEdition)
-        × (edition ≡ Edition.One) × (is_some (first_of (codes "changes") (rows_of (found_of matches.now))) ≡ true))) }
+    ensures refused { IfErr result (λ fault. (fault ≡ WordsFault.Memory)
+        ⊎ ((fault ≡ WordsFault.BadEdition)
+        × (edition ≡ Edition.One)
+        × (is_some (first_of (codes "changes") (rows_of (found_of matches.now))) ≡ true))) }
 {
     match matches.get_str(CHANGES) {
         None => Ok(None),

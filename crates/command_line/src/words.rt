@@ -32,12 +32,16 @@ use std::alloc::{AllocError, Global};
 /// `publish`, `prove` or `serve` is neither `1` nor `2`, and where `serve` is asked to take changes in edition 1.
 /// `Memory` where an allocation was refused.
 pub fn read_words(alloc: Global, words: Vec<String>) -> Result<Job, WordsFault>
-    ensures read { IfOk result (λ job. GivesMatch job (subcommand_of program_app (map string_bytes words.items))) }
+    ensures read { IfOk result
+        (λ job. GivesMatch job (subcommand_of program_app (map string_bytes words.items))) }
     ensures accepted { OnOk result (fault_of program_app (map string_bytes words.items) ≡ []) }
     ensures refused { takes program_app (map string_bytes words.items) ≡ true
-        → IfErr result (λ e. (e ≡ WordsFault.Memory) ⊎ ((e ≡ WordsFault.BadRoot) ⊎ (e ≡ WordsFault.BadEdition))) }
-    ensures bad_root { result ≡ Err WordsFault.BadRoot → HasBadRoot (subcommand_of program_app (map string_bytes words.items)) }
-    ensures bad_edition { result ≡ Err WordsFault.BadEdition → HasBadEdition (subcommand_of program_app (map string_bytes words.items)) }
+        → IfErr result (λ e. (e ≡ WordsFault.Memory) ⊎ ((e ≡ WordsFault.BadRoot)
+        ⊎ (e ≡ WordsFault.BadEdition))) }
+    ensures bad_root { result ≡ Err WordsFault.BadRoot
+        → HasBadRoot (subcommand_of program_app (map string_bytes words.items)) }
+    ensures bad_edition { result ≡ Err WordsFault.BadEdition
+        → HasBadEdition (subcommand_of program_app (map string_bytes words.items)) }
 {
     let program = program_command(alloc)?;
     match program.try_get_matches_from(words.as_slice()) {
@@ -55,7 +59,8 @@ fn job_of(alloc: Global, name: &str, matches: &ArgMatches<'_>) -> Result<Job, Wo
     ensures given { IfOk result (λ job. Gives job name.now (rows_of (found_of matches.now))) }
     ensures refused { IfErr result (λ e. (e ≡ WordsFault.Memory)
         ⊎ (((e ≡ WordsFault.BadRoot) × HasBadRoot (Some (name.now, rows_of (found_of matches.now))))
-        ⊎ ((e ≡ WordsFault.BadEdition) × HasBadEdition (Some (name.now, rows_of (found_of matches.now)))))) }
+        ⊎ ((e ≡ WordsFault.BadEdition)
+        × HasBadEdition (Some (name.now, rows_of (found_of matches.now)))))) }
 {
     match name {
         ASK => Ok(ask_job(alloc, matches)?),

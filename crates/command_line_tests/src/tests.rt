@@ -148,33 +148,42 @@ fn reads_serve(rt: HostRuntime) -> Result<(), Fail> {
     are_shown(&rt, rt.alloc(), &SERVE)
 }
 
-/// The job is to check the files `b`, `c` and `d`, by the digest of the empty message.
-fn is_check(rt: &impl Abort, job: &Job) {
+/// The job is to check the files `b`, `c` and `d`, by the digest of the empty message and within this limit.
+fn is_check(rt: &impl Abort, job: &Job, limit: Option<u64>) {
     match job {
         Job::Check {
             root,
             query_file,
             answer_file,
             proof_file,
+            max_size,
         } => {
             assert!(rt; *root == tree_node::digest_of(b""));
             assert!(rt; query_file.as_str() == "b" && answer_file.as_str() == "c");
-            assert!(rt; proof_file.as_str() == "d");
+            assert!(rt; proof_file.as_str() == "d" && *max_size == limit);
         }
         job => panic!(rt; "{job:?}"),
     }
 }
 
-/// What the line of words that asks for that check is read as.
-fn read_check(alloc: Global) -> Result<Result<Job, WordsFault>, AllocError> {
-    let line = format!(in alloc; "m check {ROOT} b c d")?;
+/// What the line of words that asks for that check, with these words before its files, is read as.
+fn read_check(alloc: Global, options: &str) -> Result<Result<Job, WordsFault>, AllocError> {
+    let line = format!(in alloc; "m check{options} {ROOT} b c d")?;
     Ok(read_words(alloc, words_of(alloc, &line)?))
 }
 
 #[test]
 fn reads_check(rt: HostRuntime) -> Result<(), Fail> {
-    let job = read_check(rt.alloc())??;
-    is_check(&rt, &job);
+    for (options, limit) in [
+        ("", None),
+        (" --max-size 0", Some(0)),
+        (" --max-size=65536", Some(65_536)),
+        (" --max-size +7", Some(7)),
+        (" --max-size 18446744073709551615", Some(u64::MAX)),
+    ] {
+        let job = read_check(rt.alloc(), options)??;
+        is_check(&rt, &job, limit);
+    }
     Ok(())
 }
 
@@ -201,8 +210,8 @@ fn reads_within_memory(rt: HostRuntime) -> Result<(), Fail> {
 /// The same of `check`, whose root is decoded.
 #[test]
 fn reads_check_within_memory(rt: HostRuntime) -> Result<(), AllocError> {
-    match read_check(rt.alloc())? {
-        Ok(job) => is_check(&rt, &job),
+    match read_check(rt.alloc(), " --max-size 9")? {
+        Ok(job) => is_check(&rt, &job, Some(9)),
         Err(WordsFault::Memory) => {}
         Err(fault) => panic!(rt; "{fault}"),
     }

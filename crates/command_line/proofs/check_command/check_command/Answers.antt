@@ -1,4 +1,4 @@
-use Rattle.std.proofs.Common.{◌≡◌, ◌∙◌, ap, rules}
+use Rattle.std.proofs.Common.{◌≡◌, ◌∙◌, ap, ap₂, rules}
 use Rattle.std.specs.Prelude.{codes}
 use Rattle.std.proofs.lemmas.Result.{IfOk-weaker}
 use Rattle.clap.specs.Words.{App, app_of, new_app, with_rule}
@@ -13,4 +13,5 @@ with_arguments app = with_rule (with_rule (with_rule (with_rule app (wanted (cod
 pub returns : goal.returns
 returns c =
     let begun : app_of c.about-command.result ≡ new_app check_name = search rules in
-    IfOk-weaker c.and_all_wanted.result _ _ (λ r h. (h.0 ∙ ap with_arguments begun, h.1)) c.and_all_wanted.ensures
+    let told = c.in_ok-command.ensures.0 ∙ ap with_arguments begun in
+    IfOk-weaker c.and_option.result _ _ (λ r h. (h.0 ∙ ap₂ with_rule told c.max_size_option.ensures.rule, h.1)) c.and_option.ensures

@@ -22,6 +22,10 @@ pub returns-clause-serve : goal.returns-clause-serve
 unfolding clap_on_literals
 returns-clause-serve c = λ program file. (refl, (refl, (refl, refl, refl, refl, refl, refl)))
 
+pub returns-clause-check_within : goal.returns-clause-check_within
+unfolding clap_on_literals
+returns-clause-check_within c = λ program root query answer proof. (refl, (refl, (refl, refl, refl, refl, refl)))
+
 pub returns-clause-explain : goal.returns-clause-explain
 unfolding clap_on_literals
 returns-clause-explain c = λ program code. (refl, (refl, refl))
