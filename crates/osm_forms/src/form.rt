@@ -29,8 +29,8 @@ impl Form {
     /// Appends an object in a mode to `out`: its OPL line with the LF, a comma, an LF and its JSON object, or its XML
     /// element and an LF. Only `out` takes memory, as it grows.
     ///
-    /// What isn't known of the last change is left out of JSON and XML, each part by itself. XML 1.0 can't hold the control
-    /// characters other than tab, LF and CR, nor U+FFFE and U+FFFF: in XML, U+FFFD stands for each of them.
+    /// What isn't known of the last change is left out of JSON and XML, each part by itself. XML 1.0 can't hold the
+    /// control characters other than tab, LF and CR, nor U+FFFE and U+FFFF: in XML, U+FFFD stands for each of them.
     ///
     /// Refused only when out of memory; `out` then has its old bytes.
     ///
@@ -69,8 +69,9 @@ impl Form {
         appended
     }
 
-    /// Appends the document around the text of the objects of an answer, as [`Form::write_object`] makes them one after the
-    /// other from an empty `Vec`. In JSON the comma of the first object is left out. An OPL document is its lines.
+    /// Appends the document around the text of the objects of an answer, as [`Form::write_object`] makes them one
+    /// after the other from an empty `Vec`. In JSON the comma of the first object is left out. An OPL document is its
+    /// lines.
     ///
     /// Refused only when out of memory; `out` then has its old bytes.
     pub fn write_document(self, text: &[u8], out: &mut Vec<u8>) -> Result<(), AllocError>

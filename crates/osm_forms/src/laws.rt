@@ -32,15 +32,16 @@ pub fn json_object_is_read()
         → json_of a OutMode.Meta ≡ json_of b OutMode.Meta → a ≡ b }
 {}
 
-/// A law: the XML document of objects in a mode is a well-formed XML document, and its root `osm` holds one element for
-/// each of them, in order: its tree says of each what the mode shows, with U+FFFD for each character that XML can't hold.
+/// A law: the XML document of objects in a mode is a well-formed XML document, and its root `osm` holds one element
+/// for each of them, in order. The tree says of each what the mode shows, with U+FFFD for each character that XML
+/// can't hold.
 pub fn xml_document_is_well_formed()
     ensures { (objects : List Element) (mode : OutMode) → All IsElement objects
         → SpellsXml (document_of Form.Xml objects mode) (document_tree objects mode) }
 {}
 
-/// A law: a text spells at most one XML tree, and the XML text of an object in a mode spells that of the object. In mode
-/// `Meta` this tree tells the whole object but for the characters that XML can't hold, and so does the text.
+/// A law: a text spells at most one XML tree, and the XML text of an object in a mode spells that of the object. In
+/// mode `Meta` this tree tells the whole object but for the characters that XML can't hold, and so does the text.
 pub fn xml_object_is_read()
     ensures one_tree { (text : List ℕ) (a b : Tree) → SpellsTree text a → SpellsTree text b
         → a ≡ b }
@@ -53,8 +54,8 @@ pub fn xml_object_is_read()
         → xml_of a OutMode.Meta ≡ xml_of b OutMode.Meta → held_element a ≡ held_element b }
 {}
 
-/// A law: texts that each stand after a comma and a line feed are, without the first comma and line feed, the texts with
-/// a comma and a line feed between two.
+/// A law: texts that each stand after a comma and a line feed are, without the first comma and line feed, the texts
+/// with a comma and a line feed between two.
 pub fn commas_between()
     ensures { (texts : List (List ℕ)) → drop 2 (flat_map (λ text. comma ∷ (line_feed ∷ text)) texts)
         ≡ with_commas texts }

@@ -1,7 +1,8 @@
 //! Objects in the forms of answers: OPL, JSON and XML.
 //!
-//! A [`Form`] writes one object, the name of one object, and the document around the text of all objects of an answer.
-//! The laws say what the documents are: a JSON document is one JSON value, and tells each object in full.
+//! A [`Form`] writes one object, the name of one object, and the document around the text of all objects of an
+//! answer. The laws say what the documents are: a JSON document is one JSON value, and tells each object in full; an
+//! XML document is well-formed, and tells each object but for the characters that XML 1.0 can't hold.
 #![tactic(auto)]
 
 mod document;
