@@ -178,6 +178,7 @@ def main():
             ["publish", file],
             ["prove", file, query, "/dev/null", "/dev/null"],
             ["check", root, query, answer, proof],
+            ["check", root, query, answer, proof, "--max-size", "1000000"],
         ]:
             check_reads(tally, words)
         check_writes(tally, [PROGRAM, "publish", file], whole.stdout)

@@ -23,6 +23,7 @@ def main():
             ["prove", file, query, "/dev/null", "/dev/null"],
             ["prove", file, bad, "/dev/null", "/dev/null"],
             ["check", root, query, answer, proof],
+            ["check", root, query, answer, proof, "--max-size", "1000000"],
             ["check", root, query, query, proof],
             ["check", root, bad, answer, proof],
             ["check", root[:-1], query, answer, proof],

@@ -35,6 +35,24 @@ OF_CLAP = [
         "serve a 80 --connections 4294967296",
         "error: invalid value '4294967296' for '--connections <N>': 4294967296 is not in 0..=4294967295\n",
     ),
+    (
+        "check a b c d --max-size 1M",
+        "error: invalid value '1M' for '--max-size <BYTES>': invalid digit found in string\n",
+    ),
+    (
+        "check a b c d --max-size=-1",
+        "error: invalid value '-1' for '--max-size <BYTES>': invalid digit found in string\n",
+    ),
+    (
+        "check a b c d --max-size 18446744073709551616",
+        "error: invalid value '18446744073709551616' for '--max-size <BYTES>': number too large to fit in target type\n",
+    ),
+    ("check a b c d --max-size", "error: a value is required for '--max-size <BYTES>' but none was supplied\n"),
+    (
+        "check a b c d --max-size 1 --max-size 2",
+        "error: the argument '--max-size <BYTES>' cannot be used multiple times\n",
+    ),
+    ("prove a b c d --max-size 1", "error: unexpected argument '--max-size' found\n"),
     ("answer node(1);out;", "error: unrecognized subcommand 'answer'\n"),
     ("help", "error: unrecognized subcommand 'help'\n"),
     (
@@ -114,13 +132,17 @@ OF_CLAP = [
         "check -h",
         "Checks an answer by its proof and a root: prints 'yes', or 'no' and why\n"
         "\n"
-        "Usage: osm_mirror check <ROOT> <QUERYFILE> <ANSWERFILE> <PROOFFILE>\n"
+        "Usage: osm_mirror check [OPTIONS] <ROOT> <QUERYFILE> <ANSWERFILE> <PROOFFILE>\n"
         "\n"
         "Arguments:\n"
         "  <ROOT>        Root of the set: 64 hexadecimal digits, from the publisher\n"
         "  <QUERYFILE>   File whose bytes are the query\n"
         "  <ANSWERFILE>  File whose bytes are the answer\n"
-        "  <PROOFFILE>   File whose bytes are the proof\n",
+        "  <PROOFFILE>   File whose bytes are the proof\n"
+        "\n"
+        "Options:\n"
+        "      --max-size <BYTES>  Most bytes of the answer, and of the proof; no limit if it isn't given\n"
+        "  -h, --help              Print help\n",
     ),
 ]
 

@@ -3,7 +3,7 @@
 use crate::explanation::Explanation;
 
 /// Lines that are no codes.
-pub(crate) const LINES: [Explanation; 4] = [
+pub(crate) const LINES: [Explanation; 5] = [
     Explanation {
         code: "bad root",
         meaning: "ROOT isn't 64 hexadecimal digits",
@@ -21,6 +21,12 @@ pub(crate) const LINES: [Explanation; 4] = [
         meaning: "an allocation was refused",
         place: "standard error, status 3",
         advice: "Give the program more memory: some five times the size of the OPL file while it builds.",
+    },
+    Explanation {
+        code: "too large",
+        meaning: "the answer or the proof to check has more bytes than --max-size allows",
+        place: "standard error, status 3",
+        advice: "Nothing was checked. If an answer may be that large, give a greater --max-size.",
     },
     Explanation {
         code: "device",

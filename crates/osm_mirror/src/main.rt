@@ -15,6 +15,7 @@ mod input_file;
 mod one_file;
 mod output_file;
 mod progress;
+mod server_errors;
 mod watched;
 
 use crate::building::Building;
@@ -25,11 +26,12 @@ use crate::input_file::InputFile;
 use crate::one_file::are_one_file;
 use crate::output_file::OutputFile;
 use crate::progress::Progress;
+use crate::server_errors::ServerErrors;
 use crate::watched::Watched;
 use command_line::{Job, WordsFault, read_words};
 use osm_codes::explain;
 use osm_commands::{
-    CommandFault, Status, ask, check, listening_line, prove, publish, read_snapshot,
+    CommandFault, Status, WholeLines, ask, check, listening_line, prove, publish, read_snapshot,
 };
 use osm_desk::Desk;
 use osm_index::Snapshot;
@@ -88,7 +90,8 @@ fn run_job(rt: &HostRuntime, job: Job) -> Status {
             query_file,
             answer_file,
             proof_file,
-        } => check_files(rt, &root, &query_file, &answer_file, &proof_file),
+            max_size,
+        } => check_files(rt, &root, &query_file, &answer_file, &proof_file, max_size),
         Job::Serve {
             file,
             port,
@@ -240,13 +243,14 @@ fn prove_into(
     report(rt, outcome, subject)
 }
 
-/// Tells whether the answer of a file is right.
+/// Tells whether the answer of a file is right, where answer and proof have no more bytes than this, if there is a limit.
 fn check_files(
     rt: &HostRuntime,
     root: &Digest,
     query_file: &str,
     answer_file: &str,
     proof_file: &str,
+    max_size: Option<u64>,
 ) -> Status {
     let mut query = quiet_file(rt, query_file);
     let mut answer = quiet_file(rt, answer_file);
@@ -257,6 +261,7 @@ fn check_files(
         &mut query,
         &mut answer,
         &mut proof,
+        max_size,
         &mut rt.stdout(),
     );
     let troubles = &[
@@ -319,7 +324,7 @@ fn serve_snapshot(
     match listen(rt, port, changes.is_some()) {
         Ok((sockets, address)) => {
             let outcome = serve_over(rt, snapshot, sockets, address, connections, changes);
-            report(rt, outcome, &NOTHING)
+            report_served(rt, outcome)
         }
         Err(error) => port_refused(rt, port, &error),
     }
@@ -359,7 +364,8 @@ fn listen(rt: &HostRuntime, port: u16, has_changes: bool) -> io::Result<(Sockets
     Ok((sockets, address))
 }
 
-/// Serves a snapshot over sockets that listen at this address. At first it says where, and over what.
+/// Serves a snapshot over sockets that listen at this address. At first it says where, and over what. A line that standard
+/// error can't take at once is dropped.
 fn serve_over(
     rt: &HostRuntime,
     snapshot: Snapshot,
@@ -370,7 +376,7 @@ fn serve_over(
 ) -> Result<(), CommandFault> {
     let alloc = rt.alloc();
     let line = listening_line(alloc, address, &snapshot)?;
-    let errors = &mut rt.stderr();
+    let mut errors = WholeLines::new(ServerErrors::new(rt));
     // Where standard error takes nothing, it serves all the same.
     let _ = write!(errors, "{line}");
     let mut desk = Desk::new(alloc, snapshot);
@@ -381,7 +387,7 @@ fn serve_over(
         &mut lookout,
         &mut sockets,
         connections,
-        errors,
+        &mut errors,
     ) {
         Ok(()) => {
             sockets.settle();
@@ -456,6 +462,19 @@ fn report(rt: &HostRuntime, outcome: Result<(), CommandFault>, subject: &Subject
             // Where standard error takes nothing, the status still tells.
             let _ = writeln!(rt.stderr(), "{fault}");
             tell_in_words(rt, fault, subject);
+            fault.status()
+        }
+    }
+}
+
+/// How the program ends after it has served. Its last line, too, is dropped where standard error can't take it at once.
+fn report_served(rt: &HostRuntime, outcome: Result<(), CommandFault>) -> Status {
+    match outcome {
+        Ok(()) => Status::Done,
+        Err(fault) => {
+            let mut errors = WholeLines::new(ServerErrors::new(rt));
+            let _ = writeln!(errors, "{fault}");
+            tell_in_words(rt, fault, &NOTHING);
             fault.status()
         }
     }

@@ -97,7 +97,15 @@ fn is_judged(
 ) -> bool {
     let mut output = Vec::new(alloc);
     let query = &mut FIRST.as_bytes();
-    match check(alloc, root, query, &mut answer, &mut proof, &mut output) {
+    match check(
+        alloc,
+        root,
+        query,
+        &mut answer,
+        &mut proof,
+        Some(447),
+        &mut output,
+    ) {
         Ok(verdict) => {
             assert!(rt; Status::from(verdict) == told.1);
             is_done(rt, Ok(()), &output, told.0)
