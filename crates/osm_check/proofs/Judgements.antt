@@ -1,5 +1,5 @@
 -- What the outcome of an evaluation over the nodes of a proof says of a publication.
-use Rattle.std.proofs.Common.{◌≡◌, ◌⊎◌, inl, inr, ℕ, List, [], ◌++◌, Option, Some, None, Result, Ok, Err, IfOk, MatchResult, refl, sym, ap, subst, ◌∙◌}
+use Rattle.std.proofs.Common.{◌≡◌, ◌⊎◌, inl, inr, ℕ, List, [], ◌++◌, Option, Some, Result, Ok, Err, IfOk, refl, sym, ap, subst, ◌∙◌}
 use Rattle.std.specs.List.{Contains}
 use Rattle.std.specs.declared.alloc.AllocError.{AllocError}
 use Rattle.tree_node.specs.Outcomes.{Cause, Clash, NoMemory, NodeMissing as CauseMissing, OtherCause, Outcome, RefusedFor}
@@ -121,15 +121,12 @@ why_inside (faults.Manifest openings.Memory) why is = absurd (cc)
 why_inside faults.Memory why is = absurd (cc)
 
 -- the verdict where an evaluation was refused
-pub stopped_judged : (root : List ℕ) (statements : Statements) (answer : List ℕ) (nodes : List (List ℕ)) (fault : EvalFault) (result : Result Verdict AllocError)
-    → MatchResult result (λ verdict. (why : Why) × (why_of fault ≡ Some why) × (verdict ≡ No why)) (λ _. why_of fault ≡ None)
-    → ((why : Why) → why_of fault ≡ Some why → TellsOfAll root statements answer nodes (No why)) → IfOk result (IsJudged root statements answer nodes)
-stopped_judged root statements answer nodes fault (Ok verdict) (why, of, is) tells =
-    subst (λ (v : Verdict). IsJudged root statements answer nodes v) (sym is) (record { inside = why_inside fault why of; reported = tt; tells = tells why of })
-stopped_judged root statements answer nodes fault (Err e) given tells = tt
+pub stopped_judged : (root : List ℕ) (statements : Statements) (answer : List ℕ) (nodes : List (List ℕ)) (fault : EvalFault) (why : Why) → why_of fault ≡ Some why → TellsOfAll root statements answer nodes (No why)
+    → IsJudged root statements answer nodes (No why)
+stopped_judged root statements answer nodes fault why of tells = record { inside = why_inside fault why of; reported = tt; tells = tells }
 
 -- the verdict on a proof that was read
-owed : (query root answer proof : List ℕ) (statements : Statements) (nodes : List (List ℕ)) (verdict : Verdict) → IsWhole query proof statements nodes → IsJudged root statements answer nodes verdict → IsVerdict query root answer proof verdict
+pub owed : (query root answer proof : List ℕ) (statements : Statements) (nodes : List (List ℕ)) (verdict : Verdict) → IsWhole query proof statements nodes → IsJudged root statements answer nodes verdict → IsVerdict query root answer proof verdict
 owed query root answer proof statements nodes (Yes report) whole judged = record { statements = statements; nodes = nodes; whole = whole; reported = judged.reported; tells = judged.tells }
 owed query root answer proof statements nodes (No (QueryRefused fault)) whole judged = absurd judged.inside
 owed query root answer proof statements nodes (No ProofMalformed) whole judged = absurd judged.inside

@@ -3,3 +3,4 @@ pub mod Judgements
 pub mod NeededNodes
 pub mod OneVerdict
 pub mod Reports
+pub mod ToldLemmas

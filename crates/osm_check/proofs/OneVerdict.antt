@@ -54,7 +54,7 @@ no_difference text n h = h.differ refl
 -- ---- the nodes of a proof
 
 -- no two nodes of a proof have one digest
-no_twins : (nodes : List (List ℕ)) → AreRising nodes → (a b : List ℕ) → Contains nodes a → Contains nodes b → digest a ≡ digest b → a ≡ b
+pub no_twins : (nodes : List (List ℕ)) → AreRising nodes → (a b : List ℕ) → Contains nodes a → Contains nodes b → digest a ≡ digest b → a ≡ b
 no_twins nodes rising a b p q e =
     elim (cases_order p.0 q.0) [
       | inl same ↦ get_or_read nodes p.0 a p.1 (sym p.2) b ∙ ap (λ i. get_or nodes i b) same ∙ q.2
@@ -69,7 +69,7 @@ no_twins nodes rising a b p q e =
         rw isx at (rw ey at h)
 
 -- what stands in a proof is one of the nodes that it lists
-stands_among : (proof node : List ℕ) (nodes : List (List ℕ)) → Lists proof nodes → StandsIn proof node → Contains nodes node
+pub stands_among : (proof node : List ℕ) (nodes : List (List ℕ)) → Lists proof nodes → StandsIn proof node → Contains nodes node
 stands_among proof node nodes lists (others, again, is) = subst (λ (ns : List (List ℕ)). Contains ns node) (one_listing proof others nodes again lists) is
 
 -- ---- what a verdict tells of one publication
@@ -243,15 +243,13 @@ module _ (query answer proof : List ℕ) (p : Publication) (is : IsPublication p
 
 -- ---- what the checker answers
 
--- a query that isn't read
-pub refused_owed : (query root answer proof : List ℕ) (fault : QlFault) (result : Result Verdict AllocError) → (fault ≡ memory_fault) ⊎ HasFault query fault
-    → IfOk result (λ v. (v ≡ No (QueryRefused fault)) × (fault.cause ≢ causes.Memory)) → IfOk result (λ v. IsVerdict query root answer proof v)
-refused_owed query root answer proof fault (Ok v) (inl memory) given = absurd (given.1 (ap (λ (f : QlFault). f.cause) memory))
-refused_owed query root answer proof fault (Ok v) (inr has) given = subst (λ (w : Verdict). IsVerdict query root answer proof w) (sym given.0) has
-refused_owed query root answer proof fault (Err e) why given = tt
+-- a query that isn't read, memory apart
+pub unread_owed : (query : List ℕ) (fault : QlFault) → (fault ≡ memory_fault) ⊎ HasFault query fault → fault.cause ≢ causes.Memory → HasFault query fault
+unread_owed query fault (inl memory) other = absurd (other (ap (λ (f : QlFault). f.cause) memory))
+unread_owed query fault (inr has) other = has
 
 module _ (query root answer proof : List ℕ) (p : Publication) (is : IsPublication p) (root_is : root ≡ root_of p) where
-  told : (verdict : Verdict) → IsVerdict query root answer proof verdict → TellsOf p query answer proof verdict ⊎ Clash (IsNodeIn p) (StandsIn proof)
+  pub told : (verdict : Verdict) → IsVerdict query root answer proof verdict → TellsOf p query answer proof verdict ⊎ Clash (IsNodeIn p) (StandsIn proof)
   told verdict h = under_root query answer proof p is verdict (subst (λ (r : List ℕ). IsVerdict query r answer proof verdict) root_is h)
 
   -- the verdict that is owed is the one that is given

@@ -1,6 +1,6 @@
 //! The checker.
 
-ghost use Rattle.std.specs.Prelude.{◌≡◌, ◌≢◌, ◌⊎◌, IfErr, IfOk, List, MatchResult, None, Some};
+ghost use Rattle.std.specs.Prelude.{◌≡◌, ◌⊎◌, IfOk, List};
 ghost use Rattle.tree_node.specs.Outcomes.{Clash};
 ghost use Rattle.tree_node.specs.Parts.{HaveRisingDigests};
 ghost use Rattle.osm_keys.specs.Publications.{IsNodeIn, IsPublication, Publication, root_of};
@@ -8,20 +8,19 @@ ghost use Rattle.ql_syntax.specs.StatementViews.{statements_of};
 ghost use Rattle.osm_prove.specs.Proofs.{FitsProof, nodes_of};
 ghost use Rattle.osm_prove.specs.Proved.{IsProved};
 ghost use Rattle.osm_check.specs.Verdicts.{AreAlike, IsVerdict, IsYes, StandsIn, TellsOf};
-ghost use Rattle.osm_check.specs.internal.Judging.{IsJudged, why_of};
+ghost use Rattle.osm_check.specs.internal.Judging.{IsJudged};
 ghost use Rattle.ql_eval.specs.declared.evaluation.Report.{Report};
 ghost use Rattle.osm_check.specs.declared.verdict.Verdict.{Verdict};
-ghost use Rattle.osm_check.specs.declared.why.Why.{Why};
 
 use crate::matcher::Matcher;
+use crate::reasons::{stopped, unread};
 use crate::verdict::Verdict;
 use crate::why::Why;
 use osm_prove::{ProofFault, read_proof};
-use ql_eval::{EvalFault, ManifestFault, evaluate};
-use ql_syntax::{QlCause, QlFault, Query, parse};
+use ql_eval::evaluate;
+use ql_syntax::{Query, parse};
 use std::alloc::{AllocError, Global};
 use tree_node::{Bag, Digest, Part};
-use tree_walk::WalkFault;
 
 /// Whether an answer is right: whether it is the OPL text of the query's meaning over the set with this root.
 /// Nothing is assumed of the query, the answer and the proof. Roots of both editions are checked; the manifest
@@ -75,25 +74,13 @@ fn decide(
 {
     let parsed = match parse(alloc, query) {
         Ok(parsed) => parsed,
-        Err(fault) => return refused(fault),
+        Err(fault) => return Ok(Verdict::No(unread(fault)?)),
     };
     match read_proof(alloc, proof) {
         Ok(parts) => judge(alloc, &parsed, root, answer, parts),
         Err(ProofFault::Malformed) => Ok(Verdict::No(Why::ProofMalformed)),
         Err(ProofFault::NotRising) => Ok(Verdict::No(Why::ProofNotRising)),
         Err(ProofFault::Memory) => Err(AllocError),
-    }
-}
-
-/// The verdict on a query that isn't read: out of memory is none.
-fn refused(fault: QlFault) -> Result<Verdict, AllocError>
-    ensures verdict { IfOk result (λ verdict. (verdict ≡ Verdict.No (Why.QueryRefused fault))
-        × (fault.cause ≢ QlCause.Memory)) }
-    ensures memory { IfErr result (λ _. fault.cause ≡ QlCause.Memory) }
-{
-    match fault.cause {
-        QlCause::Memory => Err(AllocError),
-        _ => Ok(Verdict::No(Why::QueryRefused(fault))),
     }
 }
 
@@ -114,7 +101,7 @@ fn judge<'a>(
     let mut matcher = Matcher::new(answer);
     let report = match evaluate(alloc, query, root, &mut bag, &mut matcher) {
         Ok(report) => report,
-        Err(fault) => return stopped(fault),
+        Err(fault) => return Ok(Verdict::No(stopped(fault)?)),
     };
     if !bag.all_used() {
         return Ok(Verdict::No(Why::NodeUnused));
@@ -123,25 +110,4 @@ fn judge<'a>(
         Some(byte) => Verdict::No(Why::AnswerDiffers(byte)),
         None => Verdict::Yes(report),
     })
-}
-
-/// The verdict where an evaluation was refused: out of memory is none.
-fn stopped(fault: EvalFault) -> Result<Verdict, AllocError>
-    ensures { MatchResult result (λ verdict. (why : Why) × (why_of fault ≡ Some why)
-        × (verdict ≡ Verdict.No why)) (λ _. why_of fault ≡ None) }
-{
-    match fault {
-        EvalFault::Walk(WalkFault::Missing) | EvalFault::Manifest(ManifestFault::Missing) => {
-            Ok(Verdict::No(Why::NodeMissing))
-        }
-        EvalFault::Walk(WalkFault::Malformed(_)) | EvalFault::Manifest(ManifestFault::Malformed) =>
-            { Ok(Verdict::No(Why::NodeMalformed)) }
-        EvalFault::Walk(WalkFault::WrongTreeOrLevel | WalkFault::Disagrees) => {
-            Ok(Verdict::No(Why::NodesDisagree))
-        }
-        EvalFault::Form | EvalFault::Absent => Ok(Verdict::No(Why::EntriesDisagree)),
-        EvalFault::Walk(WalkFault::Memory)
-        | EvalFault::Manifest(ManifestFault::Memory)
-        | EvalFault::Memory => Err(AllocError),
-    }
 }

@@ -14,6 +14,11 @@ use Rattle.osm_model.specs.Elements.{Element, ref_cmp, reference, references}
 use Rattle.osm_model.specs.Sets.{IsObjectSet}
 use Rattle.osm_model.specs.declared.reference.Ref.{Ref}
 use Rattle.opl_codec.specs.Text.{text_of}
+use Rattle.osm_forms.specs.Forms.{form_name, form_text}
+use Rattle.osm_forms.specs.JsonText.{json_of}
+use Rattle.osm_forms.specs.XmlText.{xml_of}
+use Rattle.osm_forms.specs.declared.form.Form.{Form}
+use Rattle.osm_forms.specs.declared.form.Form.TheVariants as forms
 use Rattle.osm_model.specs.declared.out_mode.OutMode.{OutMode}
 use Rattle.osm_model.specs.declared.out_mode.OutMode.TheVariants as modes
 use Rattle.tree_node.specs.Outcomes.{Outcome, ShelfUse}
@@ -24,7 +29,7 @@ use Rattle.osm_keys.specs.Publications.{Publication}
 use Rattle.ref_sets.proofs.shared.Filtered.{from_filter, in_filter, passes_filter}
 use Rattle.ql_meaning.proofs.shared.MeaningLaws.{one_set, printed_rise}
 use Rattle.ref_sets.specs.Adding.{From}
-use Rattle.ql_meaning.specs.Meanings.{cut, is_in, printed_of}
+use Rattle.ql_meaning.specs.Meanings.{Telling, cut, is_in, printed_of_by}
 use Rattle.ql_eval.specs.Asks.{AskedByOut}
 use Rattle.ql_eval.specs.Faults.{cause_of_evaluation}
 use Rattle.ql_eval.specs.Questions.{Ask, NeededBy}
@@ -32,7 +37,7 @@ use Rattle.ql_eval.specs.Written.{HasWritten}
 use Rattle.ql_eval.specs.declared.fault.EvalFault.{EvalFault}
 use Rattle.ql_eval.specs.internal.Links.{AreThere, IsObjectAsk}
 use Rattle.ql_eval.proofs.EachLemmas.{all_front, front_all, front_needs, needs_split, next_all, next_needs, none_needed}
-use Rattle.ql_eval.specs.internal.Printing.{line_at, line_of, lines_at, name_line, name_lines}
+use Rattle.ql_eval.specs.internal.Printing.{line_at, line_of, lines_at, name_lines}
 use Rattle.ql_eval.proofs.WritingLemmas.{written_none, written_then}
 
 -- ---- the objects of a set
@@ -119,27 +124,29 @@ in_cut None xs x is = is
 in_cut (Some most) xs x is = in_take most xs x is
 
 -- what is printed of a set is told by its references, where each of them tells the text of its object
-pub printed_by_names : (by_name : Ref → List ℕ) (objects : List Element) (refs : List Ref) (mode : OutMode) (limit : Option ℕ) → IsObjectSet objects → IsStrictlySortedBy ref_cmp refs → AreThere objects refs
-    → ((o : Element) → Contains objects o → by_name (reference o) ≡ text_of o mode) → flat_map by_name (cut limit refs) ≡ printed_of objects refs mode limit
-printed_by_names by_name objects refs mode limit set rising there same =
+pub printed_by_names : (tell : Telling) (by_name : Ref → List ℕ) (objects : List Element) (refs : List Ref) (mode : OutMode) (limit : Option ℕ) → IsObjectSet objects → IsStrictlySortedBy ref_cmp refs → AreThere objects refs
+    → ((o : Element) → Contains objects o → by_name (reference o) ≡ tell o mode) → flat_map by_name (cut limit refs) ≡ printed_of_by tell objects refs mode limit
+printed_by_names tell by_name objects refs mode limit set rising there same =
     ap (λ (rs : List Ref). flat_map by_name (cut limit rs)) (sym (taken_are objects refs set rising there))
     ∙ ap (flat_map by_name) (sym (map_cut limit (filter (λ o. is_in refs o) objects)))
-    ∙ same_lines by_name (λ o. text_of o mode) (cut limit (filter (λ o. is_in refs o) objects))
+    ∙ same_lines by_name (λ o. tell o mode) (cut limit (filter (λ o. is_in refs o) objects))
     (λ o is. same o (from_filter (λ p. is_in refs p) objects o (in_cut limit (filter (λ p. is_in refs p) objects) o is)))
 
 -- the text of an object by its id alone
-name_is_text : (o : Element) → name_line (reference o) ≡ text_of o modes.Ids
-unfolding text_of
-name_is_text o = refl
+name_is_text : (form : Form) (o : Element) → form_name form (reference o) ≡ form_text form o modes.Ids
+unfolding text_of json_of xml_of
+name_is_text forms.Opl o = refl
+name_is_text forms.Json o = refl
+name_is_text forms.Xml o = refl
 
-pub printed_names : (objects : List Element) (refs : List Ref) (limit : Option ℕ) → IsObjectSet objects → IsStrictlySortedBy ref_cmp refs → AreThere objects refs
-    → name_lines (cut limit refs) ≡ printed_of objects refs modes.Ids limit
-printed_names objects refs limit set rising there = printed_by_names name_line objects refs modes.Ids limit set rising there (λ o is. name_is_text o)
+pub printed_names : (form : Form) (objects : List Element) (refs : List Ref) (limit : Option ℕ) → IsObjectSet objects → IsStrictlySortedBy ref_cmp refs → AreThere objects refs
+    → name_lines form (cut limit refs) ≡ printed_of_by (form_text form) objects refs modes.Ids limit
+printed_names form objects refs limit set rising there = printed_by_names (form_text form) (form_name form) objects refs modes.Ids limit set rising there (λ o is. name_is_text form o)
 
-pub printed_objects : (objects : List Element) (refs : List Ref) (mode : OutMode) (limit : Option ℕ) → IsObjectSet objects → IsStrictlySortedBy ref_cmp refs → AreThere objects refs
-    → lines_at objects mode (cut limit refs) ≡ printed_of objects refs mode limit
-printed_objects objects refs mode limit set rising there =
-    printed_by_names (line_at objects mode) objects refs mode limit set rising there (λ o is. ap (line_of mode) (object_there objects o set is))
+pub printed_objects : (form : Form) (objects : List Element) (refs : List Ref) (mode : OutMode) (limit : Option ℕ) → IsObjectSet objects → IsStrictlySortedBy ref_cmp refs → AreThere objects refs
+    → lines_at form objects mode (cut limit refs) ≡ printed_of_by (form_text form) objects refs mode limit
+printed_objects form objects refs mode limit set rising there =
+    printed_by_names (form_text form) (line_at form objects mode) objects refs mode limit set rising there (λ o is. ap (line_of form mode) (object_there objects o set is))
 
 -- what is there of a set is there of its first references
 take_there : (objects : List Element) (n : ℕ) (refs : List Ref) → AreThere objects refs → AreThere objects (take n refs)

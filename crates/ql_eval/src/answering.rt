@@ -5,7 +5,8 @@ ghost use Rattle.tree_node.specs.Outcomes.{Outcome};
 ghost use Rattle.osm_keys.specs.Publications.{IsPublication, Publication};
 ghost use Rattle.ql_syntax.specs.LawfulQueries.{IsQuery, IsTop};
 ghost use Rattle.ql_syntax.specs.StatementViews.{statement_of, statements_of};
-ghost use Rattle.ql_meaning.specs.Meanings.{After, Means, told};
+ghost use Rattle.osm_forms.specs.Forms.{form_text};
+ghost use Rattle.ql_meaning.specs.Meanings.{After, Means_by, told_by};
 ghost use Rattle.ref_sets.specs.NamedSets.{nothing_named, lists_of};
 ghost use Rattle.ql_eval.specs.Asks.{AskedBy, AskedByAll};
 ghost use Rattle.ql_eval.specs.Faults.{cause_of_evaluation};
@@ -20,13 +21,15 @@ use crate::print::print;
 use crate::run::run;
 use crate::sink::Sink;
 use crate::source::Source;
+use osm_forms::Form;
 use ql_syntax::Stmt;
 use ref_sets::NamedSets;
 use std::alloc::Global;
 
-/// Runs the statements of a query, and writes what they print. No set is named at first.
+/// Runs the statements of a query, and writes what they print in a form. No set is named at first.
 pub(crate) fn answer_all<'q, W: Source, T: Sink>(
     alloc: Global,
+    form: Form,
     statements: &[Stmt<'q>],
     source: &mut W,
     sink: &mut T,
@@ -39,14 +42,15 @@ pub(crate) fn answer_all<'q, W: Source, T: Sink>(
     ensures answer { (p : Publication) → IsPublication p → W.under source.old p
         → IsQuery (statements_of statements.now)
         → Outcome cause_of_evaluation
-        (λ _. (text : List ℕ) × Means p.objects (statements_of statements.now) text
+        (λ _. (text : List ℕ)
+        × Means_by (form_text form) p.objects (statements_of statements.now) text
         × HasWritten (T.stands sink.old) (T.stands sink.new) text)
         (NeededBy p (AskedByAll p (statements_of statements.now) nothing_named))
         (nodes_around W.holds W.used source.old source.new) result }
 {
     let mut sets = NamedSets::new(alloc);
     for statement in statements {
-        answer_statement(alloc, statement, &mut sets, source, sink)?;
+        answer_statement(alloc, form, statement, &mut sets, source, sink)?;
     }
     Ok(())
 }
@@ -54,6 +58,7 @@ pub(crate) fn answer_all<'q, W: Source, T: Sink>(
 /// Runs a statement, and writes what it prints.
 fn answer_statement<'q, W: Source, T: Sink>(
     alloc: Global,
+    form: Form,
     statement: &Stmt<'q>,
     sets: &mut NamedSets<'q>,
     source: &mut W,
@@ -72,13 +77,14 @@ fn answer_statement<'q, W: Source, T: Sink>(
         → AreAllThere p.objects env → IsTop (statement_of statement.now)
         → Outcome cause_of_evaluation (λ _. After p.objects (statement_of statement.now) env next
         × HasWritten (T.stands sink.old) (T.stands sink.new)
-        (told p.objects (statement_of statement.now) env))
+        (told_by (form_text form) p.objects (statement_of statement.now) env))
         (NeededBy p (AskedBy p (statement_of statement.now) env))
         (nodes_around W.holds W.used source.old source.new) result }
 {
     match statement {
         Stmt::Print(out) => print(
             alloc,
+            form,
             source,
             sets.get(out.from.as_bytes()),
             out.mode,

@@ -9,6 +9,7 @@ ghost use Rattle.osm_keys.specs.Manifests.{top_among};
 ghost use Rattle.osm_keys.specs.Publications.{IsPublication, Publication, root_of};
 ghost use Rattle.ql_syntax.specs.LawfulQueries.{IsQuery};
 ghost use Rattle.ql_syntax.specs.StatementViews.{statements_of};
+ghost use Rattle.osm_forms.specs.Forms.{form_text};
 ghost use Rattle.ref_sets.specs.NamedSets.{nothing_named};
 ghost use Rattle.ql_eval.specs.Asks.{AskedByAll, IsNeeded};
 ghost use Rattle.ql_eval.specs.Faults.{cause_of_evaluation};
@@ -16,7 +17,7 @@ ghost use Rattle.ql_eval.specs.Forms.{HaveForm};
 ghost use Rattle.ql_eval.specs.Openings.{HasMalformed, IsUnder, nodes_after};
 ghost use Rattle.ql_eval.specs.Questions.{NeededBy};
 ghost use Rattle.ql_eval.specs.TrueFaults.{HoldsUnder, IsTrueFault};
-ghost use Rattle.ql_eval.specs.Written.{HasWritten, HasWrittenMeaning};
+ghost use Rattle.ql_eval.specs.Written.{HasWritten, HasWrittenMeaning, HasWrittenMeaning_by};
 ghost use Rattle.ql_eval.specs.internal.TrueFaults.{IsTrueUnder};
 ghost use Rattle.tree_walk.specs.Uses.{nodes_around};
 
@@ -26,6 +27,7 @@ use crate::known::Known;
 use crate::opening::{ManifestFault, open_manifest};
 use crate::shelf_source::ShelfSource;
 use crate::sink::Sink;
+use osm_forms::Form;
 use osm_keys::Manifest;
 use ql_syntax::{Query, Stmt};
 use std::alloc::Global;
@@ -95,6 +97,63 @@ pub fn evaluate<'a, S: Shelf<'a>, T: Sink>(
         (IsNeeded p (statements_of query.now))
         (nodes_around S.holds S.used shelf.old shelf.new) result }
 {
+    evaluate_in(alloc, Form::Opl, query, root, shelf, sink)
+}
+
+/// Writes the answer to a query into a sink, in a form, from the nodes under a root: what [`evaluate`] writes, with each
+/// object told in the form. It asks, uses and refuses the same, whatever the form.
+///
+/// A refusal leaves the text of the sink as it was. The nodes that were fetched until then stay used.
+pub fn evaluate_in<'a, S: Shelf<'a>, T: Sink>(
+    alloc: Global,
+    form: Form,
+    query: &Query<'_>,
+    root: &Digest,
+    shelf: &mut S,
+    sink: &mut T,
+) -> Result<Report, EvalFault>
+    // The sink tells its length, to which a refused answer is cut.
+    requires { (text : List ℕ) → T.stands sink.old text → length text < 2 ^ 64 - 1 }
+    // The held nodes never change, and what was used stays used.
+    ensures stays { SameNodes (S.holds shelf.old) (S.holds shelf.new) }
+    ensures grows { (bytes : List ℕ) → S.used shelf.old bytes → S.used shelf.new bytes }
+    ensures kept { T.kept sink.new ≡ T.kept sink.old }
+    ensures refused { OnErr result
+        ((text : List ℕ) → T.stands sink.old text → T.stands sink.new text) }
+    // E4 with `Missing` where no held node has the root.
+    ensures none { HasNone (S.holds shelf.new) root.now.0
+        → result ≡ Err (EvalFault.Manifest ManifestFault.Missing) }
+    // and with `Malformed` where what is held under it is no manifest, memory apart.
+    ensures malformed { HasMalformed (S.holds shelf.new) root.now.0
+        → (result ≡ Err (EvalFault.Manifest ManifestFault.Malformed))
+        ⊎ (result ≡ Err EvalFault.Memory) }
+    // Each fault is true of the nodes, whoever made them.
+    ensures told { IfErr result (IsTrueFault (S.holds shelf.new) (S.used shelf.new) root.now.0) }
+    // Whatever the root is of, the report counts the walks and what they fetched.
+    ensures report { IfOk result (λ report. HoldsUnder (S.holds shelf.new) root.now.0 (λ found.
+        HasWalked (nodes_after found S.holds S.used shelf.old shelf.new)
+        0 report.ranges 0 report.fetched)) }
+    // These walks are the report's: each gave what its nodes say, from the tops that the manifest names on, and all entries
+    // that they gave are of their trees' forms.
+    ensures walks { IfOk result (λ report. HoldsUnder (S.holds shelf.new) root.now.0 (λ found.
+        HasGiven (top_among found.tops) HaveForm (nodes_after found S.holds S.used shelf.old shelf.new)
+        0 report.ranges 0 report.fetched)) }
+    // Under the root of a publication: its answer, by just the needed nodes.
+    ensures answer { (p : Publication) → IsPublication p → root.now.0 ≡ root_of p
+        → Outcome cause_of_evaluation
+        (λ _. HasWrittenMeaning_by (form_text form) p (statements_of query.now)
+        (T.stands sink.old) (T.stands sink.new))
+        (IsNeeded p (statements_of query.now))
+        (nodes_around S.holds S.used shelf.old shelf.new) result }
+    // Over a shelf that holds all needed nodes, memory alone refuses it, and no clash is left to speak of.
+    ensures served { (p : Publication) → IsPublication p → root.now.0 ≡ root_of p
+        → ((bytes : List ℕ) → IsNeeded p (statements_of query.now) bytes → S.holds shelf.new bytes)
+        → EndsWell cause_of_evaluation
+        (λ _. HasWrittenMeaning_by (form_text form) p (statements_of query.now)
+        (T.stands sink.old) (T.stands sink.new))
+        (IsNeeded p (statements_of query.now))
+        (nodes_around S.holds S.used shelf.old shelf.new) result }
+{
     let len = sink.len();
     let manifest = open_manifest(root, shelf)?;
     let mut tally = Tally {
@@ -102,7 +161,7 @@ pub fn evaluate<'a, S: Shelf<'a>, T: Sink>(
         fetches: 0,
     };
     let statements = query.stmts();
-    match run_over(alloc, statements, manifest, shelf, sink, &mut tally) {
+    match run_over(alloc, form, statements, manifest, shelf, sink, &mut tally) {
         Ok(()) => Ok(Report {
             ranges: tally.calls,
             fetched: tally.fetches,
@@ -114,9 +173,10 @@ pub fn evaluate<'a, S: Shelf<'a>, T: Sink>(
     }
 }
 
-/// Runs the statements of a query under a manifest. The tally becomes that of all walks.
+/// Runs the statements of a query under a manifest, and writes what they print in a form. The tally becomes that of all walks.
 fn run_over<'a, S: Shelf<'a>, T: Sink>(
     alloc: Global,
+    form: Form,
     statements: &[Stmt<'_>],
     manifest: Manifest,
     shelf: &mut S,
@@ -136,7 +196,8 @@ fn run_over<'a, S: Shelf<'a>, T: Sink>(
     ensures answer { (p : Publication) → IsPublication p → IsUnder p manifest
         → IsQuery (statements_of statements.now)
         → Outcome cause_of_evaluation
-        (λ _. HasWrittenMeaning p (statements_of statements.now) (T.stands sink.old) (T.stands sink.new))
+        (λ _. HasWrittenMeaning_by (form_text form) p (statements_of statements.now)
+        (T.stands sink.old) (T.stands sink.new))
         (NeededBy p (AskedByAll p (statements_of statements.now) nothing_named))
         (nodes_around S.holds S.used shelf.old shelf.new) result }
 {
@@ -152,7 +213,7 @@ fn run_over<'a, S: Shelf<'a>, T: Sink>(
         objects: &mut objects,
         nodes: b"",
     };
-    let ran = answer_all(alloc, statements, &mut source, sink);
+    let ran = answer_all(alloc, form, statements, &mut source, sink);
     *tally = source.tally;
     let ShelfSource {
         alloc: _,

@@ -1,7 +1,8 @@
 //! Queries answered from the trees of a published set.
 //!
 //! [`evaluate`] opens the manifest of a root on any shelf, walks the ranges that the query asks for and no
-//! others, and writes the answer into a [`Sink`]. An object that is asked twice is looked up once.
+//! others, and writes the answer into a [`Sink`]. An object that is asked twice is looked up once. [`evaluate_in`] writes
+//! it in another form than OPL.
 #![tactic(auto)]
 
 mod answering;
@@ -38,7 +39,7 @@ mod source;
 mod walks;
 mod written;
 
-pub use evaluation::{Report, evaluate};
+pub use evaluation::{Report, evaluate, evaluate_in};
 pub use fault::EvalFault;
 pub use opening::{ManifestFault, open_manifest};
 pub use sink::Sink;

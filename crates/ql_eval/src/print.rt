@@ -2,11 +2,11 @@
 
 ghost use Rattle.std.specs.Prelude.{◌≡◌, ◌≢◌, ℕ, IfErr, List, OnOk};
 ghost use Rattle.osm_model.specs.Sets.{object_at};
-ghost use Rattle.opl_codec.specs.Text.{text_of};
+ghost use Rattle.osm_forms.specs.Forms.{form_name, form_text};
 ghost use Rattle.tree_node.specs.Outcomes.{Outcome};
 ghost use Rattle.osm_keys.specs.Publications.{IsPublication, Publication};
 ghost use Rattle.ref_sets.specs.Adding.{From};
-ghost use Rattle.ql_meaning.specs.Meanings.{cut, printed_of};
+ghost use Rattle.ql_meaning.specs.Meanings.{cut, printed_of_by};
 ghost use Rattle.ql_eval.specs.Asks.{AskedByOut};
 ghost use Rattle.ql_eval.specs.Faults.{cause_of_evaluation};
 ghost use Rattle.ql_eval.specs.Questions.{NeededBy};
@@ -14,22 +14,23 @@ ghost use Rattle.ql_eval.specs.Written.{HasWritten};
 ghost use Rattle.ql_eval.specs.internal.Entries.{IsThere};
 ghost use Rattle.ql_eval.specs.internal.Links.{AreThere, IsObjectAsk};
 ghost use Rattle.ql_eval.specs.internal.Objects.{AreKnownThere, IsKnownThere};
-ghost use Rattle.ql_eval.specs.internal.Printing.{line_at, lines_at, name_line, name_lines};
+ghost use Rattle.ql_eval.specs.internal.Printing.{line_at, lines_at, name_lines};
 ghost use Rattle.ql_eval.specs.internal.Giving.{AllGiven};
 ghost use Rattle.tree_walk.specs.Uses.{nodes_around};
 
 use crate::fault::EvalFault;
 use crate::sink::Sink;
 use crate::source::Source;
-use opl_codec::{OutMode, append_reference, write_object};
-use osm_model::{Object, Ref};
+use osm_forms::Form;
+use osm_model::{Object, OutMode, Ref};
 use ref_sets::RefSet;
 use std::alloc::{AllocError, Global};
 
-/// Writes the first objects of a set, by kind and rising id, at most so many. By ids nothing is asked; in every other
+/// Writes the first objects of a set in a form, by kind and rising id, at most so many. By ids nothing is asked; in every other
 /// mode each object is asked of the source, `Absent` where one isn't there.
 pub(crate) fn print<W: Source, T: Sink>(
     alloc: Global,
+    form: Form,
     source: &mut W,
     refs: &RefSet,
     mode: OutMode,
@@ -47,16 +48,16 @@ pub(crate) fn print<W: Source, T: Sink>(
     ensures answer { (p : Publication) → IsPublication p → W.under source.old p
         → AreThere p.objects refs.now
         → Outcome cause_of_evaluation (λ _. HasWritten (T.stands sink.old) (T.stands sink.new)
-        (printed_of p.objects refs.now mode limit))
+        (printed_of_by (form_text form) p.objects refs.now mode limit))
         (NeededBy p (AskedByOut refs.now mode limit))
         (nodes_around W.holds W.used source.old source.new) result }
 {
     let first = first_of(refs.as_slice(), limit);
     if mode == OutMode::Ids {
-        print_names(alloc, first, sink)?;
+        print_names(alloc, form, first, sink)?;
         return Ok(());
     }
-    print_objects(alloc, source, first, mode, sink)
+    print_objects(alloc, form, source, first, mode, sink)
 }
 
 /// The first references, at most so many.
@@ -69,36 +70,46 @@ fn first_of(refs: &[Ref], limit: Option<u64>) -> &[Ref]
     }
 }
 
-/// Writes references, a line each.
-fn print_names<T: Sink>(alloc: Global, names: &[Ref], sink: &mut T) -> Result<(), AllocError>
+/// Writes objects by their references alone.
+fn print_names<T: Sink>(
+    alloc: Global,
+    form: Form,
+    names: &[Ref],
+    sink: &mut T,
+) -> Result<(), AllocError>
     ensures kept { T.kept sink.new ≡ T.kept sink.old }
     ensures wrote { (text : List ℕ) × HasWritten (T.stands sink.old) (T.stands sink.new) text }
     ensures written { OnOk result
-        (HasWritten (T.stands sink.old) (T.stands sink.new) (name_lines names.now)) }
+        (HasWritten (T.stands sink.old) (T.stands sink.new) (name_lines form names.now)) }
 {
     let mut line = Vec::new(alloc);
     for name in names {
-        put_name(*name, &mut line, sink)?;
+        put_name(form, *name, &mut line, sink)?;
     }
     Ok(())
 }
 
-/// Writes a reference as a line.
-fn put_name<T: Sink>(name: Ref, line: &mut Vec<u8>, sink: &mut T) -> Result<(), AllocError>
+/// Writes an object by its reference alone.
+fn put_name<T: Sink>(
+    form: Form,
+    name: Ref,
+    line: &mut Vec<u8>,
+    sink: &mut T,
+) -> Result<(), AllocError>
     ensures kept { T.kept sink.new ≡ T.kept sink.old }
     ensures wrote { (text : List ℕ) × HasWritten (T.stands sink.old) (T.stands sink.new) text }
     ensures written { OnOk result
-        (HasWritten (T.stands sink.old) (T.stands sink.new) (name_line name)) }
+        (HasWritten (T.stands sink.old) (T.stands sink.new) (form_name form name)) }
 {
     line.clear();
-    append_reference(name, line)?;
-    line.push(b'\n')?;
+    form.write_name(name, line)?;
     sink.put(line)
 }
 
 /// Writes the objects with some references.
 fn print_objects<W: Source, T: Sink>(
     alloc: Global,
+    form: Form,
     source: &mut W,
     names: &[Ref],
     mode: OutMode,
@@ -114,19 +125,20 @@ fn print_objects<W: Source, T: Sink>(
     ensures answer { (p : Publication) → IsPublication p → W.under source.old p
         → AreThere p.objects names.now
         → Outcome cause_of_evaluation (λ _. HasWritten (T.stands sink.old) (T.stands sink.new)
-        (lines_at p.objects mode names.now))
+        (lines_at form p.objects mode names.now))
         (NeededBy p (From names.now IsObjectAsk))
         (nodes_around W.holds W.used source.old source.new) result }
 {
     let mut line = Vec::new(alloc);
     for name in names {
-        print_object(source, *name, mode, &mut line, sink)?;
+        print_object(form, source, *name, mode, &mut line, sink)?;
     }
     Ok(())
 }
 
 /// Writes the object with a reference.
 fn print_object<W: Source, T: Sink>(
+    form: Form,
     source: &mut W,
     name: Ref,
     mode: OutMode,
@@ -143,14 +155,14 @@ fn print_object<W: Source, T: Sink>(
     ensures answer { (p : Publication) → IsPublication p → W.under source.old p
         → IsThere p.objects name
         → Outcome cause_of_evaluation
-        (λ _. HasWritten (T.stands sink.old) (T.stands sink.new) (line_at p.objects mode name))
+        (λ _. HasWritten (T.stands sink.old) (T.stands sink.new) (line_at form p.objects mode name))
         (NeededBy p (IsObjectAsk name))
         (nodes_around W.holds W.used source.old source.new) result }
 {
     source.look_up(name)?;
     match source.known(name) {
         Some(object) => {
-            put_object(object, mode, line, sink)?;
+            put_object(form, object, mode, line, sink)?;
             Ok(())
         }
         None => Err(EvalFault::Absent),
@@ -159,6 +171,7 @@ fn print_object<W: Source, T: Sink>(
 
 /// Writes the text of an object.
 fn put_object<T: Sink>(
+    form: Form,
     object: &Object,
     mode: OutMode,
     line: &mut Vec<u8>,
@@ -167,9 +180,9 @@ fn put_object<T: Sink>(
     ensures kept { T.kept sink.new ≡ T.kept sink.old }
     ensures wrote { (text : List ℕ) × HasWritten (T.stands sink.old) (T.stands sink.new) text }
     ensures written { OnOk result
-        (HasWritten (T.stands sink.old) (T.stands sink.new) (text_of object.now mode)) }
+        (HasWritten (T.stands sink.old) (T.stands sink.new) (form_text form object.now mode)) }
 {
     line.clear();
-    write_object(object, mode, line)?;
+    form.write_object(object, mode, line)?;
     sink.put(line)
 }

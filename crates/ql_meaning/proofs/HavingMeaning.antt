@@ -9,12 +9,13 @@ use Rattle.std.proofs.lemmas.List.Elements.{All-contains, All-from_recursion}
 use Rattle.osm_model.proofs.shared.References.{refs_total}
 use Rattle.osm_model.specs.Elements.{Element, ref_cmp, reference}
 use Rattle.osm_model.specs.declared.reference.Ref.{Ref}
+use Rattle.opl_codec.specs.Text.{text_of}
 use Rattle.ql_syntax.specs.Statements.{Statement, Statements, Select, Recurse, Item, Union, Minus, Print, End, Then}
 use Rattle.ql_meaning.proofs.Deciding.{Dec, dec_contains, dec_not, dec_reached, dec_ref, dec_selected}
 use Rattle.ref_sets.proofs.shared.Keeping.{set_as}
 use Rattle.ref_sets.proofs.shared.References.{same_reference}
 use Rattle.ref_sets.proofs.shared.Adding.{first_or_in_rest, here, in_rest, none}
-use Rattle.ql_meaning.specs.Meanings.{After, AfterAll, Means, Prints, Writes, given_by, told}
+use Rattle.ql_meaning.specs.Meanings.{After, AfterAll, Means, Means_by, Prints_by, Telling, Writes, given_by, told_by}
 use Rattle.ref_sets.specs.Sets.{IsSetOf}
 use Rattle.ref_sets.specs.NamedSets.{nothing_named, put, Env}
 use Rattle.ql_meaning.specs.Values.{IsReached, IsRefOf, IsSelected}
@@ -181,13 +182,16 @@ mutual
       let rest = all_after objects parts mid.0 in
       (rest.0, given_by part mid.0 ++ rest.1, (mid.0, rest.1, mid.1, rest.2, refl))
 
-prints_some : (objects : List Element) (statements : Statements) (env : Env) → (text : List ℕ) × Prints objects statements env text
-prints_some objects End env = ([], refl)
-prints_some objects (Then statement statements) env =
+prints_some : (tell : Telling) (objects : List Element) (statements : Statements) (env : Env) → (text : List ℕ) × Prints_by tell objects statements env text
+prints_some tell objects End env = ([], refl)
+prints_some tell objects (Then statement statements) env =
     let later = after_some objects statement env in
-    let rest = prints_some objects statements later.0 in
-    (told objects statement env ++ rest.0, (later.0, rest.0, later.1, rest.1, refl))
+    let rest = prints_some tell objects statements later.0 in
+    (told_by tell objects statement env ++ rest.0, (later.0, rest.0, later.1, rest.1, refl))
 
--- a query has a meaning
+-- a query has a meaning, however objects are told
+pub has_meaning_by : (tell : Telling) (objects : List Element) (statements : Statements) → (text : List ℕ) × Means_by tell objects statements text
+has_meaning_by tell objects statements = prints_some tell objects statements nothing_named
+
 pub has_meaning : (objects : List Element) (statements : Statements) → (text : List ℕ) × Means objects statements text
-has_meaning objects statements = prints_some objects statements nothing_named
+has_meaning = has_meaning_by text_of

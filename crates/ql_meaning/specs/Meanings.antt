@@ -29,22 +29,36 @@ abbrev pub cut : {A : Type 0} → Option ℕ → List A → List A
 cut None xs = xs
 cut (Some most) xs = take most xs
 
+-- how an object is told in a mode
+abbrev pub Telling : Type 0
+Telling = Element → OutMode → List ℕ
+
 -- the texts of these objects, one after the other
-abbrev pub printed : OutMode → List Element → List ℕ
-printed mode objects = flat_map (λ o. text_of o mode) objects
+abbrev pub printed_by : Telling → OutMode → List Element → List ℕ
+printed_by tell mode objects = flat_map (λ o. tell o mode) objects
 
 -- the objects of a set, in the order of the list, at most so many, each in this mode
-abbrev pub printed_of : List Element → List Ref → OutMode → Option ℕ → List ℕ
-printed_of objects refs mode limit = printed mode (cut limit (filter (λ o. is_in refs o) objects))
+abbrev pub printed_of_by : Telling → List Element → List Ref → OutMode → Option ℕ → List ℕ
+printed_of_by tell objects refs mode limit = printed_by tell mode (cut limit (filter (λ o. is_in refs o) objects))
 
 -- what a statement prints: nothing but where it is an out
+abbrev pub told_by : Telling → List Element → Statement → Env → List ℕ
+told_by tell objects (Select pick filters into) env = []
+told_by tell objects (Recurse start how into) env = []
+told_by tell objects (Item start into) env = []
+told_by tell objects (Union parts into) env = []
+told_by tell objects (Minus left right into) env = []
+told_by tell objects (Print start mode limit) env = printed_of_by tell objects (env start) mode limit
+
+-- the same in OPL
+abbrev pub printed : OutMode → List Element → List ℕ
+printed mode objects = printed_by text_of mode objects
+
+abbrev pub printed_of : List Element → List Ref → OutMode → Option ℕ → List ℕ
+printed_of objects refs mode limit = printed_of_by text_of objects refs mode limit
+
 abbrev pub told : List Element → Statement → Env → List ℕ
-told objects (Select pick filters into) env = []
-told objects (Recurse start how into) env = []
-told objects (Item start into) env = []
-told objects (Union parts into) env = []
-told objects (Minus left right into) env = []
-told objects (Print start mode limit) env = printed_of objects (env start) mode limit
+told objects statement env = told_by text_of objects statement env
 
 -- ---- statements
 
@@ -78,11 +92,18 @@ abbrev mutual
 -- ---- queries
 
 -- the text is what these statements print, one after the other
-abbrev pub Prints : List Element → Statements → Env → List ℕ → Type 0
-Prints objects End env text = text ≡ []
-Prints objects (Then statement statements) env text =
-    (later : Env) × (more : List ℕ) × After objects statement env later × Prints objects statements later more × (text ≡ told objects statement env ++ more)
+abbrev pub Prints_by : Telling → List Element → Statements → Env → List ℕ → Type 0
+Prints_by tell objects End env text = text ≡ []
+Prints_by tell objects (Then statement statements) env text =
+    (later : Env) × (more : List ℕ) × After objects statement env later × Prints_by tell objects statements later more × (text ≡ told_by tell objects statement env ++ more)
 
--- the text is the meaning of the query over these objects
+-- the text is the meaning of the query over these objects, told so
+abbrev pub Means_by : Telling → List Element → Statements → List ℕ → Type 0
+Means_by tell objects statements text = Prints_by tell objects statements nothing_named text
+
+-- the same in OPL
+abbrev pub Prints : List Element → Statements → Env → List ℕ → Type 0
+Prints objects statements env text = Prints_by text_of objects statements env text
+
 abbrev pub Means : List Element → Statements → List ℕ → Type 0
-Means objects statements text = Prints objects statements nothing_named text
+Means objects statements text = Means_by text_of objects statements text

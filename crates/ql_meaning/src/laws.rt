@@ -10,7 +10,7 @@ ghost use Rattle.osm_model.specs.declared.reference.Ref.{Ref};
 ghost use Rattle.ql_syntax.specs.Filters.{Filter};
 ghost use Rattle.ql_syntax.specs.Statements.{Statements};
 ghost use Rattle.ql_syntax.specs.declared.pick.Pick.TheVariants as picks;
-ghost use Rattle.ql_meaning.specs.Meanings.{Means, cut, is_in, printed_of};
+ghost use Rattle.ql_meaning.specs.Meanings.{Means, Means_by, Telling, cut, is_in, printed_of};
 ghost use Rattle.ref_sets.specs.NamedSets.{Env};
 ghost use Rattle.ql_meaning.specs.Values.{IsChain, IsParent, IsSelected};
 
@@ -19,6 +19,13 @@ pub fn one_meaning()
     ensures { (objects : List Element) (statements : Statements) (first second : List ℕ)
         → IsObjectSet objects → Means objects statements first → Means objects statements second
         → first ≡ second }
+{}
+
+/// A law: however objects are told, a query means one text over a set of them.
+pub fn one_meaning_by()
+    ensures { (tell : Telling) (objects : List Element) (statements : Statements)
+        (first second : List ℕ) → IsObjectSet objects → Means_by tell objects statements first
+        → Means_by tell objects statements second → first ≡ second }
 {}
 
 /// A law: `nwr` takes just what `node`, `way` and `rel` with the same filters take together.
@@ -63,4 +70,10 @@ pub fn order_is_no_matter()
 pub fn has_meaning()
     ensures { (objects : List Element) (statements : Statements) → (text : List ℕ)
         × Means objects statements text }
+{}
+
+/// A law: and so it has a meaning, however objects are told.
+pub fn has_meaning_by()
+    ensures { (tell : Telling) (objects : List Element) (statements : Statements)
+        → (text : List ℕ) × Means_by tell objects statements text }
 {}

@@ -21,7 +21,7 @@ use Rattle.ql_syntax.specs.Statements.{Statement, Statements, Select, Recurse, I
 use Rattle.ql_syntax.specs.declared.pick.Pick.TheVariants as picks
 use Rattle.ref_sets.proofs.shared.Adding.{in_rest, first_or_in_rest, here, none}
 use Rattle.ref_sets.proofs.shared.Mapped.{contains_mapped}
-use Rattle.ql_meaning.specs.Meanings.{After, AfterAll, Means, Prints, cut, given_by, is_in, printed_of, told}
+use Rattle.ql_meaning.specs.Meanings.{After, AfterAll, Means, Means_by, Prints_by, Telling, cut, given_by, is_in, printed_of, told_by}
 use Rattle.ref_sets.specs.Sets.{IsSetOf}
 use Rattle.ref_sets.specs.NamedSets.{nothing_named, put, Env}
 use Rattle.ql_meaning.specs.Values.{IsSelected, Passes}
@@ -93,15 +93,18 @@ mutual
       let rest = all_once objects parts q.0 a b p.1 q.1 (subst (λ (m : Env). AfterAll objects parts m a p.1) mid p.3) q.3 in
       (rest.0, p.4 ∙ ap (λ (m : Env). given_by part m ++ p.1) mid ∙ ap (λ (zs : List Ref). given_by part q.0 ++ zs) rest.1 ∙ sym q.4)
 
-pub prints_once : (objects : List Element) (statements : Statements) (env : Env) (a b : List ℕ) → Prints objects statements env a → Prints objects statements env b → a ≡ b
-prints_once objects End env a b p q = p ∙ sym q
-prints_once objects (Then statement statements) env a b p q =
+pub prints_once : (tell : Telling) (objects : List Element) (statements : Statements) (env : Env) (a b : List ℕ) → Prints_by tell objects statements env a → Prints_by tell objects statements env b → a ≡ b
+prints_once tell objects End env a b p q = p ∙ sym q
+prints_once tell objects (Then statement statements) env a b p q =
     let later : p.0 ≡ q.0 = after_once objects statement env p.0 q.0 p.2 q.2 in
-    let rest : p.1 ≡ q.1 = prints_once objects statements q.0 p.1 q.1 (subst (λ (m : Env). Prints objects statements m p.1) later p.3) q.3 in
-    p.4 ∙ ap (λ (bytes : List ℕ). told objects statement env ++ bytes) rest ∙ sym q.4
+    let rest : p.1 ≡ q.1 = prints_once tell objects statements q.0 p.1 q.1 (subst (λ (m : Env). Prints_by tell objects statements m p.1) later p.3) q.3 in
+    p.4 ∙ ap (λ (bytes : List ℕ). told_by tell objects statement env ++ bytes) rest ∙ sym q.4
+
+pub one_meaning_by : (tell : Telling) (objects : List Element) (statements : Statements) (first second : List ℕ) → IsObjectSet objects → Means_by tell objects statements first → Means_by tell objects statements second → first ≡ second
+one_meaning_by tell objects statements first second set a b = prints_once tell objects statements nothing_named first second a b
 
 pub one_meaning : (objects : List Element) (statements : Statements) (first second : List ℕ) → IsObjectSet objects → Means objects statements first → Means objects statements second → first ≡ second
-one_meaning objects statements first second set a b = prints_once objects statements nothing_named first second a b
+one_meaning = one_meaning_by text_of
 
 -- ---- kinds
 

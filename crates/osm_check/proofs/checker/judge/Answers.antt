@@ -11,13 +11,14 @@ use Rattle.osm_check.proofs.Reports.{report_is}
 use Rattle.osm_check.proofs.checker.judge.Goals.{in-Some, in-None}
 use Rattle.osm_check.proofs.checker.judge.Goals as goal
 
-pub returns-in-Err : goal.returns-in-Err
-returns-in-Err c =
+pub returns-in_ok-stopped-in-Err : goal.returns-in_ok-stopped-in-Err
+returns-in_ok-stopped-in-Err c =
     let after = c.evaluate.new.shelf in
     let listed = listed_in c.args.parts.items c.in_ok-bag.bag after c.in_ok-bag.ensures.holds c.in-Err.ensures.stays in
-    stopped_judged c.args.root.now.0 (statements_of c.args.query.now) c.args.answer.now (nodes_of c.args.parts.items) c.in-Err.fault c.stopped.result c.stopped.ensures
-    (λ why of p is root. refused p (statements_of c.args.query.now) c.args.answer.now (nodes_of c.args.parts.items) (BagHolds after) (BagUsed c.in_ok-bag.bag) (BagUsed after)
-    listed c.in_ok-bag.ensures.unused (λ x used. marked_held after.parts.items after.marks.items x used) c.in-Err.fault why of (c.in-Err.ensures.answer p is root))
+    let of = c.in_ok-stopped-in-Err.ensures in
+    stopped_judged c.args.root.now.0 (statements_of c.args.query.now) c.args.answer.now (nodes_of c.args.parts.items) c.in-Err.fault _ of
+    (λ p is root. refused p (statements_of c.args.query.now) c.args.answer.now (nodes_of c.args.parts.items) (BagHolds after) (BagUsed c.in_ok-bag.bag) (BagUsed after)
+    listed c.in_ok-bag.ensures.unused (λ x used. marked_held after.parts.items after.marks.items x used) c.in-Err.fault _ of (c.in-Err.ensures.answer p is root))
 
 pub returns-then-not-all_used : goal.returns-then-not-all_used
 returns-then-not-all_used c =

@@ -3,6 +3,7 @@ use Rattle.tree_node.proofs.shared.OutcomeLaws.{uses}
 use Rattle.ql_eval.specs.internal.Giving.{AllSetsGiven}
 use Rattle.osm_keys.specs.Publications.{IsPublication, Publication}
 use Rattle.ql_syntax.specs.LawfulQueries.{IsQuery}
+use Rattle.osm_forms.specs.Forms.{form_text}
 use Rattle.ql_syntax.specs.StatementViews.{statements_of}
 use Rattle.ref_sets.specs.NamedSets.{lists_of}
 use Rattle.ql_eval.specs.Written.{HasWritten}
@@ -17,6 +18,6 @@ invariant-loop-statement g l = record {
   wrote : (text : List ℕ) × HasWritten (g.T.Sink.stands l.fn.sink) (g.T.Sink.stands l.sink) text;
   named : AllSetsGiven (g.W.Source.gave l.source) (lists_of l.sets.named.items);
   answer : (p : Publication) → IsPublication p → g.W.Source.under l.fn.source p → IsQuery (statements_of l.statements)
-      → HasAnswered p l.statements l.statement-index (lists_of l.sets.named.items) (g.T.Sink.stands l.fn.sink) (g.T.Sink.stands l.sink)
+      → HasAnswered (form_text l.form) p l.statements l.statement-index (lists_of l.sets.named.items) (g.T.Sink.stands l.fn.sink) (g.T.Sink.stands l.sink)
       (uses (g.W.Source.holds l.source) (g.W.Source.used l.fn.source) (g.W.Source.used l.source));
 }

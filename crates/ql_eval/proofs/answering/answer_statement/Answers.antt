@@ -3,7 +3,8 @@ use Rattle.osm_model.specs.declared.reference.Ref.{Ref}
 use Rattle.tree_node.proofs.shared.OutcomeLaws.{outcome_same}
 use Rattle.ql_syntax.specs.StatementViews.{statement_of}
 use Rattle.ql_syntax.specs.declared.statement.Stmt.{Stmt}
-use Rattle.ql_meaning.specs.Meanings.{After, printed_of, told}
+use Rattle.osm_forms.specs.Forms.{form_text}
+use Rattle.ql_meaning.specs.Meanings.{After, printed_of_by, told_by}
 use Rattle.ref_sets.specs.NamedSets.{lists_of}
 use Rattle.ql_eval.specs.Asks.{AskedBy, AskedByOut}
 use Rattle.ql_eval.specs.Written.{HasWritten}
@@ -28,8 +29,8 @@ returns-in-Print-clause-answer g c = λ p is under there top.
     (λ value so. needed_as (λ ask asked. subst (λ (rs : List Ref). AskedByOut rs out.mode out.limit ask) (sym refs) (subst (λ (s : Stmt). AskedBy p (statement_of s) env ask) c.in-Print.is asked)))
     (λ value so. (
       subst (λ (s : Stmt). After p.objects (statement_of s) env env) (sym c.in-Print.is) refl,
-      subst (λ (s : Stmt). HasWritten (g.T.Sink.stands c.args.sink.now) (g.T.Sink.stands c.print.new.sink) (told p.objects (statement_of s) env)) (sym c.in-Print.is)
-          (subst (λ (rs : List Ref). HasWritten (g.T.Sink.stands c.args.sink.now) (g.T.Sink.stands c.print.new.sink) (printed_of p.objects rs out.mode out.limit)) refs so),
+      subst (λ (s : Stmt). HasWritten (g.T.Sink.stands c.args.sink.now) (g.T.Sink.stands c.print.new.sink) (told_by (form_text c.args.form) p.objects (statement_of s) env)) (sym c.in-Print.is)
+          (subst (λ (rs : List Ref). HasWritten (g.T.Sink.stands c.args.sink.now) (g.T.Sink.stands c.print.new.sink) (printed_of_by (form_text c.args.form) p.objects rs out.mode out.limit)) refs so),
     ))
     (c.print.ensures.answer p is under (subst (λ (rs : List Ref). AreThere p.objects rs) (sym refs) (there out.from)))
 
@@ -46,7 +47,7 @@ returns-in_default g c = record {
       let env = lists_of c.args.sets.now.named.items in
       let can : CanRun statement = elim (top_lawful statement top) [ inl can ↦ can | inr out ↦ absurd (no_out c.args.statement.now c.in_default.not-Print out) ] in
       outcome_same (λ x needs. needs) (λ value so x needs. needs)
-      (λ value so. (so, subst (λ (text : List ℕ). HasWritten (g.T.Sink.stands c.args.sink.now) (g.T.Sink.stands c.args.sink.now) text) (sym (told_nothing p.objects statement env can)) written_none))
+      (λ value so. (so, subst (λ (text : List ℕ). HasWritten (g.T.Sink.stands c.args.sink.now) (g.T.Sink.stands c.args.sink.now) text) (sym (told_nothing (form_text c.args.form) p.objects statement env can)) written_none))
       (c.run.ensures.answer p is under there can);
 }
 

@@ -3,7 +3,8 @@ use Rattle.tree_node.proofs.shared.OutcomeLaws.{honest, outcome_stops, outcome_t
 use Rattle.ql_syntax.specs.LawfulQueries.{IsQuery}
 use Rattle.ql_syntax.specs.StatementViews.{statements_of}
 use Rattle.ql_syntax.specs.declared.statement.Stmt.{Stmt}
-use Rattle.ql_meaning.specs.Meanings.{Means}
+use Rattle.osm_forms.specs.Forms.{form_text}
+use Rattle.ql_meaning.specs.Meanings.{Means_by}
 use Rattle.ref_sets.specs.NamedSets.{nothing_named}
 use Rattle.ql_eval.specs.Asks.{AskedByAll}
 use Rattle.osm_keys.specs.Manifests.{top_among}
@@ -14,7 +15,7 @@ use Rattle.ql_eval.specs.TrueFaults.{IsTrueFault}
 use Rattle.ql_eval.proofs.Openings.{opening_cause}
 use Rattle.ql_eval.proofs.StepLemmas.{refused_as}
 use Rattle.ql_eval.proofs.ToldLemmas.{opening_told, told_under}
-use Rattle.ql_eval.proofs.evaluation.evaluate.Goals as goal
+use Rattle.ql_eval.proofs.evaluation.evaluate_in.Goals as goal
 
 pub returns-in-Ok-clause-answer : goal.returns-in-Ok-clause-answer
 returns-in-Ok-clause-answer g c = λ p is root.
@@ -22,7 +23,7 @@ returns-in-Ok-clause-answer g c = λ p is root.
     outcome_then c.run_over.ensures.grows (λ x needs. inl needs)
     (λ so x needs. inr (subst (λ (ss : List Stmt). NeededBy p (AskedByAll p (statements_of ss) nothing_named) x) same needs))
     (λ so one x needs. elim needs [ inl top ↦ inl top | inr asked ↦ inr (subst (λ (ss : List Stmt). NeededBy p (AskedByAll p (statements_of ss) nothing_named) x) (sym same) asked) ])
-    (λ so one. (one.0, subst (λ (ss : List Stmt). Means p.objects (statements_of ss) one.0) same one.1, one.2))
+    (λ so one. (one.0, subst (λ (ss : List Stmt). Means_by (form_text c.args.form) p.objects (statements_of ss) one.0) same one.1, one.2))
     (c.in_ok-manifest.ensures.answer p root) (λ so. c.in-Ok.ensures.answer p is so (subst (λ (ss : List Stmt). IsQuery (statements_of ss)) (sym c.stmts-statements.ensures.statements) c.stmts-statements.ensures.kept))
 
 pub returns-in-Err-clause-answer : goal.returns-in-Err-clause-answer

@@ -2,7 +2,8 @@ use Rattle.std.proofs.Common.{ℕ, List, rules, subst}
 use Rattle.tree_node.specs.Outcomes.{Outcome}
 use Rattle.tree_node.proofs.shared.OutcomeLaws.{uses}
 use Rattle.ql_syntax.specs.StatementViews.{statements_of}
-use Rattle.ql_meaning.specs.Meanings.{Means}
+use Rattle.osm_forms.specs.Forms.{form_text}
+use Rattle.ql_meaning.specs.Meanings.{Means_by}
 use Rattle.ref_sets.specs.NamedSets.{nothing_named}
 use Rattle.ql_eval.specs.Asks.{AskedByAll}
 use Rattle.ql_eval.specs.Faults.{cause_of_evaluation}
@@ -14,7 +15,7 @@ use Rattle.ql_eval.proofs.evaluation.run_over.Goals as goal
 pub returns-clause-answer : goal.returns-clause-answer
 returns-clause-answer g c = λ p is under query.
     subst
-    (λ s. Outcome cause_of_evaluation (λ (_ : Unit {0}). (text : List ℕ) × Means p.objects (statements_of c.args.statements.now) text × HasWritten (g.T.Sink.stands c.args.sink.now) (g.T.Sink.stands c.answer_all-ran.new.sink) text)
+    (λ s. Outcome cause_of_evaluation (λ (_ : Unit {0}). (text : List ℕ) × Means_by (form_text c.args.form) p.objects (statements_of c.args.statements.now) text × HasWritten (g.T.Sink.stands c.args.sink.now) (g.T.Sink.stands c.answer_all-ran.new.sink) text)
     (NeededBy p (AskedByAll p (statements_of c.args.statements.now) nothing_named)) (uses (g.S.Shelf.holds s) (g.S.Shelf.used c.args.shelf.now) (g.S.Shelf.used s)) c.answer_all-ran.result)
     (search rules)
     (c.answer_all-ran.ensures.answer p is (under, none_remembered p _ c.new-objects.result c.new-objects.ensures.empty) query)

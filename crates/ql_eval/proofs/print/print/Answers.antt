@@ -4,7 +4,8 @@ use Rattle.osm_model.specs.declared.out_mode.OutMode.{OutMode}
 use Rattle.osm_model.specs.declared.out_mode.OutMode.TheVariants as modes
 use Rattle.tree_node.proofs.shared.OutcomeLaws.{outcome_same, outcome_starts}
 use Rattle.ref_sets.specs.Adding.{From}
-use Rattle.ql_meaning.specs.Meanings.{cut, printed_of}
+use Rattle.osm_forms.specs.Forms.{form_text}
+use Rattle.ql_meaning.specs.Meanings.{cut, printed_of_by}
 use Rattle.ql_eval.specs.Asks.{AskedByOut}
 use Rattle.ql_eval.specs.Written.{HasWritten}
 use Rattle.ql_eval.specs.internal.Links.{AreThere, IsObjectAsk}
@@ -21,8 +22,8 @@ returns-then-eq-clause-answer g c = λ p is under there.
     let limit = c.args.limit in
     let first = c.first_of-first.ensures ∙ ap (cut limit) c.as_slice.ensures.value in
     let ids : c.args.mode ≡ modes.Ids = search rules in
-    let text : name_lines c.first_of-first.result.now ≡ printed_of p.objects refs c.args.mode limit =
-    ap name_lines first ∙ printed_names p.objects refs limit is.set c.as_slice.ensures.rising there ∙ ap (λ (m : OutMode). printed_of p.objects refs m limit) (sym ids) in
+    let text : name_lines c.args.form c.first_of-first.result.now ≡ printed_of_by (form_text c.args.form) p.objects refs c.args.mode limit =
+    ap (name_lines c.args.form) first ∙ printed_names c.args.form p.objects refs limit is.set c.as_slice.ensures.rising there ∙ ap (λ (m : OutMode). printed_of_by (form_text c.args.form) p.objects refs m limit) (sym ids) in
     outcome_starts (subst (λ (bytes : List ℕ). HasWritten (g.T.Sink.stands c.args.sink.now) (g.T.Sink.stands c.print_names.new.sink) bytes) text c.in_ok-print_names.ensures.written)
     (λ x needs. subst (λ (m : OutMode). AskedByOut refs m limit needs.ask) ids needs.asked)
 
@@ -33,7 +34,7 @@ returns-clause-answer g c = λ p is under there.
     let limit = c.args.limit in
     let first = c.first_of-first.ensures ∙ ap (cut limit) c.as_slice.ensures.value in
     let other : mode ≢ modes.Ids = search rules in
-    let text : lines_at p.objects mode c.first_of-first.result.now ≡ printed_of p.objects refs mode limit = ap (lines_at p.objects mode) first ∙ printed_objects p.objects refs mode limit is.set c.as_slice.ensures.rising there in
+    let text : lines_at c.args.form p.objects mode c.first_of-first.result.now ≡ printed_of_by (form_text c.args.form) p.objects refs mode limit = ap (lines_at c.args.form p.objects mode) first ∙ printed_objects c.args.form p.objects refs mode limit is.set c.as_slice.ensures.rising there in
     outcome_same
     (needed_as (λ ask asked. asks_out refs mode limit other ask (subst (λ (rs : List Ref). From rs IsObjectAsk ask) first asked)))
     (λ value so. needed_as (λ ask asked. subst (λ (rs : List Ref). From rs IsObjectAsk ask) (sym first) (out_asks refs mode limit other ask asked)))

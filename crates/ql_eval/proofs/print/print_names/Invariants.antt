@@ -6,5 +6,5 @@ use Rattle.ql_eval.proofs.print.print_names.Given as goal
 abbrev pub invariant-loop-name : goal.invariant-loop-name
 invariant-loop-name g l = record {
   kept : g.T.Sink.kept l.sink ≡ g.T.Sink.kept l.fn.sink;
-  written : HasWritten (g.T.Sink.stands l.fn.sink) (g.T.Sink.stands l.sink) (name_lines (take l.name-index l.names));
+  written : HasWritten (g.T.Sink.stands l.fn.sink) (g.T.Sink.stands l.sink) (name_lines l.form (take l.name-index l.names));
 }

@@ -13,7 +13,7 @@ use Rattle.ql_eval.proofs.print.print_object.Goals as goal
 pub returns-in_ok-put_object-in-Some-clause-answer : goal.returns-in_ok-put_object-in-Some-clause-answer
 returns-in_ok-put_object-in-Some-clause-answer g c = λ p is under there.
     outcome_as (needed_one (object_ask c.args.name) refl) (λ so. one_needed (object_ask c.args.name))
-    (λ so. subst (λ (o : Option Element). HasWritten (g.T.Sink.stands c.args.sink.now) (g.T.Sink.stands c.put_object.new.sink) (line_of c.args.mode o)) (sym (ap option_copied c.in-Some.is) ∙ c.known.ensures _ so) c.in_ok-put_object-in-Some.ensures.written)
+    (λ so. subst (λ (o : Option Element). HasWritten (g.T.Sink.stands c.args.sink.now) (g.T.Sink.stands c.put_object.new.sink) (line_of c.args.form c.args.mode o)) (sym (ap option_copied c.in-Some.is) ∙ c.known.ensures _ so) c.in_ok-put_object-in-Some.ensures.written)
     (c.in_ok-look_up.ensures.answer p is under)
 
 pub returns-in-None-clause-answer : goal.returns-in-None-clause-answer
