@@ -1,7 +1,0 @@
-//! Tests of mirror_reply.
-//!
-//! They are a crate of their own because a crate that has tests is proved twice, with them and without.
-#![tactic(auto)]
-
-#[cfg(test)]
-mod tests;
