@@ -14,7 +14,9 @@ from contextlib import contextmanager
 from pathlib import Path
 
 NAMES = ("chromium", "chromium-browser", "google-chrome")
-SECONDS = 60
+# For one call, and for the start: machines may be busy.
+SECONDS = 120
+STARTING_SECONDS = 300
 
 
 def program():
@@ -175,7 +177,7 @@ def browser(path, *words):
 
 def page_address(file, running):
     """The address at which the browser's page takes calls."""
-    end = time.monotonic() + SECONDS
+    end = time.monotonic() + STARTING_SECONDS
     while time.monotonic() < end and running.poll() is None:
         if file.exists() and len(lines := file.read_text().splitlines()) >= 2:
             with urllib.request.urlopen(f"http://127.0.0.1:{lines[0]}/json/list", timeout=SECONDS) as response:
