@@ -15,7 +15,10 @@ const FORMATS: [(&str, Option<Format>); 22] = [
     // of several the last
     ("[out:json][out:xml];", Some(Format::Xml)),
     ("[out:xml][out:json];", Some(Format::Json)),
-    ("[out:json][timeout:5][out:xml][maxsize:9];", Some(Format::Xml)),
+    (
+        "[out:json][timeout:5][out:xml][maxsize:9];",
+        Some(Format::Xml),
+    ),
     // blanks and comments
     (" /* a */ [ out : xml ] ;", Some(Format::Xml)),
     ("// [out:json];\nnode;", None),
