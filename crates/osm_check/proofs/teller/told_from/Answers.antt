@@ -15,23 +15,27 @@ pub returns-in_ok-stopped-in-Err : goal.returns-in_ok-stopped-in-Err
 returns-in_ok-stopped-in-Err c =
     let after = c.evaluate_in.new.shelf in
     let listed = listed_in c.args.parts.items c.in_ok-bag.bag after c.in_ok-bag.ensures.holds c.in-Err.ensures.stays in
-    let of = c.in_ok-stopped-in-Err.ensures in
-    (why_of_no_answer c.in-Err.fault _ of, λ answer.
-    stopped_judged c.args.root.now.0 (statements_of c.args.query.now) answer (nodes_of c.args.parts.items) c.in-Err.fault _ of
-    (λ p is root. refused p (statements_of c.args.query.now) answer (nodes_of c.args.parts.items) (BagHolds after) (BagUsed c.in_ok-bag.bag) (BagUsed after)
-    listed c.in_ok-bag.ensures.unused (λ x used. marked_held after.parts.items after.marks.items x used) c.in-Err.fault _ of (c.in-Err.ensures.answer p is root)))
+    let of = c.in_ok-stopped-in-Err.ensures in (
+      why_of_no_answer c.in-Err.fault _ of,
+      λ answer.
+          stopped_judged c.args.root.now.0 (statements_of c.args.query.now) answer (nodes_of c.args.parts.items) c.in-Err.fault _ of
+          (λ p is root. refused p (statements_of c.args.query.now) answer (nodes_of c.args.parts.items) (BagHolds after) (BagUsed c.in_ok-bag.bag) (BagUsed after)
+          listed c.in_ok-bag.ensures.unused (λ x used. marked_held after.parts.items after.marks.items x used) c.in-Err.fault _ of (c.in-Err.ensures.answer p is root)),
+    )
 
 pub returns-then-not-all_used : goal.returns-then-not-all_used
 returns-then-not-all_used c =
     let after = c.evaluate_in.new.shelf in
     let listed = listed_in c.args.parts.items c.in_ok-bag.bag after c.in_ok-bag.ensures.holds c.in-Ok.ensures.stays in
-    let unused = c.all_used.ensures.unused c.if-not-all_used.true in
-    (tt, λ answer. record {
-      inside = tt;
-      reported = tt;
-      tells = λ p is root. one_unused p (statements_of c.args.query.now) answer (nodes_of c.args.parts.items) (BagHolds after) (BagUsed c.in_ok-bag.bag) (BagUsed after)
-          listed c.in_ok-bag.ensures.unused (λ x used. marked_held after.parts.items after.marks.items x used) c.in-Ok.report (c.in-Ok.ensures.answer p is root) unused.0 unused.1 unused.2;
-    })
+    let unused = c.all_used.ensures.unused c.if-not-all_used.true in (
+      tt,
+      λ answer. record {
+        inside = tt;
+        reported = tt;
+        tells = λ p is root. one_unused p (statements_of c.args.query.now) answer (nodes_of c.args.parts.items) (BagHolds after) (BagUsed c.in_ok-bag.bag) (BagUsed after)
+            listed c.in_ok-bag.ensures.unused (λ x used. marked_held after.parts.items after.marks.items x used) c.in-Ok.report (c.in-Ok.ensures.answer p is root) unused.0 unused.1 unused.2;
+      },
+    )
 
 pub returns : goal.returns
 returns c =
@@ -40,14 +44,13 @@ returns c =
     let statements = statements_of c.args.query.now in
     let listed = listed_in c.args.parts.items c.in_ok-bag.bag after c.in_ok-bag.ensures.holds c.in-Ok.ensures.stays in
     let all = c.all_used.ensures.used.0 c.if-not-all_used.false in
-    let walked = c.in-Ok.ensures.report in
-    (
+    let walked = c.in-Ok.ensures.report in (
       report_is nodes c.in-Ok.report walked.0 (BagHolds after) (BagUsed c.in_ok-bag.bag) (BagUsed after) c.requires.fit (nodes_rise c.args.parts.items c.requires.rising) listed c.in_ok-bag.ensures.unused walked.1 all walked.3,
       λ p is root. elim (all_used p statements [] nodes (BagHolds after) (BagUsed c.in_ok-bag.bag) (BagUsed after) listed c.in_ok-bag.ensures.unused (λ x used. marked_held after.parts.items after.marks.items x used)
           c.in-Ok.report (c.in-Ok.ensures.answer p is root) all) [
-        | inl (just, (text, means, written)) ↦
-            (let same : c.evaluate_in.new.sink.items ≡ text = written.all [] c.new-text.ensures.items in
-            inl (just, subst (λ (bytes : List ℕ). Means_by (form_text c.args.form) p.objects statements bytes) (sym same) means))
-        | inr clash ↦ inr clash
-      ],
+            | inl (just, (text, means, written)) ↦
+                (let same : c.evaluate_in.new.sink.items ≡ text = written.all [] c.new-text.ensures.items in
+                inl (just, subst (λ (bytes : List ℕ). Means_by (form_text c.args.form) p.objects statements bytes) (sym same) means))
+            | inr clash ↦ inr clash
+          ],
     )
