@@ -43,5 +43,5 @@ loop-statement-init g c = record {
   kept = refl;
   wrote = ([], written_none);
   named = nothing_given _ (lists_of c.new-sets.result.named.items) c.new-sets.ensures;
-  answer = λ p is under query. answered_none p c.args.statements.now c.new-sets.ensures;
+  answer = λ p is under query. answered_none (form_text c.args.form) p c.args.statements.now c.new-sets.ensures;
 }
