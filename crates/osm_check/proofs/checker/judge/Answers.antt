@@ -11,8 +11,8 @@ use Rattle.osm_check.proofs.Reports.{report_is}
 use Rattle.osm_check.proofs.checker.judge.Goals.{in-Some, in-None}
 use Rattle.osm_check.proofs.checker.judge.Goals as goal
 
-pub returns-in_ok-stopped-in-Err : goal.returns-in_ok-stopped-in-Err
-returns-in_ok-stopped-in-Err c =
+pub returns-in-Err : goal.returns-in-Err
+returns-in-Err c =
     let after = c.evaluate.new.shelf in
     let listed = listed_in c.args.parts.items c.in_ok-bag.bag after c.in_ok-bag.ensures.holds c.in-Err.ensures.stays in
     let of = c.in_ok-stopped-in-Err.ensures in
