@@ -30,15 +30,7 @@ INSTALLED = {
     "share/doc/osm-mirror/examples/four-objects.opl": 0o644,
     "share/doc/osm-mirror/examples/nginx.conf": 0o644,
     "share/man/man1/osm_mirror.1": 0o644,
-    "share/osm_mirror/web/index.html": 0o644,
-    "share/osm_mirror/web/style.css": 0o644,
-    "share/osm_mirror/web/icon.svg": 0o644,
-    "share/osm_mirror/web/out/osm_check.wasm": 0o644,
-} | {f"share/osm_mirror/web/{file.name}": 0o644 for file in (TOP / "web").glob("*.js")}
-
-# web/build makes it only where it can.
-if shutil.which("wasm-opt"):
-    INSTALLED["share/osm_mirror/web/out/osm_check_32.wasm"] = 0o644
+}
 
 # A package has these otherwise: pages are compressed, and the licence has a place of its own.
 PACKAGED = {
