@@ -1,7 +1,7 @@
 //! Dials that a test plays.
 
 use super::rows::{BODY, LIMIT, response};
-use mirror_reply::{Dial, FetchFault, Receipt, Reply, ReplyFault, fetch_reply};
+use mirror_reply::{Dial, FetchFault, Receipt, Reply, ReplyFault, fetch_reply, is_host};
 use std::alloc::Global;
 use std::test::Fail;
 
@@ -70,11 +70,13 @@ const HEAD: &[u8] = b"HTTP/1.1 200 OK\r\nContent-Length: 48\r\n\r\n";
 
 #[test]
 fn fetches(rt: HostRuntime) -> Result<(), Fail> {
+    let host = "mirror";
+    assert!(rt; is_host(host));
     let bytes = response(rt.alloc(), HEAD, BODY)?;
     for at_once in [1, 7, 1000] {
         let mut dial = FakeDial::new(rt.alloc(), &bytes, at_once, 0);
         let mut reply = Reply::new(rt.alloc(), LIMIT);
-        fetch_reply(rt.alloc(), &mut dial, "mirror", b"out;", &mut reply)?;
+        fetch_reply(rt.alloc(), &mut dial, host, b"out;", &mut reply)?;
         assert_eq!(rt;
             dial.sent.as_slice(),
             b"POST /api/checked HTTP/1.1\r\nHost: mirror\r\nConnection: close\r\nContent-Type: text/plain; charset=utf-8\r\nContent-Length: 4\r\n\r\nout;".as_slice()
@@ -89,11 +91,13 @@ fn fetches(rt: HostRuntime) -> Result<(), Fail> {
 /// 87 bytes of the response.
 #[test]
 fn each_call_fails(rt: HostRuntime) -> Result<(), Fail> {
+    let host = "mirror";
+    assert!(rt; is_host(host));
     let bytes = response(rt.alloc(), HEAD, BODY)?;
     for call in 1..29 {
         let mut dial = FakeDial::new(rt.alloc(), &bytes, 8, call);
         let mut reply = Reply::new(rt.alloc(), LIMIT);
-        let result = fetch_reply(rt.alloc(), &mut dial, "mirror", b"out;", &mut reply);
+        let result = fetch_reply(rt.alloc(), &mut dial, host, b"out;", &mut reply);
         let fault = if call == 1 {
             FetchFault::Unreached
         } else {
@@ -131,10 +135,12 @@ fn no_reply(rt: HostRuntime) -> Result<(), Fail> {
         ),
         (HEAD, 0, FetchFault::Silent, b"".as_slice()),
     ];
+    let host = "mirror";
+    assert!(rt; is_host(host));
     for (bytes, at_once, fault, text) in rows {
         let mut dial = FakeDial::new(rt.alloc(), bytes, at_once, 0);
         let mut reply = Reply::new(rt.alloc(), LIMIT);
-        let result = fetch_reply(rt.alloc(), &mut dial, "mirror", b"out;", &mut reply);
+        let result = fetch_reply(rt.alloc(), &mut dial, host, b"out;", &mut reply);
         assert_eq!(rt; result, Err(fault));
         assert_eq!(rt; reply.text(), text);
     }

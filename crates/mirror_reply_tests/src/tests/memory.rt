@@ -2,7 +2,7 @@
 //! whole result.
 
 use super::rows::{BODY, LIMIT};
-use mirror_reply::{Progress, Reply, write_request};
+use mirror_reply::{Progress, Reply, is_host, write_request};
 use std::process::Abort;
 use std::test::Fail;
 
@@ -35,10 +35,12 @@ fn takes_within_memory(rt: HostRuntime) -> Result<(), Fail> {
 
 #[test]
 fn writes_within_memory(rt: HostRuntime) -> Result<(), Fail> {
+    let host = "mirror";
+    assert!(rt; is_host(host));
     let mut output = Vec::new(rt.alloc());
-    if write_request(rt.alloc(), &mut output, "mirror", b"out;").is_err() {
+    if write_request(rt.alloc(), &mut output, host, b"out;").is_err() {
         assert!(rt; output.is_empty());
-        write_request(rt.alloc(), &mut output, "mirror", b"out;")?;
+        write_request(rt.alloc(), &mut output, host, b"out;")?;
     }
     assert!(rt; output.ends_with(b"Content-Length: 4\r\n\r\nout;"));
     Ok(())
