@@ -136,7 +136,7 @@ def check_gone(tally):
         ours, theirs = os.pipe()
         os.close(ours)
         with running(theirs, "--changes", changes) as server:
-            tally.check("a pipe without a reader", refuse(server, changes, ready, range(5), root))
+            tally.check("a pipe without a reader", refuse(server, changes, ready, range(1000, 1005), root))
         os.close(theirs)
         shell = ["sh", "-c", 'exec "$0" "$@" 2>&-']
         port = str(free_port())
