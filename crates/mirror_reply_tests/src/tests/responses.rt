@@ -152,7 +152,7 @@ fn long_head(rt: &impl AllocGlobal, len: usize) -> Result<Vec<u8>, Fail> {
         b"HTTP/1.1 200 OK\r\nContent-Length: 48\r\nX: ",
         b"",
     )?;
-    while head.len().saturating_add(4) < len {
+    for _ in 0..len.saturating_sub(head.len()).saturating_sub(4) {
         head.push(b'x')?;
     }
     head.extend_from_slice(b"\r\n\r\n")?;
