@@ -1,0 +1,44 @@
+-- What a mirror's reply shows of a query under a root, whatever the reply is.
+-- Source: this project.
+use Rattle.std.specs.Prelude.{◌≡◌, ◌≢◌, ℕ, List, ⊤}
+use Rattle.ql_eval.specs.declared.evaluation.Report.{Report}
+use Rattle.ql_syntax.specs.Queries.{HasFault}
+use Rattle.osm_check.specs.Telling.{IsOfNoAnswer, IsShown, IsTold}
+use Rattle.osm_check.specs.declared.told.Told.TheVariants.{No}
+use Rattle.osm_check.specs.declared.why.Why.{Why}
+use Rattle.osm_check.specs.declared.why.Why.TheVariants as whys
+use Rattle.osm_forms.specs.declared.form.Form.{Form}
+use Rattle.mirror_answer.specs.declared.mirror_fault.MirrorFault.{MirrorFault}
+use Rattle.mirror_answer.specs.declared.mirror_fault.MirrorFault.TheVariants.{OtherRoot, Proof, Reply, Silent, Unreached}
+use Rattle.mirror_answer.specs.declared.shown.Shown.{Shown}
+use Rattle.mirror_answer.specs.declared.shown.Shown.TheVariants.{Answer, Refused, Unread}
+
+-- what a client asks for, and the root that it holds
+pub record Wanted : Type 0 where
+  pub query : List ℕ
+  pub root : List ℕ
+  pub form : Form
+
+-- the reason is one for which a proof shows nothing, of a query that reads
+abbrev pub IsOfProof : Why → Type 0
+IsOfProof (whys.QueryRefused fault) = ⊥
+IsOfProof (whys.AnswerDiffers byte) = ⊥
+IsOfProof why = ⊤
+
+-- a proof that is refused is told by its reason where the reply names the root that the client holds
+abbrev pub IsFaultOf : Wanted → (named proof : List ℕ) → MirrorFault → Type 0
+IsFaultOf w named proof (Proof why) = (named ≡ w.root) × IsOfProof why × IsTold w.query w.root w.form proof (No why)
+IsFaultOf w named proof OtherRoot = (named ≢ w.root) × ((why : Why) × IsOfProof why × IsTold w.query w.root w.form proof (No why))
+IsFaultOf w named proof fault = ⊥
+
+-- what is shown is right: an answer is shown by the proof, and a fault is true of the query, or of the reply
+abbrev pub IsRightly : Wanted → (named proof : List ℕ) → Shown → Type 0
+IsRightly w named proof (Answer text) = (report : Report) × IsShown w.query w.root w.form proof text.items report
+IsRightly w named proof (Unread fault) = HasFault w.query fault
+IsRightly w named proof (Refused fault) = IsFaultOf w named proof fault
+
+-- this text is shown
+abbrev pub ShowsText : List ℕ → Shown → Type 0
+ShowsText text (Answer shown) = shown.items ≡ text
+ShowsText text (Unread fault) = ⊥
+ShowsText text (Refused fault) = ⊥
