@@ -1,0 +1,85 @@
+//! Choosing the mirror that is asked.
+
+ghost use Rattle.std.specs.Prelude.{◌≡◌, IfOk, List, Option, option_map, true, ℕ};
+ghost use Rattle.mirror_reply.specs.Requests.{is_host_text, request_text};
+ghost use Rattle.osm_relay.specs.Logs.{Log};
+ghost use Rattle.osm_relay.specs.MirrorTexts.{mirror_text};
+ghost use Rattle.osm_relay.specs.Pages.{error_response};
+ghost use Rattle.osm_relay.specs.ResponseTexts.{response_text};
+ghost use Rattle.osm_relay.specs.internal.Stages.{Holds, StandsAt};
+
+use crate::fault_texts::mirror_text;
+use crate::mirrors::Mirrors;
+use crate::output::Output;
+use crate::page::error_response;
+use crate::stage::{Search, Stage};
+use crate::step::starved;
+use crate::wire::Wire;
+use http::StatusCode;
+use mirror_answer::MirrorFault;
+use mirror_reply::write_request;
+use std::alloc::{AllocError, Global};
+
+/// Dials the next mirror. Where all have been asked, the client is told why the last one gives no answer.
+pub(crate) fn choose<W: Wire, D: Mirrors<W>>(
+    alloc: Global,
+    mirrors: &mut D,
+    mirror: &mut Option<W>,
+    search: Search,
+) -> Stage
+    ensures { (root : List ℕ) (client : Option Log)
+        → Holds root (Stage.Choosing search) client (option_map W.log mirror.old)
+        → Holds root result client (option_map W.log mirror.new) }
+{
+    if search.next >= mirrors.count() {
+        return give_up(alloc, search);
+    }
+    let Ok(request) = request_for(alloc, mirrors.host(search.next), &search.question.query) else {
+        return starved();
+    };
+    *mirror = mirrors.dial(search.next);
+    let is_open = mirror.is_some();
+    let search = Search {
+        question: search.question,
+        next: search.next + 1,
+        fault: MirrorFault::Unreached,
+    };
+    if is_open {
+        Stage::Asking {
+            search,
+            request: Output::new(request),
+        }
+    } else {
+        Stage::Choosing(search)
+    }
+}
+
+/// The request that asks for the answer to this query.
+fn request_for(alloc: Global, host: &str, query: &[u8]) -> Result<Vec<u8>, AllocError>
+    requires { is_host_text host.now ≡ true }
+    ensures { IfOk result (λ request. request.items ≡ request_text host.now query.now) }
+{
+    let mut request = Vec::new(alloc);
+    write_request(alloc, &mut request, host, query)?;
+    Ok(request)
+}
+
+/// Tells the client why the last mirror gives no answer.
+fn give_up(alloc: Global, search: Search) -> Stage
+    ensures { (root : List ℕ) (c : Log) (m : Option Log) → StandsAt root (Stage.Choosing search) c m
+        → StandsAt root result c m }
+{
+    match fault_response(alloc, search.fault) {
+        Ok(response) => Stage::Answering(Output::new(response)),
+        Err(_) => starved(),
+    }
+}
+
+/// The response that says why a mirror gives no answer.
+fn fault_response(alloc: Global, fault: MirrorFault) -> Result<Vec<u8>, AllocError>
+    ensures { IfOk result (λ response. response.items
+        ≡ response_text (error_response 502 (mirror_text fault))) }
+{
+    let text = mirror_text(alloc, fault)?;
+    error_response(alloc, StatusCode::BAD_GATEWAY, text.as_bytes())
+}

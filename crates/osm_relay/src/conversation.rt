@@ -1,0 +1,144 @@
+//! Conversations.
+
+ghost use Rattle.std.specs.Prelude.{◌≡◌, ◌↔◌, IsSome, None};
+ghost use Rattle.osm_relay.specs.Logs.{IsFresh};
+ghost use Rattle.osm_relay.specs.Relayed.{IsPromised};
+
+use crate::hearing::Heard;
+use crate::mirrors::Mirrors;
+use crate::stage::Stage;
+use crate::stepping::{impatient, step_on};
+use crate::wire::Wire;
+use std::alloc::Global;
+use std::marker::Model;
+use std::mem;
+use tree_node::Digest;
+
+/// What a conversation waits for.
+#[derive(Clone, Copy, Debug, PartialEq, Eq)]
+pub enum Awaits {
+    /// That the client sends its request.
+    Request,
+    /// That the mirror takes the request, or sends its response.
+    Mirror,
+    /// That the client takes its response.
+    Client,
+    /// Nothing: it is over.
+    Nothing,
+}
+
+/// What a turn did.
+#[derive(Clone, Copy, Debug, PartialEq, Eq)]
+pub enum Turn {
+    /// Something, and there may be more to do at once.
+    Moved,
+    /// Nothing: a wire has to be waited for.
+    Waits,
+}
+
+/// One client, and the mirror that is asked for it. Contracts see the root, what went over both wires, and whether it is over.
+///
+/// Only the client's first request is answered, and the connection ends after it. The mirror isn't trusted.
+#[derive(Drop)]
+pub struct Conversation<W: Wire> {
+    root: Digest,
+    client: W,
+    /// The wire of the last mirror asked, if there is one.
+    mirror: Option<W>,
+    stage: Stage,
+}
+
+impl<W: Wire> Model for Conversation<W> {
+    ghost use Rattle.std.specs.Prelude.{option_map};
+    ghost use Rattle.osm_relay.specs.Relayed.{Standing};
+
+    ghost Value = { Standing };
+
+    ghost use Rattle.osm_relay.specs.internal.Stages.{Holds, ending_of};
+
+    ghost view = { λ s. record {
+      root = s.root.0;
+      client = W.log s.client;
+      mirror = option_map W.log s.mirror;
+      ending = ending_of s.stage;
+    } };
+
+    ghost invariant = { λ s. Holds s.root.0 s.stage (W.log s.client) (option_map W.log s.mirror) };
+}
+
+impl<W: Wire> Conversation<W> {
+    /// A client that has just come. It takes no memory.
+    pub fn new(alloc: Global, root: Digest, client: W) -> Conversation<W>
+        requires { IsFresh (W.log client) }
+        ensures { result ≡ record { root = root.0; client = W.log client; mirror = None; ending = None } }
+    {
+        Conversation {
+            root,
+            client,
+            mirror: None,
+            stage: Stage::Hearing(Heard::new(alloc)),
+        }
+    }
+
+    /// The promise of every conversation, at any time: what the client took is a beginning of the response to its first
+    /// request, or nothing, and a mirror is asked only for what the client wants.
+    pub fn promise(&self)
+        ensures { IsPromised self.now }
+    {
+        let _ = &self.stage;
+    }
+
+    /// What it waits for.
+    pub fn awaits(&self) -> Awaits
+        ensures { (result ≡ Awaits.Nothing) ↔ IsSome self.now.ending }
+    {
+        match &self.stage {
+            Stage::Hearing(_) => Awaits::Request,
+            Stage::Choosing(_) | Stage::Asking { .. } | Stage::Listening { .. } => Awaits::Mirror,
+            Stage::Answering(_) => Awaits::Client,
+            Stage::Over { .. } => Awaits::Nothing,
+        }
+    }
+
+    /// Goes on, by one read or one write at most. Where memory runs out, the client is told so.
+    pub fn turn<D: Mirrors<W>>(&mut self, alloc: Global, mirrors: &mut D) -> Turn
+        ensures promised { IsPromised self.new }
+        ensures root { self.new.root ≡ self.old.root }
+    {
+        let stage = mem::replace(&mut self.stage, Stage::Over { whole: false });
+        let step = step_on(
+            alloc,
+            &self.root,
+            &mut self.client,
+            &mut self.mirror,
+            mirrors,
+            stage,
+        );
+        self.stage = step.stage;
+        if step.moves { Turn::Moved } else { Turn::Waits }
+    }
+
+    /// What it waits for has taken too long. A client is given up, and in place of a mirror the next one is asked.
+    pub fn lose_patience(&mut self)
+        ensures promised { IsPromised self.new }
+        ensures root { self.new.root ≡ self.old.root }
+        ensures client { self.new.client ≡ self.old.client }
+        ensures mirror { self.new.mirror ≡ self.old.mirror }
+    {
+        let stage = mem::replace(&mut self.stage, Stage::Over { whole: false });
+        self.stage = impatient(stage);
+    }
+
+    /// Gives the client's wire back.
+    pub fn into_client(self) -> W
+        ensures { W.log result ≡ self.client }
+    {
+        let Conversation {
+            root: _,
+            client,
+            mirror: _,
+            stage: _,
+        } = self;
+        client
+    }
+}

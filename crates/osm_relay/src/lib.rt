@@ -1,0 +1,39 @@
+//! A relay: a program on the client's own machine that answers as an Overpass server does. It sends each query to a mirror,
+//! checks the proof by the root that it holds, and only then answers, as OSM JSON or OSM XML.
+//!
+//! A [`Conversation`] is one client with the mirror that is asked for it. No call waits: the wires are given ([`Wire`],
+//! [`Mirrors`]), so that tests can lie. The promise of each conversation, whatever comes over its wires in whatever order,
+//! stands at [`Conversation::promise`].
+#![tactic(auto)]
+
+mod answering;
+mod asking;
+mod choosing;
+mod conversation;
+mod fault_texts;
+mod finding;
+mod hearing;
+mod judging;
+mod laws;
+mod limits;
+mod listening;
+mod method;
+mod mirrors;
+mod output;
+mod page;
+mod question;
+mod receiving;
+mod response;
+mod slots;
+mod stage;
+mod starved;
+mod step;
+mod stepping;
+mod wire;
+
+pub use conversation::{Awaits, Conversation, Turn};
+pub use laws::limits_law;
+pub use limits::REPLY_LIMIT;
+pub use mirrors::Mirrors;
+pub use starved::starved_response;
+pub use wire::{Reading, Wire, Writing};
