@@ -9,7 +9,7 @@ ghost use Rattle.osm_relay.specs.ResponseTexts.{response_text};
 ghost use Rattle.osm_relay.specs.internal.Stages.{Holds, StandsAt};
 
 use crate::fault_texts::mirror_text;
-use crate::mirrors::Mirrors;
+use crate::network::Network;
 use crate::output::Output;
 use crate::page::error_response;
 use crate::stage::{Search, Stage};
@@ -21,23 +21,25 @@ use mirror_reply::write_request;
 use std::alloc::{AllocError, Global};
 
 /// Dials the next mirror. Where all have been asked, the client is told why the last one gives no answer.
-pub(crate) fn choose<W: Wire, D: Mirrors<W>>(
+pub(crate) fn choose<W: Wire, N: Network<W>>(
     alloc: Global,
-    mirrors: &mut D,
+    network: &mut N,
+    number: u32,
     mirror: &mut Option<W>,
     search: Search,
 ) -> Stage
-    ensures { (root : List ℕ) (client : Option Log)
+    ensures log { N.log network.new ≡ N.log network.old }
+    ensures stage { (root : List ℕ) (client : Option Log)
         → Holds root (Stage.Choosing search) client (option_map W.log mirror.old)
         → Holds root result client (option_map W.log mirror.new) }
 {
-    if search.next >= mirrors.count() {
+    if search.next >= network.mirrors() {
         return give_up(alloc, search);
     }
-    let Ok(request) = request_for(alloc, mirrors.host(search.next), &search.question.query) else {
+    let Ok(request) = request_for(alloc, network.host(search.next), &search.question.query) else {
         return starved();
     };
-    *mirror = mirrors.dial(search.next);
+    *mirror = network.dial(number, search.next);
     let is_open = mirror.is_some();
     let search = Search {
         question: search.question,

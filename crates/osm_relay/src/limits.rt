@@ -9,3 +9,6 @@ pub(crate) const CLIENT_PIECE: usize = 8192;
 
 /// The number of bytes that one read of a mirror may give.
 pub(crate) const MIRROR_PIECE: usize = 65_536;
+
+/// The number of conversations that may be open at a time.
+pub const CONVERSATION_LIMIT: usize = 64;

@@ -1,6 +1,6 @@
 //! The next step of a conversation.
 
-ghost use Rattle.std.specs.Prelude.{List, Option, option_map, ℕ};
+ghost use Rattle.std.specs.Prelude.{◌≡◌, List, Option, option_map, ℕ};
 ghost use Rattle.osm_relay.specs.Logs.{Log};
 ghost use Rattle.osm_relay.specs.internal.Stages.{Holds, StandsAt};
 
@@ -8,7 +8,7 @@ use crate::answering::answer;
 use crate::asking::ask;
 use crate::choosing::choose;
 use crate::listening::listen;
-use crate::mirrors::Mirrors;
+use crate::network::Network;
 use crate::output::Output;
 use crate::receiving::receive;
 use crate::stage::{Search, Stage};
@@ -20,21 +20,23 @@ use std::alloc::Global;
 use tree_node::Digest;
 
 /// Does the next step.
-pub(crate) fn step_on<W: Wire, D: Mirrors<W>>(
+pub(crate) fn step_on<W: Wire, N: Network<W>>(
     alloc: Global,
     root: &Digest,
     client: &mut W,
     mirror: &mut Option<W>,
-    mirrors: &mut D,
+    network: &mut N,
+    number: u32,
     stage: Stage,
 ) -> Step
-    ensures { Holds root.now.0 stage (W.log client.old) (option_map W.log mirror.old)
+    ensures log { N.log network.new ≡ N.log network.old }
+    ensures stage { Holds root.now.0 stage (W.log client.old) (option_map W.log mirror.old)
         → Holds root.now.0 result.stage (W.log client.new) (option_map W.log mirror.new) }
 {
     match stage {
         Stage::Hearing(heard) => receive(alloc, client, heard),
         Stage::Choosing(search) => Step {
-            stage: choose(alloc, mirrors, mirror, search),
+            stage: choose(alloc, network, number, mirror, search),
             moves: true,
         },
         Stage::Asking { search, request } => ask_mirror(alloc, mirror, search, request),

@@ -1,0 +1,4 @@
+pub mod HeardLemmas
+pub mod JoinedTexts
+pub mod LogLemmas
+pub mod StageLemmas
