@@ -1,4 +1,5 @@
 pub mod Errands
+pub mod Events
 pub mod Logs
 pub mod MirrorTexts
 pub mod Pages

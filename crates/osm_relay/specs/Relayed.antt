@@ -73,9 +73,10 @@ pub data Relayed (root brought : List ℕ) (mirror : Option Log) (response : Lis
 
 -- ---- a conversation
 
--- how a conversation stands: the root, what went over the wires of the client and of the last mirror asked, and once it is
+-- how a conversation stands: its number, the root, what went over the wires of the client and of the last mirror asked, and once it is
 -- over whether the client took all of its response
 pub record Standing : Type 0 where
+  pub number : ℕ
   pub root : List ℕ
   pub client : Option Log
   pub mirror : Option (Option Log)

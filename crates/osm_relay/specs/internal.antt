@@ -3,5 +3,6 @@ pub mod Adding
 pub mod Finding
 pub mod Judging
 pub mod Kept
+pub mod Relaying
 pub mod Stages
 pub mod Texts

@@ -5,7 +5,7 @@ ghost use Rattle.osm_relay.specs.Logs.{IsFresh};
 ghost use Rattle.osm_relay.specs.Relayed.{IsPromised};
 
 use crate::hearing::Heard;
-use crate::mirrors::Mirrors;
+use crate::network::Network;
 use crate::stage::Stage;
 use crate::stepping::{impatient, step_on};
 use crate::wire::Wire;
@@ -41,6 +41,7 @@ pub enum Turn {
 /// Only the client's first request is answered, and the connection ends after it. The mirror isn't trusted.
 #[derive(Drop)]
 pub struct Conversation<W: Wire> {
+    number: u32,
     root: Digest,
     client: W,
     /// The wire of the last mirror asked, if there is one.
@@ -57,6 +58,7 @@ impl<W: Wire> Model for Conversation<W> {
     ghost use Rattle.osm_relay.specs.internal.Stages.{Holds, ending_of};
 
     ghost view = { λ s. record {
+      number = s.number;
       root = s.root.0;
       client = W.log s.client;
       mirror = option_map W.log s.mirror;
@@ -68,11 +70,12 @@ impl<W: Wire> Model for Conversation<W> {
 
 impl<W: Wire> Conversation<W> {
     /// A client that has just come. It takes no memory.
-    pub fn new(alloc: Global, root: Digest, client: W) -> Conversation<W>
+    pub fn new(alloc: Global, number: u32, root: Digest, client: W) -> Conversation<W>
         requires { IsFresh (W.log client) }
-        ensures { result ≡ record { root = root.0; client = W.log client; mirror = None; ending = None } }
+        ensures { result ≡ record { number = number; root = root.0; client = W.log client; mirror = None; ending = None } }
     {
         Conversation {
+            number,
             root,
             client,
             mirror: None,
@@ -88,6 +91,23 @@ impl<W: Wire> Conversation<W> {
         let _ = &self.stage;
     }
 
+    /// Its number.
+    pub fn number(&self) -> u32
+        ensures { result ≡ self.now.number }
+    {
+        self.number
+    }
+
+    /// Whether it is over, and if so whether the client took all of its response.
+    pub fn ending(&self) -> Option<bool>
+        ensures { result ≡ self.now.ending }
+    {
+        match &self.stage {
+            Stage::Over { whole } => Some(*whole),
+            _ => None,
+        }
+    }
+
     /// What it waits for.
     pub fn awaits(&self) -> Awaits
         ensures { (result ≡ Awaits.Nothing) ↔ IsSome self.now.ending }
@@ -101,9 +121,11 @@ impl<W: Wire> Conversation<W> {
     }
 
     /// Goes on, by one read or one write at most. Where memory runs out, the client is told so.
-    pub fn turn<D: Mirrors<W>>(&mut self, alloc: Global, mirrors: &mut D) -> Turn
+    pub fn turn<N: Network<W>>(&mut self, alloc: Global, network: &mut N) -> Turn
         ensures promised { IsPromised self.new }
         ensures root { self.new.root ≡ self.old.root }
+        ensures number { self.new.number ≡ self.old.number }
+        ensures log { N.log network.new ≡ N.log network.old }
     {
         let stage = mem::replace(&mut self.stage, Stage::Over { whole: false });
         let step = step_on(
@@ -111,7 +133,8 @@ impl<W: Wire> Conversation<W> {
             &self.root,
             &mut self.client,
             &mut self.mirror,
-            mirrors,
+            network,
+            self.number,
             stage,
         );
         self.stage = step.stage;
@@ -122,6 +145,7 @@ impl<W: Wire> Conversation<W> {
     pub fn lose_patience(&mut self)
         ensures promised { IsPromised self.new }
         ensures root { self.new.root ≡ self.old.root }
+        ensures number { self.new.number ≡ self.old.number }
         ensures client { self.new.client ≡ self.old.client }
         ensures mirror { self.new.mirror ≡ self.old.mirror }
     {
@@ -129,11 +153,13 @@ impl<W: Wire> Conversation<W> {
         self.stage = impatient(stage);
     }
 
-    /// Gives the client's wire back.
+    /// Gives the client's wire back, once the conversation is over.
     pub fn into_client(self) -> W
+        requires { IsSome self.ending }
         ensures { W.log result ≡ self.client }
     {
         let Conversation {
+            number: _,
             root: _,
             client,
             mirror: _,

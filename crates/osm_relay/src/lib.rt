@@ -2,7 +2,7 @@
 //! checks the proof by the root that it holds, and only then answers, as OSM JSON or OSM XML.
 //!
 //! A [`Conversation`] is one client with the mirror that is asked for it. No call waits: the wires are given ([`Wire`],
-//! [`Mirrors`]), so that tests can lie. The promise of each conversation, whatever comes over its wires in whatever order,
+//! [`Network`]), so that tests can lie. The promise of each conversation, whatever comes over its wires in whatever order,
 //! stands at [`Conversation::promise`].
 #![tactic(auto)]
 
@@ -18,11 +18,13 @@ mod laws;
 mod limits;
 mod listening;
 mod method;
-mod mirrors;
+mod network;
 mod output;
 mod page;
 mod question;
 mod receiving;
+mod relay_fault;
+mod relaying;
 mod response;
 mod slots;
 mod stage;
@@ -33,7 +35,9 @@ mod wire;
 
 pub use conversation::{Awaits, Conversation, Turn};
 pub use laws::limits_law;
-pub use limits::REPLY_LIMIT;
-pub use mirrors::Mirrors;
+pub use limits::{CONVERSATION_LIMIT, REPLY_LIMIT};
+pub use network::{Network, News, Room};
+pub use relay_fault::RelayFault;
+pub use relaying::relay_many;
 pub use starved::starved_response;
 pub use wire::{Reading, Wire, Writing};

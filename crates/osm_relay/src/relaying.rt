@@ -1,7 +1,8 @@
 //! The loop.
 
-ghost use Rattle.std.specs.Prelude.{◌≡◌, ◌≤◌, ◌<◌, ◌×◌, ◌++◌, IfOk, List, OnErr, OnOk, Option, Some, [], vec_len};
+ghost use Rattle.std.specs.Prelude.{◌≡◌, ◌<◌, ◌++◌, ◌↔◌, List, OnOk, Some, vec_len, ℕ};
 ghost use Rattle.osm_relay.specs.Events.{Event, IsOrderly, arrivals, open_count};
+ghost use Rattle.osm_relay.specs.internal.Relaying.{IsRelaying, Welcomes};
 
 use crate::conversation::{Awaits, Conversation, Turn};
 use crate::limits::CONVERSATION_LIMIT;
@@ -47,4 +48,73 @@ pub fn relay_many<W: Wire, N: Network<W>>(
         }
     }
     Err(RelayFault::Endless)
+}
+
+/// Whether a further client may be taken: where one is wanted, and fewer than 64 conversations are open.
+fn room_for(open: usize, taken: u32, connections: u32) -> Room
+    ensures { (result ≡ Room.Free) ↔ ((taken < connections) × (open < CONVERSATION_LIMIT)) }
+{
+    if taken >= connections {
+        Room::Closed
+    } else if open < CONVERSATION_LIMIT {
+        Room::Free
+    } else {
+        Room::Full
+    }
+}
+
+/// Takes the client that waits, and says whether there was one.
+fn welcome<W: Wire, N: Network<W>>(
+    alloc: Global,
+    root: &Digest,
+    network: &mut N,
+    open: &mut Vec<Conversation<W>>,
+    number: u32,
+) -> Result<bool, RelayFault>
+    ensures { (wanted : ℕ) (base before : List Event) → number < wanted
+        → vec_len open.old < CONVERSATION_LIMIT
+        → IsRelaying wanted base before (N.log network.old) number (vec_len open.old)
+        → Welcomes wanted base (N.log network.new) number (vec_len open.new) result }
+{
+    let Some(client) = network.take(number)? else {
+        return Ok(false);
+    };
+    if open
+        .push(Conversation::new(alloc, number, *root, client))
+        .is_err()
+    {
+        return Err(RelayFault::Memory);
+    }
+    network.note(number, Awaits::Request, true);
+    Ok(true)
+}
+
+/// Has a conversation go on, and lets its client go where it is over.
+fn go_on<W: Wire, N: Network<W>>(
+    alloc: Global,
+    network: &mut N,
+    open: &mut Vec<Conversation<W>>,
+    number: u32,
+    is_late: bool,
+)
+    ensures { (wanted : ℕ) (base before : List Event) (taken : ℕ)
+        → IsRelaying wanted base before (N.log network.old) taken (vec_len open.old)
+        → (events : List Event)
+        × IsRelaying wanted base events (N.log network.new) taken (vec_len open.new) }
+{
+    let Some(at) = open.iter().position(|one| one.number() == number) else {
+        return;
+    };
+    let conversation = &mut open[at];
+    if is_late {
+        conversation.lose_patience();
+    }
+    let turn = conversation.turn(alloc, network);
+    match conversation.ending() {
+        None => network.note(number, conversation.awaits(), turn == Turn::Moved),
+        Some(whole) => {
+            let client = open.swap_remove(at).into_client();
+            network.let_go(number, client, whole);
+        }
+    }
 }
