@@ -7,6 +7,7 @@ ghost use Rattle.osm_relay.specs.internal.Stages.{Holds, StandsAt};
 use crate::output::Output;
 use crate::stage::Stage;
 use crate::step::Step;
+use crate::turn::Turn;
 use crate::wire::{Wire, Writing};
 
 /// Writes the response to the client, as far as it takes it.
@@ -16,13 +17,17 @@ pub(crate) fn answer<W: Wire>(client: &mut W, response: Output) -> Step
         → Holds root result.stage (W.log client.new) mirror }
 {
     match client.write(response.bytes()) {
+        Writing::Took(0) => Step {
+            stage: Stage::Answering(response),
+            turn: Turn::Waits,
+        },
         Writing::Took(count) => Step {
             stage: answer_on(response, count),
-            moves: count > 0,
+            turn: Turn::Moved(count),
         },
         Writing::Gone => Step {
             stage: Stage::Over { whole: false },
-            moves: true,
+            turn: Turn::Moved(0),
         },
     }
 }

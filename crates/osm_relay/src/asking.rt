@@ -8,6 +8,7 @@ use crate::limits::REPLY_LIMIT;
 use crate::output::Output;
 use crate::stage::{Search, Stage};
 use crate::step::Step;
+use crate::turn::Turn;
 use crate::wire::{Wire, Writing};
 use mirror_answer::MirrorFault;
 use mirror_reply::Reply;
@@ -22,15 +23,15 @@ pub(crate) fn ask<W: Wire>(alloc: Global, mirror: &mut W, search: Search, reques
     match mirror.write(request.bytes()) {
         Writing::Took(0) => Step {
             stage: Stage::Asking { search, request },
-            moves: false,
+            turn: Turn::Waits,
         },
         Writing::Took(count) => Step {
             stage: ask_on(alloc, search, request, count),
-            moves: true,
+            turn: Turn::Moved(count),
         },
         Writing::Gone => Step {
             stage: Stage::Choosing(search),
-            moves: true,
+            turn: Turn::Moved(0),
         },
     }
 }

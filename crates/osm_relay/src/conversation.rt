@@ -8,33 +8,12 @@ use crate::hearing::Heard;
 use crate::network::Network;
 use crate::stage::Stage;
 use crate::stepping::{impatient, step_on};
+use crate::turn::{Awaits, Turn};
 use crate::wire::Wire;
 use std::alloc::Global;
 use std::marker::Model;
 use std::mem;
 use tree_node::Digest;
-
-/// What a conversation waits for.
-#[derive(Clone, Copy, Debug, PartialEq, Eq)]
-pub enum Awaits {
-    /// That the client sends its request.
-    Request,
-    /// That the mirror takes the request, or sends its response.
-    Mirror,
-    /// That the client takes its response.
-    Client,
-    /// Nothing: it is over.
-    Nothing,
-}
-
-/// What a turn did.
-#[derive(Clone, Copy, Debug, PartialEq, Eq)]
-pub enum Turn {
-    /// Something, and there may be more to do at once.
-    Moved,
-    /// Nothing: a wire has to be waited for.
-    Waits,
-}
 
 /// One client, and the mirror that is asked for it. Contracts see the root, what went over both wires, and whether it is over.
 ///
@@ -138,7 +117,7 @@ impl<W: Wire> Conversation<W> {
             stage,
         );
         self.stage = step.stage;
-        if step.moves { Turn::Moved } else { Turn::Waits }
+        step.turn
     }
 
     /// What it waits for has taken too long. A client is given up, and in place of a mirror the next one is asked.

@@ -31,13 +31,15 @@ mod stage;
 mod starved;
 mod step;
 mod stepping;
+mod turn;
 mod wire;
 
-pub use conversation::{Awaits, Conversation, Turn};
+pub use conversation::Conversation;
 pub use laws::limits_law;
 pub use limits::{CONVERSATION_LIMIT, REPLY_LIMIT};
 pub use network::{Network, News, Room};
 pub use relay_fault::RelayFault;
 pub use relaying::relay_many;
 pub use starved::starved_response;
+pub use turn::{Awaits, Turn};
 pub use wire::{Reading, Wire, Writing};

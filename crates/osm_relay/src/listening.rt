@@ -9,6 +9,7 @@ use crate::limits::MIRROR_PIECE;
 use crate::output::Output;
 use crate::stage::{Search, Stage};
 use crate::step::{Step, starved};
+use crate::turn::Turn;
 use crate::wire::{Reading, Wire};
 use mirror_answer::MirrorFault;
 use mirror_reply::{Progress, Reply};
@@ -31,19 +32,19 @@ pub(crate) fn listen<W: Wire>(
     match mirror.read(&mut piece) {
         Reading::Got(count) => Step {
             stage: listen_piece(alloc, root, search, reply, &piece[..count]),
-            moves: true,
+            turn: Turn::Moved(count),
         },
         Reading::Later => Step {
             stage: Stage::Listening { search, reply },
-            moves: false,
+            turn: Turn::Waits,
         },
         Reading::Ended => Step {
             stage: listen_end(alloc, root, search, reply),
-            moves: true,
+            turn: Turn::Moved(0),
         },
         Reading::Gone => Step {
             stage: Stage::Choosing(search.failed(MirrorFault::Silent)),
-            moves: true,
+            turn: Turn::Moved(0),
         },
     }
 }

@@ -5,8 +5,8 @@ ghost use Rattle.mirror_reply.specs.Requests.{is_host_text};
 ghost use Rattle.osm_relay.specs.Events.{Event, came_by, left, noted};
 ghost use Rattle.osm_relay.specs.Logs.{IsFresh};
 
-use crate::conversation::Awaits;
 use crate::relay_fault::RelayFault;
+use crate::turn::{Awaits, Turn};
 use crate::wire::Wire;
 
 /// What is next to do. Each may be told in vain, and of a conversation that is over.
@@ -58,8 +58,9 @@ pub trait Network<W: Wire> {
         ensures fresh { IfSome result (λ wire. IsFresh (W.log wire)) }
         ensures log { log self.new ≡ log self.old };
 
-    /// Notes what the conversation waits for now, and whether it may go on at once.
-    fn note(&mut self, number: u32, awaits: Awaits, goes_on: bool)
+    /// Notes what the last turn of the conversation did, and what it waits for now. Where something moved, it is told soon that
+    /// the conversation may go on.
+    fn note(&mut self, number: u32, awaits: Awaits, turn: Turn)
         ensures { log self.new ≡ log self.old };
 
     /// Lets the client of a conversation that is over go. Where it took all of its response, that still arrives.

@@ -9,6 +9,7 @@ use crate::limits::CLIENT_PIECE;
 use crate::output::Output;
 use crate::stage::{Search, Stage};
 use crate::step::{Step, starved};
+use crate::turn::Turn;
 use crate::wire::{Reading, Wire};
 use mirror_answer::MirrorFault;
 use std::alloc::Global;
@@ -24,15 +25,15 @@ pub(crate) fn receive<W: Wire>(alloc: Global, client: &mut W, heard: Heard) -> S
     match client.read(&mut piece) {
         Reading::Got(count) => Step {
             stage: receive_piece(alloc, heard, &piece[..count]),
-            moves: true,
+            turn: Turn::Moved(count),
         },
         Reading::Later => Step {
             stage: Stage::Hearing(heard),
-            moves: false,
+            turn: Turn::Waits,
         },
         Reading::Ended | Reading::Gone => Step {
             stage: Stage::Over { whole: false },
-            moves: true,
+            turn: Turn::Moved(0),
         },
     }
 }

@@ -4,10 +4,11 @@ ghost use Rattle.std.specs.Prelude.{◌≡◌, ◌<◌, ◌++◌, ◌↔◌, Lis
 ghost use Rattle.osm_relay.specs.Events.{Event, IsOrderly, arrivals, open_count};
 ghost use Rattle.osm_relay.specs.internal.Relaying.{IsRelaying, Welcomes};
 
-use crate::conversation::{Awaits, Conversation, Turn};
+use crate::conversation::Conversation;
 use crate::limits::CONVERSATION_LIMIT;
 use crate::network::{Network, News, Room};
 use crate::relay_fault::RelayFault;
+use crate::turn::{Awaits, Turn};
 use crate::wire::Wire;
 use std::alloc::Global;
 use tree_node::Digest;
@@ -30,33 +31,33 @@ pub fn relay_many<W: Wire, N: Network<W>>(
         × IsOrderly connections events
         × OnOk result ((arrivals events ≡ connections) × (open_count events ≡ 0)) }
 {
-    let mut open = Vec::new(alloc);
+    let mut conversations = Vec::new(alloc);
     let mut taken = 0;
     for _ in 0..u64::MAX {
-        if taken == connections && open.is_empty() {
+        if taken == connections && conversations.is_empty() {
             return Ok(());
         }
-        let room = room_for(open.len(), taken, connections);
+        let room = room_for(conversations.len(), taken, connections);
         match network.next(room)? {
             News::Waiting => {
-                if room == Room::Free && welcome(alloc, root, network, &mut open, taken)? {
+                if room == Room::Free && welcome(alloc, root, network, &mut conversations, taken)? {
                     taken += 1;
                 }
             }
-            News::Ready(number) => go_on(alloc, network, &mut open, number, false),
-            News::Silent(number) => go_on(alloc, network, &mut open, number, true),
+            News::Ready(number) => go_on(alloc, network, &mut conversations, number, false),
+            News::Silent(number) => go_on(alloc, network, &mut conversations, number, true),
         }
     }
     Err(RelayFault::Endless)
 }
 
 /// Whether a further client may be taken: where one is wanted, and fewer than 64 conversations are open.
-fn room_for(open: usize, taken: u32, connections: u32) -> Room
-    ensures { (result ≡ Room.Free) ↔ ((taken < connections) × (open < CONVERSATION_LIMIT)) }
+fn room_for(count: usize, taken: u32, connections: u32) -> Room
+    ensures { (result ≡ Room.Free) ↔ ((taken < connections) × (count < CONVERSATION_LIMIT)) }
 {
     if taken >= connections {
         Room::Closed
-    } else if open < CONVERSATION_LIMIT {
+    } else if count < CONVERSATION_LIMIT {
         Room::Free
     } else {
         Room::Full
@@ -68,24 +69,24 @@ fn welcome<W: Wire, N: Network<W>>(
     alloc: Global,
     root: &Digest,
     network: &mut N,
-    open: &mut Vec<Conversation<W>>,
+    conversations: &mut Vec<Conversation<W>>,
     number: u32,
 ) -> Result<bool, RelayFault>
     ensures { (wanted : ℕ) (base before : List Event) → number < wanted
-        → vec_len open.old < CONVERSATION_LIMIT
-        → IsRelaying wanted base before (N.log network.old) number (vec_len open.old)
-        → Welcomes wanted base (N.log network.new) number (vec_len open.new) result }
+        → vec_len conversations.old < CONVERSATION_LIMIT
+        → IsRelaying wanted base before (N.log network.old) number (vec_len conversations.old)
+        → Welcomes wanted base (N.log network.new) number (vec_len conversations.new) result }
 {
     let Some(client) = network.take(number)? else {
         return Ok(false);
     };
-    if open
+    if conversations
         .push(Conversation::new(alloc, number, *root, client))
         .is_err()
     {
         return Err(RelayFault::Memory);
     }
-    network.note(number, Awaits::Request, true);
+    network.note(number, Awaits::Request, Turn::Moved(0));
     Ok(true)
 }
 
@@ -93,27 +94,27 @@ fn welcome<W: Wire, N: Network<W>>(
 fn go_on<W: Wire, N: Network<W>>(
     alloc: Global,
     network: &mut N,
-    open: &mut Vec<Conversation<W>>,
+    conversations: &mut Vec<Conversation<W>>,
     number: u32,
     is_late: bool,
 )
     ensures { (wanted : ℕ) (base before : List Event) (taken : ℕ)
-        → IsRelaying wanted base before (N.log network.old) taken (vec_len open.old)
+        → IsRelaying wanted base before (N.log network.old) taken (vec_len conversations.old)
         → (events : List Event)
-        × IsRelaying wanted base events (N.log network.new) taken (vec_len open.new) }
+        × IsRelaying wanted base events (N.log network.new) taken (vec_len conversations.new) }
 {
-    let Some(at) = open.iter().position(|one| one.number() == number) else {
+    let Some(at) = conversations.iter().position(|one| one.number() == number) else {
         return;
     };
-    let conversation = &mut open[at];
+    let conversation = &mut conversations[at];
     if is_late {
         conversation.lose_patience();
     }
     let turn = conversation.turn(alloc, network);
     match conversation.ending() {
-        None => network.note(number, conversation.awaits(), turn == Turn::Moved),
+        None => network.note(number, conversation.awaits(), turn),
         Some(whole) => {
-            let client = open.swap_remove(at).into_client();
+            let client = conversations.swap_remove(at).into_client();
             network.let_go(number, client, whole);
         }
     }

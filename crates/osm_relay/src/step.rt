@@ -5,13 +5,13 @@ ghost use Rattle.osm_relay.specs.Pages.{starved};
 
 use crate::output::Output;
 use crate::stage::Stage;
+use crate::turn::Turn;
 
-/// Where a conversation stands after a step, and whether something has moved.
+/// Where a conversation stands after a step, and what the step did.
 #[derive(Drop)]
 pub(crate) struct Step {
     pub(crate) stage: Stage,
-    /// Bytes came or went, or something else is to be done at once. Else the wire has to be waited for.
-    pub(crate) moves: bool,
+    pub(crate) turn: Turn,
 }
 
 /// What comes next where memory has run out: the client is told so, which takes none.

@@ -13,6 +13,7 @@ use crate::output::Output;
 use crate::receiving::receive;
 use crate::stage::{Search, Stage};
 use crate::step::Step;
+use crate::turn::Turn;
 use crate::wire::Wire;
 use mirror_answer::MirrorFault;
 use mirror_reply::Reply;
@@ -37,14 +38,14 @@ pub(crate) fn step_on<W: Wire, N: Network<W>>(
         Stage::Hearing(heard) => receive(alloc, client, heard),
         Stage::Choosing(search) => Step {
             stage: choose(alloc, network, number, mirror, search),
-            moves: true,
+            turn: Turn::Moved(0),
         },
         Stage::Asking { search, request } => ask_mirror(alloc, mirror, search, request),
         Stage::Listening { search, reply } => listen_to(alloc, root, mirror, search, reply),
         Stage::Answering(response) => answer(client, response),
         Stage::Over { whole } => Step {
             stage: Stage::Over { whole },
-            moves: false,
+            turn: Turn::Waits,
         },
     }
 }
@@ -63,7 +64,7 @@ fn ask_mirror<W: Wire>(
         Some(wire) => ask(alloc, wire, search, request),
         None => Step {
             stage: Stage::Choosing(search),
-            moves: true,
+            turn: Turn::Moved(0),
         },
     }
 }
@@ -83,7 +84,7 @@ fn listen_to<W: Wire>(
         Some(wire) => listen(alloc, root, wire, search, reply),
         None => Step {
             stage: Stage::Choosing(search),
-            moves: true,
+            turn: Turn::Moved(0),
         },
     }
 }
