@@ -1,3 +1,4 @@
+pub mod FindingLemmas
 pub mod HeardLemmas
 pub mod JoinedTexts
 pub mod LogLemmas

@@ -33,17 +33,17 @@ pub(crate) fn choose<W: Wire, N: Network<W>>(
         → Holds root (Stage.Choosing search) client (option_map W.log mirror.old)
         → Holds root result client (option_map W.log mirror.new) }
 {
-    if search.next >= network.mirrors() {
+    let Some(host) = network.host(search.next) else {
         return give_up(alloc, search);
-    }
-    let Ok(request) = request_for(alloc, network.host(search.next), &search.question.query) else {
+    };
+    let Ok(request) = request_for(alloc, host, &search.question.query) else {
         return starved();
     };
     *mirror = network.dial(number, search.next);
     let is_open = mirror.is_some();
     let search = Search {
         question: search.question,
-        next: search.next + 1,
+        next: search.next.saturating_add(1),
         fault: MirrorFault::Unreached,
     };
     if is_open {

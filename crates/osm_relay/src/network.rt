@@ -46,12 +46,10 @@ pub trait Network<W: Wire> {
         ensures fresh { IfOk result (λ client. IfSome client (λ wire. IsFresh (W.log wire))) }
         ensures refused { OnErr result (log self.new ≡ log self.old) };
 
-    /// How many mirrors there are.
-    fn mirrors(&self) -> usize;
-
-    /// The name of a mirror, as it stands in the field `Host` of a request: `mirror.example:8080`.
-    fn host(&self, mirror: usize) -> &str
-        ensures { is_host_text result.now ≡ true };
+    /// The name of a mirror, as it stands in the field `Host` of a request: `mirror.example:8080`; `None` where there are no
+    /// so many mirrors.
+    fn host(&self, mirror: usize) -> Option<&str>
+        ensures { IfSome result (λ host. is_host_text host.now ≡ true) };
 
     /// Begins to open a new connection to a mirror, for the conversation of this number; `None` where that fails at once.
     fn dial(&mut self, number: u32, mirror: usize) -> Option<W>

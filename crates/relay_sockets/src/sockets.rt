@@ -217,15 +217,9 @@ impl<'a> Network<Plug> for Sockets<'a> {
         }
     }
 
-    fn mirrors(&self) -> usize {
-        self.mirrors.len()
-    }
-
-    fn host(&self, mirror: usize) -> &str {
-        match self.mirrors.get(mirror) {
-            Some(mirror) if is_host(mirror.host.as_str()) => mirror.host.as_str(),
-            _ => "localhost",
-        }
+    fn host(&self, mirror: usize) -> Option<&str> {
+        let host = self.mirrors.get(mirror)?.host.as_str();
+        if is_host(host) { Some(host) } else { None }
     }
 
     fn dial(&mut self, number: u32, mirror: usize) -> Option<Plug> {
@@ -237,6 +231,8 @@ impl<'a> Network<Plug> for Sockets<'a> {
     }
 
     fn note(&mut self, number: u32, awaits: Awaits, turn: Turn) {
+        // A turn may have taken long: checking a proof does.
+        self.refresh();
         let now = self.now;
         let Some(talk) = find(&mut self.talks, number as usize) else {
             return;
