@@ -1,6 +1,7 @@
 //! What a whole reply comes to.
 
-ghost use Rattle.std.specs.Prelude.{◌≡◌, IfOk};
+ghost use Rattle.std.specs.Prelude.{◌≡◌, ◌++◌, IfOk};
+ghost use Rattle.osm_relay.specs.internal.Adding.{parts_of};
 ghost use Rattle.osm_relay.specs.internal.Judging.{Judges};
 ghost use Rattle.osm_relay.specs.Pages.{document_response};
 ghost use Rattle.osm_relay.specs.ResponseTexts.{response_text};
@@ -29,7 +30,7 @@ pub(crate) fn judge(
     question: &Question,
     parts: Parts<'_>,
 ) -> Result<Judged, AllocError>
-    ensures { IfOk result (Judges question.now root.now.0 parts.root.now parts.proof.now) }
+    ensures { IfOk result (Judges question.now root.now.0 parts.entry.root.now parts.entry.proof.now) }
 {
     match show(alloc, question.form, &question.query, root, parts)? {
         Shown::Answer(text) => Ok(Judged::Given(document(alloc, question.form, root, &text)?)),
@@ -49,5 +50,19 @@ fn document(alloc: Global, form: Form, root: &Digest, text: &[u8]) -> Result<Vec
         allow: None,
     };
     let parts = form.document_parts(text);
-    make_response(alloc, &head, &[parts.header, parts.body, parts.trailer])
+    joined(alloc, &head, parts.header, parts.body, parts.trailer)
+}
+
+/// The response whose body is made of these three parts.
+fn joined<'a>(
+    alloc: Global,
+    head: &ResponseHead<'_>,
+    header: &'a [u8],
+    body: &'a [u8],
+    trailer: &'a [u8],
+) -> Result<Vec<u8>, AllocError>
+    ensures { IfOk result (λ response. response.items ≡ response_text (record {
+        head = parts_of head.now; body = header.now ++ (body.now ++ trailer.now) })) }
+{
+    make_response(alloc, head, &[header, body, trailer])
 }
