@@ -1,5 +1,9 @@
 pub mod FindingLemmas
 pub mod HeardLemmas
+pub mod HoldLemmas
 pub mod JoinedTexts
 pub mod LogLemmas
+pub mod PromiseLemmas
+pub mod RelayingLemmas
 pub mod StageLemmas
+pub mod StarvedText

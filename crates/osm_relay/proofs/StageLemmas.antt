@@ -44,7 +44,7 @@ begins_starved root c m silent asked = (begins root c m starved silent (Starved 
 
 -- ---- the request
 
-asked_none : (brought : List ℕ) (m : Option Log) → m ≡ None → IsAskedFor brought m
+pub asked_none : (brought : List ℕ) (m : Option Log) → m ≡ None → IsAskedFor brought m
 asked_none brought m e = subst (IsAskedFor brought) (sym e) tt
 
 module _ (root : List ℕ) (heard : List ℕ) (c : Log) (m : Option Log) (piece : List ℕ) (is : StandsAt root (Hearing heard) c m) where
@@ -179,7 +179,7 @@ module _ (root : List ℕ) (search : Search) (reply : Kept) (c : Log) (m : Log) 
   listening : IsListening reply m
   listening = let (log, same, of_it) = is.1 in let one : log ≡ m = cc in subst (IsListening reply) one of_it
 
-  failed : MirrorFault → Search
+  abbrev pub failed : MirrorFault → Search
   failed fault = record { question = search.question; next = search.next; fault = fault }
 
   pub listening_silent : StandsAt root (Choosing (failed faults.Silent)) c (Some m)

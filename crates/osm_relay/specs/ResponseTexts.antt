@@ -38,7 +38,8 @@ head_text head body_len =
     ++ field_line (codes "Content-Length") (decimal body_len)
     ++ field_if (codes "Osm-Root") (option_map encode_lower head.root)
     ++ field_if (codes "Allow") head.allow
-    ++ codes "Connection: close\r\n\r\n"
+    ++ field_line (codes "Connection") (codes "close")
+    ++ line_end
 
 unfoldable pub response_text : Response → List ℕ
 response_text r = head_text r.head (length r.body) ++ r.body

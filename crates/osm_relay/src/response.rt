@@ -63,7 +63,8 @@ fn head_text(alloc: Global, head: &ResponseHead<'_>, body_len: usize) -> Result<
     push_field(&mut text, "Content-Length", length.as_str())?;
     push_root(alloc, &mut text, head.root)?;
     push_allow(&mut text, head.allow)?;
-    text.push_str("Connection: close\r\n\r\n")?;
+    push_field(&mut text, "Connection", "close")?;
+    text.push_str("\r\n")?;
     Ok(text)
 }
 

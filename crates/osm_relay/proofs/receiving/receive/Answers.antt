@@ -1,11 +1,9 @@
-use Rattle.std.proofs.Common.{sym, subst, take}
-use Rattle.osm_relay.specs.Logs.{Log, brings, ends}
-use Rattle.osm_relay.specs.internal.Stages.{StandsAt}
-use Rattle.osm_relay.proofs.LogLemmas.{log_before}
-use Rattle.osm_relay.proofs.StageLemmas.{hearing_gone}
+use Rattle.std.proofs.Common.{take}
+use Rattle.osm_relay.specs.Logs.{brings}
+use Rattle.osm_relay.specs.declared.stage.Stage.TheVariants.{Hearing}
+use Rattle.osm_relay.proofs.HoldLemmas.{at_client}
 use Rattle.osm_relay.proofs.receiving.receive.Goals as goal
 
 pub returns-in-Got : goal.returns-in-Got
-returns-in-Got g c = λ root mirror holds new m is mir.
-    let (old, was, same) = log_before (brings (take c.in-Got.count c.read.new.piece)) _ _ new c.in-Got.ensures.2 is in
-    subst (λ (l : Log). StandsAt root c.receive_piece-stage.result l m) (sym same) (c.receive_piece-stage.ensures root old m (holds old m was mir))
+returns-in-Got g c = λ root mirror.
+    at_client root (Hearing c.args.heard) c.receive_piece.result (brings (take c.in-Got.count c.read.new.piece)) _ _ mirror c.in-Got.ensures.2 (c.receive_piece.ensures root)
