@@ -1,8 +1,7 @@
+pub mod DialledLemmas
 pub mod FindingLemmas
 pub mod HeardLemmas
-pub mod HoldLemmas
 pub mod JoinedTexts
-pub mod LogLemmas
 pub mod PromiseLemmas
 pub mod RelayingLemmas
 pub mod StageLemmas

@@ -92,30 +92,29 @@ module _ (root : List ℕ) (search : Search) (c : Log) (m : Option Log) (is : St
     is.2,
   )
 
-  pub choosing_none : (next : ℕ) (o : Option Log) → o ≡ None → StandsAt root (Choosing (record { question = search.question; next = next; fault = faults.Unreached })) c o
-  choosing_none next o e = (
-    is.0,
-    subst (λ (o : Option Log). IsMirrorFault (wanted search.question root) o faults.Unreached) (sym e) refl,
-    asked_none c.brought o e,
-  )
+  module _ (next : Search) (same : next.question ≡ search.question) (unreached : next.fault ≡ faults.Unreached) where
+    waits_still : IsWaiting next.question c
+    waits_still = subst (λ (q : Question). IsWaiting q c) (sym same) is.0
 
-  pub choosing_some : (next : ℕ) (host request : List ℕ) (log : Log) → is_host_text host ≡ true → request ≡ request_text host search.question.query → log ≡ fresh
-      → StandsAt root (Asking (record { question = search.question; next = next; fault = faults.Unreached }) request) c (Some log)
-  choosing_some next host request log is_host e new = (
-    is.0,
-    (
-      log,
-      refl,
-      record {
-        host = host;
-        is_host = is_host;
-        front = sym e ∙ ap (λ (l : Log). l.took ++ request) (sym new);
-        silent = ap (λ (l : Log). l.brought) new;
-        open_is = ap (λ (l : Log). l.ended) new;
-        fails = (ap (λ (l : Log). l.took) new, ap (λ (l : Log). l.brought) new);
-      },
-    ),
-  )
+    pub choosing_none : StandsAt root (Choosing next) c None
+    choosing_none = (waits_still, unreached, tt)
+
+    pub choosing_some : (host request : List ℕ) → is_host_text host ≡ true → request ≡ request_text host search.question.query → StandsAt root (Asking next request) c (Some fresh)
+    choosing_some host request is_host e = (
+      waits_still,
+      (
+        fresh,
+        refl,
+        record {
+          host = host;
+          is_host = is_host;
+          front = ap (λ (q : Question). request_text host q.query) same ∙ sym e;
+          silent = refl;
+          open_is = refl;
+          fails = subst (λ (f : MirrorFault). IsMirrorFault (wanted next.question root) (Some fresh) f) (sym unreached) (refl, refl);
+        },
+      ),
+    )
 
 -- ---- the request to the mirror
 
@@ -253,15 +252,15 @@ module _ (root : List ℕ) (search : Search) (reply : Kept) (c : Log) (m : Log) 
   pub settled_starved : StandsAt root (Answering starved) c (Some m)
   settled_starved = begins_starved root c (Some m) is.waits_for.silent is.asked
 
-  module _ (named answer proof : List ℕ) (has : (received : List ℕ) → HasTaken reply received → HasReply reply.limit received named answer proof) where
-    reply_is : HasReply REPLY_LIMIT m.brought named answer proof
-    reply_is = subst (λ n. HasReply n m.brought named answer proof) is.limit (has m.brought is.taken)
+  pub reply_is : (named answer proof : List ℕ) → ((received : List ℕ) → HasTaken reply received → HasReply reply.limit received named answer proof) → HasReply REPLY_LIMIT m.brought named answer proof
+  reply_is named answer proof has = subst (λ n. HasReply n m.brought named answer proof) is.limit (has m.brought is.taken)
 
+  module _ (named answer proof : List ℕ) (whole_is : HasReply REPLY_LIMIT m.brought named answer proof) where
     pub settled_given : (response text : List ℕ) (report : Report) → IsShown search.question.query root search.question.form proof text report
         → response ≡ response_text (document_response search.question.form root text) → StandsAt root (Answering response) c (Some m)
     settled_given response text report shows e = (
       begins root c (Some m) response is.waits_for.silent
-          (Given search.question.query search.question.form m named answer proof text report is.waits_for.wants refl reply_is shows e),
+          (Given search.question.query search.question.form m named answer proof text report is.waits_for.wants refl whole_is shows e),
       is.asked,
     )
 
@@ -269,8 +268,8 @@ module _ (root : List ℕ) (search : Search) (reply : Kept) (c : Log) (m : Log) 
     fails faults.Unreached of_it = absurd of_it
     fails faults.Silent of_it = absurd of_it
     fails (faults.Reply fault) of_it = absurd of_it
-    fails faults.OtherRoot of_it = (named, answer, proof, reply_is, of_it)
-    fails (faults.Proof why) of_it = (named, answer, proof, reply_is, of_it)
+    fails faults.OtherRoot of_it = (named, answer, proof, whole_is, of_it)
+    fails (faults.Proof why) of_it = (named, answer, proof, whole_is, of_it)
 
     pub settled_refused : (fault : MirrorFault) → IsFaultOf (wanted search.question root) named proof fault
         → StandsAt root (Choosing (record { question = search.question; next = search.next; fault = fault })) c (Some m)
@@ -300,3 +299,11 @@ answering_done root left c m ((response, split, of_it), asked) none =
 
 pub hearing_gone : (root heard : List ℕ) (c : Log) (m : Option Log) → StandsAt root (Hearing heard) c m → StandsAt root (Over false) c m
 hearing_gone root heard c m is = (inl is.0, asked_none c.brought m is.1)
+
+-- ---- a mirror without a wire
+
+pub no_asking : (root : List ℕ) (search : Search) (request : List ℕ) (c : Log) (m : Option Log) → m ≡ None → StandsAt root (Asking search request) c m → StandsAt root (Choosing search) c m
+no_asking root search request c m none is = let (log, same, of_it) = is.1 in absurd (cc)
+
+pub no_listening : (root : List ℕ) (search : Search) (reply : Kept) (c : Log) (m : Option Log) → m ≡ None → StandsAt root (Listening search reply) c m → StandsAt root (Choosing search) c m
+no_listening root search reply c m none is = let (log, same, of_it) = is.1 in absurd (cc)

@@ -1,6 +1,6 @@
 -- The response to a client's first request, by what the client and the last mirror asked have sent.
 -- Source: this project.
-use Rattle.std.specs.Prelude.{◌≡◌, ◌⊎◌, ℕ, Bool, true, false, List, [], ◌++◌, Option, Some, None, option_map}
+use Rattle.std.specs.Prelude.{◌≡◌, ◌⊎◌, ℕ, Bool, true, false, List, [], ◌++◌, Option, Some, None}
 use Rattle.ql_syntax.specs.Queries.{HasFault}
 use Rattle.ql_syntax.specs.declared.fault.QlFault.{QlFault}
 use Rattle.ql_eval.specs.declared.evaluation.Report.{Report}
@@ -73,13 +73,14 @@ pub data Relayed (root brought : List ℕ) (mirror : Option Log) (response : Lis
 
 -- ---- a conversation
 
--- how a conversation stands: its number, the root, what went over the wires of the client and of the last mirror asked, and once it is
+-- how a conversation stands: its number, the root, whether its wires tell, what went over those of the client and of the last mirror asked, and once it is
 -- over whether the client took all of its response
 pub record Standing : Type 0 where
   pub number : ℕ
   pub root : List ℕ
-  pub client : Option Log
-  pub mirror : Option (Option Log)
+  pub tells : Bool
+  pub client : Log
+  pub mirror : Option Log
   pub ending : Option Bool
 
 -- what the client took is a beginning of the response to its first request, or nothing
@@ -105,6 +106,4 @@ IsAskedFor brought (Some m) =
 
 -- the promise of every conversation, at any time, where its wires tell
 abbrev pub IsPromised : Standing → Type 0
-IsPromised s =
-    (c : Log) (m : Option Log) → s.client ≡ Some c → s.mirror ≡ option_map (λ log. Some log) m
-    → IsTakenAt s.ending s.root c m × IsAskedFor c.brought m
+IsPromised s = s.tells ≡ true → IsTakenAt s.ending s.root s.client s.mirror × IsAskedFor s.client.brought s.mirror

@@ -1,8 +1,8 @@
 //! The response to the client.
 
-ghost use Rattle.std.specs.Prelude.{◌≤◌, List, Option, length, take, ℕ};
+ghost use Rattle.std.specs.Prelude.{◌≡◌, ◌≤◌, List, Option, length, take, true, ℕ};
 ghost use Rattle.osm_relay.specs.Logs.{Log, takes};
-ghost use Rattle.osm_relay.specs.internal.Stages.{Holds, StandsAt};
+ghost use Rattle.osm_relay.specs.internal.Stages.{StandsAt};
 
 use crate::output::Output;
 use crate::stage::Stage;
@@ -12,9 +12,9 @@ use crate::wire::{Wire, Writing};
 
 /// Writes the response to the client, as far as it takes it.
 pub(crate) fn answer<W: Wire>(client: &mut W, response: Output) -> Step
-    ensures { (root : List ℕ) (mirror : Option (Option Log))
-        → Holds root (Stage.Answering response) (W.log client.old) mirror
-        → Holds root result.stage (W.log client.new) mirror }
+    ensures { (root : List ℕ) (mirror : Option Log) → W.tells ≡ true
+        → StandsAt root (Stage.Answering response) (W.log client.old) mirror
+        → StandsAt root result.stage (W.log client.new) mirror }
 {
     match client.write(response.bytes()) {
         Writing::Took(0) => Step {

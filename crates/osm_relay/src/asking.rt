@@ -1,8 +1,8 @@
 //! The request to a mirror.
 
-ghost use Rattle.std.specs.Prelude.{◌≤◌, List, Option, Some, length, take, ℕ};
+ghost use Rattle.std.specs.Prelude.{◌≡◌, ◌≤◌, List, Some, true, length, take, ℕ};
 ghost use Rattle.osm_relay.specs.Logs.{Log, takes};
-ghost use Rattle.osm_relay.specs.internal.Stages.{Holds, StandsAt};
+ghost use Rattle.osm_relay.specs.internal.Stages.{StandsAt};
 
 use crate::limits::REPLY_LIMIT;
 use crate::output::Output;
@@ -16,9 +16,9 @@ use std::alloc::Global;
 
 /// Writes the request to the mirror, as far as it takes it. A mirror that is gone before it has taken a byte can't be reached.
 pub(crate) fn ask<W: Wire>(alloc: Global, mirror: &mut W, search: Search, request: Output) -> Step
-    ensures { (root : List ℕ) (client : Option Log)
-        → Holds root (Stage.Asking search request) client (Some (W.log mirror.old))
-        → Holds root result.stage client (Some (W.log mirror.new)) }
+    ensures { (root : List ℕ) (client : Log) → W.tells ≡ true
+        → StandsAt root (Stage.Asking search request) client (Some (W.log mirror.old))
+        → StandsAt root result.stage client (Some (W.log mirror.new)) }
 {
     match mirror.write(request.bytes()) {
         Writing::Took(0) => Step {

@@ -1,7 +1,7 @@
 //! Conversations.
 
-ghost use Rattle.std.specs.Prelude.{◌≡◌, ◌↔◌, IsSome, None};
-ghost use Rattle.osm_relay.specs.Logs.{IsFresh};
+ghost use Rattle.std.specs.Prelude.{◌≡◌, ◌↔◌, IsSome, None, true};
+ghost use Rattle.osm_relay.specs.Logs.{fresh};
 ghost use Rattle.osm_relay.specs.Relayed.{IsPromised};
 
 use crate::hearing::Heard;
@@ -29,29 +29,31 @@ pub struct Conversation<W: Wire> {
 }
 
 impl<W: Wire> Model for Conversation<W> {
-    ghost use Rattle.std.specs.Prelude.{option_map};
+    ghost use Rattle.std.specs.Prelude.{◌≡◌, option_map, true};
     ghost use Rattle.osm_relay.specs.Relayed.{Standing};
 
     ghost Value = { Standing };
 
-    ghost use Rattle.osm_relay.specs.internal.Stages.{Holds, ending_of};
+    ghost use Rattle.osm_relay.specs.internal.Stages.{StandsAt, ending_of};
 
     ghost view = { λ s. record {
       number = s.number;
       root = s.root.0;
+      tells = W.tells;
       client = W.log s.client;
       mirror = option_map W.log s.mirror;
       ending = ending_of s.stage;
     } };
 
-    ghost invariant = { λ s. Holds s.root.0 s.stage (W.log s.client) (option_map W.log s.mirror) };
+    ghost invariant = { λ s. W.tells ≡ true
+        → StandsAt s.root.0 s.stage (W.log s.client) (option_map W.log s.mirror) };
 }
 
 impl<W: Wire> Conversation<W> {
     /// A client that has just come. It takes no memory.
     pub fn new(alloc: Global, number: u32, root: Digest, client: W) -> Conversation<W>
-        requires { IsFresh (W.log client) }
-        ensures { result ≡ record { number = number; root = root.0; client = W.log client; mirror = None; ending = None } }
+        requires { W.tells ≡ true → W.log client ≡ fresh }
+        ensures { result ≡ record { number = number; root = root.0; tells = W.tells; client = W.log client; mirror = None; ending = None } }
     {
         Conversation {
             number,

@@ -1,13 +1,12 @@
 //! What a whole reply comes to.
 
-ghost use Rattle.std.specs.Prelude.{◌≡◌, ◌++◌, IfOk};
-ghost use Rattle.osm_relay.specs.internal.Adding.{parts_of};
+ghost use Rattle.std.specs.Prelude.{◌≡◌, IfOk};
 ghost use Rattle.osm_relay.specs.internal.Judging.{Judges};
 ghost use Rattle.osm_relay.specs.Pages.{document_response};
 ghost use Rattle.osm_relay.specs.ResponseTexts.{response_text};
 
 use crate::question::Question;
-use crate::response::{ResponseHead, make_response};
+use crate::response::{ResponseHead, joined_response};
 use http::StatusCode;
 use mirror_answer::{MirrorFault, Shown, show};
 use mirror_reply::Parts;
@@ -50,19 +49,5 @@ fn document(alloc: Global, form: Form, root: &Digest, text: &[u8]) -> Result<Vec
         allow: None,
     };
     let parts = form.document_parts(text);
-    joined(alloc, &head, parts.header, parts.body, parts.trailer)
-}
-
-/// The response whose body is made of these three parts.
-fn joined<'a>(
-    alloc: Global,
-    head: &ResponseHead<'_>,
-    header: &'a [u8],
-    body: &'a [u8],
-    trailer: &'a [u8],
-) -> Result<Vec<u8>, AllocError>
-    ensures { IfOk result (λ response. response.items ≡ response_text (record {
-        head = parts_of head.now; body = header.now ++ (body.now ++ trailer.now) })) }
-{
-    make_response(alloc, head, &[header, body, trailer])
+    joined_response(alloc, &head, parts.header, parts.body, parts.trailer)
 }

@@ -1,8 +1,11 @@
 //! A mirror's response.
 
-ghost use Rattle.std.specs.Prelude.{List, Option, Some, ℕ};
+ghost use Rattle.std.specs.Prelude.{◌≡◌, Some, true};
+ghost use Rattle.mirror_reply.specs.Replies.{HasReply};
+ghost use Rattle.mirror_reply.specs.Taken.{Kept};
 ghost use Rattle.osm_relay.specs.Logs.{Log, brings, ends};
-ghost use Rattle.osm_relay.specs.internal.Stages.{Holds, IsHeard, StandsAt};
+ghost use Rattle.osm_relay.specs.declared.limits.TheConstants.{REPLY_LIMIT};
+ghost use Rattle.osm_relay.specs.internal.Stages.{IsHeard, StandsAt};
 
 use crate::judging::{Judged, judge};
 use crate::limits::MIRROR_PIECE;
@@ -12,7 +15,7 @@ use crate::step::{Step, starved};
 use crate::turn::Turn;
 use crate::wire::{Reading, Wire};
 use mirror_answer::MirrorFault;
-use mirror_reply::{Progress, Reply};
+use mirror_reply::{Parts, Progress, Reply};
 use std::alloc::Global;
 use tree_node::Digest;
 
@@ -24,9 +27,9 @@ pub(crate) fn listen<W: Wire>(
     search: Search,
     reply: Reply,
 ) -> Step
-    ensures { (client : Option Log)
-        → Holds root.now.0 (Stage.Listening search reply) client (Some (W.log mirror.old))
-        → Holds root.now.0 result.stage client (Some (W.log mirror.new)) }
+    ensures { (client : Log) → W.tells ≡ true
+        → StandsAt root.now.0 (Stage.Listening search reply) client (Some (W.log mirror.old))
+        → StandsAt root.now.0 result.stage client (Some (W.log mirror.new)) }
 {
     let mut piece = [0; MIRROR_PIECE];
     match mirror.read(&mut piece) {
@@ -83,10 +86,19 @@ fn listen_end(alloc: Global, root: &Digest, search: Search, reply: Reply) -> Sta
 fn settle(alloc: Global, root: &Digest, search: Search, reply: Reply) -> Stage
     ensures { (c : Log) (m : Log) → IsHeard search reply c m → StandsAt root.now.0 result c (Some m) }
 {
-    let Some(parts) = reply.parts() else {
+    match reply.parts() {
+        Some(parts) => settle_parts(alloc, root, search, parts),
         // A whole reply has its parts.
-        return Stage::Choosing(search.failed(MirrorFault::Silent));
-    };
+        None => Stage::Choosing(search.failed(MirrorFault::Silent)),
+    }
+}
+
+/// Where the conversation stands by the parts of a whole reply.
+fn settle_parts(alloc: Global, root: &Digest, search: Search, parts: Parts<'_>) -> Stage
+    ensures { (reply : Kept) (c : Log) (m : Log) → IsHeard search reply c m
+        → HasReply REPLY_LIMIT m.brought parts.entry.root.now parts.entry.answer.now parts.entry.proof.now
+        → StandsAt root.now.0 result c (Some m) }
+{
     match judge(alloc, root, &search.question, parts) {
         Ok(Judged::Given(response)) => Stage::Answering(Output::new(response)),
         Ok(Judged::Refused(fault)) => Stage::Choosing(search.failed(fault)),

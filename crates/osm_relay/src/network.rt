@@ -3,7 +3,7 @@
 ghost use Rattle.std.specs.Prelude.{◌≡◌, IfOk, IfSome, List, OnErr, Option, true};
 ghost use Rattle.mirror_reply.specs.Requests.{is_host_text};
 ghost use Rattle.osm_relay.specs.Events.{Event, came_by, left, noted};
-ghost use Rattle.osm_relay.specs.Logs.{IsFresh};
+ghost use Rattle.osm_relay.specs.Logs.{fresh};
 
 use crate::relay_fault::RelayFault;
 use crate::turn::{Awaits, Turn};
@@ -43,7 +43,7 @@ pub trait Network<W: Wire> {
     /// Takes the client that waits, for the conversation of this number; `None` where there is none any more.
     fn take(&mut self, number: u32) -> Result<Option<W>, RelayFault>
         ensures taken { IfOk result (λ client. log self.new ≡ came_by client number (log self.old)) }
-        ensures fresh { IfOk result (λ client. IfSome client (λ wire. IsFresh (W.log wire))) }
+        ensures fresh { IfOk result (λ client. IfSome client (λ wire. W.tells ≡ true → W.log wire ≡ fresh)) }
         ensures refused { OnErr result (log self.new ≡ log self.old) };
 
     /// The name of a mirror, as it stands in the field `Host` of a request: `mirror.example:8080`; `None` where there are no
@@ -53,7 +53,7 @@ pub trait Network<W: Wire> {
 
     /// Begins to open a new connection to a mirror, for the conversation of this number; `None` where that fails at once.
     fn dial(&mut self, number: u32, mirror: usize) -> Option<W>
-        ensures fresh { IfSome result (λ wire. IsFresh (W.log wire)) }
+        ensures fresh { IfSome result (λ wire. W.tells ≡ true → W.log wire ≡ fresh) }
         ensures log { log self.new ≡ log self.old };
 
     /// Notes what the last turn of the conversation did, and what it waits for now. Where something moved, it is told soon that

@@ -4,7 +4,7 @@ ghost use Rattle.std.specs.Prelude.{◌≡◌, ◌++◌, IfOk, OnOk, option_map}
 ghost use Rattle.osm_relay.specs.Pages.{error_response, escaped, escaped_byte, not_allowed_response, page_response};
 ghost use Rattle.osm_relay.specs.ResponseTexts.{response_text};
 
-use crate::response::{ResponseHead, make_response};
+use crate::response::{ResponseHead, joined_response};
 use http::StatusCode;
 use std::alloc::{AllocError, Global};
 
@@ -52,7 +52,7 @@ fn page_response(
     };
     let mut line = Vec::new(alloc);
     push_escaped(&mut line, text)?;
-    make_response(alloc, &head, &[PAGE_START, line.as_slice(), PAGE_END])
+    joined_response(alloc, &head, PAGE_START, line.as_slice(), PAGE_END)
 }
 
 /// Appends a text as HTML writes it.

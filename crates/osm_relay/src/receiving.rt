@@ -1,8 +1,8 @@
 //! The client's request.
 
-ghost use Rattle.std.specs.Prelude.{List, Option, ℕ};
+ghost use Rattle.std.specs.Prelude.{◌≡◌, List, Option, false, true, ℕ};
 ghost use Rattle.osm_relay.specs.Logs.{Log, brings};
-ghost use Rattle.osm_relay.specs.internal.Stages.{Holds, StandsAt};
+ghost use Rattle.osm_relay.specs.internal.Stages.{StandsAt};
 
 use crate::hearing::{Heard, Reaction, hear_piece};
 use crate::limits::CLIENT_PIECE;
@@ -17,9 +17,9 @@ use std::alloc::Global;
 /// Reads a piece of the client's request. A client that is gone, or sends no more, before its request is complete is answered
 /// nothing.
 pub(crate) fn receive<W: Wire>(alloc: Global, client: &mut W, heard: Heard) -> Step
-    ensures { (root : List ℕ) (mirror : Option (Option Log))
-        → Holds root (Stage.Hearing heard) (W.log client.old) mirror
-        → Holds root result.stage (W.log client.new) mirror }
+    ensures { (root : List ℕ) (mirror : Option Log) → W.tells ≡ true
+        → StandsAt root (Stage.Hearing heard) (W.log client.old) mirror
+        → StandsAt root result.stage (W.log client.new) mirror }
 {
     let mut piece = [0; CLIENT_PIECE];
     match client.read(&mut piece) {
@@ -31,10 +31,18 @@ pub(crate) fn receive<W: Wire>(alloc: Global, client: &mut W, heard: Heard) -> S
             stage: Stage::Hearing(heard),
             turn: Turn::Waits,
         },
-        Reading::Ended | Reading::Gone => Step {
-            stage: Stage::Over { whole: false },
-            turn: Turn::Moved(0),
-        },
+        Reading::Ended => over(),
+        Reading::Gone => over(),
+    }
+}
+
+/// It is over, and the client has taken nothing.
+fn over() -> Step
+    ensures { result.stage ≡ Stage.Over false }
+{
+    Step {
+        stage: Stage::Over { whole: false },
+        turn: Turn::Moved(0),
     }
 }
 

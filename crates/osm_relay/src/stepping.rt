@@ -1,8 +1,8 @@
 //! The next step of a conversation.
 
-ghost use Rattle.std.specs.Prelude.{◌≡◌, List, Option, option_map, ℕ};
+ghost use Rattle.std.specs.Prelude.{◌≡◌, List, Option, option_map, true, ℕ};
 ghost use Rattle.osm_relay.specs.Logs.{Log};
-ghost use Rattle.osm_relay.specs.internal.Stages.{Holds, StandsAt};
+ghost use Rattle.osm_relay.specs.internal.Stages.{StandsAt};
 
 use crate::answering::answer;
 use crate::asking::ask;
@@ -31,8 +31,9 @@ pub(crate) fn step_on<W: Wire, N: Network<W>>(
     stage: Stage,
 ) -> Step
     ensures log { N.log network.new ≡ N.log network.old }
-    ensures stage { Holds root.now.0 stage (W.log client.old) (option_map W.log mirror.old)
-        → Holds root.now.0 result.stage (W.log client.new) (option_map W.log mirror.new) }
+    ensures stage { W.tells ≡ true
+        → StandsAt root.now.0 stage (W.log client.old) (option_map W.log mirror.old)
+        → StandsAt root.now.0 result.stage (W.log client.new) (option_map W.log mirror.new) }
 {
     match stage {
         Stage::Hearing(heard) => receive(alloc, client, heard),
@@ -56,9 +57,9 @@ fn ask_mirror<W: Wire>(
     search: Search,
     request: Output,
 ) -> Step
-    ensures { (root : List ℕ) (client : Option Log)
-        → Holds root (Stage.Asking search request) client (option_map W.log mirror.old)
-        → Holds root result.stage client (option_map W.log mirror.new) }
+    ensures { (root : List ℕ) (client : Log) → W.tells ≡ true
+        → StandsAt root (Stage.Asking search request) client (option_map W.log mirror.old)
+        → StandsAt root result.stage client (option_map W.log mirror.new) }
 {
     match mirror {
         Some(wire) => ask(alloc, wire, search, request),
@@ -76,9 +77,9 @@ fn listen_to<W: Wire>(
     search: Search,
     reply: Reply,
 ) -> Step
-    ensures { (client : Option Log)
-        → Holds root.now.0 (Stage.Listening search reply) client (option_map W.log mirror.old)
-        → Holds root.now.0 result.stage client (option_map W.log mirror.new) }
+    ensures { (client : Log) → W.tells ≡ true
+        → StandsAt root.now.0 (Stage.Listening search reply) client (option_map W.log mirror.old)
+        → StandsAt root.now.0 result.stage client (option_map W.log mirror.new) }
 {
     match mirror {
         Some(wire) => listen(alloc, root, wire, search, reply),
@@ -97,7 +98,8 @@ pub(crate) fn impatient(stage: Stage) -> Stage
     match stage {
         Stage::Asking { search, .. } => Stage::Choosing(search),
         Stage::Listening { search, .. } => Stage::Choosing(search.failed(MirrorFault::Silent)),
-        Stage::Hearing(_) | Stage::Answering(_) => Stage::Over { whole: false },
+        Stage::Hearing(_) => Stage::Over { whole: false },
+        Stage::Answering(_) => Stage::Over { whole: false },
         Stage::Choosing(search) => Stage::Choosing(search),
         Stage::Over { whole } => Stage::Over { whole },
     }

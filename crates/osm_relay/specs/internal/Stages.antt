@@ -1,5 +1,5 @@
 -- What is known of the wires at each stage of a conversation.
-use Rattle.std.specs.Prelude.{◌≡◌, ℕ, Bool, true, false, List, [], ◌++◌, Option, Some, None, option_map}
+use Rattle.std.specs.Prelude.{◌≡◌, ℕ, Bool, true, false, List, [], ◌++◌, Option, Some, None}
 use Rattle.http_messages.specs.HeadEnds.{skip_breaks}
 use Rattle.mirror_reply.specs.Replies.{HasReply}
 use Rattle.mirror_reply.specs.Standings.{Stands, waits}
@@ -57,11 +57,6 @@ StandsAt root (Listening search reply) c m =
     IsWaiting search.question c × ((log : Log) × (m ≡ Some log) × IsListening reply log) × IsAskedFor c.brought m
 StandsAt root (Answering left) c m = IsAnswering root left c m × IsAskedFor c.brought m
 StandsAt root (Over whole) c m = IsTakenAt (Some whole) root c m × IsAskedFor c.brought m
-
--- where the wires tell
-abbrev pub Holds : List ℕ → Stage → Option Log → Option (Option Log) → Type 0
-Holds root stage client mirror =
-    (c : Log) (m : Option Log) → client ≡ Some c → mirror ≡ option_map (λ log. Some log) m → StandsAt root stage c m
 
 abbrev pub ending_of : Stage → Option Bool
 ending_of (Hearing heard) = None

@@ -1,6 +1,8 @@
-use Rattle.std.proofs.Common.{sym}
+use Rattle.std.proofs.Common.{◌≡◌, IfOk, subst, sym}
 use Rattle.http_messages.specs.Decisions.{asked_of}
 use Rattle.http_messages.specs.Requests.{Decided, asked, refused}
+use Rattle.osm_relay.specs.Errands.{Errand, errand_of, unmet}
+use Rattle.osm_relay.specs.internal.Finding.{Meets}
 use Rattle.osm_relay.proofs.FindingLemmas.{found_of}
 use Rattle.osm_relay.proofs.HeardLemmas.{open-body, open-head}
 use Rattle.osm_relay.proofs.finding.find.Goals as goal
@@ -15,7 +17,8 @@ returns-in-BodyOpen c =
 pub returns-in-Refused : goal.returns-in-Refused
 returns-in-Refused c =
     let d : Decided = record { request = refused c.in-Refused.refusal; used = c.in-Refused.used } in
-    found_of c.args.bytes.now d (sym c.in-Refused.ensures.decided) _ c.refuse.ensures
+    let same : unmet c.status.result c.text.result.now ≡ errand_of d.request = λ i. unmet (c.status.ensures i) (c.text.ensures i) in
+    found_of c.args.bytes.now d (sym c.in-Refused.ensures.decided) _ (subst (λ (e : Errand). IfOk c.refuse.result (Meets e)) same c.refuse.ensures)
 
 pub returns-in-Complete : goal.returns-in-Complete
 returns-in-Complete c =
