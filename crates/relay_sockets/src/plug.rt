@@ -14,9 +14,12 @@ pub struct Plug {
 }
 
 impl Wire for Plug {
-    ghost use Rattle.std.specs.Prelude.{None};
+    ghost use Rattle.osm_relay.specs.Logs.{fresh};
+    ghost use Rattle.std.specs.Prelude.{false};
 
-    ghost log = { λ _. None };
+    ghost tells = { false };
+
+    ghost log = { λ _. fresh };
 
     fn read(&mut self, piece: &mut [u8]) -> Reading {
         for _ in 0..RETRIES {

@@ -44,9 +44,12 @@ pub(super) struct Line {
 }
 
 impl Wire for Line {
-    ghost use Rattle.std.specs.Prelude.{None};
+    ghost use Rattle.osm_relay.specs.Logs.{fresh};
+    ghost use Rattle.std.specs.Prelude.{false};
 
-    ghost log = { λ _. None };
+    ghost tells = { false };
+
+    ghost log = { λ _. fresh };
 
     fn read(&mut self, piece: &mut [u8]) -> Reading {
         let left = self.sends.get(self.given..).unwrap_or(b"");
