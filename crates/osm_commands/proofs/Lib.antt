@@ -1,5 +1,6 @@
 pub mod AskLemmas
 pub mod BegunLemmas
+pub mod DocumentLemmas
 pub mod FileLemmas
 pub mod FrontLemmas
 pub mod QueryLemmas

@@ -8,6 +8,7 @@
 mod ask_command;
 mod check_command;
 mod command_fault;
+mod document_writer;
 mod flushing_writer;
 mod front_reader;
 mod listening_lines;
@@ -27,6 +28,7 @@ mod whole_writer;
 pub use ask_command::ask;
 pub use check_command::check;
 pub use command_fault::CommandFault;
+pub use document_writer::write_document;
 pub use flushing_writer::{FlushingWriter, flush_outcome};
 pub use listening_lines::listening_line;
 pub use prove_command::prove;
