@@ -11,6 +11,7 @@ ghost use Rattle.mirror_answer.specs.Showing.{IsRightly, ShowsText};
 
 use crate::mirror_fault::MirrorFault;
 use crate::shown::Shown;
+use mirror_reply::Parts;
 use osm_check::{Told, Why, tell};
 use osm_forms::Form;
 use std::alloc::{AllocError, Global};
@@ -26,27 +27,26 @@ pub fn show(
     form: Form,
     query: &[u8],
     root: &Digest,
-    named: &[u8],
-    proof: &[u8],
+    parts: Parts<'_>,
 ) -> Result<Shown, AllocError>
     // The headline: under the root of any publication, a text that is shown is the query's meaning over its set in
     // this form, and the proof the one proof of the query, unless a node of the publication and a node that stands in
     // the proof are two with one digest.
     ensures headline { (p : Publication) (text : Vec ℕ Global) → IsPublication p
         → root.now.0 ≡ root_of p → result ≡ Ok (Shown.Answer text)
-        → IsProvedIn p query.now form text.items proof.now
-        ⊎ Clash (IsNodeIn p) (StandsIn proof.now) }
+        → IsProvedIn p query.now form text.items parts.entry.proof.now
+        ⊎ Clash (IsNodeIn p) (StandsIn parts.entry.proof.now) }
     // The one proof of the query always shows its meaning, whatever else stands in the reply.
     ensures honest { (p : Publication) (text : List ℕ) → IsPublication p → root.now.0 ≡ root_of p
-        → IsProvedIn p query.now form text proof.now → IfOk result (ShowsText text) }
+        → IsProvedIn p query.now form text parts.entry.proof.now → IfOk result (ShowsText text) }
     // Whatever the root is, an answer is shown by the proof, and a fault is true of query, root and reply.
     ensures rightly { IfOk result (IsRightly (record {
-        query = query.now; root = root.now.0; form = form }) named.now proof.now) }
+        query = query.now; root = root.now.0; form = form }) parts.entry.root.now parts.entry.proof.now) }
 {
-    match tell(alloc, form, query, root, proof)? {
+    match tell(alloc, form, query, root, parts.proof)? {
         Told::Answer { text, report: _ } => Ok(Shown::Answer(text)),
         Told::No(Why::QueryRefused(fault)) => Ok(Shown::Unread(fault)),
-        Told::No(why) => Ok(Shown::Refused(fault_of(why, root, named))),
+        Told::No(why) => Ok(Shown::Refused(fault_of(why, root, parts.root))),
     }
 }
 

@@ -101,7 +101,7 @@ fn fetch_text<D: Dial>(
     let Some(parts) = reply.parts() else {
         unreachable!("a whole reply has parts");
     };
-    match show(alloc, form, query, root, parts.root, parts.proof)? {
+    match show(alloc, form, query, root, parts)? {
         Shown::Answer(text) => Ok(text),
         Shown::Unread(fault) => Err(NotFetched::Query(fault)),
         Shown::Refused(fault) => Err(NotFetched::Mirror(fault)),
