@@ -14,7 +14,12 @@ use Rattle.osm_forms.specs.Forms.{form_text}
 use Rattle.osm_forms.specs.declared.form.Form.{Form}
 use Rattle.ql_meaning.specs.Meanings.{Means_by}
 use Rattle.ql_meaning.proofs.HavingMeaning.{has_meaning_by}
-use Rattle.osm_check.specs.Telling.{IsProvedIn}
+use Rattle.std.specs.declared.alloc.Global.{Global}
+use Rattle.std.specs.declared.vec.Vec.{Vec}
+use Rattle.ql_eval.specs.declared.evaluation.Report.{Report}
+use Rattle.osm_check.specs.Telling.{IsProvedIn, TellsText}
+use Rattle.osm_check.specs.declared.told.Told.{Told}
+use Rattle.osm_check.specs.declared.told.Told.TheVariants.{Answer}
 use Rattle.osm_prove.specs.Proved.{IsProved}
 use Rattle.osm_prove.specs.declared.prove_fault.ProveFault.{ProveFault}
 use Rattle.osm_prove.specs.declared.prove_fault.ProveFault.TheVariants as refusals
@@ -119,7 +124,7 @@ in_form form p query answer proof proved =
     (text, record { statements = proved.statements; reads = proved.reads; means = means; proof_is = proved.proof_is })
 
 -- what the proof over a publication of the file's set shows is the answer
-pub answer_is : (form : Form) (known : Option (List ℕ)) (edition : Edition) (p : Publication) (query text proof : List ℕ)
+answer_is : (form : Form) (known : Option (List ℕ)) (edition : Edition) (p : Publication) (query text proof : List ℕ)
     → IfSome known (λ file. IsPublicationIn file edition p) → IsProvedIn p query form text proof
     → IfSome known (λ file. IsAnswer form file query (document_in form text))
 answer_is form None edition p query text proof is proved = tt
@@ -132,3 +137,14 @@ answer_is form (Some file) edition p query text proof is proved = record {
   means = subst (λ (objects : List Element). Means_by (form_text form) objects proved.statements text) is.published.same_objects proved.means;
   around = refl;
 }
+
+-- the text that is told from that proof is the one that it shows, so the document around it, as it is written, is the answer
+pub told_is : (form : Form) (known : Option (List ℕ)) (edition : Edition) (p : Publication) (query text proof : List ℕ)
+    (told : Told) (is : Vec ℕ Global) (report : Report) (written : List ℕ)
+    → IfSome known (λ file. IsPublicationIn file edition p) → IsProvedIn p query form text proof
+    → told ≡ Answer is report → TellsText text told → written ≡ is.items
+    → IfSome known (λ file. IsAnswer form file query (document_in form written))
+told_is form known edition p query text proof told is report written published shown answers tells same =
+    let tells_is : TellsText text (Answer is report) = subst (TellsText text) answers tells in
+    subst (λ (t : List ℕ). IfSome known (λ file. IsAnswer form file query (document_in form t))) (sym tells_is ∙ sym same)
+    (answer_is form known edition p query text proof published shown)

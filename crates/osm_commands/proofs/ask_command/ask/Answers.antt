@@ -1,7 +1,7 @@
 use Rattle.std.proofs.Common.{List, ℕ, Err, ap, sym, subst}
 use Rattle.osm_prove.specs.Proved.{IsProved}
 use Rattle.osm_commands.specs.Ask.{ask_edition}
-use Rattle.osm_commands.proofs.AskLemmas.{answer_is, explained_unmade, explained_unproved, explained_unwritten, outside_unmade, outside_unproved, outside_unwritten, in_form, trees_held}
+use Rattle.osm_commands.proofs.AskLemmas.{explained_unmade, explained_unproved, explained_unwritten, outside_unmade, outside_unproved, outside_unwritten, in_form, told_is, trees_held}
 use Rattle.osm_commands.proofs.BegunLemmas.{begun_answer, whole_answer}
 use Rattle.osm_commands.proofs.ask_command.ask.Goals as goal
 
@@ -30,20 +30,32 @@ unreachable-requires g c =
     let made = c.in_ok-proved.ensures.proved p held in
     let proved = subst (λ (nodes : List ℕ). IsProved p c.args.query.now c.in_ok-proved.proved.answer.items nodes) (sym c.deref.ensures.value) made.1 in
     let (text, shown) = in_form c.args.form p c.args.query.now c.in_ok-proved.proved.answer.items c.deref.result.now proved in
-    let told = c.in_ok-tell.ensures.honest p text held.is.published made.0 shown in
+    let told = c.in_ok-text.ensures.honest p text held.is.published made.0 shown in
     rw c.in-No.is at told
 
 pub returns-clause-answered : goal.returns-clause-answered
 returns-clause-answered g c =
     let known = g.R.Read.remaining c.args.input.now in
     let (p, held, of_file) = c.in_ok-snapshot.ensures.made in
-    whole_answer c.args.form known c.args.query.now _ _ _ _ (shown_is c.args.form known p c.args.query.now c.in_ok-proved.proved.answer.items c.in_ok-proved.proved.proof.items) c.write_document.ensures.whole
+    let made = c.in_ok-proved.ensures.proved p held in
+    let proved = subst (λ (nodes : List ℕ). IsProved p c.args.query.now c.in_ok-proved.proved.answer.items nodes) (sym c.deref.ensures.value) made.1 in
+    let (text, shown) = in_form c.args.form p c.args.query.now c.in_ok-proved.proved.answer.items c.deref.result.now proved in
+    let told = c.in_ok-text.ensures.honest p text held.is.published made.0 shown in
+    whole_answer c.args.form known c.args.query.now _ _ _ _
+    (told_is c.args.form known ask_edition p c.args.query.now text c.deref.result.now _ c.in-Answer.text _ _ of_file shown c.in-Answer.is told c.deref-in-Answer.ensures.value)
+    c.write_document.ensures.whole
 
 pub returns-clause-begun : goal.returns-clause-begun
 returns-clause-begun g c =
     let known = g.R.Read.remaining c.args.input.now in
     let (p, held, of_file) = c.in_ok-snapshot.ensures.made in
-    begun_answer c.args.form known c.args.query.now _ _ _ (shown_is c.args.form known p c.args.query.now _ _) c.write_document.ensures.begun
+    let made = c.in_ok-proved.ensures.proved p held in
+    let proved = subst (λ (nodes : List ℕ). IsProved p c.args.query.now c.in_ok-proved.proved.answer.items nodes) (sym c.deref.ensures.value) made.1 in
+    let (text, shown) = in_form c.args.form p c.args.query.now c.in_ok-proved.proved.answer.items c.deref.result.now proved in
+    let told = c.in_ok-text.ensures.honest p text held.is.published made.0 shown in
+    begun_answer c.args.form known c.args.query.now _ _ _
+    (told_is c.args.form known ask_edition p c.args.query.now text c.deref.result.now _ c.in-Answer.text _ _ of_file shown c.in-Answer.is told c.deref-in-Answer.ensures.value)
+    c.write_document.ensures.begun
 
 pub returns-clause-only : goal.returns-clause-only
 returns-clause-only g c = outside_unwritten c.args.form (g.R.Read.remaining c.args.input.now) ask_edition c.args.query.now c.write_document.result c.write_document.ensures.device
