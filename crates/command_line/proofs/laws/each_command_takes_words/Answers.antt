@@ -42,7 +42,7 @@ pub returns-clause-changes : goal.returns-clause-changes
 unfolding clap_on_literals
 returns-clause-changes c = λ program file change_file. (refl, (refl, (refl, refl, refl)))
 
-pub returns-clause-serve_plain : goal.returns-clause-serve_loosely
+pub returns-clause-serve_plain : goal.returns-clause-serve_plain
 unfolding clap_on_literals
 returns-clause-serve_plain c = λ program file. (refl, (refl, (refl, refl, refl)))
 
