@@ -4,7 +4,7 @@ use Rattle.clap.specs.Words.{found_of, one_of, rows_of}
 use Rattle.clap.proofs.WalkLemmas.{one_text-rows}
 use Rattle.command_line.specs.Numbers.{IsNumber}
 use Rattle.command_line.proofs.NumbersRead.{number_read}
-use Rattle.command_line.proofs.serve_command.connections_of.Goals as goal
+use Rattle.command_line.proofs.listen_options.connections_of.Goals as goal
 
 pub returns : goal.returns
 returns c =

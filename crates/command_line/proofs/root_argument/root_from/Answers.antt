@@ -1,6 +1,6 @@
 use Rattle.std.proofs.Common.{sym, ◌∙◌}
 use Rattle.hex.proofs.HexLemmas.{IsOk-decode_sized}
-use Rattle.command_line.proofs.check_command.root_from.Goals as goal
+use Rattle.command_line.proofs.root_argument.root_from.Goals as goal
 
 pub returns-clause-found : goal.returns-clause-found
 returns-clause-found c =

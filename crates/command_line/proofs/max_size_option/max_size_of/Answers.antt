@@ -3,7 +3,7 @@ use Rattle.std.specs.Str.Parse.{ExplainsUnsignedError, HasUnsignedDigitsIfOk, Pa
 use Rattle.clap.specs.Words.{found_of}
 use Rattle.clap.proofs.WalkLemmas.{one_text-rows}
 use Rattle.command_line.proofs.NumbersRead.{number_read_or_none}
-use Rattle.command_line.proofs.check_command.max_size_of.Goals as goal
+use Rattle.command_line.proofs.max_size_option.max_size_of.Goals as goal
 
 pub returns : goal.returns
 returns c =
