@@ -5,6 +5,7 @@ spoiled answer is compared with the verdict of `osm_mirror check`. Without Chrom
 so. Pictures of the page go to tests/system/build/page.
 """
 
+import base64
 import hashlib
 import json
 import math
@@ -18,6 +19,7 @@ from contextlib import contextmanager
 from http.server import SimpleHTTPRequestHandler, ThreadingHTTPServer
 from pathlib import Path
 from urllib.parse import parse_qs, quote, urlsplit
+from xml.etree import ElementTree
 
 import browser
 from lying_mirror import LIES, ROOTS, Checked, asked, lying_mirror, nodes_of, parts_of
@@ -573,6 +575,84 @@ def check_keys(tally, page, mirror):
     tally.check("each text is there", untold == [], untold)
 
 
+# The four objects as documents for clients of Overpass have them.
+ELEMENTS = [
+    {"type": "node", "id": 1, "lat": 52.5, "lon": 13.4, "version": 1, "timestamp": "2020-01-02T03:04:05Z", "changeset": 5,
+     "uid": 7, "user": "Ann", "tags": {"highway": "crossing"}},
+    {"type": "node", "id": 2, "lat": 52.5, "lon": 13.4000001},
+    {"type": "way", "id": 10, "nodes": [1, 2, 1], "tags": {"highway": "primary", "name": "A B"}},
+    {"type": "relation", "id": 100, "members": [
+        {"type": "way", "ref": 10, "role": "outer"}, {"type": "node", "ref": 99, "role": "stop"},
+        {"type": "relation", "ref": 100, "role": ""}], "tags": {"type": "route"}},
+]
+
+
+def xml_element(element):
+    """An element of XML as ELEMENTS has it."""
+    numbers = {"id": int, "lat": float, "lon": float, "version": int, "changeset": int, "uid": int, "ref": int}
+    read = lambda attributes: {name: numbers.get(name, str)(value) for name, value in attributes.items()}
+    found = {"type": element.tag} | read(element.attrib)
+    for name, tag, made in (("nodes", "nd", lambda it: int(it.get("ref"))), ("members", "member", lambda it: read(it.attrib))):
+        if parts := [made(it) for it in element.iter(tag)]:
+            found[name] = parts
+    if tags := {it.get("k"): it.get("v") for it in element.iter("tag")}:
+        found["tags"] = tags
+    return found
+
+
+def saved(page, folder, button):
+    """The name and the bytes of the file that a button hands to the user."""
+    folder.mkdir()
+    page.call("Page.setDownloadBehavior", behavior="allow", downloadPath=str(folder))
+    page.value(f"document.getElementById({words(button)}).click()")
+    end = time.monotonic() + 60
+    while time.monotonic() < end:
+        files = list(folder.iterdir())
+        if files and not any(it.suffix == ".crdownload" for it in files) and (content := files[0].read_bytes()):
+            return files[0].name, content
+        time.sleep(0.05)
+    return "", b""
+
+
+def check_documents(tally, page, mirror, room):
+    """Downloads: documents that the checker makes of the proof, what the page converts, and the files to check again."""
+    query = "nwr;out meta;"
+    ask(page, mirror, query)
+    checked = parts_of(asked(mirror, query)[1])
+    got = {name: saved(page, room / f"saved-{name}", f"as-{name}") for name in ("opl", "json", "xml", "geojson", "query", "proof")}
+    names = {name: file for name, (file, _) in got.items()}
+    want = {name: name if name in ("query", "proof") else f"answer.{name}" for name in got}
+    tally.check("names of downloads", names == want, names)
+    texts = {name: content for name, (_, content) in got.items()}
+    tally.check("OPL", texts["opl"] == checked.answer, texts["opl"])
+    document = json.loads(texts["json"])
+    head = {"version": 0.6, "generator": "osm_mirror"}
+    tally.check("JSON", document == head | {"elements": ELEMENTS}, texts["json"])
+    tree = ElementTree.fromstring(texts["xml"])
+    tally.check("XML", tree.tag == "osm" and [xml_element(it) for it in tree] == ELEMENTS, texts["xml"])
+    tally.check("GeoJSON is saved", len(json.loads(texts["geojson"])["features"]) == 4, texts["geojson"])
+    tally.check("query and proof", (texts["query"].decode(), texts["proof"]) == (query, checked.proof), texts["query"])
+    said = page.value("[...document.querySelectorAll('#downloads small')].map((it) => it.textContent)")
+    tally.check("what checks and converts", said == ["Checked here:", "Converted by this page:", "To check it again:"], said)
+    # A room that is too short costs a second call; no document comes of another root or another form.
+    found = page.value(f"""(async () => {{
+      const {{ Checker }} = await import('./checker.js'), {{ rootBytes }} = await import('./kept.js');
+      const bytes = (text) => Uint8Array.from(atob(text), (it) => it.charCodeAt(0));
+      const query = new TextEncoder().encode({words(query)}), proof = bytes({words(base64.b64encode(checked.proof).decode())});
+      const checker = new Checker(), found = [];
+      for (const [form, root, guess] of [['json', {words(ROOT)}, 0], ['json', {words(ROOT)}, 9999], ['xml', {words(ROOT[::-1])}, 0],
+        ['csv', {words(ROOT)}, 0]]) {{
+        const {{ status, reason, document }} = await checker.tell(form, query, rootBytes(root), proof, guess);
+        found.push([status, reason, document && new TextDecoder().decode(document)]);
+      }}
+      checker.stop();
+      return found;
+    }})()""")
+    text = texts["json"].decode()
+    want = [["yes", 0, text], ["yes", 0, text], ["no", 4, None], ["bad form", 0, None]]
+    tally.check("documents by the checker", found == want, found)
+
+
 def check_sizes(tally, page):
     """From 360 to 2,000 pixels nothing is wider than the window, in both colours; texts are readable (WCAG 2.1, 4.5 to 1)."""
     for width in (360, 600, 1000, 2000):
@@ -798,6 +878,7 @@ def check_page(tally, path):
             check_links(tally, page, site, honest)
             check_files(tally, page, room, checked)
             check_keys(tally, page, honest)
+            check_documents(tally, page, honest, room)
             check_sizes(tally, page)
             check_lies(tally, page, mirror, liar)
             check_no_answer(tally, page, liar)
