@@ -59,14 +59,14 @@ run-returns-in_ok-write-in-Recurse-clause-answer g t c = λ p is under there can
     (subst (λ (l : List Ref). RecursedWell p c.in-Recurse.how l (uses (g.W.Source.holds c.recurse.new.source) (g.W.Source.used c.args.source.now) (g.W.Source.used c.recurse.new.source)) (Ok refs)) set
     (c.in_ok-refs-in-Recurse.ensures.answer p is under (subst (λ (l : List Ref). AreThere p.objects l) (sym set) (there c.in-Recurse.«from»))))
 
-pub run-returns-in_ok-write-in-Item-clause-answer : goal.run-returns-in_ok-write-in-Item-clause-answer
-run-returns-in_ok-write-in-Item-clause-answer g t c = λ p is under there can.
+pub run-returns-in_ok-write_shared-in-Item-clause-answer : goal.run-returns-in_ok-write_shared-in-Item-clause-answer
+run-returns-in_ok-write_shared-in-Item-clause-answer g t c = λ p is under there can.
     let env = lists_of c.args.sets.now.named.items in
     let same = ap statement_of c.in-Item.is in
-    let refs = c.in_ok-refs-in-Item.refs in
-    let set = c.in_ok-refs-in-Item.ensures ∙ c.get-in-Item.ensures ∙ ap env c.as_bytes-in-Item.ensures in
+    let refs = c.in_ok-refs-in-Item.refs.value in
+    let set = c.in_ok-refs-in-Item.ensures ∙ ap env c.as_bytes-in-Item.ensures in
     outcome_starts
-    (after_as same p.objects _ _ (c.in_ok-write-in-Item.ensures ∙ ap (λ (name : List ℕ). put name refs env) c.as_bytes-in-Item-2.ensures ∙ ap (λ (l : List Ref). put c.in-Item.into l env) set))
+    (after_as same p.objects _ _ (c.in_ok-write_shared-in-Item.ensures ∙ ap (λ (name : List ℕ). put name refs env) c.as_bytes-in-Item-2.ensures ∙ ap (λ (l : List Ref). put c.in-Item.into l env) set))
     (λ x needs. (as_needs same p env x needs).asked)
 
 pub run-returns-in_err-given-in-Union-clause-answer : goal.run-returns-in_err-given-in-Union-clause-answer
@@ -121,10 +121,10 @@ run-returns-in_ok-write-in-Minus-clause-answer g t c = λ p is under there can.
     let both = can_run_as same can in
     let first = subst (λ (s : Stmt). CanRun (statement_of s)) (sym c.deref-in-Minus.ensures) both.0 in
     let second = subst (λ (s : Stmt). CanRun (statement_of s)) (sym c.deref-in-Minus-3.ensures) both.1 in
-    let firsts = c.in_ok-first-in-Minus.first in
+    let firsts = c.deref-in-Minus-4.result.now in
     let first_is : firsts ≡ given_by (statement_of left) mid =
-    c.in_ok-first-in-Minus.ensures ∙ c.written_by.ensures ∙ ap (λ (s : Stmt). given_by (statement_of s) mid) c.deref-in-Minus-2.ensures in
-    let second_is = c.written_by-in-Minus.ensures ∙ ap (λ (s : Stmt). given_by (statement_of s) end) c.deref-in-Minus-4.ensures in
+    c.deref-in-Minus-4.ensures ∙ c.in_ok-first-in-Minus.ensures ∙ ap (λ (s : Stmt). given_by (statement_of s) mid) c.deref-in-Minus-2.ensures in
+    let second_is = c.written_by.ensures ∙ ap (λ (s : Stmt). given_by (statement_of s) end) c.deref-in-Minus-5.ensures in
     outcome_then (λ x. g.met.W.Source.grows _ _ x c.run-in-Minus.ensures.later)
     (λ x needs. needs_as same p env x (left_needs p (statement_of left) (statement_of right) c.in-Minus.into env x needs))
     (λ so x needs. needs_as same p env x (right_needs p (statement_of left) (statement_of right) c.in-Minus.into env mid so x needs))
@@ -184,11 +184,18 @@ run-recurse-requires g t c = subst (λ (l : List Ref). AllGiven (g.W.Source.gave
 pub run-returns-in_ok-write-in-Recurse-clause-named : goal.run-returns-in_ok-write-in-Recurse-clause-named
 run-returns-in_ok-write-in-Recurse-clause-named g t c = put_given _ c.in_ok-refs-in-Recurse.refs (lists_of c.args.sets.now.named.items) _ c.in_ok-write-in-Recurse.ensures (c.in_ok-refs-in-Recurse.ensures.named) (sets_later (lists_of c.args.sets.now.named.items) (λ r. g.met.W.Source.same_gave _ _ r c.recurse.ensures.later) c.requires)
 
-pub run-returns-in_ok-write-in-Item-clause-named : goal.run-returns-in_ok-write-in-Item-clause-named
-run-returns-in_ok-write-in-Item-clause-named g t c = put_given _ c.in_ok-refs-in-Item.refs (lists_of c.args.sets.now.named.items) _ c.in_ok-write-in-Item.ensures (subst (λ (l : List Ref). AllGiven (g.W.Source.gave c.args.source.now) l) (sym (c.in_ok-refs-in-Item.ensures ∙ c.get-in-Item.ensures)) (c.requires c.as_bytes-in-Item.result.now)) (c.requires)
+pub run-returns-in_ok-write_shared-in-Item-clause-named : goal.run-returns-in_ok-write_shared-in-Item-clause-named
+run-returns-in_ok-write_shared-in-Item-clause-named g t c = put_given _ c.in_ok-refs-in-Item.refs.value (lists_of c.args.sets.now.named.items) _ c.in_ok-write_shared-in-Item.ensures (subst (λ (l : List Ref). AllGiven (g.W.Source.gave c.args.source.now) l) (sym c.in_ok-refs-in-Item.ensures) (c.requires c.as_bytes-in-Item.result.now)) (c.requires)
 
 pub run-returns-in_ok-write-in-Union-clause-named : goal.run-returns-in_ok-write-in-Union-clause-named
 run-returns-in_ok-write-in-Union-clause-named g t c = put_given _ c.in_ok-refs-in-Union.refs (lists_of c.run_all.new.sets.named.items) _ c.in_ok-write-in-Union.ensures (sorted_given c.in_ok-given-in-Union.given.items c.in_ok-refs-in-Union.refs c.in_ok-refs-in-Union.ensures c.in_ok-given-in-Union.ensures.named) (c.in_ok-given-in-Union.ensures.sets_named)
 
 pub run-returns-in_ok-write-in-Minus-clause-named : goal.run-returns-in_ok-write-in-Minus-clause-named
-run-returns-in_ok-write-in-Minus-clause-named g t c = put_given _ c.in_ok-refs-in-Minus.refs (lists_of c.run-in-Minus.new.sets.named.items) _ c.in_ok-write-in-Minus.ensures (part_given c.in_ok-first-in-Minus.first c.in_ok-refs-in-Minus.refs c.in_ok-refs-in-Minus.ensures (all_later c.in_ok-first-in-Minus.first (λ r. g.met.W.Source.same_gave _ _ r c.run-in-Minus.ensures.later) (subst (λ (l : List Ref). AllGiven (g.W.Source.gave c.run.new.source) l) (sym (c.in_ok-first-in-Minus.ensures ∙ c.written_by.ensures)) (written_given (statement_of c.deref-in-Minus-2.result.now) (lists_of c.run.new.sets.named.items) c.in_ok-run-in-Minus.ensures.named)))) (c.in_ok-run-in-Minus-2.ensures.named)
+run-returns-in_ok-write-in-Minus-clause-named g t c =
+    let firsts = c.deref-in-Minus-4.result.now in
+    let first_is = c.deref-in-Minus-4.ensures ∙ c.in_ok-first-in-Minus.ensures in
+    put_given _ c.in_ok-refs-in-Minus.refs (lists_of c.run-in-Minus.new.sets.named.items) _ c.in_ok-write-in-Minus.ensures
+    (part_given firsts c.in_ok-refs-in-Minus.refs c.in_ok-refs-in-Minus.ensures
+    (all_later firsts (λ r. g.met.W.Source.same_gave _ _ r c.run-in-Minus.ensures.later)
+    (subst (λ (l : List Ref). AllGiven (g.W.Source.gave c.run.new.source) l) (sym first_is) (written_given (statement_of c.deref-in-Minus-2.result.now) (lists_of c.run.new.sets.named.items) c.in_ok-run-in-Minus.ensures.named))))
+    (c.in_ok-run-in-Minus-2.ensures.named)
