@@ -1,6 +1,6 @@
 //! Judging a reply.
 
-ghost use Rattle.std.specs.Prelude.{◌≡◌, ◌≢◌, ◌⊎◌, ℕ, IfOk, List, Ok};
+ghost use Rattle.std.specs.Prelude.{◌≡◌, ◌⊎◌, ℕ, IfOk, List, Ok};
 ghost use Rattle.std.specs.declared.alloc.Global.{Global};
 ghost use Rattle.std.specs.declared.vec.Vec.{Vec};
 ghost use Rattle.tree_node.specs.Outcomes.{Clash};
@@ -8,6 +8,7 @@ ghost use Rattle.osm_keys.specs.Publications.{IsNodeIn, IsPublication, Publicati
 ghost use Rattle.osm_check.specs.Telling.{IsProvedIn};
 ghost use Rattle.osm_check.specs.Verdicts.{StandsIn};
 ghost use Rattle.mirror_answer.specs.Showing.{IsRightly, ShowsText};
+ghost use Rattle.mirror_answer.specs.internal.Reasons.{IsFaultFor, IsShownFor};
 
 use crate::mirror_fault::MirrorFault;
 use crate::shown::Shown;
@@ -41,19 +42,37 @@ pub fn show(
         → IsProvedIn p query.now form text parts.entry.proof.now → IfOk result (ShowsText text) }
     // Whatever the root is, an answer is shown by the proof, and a fault is true of query, root and reply.
     ensures rightly { IfOk result (IsRightly (record {
-        query = query.now; root = root.now.0; form = form }) parts.entry.root.now parts.entry.proof.now) }
+      query = query.now;
+      root = root.now.0;
+      form = form;
+    }) parts.entry.root.now parts.entry.proof.now) }
 {
     match tell(alloc, form, query, root, parts.proof)? {
         Told::Answer { text, report: _ } => Ok(Shown::Answer(text)),
-        Told::No(Why::QueryRefused(fault)) => Ok(Shown::Unread(fault)),
-        Told::No(why) => Ok(Shown::Refused(fault_of(why, root, parts.root))),
+        Told::No(why) => Ok(shown_for(why, root, parts.root)),
+    }
+}
+
+/// What is shown where a proof shows no answer, for this reason.
+fn shown_for(why: Why, root: &Digest, named: &[u8]) -> Shown
+    ensures { IsShownFor why root.now.0 named.now result }
+{
+    match why {
+        Why::QueryRefused(fault) => Shown::Unread(fault),
+        Why::ProofMalformed
+        | Why::ProofNotRising
+        | Why::NodeMissing
+        | Why::NodeMalformed
+        | Why::NodesDisagree
+        | Why::EntriesDisagree
+        | Why::NodeUnused
+        | Why::AnswerDiffers(_) => Shown::Refused(fault_of(why, root, named)),
     }
 }
 
 /// What a proof is refused for.
 fn fault_of(why: Why, root: &Digest, named: &[u8]) -> MirrorFault
-    ensures { ((named.now ≡ root.now.0) × (result ≡ MirrorFault.Proof why))
-        ⊎ ((named.now ≢ root.now.0) × (result ≡ MirrorFault.OtherRoot)) }
+    ensures { IsFaultFor why root.now.0 named.now result }
 {
     if named == root.0.as_slice() {
         MirrorFault::Proof(why)

@@ -30,9 +30,12 @@ pub record Fetching : Type 0 where
   pub host : List ℕ
   pub limit : ℕ
 
--- the request that asks for it
+-- the request that asks for it, and what is kept of the response
+abbrev pub fetch_keeping : Fetching → List ℕ → Fetch
+fetch_keeping f bytes = record { request = request_text f.host f.wanted.query; kept = record { limit = f.limit; bytes = bytes } }
+
 abbrev pub fetch_of : Fetching → Fetch
-fetch_of f = record { request = request_text f.host f.wanted.query; kept = record { limit = f.limit; bytes = [] } }
+fetch_of f = fetch_keeping f []
 
 -- the mirror's bytes hold a reply with this proof
 abbrev pub HasProof : Fetching → (received proof : List ℕ) → Type 0
@@ -56,7 +59,7 @@ pub record IsRefused (f : Fetching) (received : List ℕ) (fault : MirrorFault) 
 -- the fault is true of these calls and of what the mirror sent
 abbrev pub IsMirrorFault : Fetching → List Call → MirrorFault → Type 0
 IsMirrorFault f calls Unreached = ((calls ≡ []) × (is_host_text f.host ≡ false)) ⊎ (calls ≡ opened false ∷ [])
-IsMirrorFault f calls Silent = IsSilent (fetch_of f) calls
+IsMirrorFault f calls Silent = (kept : List ℕ) × IsSilent (fetch_keeping f kept) calls
 IsMirrorFault f calls (Reply fault) = HasAsked (fetch_of f) calls × HasReplyFault f.limit (is_closed calls) (bytes_received calls) fault
 IsMirrorFault f calls fault = HasAsked (fetch_of f) calls × IsRefused f (bytes_received calls) fault
 

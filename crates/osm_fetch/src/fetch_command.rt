@@ -47,9 +47,11 @@ pub fn fetch<D: Dial, W: FlushingWriter>(
 ) -> Result<(), NotFetched>
     // What was called at the mirror, what it sent, and what is written of it.
     ensures fetched { HasFetched (record {
-        wanted = record { query = query.now; root = root.now.0; form = form };
-        host = host.now; limit = max_size;
-        output = record { before = W.contents output.old; after = W.contents output.new } })
+      wanted = record { query = query.now; root = root.now.0; form = form };
+      host = host.now;
+      limit = max_size;
+      output = record { before = W.contents output.old; after = W.contents output.new };
+    })
         (D.log dial.old) (D.log dial.new) result }
     // A mirror that sends the one proof of the query over a set with this root isn't refused.
     ensures honest { (p : Publication) (text named answer proof : List ℕ) (before calls : List Call)
@@ -80,8 +82,10 @@ fn fetch_text<D: Dial>(
     dial: &mut D,
 ) -> Result<Vec<u8>, NotFetched>
     ensures called { HasCalled (record {
-        wanted = record { query = query.now; root = root.now.0; form = form };
-        host = host.now; limit = max_size }) (D.log dial.old) (D.log dial.new) result }
+      wanted = record { query = query.now; root = root.now.0; form = form };
+      host = host.now;
+      limit = max_size;
+    }) (D.log dial.old) (D.log dial.new) result }
     ensures honest { (p : Publication) (text named answer proof : List ℕ) (before calls : List Call)
         → IsPublication p → root.now.0 ≡ root_of p → IsProvedIn p query.now form text proof
         → D.log dial.old ≡ Some before → D.log dial.new ≡ Some (calls ++ before)
