@@ -1,7 +1,10 @@
 pub mod AskLemmas
 pub mod BegunLemmas
+pub mod ChangingLemmas
 pub mod FileLemmas
 pub mod FrontLemmas
+pub mod HeldLemmas
 pub mod QueryLemmas
+pub mod RootLineLemmas
 pub mod TreeLemmas
 pub mod WholeFileLemmas
