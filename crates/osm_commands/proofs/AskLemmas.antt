@@ -27,7 +27,7 @@ use Rattle.osm_commands.specs.Ask.{Explains, HoldsTrees, IsAnswer}
 use Rattle.osm_commands.specs.Faults.{fault_of_prove}
 use Rattle.osm_commands.specs.TreeRoots.{ExplainsTrees, IsOutsideOrTrees, IsPublicationIn}
 use Rattle.osm_commands.specs.declared.command_fault.CommandFault.{CommandFault}
-use Rattle.osm_commands.specs.declared.command_fault.CommandFault.TheVariants.{Opl, Query, Endless, TooLarge, Clash, TooMany, Memory, Device}
+use Rattle.osm_commands.specs.declared.command_fault.CommandFault.TheVariants.{Opl, Query, Endless, TooLarge, Clash, TooMany, Apply, Memory, Device}
 
 -- ---- no trees
 
@@ -40,6 +40,7 @@ explains file left edition query Endless why = absurd why
 explains file left edition query TooLarge why = absurd why
 explains file left edition query Clash why = why
 explains file left edition query TooMany why = why
+explains file left edition query (Apply refused) why = why
 explains file left edition query Memory why = tt
 explains file left edition query Device why = tt
 
