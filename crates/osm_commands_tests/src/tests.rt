@@ -8,6 +8,7 @@ mod serving;
 
 use flushing_narrow_writer::FlushingNarrowWriter;
 use osm_commands::{CommandFault, Status, ask};
+use osm_forms::Form;
 use osm_index::Unwatched;
 use std::alloc::Global;
 use std::process::Abort;
@@ -40,7 +41,7 @@ fn flushes_fail(rt: HostRuntime) {
         },
     };
     let input = &mut ALL_KINDS.as_bytes();
-    let outcome = ask(alloc, FIRST.as_bytes(), input, &mut Unwatched, &mut output);
+    let outcome = ask(alloc, Form::Opl, FIRST.as_bytes(), input, &mut Unwatched, &mut output);
     assert!(rt; outcome == Err(CommandFault::Device));
     assert!(rt; output.writer.taken.as_slice() == FIRST_ANSWER.as_bytes());
 }
@@ -88,7 +89,7 @@ fn is_done(rt: &impl Abort, outcome: Result<(), CommandFault>, output: &[u8], te
 fn is_answered(rt: &impl Abort, alloc: Global) -> bool {
     let mut output = Vec::new(alloc);
     let input = &mut ALL_KINDS.as_bytes();
-    let outcome = ask(alloc, FIRST.as_bytes(), input, &mut Unwatched, &mut output);
+    let outcome = ask(alloc, Form::Opl, FIRST.as_bytes(), input, &mut Unwatched, &mut output);
     is_done(rt, outcome, &output, FIRST_ANSWER)
 }
 
