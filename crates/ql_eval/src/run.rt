@@ -15,7 +15,7 @@ ghost use Rattle.ql_eval.specs.internal.Giving.{AllGiven, AllSetsGiven};
 ghost use Rattle.tree_walk.specs.Uses.{nodes_around};
 
 use crate::fault::EvalFault;
-use crate::recursions::recurse;
+use crate::recursions::recurse_once;
 use crate::select::select;
 use crate::source::Source;
 use crate::written::{shared_by, written_by};
@@ -56,8 +56,9 @@ pub(crate) fn run<'q, W: Source>(
             Ok(())
         }
         Stmt::Recurse { from, how, into } => {
-            let refs = recurse(alloc, source, *how, sets.get(from.as_bytes()))?;
-            sets.write(into.as_bytes(), refs)?;
+            let set = sets.shared(from.as_bytes())?;
+            let refs = recurse_once(alloc, source, *how, set)?;
+            sets.write_shared(into.as_bytes(), refs)?;
             Ok(())
         }
         Stmt::Item { from, into } => {

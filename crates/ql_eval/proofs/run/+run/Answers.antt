@@ -9,10 +9,13 @@ use Rattle.ql_syntax.specs.declared.filter.Filter.{Filter}
 use Rattle.ql_syntax.specs.declared.statement.Stmt.{Stmt}
 use Rattle.ql_meaning.proofs.shared.Running.{after_next, minus_after}
 use Rattle.ql_meaning.specs.Meanings.{given_by}
+use Rattle.ql_meaning.specs.Values.{IsReached, IsRefOf}
 use Rattle.ref_sets.specs.NamedSets.{put, lists_of}
+use Rattle.ref_sets.specs.Sets.{IsSetOf}
+use Rattle.ql_eval.specs.Asks.{AskedByRecursion}
+use Rattle.ql_eval.specs.Questions.{NeededBy}
 use Rattle.ql_eval.specs.internal.Lawful.{CanRun, CanRunAll}
 use Rattle.ql_eval.specs.internal.Links.{AreThere}
-use Rattle.ql_eval.proofs.EndLemmas.{RecursedWell}
 use Rattle.ql_eval.proofs.StatementLemmas.{RanAllWell, RanWell, SelectedWell, after_all_there, after_as, after_there, as_needs, can_run_as, left_needs, minus_splits, needs_as, one_lawful, part_all, part_needs, parts_all, parts_front, parts_split, right_needs}
 use Rattle.ql_eval.proofs.GivenLemmas.{all_appended, all_later, part_given, put_given, sets_later, sorted_given, written_given}
 use Rattle.ql_eval.specs.internal.Giving.{AllGiven}
@@ -43,21 +46,26 @@ run-returns-in_ok-write-in-Select-clause-answer g t c = λ p is under there can.
 pub run-returns-in_err-refs-in-Recurse-clause-answer : goal.run-returns-in_err-refs-in-Recurse-clause-answer
 run-returns-in_err-refs-in-Recurse-clause-answer g t c = λ p is under there can.
     let env = lists_of c.args.sets.now.named.items in
-    let set = c.get.ensures ∙ ap env c.as_bytes-in-Recurse.ensures in
-    outcome_stops _ c.from_residual-in_err-refs-in-Recurse.ensures.1 refl (needs_as (ap statement_of c.in-Recurse.is) p env)
-    (subst (λ (l : List Ref). RecursedWell p c.in-Recurse.how l (uses (g.W.Source.holds c.recurse.new.source) (g.W.Source.used c.args.source.now) (g.W.Source.used c.recurse.new.source)) (Err c.in_err-refs-in-Recurse.field-0.0)) set
-    (c.in_err-refs-in-Recurse.ensures.answer p is under (subst (λ (l : List Ref). AreThere p.objects l) (sym set) (there c.in-Recurse.«from»))))
+    let set = c.in_ok-set-in-Recurse.ensures ∙ ap env c.as_bytes-in-Recurse.ensures in
+    outcome_stops _ c.from_residual-in_err-refs-in-Recurse.ensures.1 refl
+    (λ x needs. needs_as (ap statement_of c.in-Recurse.is) p env x (subst (λ (l : List Ref). NeededBy p (AskedByRecursion p.objects c.in-Recurse.how l) x) set needs))
+    (c.in_err-refs-in-Recurse.ensures.answer p is under (subst (λ (l : List Ref). AreThere p.objects l) (sym set) (there c.in-Recurse.«from»)))
 
-pub run-returns-in_ok-write-in-Recurse-clause-answer : goal.run-returns-in_ok-write-in-Recurse-clause-answer
-run-returns-in_ok-write-in-Recurse-clause-answer g t c = λ p is under there can.
+pub run-returns-in_ok-write_shared-in-Recurse-clause-answer : goal.run-returns-in_ok-write_shared-in-Recurse-clause-answer
+run-returns-in_ok-write_shared-in-Recurse-clause-answer g t c = λ p is under there can.
     let env = lists_of c.args.sets.now.named.items in
     let same = ap statement_of c.in-Recurse.is in
-    let refs = c.in_ok-refs-in-Recurse.refs in
-    let set = c.get.ensures ∙ ap env c.as_bytes-in-Recurse.ensures in
-    outcome_as (needs_as same p env) (λ so. as_needs same p env)
-    (λ so. after_as same p.objects _ _ (refs, so, c.in_ok-write-in-Recurse.ensures ∙ ap (λ (name : List ℕ). put name refs env) c.as_bytes-in-Recurse-2.ensures))
-    (subst (λ (l : List Ref). RecursedWell p c.in-Recurse.how l (uses (g.W.Source.holds c.recurse.new.source) (g.W.Source.used c.args.source.now) (g.W.Source.used c.recurse.new.source)) (Ok refs)) set
-    (c.in_ok-refs-in-Recurse.ensures.answer p is under (subst (λ (l : List Ref). AreThere p.objects l) (sym set) (there c.in-Recurse.«from»))))
+    let how = c.in-Recurse.how in
+    let refs = c.in_ok-refs-in-Recurse.refs.value in
+    let set = c.in_ok-set-in-Recurse.ensures ∙ ap env c.as_bytes-in-Recurse.ensures in
+    outcome_as (λ x needs. needs_as same p env x (subst (λ (l : List Ref). NeededBy p (AskedByRecursion p.objects how l) x) set needs))
+    (λ so x needs. subst (λ (l : List Ref). NeededBy p (AskedByRecursion p.objects how l) x) (sym set) (as_needs same p env x needs))
+    (λ so. after_as same p.objects _ _ (
+      refs,
+      subst (λ (l : List Ref). IsSetOf refs (IsRefOf p.objects (IsReached p.objects how l))) set so,
+      c.in_ok-write_shared-in-Recurse.ensures ∙ ap (λ (name : List ℕ). put name refs env) c.as_bytes-in-Recurse-2.ensures,
+    ))
+    (c.in_ok-refs-in-Recurse.ensures.answer p is under (subst (λ (l : List Ref). AreThere p.objects l) (sym set) (there c.in-Recurse.«from»)))
 
 pub run-returns-in_ok-write_shared-in-Item-clause-answer : goal.run-returns-in_ok-write_shared-in-Item-clause-answer
 run-returns-in_ok-write_shared-in-Item-clause-answer g t c = λ p is under there can.
@@ -178,11 +186,11 @@ run_all-loop-part-preserved g t c = record {
 pub run-returns-in_ok-write-in-Select-clause-named : goal.run-returns-in_ok-write-in-Select-clause-named
 run-returns-in_ok-write-in-Select-clause-named g t c = put_given _ c.in_ok-refs-in-Select.refs (lists_of c.args.sets.now.named.items) _ c.in_ok-write-in-Select.ensures (c.in_ok-refs-in-Select.ensures.named) (sets_later (lists_of c.args.sets.now.named.items) (λ r. g.met.W.Source.same_gave _ _ r c.select.ensures.later) c.requires)
 
-pub run-recurse-requires : goal.run-recurse-requires
-run-recurse-requires g t c = subst (λ (l : List Ref). AllGiven (g.W.Source.gave c.args.source.now) l) (sym c.get.ensures) (c.requires c.as_bytes-in-Recurse.result.now)
+pub run-recurse_once-requires : goal.run-recurse_once-requires
+run-recurse_once-requires g t c = subst (λ (l : List Ref). AllGiven (g.W.Source.gave c.args.source.now) l) (sym c.in_ok-set-in-Recurse.ensures) (c.requires c.as_bytes-in-Recurse.result.now)
 
-pub run-returns-in_ok-write-in-Recurse-clause-named : goal.run-returns-in_ok-write-in-Recurse-clause-named
-run-returns-in_ok-write-in-Recurse-clause-named g t c = put_given _ c.in_ok-refs-in-Recurse.refs (lists_of c.args.sets.now.named.items) _ c.in_ok-write-in-Recurse.ensures (c.in_ok-refs-in-Recurse.ensures.named) (sets_later (lists_of c.args.sets.now.named.items) (λ r. g.met.W.Source.same_gave _ _ r c.recurse.ensures.later) c.requires)
+pub run-returns-in_ok-write_shared-in-Recurse-clause-named : goal.run-returns-in_ok-write_shared-in-Recurse-clause-named
+run-returns-in_ok-write_shared-in-Recurse-clause-named g t c = put_given _ c.in_ok-refs-in-Recurse.refs.value (lists_of c.args.sets.now.named.items) _ c.in_ok-write_shared-in-Recurse.ensures (c.in_ok-refs-in-Recurse.ensures.named) (sets_later (lists_of c.args.sets.now.named.items) (λ r. g.met.W.Source.same_gave _ _ r c.recurse_once.ensures.later) c.requires)
 
 pub run-returns-in_ok-write_shared-in-Item-clause-named : goal.run-returns-in_ok-write_shared-in-Item-clause-named
 run-returns-in_ok-write_shared-in-Item-clause-named g t c = put_given _ c.in_ok-refs-in-Item.refs.value (lists_of c.args.sets.now.named.items) _ c.in_ok-write_shared-in-Item.ensures (subst (λ (l : List Ref). AllGiven (g.W.Source.gave c.args.source.now) l) (sym c.in_ok-refs-in-Item.ensures) (c.requires c.as_bytes-in-Item.result.now)) (c.requires)
