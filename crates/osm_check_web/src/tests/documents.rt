@@ -21,6 +21,7 @@ const XML: &[u8] = b"<?xml version=\"1.0\" encoding=\"UTF-8\"?>\n\
 </osm>\n";
 
 /// What a call is given beside the root, and how long a room.
+#[derive(Clone, Copy)]
 struct Asked<'a> {
     form: u32,
     query: &'a [u8],
@@ -29,6 +30,7 @@ struct Asked<'a> {
 }
 
 /// What a caller finds after a call, in place of what was there.
+#[derive(Drop)]
 struct Found {
     status: u32,
     told: Told,
@@ -85,7 +87,7 @@ fn documents_are_handed_over(rt: HostRuntime) -> Result<(), Fail> {
         assert_eq!(rt; found.size, document.len() as u64);
         let (front, rest) = found.room.split_at(document.len());
         assert_eq!(rt; front, document);
-        assert_eq!(rt; rest, b"...");
+        assert_eq!(rt; rest, b"...".as_slice());
         assert_eq!(rt; (found.told.reason, found.told.fetched), (0, 1));
     }
     Ok(())
