@@ -614,11 +614,12 @@ def saved(page, folder, button):
     return "", b""
 
 
-def check_documents(tally, page, mirror, room):
-    """Downloads: documents that the checker makes of the proof, what the page converts, and the files to check again."""
+def check_documents(tally, page, mirror, running, room):
+    """Downloads: documents that the checker makes of the proof, what the page converts, and the files to check again.
+    (`mirror` is what the page asks, `running` the program behind it.)"""
     query = "nwr;out meta;"
     ask(page, mirror, query)
-    checked = parts_of(asked(mirror, query)[1])
+    checked = parts_of(asked(running, query)[1])
     got = {name: saved(page, room / f"saved-{name}", f"as-{name}") for name in ("opl", "json", "xml", "geojson", "query", "proof")}
     names = {name: file for name, (file, _) in got.items()}
     want = {name: name if name in ("query", "proof") else f"answer.{name}" for name in got}
@@ -878,7 +879,7 @@ def check_page(tally, path):
             check_links(tally, page, site, honest)
             check_files(tally, page, room, checked)
             check_keys(tally, page, honest)
-            check_documents(tally, page, honest, room)
+            check_documents(tally, page, honest, mirror, room)
             check_sizes(tally, page)
             check_lies(tally, page, mirror, liar)
             check_no_answer(tally, page, liar)
