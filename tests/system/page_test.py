@@ -726,13 +726,19 @@ def check_memory(tally, page, site, mirror, query):
       for (let pages = Math.ceil(bytes / 65536); pages < 16384 && !kinds.includes('yes'); pages = Math.ceil(pages * 1.08)) {{
         const module = await WebAssembly.compile(await (await fetch(`/limit-${{pages}}/out/osm_check.wasm`)).arrayBuffer());
         const checker = new Checker(module);
-        const verdict = await checker.check(new TextEncoder().encode(query), rootBytes({words(root)}), got.answer, got.proof);
-        checker.stop();
+        const given = [new TextEncoder().encode(query), rootBytes({words(root)})];
+        const verdict = await checker.check(...given, got.answer, got.proof);
         kinds.push(verdict.status + (verdict.status === 'no memory' && verdict.memory ? ' in the check' : ''));
+        // Where the check just fits, the document's text doesn't.
+        if (verdict.status === 'yes') {{
+          const {{ status, memory, document }} = await checker.tell('json', ...given, got.proof, 0);
+          kinds.push(`${{status}} in the telling: ${{memory > 0}} ${{document}}`);
+        }}
+        checker.stop();
       }}
       return kinds;
     }})()""")
-    wanted = ["no memory", "no memory in the check", "yes"]
+    wanted = ["no memory", "no memory in the check", "yes", "no memory in the telling: true null"]
     tally.check("out of memory by the module's limit", list(dict.fromkeys(kinds)) == wanted, kinds)
     opened(page, site, "/limit-64/")
     state, verdict, _ = ask(page, mirror, QUERY)
