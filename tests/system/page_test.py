@@ -614,11 +614,12 @@ def saved(page, folder, button):
     return "", b""
 
 
-def check_documents(tally, page, mirror, room):
-    """Downloads: documents that the checker makes of the proof, what the page converts, and the files to check again."""
+def check_documents(tally, page, mirror, running, room):
+    """Downloads: documents that the checker makes of the proof, what the page converts, and the files to check again.
+    (`mirror` is what the page asks, `running` the program behind it.)"""
     query = "nwr;out meta;"
     ask(page, mirror, query)
-    checked = parts_of(asked(mirror, query)[1])
+    checked = parts_of(asked(running, query)[1])
     got = {name: saved(page, room / f"saved-{name}", f"as-{name}") for name in ("opl", "json", "xml", "geojson", "query", "proof")}
     names = {name: file for name, (file, _) in got.items()}
     want = {name: name if name in ("query", "proof") else f"answer.{name}" for name in got}
@@ -725,13 +726,19 @@ def check_memory(tally, page, site, mirror, query):
       for (let pages = Math.ceil(bytes / 65536); pages < 16384 && !kinds.includes('yes'); pages = Math.ceil(pages * 1.08)) {{
         const module = await WebAssembly.compile(await (await fetch(`/limit-${{pages}}/out/osm_check.wasm`)).arrayBuffer());
         const checker = new Checker(module);
-        const verdict = await checker.check(new TextEncoder().encode(query), rootBytes({words(root)}), got.answer, got.proof);
-        checker.stop();
+        const given = [new TextEncoder().encode(query), rootBytes({words(root)})];
+        const verdict = await checker.check(...given, got.answer, got.proof);
         kinds.push(verdict.status + (verdict.status === 'no memory' && verdict.memory ? ' in the check' : ''));
+        // Where the check just fits, the document's text doesn't.
+        if (verdict.status === 'yes') {{
+          const {{ status, memory, document }} = await checker.tell('json', ...given, got.proof, 0);
+          kinds.push(`${{status}} in the telling: ${{memory > 0}} ${{document}}`);
+        }}
+        checker.stop();
       }}
       return kinds;
     }})()""")
-    wanted = ["no memory", "no memory in the check", "yes"]
+    wanted = ["no memory", "no memory in the check", "yes", "no memory in the telling: true null"]
     tally.check("out of memory by the module's limit", list(dict.fromkeys(kinds)) == wanted, kinds)
     opened(page, site, "/limit-64/")
     state, verdict, _ = ask(page, mirror, QUERY)
@@ -878,7 +885,7 @@ def check_page(tally, path):
             check_links(tally, page, site, honest)
             check_files(tally, page, room, checked)
             check_keys(tally, page, honest)
-            check_documents(tally, page, honest, room)
+            check_documents(tally, page, honest, mirror, room)
             check_sizes(tally, page)
             check_lies(tally, page, mirror, liar)
             check_no_answer(tally, page, liar)

@@ -28,10 +28,10 @@ use std::alloc::Global;
 /// [`osm_check_verdict`](crate::osm_check_verdict) tells it.
 ///
 /// `root` has 32 bytes, or the status is [`BAD_ROOT`]; `form` is one of the three, or it is [`BAD_FORM`]; nothing is
-/// assumed of `query` and `proof`. But for the first two statuses `size` is 0 and `room` stays as it was, whatever was told
-/// before.
+/// assumed of `query` and `proof`. With every status but [`YES`] and [`TOO_SHORT`], `size` is 0 and `room` stays as it was.
 ///
-/// Memory is taken from `alloc`, and given back before the call ends: it grows with the document.
+/// Memory is taken from `alloc`, and given back before the call ends: it grows with the number of the proof's nodes and
+/// with the text ([`NO_MEMORY`] where it runs out).
 #[unsafe(no_mangle)]
 pub extern "C" fn osm_check_tell(
     alloc: Global,

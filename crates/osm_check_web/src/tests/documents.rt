@@ -21,6 +21,7 @@ const XML: &[u8] = b"<?xml version=\"1.0\" encoding=\"UTF-8\"?>\n\
 </osm>\n";
 
 /// What a call is given beside the root, and how long a room.
+#[derive(Clone, Copy)]
 struct Asked<'a> {
     form: u32,
     query: &'a [u8],
@@ -29,6 +30,7 @@ struct Asked<'a> {
 }
 
 /// What a caller finds after a call, in place of what was there.
+#[derive(Drop)]
 struct Found {
     status: u32,
     told: Told,
@@ -83,9 +85,7 @@ fn documents_are_handed_over(rt: HostRuntime) -> Result<(), Fail> {
         let found = answer_to(alloc, &right.root.0, &asked)?;
         assert_eq!(rt; found.status, YES);
         assert_eq!(rt; found.size, document.len() as u64);
-        let (front, rest) = found.room.split_at(document.len());
-        assert_eq!(rt; front, document);
-        assert_eq!(rt; rest, b"...");
+        assert!(rt; found.room.starts_with(document) && found.room.ends_with(b"..."));
         assert_eq!(rt; (found.told.reason, found.told.fetched), (0, 1));
     }
     Ok(())
@@ -97,7 +97,7 @@ fn a_room_may_be_too_short(rt: HostRuntime) -> Result<(), Fail> {
     let right = proved(alloc, QUERY)?;
     for (room, wanted) in [
         (0, TOO_SHORT),
-        (JSON.len() - 1, TOO_SHORT),
+        (JSON.len().saturating_sub(1), TOO_SHORT),
         (JSON.len(), YES),
     ] {
         let asked = Asked {
@@ -125,7 +125,7 @@ fn where_there_is_no_document(rt: HostRuntime) -> Result<(), Fail> {
         (2, QUERY, root, b"", NO, (2, 0, 0)),
         (0, b"", root, proof, NO, (8, 0, 0)),
         (3, QUERY, root, proof, BAD_FORM, (0, 0, 0)),
-        (3, QUERY, &root[..31], proof, BAD_ROOT, (0, 0, 0)),
+        (3, QUERY, &right.root.0[..31], proof, BAD_ROOT, (0, 0, 0)),
     ];
     for (form, query, root, proof, status, why) in rows {
         let asked = Asked {
