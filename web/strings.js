@@ -239,7 +239,7 @@ export const SAY = {
   linkTitle: "Link to this query",
   linkText: "It has the mirror and the query, and no root: whoever opens it needs the root from the publisher.",
   curlTitle: "The same by curl",
-  curlText: "It prints the answer without a check. examples/fetch-and-check asks with the proof, and checks.",
+  curlText: "It prints the answer without a check. osm_mirror fetch asks with the proof, and checks.",
   copied: "Copied.",
   notCopied: "Copy it from here:",
 

@@ -26,7 +26,6 @@ INSTALLED = {
     "share/doc/osm-mirror/README.md": 0o644,
     "share/doc/osm-mirror/THIRD-PARTY": 0o644,
     "share/doc/osm-mirror/examples/8081.conf": 0o644,
-    "share/doc/osm-mirror/examples/fetch-and-check": 0o755,
     "share/doc/osm-mirror/examples/four-objects.opl": 0o644,
     "share/doc/osm-mirror/examples/nginx.conf": 0o644,
     "share/man/man1/osm_mirror.1": 0o644,
@@ -105,15 +104,13 @@ def check_job(tally, name, prefix, room):
     tally.check(f"{name}: another set", outcome.status == 0 and outcome.stdout != root.stdout, outcome)
     step(check, Outcome(b"no C4\n", b"", 1))
 
-    if is_there("curl"):
-        words = [program, "serve", objects, "0", "--connections", "1"]
-        with subprocess.Popen(words, stderr=subprocess.PIPE) as serving:
-            line = serving.stderr.readline()
-            port = line.split(b",")[0].split(b":")[-1].decode()
-            words = [examples / "fetch-and-check", ROOT, f"http://127.0.0.1:{port}", "node(1);out;"]
-            outcome = outcome_of(words, room, PATH=f"{prefix}/bin:{os.environ['PATH']}")
-            tally.check(f"{name}: fetch-and-check", outcome == Outcome(ANSWER, b"yes\n", 0), line, outcome)
-            serving.terminate()
+    words = [program, "serve", objects, "0", "--connections", "1"]
+    with subprocess.Popen(words, stderr=subprocess.PIPE) as serving:
+        line = serving.stderr.readline()
+        port = line.split(b",")[0].split(b":")[-1].decode()
+        outcome = outcome_of([program, "fetch", ROOT, f"127.0.0.1:{port}", "node(1);out;"], room)
+        tally.check(f"{name}: fetch", outcome == Outcome(ANSWER, b"", 0), line, outcome)
+        serving.terminate()
 
 
 def check_installation(tally, room):
