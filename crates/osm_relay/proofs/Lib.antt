@@ -1,0 +1,8 @@
+pub mod DialledLemmas
+pub mod FindingLemmas
+pub mod HeardLemmas
+pub mod JoinedTexts
+pub mod PromiseLemmas
+pub mod RelayingLemmas
+pub mod StageLemmas
+pub mod StarvedText

@@ -1,0 +1,9 @@
+pub mod Errands
+pub mod Events
+pub mod Logs
+pub mod MirrorTexts
+pub mod Pages
+pub mod Questions
+pub mod Relayed
+pub mod ResponseTexts
+pub mod internal

@@ -1,0 +1,25 @@
+//! Many clients at a time.
+
+use super::scene::{Scene, Then};
+use super::{DOCUMENT, POST, QUERY, SET, honest};
+use osm_relay::relay_many;
+use std::test::Fail;
+
+/// 65 clients: 64 at a time at most, each with its own answer.
+#[test]
+fn answers_65(rt: HostRuntime) -> Result<(), Fail> {
+    let mirror = honest(&rt, SET, QUERY)?;
+    let mut scene = Scene::new(rt.alloc(), POST, 100)?;
+    scene.add(&mirror.request, &mirror.response, Then::Closes)?;
+    relay_many(rt.alloc(), &mirror.root, &mut scene, 65)?;
+    assert_eq!(rt; scene.most_open, 64);
+    assert_eq!(rt; scene.gone.len(), 65);
+    for gone in &scene.gone {
+        assert!(rt;
+            gone.whole && gone.got.ends_with(DOCUMENT),
+            "{}",
+            gone.number
+        );
+    }
+    Ok(())
+}
