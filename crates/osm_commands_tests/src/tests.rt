@@ -1,9 +1,12 @@
 //! The commands over readers and writers of the test's own. Their rows, and what comes of it where a read or a write fails
 //! in turn, are shown of the whole program, by tests/system.
 
+mod announcing;
 mod changing;
 mod files;
 mod flushing_narrow_writer;
+mod lookouts;
+mod placing_writer;
 mod serving;
 
 use flushing_narrow_writer::FlushingNarrowWriter;

@@ -45,17 +45,26 @@ fn find_mirrors(
     place: &str,
     fallbacks: &[String],
 ) -> Result<Vec<Mirror>, CommandFault> {
-    let mut mirrors = Vec::new(rt.alloc());
-    mirrors.push(find_mirror(rt, place)?)?;
+    let Ok(mut mirrors) = Vec::with_capacity(rt.alloc(), fallbacks.len().saturating_add(1)) else {
+        return Err(CommandFault::Memory);
+    };
+    add_mirror(rt, &mut mirrors, place)?;
     for fallback in fallbacks {
-        mirrors.push(find_mirror(rt, fallback.as_str())?)?;
+        add_mirror(rt, &mut mirrors, fallback.as_str())?;
     }
     Ok(mirrors)
 }
 
-fn find_mirror(rt: &HostRuntime, place: &str) -> Result<Mirror, CommandFault> {
+fn add_mirror(
+    rt: &HostRuntime,
+    mirrors: &mut Vec<Mirror>,
+    place: &str,
+) -> Result<(), CommandFault> {
     match Mirror::find(rt, place) {
-        Ok(mirror) => Ok(mirror),
+        Ok(mirror) => match mirrors.push(mirror) {
+            Ok(()) => Ok(()),
+            Err(_) => Err(CommandFault::Memory),
+        },
         Err(MirrorError::Memory) => Err(CommandFault::Memory),
         Err(error) => {
             let errors = &mut rt.stderr();
