@@ -9,7 +9,7 @@ TOP = Path(__file__).resolve().parents[1]
 sys.path.insert(0, str(TOP / "tests/system"))
 # pylint: disable=wrong-import-position
 import browser
-import page_trial
+import page_test
 
 PROGRAM = TOP / "crates/osm_mirror/out/osm_mirror"
 QUERIES = [
@@ -47,8 +47,8 @@ def main():
     room.mkdir(exist_ok=True)
     modules = sorted(it.name for it in (TOP / "web/out").glob("*.wasm"))
     words = browser.program()
-    with page_trial.page_server(room) as site, browser.browser(words) as page:
-        page_trial.opened(page, site)
+    with page_test.page_server(room) as site, browser.browser(words) as page:
+        page_test.opened(page, site)
         for name, query in QUERIES:
             (room / "query").write_text(query, encoding="utf-8")
             files = [room / it for it in ("query", "answer", "proof")]

@@ -13,6 +13,12 @@ const PARTS = 200; // nodes or members that are listed of an object
 
 const VIEWS = ["map", "list", "text"];
 
+// Documents that the checker makes: the type, and how many times as long as the OPL text a document may be; where it is
+// longer, that costs time. ROUND is for what stands around the objects.
+const DOCUMENTS = { opl: ["text/plain", 1], json: ["application/json", 10], xml: ["application/xml", 10] };
+const TOLD = Object.keys(DOCUMENTS);
+const ROUND = 1000;
+
 export class Answer {
   #map;
   #objects = [];
@@ -21,8 +27,12 @@ export class Answer {
   #bytes = new Uint8Array(0);
   #proof = new Uint8Array(0);
   #query = new Uint8Array(0);
+  #root = new Uint8Array(0);
+  #tell;
 
-  constructor() {
+  /** `tell` makes documents of what is shown: that of a form, from a query, a root and a proof (see Checker). */
+  constructor(tell) {
+    this.#tell = tell;
     this.#map = new AnswerMap(byId("canvas"), {
       onChoose: (object) => this.choose(object === null ? null : keyOf(object)),
       onPoint: (degrees) => (byId("pointed").textContent = degrees === null ? "" : placeText(degrees)),
@@ -30,9 +40,9 @@ export class Answer {
     this.#listen();
   }
 
-  /** Shows an answer, which was checked: all three are bytes. Gives how many objects it has. */
-  show(query, answer, proof) {
-    [this.#query, this.#bytes, this.#proof] = [query, answer, proof];
+  /** Shows an answer, which was checked under this root: all are bytes. Gives how many objects it has. */
+  show(query, root, answer, proof) {
+    [this.#query, this.#root, this.#bytes, this.#proof] = [query, root, answer, proof];
     const text = new TextDecoder().decode(answer);
     this.#objects = merged(readOpl(text));
     this.#byKey = new Map(this.#objects.map((object) => [keyOf(object), object]));
@@ -55,6 +65,7 @@ export class Answer {
     [this.#objects, this.#byKey, this.#bytes, this.#proof] = [[], new Map(), new Uint8Array(0), new Uint8Array(0)];
     byId("rows").replaceChildren();
     byId("opl").textContent = "";
+    byId("download-fault").textContent = "";
     this.choose(null);
     this.#map.show({ shapes: [] });
   }
@@ -90,15 +101,34 @@ export class Answer {
       tab.onclick = () => this.#view(name);
       tab.onkeydown = (event) => this.#nextTab(event, name);
     }
-    const offers = {
-      opl: () => download("answer.opl", "text/plain", this.#bytes),
-      geojson: () => download("answer.geojson", "application/geo+json", geoJsonOf(this.#objects)),
-      query: () => download("query", "text/plain", this.#query),
-      proof: () => download("proof", "application/octet-stream", this.#proof),
-    };
-    for (const [format, onclick] of Object.entries(offers)) {
-      const [textContent, title] = SAY.formats[format];
-      byId("downloads").append(element("button", { type: "button", id: `as-${format}`, textContent, title, onclick }));
+    this.#offer(SAY.told, TOLD, (name) => this.#downloadTold(name));
+    this.#offer(SAY.converted, ["geojson"], () => download("answer.geojson", "application/geo+json", geoJsonOf(this.#objects)));
+    this.#offer(SAY.again, ["query", "proof"], (name) =>
+      download(name, "application/octet-stream", name === "query" ? this.#query : this.#proof),
+    );
+  }
+
+  /** Offers downloads, with what they are. */
+  #offer(text, names, onChoose) {
+    const buttons = names.map((name) => {
+      const [textContent, title] = SAY.formats[name];
+      return element("button", { type: "button", id: `as-${name}`, textContent, title, onclick: () => onChoose(name) });
+    });
+    byId("downloads").append(element("span", { className: "row" }, element("small", {}, text), ...buttons));
+  }
+
+  /** Has the checker make the document of the answer that is shown, and hands it to the user. */
+  async #downloadTold(form) {
+    const [type, times] = DOCUMENTS[form];
+    const proof = this.#proof;
+    try {
+      const guess = times * this.#bytes.length + ROUND;
+      const { status, document } = await this.#tell(form, this.#query, this.#root, proof, guess);
+      if (proof !== this.#proof) return;
+      if (status === "yes") download(`answer.${form}`, type, document);
+      byId("download-fault").textContent = status === "yes" ? "" : SAY.notTold(status);
+    } catch (error) {
+      byId("download-fault").textContent = error.message;
     }
   }
 

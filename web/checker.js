@@ -4,6 +4,9 @@ import { SAY } from "./strings.js";
 
 const MODULES = ["out/osm_check.wasm", "out/osm_check_32.wasm"].map((path) => new URL(path, import.meta.url));
 
+/** The forms in which an answer is told, in the order of their numbers (crates/osm_check_web/src/documents.rt). */
+export const FORMS = ["opl", "json", "xml"];
+
 /** A verdict couldn't be made: the text says why. */
 export class NotJudged extends Error {}
 
@@ -46,14 +49,17 @@ export class Checker {
    * Judges an answer: `root` has 32 bytes, the others are any bytes. Gives `{status, reason, cause, place, fetched,
    * milliseconds}`: status is "yes", "no", "no memory" or "bad root". The bytes are copied, so they stay the caller's.
    */
-  async check(query, root, answer, proof) {
-    const module = await this.#module;
-    const worker = this.#started(module);
-    const number = this.#next++;
-    return new Promise((resolve, reject) => {
-      this.#waiting.set(number, { resolve, reject });
-      worker.postMessage({ number, query, root, answer, proof });
-    });
+  check(query, root, answer, proof) {
+    return this.#ask({ job: "check", query, root, answer, proof });
+  }
+
+  /**
+   * Makes the document of an answer in a form of FORMS, from the query, the root and the proof alone. Gives what `check`
+   * gives, but for the milliseconds, and `document`: its bytes where the status is "yes", else null. `guess` is how many
+   * bytes it may have; where it has more, it is made twice.
+   */
+  tell(form, query, root, proof, guess) {
+    return this.#ask({ job: "tell", form: FORMS.indexOf(form), query, root, proof, guess });
   }
 
   /** The fault of a query as `{cause, place}`, or null where it reads. The checker looks at the query before anything else. */
@@ -61,6 +67,16 @@ export class Checker {
     const none = new Uint8Array(0);
     const verdict = await this.check(query, new Uint8Array(32), none, none);
     return verdict.status === "no" && verdict.reason === 1 ? { cause: verdict.cause, place: verdict.place } : null;
+  }
+
+  async #ask(message) {
+    const module = await this.#module;
+    const worker = this.#started(module);
+    const number = this.#next++;
+    return new Promise((resolve, reject) => {
+      this.#waiting.set(number, { resolve, reject });
+      worker.postMessage({ ...message, number });
+    });
   }
 
   /** Gives up all checks that are under way. */
@@ -78,11 +94,11 @@ export class Checker {
     return this.#worker;
   }
 
-  #settle({ number, verdict, fault }) {
+  #settle({ number, result, fault }) {
     const waiting = this.#waiting.get(number);
     this.#waiting.delete(number);
     if (fault !== undefined) waiting?.reject(new NotJudged(SAY.crashed(fault)));
-    else waiting?.resolve(verdict);
+    else waiting?.resolve(result);
   }
 
   #end(error) {

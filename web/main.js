@@ -15,7 +15,7 @@ writeTexts();
 
 const checker = new Checker();
 const editor = new Editor(byId("query"), byId("marks"), byId("fault"));
-const answer = new Answer();
+const answer = new Answer((...words) => checker.tell(...words));
 let asking = null; // the AbortController of what is under way
 
 // ---- the verdict ----
@@ -87,11 +87,12 @@ async function askMirror() {
  */
 async function judge(signal, { query, bytes, digits, mirror = "", root = null, answer: opl, proof, milliseconds = null }) {
   tell("wait", SAY.checking(proof.length));
-  const verdict = await checker.check(bytes, kept.rootBytes(digits), opl, proof);
+  const yours = kept.rootBytes(digits);
+  const verdict = await checker.check(bytes, yours, opl, proof);
   if (signal.aborted) return;
   if (verdict.status === "yes") {
     tell("yes", SAY.yes(digits, verdict.milliseconds, proof.length));
-    const objects = answer.show(bytes, opl, proof);
+    const objects = answer.show(bytes, yours, opl, proof);
     const told = SAY.answered(objects, opl.length, milliseconds, verdict.fetched);
     byId("details").textContent = mirror === "" ? `${told} ${SAY.fromFiles}` : told;
   } else if (verdict.status === "no") {

@@ -210,12 +210,19 @@ export const SAY = {
     tags: "Tags",
   },
   noTags: "No tags",
+  told: "Checked here:",
+  converted: "Converted by this page:",
+  again: "To check it again:",
   formats: {
-    opl: ["OPL", "The answer as it was checked"],
+    opl: ["OPL", "The answer as OPL, made by the checker from the proof"],
+    json: ["JSON", "The answer as JSON, as Overpass has it, made by the checker from the proof"],
+    xml: ["XML", "The answer as XML, as Overpass has it, made by the checker from the proof"],
     geojson: ["GeoJSON", "Converted by this page from the checked answer; the conversion isn't proved"],
     query: ["Query", "The query, to check it again offline"],
     proof: ["Proof", "The proof, to check it again offline"],
   },
+  notTold: (status) =>
+    status === "no memory" ? "There isn't enough memory in this page for this document." : `The document couldn't be made: ${status}.`,
 
   // Roots, history, links
   noRoots: "No root yet",
@@ -232,7 +239,7 @@ export const SAY = {
   linkTitle: "Link to this query",
   linkText: "It has the mirror and the query, and no root: whoever opens it needs the root from the publisher.",
   curlTitle: "The same by curl",
-  curlText: "It prints the answer without a check. examples/fetch-and-check asks with the proof, and checks.",
+  curlText: "It prints the answer without a check. osm_mirror fetch asks with the proof, and checks.",
   copied: "Copied.",
   notCopied: "Copy it from here:",
 

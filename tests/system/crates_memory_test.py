@@ -36,6 +36,7 @@ MODULES = {
     "osm_check": ("answer_tests", "verdicts"),
     "http_messages": ("answer_tests", "connections"),
     "osm_gate": ("answer_tests", "connections"),
+    "mirror_answer": ("osm_fetch_tests", "replies"),
 }
 
 # Crates whose allocations are refused in the program: serve_test.py does it for the sockets, since a test is one thread,

@@ -282,6 +282,7 @@ def check_statuses(tally, page):
         file.write_bytes(b"n1 x13.4\n")
         runs = {
             "bad root": ["check", "0" * 63, file, file, file],
+            "bad form": ["ask", "node(1);out;", "--form", "yaml"],
             "bad edition": ["publish", file, "--edition", "3"],
             "O9 line 1 byte 8": ["publish", file],
             "Q11 byte 7": ["prove", "/dev/null", file, Path(room) / "a", Path(room) / "p"],

@@ -26,11 +26,19 @@ INSTALLED = {
     "share/doc/osm-mirror/README.md": 0o644,
     "share/doc/osm-mirror/THIRD-PARTY": 0o644,
     "share/doc/osm-mirror/examples/8081.conf": 0o644,
-    "share/doc/osm-mirror/examples/fetch-and-check": 0o755,
     "share/doc/osm-mirror/examples/four-objects.opl": 0o644,
     "share/doc/osm-mirror/examples/nginx.conf": 0o644,
     "share/man/man1/osm_mirror.1": 0o644,
 }
+
+WEB = TOP / "web"
+
+
+def page_files():
+    """The files of the page with its checker, as they are installed. (A second one is made where wasm-opt is installed.)"""
+    files = [file for form in ("*.html", "*.css", "*.svg", "*.js", "out/osm_check_32.wasm") for file in WEB.glob(form)]
+    return {f"share/osm_mirror/web/{file.relative_to(WEB)}": 0o644 for file in [*files, WEB / "out/osm_check.wasm"]}
+
 
 # A package has these otherwise: pages are compressed, and the licence has a place of its own.
 PACKAGED = {
@@ -96,15 +104,13 @@ def check_job(tally, name, prefix, room):
     tally.check(f"{name}: another set", outcome.status == 0 and outcome.stdout != root.stdout, outcome)
     step(check, Outcome(b"no C4\n", b"", 1))
 
-    if is_there("curl"):
-        words = [program, "serve", objects, "0", "--connections", "1"]
-        with subprocess.Popen(words, stderr=subprocess.PIPE) as serving:
-            line = serving.stderr.readline()
-            port = line.split(b",")[0].split(b":")[-1].decode()
-            words = [examples / "fetch-and-check", ROOT, f"http://127.0.0.1:{port}", "node(1);out;"]
-            outcome = outcome_of(words, room, PATH=f"{prefix}/bin:{os.environ['PATH']}")
-            tally.check(f"{name}: fetch-and-check", outcome == Outcome(ANSWER, b"yes\n", 0), line, outcome)
-            serving.terminate()
+    words = [program, "serve", objects, "0", "--connections", "1"]
+    with subprocess.Popen(words, stderr=subprocess.PIPE) as serving:
+        line = serving.stderr.readline()
+        port = line.split(b",")[0].split(b":")[-1].decode()
+        outcome = outcome_of([program, "fetch", ROOT, f"127.0.0.1:{port}", "node(1);out;"], room)
+        tally.check(f"{name}: fetch", outcome == Outcome(ANSWER, b"", 0), line, outcome)
+        serving.terminate()
 
 
 def check_installation(tally, room):
@@ -113,8 +119,11 @@ def check_installation(tally, room):
     outcome = outcome_of([TOP / "install", prefix], room)
     tally.check("./install", outcome.status == 0 and outcome.stderr == b"", outcome)
     told = {line.removeprefix(f"{prefix}/") for line in outcome.stdout.decode().splitlines()}
-    tally.check("./install tells what it has put in place", told == set(INSTALLED), told)
-    tally.check("what is installed", modes_of(prefix) == INSTALLED, modes_of(prefix))
+    want = INSTALLED | page_files()
+    tally.check("./install tells what it has put in place", told == set(want), told ^ set(want))
+    tally.check("what is installed", modes_of(prefix) == want, modes_of(prefix))
+    configuration = (prefix / "share/doc/osm-mirror/examples/nginx.conf").read_text(encoding="utf-8")
+    tally.check("nginx finds the page", f"root {prefix}/share/osm_mirror/web;" in configuration, configuration)
     check_job(tally, "installed", prefix, room / "job")
     check_unit(tally, prefix)
     check_page(tally, prefix)
@@ -126,7 +135,7 @@ def check_installation(tally, room):
 def check_destination(tally, room):
     """DESTDIR stands before the prefix, and what is installed doesn't name it."""
     outcome = outcome_of([TOP / "install", "/opt/osm"], room, DESTDIR=room / "destination")
-    tally.check("DESTDIR", outcome.status == 0 and modes_of(room / "destination/opt/osm") == INSTALLED, outcome)
+    tally.check("DESTDIR", outcome.status == 0 and modes_of(room / "destination/opt/osm") == INSTALLED | page_files(), outcome)
     unit = (room / "destination/opt/osm/lib/systemd/system/osm_mirror@.service").read_text(encoding="utf-8")
     tally.check("the unit names the program", "ExecStart=/opt/osm/bin/osm_mirror serve" in unit and str(room) not in unit, unit)
 
@@ -172,7 +181,7 @@ def check_package(tally, room):
     outcome = outcome_of(["dpkg-deb", "--field", package, "Version"], room)
     tally.check("the package's version", outcome == Outcome(newest.encode() + b"\n", b"", 0), outcome)
     subprocess.run(["dpkg-deb", "--extract", package, room / "package"], check=True)
-    want = {f"usr/{name}" for file in INSTALLED for name in PACKAGED.get(file, [file])}
+    want = {f"usr/{name}" for file in INSTALLED | page_files() for name in PACKAGED.get(file, [file])}
     got = set(modes_of(room / "package"))
     tally.check("what is packaged", got == want, got ^ want)
     check_job(tally, "packaged", room / "package/usr", room / "package-job")

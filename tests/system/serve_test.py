@@ -24,7 +24,6 @@ from urllib.parse import quote
 from lines_rows_test import rows, set_file
 from runs import PROGRAM, SECONDS, TOP, Outcome, Tally, built_library, run
 
-FETCH = TOP / "examples/fetch-and-check"
 NGINX = TOP / "examples/nginx.conf"
 
 QUERY = "node(1);out ids;"
@@ -380,25 +379,6 @@ def check_each_call(tally, kind, code, others, requests, responses):
         tally.check(name, holds and rest == Outcome(b"", code, 0), got[-100:], second[-100:], rest)
 
 
-def check_fetch(tally, site, name, environment=None):
-    """examples/fetch-and-check gives the answer under the publisher's root, and refuses it under another."""
-    environment = dict(os.environ) | {"OSM_MIRROR": str(PROGRAM)} | (environment or {})
-
-    def fetched(root, query):
-        words = [FETCH, root, site, query]
-        ended = subprocess.run(words, capture_output=True, env=environment, timeout=SECONDS)
-        return Outcome(ended.stdout, ended.stderr, ended.returncode)
-
-    root = root_of(name, b"2")
-    outcome = fetched(root, QUERY)
-    tally.check(f"fetch-and-check at {site}", outcome == Outcome(ANSWER, b"yes\n", 0), outcome)
-    outcome = fetched(root_of(b"town", b"2"), QUERY)
-    told = f"no C4\nthe mirror says that it answers under another root: {root}\n".encode()
-    tally.check(f"fetch-and-check at {site}, another root", outcome == Outcome(b"", told, 1), outcome)
-    outcome = fetched(root, "node(1)")
-    tally.check(f"fetch-and-check at {site}, a bad query", outcome.status == 2 and b"400: Q" in outcome.stderr, outcome)
-
-
 @contextmanager
 def nginx_before(ports, room, *changes):
     """nginx with the example's configuration over these ports, listening on a port of its own, which is given. Changes are
@@ -440,8 +420,6 @@ def check_nginx(tally):
         room.chmod(0o755)
         with nginx_before((one.port, two.port), room) as port:
             site = f"https://localhost:{port}"
-            trust = {"CURL_CA_BUNDLE": str(room / "certificate.pem")}
-            check_fetch(tally, site, b"F", trust)
             words = ["curl", "--silent", "--show-error", "--cacert", room / "certificate.pem", "--parallel",
                      "--data-urlencode", f"data={QUERY}", f"{site}/api/interpreter?[1-200]"]
             outcome = run(words)
@@ -558,8 +536,6 @@ def main():
     check_devices(tally)
     check_editions(tally)
     check_limits(tally)
-    with server(set_file(b"F")) as running:
-        check_fetch(tally, f"http://127.0.0.1:{running.port}", b"F")
     check_nginx(tally)
     tally.end()
 

@@ -53,6 +53,51 @@ OF_CLAP = [
         "error: the argument '--max-size <BYTES>' cannot be used multiple times\n",
     ),
     ("prove a b c d --max-size 1", "error: unexpected argument '--max-size' found\n"),
+    ("ask a --form", "error: a value is required for '--form <FORM>' but none was supplied\n"),
+    (
+        "ask a --form opl --form json",
+        "error: the argument '--form <FORM>' cannot be used multiple times\n",
+    ),
+    ("ask a --max-size 1", "error: unexpected argument '--max-size' found\n"),
+    ("fetch a b", "error: the following required arguments were not provided:\n"),
+    ("fetch a b c d", "error: unexpected argument 'd' found\n"),
+    ("fetch a b -x", "error: unexpected argument '-x' found\n"),
+    (
+        "fetch a b c --max-size=-1",
+        "error: invalid value '-1' for '--max-size <BYTES>': invalid digit found in string\n",
+    ),
+    ("fetch a b c --edition 1", "error: unexpected argument '--edition' found\n"),
+    ("relay a b", "error: the following required arguments were not provided:\n"),
+    ("relay a b 65536", "error: invalid value '65536' for '<LISTENPORT>': 65536 is not in 0..=65535\n"),
+    ("relay a b http", "error: invalid value 'http' for '<LISTENPORT>': invalid digit found in string\n"),
+    (
+        "relay a b 80 --connections 4294967296",
+        "error: invalid value '4294967296' for '--connections <N>': 4294967296 is not in 0..=4294967295\n",
+    ),
+    (
+        "relay a b 80 --fallback c:1 --fallback",
+        "error: a value is required for '--fallback <HOST:PORT>' but none was supplied\n",
+    ),
+    (
+        "relay a b 80 --root-file c --root-file d",
+        "error: the argument '--root-file <FILE>' cannot be used multiple times\n",
+    ),
+    ("relay a b 80 --form json", "error: unexpected argument '--form' found\n"),
+    ("changes a 7", "error: the following required arguments were not provided:\n"),
+    ("changes a x b", "error: invalid value 'x' for '<SEQUENCE>': invalid digit found in string\n"),
+    (
+        "changes a 18446744073709551616 b",
+        "error: invalid value '18446744073709551616' for '<SEQUENCE>': number too large to fit in target type\n",
+    ),
+    ("changes a 7 b --edition 2", "error: unexpected argument '--edition' found\n"),
+    (
+        "serve a 80 --strict-changes --strict-changes",
+        "error: the argument '--strict-changes' cannot be used multiple times\n",
+    ),
+    (
+        "serve a 80 --strict-changes=yes",
+        "error: unexpected value 'yes' for '--strict-changes' found; no more were expected\n",
+    ),
     ("answer node(1);out;", "error: unrecognized subcommand 'answer'\n"),
     ("help", "error: unrecognized subcommand 'help'\n"),
     (
@@ -64,9 +109,12 @@ OF_CLAP = [
         "Commands:\n"
         "  ask      Answers a query over the OPL text on standard input, after checking the answer\n"
         "  publish  Prints the root of a set, by which clients check answers\n"
+        "  changes  Applies a change file to a set, prints the new root and adds it to the end of the change file\n"
         "  prove    Writes the answer to a query and its proof, and prints the root of the set\n"
         "  check    Checks an answer by its proof and a root: prints 'yes', or 'no' and why\n"
+        "  fetch    Asks a mirror, checks its proof on this machine and prints the answer\n"
         "  serve    Answers queries over HTTP, with proofs, on 127.0.0.1\n"
+        "  relay    Answers programs on this machine as an Overpass server does, with what a mirror has proved\n"
         "  explain  Prints what a code means, where it is told and what to do about it\n",
     ),
     ("--version", "osm_mirror 0.1.0 (edition 2, rattle-kit-"),
@@ -75,10 +123,14 @@ OF_CLAP = [
         "ask -h",
         "Answers a query over the OPL text on standard input, after checking the answer\n"
         "\n"
-        "Usage: osm_mirror ask <QUERY>\n"
+        "Usage: osm_mirror ask [OPTIONS] <QUERY>\n"
         "\n"
         "Arguments:\n"
-        "  <QUERY>  The query, as 'node(1);out;'; after '--' where it begins with '-'\n",
+        "  <QUERY>  The query, as 'node(1);out;'; after '--' where it begins with '-'\n"
+        "\n"
+        "Options:\n"
+        "      --form <FORM>  Form of the answer: opl, json or xml; opl if it isn't given\n"
+        "  -h, --help         Print help\n",
     ),
     (
         "publish -h",
@@ -124,6 +176,7 @@ OF_CLAP = [
         "Options:\n"
         "      --connections <N>    Number of connections to serve; 4294967295 if it isn't given\n"
         "      --changes <DIR>      Folder of change files: DIR/<sequence + 1>.opl is applied as soon as it is there\n"
+        "      --strict-changes     Refuse change files that don't tell which root they give\n"
         "      --edition <EDITION>  Edition of the root: 1, or 2 with a sequence number; 2 if it isn't given\n"
         "      --sequence <N>       Sequence number of an edition 2 root, 0 if it isn't given; has no effect with '--edition 1'\n"
         "  -h, --help               Print help\n",
@@ -143,6 +196,50 @@ OF_CLAP = [
         "Options:\n"
         "      --max-size <BYTES>  Most bytes of the answer, and of the proof; no limit if it isn't given\n"
         "  -h, --help              Print help\n",
+    ),
+    (
+        "changes -h",
+        "Applies a change file to a set, prints the new root and adds it to the end of the change file\n"
+        "\n"
+        "Usage: osm_mirror changes <FILE> <SEQUENCE> <CHANGEFILE>\n"
+        "\n"
+        "Arguments:\n"
+        "  <FILE>        OPL file with the objects of the set\n"
+        "  <SEQUENCE>    Sequence number of the set before the changes; its edition is 2\n"
+        "  <CHANGEFILE>  OPL file with the changes, to which a line with the new root is added\n",
+    ),
+    (
+        "fetch -h",
+        "Asks a mirror, checks its proof on this machine and prints the answer\n"
+        "\n"
+        "Usage: osm_mirror fetch [OPTIONS] <ROOT> <HOST:PORT> <QUERY>\n"
+        "\n"
+        "Arguments:\n"
+        "  <ROOT>       Root of the set: 64 hexadecimal digits, from the publisher\n"
+        "  <HOST:PORT>  Mirror to ask, as 'mirror.example:8080'\n"
+        "  <QUERY>      The query, as 'node(1);out;'; after '--' where it begins with '-'\n"
+        "\n"
+        "Options:\n"
+        "      --form <FORM>       Form of the answer: opl, json or xml; opl if it isn't given\n"
+        "      --max-size <BYTES>  Most bytes of the answer, and of the proof; no limit if it isn't given\n"
+        "  -h, --help              Print help\n",
+    ),
+    (
+        "relay -h",
+        "Answers programs on this machine as an Overpass server does, with what a mirror has proved\n"
+        "\n"
+        "Usage: osm_mirror relay [OPTIONS] <ROOT> <HOST:PORT> <LISTENPORT>\n"
+        "\n"
+        "Arguments:\n"
+        "  <ROOT>        Root of the set: 64 hexadecimal digits, from the publisher\n"
+        "  <HOST:PORT>   Mirror to ask, as 'mirror.example:8080'\n"
+        "  <LISTENPORT>  Port to listen on; 0 takes any that is free\n"
+        "\n"
+        "Options:\n"
+        "      --fallback <HOST:PORT>  Another mirror, asked where those before it fail; may be given several times\n"
+        "      --root-file <FILE>      File with the root that is in force; ROOT if it isn't given\n"
+        "      --connections <N>       Number of connections to serve; 4294967295 if it isn't given\n"
+        "  -h, --help                  Print help\n",
     ),
 ]
 
@@ -178,9 +275,16 @@ def main():
     # A mirror takes changes in edition 2 alone.
     check_told(tally, "serve a.opl 80 --changes new --edition 1", b"bad edition\n")
     check_told(tally, "serve --edition=1 a.opl --changes= 80", b"bad edition\n")
+    for word in ["", "OPL", "Json", "jsonx", "xm", "yaml", "1"]:
+        check_told(tally, f"ask node(1);out; --form={word}", b"bad form\n")
+        check_told(tally, f"fetch {ROOT} h:1 node(1);out; --form={word}", b"bad form\n")
+    # ROOT is looked at before the form.
+    check_told(tally, f"fetch {ROOT}0 h:1 node(1);out; --form yaml", b"bad root\n")
     for digits in [0, 1, 62, 63]:
         for end in ["", "g", "0x", "00a"]:
             check_told(tally, f"check {ROOT[:digits]}{end} b c d", b"bad root\n")
+            check_told(tally, f"fetch {ROOT[:digits]}{end} h:1 node(1);out;", b"bad root\n")
+            check_told(tally, f"relay {ROOT[:digits]}{end} h:1 8080", b"bad root\n")
     tally.end()
 
 

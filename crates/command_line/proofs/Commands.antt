@@ -15,11 +15,11 @@ use Rattle.clap.specs.declared.parser.matches.ArgMatches.TheViews.{out-ArgMatche
 use Rattle.clap.specs.declared.parser.matches.SubCommand.{SubCommand}
 use Rattle.clap.proofs.OnLiterals.{clap_on_literals}
 use Rattle.command_line.specs.CommandLine.{program_app}
-use Rattle.command_line.specs.Jobs.{Gives, GivesMatch, HasBadEdition, HasBadRoot}
+use Rattle.command_line.specs.Jobs.{Gives, GivesMatch, HasBadEdition, HasBadForm, HasBadRoot}
 use Rattle.command_line.specs.internal.Commands.{IsCommandName}
 use Rattle.command_line.specs.declared.job.Job.{Job}
 use Rattle.command_line.specs.declared.words_fault.WordsFault.{WordsFault}
-use Rattle.command_line.specs.declared.words_fault.WordsFault.TheVariants.{BadEdition, BadRoot, Memory}
+use Rattle.command_line.specs.declared.words_fault.WordsFault.TheVariants.{BadEdition, BadForm, BadRoot, Memory}
 
 -- a name and a list of rows make the pair that they came from
 pair_of : (o : Option (Text × List Row)) (name : Text) (rows : List Row)
@@ -82,8 +82,11 @@ among-commands name (inr (inl e)) = inr (inl e)
 among-commands name (inr (inr (inl e))) = inr (inr (inl e))
 among-commands name (inr (inr (inr (inl e)))) = inr (inr (inr (inl e)))
 among-commands name (inr (inr (inr (inr (inl e))))) = inr (inr (inr (inr (inl e))))
-among-commands name (inr (inr (inr (inr (inr (inl e)))))) = inr (inr (inr (inr (inr e))))
-among-commands name (inr (inr (inr (inr (inr (inr e)))))) = absurd e
+among-commands name (inr (inr (inr (inr (inr (inl e)))))) = inr (inr (inr (inr (inr (inl e)))))
+among-commands name (inr (inr (inr (inr (inr (inr (inl e))))))) = inr (inr (inr (inr (inr (inr (inl e))))))
+among-commands name (inr (inr (inr (inr (inr (inr (inr (inl e)))))))) = inr (inr (inr (inr (inr (inr (inr (inl e)))))))
+among-commands name (inr (inr (inr (inr (inr (inr (inr (inr (inl e))))))))) = inr (inr (inr (inr (inr (inr (inr (inr e)))))))
+among-commands name (inr (inr (inr (inr (inr (inr (inr (inr (inr e))))))))) = absurd e
 
 -- the command that the words name is one of the program's
 pub named : (words : List Text) (p : Text × List Row) → subcommand_of program_app words ≡ Some p → IsCommandName p.0
@@ -139,7 +142,8 @@ of_match matched (Err e) same given = tt
 -- why there is no job of the command of this name
 abbrev Refusal : Text → List Row → WordsFault → Type 0
 Refusal name rows e = (e ≡ Memory)
-    ⊎ (((e ≡ BadRoot) × HasBadRoot (Some (name, rows))) ⊎ ((e ≡ BadEdition) × HasBadEdition (Some (name, rows))))
+    ⊎ (((e ≡ BadRoot) × HasBadRoot (Some (name, rows)))
+    ⊎ (((e ≡ BadForm) × HasBadForm (Some (name, rows))) ⊎ ((e ≡ BadEdition) × HasBadEdition (Some (name, rows)))))
 
 -- its bad root
 pub bad_root_match : (matched : Option (Text × List Row)) (r : Result Job WordsFault) (name : Text) (rows : List Row) → Some (name, rows) ≡ matched → r ≡ Err BadRoot
@@ -150,7 +154,20 @@ bad_root_match matched (Err e) name rows same is told = by told
     by : Refusal name rows e → HasBadRoot matched
     by (inl memory) = let bad : e ≡ BadRoot = cc in cc
     by (inr (inl root)) = subst HasBadRoot same root.1
-    by (inr (inr edition)) = let bad : e ≡ BadRoot = cc in cc (edition.0)
+    by (inr (inr (inl form))) = let bad : e ≡ BadRoot = cc in cc (form.0)
+    by (inr (inr (inr edition))) = let bad : e ≡ BadRoot = cc in cc (edition.0)
+
+-- its bad form
+pub bad_form_match : (matched : Option (Text × List Row)) (r : Result Job WordsFault) (name : Text) (rows : List Row) → Some (name, rows) ≡ matched → r ≡ Err BadForm
+    → IfErr r (Refusal name rows) → HasBadForm matched
+bad_form_match matched (Ok job) name rows same is told = cc
+bad_form_match matched (Err e) name rows same is told = by told
+  where
+    by : Refusal name rows e → HasBadForm matched
+    by (inl memory) = let bad : e ≡ BadForm = cc in cc
+    by (inr (inl root)) = let bad : e ≡ BadForm = cc in cc (root.0)
+    by (inr (inr (inl form))) = subst HasBadForm same form.1
+    by (inr (inr (inr edition))) = let bad : e ≡ BadForm = cc in cc (edition.0)
 
 -- its bad edition
 pub bad_edition_match : (matched : Option (Text × List Row)) (r : Result Job WordsFault) (name : Text) (rows : List Row) → Some (name, rows) ≡ matched → r ≡ Err BadEdition
@@ -161,4 +178,5 @@ bad_edition_match matched (Err e) name rows same is told = by told
     by : Refusal name rows e → HasBadEdition matched
     by (inl memory) = let bad : e ≡ BadEdition = cc in cc
     by (inr (inl root)) = let bad : e ≡ BadEdition = cc in cc (root.0)
-    by (inr (inr edition)) = subst HasBadEdition same edition.1
+    by (inr (inr (inl form))) = let bad : e ≡ BadEdition = cc in cc (form.0)
+    by (inr (inr (inr edition))) = subst HasBadEdition same edition.1

@@ -1,30 +1,26 @@
--- The command `serve FILE PORT [--connections N] [--changes DIR] [--edition 1|2] [--sequence N]`.
+-- The command `serve FILE PORT [--connections N] [--changes DIR] [--strict-changes] [--edition 1|2] [--sequence N]`.
 -- Source: this project.
-use Rattle.std.specs.Prelude.{◌≡◌, ◌⊎◌, ⊤, Option, Some, None, codes, is_some, pos, true}
+use Rattle.std.specs.Prelude.{◌≡◌, ◌⊎◌, ⊤, Option, Some, None, codes, is_some, true}
 use Rattle.clap.specs.Words.{App, Rule, Text, new_app, with_rule}
-use Rattle.clap.specs.declared.builder.value_parser.ValueParser.TheVariants as value
 use Rattle.command_line.specs.Arguments.{wanted}
 use Rattle.command_line.specs.EditionOptions.{IsBadEdition, edition_word, option_rule, with_edition_options}
+use Rattle.command_line.specs.Flags.{flag_rule}
+use Rattle.command_line.specs.ListenOptions.{connections_rule, port_rule}
 use Rattle.osm_keys.specs.declared.edition.Edition.{Edition}
 use Rattle.osm_keys.specs.declared.edition.Edition.TheVariants.{One, Two}
 
 abbrev pub serve_name : Text
 serve_name = codes "serve"
 
--- its value is a number below 2^16
-abbrev pub port_rule : Rule
-port_rule = record (wanted (codes "PORT")) { parser = Some (value.Signed (pos 0) (pos 65535)) }
-
--- its value is a number below 2^32
-abbrev pub connections_rule : Rule
-connections_rule = record (option_rule (codes "connections")) { parser = Some (value.Signed (pos 0) (pos 4294967295)) }
-
 -- its value is the name of a folder
 abbrev pub changes_rule : Rule
 changes_rule = option_rule (codes "changes")
 
+abbrev pub strict_changes_rule : Rule
+strict_changes_rule = flag_rule (codes "strict-changes")
+
 abbrev pub serve_app : App
-serve_app = with_edition_options (with_rule (with_rule (with_rule (with_rule (new_app serve_name) (wanted (codes "FILE"))) port_rule) connections_rule) changes_rule)
+serve_app = with_edition_options (with_rule (with_rule (with_rule (with_rule (with_rule (new_app serve_name) (wanted (codes "FILE"))) (port_rule (codes "PORT"))) connections_rule) changes_rule) strict_changes_rule)
 
 -- changes are taken in the second edition alone
 abbrev pub MayTake : {X : Type 0} → Option X → Edition → Type 0

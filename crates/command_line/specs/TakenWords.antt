@@ -2,8 +2,11 @@
 -- Source: this project; what `clap` takes, and what it matches, is its own.
 use Rattle.std.specs.Prelude.{◌≡◌, [], ◌∷◌, List, Option, Some, None, codes, true}
 use Rattle.clap.specs.Words.{Row, Text, subcommand_of, takes}
+use Rattle.command_line.specs.AskCommand.{ask_name}
 use Rattle.command_line.specs.CheckCommand.{check_name}
 use Rattle.command_line.specs.CommandLine.{program_app}
+use Rattle.command_line.specs.FetchCommand.{fetch_name}
+use Rattle.command_line.specs.RelayCommand.{relay_name}
 use Rattle.command_line.specs.ServeCommand.{serve_name}
 
 -- the command of this name was matched, with rows of which this is so
@@ -25,9 +28,23 @@ command_words program command texts = program ∷ command ∷ texts_follow ∷ t
 
 -- the same of `serve`, with each of its options
 abbrev pub serve_words : (program file : Text) → List Text
-serve_words program file = program ∷ serve_name ∷ codes "--connections" ∷ codes "9" ∷ codes "--changes" ∷ codes "new"
+serve_words program file = program ∷ serve_name ∷ codes "--connections" ∷ codes "9" ∷ codes "--changes" ∷ codes "new" ∷ codes "--strict-changes"
     ∷ codes "--edition" ∷ codes "2" ∷ codes "--sequence" ∷ codes "7" ∷ texts_follow ∷ file ∷ codes "65535" ∷ []
+
+-- and of `ask`
+abbrev pub ask_words : (program query : Text) → List Text
+ask_words program query = program ∷ ask_name ∷ codes "--form" ∷ codes "json" ∷ texts_follow ∷ query ∷ []
 
 -- and of `check`
 abbrev pub check_words : (program root query answer proof : Text) → List Text
 check_words program root query answer proof = program ∷ check_name ∷ codes "--max-size" ∷ codes "65536" ∷ texts_follow ∷ root ∷ query ∷ answer ∷ proof ∷ []
+
+-- and of `fetch`
+abbrev pub fetch_words : (program root mirror query : Text) → List Text
+fetch_words program root mirror query = program ∷ fetch_name ∷ codes "--form" ∷ codes "xml" ∷ codes "--max-size" ∷ codes "65536"
+    ∷ texts_follow ∷ root ∷ mirror ∷ query ∷ []
+
+-- and of `relay`, with two other mirrors
+abbrev pub relay_words : (program root mirror : Text) → List Text
+relay_words program root mirror = program ∷ relay_name ∷ codes "--fallback" ∷ codes "b:1" ∷ codes "--root-file" ∷ codes "root"
+    ∷ codes "--connections" ∷ codes "9" ∷ codes "--fallback" ∷ codes "c:2" ∷ texts_follow ∷ root ∷ mirror ∷ codes "65535" ∷ []

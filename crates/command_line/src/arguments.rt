@@ -1,10 +1,10 @@
 //! Arguments of a command, declared and read.
 
-ghost use Rattle.std.specs.Prelude.{◌≡◌, IfOk, false};
+ghost use Rattle.std.specs.Prelude.{◌≡◌, IfOk, false, map, option_map};
 ghost use Rattle.std.specs.String.{string_bytes};
 ghost use Rattle.clap.specs.declared.builder.command.Command.TheViews.{out-Command as fields_of};
-ghost use Rattle.clap.specs.Words.{app_of, found_of, rows_of, rule_of, with_rule};
-ghost use Rattle.command_line.specs.Arguments.{text_of, wanted, with_wanted};
+ghost use Rattle.clap.specs.Words.{app_of, first_of, found_of, rows_of, rule_of, with_rule};
+ghost use Rattle.command_line.specs.Arguments.{text_of, texts_of, wanted, with_wanted};
 ghost use Rattle.command_line.specs.internal.Commands.{IsCommand};
 
 use clap::{Arg, ArgMatches, Command};
@@ -29,6 +29,18 @@ pub(crate) const FILE: Argument = Argument {
 pub(crate) const QUERY_FILE: Argument = Argument {
     name: "QUERYFILE",
     help: "File whose bytes are the query",
+};
+
+/// A query.
+pub(crate) const QUERY: Argument = Argument {
+    name: "QUERY",
+    help: "The query, as 'node(1);out;'; after '--' where it begins with '-'",
+};
+
+/// A mirror to ask.
+pub(crate) const MIRROR: Argument = Argument {
+    name: "HOST:PORT",
+    help: "Mirror to ask, as 'mirror.example:8080'",
 };
 
 /// The command with these positional arguments, in order, each of which has to be there.
@@ -85,4 +97,45 @@ pub(crate) fn text_of(
         (λ s. string_bytes s ≡ text_of argument.name.now (rows_of (found_of matches.now))) }
 {
     String::from_str(alloc, matches.get_str(argument.name).unwrap_or(""))
+}
+
+/// A copy of the text that the matches have for the option, if they have one.
+pub(crate) fn optional_text_of(
+    alloc: Global,
+    matches: &ArgMatches<'_>,
+    option: &str,
+) -> Result<Option<String>, AllocError>
+    ensures { IfOk result (λ text. option_map string_bytes text
+        ≡ first_of option.now (rows_of (found_of matches.now))) }
+{
+    match matches.get_str(option) {
+        Some(text) => Ok(Some(String::from_str(alloc, text)?)),
+        None => Ok(None),
+    }
+}
+
+/// Copies of all texts that the matches have for the option, in order.
+pub(crate) fn all_texts_of(
+    alloc: Global,
+    matches: &ArgMatches<'_>,
+    option: &str,
+) -> Result<Vec<String>, AllocError>
+    ensures { IfOk result (λ texts. map string_bytes texts.items
+        ≡ texts_of option.now (rows_of (found_of matches.now))) }
+{
+    match matches.get_raw(option) {
+        Some(texts) => copies_of(alloc, texts),
+        None => Ok(Vec::new(alloc)),
+    }
+}
+
+/// Copies of these texts, in order.
+fn copies_of(alloc: Global, texts: &[&str]) -> Result<Vec<String>, AllocError>
+    ensures { IfOk result (λ copies. map string_bytes copies.items ≡ map (λ text. text.now) texts.now) }
+{
+    let mut copies = Vec::with_capacity(alloc, texts.len())?;
+    for text in texts {
+        copies.push(String::from_str(alloc, text)?)?;
+    }
+    Ok(copies)
 }

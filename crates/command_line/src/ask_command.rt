@@ -1,13 +1,16 @@
-//! The command `ask QUERY`.
+//! The command `ask QUERY [--form opl|json|xml]`.
 
-ghost use Rattle.std.specs.Prelude.{◌≡◌, IfOk};
-ghost use Rattle.clap.specs.Words.{found_of, rows_of};
+ghost use Rattle.std.specs.Prelude.{◌≡◌, ◌⊎◌, IfErr, IfOk, codes};
+ghost use Rattle.clap.specs.Words.{first_of, found_of, rows_of};
 ghost use Rattle.command_line.specs.internal.Commands.{IsCommand};
 ghost use Rattle.command_line.specs.AskCommand.{ask_app, ask_name};
+ghost use Rattle.command_line.specs.FormOption.{IsBadForm};
 ghost use Rattle.command_line.specs.Jobs.{Gives};
 
-use crate::arguments::{Argument, and_wanted, text_of};
+use crate::arguments::{QUERY, and_option, and_wanted, text_of};
+use crate::form_option::{form_of, form_option};
 use crate::job::Job;
+use crate::words_fault::WordsFault;
 use clap::{ArgMatches, Command};
 use std::alloc::{AllocError, Global};
 
@@ -18,22 +21,22 @@ pub(crate) const ASK: &str = "ask";
 const ABOUT: &str =
     "Answers a query over the OPL text on standard input, after checking the answer";
 
-const QUERY: Argument = Argument {
-    name: "QUERY",
-    help: "The query, as 'node(1);out;'; after '--' where it begins with '-'",
-};
-
 /// The command, as `clap` is told of it.
 pub(crate) fn ask_command<'a>(alloc: Global) -> Result<Command<'a>, AllocError>
     ensures { IfOk result (IsCommand ask_app) }
 {
-    and_wanted(alloc, Command::new(alloc, ASK).about(ABOUT), QUERY)
+    let command = and_wanted(alloc, Command::new(alloc, ASK).about(ABOUT), QUERY)?;
+    and_option(command, form_option(alloc))
 }
 
-/// What the matches of this command ask for.
-pub(crate) fn ask_job(alloc: Global, matches: &ArgMatches<'_>) -> Result<Job, AllocError>
-    ensures { IfOk result (λ job. Gives job ask_name (rows_of (found_of matches.now))) }
+/// What the matches of this command ask for. `BadForm` where the word after `--form` is none of `opl`, `json` and `xml`.
+pub(crate) fn ask_job(alloc: Global, matches: &ArgMatches<'_>) -> Result<Job, WordsFault>
+    ensures given { IfOk result (λ job. Gives job ask_name (rows_of (found_of matches.now))) }
+    ensures refused { IfErr result (λ fault. (fault ≡ WordsFault.Memory)
+        ⊎ ((fault ≡ WordsFault.BadForm)
+        × IsBadForm (first_of (codes "form") (rows_of (found_of matches.now))))) }
 {
+    let form = form_of(matches)?;
     let query = text_of(alloc, matches, QUERY)?;
-    Ok(Job::Ask { query })
+    Ok(Job::Ask { query, form })
 }

@@ -1,5 +1,6 @@
 //! What the words ask for.
 
+use osm_forms::Form;
 use osm_keys::Edition;
 use tree_node::Digest;
 
@@ -7,10 +8,12 @@ use tree_node::Digest;
 /// of its word as they stand.
 #[derive(Debug, Drop)]
 pub enum Job {
-    /// `ask QUERY`: answer the query over the objects that standard input holds.
+    /// `ask QUERY [--form opl|json|xml]`: answer the query over the objects that standard input holds.
     Ask {
         /// The bytes of the word QUERY as they stand.
         query: String,
+        /// The form of the answer.
+        form: Form,
     },
     /// `publish FILE [--edition 1|2] [--sequence N]`: tell the root of a set.
     Publish {
@@ -18,6 +21,16 @@ pub enum Job {
         file: String,
         /// The edition of the root.
         edition: Edition,
+    },
+    /// `changes FILE SEQUENCE CHANGEFILE`: apply changes to a set of edition 2, tell the new root, and end the file of
+    /// changes with a line that tells it.
+    Changes {
+        /// The OPL file with the set's objects.
+        file: String,
+        /// The sequence number of the set before the changes.
+        sequence: u64,
+        /// The file with the changes, to which the line is added.
+        change_file: String,
     },
     /// `prove FILE QUERYFILE ANSWERFILE PROOFFILE [--edition 1|2] [--sequence N]`: write an answer and its
     /// proof, and tell the root.
@@ -46,7 +59,22 @@ pub enum Job {
         /// The most bytes that the answer may have, and the proof, if there is a limit.
         max_size: Option<u64>,
     },
-    /// `serve FILE PORT [--connections N] [--changes DIR] [--edition 1|2] [--sequence N]`: answer queries over HTTP.
+    /// `fetch ROOT HOST:PORT QUERY [--form opl|json|xml] [--max-size BYTES]`: ask a mirror, check the proof on this
+    /// machine and print the answer.
+    Fetch {
+        /// The root, which the word ROOT tells in 64 hexadecimal digits of either case.
+        root: Digest,
+        /// Where the mirror is: the bytes of the word HOST:PORT as they stand, which may be neither.
+        mirror: String,
+        /// The bytes of the word QUERY as they stand.
+        query: String,
+        /// The form of the answer.
+        form: Form,
+        /// The most bytes that the answer may have, and the proof, if there is a limit.
+        max_size: Option<u64>,
+    },
+    /// `serve FILE PORT [--connections N] [--changes DIR] [--strict-changes] [--edition 1|2] [--sequence N]`: answer
+    /// queries over HTTP.
     Serve {
         /// The OPL file with the set's objects.
         file: String,
@@ -58,6 +86,25 @@ pub enum Job {
         edition: Edition,
         /// The folder in which change files are looked for, if any.
         changes: Option<String>,
+        /// Whether change files that don't tell which root they give are refused. It means nothing where there is no
+        /// folder of changes.
+        strict_changes: bool,
+    },
+    /// `relay ROOT HOST:PORT LISTENPORT [--fallback HOST:PORT].. [--root-file FILE] [--connections N]`: serve programs of
+    /// this machine as an Overpass server does, with answers that a mirror has proved and no others.
+    Relay {
+        /// The root, which the word ROOT tells in 64 hexadecimal digits of either case.
+        root: Digest,
+        /// Where the first mirror is: the bytes of the word HOST:PORT as they stand, which may be neither.
+        mirror: String,
+        /// Where the other mirrors are, in the order of the words after `--fallback`.
+        fallbacks: Vec<String>,
+        /// The port of 127.0.0.1 to listen on; 0 asks for any that is free.
+        port: u16,
+        /// The file that holds the root which is in force, if it isn't ROOT for good.
+        root_file: Option<String>,
+        /// The number of connections to serve.
+        connections: u32,
     },
     /// `explain CODE`: say what a code means.
     Explain {

@@ -4,15 +4,16 @@ ghost use Rattle.std.specs.Prelude.{◌≡◌, IfOk, false};
 ghost use Rattle.clap.specs.declared.builder.command.Command.TheViews.{out-Command as fields_of};
 ghost use Rattle.clap.specs.Words.{App, app_of, with_subcommand};
 ghost use Rattle.command_line.specs.internal.Commands.{IsCommand};
-ghost use Rattle.command_line.specs.AskCommand.{ask_app};
-ghost use Rattle.command_line.specs.CommandLine.{bare_app, program_app};
-ghost use Rattle.command_line.specs.PublishCommand.{publish_app};
+ghost use Rattle.command_line.specs.CommandLine.{bare_app, checking_app, program_app, set_app};
 
 use crate::ask_command::ask_command;
+use crate::changes_command::changes_command;
 use crate::check_command::check_command;
 use crate::explain_command::explain_command;
+use crate::fetch_command::fetch_command;
 use crate::prove_command::prove_command;
 use crate::publish_command::publish_command;
+use crate::relay_command::relay_command;
 use crate::serve_command::serve_command;
 use clap::Command;
 use std::alloc::{AllocError, Global};
@@ -29,19 +30,30 @@ const VERSION: &str = "0.1.0 (edition 2, rattle-kit-13f logic dac8208d650f15bf)"
 pub(crate) fn program_command<'a>(alloc: Global) -> Result<Command<'a>, AllocError>
     ensures { IfOk result (IsCommand program_app) }
 {
-    let program = publisher_program(alloc)?;
-    let program = and_command(program, prove_command(alloc))?;
-    let program = and_command(program, check_command(alloc))?;
+    let program = checking_program(alloc)?;
     let program = and_command(program, serve_command(alloc))?;
+    let program = and_command(program, relay_command(alloc))?;
     and_command(program, explain_command(alloc))
 }
 
-/// The program with the commands that need no proof: split off, since a long chain of calls is dear to prove.
-fn publisher_program<'a>(alloc: Global) -> Result<Command<'a>, AllocError>
-    ensures { IfOk result (IsCommand (with_subcommand (with_subcommand bare_app ask_app.top) publish_app.top)) }
+// Split off, as the next function is: a long chain of calls is dear to prove.
+/// The program with the commands that read a set, and those that check answers.
+fn checking_program<'a>(alloc: Global) -> Result<Command<'a>, AllocError>
+    ensures { IfOk result (IsCommand checking_app) }
+{
+    let program = set_program(alloc)?;
+    let program = and_command(program, check_command(alloc))?;
+    and_command(program, fetch_command(alloc))
+}
+
+/// The program with the commands that read a set.
+fn set_program<'a>(alloc: Global) -> Result<Command<'a>, AllocError>
+    ensures { IfOk result (IsCommand set_app) }
 {
     let program = and_command(bare_program(alloc), ask_command(alloc))?;
-    and_command(program, publish_command(alloc))
+    let program = and_command(program, publish_command(alloc))?;
+    let program = and_command(program, changes_command(alloc))?;
+    and_command(program, prove_command(alloc))
 }
 
 /// The program without a command.

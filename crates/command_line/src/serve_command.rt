@@ -1,18 +1,21 @@
-//! The command `serve FILE PORT [--connections N] [--changes DIR] [--edition 1|2] [--sequence N]`.
+//! The command `serve FILE PORT [--connections N] [--changes DIR] [--strict-changes] [--edition 1|2] [--sequence N]`.
 
 ghost use Rattle.std.specs.Prelude.{◌≡◌, ◌⊎◌, IfErr, IfOk, codes, false, is_some, option_map, true};
 ghost use Rattle.std.specs.String.{string_bytes};
 ghost use Rattle.clap.specs.Words.{first_of, found_of, one_of, rows_of, rule_of};
 ghost use Rattle.command_line.specs.internal.Commands.{IsCommand};
+ghost use Rattle.command_line.specs.Flags.{IsFlag};
 ghost use Rattle.command_line.specs.Jobs.{Gives};
-ghost use Rattle.command_line.specs.Numbers.{IsNumber};
-ghost use Rattle.command_line.specs.ServeCommand.{CantServe, MayTake, changes_rule, connections_rule, port_rule, serve_app, serve_name};
+ghost use Rattle.command_line.specs.ServeCommand.{CantServe, MayTake, changes_rule, serve_app, serve_name, strict_changes_rule};
 
-use crate::arguments::{FILE, and_option, and_wanted, text_of};
+use crate::arguments::{Argument, FILE, and_option, and_wanted, text_of};
 use crate::edition_options::{and_edition_options, edition_of};
 use crate::job::Job;
+use crate::listen_options::{
+    PORT_HELP, connections_of, connections_option, port_argument, port_of,
+};
 use crate::words_fault::WordsFault;
-use clap::{Arg, ArgMatches, Command, value_parser};
+use clap::{Arg, ArgAction, ArgMatches, Command};
 use osm_keys::Edition;
 use std::alloc::{AllocError, Global};
 
@@ -22,49 +25,30 @@ pub(crate) const SERVE: &str = "serve";
 /// What the program's help says of the command.
 const ABOUT: &str = "Answers queries over HTTP, with proofs, on 127.0.0.1";
 
-const PORT: &str = "PORT";
-
-const PORT_HELP: &str = "Port to listen on; 0 takes any that is free";
-
-const CONNECTIONS: &str = "connections";
-
-const CONNECTIONS_HELP: &str = "Number of connections to serve; 4294967295 if it isn't given";
+const PORT: Argument = Argument {
+    name: "PORT",
+    help: PORT_HELP,
+};
 
 const CHANGES: &str = "changes";
 
 const CHANGES_HELP: &str =
     "Folder of change files: DIR/<sequence + 1>.opl is applied as soon as it is there";
 
+const STRICT_CHANGES: &str = "strict-changes";
+
+const STRICT_CHANGES_HELP: &str = "Refuse change files that don't tell which root they give";
+
 /// The command, as `clap` is told of it.
 pub(crate) fn serve_command<'a>(alloc: Global) -> Result<Command<'a>, AllocError>
     ensures { IfOk result (IsCommand serve_app) }
 {
     let command = and_wanted(alloc, Command::new(alloc, SERVE).about(ABOUT), FILE)?;
-    let command = and_option(command, port_argument(alloc))?;
+    let command = and_option(command, port_argument(alloc, PORT))?;
     let command = and_option(command, connections_option(alloc))?;
     let command = and_option(command, changes_option(alloc))?;
+    let command = and_option(command, strict_changes_option(alloc))?;
     and_edition_options(alloc, command)
-}
-
-fn port_argument<'a>(alloc: Global) -> Arg<'a>
-    ensures rule { rule_of result ≡ port_rule }
-    ensures local { result.global ≡ false }
-{
-    Arg::new(alloc, PORT)
-        .required(true)
-        .value_parser(value_parser!(u16))
-        .help(PORT_HELP)
-}
-
-fn connections_option<'a>(alloc: Global) -> Arg<'a>
-    ensures rule { rule_of result ≡ connections_rule }
-    ensures local { result.global ≡ false }
-{
-    Arg::new(alloc, CONNECTIONS)
-        .long(CONNECTIONS)
-        .value_name("N")
-        .value_parser(value_parser!(u32))
-        .help(CONNECTIONS_HELP)
 }
 
 fn changes_option<'a>(alloc: Global) -> Arg<'a>
@@ -75,6 +59,16 @@ fn changes_option<'a>(alloc: Global) -> Arg<'a>
         .long(CHANGES)
         .value_name("DIR")
         .help(CHANGES_HELP)
+}
+
+fn strict_changes_option<'a>(alloc: Global) -> Arg<'a>
+    ensures rule { rule_of result ≡ strict_changes_rule }
+    ensures local { result.global ≡ false }
+{
+    Arg::new(alloc, STRICT_CHANGES)
+        .long(STRICT_CHANGES)
+        .action(ArgAction::SetTrue)
+        .help(STRICT_CHANGES_HELP)
 }
 
 /// What the matches of this command ask for. `BadEdition` where the word after `--edition` is neither `1` nor `2`, and
@@ -90,10 +84,11 @@ pub(crate) fn serve_job(alloc: Global, matches: &ArgMatches<'_>) -> Result<Job, 
     let file = text_of(alloc, matches, FILE)?;
     Ok(Job::Serve {
         file,
-        port: port_of(matches),
+        port: port_of(matches, PORT),
         connections: connections_of(matches),
         edition,
         changes,
+        strict_changes: strict_changes_of(matches),
     })
 }
 
@@ -121,16 +116,9 @@ fn changes_of(
     }
 }
 
-/// The port in the matches.
-fn port_of(matches: &ArgMatches<'_>) -> u16
-    ensures { IsNumber 16 0 (one_of (codes "PORT") (rows_of (found_of matches.now))) result }
+/// Whether the matches have the flag `--strict-changes`.
+fn strict_changes_of(matches: &ArgMatches<'_>) -> bool
+    ensures { IsFlag (one_of (codes "strict-changes") (rows_of (found_of matches.now))) result }
 {
-    matches.get_one::<u16>(PORT).unwrap_or(0)
-}
-
-/// The number of connections in the matches, the greatest where they have none.
-fn connections_of(matches: &ArgMatches<'_>) -> u32
-    ensures { IsNumber 32 4294967295 (one_of (codes "connections") (rows_of (found_of matches.now))) result }
-{
-    matches.get_one::<u32>(CONNECTIONS).unwrap_or(u32::MAX)
+    matches.get_flag(STRICT_CHANGES)
 }

@@ -16,7 +16,10 @@ pub enum WordsFault {
     /// The word ROOT isn't 64 hexadecimal digits.
     #[error("bad root")]
     BadRoot,
-    /// The word after `--edition` is neither `1` nor `2`.
+    /// The word after `--form` is none of `opl`, `json` and `xml`.
+    #[error("bad form")]
+    BadForm,
+    /// The word after `--edition` is neither `1` nor `2`, or it is `1` and changes are to be taken.
     #[error("bad edition")]
     BadEdition,
     /// An allocation was refused.

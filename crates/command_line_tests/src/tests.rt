@@ -1,7 +1,7 @@
-//! Lines of words and the jobs that they name. What is told of those that name none is shown by the program, in
-//! tests/system/words_rows_test.py.
+//! Lines of words, the jobs that they name, and the faults of those that name none. What `clap` tells of words is shown
+//! by the program, in tests/system/words_rows_test.py.
 
-use command_line::{Job, WordsFault, read_words};
+use command_line::{Form, Job, WordsFault, read_words};
 use std::alloc::{AllocError, Global};
 use std::process::Abort;
 use std::test::Fail;
@@ -31,19 +31,26 @@ fn are_shown(rt: &impl Abort, alloc: Global, rows: &[(&str, &str)]) -> Result<()
     Ok(())
 }
 
-const ASK: [(&str, &str); 7] = [
+const ASK: [(&str, &str); 11] = [
     (
         "osm_mirror ask node(1);out;",
-        "Ask { query: \"node(1);out;\" }",
+        "Ask { query: \"node(1);out;\", form: Opl }",
     ),
     (
         "/usr/bin/osm_mirror ask node(-3);out;",
-        "Ask { query: \"node(-3);out;\" }",
+        "Ask { query: \"node(-3);out;\", form: Opl }",
     ),
-    ("osm_mirror ask -- -x", "Ask { query: \"-x\" }"),
-    ("osm_mirror ask -- --help", "Ask { query: \"--help\" }"),
-    ("osm_mirror ask ", "Ask { query: \"\" }"),
-    ("osm_mirror ask ask", "Ask { query: \"ask\" }"),
+    ("osm_mirror ask -- -x", "Ask { query: \"-x\", form: Opl }"),
+    (
+        "osm_mirror ask -- --form",
+        "Ask { query: \"--form\", form: Opl }",
+    ),
+    ("osm_mirror ask ", "Ask { query: \"\", form: Opl }"),
+    ("osm_mirror ask ask", "Ask { query: \"ask\", form: Opl }"),
+    ("m ask q --form opl", "Ask { query: \"q\", form: Opl }"),
+    ("m ask q --form json", "Ask { query: \"q\", form: Json }"),
+    ("m ask --form=json q", "Ask { query: \"q\", form: Json }"),
+    ("m ask --form xml q", "Ask { query: \"q\", form: Xml }"),
     ("osm_mirror explain O9", "Explain { code: \"O9\" }"),
 ];
 
@@ -116,30 +123,70 @@ fn reads_editions(rt: HostRuntime) -> Result<(), Fail> {
     are_shown(&rt, rt.alloc(), &EDITIONS)
 }
 
-const SERVE: [(&str, &str); 6] = [
+const CHANGES: [(&str, &str); 5] = [
+    (
+        "m changes a.opl 7 8.opl",
+        "Changes { file: \"a.opl\", sequence: 7, change_file: \"8.opl\" }",
+    ),
+    (
+        "m changes a.opl 0 a.opl",
+        "Changes { file: \"a.opl\", sequence: 0, change_file: \"a.opl\" }",
+    ),
+    (
+        "m changes a +7 b",
+        "Changes { file: \"a\", sequence: 7, change_file: \"b\" }",
+    ),
+    (
+        "m changes a 18446744073709551615 b",
+        "Changes { file: \"a\", sequence: 18446744073709551615, change_file: \"b\" }",
+    ),
+    (
+        "m changes -- -a 7 -b",
+        "Changes { file: \"-a\", sequence: 7, change_file: \"-b\" }",
+    ),
+];
+
+#[test]
+fn reads_changes(rt: HostRuntime) -> Result<(), Fail> {
+    are_shown(&rt, rt.alloc(), &CHANGES)
+}
+
+const SERVE: [(&str, &str); 9] = [
     (
         "m serve a.opl 80",
-        "Serve { file: \"a.opl\", port: 80, connections: 4294967295, edition: Two { sequence: 0 }, changes: None }",
+        "Serve { file: \"a.opl\", port: 80, connections: 4294967295, edition: Two { sequence: 0 }, changes: None, strict_changes: false }",
     ),
     (
         "m serve a.opl 65535 --connections 1 --edition 2 --sequence 7",
-        "Serve { file: \"a.opl\", port: 65535, connections: 1, edition: Two { sequence: 7 }, changes: None }",
+        "Serve { file: \"a.opl\", port: 65535, connections: 1, edition: Two { sequence: 7 }, changes: None, strict_changes: false }",
     ),
     (
         "m serve a.opl 0 --edition=1 --connections=4294967295",
-        "Serve { file: \"a.opl\", port: 0, connections: 4294967295, edition: One, changes: None }",
+        "Serve { file: \"a.opl\", port: 0, connections: 4294967295, edition: One, changes: None, strict_changes: false }",
     ),
     (
         "m serve a.opl +8080 --connections 0",
-        "Serve { file: \"a.opl\", port: 8080, connections: 0, edition: Two { sequence: 0 }, changes: None }",
+        "Serve { file: \"a.opl\", port: 8080, connections: 0, edition: Two { sequence: 0 }, changes: None, strict_changes: false }",
     ),
     (
         "m serve a.opl 80 --changes new --sequence 7",
-        "Serve { file: \"a.opl\", port: 80, connections: 4294967295, edition: Two { sequence: 7 }, changes: Some(\"new\") }",
+        "Serve { file: \"a.opl\", port: 80, connections: 4294967295, edition: Two { sequence: 7 }, changes: Some(\"new\"), strict_changes: false }",
     ),
     (
         "m serve a.opl 80 --changes= --edition 2",
-        "Serve { file: \"a.opl\", port: 80, connections: 4294967295, edition: Two { sequence: 0 }, changes: Some(\"\") }",
+        "Serve { file: \"a.opl\", port: 80, connections: 4294967295, edition: Two { sequence: 0 }, changes: Some(\"\"), strict_changes: false }",
+    ),
+    (
+        "m serve a.opl 80 --changes new --strict-changes",
+        "Serve { file: \"a.opl\", port: 80, connections: 4294967295, edition: Two { sequence: 0 }, changes: Some(\"new\"), strict_changes: true }",
+    ),
+    (
+        "m serve --strict-changes a.opl 80",
+        "Serve { file: \"a.opl\", port: 80, connections: 4294967295, edition: Two { sequence: 0 }, changes: None, strict_changes: true }",
+    ),
+    (
+        "m serve a.opl 80 --edition 1 --strict-changes",
+        "Serve { file: \"a.opl\", port: 80, connections: 4294967295, edition: One, changes: None, strict_changes: true }",
     ),
 ];
 
@@ -192,7 +239,9 @@ fn reads_check(rt: HostRuntime) -> Result<(), Fail> {
 fn reads_within_memory(rt: HostRuntime) -> Result<(), Fail> {
     let alloc = rt.alloc();
     match read_words(alloc, words_of(alloc, "osm_mirror ask node(1);out;")?) {
-        Ok(Job::Ask { query }) => assert_eq!(rt; query.as_str(), "node(1);out;"),
+        Ok(Job::Ask { query, form }) => {
+            assert!(rt; query.as_str() == "node(1);out;" && form == Form::Opl);
+        }
         Ok(job) => panic!(rt; "{job:?}"),
         Err(WordsFault::Memory) => {}
         Err(fault) => panic!(rt; "{fault}"),
@@ -216,4 +265,240 @@ fn reads_check_within_memory(rt: HostRuntime) -> Result<(), AllocError> {
         Err(fault) => panic!(rt; "{fault}"),
     }
     Ok(())
+}
+
+/// The words before ROOT and after it, and the job's name and its fields after the root, as `Debug` shows them.
+struct Row {
+    before: &'static str,
+    after: &'static str,
+    name: &'static str,
+    fields: &'static str,
+}
+
+const FETCH: [Row; 4] = [
+    Row {
+        before: "fetch",
+        after: "h:1 q",
+        name: "Fetch",
+        fields: "mirror: \"h:1\", query: \"q\", form: Opl, max_size: None",
+    },
+    Row {
+        before: "fetch --form json",
+        after: "h:1 q --max-size 9",
+        name: "Fetch",
+        fields: "mirror: \"h:1\", query: \"q\", form: Json, max_size: Some(9)",
+    },
+    Row {
+        before: "fetch --max-size=18446744073709551615",
+        after: "h q --form=xml",
+        name: "Fetch",
+        fields: "mirror: \"h\", query: \"q\", form: Xml, max_size: Some(18446744073709551615)",
+    },
+    Row {
+        before: "fetch --",
+        after: "q --form",
+        name: "Fetch",
+        fields: "mirror: \"q\", query: \"--form\", form: Opl, max_size: None",
+    },
+];
+
+const RELAY: [Row; 5] = [
+    Row {
+        before: "relay",
+        after: "h:1 80",
+        name: "Relay",
+        fields: "mirror: \"h:1\", fallbacks: [], port: 80, root_file: None, connections: 4294967295",
+    },
+    Row {
+        before: "relay --fallback b:1",
+        after: "h:1 0 --fallback c:2 --root-file r --connections 9",
+        name: "Relay",
+        fields: "mirror: \"h:1\", fallbacks: [\"b:1\", \"c:2\"], port: 0, root_file: Some(\"r\"), connections: 9",
+    },
+    Row {
+        before: "relay --fallback=c:2 --fallback=b:1 --fallback=c:2",
+        after: "h:1 65535",
+        name: "Relay",
+        fields: "mirror: \"h:1\", fallbacks: [\"c:2\", \"b:1\", \"c:2\"], port: 65535, root_file: None, connections: 4294967295",
+    },
+    Row {
+        before: "relay",
+        after: "h:1 +8080 --connections 0 --root-file=",
+        name: "Relay",
+        fields: "mirror: \"h:1\", fallbacks: [], port: 8080, root_file: Some(\"\"), connections: 0",
+    },
+    Row {
+        before: "relay --connections=1 --",
+        after: "-h 2",
+        name: "Relay",
+        fields: "mirror: \"-h\", fallbacks: [], port: 2, root_file: None, connections: 1",
+    },
+];
+
+/// The line of the row asks for its job, under the digest of the empty message.
+fn is_row(rt: &impl Abort, alloc: Global, row: &Row) -> Result<(), Fail> {
+    let line = format!(in alloc; "m {} {ROOT} {}", row.before, row.after)?;
+    let job = shown(alloc, &line)?;
+    let root = tree_node::digest_of(b"");
+    let want = format!(in alloc; "{} {{ root: {root:?}, {} }}", row.name, row.fields)?;
+    assert_eq!(rt; job.as_str(), want.as_str(), "{line}");
+    Ok(())
+}
+
+#[test]
+fn reads_fetch(rt: HostRuntime) -> Result<(), Fail> {
+    for row in &FETCH {
+        is_row(&rt, rt.alloc(), row)?;
+    }
+    Ok(())
+}
+
+#[test]
+fn reads_relay(rt: HostRuntime) -> Result<(), Fail> {
+    for row in &RELAY {
+        is_row(&rt, rt.alloc(), row)?;
+    }
+    Ok(())
+}
+
+/// What the program tells of the words.
+fn refused(rt: &impl Abort, alloc: Global, line: &str) -> Result<String, Fail> {
+    match read_words(alloc, words_of(alloc, line)?) {
+        Ok(job) => panic!(rt; "{line}: {job:?}"),
+        Err(fault) => Ok(format!(in alloc; "{fault}")?),
+    }
+}
+
+/// Words that `clap` takes and that ask for nothing. Where two of them are wrong, ROOT is told.
+const REFUSED: [(&str, &str); 17] = [
+    ("m ask q --form yaml", "bad form"),
+    ("m ask q --form=", "bad form"),
+    ("m ask q --form OPL", "bad form"),
+    ("m ask q --form jsonx", "bad form"),
+    ("m ask q --form xm", "bad form"),
+    ("m ask q --form geojson", "bad form"),
+    ("m fetch 00 h:1 q", "bad root"),
+    ("m fetch 00 h:1 q --form json", "bad root"),
+    ("m fetch 00 h:1 q --form yaml", "bad root"),
+    ("m fetch --form= -- -x h:1 q", "bad root"),
+    ("m relay 00 h:1 80", "bad root"),
+    ("m relay x h:1 80 --fallback b:1", "bad root"),
+    ("m check 00 b c d", "bad root"),
+    ("m publish a --edition 3", "bad edition"),
+    ("m serve a 80 --edition 1 --changes b", "bad edition"),
+    (
+        "m serve a 80 --edition 1 --changes b --strict-changes",
+        "bad edition",
+    ),
+    ("m serve a 80 --edition 3 --strict-changes", "bad edition"),
+];
+
+#[test]
+fn refuses_words(rt: HostRuntime) -> Result<(), Fail> {
+    for (line, want) in REFUSED {
+        let told = refused(&rt, rt.alloc(), line)?;
+        assert_eq!(rt; told.as_str(), want, "{line}");
+    }
+    Ok(())
+}
+
+/// Words after `fetch` and a root of 64 digits, with a bad form.
+const BAD_FORMS: [&str; 4] = [
+    "h:1 q --form yaml",
+    "h:1 q --form=",
+    "h:1 q --form Json",
+    "h:1 q --form x --max-size 9",
+];
+
+#[test]
+fn refuses_forms_of_fetch(rt: HostRuntime) -> Result<(), Fail> {
+    for words in BAD_FORMS {
+        let line = format!(in rt.alloc(); "m fetch {ROOT} {words}")?;
+        let told = refused(&rt, rt.alloc(), &line)?;
+        assert_eq!(rt; told.as_str(), "bad form", "{line}");
+    }
+    Ok(())
+}
+
+/// Words that `clap` refuses, and how its text begins.
+const OF_CLAP: [(&str, &str); 16] = [
+    ("m fetch a b", "error: the following required arguments"),
+    ("m fetch a b c d", "error: unexpected argument 'd' found"),
+    (
+        "m fetch a b c --edition 1",
+        "error: unexpected argument '--edition' found",
+    ),
+    (
+        "m fetch a b c --max-size x",
+        "error: invalid value 'x' for '--max-size <BYTES>'",
+    ),
+    (
+        "m ask a --form",
+        "error: a value is required for '--form <FORM>'",
+    ),
+    (
+        "m ask a --form opl --form opl",
+        "error: the argument '--form <FORM>' cannot be used multiple times",
+    ),
+    ("m relay a b", "error: the following required arguments"),
+    (
+        "m relay a b 65536",
+        "error: invalid value '65536' for '<LISTENPORT>'",
+    ),
+    (
+        "m relay a b 80 --connections 4294967296",
+        "error: invalid value '4294967296' for '--connections <N>'",
+    ),
+    (
+        "m relay a b 80 --root-file c --root-file d",
+        "error: the argument '--root-file <FILE>' cannot be used multiple times",
+    ),
+    (
+        "m relay a b 80 --fallback",
+        "error: a value is required for '--fallback <HOST:PORT>'",
+    ),
+    ("m changes a 7", "error: the following required arguments"),
+    (
+        "m changes a x b",
+        "error: invalid value 'x' for '<SEQUENCE>'",
+    ),
+    (
+        "m changes a 18446744073709551616 b",
+        "error: invalid value '18446744073709551616' for '<SEQUENCE>'",
+    ),
+    (
+        "m serve a 80 --strict-changes=true",
+        "error: unexpected value 'true' for '--strict-changes' found",
+    ),
+    (
+        "m serve a 80 --strict-changes --strict-changes",
+        "error: the argument '--strict-changes' cannot be used multiple times",
+    ),
+];
+
+#[test]
+fn clap_refuses_words(rt: HostRuntime) -> Result<(), Fail> {
+    for (line, begins) in OF_CLAP {
+        let told = refused(&rt, rt.alloc(), line)?;
+        assert!(rt; told.as_str().starts_with(begins), "{line}: {told}");
+    }
+    Ok(())
+}
+
+/// The same of `fetch`, of `relay`, whose texts are copied into a list, and of `changes`.
+#[test]
+fn reads_new_commands_within_memory(rt: HostRuntime) -> Result<(), Fail> {
+    is_row(&rt, rt.alloc(), &FETCH[1])?;
+    is_row(&rt, rt.alloc(), &RELAY[1])?;
+    are_shown(&rt, rt.alloc(), &[CHANGES[0]])
+}
+
+/// And of words that are refused: a bad form stays one.
+#[test]
+fn refuses_words_within_memory(rt: HostRuntime) -> Result<(), Fail> {
+    match read_words(rt.alloc(), words_of(rt.alloc(), "m ask q --form yaml")?) {
+        Err(WordsFault::BadForm | WordsFault::Memory) => Ok(()),
+        Err(fault) => panic!(rt; "{fault}"),
+        Ok(job) => panic!(rt; "{job:?}"),
+    }
 }

@@ -4,10 +4,10 @@
 //! answer isn't even looked at, since the proof alone gives it.
 #![tactic(auto)]
 
+mod judging;
 mod mirror_fault;
-mod show;
 mod shown;
 
+pub use judging::show;
 pub use mirror_fault::MirrorFault;
-pub use show::show;
 pub use shown::Shown;

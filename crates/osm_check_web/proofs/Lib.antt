@@ -1,1 +1,3 @@
 pub mod StatusLemmas
+pub mod DocumentLemmas
+pub mod Puts

@@ -1,1 +1,2 @@
 pub mod ToldVerdicts
+pub mod ToldDocuments

@@ -1,3 +1,5 @@
-//! What is told of right and wrong answers over small sets.
+//! What is told of right and wrong answers over small sets, and the documents that are handed over.
 
+mod documents;
 mod rows;
+mod sets;

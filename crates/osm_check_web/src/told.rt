@@ -18,6 +18,12 @@ pub const NO_MEMORY: u32 = 2;
 /// The root doesn't have 32 bytes: the answer was not judged.
 pub const BAD_ROOT: u32 = 3;
 
+/// The form isn't 0, 1 or 2: no document was made.
+pub const BAD_FORM: u32 = 4;
+
+/// The answer is there, and its document is longer than the room for it.
+pub const TOO_SHORT: u32 = 5;
+
 /// What is told beside a status. Where an answer was not judged, all of it is 0.
 #[repr(C)]
 #[derive(Clone, Copy, Debug, PartialEq, Eq)]

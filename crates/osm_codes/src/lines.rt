@@ -3,12 +3,18 @@
 use crate::explanation::Explanation;
 
 /// Lines that are no codes.
-pub(crate) const LINES: [Explanation; 5] = [
+pub(crate) const LINES: [Explanation; 6] = [
     Explanation {
         code: "bad root",
         meaning: "ROOT isn't 64 hexadecimal digits",
         place: "standard error, status 2",
         advice: "Copy the whole root from the publisher: 64 digits 0 to 9 and a to f.",
+    },
+    Explanation {
+        code: "bad form",
+        meaning: "the word after --form is none of opl, json and xml",
+        place: "standard error, status 2",
+        advice: "Leave --form out for OPL, or give opl, json or xml, in lower case.",
     },
     Explanation {
         code: "bad edition",

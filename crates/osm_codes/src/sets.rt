@@ -3,7 +3,7 @@
 use crate::explanation::Explanation;
 
 /// Why a set or its changes are refused.
-pub(crate) const SETS: [Explanation; 5] = [
+pub(crate) const SETS: [Explanation; 6] = [
     Explanation {
         code: "I1",
         meaning: "two different nodes of the set's trees share a SHA-256 digest",
@@ -31,7 +31,13 @@ pub(crate) const SETS: [Explanation; 5] = [
     Explanation {
         code: "I5",
         meaning: "no sequence number comes after that of the set: it is 2^64 - 1, or the set is of edition 1, which has none",
-        place: "never printed",
+        place: "nothing else, and only by changes: serve looks for no change file then",
         advice: "Serve the set in edition 2, from a smaller sequence number on.",
+    },
+    Explanation {
+        code: "I6",
+        meaning: "a change file gives another root than the one that its last line announces, or announces none where it has to",
+        place: "nothing else; by serve, which goes on with the old set",
+        advice: "Fetch the file again. If it stays the same, it was made for another set or another sequence number, or it doesn't end with its root: the publisher makes it anew by changes FILE SEQUENCE CHANGEFILE.",
     },
 ];

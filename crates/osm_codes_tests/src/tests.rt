@@ -1,7 +1,7 @@
 //! Places under their lines, and hints. What is said of each code is shown by the program, in
 //! tests/system/explain_test.py.
 
-use osm_codes::{caret_lines, file_hint, query_hint};
+use osm_codes::{caret_lines, explain, file_hint, query_hint};
 use std::process::Abort;
 use std::test::Fail;
 
@@ -30,6 +30,15 @@ fn a_caret_within_memory(rt: HostRuntime) -> Result<(), Fail> {
     }
     let lines = caret_lines(rt.alloc(), b"node(1)", 7)?;
     assert_eq!(rt; lines.as_str(), "node(1)\n       ^\n");
+    Ok(())
+}
+
+#[test]
+fn another_root_is_explained(rt: HostRuntime) -> Result<(), Fail> {
+    let row = explain("i6").ok_or("no such code")?;
+    assert_eq!(rt; row.code, "I6");
+    assert!(rt; row.meaning.starts_with("a change file gives another root"));
+    assert!(rt; explain("I7").is_none());
     Ok(())
 }
 

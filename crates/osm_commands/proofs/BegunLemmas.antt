@@ -4,6 +4,7 @@ use Rattle.std.specs.declared.alloc.AllocError.{AllocError}
 use Rattle.std.proofs.KnownBytes.{Keeps-refl}
 use Rattle.std.specs.Io.KnownBytes.{Appends, Keeps}
 use Rattle.tree_node.specs.Outcomes.{Clash}
+use Rattle.osm_forms.specs.declared.form.Form.{Form}
 use Rattle.osm_keys.specs.Publications.{IsNodeIn, IsPublication, Publication, root_of}
 use Rattle.osm_keys.specs.declared.edition.Edition.{Edition}
 use Rattle.osm_prove.specs.Proved.{IsProved}
@@ -117,18 +118,18 @@ written_whole (Some file) (Some bytes) edition p w v l text nodes a b c d e f (O
 -- ---- `ask`
 
 -- a beginning of it is written
-pub begun_answer : (known : Option (List ℕ)) (query written text : List ℕ) (old new : Option (List ℕ))
-    → IfSome known (λ file. IsAnswer file query text) → written ≡ text → AppendsFront old new written → IfSome known (λ file. IsBegun file query old new)
-begun_answer None query written text old new answer is begun = tt
-begun_answer (Some file) query written text old new answer is begun = inr (text, answer, subst (λ (t : List ℕ). AppendsFront old new t) is begun)
+pub begun_answer : (form : Form) (known : Option (List ℕ)) (query document : List ℕ) (old new : Option (List ℕ))
+    → IfSome known (λ file. IsAnswer form file query document) → AppendsFront old new document → IfSome known (λ file. IsBegun form file query old new)
+begun_answer form None query document old new answer begun = tt
+begun_answer form (Some file) query document old new answer begun = inr (document, answer, begun)
 
 -- it is written whole
-pub whole_answer : (known : Option (List ℕ)) (query written text : List ℕ) (old new : Option (List ℕ)) (result : Result (Unit {0}) CommandFault)
-    → IfSome known (λ file. IsAnswer file query text) → written ≡ text → OnOk result (Appends old new written)
-    → OnOk result (IfSome known (λ file. (text : List ℕ) × IsAnswer file query text × Appends old new text))
-whole_answer known query written text old new (Err fault) answer is whole = tt
-whole_answer None query written text old new (Ok done) answer is whole = tt
-whole_answer (Some file) query written text old new (Ok done) answer is whole = (text, answer, subst (λ (t : List ℕ). Appends old new t) is whole)
+pub whole_answer : (form : Form) (known : Option (List ℕ)) (query document : List ℕ) (old new : Option (List ℕ)) (result : Result (Unit {0}) CommandFault)
+    → IfSome known (λ file. IsAnswer form file query document) → OnOk result (Appends old new document)
+    → OnOk result (IfSome known (λ file. (document : List ℕ) × IsAnswer form file query document × Appends old new document))
+whole_answer form known query document old new (Err fault) answer whole = tt
+whole_answer form None query document old new (Ok done) answer whole = tt
+whole_answer form (Some file) query document old new (Ok done) answer whole = (document, answer, whole)
 
 -- ---- `check`
 

@@ -2,11 +2,12 @@
 use Rattle.std.proofs.Common.{◌≡◌, ◌⊎◌, ℕ, List, Option, None, Some, Result, Ok, Err, IfSome, IfErr, IsErrAnd, inl, inr, refl, sym, subst}
 use Rattle.osm_model.specs.Elements.{Element}
 use Rattle.osm_keys.specs.declared.edition.Edition.{Edition}
+use Rattle.osm_forms.specs.declared.form.Form.TheVariants as forms
 use Rattle.osm_commands.specs.Ask.{Explains, HoldsTrees, IsAnswer}
 use Rattle.osm_commands.specs.Files.{ExplainsFiles, IfBoth, IsEndless, IsOutsideFiles, IsUnread}
 use Rattle.osm_commands.specs.TreeRoots.{IsOutsideOrTrees}
 use Rattle.osm_commands.specs.declared.command_fault.CommandFault.{CommandFault}
-use Rattle.osm_commands.specs.declared.command_fault.CommandFault.TheVariants.{Opl, Query, Endless, TooLarge, Clash, TooMany, Memory, Device}
+use Rattle.osm_commands.specs.declared.command_fault.CommandFault.TheVariants.{Opl, Query, Endless, TooLarge, Clash, TooMany, Apply, Memory, Device}
 
 -- the bytes that were read are those that the reader told
 pub same_read : (second : Option (List ℕ)) (read bytes : List ℕ) → second ≡ Some bytes → IfSome second (λ left. read ≡ left) → read ≡ bytes
@@ -17,8 +18,8 @@ same_read (Some left) read bytes is told = cc
 
 -- a fault that lies outside, or in the trees
 pub outside_files : (first second : Option (List ℕ)) (edition : Edition) (result : Result (Unit {0}) CommandFault)
-    → ((bytes : List ℕ) → second ≡ Some bytes → IfSome first (λ file. (text : List ℕ) (answer : IsAnswer file bytes text) → IfErr result (IsOutsideOrTrees answer.set edition)))
-    → IfBoth first second (λ file bytes. (text : List ℕ) (answer : IsAnswer file bytes text) → IfErr result (IsOutsideFiles answer.set edition))
+    → ((bytes : List ℕ) → second ≡ Some bytes → IfSome first (λ file. (text : List ℕ) (answer : IsAnswer forms.Opl file bytes text) → IfErr result (IsOutsideOrTrees answer.set edition)))
+    → IfBoth first second (λ file bytes. (text : List ℕ) (answer : IsAnswer forms.Opl file bytes text) → IfErr result (IsOutsideFiles answer.set edition))
 outside_files None second edition result only = tt
 outside_files (Some file) None edition result only = tt
 outside_files (Some file) (Some bytes) edition (Ok done) only = λ text answer. tt
@@ -32,6 +33,7 @@ explains_files file left edition bytes Endless why = absurd why
 explains_files file left edition bytes TooLarge why = absurd why
 explains_files file left edition bytes Clash why = why
 explains_files file left edition bytes TooMany why = why
+explains_files file left edition bytes (Apply refused) why = why
 explains_files file left edition bytes Memory why = tt
 explains_files file left edition bytes Device why = tt
 
@@ -58,7 +60,7 @@ unread (Err other) fault told why = subst IsUnread (sym told) why
 
 -- such a fault lies outside the files, whatever they are
 pub outside_unread : (first second : Option (List ℕ)) (edition : Edition) (result : Result (Unit {0}) CommandFault) → IfErr result IsUnread
-    → IfBoth first second (λ file bytes. (text : List ℕ) (answer : IsAnswer file bytes text) → IfErr result (IsOutsideFiles answer.set edition))
+    → IfBoth first second (λ file bytes. (text : List ℕ) (answer : IsAnswer forms.Opl file bytes text) → IfErr result (IsOutsideFiles answer.set edition))
 outside_unread None second edition result why = tt
 outside_unread (Some file) None edition result why = tt
 outside_unread (Some file) (Some bytes) edition (Ok done) why = λ text answer. tt
@@ -94,7 +96,7 @@ device_failed (Ok done) is = tt
 device_failed (Err fault) is = inr is
 
 pub outside_failed : (first second : Option (List ℕ)) (edition : Edition) (result : Result (Unit {0}) CommandFault) → IfErr result IsFailed
-    → IfBoth first second (λ file bytes. (text : List ℕ) (answer : IsAnswer file bytes text) → IfErr result (IsOutsideFiles answer.set edition))
+    → IfBoth first second (λ file bytes. (text : List ℕ) (answer : IsAnswer forms.Opl file bytes text) → IfErr result (IsOutsideFiles answer.set edition))
 outside_failed first second edition (Ok done) why = outside_unread first second edition (Ok done) tt
 outside_failed first second edition (Err fault) why = outside_unread first second edition (Err fault) (inr why)
 

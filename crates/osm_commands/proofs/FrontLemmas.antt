@@ -9,7 +9,7 @@ use Rattle.osm_commands.specs.Files.{FitsWithin, IsUnread, IsUnreadOrTooLarge}
 use Rattle.osm_commands.specs.WholeFiles.{AreRead, BreaksOff, HasRead, HasReadUpTo, IsLimitedRead, IsPiece, IsQueryRead, IsReadSo, IsReadWithin, IsTooLarge, ReadsAs, TakesAtMost, TakesWithin, longest_query, most_reads}
 use Rattle.osm_commands.specs.internal.Fronts.{IsFrontRead, IsLimited}
 use Rattle.osm_commands.specs.declared.command_fault.CommandFault.{CommandFault}
-use Rattle.osm_commands.specs.declared.command_fault.CommandFault.TheVariants.{Opl, Query, Endless, TooLarge, Clash, TooMany, Memory, Device}
+use Rattle.osm_commands.specs.declared.command_fault.CommandFault.TheVariants.{Opl, Query, Endless, TooLarge, Clash, TooMany, Apply, Memory, Device}
 use Rattle.osm_commands.proofs.WholeFileLemmas.{long}
 
 -- as if there were no limit
@@ -51,6 +51,7 @@ loosen most unread left Endless (pieces, are, (fits, number)) = (pieces, are, nu
 loosen most unread left TooLarge why = absurd why
 loosen most unread left Clash why = absurd why
 loosen most unread left TooMany why = absurd why
+loosen most unread left (Apply refused) why = absurd why
 loosen most unread left Memory (pieces, are, (fits, number)) = (pieces, are, number)
 loosen most unread left Device (pieces, are, (fits, number)) = (pieces, are, number)
 
@@ -61,6 +62,7 @@ broken_unread Has Endless why = inl refl
 broken_unread Has TooLarge why = absurd why
 broken_unread Has Clash why = absurd why
 broken_unread Has TooMany why = absurd why
+broken_unread Has (Apply refused) why = absurd why
 broken_unread Has Memory why = inr (inl refl)
 broken_unread Has Device why = inr (inr refl)
 
@@ -71,6 +73,7 @@ broken_takes most unread left Endless (pieces, are, (fits, number)) = (concat pi
 broken_takes most unread left TooLarge why = absurd why
 broken_takes most unread left Clash why = absurd why
 broken_takes most unread left TooMany why = absurd why
+broken_takes most unread left (Apply refused) why = absurd why
 broken_takes most unread left Memory (pieces, are, (fits, number)) = (concat pieces, are.consumed, fits)
 broken_takes most unread left Device (pieces, are, (fits, number)) = (concat pieces, are.consumed, fits)
 
@@ -115,6 +118,7 @@ limited_fault limit unread left Endless why = why
 limited_fault limit unread left TooLarge why = absurd why
 limited_fault limit unread left Clash why = why
 limited_fault limit unread left TooMany why = why
+limited_fault limit unread left (Apply refused) why = why
 limited_fault limit unread left Memory why = why
 limited_fault limit unread left Device why = why
 
@@ -148,6 +152,7 @@ parted (Some limit) unread left (Err Endless) why = inl (loosen (limit + 1) unre
 parted (Some limit) unread left (Err TooLarge) why = inr (refl, why)
 parted (Some limit) unread left (Err Clash) why = absurd why
 parted (Some limit) unread left (Err TooMany) why = absurd why
+parted (Some limit) unread left (Err (Apply refused)) why = absurd why
 parted (Some limit) unread left (Err Memory) why = inl (loosen (limit + 1) unread left Memory why)
 parted (Some limit) unread left (Err Device) why = inl (loosen (limit + 1) unread left Device why)
 
@@ -214,6 +219,7 @@ within_takes (Some limit) unread left (Err Endless) why = broken_takes (limit + 
 within_takes (Some limit) unread left (Err TooLarge) (pieces, are, (few, number)) = (concat pieces, are.consumed, omega (arith, number))
 within_takes (Some limit) unread left (Err Clash) why = absurd why
 within_takes (Some limit) unread left (Err TooMany) why = absurd why
+within_takes (Some limit) unread left (Err (Apply refused)) why = absurd why
 within_takes (Some limit) unread left (Err Memory) why = broken_takes (limit + 1) unread left Memory why
 within_takes (Some limit) unread left (Err Device) why = broken_takes (limit + 1) unread left Device why
 
@@ -243,6 +249,7 @@ query_broken unread left Endless (pieces, are, (fits, number)) = absurd (omega (
 query_broken unread left TooLarge why = absurd why
 query_broken unread left Clash why = absurd why
 query_broken unread left TooMany why = absurd why
+query_broken unread left (Apply refused) why = absurd why
 query_broken unread left Memory why = inl refl
 query_broken unread left Device why = inr refl
 

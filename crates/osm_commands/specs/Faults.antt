@@ -7,8 +7,10 @@ use Rattle.osm_prove.specs.declared.prove_fault.ProveFault.{ProveFault}
 use Rattle.osm_prove.specs.declared.prove_fault.ProveFault.TheVariants as refusals
 use Rattle.osm_index.specs.declared.fault.IndexFault.{IndexFault}
 use Rattle.osm_index.specs.declared.fault.IndexFault.TheVariants as indexes
+use Rattle.osm_index.specs.declared.apply_fault.ApplyFault.{ApplyFault}
+use Rattle.osm_index.specs.declared.apply_fault.ApplyFault.TheVariants as applying
 use Rattle.osm_commands.specs.declared.command_fault.CommandFault.{CommandFault}
-use Rattle.osm_commands.specs.declared.command_fault.CommandFault.TheVariants.{Opl, Query, Endless, TooLarge, Clash, TooMany, Memory, Device}
+use Rattle.osm_commands.specs.declared.command_fault.CommandFault.TheVariants.{Opl, Query, Endless, TooLarge, Clash, TooMany, Apply, Memory, Device}
 use Rattle.osm_commands.specs.declared.status.Status.{Status}
 use Rattle.osm_commands.specs.declared.status.Status.TheVariants.{Refused, Failed}
 
@@ -20,6 +22,7 @@ status_of Endless = Refused
 status_of TooLarge = Failed
 status_of Clash = Refused
 status_of TooMany = Refused
+status_of (Apply refused) = Refused
 status_of Memory = Failed
 status_of Device = Failed
 
@@ -42,3 +45,8 @@ abbrev pub fault_of_index : IndexFault → CommandFault
 fault_of_index indexes.Clash = Clash
 fault_of_index indexes.TooMany = TooMany
 fault_of_index indexes.Memory = Memory
+
+-- what changes that can't be made are to a command
+abbrev pub fault_of_apply : ApplyFault → CommandFault
+fault_of_apply applying.Memory = Memory
+fault_of_apply refused = Apply refused

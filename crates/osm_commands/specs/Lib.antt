@@ -1,3 +1,4 @@
+pub mod AnnouncedChanges
 pub mod Ask
 pub mod Faults
 pub mod Files

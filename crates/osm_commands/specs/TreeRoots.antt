@@ -12,7 +12,7 @@ use Rattle.osm_keys.specs.declared.edition.Edition.{Edition}
 use Rattle.osm_commands.specs.RootLines.{digest_line}
 use Rattle.byte_io.specs.Written.{AppendsFront}
 use Rattle.osm_commands.specs.declared.command_fault.CommandFault.{CommandFault}
-use Rattle.osm_commands.specs.declared.command_fault.CommandFault.TheVariants.{Opl, Query, Endless, TooLarge, Clash, TooMany, Memory, Device}
+use Rattle.osm_commands.specs.declared.command_fault.CommandFault.TheVariants.{Opl, Query, Endless, TooLarge, Clash, TooMany, Apply, Memory, Device}
 
 -- a publication in this edition of a set that the file holds
 pub record IsPublicationIn (file : List ℕ) (edition : Edition) (p : Publication) : Type 0 where
@@ -44,6 +44,7 @@ IsOutsideOrTrees set edition Endless = ⊥
 IsOutsideOrTrees set edition TooLarge = ⊥
 IsOutsideOrTrees set edition Clash = HasClashingNodes set edition
 IsOutsideOrTrees set edition TooMany = HasTooMany set
+IsOutsideOrTrees set edition (Apply refused) = ⊥
 IsOutsideOrTrees set edition Memory = ⊤
 IsOutsideOrTrees set edition Device = ⊤
 
@@ -56,6 +57,7 @@ ExplainsTrees file left edition Endless = ⊥
 ExplainsTrees file left edition TooLarge = ⊥
 ExplainsTrees file left edition Clash = (set : List Element) × HoldsSet file set × HasClashingNodes set edition
 ExplainsTrees file left edition TooMany = (set : List Element) × HoldsSet file set × HasTooMany set
+ExplainsTrees file left edition (Apply refused) = ⊥
 ExplainsTrees file left edition Memory = ⊤
 ExplainsTrees file left edition Device = ⊤
 

@@ -6,19 +6,20 @@ ghost use Rattle.osm_commands.specs.Ask.{Explains, IsAnswer, IsBegun, ask_editio
 ghost use Rattle.osm_commands.specs.TreeRoots.{IsOutsideOrTrees};
 
 use crate::command_fault::CommandFault;
+use crate::document_writer::write_document;
 use crate::flushing_writer::FlushingWriter;
 use crate::snapshot_reader::read_snapshot;
-use crate::whole_writer::write_whole;
-use osm_check::{Verdict, check};
+use osm_check::{Told, tell};
+use osm_forms::Form;
 use osm_index::{BuildProgress, Edition};
 use osm_prove::prove;
 use std::alloc::Global;
 use std::io::Read;
 
-/// Reads the input as the OPL text of a set of objects, and writes the query's answer over that set: the
-/// OPL text of its meaning. The query is these bytes as they stand. The answer is made with its proof, and
-/// checked by them and the set's root before it is written; the root is that of edition 2 with sequence
-/// number 0.
+/// Reads the input as the OPL text of a set of objects, and writes the query's answer over that set, in this form: the
+/// document of its meaning, which in OPL is the objects' lines and nothing else. The query is these bytes as they stand;
+/// what its settings ask for doesn't matter. The proof of the answer is made, and what is written is what this proof
+/// shows under the set's root; the root is that of edition 2 with sequence number 0.
 ///
 /// # Errors
 ///
@@ -32,20 +33,21 @@ use std::io::Read;
 /// Clauses that speak of the input's bytes do so where the reader tells them.
 pub fn ask<R: Read, B: BuildProgress, W: FlushingWriter>(
     alloc: Global,
+    form: Form,
     query: &[u8],
     input: &mut R,
     progress: &mut B,
     output: &mut W,
 ) -> Result<(), CommandFault>
     // The output has gained exactly the answer.
-    ensures answered { OnOk result (IfSome (R.remaining input.old) (λ file. (text : List ℕ)
-        × IsAnswer file query.now text × Appends (W.contents output.old)
-        (W.contents output.new) text)) }
+    ensures answered { OnOk result (IfSome (R.remaining input.old) (λ file. (document : List ℕ)
+        × IsAnswer form file query.now document × Appends (W.contents output.old)
+        (W.contents output.new) document)) }
     // Nothing is held back then.
     ensures flushed { OnOk result (W.is_flushed output.new ≡ true) }
     // What has an answer is answered, unless memory or a device fails, or the trees can't be made.
     ensures only { IfSome (R.remaining input.old) (λ file.
-        (text : List ℕ) (answer : IsAnswer file query.now text)
+        (document : List ℕ) (answer : IsAnswer form file query.now document)
         → IfErr result (IsOutsideOrTrees answer.set ask_edition)) }
     // Which fault it is.
     ensures refused { IfSome (R.remaining input.old) (λ file.
@@ -55,13 +57,13 @@ pub fn ask<R: Read, B: BuildProgress, W: FlushingWriter>(
         → Keeps (W.contents output.old) (W.contents output.new)) }
     // and never anything but a beginning of the answer.
     ensures begun { IfSome (R.remaining input.old) (λ file.
-        IsBegun file query.now (W.contents output.old) (W.contents output.new)) }
+        IsBegun form file query.now (W.contents output.old) (W.contents output.new)) }
 {
     let edition = Edition::Two { sequence: 0 };
     let snapshot = read_snapshot(alloc, input, edition, progress)?;
     let proved = prove(alloc, &snapshot, query)?;
-    match check(alloc, query, &proved.root, &proved.answer, &proved.proof)? {
-        Verdict::Yes(_) => write_whole(output, &proved.answer),
-        Verdict::No(_) => unreachable!("an honest answer is accepted"),
+    match tell(alloc, form, query, &proved.root, &proved.proof)? {
+        Told::Answer { text, report: _ } => write_document(output, form, &text),
+        Told::No(_) => unreachable!("an honest proof shows the answer"),
     }
 }

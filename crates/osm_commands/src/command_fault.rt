@@ -1,12 +1,12 @@
 //! Why a command isn't carried out.
 
 ghost use Rattle.std.specs.Prelude.{◌≡◌};
-ghost use Rattle.osm_commands.specs.Faults.{fault_of_index, fault_of_load, fault_of_prove, status_of};
+ghost use Rattle.osm_commands.specs.Faults.{fault_of_apply, fault_of_index, fault_of_load, fault_of_prove, status_of};
 ghost use Rattle.osm_commands.specs.declared.command_fault.CommandFault.TheVariants.{Memory};
 
 use crate::status::Status;
 use opl_codec::{LoadFault, OplCause};
-use osm_index::IndexFault;
+use osm_index::{ApplyFault, IndexFault};
 use osm_prove::ProveFault;
 use ql_syntax::QlFault;
 use std::alloc::AllocError;
@@ -33,6 +33,9 @@ pub enum CommandFault {
     /// A tree of the set would have more than 2^29 entries.
     #[error("I4")]
     TooMany,
+    /// The changes can't be made of the set: `I2 w10`.
+    #[error("{0}")]
+    Apply(ApplyFault),
     /// An allocation was refused.
     #[error("no memory")]
     Memory,
@@ -51,7 +54,8 @@ impl CommandFault {
             | CommandFault::Query(_)
             | CommandFault::Endless
             | CommandFault::Clash
-            | CommandFault::TooMany => Status::Refused,
+            | CommandFault::TooMany
+            | CommandFault::Apply(_) => Status::Refused,
             CommandFault::TooLarge | CommandFault::Memory | CommandFault::Device => Status::Failed,
         }
     }
@@ -89,6 +93,17 @@ impl From<IndexFault> for CommandFault {
             IndexFault::Clash => CommandFault::Clash,
             IndexFault::TooMany => CommandFault::TooMany,
             IndexFault::Memory => CommandFault::Memory,
+        }
+    }
+}
+
+impl From<ApplyFault> for CommandFault {
+    ghost from_gives = { λ refused fault. fault ≡ fault_of_apply refused };
+
+    fn from(refused: ApplyFault) -> CommandFault {
+        match refused {
+            ApplyFault::Memory => CommandFault::Memory,
+            _ => CommandFault::Apply(refused),
         }
     }
 }

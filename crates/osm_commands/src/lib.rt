@@ -1,13 +1,15 @@
 //! The commands of the program, as functions over readers and writers that they are lent.
 //!
-//! [`ask`], [`publish`], [`prove`] and [`check`]; for the command `serve`, the snapshot of a file and the
+//! [`ask`], [`publish`], [`changes`], [`prove`] and [`check`]; for the command `serve`, the snapshot of a file and the
 //! [`listening_line`] with which a server begins. What refuses them is a [`CommandFault`], and how the program ends then a
 //! [`Status`].
 #![tactic(auto)]
 
 mod ask_command;
+mod changes_command;
 mod check_command;
 mod command_fault;
+mod document_writer;
 mod flushing_writer;
 mod front_reader;
 mod listening_lines;
@@ -16,6 +18,7 @@ mod publish_command;
 mod query_reader;
 mod ready_writer;
 mod replacing_writer;
+mod root_line_end;
 mod root_lines;
 mod snapshot_reader;
 mod status;
@@ -25,8 +28,10 @@ mod whole_reader;
 mod whole_writer;
 
 pub use ask_command::ask;
+pub use changes_command::changes;
 pub use check_command::check;
 pub use command_fault::CommandFault;
+pub use document_writer::write_document;
 pub use flushing_writer::{FlushingWriter, flush_outcome};
 pub use listening_lines::listening_line;
 pub use prove_command::prove;

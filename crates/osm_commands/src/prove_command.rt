@@ -2,6 +2,7 @@
 
 ghost use Rattle.std.specs.Prelude.{◌≡◌, ◌≢◌, ◌⊎◌, IfErr, IfSome, List, ℕ, OnOk, true};
 ghost use Rattle.std.specs.Io.KnownBytes.{Appends, Keeps};
+ghost use Rattle.osm_forms.specs.declared.form.Form.TheVariants as forms;
 ghost use Rattle.osm_keys.specs.Publications.{Publication};
 ghost use Rattle.osm_commands.specs.Ask.{HoldsTrees, IsAnswer};
 ghost use Rattle.osm_commands.specs.Files.{ExplainsFiles, IfBoth, IsBegunProof, IsOutsideFiles, IsProvedIn};
@@ -68,7 +69,7 @@ pub fn prove<
         × (P.is_in_place proof.new ≡ true)) }
     // What has an answer is answered, unless memory or a device fails, the query never ends, or the trees can't be made.
     ensures only { IfBoth (R.remaining input.old) (Q.remaining query.old)
-        (λ file bytes. (text : List ℕ) (answer : IsAnswer file bytes text)
+        (λ file bytes. (text : List ℕ) (answer : IsAnswer forms.Opl file bytes text)
         → IfErr result (IsOutsideFiles answer.set edition)) }
     // Which fault it is.
     ensures refused { IfBoth (R.remaining input.old) (Q.remaining query.old)

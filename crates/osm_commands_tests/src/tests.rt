@@ -1,13 +1,17 @@
 //! The commands over readers and writers of the test's own. Their rows, and what comes of it where a read or a write fails
 //! in turn, are shown of the whole program, by tests/system.
 
+mod announcing;
 mod changing;
 mod files;
 mod flushing_narrow_writer;
+mod lookouts;
+mod placing_writer;
 mod serving;
 
 use flushing_narrow_writer::FlushingNarrowWriter;
 use osm_commands::{CommandFault, Status, ask};
+use osm_forms::Form;
 use osm_index::Unwatched;
 use std::alloc::Global;
 use std::process::Abort;
@@ -40,7 +44,7 @@ fn flushes_fail(rt: HostRuntime) {
         },
     };
     let input = &mut ALL_KINDS.as_bytes();
-    let outcome = ask(alloc, FIRST.as_bytes(), input, &mut Unwatched, &mut output);
+    let outcome = ask(alloc, Form::Opl, FIRST.as_bytes(), input, &mut Unwatched, &mut output);
     assert!(rt; outcome == Err(CommandFault::Device));
     assert!(rt; output.writer.taken.as_slice() == FIRST_ANSWER.as_bytes());
 }
@@ -88,7 +92,7 @@ fn is_done(rt: &impl Abort, outcome: Result<(), CommandFault>, output: &[u8], te
 fn is_answered(rt: &impl Abort, alloc: Global) -> bool {
     let mut output = Vec::new(alloc);
     let input = &mut ALL_KINDS.as_bytes();
-    let outcome = ask(alloc, FIRST.as_bytes(), input, &mut Unwatched, &mut output);
+    let outcome = ask(alloc, Form::Opl, FIRST.as_bytes(), input, &mut Unwatched, &mut output);
     is_done(rt, outcome, &output, FIRST_ANSWER)
 }
 

@@ -1,3 +1,4 @@
 -- Lemmas that crates above cite.
 pub mod FoundLemmas
+pub mod RootDigits
 pub mod StillHeld

@@ -1,3 +1,4 @@
+pub mod AnnouncedRoots
 pub mod Contents
 pub mod Desks
 pub mod Events

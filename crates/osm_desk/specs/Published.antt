@@ -6,6 +6,7 @@ use Rattle.opl_codec.specs.declared.change.Change.{Change}
 use Rattle.osm_keys.specs.Publications.{Publication}
 use Rattle.osm_index.specs.Snapshots.{HoldsPublication}
 use Rattle.osm_index.specs.declared.snapshot.Snapshot.{Snapshot}
+use Rattle.osm_desk.specs.AnnouncedRoots.{IsAsAnnounced}
 use Rattle.osm_desk.specs.Made.{IsMade}
 
 -- ---- one change file
@@ -16,15 +17,19 @@ pub record GivesChanges (known : Option (List ℕ)) (changes : List Change) : Ty
   pub told : IfSome known (λ all. text ≡ all)
   pub holds : HoldsChanges text changes
 
--- the changes that the reader gives make the one publication of the other
+-- the changes that the reader gives make the one publication of the other, whose root is the one that its text announces,
+-- where it announces one
 pub record IsMadeFrom (known : Option (List ℕ)) (p q : Publication) : Type 0 where
   pub changes : List Change
   pub given : GivesChanges known changes
   pub made : IsMade p changes (Ok q)
+  pub announced : IsAsAnnounced given.text q
 
--- changes that a file holds make the one publication of the other
+-- changes that a file holds make the one publication of the other, whose root is the one that the file announces, where it
+-- announces one
 abbrev pub IsPublishedFrom : Publication → Publication → Type 0
-IsPublishedFrom p q = (file : List ℕ) × (changes : List Change) × HoldsChanges file changes × IsMade p changes (Ok q)
+IsPublishedFrom p q =
+    (file : List ℕ) × (changes : List Change) × HoldsChanges file changes × IsMade p changes (Ok q) × IsAsAnnounced file q
 
 -- the snapshot holds what was in force, or what a change file makes of it
 abbrev pub HasPublished : Publication → Snapshot → Type 0

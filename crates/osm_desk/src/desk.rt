@@ -6,6 +6,7 @@ ghost use Rattle.std.specs.Prelude.{◌≡◌, ◌<◌, ◌≤◌, ◌↔◌, If
 ghost use Rattle.osm_gate.specs.Connections.{Responds, requests_next, open_rest};
 ghost use Rattle.osm_keys.specs.Publications.{Publication};
 ghost use Rattle.osm_index.specs.Snapshots.{HoldsPublication, IsAsBefore};
+ghost use Rattle.osm_desk.specs.AnnouncedRoots.{RefusesAnnounced, root_digits};
 ghost use Rattle.osm_desk.specs.Contents.{desk_over, fresh_contents};
 ghost use Rattle.osm_desk.specs.Events.{IsTurn, answer_of};
 ghost use Rattle.osm_desk.specs.Made.{IsMade, RefusesChanges};
@@ -18,7 +19,7 @@ use crate::event::Event;
 use crate::limits::CONNECTION_LIMIT;
 use opl_codec::Change;
 use osm_gate::Gate;
-use osm_index::{ApplyFault, Snapshot};
+use osm_index::{AnnouncedFault, ApplyFault, Snapshot};
 use std::alloc::{AllocError, Global};
 use std::collections::BTreeMap;
 use std::marker::Model;
@@ -237,6 +238,33 @@ impl Desk {
         ensures unchanged { OnErr result (IsAsBefore self.old.snapshot self.new.snapshot) }
     {
         self.snapshot.apply(self.alloc, changes)?;
+        Ok(())
+    }
+
+    /// Publishes changes, as [`Desk::publish`] does, where the text is what their root is announced to be: the 64 hexadecimal
+    /// digits, in lower case, of the root of what is in force afterwards. Any other text is no root's.
+    ///
+    /// # Errors
+    ///
+    /// Those of [`Snapshot::apply_announced`]: `Apply` as [`Desk::publish`] is refused, and `OtherRoot` (I6), which comes
+    /// after I4 and before I1, where the changes give another root. After a refusal all is as before.
+    pub fn publish_announced(
+        &mut self,
+        changes: &[Change],
+        announced: &[u8],
+    ) -> Result<(), AnnouncedFault>
+        // In force is what the changes make, and its root is the one that is announced.
+        ensures made { (p : Publication) → HoldsPublication self.old.snapshot p
+            → OnOk result ((q : Publication) × IsMade p changes.now (Ok q)
+            × HoldsPublication self.new.snapshot q × (announced.now ≡ root_digits q)) }
+        // They are refused as by `publish`, or give another root.
+        ensures refused { (p : Publication) → HoldsPublication self.old.snapshot p
+            → IfErr result (RefusesAnnounced p changes.now announced.now) }
+        ensures connections { self.new.connections ≡ self.old.connections }
+        ensures unchanged { OnErr result (IsAsBefore self.old.snapshot self.new.snapshot) }
+    {
+        self.snapshot
+            .apply_announced(self.alloc, changes, announced)?;
         Ok(())
     }
 }

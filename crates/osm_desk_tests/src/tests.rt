@@ -1,5 +1,6 @@
 //! Desks over small sets of objects.
 
+mod announced;
 mod interleavings;
 mod memory;
 mod refusals;

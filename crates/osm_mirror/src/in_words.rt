@@ -64,8 +64,13 @@ fn words_of(
         }
         CommandFault::Device => troubles(rt, subject.troubles),
         other => {
-            let code = format!(in alloc; "{other}")?;
-            meaning(rt, &code, None)
+            // The code comes first in the line.
+            let line = format!(in alloc; "{other}")?;
+            let code = line.as_str().split(' ').next().unwrap_or("");
+            match explain(code) {
+                Some(_) => meaning(rt, code, None),
+                None => meaning(rt, &line, None),
+            }
         }
     }
 }

@@ -9,24 +9,33 @@ ghost use Rattle.osm_mirror.specs.Faults.{fault_of_traffic};
 
 mod building;
 mod change_folder;
+mod changing;
 mod clean_output;
+mod fetching;
 mod in_words;
 mod input_file;
 mod one_file;
 mod output_file;
 mod progress;
+mod relaying;
+mod root_file;
 mod server_errors;
+mod tcp_dial;
+mod telling;
 mod watched;
 
 use crate::building::Building;
 use crate::change_folder::ChangeFolder;
+use crate::changing::change_file;
 use crate::clean_output::CleanOutput;
-use crate::in_words::{Subject, Trouble, tell_in_words};
-use crate::input_file::InputFile;
+use crate::fetching::fetch_answer;
+use crate::in_words::{Subject, tell_in_words};
 use crate::one_file::are_one_file;
 use crate::output_file::OutputFile;
 use crate::progress::Progress;
+use crate::relaying::relay_clients;
 use crate::server_errors::ServerErrors;
+use crate::telling::{NOTHING, port_refused, quiet_file, refuse_one_file, report, trouble_of, watched_file};
 use crate::watched::Watched;
 use command_line::{Job, WordsFault, read_words};
 use osm_codes::explain;
@@ -34,6 +43,7 @@ use osm_commands::{
     CommandFault, Status, WholeLines, ask, check, listening_line, prove, publish, read_snapshot,
 };
 use osm_desk::Desk;
+use osm_forms::Form;
 use osm_index::Snapshot;
 use osm_keys::Edition;
 use osm_serving::ChangeLookout;
@@ -65,7 +75,7 @@ fn run(rt: &HostRuntime) -> Status {
             let _ = write!(rt.stderr(), "{text}");
             Status::Refused
         }
-        Err(fault @ (WordsFault::BadRoot | WordsFault::BadEdition)) => {
+        Err(fault @ (WordsFault::BadRoot | WordsFault::BadForm | WordsFault::BadEdition)) => {
             let _ = writeln!(rt.stderr(), "{fault}");
             Status::Refused
         }
@@ -76,8 +86,13 @@ fn run(rt: &HostRuntime) -> Status {
 /// Runs the command with its files.
 fn run_job(rt: &HostRuntime, job: Job) -> Status {
     match job {
-        Job::Ask { query } => ask_input(rt, &query),
+        Job::Ask { query, form } => ask_input(rt, &query, form),
         Job::Publish { file, edition } => publish_file(rt, &file, edition),
+        Job::Changes {
+            file,
+            sequence,
+            change_file: path,
+        } => change_file(rt, &file, sequence, &path),
         Job::Prove {
             file,
             query_file,
@@ -98,13 +113,40 @@ fn run_job(rt: &HostRuntime, job: Job) -> Status {
             connections,
             edition,
             changes,
-        } => serve_file(rt, &file, port, connections, edition, changes.as_deref()),
+            strict_changes,
+        } => {
+            let folder = changes.as_deref();
+            serve_file(rt, &file, port, connections, edition, folder, strict_changes)
+        }
+        Job::Fetch {
+            root,
+            mirror,
+            query,
+            form,
+            max_size,
+        } => fetch_answer(rt, &root, &mirror, &query, form, max_size),
+        Job::Relay {
+            root,
+            mirror,
+            fallbacks,
+            port,
+            root_file,
+            connections,
+        } => relay_clients(
+            rt,
+            root,
+            &mirror,
+            &fallbacks,
+            port,
+            root_file.as_deref(),
+            connections,
+        ),
         Job::Explain { code } => explain_code(rt, &code),
     }
 }
 
 /// Answers the query over the objects that standard input holds.
-fn ask_input(rt: &HostRuntime, query: &str) -> Status {
+fn ask_input(rt: &HostRuntime, query: &str, form: Form) -> Status {
     if rt.stdin().is_terminal() {
         let _ = writeln!(rt.stderr(), "waiting for OPL on standard input");
     }
@@ -112,6 +154,7 @@ fn ask_input(rt: &HostRuntime, query: &str) -> Status {
     let mut building = Building::new(rt);
     let outcome = ask(
         rt.alloc(),
+        form,
         query.as_bytes(),
         &mut input,
         &mut building,
@@ -184,21 +227,6 @@ fn prove_files(
         &mut OutputFile::new(rt, proof_file),
         edition,
     )
-}
-
-/// How the program ends where one file has two names that a command may not have for one file.
-fn refuse_one_file(rt: &HostRuntime, name: &str, other: &str) -> Status {
-    let fault = CommandFault::Device;
-    let errors = &mut rt.stderr();
-    // Where standard error takes nothing, the status still tells.
-    let _ = writeln!(errors, "{fault}");
-    if errors.is_terminal() {
-        let _ = writeln!(
-            errors,
-            "{name} and {other} are one file: what is written needs a file of its own"
-        );
-    }
-    fault.status()
 }
 
 /// As `prove_files`, once the files are known to be different ones.
@@ -283,7 +311,8 @@ fn check_files(
     }
 }
 
-/// Serves the set of this file on this port, with the changes of this folder if there is one.
+/// Serves the set of this file on this port, with the changes of this folder if there is one, each of which has to say which
+/// root it gives where that is asked for.
 fn serve_file(
     rt: &HostRuntime,
     file: &str,
@@ -291,6 +320,7 @@ fn serve_file(
     connections: u32,
     edition: Edition,
     changes: Option<&str>,
+    is_strict: bool,
 ) -> Status {
     let mut input = watched_file(rt, file);
     let mut building = Building::new(rt);
@@ -298,7 +328,9 @@ fn serve_file(
     input.clear();
     building.clear();
     let fault = match read {
-        Ok(snapshot) => return serve_snapshot(rt, snapshot, port, connections, changes),
+        Ok(snapshot) => {
+            return serve_snapshot(rt, snapshot, port, connections, changes, is_strict);
+        }
         Err(fault) => fault,
     };
     let troubles = &[trouble_of(file, input.error())];
@@ -320,35 +352,21 @@ fn serve_snapshot(
     port: u16,
     connections: u32,
     changes: Option<&str>,
+    is_strict: bool,
 ) -> Status {
     match listen(rt, port, changes.is_some()) {
         Ok((sockets, address)) => {
-            let outcome = serve_over(rt, snapshot, sockets, address, connections, changes);
+            let folder = ChangeFolder::new(rt, changes);
+            let lookout = if is_strict {
+                ChangeLookout::strict(rt.alloc(), folder)
+            } else {
+                ChangeLookout::new(rt.alloc(), folder)
+            };
+            let outcome = serve_over(rt, snapshot, sockets, address, connections, lookout);
             report_served(rt, outcome)
         }
         Err(error) => port_refused(rt, port, &error),
     }
-}
-
-/// How the program ends where it can't listen on this port. It says on which, and what the system says of that.
-fn port_refused(rt: &HostRuntime, port: u16, error: &io::Error) -> Status {
-    let fault = match error.kind() {
-        ErrorKind::OutOfMemory => CommandFault::Memory,
-        _ => CommandFault::Device,
-    };
-    let Ok(name) = format!(in rt.alloc(); "port {port}") else {
-        return report(rt, Err(fault), &NOTHING);
-    };
-    let troubles = &[trouble_of(&name, error.raw_os_error())];
-    report(
-        rt,
-        Err(fault),
-        &Subject {
-            front: &[],
-            query: &[],
-            troubles,
-        },
-    )
 }
 
 /// Sockets that listen on this port, and where that is. Where there are changes to look for, they are looked for four
@@ -372,7 +390,7 @@ fn serve_over(
     mut sockets: Sockets<'_>,
     address: SocketAddr,
     connections: u32,
-    changes: Option<&str>,
+    mut lookout: ChangeLookout<ChangeFolder<'_>>,
 ) -> Result<(), CommandFault> {
     let alloc = rt.alloc();
     let line = listening_line(alloc, address, &snapshot)?;
@@ -380,7 +398,6 @@ fn serve_over(
     // Where standard error takes nothing, it serves all the same.
     let _ = write!(errors, "{line}");
     let mut desk = Desk::new(alloc, snapshot);
-    let mut lookout = ChangeLookout::new(alloc, ChangeFolder::new(rt, changes));
     match serve_many(
         alloc,
         &mut desk,
@@ -421,16 +438,6 @@ fn explain_code(rt: &HostRuntime, code: &str) -> Status {
     }
 }
 
-/// A file whose reading is shown on a terminal.
-fn watched_file<'a>(rt: &'a HostRuntime, path: &'a str) -> Watched<'a, InputFile<'a>> {
-    Watched::new(InputFile::new(rt, path), Progress::of_file(rt, path))
-}
-
-/// A file whose reading isn't shown.
-fn quiet_file<'a>(rt: &'a HostRuntime, path: &'a str) -> Watched<'a, InputFile<'a>> {
-    Watched::new(InputFile::new(rt, path), Progress::none(rt))
-}
-
 /// The text of a query that was refused, read once more from its file; nothing where another fault is told.
 fn text_of_query(rt: &HostRuntime, path: &str, outcome: &Result<(), CommandFault>) -> Vec<u8> {
     match outcome {
@@ -439,31 +446,6 @@ fn text_of_query(rt: &HostRuntime, path: &str, outcome: &Result<(), CommandFault
             Err(_) => Vec::new(rt.alloc()),
         },
         _ => Vec::new(rt.alloc()),
-    }
-}
-
-/// What the system said of a file or a socket of this name.
-fn trouble_of(name: &str, error: Option<i32>) -> Trouble<'_> {
-    Trouble { name, error }
-}
-
-/// No input, no query, no file.
-const NOTHING: Subject<'static> = Subject {
-    front: &[],
-    query: &[],
-    troubles: &[],
-};
-
-/// How the program ends after a command. A fault is told in one line, and then in words where somebody looks.
-fn report(rt: &HostRuntime, outcome: Result<(), CommandFault>, subject: &Subject<'_>) -> Status {
-    match outcome {
-        Ok(()) => Status::Done,
-        Err(fault) => {
-            // Where standard error takes nothing, the status still tells.
-            let _ = writeln!(rt.stderr(), "{fault}");
-            tell_in_words(rt, fault, subject);
-            fault.status()
-        }
     }
 }
 

@@ -8,21 +8,21 @@ use crate::conversation::Conversation;
 use crate::limits::CONVERSATION_LIMIT;
 use crate::network::{Network, News, Room};
 use crate::relay_fault::RelayFault;
+use crate::roots::Roots;
 use crate::turn::{Awaits, Turn};
 use crate::wire::Wire;
 use std::alloc::Global;
-use tree_node::Digest;
 
-/// Answers this number of clients, up to 64 at a time, by the root. They are numbered from 0 as they come. What each is told
-/// is promised by [`Conversation::promise`].
+/// Answers this number of clients, up to 64 at a time, each by the root that is in force when it comes. They are numbered from
+/// 0 as they come. What each is told is promised by [`Conversation::promise`].
 ///
 /// # Errors
 ///
 /// `Device` where the network can't be waited at, or gives no further client. `Memory` where memory runs out at the network, or
 /// for a client that comes. `Endless` after 2^64 happenings. The clients that are there then get nothing more.
-pub fn relay_many<W: Wire, N: Network<W>>(
+pub fn relay_many<W: Wire, N: Network<W>, R: Roots>(
     alloc: Global,
-    root: &Digest,
+    roots: &mut R,
     network: &mut N,
     connections: u32,
 ) -> Result<(), RelayFault> {
@@ -35,7 +35,7 @@ pub fn relay_many<W: Wire, N: Network<W>>(
         let room = room_for(conversations.len(), taken, connections);
         match network.next(room)? {
             News::Waiting => {
-                if room == Room::Free && welcome(alloc, root, network, &mut conversations, taken)? {
+                if room == Room::Free && welcome(alloc, roots, network, &mut conversations, taken)? {
                     taken += 1;
                 }
             }
@@ -60,9 +60,9 @@ fn room_for(count: usize, taken: u32, connections: u32) -> Room
 }
 
 /// Takes the client that waits, and says whether there was one.
-fn welcome<W: Wire, N: Network<W>>(
+fn welcome<W: Wire, N: Network<W>, R: Roots>(
     alloc: Global,
-    root: &Digest,
+    roots: &mut R,
     network: &mut N,
     conversations: &mut Vec<Conversation<W>>,
     number: u32,
@@ -76,7 +76,7 @@ fn welcome<W: Wire, N: Network<W>>(
         return Ok(false);
     };
     if conversations
-        .push(Conversation::new(alloc, number, *root, client))
+        .push(Conversation::new(alloc, number, roots.root(), client))
         .is_err()
     {
         return Err(RelayFault::Memory);

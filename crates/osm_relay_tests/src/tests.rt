@@ -61,7 +61,8 @@ fn honest(rt: &(impl Abort + AllocGlobal), set: &str, query: &[u8]) -> Result<Ho
 
 /// What the only client of a scene got, which was all of its response.
 fn got(rt: &(impl Abort + AllocGlobal), root: &Digest, scene: &mut Scene) -> Result<Vec<u8>, Fail> {
-    relay_many(rt.alloc(), root, scene, 1)?;
+    let mut roots = *root;
+    relay_many(rt.alloc(), &mut roots, scene, 1)?;
     assert_eq!(rt; scene.gone.len(), 1);
     let gone = scene.gone.pop().ok_or("a client")?;
     assert!(rt; gone.whole);

@@ -8,16 +8,27 @@ use Rattle.osm_keys.specs.declared.edition.Edition.TheVariants as editions
 use Rattle.osm_index.specs.declared.snapshot.Snapshot.{Snapshot}
 use Rattle.osm_desk.specs.Contents.{Contents}
 use Rattle.osm_desk.proofs.shared.StillHeld.{still_held}
-use Rattle.osm_serving.specs.ChangeFiles.{IsReachedBy, asked_after}
+use Rattle.osm_serving.specs.ChangeFiles.{HasPublishedUnder, IsReachedBy, asked_after}
+use Rattle.osm_serving.specs.ChangeSources.{Watch}
+use Rattle.osm_serving.specs.declared.root_line.RootLine.{RootLine}
 use Rattle.osm_desk.specs.Published.{HasPublished}
 
--- what nothing changes stays in force
-pub same_in_force : (old new : Snapshot) (p : Publication) → new ≡ old → HoldsPublication old p → HasPublished p new
-same_in_force old new p same held = (p, subst (λ (s : Snapshot). HoldsPublication s p) (sym same) held, inl refl)
-
 -- what a refusal leaves stays in force
-pub left_in_force : (old new : Snapshot) (p : Publication) → IsAsBefore old new → HoldsPublication old p → HasPublished p new
-left_in_force old new p same held = (p, still_held old new p same held, inl refl)
+pub left_in_force : (root_line : RootLine) (old new : Snapshot) (p : Publication) → IsAsBefore old new → HoldsPublication old p → HasPublishedUnder root_line p new
+left_in_force root_line old new p same held = (p, still_held old new p same held, inl refl)
+
+-- what is published where a root line is looked at is published
+pub published_under : (root_line : RootLine) (new : Snapshot) (p : Publication) → HasPublishedUnder root_line p new → HasPublished p new
+published_under root_line new p (q, held, inl same) = (q, held, inl same)
+published_under root_line new p (q, held, inr (file, changes, holds, made, keeps)) = (q, held, inr (file, changes, holds, made, keeps.announced))
+
+-- the same as a lookout sees it
+abbrev watch_of : (C : Type 0) → C → RootLine → Watch C
+watch_of C source root_line = record { source = source; root_line = root_line }
+
+pub under_watched : (C : Type 0) (source : C) (root_line : RootLine) (watch : Watch C) (new : Snapshot) (p : Publication) → watch_of C source root_line ≡ watch → HasPublishedUnder root_line p new
+    → HasPublishedUnder watch.root_line p new
+under_watched C source root_line watch new p is published = subst (λ (w : Watch C). HasPublishedUnder w.root_line p new) is published
 
 -- one connection more, and what came before it
 pub reached_more : (n : ℕ) (p m : Publication) (new : Snapshot) → IsReachedBy n p m → HasPublished m new

@@ -1,2 +1,3 @@
 pub mod ChangeFiles
 pub mod ChangeSources
+pub mod internal

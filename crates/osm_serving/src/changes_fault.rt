@@ -1,12 +1,12 @@
 //! Why a change file isn't published.
 
 ghost use Rattle.std.specs.Prelude.{◌≡◌};
-ghost use Rattle.osm_serving.specs.ChangeFiles.{fault_of_apply, fault_of_command};
+ghost use Rattle.osm_serving.specs.ChangeFiles.{fault_of_announced, fault_of_apply, fault_of_command};
 ghost use Rattle.osm_commands.specs.Faults.{fault_of_load};
 
 use opl_codec::LoadFault;
 use osm_commands::CommandFault;
-use osm_index::ApplyFault;
+use osm_index::{AnnouncedFault, ApplyFault};
 use thiserror::Error;
 
 /// Why a change file isn't published. Its text is the line that the server prints on standard error.
@@ -18,6 +18,10 @@ pub enum ChangesFault {
     /// The changes can't be made of what is in force: `I2 w10`.
     #[error("{0}")]
     Apply(ApplyFault),
+    /// I6: the changes give another root than the one that the file announces, or it announces none and has to. What is no
+    /// root's digits is another root.
+    #[error("I6")]
+    OtherRoot,
     /// An allocation was refused.
     #[error("no memory")]
     Memory,
@@ -54,6 +58,17 @@ impl From<ApplyFault> for ChangesFault {
         match refused {
             ApplyFault::Memory => ChangesFault::Memory,
             _ => ChangesFault::Apply(refused),
+        }
+    }
+}
+
+impl From<AnnouncedFault> for ChangesFault {
+    ghost from_gives = { λ refused fault. fault ≡ fault_of_announced refused };
+
+    fn from(refused: AnnouncedFault) -> ChangesFault {
+        match refused {
+            AnnouncedFault::Apply(fault) => ChangesFault::from(fault),
+            AnnouncedFault::OtherRoot => ChangesFault::OtherRoot,
         }
     }
 }

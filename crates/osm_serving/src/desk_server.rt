@@ -10,6 +10,7 @@ ghost use Rattle.osm_desk.specs.Published.{TakesFound};
 use crate::change_source::ChangeSource;
 use crate::listener::Listener;
 use crate::publish_next::publish_next;
+use crate::root_line::RootLine;
 use osm_commands::CommandFault;
 use osm_desk::Desk;
 use std::alloc::Global;
@@ -58,7 +59,7 @@ pub fn serve_desk<L: Listener, C: ChangeSource, E: Write>(
     while taken < connections {
         let (mut reader, mut writer) = listener.accept()?;
         // Now and not before the listener was waited at: so a file that came while it was is published in time.
-        publish_next(alloc, desk, source, errors);
+        publish_next(alloc, desk, source, RootLine::Optional, errors);
         if let Err(fault) = desk.serve_on(taken, &mut reader, &mut writer) {
             // Where the line can't be written, the next connection is served all the same.
             let _ = writeln!(errors, "{fault}");

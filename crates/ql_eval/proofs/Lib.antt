@@ -32,3 +32,4 @@ pub mod WritingLemmas
 pub mod PrintLemmas
 pub mod QueryLemmas
 pub mod OutLemmas
+pub mod RememberLemmas

@@ -17,3 +17,4 @@ pub mod Printing
 pub mod Giving
 pub mod TrueFaults
 pub mod Objects
+pub mod Remembering

@@ -24,6 +24,7 @@ ghost use Rattle.tree_walk.specs.Uses.{nodes_around};
 use crate::answering::answer_all;
 use crate::fault::EvalFault;
 use crate::known::Known;
+use crate::memo::Memo;
 use crate::opening::{ManifestFault, open_manifest};
 use crate::shelf_source::ShelfSource;
 use crate::sink::Sink;
@@ -37,8 +38,8 @@ use tree_walk::Tally;
 /// What an evaluation did.
 #[derive(Clone, Copy, Debug, PartialEq, Eq)]
 pub struct Report {
-    /// How many walks it made, counts included. An object that is asked again takes no further walk. It stays at the
-    /// greatest u64.
+    /// How many walks it made, counts included. An object that is asked again takes no further walk, and neither does a
+    /// recursion that is asked again from the same set, if the memo had room for it. It stays at the greatest u64.
     pub ranges: u64,
     /// How many nodes the walks fetched. It stays at the greatest u64.
     pub fetched: u64,
@@ -202,6 +203,7 @@ fn run_over<'a, S: Shelf<'a>, T: Sink>(
         (nodes_around S.holds S.used shelf.old shelf.new) result }
 {
     let mut objects = Known::new(alloc);
+    let mut memo = Memo::new(alloc);
     let mut source = ShelfSource {
         alloc,
         shelf,
@@ -211,6 +213,7 @@ fn run_over<'a, S: Shelf<'a>, T: Sink>(
             fetches: 0,
         },
         objects: &mut objects,
+        memo: &mut memo,
         nodes: b"",
     };
     let ran = answer_all(alloc, form, statements, &mut source, sink);
@@ -221,6 +224,7 @@ fn run_over<'a, S: Shelf<'a>, T: Sink>(
         manifest: _,
         tally: _,
         objects: _,
+        memo: _,
         nodes: _,
     } = source;
     ran

@@ -23,6 +23,7 @@ mod known;
 mod links;
 mod lists_in;
 mod lookups;
+mod memo;
 mod names;
 mod object_test;
 mod objects;

@@ -22,9 +22,38 @@ use osm_model::{Kind, Ref};
 use ql_syntax::Recursion;
 use ref_sets::RefSet;
 use std::alloc::Global;
+use std::rc::Rc;
+
+/// What a recursion gives from a set. Where the query asked the same before, it is what was given then, and no tree is
+/// asked.
+pub(crate) fn recurse_once<W: Source>(
+    alloc: Global,
+    source: &mut W,
+    how: Recursion,
+    set: Rc<RefSet>,
+) -> Result<Rc<RefSet>, EvalFault>
+    requires { AllGiven (W.gave source.old) set.value }
+    ensures later { W.later source.old source.new }
+    ensures walked { OnOk result (W.walked source.old source.new) }
+    ensures told { IfErr result (W.tells source.new) }
+    ensures named { IfOk result (λ refs. AllGiven (W.gave source.new) refs.value) }
+    ensures answer { (p : Publication) → IsPublication p → W.under source.old p
+        → AreThere p.objects set.value
+        → Outcome cause_of_evaluation
+        (λ refs. IsSetOf refs.value (IsRefOf p.objects (IsReached p.objects how set.value)))
+        (NeededBy p (AskedByRecursion p.objects how set.value))
+        (nodes_around W.holds W.used source.old source.new) result }
+{
+    if let Some(refs) = source.recalled(how, &set) {
+        return Ok(refs.clone()?);
+    }
+    let refs = Rc::new(alloc, recurse(alloc, source, how, &set)?)?;
+    source.remember(how, set, refs.clone()?)?;
+    Ok(refs)
+}
 
 /// What a recursion gives from a set, as a set (the Overpass QL page, "Recurse").
-pub(crate) fn recurse<W: Source>(
+fn recurse<W: Source>(
     alloc: Global,
     source: &mut W,
     how: Recursion,

@@ -15,10 +15,10 @@ ghost use Rattle.ql_eval.specs.internal.Giving.{AllGiven, AllSetsGiven};
 ghost use Rattle.tree_walk.specs.Uses.{nodes_around};
 
 use crate::fault::EvalFault;
-use crate::recursions::recurse;
+use crate::recursions::recurse_once;
 use crate::select::select;
 use crate::source::Source;
-use crate::written::written_by;
+use crate::written::{shared_by, written_by};
 use osm_model::Ref;
 use ql_syntax::Stmt;
 use ref_sets::{NamedSets, RefSet};
@@ -56,13 +56,15 @@ pub(crate) fn run<'q, W: Source>(
             Ok(())
         }
         Stmt::Recurse { from, how, into } => {
-            let refs = recurse(alloc, source, *how, sets.get(from.as_bytes()))?;
-            sets.write(into.as_bytes(), refs)?;
+            let set = sets.shared(from.as_bytes())?;
+            let refs = recurse_once(alloc, source, *how, set)?;
+            sets.write_shared(into.as_bytes(), refs)?;
             Ok(())
         }
         Stmt::Item { from, into } => {
-            let refs = sets.get(from.as_bytes()).copy(alloc)?;
-            sets.write(into.as_bytes(), refs)?;
+            // One more owner of the same set: a copy would let a long query of these fill the memory.
+            let refs = sets.shared(from.as_bytes())?;
+            sets.write_shared(into.as_bytes(), refs)?;
             Ok(())
         }
         Stmt::Union { parts, into } => {
@@ -73,7 +75,7 @@ pub(crate) fn run<'q, W: Source>(
         }
         Stmt::Minus { left, right, into } => {
             run(alloc, left, sets, source)?;
-            let first = written_by(left, sets).copy(alloc)?;
+            let first = shared_by(alloc, left, sets)?;
             run(alloc, right, sets, source)?;
             let refs = first.difference(alloc, written_by(right, sets))?;
             sets.write(into.as_bytes(), refs)?;

@@ -13,12 +13,15 @@ use crate::boxes::find_in_box;
 use crate::fault::EvalFault;
 use crate::known::{Known, look_up};
 use crate::lookups::{count_names, find_names};
+use crate::memo::Memo;
 use crate::question::Question;
 use crate::source::Source;
 use osm_keys::Manifest;
 use osm_model::{BoxArea, Object, Ref};
+use ql_syntax::Recursion;
 use ref_sets::RefSet;
-use std::alloc::Global;
+use std::alloc::{AllocError, Global};
+use std::rc::Rc;
 use tree_node::Shelf;
 use tree_walk::Tally;
 
@@ -30,6 +33,8 @@ pub(crate) struct ShelfSource<'s, 'a, S: Shelf<'a>> {
     pub(crate) tally: Tally,
     /// The objects that were looked up. The caller owns them, so that a source has nothing to free.
     pub(crate) objects: &'s mut Known,
+    /// What recursions gave, which the caller owns too.
+    pub(crate) memo: &'s mut Memo,
     /// Nothing: it carries the lifetime of the nodes, without which nothing is known of the shelf once the source is gone.
     pub(crate) nodes: &'a [u8],
 }
@@ -39,7 +44,7 @@ impl<'s, 'a, S: Shelf<'a>> Source for ShelfSource<'s, 'a, S> {
     ghost use Rattle.std.specs.BTreeMap.{get};
     ghost use Rattle.osm_model.specs.Elements.{Element, ref_cmp};
     ghost use Rattle.osm_model.specs.declared.reference.Ref.{Ref};
-    ghost use Rattle.std.proofs.Common.{◌∙◌, inl, inr, subst, sym};
+    ghost use Rattle.std.proofs.Common.{◌∙◌, ◌⊎◌, inl, inr, subst, sym};
     ghost use Rattle.osm_keys.specs.declared.manifest.Manifest.{Manifest};
     ghost use Rattle.tree_node.specs.Shelves.{SameNodes};
     ghost use Rattle.tree_walk.specs.WalksGiven.{HasGiven};
@@ -48,20 +53,28 @@ impl<'s, 'a, S: Shelf<'a>> Source for ShelfSource<'s, 'a, S> {
     ghost use Rattle.osm_keys.specs.Publications.{Publication};
     ghost use Rattle.ql_eval.specs.Openings.{IsUnder};
     ghost use Rattle.ql_eval.specs.internal.Objects.{AreAbsent, IsGivenOrThere, IsToldAbsent, Remembers};
+    ghost use Rattle.ql_eval.specs.internal.Remembering.{AreGiven, AreRecalled, IsRemembered, Recalls};
     ghost use Rattle.ql_eval.specs.internal.TrueFaults.{IsTrueUnder};
+    ghost use Rattle.std.specs.List.{Contains};
     ghost use Rattle.tree_walk.proofs.shared.WalksGivenLaws.{given_none, given_then};
 
     ghost holds = { λ o. S.holds o.shelf.now };
 
     ghost used = { λ o. S.used o.shelf.now };
 
-    ghost under = { λ o p. IsUnder p o.manifest × Remembers p (S.used o.shelf.now) o.objects.now };
+    ghost under = { λ o p. IsUnder p o.manifest × Remembers p (S.used o.shelf.now) o.objects.now
+        × AreRecalled p (S.used o.shelf.now) o.memo.now.remembered.items };
 
     ghost knows = { λ o r object. get ref_cmp o.objects.now r ≡ Some object };
 
-    ghost gave = { λ o r. IsGivenOrThere (S.used o.shelf.now) o.manifest o.objects.now r };
+    ghost recalls = { λ o how set refs. Recalls o.memo.now.remembered.items how set refs };
+
+    ghost gave = { λ o r. IsGivenOrThere (S.used o.shelf.now) o.manifest o.objects.now r
+        ⊎ IsRemembered o.memo.now.remembered.items r };
 
     ghost tells = { λ o fault. AreAbsent (S.used o.shelf.now) o.manifest o.objects.now
+        → AreGiven (IsGivenOrThere (S.used o.shelf.now) o.manifest o.objects.now)
+        o.memo.now.remembered.items
         → IsTrueUnder (S.holds o.shelf.now) (S.used o.shelf.now) o.manifest fault };
 
     ghost later = { λ o n. (o.shelf.ghost_name ≡ n.shelf.ghost_name) × (o.manifest ≡ n.manifest)
@@ -75,12 +88,22 @@ impl<'s, 'a, S: Shelf<'a>> Source for ShelfSource<'s, 'a, S> {
         × (AreAbsent (S.used o.shelf.now) o.manifest o.objects.now
         → AreAbsent (S.used n.shelf.now) n.manifest n.objects.now)
         × ((r : Ref) → IsGivenOrThere (S.used o.shelf.now) o.manifest o.objects.now r
-        → IsGivenOrThere (S.used n.shelf.now) n.manifest n.objects.now r) };
+        → IsGivenOrThere (S.used n.shelf.now) n.manifest n.objects.now r)
+        × ((p : Publication) → IsUnder p o.manifest
+        → Remembers p (S.used o.shelf.now) o.objects.now
+        → AreRecalled p (S.used o.shelf.now) o.memo.now.remembered.items
+        → AreRecalled p (S.used n.shelf.now) n.memo.now.remembered.items)
+        × ((r : Ref) → IsRemembered o.memo.now.remembered.items r
+        → IsRemembered n.memo.now.remembered.items r)
+        × (AreGiven (IsGivenOrThere (S.used o.shelf.now) o.manifest o.objects.now)
+        o.memo.now.remembered.items
+        → AreGiven (IsGivenOrThere (S.used n.shelf.now) n.manifest n.objects.now)
+        n.memo.now.remembered.items) };
 
     ghost walked = { λ o n. HasGiven (top_among n.manifest.tops) HaveForm (record { held = S.holds n.shelf.now; before = S.used o.shelf.now; after = S.used n.shelf.now })
         o.tally.calls n.tally.calls o.tally.fetches n.tally.fetches };
 
-    ghost itself = { λ o. (refl, refl, (λ x. ((λ has. has), (λ has. has))), (λ x has. has), (λ p under known. known), (λ r object known. known), (λ absent. absent), (λ r given. given)) };
+    ghost itself = { λ o. (refl, refl, (λ x. ((λ has. has), (λ has. has))), (λ x has. has), (λ p under known. known), (λ r object known. known), (λ absent. absent), (λ r given. given), (λ p under known recalled. recalled), (λ r is. is), (λ given. given)) };
 
     ghost chained = { λ o n m first second. (
       first.0 ∙ second.0,
@@ -91,23 +114,32 @@ impl<'s, 'a, S: Shelf<'a>> Source for ShelfSource<'s, 'a, S> {
       (λ r object known. second.5 r object (first.5 r object known)),
       (λ absent. second.6 (first.6 absent)),
       (λ r given. second.7 r (first.7 r given)),
+      (λ p under known recalled. second.8 p (subst (λ (m : Manifest). IsUnder p m) first.1 under) (first.4 p under known) (first.8 p under known recalled)),
+      (λ r is. second.9 r (first.9 r is)),
+      (λ given. second.10 (first.10 given)),
     ) };
 
     ghost stays = { λ o n later. later.2 };
 
     ghost grows = { λ o n bytes later has. later.3 bytes has };
 
-    ghost same_under = { λ o n p later under. (subst (λ (m : Manifest). IsUnder p m) later.1 under.0, later.4 p under.0 under.1) };
+    ghost same_under = { λ o n p later under. (subst (λ (m : Manifest). IsUnder p m) later.1 under.0, later.4 p under.0 under.1, later.8 p under.0 under.1 under.2) };
 
     ghost same_known = { λ o n r object later known. later.5 r object known };
 
-    ghost out_of_memory = { λ o absent. tt };
+    ghost out_of_memory = { λ o absent kept. tt };
 
-    ghost same_gave = { λ o n r later given. later.7 r given };
+    ghost same_gave = { λ o n r later given. elim given [ inl entry ↦ inl (later.7 r entry) | inr kept ↦ inr (later.9 r kept) ] };
 
-    ghost found_gave = { λ o r object known. inr (object, known) };
+    ghost found_gave = { λ o r object known. inl (inr (object, known)) };
 
-    ghost not_there = { λ o r known given absent. (r, elim given [ inl named ↦ named | inr there ↦ absurd (subst IsToldAbsent (sym known ∙ there.1) tt) ], absent r known) };
+    ghost not_there = { λ o r known given absent kept.
+        let entry : IsGivenOrThere (S.used o.shelf.now) o.manifest o.objects.now r = elim given [ inl one ↦ one | inr is ↦ kept r is ] in
+        (r, elim entry [ inl named ↦ named | inr there ↦ absurd (subst IsToldAbsent (sym known ∙ there.1) tt) ], absent r known) };
+
+    ghost recalled_gave = { λ o how set refs recalls r has. inr (recalls.0, recalls.1, subst (λ (l : List Ref). Contains l r) (sym recalls.2.2) has) };
+
+    ghost recalled_true = { λ o p how set refs recalls is under there. under.2 is how set refs recalls there };
 
     ghost no_walk = { λ o. given_none (top_among o.manifest.tops) HaveForm (S.holds o.shelf.now) (S.used o.shelf.now) o.tally.calls o.tally.fetches };
 
@@ -131,6 +163,19 @@ impl<'s, 'a, S: Shelf<'a>> Source for ShelfSource<'s, 'a, S> {
             Some(object) => object.as_ref(),
             None => None,
         }
+    }
+
+    fn recalled(&self, how: Recursion, set: &RefSet) -> Option<&Rc<RefSet>> {
+        self.memo.recalled(how, set)
+    }
+
+    fn remember(
+        &mut self,
+        how: Recursion,
+        set: Rc<RefSet>,
+        refs: Rc<RefSet>,
+    ) -> Result<(), AllocError> {
+        self.memo.remember(how, set, refs)
     }
 
     fn names(&mut self, question: &Question<'_>) -> Result<RefSet, EvalFault> {

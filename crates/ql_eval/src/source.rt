@@ -1,6 +1,6 @@
 //! What an evaluation asks.
 
-ghost use Rattle.std.specs.Prelude.{◌≡◌, ℕ, IfErr, IfOk, List, None, OnOk, Option, Some};
+ghost use Rattle.std.specs.Prelude.{◌≡◌, ◌↔◌, ℕ, IfErr, IfOk, IfSome, List, None, OnOk, Option, Some};
 ghost use Rattle.std.specs.Option.{option_copied};
 ghost use Rattle.osm_model.specs.Elements.{Element};
 ghost use Rattle.osm_model.specs.Sets.{object_at};
@@ -15,14 +15,20 @@ ghost use Rattle.ql_eval.specs.Faults.{cause_of_evaluation};
 ghost use Rattle.ql_eval.specs.Questions.{Answers, HasNoNulIn, IsCountOf, NeededBy, NeedsAsk, count_ask, names_ask, object_ask};
 ghost use Rattle.ql_eval.specs.declared.fault.EvalFault.{EvalFault};
 ghost use Rattle.ql_eval.specs.declared.fault.EvalFault.TheVariants.{Absent, Memory};
+ghost use Rattle.ql_syntax.specs.declared.recursion.Recursion.{Recursion};
 ghost use Rattle.ql_eval.specs.internal.Giving.{AllGiven};
+ghost use Rattle.ql_eval.specs.internal.Links.{AreThere};
+ghost use Rattle.ql_eval.specs.internal.Remembering.{IsRecalled};
 ghost use Rattle.ql_eval.specs.internal.Views.{question_of};
 ghost use Rattle.tree_walk.specs.Uses.{nodes_around};
 
 use crate::fault::EvalFault;
 use crate::question::Question;
 use osm_model::{BoxArea, Object, Ref};
+use ql_syntax::Recursion;
 use ref_sets::RefSet;
+use std::alloc::AllocError;
+use std::rc::Rc;
 
 /// What an evaluation asks: the trees under a manifest, read from a shelf. It stands without the shelf's lifetime, so
 /// that statements are run over any of them.
@@ -47,6 +53,9 @@ pub(crate) trait Source {
 
     /// An entry that the nodes used so far give names this object, or a look-up found it.
     ghost gave: { Self → Ref → Type 0 };
+
+    /// It is remembered that this recursion from this set gave this.
+    ghost recalls: { Self → Recursion → List Ref → List Ref → Type 0 };
 
     /// What is true of the nodes if this fault is told now.
     ghost tells: { Self → EvalFault → Type 0 };
@@ -102,6 +111,27 @@ pub(crate) trait Source {
             (NeededBy p (IsAskedInBox area.now))
             (nodes_around holds used self.old self.new) result };
 
+    /// What a recursion gave from a set, if that is remembered.
+    fn recalled(&self, how: Recursion, set: &RefSet) -> Option<&Rc<RefSet>>
+        ensures { IfSome result (λ refs. recalls self.now how set.now refs.now.value) };
+
+    /// Remembers what a recursion gave from a set, if there is room for it.
+    fn remember(
+        &mut self,
+        how: Recursion,
+        set: Rc<RefSet>,
+        refs: Rc<RefSet>,
+    ) -> Result<(), AllocError>
+        requires { AllGiven (gave self.old) refs.value }
+        // What is remembered is true of what was under the source when the recursion began.
+        ensures later { (s : Self) → later s self.old
+            → ((p : Publication) → IsPublication p → under s p → AreThere p.objects set.value
+            → IsRecalled p (used self.old) how set.value refs.value)
+            → later s self.new }
+        ensures walked { (s : Self) → walked s self.old → walked s self.new }
+        ensures given { (r : Ref) → gave self.old r → gave self.new r }
+        ensures same { (bytes : List ℕ) → used self.new bytes ↔ used self.old bytes };
+
     ghost itself: { (s : Self) → later s s };
 
     ghost chained: { (s t u : Self) → later s t → later t u → later s u };
@@ -122,6 +152,13 @@ pub(crate) trait Source {
     ghost found_gave: { (s : Self) (r : Ref) (o : Element) → knows s r (Some o) → gave s r };
 
     ghost not_there: { (s : Self) (r : Ref) → knows s r None → gave s r → tells s Absent };
+
+    ghost recalled_gave: { (s : Self) (how : Recursion) (set refs : List Ref)
+        → recalls s how set refs → AllGiven (gave s) refs };
+
+    ghost recalled_true: { (s : Self) (p : Publication) (how : Recursion) (set refs : List Ref)
+        → recalls s how set refs → IsPublication p → under s p → AreThere p.objects set
+        → IsRecalled p (used s) how set refs };
 
     ghost no_walk: { (s : Self) → walked s s };
 

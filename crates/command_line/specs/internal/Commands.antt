@@ -5,9 +5,12 @@ use Rattle.clap.specs.declared.builder.command.Command.TheViews.{out-Command as 
 use Rattle.clap.specs.declared.builder.command.Command.{Command}
 use Rattle.command_line.specs.AskCommand.{ask_name}
 use Rattle.command_line.specs.PublishCommand.{publish_name}
+use Rattle.command_line.specs.ChangesCommand.{changes_name}
 use Rattle.command_line.specs.ProveCommand.{prove_name}
 use Rattle.command_line.specs.CheckCommand.{check_name}
+use Rattle.command_line.specs.FetchCommand.{fetch_name}
 use Rattle.command_line.specs.ServeCommand.{serve_name}
+use Rattle.command_line.specs.RelayCommand.{relay_name}
 use Rattle.command_line.specs.ExplainCommand.{explain_name}
 
 -- the command is this one to clap, and has no argument that its subcommands share
@@ -17,4 +20,5 @@ IsCommand app c = (app_of c ≡ app) × ((fields_of c).has_globals ≡ false)
 -- the name of a command
 abbrev pub IsCommandName : Text → Type 0
 IsCommandName name =
-    (name ≡ ask_name) ⊎ ((name ≡ publish_name) ⊎ ((name ≡ prove_name) ⊎ ((name ≡ check_name) ⊎ ((name ≡ serve_name) ⊎ (name ≡ explain_name)))))
+    (name ≡ ask_name) ⊎ ((name ≡ publish_name) ⊎ ((name ≡ changes_name) ⊎ ((name ≡ prove_name) ⊎ ((name ≡ check_name)
+    ⊎ ((name ≡ fetch_name) ⊎ ((name ≡ serve_name) ⊎ ((name ≡ relay_name) ⊎ (name ≡ explain_name))))))))

@@ -1,30 +1,15 @@
 //! Right and spoiled answers, and what is told of them.
 
 use crate::exports::osm_check_verdict;
+use crate::tests::sets::proved;
 use crate::told::{BAD_ROOT, NO, NO_MEMORY, Told, YES};
-use opl_codec::read_set;
-use osm_index::{Edition, Snapshot};
-use osm_prove::{Proved, prove};
 use std::alloc::Global;
 use std::process::Abort;
 use std::test::Fail;
 
-const OBJECTS: &str = "\
-n1 v1 dV c5 t2020-01-02T03:04:05Z i7 uAnn Thighway=crossing x13.4 y52.5\n\
-n2 x13.4000001 y52.5\n\
-w10 Thighway=primary,name=A%20%B Nn1,n2,n1\n\
-r100 Ttype=route Mw10@outer,n99@stop,r100@\n\
-";
-
 const QUERY: &[u8] = b"node(1);out ids;";
 
 const ANSWER: &[u8] = b"n1\n";
-
-fn proved(alloc: Global, query: &[u8]) -> Result<Proved, Fail> {
-    let set = read_set(alloc, &mut OBJECTS.as_bytes())?;
-    let snapshot = Snapshot::build(alloc, set, Edition::One)?;
-    Ok(prove(alloc, &snapshot, query)?)
-}
 
 /// The status, and what is told in place of what was there.
 fn judged(alloc: Global, query: &[u8], root: &[u8], answer: &[u8], proof: &[u8]) -> (u32, Told) {

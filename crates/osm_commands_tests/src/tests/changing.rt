@@ -151,7 +151,7 @@ fn responses(alloc: Global, sets: &[(&str, u64)]) -> Result<String, Fail> {
 }
 
 /// The set of all kinds without its way.
-const WITHOUT_WAY: &str = "\
+pub(super) const WITHOUT_WAY: &str = "\
 n1 v1 dV c5 t2020-01-02T03:04:05Z i7 uAnn Thighway=crossing x13.4 y52.5
 n2 x13.4000001 y52.5
 r100 Ttype=route Mw10@outer,n99@stop,r100@
@@ -163,7 +163,7 @@ n1 v1 dV c5 t2020-01-02T03:04:05Z i7 uAnn Thighway=crossing x13.4 y52.5
 r100 Ttype=route Mw10@outer,n99@stop,r100@
 ";
 
-const DELETE_WAY: &str = "w10 v2 dD\n";
+pub(super) const DELETE_WAY: &str = "w10 v2 dD\n";
 
 /// What each client's connection finds in the source: a file is published before the client is served; a refused one is
 /// told in a line, the same sequence is asked for again, and what was in force stays.

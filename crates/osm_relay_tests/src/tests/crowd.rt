@@ -11,7 +11,8 @@ fn answers_65(rt: HostRuntime) -> Result<(), Fail> {
     let mirror = honest(&rt, SET, QUERY)?;
     let mut scene = Scene::new(rt.alloc(), POST, 100)?;
     scene.add(&mirror.request, &mirror.response, Then::Closes)?;
-    relay_many(rt.alloc(), &mirror.root, &mut scene, 65)?;
+    let mut root = mirror.root;
+    relay_many(rt.alloc(), &mut root, &mut scene, 65)?;
     assert_eq!(rt; scene.most_open, 64);
     assert_eq!(rt; scene.gone.len(), 65);
     for gone in &scene.gone {

@@ -11,7 +11,8 @@ use std::test::Fail;
 fn relay_one(rt: &(impl Abort + AllocGlobal), mirror: &Honest) -> Result<(), Fail> {
     let mut scene = Scene::new(rt.alloc(), POST, 400)?;
     scene.add(&mirror.request, &mirror.response, Then::Closes)?;
-    match relay_many(rt.alloc(), &mirror.root, &mut scene, 1) {
+    let mut root = mirror.root;
+    match relay_many(rt.alloc(), &mut root, &mut scene, 1) {
         Ok(()) => {}
         Err(fault) => assert!(rt; fault == RelayFault::Memory || fault == RelayFault::Device),
     }

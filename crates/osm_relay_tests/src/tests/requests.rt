@@ -144,7 +144,8 @@ fn says_nothing_to_the_gone(rt: HostRuntime) -> Result<(), Fail> {
     for then in [Then::Closes, Then::Stalls, Then::Breaks] {
         let mut scene = Scene::new(rt.alloc(), b"GET /api", 3)?;
         scene.then(then);
-        osm_relay::relay_many(rt.alloc(), &mirror.root, &mut scene, 1)?;
+        let mut root = mirror.root;
+        osm_relay::relay_many(rt.alloc(), &mut root, &mut scene, 1)?;
         for gone in &scene.gone {
             assert!(rt; gone.got.is_empty() && !gone.whole);
         }

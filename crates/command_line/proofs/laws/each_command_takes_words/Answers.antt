@@ -20,7 +20,7 @@ returns-clause-check c = λ program root query answer proof. (refl, (refl, (refl
 
 pub returns-clause-serve : goal.returns-clause-serve
 unfolding clap_on_literals
-returns-clause-serve c = λ program file. (refl, (refl, (refl, refl, refl, refl, refl, refl)))
+returns-clause-serve c = λ program file. (refl, (refl, (refl, refl, refl, refl, refl, refl, refl)))
 
 pub returns-clause-check_within : goal.returns-clause-check_within
 unfolding clap_on_literals
@@ -29,3 +29,31 @@ returns-clause-check_within c = λ program root query answer proof. (refl, (refl
 pub returns-clause-explain : goal.returns-clause-explain
 unfolding clap_on_literals
 returns-clause-explain c = λ program code. (refl, (refl, refl))
+
+pub returns-clause-fetch : goal.returns-clause-fetch
+unfolding clap_on_literals
+returns-clause-fetch c = λ program root mirror query. (refl, (refl, (refl, refl, refl, refl)))
+
+pub returns-clause-relay : goal.returns-clause-relay
+unfolding clap_on_literals
+returns-clause-relay c = λ program root mirror. (refl, (refl, (refl, refl, refl, refl)))
+
+pub returns-clause-changes : goal.returns-clause-changes
+unfolding clap_on_literals
+returns-clause-changes c = λ program file change_file. (refl, (refl, (refl, refl, refl)))
+
+pub returns-clause-serve_plain : goal.returns-clause-serve_plain
+unfolding clap_on_literals
+returns-clause-serve_plain c = λ program file. (refl, (refl, (refl, refl, refl)))
+
+pub returns-clause-ask_in : goal.returns-clause-ask_in
+unfolding clap_on_literals
+returns-clause-ask_in c = λ program query. (refl, (refl, (refl, refl)))
+
+pub returns-clause-fetch_within : goal.returns-clause-fetch_within
+unfolding clap_on_literals
+returns-clause-fetch_within c = λ program root mirror query. (refl, (refl, (refl, refl, refl, refl, refl)))
+
+pub returns-clause-relay_with : goal.returns-clause-relay_with
+unfolding clap_on_literals
+returns-clause-relay_with c = λ program root mirror. (refl, (refl, (refl, refl, refl, refl, refl, refl)))

@@ -3,7 +3,7 @@ use Rattle.std.specs.String.{string_bytes}
 use Rattle.std.proofs.lemmas.Result.{IfErr-weaker}
 use Rattle.clap.specs.Words.{fault_of, found_of, is_simple_and_free, rows_of, takes}
 use Rattle.clap.proofs.OnLiterals.{clap_on_literals}
-use Rattle.command_line.proofs.Commands.{entered_match, named, on_ok, of_match, bad_edition_match, bad_root_match}
+use Rattle.command_line.proofs.Commands.{entered_match, named, on_ok, of_match, bad_edition_match, bad_form_match, bad_root_match}
 use Rattle.command_line.proofs.words.read_words.Goals as goal
 
 pub job_of-requires : goal.job_of-requires
@@ -30,7 +30,8 @@ pub returns-in-Some-clause-refused : goal.returns-in-Some-clause-refused
 returns-in-Some-clause-refused c = λ taken. IfErr-weaker c.job_of.result _ _ (λ e why. elim why [
   | inl memory ↦ inl memory
   | inr (inl root) ↦ inr (inl root.0)
-  | inr (inr edition) ↦ inr (inr edition.0)
+  | inr (inr (inl form)) ↦ inr (inr (inl form.0))
+  | inr (inr (inr edition)) ↦ inr (inr (inr edition.0))
 ]) c.job_of.ensures.refused
 
 pub returns-in-Some-clause-bad_root : goal.returns-in-Some-clause-bad_root
@@ -39,6 +40,13 @@ returns-in-Some-clause-bad_root c =
     let same = entered_match _ _ _ c.in-Ok.matches c.in-Some.name.now (rows_of (found_of c.in-Some.inner.now))
     c.in_ok-program.ensures.0 words_are c.in-Ok.ensures.matches c.in-Some.ensures.name c.in-Some.ensures.rows in
     λ is. bad_root_match _ c.job_of.result c.in-Some.name.now (rows_of (found_of c.in-Some.inner.now)) (sym same) is c.job_of.ensures.refused
+
+pub returns-in-Some-clause-bad_form : goal.returns-in-Some-clause-bad_form
+returns-in-Some-clause-bad_form c =
+    let words_are : map (λ s. string_bytes s) c.as_slice.result.now ≡ map (λ s. string_bytes s) c.args.words.items = search rules in
+    let same = entered_match _ _ _ c.in-Ok.matches c.in-Some.name.now (rows_of (found_of c.in-Some.inner.now))
+    c.in_ok-program.ensures.0 words_are c.in-Ok.ensures.matches c.in-Some.ensures.name c.in-Some.ensures.rows in
+    λ is. bad_form_match _ c.job_of.result c.in-Some.name.now (rows_of (found_of c.in-Some.inner.now)) (sym same) is c.job_of.ensures.refused
 
 pub returns-in-Some-clause-bad_edition : goal.returns-in-Some-clause-bad_edition
 returns-in-Some-clause-bad_edition c =

@@ -1,13 +1,13 @@
 use Rattle.std.proofs.Common.{List, ℕ, Err, ap, sym, subst}
 use Rattle.osm_prove.specs.Proved.{IsProved}
 use Rattle.osm_commands.specs.Ask.{ask_edition}
-use Rattle.osm_commands.proofs.AskLemmas.{answer_is, explained_unmade, explained_unproved, explained_unwritten, outside_unmade, outside_unproved, outside_unwritten, trees_held}
+use Rattle.osm_commands.proofs.AskLemmas.{explained_unmade, explained_unproved, explained_unwritten, outside_unmade, outside_unproved, outside_unwritten, in_form, told_is, trees_held}
 use Rattle.osm_commands.proofs.BegunLemmas.{begun_answer, whole_answer}
 use Rattle.osm_commands.proofs.ask_command.ask.Goals as goal
 
 pub returns-in_err-snapshot-clause-only : goal.returns-in_err-snapshot-clause-only
 returns-in_err-snapshot-clause-only g c =
-    outside_unmade (g.R.Read.remaining c.args.input.now) ask_edition c.args.query.now c.in_err-snapshot.field-0.0 c.from_residual.result c.from_residual.ensures.1 c.in_err-snapshot.ensures.only
+    outside_unmade c.args.form (g.R.Read.remaining c.args.input.now) ask_edition c.args.query.now c.in_err-snapshot.field-0.0 c.from_residual.result c.from_residual.ensures.1 c.in_err-snapshot.ensures.only
 
 pub returns-in_err-snapshot-clause-refused : goal.returns-in_err-snapshot-clause-refused
 returns-in_err-snapshot-clause-refused g c =
@@ -15,7 +15,7 @@ returns-in_err-snapshot-clause-refused g c =
 
 pub returns-in_err-proved-clause-only : goal.returns-in_err-proved-clause-only
 returns-in_err-proved-clause-only g c =
-    outside_unproved (g.R.Read.remaining c.args.input.now) ask_edition c.args.query.now c.in_err-proved.field-0.0 c.from_residual-in_err-proved.result c.from_residual-in_err-proved.ensures.1 c.in_err-proved.ensures.only
+    outside_unproved c.args.form (g.R.Read.remaining c.args.input.now) ask_edition c.args.query.now c.in_err-proved.field-0.0 c.from_residual-in_err-proved.result c.from_residual-in_err-proved.ensures.1 c.in_err-proved.ensures.only
 
 pub returns-in_err-proved-clause-refused : goal.returns-in_err-proved-clause-refused
 returns-in_err-proved-clause-refused g c =
@@ -28,31 +28,37 @@ pub unreachable-requires : goal.unreachable-requires
 unreachable-requires g c =
     let (p, held, of_file) = c.in_ok-snapshot.ensures.made in
     let made = c.in_ok-proved.ensures.proved p held in
-    let answer = subst (λ (text : List ℕ). IsProved p c.args.query.now text c.in_ok-proved.proved.proof.items) (sym c.deref.ensures.value) made.1 in
-    let proved = subst (λ (nodes : List ℕ). IsProved p c.args.query.now c.deref.result.now nodes) (sym c.deref-2.ensures.value) answer in
-    let yes = c.in_ok-check.ensures.honest p held.is.published made.0 proved in
-    rw c.in-No.is at yes
+    let proved = subst (λ (nodes : List ℕ). IsProved p c.args.query.now c.in_ok-proved.proved.answer.items nodes) (sym c.deref.ensures.value) made.1 in
+    let (text, shown) = in_form c.args.form p c.args.query.now c.in_ok-proved.proved.answer.items c.deref.result.now proved in
+    let told = c.in_ok-text.ensures.honest p text held.is.published made.0 shown in
+    rw c.in-No.is at told
 
 pub returns-clause-answered : goal.returns-clause-answered
 returns-clause-answered g c =
     let known = g.R.Read.remaining c.args.input.now in
     let (p, held, of_file) = c.in_ok-snapshot.ensures.made in
-    let text = c.in_ok-proved.proved.answer.items in
-    whole_answer known c.args.query.now c.deref-in-Yes.result.now text _ _ _
-    (answer_is known ask_edition p c.args.query.now text _ of_file (c.in_ok-proved.ensures.proved p held).1)
-    c.deref-in-Yes.ensures.value c.write_whole.ensures.whole
+    let made = c.in_ok-proved.ensures.proved p held in
+    let proved = subst (λ (nodes : List ℕ). IsProved p c.args.query.now c.in_ok-proved.proved.answer.items nodes) (sym c.deref.ensures.value) made.1 in
+    let (text, shown) = in_form c.args.form p c.args.query.now c.in_ok-proved.proved.answer.items c.deref.result.now proved in
+    let told = c.in_ok-text.ensures.honest p text held.is.published made.0 shown in
+    whole_answer c.args.form known c.args.query.now _ _ _ _
+    (told_is c.args.form known ask_edition p c.args.query.now text c.deref.result.now _ c.in-Answer.text _ _ of_file shown c.in-Answer.is told c.deref-in-Answer.ensures.value)
+    c.write_document.ensures.whole
 
 pub returns-clause-begun : goal.returns-clause-begun
 returns-clause-begun g c =
     let known = g.R.Read.remaining c.args.input.now in
     let (p, held, of_file) = c.in_ok-snapshot.ensures.made in
-    let text = c.in_ok-proved.proved.answer.items in
-    begun_answer known c.args.query.now c.deref-in-Yes.result.now text _ _
-    (answer_is known ask_edition p c.args.query.now text _ of_file (c.in_ok-proved.ensures.proved p held).1)
-    c.deref-in-Yes.ensures.value c.write_whole.ensures.begun
+    let made = c.in_ok-proved.ensures.proved p held in
+    let proved = subst (λ (nodes : List ℕ). IsProved p c.args.query.now c.in_ok-proved.proved.answer.items nodes) (sym c.deref.ensures.value) made.1 in
+    let (text, shown) = in_form c.args.form p c.args.query.now c.in_ok-proved.proved.answer.items c.deref.result.now proved in
+    let told = c.in_ok-text.ensures.honest p text held.is.published made.0 shown in
+    begun_answer c.args.form known c.args.query.now _ _ _
+    (told_is c.args.form known ask_edition p c.args.query.now text c.deref.result.now _ c.in-Answer.text _ _ of_file shown c.in-Answer.is told c.deref-in-Answer.ensures.value)
+    c.write_document.ensures.begun
 
 pub returns-clause-only : goal.returns-clause-only
-returns-clause-only g c = outside_unwritten (g.R.Read.remaining c.args.input.now) ask_edition c.args.query.now c.write_whole.result c.write_whole.ensures.device
+returns-clause-only g c = outside_unwritten c.args.form (g.R.Read.remaining c.args.input.now) ask_edition c.args.query.now c.write_document.result c.write_document.ensures.device
 
 pub returns-clause-refused : goal.returns-clause-refused
-returns-clause-refused g c = explained_unwritten (g.R.Read.remaining c.args.input.now) _ ask_edition c.args.query.now c.write_whole.result c.write_whole.ensures.device
+returns-clause-refused g c = explained_unwritten (g.R.Read.remaining c.args.input.now) _ ask_edition c.args.query.now c.write_document.result c.write_document.ensures.device

@@ -2,6 +2,7 @@ use Rattle.std.proofs.Common.{◌≡◌, List, ℕ, Err, inl, inr, refl, subst, 
 use Rattle.ql_syntax.specs.Queries.{HasFault, Reads}
 use Rattle.ql_syntax.specs.Statements.{Statements}
 use Rattle.ql_syntax.specs.declared.fault.QlFault.{QlFault}
+use Rattle.osm_forms.specs.declared.form.Form.TheVariants as forms
 use Rattle.osm_prove.specs.declared.prove_fault.ProveFault.TheVariants as refusals
 use Rattle.osm_commands.specs.RootLines.{digest_line}
 use Rattle.osm_commands.specs.declared.command_fault.CommandFault.TheVariants.{Memory}
@@ -13,7 +14,7 @@ use Rattle.osm_commands.proofs.prove_command.prove.Goals as goal
 pub returns-in_err-snapshot-clause-only : goal.returns-in_err-snapshot-clause-only
 returns-in_err-snapshot-clause-only g c =
     outside_files (g.R.Read.remaining c.args.input.now) (g.Q.Read.remaining c.args.query.now) c.args.edition c.from_residual.result
-    (λ bytes is. outside_unmade (g.R.Read.remaining c.args.input.now) c.args.edition bytes c.in_err-snapshot.field-0.0 c.from_residual.result c.from_residual.ensures.1 c.in_err-snapshot.ensures.only)
+    (λ bytes is. outside_unmade forms.Opl (g.R.Read.remaining c.args.input.now) c.args.edition bytes c.in_err-snapshot.field-0.0 c.from_residual.result c.from_residual.ensures.1 c.in_err-snapshot.ensures.only)
 
 pub returns-in_err-snapshot-clause-refused : goal.returns-in_err-snapshot-clause-refused
 returns-in_err-snapshot-clause-refused g c =
@@ -45,7 +46,7 @@ returns-in_err-query-clause-begun g c =
 pub returns-in_err-proved-clause-only : goal.returns-in_err-proved-clause-only
 returns-in_err-proved-clause-only g c =
     outside_files (g.R.Read.remaining c.args.input.now) (g.Q.Read.remaining c.args.query.now) c.args.edition c.from_residual-in_err-proved.result
-    (λ bytes is. outside_unproved (g.R.Read.remaining c.args.input.now) c.args.edition bytes c.in_err-proved.field-0.0 c.from_residual-in_err-proved.result c.from_residual-in_err-proved.ensures.1
+    (λ bytes is. outside_unproved forms.Opl (g.R.Read.remaining c.args.input.now) c.args.edition bytes c.in_err-proved.field-0.0 c.from_residual-in_err-proved.result c.from_residual-in_err-proved.ensures.1
     (subst (λ (b : List ℕ). (statements : Statements) → Reads b statements → c.in_err-proved.field-0.0 ≡ refusals.Memory)
     (c.deref.ensures.value ∙ same_read _ c.in_ok-query.query.items bytes is c.in_ok-query.ensures.read) c.in_err-proved.ensures.only))
 

@@ -5,7 +5,8 @@ use Rattle.std.specs.Prelude.{IfSome}
 use Rattle.osm_gate.specs.Connections.{Rest}
 use Rattle.osm_desk.specs.Contents.{Contents}
 use Rattle.osm_desk.specs.Desks.{Connections}
-use Rattle.osm_serving.proofs.ChangeLemmas.{asked_more, reached_end, reached_next}
+use Rattle.osm_serving.specs.declared.root_line.RootLine.TheVariants.{Optional}
+use Rattle.osm_serving.proofs.ChangeLemmas.{asked_more, published_under, reached_end, reached_next}
 use Rattle.osm_desk.proofs.shared.FoundLemmas.{found_after, found_kept}
 use Rattle.osm_serving.proofs.desk_server.serve_desk.Goals as goal
 
@@ -28,7 +29,7 @@ loop-taken-preserved g c =
     record {
       few = search rules;
       accepted = more;
-      reached = λ p holds. reached_next c.loop-taken.taken p c.loop-taken.desk c.publish_next.new.desk c.serve_on.new.self (c.loop-taken.invariant.reached p holds) c.publish_next.ensures.in_force c.serve_on.ensures.forgotten;
+      reached = λ p holds. reached_next c.loop-taken.taken p c.loop-taken.desk c.publish_next.new.desk c.serve_on.new.self (c.loop-taken.invariant.reached p holds) (λ m held. published_under Optional c.publish_next.new.desk.snapshot m (c.publish_next.ensures.in_force m held)) c.serve_on.ensures.forgotten;
       asked = asked_more (g.C.ChangeSource.asked c.args.source.now) (g.C.ChangeSource.asked c.loop-taken.source) (g.C.ChangeSource.asked c.publish_next.new.source) c.loop-taken.desk.snapshot.edition c.loop-taken.taken
           c.loop-taken.invariant.asked c.publish_next.ensures.asked;
       found = found_after (g.C.ChangeSource.found c.args.source.now) (g.C.ChangeSource.found c.loop-taken.source) (g.C.ChangeSource.found c.publish_next.new.source) c.args.desk.now.snapshot c.loop-taken.desk.snapshot c.serve_on.new.self.snapshot

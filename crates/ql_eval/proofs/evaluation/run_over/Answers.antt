@@ -10,6 +10,7 @@ use Rattle.ql_eval.specs.Faults.{cause_of_evaluation}
 use Rattle.ql_eval.specs.Questions.{NeededBy}
 use Rattle.ql_eval.specs.Written.{HasWritten}
 use Rattle.ql_eval.proofs.KnownLemmas.{none_remembered}
+use Rattle.ql_eval.proofs.RememberLemmas.{none_recalled}
 use Rattle.ql_eval.proofs.evaluation.run_over.Goals as goal
 
 pub returns-clause-answer : goal.returns-clause-answer
@@ -18,4 +19,4 @@ returns-clause-answer g c = λ p is under query.
     (λ s. Outcome cause_of_evaluation (λ (_ : Unit {0}). (text : List ℕ) × Means_by (form_text c.args.form) p.objects (statements_of c.args.statements.now) text × HasWritten (g.T.Sink.stands c.args.sink.now) (g.T.Sink.stands c.answer_all-ran.new.sink) text)
     (NeededBy p (AskedByAll p (statements_of c.args.statements.now) nothing_named)) (uses (g.S.Shelf.holds s) (g.S.Shelf.used c.args.shelf.now) (g.S.Shelf.used s)) c.answer_all-ran.result)
     (search rules)
-    (c.answer_all-ran.ensures.answer p is (under, none_remembered p _ c.new-objects.result c.new-objects.ensures.empty) query)
+    (c.answer_all-ran.ensures.answer p is (under, none_remembered p _ c.new-objects.result c.new-objects.ensures.empty, none_recalled p _ c.new-memo.result.remembered.items c.new-memo.ensures) query)

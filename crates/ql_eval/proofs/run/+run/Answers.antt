@@ -9,10 +9,13 @@ use Rattle.ql_syntax.specs.declared.filter.Filter.{Filter}
 use Rattle.ql_syntax.specs.declared.statement.Stmt.{Stmt}
 use Rattle.ql_meaning.proofs.shared.Running.{after_next, minus_after}
 use Rattle.ql_meaning.specs.Meanings.{given_by}
+use Rattle.ql_meaning.specs.Values.{IsReached, IsRefOf}
 use Rattle.ref_sets.specs.NamedSets.{put, lists_of}
+use Rattle.ref_sets.specs.Sets.{IsSetOf}
+use Rattle.ql_eval.specs.Asks.{AskedByRecursion}
+use Rattle.ql_eval.specs.Questions.{NeededBy}
 use Rattle.ql_eval.specs.internal.Lawful.{CanRun, CanRunAll}
 use Rattle.ql_eval.specs.internal.Links.{AreThere}
-use Rattle.ql_eval.proofs.EndLemmas.{RecursedWell}
 use Rattle.ql_eval.proofs.StatementLemmas.{RanAllWell, RanWell, SelectedWell, after_all_there, after_as, after_there, as_needs, can_run_as, left_needs, minus_splits, needs_as, one_lawful, part_all, part_needs, parts_all, parts_front, parts_split, right_needs}
 use Rattle.ql_eval.proofs.GivenLemmas.{all_appended, all_later, part_given, put_given, sets_later, sorted_given, written_given}
 use Rattle.ql_eval.specs.internal.Giving.{AllGiven}
@@ -43,30 +46,35 @@ run-returns-in_ok-write-in-Select-clause-answer g t c = λ p is under there can.
 pub run-returns-in_err-refs-in-Recurse-clause-answer : goal.run-returns-in_err-refs-in-Recurse-clause-answer
 run-returns-in_err-refs-in-Recurse-clause-answer g t c = λ p is under there can.
     let env = lists_of c.args.sets.now.named.items in
-    let set = c.get.ensures ∙ ap env c.as_bytes-in-Recurse.ensures in
-    outcome_stops _ c.from_residual-in_err-refs-in-Recurse.ensures.1 refl (needs_as (ap statement_of c.in-Recurse.is) p env)
-    (subst (λ (l : List Ref). RecursedWell p c.in-Recurse.how l (uses (g.W.Source.holds c.recurse.new.source) (g.W.Source.used c.args.source.now) (g.W.Source.used c.recurse.new.source)) (Err c.in_err-refs-in-Recurse.field-0.0)) set
-    (c.in_err-refs-in-Recurse.ensures.answer p is under (subst (λ (l : List Ref). AreThere p.objects l) (sym set) (there c.in-Recurse.«from»))))
+    let set = c.in_ok-set-in-Recurse.ensures ∙ ap env c.as_bytes-in-Recurse.ensures in
+    outcome_stops _ c.from_residual-in_err-refs-in-Recurse.ensures.1 refl
+    (λ x needs. needs_as (ap statement_of c.in-Recurse.is) p env x (subst (λ (l : List Ref). NeededBy p (AskedByRecursion p.objects c.in-Recurse.how l) x) set needs))
+    (c.in_err-refs-in-Recurse.ensures.answer p is under (subst (λ (l : List Ref). AreThere p.objects l) (sym set) (there c.in-Recurse.«from»)))
 
-pub run-returns-in_ok-write-in-Recurse-clause-answer : goal.run-returns-in_ok-write-in-Recurse-clause-answer
-run-returns-in_ok-write-in-Recurse-clause-answer g t c = λ p is under there can.
+pub run-returns-in_ok-write_shared-in-Recurse-clause-answer : goal.run-returns-in_ok-write_shared-in-Recurse-clause-answer
+run-returns-in_ok-write_shared-in-Recurse-clause-answer g t c = λ p is under there can.
     let env = lists_of c.args.sets.now.named.items in
     let same = ap statement_of c.in-Recurse.is in
-    let refs = c.in_ok-refs-in-Recurse.refs in
-    let set = c.get.ensures ∙ ap env c.as_bytes-in-Recurse.ensures in
-    outcome_as (needs_as same p env) (λ so. as_needs same p env)
-    (λ so. after_as same p.objects _ _ (refs, so, c.in_ok-write-in-Recurse.ensures ∙ ap (λ (name : List ℕ). put name refs env) c.as_bytes-in-Recurse-2.ensures))
-    (subst (λ (l : List Ref). RecursedWell p c.in-Recurse.how l (uses (g.W.Source.holds c.recurse.new.source) (g.W.Source.used c.args.source.now) (g.W.Source.used c.recurse.new.source)) (Ok refs)) set
-    (c.in_ok-refs-in-Recurse.ensures.answer p is under (subst (λ (l : List Ref). AreThere p.objects l) (sym set) (there c.in-Recurse.«from»))))
+    let how = c.in-Recurse.how in
+    let refs = c.in_ok-refs-in-Recurse.refs.value in
+    let set = c.in_ok-set-in-Recurse.ensures ∙ ap env c.as_bytes-in-Recurse.ensures in
+    outcome_as (λ x needs. needs_as same p env x (subst (λ (l : List Ref). NeededBy p (AskedByRecursion p.objects how l) x) set needs))
+    (λ so x needs. subst (λ (l : List Ref). NeededBy p (AskedByRecursion p.objects how l) x) (sym set) (as_needs same p env x needs))
+    (λ so. after_as same p.objects _ _ (
+      refs,
+      subst (λ (l : List Ref). IsSetOf refs (IsRefOf p.objects (IsReached p.objects how l))) set so,
+      c.in_ok-write_shared-in-Recurse.ensures ∙ ap (λ (name : List ℕ). put name refs env) c.as_bytes-in-Recurse-2.ensures,
+    ))
+    (c.in_ok-refs-in-Recurse.ensures.answer p is under (subst (λ (l : List Ref). AreThere p.objects l) (sym set) (there c.in-Recurse.«from»)))
 
-pub run-returns-in_ok-write-in-Item-clause-answer : goal.run-returns-in_ok-write-in-Item-clause-answer
-run-returns-in_ok-write-in-Item-clause-answer g t c = λ p is under there can.
+pub run-returns-in_ok-write_shared-in-Item-clause-answer : goal.run-returns-in_ok-write_shared-in-Item-clause-answer
+run-returns-in_ok-write_shared-in-Item-clause-answer g t c = λ p is under there can.
     let env = lists_of c.args.sets.now.named.items in
     let same = ap statement_of c.in-Item.is in
-    let refs = c.in_ok-refs-in-Item.refs in
-    let set = c.in_ok-refs-in-Item.ensures ∙ c.get-in-Item.ensures ∙ ap env c.as_bytes-in-Item.ensures in
+    let refs = c.in_ok-refs-in-Item.refs.value in
+    let set = c.in_ok-refs-in-Item.ensures ∙ ap env c.as_bytes-in-Item.ensures in
     outcome_starts
-    (after_as same p.objects _ _ (c.in_ok-write-in-Item.ensures ∙ ap (λ (name : List ℕ). put name refs env) c.as_bytes-in-Item-2.ensures ∙ ap (λ (l : List Ref). put c.in-Item.into l env) set))
+    (after_as same p.objects _ _ (c.in_ok-write_shared-in-Item.ensures ∙ ap (λ (name : List ℕ). put name refs env) c.as_bytes-in-Item-2.ensures ∙ ap (λ (l : List Ref). put c.in-Item.into l env) set))
     (λ x needs. (as_needs same p env x needs).asked)
 
 pub run-returns-in_err-given-in-Union-clause-answer : goal.run-returns-in_err-given-in-Union-clause-answer
@@ -121,10 +129,10 @@ run-returns-in_ok-write-in-Minus-clause-answer g t c = λ p is under there can.
     let both = can_run_as same can in
     let first = subst (λ (s : Stmt). CanRun (statement_of s)) (sym c.deref-in-Minus.ensures) both.0 in
     let second = subst (λ (s : Stmt). CanRun (statement_of s)) (sym c.deref-in-Minus-3.ensures) both.1 in
-    let firsts = c.in_ok-first-in-Minus.first in
+    let firsts = c.deref-in-Minus-4.result.now in
     let first_is : firsts ≡ given_by (statement_of left) mid =
-    c.in_ok-first-in-Minus.ensures ∙ c.written_by.ensures ∙ ap (λ (s : Stmt). given_by (statement_of s) mid) c.deref-in-Minus-2.ensures in
-    let second_is = c.written_by-in-Minus.ensures ∙ ap (λ (s : Stmt). given_by (statement_of s) end) c.deref-in-Minus-4.ensures in
+    c.deref-in-Minus-4.ensures ∙ c.in_ok-first-in-Minus.ensures ∙ ap (λ (s : Stmt). given_by (statement_of s) mid) c.deref-in-Minus-2.ensures in
+    let second_is = c.written_by.ensures ∙ ap (λ (s : Stmt). given_by (statement_of s) end) c.deref-in-Minus-5.ensures in
     outcome_then (λ x. g.met.W.Source.grows _ _ x c.run-in-Minus.ensures.later)
     (λ x needs. needs_as same p env x (left_needs p (statement_of left) (statement_of right) c.in-Minus.into env x needs))
     (λ so x needs. needs_as same p env x (right_needs p (statement_of left) (statement_of right) c.in-Minus.into env mid so x needs))
@@ -178,17 +186,24 @@ run_all-loop-part-preserved g t c = record {
 pub run-returns-in_ok-write-in-Select-clause-named : goal.run-returns-in_ok-write-in-Select-clause-named
 run-returns-in_ok-write-in-Select-clause-named g t c = put_given _ c.in_ok-refs-in-Select.refs (lists_of c.args.sets.now.named.items) _ c.in_ok-write-in-Select.ensures (c.in_ok-refs-in-Select.ensures.named) (sets_later (lists_of c.args.sets.now.named.items) (λ r. g.met.W.Source.same_gave _ _ r c.select.ensures.later) c.requires)
 
-pub run-recurse-requires : goal.run-recurse-requires
-run-recurse-requires g t c = subst (λ (l : List Ref). AllGiven (g.W.Source.gave c.args.source.now) l) (sym c.get.ensures) (c.requires c.as_bytes-in-Recurse.result.now)
+pub run-recurse_once-requires : goal.run-recurse_once-requires
+run-recurse_once-requires g t c = subst (λ (l : List Ref). AllGiven (g.W.Source.gave c.args.source.now) l) (sym c.in_ok-set-in-Recurse.ensures) (c.requires c.as_bytes-in-Recurse.result.now)
 
-pub run-returns-in_ok-write-in-Recurse-clause-named : goal.run-returns-in_ok-write-in-Recurse-clause-named
-run-returns-in_ok-write-in-Recurse-clause-named g t c = put_given _ c.in_ok-refs-in-Recurse.refs (lists_of c.args.sets.now.named.items) _ c.in_ok-write-in-Recurse.ensures (c.in_ok-refs-in-Recurse.ensures.named) (sets_later (lists_of c.args.sets.now.named.items) (λ r. g.met.W.Source.same_gave _ _ r c.recurse.ensures.later) c.requires)
+pub run-returns-in_ok-write_shared-in-Recurse-clause-named : goal.run-returns-in_ok-write_shared-in-Recurse-clause-named
+run-returns-in_ok-write_shared-in-Recurse-clause-named g t c = put_given _ c.in_ok-refs-in-Recurse.refs.value (lists_of c.args.sets.now.named.items) _ c.in_ok-write_shared-in-Recurse.ensures (c.in_ok-refs-in-Recurse.ensures.named) (sets_later (lists_of c.args.sets.now.named.items) (λ r. g.met.W.Source.same_gave _ _ r c.recurse_once.ensures.later) c.requires)
 
-pub run-returns-in_ok-write-in-Item-clause-named : goal.run-returns-in_ok-write-in-Item-clause-named
-run-returns-in_ok-write-in-Item-clause-named g t c = put_given _ c.in_ok-refs-in-Item.refs (lists_of c.args.sets.now.named.items) _ c.in_ok-write-in-Item.ensures (subst (λ (l : List Ref). AllGiven (g.W.Source.gave c.args.source.now) l) (sym (c.in_ok-refs-in-Item.ensures ∙ c.get-in-Item.ensures)) (c.requires c.as_bytes-in-Item.result.now)) (c.requires)
+pub run-returns-in_ok-write_shared-in-Item-clause-named : goal.run-returns-in_ok-write_shared-in-Item-clause-named
+run-returns-in_ok-write_shared-in-Item-clause-named g t c = put_given _ c.in_ok-refs-in-Item.refs.value (lists_of c.args.sets.now.named.items) _ c.in_ok-write_shared-in-Item.ensures (subst (λ (l : List Ref). AllGiven (g.W.Source.gave c.args.source.now) l) (sym c.in_ok-refs-in-Item.ensures) (c.requires c.as_bytes-in-Item.result.now)) (c.requires)
 
 pub run-returns-in_ok-write-in-Union-clause-named : goal.run-returns-in_ok-write-in-Union-clause-named
 run-returns-in_ok-write-in-Union-clause-named g t c = put_given _ c.in_ok-refs-in-Union.refs (lists_of c.run_all.new.sets.named.items) _ c.in_ok-write-in-Union.ensures (sorted_given c.in_ok-given-in-Union.given.items c.in_ok-refs-in-Union.refs c.in_ok-refs-in-Union.ensures c.in_ok-given-in-Union.ensures.named) (c.in_ok-given-in-Union.ensures.sets_named)
 
 pub run-returns-in_ok-write-in-Minus-clause-named : goal.run-returns-in_ok-write-in-Minus-clause-named
-run-returns-in_ok-write-in-Minus-clause-named g t c = put_given _ c.in_ok-refs-in-Minus.refs (lists_of c.run-in-Minus.new.sets.named.items) _ c.in_ok-write-in-Minus.ensures (part_given c.in_ok-first-in-Minus.first c.in_ok-refs-in-Minus.refs c.in_ok-refs-in-Minus.ensures (all_later c.in_ok-first-in-Minus.first (λ r. g.met.W.Source.same_gave _ _ r c.run-in-Minus.ensures.later) (subst (λ (l : List Ref). AllGiven (g.W.Source.gave c.run.new.source) l) (sym (c.in_ok-first-in-Minus.ensures ∙ c.written_by.ensures)) (written_given (statement_of c.deref-in-Minus-2.result.now) (lists_of c.run.new.sets.named.items) c.in_ok-run-in-Minus.ensures.named)))) (c.in_ok-run-in-Minus-2.ensures.named)
+run-returns-in_ok-write-in-Minus-clause-named g t c =
+    let firsts = c.deref-in-Minus-4.result.now in
+    let first_is = c.deref-in-Minus-4.ensures ∙ c.in_ok-first-in-Minus.ensures in
+    put_given _ c.in_ok-refs-in-Minus.refs (lists_of c.run-in-Minus.new.sets.named.items) _ c.in_ok-write-in-Minus.ensures
+    (part_given firsts c.in_ok-refs-in-Minus.refs c.in_ok-refs-in-Minus.ensures
+    (all_later firsts (λ r. g.met.W.Source.same_gave _ _ r c.run-in-Minus.ensures.later)
+    (subst (λ (l : List Ref). AllGiven (g.W.Source.gave c.run.new.source) l) (sym first_is) (written_given (statement_of c.deref-in-Minus-2.result.now) (lists_of c.run.new.sets.named.items) c.in_ok-run-in-Minus.ensures.named))))
+    (c.in_ok-run-in-Minus-2.ensures.named)

@@ -2,6 +2,7 @@ use Rattle.std.proofs.Common.{refl}
 use Rattle.std.proofs.lemmas.Result.{IfErr-weaker}
 use Rattle.ql_eval.proofs.GivenLemmas.{given_later}
 use Rattle.ql_eval.proofs.KnownLemmas.{absent_later, remembers_later}
+use Rattle.ql_eval.proofs.RememberLemmas.{all_recalled_later}
 use Rattle.ql_eval.proofs.shelf_source.ShelfSourceSource.count.Goals as goal
 
 pub returns-clause-later : goal.returns-clause-later
@@ -14,7 +15,10 @@ returns-clause-later g c = (
   (λ r object known. known),
   (λ absent. absent_later _ _ c.args.self.now.manifest c.args.self.now.objects.now c.count_names.ensures.grows absent),
   (λ r given. given_later _ _ c.args.self.now.manifest c.args.self.now.objects.now c.args.self.now.objects.now c.count_names.ensures.grows (λ s o known. known) r given),
+  (λ p under known recalled. all_recalled_later p _ _ c.args.self.now.memo.now.remembered.items c.count_names.ensures.grows recalled),
+  (λ r is. is),
+  (λ given r is. given_later _ _ c.args.self.now.manifest c.args.self.now.objects.now c.args.self.now.objects.now c.count_names.ensures.grows (λ s o known. known) r (given r is)),
 )
 
 pub returns-clause-told : goal.returns-clause-told
-returns-clause-told g c = IfErr-weaker c.count_names.result _ _ (λ fault told absent. told) c.count_names.ensures.told
+returns-clause-told g c = IfErr-weaker c.count_names.result _ _ (λ fault told absent kept. told) c.count_names.ensures.told

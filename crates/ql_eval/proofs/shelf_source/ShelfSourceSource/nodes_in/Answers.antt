@@ -2,6 +2,7 @@ use Rattle.std.proofs.Common.{refl, inl}
 use Rattle.std.proofs.lemmas.Result.{IfErr-weaker}
 use Rattle.ql_eval.proofs.GivenLemmas.{given_later}
 use Rattle.ql_eval.proofs.KnownLemmas.{absent_later, remembers_later}
+use Rattle.ql_eval.proofs.RememberLemmas.{all_recalled_later}
 use Rattle.ref_sets.proofs.shared.Results.{if_ok_as}
 use Rattle.ql_eval.proofs.shelf_source.ShelfSourceSource.nodes_in.Goals as goal
 
@@ -15,10 +16,13 @@ returns-clause-later g c = (
   (λ r object known. known),
   (λ absent. absent_later _ _ c.args.self.now.manifest c.args.self.now.objects.now c.find_in_box.ensures.grows absent),
   (λ r given. given_later _ _ c.args.self.now.manifest c.args.self.now.objects.now c.args.self.now.objects.now c.find_in_box.ensures.grows (λ s o known. known) r given),
+  (λ p under known recalled. all_recalled_later p _ _ c.args.self.now.memo.now.remembered.items c.find_in_box.ensures.grows recalled),
+  (λ r is. is),
+  (λ given r is. given_later _ _ c.args.self.now.manifest c.args.self.now.objects.now c.args.self.now.objects.now c.find_in_box.ensures.grows (λ s o known. known) r (given r is)),
 )
 
 pub returns-clause-told : goal.returns-clause-told
-returns-clause-told g c = IfErr-weaker c.find_in_box.result _ _ (λ fault told absent. told) c.find_in_box.ensures.told
+returns-clause-told g c = IfErr-weaker c.find_in_box.result _ _ (λ fault told absent kept. told) c.find_in_box.ensures.told
 
 pub returns-clause-named : goal.returns-clause-named
-returns-clause-named g c = if_ok_as c.find_in_box.result (λ names all r has. inl (all r has)) c.find_in_box.ensures.named
+returns-clause-named g c = if_ok_as c.find_in_box.result (λ names all r has. inl (inl (all r has))) c.find_in_box.ensures.named

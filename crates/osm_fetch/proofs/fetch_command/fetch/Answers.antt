@@ -1,0 +1,7 @@
+use Rattle.osm_fetch.proofs.FetchedLemmas.{outside_told}
+use Rattle.osm_fetch.proofs.fetch_command.fetch.Goals as goal
+
+pub returns-in_err-text-clause-honest : goal.returns-in_err-text-clause-honest
+returns-in_err-text-clause-honest g c = λ p text named answer proof before calls published root proved is new reply.
+    outside_told c.from_residual.result c.in_err-text.field-0.0 c.from_residual.ensures.1
+    (c.in_err-text.ensures.honest p text named answer proof before calls published root proved is new reply)

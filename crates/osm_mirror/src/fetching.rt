@@ -1,0 +1,83 @@
+//! The command `fetch`.
+
+use crate::clean_output::CleanOutput;
+use crate::in_words::{Subject, Trouble, tell_in_words};
+use crate::tcp_dial::TcpDial;
+use mirror_answer::MirrorFault;
+use osm_commands::{CommandFault, Status};
+use osm_fetch::{NotFetched, fetch};
+use osm_forms::Form;
+use std::io;
+use std::io::{IsTerminal, Write};
+use tree_node::Digest;
+
+/// How many bytes answer and proof may have together, if no limit is given.
+const SIZE_LIMIT: u64 = 1_073_741_824;
+
+/// How many bytes stand before the answer: the root and the answer's length.
+const PREFIX_SIZE: u64 = 40;
+
+/// Asks the mirror at this place for the answer to a query, and writes it once its proof was checked.
+pub(crate) fn fetch_answer(
+    rt: &HostRuntime,
+    root: &Digest,
+    place: &str,
+    query: &str,
+    form: Form,
+    max_size: Option<u64>,
+) -> Status {
+    let mut dial = TcpDial::new(rt, place);
+    let outcome = fetch(
+        rt.alloc(),
+        form,
+        root,
+        place,
+        query.as_bytes(),
+        max_size.unwrap_or(SIZE_LIMIT).saturating_add(PREFIX_SIZE),
+        &mut dial,
+        &mut CleanOutput::new(rt),
+    );
+    let Err(fault) = outcome else {
+        return Status::Done;
+    };
+    // Where standard error takes nothing, the status still tells.
+    let _ = writeln!(rt.stderr(), "{fault}");
+    explain_fault(rt, fault, place, query, dial.error());
+    fault.status()
+}
+
+/// What the fault means, in words, where somebody looks.
+fn explain_fault(
+    rt: &HostRuntime,
+    fault: NotFetched,
+    place: &str,
+    query: &str,
+    error: Option<i32>,
+) {
+    let subject = &Subject {
+        front: &[],
+        query: query.as_bytes(),
+        troubles: &[Trouble { name: place, error }],
+    };
+    match fault {
+        NotFetched::Query(fault) => tell_in_words(rt, CommandFault::Query(fault), subject),
+        NotFetched::Memory => tell_in_words(rt, CommandFault::Memory, subject),
+        NotFetched::Device => tell_in_words(rt, CommandFault::Device, subject),
+        NotFetched::Mirror(MirrorFault::Unreached | MirrorFault::Silent) => {
+            tell_of_system(rt, place, error);
+        }
+        NotFetched::Mirror(_) => {}
+    }
+}
+
+/// What the system said of the mirror's connection, where somebody looks and it said something.
+fn tell_of_system(rt: &HostRuntime, place: &str, error: Option<i32>) {
+    let errors = &mut rt.stderr();
+    if !errors.is_terminal() {
+        return;
+    }
+    if let Some(code) = error {
+        let said = io::Error::from_raw_os_error(code);
+        let _ = writeln!(errors, "{place}: {said}");
+    }
+}
