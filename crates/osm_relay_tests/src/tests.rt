@@ -41,7 +41,7 @@ struct Honest {
 }
 
 /// What a mirror over this set is sent and sends for this query.
-fn honest(rt: &(impl Abort + AllocGlobal), set: &str, query: &[u8]) -> Result<Honest, Fail> {
+fn honest_mirror(rt: &(impl Abort + AllocGlobal), set: &str, query: &[u8]) -> Result<Honest, Fail> {
     let alloc = rt.alloc();
     let objects = read_set(alloc, &mut set.as_bytes())?;
     let snapshot = Snapshot::build(alloc, objects, Edition::Two { sequence: 0 })?;
@@ -76,7 +76,7 @@ fn relayed(
     query: &[u8],
     step: usize,
 ) -> Result<Vec<u8>, Fail> {
-    let mirror = honest(rt, SET, query)?;
+    let mirror = honest_mirror(rt, SET, query)?;
     let mut scene = Scene::new(rt.alloc(), text, step)?;
     scene.add(&mirror.request, &mirror.response, Then::Closes)?;
     got(rt, &mirror.root, &mut scene)

@@ -1,7 +1,7 @@
 //! Mirrors that fail or lie.
 
 use super::scene::{Scene, Then};
-use super::{DOCUMENT, Honest, OTHER_SET, POST, QUERY, SET, got, honest, tells};
+use super::{DOCUMENT, Honest, OTHER_SET, POST, QUERY, SET, got, honest_mirror, tells};
 use std::process::Abort;
 use std::test::Fail;
 
@@ -20,7 +20,7 @@ fn sent(
 /// Each fault of a mirror's bytes, as its text says it.
 #[test]
 fn tells_faults_of_replies(rt: HostRuntime) -> Result<(), Fail> {
-    let mirror = honest(&rt, SET, QUERY)?;
+    let mirror = honest_mirror(&rt, SET, QUERY)?;
     let rows: [(&[u8], Then, &[u8]); 11] = [
         (
             b"",
@@ -82,7 +82,7 @@ fn tells_faults_of_replies(rt: HostRuntime) -> Result<(), Fail> {
 
 #[test]
 fn tells_that_none_is_reached(rt: HostRuntime) -> Result<(), Fail> {
-    let mirror = honest(&rt, SET, QUERY)?;
+    let mirror = honest_mirror(&rt, SET, QUERY)?;
     for is_away in [true, false] {
         let mut scene = Scene::new(rt.alloc(), POST, 50)?;
         scene.add(&mirror.request, b"", Then::Closes)?;
@@ -114,8 +114,8 @@ fn tells_that_none_is_reached(rt: HostRuntime) -> Result<(), Fail> {
 /// A mirror with other objects, and one whose proof is cut.
 #[test]
 fn refuses_lies(rt: HostRuntime) -> Result<(), Fail> {
-    let mirror = honest(&rt, SET, QUERY)?;
-    let other = honest(&rt, OTHER_SET, QUERY)?;
+    let mirror = honest_mirror(&rt, SET, QUERY)?;
+    let other = honest_mirror(&rt, OTHER_SET, QUERY)?;
     let response = sent(&rt, &mirror, &other.response, Then::Closes)?;
     assert!(rt;
         tells(
@@ -142,7 +142,7 @@ fn refuses_lies(rt: HostRuntime) -> Result<(), Fail> {
 /// Bytes behind the length don't matter, and neither does a mirror that stays open.
 #[test]
 fn takes_what_is_whole(rt: HostRuntime) -> Result<(), Fail> {
-    let mirror = honest(&rt, SET, QUERY)?;
+    let mirror = honest_mirror(&rt, SET, QUERY)?;
     let mut longer = mirror.response.as_slice().to_vec(rt.alloc())?;
     longer.extend_from_slice(b"HTTP/1.1 500 No\r\n\r\n")?;
     for then in [Then::Closes, Then::Stalls, Then::Breaks] {
@@ -155,7 +155,7 @@ fn takes_what_is_whole(rt: HostRuntime) -> Result<(), Fail> {
 /// The next mirror is asked where one fails, and the last one's fault is told.
 #[test]
 fn asks_the_next(rt: HostRuntime) -> Result<(), Fail> {
-    let mirror = honest(&rt, SET, QUERY)?;
+    let mirror = honest_mirror(&rt, SET, QUERY)?;
     let mut scene = Scene::new(rt.alloc(), POST, 50)?;
     scene.add(&mirror.request, b"hello\r\n\r\n", Then::Closes)?;
     scene.add(&mirror.request, b"", Then::Stalls)?;

@@ -2,7 +2,7 @@
 //! whole result.
 
 use super::scene::{Scene, Then};
-use super::{DOCUMENT, Honest, POST, QUERY, SET, honest, tells};
+use super::{DOCUMENT, Honest, POST, QUERY, SET, honest_mirror, tells};
 use osm_relay::{RelayFault, relay_many, starved_response};
 use std::process::Abort;
 use std::test::Fail;
@@ -31,7 +31,7 @@ fn relay_one(rt: &(impl Abort + AllocGlobal), mirror: &Honest) -> Result<(), Fai
 
 #[test]
 fn relays_within_memory(rt: HostRuntime) -> Result<(), Fail> {
-    let mirror = honest(&rt, SET, QUERY)?;
+    let mirror = honest_mirror(&rt, SET, QUERY)?;
     relay_one(&rt, &mirror)?;
     relay_one(&rt, &mirror)
 }

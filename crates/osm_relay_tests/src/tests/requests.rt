@@ -1,7 +1,7 @@
 //! Requests of all kinds.
 
 use super::scene::{Scene, Then};
-use super::{DOCUMENT, POST, QUERY, SET, contains, got, honest, relayed, tells};
+use super::{DOCUMENT, POST, QUERY, SET, contains, got, honest_mirror, relayed, tells};
 use std::process::Abort;
 use std::test::Fail;
 use tree_node::Digest;
@@ -140,7 +140,7 @@ fn tells_free_slots(rt: HostRuntime) -> Result<(), Fail> {
 /// A client that is gone before its request is complete gets nothing.
 #[test]
 fn says_nothing_to_the_gone(rt: HostRuntime) -> Result<(), Fail> {
-    let mirror = honest(&rt, SET, QUERY)?;
+    let mirror = honest_mirror(&rt, SET, QUERY)?;
     for then in [Then::Closes, Then::Stalls, Then::Breaks] {
         let mut scene = Scene::new(rt.alloc(), b"GET /api", 3)?;
         scene.then(then);

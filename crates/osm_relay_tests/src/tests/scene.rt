@@ -146,7 +146,8 @@ impl Scene {
             request: request.to_vec(self.alloc)?,
             then,
         };
-        self.plays.push(play)
+        self.plays.push(play)?;
+        Ok(())
     }
 
     fn line(&self, sends: Vec<u8>, then: Then) -> Line {
