@@ -40,8 +40,9 @@ MODULES = {
 }
 
 # Crates whose allocations are refused in the program: serve_test.py does it for the sockets, since a test is one thread,
-# which can't wait for itself at the other end of a socket; changes_test.py does it for change files that are published.
-TESTED_IN_THE_PROGRAM = {"osm_sockets", "osm_serving"}
+# which can't wait for itself at the other end of a socket, and relay_test.py for those of the relay; changes_test.py does it
+# for change files that are published.
+TESTED_IN_THE_PROGRAM = {"osm_sockets", "osm_serving", "relay_sockets"}
 
 
 def crates():

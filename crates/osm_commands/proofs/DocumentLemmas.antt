@@ -14,6 +14,8 @@ front_of_first old new first second (k, few, gained) =
 -- the first text and a beginning of the second begin both
 pub front_of_both : (old mid new : Option (List ℕ)) (first second : List ℕ) → Appends old mid first → AppendsFront mid new second
     → AppendsFront old new (first ++ second)
-front_of_both old mid new first second whole (k, few, gained) =
-    (length first + k, omega (arith, few, length-append first second),
-    subst (Appends old new) (sym (take-append-add first second k)) (Appends-trans old mid new first (take k second) whole gained))
+front_of_both old mid new first second whole (k, few, gained) = (
+  length first + k,
+  omega (arith, few, length-append first second),
+  subst (Appends old new) (sym (take-append-add first second k)) (Appends-trans old mid new first (take k second) whole gained),
+)

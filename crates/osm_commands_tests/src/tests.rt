@@ -44,7 +44,14 @@ fn flushes_fail(rt: HostRuntime) {
         },
     };
     let input = &mut ALL_KINDS.as_bytes();
-    let outcome = ask(alloc, Form::Opl, FIRST.as_bytes(), input, &mut Unwatched, &mut output);
+    let outcome = ask(
+        alloc,
+        Form::Opl,
+        FIRST.as_bytes(),
+        input,
+        &mut Unwatched,
+        &mut output,
+    );
     assert!(rt; outcome == Err(CommandFault::Device));
     assert!(rt; output.writer.taken.as_slice() == FIRST_ANSWER.as_bytes());
 }
@@ -92,7 +99,14 @@ fn is_done(rt: &impl Abort, outcome: Result<(), CommandFault>, output: &[u8], te
 fn is_answered(rt: &impl Abort, alloc: Global) -> bool {
     let mut output = Vec::new(alloc);
     let input = &mut ALL_KINDS.as_bytes();
-    let outcome = ask(alloc, Form::Opl, FIRST.as_bytes(), input, &mut Unwatched, &mut output);
+    let outcome = ask(
+        alloc,
+        Form::Opl,
+        FIRST.as_bytes(),
+        input,
+        &mut Unwatched,
+        &mut output,
+    );
     is_done(rt, outcome, &output, FIRST_ANSWER)
 }
 

@@ -35,7 +35,9 @@ use crate::output_file::OutputFile;
 use crate::progress::Progress;
 use crate::relaying::relay_clients;
 use crate::server_errors::ServerErrors;
-use crate::telling::{NOTHING, port_refused, quiet_file, refuse_one_file, report, trouble_of, watched_file};
+use crate::telling::{
+    NOTHING, port_refused, quiet_file, refuse_one_file, report, trouble_of, watched_file,
+};
 use crate::watched::Watched;
 use command_line::{Job, WordsFault, read_words};
 use osm_codes::explain;
@@ -116,7 +118,15 @@ fn run_job(rt: &HostRuntime, job: Job) -> Status {
             strict_changes,
         } => {
             let folder = changes.as_deref();
-            serve_file(rt, &file, port, connections, edition, folder, strict_changes)
+            serve_file(
+                rt,
+                &file,
+                port,
+                connections,
+                edition,
+                folder,
+                strict_changes,
+            )
         }
         Job::Fetch {
             root,

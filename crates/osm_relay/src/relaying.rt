@@ -35,7 +35,9 @@ pub fn relay_many<W: Wire, N: Network<W>, R: Roots>(
         let room = room_for(conversations.len(), taken, connections);
         match network.next(room)? {
             News::Waiting => {
-                if room == Room::Free && welcome(alloc, roots, network, &mut conversations, taken)? {
+                if room == Room::Free
+                    && welcome(alloc, roots, network, &mut conversations, taken)?
+                {
                     taken += 1;
                 }
             }

@@ -23,11 +23,29 @@ fn each_form_within_memory(rt: HostRuntime) -> Result<(), Fail> {
         let mut output = Vec::new(alloc);
         let mut dial = FakeDial::new(alloc, &bytes, 100, 0);
         let query = QUERY.as_bytes();
-        let first = fetch(alloc, form, &right.root, "mirror", query, LIMIT, &mut dial, &mut output);
+        let first = fetch(
+            alloc,
+            form,
+            &right.root,
+            "mirror",
+            query,
+            LIMIT,
+            &mut dial,
+            &mut output,
+        );
         if first == Err(NotFetched::Memory) {
             assert!(rt; output.is_empty());
             dial = FakeDial::new(alloc, &bytes, 100, 0);
-            fetch(alloc, form, &right.root, "mirror", query, LIMIT, &mut dial, &mut output)?;
+            fetch(
+                alloc,
+                form,
+                &right.root,
+                "mirror",
+                query,
+                LIMIT,
+                &mut dial,
+                &mut output,
+            )?;
         } else {
             first?;
         }
@@ -45,7 +63,16 @@ fn lies_about_the_answer(rt: HostRuntime) -> Result<(), Fail> {
     let mut output = Vec::new(alloc);
     let mut dial = FakeDial::new(alloc, &bytes, 1, 0);
     let query = QUERY.as_bytes();
-    fetch(alloc, Form::Opl, &right.root, "mirror", query, LIMIT, &mut dial, &mut output)?;
+    fetch(
+        alloc,
+        Form::Opl,
+        &right.root,
+        "mirror",
+        query,
+        LIMIT,
+        &mut dial,
+        &mut output,
+    )?;
     assert!(rt; output.as_slice() == OPL.as_bytes());
     Ok(())
 }
@@ -60,17 +87,51 @@ fn refusals(rt: HostRuntime) -> Result<(), Fail> {
     let cut = response(alloc, root, &right.answer, &right.proof[1..])?;
     let elsewhere = response(alloc, &[7; 32], &right.answer, &other.proof)?;
     let rows = [
-        (wrong.as_slice(), LIMIT, MirrorFault::Proof(Why::NodeMissing), Status::No),
-        (cut.as_slice(), LIMIT, MirrorFault::Proof(Why::ProofMalformed), Status::No),
-        (elsewhere.as_slice(), LIMIT, MirrorFault::OtherRoot, Status::No),
-        (wrong.as_slice(), 40, MirrorFault::Reply(ReplyFault::TooLong), Status::Failed),
-        (b"".as_slice(), LIMIT, MirrorFault::Reply(ReplyFault::ClosedEarly), Status::Failed),
+        (
+            wrong.as_slice(),
+            LIMIT,
+            MirrorFault::Proof(Why::NodeMissing),
+            Status::No,
+        ),
+        (
+            cut.as_slice(),
+            LIMIT,
+            MirrorFault::Proof(Why::ProofMalformed),
+            Status::No,
+        ),
+        (
+            elsewhere.as_slice(),
+            LIMIT,
+            MirrorFault::OtherRoot,
+            Status::No,
+        ),
+        (
+            wrong.as_slice(),
+            40,
+            MirrorFault::Reply(ReplyFault::TooLong),
+            Status::Failed,
+        ),
+        (
+            b"".as_slice(),
+            LIMIT,
+            MirrorFault::Reply(ReplyFault::ClosedEarly),
+            Status::Failed,
+        ),
     ];
     for (bytes, limit, fault, status) in rows {
         let mut output = Vec::new(alloc);
         let mut dial = FakeDial::new(alloc, bytes, 100, 0);
         let query = QUERY.as_bytes();
-        let told = fetch(alloc, Form::Xml, &right.root, "mirror", query, limit, &mut dial, &mut output);
+        let told = fetch(
+            alloc,
+            Form::Xml,
+            &right.root,
+            "mirror",
+            query,
+            limit,
+            &mut dial,
+            &mut output,
+        );
         assert_eq!(rt; told, Err(NotFetched::Mirror(fault)));
         assert_eq!(rt; NotFetched::Mirror(fault).status(), status);
         assert!(rt; output.is_empty());
@@ -89,13 +150,26 @@ fn nobody_is_asked(rt: HostRuntime) -> Result<(), Fail> {
     };
     for (host, query, fault) in [
         ("mirror", "node(1)out;", NotFetched::Query(unread)),
-        ("two words", QUERY, NotFetched::Mirror(MirrorFault::Unreached)),
+        (
+            "two words",
+            QUERY,
+            NotFetched::Mirror(MirrorFault::Unreached),
+        ),
         ("", QUERY, NotFetched::Mirror(MirrorFault::Unreached)),
     ] {
         let mut output = Vec::new(alloc);
         let mut dial = FakeDial::new(alloc, b"", 100, 0);
         let bytes = query.as_bytes();
-        let told = fetch(alloc, Form::Opl, &root, host, bytes, LIMIT, &mut dial, &mut output);
+        let told = fetch(
+            alloc,
+            Form::Opl,
+            &root,
+            host,
+            bytes,
+            LIMIT,
+            &mut dial,
+            &mut output,
+        );
         assert_eq!(rt; told, Err(fault));
         assert!(rt; dial.calls == 0 && output.is_empty());
     }
@@ -112,7 +186,16 @@ fn each_call_fails(rt: HostRuntime) -> Result<(), Fail> {
         let mut output = Vec::new(alloc);
         let mut dial = FakeDial::new(alloc, &bytes, 100, call);
         let query = QUERY.as_bytes();
-        let told = fetch(alloc, Form::Opl, &right.root, "mirror", query, LIMIT, &mut dial, &mut output);
+        let told = fetch(
+            alloc,
+            Form::Opl,
+            &right.root,
+            "mirror",
+            query,
+            LIMIT,
+            &mut dial,
+            &mut output,
+        );
         let fault = if call == 1 {
             MirrorFault::Unreached
         } else {

@@ -38,7 +38,11 @@ pub(super) fn response(
     answer: &[u8],
     proof: &[u8],
 ) -> Result<Vec<u8>, AllocError> {
-    let size = root.len().saturating_add(answer.len()).saturating_add(proof.len()).saturating_add(8);
+    let size = root
+        .len()
+        .saturating_add(answer.len())
+        .saturating_add(proof.len())
+        .saturating_add(8);
     let head = format!(in alloc; "HTTP/1.1 200 OK\r\nContent-Length: {size}\r\n\r\n")?;
     let mut bytes = Vec::new(alloc);
     bytes.extend_from_slice(head.as_bytes())?;

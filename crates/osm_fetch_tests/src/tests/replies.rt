@@ -36,8 +36,16 @@ fn shows_no_answer(rt: HostRuntime) -> Result<(), Fail> {
     let other = [0; 32];
     for (query, named, fault) in [
         ("node(1)", right.root.0.as_slice(), None),
-        ("node(2);out;", right.root.0.as_slice(), Some(MirrorFault::Proof(Why::NodeMissing))),
-        ("node(2);out;", other.as_slice(), Some(MirrorFault::OtherRoot)),
+        (
+            "node(2);out;",
+            right.root.0.as_slice(),
+            Some(MirrorFault::Proof(Why::NodeMissing)),
+        ),
+        (
+            "node(2);out;",
+            other.as_slice(),
+            Some(MirrorFault::OtherRoot),
+        ),
     ] {
         let parts = Parts {
             root: named,
