@@ -1,13 +1,11 @@
 //! A dial that a test plays.
 
 use mirror_reply::{Dial, Receipt};
-use std::alloc::Global;
 
 /// A mirror that gives these bytes, and takes and gives at most some bytes a call.
 #[derive(Drop)]
 pub(super) struct FakeDial<'a> {
     pub(super) left: &'a [u8],
-    pub(super) sent: Vec<u8>,
     pub(super) at_once: usize,
     /// The call that fails, from 1; none does where it is 0.
     pub(super) fails_at: usize,
@@ -15,10 +13,9 @@ pub(super) struct FakeDial<'a> {
 }
 
 impl FakeDial<'_> {
-    pub(super) fn new(alloc: Global, left: &[u8], at_once: usize, fails_at: usize) -> FakeDial<'_> {
+    pub(super) fn new(left: &[u8], at_once: usize, fails_at: usize) -> FakeDial<'_> {
         FakeDial {
             left,
-            sent: Vec::new(alloc),
             at_once,
             fails_at,
             calls: 0,
@@ -44,9 +41,7 @@ impl Dial for FakeDial<'_> {
         if self.fails() {
             return None;
         }
-        let len = self.at_once.min(bytes.len());
-        self.sent.extend_from_slice(&bytes[..len]).ok()?;
-        Some(len)
+        Some(self.at_once.min(bytes.len()))
     }
 
     fn receive(&mut self, piece: &mut [u8]) -> Receipt {

@@ -21,7 +21,7 @@ fn each_form_within_memory(rt: HostRuntime) -> Result<(), Fail> {
     let bytes = response(alloc, &right.root.0, &right.answer, &right.proof)?;
     for (form, want) in [(Form::Opl, OPL), (Form::Json, JSON), (Form::Xml, XML)] {
         let mut output = Vec::new(alloc);
-        let mut dial = FakeDial::new(alloc, &bytes, 100, 0);
+        let mut dial = FakeDial::new(&bytes, 100, 0);
         let query = QUERY.as_bytes();
         let first = fetch(
             alloc,
@@ -35,7 +35,7 @@ fn each_form_within_memory(rt: HostRuntime) -> Result<(), Fail> {
         );
         if first == Err(NotFetched::Memory) {
             assert!(rt; output.is_empty());
-            dial = FakeDial::new(alloc, &bytes, 100, 0);
+            dial = FakeDial::new(&bytes, 100, 0);
             fetch(
                 alloc,
                 form,
@@ -61,7 +61,7 @@ fn lies_about_the_answer(rt: HostRuntime) -> Result<(), Fail> {
     let right = proved(alloc, QUERY)?;
     let bytes = response(alloc, &right.root.0, b"n1 x0 y0\n", &right.proof)?;
     let mut output = Vec::new(alloc);
-    let mut dial = FakeDial::new(alloc, &bytes, 1, 0);
+    let mut dial = FakeDial::new(&bytes, 1, 0);
     let query = QUERY.as_bytes();
     fetch(
         alloc,
@@ -120,7 +120,7 @@ fn refusals(rt: HostRuntime) -> Result<(), Fail> {
     ];
     for (bytes, limit, fault, status) in rows {
         let mut output = Vec::new(alloc);
-        let mut dial = FakeDial::new(alloc, bytes, 100, 0);
+        let mut dial = FakeDial::new(bytes, 100, 0);
         let query = QUERY.as_bytes();
         let told = fetch(
             alloc,
@@ -158,7 +158,7 @@ fn nobody_is_asked(rt: HostRuntime) -> Result<(), Fail> {
         ("", QUERY, NotFetched::Mirror(MirrorFault::Unreached)),
     ] {
         let mut output = Vec::new(alloc);
-        let mut dial = FakeDial::new(alloc, b"", 100, 0);
+        let mut dial = FakeDial::new(b"", 100, 0);
         let bytes = query.as_bytes();
         let told = fetch(
             alloc,
@@ -184,7 +184,7 @@ fn each_call_fails(rt: HostRuntime) -> Result<(), Fail> {
     let bytes = response(alloc, &right.root.0, &right.answer, &right.proof)?;
     for call in 1..6 {
         let mut output = Vec::new(alloc);
-        let mut dial = FakeDial::new(alloc, &bytes, 100, call);
+        let mut dial = FakeDial::new(&bytes, 100, call);
         let query = QUERY.as_bytes();
         let told = fetch(
             alloc,
