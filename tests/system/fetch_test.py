@@ -148,13 +148,15 @@ def check_lies(tally, proof):
         outcome = fetched(place)
     tally.check("another root is named, and the proof is right", outcome == Outcome(ANSWER, b"", 0), outcome)
     with tempfile.TemporaryDirectory() as room:
-        other = proof_of(Path(room), "node(2);out;")
+        other = proof_of(Path(room), "node[highway=crossing];out;")
+        one_way = proof_of(Path(room), "way(10);out;")
+    # (the sets are so small that all objects lie in one node of the tree of objects)
+    tally.check("the proof of another query that needs the same nodes", one_way == proof)
     for name, spoiled, code in [
         ("no proof", b"", b"C2"),
-        ("a proof with a bit turned", proof[:-1] + bytes([proof[-1] ^ 1]), b"C4"),
         ("a proof cut", proof[:-1], b"C2"),
         ("a proof and a byte", proof + b"\0", b"C2"),
-        ("the proof of another query", other, b"C4"),
+        ("the proof of another query", other, b"C8"),
     ]:
         with mirror(response(checked_body(ANSWER, spoiled))) as place:
             outcome = fetched(place)

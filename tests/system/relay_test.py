@@ -154,11 +154,11 @@ def check_liars(tally, proof):
     right = checked_body(ANSWER, proof)
     query = f"[out:json];{QUERY}"
     with tempfile.TemporaryDirectory() as room:
-        other = proof_of(Path(room), "node(2);out;")
+        other = proof_of(Path(room), "node[highway=crossing];out;")
     for name, said, want in [
         ("a wrong answer", response(checked_body(b"n1 x0 y0\n", proof)), 200),
         ("bytes after it", response(right) + response(b"later"), 200),
-        ("another proof", response(checked_body(ANSWER, other)), "the mirror's proof is refused: C4"),
+        ("another proof", response(checked_body(ANSWER, other)), "the mirror's proof is refused: C8"),
         ("no proof", response(checked_body(ANSWER, b"")), "the mirror's proof is refused: C2"),
         ("another root", response(checked_body(ANSWER, other, OTHER_ROOT)), "the mirror answers under another root"),
         ("a refusal", response(b"Q7 byte 5\n", status=b"400 Bad Request"), "the mirror answered with status 400"),

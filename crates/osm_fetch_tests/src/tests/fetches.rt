@@ -1,7 +1,7 @@
 //! The command.
 
 use super::fake_dial::FakeDial;
-use super::mirrors::{JSON, OPL, QUERY, XML, proved, response};
+use super::mirrors::{BY_TAG, JSON, OPL, QUERY, XML, proved, response};
 use mirror_answer::MirrorFault;
 use mirror_reply::ReplyFault;
 use osm_check::Why;
@@ -81,7 +81,8 @@ fn lies_about_the_answer(rt: HostRuntime) -> Result<(), Fail> {
 fn refusals(rt: HostRuntime) -> Result<(), Fail> {
     let alloc = rt.alloc();
     let right = proved(alloc, QUERY)?;
-    let other = proved(alloc, "node(2);out;")?;
+    // It needs a node of the tree of tags beside those that the query needs.
+    let other = proved(alloc, BY_TAG)?;
     let root = right.root.0.as_slice();
     let wrong = response(alloc, root, &right.answer, &other.proof)?;
     let cut = response(alloc, root, &right.answer, &right.proof[1..])?;
@@ -90,7 +91,7 @@ fn refusals(rt: HostRuntime) -> Result<(), Fail> {
         (
             wrong.as_slice(),
             LIMIT,
-            MirrorFault::Proof(Why::NodeMissing),
+            MirrorFault::Proof(Why::NodeUnused),
             Status::No,
         ),
         (

@@ -15,6 +15,8 @@ r100 Ttype=route Mw10@outer,n99@stop,r100@
 
 pub(super) const QUERY: &str = "node(1);out;";
 
+pub(super) const BY_TAG: &str = "node[highway=crossing];out;";
+
 pub(super) const OPL: &str = "n1 Thighway=crossing x13.4 y52.5\n";
 
 pub(super) const JSON: &str = "{\"version\":0.6,\"generator\":\"osm_mirror\",\"elements\":[\n\

@@ -1,6 +1,6 @@
 //! What a reply shows.
 
-use super::mirrors::{QUERY, proved};
+use super::mirrors::{BY_TAG, QUERY, proved};
 use mirror_answer::{MirrorFault, Shown, show};
 use mirror_reply::Parts;
 use osm_check::Why;
@@ -37,15 +37,11 @@ fn shows_no_answer(rt: HostRuntime) -> Result<(), Fail> {
     for (query, named, fault) in [
         ("node(1)", right.root.0.as_slice(), None),
         (
-            "node(2);out;",
+            BY_TAG,
             right.root.0.as_slice(),
             Some(MirrorFault::Proof(Why::NodeMissing)),
         ),
-        (
-            "node(2);out;",
-            other.as_slice(),
-            Some(MirrorFault::OtherRoot),
-        ),
+        (BY_TAG, other.as_slice(), Some(MirrorFault::OtherRoot)),
     ] {
         let parts = Parts {
             root: named,
