@@ -85,7 +85,12 @@ fn refusals(rt: HostRuntime) -> Result<(), Fail> {
     let other = proved(alloc, BY_TAG)?;
     let root = right.root.0.as_slice();
     let wrong = response(alloc, root, &right.answer, &other.proof)?;
-    let cut = response(alloc, root, &right.answer, &right.proof[1..])?;
+    let cut = response(
+        alloc,
+        root,
+        &right.answer,
+        right.proof.get(1..).unwrap_or(b""),
+    )?;
     let elsewhere = response(alloc, &[7; 32], &right.answer, &other.proof)?;
     let rows = [
         (
