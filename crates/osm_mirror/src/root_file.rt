@@ -3,13 +3,15 @@
 use hex::FromHex;
 use osm_relay::Roots;
 use std::fs;
-use std::fs::{File, Metadata};
-use std::io::Read;
+use std::fs::Metadata;
 use std::os::unix::fs::MetadataExt;
 use tree_node::Digest;
 
 /// How many digits a root has.
 const DIGITS: usize = 64;
+
+/// How many bytes the file may have.
+const SIZE_LIMIT: u64 = 4096;
 
 /// The root that is in force: the one that was given first, or the one that a file tells, which is read again whenever it
 /// has changed. As long as the file isn't there, or doesn't begin with 64 hexadecimal digits and a line end, the root that was
@@ -61,8 +63,8 @@ impl<'a> RootFile<'a> {
             return;
         };
         let mark = Mark::of(&found);
-        // Reading a pipe could take for ever.
-        if self.read == Some(mark) || !found.is_file() {
+        // Reading a pipe could take for ever, and so could a file that holds something else.
+        if self.read == Some(mark) || !found.is_file() || found.len() > SIZE_LIMIT {
             return;
         }
         self.read = Some(mark);
@@ -83,20 +85,12 @@ impl Roots for RootFile<'_> {
 
 /// The root that the file begins with: its digits, of either case, and then nothing, or the end of the line.
 fn read_root(rt: &HostRuntime, path: &str) -> Option<Digest> {
-    let mut file = File::open(rt, path).ok()?;
-    let mut front = [0; DIGITS + 1];
-    let mut len = 0;
-    while len < front.len() {
-        match file.read(&mut front[len..]) {
-            Ok(0) => break,
-            Ok(count) => len += count,
-            Err(_) => return None,
-        }
+    let text = fs::read(rt, path).ok()?;
+    match text.get(DIGITS) {
+        None | Some(b'\n' | b'\r') => {}
+        Some(_) => return None,
     }
-    if len == front.len() && !matches!(front[DIGITS], b'\n' | b'\r') {
-        return None;
-    }
-    let digits = front[..len].get(..DIGITS)?;
+    let digits = text.get(..DIGITS)?;
     match <[u8; 32] as FromHex>::from_hex(digits) {
         Ok(root) => Some(Digest(root)),
         Err(_) => None,
