@@ -56,7 +56,8 @@ def check_command(tally):
 
 
 def check_refused(tally):
-    """Each allocation, read and write refused in turn: the old file, or the whole new one."""
+    """Each allocation, read and write refused in turn: the old file, or the whole new one. (Where memory runs out for the name
+    of the file that is written, that is a file that can't be made.)"""
     whole = set_file(b"F").read_bytes()
     with tempfile.TemporaryDirectory() as folder:
         room = Path(folder)
@@ -65,7 +66,7 @@ def check_refused(tally):
         root = published(after, 1)
         after.unlink()
         ended = DELETE_WAY + b"# root " + root + b"\n"
-        for kind, line in [("REFUSE_ALLOCATION", b"no memory\n"), ("REFUSE_READ", b"device\n"), ("REFUSE_WRITE", b"device\n")]:
+        for kind, lines in [("REFUSE_ALLOCATION", (b"no memory\n", b"device\n")), ("REFUSE_READ", (b"device\n",)), ("REFUSE_WRITE", (b"device\n",))]:
             number = 0
             while True:
                 number += 1
@@ -77,7 +78,7 @@ def check_refused(tally):
                 mark.unlink()
                 text = changes.read_bytes()
                 is_whole = outcome == Outcome(root + b"\n", b"", 0) and text == ended
-                is_refused = (outcome.stderr, outcome.status) == (line, 3) and text in (DELETE_WAY, ended)
+                is_refused = outcome.stderr in lines and outcome.status == 3 and text in (DELETE_WAY, ended)
                 tally.check(f"{kind} {number}", is_whole or is_refused, outcome, text)
                 tally.check(f"{kind} {number}: nothing is left", list(room.iterdir()) == [changes], list(room.iterdir()))
             tally.check(f"{kind}: some were refused", number > 2, number)

@@ -202,7 +202,7 @@ def check_limits(tally):
         outcome = fetched(place, "--max-size", "1000000")
     tally.check("too large", outcome == refused(b"the mirror's response is too long", 3), outcome)
     begun = time.monotonic()
-    with mirror(announced, *[b"x"] * 400, pause=0.05) as place:
+    with mirror(announced, *[b"\0"] * 400, pause=0.05) as place:
         outcome = fetched(place)
     took = time.monotonic() - begun
     tally.check("too slow", outcome == refused(b"the mirror went silent", 3) and 9 < took < 25, took, outcome)
