@@ -233,6 +233,43 @@ def check_connections(tally, place):
     tally.check("a bad root", outcome == Outcome(b"", b"bad root\n", 2), outcome)
 
 
+def check_fallbacks(tally, place, proof):
+    """Where a mirror fails in any way, the next one is asked; the fault that is told is that of the last one."""
+    query = f"[out:json];{QUERY}"
+    with socket.create_server(("127.0.0.1", 0)) as listening:
+        nobody = f"127.0.0.1:{listening.getsockname()[1]}"
+    with relay(nobody, "--fallback", place) as running:
+        status, _, body = asked(running.site, query)
+    tally.check("the second mirror", (status, body) == (200, JSON), status, body)
+    with mirror(response(checked_body(ANSWER, b""))) as liar, relay(liar, "--fallback", nobody, "--fallback", place) as running:
+        status, _, body = asked(running.site, query)
+    tally.check("the third mirror", (status, body) == (200, JSON), status, body)
+    with mirror(response(checked_body(ANSWER, proof[:-1]))) as liar, relay(nobody, "--fallback", liar) as running:
+        status, _, body = asked(running.site, query)
+    tally.check("no mirror", (status, error_of(body)) == (502, "the mirror's proof is refused: C2"), status, body)
+
+
+def check_root_file(tally, place):
+    """The root of a file is in force as soon as the file is there, and again when it changes; another file changes nothing."""
+    query = f"[out:json];{QUERY}"
+    with tempfile.TemporaryDirectory() as folder:
+        path = Path(folder) / "root"
+        with relay(place, "--root-file", path, root=OTHER_ROOT) as running:
+            for text, want in [
+                (None, 502),
+                (b"no root\n", 502),
+                (ROOT.encode() + b"\n", 200),
+                (ROOT.encode() + b"0\n", 200),
+                (OTHER_ROOT.encode() + b"\n", 502),
+                (ROOT.upper().encode(), 200),
+            ]:
+                if text is not None:
+                    (Path(folder) / "next").write_bytes(text)
+                    (Path(folder) / "next").rename(path)
+                status, _, body = asked(running.site, query)
+                tally.check(f"the root of a file: {text}", status == want, status, body)
+
+
 def check_memory(tally, place):
     """Each allocation refused in turn, from the first request on: the answer, 503, or the end; never something else."""
     told = 0
@@ -320,8 +357,10 @@ def main():
             check_overpass(tally, running)
         check_connections(tally, place)
         check_memory(tally, place)
-    with tempfile.TemporaryDirectory() as room:
-        proof = proof_of(Path(room))
+        check_root_file(tally, place)
+        with tempfile.TemporaryDirectory() as room:
+            proof = proof_of(Path(room))
+        check_fallbacks(tally, place, proof)
     check_liars(tally, proof)
     check_slow(tally)
     tally.end()
