@@ -67,7 +67,7 @@ def check_refused(tally):
         after.unlink()
         ended = DELETE_WAY + b"# root " + root + b"\n"
         for kind, lines in [("REFUSE_ALLOCATION", (b"no memory\n", b"device\n")), ("REFUSE_READ", (b"device\n",)), ("REFUSE_WRITE", (b"device\n",))]:
-            number = 0
+            number = named = 0
             while True:
                 number += 1
                 changes.write_bytes(DELETE_WAY)
@@ -79,9 +79,14 @@ def check_refused(tally):
                 text = changes.read_bytes()
                 is_whole = outcome == Outcome(root + b"\n", b"", 0) and text == ended
                 is_refused = outcome.stderr in lines and outcome.status == 3 and text in (DELETE_WAY, ended)
+                if kind == "REFUSE_ALLOCATION" and outcome.stderr == b"device\n":
+                    # (the name of the file beside the place, and nothing else, is told as a device)
+                    named += 1
+                    is_refused = is_refused and text == DELETE_WAY
                 tally.check(f"{kind} {number}", is_whole or is_refused, outcome, text)
                 tally.check(f"{kind} {number}: nothing is left", list(room.iterdir()) == [changes], list(room.iterdir()))
             tally.check(f"{kind}: some were refused", number > 2, number)
+            tally.check(f"{kind}: no more than two are told as a device", named <= 2, named)
 
 
 def check_served(tally):
