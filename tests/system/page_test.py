@@ -12,6 +12,7 @@ import math
 import re
 import shutil
 import subprocess
+import sys
 import tempfile
 import threading
 import time
@@ -809,6 +810,21 @@ def check_large(tally, page, mirror, root):
     print(f"everything: {verdict}; {details}")
 
 
+def check_extract(tally, page, site, mirror, plain, root):
+    """Answers over a set of 118 MB: an object, a box, and a tag of some 15,000 objects. The page says of each what the
+    program says."""
+    opened(page, site)
+    keep_root(page, "extract", root)
+    for query in ("node(4998);out;", "node(51.99,12.99,52.01,13.01);out;", 'nwr["name"="Weg"];out;'):
+        state, verdict, details = ask(page, mirror, query, 120)
+        checked = parts_of(asked(plain, query)[1])
+        native = native_verdict(root, query, checked)
+        count = len(checked.answer.splitlines())
+        fits = details.startswith(f"{count:,} object") and count > 0
+        tally.check(f"118 MB: {query}", (state, native) == ("yes", "yes") and fits, state, verdict, details, native)
+        print(f"118 MB, {query}: {verdict}; {details}")
+
+
 def check_paint(tally, page, site):
     """The page is there at once."""
     opened(page, site)
@@ -904,6 +920,11 @@ def check_page(tally, path):
             with server(room / "grid.opl") as grid, lying_mirror(f"http://127.0.0.1:{grid.port}", QUERY) as third:
                 check_large(tally, page, f"{third}/honest", grid.line.split()[-1].decode())
                 check_memory(tally, page, site, f"{third}/honest", "nwr;out;")
+            with (room / "extract.opl").open("wb") as extract:
+                subprocess.run([sys.executable, TOP / "bench/make_extract.py"], stdout=extract, check=True)
+            with server(room / "extract.opl") as large, lying_mirror(f"http://127.0.0.1:{large.port}", QUERY) as fourth:
+                root = large.line.split()[-1].decode()
+                check_extract(tally, page, site, f"{fourth}/honest", f"http://127.0.0.1:{large.port}", root)
         silent = ("Failed to load resource", "net::ERR", "blocked by CORS", "Access to fetch")
         loud = [it for it in page.complaints if not any(word in it for word in silent)]
         tally.check("the page complains of nothing else", loud == [], loud)

@@ -1,16 +1,4 @@
+pub mod shared
 pub mod Steps
 pub mod Commas
 pub mod PlainTexts
-pub mod JsonTrailing
-pub mod JsonPrinted
-pub mod JsonNumbers
-pub mod JsonObjects
-pub mod JsonDepths
-pub mod JsonKeeps
-pub mod JsonDocuments
-pub mod Stamps
-pub mod XmlValues
-pub mod XmlNames
-pub mod XmlSpelled
-pub mod XmlUnique
-pub mod XmlKeeps

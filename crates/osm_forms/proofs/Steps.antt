@@ -3,6 +3,7 @@ use Rattle.std.proofs.Common.{◌≡◌, ℕ, zero, suc, ◌+◌, ◌<◌, ◌�
 use Rattle.std.specs.List.{join_with_byte}
 use Rattle.std.proofs.lemmas.List.{take-take, take_at}
 use Rattle.osm_model.specs.Bytes.{comma}
+use Rattle.osm_forms.proofs.shared.Separated.{join_with_byte-map}
 
 -- what a step leaves in front of it, the next step's refusal leaves too
 pub front_kept : (old mid new xs : List ℕ) → mid ≡ old ++ xs → take (length mid) new ≡ mid → take (length old) new ≡ old
@@ -19,11 +20,6 @@ refused_later (Err x) old mid new xs e kept = front_kept old mid new xs e kept
 pub appended : {T E : Type 0} (r : Result T E) (old new xs ys : List ℕ) → new ≡ cond (is_ok r) (old ++ xs) old → xs ≡ ys → OnOk r (new ≡ old ++ ys)
 appended (Ok x) old new xs ys e f = e ∙ ap (λ zs. old ++ zs) f
 appended (Err x) old new xs ys e f = tt
-
--- pieces with a separator between two are the first piece, and the others after separators
-pub join_with_byte-map : {X : Type 0} (c : ℕ) (f : X → List ℕ) (x : X) (xs : List X) → join_with_byte c (map f (x ∷ xs)) ≡ f x ++ flat_map (λ y. c ∷ f y) xs
-join_with_byte-map c f x [] = sym (append-nil (f x))
-join_with_byte-map c f x (y ∷ xs) = ap (λ rest. f x ++ (c ∷ rest)) (join_with_byte-map c f y xs)
 
 -- the first item, and each other after a comma
 pub list_written : {T E X : Type 0} (r : Result T E) (item : X → List ℕ) (all others : List X) (first : X) (old mid out : List ℕ) → all ≡ first ∷ others → mid ≡ old ++ item first

@@ -1,9 +1,6 @@
 pub mod internal
 pub mod Words
 pub mod JsonText
-pub mod JsonValues
 pub mod XmlText
-pub mod XmlDocuments
-pub mod XmlTrees
 pub mod Forms
 pub mod Documents

@@ -1,8 +1,7 @@
 //! Objects in the forms of answers: OPL, JSON and XML.
 //!
 //! A [`Form`] writes one object, the name of one object, and the document around the text of all objects of an
-//! answer. The laws say what the documents are: a JSON document is one JSON value, and tells each object in full; an
-//! XML document is well-formed, and tells each object but for the characters that XML 1.0 can't hold.
+//! answer. What the documents say to whoever reads them are laws of the crate `osm_form_laws`.
 #![tactic(auto)]
 
 mod document;
@@ -21,7 +20,4 @@ mod xml_text;
 
 pub use document::DocumentParts;
 pub use form::Form;
-pub use laws::{
-    commas_between, json_document_is_read, json_object_is_read, xml_document_is_well_formed,
-    xml_object_is_read,
-};
+pub use laws::commas_between;

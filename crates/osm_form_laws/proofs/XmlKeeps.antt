@@ -22,12 +22,12 @@ use Rattle.osm_model.specs.declared.out_mode.OutMode.TheVariants as modes
 use Rattle.osm_model.specs.declared.reference.Ref.{Ref}
 use Rattle.osm_model.specs.declared.tag.Tag.{Tag}
 use Rattle.osm_model.proofs.shared.ObjectParts.{same_element, same_meta}
-use Rattle.osm_forms.specs.XmlDocuments.{Attribute, Content, SpellsTree, Tree, child, element, nothing}
+use Rattle.osm_form_laws.specs.XmlDocuments.{Attribute, Content, SpellsTree, Tree, child, element, nothing}
 use Rattle.osm_forms.specs.XmlText.{xml_of}
-use Rattle.osm_forms.specs.XmlTrees.{attribute, body_trees, children, held_body, held_characters, held_element, held_member, held_tag, held_text, kept_attributes, kept_trees, known_moment, known_number, known_user, member_tree, node_tree, object_tree, place_attributes, tag_tree}
-use Rattle.osm_forms.proofs.JsonKeeps.{same_degrees, same_kind, same_moment, same_place, same_signed, same_version, version_fits}
-use Rattle.osm_forms.proofs.XmlSpelled.{object_spelled}
-use Rattle.osm_forms.proofs.XmlUnique.{one_tree}
+use Rattle.osm_form_laws.specs.XmlTrees.{attribute, body_trees, children, held_body, held_characters, held_element, held_member, held_tag, held_text, kept_attributes, kept_trees, known_moment, known_number, known_user, member_tree, node_tree, object_tree, place_attributes, tag_tree}
+use Rattle.osm_form_laws.proofs.JsonKeeps.{same_degrees, same_kind, same_moment, same_place, same_signed, same_version, version_fits}
+use Rattle.osm_form_laws.proofs.XmlSpelled.{object_spelled}
+use Rattle.osm_form_laws.proofs.XmlUnique.{one_tree}
 use lib.Utf8.{encodes}
 
 -- ---- lists

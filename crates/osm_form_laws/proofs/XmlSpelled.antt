@@ -28,13 +28,13 @@ use Rattle.opl_codec.proofs.shared.CanonicalValues.{IsNumeric, coordinate_numeri
 use Rattle.osm_forms.specs.Documents.{document_in, xml_header}
 use Rattle.osm_forms.specs.Forms.{form_text}
 use Rattle.osm_forms.specs.Words.{kind_word}
-use Rattle.osm_forms.specs.XmlDocuments.{Attribute, HasDistinctNames, IsName, SpellsAttribute, SpellsAttributes, SpellsContent, SpellsTree, SpellsValue, SpellsXml, Tree, element, nothing, one_tag, with_tags}
+use Rattle.osm_form_laws.specs.XmlDocuments.{Attribute, HasDistinctNames, IsName, SpellsAttribute, SpellsAttributes, SpellsContent, SpellsTree, SpellsValue, SpellsXml, Tree, element, nothing, one_tag, with_tags}
 use Rattle.osm_forms.specs.XmlText.{quote, xml_attributes, xml_author, xml_change, xml_children, xml_content, xml_end, xml_head, xml_member, xml_meta, xml_moment, xml_node, xml_number, xml_of, xml_ref, xml_tag, xml_tags, xml_text, xml_user}
-use Rattle.osm_forms.specs.XmlTrees.{attribute, body_trees, children, document_tree, held_characters, kept_attributes, kept_trees, known_moment, known_number, known_user, lines, member_tree, meta_attributes, node_tree, object_tree, place_attributes, tag_tree}
+use Rattle.osm_form_laws.specs.XmlTrees.{attribute, body_trees, children, document_tree, held_characters, kept_attributes, kept_trees, known_moment, known_number, known_user, lines, member_tree, meta_attributes, node_tree, object_tree, place_attributes, tag_tree}
 use Rattle.osm_forms.specs.declared.form.Form.TheVariants as forms
-use Rattle.osm_forms.proofs.Stamps.{IsStampByte, moment_bytes}
-use Rattle.osm_forms.proofs.XmlNames.{differ, name_of, object_names_differ, plain_of}
-use Rattle.osm_forms.proofs.XmlValues.{IsPlain, plain_spelled, text_spelled}
+use Rattle.osm_form_laws.proofs.Stamps.{IsStampByte, moment_bytes}
+use Rattle.osm_form_laws.proofs.XmlNames.{differ, name_of, object_names_differ, plain_of}
+use Rattle.osm_form_laws.proofs.XmlValues.{IsPlain, plain_spelled, text_spelled}
 
 -- ---- values
 

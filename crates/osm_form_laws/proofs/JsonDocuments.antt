@@ -19,13 +19,13 @@ use Rattle.osm_model.specs.declared.out_mode.OutMode.TheVariants as modes
 use Rattle.osm_forms.specs.Documents.{document_in, json_header, json_trailer}
 use Rattle.osm_forms.specs.Forms.{form_text}
 use Rattle.osm_forms.specs.JsonText.{json_of}
-use Rattle.osm_forms.specs.JsonValues.{SpellsJson, document_value, items_of, members_of, object_members, object_value}
+use Rattle.osm_form_laws.specs.JsonValues.{SpellsJson, document_value, items_of, members_of, object_members, object_value}
 use Rattle.osm_forms.specs.declared.form.Form.TheVariants as forms
-use Rattle.osm_forms.proofs.JsonDepths.{document_fine, object_value_fine}
-use Rattle.osm_forms.proofs.JsonKeeps.{one_value_object}
-use Rattle.osm_forms.proofs.JsonObjects.{json_of-value}
-use Rattle.osm_forms.proofs.JsonTrailing.{tokens-trailing}
-use Rattle.osm_forms.proofs.JsonPrinted.{ended, members_end}
+use Rattle.osm_form_laws.proofs.JsonDepths.{document_fine, object_value_fine}
+use Rattle.osm_form_laws.proofs.JsonKeeps.{one_value_object}
+use Rattle.osm_form_laws.proofs.JsonObjects.{json_of-value}
+use Rattle.osm_form_laws.proofs.JsonTrailing.{tokens-trailing}
+use Rattle.osm_form_laws.proofs.JsonPrinted.{ended, members_end}
 
 -- a token with the blanks before it
 abbrev Spaced : Type 0

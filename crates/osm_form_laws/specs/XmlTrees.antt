@@ -15,7 +15,7 @@ use Rattle.osm_model.specs.declared.out_mode.OutMode.{OutMode}
 use Rattle.osm_model.specs.declared.out_mode.OutMode.TheVariants as modes
 use Rattle.osm_model.specs.declared.tag.Tag.{Tag}
 use Rattle.osm_forms.specs.Words.{kind_word}
-use Rattle.osm_forms.specs.XmlDocuments.{Attribute, Content, Tree, child, element, line_end, nothing}
+use Rattle.osm_form_laws.specs.XmlDocuments.{Attribute, Content, Tree, child, element, line_end, nothing}
 use Rattle.osm_forms.specs.XmlText.{is_referred, is_xml_character, replacement}
 
 -- ---- texts

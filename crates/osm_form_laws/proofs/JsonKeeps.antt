@@ -33,7 +33,7 @@ use Rattle.osm_model.proofs.shared.ReadBack.{reads_back}
 use Rattle.opl_codec.specs.Values.{SpellsNumber, SpellsStamp}
 use Rattle.opl_codec.proofs.shared.CanonicalValues.{number_spells, stamp_spells}
 use Rattle.opl_codec.proofs.shared.ValueLaws.{one_number, one_stamp}
-use Rattle.osm_forms.specs.JsonValues.{Named, array_of, body_members, id_value, items_of, kept_members, known_moment, known_number, known_user, member_value, members_of, object_members, object_of, object_value, tag_member, tags_members}
+use Rattle.osm_form_laws.specs.JsonValues.{Named, array_of, body_members, id_value, items_of, kept_members, known_moment, known_number, known_user, member_value, members_of, object_members, object_of, object_value, tag_member, tags_members}
 use Rattle.osm_forms.specs.Words.{kind_word}
 
 -- ---- values made alike

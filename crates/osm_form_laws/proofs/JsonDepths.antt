@@ -20,9 +20,9 @@ use Rattle.osm_model.specs.declared.meta.Meta.{Meta}
 use Rattle.osm_model.specs.declared.out_mode.OutMode.{OutMode}
 use Rattle.osm_model.specs.declared.out_mode.OutMode.TheVariants as modes
 use Rattle.osm_model.specs.declared.tag.Tag.{Tag}
-use Rattle.osm_forms.specs.JsonValues.{Named, array_of, author_members, body_members, change_members, document_value, id_value, items_of, kept_members, known_moment, known_number, known_user, member_value, members_of, meta_members, object_members, object_of, object_value, tag_member, tags_members}
+use Rattle.osm_form_laws.specs.JsonValues.{Named, array_of, author_members, body_members, change_members, document_value, id_value, items_of, kept_members, known_moment, known_number, known_user, member_value, members_of, meta_members, object_members, object_of, object_value, tag_member, tags_members}
 use Rattle.osm_forms.specs.Words.{kind_word}
-use Rattle.osm_forms.proofs.JsonNumbers.{degrees_number, signed_number}
+use Rattle.osm_form_laws.proofs.JsonNumbers.{degrees_number, signed_number}
 
 -- the value has numbers of JSON alone, and nests no deeper than n
 abbrev pub IsFine : ℕ → Json → Type 0

@@ -23,10 +23,10 @@ use Rattle.osm_model.specs.declared.out_mode.OutMode.{OutMode}
 use Rattle.osm_model.specs.declared.out_mode.OutMode.TheVariants as modes
 use Rattle.osm_model.specs.declared.tag.Tag.{Tag}
 use Rattle.osm_forms.specs.JsonText.{json_author, json_body, json_change, json_member, json_meta, json_moment, json_number, json_of, json_rest, json_string, json_tag, json_tags, json_user}
-use Rattle.osm_forms.specs.JsonValues.{Named, array_of, author_members, body_members, change_members, id_value, kept_members, known_moment, known_number, known_user, member_value, meta_members, object_of, object_value, tag_member, tags_members}
+use Rattle.osm_form_laws.specs.JsonValues.{Named, array_of, author_members, body_members, change_members, id_value, kept_members, known_moment, known_number, known_user, member_value, meta_members, object_of, object_value, tag_member, tags_members}
 use Rattle.osm_forms.specs.Words.{kind_word}
-use Rattle.osm_forms.proofs.Stamps.{moment_bytes, stamp_bytes}
-use Rattle.osm_forms.proofs.JsonPrinted.{array_text, joined_members, named_text, next_named, number_text, object_text, string_text, text_of}
+use Rattle.osm_form_laws.proofs.Stamps.{moment_bytes, stamp_bytes}
+use Rattle.osm_form_laws.proofs.JsonPrinted.{array_text, joined_members, named_text, next_named, number_text, object_text, string_text, text_of}
 
 -- ---- members that are numbers or strings
 

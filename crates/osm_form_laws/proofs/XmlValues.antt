@@ -7,9 +7,9 @@ use Rattle.std.specs.Str.{IsUtf8, chars}
 use Rattle.std.proofs.lemmas.Bool.{and_parts, cases_eq, cases_lt, le-leb, lt-leb, ne_eqb}
 use Rattle.std.proofs.lemmas.Str.{encode_ascii, scalars-chars}
 use lib.Utf8.{scalar_cases, scalars}
-use Rattle.osm_forms.specs.XmlDocuments.{Beyond, High, IsWritten, IsXmlCharacter, Itself, Ampersand, CarriageReturn, GreaterThan, LessThan, LineFeed, Low, Numbered, Quote, SpellsValue, Tab, Written, meaning, spelling}
+use Rattle.osm_form_laws.specs.XmlDocuments.{Beyond, High, IsWritten, IsXmlCharacter, Itself, Ampersand, CarriageReturn, GreaterThan, LessThan, LineFeed, Low, Numbered, Quote, SpellsValue, Tab, Written, meaning, spelling}
 use Rattle.osm_forms.specs.XmlText.{replacement, xml_character, xml_text}
-use Rattle.osm_forms.specs.XmlTrees.{held, held_characters}
+use Rattle.osm_form_laws.specs.XmlTrees.{held, held_characters}
 
 -- ---- one character
 

@@ -13,9 +13,9 @@ use Rattle.osm_model.specs.declared.body.Body.TheVariants as bodies
 use Rattle.osm_model.specs.declared.meta.Meta.{Meta}
 use Rattle.osm_model.specs.declared.out_mode.OutMode.{OutMode}
 use Rattle.osm_model.specs.declared.out_mode.OutMode.TheVariants as modes
-use Rattle.osm_forms.specs.XmlDocuments.{Attribute, HasDistinctNames, IsName}
-use Rattle.osm_forms.specs.XmlTrees.{attribute, kept_attributes, known_moment, known_number, known_user, meta_attributes, place_attributes}
-use Rattle.osm_forms.proofs.XmlValues.{IsPlain}
+use Rattle.osm_form_laws.specs.XmlDocuments.{Attribute, HasDistinctNames, IsName}
+use Rattle.osm_form_laws.specs.XmlTrees.{attribute, kept_attributes, known_moment, known_number, known_user, meta_attributes, place_attributes}
+use Rattle.osm_form_laws.proofs.XmlValues.{IsPlain}
 
 -- ---- by tests
 

@@ -1,0 +1,13 @@
+pub mod JsonTrailing
+pub mod JsonPrinted
+pub mod JsonNumbers
+pub mod Stamps
+pub mod JsonObjects
+pub mod JsonDepths
+pub mod JsonKeeps
+pub mod JsonDocuments
+pub mod XmlValues
+pub mod XmlNames
+pub mod XmlSpelled
+pub mod XmlUnique
+pub mod XmlKeeps

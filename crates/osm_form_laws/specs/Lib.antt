@@ -1,0 +1,3 @@
+pub mod JsonValues
+pub mod XmlDocuments
+pub mod XmlTrees

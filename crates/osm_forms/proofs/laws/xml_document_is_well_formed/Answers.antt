@@ -1,5 +1,0 @@
-use Rattle.osm_forms.proofs.XmlSpelled.{xml_document_spells}
-use Rattle.osm_forms.proofs.laws.xml_document_is_well_formed.Goals as goal
-
-pub returns : goal.returns
-returns c = xml_document_spells
