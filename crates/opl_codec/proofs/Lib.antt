@@ -13,7 +13,6 @@ pub mod ReferenceLists
 pub mod ReadFiles
 pub mod ChangeFileLemmas
 pub mod StoppedFiles
-pub mod WriteSteps
 pub mod WriteLists
 pub mod WriteText
 pub mod TextPieces

@@ -2,7 +2,7 @@
 use Rattle.std.proofs.Common.{◌≡◌, ℕ, zero, suc, ◌+◌, ◌<◌, List, [], ◌∷◌, ◌++◌, length, take, get_or, map, flat_map, sym, ◌∙◌, ap, arith, append_assoc, append-nil, add-one, Result, Ok, Err, OnOk}
 use Rattle.std.specs.List.{join_with_byte}
 use Rattle.osm_model.specs.Bytes.{comma, space}
-use Rattle.opl_codec.proofs.WriteSteps.{join_with_byte-map}
+use Rattle.opl_codec.proofs.shared.AppendSteps.{join_with_byte-map}
 
 -- the first item, and each other after a comma
 pub list_written : {T E X : Type 0} (r : Result T E) (letter : ℕ) (item : X → List ℕ) (all others : List X) (first : X) (old mid out : List ℕ) → all ≡ first ∷ others → mid ≡ old ++ (space ∷ letter ∷ item first)

@@ -1,4 +1,5 @@
 -- Lemmas for the crates above.
+pub mod AppendSteps
 pub mod CanonicalFields
 pub mod CanonicalLines
 pub mod CanonicalLists

@@ -54,4 +54,5 @@ pub use load::{
 };
 pub use osm_model::OutMode;
 pub use write_line::write_object;
+pub use write_moment::moment_text;
 pub use write_reference::append_reference;

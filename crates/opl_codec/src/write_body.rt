@@ -12,7 +12,7 @@ use osm_model::{Body, Coord, Kind, Member, Ref, write_degrees};
 use std::alloc::AllocError;
 
 /// Appends a space and the fields of a body, a space between two.
-#[tactic(auto, using(crate::proofs::WriteSteps::one_field))]
+#[tactic(auto, using(crate::proofs::shared::AppendSteps::one_field))]
 pub(crate) fn append_body(body: &Body, out: &mut Vec<u8>) -> Result<(), AllocError>
     ensures ok { OnOk result (out.new.items ≡ out.old.items
         ++ flat_map (λ f. space ∷ f) (body_fields body.now)) }

@@ -9,7 +9,7 @@ use Rattle.json.specs.Tree.{json_tokens, items_tokens, members_tokens}
 use Rattle.json.proofs.Printed.Tokens.{print_from-append}
 use Rattle.osm_model.specs.Bytes.{comma}
 use Rattle.osm_form_laws.specs.JsonValues.{Named, array_of, items_of, members_of, object_of}
-use Rattle.osm_forms.proofs.shared.Separated.{join_with_byte-map}
+use Rattle.opl_codec.proofs.shared.AppendSteps.{join_with_byte-map}
 
 -- the text of a value
 abbrev pub text_of : Json → List ℕ

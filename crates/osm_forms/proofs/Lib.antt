@@ -1,4 +1,3 @@
-pub mod shared
 pub mod Steps
 pub mod Commas
 pub mod PlainTexts

@@ -1,25 +1,8 @@
--- Steps that append, and lists that are written item by item.
-use Rattle.std.proofs.Common.{◌≡◌, ℕ, zero, suc, ◌+◌, ◌<◌, ◌≤◌, List, [], ◌∷◌, ◌++◌, length, take, get_or, map, flat_map, cond, refl, sym, ◌∙◌, ap, arith, append_assoc, append-nil, add-one, Result, Ok, Err, OnOk, OnErr, is_ok, length-append}
+-- Lists that are written item by item, and three steps in a row.
+use Rattle.std.proofs.Common.{◌≡◌, ℕ, zero, suc, ◌+◌, ◌<◌, List, [], ◌∷◌, ◌++◌, length, take, get_or, map, flat_map, sym, ◌∙◌, ap, arith, append_assoc, append-nil, add-one, Result, Ok, Err, OnOk}
 use Rattle.std.specs.List.{join_with_byte}
-use Rattle.std.proofs.lemmas.List.{take-take, take_at}
 use Rattle.osm_model.specs.Bytes.{comma}
-use Rattle.osm_forms.proofs.shared.Separated.{join_with_byte-map}
-
--- what a step leaves in front of it, the next step's refusal leaves too
-pub front_kept : (old mid new xs : List ℕ) → mid ≡ old ++ xs → take (length mid) new ≡ mid → take (length old) new ≡ old
-front_kept old mid new xs e kept =
-    let shorter : length old ≤ length mid = omega (arith, ap length e, length-append old xs) in
-    sym (take-take (length old) (length mid) new shorter) ∙ (ap (take (length old)) (kept ∙ e) ∙ take_at old xs (length old) refl)
-
--- a later step's refusal leaves the front
-pub refused_later : {T E : Type 0} (r : Result T E) (old mid new xs : List ℕ) → mid ≡ old ++ xs → OnErr r (take (length mid) new ≡ mid) → OnErr r (take (length old) new ≡ old)
-refused_later (Ok x) old mid new xs e kept = tt
-refused_later (Err x) old mid new xs e kept = front_kept old mid new xs e kept
-
--- one append, spelled otherwise
-pub appended : {T E : Type 0} (r : Result T E) (old new xs ys : List ℕ) → new ≡ cond (is_ok r) (old ++ xs) old → xs ≡ ys → OnOk r (new ≡ old ++ ys)
-appended (Ok x) old new xs ys e f = e ∙ ap (λ zs. old ++ zs) f
-appended (Err x) old new xs ys e f = tt
+use Rattle.opl_codec.proofs.shared.AppendSteps.{join_with_byte-map}
 
 -- the first item, and each other after a comma
 pub list_written : {T E X : Type 0} (r : Result T E) (item : X → List ℕ) (all others : List X) (first : X) (old mid out : List ℕ) → all ≡ first ∷ others → mid ≡ old ++ item first

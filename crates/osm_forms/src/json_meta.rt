@@ -5,8 +5,8 @@ ghost use Rattle.osm_model.specs.CanonicalLine.{moment};
 ghost use Rattle.osm_forms.specs.JsonText.{json_author, json_change, json_meta, json_moment, json_number, json_user};
 
 use crate::json_string::append_json_string;
-use crate::moment::moment_text;
 use crate::number::{append_labelled_number, append_words};
+use opl_codec::moment_text;
 use osm_model::{Meta, Stamp, Text};
 use std::alloc::AllocError;
 

@@ -11,7 +11,6 @@ mod json_meta;
 mod json_object;
 mod json_string;
 mod laws;
-mod moment;
 mod number;
 mod xml_attribute;
 mod xml_list;

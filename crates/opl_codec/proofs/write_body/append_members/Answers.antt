@@ -1,7 +1,7 @@
 use Rattle.std.proofs.Common.{◌≡◌, ◌++◌, ◌∷◌, rules, append_assoc}
 use Rattle.osm_model.specs.CanonicalLine.{member_text}
 use Rattle.osm_model.specs.Letters.{members_letter}
-use Rattle.opl_codec.proofs.WriteSteps.{refused_later}
+use Rattle.opl_codec.proofs.shared.AppendSteps.{refused_later}
 use Rattle.opl_codec.proofs.WriteLists.{list_written}
 use Rattle.opl_codec.proofs.write_body.append_members.Goals as goal
 

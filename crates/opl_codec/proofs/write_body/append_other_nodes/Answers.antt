@@ -2,7 +2,7 @@ use Rattle.std.proofs.Common.{◌≡◌, ◌++◌, ◌∷◌, pos, get_or, FitsS
 use Rattle.std.specs.Int.{w64}
 use Rattle.osm_model.specs.Bytes.{comma}
 use Rattle.osm_model.specs.CanonicalLine.{node_text}
-use Rattle.opl_codec.proofs.WriteSteps.{front_kept}
+use Rattle.opl_codec.proofs.shared.AppendSteps.{front_kept}
 use Rattle.opl_codec.proofs.WriteLists.{written_more}
 use Rattle.opl_codec.proofs.write_body.append_other_nodes.Goals as goal
 

@@ -1,7 +1,7 @@
 use Rattle.std.proofs.Common.{◌≡◌, ◌++◌, ◌∷◌, rules, subst}
 use Rattle.osm_model.specs.Bytes.{comma}
 use Rattle.osm_model.specs.CanonicalLine.{tag_text}
-use Rattle.opl_codec.proofs.WriteSteps.{front_kept}
+use Rattle.opl_codec.proofs.shared.AppendSteps.{front_kept}
 use Rattle.opl_codec.proofs.WriteLists.{written_more}
 use Rattle.opl_codec.proofs.write_field.append_other_tags.Goals as goal
 

@@ -1,6 +1,6 @@
 use Rattle.std.proofs.Common.{◌≡◌, ◌++◌, [], ◌∷◌, rules, append_assoc}
 use Rattle.osm_model.specs.CanonicalLine.{escaped}
-use Rattle.opl_codec.proofs.WriteSteps.{refused_later}
+use Rattle.opl_codec.proofs.shared.AppendSteps.{refused_later}
 use Rattle.opl_codec.proofs.write_field.append_tag.Goals as goal
 
 pub returns-clause-err : goal.returns-clause-err

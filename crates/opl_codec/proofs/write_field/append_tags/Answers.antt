@@ -1,7 +1,7 @@
 use Rattle.std.proofs.Common.{◌≡◌, ◌++◌, ◌∷◌, rules, append_assoc}
 use Rattle.osm_model.specs.CanonicalLine.{tag_text}
 use Rattle.osm_model.specs.Letters.{tags_letter}
-use Rattle.opl_codec.proofs.WriteSteps.{refused_later}
+use Rattle.opl_codec.proofs.shared.AppendSteps.{refused_later}
 use Rattle.opl_codec.proofs.WriteLists.{list_written}
 use Rattle.opl_codec.proofs.write_field.append_tags.Goals as goal
 

@@ -3,7 +3,7 @@ use Rattle.std.proofs.lemmas.Iterator.{YieldsList-from_chars}
 use Rattle.std.proofs.lemmas.Iterator.Consumers.{YieldsList-end}
 use Rattle.std.proofs.lemmas.List.{flat_map_more, map-id}
 use Rattle.osm_model.specs.CanonicalLine.{escaped, escaped_char}
-use Rattle.opl_codec.proofs.WriteSteps.{front_kept}
+use Rattle.opl_codec.proofs.shared.AppendSteps.{front_kept}
 use Rattle.opl_codec.proofs.write_text.append_characters.Goals as goal
 
 pub returns-in_err-append_character-clause-err : goal.returns-in_err-append_character-clause-err

@@ -1,6 +1,6 @@
 use Rattle.std.proofs.Common.{◌-◌, [], ◌∷◌, ◌∙◌, ap, drop}
 use Rattle.std.proofs.lemmas.List.{take_rest}
-use Rattle.opl_codec.proofs.WriteSteps.{appended}
+use Rattle.opl_codec.proofs.shared.AppendSteps.{appended}
 use Rattle.opl_codec.proofs.WriteText.{last_places}
 use Rattle.opl_codec.proofs.write_text.append_hexadecimal.Goals as goal
 

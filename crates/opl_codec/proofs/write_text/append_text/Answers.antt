@@ -1,7 +1,7 @@
 use Rattle.std.proofs.Common.{sym, ap, ◌∙◌}
 use Rattle.std.specs.List.{list_all}
 use Rattle.osm_model.specs.CanonicalLine.{is_literal}
-use Rattle.opl_codec.proofs.WriteSteps.{appended}
+use Rattle.opl_codec.proofs.shared.AppendSteps.{appended}
 use Rattle.opl_codec.proofs.WriteText.{escaped-literal}
 use Rattle.opl_codec.proofs.write_text.append_text.Goals as goal
 

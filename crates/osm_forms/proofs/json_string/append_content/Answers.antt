@@ -1,6 +1,6 @@
 use Rattle.std.proofs.Common.{sym, ◌∙◌}
 use Rattle.osm_forms.proofs.PlainTexts.{escape-plain}
-use Rattle.osm_forms.proofs.Steps.{appended}
+use Rattle.opl_codec.proofs.shared.AppendSteps.{appended}
 use Rattle.osm_forms.proofs.json_string.append_content.Goals as goal
 
 pub returns-then-are_plain-clause-ok : goal.returns-then-are_plain-clause-ok

@@ -2,7 +2,7 @@ use Rattle.std.proofs.Common.{sym, ap, ◌∙◌}
 use Rattle.std.specs.List.{list_all}
 use Rattle.osm_forms.specs.internal.PlainBytes.{is_plain_byte}
 use Rattle.osm_forms.proofs.PlainTexts.{xml_text-plain}
-use Rattle.osm_forms.proofs.Steps.{appended}
+use Rattle.opl_codec.proofs.shared.AppendSteps.{appended}
 use Rattle.osm_forms.proofs.xml_text.append_xml_str.Goals as goal
 
 pub returns-then-are_plain-clause-ok : goal.returns-then-are_plain-clause-ok

@@ -1,2 +1,0 @@
--- Lemmas for the crates above.
-pub mod Separated
