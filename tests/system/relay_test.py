@@ -1,11 +1,10 @@
 """`relay` between clients of Overpass and mirrors: honest ones, and ones that lie, break off, fall silent or are at another
 root. What a client gets with status 200 is the document that `ask` makes of the same set, and nothing else ever is.
 
-The clients that people use are tried too, where they are installed: overpy, python3-overpass, curl.
+curl is tried too, where it is installed; the programs that people use are those of clients_test.py.
 """
 
 import http.client
-import json
 import os
 import shutil
 import socket
@@ -23,6 +22,9 @@ from pathlib import Path
 from fetch_test import ANSWER, JSON, OBJECTS, OTHER_ROOT, QUERY, ROOT, XML, checked_body, mirror, proof_of, response
 from runs import PROGRAM, SECONDS, Outcome, Tally, built_library, run
 from serve_test import all_of, server
+
+# How many changes are published while clients ask.
+PUBLICATIONS = 8
 
 STATUS = b"Connected as: 0\nCurrent time: 1970-01-01T00:00:00Z\nAnnounced endpoint: none\nRate limit: 1\n1 slots available now.\nCurrently running queries (pid, space limit, time limit, start time):\n"
 
@@ -59,14 +61,14 @@ def relay(place, *words, root=ROOT, refusing=None):
         running.process.communicate()
 
 
-def asked(site, query, path="/api/interpreter", method="POST"):
+def asked(site, query, path="/api/interpreter", method="POST", seconds=SECONDS):
     """The status, the fields and the body of the answer to a query, as a client gets it."""
     if method == "GET":
         request = urllib.request.Request(f"{site}{path}?{urllib.parse.urlencode({'data': query})}")
     else:
         request = urllib.request.Request(f"{site}{path}", data=query.encode())
     try:
-        with urllib.request.urlopen(request, timeout=SECONDS) as got:
+        with urllib.request.urlopen(request, timeout=seconds) as got:
             return got.status, dict(got.headers), got.read()
     except urllib.error.HTTPError as error:
         with error:
@@ -77,6 +79,12 @@ def error_of(body):
     """The text of an error, where Overpass' clients look for it."""
     text = body.decode()
     return text.split('<p><strong style="color:#FF0000">Error</strong>: ')[1].split(" </p>")[0]
+
+
+def root_of(port):
+    """The root that a mirror says it has."""
+    with urllib.request.urlopen(f"http://127.0.0.1:{port}/api/root", timeout=SECONDS) as got:
+        return got.read().decode().strip()
 
 
 def raw(running, request):
@@ -184,25 +192,30 @@ def check_liars(tally, proof):
 
 
 def check_slow(tally):
-    """A mirror that says nothing is given up after ten seconds, and delays nobody else."""
-    with socket.create_server(("127.0.0.1", 0)) as silent, relay(f"127.0.0.1:{silent.getsockname()[1]}") as running:
-        with ThreadPoolExecutor(4) as clients:
-            begun = time.monotonic()
-            waiting = [clients.submit(asked, running.site, f"[out:json];{QUERY}") for _ in range(3)]
-            time.sleep(1)
-            with urllib.request.urlopen(f"{running.site}/api/status", timeout=SECONDS) as got:
-                body = got.read()
-            tally.check("others are served meanwhile", body == STATUS and time.monotonic() - begun < 5, body)
-            before = sum(map(int, Path(f"/proc/{running.process.pid}/stat").read_text().split()[13:15]))
-            time.sleep(3)
-            after = sum(map(int, Path(f"/proc/{running.process.pid}/stat").read_text().split()[13:15]))
-            tally.check("it sleeps meanwhile", after - before < 30, before, after)
-            for answer in waiting:
-                status, _, body = answer.result()
-                told = (status, error_of(body))
-                tally.check("a silent mirror", told == (502, "the mirror went silent"), status, body)
-            took = time.monotonic() - begun
-        tally.check("it is given up in time", 9 < took < 20, took)
+    """A mirror that says nothing, or a byte now and then, is given up after a minute, and delays nobody else."""
+    dripping = [b"HTTP/1.1 200 OK\r\nContent-Length: 1000\r\n\r\n", *[b"x"] * 100]
+    with (
+        socket.create_server(("127.0.0.1", 0)) as silent,
+        relay(f"127.0.0.1:{silent.getsockname()[1]}") as running,
+        mirror(*dripping, pause=2.0) as dripping_mirror,
+        relay(dripping_mirror) as other,
+        ThreadPoolExecutor(4) as clients,
+    ):
+        begun = time.monotonic()
+        waiting = [clients.submit(asked, place.site, f"[out:json];{QUERY}", seconds=90) for place in (running, running, running, other)]
+        time.sleep(1)
+        with urllib.request.urlopen(f"{running.site}/api/status", timeout=SECONDS) as got:
+            body = got.read()
+        tally.check("others are served meanwhile", body == STATUS and time.monotonic() - begun < 5, body)
+        before = sum(map(int, Path(f"/proc/{running.process.pid}/stat").read_text().split()[13:15]))
+        time.sleep(3)
+        after = sum(map(int, Path(f"/proc/{running.process.pid}/stat").read_text().split()[13:15]))
+        tally.check("it sleeps meanwhile", after - before < 30, before, after)
+        for name, answer in zip(("silent", "silent", "silent", "dripping"), waiting):
+            status, _, body = answer.result()
+            tally.check(f"a {name} mirror", (status, error_of(body)) == (502, "the mirror went silent"), status, body)
+        took = time.monotonic() - begun
+    tally.check("they are given up in time", 59 < took < 75, took)
 
 
 def check_idle(tally, running):
@@ -270,6 +283,62 @@ def check_root_file(tally, place):
                 tally.check(f"the root of a file: {text}", status == want, status, body)
 
 
+def check_publishing(tally):
+    """64 clients while the mirror publishes changes, one after the other, and the file of the root follows: each answer is the
+    one of the set whose root it names. Where the mirror is already further than the file, the client is told so."""
+    query = "[out:json];node(1);out meta;"
+    lines = OBJECTS.read_text().splitlines(keepends=True)
+    with tempfile.TemporaryDirectory() as folder:
+        room = Path(folder)
+        changes = room / "changes"
+        changes.mkdir()
+        wanted, roots, texts = {}, [], []
+        for sequence in range(PUBLICATIONS + 1):
+            texts.append(f"n1 v{sequence + 1} dV c5 t2020-01-02T03:04:05Z i7 uAnn Tnumber={sequence} x13.4 y52.5\n")
+            path = room / f"{sequence}.set"
+            path.write_text(texts[-1] + "".join(lines[1:]))
+            roots.append(run([PROGRAM, "publish", path, "--sequence", str(sequence)]).stdout.decode().split()[0])
+            wanted[roots[-1]] = run([PROGRAM, "ask", "--form", "json", query], path.read_bytes()).stdout
+        answers, is_over = [], threading.Event()
+
+        def put(path, text):
+            (room / "next").write_text(text)
+            (room / "next").rename(path)
+
+        def client(_):
+            while not is_over.is_set():
+                answers.append(asked(running.site, query))
+
+        def comes(what, seconds=30):
+            """Waits until this is so, and says whether it came."""
+            end = time.monotonic() + seconds
+            while not what() and time.monotonic() < end:
+                time.sleep(0.02)
+            return what()
+
+        with (
+            server(room / "0.set", "--changes", changes) as publishing,
+            relay(f"127.0.0.1:{publishing.port}", "--root-file", room / "root", root=roots[0]) as running,
+            ThreadPoolExecutor(64) as clients,
+        ):
+            asking = [clients.submit(client, number) for number in range(64)]
+            for sequence in range(1, PUBLICATIONS + 1):
+                put(changes / f"{sequence}.opl", texts[sequence])
+                published = comes(lambda: root_of(publishing.port) == roots[sequence])
+                put(room / "root", roots[sequence] + "\n")
+                seen = comes(lambda: any(fields.get("Osm-Root") == roots[sequence] for status, fields, _ in answers if status == 200))
+                tally.check(f"publication {sequence} comes to the clients", published and seen, published, seen)
+            is_over.set()
+            for one in asking:
+                one.result()
+            last = asked(running.site, query)
+        right = [answer for answer in answers if answer[0] == 200 and answer[2] == wanted.get(answer[1].get("Osm-Root"))]
+        told = [body for status, _, body in answers if status == 502 and error_of(body) == "the mirror answers under another root"]
+        others = [answer for answer in answers if answer[0] not in (200, 502)]
+        tally.check("while the mirror publishes", len(right) + len(told) == len(answers), len(answers), len(right), len(told), others[:2])
+        tally.check("the last root is in force", (last[0], last[2]) == (200, wanted[roots[-1]]), last)
+
+
 def check_memory(tally, place):
     """Each allocation refused in turn, from the first request on: the answer, 503, or the end; never something else."""
     told = 0
@@ -292,7 +361,7 @@ def check_memory(tally, place):
     tally.check("some were told", told > 3, told)
 
 
-# ---- clients that people use ----
+# ---- a client that people use ----
 
 
 def check_curl(tally, running):
@@ -302,43 +371,6 @@ def check_curl(tally, running):
     words = ["curl", "--silent", "--show-error", "--data-urlencode", f"data=[out:json];{QUERY}", f"{running.site}/api/interpreter"]
     outcome = run(words)
     tally.check("curl", outcome == Outcome(JSON, b"", 0), outcome)
-
-
-def check_overpy(tally, running):
-    script = (
-        "import overpy, sys\n"
-        "api = overpy.Overpass(url=sys.argv[1])\n"
-        "result = api.query('[out:json];(node(1);way(10);rel(100););out;')\n"
-        "node = result.nodes[0]\n"
-        "print(node.id, node.lat, node.lon, node.tags, len(result.ways), len(result.relations))\n"
-        "result = api.query('node(1);out meta;')\n"
-        "print(result.nodes[0].attributes['user'])\n"
-        "try:\n    api.query('out count;')\nexcept overpy.exception.OverpassBadRequest as error:\n    print('Q7 byte 4' in str(error))\n"
-    )
-    outcome = run([PYTHON, "-c", script, f"{running.site}/api/interpreter"])
-    if b"No module named" in outcome.stderr:
-        print("SKIPPED: overpy isn't installed")
-        return
-    want = b"1 52.5 13.4 {'highway': 'crossing'} 1 1\nAnn\nTrue\n"
-    tally.check("overpy", (outcome.stdout, outcome.status) == (want, 0), outcome)
-
-
-def check_overpass(tally, running):
-    script = (
-        "import overpass, sys\n"
-        "api = overpass.API(endpoint=sys.argv[1])\n"
-        "print(api.get('node(1)', responseformat='json')['elements'])\n"
-        "print(api.get('node(1)', responseformat='xml').count('<node '))\n"
-    )
-    outcome = run([PYTHON, "-c", script, f"{running.site}/api/interpreter"])
-    if b"No module named" in outcome.stderr:
-        print("SKIPPED: python3-overpass isn't installed")
-        return
-    elements = json.loads(JSON)["elements"]
-    tally.check("overpass", (outcome.stdout, outcome.status) == (f"{elements}\n1\n".encode(), 0), outcome)
-
-
-PYTHON = "/usr/bin/python3"
 
 
 def main():
@@ -353,11 +385,10 @@ def main():
             check_many(tally, running)
             check_idle(tally, running)
             check_curl(tally, running)
-            check_overpy(tally, running)
-            check_overpass(tally, running)
         check_connections(tally, place)
         check_memory(tally, place)
         check_root_file(tally, place)
+        check_publishing(tally)
         with tempfile.TemporaryDirectory() as room:
             proof = proof_of(Path(room))
         check_fallbacks(tally, place, proof)

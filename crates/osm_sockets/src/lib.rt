@@ -1,7 +1,6 @@
 //! The sockets of this machine as the traffic of a server: by readiness, in one thread.
 #![tactic(auto)]
 
-mod listener;
 mod patience;
 mod peer;
 mod sockets;

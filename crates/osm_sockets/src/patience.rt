@@ -20,9 +20,3 @@ pub(crate) const LINGER_LIMIT: usize = 64;
 
 /// How often those that are silent are looked for, in milliseconds.
 pub(crate) const SWEEP_MILLISECONDS: u64 = 500;
-
-/// How long taking a connection isn't tried again after it has failed in passing, in milliseconds.
-pub(crate) const RETRY_MILLISECONDS: u64 = 100;
-
-/// How many times in a row it may fail in passing.
-pub(crate) const FAILURE_LIMIT: u32 = 1000;

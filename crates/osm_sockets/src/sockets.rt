@@ -1,8 +1,8 @@
 //! The sockets of this machine.
 
-use crate::listener::{LISTENER, Listener};
-use crate::patience::{LINGER_LIMIT, RETRY_MILLISECONDS, SWEEP_MILLISECONDS};
+use crate::patience::{LINGER_LIMIT, SWEEP_MILLISECONDS};
 use crate::peer::{Peer, SocketRead};
+use loopback_listener::{LISTENER, Listener, NotTaken, RETRY_MILLISECONDS};
 use mio::event::Event;
 use mio::net::TcpStream;
 use mio::{Events, Interest, Poll, Token};
@@ -301,8 +301,10 @@ impl<'a> Traffic for Sockets<'a> {
 
     fn take(&mut self, number: u32) -> Result<bool, TrafficFault> {
         self.refresh();
-        let Some(mut stream) = self.listener.accept(self.now)? else {
-            return Ok(false);
+        let mut stream = match self.listener.accept(self.now) {
+            Ok(Some(stream)) => stream,
+            Ok(None) => return Ok(false),
+            Err(NotTaken) => return Err(TrafficFault::Device),
         };
         if !self.register(&mut stream, number) {
             return Ok(false);

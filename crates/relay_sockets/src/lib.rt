@@ -2,7 +2,6 @@
 #![tactic(auto)]
 
 mod leaving;
-mod listener;
 mod mirror;
 mod patience;
 mod plug;

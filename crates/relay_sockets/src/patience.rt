@@ -1,10 +1,16 @@
 //! How long clients and mirrors may take, and how often the system is asked.
 
-/// How long a client or a mirror that is waited for may send and take nothing, in seconds.
+/// How long a client that is waited for may send and take nothing, in seconds.
 pub(crate) const IDLE_SECONDS: u64 = 10;
 
 /// How many bytes of its response a client has to take in each [`IDLE_SECONDS`].
 pub(crate) const PACE_BYTES: u64 = 1_048_576;
+
+/// How long a mirror may send and take nothing, in seconds: it may have much to work out.
+pub(crate) const MIRROR_IDLE_SECONDS: u64 = 60;
+
+/// How many bytes more a mirror has to give in each [`IDLE_SECONDS`] after that.
+pub(crate) const MIRROR_PACE_BYTES: u64 = 65_536;
 
 /// How long a client may take to send its request, in seconds.
 pub(crate) const REQUEST_SECONDS: u64 = 60;
@@ -20,9 +26,3 @@ pub(crate) const LINGER_LIMIT: usize = 64;
 
 /// How often those that are silent are looked for, in milliseconds.
 pub(crate) const SWEEP_MILLISECONDS: u64 = 500;
-
-/// How long taking a client isn't tried again after it has failed in passing, in milliseconds.
-pub(crate) const RETRY_MILLISECONDS: u64 = 100;
-
-/// How many times in a row it may fail in passing.
-pub(crate) const FAILURE_LIMIT: u32 = 1000;

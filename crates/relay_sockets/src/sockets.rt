@@ -1,11 +1,11 @@
 //! The sockets of this machine.
 
 use crate::leaving::Leaving;
-use crate::listener::{LISTENER, Listener};
 use crate::mirror::Mirror;
-use crate::patience::{LINGER_LIMIT, RETRY_MILLISECONDS, SWEEP_MILLISECONDS};
+use crate::patience::{LINGER_LIMIT, SWEEP_MILLISECONDS};
 use crate::plug::Plug;
 use crate::talk::Talk;
+use loopback_listener::{LISTENER, Listener, NotTaken, RETRY_MILLISECONDS};
 use mio::net::TcpStream;
 use mio::{Events, Interest, Poll, Token};
 use mirror_reply::is_host;
@@ -25,7 +25,8 @@ const EVENTS: usize = 256;
 /// queue until a turn moves nothing.
 ///
 /// A client may send nothing for 10 seconds, and has 60 seconds for its request; it has to take its response at 1 MiB in 10
-/// seconds at least. A mirror may send and take nothing for 10 seconds.
+/// seconds at least. A mirror may send and take nothing for 60 seconds, and has 60 seconds for its response and 10 more for
+/// each 64 KiB of it.
 #[derive(Drop)]
 pub struct Sockets<'a> {
     rt: &'a HostRuntime,
@@ -205,8 +206,10 @@ impl<'a> Network<Plug> for Sockets<'a> {
 
     fn take(&mut self, number: u32) -> Result<Option<Plug>, RelayFault> {
         self.refresh();
-        let Some(stream) = self.listener.accept(self.now)? else {
-            return Ok(None);
+        let stream = match self.listener.accept(self.now) {
+            Ok(Some(stream)) => stream,
+            Ok(None) => return Ok(None),
+            Err(NotTaken) => return Err(RelayFault::Device),
         };
         let Some(plug) = self.plug(stream, 2 * number as usize) else {
             return Ok(None);

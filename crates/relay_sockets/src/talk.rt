@@ -1,6 +1,8 @@
 //! What is known of a conversation that is open.
 
-use crate::patience::{IDLE_SECONDS, PACE_BYTES, REQUEST_SECONDS};
+use crate::patience::{
+    IDLE_SECONDS, MIRROR_IDLE_SECONDS, MIRROR_PACE_BYTES, PACE_BYTES, REQUEST_SECONDS,
+};
 use osm_relay::{Awaits, Turn};
 use std::time::{Duration, Instant};
 
@@ -59,17 +61,28 @@ impl Talk {
 
     /// Whether what it waits for has taken too long.
     pub(crate) fn is_silent(&self, now: Instant) -> bool {
-        if now.duration_since(self.heard) >= Duration::from_secs(IDLE_SECONDS) {
-            return true;
-        }
+        let idle = now.duration_since(self.heard);
         let waited = now.duration_since(self.since);
         match self.awaits {
-            Awaits::Request => waited >= Duration::from_secs(REQUEST_SECONDS),
-            Awaits::Client => {
-                let periods = (self.moved / PACE_BYTES).saturating_add(1);
-                waited >= Duration::from_secs(IDLE_SECONDS.saturating_mul(periods))
+            Awaits::Request => {
+                idle >= Duration::from_secs(IDLE_SECONDS)
+                    || waited >= Duration::from_secs(REQUEST_SECONDS)
             }
-            Awaits::Mirror | Awaits::Nothing => false,
+            Awaits::Client => {
+                idle >= Duration::from_secs(IDLE_SECONDS)
+                    || waited >= allowed(IDLE_SECONDS, self.moved / PACE_BYTES)
+            }
+            // One that gives a byte now and then would hold a place for ever.
+            Awaits::Mirror => {
+                idle >= Duration::from_secs(MIRROR_IDLE_SECONDS)
+                    || waited >= allowed(MIRROR_IDLE_SECONDS, self.moved / MIRROR_PACE_BYTES)
+            }
+            Awaits::Nothing => idle >= Duration::from_secs(IDLE_SECONDS),
         }
     }
+}
+
+/// So many seconds, and [`IDLE_SECONDS`] more for each of some pieces that have moved.
+fn allowed(seconds: u64, pieces: u64) -> Duration {
+    Duration::from_secs(seconds.saturating_add(IDLE_SECONDS.saturating_mul(pieces)))
 }

@@ -139,7 +139,7 @@ fn refuses_lies(rt: HostRuntime) -> Result<(), Fail> {
     Ok(())
 }
 
-/// Bytes behind the length don't matter, and neither does a mirror that stays open.
+/// Bytes after the length don't matter, and neither does a mirror that stays open.
 #[test]
 fn takes_what_is_whole(rt: HostRuntime) -> Result<(), Fail> {
     let mirror = honest_mirror(&rt, SET, QUERY)?;

@@ -21,7 +21,7 @@ fn answers_a_query(rt: HostRuntime) -> Result<(), Fail> {
     Ok(())
 }
 
-/// The three ways in which clients send a query, and what comes behind the request.
+/// The three ways in which clients send a query, and what comes after the request.
 #[test]
 fn takes_queries_in_each_form(rt: HostRuntime) -> Result<(), Fail> {
     let form =

@@ -1,24 +1,36 @@
 //! The listening socket.
 
-use crate::patience::{FAILURE_LIMIT, RETRY_MILLISECONDS};
+ghost use Rattle.std.specs.Prelude.{◌≡◌, IfOk, IfSome, OnErr, OnOk, false, true};
+ghost use Rattle.loopback_listener.specs.Listening.{IsTried};
+
 use mio::net::{TcpListener, TcpStream};
 use mio::{Interest, Registry, Token};
-use osm_traffic::TrafficFault;
 use std::io;
 use std::io::ErrorKind;
+use std::marker::Model;
 use std::net::SocketAddr;
 use std::time::{Duration, Instant};
 
-/// The token of the listening socket. A connection has its number, which is less.
-pub(crate) const LISTENER: Token = Token(usize::MAX);
+/// The token of the listening socket. Those of connections are less.
+pub const LISTENER: Token = Token(usize::MAX);
+
+/// How long taking a connection isn't tried again after it has failed in passing, in milliseconds.
+pub const RETRY_MILLISECONDS: u64 = 100;
+
+/// How many times in a row it may fail in passing.
+pub const FAILURE_LIMIT: u32 = 1000;
 
 /// The numbers that Linux gives to failures of `accept` which pass: EPERM, EINTR, ENOMEM, ENFILE, EMFILE, EPROTO,
 /// ENETDOWN, ECONNABORTED, ENOBUFS and EHOSTUNREACH (accept(2)).
 const PASSING: [i32; 10] = [1, 4, 12, 23, 24, 71, 100, 103, 105, 113];
 
+/// No further connection can be taken: `accept` failed in a way that doesn't pass, or a thousand times in a row.
+#[derive(Clone, Copy, Debug, PartialEq, Eq)]
+pub struct NotTaken;
+
 /// A socket that listens for clients of this machine (127.0.0.1), and what is known of it.
 #[derive(Drop)]
-pub(crate) struct Listener {
+pub struct Listener {
     socket: TcpListener,
     /// A connection may wait: no `accept` has said since that there is none.
     is_waiting: bool,
@@ -30,9 +42,28 @@ pub(crate) struct Listener {
     failed: Option<Instant>,
 }
 
+impl Model for Listener {
+    ghost use Rattle.loopback_listener.specs.Listening.{Listening};
+
+    ghost Value = { Listening };
+
+    ghost view = { λ l. record {
+      is_waiting = l.is_waiting;
+      is_sure = l.is_sure;
+      failures = l.failures;
+    } };
+}
+
 impl Listener {
-    /// Listens on this port; 0 asks for any that is free.
-    pub(crate) fn open(rt: &HostRuntime, port: u16, registry: &Registry) -> io::Result<Listener> {
+    /// Listens on this port, and has the system tell of connections that wait; 0 asks for any port that is free. Refused
+    /// with what the system says where the port can't be had.
+    pub fn open(rt: &HostRuntime, port: u16, registry: &Registry) -> io::Result<Listener>
+        ensures { IfOk result (λ listener. listener ≡ record {
+          is_waiting = true;
+          is_sure = false;
+          failures = 0;
+        }) }
+    {
         let mut socket = TcpListener::bind(rt, SocketAddr::from(([127, 0, 0, 1], port)))?;
         registry.register(&mut socket, LISTENER, Interest::READABLE)?;
         Ok(Listener {
@@ -44,29 +75,41 @@ impl Listener {
         })
     }
 
-    /// Where it listens.
-    pub(crate) fn address(&self) -> io::Result<SocketAddr> {
+    /// Where it listens. Refused with what the system says where it doesn't tell.
+    pub fn address(&self) -> io::Result<SocketAddr> {
         self.socket.local_addr()
     }
 
     /// Notes that the system says that a connection waits.
-    pub(crate) fn note(&mut self) {
+    pub fn note(&mut self)
+        ensures { self.new ≡ record {
+          is_waiting = true;
+          is_sure = true;
+          failures = self.old.failures;
+        } }
+    {
         self.is_waiting = true;
         self.is_sure = true;
     }
 
     /// Whether a connection may wait.
-    pub(crate) fn is_waiting(&self) -> bool {
+    pub fn is_waiting(&self) -> bool
+        ensures { result ≡ self.now.is_waiting }
+    {
         self.is_waiting
     }
 
-    /// Whether the system has said that one waits, and none was taken since.
-    pub(crate) fn is_sure(&self) -> bool {
+    /// Whether the system has said that one waits, and taking one wasn't tried since.
+    pub fn is_sure(&self) -> bool
+        ensures { result ≡ self.now.is_sure }
+    {
         self.is_sure
     }
 
     /// Whether one may wait, but taking it has failed a moment ago.
-    pub(crate) fn is_paused(&self, now: Instant) -> bool {
+    pub fn is_paused(&self, now: Instant) -> bool
+        ensures { result ≡ true → self.now.is_waiting ≡ true }
+    {
         match self.failed {
             Some(failed) => {
                 self.is_waiting
@@ -77,14 +120,26 @@ impl Listener {
     }
 
     /// Has the system say once more whether a connection waits: registered anew, the socket is told of where one does.
-    pub(crate) fn ask_again(&mut self, registry: &Registry) -> io::Result<()> {
+    /// Refused with what the system says where it can't.
+    pub fn ask_again(&mut self, registry: &Registry) -> io::Result<()>
+        ensures { self.new ≡ record {
+          is_waiting = false;
+          is_sure = self.old.is_sure;
+          failures = self.old.failures;
+        } }
+    {
         self.is_waiting = false;
         registry.reregister(&mut self.socket, LISTENER, Interest::READABLE)
     }
 
     /// Takes the connection that waits, if there is one. A failure that passes is as none, and is to be tried again a
     /// moment later; the thousandth in a row is refused, as any other failure.
-    pub(crate) fn accept(&mut self, now: Instant) -> Result<Option<TcpStream>, TrafficFault> {
+    pub fn accept(&mut self, now: Instant) -> Result<Option<TcpStream>, NotTaken>
+        ensures tried { OnOk result (IsTried self.old self.new) }
+        ensures taken { IfOk result (λ client. IfSome client (λ _. self.new.failures ≡ 0)) }
+        ensures sure { self.new.is_sure ≡ false }
+        ensures refused { OnErr result (self.new.is_waiting ≡ self.old.is_waiting) }
+    {
         self.is_sure = false;
         self.failed = None;
         match self.socket.accept() {
@@ -100,7 +155,7 @@ impl Listener {
             Err(error) => {
                 self.failures = self.failures.saturating_add(1);
                 if self.failures >= FAILURE_LIMIT || !is_passing(&error) {
-                    return Err(TrafficFault::Device);
+                    return Err(NotTaken);
                 }
                 self.failed = Some(now);
                 Ok(None)
