@@ -76,6 +76,7 @@ module _ (p : Publication) (statements : Statements) (answer : List ℕ) (nodes 
   refused_tells (faults.Manifest openings.Malformed) why is never = absurd never
   refused_tells (faults.Manifest openings.Memory) why is never = absurd (cc)
   refused_tells faults.Memory why is never = absurd (cc)
+  refused_tells faults.Work why is never = absurd (cc)
 
   -- the evaluation was refused
   pub refused : {Is : Report → Type 0} (fault : EvalFault) (why : Why) → why_of fault ≡ Some why → Outcome cause_of_evaluation Is needed (uses held old new) (Err fault)
@@ -119,6 +120,7 @@ why_inside faults.Absent why is = let same : EntriesDisagree ≡ why = cc in sub
 why_inside (faults.Walk walks.Memory) why is = absurd (cc)
 why_inside (faults.Manifest openings.Memory) why is = absurd (cc)
 why_inside faults.Memory why is = absurd (cc)
+why_inside faults.Work why is = absurd (cc)
 
 -- the verdict where an evaluation was refused
 pub stopped_judged : (root : List ℕ) (statements : Statements) (answer : List ℕ) (nodes : List (List ℕ)) (fault : EvalFault) (why : Why) → why_of fault ≡ Some why → TellsOfAll root statements answer nodes (No why)

@@ -47,6 +47,7 @@ why_of_no_answer faults.Absent why is = let same : EntriesDisagree ≡ why = cc 
 why_of_no_answer (faults.Walk walks.Memory) why is = absurd (cc)
 why_of_no_answer (faults.Manifest openings.Memory) why is = absurd (cc)
 why_of_no_answer faults.Memory why is = absurd (cc)
+why_of_no_answer faults.Work why is = absurd (cc)
 
 -- what is told from the nodes of a proof that was read
 pub told_owed : (query root proof : List ℕ) (form : Form) (statements : Statements) (nodes : List (List ℕ)) (result : Result Told AllocError) → IsWhole query proof statements nodes

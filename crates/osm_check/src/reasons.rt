@@ -21,7 +21,7 @@ pub(crate) fn unread(fault: QlFault) -> Result<Why, AllocError>
     }
 }
 
-/// The reason where an evaluation was refused: out of memory is none.
+/// The reason where an evaluation was refused: out of memory is none, and neither is a budget, which a check doesn't set.
 pub(crate) fn stopped(fault: EvalFault) -> Result<Why, AllocError>
     ensures { MatchResult result (λ why. why_of fault ≡ Some why) (λ _. why_of fault ≡ None) }
 {
@@ -37,6 +37,7 @@ pub(crate) fn stopped(fault: EvalFault) -> Result<Why, AllocError>
         EvalFault::Form | EvalFault::Absent => Ok(Why::EntriesDisagree),
         EvalFault::Walk(WalkFault::Memory)
         | EvalFault::Manifest(ManifestFault::Memory)
-        | EvalFault::Memory => Err(AllocError),
+        | EvalFault::Memory
+        | EvalFault::Work => Err(AllocError),
     }
 }

@@ -1,6 +1,6 @@
 //! Queries, evaluated over a snapshot.
 
-ghost use Rattle.std.specs.Prelude.{◌≡◌, IfOk, IsTrue, OnOk};
+ghost use Rattle.std.specs.Prelude.{◌≡◌, ◌≢◌, IfOk, IsTrue, OnOk};
 ghost use Rattle.tree_node.specs.Outcomes.{GrownByAll, NoMemory};
 ghost use Rattle.tree_node.specs.Recorders.{RecorderHolds, RecorderUsed};
 ghost use Rattle.tree_node.specs.Shelves.{SameNodes};
@@ -41,9 +41,10 @@ pub(crate) fn evaluate_over(
     }
 }
 
-/// What an evaluation over a snapshot is refused for.
+/// What an evaluation over a snapshot, without a budget, is refused for.
 fn memory_alone(fault: EvalFault) -> AllocError
-    requires { ∥ cause_of_evaluation fault ≡ NoMemory ∥₁ }
+    requires cause { ∥ cause_of_evaluation fault ≡ NoMemory ∥₁ }
+    requires unlimited { fault ≢ EvalFault.Work }
 {
     if !is_memory(fault) {
         unreachable!("the snapshot holds each node that a query needs");
@@ -53,12 +54,12 @@ fn memory_alone(fault: EvalFault) -> AllocError
 
 /// Whether an evaluation was refused for memory, wherever it ran out.
 fn is_memory(fault: EvalFault) -> bool
-    ensures { cause_of_evaluation fault ≡ NoMemory → IsTrue result }
+    ensures { cause_of_evaluation fault ≡ NoMemory → fault ≢ EvalFault.Work → IsTrue result }
 {
     match fault {
         EvalFault::Memory => true,
         EvalFault::Walk(fault) => matches!(fault, WalkFault::Memory),
         EvalFault::Manifest(fault) => matches!(fault, ManifestFault::Memory),
-        EvalFault::Form | EvalFault::Absent => false,
+        EvalFault::Form | EvalFault::Absent | EvalFault::Work => false,
     }
 }

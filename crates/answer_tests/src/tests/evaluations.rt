@@ -1,6 +1,7 @@
 //! Answers, lookups, openings and sinks.
 
 mod answers;
+mod budgets;
 mod contradictions;
 mod fetches;
 mod lookups;

@@ -31,7 +31,7 @@ pub record IsJudged (root : List ℕ) (statements : Statements) (answer : List �
   pub reported : IsReported nodes verdict
   pub tells : TellsOfAll root statements answer nodes verdict
 
--- the reason for a no that a refused evaluation is; out of memory is none
+-- the reason for a no that a refused evaluation is; out of memory is none, and neither is a budget
 abbrev pub why_of : EvalFault → Option Why
 why_of (faults.Walk walks.Missing) = Some whys.NodeMissing
 why_of (faults.Walk (walks.Malformed fault)) = Some whys.NodeMalformed
@@ -44,3 +44,4 @@ why_of (faults.Manifest openings.Missing) = Some whys.NodeMissing
 why_of (faults.Manifest openings.Malformed) = Some whys.NodeMalformed
 why_of (faults.Manifest openings.Memory) = None
 why_of faults.Memory = None
+why_of faults.Work = None

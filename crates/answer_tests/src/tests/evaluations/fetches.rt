@@ -51,6 +51,7 @@ fn check_rows(rt: &(impl Abort + AllocGlobal), set: &str, rows: &[Row]) -> Resul
         let wanted = Report {
             ranges: *ranges,
             fetched: *fetched,
+            work: report.work,
         };
         assert_eq!(rt; report, wanted, "{text}");
         // The shelf gives the manifest too.

@@ -6,8 +6,8 @@ use Rattle.ql_meaning.specs.Meanings.{Means}
 use Rattle.osm_prove.proofs.Proving.{all_held}
 use Rattle.osm_prove.proofs.evaluation.evaluate_over.Goals as goal
 
-pub memory_alone-requires : goal.memory_alone-requires
-memory_alone-requires c = ∥∥₁_map c.args.snapshot.now.own (λ held.
+pub memory_alone-requires-clause-cause : goal.memory_alone-requires-clause-cause
+memory_alone-requires-clause-cause c = ∥∥₁_map c.args.snapshot.now.own (λ held.
     c.in-Err.ensures.served held.0 held.1.is.published (ap (λ d. d.0) c.root.ensures ∙ held.1.root)
     (all_held held.0 (statements_of c.args.query.now) c.args.snapshot.now.stock (RecorderHolds c.args.shelf.now) (RecorderHolds c.evaluate.new.shelf)
     c.requires c.in-Err.ensures.stays held.1.nodes))
