@@ -1,4 +1,4 @@
-use Rattle.std.proofs.Common.{◌++◌, List, Option, Ok, refl, sym, ap, subst, ◌∙◌}
+use Rattle.std.proofs.Common.{◌++◌, ◌*◌, ℕ, length, List, Option, Ok, refl, sym, ap, subst, ◌∙◌}
 use Rattle.std.specs.Option.{ForSome}
 use Rattle.tree_node.proofs.shared.OutcomeLaws.{outcome_stops, uses}
 use Rattle.ql_syntax.specs.Filters.{Filter}
@@ -11,6 +11,11 @@ use Rattle.ql_eval.proofs.CandidateLemmas.{FoundWell}
 use Rattle.ql_eval.proofs.SelectLemmas.{TestedWell, base_asks, base_lawful, candidates_there, kept_set, plan_splits, tests_ask}
 use Rattle.ql_eval.proofs.StepLemmas.{then_same}
 use Rattle.ql_eval.proofs.GivenLemmas.{sets_later}
+use Rattle.osm_model.specs.declared.reference.Ref.{Ref}
+use Rattle.ql_eval.specs.Work.{step_cost}
+use Rattle.ql_eval.specs.internal.Metering.{IsCounted}
+use Rattle.ref_sets.proofs.shared.Results.{on_ok_as}
+use Rattle.ql_eval.proofs.MeterLemmas.{found_well, set_bounded, set_spent, steps_bounded, steps_spent, still}
 use Rattle.ql_eval.proofs.select.answered.Goals as goal
 
 pub returns-in_err-found-clause-answer : goal.returns-in_err-found-clause-answer
@@ -41,3 +46,42 @@ returns-clause-answer g c = λ p is under there lawful.
 
 pub apply_filters-requires-clause-sets_named : goal.apply_filters-requires-clause-sets_named
 apply_filters-requires-clause-sets_named g c = sets_later (lists_of c.args.sets.now.named.items) (λ r. g.met.W.Source.same_gave _ _ r c.find_candidates.ensures.later) c.requires.named
+
+pub returns-in_err-found-clause-bounded : goal.returns-in_err-found-clause-bounded
+returns-in_err-found-clause-bounded g c = λ p is under there lawful clear. still _ _
+
+pub returns-in_err-charge-clause-bounded : goal.returns-in_err-charge-clause-bounded
+returns-in_err-charge-clause-bounded g c = λ p is under there lawful clear.
+    let env = lists_of c.args.sets.now.named.items in
+    let pick = c.args.pick in
+    let plan = c.args.plan.now in
+    let found = c.in_ok-found.found in
+    let allowed = subst (λ (b : Option Filter). ForSome b (Allows pick)) (sym c.base.ensures) (base_lawful pick plan.before plan.base plan.after lawful) in
+    let first = uses (g.W.Source.holds c.find_candidates.new.source) (g.W.Source.used c.args.source.now) (g.W.Source.used c.find_candidates.new.source) in
+    let are = found_well (λ x used. used) clear (subst (λ (b : Option Filter). FoundWell p env pick b first (Ok c.in_ok-found.found)) c.base.ensures (c.in_ok-found.ensures.answer p is under there allowed)) in
+    let counted = subst (λ (n : ℕ). IsCounted c.args.meter.now.spent c.charge.new.self.spent (step_cost * n)) (ap (λ (l : List Ref). length l) c.as_slice.ensures.value) c.charge.ensures in
+    set_bounded _ _ found are (steps_bounded (length found) _ _ counted)
+
+pub returns-clause-bounded : goal.returns-clause-bounded
+returns-clause-bounded g c = λ p is under there lawful clear.
+    let env = lists_of c.args.sets.now.named.items in
+    let pick = c.args.pick in
+    let plan = c.args.plan.now in
+    let found = c.in_ok-found.found in
+    let allowed = subst (λ (b : Option Filter). ForSome b (Allows pick)) (sym c.base.ensures) (base_lawful pick plan.before plan.base plan.after lawful) in
+    let first = uses (g.W.Source.holds c.find_candidates.new.source) (g.W.Source.used c.args.source.now) (g.W.Source.used c.find_candidates.new.source) in
+    let are = found_well (λ x. g.met.W.Source.grows _ _ x c.apply_filters.ensures.later) clear (subst (λ (b : Option Filter). FoundWell p env pick b first (Ok c.in_ok-found.found)) c.base.ensures (c.in_ok-found.ensures.answer p is under there allowed)) in
+    let counted = subst (λ (n : ℕ). IsCounted c.args.meter.now.spent c.charge.new.self.spent (step_cost * n)) (ap (λ (l : List Ref). length l) c.as_slice.ensures.value) c.charge.ensures in
+    set_bounded _ _ found are (steps_bounded (length found) _ _ counted)
+
+pub returns-clause-spent : goal.returns-clause-spent
+returns-clause-spent g c = on_ok_as c.apply_filters.result (λ walked p is under there lawful clear.
+    let env = lists_of c.args.sets.now.named.items in
+    let pick = c.args.pick in
+    let plan = c.args.plan.now in
+    let found = c.in_ok-found.found in
+    let allowed = subst (λ (b : Option Filter). ForSome b (Allows pick)) (sym c.base.ensures) (base_lawful pick plan.before plan.base plan.after lawful) in
+    let first = uses (g.W.Source.holds c.find_candidates.new.source) (g.W.Source.used c.args.source.now) (g.W.Source.used c.find_candidates.new.source) in
+    let are = found_well (λ x. g.met.W.Source.grows _ _ x c.apply_filters.ensures.later) clear (subst (λ (b : Option Filter). FoundWell p env pick b first (Ok c.in_ok-found.found)) c.base.ensures (c.in_ok-found.ensures.answer p is under there allowed)) in
+    let counted = subst (λ (n : ℕ). IsCounted c.args.meter.now.spent c.charge.new.self.spent (step_cost * n)) (ap (λ (l : List Ref). length l) c.as_slice.ensures.value) c.charge.ensures in
+    set_spent _ _ found are (steps_spent (length found) _ _ counted)) c.apply_filters.ensures.walked

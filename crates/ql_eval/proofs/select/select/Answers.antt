@@ -14,6 +14,8 @@ use Rattle.ql_eval.proofs.PlanLemmas.{one_planned}
 use Rattle.ql_eval.proofs.SelectLemmas.{PlannedWell, choice_asks, chosen_asks, select_splits}
 use Rattle.ql_eval.proofs.StepLemmas.{then_same}
 use Rattle.ql_eval.proofs.GivenLemmas.{sets_later}
+use Rattle.ref_sets.proofs.shared.Results.{on_ok_as}
+use Rattle.ql_eval.proofs.MeterLemmas.{found_well, plan_bounded, plan_spent, still}
 use Rattle.ql_eval.proofs.select.select.Goals as goal
 
 pub returns-in_err-plan-clause-answer : goal.returns-in_err-plan-clause-answer
@@ -41,3 +43,26 @@ returns-clause-answer g c = λ p is under there lawful.
 
 pub answered-requires-clause-named : goal.answered-requires-clause-named
 answered-requires-clause-named g c = sets_later (lists_of c.args.sets.now.named.items) (λ r. g.met.W.Source.same_gave _ _ r c.choose_plan.ensures.later) c.requires
+
+pub returns-in_err-plan-clause-bounded : goal.returns-in_err-plan-clause-bounded
+returns-in_err-plan-clause-bounded g c = λ p is under there lawful clear. still _ _
+
+pub returns-clause-bounded : goal.returns-clause-bounded
+returns-clause-bounded g c = λ p is under there lawful clear.
+    let env = lists_of c.args.sets.now.named.items in
+    let pick = c.args.pick in
+    let filters = filters_of c.args.filters.now in
+    let plan = c.in_ok-plan.plan in
+    let first = uses (g.W.Source.holds c.choose_plan.new.source) (g.W.Source.used c.args.source.now) (g.W.Source.used c.choose_plan.new.source) in
+    let chosen = found_well (λ x. g.met.W.Source.grows _ _ x c.answered.ensures.later) clear (subst (λ (k : Option Kind). PlannedWell p k filters first (Ok plan)) c.kind_of.ensures (c.in_ok-plan.ensures.answer p is under)) in
+    plan_bounded _ _ plan chosen (c.answered.ensures.bounded p is (g.met.W.Source.same_under _ _ p c.in_ok-plan.ensures.later under) there (subst (λ (fs : List Filter). AllByRecursion (Allows pick) fs) (sym c.in_ok-plan.ensures.written.0) lawful) clear)
+
+pub returns-clause-spent : goal.returns-clause-spent
+returns-clause-spent g c = on_ok_as c.answered.result (λ spent p is under there lawful clear.
+    let env = lists_of c.args.sets.now.named.items in
+    let pick = c.args.pick in
+    let filters = filters_of c.args.filters.now in
+    let plan = c.in_ok-plan.plan in
+    let first = uses (g.W.Source.holds c.choose_plan.new.source) (g.W.Source.used c.args.source.now) (g.W.Source.used c.choose_plan.new.source) in
+    let chosen = found_well (λ x. g.met.W.Source.grows _ _ x c.answered.ensures.later) clear (subst (λ (k : Option Kind). PlannedWell p k filters first (Ok plan)) c.kind_of.ensures (c.in_ok-plan.ensures.answer p is under)) in
+    plan_spent _ _ plan chosen (spent p is (g.met.W.Source.same_under _ _ p c.in_ok-plan.ensures.later under) there (subst (λ (fs : List Filter). AllByRecursion (Allows pick) fs) (sym c.in_ok-plan.ensures.written.0) lawful) clear)) c.answered.ensures.spent
