@@ -1,5 +1,5 @@
 -- What a meter counts, one work after the other.
-use Rattle.std.proofs.Common.{◌≡◌, ◌⊎◌, inl, inr, ℕ, ◌+◌, ◌*◌, ◌-◌, ◌^◌, ◌<◌, ◌≤◌, ◌≢◌, List, [], ◌∷◌, ◌++◌, length, length-append, min, get_or, drop, take, Option, Some, None, Result, Ok, Err, refl, sym, ap, subst, ◌∙◌, arith}
+use Rattle.std.proofs.Common.{◌≡◌, ◌⊎◌, inl, inr, ℕ, zero, suc, ◌+◌, ◌*◌, ◌-◌, ◌^◌, ◌<◌, ◌≤◌, ◌≢◌, List, [], ◌∷◌, ◌++◌, length, length-append, min, get_or, drop, take, Option, Some, None, Result, Ok, Err, refl, sym, ap, subst, ◌∙◌, arith}
 use Rattle.std.specs.Prelude.{IfSome}
 use Rattle.std.proofs.lemmas.Grind.{flat_map-append}
 use Rattle.std.proofs.lemmas.List.{append-nil, at_drop_all, at_drop_more, take-append-drop, take_more}
@@ -13,8 +13,9 @@ use Rattle.tree_node.specs.Outcomes.{Cause, Outcome}
 use Rattle.tree_node.proofs.shared.OutcomeLaws.{Nodes, clash_more, uses}
 use Rattle.osm_keys.specs.Publications.{Publication}
 use Rattle.ql_syntax.specs.Filters.{Filter}
-use Rattle.ql_syntax.specs.StatementViews.{statement_of, statements_of}
+use Rattle.ql_syntax.specs.StatementViews.{filter_of, filters_of, statement_of, statements_of}
 use Rattle.ql_syntax.specs.Statements.{Statement, Statements, End, Then}
+use Rattle.ql_syntax.specs.declared.filter.Filter as code
 use Rattle.ql_syntax.specs.declared.statement.Stmt.{Stmt}
 use Rattle.ql_meaning.proofs.shared.MeaningLaws.{after_once, one_set}
 use Rattle.ql_meaning.specs.Meanings.{After, Telling, given_by}
@@ -31,8 +32,8 @@ use Rattle.ql_eval.specs.declared.fault.EvalFault.TheVariants as faults
 use Rattle.ql_eval.specs.declared.opening.ManifestFault.{ManifestFault}
 use Rattle.ql_eval.specs.declared.opening.ManifestFault.TheVariants as openings
 use Rattle.ql_eval.specs.internal.TrueFaults.{IsTrueUnder}
-use Rattle.ql_eval.specs.Work.{Both, Bytes, HasNoClash, InRow, IsNodeOf, KeepsBudget, Passes, OfPlan, OfSet, Steps, WorkOf, WorkOfAll, step_cost}
-use Rattle.ql_eval.specs.internal.Metering.{IsBounded, IsCounted, IsGoing, IsReached, IsSpent, greatest}
+use Rattle.ql_eval.specs.Work.{Both, Bytes, HasNoClash, InRow, IsNodeOf, KeepsBudget, Passes, OfPlan, OfSet, Steps, WorkOf, WorkOfAll, read_by, read_by_all, step_cost}
+use Rattle.ql_eval.specs.internal.Metering.{IsBounded, IsCounted, IsGoing, IsLeft, IsReached, IsSpent, greatest}
 use Rattle.ql_eval.proofs.EachLemmas.{needed_as}
 use Rattle.ql_eval.proofs.PlanLemmas.{one_planned}
 
@@ -68,6 +69,9 @@ still Work old n work = omega arith
 pub steps_bounded : (count old new : ℕ) → IsCounted old new (step_cost * count) → IsBounded (Steps count) old new
 steps_bounded count old new so n work = subst (λ (m : ℕ). new ≤ old + m) (sym work.is) so.not_more
 
+pub steps_within : (count old new : ℕ) → new ≤ old + step_cost * count → IsBounded (Steps count) old new
+steps_within count old new so n work = subst (λ (m : ℕ). new ≤ old + m) (sym work.is) so
+
 pub steps_spent : (count old new : ℕ) → IsCounted old new (step_cost * count) → IsSpent (Steps count) old new
 steps_spent count old new so = (step_cost * count, record { is = refl }, so.not_less)
 
@@ -89,6 +93,11 @@ reached_both top old mid new m n (inl a) (inl b) = inl (omega (arith, a, b))
 reached_both top old mid new m n (inr a) (inl b) = inr (omega (arith, a, b))
 reached_both top old mid new m n a (inr b) = inr b
 
+reached_left : (top old mid new whole cost rest : ℕ) → (old + whole ≤ mid + (cost + rest)) ⊎ (top ≤ mid) → (mid + cost ≤ new) ⊎ (top ≤ new) → (old + whole ≤ new + rest) ⊎ (top ≤ new)
+reached_left top old mid new whole cost rest (inl a) (inl b) = inl (omega (arith, a, b))
+reached_left top old mid new whole cost rest (inr a) (inl b) = inr (omega (arith, a, b))
+reached_left top old mid new whole cost rest a (inr b) = inr b
+
 pub both_spent : {First Second : ℕ → Type 0} (old mid new : ℕ) → IsSpent First old mid → IsSpent Second mid new → IsSpent (Both First Second) old new
 both_spent old mid new (m, first, reached) (n, second, reached_too) =
     (m + n, record { first = m; second = n; is_first = first; is_second = second; is = refl }, reached_both greatest old mid new m n reached reached_too)
@@ -99,6 +108,48 @@ counted_then old mid new m n a b = record { not_more = omega (arith, a.not_more,
 
 pub none_counted : (old : ℕ) → IsCounted old old 0
 none_counted old = record { not_more = omega arith; not_less = inl (omega arith) }
+
+-- a count that was cut at the greatest
+counted_cut : (top old new x amount : ℕ) → amount ≡ min (min x top * 100) top → (100 * x ≤ top) ⊎ (top < 100 * x) → (old + amount ≤ new) ⊎ (top ≤ new) → (old + 100 * x ≤ new) ⊎ (top ≤ new)
+counted_cut top old new x amount is (inl small) (inl a) = inl (omega (arith, is, small, a))
+counted_cut top old new x amount is (inr large) (inl a) = inr (omega (arith, is, large, a))
+counted_cut top old new x amount is size (inr b) = inr b
+
+below_or_above : (a b : ℕ) → (a ≤ b) ⊎ (b < a)
+below_or_above zero b = inl (omega arith)
+below_or_above (suc a) zero = inr (omega arith)
+below_or_above (suc a) (suc b) = elim (below_or_above a b) [ inl le ↦ inl (omega (arith, le)) | inr lt ↦ inr (omega (arith, lt)) ]
+
+pub counted_capped : (old new x steps amount : ℕ) → steps ≡ min x greatest → amount ≡ min (steps * 100) greatest → IsCounted old new amount → IsCounted old new (step_cost * x)
+counted_capped old new x steps amount is is_too so =
+    let cut : amount ≡ min (min x greatest * 100) greatest = is_too ∙ ap (λ (n : ℕ). min (n * 100) greatest) is in
+    record { not_more = omega (arith, cut, so.not_more); not_less = counted_cut greatest old new x amount cut (below_or_above (100 * x) greatest) so.not_less }
+
+-- ---- a count that is gone through
+
+pub left_start : (old whole : ℕ) → IsLeft old old whole whole
+left_start old whole = record { bounded = omega arith; spent = inl (omega arith) }
+
+-- the next filter
+pub next_read : (env : Env) (xs : List code.Filter) (k : ℕ) (x : code.Filter) → k < length xs → x ≡ get_or xs k x → (size : ℕ) → size ≡ read_by env (filter_of x)
+    → step_cost * read_by_all env (filters_of (drop k xs)) ≡ step_cost * (1 + size) + step_cost * read_by_all env (filters_of (drop (k + 1) xs))
+next_read env xs k x lt is size is_size =
+    let next : read_by_all env (filters_of (drop k xs)) ≡ (1 + read_by env (filter_of x)) + read_by_all env (filters_of (drop (k + 1) xs)) =
+    at_drop_more (λ (l : List code.Filter). read_by_all env (filters_of l)) xs k x lt ∙ ap (λ (y : code.Filter). (1 + read_by env (filter_of y)) + read_by_all env (filters_of (drop (k + 1) xs))) (sym is) in
+    omega (arith, next, is_size)
+
+module _ {old mid new whole left cost rest : ℕ} (next : left ≡ cost + rest) (so : IsLeft old mid whole left) (counted : IsCounted mid new cost) where
+  pub left_next : IsLeft old new whole rest
+  left_next = record { bounded = omega (arith, next, so.bounded, counted.not_more); spent = reached_left greatest old mid new whole cost rest (subst (λ (n : ℕ). (old + whole ≤ mid + n) ⊎ (greatest ≤ mid)) next so.spent) counted.not_less }
+
+pub left_stops : {old mid new whole left cost : ℕ} (rest : ℕ) → left ≡ cost + rest → IsLeft old mid whole left → IsCounted mid new cost → new ≤ old + whole
+left_stops rest next so counted = omega (arith, next, so.bounded, counted.not_more)
+
+pub left_all : {old new whole left : ℕ} → left ≡ 0 → IsLeft old new whole left → IsCounted old new whole
+left_all {old = old} {new = new} {whole = whole} none so = record {
+  not_more = omega (arith, so.bounded);
+  not_less = elim so.spent [ inl a ↦ inl (omega (arith, a, none)) | inr b ↦ inr b ];
+}
 
 -- texts of references, one more
 module _ (tell : Ref → List ℕ) (xs : List Ref) where

@@ -45,7 +45,7 @@ one_row {Rest = Rest} objects statement env first rest =
 
 mutual
   pub work_once : (tell : Telling) (p : Publication) (statement : Statement) (env : Env) → IsOne (WorkOf tell p statement env)
-  work_once tell p (Select pick filters into) env = one_of_plan p _ filters (λ plan. one_of_set (λ found. one_steps (length found)))
+  work_once tell p (Select pick filters into) env = one_both (one_steps _) (one_of_plan p _ filters (λ plan. one_of_set (λ found. one_steps _)))
   work_once tell p (Recurse start how into) env = one_steps (length (env start))
   work_once tell p (Item start into) env = one_steps 0
   work_once tell p (Union parts into) env = all_once tell p parts env

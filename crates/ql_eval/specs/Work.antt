@@ -1,18 +1,18 @@
 -- How much an evaluation does for a query over a publication, in bytes that are written and in steps. It is defined from
 -- what statements mean, and not from what the code does.
 -- Source: this project.
-use Rattle.std.specs.Prelude.{◌≡◌, ◌⊎◌, ◌+◌, ◌*◌, ◌-◌, ◌^◌, ◌<◌, ℕ, min, List, length, Option, Some, None, Result, Ok, Err, ⊤}
+use Rattle.std.specs.Prelude.{◌≡◌, ◌⊎◌, ◌+◌, ◌*◌, ◌-◌, ◌^◌, ◌<◌, ℕ, min, List, [], ◌∷◌, length, Option, Some, None, Result, Ok, Err, ⊤}
 use Rattle.osm_model.specs.Elements.{Element}
 use Rattle.osm_model.specs.declared.kind.Kind.{Kind}
 use Rattle.osm_model.specs.declared.out_mode.OutMode.{OutMode}
 use Rattle.osm_model.specs.declared.reference.Ref.{Ref}
 use Rattle.tree_node.specs.Outcomes.{Clash}
 use Rattle.osm_keys.specs.Publications.{Publication, manifest_of}
-use Rattle.ql_syntax.specs.Filters.{Filter}
+use Rattle.ql_syntax.specs.Filters.{Filter, InSet, HasKey, KeyIs, LacksKey, KeyIsNot, Ids, Within, Via}
 use Rattle.ql_syntax.specs.Statements.{Statement, Statements, Select, Recurse, Item, Union, Minus, Print, End, Then}
 use Rattle.ql_syntax.specs.declared.pick.Pick.{Pick}
 use Rattle.ql_meaning.specs.Meanings.{After, Telling, cut, given_by, printed_of_by}
-use Rattle.ql_plan.specs.Plans.{Planned}
+use Rattle.ql_plan.specs.Plans.{Planned, rest_of}
 use Rattle.ref_sets.specs.NamedSets.{Env, nothing_named}
 use Rattle.ref_sets.specs.Sets.{IsSetOf}
 use Rattle.ql_eval.specs.Asks.{IsCandidate, IsPlanned, kind_picked}
@@ -63,12 +63,29 @@ pub record Later (objects : List Element) (statement : Statement) (env : Env) (W
 
 -- ---- statements
 
--- a query statement by a plan: a step for each candidate
-abbrev pub WorkByPlan : Publication → Env → Pick → Planned → ℕ → Type 0
-WorkByPlan p env pick plan n = OfSet (IsCandidate p.objects env pick plan) (λ found. Steps (length found)) n
+-- what a filter reads before anything is found: the ids that are written in it, or a named set
+abbrev pub read_by : Env → Filter → ℕ
+read_by env (InSet name) = length (env name)
+read_by env (HasKey key) = 0
+read_by env (KeyIs key value) = 0
+read_by env (LacksKey key) = 0
+read_by env (KeyIsNot key value) = 0
+read_by env (Ids ids) = length ids
+read_by env (Within area) = 0
+read_by env (Via path name) = length (env name)
 
+-- the same of all filters, and one for each of them
+abbrev pub read_by_all : Env → List Filter → ℕ
+read_by_all env [] = 0
+read_by_all env (filter ∷ filters) = (1 + read_by env filter) + read_by_all env filters
+
+-- a query statement by a plan: a step for each candidate, and one for each filter that it is tested by
+abbrev pub WorkByPlan : Publication → Env → Pick → Planned → ℕ → Type 0
+WorkByPlan p env pick plan n = OfSet (IsCandidate p.objects env pick plan) (λ found. Steps (length found * (1 + length (rest_of plan)))) n
+
+-- what its filters read, and then what its plan does
 abbrev pub WorkOfSelect : Publication → Env → Pick → List Filter → ℕ → Type 0
-WorkOfSelect p env pick filters n = OfPlan p (kind_picked pick) filters (WorkByPlan p env pick) n
+WorkOfSelect p env pick filters n = Both (Steps (read_by_all env filters)) (OfPlan p (kind_picked pick) filters (WorkByPlan p env pick)) n
 
 -- an out: a step for each object that is printed, and its text
 abbrev pub WorkOfOut : Telling → Publication → List Ref → OutMode → Option ℕ → ℕ → Type 0

@@ -171,10 +171,11 @@ pub fn evaluate_in<'a, S: Shelf<'a>, T: Sink>(
 /// writes, unless more is to be done than the budget has. Then it is refused with `Work`. How much is done depends on the
 /// query and on the set alone, so every mirror of a set refuses the same queries.
 ///
-/// The budget counts 1 for a byte that is written, and 100 for a step: each statement, each reference of a set that is
-/// written, of a set that a recursion starts from, and of those that the base of a query statement finds, and each object
-/// that is printed. What a statement finds is counted once it is found, so the last statement may do more than the budget
-/// has left.
+/// The budget counts 1 for a byte that is written, and 100 for a step: each statement, and each reference of the set that it
+/// writes; each filter of a query statement, each id that is written in it and each reference of a named set that it reads;
+/// each object that the base of a query statement finds, once more for each other filter; each reference of a set that a
+/// recursion starts from; and each object that is printed. What a statement finds is counted once it is found, so the last
+/// statement may do more than the budget has left.
 ///
 /// A refusal leaves the text of the sink as it was. The nodes that were fetched until then stay used.
 pub fn evaluate_within<'a, S: Shelf<'a>, T: Sink>(

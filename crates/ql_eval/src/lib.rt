@@ -33,6 +33,7 @@ mod opening;
 mod paths;
 mod print;
 mod question;
+mod reads;
 mod recursions;
 mod run;
 mod select;

@@ -45,6 +45,31 @@ impl Meter {
         self.stop()
     }
 
+    /// Counts a step, and so many more. Refused as [`Meter::charge`].
+    pub(crate) fn charge_more(&mut self, steps: usize) -> Result<(), AllocError>
+        ensures { IsCounted self.old.spent self.new.spent (step_cost * (1 + steps)) }
+    {
+        self.spent = added(self.spent, STEP * (1 + steps as u128));
+        self.stop()
+    }
+
+    /// Counts for each of several things a step, and one for each of so many and so many more. Refused as
+    /// [`Meter::charge`].
+    pub(crate) fn charge_each(
+        &mut self,
+        count: usize,
+        first: usize,
+        second: usize,
+    ) -> Result<(), AllocError>
+        ensures { IsCounted self.old.spent self.new.spent
+            (step_cost * (count * (1 + first + second))) }
+    {
+        let each = 1 + first as u128 + second as u128;
+        let steps = (count as u128).saturating_mul(each);
+        self.spent = added(self.spent, steps.saturating_mul(STEP));
+        self.stop()
+    }
+
     /// Counts bytes that are to be written. Refused as [`Meter::charge`].
     pub(crate) fn charge_bytes(&mut self, bytes: usize) -> Result<(), AllocError>
         ensures { IsCounted self.old.spent self.new.spent bytes }

@@ -26,6 +26,7 @@ use crate::choose_plan::choose_plan;
 use crate::fault::EvalFault;
 use crate::kinds::kind_of;
 use crate::meter::Meter;
+use crate::reads::charge_filters;
 use crate::source::Source;
 use ql_plan::Plan;
 use ql_syntax::{Filter, Pick};
@@ -65,6 +66,7 @@ pub(crate) fn select<W: Source>(
         → IsSpent (WorkOfSelect p env pick (filters_of filters.now))
         meter.old.spent meter.new.spent) }
 {
+    charge_filters(meter, filters, sets)?;
     let plan = choose_plan(alloc, source, kind_of(pick), filters)?;
     answered(alloc, source, meter, pick, &plan, sets)
 }
@@ -101,6 +103,8 @@ fn answered<W: Source>(
         → IsSpent (WorkByPlan p env pick plan.now) meter.old.spent meter.new.spent) }
 {
     let found = find_candidates(alloc, source, pick, plan.base(), sets)?;
-    meter.charge(found.as_slice().len())?;
-    apply_filters(alloc, source, found, plan.before(), plan.after(), sets)
+    let front = plan.before();
+    let back = plan.after();
+    meter.charge_each(found.as_slice().len(), front.len(), back.len())?;
+    apply_filters(alloc, source, found, front, back, sets)
 }

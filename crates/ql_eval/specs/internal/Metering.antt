@@ -27,6 +27,11 @@ IsBounded Work old new = (n : ℕ) → Work n → new ≤ old + n
 abbrev pub IsSpent : (ℕ → Type 0) → ℕ → ℕ → Type 0
 IsSpent Work old new = (n : ℕ) × Work n × IsReached old new n
 
+-- of a whole count so much is left
+pub record IsLeft (old new whole left : ℕ) : Type 0 where
+  pub bounded : new + left ≤ old + whole
+  pub spent : (old + whole ≤ new + left) ⊎ (greatest ≤ new)
+
 -- of a row some statements are left, which are to be run over the second named sets
 pub record IsGoing (tell : Telling) (p : Publication) (statements : Statements) (env : Env) (left : Statements) (now : Env) (old new : ℕ) : Type 0 where
   -- what was counted and what is left are no more than the whole
