@@ -3,6 +3,7 @@
 -- Source: this project.
 use Rattle.std.specs.Prelude.{◌≡◌, ◌⊎◌, ◌+◌, ◌*◌, ◌-◌, ◌^◌, ◌<◌, ℕ, min, List, [], ◌∷◌, length, Option, Some, None, Result, Ok, Err, ⊤}
 use Rattle.osm_model.specs.Elements.{Element}
+use Rattle.osm_model.specs.Tagged.{HasKeyOf}
 use Rattle.osm_model.specs.declared.kind.Kind.{Kind}
 use Rattle.osm_model.specs.declared.out_mode.OutMode.{OutMode}
 use Rattle.osm_model.specs.declared.reference.Ref.{Ref}
@@ -12,6 +13,7 @@ use Rattle.ql_syntax.specs.Filters.{Filter, InSet, HasKey, KeyIs, LacksKey, KeyI
 use Rattle.ql_syntax.specs.Statements.{Statement, Statements, Select, Recurse, Item, Union, Minus, Print, End, Then}
 use Rattle.ql_syntax.specs.declared.pick.Pick.{Pick}
 use Rattle.ql_meaning.specs.Meanings.{After, Telling, cut, given_by, printed_of_by}
+use Rattle.ql_meaning.specs.Values.{IsRefOf}
 use Rattle.ql_plan.specs.Plans.{Planned, rest_of}
 use Rattle.ref_sets.specs.NamedSets.{Env, nothing_named}
 use Rattle.ref_sets.specs.Sets.{IsSetOf}
@@ -79,9 +81,22 @@ abbrev pub read_by_all : Env → List Filter → ℕ
 read_by_all env [] = 0
 read_by_all env (filter ∷ filters) = (1 + read_by env filter) + read_by_all env filters
 
--- a query statement by a plan: a step for each candidate, and one for each filter that it is tested by
+-- what a base finds that isn't of the kind: by a key alone, the objects of all kinds that have it
+abbrev pub WorkOfBase : List Element → Option Filter → ℕ → Type 0
+WorkOfBase objects None n = Steps 0 n
+WorkOfBase objects (Some (InSet name)) n = Steps 0 n
+WorkOfBase objects (Some (HasKey key)) n = OfSet (IsRefOf objects (λ o. HasKeyOf o key)) (λ found. Steps (length found)) n
+WorkOfBase objects (Some (KeyIs key value)) n = Steps 0 n
+WorkOfBase objects (Some (LacksKey key)) n = Steps 0 n
+WorkOfBase objects (Some (KeyIsNot key value)) n = Steps 0 n
+WorkOfBase objects (Some (Ids ids)) n = Steps 0 n
+WorkOfBase objects (Some (Within area)) n = Steps 0 n
+WorkOfBase objects (Some (Via path name)) n = Steps 0 n
+
+-- a query statement by a plan: what its base finds of other kinds, a step for each candidate, and one for each filter that
+-- it is tested by
 abbrev pub WorkByPlan : Publication → Env → Pick → Planned → ℕ → Type 0
-WorkByPlan p env pick plan n = OfSet (IsCandidate p.objects env pick plan) (λ found. Steps (length found * (1 + length (rest_of plan)))) n
+WorkByPlan p env pick plan n = Both (WorkOfBase p.objects plan.base) (OfSet (IsCandidate p.objects env pick plan) (λ found. Steps (length found * (1 + length (rest_of plan))))) n
 
 -- what its filters read, and then what its plan does
 abbrev pub WorkOfSelect : Publication → Env → Pick → List Filter → ℕ → Type 0

@@ -173,7 +173,8 @@ pub fn evaluate_in<'a, S: Shelf<'a>, T: Sink>(
 ///
 /// The budget counts 1 for a byte that is written, and 100 for a step: each statement, and each reference of the set that it
 /// writes; each filter of a query statement, each id that is written in it and each reference of a named set that it reads;
-/// each object that the base of a query statement finds, once more for each other filter; each reference of a set that a
+/// each object that the base of a query statement finds, once more for each other filter, and by a key alone those of other
+/// kinds; each reference of a set that a
 /// recursion starts from; and each object that is printed. What a statement finds is counted once it is found, so the last
 /// statement may do more than the budget has left.
 ///

@@ -102,7 +102,7 @@ fn answered<W: Source>(
         → AllByRecursion (Allows pick) (filters_in plan.now) → HasNoClash p (W.used source.new)
         → IsSpent (WorkByPlan p env pick plan.now) meter.old.spent meter.new.spent) }
 {
-    let found = find_candidates(alloc, source, pick, plan.base(), sets)?;
+    let found = find_candidates(alloc, source, meter, pick, plan.base(), sets)?;
     let front = plan.before();
     let back = plan.after();
     meter.charge_each(found.as_slice().len(), front.len(), back.len())?;

@@ -12,10 +12,10 @@ use Rattle.ql_eval.proofs.SelectLemmas.{TestedWell, base_asks, base_lawful, cand
 use Rattle.ql_eval.proofs.StepLemmas.{then_same}
 use Rattle.ql_eval.proofs.GivenLemmas.{sets_later}
 use Rattle.osm_model.specs.declared.reference.Ref.{Ref}
-use Rattle.ql_eval.specs.Work.{step_cost}
-use Rattle.ql_eval.specs.internal.Metering.{IsCounted}
+use Rattle.ql_eval.specs.Work.{WorkOfBase, step_cost}
+use Rattle.ql_eval.specs.internal.Metering.{IsBounded, IsCounted, IsSpent}
 use Rattle.ref_sets.proofs.shared.Results.{on_ok_as}
-use Rattle.ql_eval.proofs.MeterLemmas.{found_well, set_bounded, set_spent, steps_bounded, steps_spent, still}
+use Rattle.ql_eval.proofs.MeterLemmas.{both_bounded, both_spent, clear_before, first_bounded, found_well, set_bounded, set_spent, steps_bounded, steps_spent}
 use Rattle.std.proofs.lemmas.List.{length-map}
 use Rattle.ql_syntax.specs.StatementViews.{filter_of}
 use Rattle.ql_syntax.specs.declared.filter.Filter as code
@@ -60,7 +60,10 @@ pub apply_filters-requires-clause-sets_named : goal.apply_filters-requires-claus
 apply_filters-requires-clause-sets_named g c = sets_later (lists_of c.args.sets.now.named.items) (λ r. g.met.W.Source.same_gave _ _ r c.find_candidates.ensures.later) c.requires.named
 
 pub returns-in_err-found-clause-bounded : goal.returns-in_err-found-clause-bounded
-returns-in_err-found-clause-bounded g c = λ p is under there lawful clear. still _ _
+returns-in_err-found-clause-bounded g c = λ p is under there lawful clear.
+    let plan = c.args.plan.now in
+    let allowed = subst (λ (b : Option Filter). ForSome b (Allows c.args.pick)) (sym c.base.ensures) (base_lawful c.args.pick plan.before plan.base plan.after lawful) in
+    first_bounded _ _ (subst (λ (b : Option Filter). IsBounded (WorkOfBase p.objects b) c.args.meter.now.spent c.find_candidates.new.meter.spent) c.base.ensures (c.find_candidates.ensures.bounded p is under there allowed clear))
 
 pub returns-in_err-charge_each-clause-bounded : goal.returns-in_err-charge_each-clause-bounded
 returns-in_err-charge_each-clause-bounded g c = λ p is under there lawful clear.
@@ -73,8 +76,9 @@ returns-in_err-charge_each-clause-bounded g c = λ p is under there lawful clear
     let are = found_well (λ x used. used) clear (subst (λ (b : Option Filter). FoundWell p env pick b first (Ok c.in_ok-found.found)) c.base.ensures (c.in_ok-found.ensures.answer p is under there allowed)) in
     let all : length c.as_slice.result.now * (1 + length c.before-front.result.now + length c.after-back.result.now) ≡ length found * (1 + length (plan.before ++ plan.after)) =
     tested c.before-front.result.now c.after-back.result.now plan.before plan.after c.as_slice.result.now found c.as_slice.ensures.value c.before-front.ensures c.after-back.ensures in
-    let counted = subst (λ (n : ℕ). IsCounted c.args.meter.now.spent c.charge_each.new.self.spent (step_cost * n)) all c.charge_each.ensures in
-    set_bounded _ _ found are (steps_bounded (length found * (1 + length (plan.before ++ plan.after))) _ _ counted)
+    let counted = subst (λ (n : ℕ). IsCounted c.find_candidates.new.meter.spent c.charge_each.new.self.spent (step_cost * n)) all c.charge_each.ensures in
+    let based = subst (λ (b : Option Filter). IsBounded (WorkOfBase p.objects b) c.args.meter.now.spent c.find_candidates.new.meter.spent) c.base.ensures (c.find_candidates.ensures.bounded p is under there allowed clear) in
+    both_bounded _ _ _ based (set_bounded _ _ found are (steps_bounded (length found * (1 + length (plan.before ++ plan.after))) _ _ counted))
 
 pub returns-clause-bounded : goal.returns-clause-bounded
 returns-clause-bounded g c = λ p is under there lawful clear.
@@ -87,8 +91,9 @@ returns-clause-bounded g c = λ p is under there lawful clear.
     let are = found_well (λ x. g.met.W.Source.grows _ _ x c.apply_filters.ensures.later) clear (subst (λ (b : Option Filter). FoundWell p env pick b first (Ok c.in_ok-found.found)) c.base.ensures (c.in_ok-found.ensures.answer p is under there allowed)) in
     let all : length c.as_slice.result.now * (1 + length c.before-front.result.now + length c.after-back.result.now) ≡ length found * (1 + length (plan.before ++ plan.after)) =
     tested c.before-front.result.now c.after-back.result.now plan.before plan.after c.as_slice.result.now found c.as_slice.ensures.value c.before-front.ensures c.after-back.ensures in
-    let counted = subst (λ (n : ℕ). IsCounted c.args.meter.now.spent c.charge_each.new.self.spent (step_cost * n)) all c.charge_each.ensures in
-    set_bounded _ _ found are (steps_bounded (length found * (1 + length (plan.before ++ plan.after))) _ _ counted)
+    let counted = subst (λ (n : ℕ). IsCounted c.find_candidates.new.meter.spent c.charge_each.new.self.spent (step_cost * n)) all c.charge_each.ensures in
+    let based = subst (λ (b : Option Filter). IsBounded (WorkOfBase p.objects b) c.args.meter.now.spent c.find_candidates.new.meter.spent) c.base.ensures (c.find_candidates.ensures.bounded p is under there allowed (clear_before (λ x. g.met.W.Source.grows _ _ x c.apply_filters.ensures.later) clear)) in
+    both_bounded _ _ _ based (set_bounded _ _ found are (steps_bounded (length found * (1 + length (plan.before ++ plan.after))) _ _ counted))
 
 pub returns-clause-spent : goal.returns-clause-spent
 returns-clause-spent g c = on_ok_as c.apply_filters.result (λ walked p is under there lawful clear.
@@ -101,5 +106,6 @@ returns-clause-spent g c = on_ok_as c.apply_filters.result (λ walked p is under
     let are = found_well (λ x. g.met.W.Source.grows _ _ x c.apply_filters.ensures.later) clear (subst (λ (b : Option Filter). FoundWell p env pick b first (Ok c.in_ok-found.found)) c.base.ensures (c.in_ok-found.ensures.answer p is under there allowed)) in
     let all : length c.as_slice.result.now * (1 + length c.before-front.result.now + length c.after-back.result.now) ≡ length found * (1 + length (plan.before ++ plan.after)) =
     tested c.before-front.result.now c.after-back.result.now plan.before plan.after c.as_slice.result.now found c.as_slice.ensures.value c.before-front.ensures c.after-back.ensures in
-    let counted = subst (λ (n : ℕ). IsCounted c.args.meter.now.spent c.charge_each.new.self.spent (step_cost * n)) all c.charge_each.ensures in
-    set_spent _ _ found are (steps_spent (length found * (1 + length (plan.before ++ plan.after))) _ _ counted)) c.apply_filters.ensures.walked
+    let counted = subst (λ (n : ℕ). IsCounted c.find_candidates.new.meter.spent c.charge_each.new.self.spent (step_cost * n)) all c.charge_each.ensures in
+    let based = subst (λ (b : Option Filter). IsSpent (WorkOfBase p.objects b) c.args.meter.now.spent c.find_candidates.new.meter.spent) c.base.ensures (c.in_ok-found.ensures.spent p is under there allowed (clear_before (λ x. g.met.W.Source.grows _ _ x c.apply_filters.ensures.later) clear)) in
+    both_spent _ _ _ based (set_spent _ _ found are (steps_spent (length found * (1 + length (plan.before ++ plan.after))) _ _ counted))) c.apply_filters.ensures.walked
