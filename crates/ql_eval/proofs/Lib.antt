@@ -33,3 +33,5 @@ pub mod PrintLemmas
 pub mod QueryLemmas
 pub mod OutLemmas
 pub mod RememberLemmas
+pub mod MeterLemmas
+pub mod WorkLaws

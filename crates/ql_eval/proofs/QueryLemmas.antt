@@ -116,7 +116,7 @@ module _ (tell : Telling) (p : Publication) (xs : List Stmt) where
               | inr last ↦ inr (record { ask = needs.ask; asked = last; needs = needs.needs })
             ]
 
-        all_sets_there : AreAllThere p.objects env
+        pub all_sets_there : AreAllThere p.objects env
         all_sets_there = prints_there tell p.objects (statements_of (take k xs)) nothing_named env text so (none_there p.objects)
 
       pub answered_next : {V : Type 0} (env later : Env) {before held old mid new was mark is : Nodes} {value : V} → ((bytes : List ℕ) → mid bytes → new bytes)

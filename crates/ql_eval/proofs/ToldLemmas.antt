@@ -22,6 +22,7 @@ told_under held used root found there is faults.Form told = (found, there, is, t
 told_under held used root found there is faults.Absent told = (found, there, is, told)
 told_under held used root found there is (faults.Manifest fault) told = absurd told
 told_under held used root found there is faults.Memory told = tt
+told_under held used root found there is faults.Work told = absurd told
 
 -- a manifest that couldn't be read
 pub opening_told : {A : Type 0} (held used : Nodes) (root : List ℕ) (opened : Result A ManifestFault) (fault : ManifestFault) → opened ≡ Err fault

@@ -31,3 +31,5 @@ cause_of_evaluation faults.Form = OtherCause
 cause_of_evaluation faults.Absent = OtherCause
 cause_of_evaluation (faults.Manifest fault) = cause_of_manifest fault
 cause_of_evaluation faults.Memory = NoMemory
+-- a refusal for a limit says as little of the shelf
+cause_of_evaluation faults.Work = NoMemory

@@ -7,4 +7,5 @@ pub mod Forms
 pub mod TrueFaults
 pub mod Asks
 pub mod Written
+pub mod Work
 pub mod internal

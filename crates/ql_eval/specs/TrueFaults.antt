@@ -56,7 +56,8 @@ abbrev pub HoldsUnder : (held : List ℕ → Type 0) → (root : List ℕ) → (
 HoldsUnder held root So = (found : Manifest) × held (manifest_bytes found) × (digest (manifest_bytes found) ≡ root) × So found
 
 -- the fault is true of the nodes: E1 that a walk had its reason, E2 that an entry isn't of its form, E3 that an entry
--- names an object that isn't there, E4 that no manifest is held under the root. Out of memory says nothing of them.
+-- names an object that isn't there, E4 that no manifest is held under the root. Out of memory says nothing of them, and neither
+-- does too much work, of which the budget tells.
 abbrev pub IsTrueFault : (held used : List ℕ → Type 0) → (root : List ℕ) → EvalFault → Type 0
 IsTrueFault held used root (faults.Walk fault) = HoldsUnder held root (λ found. HasWalkFault held used found fault)
 IsTrueFault held used root faults.Form = HoldsUnder held root (HasMalformedEntry used)
@@ -65,3 +66,4 @@ IsTrueFault held used root (faults.Manifest openings.Missing) = HasNone held roo
 IsTrueFault held used root (faults.Manifest openings.Malformed) = HasMalformed held root
 IsTrueFault held used root (faults.Manifest openings.Memory) = ⊥
 IsTrueFault held used root faults.Memory = ⊤
+IsTrueFault held used root faults.Work = ⊤

@@ -18,3 +18,4 @@ pub mod Giving
 pub mod TrueFaults
 pub mod Objects
 pub mod Remembering
+pub mod Metering

@@ -11,16 +11,20 @@ ghost use Rattle.ref_sets.specs.NamedSets.{nothing_named, lists_of};
 ghost use Rattle.ql_eval.specs.Asks.{AskedBy, AskedByAll};
 ghost use Rattle.ql_eval.specs.Faults.{cause_of_evaluation};
 ghost use Rattle.ql_eval.specs.Questions.{NeededBy};
+ghost use Rattle.ql_eval.specs.Work.{HasNoClash, WorkOf, WorkOfQuery};
 ghost use Rattle.ql_eval.specs.Written.{HasWritten};
 ghost use Rattle.ql_eval.specs.internal.Links.{AreAllThere};
 ghost use Rattle.ql_eval.specs.internal.Giving.{AllSetsGiven};
+ghost use Rattle.ql_eval.specs.internal.Metering.{IsBounded, IsSpent};
 ghost use Rattle.tree_walk.specs.Uses.{nodes_around};
 
 use crate::fault::EvalFault;
+use crate::meter::Meter;
 use crate::print::print;
 use crate::run::run;
 use crate::sink::Sink;
 use crate::source::Source;
+use crate::written::written_by;
 use osm_forms::Form;
 use ql_syntax::Stmt;
 use ref_sets::NamedSets;
@@ -32,6 +36,7 @@ pub(crate) fn answer_all<'q, W: Source, T: Sink>(
     form: Form,
     statements: &[Stmt<'q>],
     source: &mut W,
+    meter: &mut Meter,
     sink: &mut T,
 ) -> Result<(), EvalFault>
     ensures later { W.later source.old source.new }
@@ -47,10 +52,19 @@ pub(crate) fn answer_all<'q, W: Source, T: Sink>(
         × HasWritten (T.stands sink.old) (T.stands sink.new) text)
         (NeededBy p (AskedByAll p (statements_of statements.now) nothing_named))
         (nodes_around W.holds W.used source.old source.new) result }
+    ensures bounded { (p : Publication) → IsPublication p → W.under source.old p
+        → IsQuery (statements_of statements.now) → HasNoClash p (W.used source.new)
+        → IsBounded (WorkOfQuery (form_text form) p (statements_of statements.now))
+        meter.old.spent meter.new.spent }
+    ensures spent { OnOk result ((p : Publication) → IsPublication p → W.under source.old p
+        → IsQuery (statements_of statements.now) → HasNoClash p (W.used source.new)
+        → IsSpent (WorkOfQuery (form_text form) p (statements_of statements.now))
+        meter.old.spent meter.new.spent) }
 {
     let mut sets = NamedSets::new(alloc);
     for statement in statements {
-        answer_statement(alloc, form, statement, &mut sets, source, sink)?;
+        answer_statement(alloc, form, statement, &mut sets, source, meter, sink)?;
+        meter.charge_run(written_by(statement, &sets))?;
     }
     Ok(())
 }
@@ -62,6 +76,7 @@ fn answer_statement<'q, W: Source, T: Sink>(
     statement: &Stmt<'q>,
     sets: &mut NamedSets<'q>,
     source: &mut W,
+    meter: &mut Meter,
     sink: &mut T,
 ) -> Result<(), EvalFault>
     requires { AllSetsGiven (W.gave source.old) (lists_of sets.old.named.items) }
@@ -80,17 +95,28 @@ fn answer_statement<'q, W: Source, T: Sink>(
         (told_by (form_text form) p.objects (statement_of statement.now) env))
         (NeededBy p (AskedBy p (statement_of statement.now) env))
         (nodes_around W.holds W.used source.old source.new) result }
+    ensures bounded { let env = lists_of sets.old.named.items in
+        (p : Publication) → IsPublication p → W.under source.old p
+        → AreAllThere p.objects env → IsTop (statement_of statement.now)
+        → HasNoClash p (W.used source.new)
+        → IsBounded (WorkOf (form_text form) p (statement_of statement.now) env) meter.old.spent meter.new.spent }
+    ensures spent { OnOk result (let env = lists_of sets.old.named.items in
+        (p : Publication) → IsPublication p → W.under source.old p
+        → AreAllThere p.objects env → IsTop (statement_of statement.now)
+        → HasNoClash p (W.used source.new)
+        → IsSpent (WorkOf (form_text form) p (statement_of statement.now) env) meter.old.spent meter.new.spent) }
 {
     match statement {
         Stmt::Print(out) => print(
             alloc,
             form,
             source,
+            meter,
             sets.get(out.from.as_bytes()),
             out.mode,
             out.limit,
             sink,
         ),
-        _ => run(alloc, statement, sets, source),
+        _ => run(alloc, statement, sets, source, meter),
     }
 }

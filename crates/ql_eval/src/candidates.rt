@@ -1,6 +1,6 @@
 //! What the base of a query statement finds, asked of a source.
 
-ghost use Rattle.std.specs.Prelude.{◌≡◌, ◌↔◌, ◌<◌, ℕ, IfErr, IfOk, List, OnOk};
+ghost use Rattle.std.specs.Prelude.{◌≡◌, ◌↔◌, ◌<◌, ℕ, IfErr, IfOk, List, OnOk, length};
 ghost use Rattle.std.specs.List.{Contains};
 ghost use Rattle.std.specs.Option.{ForSome, option_map, option_to_list};
 ghost use Rattle.osm_model.specs.Limits.{HasNoNul};
@@ -20,15 +20,18 @@ ghost use Rattle.ql_eval.specs.Asks.{AskedByBase, AskedFor, IsAskedInBox, IsInBo
 ghost use Rattle.ql_eval.specs.Faults.{cause_of_evaluation};
 ghost use Rattle.ql_eval.specs.Questions.{NeededBy, names_ask, object_ask};
 ghost use Rattle.ql_eval.specs.Questions as questions;
+ghost use Rattle.ql_eval.specs.Work.{HasNoClash, OfSet, Steps, WorkOfBase};
 ghost use Rattle.ql_eval.specs.internal.Candidates.{IsKeptOf, IsKindAsk, IsOfIds, IsOfThisKind, IsWith};
 ghost use Rattle.ql_eval.specs.internal.Entries.{IsThere};
 ghost use Rattle.ql_eval.specs.internal.Links.{AreAllThere};
 ghost use Rattle.ql_eval.specs.internal.Giving.{AllGiven, AllSetsGiven};
+ghost use Rattle.ql_eval.specs.internal.Metering.{IsBounded, IsSpent};
 ghost use Rattle.tree_walk.specs.Uses.{nodes_around};
 
 use crate::fault::EvalFault;
 use crate::kinds::{first_kind, kind_of, kinds_in, last_kind};
 use crate::links::those_there;
+use crate::meter::Meter;
 use crate::paths::on_path;
 use crate::question::Question;
 use crate::source::Source;
@@ -41,6 +44,7 @@ use std::alloc::{AllocError, Global};
 pub(crate) fn find_candidates<W: Source>(
     alloc: Global,
     source: &mut W,
+    meter: &mut Meter,
     pick: Pick,
     base: Option<&Filter<'_>>,
     sets: &NamedSets<'_>,
@@ -60,10 +64,20 @@ pub(crate) fn find_candidates<W: Source>(
         (IsRefOf p.objects (IsSelected p.objects env pick (option_to_list filter))))
         (NeededBy p (AskedByBase p.objects env (kind_picked pick) filter))
         (nodes_around W.holds W.used source.old source.new) result }
+    ensures bounded { let env = lists_of sets.now.named.items in
+        let filter = option_map (λ f. filter_of f.now) base.entry in
+        (p : Publication) → IsPublication p → W.under source.old p → AreAllThere p.objects env
+        → ForSome filter (Allows pick) → HasNoClash p (W.used source.new)
+        → IsBounded (WorkOfBase p.objects filter) meter.old.spent meter.new.spent }
+    ensures spent { OnOk result (let env = lists_of sets.now.named.items in
+        let filter = option_map (λ f. filter_of f.now) base.entry in
+        (p : Publication) → IsPublication p → W.under source.old p → AreAllThere p.objects env
+        → ForSome filter (Allows pick) → HasNoClash p (W.used source.new)
+        → IsSpent (WorkOfBase p.objects filter) meter.old.spent meter.new.spent) }
 {
     match base {
         None => of_kinds(alloc, source, kinds_in(kind_of(pick))),
-        Some(filter) => kept_by(alloc, source, pick, filter, sets),
+        Some(filter) => kept_by(alloc, source, meter, pick, filter, sets),
     }
 }
 
@@ -108,6 +122,7 @@ fn add_kind<W: Source>(source: &mut W, kind: Kind, refs: &mut Vec<Ref>) -> Resul
 fn kept_by<W: Source>(
     alloc: Global,
     source: &mut W,
+    meter: &mut Meter,
     pick: Pick,
     filter: &Filter<'_>,
     sets: &NamedSets<'_>,
@@ -125,6 +140,16 @@ fn kept_by<W: Source>(
         (IsKeptOf p.objects env (kind_picked pick) (filter_of filter.now)))
         (NeededBy p (AskedByBase p.objects env (kind_picked pick) (Some (filter_of filter.now))))
         (nodes_around W.holds W.used source.old source.new) result }
+    ensures bounded { let env = lists_of sets.now.named.items in
+        (p : Publication) → IsPublication p → W.under source.old p → AreAllThere p.objects env
+        → Allows pick (filter_of filter.now) → HasNoClash p (W.used source.new)
+        → IsBounded (WorkOfBase p.objects (Some (filter_of filter.now)))
+        meter.old.spent meter.new.spent }
+    ensures spent { OnOk result (let env = lists_of sets.now.named.items in
+        (p : Publication) → IsPublication p → W.under source.old p → AreAllThere p.objects env
+        → Allows pick (filter_of filter.now) → HasNoClash p (W.used source.new)
+        → IsSpent (WorkOfBase p.objects (Some (filter_of filter.now)))
+        meter.old.spent meter.new.spent) }
 {
     let kind = kind_of(pick);
     match filter {
@@ -136,7 +161,7 @@ fn kept_by<W: Source>(
             value.as_bytes(),
             kind,
         )),
-        Filter::HasKey(key) => with_key(alloc, source, key.as_bytes(), kind),
+        Filter::HasKey(key) => with_key(alloc, source, meter, key.as_bytes(), kind),
         Filter::Within(area) => in_box(alloc, source, area, kind),
         Filter::LacksKey(_) | Filter::KeyIsNot(_, _) => unreachable!("never a base"),
     }
@@ -190,6 +215,7 @@ fn add_references(kind: Kind, ids: &[i64], names: &mut Vec<Ref>) -> Result<(), A
 fn with_key<W: Source>(
     alloc: Global,
     source: &mut W,
+    meter: &mut Meter,
     key: &[u8],
     kind: Option<Kind>,
 ) -> Result<RefSet, EvalFault>
@@ -202,8 +228,17 @@ fn with_key<W: Source>(
         (λ r. IsRefOf p.objects (λ o. HasKeyOf o key.now) r × IsKindOf kind r))
         (NeededBy p (λ ask. ask ≡ names_ask (questions.WithKey key.now)))
         (nodes_around W.holds W.used source.old source.new) result }
+    ensures bounded { (p : Publication) → IsPublication p → W.under source.old p → HasNoNul key.now
+        → HasNoClash p (W.used source.new)
+        → IsBounded (OfSet (IsRefOf p.objects (λ o. HasKeyOf o key.now))
+        (λ found. Steps (length found))) meter.old.spent meter.new.spent }
+    ensures spent { OnOk result ((p : Publication) → IsPublication p → W.under source.old p
+        → HasNoNul key.now → HasNoClash p (W.used source.new)
+        → IsSpent (OfSet (IsRefOf p.objects (λ o. HasKeyOf o key.now))
+        (λ found. Steps (length found))) meter.old.spent meter.new.spent) }
 {
     let found = source.names(&Question::WithKey(key))?;
+    meter.charge(found.as_slice().len())?;
     Ok(picked(alloc, &found, kind)?)
 }
 

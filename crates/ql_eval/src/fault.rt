@@ -10,7 +10,7 @@ use std::alloc::{AllocError, AllocFailed};
 use std::fmt;
 use tree_walk::WalkFault;
 
-/// Why an evaluation was refused. Its text is its code, from `E1` to `E4`, or `no memory`.
+/// Why an evaluation was refused. Its text is its code, from `E1` to `E4`, or `no memory` or `too much work`.
 #[derive(Clone, Copy, Debug, PartialEq, Eq)]
 pub enum EvalFault {
     /// E1: a walk was refused, by this fault (V1 to V4), which isn't memory.
@@ -23,6 +23,8 @@ pub enum EvalFault {
     Manifest(ManifestFault),
     /// Memory for sets, for objects, for the answer or on the shelf was refused.
     Memory,
+    /// More is to be done than the budget has. Of an evaluation without a budget it is never told.
+    Work,
 }
 
 impl fmt::Display for EvalFault {
@@ -35,6 +37,7 @@ impl fmt::Display for EvalFault {
             EvalFault::Absent => "E3",
             EvalFault::Manifest(_) => "E4",
             EvalFault::Memory => "no memory",
+            EvalFault::Work => "too much work",
         })
     }
 }

@@ -1,6 +1,6 @@
 //! What an out prints.
 
-ghost use Rattle.std.specs.Prelude.{◌≡◌, ◌≢◌, ℕ, IfErr, List, OnOk};
+ghost use Rattle.std.specs.Prelude.{◌≡◌, ◌≢◌, ◌≤◌, ◌+◌, ℕ, IfErr, List, OnOk, length};
 ghost use Rattle.osm_model.specs.Sets.{object_at};
 ghost use Rattle.osm_forms.specs.Forms.{form_name, form_text};
 ghost use Rattle.tree_node.specs.Outcomes.{Outcome};
@@ -10,15 +10,18 @@ ghost use Rattle.ql_meaning.specs.Meanings.{cut, printed_of_by};
 ghost use Rattle.ql_eval.specs.Asks.{AskedByOut};
 ghost use Rattle.ql_eval.specs.Faults.{cause_of_evaluation};
 ghost use Rattle.ql_eval.specs.Questions.{NeededBy};
+ghost use Rattle.ql_eval.specs.Work.{HasNoClash, WorkOfOut};
 ghost use Rattle.ql_eval.specs.Written.{HasWritten};
 ghost use Rattle.ql_eval.specs.internal.Entries.{IsThere};
 ghost use Rattle.ql_eval.specs.internal.Links.{AreThere, IsObjectAsk};
 ghost use Rattle.ql_eval.specs.internal.Objects.{AreKnownThere, IsKnownThere};
 ghost use Rattle.ql_eval.specs.internal.Printing.{line_at, lines_at, name_lines};
 ghost use Rattle.ql_eval.specs.internal.Giving.{AllGiven};
+ghost use Rattle.ql_eval.specs.internal.Metering.{IsBounded, IsCounted, IsSpent};
 ghost use Rattle.tree_walk.specs.Uses.{nodes_around};
 
 use crate::fault::EvalFault;
+use crate::meter::Meter;
 use crate::sink::Sink;
 use crate::source::Source;
 use osm_forms::Form;
@@ -32,6 +35,7 @@ pub(crate) fn print<W: Source, T: Sink>(
     alloc: Global,
     form: Form,
     source: &mut W,
+    meter: &mut Meter,
     refs: &RefSet,
     mode: OutMode,
     limit: Option<u64>,
@@ -51,13 +55,22 @@ pub(crate) fn print<W: Source, T: Sink>(
         (printed_of_by (form_text form) p.objects refs.now mode limit))
         (NeededBy p (AskedByOut refs.now mode limit))
         (nodes_around W.holds W.used source.old source.new) result }
+    ensures bounded { (p : Publication) → IsPublication p → W.under source.old p
+        → AreThere p.objects refs.now → HasNoClash p (W.used source.new)
+        → IsBounded (WorkOfOut (form_text form) p refs.now mode limit)
+        meter.old.spent meter.new.spent }
+    ensures spent { OnOk result ((p : Publication) → IsPublication p → W.under source.old p
+        → AreThere p.objects refs.now → HasNoClash p (W.used source.new)
+        → IsSpent (WorkOfOut (form_text form) p refs.now mode limit)
+        meter.old.spent meter.new.spent) }
 {
     let first = first_of(refs.as_slice(), limit);
+    meter.charge(first.len())?;
     if mode == OutMode::Ids {
-        print_names(alloc, form, first, sink)?;
+        print_names(alloc, form, meter, first, sink)?;
         return Ok(());
     }
-    print_objects(alloc, form, source, first, mode, sink)
+    print_objects(alloc, form, source, meter, first, mode, sink)
 }
 
 /// The first references, at most so many.
@@ -74,6 +87,7 @@ fn first_of(refs: &[Ref], limit: Option<u64>) -> &[Ref]
 fn print_names<T: Sink>(
     alloc: Global,
     form: Form,
+    meter: &mut Meter,
     names: &[Ref],
     sink: &mut T,
 ) -> Result<(), AllocError>
@@ -81,10 +95,13 @@ fn print_names<T: Sink>(
     ensures wrote { (text : List ℕ) × HasWritten (T.stands sink.old) (T.stands sink.new) text }
     ensures written { OnOk result
         (HasWritten (T.stands sink.old) (T.stands sink.new) (name_lines form names.now)) }
+    ensures bounded { meter.new.spent ≤ meter.old.spent + length (name_lines form names.now) }
+    ensures spent { OnOk result
+        (IsCounted meter.old.spent meter.new.spent (length (name_lines form names.now))) }
 {
     let mut line = Vec::new(alloc);
     for name in names {
-        put_name(form, *name, &mut line, sink)?;
+        put_name(form, meter, *name, &mut line, sink)?;
     }
     Ok(())
 }
@@ -92,6 +109,7 @@ fn print_names<T: Sink>(
 /// Writes an object by its reference alone.
 fn put_name<T: Sink>(
     form: Form,
+    meter: &mut Meter,
     name: Ref,
     line: &mut Vec<u8>,
     sink: &mut T,
@@ -100,9 +118,13 @@ fn put_name<T: Sink>(
     ensures wrote { (text : List ℕ) × HasWritten (T.stands sink.old) (T.stands sink.new) text }
     ensures written { OnOk result
         (HasWritten (T.stands sink.old) (T.stands sink.new) (form_name form name)) }
+    ensures bounded { meter.new.spent ≤ meter.old.spent + length (form_name form name) }
+    ensures spent { OnOk result
+        (IsCounted meter.old.spent meter.new.spent (length (form_name form name))) }
 {
     line.clear();
     form.write_name(name, line)?;
+    meter.charge_bytes(line.len())?;
     sink.put(line)
 }
 
@@ -111,6 +133,7 @@ fn print_objects<W: Source, T: Sink>(
     alloc: Global,
     form: Form,
     source: &mut W,
+    meter: &mut Meter,
     names: &[Ref],
     mode: OutMode,
     sink: &mut T,
@@ -128,10 +151,17 @@ fn print_objects<W: Source, T: Sink>(
         (lines_at form p.objects mode names.now))
         (NeededBy p (From names.now IsObjectAsk))
         (nodes_around W.holds W.used source.old source.new) result }
+    ensures bounded { (p : Publication) → IsPublication p → W.under source.old p
+        → AreThere p.objects names.now → HasNoClash p (W.used source.new)
+        → meter.new.spent ≤ meter.old.spent + length (lines_at form p.objects mode names.now) }
+    ensures spent { OnOk result ((p : Publication) → IsPublication p → W.under source.old p
+        → AreThere p.objects names.now → HasNoClash p (W.used source.new)
+        → IsCounted meter.old.spent meter.new.spent
+        (length (lines_at form p.objects mode names.now))) }
 {
     let mut line = Vec::new(alloc);
     for name in names {
-        print_object(form, source, *name, mode, &mut line, sink)?;
+        print_object(form, source, meter, *name, mode, &mut line, sink)?;
     }
     Ok(())
 }
@@ -140,6 +170,7 @@ fn print_objects<W: Source, T: Sink>(
 fn print_object<W: Source, T: Sink>(
     form: Form,
     source: &mut W,
+    meter: &mut Meter,
     name: Ref,
     mode: OutMode,
     line: &mut Vec<u8>,
@@ -158,11 +189,17 @@ fn print_object<W: Source, T: Sink>(
         (λ _. HasWritten (T.stands sink.old) (T.stands sink.new) (line_at form p.objects mode name))
         (NeededBy p (IsObjectAsk name))
         (nodes_around W.holds W.used source.old source.new) result }
+    ensures bounded { (p : Publication) → IsPublication p → W.under source.old p
+        → IsThere p.objects name → HasNoClash p (W.used source.new)
+        → meter.new.spent ≤ meter.old.spent + length (line_at form p.objects mode name) }
+    ensures spent { OnOk result ((p : Publication) → IsPublication p → W.under source.old p
+        → IsThere p.objects name → HasNoClash p (W.used source.new)
+        → IsCounted meter.old.spent meter.new.spent (length (line_at form p.objects mode name))) }
 {
     source.look_up(name)?;
     match source.known(name) {
         Some(object) => {
-            put_object(form, object, mode, line, sink)?;
+            put_object(form, meter, object, mode, line, sink)?;
             Ok(())
         }
         None => Err(EvalFault::Absent),
@@ -172,6 +209,7 @@ fn print_object<W: Source, T: Sink>(
 /// Writes the text of an object.
 fn put_object<T: Sink>(
     form: Form,
+    meter: &mut Meter,
     object: &Object,
     mode: OutMode,
     line: &mut Vec<u8>,
@@ -181,8 +219,12 @@ fn put_object<T: Sink>(
     ensures wrote { (text : List ℕ) × HasWritten (T.stands sink.old) (T.stands sink.new) text }
     ensures written { OnOk result
         (HasWritten (T.stands sink.old) (T.stands sink.new) (form_text form object.now mode)) }
+    ensures bounded { meter.new.spent ≤ meter.old.spent + length (form_text form object.now mode) }
+    ensures spent { OnOk result
+        (IsCounted meter.old.spent meter.new.spent (length (form_text form object.now mode))) }
 {
     line.clear();
     form.write_object(object, mode, line)?;
+    meter.charge_bytes(line.len())?;
     sink.put(line)
 }

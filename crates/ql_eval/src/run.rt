@@ -4,17 +4,20 @@ ghost use Rattle.std.specs.Prelude.{◌≡◌, ℕ, IfErr, IfOk, List, OnOk};
 ghost use Rattle.tree_node.specs.Outcomes.{Outcome};
 ghost use Rattle.osm_keys.specs.Publications.{IsPublication, Publication};
 ghost use Rattle.ql_syntax.specs.StatementViews.{statement_of, statements_of};
-ghost use Rattle.ql_meaning.specs.Meanings.{After, AfterAll};
+ghost use Rattle.ql_meaning.specs.Meanings.{After, AfterAll, Telling};
 ghost use Rattle.ref_sets.specs.NamedSets.{lists_of};
 ghost use Rattle.ql_eval.specs.Asks.{AskedBy, AskedByAll};
 ghost use Rattle.ql_eval.specs.Faults.{cause_of_evaluation};
 ghost use Rattle.ql_eval.specs.Questions.{NeededBy};
+ghost use Rattle.ql_eval.specs.Work.{HasNoClash, WorkOf, WorkOfAll};
 ghost use Rattle.ql_eval.specs.internal.Lawful.{CanRun, CanRunAll};
 ghost use Rattle.ql_eval.specs.internal.Links.{AreAllThere};
 ghost use Rattle.ql_eval.specs.internal.Giving.{AllGiven, AllSetsGiven};
+ghost use Rattle.ql_eval.specs.internal.Metering.{IsBounded, IsSpent};
 ghost use Rattle.tree_walk.specs.Uses.{nodes_around};
 
 use crate::fault::EvalFault;
+use crate::meter::Meter;
 use crate::recursions::recurse_once;
 use crate::select::select;
 use crate::source::Source;
@@ -31,6 +34,7 @@ pub(crate) fn run<'q, W: Source>(
     statement: &Stmt<'q>,
     sets: &mut NamedSets<'q>,
     source: &mut W,
+    meter: &mut Meter,
 ) -> Result<(), EvalFault>
     requires { AllSetsGiven (W.gave source.old) (lists_of sets.old.named.items) }
     ensures later { W.later source.old source.new }
@@ -44,6 +48,14 @@ pub(crate) fn run<'q, W: Source>(
         → Outcome cause_of_evaluation (λ _. After p.objects (statement_of statement.now) env next)
         (NeededBy p (AskedBy p (statement_of statement.now) env))
         (nodes_around W.holds W.used source.old source.new) result }
+    ensures bounded { let env = lists_of sets.old.named.items in
+        (tell : Telling) (p : Publication) → IsPublication p → W.under source.old p → AreAllThere p.objects env
+        → CanRun (statement_of statement.now) → HasNoClash p (W.used source.new)
+        → IsBounded (WorkOf tell p (statement_of statement.now) env) meter.old.spent meter.new.spent }
+    ensures spent { OnOk result (let env = lists_of sets.old.named.items in
+        (tell : Telling) (p : Publication) → IsPublication p → W.under source.old p → AreAllThere p.objects env
+        → CanRun (statement_of statement.now) → HasNoClash p (W.used source.new)
+        → IsSpent (WorkOf tell p (statement_of statement.now) env) meter.old.spent meter.new.spent) }
 {
     match statement {
         Stmt::Select {
@@ -51,12 +63,13 @@ pub(crate) fn run<'q, W: Source>(
             filters,
             into,
         } => {
-            let refs = select(alloc, source, *kind, filters, sets)?;
+            let refs = select(alloc, source, meter, *kind, filters, sets)?;
             sets.write(into.as_bytes(), refs)?;
             Ok(())
         }
         Stmt::Recurse { from, how, into } => {
             let set = sets.shared(from.as_bytes())?;
+            meter.charge(set.as_slice().len())?;
             let refs = recurse_once(alloc, source, *how, set)?;
             sets.write_shared(into.as_bytes(), refs)?;
             Ok(())
@@ -68,16 +81,19 @@ pub(crate) fn run<'q, W: Source>(
             Ok(())
         }
         Stmt::Union { parts, into } => {
-            let given = run_all(alloc, parts, sets, source)?;
+            let given = run_all(alloc, parts, sets, source, meter)?;
             let refs = RefSet::from_runs(given)?;
             sets.write(into.as_bytes(), refs)?;
             Ok(())
         }
         Stmt::Minus { left, right, into } => {
-            run(alloc, left, sets, source)?;
+            run(alloc, left, sets, source, meter)?;
             let first = shared_by(alloc, left, sets)?;
-            run(alloc, right, sets, source)?;
-            let refs = first.difference(alloc, written_by(right, sets))?;
+            meter.charge_run(&first)?;
+            run(alloc, right, sets, source, meter)?;
+            let second = written_by(right, sets);
+            meter.charge_run(second)?;
+            let refs = first.difference(alloc, second)?;
             sets.write(into.as_bytes(), refs)?;
             Ok(())
         }
@@ -92,6 +108,7 @@ fn run_all<'q, W: Source>(
     parts: &[Stmt<'q>],
     sets: &mut NamedSets<'q>,
     source: &mut W,
+    meter: &mut Meter,
 ) -> Result<Vec<Ref>, EvalFault>
     requires { AllSetsGiven (W.gave source.old) (lists_of sets.old.named.items) }
     ensures later { W.later source.old source.new }
@@ -108,11 +125,21 @@ fn run_all<'q, W: Source>(
         (λ given. AfterAll p.objects (statements_of parts.now) env next given.items)
         (NeededBy p (AskedByAll p (statements_of parts.now) env))
         (nodes_around W.holds W.used source.old source.new) result }
+    ensures bounded { let env = lists_of sets.old.named.items in
+        (tell : Telling) (p : Publication) → IsPublication p → W.under source.old p → AreAllThere p.objects env
+        → CanRunAll (statements_of parts.now) → HasNoClash p (W.used source.new)
+        → IsBounded (WorkOfAll tell p (statements_of parts.now) env) meter.old.spent meter.new.spent }
+    ensures spent { OnOk result (let env = lists_of sets.old.named.items in
+        (tell : Telling) (p : Publication) → IsPublication p → W.under source.old p → AreAllThere p.objects env
+        → CanRunAll (statements_of parts.now) → HasNoClash p (W.used source.new)
+        → IsSpent (WorkOfAll tell p (statements_of parts.now) env) meter.old.spent meter.new.spent) }
 {
     let mut given = Vec::new(alloc);
     for part in parts {
-        run(alloc, part, sets, source)?;
-        given.extend_from_slice(written_by(part, sets).as_slice())?;
+        run(alloc, part, sets, source, meter)?;
+        let written = written_by(part, sets);
+        meter.charge_run(written)?;
+        given.extend_from_slice(written.as_slice())?;
     }
     Ok(given)
 }

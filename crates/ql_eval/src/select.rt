@@ -14,8 +14,10 @@ ghost use Rattle.ql_plan.specs.Plans.{filters_in, never, rank_of};
 ghost use Rattle.ql_eval.specs.Asks.{AskedByPlan, AskedBySelect};
 ghost use Rattle.ql_eval.specs.Faults.{cause_of_evaluation};
 ghost use Rattle.ql_eval.specs.Questions.{NeededBy};
+ghost use Rattle.ql_eval.specs.Work.{HasNoClash, WorkByPlan, WorkOfSelect};
 ghost use Rattle.ql_eval.specs.internal.Links.{AreAllThere};
 ghost use Rattle.ql_eval.specs.internal.Giving.{AllGiven, AllSetsGiven};
+ghost use Rattle.ql_eval.specs.internal.Metering.{IsBounded, IsSpent};
 ghost use Rattle.tree_walk.specs.Uses.{nodes_around};
 
 use crate::apply_filters::apply_filters;
@@ -23,6 +25,8 @@ use crate::candidates::find_candidates;
 use crate::choose_plan::choose_plan;
 use crate::fault::EvalFault;
 use crate::kinds::kind_of;
+use crate::meter::Meter;
+use crate::reads::charge_filters;
 use crate::source::Source;
 use ql_plan::Plan;
 use ql_syntax::{Filter, Pick};
@@ -34,6 +38,7 @@ use std::alloc::Global;
 pub(crate) fn select<W: Source>(
     alloc: Global,
     source: &mut W,
+    meter: &mut Meter,
     pick: Pick,
     filters: &[Filter<'_>],
     sets: &NamedSets<'_>,
@@ -50,15 +55,27 @@ pub(crate) fn select<W: Source>(
         (IsRefOf p.objects (IsSelected p.objects env pick (filters_of filters.now))))
         (NeededBy p (AskedBySelect p env pick (filters_of filters.now)))
         (nodes_around W.holds W.used source.old source.new) result }
+    ensures bounded { let env = lists_of sets.now.named.items in
+        (p : Publication) → IsPublication p → W.under source.old p → AreAllThere p.objects env
+        → AllByRecursion (Allows pick) (filters_of filters.now) → HasNoClash p (W.used source.new)
+        → IsBounded (WorkOfSelect p env pick (filters_of filters.now))
+        meter.old.spent meter.new.spent }
+    ensures spent { OnOk result (let env = lists_of sets.now.named.items in
+        (p : Publication) → IsPublication p → W.under source.old p → AreAllThere p.objects env
+        → AllByRecursion (Allows pick) (filters_of filters.now) → HasNoClash p (W.used source.new)
+        → IsSpent (WorkOfSelect p env pick (filters_of filters.now))
+        meter.old.spent meter.new.spent) }
 {
+    charge_filters(meter, filters, sets)?;
     let plan = choose_plan(alloc, source, kind_of(pick), filters)?;
-    answered(alloc, source, pick, &plan, sets)
+    answered(alloc, source, meter, pick, &plan, sets)
 }
 
 /// The same by a plan.
 fn answered<W: Source>(
     alloc: Global,
     source: &mut W,
+    meter: &mut Meter,
     pick: Pick,
     plan: &Plan<'_, '_>,
     sets: &NamedSets<'_>,
@@ -76,7 +93,18 @@ fn answered<W: Source>(
         (IsRefOf p.objects (IsSelected p.objects env pick (filters_in plan.now))))
         (NeededBy p (AskedByPlan p.objects env pick plan.now))
         (nodes_around W.holds W.used source.old source.new) result }
+    ensures bounded { let env = lists_of sets.now.named.items in
+        (p : Publication) → IsPublication p → W.under source.old p → AreAllThere p.objects env
+        → AllByRecursion (Allows pick) (filters_in plan.now) → HasNoClash p (W.used source.new)
+        → IsBounded (WorkByPlan p env pick plan.now) meter.old.spent meter.new.spent }
+    ensures spent { OnOk result (let env = lists_of sets.now.named.items in
+        (p : Publication) → IsPublication p → W.under source.old p → AreAllThere p.objects env
+        → AllByRecursion (Allows pick) (filters_in plan.now) → HasNoClash p (W.used source.new)
+        → IsSpent (WorkByPlan p env pick plan.now) meter.old.spent meter.new.spent) }
 {
-    let found = find_candidates(alloc, source, pick, plan.base(), sets)?;
-    apply_filters(alloc, source, found, plan.before(), plan.after(), sets)
+    let found = find_candidates(alloc, source, meter, pick, plan.base(), sets)?;
+    let front = plan.before();
+    let back = plan.after();
+    meter.charge_each(found.as_slice().len(), front.len(), back.len())?;
+    apply_filters(alloc, source, found, front, back, sets)
 }

@@ -1,11 +1,13 @@
-use Rattle.std.proofs.Common.{◌≡◌, ℕ, List}
+use Rattle.std.proofs.Common.{◌≡◌, ℕ, List, drop}
 use Rattle.tree_node.proofs.shared.OutcomeLaws.{uses}
 use Rattle.ql_eval.specs.internal.Giving.{AllSetsGiven}
 use Rattle.osm_keys.specs.Publications.{IsPublication, Publication}
 use Rattle.ql_syntax.specs.LawfulQueries.{IsQuery}
 use Rattle.osm_forms.specs.Forms.{form_text}
 use Rattle.ql_syntax.specs.StatementViews.{statements_of}
-use Rattle.ref_sets.specs.NamedSets.{lists_of}
+use Rattle.ref_sets.specs.NamedSets.{lists_of, nothing_named}
+use Rattle.ql_eval.specs.Work.{HasNoClash}
+use Rattle.ql_eval.specs.internal.Metering.{IsGoing}
 use Rattle.ql_eval.specs.Written.{HasWritten}
 use Rattle.ql_eval.proofs.QueryLemmas.{HasAnswered}
 use Rattle.ql_eval.proofs.answering.answer_all.Given as goal
@@ -20,4 +22,6 @@ invariant-loop-statement g l = record {
   answer : (p : Publication) → IsPublication p → g.W.Source.under l.fn.source p → IsQuery (statements_of l.statements)
       → HasAnswered (form_text l.form) p l.statements l.statement-index (lists_of l.sets.named.items) (g.T.Sink.stands l.fn.sink) (g.T.Sink.stands l.sink)
       (uses (g.W.Source.holds l.source) (g.W.Source.used l.fn.source) (g.W.Source.used l.source));
+  going : (p : Publication) → IsPublication p → g.W.Source.under l.fn.source p → IsQuery (statements_of l.statements) → HasNoClash p (g.W.Source.used l.source)
+      → IsGoing (form_text l.form) p (statements_of l.statements) nothing_named (statements_of (drop l.statement-index l.statements)) (lists_of l.sets.named.items) l.fn.meter.spent l.meter.spent;
 }

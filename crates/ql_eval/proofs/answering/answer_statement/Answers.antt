@@ -1,4 +1,4 @@
-use Rattle.std.proofs.Common.{◌≡◌, inl, inr, ℕ, List, [], refl, subst, sym}
+use Rattle.std.proofs.Common.{◌≡◌, inl, inr, ℕ, List, [], ap, refl, subst, sym}
 use Rattle.osm_model.specs.declared.reference.Ref.{Ref}
 use Rattle.tree_node.proofs.shared.OutcomeLaws.{outcome_same}
 use Rattle.ql_syntax.specs.StatementViews.{statement_of}
@@ -16,6 +16,10 @@ use Rattle.ql_eval.proofs.StatementLemmas.{top_lawful}
 use Rattle.ql_eval.proofs.WritingLemmas.{written_none}
 use Rattle.ql_eval.proofs.GivenLemmas.{always_ok, sets_later}
 use Rattle.ql_eval.specs.internal.Giving.{AllGiven}
+use Rattle.ql_eval.specs.Work.{WorkOfOut}
+use Rattle.ql_eval.specs.internal.Metering.{IsBounded, IsSpent}
+use Rattle.ref_sets.proofs.shared.Results.{on_ok_as}
+use Rattle.ql_eval.proofs.MeterLemmas.{bounded_as, spent_as}
 use Rattle.ql_eval.proofs.answering.answer_statement.Goals as goal
 
 pub returns-in-Print-clause-answer : goal.returns-in-Print-clause-answer
@@ -49,6 +53,14 @@ returns-in_default g c = record {
       outcome_same (λ x needs. needs) (λ value so x needs. needs)
       (λ value so. (so, subst (λ (text : List ℕ). HasWritten (g.T.Sink.stands c.args.sink.now) (g.T.Sink.stands c.args.sink.now) text) (sym (told_nothing (form_text c.args.form) p.objects statement env can)) written_none))
       (c.run.ensures.answer p is under there can);
+  bounded = λ p is under there top clear.
+      let statement = statement_of c.args.statement.now in
+      let can : CanRun statement = elim (top_lawful statement top) [ inl can ↦ can | inr out ↦ absurd (no_out c.args.statement.now c.in_default.not-Print out) ] in
+      c.run.ensures.bounded (form_text c.args.form) p is under there can clear;
+  spent = on_ok_as c.run.result (λ spent p is under there top clear.
+      let statement = statement_of c.args.statement.now in
+      let can : CanRun statement = elim (top_lawful statement top) [ inl can ↦ can | inr out ↦ absurd (no_out c.args.statement.now c.in_default.not-Print out) ] in
+      spent (form_text c.args.form) p is under there can clear) c.run.ensures.spent;
 }
 
 pub print-requires : goal.print-requires
@@ -56,3 +68,23 @@ print-requires g c = subst (λ (l : List Ref). AllGiven (g.W.Source.gave c.args.
 
 pub returns-in-Print-clause-named : goal.returns-in-Print-clause-named
 returns-in-Print-clause-named g c = always_ok c.print.result (sets_later (lists_of c.args.sets.now.named.items) (λ r. g.met.W.Source.same_gave _ _ r c.print.ensures.later) c.requires)
+
+pub returns-in-Print-clause-bounded : goal.returns-in-Print-clause-bounded
+returns-in-Print-clause-bounded g c = λ p is under there top clear.
+    let env = lists_of c.args.sets.now.named.items in
+    let out = c.in-Print.out in
+    let tell = form_text c.args.form in
+    let refs : c.get.result.now ≡ env out.from = subst (λ (name : List ℕ). c.get.result.now ≡ env name) c.as_bytes.ensures c.get.ensures in
+    bounded_as (ap statement_of c.in-Print.is) tell p env _ _
+    (subst (λ (l : List Ref). IsBounded (WorkOfOut tell p l out.mode out.limit) c.args.meter.now.spent c.print.new.meter.spent) refs
+    (c.print.ensures.bounded p is under (subst (λ (rs : List Ref). AreThere p.objects rs) (sym refs) (there out.from)) clear))
+
+pub returns-in-Print-clause-spent : goal.returns-in-Print-clause-spent
+returns-in-Print-clause-spent g c = on_ok_as c.print.result (λ spent. λ p is under there top clear.
+    let env = lists_of c.args.sets.now.named.items in
+    let out = c.in-Print.out in
+    let tell = form_text c.args.form in
+    let refs : c.get.result.now ≡ env out.from = subst (λ (name : List ℕ). c.get.result.now ≡ env name) c.as_bytes.ensures c.get.ensures in
+    spent_as (ap statement_of c.in-Print.is) tell p env _ _
+    (subst (λ (l : List Ref). IsSpent (WorkOfOut tell p l out.mode out.limit) c.args.meter.now.spent c.print.new.meter.spent) refs
+    (spent p is under (subst (λ (rs : List Ref). AreThere p.objects rs) (sym refs) (there out.from)) clear))) c.print.ensures.spent

@@ -16,6 +16,11 @@ use Rattle.ql_eval.proofs.EachLemmas.{needed_one, one_needed}
 use Rattle.ql_eval.proofs.PathLemmas.{PathWell}
 use Rattle.ql_eval.proofs.GivenLemmas.{part_given}
 use Rattle.ql_eval.specs.internal.Giving.{AllGiven}
+use Rattle.std.proofs.Common.{Some}
+use Rattle.ref_sets.proofs.shared.Results.{on_ok_as}
+use Rattle.ql_eval.specs.Work.{WorkOfBase}
+use Rattle.ql_eval.specs.internal.Metering.{IsBounded, IsSpent}
+use Rattle.ql_eval.proofs.MeterLemmas.{nothing_spent, still}
 use Rattle.ql_eval.proofs.candidates.kept_by.Goals as goal
 
 pub returns-in-Ids-clause-answer : goal.returns-in-Ids-clause-answer
@@ -76,3 +81,50 @@ returns-in_ok-picked-in-InSet-clause-named g c = part_given c.get.result.now c.i
 
 pub on_path-requires : goal.on_path-requires
 on_path-requires g c = subst (λ (l : List Ref). AllGiven (g.W.Source.gave c.args.source.now) l) (sym c.get-in-Via.ensures) (c.requires.named c.as_bytes-in-Via.result.now)
+
+pub returns-in-Ids-clause-bounded : goal.returns-in-Ids-clause-bounded
+returns-in-Ids-clause-bounded g c = λ p is under there allowed clear. still _ _
+
+pub returns-in-Ids-clause-spent : goal.returns-in-Ids-clause-spent
+returns-in-Ids-clause-spent g c = on_ok_as c.with_ids.result (λ walked p is under there allowed clear. subst (λ (f : Filter). IsSpent (WorkOfBase p.objects (Some f)) c.args.meter.now.spent c.args.meter.now.spent) (sym (ap filter_of c.in-Ids.is)) (nothing_spent _)) c.with_ids.ensures.walked
+
+pub returns-in-Via-clause-bounded : goal.returns-in-Via-clause-bounded
+returns-in-Via-clause-bounded g c = λ p is under there allowed clear. still _ _
+
+pub returns-in-Via-clause-spent : goal.returns-in-Via-clause-spent
+returns-in-Via-clause-spent g c = on_ok_as c.on_path.result (λ walked p is under there allowed clear. subst (λ (f : Filter). IsSpent (WorkOfBase p.objects (Some f)) c.args.meter.now.spent c.args.meter.now.spent) (sym (ap filter_of c.in-Via.is)) (nothing_spent _)) c.on_path.ensures.walked
+
+pub returns-in-KeyIs-clause-bounded : goal.returns-in-KeyIs-clause-bounded
+returns-in-KeyIs-clause-bounded g c = λ p is under there allowed clear. still _ _
+
+pub returns-in-KeyIs-clause-spent : goal.returns-in-KeyIs-clause-spent
+returns-in-KeyIs-clause-spent g c = on_ok_as c.names.result (λ walked p is under there allowed clear. subst (λ (f : Filter). IsSpent (WorkOfBase p.objects (Some f)) c.args.meter.now.spent c.args.meter.now.spent) (sym (ap filter_of c.in-KeyIs.is)) (nothing_spent _)) c.names.ensures.walked
+
+pub returns-in-Within-clause-bounded : goal.returns-in-Within-clause-bounded
+returns-in-Within-clause-bounded g c = λ p is under there allowed clear. still _ _
+
+pub returns-in-Within-clause-spent : goal.returns-in-Within-clause-spent
+returns-in-Within-clause-spent g c = on_ok_as c.in_box.result (λ walked p is under there allowed clear. subst (λ (f : Filter). IsSpent (WorkOfBase p.objects (Some f)) c.args.meter.now.spent c.args.meter.now.spent) (sym (ap filter_of c.in-Within.is)) (nothing_spent _)) c.in_box.ensures.walked
+
+pub returns-in_err-picked-in-InSet-clause-bounded : goal.returns-in_err-picked-in-InSet-clause-bounded
+returns-in_err-picked-in-InSet-clause-bounded g c = λ p is under there allowed clear. still _ _
+
+pub returns-in_ok-picked-in-InSet-clause-bounded : goal.returns-in_ok-picked-in-InSet-clause-bounded
+returns-in_ok-picked-in-InSet-clause-bounded g c = λ p is under there allowed clear. still _ _
+
+pub returns-in_ok-picked-in-InSet-clause-spent : goal.returns-in_ok-picked-in-InSet-clause-spent
+returns-in_ok-picked-in-InSet-clause-spent g c = λ p is under there allowed clear. subst (λ (f : Filter). IsSpent (WorkOfBase p.objects (Some f)) c.args.meter.now.spent c.args.meter.now.spent) (sym (ap filter_of c.in-InSet.is)) (nothing_spent _)
+
+pub returns-in-HasKey-clause-bounded : goal.returns-in-HasKey-clause-bounded
+returns-in-HasKey-clause-bounded g c = λ p is under there allowed clear.
+    let key = c.as_bytes-in-HasKey.result.now in
+    let filter : filter_of c.args.filter.now ≡ HasKey key = ap filter_of c.in-HasKey.is ∙ ap (λ (k : List ℕ). HasKey k) (sym c.as_bytes-in-HasKey.ensures) in
+    subst (λ (f : Filter). IsBounded (WorkOfBase p.objects (Some f)) c.args.meter.now.spent c.with_key.new.meter.spent) (sym filter)
+    (c.with_key.ensures.bounded p is under (subst (λ (f : Filter). Allows c.args.pick f) filter allowed) clear)
+
+pub returns-in-HasKey-clause-spent : goal.returns-in-HasKey-clause-spent
+returns-in-HasKey-clause-spent g c = on_ok_as c.with_key.result (λ spent p is under there allowed clear.
+    let key = c.as_bytes-in-HasKey.result.now in
+    let filter : filter_of c.args.filter.now ≡ HasKey key = ap filter_of c.in-HasKey.is ∙ ap (λ (k : List ℕ). HasKey k) (sym c.as_bytes-in-HasKey.ensures) in
+    subst (λ (f : Filter). IsSpent (WorkOfBase p.objects (Some f)) c.args.meter.now.spent c.with_key.new.meter.spent) (sym filter)
+    (spent p is under (subst (λ (f : Filter). Allows c.args.pick f) filter allowed) clear)) c.with_key.ensures.spent

@@ -11,6 +11,8 @@ use Rattle.ql_eval.specs.Questions.{NeededBy}
 use Rattle.ql_eval.specs.Written.{HasWritten}
 use Rattle.ql_eval.proofs.KnownLemmas.{none_remembered}
 use Rattle.ql_eval.proofs.RememberLemmas.{none_recalled}
+use Rattle.ref_sets.proofs.shared.Results.{on_ok_as}
+use Rattle.ql_eval.specs.Work.{HasNoClash}
 use Rattle.ql_eval.proofs.evaluation.run_over.Goals as goal
 
 pub returns-clause-answer : goal.returns-clause-answer
@@ -20,3 +22,13 @@ returns-clause-answer g c = λ p is under query.
     (NeededBy p (AskedByAll p (statements_of c.args.statements.now) nothing_named)) (uses (g.S.Shelf.holds s) (g.S.Shelf.used c.args.shelf.now) (g.S.Shelf.used s)) c.answer_all-ran.result)
     (search rules)
     (c.answer_all-ran.ensures.answer p is (under, none_remembered p _ c.new-objects.result c.new-objects.ensures.empty, none_recalled p _ c.new-memo.result.remembered.items c.new-memo.ensures) query)
+
+pub returns-clause-bounded : goal.returns-clause-bounded
+returns-clause-bounded g c = λ p is under query clear.
+    c.answer_all-ran.ensures.bounded p is (under, none_remembered p _ c.new-objects.result c.new-objects.ensures.empty, none_recalled p _ c.new-memo.result.remembered.items c.new-memo.ensures) query
+    (subst (λ s. HasNoClash p (g.S.Shelf.used s)) (search rules) clear)
+
+pub returns-clause-spent : goal.returns-clause-spent
+returns-clause-spent g c = on_ok_as c.answer_all-ran.result (λ spent p is under query clear.
+    spent p is (under, none_remembered p _ c.new-objects.result c.new-objects.ensures.empty, none_recalled p _ c.new-memo.result.remembered.items c.new-memo.ensures) query
+    (subst (λ s. HasNoClash p (g.S.Shelf.used s)) (search rules) clear)) c.answer_all-ran.ensures.spent

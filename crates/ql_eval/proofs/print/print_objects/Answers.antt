@@ -1,13 +1,15 @@
-use Rattle.std.proofs.Common.{◌++◌, ◌∙◌, List, subst}
+use Rattle.std.proofs.Common.{◌++◌, ◌∙◌, List, length, subst}
 use Rattle.std.proofs.lemmas.List.{get_or_default, take_all}
 use Rattle.osm_model.specs.declared.reference.Ref.{Ref}
 use Rattle.ql_eval.specs.internal.Objects.{AreKnownThere, IsKnownThere}
 use Rattle.ql_eval.proofs.KnownLemmas.{known_more, there_later}
 use Rattle.std.proofs.lemmas.List.Elements.{Contains-get_or}
 use Rattle.ql_eval.specs.internal.Links.{IsObjectAsk}
-use Rattle.ql_eval.specs.internal.Printing.{line_at}
+use Rattle.ql_eval.specs.internal.Printing.{line_at, lines_at}
 use Rattle.ql_eval.proofs.PrintLemmas.{printed_all, printed_next, printed_stops}
 use Rattle.ql_eval.proofs.WritingLemmas.{written_then}
+use Rattle.ql_eval.specs.internal.Metering.{IsCounted}
+use Rattle.ql_eval.proofs.MeterLemmas.{clear_before, lines_counted, lines_stop}
 use Rattle.ql_eval.proofs.print.print_objects.Goals as goal
 
 pub returns-in_err-print_object-clause-wrote : goal.returns-in_err-print_object-clause-wrote
@@ -29,6 +31,10 @@ loop-name-preserved g c = record {
   answer = λ p is under there.
       printed_next p c.args.names.now IsObjectAsk (line_at c.args.form p.objects c.args.mode) c.loop-name.name-index _ c.loop-name-test.true (get_or_default c.args.names.now c.loop-name.name-index _ _ c.loop-name-test.true)
       (λ x. g.met.W.Source.grows _ _ x c.print_object.ensures.later) (c.loop-name.invariant.answer p is under there) (c.in_ok-print_object.ensures.answer p is (g.met.W.Source.same_under _ _ p c.loop-name.invariant.later under) (there _ (Contains-get_or c.args.names.now c.loop-name.name-index _ c.loop-name-test.true)));
+  counted = λ p is under there clear.
+      lines_counted (line_at c.args.form p.objects c.args.mode) c.args.names.now c.loop-name.name-index _ c.loop-name-test.true (get_or_default c.args.names.now c.loop-name.name-index _ _ c.loop-name-test.true) _ _ _
+      (c.loop-name.invariant.counted p is under there (clear_before (λ x. g.met.W.Source.grows _ _ x c.print_object.ensures.later) clear))
+      (c.in_ok-print_object.ensures.spent p is (g.met.W.Source.same_under _ _ p c.loop-name.invariant.later under) (there _ (Contains-get_or c.args.names.now c.loop-name.name-index _ c.loop-name-test.true)) clear);
 }
 
 pub returns-clause-answer : goal.returns-clause-answer
@@ -40,3 +46,17 @@ returns-clause-there g c = subst (λ (names : List Ref). AreKnownThere (g.W.Sour
 
 pub print_object-requires : goal.print_object-requires
 print_object-requires g c = g.met.W.Source.same_gave _ _ _ c.loop-name.invariant.later (c.requires _ (Contains-get_or c.args.names.now c.loop-name.name-index _ c.loop-name-test.true))
+
+pub returns-in_err-print_object-clause-bounded : goal.returns-in_err-print_object-clause-bounded
+returns-in_err-print_object-clause-bounded g c = λ p is under there clear.
+    lines_stop (line_at c.args.form p.objects c.args.mode) c.args.names.now c.loop-name.name-index _ c.loop-name-test.true (get_or_default c.args.names.now c.loop-name.name-index _ _ c.loop-name-test.true) _ _ _
+    (c.loop-name.invariant.counted p is under there (clear_before (λ x. g.met.W.Source.grows _ _ x c.print_object.ensures.later) clear))
+    (c.print_object.ensures.bounded p is (g.met.W.Source.same_under _ _ p c.loop-name.invariant.later under) (there _ (Contains-get_or c.args.names.now c.loop-name.name-index _ c.loop-name-test.true)) clear)
+
+pub returns-clause-bounded : goal.returns-clause-bounded
+returns-clause-bounded g c = λ p is under there clear.
+    (subst (λ (l : List Ref). IsCounted c.args.meter.now.spent c.loop-name.meter.spent (length (lines_at c.args.form p.objects c.args.mode l))) (take_all _ _ c.loop-name-test.false) (c.loop-name.invariant.counted p is under there clear)).not_more
+
+pub returns-clause-spent : goal.returns-clause-spent
+returns-clause-spent g c = λ p is under there clear.
+    subst (λ (l : List Ref). IsCounted c.args.meter.now.spent c.loop-name.meter.spent (length (lines_at c.args.form p.objects c.args.mode l))) (take_all _ _ c.loop-name-test.false) (c.loop-name.invariant.counted p is under there clear)

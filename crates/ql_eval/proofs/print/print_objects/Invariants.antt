@@ -1,10 +1,12 @@
-use Rattle.std.proofs.Common.{◌≡◌, ℕ, List, take}
+use Rattle.std.proofs.Common.{◌≡◌, ℕ, List, length, take}
 use Rattle.tree_node.proofs.shared.OutcomeLaws.{uses}
 use Rattle.osm_keys.specs.Publications.{IsPublication, Publication}
+use Rattle.ql_eval.specs.Work.{HasNoClash}
+use Rattle.ql_eval.specs.internal.Metering.{IsCounted}
 use Rattle.ql_eval.specs.Written.{HasWritten}
 use Rattle.ql_eval.specs.internal.Objects.{AreKnownThere}
 use Rattle.ql_eval.specs.internal.Links.{AreThere, IsObjectAsk}
-use Rattle.ql_eval.specs.internal.Printing.{line_at}
+use Rattle.ql_eval.specs.internal.Printing.{line_at, lines_at}
 use Rattle.ql_eval.proofs.PrintLemmas.{HasPrinted}
 use Rattle.ql_eval.proofs.print.print_objects.Given as goal
 
@@ -18,4 +20,6 @@ invariant-loop-name g l = record {
   answer : (p : Publication) → IsPublication p → g.W.Source.under l.fn.source p → AreThere p.objects l.names
       → HasPrinted p l.names IsObjectAsk (line_at l.form p.objects l.mode) l.name-index (g.T.Sink.stands l.fn.sink) (g.T.Sink.stands l.sink)
       (uses (g.W.Source.holds l.source) (g.W.Source.used l.fn.source) (g.W.Source.used l.source));
+  counted : (p : Publication) → IsPublication p → g.W.Source.under l.fn.source p → AreThere p.objects l.names → HasNoClash p (g.W.Source.used l.source)
+      → IsCounted l.fn.meter.spent l.meter.spent (length (lines_at l.form p.objects l.mode (take l.name-index l.names)));
 }

@@ -1,4 +1,4 @@
-use Rattle.std.proofs.Common.{◌≡◌, ℕ, List, ◌++◌, Ok, Err, take, refl, sym, ap, subst, ◌∙◌}
+use Rattle.std.proofs.Common.{◌≡◌, ℕ, List, ◌++◌, ◌+◌, ◌*◌, Ok, Err, drop, length, take, refl, sym, ap, subst, ◌∙◌}
 use Rattle.std.specs.List.{AllByRecursion}
 use Rattle.osm_model.specs.declared.reference.Ref.{Ref}
 use Rattle.tree_node.proofs.shared.OutcomeLaws.{outcome_as, outcome_starts, outcome_stops, outcome_then, outcome_then_stops, uses}
@@ -8,17 +8,21 @@ use Rattle.ql_syntax.specs.StatementViews.{filters_of, statement_of, statements_
 use Rattle.ql_syntax.specs.declared.filter.Filter.{Filter}
 use Rattle.ql_syntax.specs.declared.statement.Stmt.{Stmt}
 use Rattle.ql_meaning.proofs.shared.Running.{after_next, minus_after}
-use Rattle.ql_meaning.specs.Meanings.{given_by}
+use Rattle.ql_meaning.specs.Meanings.{AfterAll, given_by}
+use Rattle.std.proofs.lemmas.List.{take_all}
 use Rattle.ql_meaning.specs.Values.{IsReached, IsRefOf}
 use Rattle.ref_sets.specs.NamedSets.{put, lists_of}
 use Rattle.ref_sets.specs.Sets.{IsSetOf}
-use Rattle.ql_eval.specs.Asks.{AskedByRecursion}
+use Rattle.ql_eval.specs.Asks.{AskedByAll, AskedByRecursion}
 use Rattle.ql_eval.specs.Questions.{NeededBy}
 use Rattle.ql_eval.specs.internal.Lawful.{CanRun, CanRunAll}
 use Rattle.ql_eval.specs.internal.Links.{AreThere}
 use Rattle.ql_eval.proofs.StatementLemmas.{RanAllWell, RanWell, SelectedWell, after_all_there, after_as, after_there, as_needs, can_run_as, left_needs, minus_splits, needs_as, one_lawful, part_all, part_needs, parts_all, parts_front, parts_split, right_needs}
 use Rattle.ql_eval.proofs.GivenLemmas.{all_appended, all_later, part_given, put_given, sets_later, sorted_given, written_given}
 use Rattle.ql_eval.specs.internal.Giving.{AllGiven}
+use Rattle.ql_eval.specs.Work.{WorkOf, WorkOfAll, WorkOfSelect, step_cost}
+use Rattle.ql_eval.specs.internal.Metering.{IsBounded, IsCounted, IsSpent}
+use Rattle.ql_eval.proofs.MeterLemmas.{bounded_as, clear_before, found_well, going_at, going_bounded, going_next, going_stops, gone_all, nothing_spent, row_bounded, row_spent, row_stops, spent_as, steps_bounded, steps_spent, still}
 use Rattle.ql_eval.proofs.run.+run.Goals as goal
 
 pub run-returns-in_err-refs-in-Select-clause-answer : goal.run-returns-in_err-refs-in-Select-clause-answer
@@ -108,12 +112,12 @@ run-returns-in_err-run-in-Minus-2-clause-answer g t c = λ p is under there can.
     let same = ap statement_of c.in-Minus.is in
     let both = can_run_as same can in
     let first = subst (λ (s : Stmt). CanRun (statement_of s)) (sym c.deref-in-Minus.ensures) both.0 in
-    let second = subst (λ (s : Stmt). CanRun (statement_of s)) (sym c.deref-in-Minus-3.ensures) both.1 in
+    let second = subst (λ (s : Stmt). CanRun (statement_of s)) (sym c.deref-in-Minus-4.ensures) both.1 in
     outcome_then_stops _ c.from_residual-in_err-run-in-Minus-2.ensures.1 refl (λ x. g.met.W.Source.grows _ _ x c.run-in-Minus.ensures.later)
     (λ x needs. needs_as same p env x (left_needs p (statement_of left) (statement_of right) c.in-Minus.into env x needs))
     (λ so x needs. needs_as same p env x (right_needs p (statement_of left) (statement_of right) c.in-Minus.into env mid so x needs))
     (subst (λ (s : Stmt). RanWell p (statement_of s) env mid (uses (g.W.Source.holds c.run.new.source) (g.W.Source.used c.args.source.now) (g.W.Source.used c.run.new.source)) (Ok c.in_ok-run-in-Minus.field-0)) c.deref-in-Minus.ensures (c.in_ok-run-in-Minus.ensures.answer p is under there first))
-    (λ so. subst (λ (s : Stmt). RanWell p (statement_of s) mid (lists_of c.run-in-Minus.new.sets.named.items) (uses (g.W.Source.holds c.run-in-Minus.new.source) (g.W.Source.used c.run.new.source) (g.W.Source.used c.run-in-Minus.new.source)) (Err c.in_err-run-in-Minus-2.field-0.0)) c.deref-in-Minus-3.ensures
+    (λ so. subst (λ (s : Stmt). RanWell p (statement_of s) mid (lists_of c.run-in-Minus.new.sets.named.items) (uses (g.W.Source.holds c.run-in-Minus.new.source) (g.W.Source.used c.run.new.source) (g.W.Source.used c.run-in-Minus.new.source)) (Err c.in_err-run-in-Minus-2.field-0.0)) c.deref-in-Minus-4.ensures
     (c.in_err-run-in-Minus-2.ensures.answer p is (g.met.W.Source.same_under _ _ p c.in_ok-run-in-Minus.ensures.later under) (after_there p.objects (statement_of left) env mid so there) second))
 
 pub run-returns-in_ok-write-in-Minus-clause-answer : goal.run-returns-in_ok-write-in-Minus-clause-answer
@@ -128,11 +132,11 @@ run-returns-in_ok-write-in-Minus-clause-answer g t c = λ p is under there can.
     let same = ap statement_of c.in-Minus.is in
     let both = can_run_as same can in
     let first = subst (λ (s : Stmt). CanRun (statement_of s)) (sym c.deref-in-Minus.ensures) both.0 in
-    let second = subst (λ (s : Stmt). CanRun (statement_of s)) (sym c.deref-in-Minus-3.ensures) both.1 in
-    let firsts = c.deref-in-Minus-4.result.now in
+    let second = subst (λ (s : Stmt). CanRun (statement_of s)) (sym c.deref-in-Minus-4.ensures) both.1 in
+    let firsts = c.deref-in-Minus-6.result.now in
     let first_is : firsts ≡ given_by (statement_of left) mid =
-    c.deref-in-Minus-4.ensures ∙ c.in_ok-first-in-Minus.ensures ∙ ap (λ (s : Stmt). given_by (statement_of s) mid) c.deref-in-Minus-2.ensures in
-    let second_is = c.written_by.ensures ∙ ap (λ (s : Stmt). given_by (statement_of s) end) c.deref-in-Minus-5.ensures in
+    c.deref-in-Minus-6.ensures ∙ c.in_ok-first-in-Minus.ensures ∙ ap (λ (s : Stmt). given_by (statement_of s) mid) c.deref-in-Minus-2.ensures in
+    let second_is = c.written_by-second.ensures ∙ ap (λ (s : Stmt). given_by (statement_of s) end) c.deref-in-Minus-5.ensures in
     outcome_then (λ x. g.met.W.Source.grows _ _ x c.run-in-Minus.ensures.later)
     (λ x needs. needs_as same p env x (left_needs p (statement_of left) (statement_of right) c.in-Minus.into env x needs))
     (λ so x needs. needs_as same p env x (right_needs p (statement_of left) (statement_of right) c.in-Minus.into env mid so x needs))
@@ -140,7 +144,7 @@ run-returns-in_ok-write-in-Minus-clause-answer g t c = λ p is under there can.
     (λ so two. after_as same p.objects _ _ (minus_after p.objects left right c.in-Minus.into env mid end later firsts _ refs so first_is two second_is c.in_ok-refs-in-Minus.ensures
     (c.in_ok-write-in-Minus.ensures ∙ ap (λ (name : List ℕ). put name refs end) c.as_bytes-in-Minus.ensures)))
     (subst (λ (s : Stmt). RanWell p (statement_of s) env mid (uses (g.W.Source.holds c.run.new.source) (g.W.Source.used c.args.source.now) (g.W.Source.used c.run.new.source)) (Ok c.in_ok-run-in-Minus.field-0)) c.deref-in-Minus.ensures (c.in_ok-run-in-Minus.ensures.answer p is under there first))
-    (λ so. subst (λ (s : Stmt). RanWell p (statement_of s) mid end (uses (g.W.Source.holds c.run-in-Minus.new.source) (g.W.Source.used c.run.new.source) (g.W.Source.used c.run-in-Minus.new.source)) (Ok c.in_ok-run-in-Minus-2.field-0)) c.deref-in-Minus-3.ensures
+    (λ so. subst (λ (s : Stmt). RanWell p (statement_of s) mid end (uses (g.W.Source.holds c.run-in-Minus.new.source) (g.W.Source.used c.run.new.source) (g.W.Source.used c.run-in-Minus.new.source)) (Ok c.in_ok-run-in-Minus-2.field-0)) c.deref-in-Minus-4.ensures
     (c.in_ok-run-in-Minus-2.ensures.answer p is (g.met.W.Source.same_under _ _ p c.in_ok-run-in-Minus.ensures.later under) (after_there p.objects (statement_of left) env mid so there) second))
 
 pub run-returns-in-Print-clause-answer : goal.run-returns-in-Print-clause-answer
@@ -164,9 +168,9 @@ run_all-loop-part-preserved g t c = record {
   later = g.met.W.Source.chained _ _ _ c.loop-part.invariant.later c.run.ensures.later;
   walked = g.met.W.Source.more_walks _ _ _ c.loop-part.invariant.later c.run.ensures.later c.loop-part.invariant.walked c.in_ok-run.ensures.walked;
   sets_named = c.in_ok-run.ensures.named;
-  named = all_appended c.loop-part.given.items c.written_by.result.now c.extend_from_slice.new.self.items (c.in_ok-extend_from_slice.ensures.items ∙ ap (λ (l : List Ref). c.loop-part.given.items ++ l) c.as_slice.ensures.value)
+  named = all_appended c.loop-part.given.items c.written_by-written.result.now c.extend_from_slice.new.self.items (c.in_ok-extend_from_slice.ensures.items ∙ ap (λ (l : List Ref). c.loop-part.given.items ++ l) c.as_slice.ensures.value)
       (all_later c.loop-part.given.items (λ r. g.met.W.Source.same_gave _ _ r c.run.ensures.later) c.loop-part.invariant.named)
-      (subst (λ (l : List Ref). AllGiven (g.W.Source.gave c.run.new.source) l) (sym c.written_by.ensures) (written_given (statement_of c.part-item.result) (lists_of c.run.new.sets.named.items) c.in_ok-run.ensures.named));
+      (subst (λ (l : List Ref). AllGiven (g.W.Source.gave c.run.new.source) l) (sym c.written_by-written.ensures) (written_given (statement_of c.part-item.result) (lists_of c.run.new.sets.named.items) c.in_ok-run.ensures.named));
   answer = λ p is under there can.
       let env = lists_of c.args.sets.now.named.items in
       let mid = lists_of c.loop-part.sets.named.items in
@@ -177,10 +181,26 @@ run_all-loop-part-preserved g t c = record {
       outcome_then (λ x. g.met.W.Source.grows _ _ x c.run.ensures.later) (parts_front p env parts k part c.loop-part-test.true c.part-item.is)
       (λ so. part_needs p env parts k part c.loop-part-test.true c.part-item.is mid given so) (λ so one. parts_split p env parts k part c.loop-part-test.true c.part-item.is mid given so)
       (λ so one. after_next p.objects parts k part c.loop-part-test.true c.part-item.is env mid (lists_of c.run.new.sets.named.items) given _ so one
-      (c.in_ok-extend_from_slice.ensures.items ∙ ap (λ (l : List Ref). given ++ l) (c.as_slice.ensures.value ∙ c.written_by.ensures)))
+      (c.in_ok-extend_from_slice.ensures.items ∙ ap (λ (l : List Ref). given ++ l) (c.as_slice.ensures.value ∙ c.written_by-written.ensures)))
       (c.loop-part.invariant.answer p is under there can)
       (λ so. c.in_ok-run.ensures.answer p is (g.met.W.Source.same_under _ _ p c.loop-part.invariant.later under) (after_all_there p.objects (statements_of (take k parts)) env mid given so there).0
       (one_lawful parts k part c.loop-part-test.true c.part-item.is can));
+  going = λ tell p is under there can clear.
+      let env = lists_of c.args.sets.now.named.items in
+      let mid = lists_of c.loop-part.sets.named.items in
+      let parts = c.args.parts.now in
+      let k = c.loop-part.part-index in
+      let part = c.part-item.result in
+      let early = clear_before (λ x. g.met.W.Source.grows _ _ x c.run.ensures.later) clear in
+      let going = going_at tell p parts env k mid _ _ part c.loop-part-test.true c.part-item.is (c.loop-part.invariant.going tell p is under there can early) in
+      let so = found_well (λ x used. used) early (c.loop-part.invariant.answer p is under there can) in
+      let there_now = (after_all_there p.objects (statements_of (take k parts)) env mid c.loop-part.given.items so there).0 in
+      let under_now = g.met.W.Source.same_under _ _ p c.loop-part.invariant.later under in
+      let can_now = one_lawful parts k part c.loop-part-test.true c.part-item.is can in
+      let first = c.run.ensures.bounded tell p is under_now there_now can_now clear in
+      let after = found_well (λ x used. used) clear (c.in_ok-run.ensures.answer p is under_now there_now can_now) in
+      let next = going_next tell p (statements_of parts) env (statement_of part) (statements_of (drop (k + 1) parts)) mid _ _ _ going (lists_of c.run.new.sets.named.items) c.written_by-written.result.now _ after c.written_by-written.ensures c.charge_run.ensures first (c.in_ok-run.ensures.spent tell p is under_now there_now can_now clear) in
+      next;
 }
 
 pub run-returns-in_ok-write-in-Select-clause-named : goal.run-returns-in_ok-write-in-Select-clause-named
@@ -200,10 +220,394 @@ run-returns-in_ok-write-in-Union-clause-named g t c = put_given _ c.in_ok-refs-i
 
 pub run-returns-in_ok-write-in-Minus-clause-named : goal.run-returns-in_ok-write-in-Minus-clause-named
 run-returns-in_ok-write-in-Minus-clause-named g t c =
-    let firsts = c.deref-in-Minus-4.result.now in
-    let first_is = c.deref-in-Minus-4.ensures ∙ c.in_ok-first-in-Minus.ensures in
+    let firsts = c.deref-in-Minus-6.result.now in
+    let first_is = c.deref-in-Minus-6.ensures ∙ c.in_ok-first-in-Minus.ensures in
     put_given _ c.in_ok-refs-in-Minus.refs (lists_of c.run-in-Minus.new.sets.named.items) _ c.in_ok-write-in-Minus.ensures
     (part_given firsts c.in_ok-refs-in-Minus.refs c.in_ok-refs-in-Minus.ensures
     (all_later firsts (λ r. g.met.W.Source.same_gave _ _ r c.run-in-Minus.ensures.later)
     (subst (λ (l : List Ref). AllGiven (g.W.Source.gave c.run.new.source) l) (sym first_is) (written_given (statement_of c.deref-in-Minus-2.result.now) (lists_of c.run.new.sets.named.items) c.in_ok-run-in-Minus.ensures.named))))
     (c.in_ok-run-in-Minus-2.ensures.named)
+
+pub run-returns-in_err-refs-in-Select-clause-bounded : goal.run-returns-in_err-refs-in-Select-clause-bounded
+run-returns-in_err-refs-in-Select-clause-bounded g t c = λ tell p is under there can clear.
+    let env = lists_of c.args.sets.now.named.items in
+    let kind = c.in-Select.kind in
+    let lawful = subst (λ (fs : List Filter). AllByRecursion (Allows kind) (filters_of fs)) (sym c.deref.ensures.value) (can_run_as (ap statement_of c.in-Select.is) can) in
+    bounded_as (ap statement_of c.in-Select.is) tell p env _ _
+    (subst (λ (fs : List Filter). IsBounded (WorkOfSelect p env kind (filters_of fs)) c.args.meter.now.spent c.select.new.meter.spent) c.deref.ensures.value (c.select.ensures.bounded p is under there lawful clear))
+
+pub run-returns-in_err-write-in-Select-clause-bounded : goal.run-returns-in_err-write-in-Select-clause-bounded
+run-returns-in_err-write-in-Select-clause-bounded g t c = λ tell p is under there can clear.
+    let env = lists_of c.args.sets.now.named.items in
+    let kind = c.in-Select.kind in
+    let lawful = subst (λ (fs : List Filter). AllByRecursion (Allows kind) (filters_of fs)) (sym c.deref.ensures.value) (can_run_as (ap statement_of c.in-Select.is) can) in
+    bounded_as (ap statement_of c.in-Select.is) tell p env _ _
+    (subst (λ (fs : List Filter). IsBounded (WorkOfSelect p env kind (filters_of fs)) c.args.meter.now.spent c.select.new.meter.spent) c.deref.ensures.value (c.select.ensures.bounded p is under there lawful clear))
+
+pub run-returns-in_ok-write-in-Select-clause-bounded : goal.run-returns-in_ok-write-in-Select-clause-bounded
+run-returns-in_ok-write-in-Select-clause-bounded g t c = λ tell p is under there can clear.
+    let env = lists_of c.args.sets.now.named.items in
+    let kind = c.in-Select.kind in
+    let lawful = subst (λ (fs : List Filter). AllByRecursion (Allows kind) (filters_of fs)) (sym c.deref.ensures.value) (can_run_as (ap statement_of c.in-Select.is) can) in
+    bounded_as (ap statement_of c.in-Select.is) tell p env _ _
+    (subst (λ (fs : List Filter). IsBounded (WorkOfSelect p env kind (filters_of fs)) c.args.meter.now.spent c.select.new.meter.spent) c.deref.ensures.value (c.select.ensures.bounded p is under there lawful clear))
+
+pub run-returns-in_ok-write-in-Select-clause-spent : goal.run-returns-in_ok-write-in-Select-clause-spent
+run-returns-in_ok-write-in-Select-clause-spent g t c = λ tell p is under there can clear.
+    let env = lists_of c.args.sets.now.named.items in
+    let kind = c.in-Select.kind in
+    let lawful = subst (λ (fs : List Filter). AllByRecursion (Allows kind) (filters_of fs)) (sym c.deref.ensures.value) (can_run_as (ap statement_of c.in-Select.is) can) in
+    spent_as (ap statement_of c.in-Select.is) tell p env _ _
+    (subst (λ (fs : List Filter). IsSpent (WorkOfSelect p env kind (filters_of fs)) c.args.meter.now.spent c.select.new.meter.spent) c.deref.ensures.value (c.in_ok-refs-in-Select.ensures.spent p is under there lawful clear))
+
+pub run-returns-in_err-set-in-Recurse-clause-bounded : goal.run-returns-in_err-set-in-Recurse-clause-bounded
+run-returns-in_err-set-in-Recurse-clause-bounded g t c = λ tell p is under there can clear. still _ _
+
+pub run-returns-in_err-charge-in-Recurse-clause-bounded : goal.run-returns-in_err-charge-in-Recurse-clause-bounded
+run-returns-in_err-charge-in-Recurse-clause-bounded g t c = λ tell p is under there can clear.
+    let env = lists_of c.args.sets.now.named.items in
+    let set = c.deref-in-Recurse.ensures ∙ c.in_ok-set-in-Recurse.ensures ∙ ap env c.as_bytes-in-Recurse.ensures in
+    let count = ap (λ (l : List Ref). length l) (c.as_slice.ensures.value ∙ set) in
+    bounded_as (ap statement_of c.in-Recurse.is) tell p env _ _
+    (steps_bounded (length (env c.in-Recurse.«from»)) _ _ (subst (λ (n : ℕ). IsCounted c.args.meter.now.spent c.charge.new.self.spent (step_cost * n)) count c.charge.ensures))
+
+pub run-returns-in_err-refs-in-Recurse-clause-bounded : goal.run-returns-in_err-refs-in-Recurse-clause-bounded
+run-returns-in_err-refs-in-Recurse-clause-bounded g t c = λ tell p is under there can clear.
+    let env = lists_of c.args.sets.now.named.items in
+    let set = c.deref-in-Recurse.ensures ∙ c.in_ok-set-in-Recurse.ensures ∙ ap env c.as_bytes-in-Recurse.ensures in
+    let count = ap (λ (l : List Ref). length l) (c.as_slice.ensures.value ∙ set) in
+    bounded_as (ap statement_of c.in-Recurse.is) tell p env _ _
+    (steps_bounded (length (env c.in-Recurse.«from»)) _ _ (subst (λ (n : ℕ). IsCounted c.args.meter.now.spent c.charge.new.self.spent (step_cost * n)) count c.charge.ensures))
+
+pub run-returns-in_err-write_shared-in-Recurse-clause-bounded : goal.run-returns-in_err-write_shared-in-Recurse-clause-bounded
+run-returns-in_err-write_shared-in-Recurse-clause-bounded g t c = λ tell p is under there can clear.
+    let env = lists_of c.args.sets.now.named.items in
+    let set = c.deref-in-Recurse.ensures ∙ c.in_ok-set-in-Recurse.ensures ∙ ap env c.as_bytes-in-Recurse.ensures in
+    let count = ap (λ (l : List Ref). length l) (c.as_slice.ensures.value ∙ set) in
+    bounded_as (ap statement_of c.in-Recurse.is) tell p env _ _
+    (steps_bounded (length (env c.in-Recurse.«from»)) _ _ (subst (λ (n : ℕ). IsCounted c.args.meter.now.spent c.charge.new.self.spent (step_cost * n)) count c.charge.ensures))
+
+pub run-returns-in_ok-write_shared-in-Recurse-clause-bounded : goal.run-returns-in_ok-write_shared-in-Recurse-clause-bounded
+run-returns-in_ok-write_shared-in-Recurse-clause-bounded g t c = λ tell p is under there can clear.
+    let env = lists_of c.args.sets.now.named.items in
+    let set = c.deref-in-Recurse.ensures ∙ c.in_ok-set-in-Recurse.ensures ∙ ap env c.as_bytes-in-Recurse.ensures in
+    let count = ap (λ (l : List Ref). length l) (c.as_slice.ensures.value ∙ set) in
+    bounded_as (ap statement_of c.in-Recurse.is) tell p env _ _
+    (steps_bounded (length (env c.in-Recurse.«from»)) _ _ (subst (λ (n : ℕ). IsCounted c.args.meter.now.spent c.charge.new.self.spent (step_cost * n)) count c.charge.ensures))
+
+pub run-returns-in_ok-write_shared-in-Recurse-clause-spent : goal.run-returns-in_ok-write_shared-in-Recurse-clause-spent
+run-returns-in_ok-write_shared-in-Recurse-clause-spent g t c = λ tell p is under there can clear.
+    let env = lists_of c.args.sets.now.named.items in
+    let set = c.deref-in-Recurse.ensures ∙ c.in_ok-set-in-Recurse.ensures ∙ ap env c.as_bytes-in-Recurse.ensures in
+    let count = ap (λ (l : List Ref). length l) (c.as_slice.ensures.value ∙ set) in
+    spent_as (ap statement_of c.in-Recurse.is) tell p env _ _
+    (steps_spent (length (env c.in-Recurse.«from»)) _ _ (subst (λ (n : ℕ). IsCounted c.args.meter.now.spent c.charge.new.self.spent (step_cost * n)) count c.charge.ensures))
+
+pub run-returns-in_err-refs-in-Item-clause-bounded : goal.run-returns-in_err-refs-in-Item-clause-bounded
+run-returns-in_err-refs-in-Item-clause-bounded g t c = λ tell p is under there can clear. still _ _
+
+pub run-returns-in_err-write_shared-in-Item-clause-bounded : goal.run-returns-in_err-write_shared-in-Item-clause-bounded
+run-returns-in_err-write_shared-in-Item-clause-bounded g t c = λ tell p is under there can clear. still _ _
+
+pub run-returns-in_ok-write_shared-in-Item-clause-bounded : goal.run-returns-in_ok-write_shared-in-Item-clause-bounded
+run-returns-in_ok-write_shared-in-Item-clause-bounded g t c = λ tell p is under there can clear. still _ _
+
+pub run-returns-in_ok-write_shared-in-Item-clause-spent : goal.run-returns-in_ok-write_shared-in-Item-clause-spent
+run-returns-in_ok-write_shared-in-Item-clause-spent g t c = λ tell p is under there can clear. spent_as (ap statement_of c.in-Item.is) tell p (lists_of c.args.sets.now.named.items) _ _ (nothing_spent _)
+
+pub run-returns-in_err-given-in-Union-clause-bounded : goal.run-returns-in_err-given-in-Union-clause-bounded
+run-returns-in_err-given-in-Union-clause-bounded g t c = λ tell p is under there can clear.
+    let env = lists_of c.args.sets.now.named.items in
+    let same = ap statement_of c.in-Union.is ∙ union_is c.in-Union.parts c.in-Union.into in
+    let parts = subst (λ (ps : List Stmt). CanRunAll (statements_of ps)) (sym c.deref-in-Union.ensures.value) (can_run_as same can) in
+    bounded_as same tell p env _ _
+    (subst (λ (ps : List Stmt). IsBounded (WorkOfAll tell p (statements_of ps) env) c.args.meter.now.spent c.run_all.new.meter.spent) c.deref-in-Union.ensures.value (c.run_all.ensures.bounded tell p is under there parts clear))
+
+pub run-returns-in_err-refs-in-Union-clause-bounded : goal.run-returns-in_err-refs-in-Union-clause-bounded
+run-returns-in_err-refs-in-Union-clause-bounded g t c = λ tell p is under there can clear.
+    let env = lists_of c.args.sets.now.named.items in
+    let same = ap statement_of c.in-Union.is ∙ union_is c.in-Union.parts c.in-Union.into in
+    let parts = subst (λ (ps : List Stmt). CanRunAll (statements_of ps)) (sym c.deref-in-Union.ensures.value) (can_run_as same can) in
+    bounded_as same tell p env _ _
+    (subst (λ (ps : List Stmt). IsBounded (WorkOfAll tell p (statements_of ps) env) c.args.meter.now.spent c.run_all.new.meter.spent) c.deref-in-Union.ensures.value (c.run_all.ensures.bounded tell p is under there parts clear))
+
+pub run-returns-in_err-write-in-Union-clause-bounded : goal.run-returns-in_err-write-in-Union-clause-bounded
+run-returns-in_err-write-in-Union-clause-bounded g t c = λ tell p is under there can clear.
+    let env = lists_of c.args.sets.now.named.items in
+    let same = ap statement_of c.in-Union.is ∙ union_is c.in-Union.parts c.in-Union.into in
+    let parts = subst (λ (ps : List Stmt). CanRunAll (statements_of ps)) (sym c.deref-in-Union.ensures.value) (can_run_as same can) in
+    bounded_as same tell p env _ _
+    (subst (λ (ps : List Stmt). IsBounded (WorkOfAll tell p (statements_of ps) env) c.args.meter.now.spent c.run_all.new.meter.spent) c.deref-in-Union.ensures.value (c.run_all.ensures.bounded tell p is under there parts clear))
+
+pub run-returns-in_ok-write-in-Union-clause-bounded : goal.run-returns-in_ok-write-in-Union-clause-bounded
+run-returns-in_ok-write-in-Union-clause-bounded g t c = λ tell p is under there can clear.
+    let env = lists_of c.args.sets.now.named.items in
+    let same = ap statement_of c.in-Union.is ∙ union_is c.in-Union.parts c.in-Union.into in
+    let parts = subst (λ (ps : List Stmt). CanRunAll (statements_of ps)) (sym c.deref-in-Union.ensures.value) (can_run_as same can) in
+    bounded_as same tell p env _ _
+    (subst (λ (ps : List Stmt). IsBounded (WorkOfAll tell p (statements_of ps) env) c.args.meter.now.spent c.run_all.new.meter.spent) c.deref-in-Union.ensures.value (c.run_all.ensures.bounded tell p is under there parts clear))
+
+pub run-returns-in_ok-write-in-Union-clause-spent : goal.run-returns-in_ok-write-in-Union-clause-spent
+run-returns-in_ok-write-in-Union-clause-spent g t c = λ tell p is under there can clear.
+    let env = lists_of c.args.sets.now.named.items in
+    let same = ap statement_of c.in-Union.is ∙ union_is c.in-Union.parts c.in-Union.into in
+    let parts = subst (λ (ps : List Stmt). CanRunAll (statements_of ps)) (sym c.deref-in-Union.ensures.value) (can_run_as same can) in
+    spent_as same tell p env _ _
+    (subst (λ (ps : List Stmt). IsSpent (WorkOfAll tell p (statements_of ps) env) c.args.meter.now.spent c.run_all.new.meter.spent) c.deref-in-Union.ensures.value (c.in_ok-given-in-Union.ensures.spent tell p is under there parts clear))
+
+pub run-returns-in_err-run-in-Minus-clause-bounded : goal.run-returns-in_err-run-in-Minus-clause-bounded
+run-returns-in_err-run-in-Minus-clause-bounded g t c = λ tell p is under there can clear.
+    let env = lists_of c.args.sets.now.named.items in
+    let left = c.in-Minus.left.value in
+    let right = c.in-Minus.right.value in
+    let same = ap statement_of c.in-Minus.is in
+    let both = can_run_as same can in
+    let first = subst (λ (s : Stmt). CanRun (statement_of s)) (sym c.deref-in-Minus.ensures) both.0 in
+    let ran = subst (λ (s : Stmt). IsBounded (WorkOf tell p (statement_of s) env) c.args.meter.now.spent c.run.new.meter.spent) c.deref-in-Minus.ensures (c.run.ensures.bounded tell p is under there first clear) in
+    bounded_as same tell p env _ _ (row_stops p.objects (statement_of left) env _ _ ran)
+
+pub run-returns-in_err-first-in-Minus-clause-bounded : goal.run-returns-in_err-first-in-Minus-clause-bounded
+run-returns-in_err-first-in-Minus-clause-bounded g t c = λ tell p is under there can clear.
+    let env = lists_of c.args.sets.now.named.items in
+    let left = c.in-Minus.left.value in
+    let right = c.in-Minus.right.value in
+    let same = ap statement_of c.in-Minus.is in
+    let both = can_run_as same can in
+    let first = subst (λ (s : Stmt). CanRun (statement_of s)) (sym c.deref-in-Minus.ensures) both.0 in
+    let ran = subst (λ (s : Stmt). IsBounded (WorkOf tell p (statement_of s) env) c.args.meter.now.spent c.run.new.meter.spent) c.deref-in-Minus.ensures (c.run.ensures.bounded tell p is under there first clear) in
+    bounded_as same tell p env _ _ (row_stops p.objects (statement_of left) env _ _ ran)
+
+pub run-returns-in_err-charge_run-in-Minus-clause-bounded : goal.run-returns-in_err-charge_run-in-Minus-clause-bounded
+run-returns-in_err-charge_run-in-Minus-clause-bounded g t c = λ tell p is under there can clear.
+    let env = lists_of c.args.sets.now.named.items in
+    let left = c.in-Minus.left.value in
+    let right = c.in-Minus.right.value in
+    let same = ap statement_of c.in-Minus.is in
+    let both = can_run_as same can in
+    let first = subst (λ (s : Stmt). CanRun (statement_of s)) (sym c.deref-in-Minus.ensures) both.0 in
+    let ran = subst (λ (s : Stmt). IsBounded (WorkOf tell p (statement_of s) env) c.args.meter.now.spent c.run.new.meter.spent) c.deref-in-Minus.ensures (c.run.ensures.bounded tell p is under there first clear) in
+    let mid = lists_of c.run.new.sets.named.items in
+    let so = found_well (λ x used. used) clear (subst (λ (s : Stmt). RanWell p (statement_of s) env mid (uses (g.W.Source.holds c.run.new.source) (g.W.Source.used c.args.source.now) (g.W.Source.used c.run.new.source)) (Ok c.in_ok-run-in-Minus.field-0)) c.deref-in-Minus.ensures (c.in_ok-run-in-Minus.ensures.answer p is under there first)) in
+    let given : c.deref-in-Minus-3.result.now ≡ given_by (statement_of left) mid = c.deref-in-Minus-3.ensures ∙ c.in_ok-first-in-Minus.ensures ∙ ap (λ (s : Stmt). given_by (statement_of s) mid) c.deref-in-Minus-2.ensures in
+    bounded_as same tell p env _ _ (row_bounded p.objects (statement_of left) env mid c.deref-in-Minus-3.result.now so given _ _ _ _ c.charge_run.ensures ran (still _ _))
+
+pub run-returns-in_err-run-in-Minus-2-clause-bounded : goal.run-returns-in_err-run-in-Minus-2-clause-bounded
+run-returns-in_err-run-in-Minus-2-clause-bounded g t c = λ tell p is under there can clear.
+    let env = lists_of c.args.sets.now.named.items in
+    let left = c.in-Minus.left.value in
+    let right = c.in-Minus.right.value in
+    let same = ap statement_of c.in-Minus.is in
+    let both = can_run_as same can in
+    let first = subst (λ (s : Stmt). CanRun (statement_of s)) (sym c.deref-in-Minus.ensures) both.0 in
+    let early = clear_before (λ x. g.met.W.Source.grows _ _ x c.run-in-Minus.ensures.later) clear in
+    let ran = subst (λ (s : Stmt). IsBounded (WorkOf tell p (statement_of s) env) c.args.meter.now.spent c.run.new.meter.spent) c.deref-in-Minus.ensures (c.run.ensures.bounded tell p is under there first early) in
+    let mid = lists_of c.run.new.sets.named.items in
+    let so = found_well (λ x used. used) early (subst (λ (s : Stmt). RanWell p (statement_of s) env mid (uses (g.W.Source.holds c.run.new.source) (g.W.Source.used c.args.source.now) (g.W.Source.used c.run.new.source)) (Ok c.in_ok-run-in-Minus.field-0)) c.deref-in-Minus.ensures (c.in_ok-run-in-Minus.ensures.answer p is under there first)) in
+    let given : c.deref-in-Minus-3.result.now ≡ given_by (statement_of left) mid = c.deref-in-Minus-3.ensures ∙ c.in_ok-first-in-Minus.ensures ∙ ap (λ (s : Stmt). given_by (statement_of s) mid) c.deref-in-Minus-2.ensures in
+    let second = subst (λ (s : Stmt). CanRun (statement_of s)) (sym c.deref-in-Minus-4.ensures) both.1 in
+    let there_too = after_there p.objects (statement_of left) env mid so there in
+    let under_too = g.met.W.Source.same_under _ _ p c.in_ok-run-in-Minus.ensures.later under in
+    let ran_too = subst (λ (s : Stmt). IsBounded (WorkOf tell p (statement_of s) mid) c.charge_run.new.self.spent c.run-in-Minus.new.meter.spent) c.deref-in-Minus-4.ensures (c.run-in-Minus.ensures.bounded tell p is under_too there_too second clear) in
+    bounded_as same tell p env _ _ (row_bounded p.objects (statement_of left) env mid c.deref-in-Minus-3.result.now so given _ _ _ _ c.charge_run.ensures ran (row_stops p.objects (statement_of right) mid _ _ ran_too))
+
+pub run-returns-in_err-charge_run-in-Minus-2-clause-bounded : goal.run-returns-in_err-charge_run-in-Minus-2-clause-bounded
+run-returns-in_err-charge_run-in-Minus-2-clause-bounded g t c = λ tell p is under there can clear.
+    let env = lists_of c.args.sets.now.named.items in
+    let left = c.in-Minus.left.value in
+    let right = c.in-Minus.right.value in
+    let same = ap statement_of c.in-Minus.is in
+    let both = can_run_as same can in
+    let first = subst (λ (s : Stmt). CanRun (statement_of s)) (sym c.deref-in-Minus.ensures) both.0 in
+    let early = clear_before (λ x. g.met.W.Source.grows _ _ x c.run-in-Minus.ensures.later) clear in
+    let ran = subst (λ (s : Stmt). IsBounded (WorkOf tell p (statement_of s) env) c.args.meter.now.spent c.run.new.meter.spent) c.deref-in-Minus.ensures (c.run.ensures.bounded tell p is under there first early) in
+    let mid = lists_of c.run.new.sets.named.items in
+    let so = found_well (λ x used. used) early (subst (λ (s : Stmt). RanWell p (statement_of s) env mid (uses (g.W.Source.holds c.run.new.source) (g.W.Source.used c.args.source.now) (g.W.Source.used c.run.new.source)) (Ok c.in_ok-run-in-Minus.field-0)) c.deref-in-Minus.ensures (c.in_ok-run-in-Minus.ensures.answer p is under there first)) in
+    let given : c.deref-in-Minus-3.result.now ≡ given_by (statement_of left) mid = c.deref-in-Minus-3.ensures ∙ c.in_ok-first-in-Minus.ensures ∙ ap (λ (s : Stmt). given_by (statement_of s) mid) c.deref-in-Minus-2.ensures in
+    let second = subst (λ (s : Stmt). CanRun (statement_of s)) (sym c.deref-in-Minus-4.ensures) both.1 in
+    let there_too = after_there p.objects (statement_of left) env mid so there in
+    let under_too = g.met.W.Source.same_under _ _ p c.in_ok-run-in-Minus.ensures.later under in
+    let ran_too = subst (λ (s : Stmt). IsBounded (WorkOf tell p (statement_of s) mid) c.charge_run.new.self.spent c.run-in-Minus.new.meter.spent) c.deref-in-Minus-4.ensures (c.run-in-Minus.ensures.bounded tell p is under_too there_too second clear) in
+    let end = lists_of c.run-in-Minus.new.sets.named.items in
+    let so_too = found_well (λ x used. used) clear (subst (λ (s : Stmt). RanWell p (statement_of s) mid end (uses (g.W.Source.holds c.run-in-Minus.new.source) (g.W.Source.used c.run.new.source) (g.W.Source.used c.run-in-Minus.new.source)) (Ok c.in_ok-run-in-Minus-2.field-0)) c.deref-in-Minus-4.ensures
+    (c.in_ok-run-in-Minus-2.ensures.answer p is under_too there_too second)) in
+    let given_too : c.written_by-second.result.now ≡ given_by (statement_of right) end = c.written_by-second.ensures ∙ ap (λ (s : Stmt). given_by (statement_of s) end) c.deref-in-Minus-5.ensures in
+    bounded_as same tell p env _ _ (row_bounded p.objects (statement_of left) env mid c.deref-in-Minus-3.result.now so given _ _ _ _ c.charge_run.ensures ran
+    (row_bounded p.objects (statement_of right) mid end c.written_by-second.result.now so_too given_too _ _ _ _ c.charge_run-in-Minus.ensures ran_too (still _ _)))
+
+pub run-returns-in_err-refs-in-Minus-clause-bounded : goal.run-returns-in_err-refs-in-Minus-clause-bounded
+run-returns-in_err-refs-in-Minus-clause-bounded g t c = λ tell p is under there can clear.
+    let env = lists_of c.args.sets.now.named.items in
+    let left = c.in-Minus.left.value in
+    let right = c.in-Minus.right.value in
+    let same = ap statement_of c.in-Minus.is in
+    let both = can_run_as same can in
+    let first = subst (λ (s : Stmt). CanRun (statement_of s)) (sym c.deref-in-Minus.ensures) both.0 in
+    let early = clear_before (λ x. g.met.W.Source.grows _ _ x c.run-in-Minus.ensures.later) clear in
+    let ran = subst (λ (s : Stmt). IsBounded (WorkOf tell p (statement_of s) env) c.args.meter.now.spent c.run.new.meter.spent) c.deref-in-Minus.ensures (c.run.ensures.bounded tell p is under there first early) in
+    let mid = lists_of c.run.new.sets.named.items in
+    let so = found_well (λ x used. used) early (subst (λ (s : Stmt). RanWell p (statement_of s) env mid (uses (g.W.Source.holds c.run.new.source) (g.W.Source.used c.args.source.now) (g.W.Source.used c.run.new.source)) (Ok c.in_ok-run-in-Minus.field-0)) c.deref-in-Minus.ensures (c.in_ok-run-in-Minus.ensures.answer p is under there first)) in
+    let given : c.deref-in-Minus-3.result.now ≡ given_by (statement_of left) mid = c.deref-in-Minus-3.ensures ∙ c.in_ok-first-in-Minus.ensures ∙ ap (λ (s : Stmt). given_by (statement_of s) mid) c.deref-in-Minus-2.ensures in
+    let second = subst (λ (s : Stmt). CanRun (statement_of s)) (sym c.deref-in-Minus-4.ensures) both.1 in
+    let there_too = after_there p.objects (statement_of left) env mid so there in
+    let under_too = g.met.W.Source.same_under _ _ p c.in_ok-run-in-Minus.ensures.later under in
+    let ran_too = subst (λ (s : Stmt). IsBounded (WorkOf tell p (statement_of s) mid) c.charge_run.new.self.spent c.run-in-Minus.new.meter.spent) c.deref-in-Minus-4.ensures (c.run-in-Minus.ensures.bounded tell p is under_too there_too second clear) in
+    let end = lists_of c.run-in-Minus.new.sets.named.items in
+    let so_too = found_well (λ x used. used) clear (subst (λ (s : Stmt). RanWell p (statement_of s) mid end (uses (g.W.Source.holds c.run-in-Minus.new.source) (g.W.Source.used c.run.new.source) (g.W.Source.used c.run-in-Minus.new.source)) (Ok c.in_ok-run-in-Minus-2.field-0)) c.deref-in-Minus-4.ensures
+    (c.in_ok-run-in-Minus-2.ensures.answer p is under_too there_too second)) in
+    let given_too : c.written_by-second.result.now ≡ given_by (statement_of right) end = c.written_by-second.ensures ∙ ap (λ (s : Stmt). given_by (statement_of s) end) c.deref-in-Minus-5.ensures in
+    bounded_as same tell p env _ _ (row_bounded p.objects (statement_of left) env mid c.deref-in-Minus-3.result.now so given _ _ _ _ c.charge_run.ensures ran
+    (row_bounded p.objects (statement_of right) mid end c.written_by-second.result.now so_too given_too _ _ _ _ c.charge_run-in-Minus.ensures ran_too (still _ _)))
+
+pub run-returns-in_err-write-in-Minus-clause-bounded : goal.run-returns-in_err-write-in-Minus-clause-bounded
+run-returns-in_err-write-in-Minus-clause-bounded g t c = λ tell p is under there can clear.
+    let env = lists_of c.args.sets.now.named.items in
+    let left = c.in-Minus.left.value in
+    let right = c.in-Minus.right.value in
+    let same = ap statement_of c.in-Minus.is in
+    let both = can_run_as same can in
+    let first = subst (λ (s : Stmt). CanRun (statement_of s)) (sym c.deref-in-Minus.ensures) both.0 in
+    let early = clear_before (λ x. g.met.W.Source.grows _ _ x c.run-in-Minus.ensures.later) clear in
+    let ran = subst (λ (s : Stmt). IsBounded (WorkOf tell p (statement_of s) env) c.args.meter.now.spent c.run.new.meter.spent) c.deref-in-Minus.ensures (c.run.ensures.bounded tell p is under there first early) in
+    let mid = lists_of c.run.new.sets.named.items in
+    let so = found_well (λ x used. used) early (subst (λ (s : Stmt). RanWell p (statement_of s) env mid (uses (g.W.Source.holds c.run.new.source) (g.W.Source.used c.args.source.now) (g.W.Source.used c.run.new.source)) (Ok c.in_ok-run-in-Minus.field-0)) c.deref-in-Minus.ensures (c.in_ok-run-in-Minus.ensures.answer p is under there first)) in
+    let given : c.deref-in-Minus-3.result.now ≡ given_by (statement_of left) mid = c.deref-in-Minus-3.ensures ∙ c.in_ok-first-in-Minus.ensures ∙ ap (λ (s : Stmt). given_by (statement_of s) mid) c.deref-in-Minus-2.ensures in
+    let second = subst (λ (s : Stmt). CanRun (statement_of s)) (sym c.deref-in-Minus-4.ensures) both.1 in
+    let there_too = after_there p.objects (statement_of left) env mid so there in
+    let under_too = g.met.W.Source.same_under _ _ p c.in_ok-run-in-Minus.ensures.later under in
+    let ran_too = subst (λ (s : Stmt). IsBounded (WorkOf tell p (statement_of s) mid) c.charge_run.new.self.spent c.run-in-Minus.new.meter.spent) c.deref-in-Minus-4.ensures (c.run-in-Minus.ensures.bounded tell p is under_too there_too second clear) in
+    let end = lists_of c.run-in-Minus.new.sets.named.items in
+    let so_too = found_well (λ x used. used) clear (subst (λ (s : Stmt). RanWell p (statement_of s) mid end (uses (g.W.Source.holds c.run-in-Minus.new.source) (g.W.Source.used c.run.new.source) (g.W.Source.used c.run-in-Minus.new.source)) (Ok c.in_ok-run-in-Minus-2.field-0)) c.deref-in-Minus-4.ensures
+    (c.in_ok-run-in-Minus-2.ensures.answer p is under_too there_too second)) in
+    let given_too : c.written_by-second.result.now ≡ given_by (statement_of right) end = c.written_by-second.ensures ∙ ap (λ (s : Stmt). given_by (statement_of s) end) c.deref-in-Minus-5.ensures in
+    bounded_as same tell p env _ _ (row_bounded p.objects (statement_of left) env mid c.deref-in-Minus-3.result.now so given _ _ _ _ c.charge_run.ensures ran
+    (row_bounded p.objects (statement_of right) mid end c.written_by-second.result.now so_too given_too _ _ _ _ c.charge_run-in-Minus.ensures ran_too (still _ _)))
+
+pub run-returns-in_ok-write-in-Minus-clause-bounded : goal.run-returns-in_ok-write-in-Minus-clause-bounded
+run-returns-in_ok-write-in-Minus-clause-bounded g t c = λ tell p is under there can clear.
+    let env = lists_of c.args.sets.now.named.items in
+    let left = c.in-Minus.left.value in
+    let right = c.in-Minus.right.value in
+    let same = ap statement_of c.in-Minus.is in
+    let both = can_run_as same can in
+    let first = subst (λ (s : Stmt). CanRun (statement_of s)) (sym c.deref-in-Minus.ensures) both.0 in
+    let early = clear_before (λ x. g.met.W.Source.grows _ _ x c.run-in-Minus.ensures.later) clear in
+    let ran = subst (λ (s : Stmt). IsBounded (WorkOf tell p (statement_of s) env) c.args.meter.now.spent c.run.new.meter.spent) c.deref-in-Minus.ensures (c.run.ensures.bounded tell p is under there first early) in
+    let mid = lists_of c.run.new.sets.named.items in
+    let so = found_well (λ x used. used) early (subst (λ (s : Stmt). RanWell p (statement_of s) env mid (uses (g.W.Source.holds c.run.new.source) (g.W.Source.used c.args.source.now) (g.W.Source.used c.run.new.source)) (Ok c.in_ok-run-in-Minus.field-0)) c.deref-in-Minus.ensures (c.in_ok-run-in-Minus.ensures.answer p is under there first)) in
+    let given : c.deref-in-Minus-3.result.now ≡ given_by (statement_of left) mid = c.deref-in-Minus-3.ensures ∙ c.in_ok-first-in-Minus.ensures ∙ ap (λ (s : Stmt). given_by (statement_of s) mid) c.deref-in-Minus-2.ensures in
+    let second = subst (λ (s : Stmt). CanRun (statement_of s)) (sym c.deref-in-Minus-4.ensures) both.1 in
+    let there_too = after_there p.objects (statement_of left) env mid so there in
+    let under_too = g.met.W.Source.same_under _ _ p c.in_ok-run-in-Minus.ensures.later under in
+    let ran_too = subst (λ (s : Stmt). IsBounded (WorkOf tell p (statement_of s) mid) c.charge_run.new.self.spent c.run-in-Minus.new.meter.spent) c.deref-in-Minus-4.ensures (c.run-in-Minus.ensures.bounded tell p is under_too there_too second clear) in
+    let end = lists_of c.run-in-Minus.new.sets.named.items in
+    let so_too = found_well (λ x used. used) clear (subst (λ (s : Stmt). RanWell p (statement_of s) mid end (uses (g.W.Source.holds c.run-in-Minus.new.source) (g.W.Source.used c.run.new.source) (g.W.Source.used c.run-in-Minus.new.source)) (Ok c.in_ok-run-in-Minus-2.field-0)) c.deref-in-Minus-4.ensures
+    (c.in_ok-run-in-Minus-2.ensures.answer p is under_too there_too second)) in
+    let given_too : c.written_by-second.result.now ≡ given_by (statement_of right) end = c.written_by-second.ensures ∙ ap (λ (s : Stmt). given_by (statement_of s) end) c.deref-in-Minus-5.ensures in
+    bounded_as same tell p env _ _ (row_bounded p.objects (statement_of left) env mid c.deref-in-Minus-3.result.now so given _ _ _ _ c.charge_run.ensures ran
+    (row_bounded p.objects (statement_of right) mid end c.written_by-second.result.now so_too given_too _ _ _ _ c.charge_run-in-Minus.ensures ran_too (still _ _)))
+
+pub run-returns-in_ok-write-in-Minus-clause-spent : goal.run-returns-in_ok-write-in-Minus-clause-spent
+run-returns-in_ok-write-in-Minus-clause-spent g t c = λ tell p is under there can clear.
+    let env = lists_of c.args.sets.now.named.items in
+    let left = c.in-Minus.left.value in
+    let right = c.in-Minus.right.value in
+    let same = ap statement_of c.in-Minus.is in
+    let both = can_run_as same can in
+    let first = subst (λ (s : Stmt). CanRun (statement_of s)) (sym c.deref-in-Minus.ensures) both.0 in
+    let early = clear_before (λ x. g.met.W.Source.grows _ _ x c.run-in-Minus.ensures.later) clear in
+    let ran = subst (λ (s : Stmt). IsSpent (WorkOf tell p (statement_of s) env) c.args.meter.now.spent c.run.new.meter.spent) c.deref-in-Minus.ensures (c.in_ok-run-in-Minus.ensures.spent tell p is under there first early) in
+    let mid = lists_of c.run.new.sets.named.items in
+    let so = found_well (λ x used. used) early (subst (λ (s : Stmt). RanWell p (statement_of s) env mid (uses (g.W.Source.holds c.run.new.source) (g.W.Source.used c.args.source.now) (g.W.Source.used c.run.new.source)) (Ok c.in_ok-run-in-Minus.field-0)) c.deref-in-Minus.ensures (c.in_ok-run-in-Minus.ensures.answer p is under there first)) in
+    let given : c.deref-in-Minus-3.result.now ≡ given_by (statement_of left) mid = c.deref-in-Minus-3.ensures ∙ c.in_ok-first-in-Minus.ensures ∙ ap (λ (s : Stmt). given_by (statement_of s) mid) c.deref-in-Minus-2.ensures in
+    let second = subst (λ (s : Stmt). CanRun (statement_of s)) (sym c.deref-in-Minus-4.ensures) both.1 in
+    let there_too = after_there p.objects (statement_of left) env mid so there in
+    let under_too = g.met.W.Source.same_under _ _ p c.in_ok-run-in-Minus.ensures.later under in
+    let ran_too = subst (λ (s : Stmt). IsSpent (WorkOf tell p (statement_of s) mid) c.charge_run.new.self.spent c.run-in-Minus.new.meter.spent) c.deref-in-Minus-4.ensures (c.in_ok-run-in-Minus-2.ensures.spent tell p is under_too there_too second clear) in
+    let end = lists_of c.run-in-Minus.new.sets.named.items in
+    let so_too = found_well (λ x used. used) clear (subst (λ (s : Stmt). RanWell p (statement_of s) mid end (uses (g.W.Source.holds c.run-in-Minus.new.source) (g.W.Source.used c.run.new.source) (g.W.Source.used c.run-in-Minus.new.source)) (Ok c.in_ok-run-in-Minus-2.field-0)) c.deref-in-Minus-4.ensures
+    (c.in_ok-run-in-Minus-2.ensures.answer p is under_too there_too second)) in
+    let given_too : c.written_by-second.result.now ≡ given_by (statement_of right) end = c.written_by-second.ensures ∙ ap (λ (s : Stmt). given_by (statement_of s) end) c.deref-in-Minus-5.ensures in
+    spent_as same tell p env _ _ (row_spent p.objects (statement_of left) env mid c.deref-in-Minus-3.result.now so given _ _ _ _ c.charge_run.ensures ran
+    (row_spent p.objects (statement_of right) mid end c.written_by-second.result.now so_too given_too _ _ _ _ c.charge_run-in-Minus.ensures ran_too (nothing_spent _)))
+
+pub run-returns-in-Print-clause-bounded : goal.run-returns-in-Print-clause-bounded
+run-returns-in-Print-clause-bounded g t c = λ tell p is under there can clear. absurd (can_run_as (ap statement_of c.in-Print.is) can)
+
+pub run-returns-in-Print-clause-spent : goal.run-returns-in-Print-clause-spent
+run-returns-in-Print-clause-spent g t c = λ tell p is under there can clear. absurd (can_run_as (ap statement_of c.in-Print.is) can)
+
+pub run_all-returns-in_err-run-clause-bounded : goal.run_all-returns-in_err-run-clause-bounded
+run_all-returns-in_err-run-clause-bounded g t c = λ tell p is under there can clear.
+    let env = lists_of c.args.sets.now.named.items in
+    let mid = lists_of c.loop-part.sets.named.items in
+    let parts = c.args.parts.now in
+    let k = c.loop-part.part-index in
+    let part = c.part-item.result in
+    let early = clear_before (λ x. g.met.W.Source.grows _ _ x c.run.ensures.later) clear in
+    let going = going_at tell p parts env k mid _ _ part c.loop-part-test.true c.part-item.is (c.loop-part.invariant.going tell p is under there can early) in
+    let so = found_well (λ x used. used) early (c.loop-part.invariant.answer p is under there can) in
+    let there_now = (after_all_there p.objects (statements_of (take k parts)) env mid c.loop-part.given.items so there).0 in
+    let under_now = g.met.W.Source.same_under _ _ p c.loop-part.invariant.later under in
+    let can_now = one_lawful parts k part c.loop-part-test.true c.part-item.is can in
+    let first = c.run.ensures.bounded tell p is under_now there_now can_now clear in
+    going_stops tell p (statements_of parts) env (statement_of part) (statements_of (drop (k + 1) parts)) mid _ _ _ going first
+
+pub run_all-returns-in_err-charge_run-clause-bounded : goal.run_all-returns-in_err-charge_run-clause-bounded
+run_all-returns-in_err-charge_run-clause-bounded g t c = λ tell p is under there can clear.
+    let env = lists_of c.args.sets.now.named.items in
+    let mid = lists_of c.loop-part.sets.named.items in
+    let parts = c.args.parts.now in
+    let k = c.loop-part.part-index in
+    let part = c.part-item.result in
+    let early = clear_before (λ x. g.met.W.Source.grows _ _ x c.run.ensures.later) clear in
+    let going = going_at tell p parts env k mid _ _ part c.loop-part-test.true c.part-item.is (c.loop-part.invariant.going tell p is under there can early) in
+    let so = found_well (λ x used. used) early (c.loop-part.invariant.answer p is under there can) in
+    let there_now = (after_all_there p.objects (statements_of (take k parts)) env mid c.loop-part.given.items so there).0 in
+    let under_now = g.met.W.Source.same_under _ _ p c.loop-part.invariant.later under in
+    let can_now = one_lawful parts k part c.loop-part-test.true c.part-item.is can in
+    let first = c.run.ensures.bounded tell p is under_now there_now can_now clear in
+    let after = found_well (λ x used. used) clear (c.in_ok-run.ensures.answer p is under_now there_now can_now) in
+    let next = going_next tell p (statements_of parts) env (statement_of part) (statements_of (drop (k + 1) parts)) mid _ _ _ going (lists_of c.run.new.sets.named.items) c.written_by-written.result.now _ after c.written_by-written.ensures c.charge_run.ensures first (c.in_ok-run.ensures.spent tell p is under_now there_now can_now clear) in
+    going_bounded tell p (statements_of parts) env (statements_of (drop (k + 1) parts)) (lists_of c.run.new.sets.named.items) _ _ next
+
+pub run_all-returns-in_err-extend_from_slice-clause-bounded : goal.run_all-returns-in_err-extend_from_slice-clause-bounded
+run_all-returns-in_err-extend_from_slice-clause-bounded g t c = λ tell p is under there can clear.
+    let env = lists_of c.args.sets.now.named.items in
+    let mid = lists_of c.loop-part.sets.named.items in
+    let parts = c.args.parts.now in
+    let k = c.loop-part.part-index in
+    let part = c.part-item.result in
+    let early = clear_before (λ x. g.met.W.Source.grows _ _ x c.run.ensures.later) clear in
+    let going = going_at tell p parts env k mid _ _ part c.loop-part-test.true c.part-item.is (c.loop-part.invariant.going tell p is under there can early) in
+    let so = found_well (λ x used. used) early (c.loop-part.invariant.answer p is under there can) in
+    let there_now = (after_all_there p.objects (statements_of (take k parts)) env mid c.loop-part.given.items so there).0 in
+    let under_now = g.met.W.Source.same_under _ _ p c.loop-part.invariant.later under in
+    let can_now = one_lawful parts k part c.loop-part-test.true c.part-item.is can in
+    let first = c.run.ensures.bounded tell p is under_now there_now can_now clear in
+    let after = found_well (λ x used. used) clear (c.in_ok-run.ensures.answer p is under_now there_now can_now) in
+    let next = going_next tell p (statements_of parts) env (statement_of part) (statements_of (drop (k + 1) parts)) mid _ _ _ going (lists_of c.run.new.sets.named.items) c.written_by-written.result.now _ after c.written_by-written.ensures c.charge_run.ensures first (c.in_ok-run.ensures.spent tell p is under_now there_now can_now clear) in
+    going_bounded tell p (statements_of parts) env (statements_of (drop (k + 1) parts)) (lists_of c.run.new.sets.named.items) _ _ next
+
+pub run_all-returns-clause-bounded : goal.run_all-returns-clause-bounded
+run_all-returns-clause-bounded g t c = λ tell p is under there can clear.
+    let env = lists_of c.args.sets.now.named.items in
+    let parts = c.args.parts.now in
+    let k = c.loop-part.part-index in
+    going_bounded tell p (statements_of parts) env (statements_of (drop k parts)) _ _ _ (c.loop-part.invariant.going tell p is under there can clear)
+
+pub run_all-returns-clause-spent : goal.run_all-returns-clause-spent
+run_all-returns-clause-spent g t c = λ tell p is under there can clear.
+    let env = lists_of c.args.sets.now.named.items in
+    let parts = c.args.parts.now in
+    let k = c.loop-part.part-index in
+    gone_all tell p parts env k _ _ _ c.loop-part-test.false (c.loop-part.invariant.going tell p is under there can clear)
+
+pub run_all-returns-clause-answer : goal.run_all-returns-clause-answer
+run_all-returns-clause-answer g t c = λ p is under there can.
+    let env = lists_of c.args.sets.now.named.items in
+    let parts = c.args.parts.now in
+    let all : take c.loop-part.part-index parts ≡ parts = take_all c.loop-part.part-index parts c.loop-part-test.false in
+    outcome_as (parts_all p env parts c.loop-part.part-index)
+    (λ so x needs. subst (λ (ps : List Stmt). NeededBy p (AskedByAll p (statements_of ps) env) x) (sym all) needs)
+    (λ so. subst (λ (ps : List Stmt). AfterAll p.objects (statements_of ps) env (lists_of c.loop-part.sets.named.items) c.loop-part.given.items) all so)
+    (c.loop-part.invariant.answer p is under there can)

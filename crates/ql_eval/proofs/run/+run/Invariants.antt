@@ -1,14 +1,16 @@
-use Rattle.std.proofs.Common.{take, Ok}
+use Rattle.std.proofs.Common.{drop, take, Ok}
 use Rattle.tree_node.specs.Outcomes.{Outcome}
 use Rattle.tree_node.proofs.shared.OutcomeLaws.{uses}
 use Rattle.ql_eval.specs.internal.Giving.{AllGiven, AllSetsGiven}
 use Rattle.osm_keys.specs.Publications.{IsPublication, Publication}
 use Rattle.ql_syntax.specs.StatementViews.{statements_of}
-use Rattle.ql_meaning.specs.Meanings.{AfterAll}
+use Rattle.ql_meaning.specs.Meanings.{AfterAll, Telling}
 use Rattle.ref_sets.specs.NamedSets.{lists_of}
 use Rattle.ql_eval.specs.Asks.{AskedByAll}
 use Rattle.ql_eval.specs.Faults.{cause_of_evaluation}
 use Rattle.ql_eval.specs.Questions.{NeededBy}
+use Rattle.ql_eval.specs.Work.{HasNoClash}
+use Rattle.ql_eval.specs.internal.Metering.{IsGoing}
 use Rattle.ql_eval.specs.internal.Lawful.{CanRunAll}
 use Rattle.ql_eval.specs.internal.Links.{AreAllThere}
 use Rattle.ql_eval.proofs.run.+run.Given as goal
@@ -22,4 +24,6 @@ invariant-run_all-loop-part g l = record {
   answer : (p : Publication) → IsPublication p → g.W.Source.under l.fn.source p → AreAllThere p.objects (lists_of l.fn.sets.named.items) → CanRunAll (statements_of l.parts)
       → Outcome cause_of_evaluation (λ (_ : Unit {0}). AfterAll p.objects (statements_of (take l.part-index l.parts)) (lists_of l.fn.sets.named.items) (lists_of l.sets.named.items) l.given.items)
       (NeededBy p (AskedByAll p (statements_of (take l.part-index l.parts)) (lists_of l.fn.sets.named.items))) (uses (g.W.Source.holds l.source) (g.W.Source.used l.fn.source) (g.W.Source.used l.source)) (Ok tt);
+  going : (tell : Telling) (p : Publication) → IsPublication p → g.W.Source.under l.fn.source p → AreAllThere p.objects (lists_of l.fn.sets.named.items) → CanRunAll (statements_of l.parts) → HasNoClash p (g.W.Source.used l.source)
+      → IsGoing tell p (statements_of l.parts) (lists_of l.fn.sets.named.items) (statements_of (drop l.part-index l.parts)) (lists_of l.sets.named.items) l.fn.meter.spent l.meter.spent;
 }

@@ -1,4 +1,4 @@
-use Rattle.std.proofs.Common.{◌++◌, List, Option, Ok, refl, sym, ap, subst, ◌∙◌}
+use Rattle.std.proofs.Common.{◌≡◌, ◌+◌, ◌++◌, ◌*◌, ℕ, arith, length, length-append, List, Option, Ok, refl, sym, ap, subst, ◌∙◌}
 use Rattle.std.specs.Option.{ForSome}
 use Rattle.tree_node.proofs.shared.OutcomeLaws.{outcome_stops, uses}
 use Rattle.ql_syntax.specs.Filters.{Filter}
@@ -11,7 +11,24 @@ use Rattle.ql_eval.proofs.CandidateLemmas.{FoundWell}
 use Rattle.ql_eval.proofs.SelectLemmas.{TestedWell, base_asks, base_lawful, candidates_there, kept_set, plan_splits, tests_ask}
 use Rattle.ql_eval.proofs.StepLemmas.{then_same}
 use Rattle.ql_eval.proofs.GivenLemmas.{sets_later}
+use Rattle.osm_model.specs.declared.reference.Ref.{Ref}
+use Rattle.ql_eval.specs.Work.{WorkOfBase, step_cost}
+use Rattle.ql_eval.specs.internal.Metering.{IsBounded, IsCounted, IsSpent}
+use Rattle.ref_sets.proofs.shared.Results.{on_ok_as}
+use Rattle.ql_eval.proofs.MeterLemmas.{both_bounded, both_spent, clear_before, first_bounded, found_well, set_bounded, set_spent, steps_bounded, steps_spent}
+use Rattle.std.proofs.lemmas.List.{length-map}
+use Rattle.ql_syntax.specs.StatementViews.{filter_of}
+use Rattle.ql_syntax.specs.declared.filter.Filter as code
 use Rattle.ql_eval.proofs.select.answered.Goals as goal
+
+-- how many filters a candidate is tested by
+tested : (front back : List code.Filter) (before after : List Filter) (slice found : List Ref) → slice ≡ found → filters_of front ≡ before → filters_of back ≡ after
+    → length slice * (1 + length front + length back) ≡ length found * (1 + length (before ++ after))
+tested front back before after slice found same is is_too =
+    let first : length front ≡ length before = sym (length-map front filter_of) ∙ ap (λ (l : List Filter). length l) is in
+    let second : length back ≡ length after = sym (length-map back filter_of) ∙ ap (λ (l : List Filter). length l) is_too in
+    let all : 1 + length front + length back ≡ 1 + length (before ++ after) = omega (arith, first, second, length-append before after) in
+    ap (λ (l : List Ref). length l * (1 + length front + length back)) same ∙ ap (λ (n : ℕ). length found * n) all
 
 pub returns-in_err-found-clause-answer : goal.returns-in_err-found-clause-answer
 returns-in_err-found-clause-answer g c = λ p is under there lawful.
@@ -31,7 +48,7 @@ returns-clause-answer g c = λ p is under there lawful.
     let allowed = subst (λ (b : Option Filter). ForSome b (Allows pick)) (sym c.base.ensures) (base_lawful pick plan.before plan.base plan.after lawful) in
     let first = uses (g.W.Source.holds c.find_candidates.new.source) (g.W.Source.used c.args.source.now) (g.W.Source.used c.find_candidates.new.source) in
     let second = uses (g.W.Source.holds c.apply_filters.new.source) (g.W.Source.used c.find_candidates.new.source) (g.W.Source.used c.apply_filters.new.source) in
-    let rest = ap (λ (fs : List Filter). fs ++ filters_of c.after.result.now) c.before-2.ensures ∙ ap (λ (fs : List Filter). plan.before ++ fs) c.after.ensures in
+    let rest = ap (λ (fs : List Filter). fs ++ filters_of c.after-back.result.now) c.before-front.ensures ∙ ap (λ (fs : List Filter). plan.before ++ fs) c.after-back.ensures in
     then_same (λ x. g.met.W.Source.grows _ _ x c.apply_filters.ensures.later)
     (base_asks p env pick plan) (λ so. tests_ask p env pick plan found so) (λ so b set. plan_splits p env pick plan found so) (λ so b set. kept_set p.objects is.set env pick plan found so b set)
     (subst (λ (b : Option Filter). FoundWell p env pick b first (Ok c.in_ok-found.found)) c.base.ensures (c.in_ok-found.ensures.answer p is under there allowed))
@@ -41,3 +58,54 @@ returns-clause-answer g c = λ p is under there lawful.
 
 pub apply_filters-requires-clause-sets_named : goal.apply_filters-requires-clause-sets_named
 apply_filters-requires-clause-sets_named g c = sets_later (lists_of c.args.sets.now.named.items) (λ r. g.met.W.Source.same_gave _ _ r c.find_candidates.ensures.later) c.requires.named
+
+pub returns-in_err-found-clause-bounded : goal.returns-in_err-found-clause-bounded
+returns-in_err-found-clause-bounded g c = λ p is under there lawful clear.
+    let plan = c.args.plan.now in
+    let allowed = subst (λ (b : Option Filter). ForSome b (Allows c.args.pick)) (sym c.base.ensures) (base_lawful c.args.pick plan.before plan.base plan.after lawful) in
+    first_bounded _ _ (subst (λ (b : Option Filter). IsBounded (WorkOfBase p.objects b) c.args.meter.now.spent c.find_candidates.new.meter.spent) c.base.ensures (c.find_candidates.ensures.bounded p is under there allowed clear))
+
+pub returns-in_err-charge_each-clause-bounded : goal.returns-in_err-charge_each-clause-bounded
+returns-in_err-charge_each-clause-bounded g c = λ p is under there lawful clear.
+    let env = lists_of c.args.sets.now.named.items in
+    let pick = c.args.pick in
+    let plan = c.args.plan.now in
+    let found = c.in_ok-found.found in
+    let allowed = subst (λ (b : Option Filter). ForSome b (Allows pick)) (sym c.base.ensures) (base_lawful pick plan.before plan.base plan.after lawful) in
+    let first = uses (g.W.Source.holds c.find_candidates.new.source) (g.W.Source.used c.args.source.now) (g.W.Source.used c.find_candidates.new.source) in
+    let are = found_well (λ x used. used) clear (subst (λ (b : Option Filter). FoundWell p env pick b first (Ok c.in_ok-found.found)) c.base.ensures (c.in_ok-found.ensures.answer p is under there allowed)) in
+    let all : length c.as_slice.result.now * (1 + length c.before-front.result.now + length c.after-back.result.now) ≡ length found * (1 + length (plan.before ++ plan.after)) =
+    tested c.before-front.result.now c.after-back.result.now plan.before plan.after c.as_slice.result.now found c.as_slice.ensures.value c.before-front.ensures c.after-back.ensures in
+    let counted = subst (λ (n : ℕ). IsCounted c.find_candidates.new.meter.spent c.charge_each.new.self.spent (step_cost * n)) all c.charge_each.ensures in
+    let based = subst (λ (b : Option Filter). IsBounded (WorkOfBase p.objects b) c.args.meter.now.spent c.find_candidates.new.meter.spent) c.base.ensures (c.find_candidates.ensures.bounded p is under there allowed clear) in
+    both_bounded _ _ _ based (set_bounded _ _ found are (steps_bounded (length found * (1 + length (plan.before ++ plan.after))) _ _ counted))
+
+pub returns-clause-bounded : goal.returns-clause-bounded
+returns-clause-bounded g c = λ p is under there lawful clear.
+    let env = lists_of c.args.sets.now.named.items in
+    let pick = c.args.pick in
+    let plan = c.args.plan.now in
+    let found = c.in_ok-found.found in
+    let allowed = subst (λ (b : Option Filter). ForSome b (Allows pick)) (sym c.base.ensures) (base_lawful pick plan.before plan.base plan.after lawful) in
+    let first = uses (g.W.Source.holds c.find_candidates.new.source) (g.W.Source.used c.args.source.now) (g.W.Source.used c.find_candidates.new.source) in
+    let are = found_well (λ x. g.met.W.Source.grows _ _ x c.apply_filters.ensures.later) clear (subst (λ (b : Option Filter). FoundWell p env pick b first (Ok c.in_ok-found.found)) c.base.ensures (c.in_ok-found.ensures.answer p is under there allowed)) in
+    let all : length c.as_slice.result.now * (1 + length c.before-front.result.now + length c.after-back.result.now) ≡ length found * (1 + length (plan.before ++ plan.after)) =
+    tested c.before-front.result.now c.after-back.result.now plan.before plan.after c.as_slice.result.now found c.as_slice.ensures.value c.before-front.ensures c.after-back.ensures in
+    let counted = subst (λ (n : ℕ). IsCounted c.find_candidates.new.meter.spent c.charge_each.new.self.spent (step_cost * n)) all c.charge_each.ensures in
+    let based = subst (λ (b : Option Filter). IsBounded (WorkOfBase p.objects b) c.args.meter.now.spent c.find_candidates.new.meter.spent) c.base.ensures (c.find_candidates.ensures.bounded p is under there allowed (clear_before (λ x. g.met.W.Source.grows _ _ x c.apply_filters.ensures.later) clear)) in
+    both_bounded _ _ _ based (set_bounded _ _ found are (steps_bounded (length found * (1 + length (plan.before ++ plan.after))) _ _ counted))
+
+pub returns-clause-spent : goal.returns-clause-spent
+returns-clause-spent g c = on_ok_as c.apply_filters.result (λ walked p is under there lawful clear.
+    let env = lists_of c.args.sets.now.named.items in
+    let pick = c.args.pick in
+    let plan = c.args.plan.now in
+    let found = c.in_ok-found.found in
+    let allowed = subst (λ (b : Option Filter). ForSome b (Allows pick)) (sym c.base.ensures) (base_lawful pick plan.before plan.base plan.after lawful) in
+    let first = uses (g.W.Source.holds c.find_candidates.new.source) (g.W.Source.used c.args.source.now) (g.W.Source.used c.find_candidates.new.source) in
+    let are = found_well (λ x. g.met.W.Source.grows _ _ x c.apply_filters.ensures.later) clear (subst (λ (b : Option Filter). FoundWell p env pick b first (Ok c.in_ok-found.found)) c.base.ensures (c.in_ok-found.ensures.answer p is under there allowed)) in
+    let all : length c.as_slice.result.now * (1 + length c.before-front.result.now + length c.after-back.result.now) ≡ length found * (1 + length (plan.before ++ plan.after)) =
+    tested c.before-front.result.now c.after-back.result.now plan.before plan.after c.as_slice.result.now found c.as_slice.ensures.value c.before-front.ensures c.after-back.ensures in
+    let counted = subst (λ (n : ℕ). IsCounted c.find_candidates.new.meter.spent c.charge_each.new.self.spent (step_cost * n)) all c.charge_each.ensures in
+    let based = subst (λ (b : Option Filter). IsSpent (WorkOfBase p.objects b) c.args.meter.now.spent c.find_candidates.new.meter.spent) c.base.ensures (c.in_ok-found.ensures.spent p is under there allowed (clear_before (λ x. g.met.W.Source.grows _ _ x c.apply_filters.ensures.later) clear)) in
+    both_spent _ _ _ based (set_spent _ _ found are (steps_spent (length found * (1 + length (plan.before ++ plan.after))) _ _ counted))) c.apply_filters.ensures.walked

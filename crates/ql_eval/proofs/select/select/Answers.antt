@@ -14,13 +14,15 @@ use Rattle.ql_eval.proofs.PlanLemmas.{one_planned}
 use Rattle.ql_eval.proofs.SelectLemmas.{PlannedWell, choice_asks, chosen_asks, select_splits}
 use Rattle.ql_eval.proofs.StepLemmas.{then_same}
 use Rattle.ql_eval.proofs.GivenLemmas.{sets_later}
+use Rattle.ref_sets.proofs.shared.Results.{on_ok_as}
+use Rattle.ql_eval.proofs.MeterLemmas.{both_bounded, both_spent, first_bounded, found_well, plan_bounded, plan_spent, steps_spent, steps_within}
 use Rattle.ql_eval.proofs.select.select.Goals as goal
 
 pub returns-in_err-plan-clause-answer : goal.returns-in_err-plan-clause-answer
 returns-in_err-plan-clause-answer g c = λ p is under there lawful.
     let env = lists_of c.args.sets.now.named.items in
     let filters = filters_of c.args.filters.now in
-    outcome_stops _ c.from_residual.ensures.1 refl
+    outcome_stops _ c.from_residual-in_err-plan.ensures.1 refl
     (λ x needs. choice_asks p env c.args.pick filters x (subst (λ (k : Option Kind). NeededBy p (AskedByChoice k filters) x) c.kind_of.ensures needs))
     (c.in_err-plan.ensures.answer p is under)
 
@@ -41,3 +43,29 @@ returns-clause-answer g c = λ p is under there lawful.
 
 pub answered-requires-clause-named : goal.answered-requires-clause-named
 answered-requires-clause-named g c = sets_later (lists_of c.args.sets.now.named.items) (λ r. g.met.W.Source.same_gave _ _ r c.choose_plan.ensures.later) c.requires
+
+pub returns-in_err-plan-clause-bounded : goal.returns-in_err-plan-clause-bounded
+returns-in_err-plan-clause-bounded g c = λ p is under there lawful clear. first_bounded _ _ (steps_within _ _ _ c.charge_filters.ensures.bounded)
+
+pub returns-clause-bounded : goal.returns-clause-bounded
+returns-clause-bounded g c = λ p is under there lawful clear.
+    let env = lists_of c.args.sets.now.named.items in
+    let pick = c.args.pick in
+    let filters = filters_of c.args.filters.now in
+    let plan = c.in_ok-plan.plan in
+    let first = uses (g.W.Source.holds c.choose_plan.new.source) (g.W.Source.used c.args.source.now) (g.W.Source.used c.choose_plan.new.source) in
+    let chosen = found_well (λ x. g.met.W.Source.grows _ _ x c.answered.ensures.later) clear (subst (λ (k : Option Kind). PlannedWell p k filters first (Ok plan)) c.kind_of.ensures (c.in_ok-plan.ensures.answer p is under)) in
+    both_bounded _ _ _ (steps_within _ _ _ c.charge_filters.ensures.bounded) (plan_bounded _ _ plan chosen (c.answered.ensures.bounded p is (g.met.W.Source.same_under _ _ p c.in_ok-plan.ensures.later under) there (subst (λ (fs : List Filter). AllByRecursion (Allows pick) fs) (sym c.in_ok-plan.ensures.written.0) lawful) clear))
+
+pub returns-clause-spent : goal.returns-clause-spent
+returns-clause-spent g c = on_ok_as c.answered.result (λ spent p is under there lawful clear.
+    let env = lists_of c.args.sets.now.named.items in
+    let pick = c.args.pick in
+    let filters = filters_of c.args.filters.now in
+    let plan = c.in_ok-plan.plan in
+    let first = uses (g.W.Source.holds c.choose_plan.new.source) (g.W.Source.used c.args.source.now) (g.W.Source.used c.choose_plan.new.source) in
+    let chosen = found_well (λ x. g.met.W.Source.grows _ _ x c.answered.ensures.later) clear (subst (λ (k : Option Kind). PlannedWell p k filters first (Ok plan)) c.kind_of.ensures (c.in_ok-plan.ensures.answer p is under)) in
+    both_spent _ _ _ (steps_spent _ _ _ c.in_ok-charge_filters.ensures.spent) (plan_spent _ _ plan chosen (spent p is (g.met.W.Source.same_under _ _ p c.in_ok-plan.ensures.later under) there (subst (λ (fs : List Filter). AllByRecursion (Allows pick) fs) (sym c.in_ok-plan.ensures.written.0) lawful) clear))) c.answered.ensures.spent
+
+pub returns-in_err-charge_filters-clause-bounded : goal.returns-in_err-charge_filters-clause-bounded
+returns-in_err-charge_filters-clause-bounded g c = λ p is under there lawful clear. first_bounded _ _ (steps_within _ _ _ c.charge_filters.ensures.bounded)
