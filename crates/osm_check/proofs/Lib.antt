@@ -1,3 +1,4 @@
+pub mod shared
 pub mod Fronts
 pub mod Judgements
 pub mod NeededNodes

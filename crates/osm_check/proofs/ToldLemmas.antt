@@ -1,26 +1,18 @@
 -- What is told says of a publication, and that nothing else is told.
 use Rattle.std.proofs.Common.{◌≡◌, ◌⊎◌, inl, inr, ℕ, List, [], Some, Result, Ok, Err, IfOk, ap, subst}
-use Rattle.std.specs.List.{Contains}
 use Rattle.std.specs.declared.alloc.AllocError.{AllocError}
 use Rattle.std.specs.declared.alloc.Global.{Global}
 use Rattle.std.specs.declared.vec.Vec.{Vec}
 use Rattle.tree_node.specs.Outcomes.{Clash}
 use Rattle.tree_walk.specs.declared.fault.WalkFault.TheVariants as walks
-use Rattle.osm_forms.specs.Forms.{form_text}
 use Rattle.osm_forms.specs.declared.form.Form.{Form}
 use Rattle.osm_keys.specs.Publications.{IsNodeIn, IsPublication, Publication, root_of}
 use Rattle.ql_syntax.specs.Statements.{Statements}
-use Rattle.ql_syntax.proofs.shared.QueryLaws.{one_query}
-use Rattle.ql_meaning.specs.Meanings.{Means_by}
-use Rattle.ql_meaning.proofs.shared.Laws.{has_meaning_by, one_meaning_by}
-use Rattle.opl_codec.specs.Text.{text_of}
-use Rattle.ql_eval.specs.Asks.{IsNeeded}
 use Rattle.ql_eval.specs.declared.evaluation.Report.{Report}
 use Rattle.ql_eval.specs.declared.fault.EvalFault.{EvalFault}
 use Rattle.ql_eval.specs.declared.fault.EvalFault.TheVariants as faults
 use Rattle.ql_eval.specs.declared.opening.ManifestFault.TheVariants as openings
-use Rattle.osm_prove.specs.Proved.{IsProved}
-use Rattle.osm_check.specs.Telling.{IsOfNoAnswer, IsProvedIn, IsShown, IsTold, TellsText}
+use Rattle.osm_check.specs.Telling.{IsOfNoAnswer, IsProvedIn, IsShown, IsTold}
 use Rattle.osm_check.specs.Verdicts.{IsWhole, StandsIn, TellsOf}
 use Rattle.osm_check.specs.declared.told.Told.{Told}
 use Rattle.osm_check.specs.declared.told.Told.TheVariants.{Answer, No}
@@ -31,8 +23,9 @@ use Rattle.osm_check.specs.internal.Judging.{why_of}
 use Rattle.osm_check.specs.internal.Shown.{IsToldFrom}
 use Rattle.osm_check.proofs.Judgements.{owed}
 use Rattle.osm_check.proofs.NeededNodes.{needed_is_node}
+use Rattle.osm_check.proofs.shared.HonestLemmas.{in_opl}
 use Rattle.osm_check.proofs.OneVerdict as verdict
-use Rattle.osm_check.proofs.OneVerdict.{no_twins, one_verdict, stands_among}
+use Rattle.osm_check.proofs.OneVerdict.{one_verdict}
 
 -- no refused evaluation is a difference of an answer
 pub why_of_no_answer : (fault : EvalFault) (why : Why) → why_of fault ≡ Some why → IsOfNoAnswer why
@@ -68,37 +61,11 @@ module _ (query root proof : List ℕ) (form : Form) (p : Publication) (is : IsP
       → IsProvedIn p query form text.items proof ⊎ Clash (IsNodeIn p) (StandsIn proof)
   headline text report result said told = shown text.items report (subst (λ (r : Result Told AllocError). IfOk r (IsTold query root form proof)) said told)
 
-  -- the meaning in OPL has the same proof
-  in_opl : (text : List ℕ) → IsProvedIn p query form text proof → (opl : List ℕ) × IsProved p query opl proof
-  in_opl text h =
-      let opl = has_meaning_by text_of p.objects h.statements in
-      (opl.0, record { statements = h.statements; reads = h.reads; means = opl.1; proof_is = h.proof_is })
-
-  -- the nodes of the right proof leave no clash to speak of
-  no_clash : (text : List ℕ) (statements : Statements) (nodes : List (List ℕ)) → IsProvedIn p query form text proof → IsWhole query proof statements nodes → Clash (IsNeeded p statements) (Contains nodes) → ⊥
-  no_clash text statements nodes h whole (a, b, needed, stands, differ, same) =
-      let one : statements ≡ h.statements = one_query query statements h.statements whole.reads h.reads in
-      let here : Contains nodes a = stands_among proof a nodes whole.lists (h.proof_is.nodes, h.proof_is.lists, (h.proof_is.needed a).1 (subst (λ (s : Statements). IsNeeded p s a) one needed)) in
-      differ (no_twins nodes whole.rising a b here stands same)
-
-  -- from the right proof the meaning is told
-  pub honest : (text : List ℕ) (result : Result Told AllocError) → IsProvedIn p query form text proof → IfOk result (IsTold query root form proof) → IfOk result (TellsText text)
-  honest text (Ok (Answer told report)) right h = elim (h.shows p is root_is) [
-    | inl (just, means) ↦
-        (let one : h.statements ≡ right.statements = one_query query h.statements right.statements h.whole.reads right.reads in
-        one_meaning_by (form_text form) p.objects right.statements told.items text is.set (subst (λ (s : Statements). Means_by (form_text form) p.objects s told.items) one means) right.means)
-    | inr clash ↦ absurd (no_clash text h.statements h.nodes right h.whole clash)
-  ]
-  honest text (Ok (No why)) right h =
-      let opl = in_opl text right in
-      verdict.honest query root opl.0 proof p is root_is (Ok (verdicts.No why)) opl.1 (h.1 opl.0)
-  honest text (Err e) right h = tt
-
   -- the reason that is owed is told
   pub only_told : (why : Why) (result : Result Told AllocError) → ((answer : List ℕ) → TellsOf p query answer proof (verdicts.No why)) → IfOk result (IsTold query root form proof)
       → IfOk result (λ told. told ≡ No why) ⊎ Clash (IsNodeIn p) (StandsIn proof)
   only_told why (Ok (Answer text report)) tells h = elim (shown text.items report h) [
-    | inl proved ↦ (let opl = in_opl text.items proved in absurd (one_verdict query opl.0 proof p is (verdicts.Yes report) (verdicts.No why) opl.1 (tells opl.0)))
+    | inl proved ↦ (let opl = in_opl query root proof form p is root_is text.items proved in absurd (one_verdict query opl.0 proof p is (verdicts.Yes report) (verdicts.No why) opl.1 (tells opl.0)))
     | inr clash ↦ inr clash
   ]
   only_told why (Ok (No other)) tells h = elim (verdict.told query root [] proof p is root_is (verdicts.No other) (h.1 [])) [

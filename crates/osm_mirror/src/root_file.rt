@@ -74,7 +74,12 @@ impl<'a> RootFile<'a> {
     }
 }
 
+/// A file may hold any root.
 impl Roots for RootFile<'_> {
+    ghost use Rattle.std.specs.Prelude.{true};
+
+    ghost may_tell = { λ _ _. true };
+
     fn root(&mut self) -> Digest {
         if let Some(path) = self.path {
             self.refresh(path);

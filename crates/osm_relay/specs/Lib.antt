@@ -1,5 +1,6 @@
 pub mod Errands
 pub mod Events
+pub mod Honest
 pub mod Logs
 pub mod MirrorTexts
 pub mod Pages

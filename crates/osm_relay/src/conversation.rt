@@ -106,6 +106,7 @@ impl<W: Wire> Conversation<W> {
         ensures promised { IsPromised self.new }
         ensures root { self.new.root ≡ self.old.root }
         ensures number { self.new.number ≡ self.old.number }
+        ensures tells { self.new.tells ≡ W.tells }
         ensures log { N.log network.new ≡ N.log network.old }
     {
         let stage = mem::replace(&mut self.stage, Stage::Over { whole: false });

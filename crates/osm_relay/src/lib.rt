@@ -36,7 +36,7 @@ mod turn;
 mod wire;
 
 pub use conversation::Conversation;
-pub use laws::limits_law;
+pub use laws::{honest_mirrors_are_relayed, limits_law};
 pub use limits::{CONVERSATION_LIMIT, REPLY_LIMIT};
 pub use network::{Network, News, Room};
 pub use relay_fault::RelayFault;

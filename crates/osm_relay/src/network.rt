@@ -1,8 +1,8 @@
 //! Where clients come from, and how mirrors are reached.
 
-ghost use Rattle.std.specs.Prelude.{◌≡◌, IfOk, IfSome, List, OnErr, Option, true};
+ghost use Rattle.std.specs.Prelude.{◌≡◌, IfOk, IfSome, List, Option, true};
 ghost use Rattle.mirror_reply.specs.Requests.{is_host_text};
-ghost use Rattle.osm_relay.specs.Events.{Event, came_by, left, noted};
+ghost use Rattle.osm_relay.specs.Events.{Event, left, noted, taken_as, waited};
 ghost use Rattle.osm_relay.specs.Logs.{fresh};
 
 use crate::relay_fault::RelayFault;
@@ -33,18 +33,17 @@ pub enum Room {
 
 /// The clients that come, and the mirrors that can be asked, which are numbered from 0. No call waits but `next`.
 pub trait Network<W: Wire> {
-    /// Which clients came and were let go so far, the newest first, where it tells.
+    /// What was waited for, and which clients came and were let go so far, the newest first, where it tells.
     ghost log: { Self → Option (List Event) };
 
     /// Waits for what is next to do. That a client waits is told only where there is room for it.
     fn next(&mut self, room: Room) -> Result<News, RelayFault>
-        ensures { log self.new ≡ log self.old };
+        ensures { log self.new ≡ noted (waited room result) (log self.old) };
 
     /// Takes the client that waits, for the conversation of this number; `None` where there is none any more.
     fn take(&mut self, number: u32) -> Result<Option<W>, RelayFault>
-        ensures taken { IfOk result (λ client. log self.new ≡ came_by client number (log self.old)) }
-        ensures fresh { IfOk result (λ client. IfSome client (λ wire. W.tells ≡ true → W.log wire ≡ fresh)) }
-        ensures refused { OnErr result (log self.new ≡ log self.old) };
+        ensures taken { log self.new ≡ noted (taken_as number result) (log self.old) }
+        ensures fresh { IfOk result (λ client. IfSome client (λ wire. W.tells ≡ true → W.log wire ≡ fresh)) };
 
     /// The name of a mirror, as it stands in the field `Host` of a request: `mirror.example:8080`; `None` where there are no
     /// so many mirrors.
@@ -63,5 +62,5 @@ pub trait Network<W: Wire> {
 
     /// Lets the client of a conversation that is over go. Where it took all of its response, that still arrives.
     fn let_go(&mut self, number: u32, client: W, whole: bool)
-        ensures { log self.new ≡ noted (left number whole) (log self.old) };
+        ensures { log self.new ≡ noted (left number whole (W.log client)) (log self.old) };
 }

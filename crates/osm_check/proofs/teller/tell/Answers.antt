@@ -1,4 +1,5 @@
-use Rattle.osm_check.proofs.ToldLemmas.{headline, honest, only_told}
+use Rattle.osm_check.proofs.ToldLemmas.{headline, only_told}
+use Rattle.osm_check.proofs.shared.HonestLemmas.{honest}
 use Rattle.osm_check.proofs.teller.tell.Goals as goal
 
 pub returns : goal.returns

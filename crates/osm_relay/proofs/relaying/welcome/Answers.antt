@@ -1,24 +1,30 @@
-use Rattle.std.proofs.Common.{◌≡◌, ◌∙◌, ◌∷◌, ◌+◌, rules, subst, sym}
-use Rattle.std.specs.Prelude.{Option, vec_len}
-use Rattle.osm_relay.specs.Events.{came, came_by, noted}
-use Rattle.osm_relay.specs.internal.Relaying.{IsRelaying}
-use Rattle.osm_relay.proofs.RelayingLemmas.{one_more}
+use Rattle.std.proofs.Common.{◌≡◌, ◌∙◌, ◌++◌, ◌∷◌, ◌+◌, List, ℕ, [], ap, rules, subst, sym, true}
+use Rattle.std.specs.Prelude.{Ok}
+use Rattle.osm_relay.specs.Events.{noted, taken_as}
+use Rattle.osm_relay.specs.Relayed.{Standing}
+use Rattle.osm_relay.specs.internal.Relaying.{Moves}
+use Rattle.osm_relay.proofs.RelayingLemmas.{no_memory, none_there, one_more, refused, stops_told}
 use Rattle.osm_relay.proofs.relaying.welcome.Goals as goal
 
-pub returns-then-is_err : goal.returns-then-is_err
-returns-then-is_err g c = λ wanted base before wants room is.
-    let old = g.N.Network.log c.args.network.now in
-    let new = g.N.Network.log c.take.new.self in
-    let here = subst (λ o. new ≡ came_by o c.args.number old) c.in-Some.is c.in_ok-client.ensures.taken in
-    (came c.args.number ∷ before, c.args.number + 1, vec_len c.args.conversations.now + 1, one_more wanted base before old new c.args.number (vec_len c.args.conversations.now) is wants room here)
+pub returns-in_err-client-clause-stands : goal.returns-in_err-client-clause-stands
+returns-in_err-client-clause-stands g c = λ s before rounds is trusts invited few room.
+    stops_told s rounds c.args.number _ _ c.from_residual.result c.in_err-client.field-0.0 c.from_residual.ensures.1
+    (refused s before rounds c.args.number _ c.args.conversations.now.items is _ invited few room c.in_err-client.field-0.0 c.in_err-client.ensures.taken)
 
-pub returns : goal.returns
-returns g c = λ wanted base before wants room is.
-    let old = g.N.Network.log c.args.network.now in
-    let new = g.N.Network.log c.take.new.self in
-    let here = subst (λ o. new ≡ came_by o c.args.number old) c.in-Some.is c.in_ok-client.ensures.taken in
-    let count : vec_len c.push.new.self ≡ vec_len c.args.conversations.now + 1 = search rules in (
-      came c.args.number ∷ before,
-      subst (λ n. IsRelaying wanted base (came c.args.number ∷ before) (g.N.Network.log c.note.new.self) (c.args.number + 1) n) (sym count)
-          (one_more wanted base before old (g.N.Network.log c.note.new.self) c.args.number (vec_len c.args.conversations.now) is wants room (c.note.ensures ∙ here)),
-    )
+pub returns-in_default-clause-stands : goal.returns-in_default-clause-stands
+returns-in_default-clause-stands g c = λ s before rounds is trusts invited few room.
+    let here = subst (λ o. g.N.Network.log c.take.new.self ≡ noted (taken_as c.args.number (Ok o)) (g.N.Network.log c.args.network.now)) c.in_default.is c.in_ok-client.ensures.taken in
+    none_there s before rounds c.args.number _ c.args.conversations.now.items is _ invited few room here
+
+pub returns-then-is_err-clause-stands : goal.returns-then-is_err-clause-stands
+returns-then-is_err-clause-stands g c = λ s before rounds is trusts invited few room.
+    let here = subst (λ o. g.N.Network.log c.take.new.self ≡ noted (taken_as c.args.number (Ok o)) (g.N.Network.log c.args.network.now)) c.in-Some.is c.in_ok-client.ensures.taken in
+    no_memory s before rounds c.args.number _ c.args.conversations.now.items is _ invited few room here
+
+pub returns-clause-stands : goal.returns-clause-stands
+returns-clause-stands g c = λ s before rounds is trusts invited few room.
+    let here = subst (λ o. g.N.Network.log c.take.new.self ≡ noted (taken_as c.args.number (Ok o)) (g.N.Network.log c.args.network.now)) c.in-Some.is c.in_ok-client.ensures.taken in
+    let items : c.push.new.self.items ≡ c.args.conversations.now.items ++ c.new.result ∷ [] = search rules in
+    let trusted = subst (λ (r : List ℕ). s.trusts r ≡ true) (sym (ap (λ (x : Standing). x.root) c.new.ensures)) (trusts _ c.root.ensures.told) in
+    subst (λ (xs : List Standing). Moves s rounds (c.args.number + 1) (g.N.Network.log c.note.new.self) xs) (sym items)
+    (one_more s before rounds c.args.number _ c.args.conversations.now.items is _ invited few room c.new.result (ap (λ (x : Standing). x.number) c.new.ensures) trusted (c.note.ensures ∙ here))

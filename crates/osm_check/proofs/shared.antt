@@ -1,0 +1,2 @@
+-- Lemmas that crates above cite.
+pub mod HonestLemmas

@@ -1,0 +1,111 @@
+-- What a client is told where the last mirror that was asked is an honest one.
+use Rattle.std.proofs.Common.{◌≡◌, ◌∙◌, ◌⊎◌, ◌++◌, ℕ, List, [], ap, append-nil, arith, false, inl, inr, refl, subst, sym, true}
+use Rattle.std.specs.Prelude.{Bool, Option, Some, None}
+use Rattle.ql_eval.specs.declared.evaluation.Report.{Report}
+use Rattle.ql_syntax.proofs.FormatLemmas.{one_format}
+use Rattle.osm_check.specs.Telling.{IsProvedIn, IsShown, IsTold}
+use Rattle.osm_check.specs.declared.told.Told.TheVariants.{No}
+use Rattle.osm_check.specs.declared.why.Why.{Why}
+use Rattle.osm_check.proofs.shared.HonestLemmas.{not_refused, shown_is}
+use Rattle.osm_forms.specs.declared.form.Form.{Form}
+use Rattle.mirror_reply.specs.Heads.{unfinished}
+use Rattle.mirror_reply.specs.Replies.{HasReply}
+use Rattle.mirror_reply.specs.Standings.{Stands, replied, waits}
+use Rattle.mirror_reply.proofs.SpelledLemmas.{reply-no_fault, reply-stands, reply-unique}
+use Rattle.mirror_reply.proofs.StandingLemmas.{stands-unique}
+use Rattle.mirror_answer.specs.Showing.{IsFaultOf, Wanted}
+use Rattle.mirror_answer.specs.declared.mirror_fault.MirrorFault.{MirrorFault}
+use Rattle.mirror_answer.specs.declared.mirror_fault.MirrorFault.TheVariants as faults
+use Rattle.osm_relay.specs.Errands.{BeginsErrand, answer_to}
+use Rattle.osm_relay.specs.Honest.{IsServed}
+use Rattle.osm_relay.specs.Logs.{Log}
+use Rattle.osm_relay.specs.Pages.{document_response, starved}
+use Rattle.osm_relay.specs.Questions.{WantsForm, form_for}
+use Rattle.osm_relay.specs.Relayed.{Alone, Given, IsMirrorFault, IsTaken, IsTakenAt, NotGiven, Relayed, ShowsNone, Starved, Wants}
+use Rattle.osm_relay.specs.ResponseTexts.{response_text}
+use Rattle.osm_relay.specs.declared.limits.TheConstants.{REPLY_LIMIT}
+
+-- ---- a client wants one thing
+
+one_errand : (bytes first second : List ℕ) → BeginsErrand bytes (answer_to first) → BeginsErrand bytes (answer_to second) → first ≡ second
+one_errand bytes first second (d, begins, is) (e, starts, same) = cc
+
+one_form : (query : List ℕ) (first second : Form) → WantsForm query first → WantsForm query second → first ≡ second
+one_form query first second x y = x.formed ∙ ap form_for (one_format query x.format y.format x.asked y.asked) ∙ sym y.formed
+
+-- ---- bytes that hold no reply
+
+waiting_holds_none : (received a b c : List ℕ) → Stands REPLY_LIMIT false received waits → HasReply REPLY_LIMIT received a b c → ⊥
+waiting_holds_none received a b c stands reply =
+    let same = stands-unique REPLY_LIMIT false received waits (replied a b c) stands (reply-stands REPLY_LIMIT false received a b c reply) in
+    cc same
+
+none_replied : (a b c : List ℕ) → HasReply REPLY_LIMIT [] a b c → ⊥
+none_replied a b c reply = waiting_holds_none [] a b c (unfinished, (refl, omega arith), refl) reply
+
+-- ---- an honest mirror
+
+module _ (root response : List ℕ) (c m : Log) (is : IsServed root c m response) where
+  one_query : (query : List ℕ) (form : Form) → Wants c.brought query form → is.query ≡ query
+  one_query query form wants = one_errand _ is.query query is.wants.errand wants.errand
+
+  one_proof : (named answer proof : List ℕ) → HasReply REPLY_LIMIT m.brought named answer proof → is.proof ≡ proof
+  one_proof named answer proof reply = let one = reply-unique REPLY_LIMIT m.brought is.named is.answer is.proof named answer proof is.replied reply in one.2
+
+  -- the right proof, as another one names query and form
+  proved_of : (query : List ℕ) (form : Form) (wants : Wants c.brought query form) (named answer proof : List ℕ) → HasReply REPLY_LIMIT m.brought named answer proof
+      → (is.form ≡ form) × IsProvedIn is.publication query form is.text proof
+  proved_of query form wants named answer proof reply =
+      let q = one_query query form wants in
+      let wanted = subst (λ (t : List ℕ). WantsForm t is.form) q is.wants.form_is in
+      let f = one_form query is.form form wanted wants.form_is in
+      let asked = subst (λ (t : List ℕ). IsProvedIn is.publication t is.form is.text is.proof) q is.proved in
+      let formed = subst (λ (g : Form). IsProvedIn is.publication query g is.text is.proof) f asked in
+      (f, subst (λ (t : List ℕ). IsProvedIn is.publication query form is.text t) (one_proof named answer proof reply) formed)
+
+  -- a proof that is refused isn't this one
+  no_refusal : (query : List ℕ) (form : Form) → Wants c.brought query form → (named answer proof : List ℕ) → HasReply REPLY_LIMIT m.brought named answer proof
+      → (why : Why) → IsTold query root form proof (No why) → ⊥
+  no_refusal query form wants named answer proof reply why told =
+      let proved = proved_of query form wants named answer proof reply in
+      not_refused query root proof form is.publication is.published is.root_is is.text why proved.1 told
+
+  no_fault : (query : List ℕ) (form : Form) → Wants c.brought query form → (fault : MirrorFault)
+      → IsMirrorFault (record { query = query; root = root; form = form }) (Some m) fault → ⊥
+  no_fault query form wants faults.Unreached (took, brought) =
+      none_replied is.named is.answer is.proof (subst (λ (t : List ℕ). HasReply REPLY_LIMIT t is.named is.answer is.proof) brought is.replied)
+  no_fault query form wants faults.Silent stands = waiting_holds_none m.brought is.named is.answer is.proof stands is.replied
+  no_fault query form wants (faults.Reply fault) has = reply-no_fault REPLY_LIMIT m.ended m.brought is.named is.answer is.proof fault is.replied has
+  no_fault query form wants faults.OtherRoot (named, answer, proof, reply, (other, (why, of, told))) = no_refusal query form wants named answer proof reply why told
+  no_fault query form wants (faults.Proof why) (named, answer, proof, reply, (same, of, told)) = no_refusal query form wants named answer proof reply why told
+
+  -- the document, or that memory ran out
+  relayed_as : (text : List ℕ) → Relayed root c.brought (Some m) text → (text ≡ response) ⊎ (text ≡ starved)
+  relayed_as text (Alone e errand none alone) = absurd (cc)
+  relayed_as text (Given query form log named answer proof shown report wants same reply shows e) =
+      let same_brought : log.brought ≡ m.brought = cc in
+      let here = subst (λ (t : List ℕ). HasReply REPLY_LIMIT t named answer proof) same_brought reply in
+      let proved = proved_of query form wants named answer proof here in
+      let text_is = shown_is query root proof form is.publication is.published is.root_is is.text shown report proved.1 shows in
+      inl (e ∙ ap (λ (t : List ℕ). response_text (document_response form root t)) text_is
+      ∙ ap (λ (f : Form). response_text (document_response f root is.text)) (sym proved.0) ∙ sym is.response_is)
+  relayed_as text (NotGiven query form fault wants fails e) = absurd (no_fault query form wants fault fails)
+  relayed_as text (Starved e) = inr e
+
+  begun_as : IsTaken root c (Some m) → (rest : List ℕ) × ((c.took ++ rest ≡ response) ⊎ (c.took ++ rest ≡ starved))
+  begun_as (inl none) = (response, inl (ap (λ (t : List ℕ). t ++ response) none))
+  begun_as (inr (text, rest, split, relayed)) = elim (relayed_as text relayed) [
+    | inl same ↦ (rest, inl (sym split ∙ same))
+    | inr same ↦ (rest, inr (sym split ∙ same))
+  ]
+
+  pub whole : IsTakenAt (Some true) root c (Some m) → (c.took ≡ response) ⊎ (c.took ≡ starved)
+  whole taken = relayed_as c.took taken
+
+  pub begun : (ending : Option Bool) → IsTakenAt ending root c (Some m) → (rest : List ℕ) × ((c.took ++ rest ≡ response) ⊎ (c.took ++ rest ≡ starved))
+  begun None taken = begun_as taken
+  begun (Some false) taken = begun_as taken
+  begun (Some true) taken = elim (whole taken) [
+    | inl same ↦ ([], inl (append-nil c.took ∙ same))
+    | inr same ↦ ([], inr (append-nil c.took ∙ same))
+  ]

@@ -1,0 +1,8 @@
+use Rattle.osm_relay.proofs.HonestLemmas.{begun, whole}
+use Rattle.osm_relay.proofs.laws.honest_mirrors_are_relayed.Goals as goal
+
+pub returns : goal.returns
+returns c = record {
+  begun = λ root response c m ending served taken. begun root response c m served ending taken;
+  whole = λ root response c m served taken. whole root response c m served taken;
+}
