@@ -81,7 +81,7 @@ abbrev pub read_by_all : Env → List Filter → ℕ
 read_by_all env [] = 0
 read_by_all env (filter ∷ filters) = (1 + read_by env filter) + read_by_all env filters
 
--- what a base finds that isn't of the kind: by a key alone, the objects of all kinds that have it
+-- what a base reads that isn't found: by a key alone, the objects of all kinds that have it
 abbrev pub WorkOfBase : List Element → Option Filter → ℕ → Type 0
 WorkOfBase objects None n = Steps 0 n
 WorkOfBase objects (Some (InSet name)) n = Steps 0 n
@@ -93,7 +93,7 @@ WorkOfBase objects (Some (Ids ids)) n = Steps 0 n
 WorkOfBase objects (Some (Within area)) n = Steps 0 n
 WorkOfBase objects (Some (Via path name)) n = Steps 0 n
 
--- a query statement by a plan: what its base finds of other kinds, a step for each candidate, and one for each filter that
+-- a query statement by a plan: what its base reads, a step for each candidate, and one for each filter that
 -- it is tested by
 abbrev pub WorkByPlan : Publication → Env → Pick → Planned → ℕ → Type 0
 WorkByPlan p env pick plan n = Both (WorkOfBase p.objects plan.base) (OfSet (IsCandidate p.objects env pick plan) (λ found. Steps (length found * (1 + length (rest_of plan))))) n

@@ -17,7 +17,7 @@ ghost use Rattle.ql_eval.specs.Forms.{HaveForm};
 ghost use Rattle.ql_eval.specs.Openings.{HasMalformed, IsUnder, nodes_after};
 ghost use Rattle.ql_eval.specs.Questions.{NeededBy};
 ghost use Rattle.ql_eval.specs.TrueFaults.{HoldsUnder, IsTrueFault};
-ghost use Rattle.ql_eval.specs.Work.{HasNoClash, KeepsBudget, WorkOfQuery};
+ghost use Rattle.ql_eval.specs.Work.{HasNoClash, IsNodeOf, KeepsBudget, WorkOfQuery};
 ghost use Rattle.ql_eval.specs.Written.{HasWritten, HasWrittenMeaning, HasWrittenMeaning_by};
 ghost use Rattle.ql_eval.specs.internal.Metering.{IsBounded, IsSpent};
 ghost use Rattle.ql_eval.specs.internal.TrueFaults.{IsTrueUnder};
@@ -173,10 +173,9 @@ pub fn evaluate_in<'a, S: Shelf<'a>, T: Sink>(
 ///
 /// The budget counts 1 for a byte that is written, and 100 for a step: each statement, and each reference of the set that it
 /// writes; each filter of a query statement, each id that is written in it and each reference of a named set that it reads;
-/// each object that the base of a query statement finds, once more for each other filter, and by a key alone those of other
-/// kinds; each reference of a set that a
-/// recursion starts from; and each object that is printed. What a statement finds is counted once it is found, so the last
-/// statement may do more than the budget has left.
+/// each object that the base of a query statement finds, once more for each other filter, and where the base is a key alone,
+/// each object of any kind that has it; each reference of a set that a recursion starts from; and each object that is
+/// printed. What a statement finds is counted once it is found, so the last statement may do more than the budget has left.
 ///
 /// A refusal leaves the text of the sink as it was. The nodes that were fetched until then stay used.
 pub fn evaluate_within<'a, S: Shelf<'a>, T: Sink>(
@@ -235,6 +234,10 @@ pub fn evaluate_within<'a, S: Shelf<'a>, T: Sink>(
     // unless nodes clash.
     ensures budget { (p : Publication) → IsPublication p → root.now.0 ≡ root_of p
         → HasNoClash p (S.used shelf.new)
+        → KeepsBudget (WorkOfQuery (form_text form) p (statements_of query.now)) most result }
+    // Over a shelf that holds all nodes of the publication there is no clash to speak of.
+    ensures whole { (p : Publication) → IsPublication p → root.now.0 ≡ root_of p
+        → ((bytes : List ℕ) → IsNodeOf p bytes → S.holds shelf.new bytes)
         → KeepsBudget (WorkOfQuery (form_text form) p (statements_of query.now)) most result }
 {
     let len = sink.len();

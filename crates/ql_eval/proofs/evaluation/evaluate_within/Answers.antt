@@ -92,3 +92,14 @@ returns-in-Err-clause-budget g c = λ p is root clear.
     let so = found_as (λ x same. inl same) (λ x used. c.run_within.ensures.grows x used) clear (c.in_ok-manifest.ensures.answer p root) in
     subst (λ (ss : List Stmt). KeepsBudget (WorkOfQuery (form_text c.args.form) p (statements_of ss)) c.args.most (Err c.in-Err.fault)) c.stmts-statements.ensures.statements
     (c.in-Err.ensures.budget p is so (subst (λ (ss : List Stmt). IsQuery (statements_of ss)) (sym c.stmts-statements.ensures.statements) c.stmts-statements.ensures.kept) clear)
+
+pub returns-in_err-manifest-clause-whole : goal.returns-in_err-manifest-clause-whole
+returns-in_err-manifest-clause-whole g c = λ p is root all. kept_other (WorkOfQuery (form_text c.args.form) p (statements_of c.args.query.now)) c.args.most c.from_residual.result _ c.from_residual.ensures.1 (opening_never c.in_err-manifest.field-0.0)
+
+pub returns-in-Ok-clause-whole : goal.returns-in-Ok-clause-whole
+returns-in-Ok-clause-whole g c = λ p is root all.
+    returns-in-Ok-clause-budget g c p is root (λ (a, b, is_a, is_b, differ, same). differ (c.run_within.ensures.unlike a b (all a is_a) (c.run_within.ensures.held b is_b) same))
+
+pub returns-in-Err-clause-whole : goal.returns-in-Err-clause-whole
+returns-in-Err-clause-whole g c = λ p is root all.
+    returns-in-Err-clause-budget g c p is root (λ (a, b, is_a, is_b, differ, same). differ (c.run_within.ensures.unlike a b (all a is_a) (c.run_within.ensures.held b is_b) same))
