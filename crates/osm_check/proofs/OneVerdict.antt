@@ -272,7 +272,7 @@ module _ (query root answer proof : List ℕ) (p : Publication) (is : IsPublicat
 
   -- some report
   no_walks : Report
-  no_walks = record { ranges = 0; fetched = 0 }
+  no_walks = record { ranges = 0; fetched = 0; work = 0 }
 
   -- the right answer with its proof
   pub honest : (result : Result Verdict AllocError) → IsProved p query answer proof → IfOk result (λ v. IsVerdict query root answer proof v) → IfOk result IsYes
