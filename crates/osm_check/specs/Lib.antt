@@ -1,3 +1,4 @@
+pub mod Budgets
 pub mod Matching
 pub mod Matchers
 pub mod Verdicts

@@ -1,8 +1,9 @@
 //! The reasons of queries that don't read, and of refused evaluations.
 
-ghost use Rattle.std.specs.Prelude.{◌≡◌, ◌≢◌, IfErr, IfOk, MatchResult, None, Some};
+ghost use Rattle.std.specs.Prelude.{◌≡◌, ◌≢◌, ◌↔◌, IfErr, IfOk, MatchResult, None, Some};
 ghost use Rattle.osm_check.specs.internal.Judging.{why_of};
 
+use crate::check_fault::CheckFault;
 use crate::why::Why;
 use ql_eval::{EvalFault, ManifestFault};
 use ql_syntax::{QlCause, QlFault};
@@ -21,9 +22,11 @@ pub(crate) fn unread(fault: QlFault) -> Result<Why, AllocError>
     }
 }
 
-/// The reason where an evaluation was refused: out of memory is none, and neither is a budget, which a check doesn't set.
-pub(crate) fn stopped(fault: EvalFault) -> Result<Why, AllocError>
-    ensures { MatchResult result (λ why. why_of fault ≡ Some why) (λ _. why_of fault ≡ None) }
+/// The reason where an evaluation was refused: out of memory is none, and neither is a budget.
+pub(crate) fn stopped(fault: EvalFault) -> Result<Why, CheckFault>
+    ensures { MatchResult result (λ why. why_of fault ≡ Some why)
+        (λ stop. (why_of fault ≡ None)
+        × ((stop ≡ CheckFault.Work) ↔ (fault ≡ EvalFault.Work))) }
 {
     match fault {
         EvalFault::Walk(WalkFault::Missing) | EvalFault::Manifest(ManifestFault::Missing) => {
@@ -37,7 +40,7 @@ pub(crate) fn stopped(fault: EvalFault) -> Result<Why, AllocError>
         EvalFault::Form | EvalFault::Absent => Ok(Why::EntriesDisagree),
         EvalFault::Walk(WalkFault::Memory)
         | EvalFault::Manifest(ManifestFault::Memory)
-        | EvalFault::Memory
-        | EvalFault::Work => Err(AllocError),
+        | EvalFault::Memory => Err(CheckFault::Memory),
+        EvalFault::Work => Err(CheckFault::Work),
     }
 }

@@ -1,3 +1,4 @@
+pub mod Budgets
 pub mod Proofs
 pub mod Proved
 pub mod Refusals

@@ -17,6 +17,9 @@ pub enum ProveFault {
     /// An allocation was refused.
     #[error("no memory")]
     Memory,
+    /// More is to be done for the query than the budget has.
+    #[error("too much work")]
+    Work,
 }
 
 impl From<AllocError> for ProveFault {
