@@ -1,6 +1,6 @@
 use Rattle.std.proofs.lemmas.Result.{err_from_is_err_and}
 use Rattle.osm_prove.proofs.Refusals.{passed_on}
-use Rattle.osm_prove.proofs.prover.prove.Goals as goal
+use Rattle.osm_prove.proofs.prover.prove_within.Goals as goal
 
 pub returns-in_err-parsed-clause-refused : goal.returns-in_err-parsed-clause-refused
 returns-in_err-parsed-clause-refused c =

@@ -5,7 +5,7 @@ use Rattle.tree_node.specs.Shelves.{SameNodes}
 use Rattle.tree_node.specs.Stocks.{HasNode}
 use Rattle.tree_node.specs.declared.stock.Stock.{Stock}
 use Rattle.osm_prove.proofs.Refusals.{passed_on}
-use Rattle.osm_prove.proofs.answerer.answer.Goals as goal
+use Rattle.osm_prove.proofs.answerer.answer_within.Goals as goal
 
 pub returns-in_err-parsed-clause-refused : goal.returns-in_err-parsed-clause-refused
 returns-in_err-parsed-clause-refused c =
