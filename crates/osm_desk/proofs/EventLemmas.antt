@@ -219,7 +219,7 @@ pub turns-told : (c : ℕ) (before : Contents) (turns : List Turn) (p : Publicat
 turns-told c before turns p none held are room =
     let mirror : Mirrors c (fresh p) turns =
     subst (λ (connections : Connections). Mirrors c (with_connections p connections) turns) none (mirrors c turns before p held are room) in
-    let all = run-told c mirror.run p mirror.ran mirror.room in
+    let all = run-told None c mirror.run p mirror.ran mirror.room in
     told-events c (events_of turns) (stood mirror.run) p None (texts_to c turns) mirror.are
     (subst (λ texts. RespondAll (told c (stood mirror.run) p) texts) mirror.same all)
 
