@@ -1,18 +1,15 @@
 -- What is shown, from what is told.
-use Rattle.std.proofs.Common.{◌≡◌, ◌≢◌, ◌⊎◌, ℕ, List, [], Result, Ok, Err, ap, inl, inr, refl, subst, sym}
+use Rattle.std.proofs.Common.{◌≡◌, ℕ, List, [], Result, Ok, Err, ap, inl, inr, subst, sym}
 use Rattle.std.specs.declared.alloc.AllocError.{AllocError}
 use Rattle.std.specs.declared.alloc.Global.{Global}
 use Rattle.std.specs.declared.vec.Vec.{Vec}
-use Rattle.osm_check.specs.Telling.{IsOfNoAnswer, IsTold}
-use Rattle.osm_check.specs.Verdicts.{IsVerdict}
+use Rattle.osm_check.specs.Telling.{IsTold}
 use Rattle.osm_check.specs.declared.told.Told.TheVariants.{No}
-use Rattle.osm_check.specs.declared.verdict.Verdict.TheVariants as verdicts
 use Rattle.osm_check.specs.declared.why.Why.{Why}
 use Rattle.osm_check.specs.declared.why.Why.TheVariants as whys
 use Rattle.mirror_answer.specs.Showing.{IsFaultOf, IsOfProof, IsRightly, Wanted}
 use Rattle.mirror_answer.specs.internal.Reasons.{IsFaultFor, IsRefusedFor, IsShownFor}
 use Rattle.mirror_answer.specs.declared.mirror_fault.MirrorFault.{MirrorFault}
-use Rattle.mirror_answer.specs.declared.mirror_fault.MirrorFault.TheVariants.{OtherRoot, Proof}
 use Rattle.mirror_answer.specs.declared.shown.Shown.{Shown}
 use Rattle.mirror_answer.specs.declared.shown.Shown.TheVariants.{Answer, Refused, Unread}
 
@@ -30,31 +27,6 @@ items_of (Err error) = []
 
 pub same_items : (first second : Vec ℕ Global) → given (Answer first) ≡ given (Answer second) → first.items ≡ second.items
 same_items first second same = ap items_of same
-
-abbrev IsNoAnswer : Result Shown AllocError → Type 0
-IsNoAnswer (Ok (Answer text)) = ⊥
-IsNoAnswer (Ok (Unread fault)) = Unit {0}
-IsNoAnswer (Ok (Refused fault)) = Unit {0}
-IsNoAnswer (Err error) = Unit {0}
-
--- what is shown for a reason is no answer
-no_answer_refused : (why : Why) (root named : List ℕ) (shown : Shown) → IsRefusedFor why root named shown → IsNoAnswer (Ok shown)
-no_answer_refused why root named shown (fault, is, same) = subst (λ (s : Shown). IsNoAnswer (Ok s)) (sym same) tt
-
-no_answer : (why : Why) (root named : List ℕ) (shown : Shown) → IsShownFor why root named shown → IsNoAnswer (Ok shown)
-no_answer (whys.QueryRefused fault) root named shown is = subst (λ (s : Shown). IsNoAnswer (Ok s)) (sym is) tt
-no_answer whys.ProofMalformed root named shown is = no_answer_refused whys.ProofMalformed root named shown is
-no_answer whys.ProofNotRising root named shown is = no_answer_refused whys.ProofNotRising root named shown is
-no_answer whys.NodeMissing root named shown is = no_answer_refused whys.NodeMissing root named shown is
-no_answer whys.NodeMalformed root named shown is = no_answer_refused whys.NodeMalformed root named shown is
-no_answer whys.NodesDisagree root named shown is = no_answer_refused whys.NodesDisagree root named shown is
-no_answer whys.EntriesDisagree root named shown is = no_answer_refused whys.EntriesDisagree root named shown is
-no_answer whys.NodeUnused root named shown is = no_answer_refused whys.NodeUnused root named shown is
-no_answer (whys.AnswerDiffers byte) root named shown is = no_answer_refused (whys.AnswerDiffers byte) root named shown is
-
-pub not_shown : (why : Why) (root named : List ℕ) (shown : Shown) (text : Vec ℕ Global) → IsShownFor why root named shown
-    → given shown ≡ given (Answer text) → ⊥
-not_shown why root named shown text is same = subst IsNoAnswer same (no_answer why root named shown is)
 
 -- ---- that it is right
 

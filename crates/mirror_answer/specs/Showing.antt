@@ -6,7 +6,7 @@ use Rattle.tree_node.specs.Outcomes.{Clash}
 use Rattle.osm_keys.specs.Publications.{IsNodeIn, IsPublication, Publication, root_of}
 use Rattle.ql_syntax.specs.Queries.{HasFault}
 use Rattle.osm_prove.specs.Budgets.{IsTooMuch, IsWorkOf}
-use Rattle.osm_check.specs.Telling.{IsOfNoAnswer, IsShown, IsTold}
+use Rattle.osm_check.specs.Telling.{IsShown, IsTold}
 use Rattle.osm_check.specs.Verdicts.{IsReadable, IsRisingProof, StandsIn}
 use Rattle.osm_check.specs.declared.told.Told.TheVariants.{No}
 use Rattle.osm_check.specs.declared.why.Why.{Why}
@@ -14,7 +14,7 @@ use Rattle.osm_check.specs.declared.why.Why.TheVariants as whys
 use Rattle.osm_forms.specs.Forms.{form_text}
 use Rattle.osm_forms.specs.declared.form.Form.{Form}
 use Rattle.mirror_answer.specs.declared.mirror_fault.MirrorFault.{MirrorFault}
-use Rattle.mirror_answer.specs.declared.mirror_fault.MirrorFault.TheVariants.{OtherRoot, Proof, Reply, Silent, Unreached, Work}
+use Rattle.mirror_answer.specs.declared.mirror_fault.MirrorFault.TheVariants.{OtherRoot, Proof, Work}
 use Rattle.mirror_answer.specs.declared.shown.Shown.{Shown}
 use Rattle.mirror_answer.specs.declared.shown.Shown.TheVariants.{Answer, Refused, Unread}
 
