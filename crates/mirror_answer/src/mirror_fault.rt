@@ -22,4 +22,7 @@ pub enum MirrorFault {
     /// Its proof shows no answer, for this reason: neither `QueryRefused` nor `AnswerDiffers`.
     #[error("the mirror's proof is refused: {0}")]
     Proof(Why),
+    /// More is to be done to check its proof than the client's budget has. Where the mirror is honest, so it is of every mirror.
+    #[error("too much work")]
+    Work,
 }

@@ -1,7 +1,6 @@
 -- What the outcome of an evaluation over the nodes of a proof says of a publication.
 use Rattle.std.proofs.Common.{◌≡◌, ◌⊎◌, inl, inr, ℕ, List, [], ◌++◌, Option, Some, Result, Ok, Err, IfOk, refl, sym, ap, subst, ◌∙◌}
 use Rattle.std.specs.List.{Contains}
-use Rattle.std.specs.declared.alloc.AllocError.{AllocError}
 use Rattle.tree_node.specs.Outcomes.{Cause, Clash, NoMemory, NodeMissing as CauseMissing, OtherCause, Outcome, RefusedFor}
 use Rattle.tree_node.specs.Bags.{BagHolds}
 use Rattle.tree_node.specs.Parts.{HaveNode}
@@ -140,7 +139,7 @@ owed query root answer proof statements nodes (No EntriesDisagree) whole judged 
 owed query root answer proof statements nodes (No NodeUnused) whole judged = record { statements = statements; nodes = nodes; whole = whole; reported = tt; tells = judged.tells }
 owed query root answer proof statements nodes (No (AnswerDiffers byte)) whole judged = record { statements = statements; nodes = nodes; whole = whole; reported = tt; tells = judged.tells }
 
-pub judged_owed : (query root answer proof : List ℕ) (statements : Statements) (nodes : List (List ℕ)) (result : Result Verdict AllocError) → IsWhole query proof statements nodes
+pub judged_owed : {E : Type 0} (query root answer proof : List ℕ) (statements : Statements) (nodes : List (List ℕ)) (result : Result Verdict E) → IsWhole query proof statements nodes
     → IfOk result (IsJudged root statements answer nodes) → IfOk result (IsVerdict query root answer proof)
 judged_owed query root answer proof statements nodes (Ok verdict) whole judged = owed query root answer proof statements nodes verdict whole judged
 judged_owed query root answer proof statements nodes (Err e) whole judged = tt

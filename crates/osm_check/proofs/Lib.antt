@@ -1,7 +1,7 @@
 pub mod shared
+pub mod BudgetLemmas
 pub mod Fronts
 pub mod Judgements
-pub mod NeededNodes
 pub mod OneVerdict
 pub mod Reports
 pub mod ToldLemmas

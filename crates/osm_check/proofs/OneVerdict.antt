@@ -1,7 +1,6 @@
 -- What verdicts say of a publication, and that one at most is true of it.
 use Rattle.std.proofs.Common.{◌≡◌, ◌≢◌, ◌⊎◌, inl, inr, ℕ, zero, suc, ◌<◌, List, [], ◌∷◌, length, take, Result, Ok, Err, IfOk, refl, sym, ◌∙◌, ap, subst, arith, get_or}
 use Rattle.std.specs.List.{Contains, slice_get}
-use Rattle.std.specs.declared.alloc.AllocError.{AllocError}
 use Rattle.std.proofs.lemmas.Bool.{cases_lt, cases_order}
 use Rattle.std.proofs.lemmas.List.{get_or_read}
 use Rattle.ql_syntax.specs.Queries.{HasFault, Reads, memory_fault}
@@ -28,7 +27,7 @@ use Rattle.osm_check.specs.declared.verdict.Verdict.{Verdict}
 use Rattle.osm_check.specs.declared.verdict.Verdict.TheVariants.{Yes, No}
 use Rattle.osm_check.specs.declared.why.Why.{Why}
 use Rattle.osm_check.specs.declared.why.Why.TheVariants.{QueryRefused, ProofMalformed, ProofNotRising, NodeMissing, NodeMalformed, NodesDisagree, EntriesDisagree, NodeUnused, AnswerDiffers}
-use Rattle.osm_check.proofs.NeededNodes.{needed_is_node}
+use Rattle.osm_prove.proofs.shared.NeededNodes.{needed_in}
 
 -- ---- one first difference
 
@@ -117,7 +116,7 @@ module _ (query answer proof : List ℕ) (p : Publication) (is : IsPublication p
 
   -- the first of the two is a node of the publication
   as_clash : Clashes → Clash (IsNodeIn p) (StandsIn proof)
-  as_clash (statements, nodes, whole, (a, b, needed, stands, differ, same)) = (a, b, needed_is_node p statements a needed, (nodes, whole.lists, stands), differ, same)
+  as_clash (statements, nodes, whole, (a, b, needed, stands, differ, same)) = (a, b, needed_in p statements a needed, (nodes, whole.lists, stands), differ, same)
 
   pub under_root : (verdict : Verdict) → IsVerdict query (root_of p) answer proof verdict → TellsOf p query answer proof verdict ⊎ Clash (IsNodeIn p) (StandsIn proof)
   under_root verdict h = elim (tells_or_clashes verdict h) [ inl tells ↦ inl tells | inr clashes ↦ inr (as_clash clashes) ]
@@ -253,15 +252,15 @@ module _ (query root answer proof : List ℕ) (p : Publication) (is : IsPublicat
   told verdict h = under_root query answer proof p is verdict (subst (λ (r : List ℕ). IsVerdict query r answer proof verdict) root_is h)
 
   -- the verdict that is owed is the one that is given
-  pub only_verdict : (result : Result Verdict AllocError) (owed : Verdict) → TellsOf p query answer proof owed → IfOk result (λ v. IsVerdict query root answer proof v)
+  pub only_verdict : {E : Type 0} (result : Result Verdict E) (owed : Verdict) → TellsOf p query answer proof owed → IfOk result (λ v. IsVerdict query root answer proof v)
       → IfOk result (λ v. AreAlike v owed) ⊎ Clash (IsNodeIn p) (StandsIn proof)
   only_verdict (Ok v) owed h given = elim (told v given) [ inl tells ↦ inl (one_verdict query answer proof p is v owed tells h) | inr clash ↦ inr clash ]
   only_verdict (Err e) owed h given = inl tt
 
   -- a yes under the root of a publication
-  pub headline : (report : Report) (result : Result Verdict AllocError) → result ≡ Ok (Yes report) → IfOk result (λ v. IsVerdict query root answer proof v)
+  pub headline : {E : Type 0} (report : Report) (result : Result Verdict E) → result ≡ Ok (Yes report) → IfOk result (λ v. IsVerdict query root answer proof v)
       → IsProved p query answer proof ⊎ Clash (IsNodeIn p) (StandsIn proof)
-  headline report result said given = told (Yes report) (subst (λ (r : Result Verdict AllocError). IfOk r (λ v. IsVerdict query root answer proof v)) said given)
+  headline {E} report result said given = told (Yes report) (subst (λ (r : Result Verdict E). IfOk r (λ v. IsVerdict query root answer proof v)) said given)
 
   -- the nodes of the right proof leave no clash to speak of
   no_clash : IsProved p query answer proof → Clashes query answer proof p is → ⊥
@@ -275,7 +274,7 @@ module _ (query root answer proof : List ℕ) (p : Publication) (is : IsPublicat
   no_walks = record { ranges = 0; fetched = 0; work = 0 }
 
   -- the right answer with its proof
-  pub honest : (result : Result Verdict AllocError) → IsProved p query answer proof → IfOk result (λ v. IsVerdict query root answer proof v) → IfOk result IsYes
+  pub honest : {E : Type 0} (result : Result Verdict E) → IsProved p query answer proof → IfOk result (λ v. IsVerdict query root answer proof v) → IfOk result IsYes
   honest (Ok v) h given = elim (tells_or_clashes query answer proof p is v (subst (λ (r : List ℕ). IsVerdict query r answer proof v) root_is given)) [
     | inl tells ↦ one_verdict query answer proof p is (Yes no_walks) v h tells
     | inr clashes ↦ absurd (no_clash h clashes)

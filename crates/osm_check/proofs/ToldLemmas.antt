@@ -1,6 +1,5 @@
 -- What is told says of a publication, and that nothing else is told.
 use Rattle.std.proofs.Common.{◌≡◌, ◌⊎◌, inl, inr, ℕ, List, [], Some, Result, Ok, Err, IfOk, ap, subst}
-use Rattle.std.specs.declared.alloc.AllocError.{AllocError}
 use Rattle.std.specs.declared.alloc.Global.{Global}
 use Rattle.std.specs.declared.vec.Vec.{Vec}
 use Rattle.tree_node.specs.Outcomes.{Clash}
@@ -22,7 +21,7 @@ use Rattle.osm_check.specs.declared.why.Why.TheVariants.{NodeMissing, NodeMalfor
 use Rattle.osm_check.specs.internal.Judging.{why_of}
 use Rattle.osm_check.specs.internal.Shown.{IsToldFrom}
 use Rattle.osm_check.proofs.Judgements.{owed}
-use Rattle.osm_check.proofs.NeededNodes.{needed_is_node}
+use Rattle.osm_prove.proofs.shared.NeededNodes.{needed_in}
 use Rattle.osm_check.proofs.shared.HonestLemmas.{in_opl}
 use Rattle.osm_check.proofs.OneVerdict as verdict
 use Rattle.osm_check.proofs.OneVerdict.{one_verdict}
@@ -43,7 +42,7 @@ why_of_no_answer faults.Memory why is = absurd (cc)
 why_of_no_answer faults.Work why is = absurd (cc)
 
 -- what is told from the nodes of a proof that was read
-pub told_owed : (query root proof : List ℕ) (form : Form) (statements : Statements) (nodes : List (List ℕ)) (result : Result Told AllocError) → IsWhole query proof statements nodes
+pub told_owed : {E : Type 0} (query root proof : List ℕ) (form : Form) (statements : Statements) (nodes : List (List ℕ)) (result : Result Told E) → IsWhole query proof statements nodes
     → IfOk result (IsToldFrom root statements form nodes) → IfOk result (IsTold query root form proof)
 told_owed query root proof form statements nodes (Ok (Answer text report)) whole told = record { statements = statements; nodes = nodes; whole = whole; reported = told.0; shows = told.1 }
 told_owed query root proof form statements nodes (Ok (No why)) whole told = (told.0, λ answer. owed query root answer proof statements nodes (verdicts.No why) whole (told.1 answer))
@@ -53,16 +52,16 @@ module _ (query root proof : List ℕ) (form : Form) (p : Publication) (is : IsP
   shown : (text : List ℕ) (report : Report) → IsShown query root form proof text report → IsProvedIn p query form text proof ⊎ Clash (IsNodeIn p) (StandsIn proof)
   shown text report h = elim (h.shows p is root_is) [
     | inl (just, means) ↦ inl (record { statements = h.statements; reads = h.whole.reads; means = means; proof_is = record { nodes = h.nodes; lists = h.whole.lists; rising = h.whole.rising; needed = just } })
-    | inr (a, b, needed, stands, differ, same) ↦ inr (a, b, needed_is_node p h.statements a needed, (h.nodes, h.whole.lists, stands), differ, same)
+    | inr (a, b, needed, stands, differ, same) ↦ inr (a, b, needed_in p h.statements a needed, (h.nodes, h.whole.lists, stands), differ, same)
   ]
 
   -- a text that is told
-  pub headline : (text : Vec ℕ Global) (report : Report) (result : Result Told AllocError) → result ≡ Ok (Answer text report) → IfOk result (IsTold query root form proof)
+  pub headline : {E : Type 0} (text : Vec ℕ Global) (report : Report) (result : Result Told E) → result ≡ Ok (Answer text report) → IfOk result (IsTold query root form proof)
       → IsProvedIn p query form text.items proof ⊎ Clash (IsNodeIn p) (StandsIn proof)
-  headline text report result said told = shown text.items report (subst (λ (r : Result Told AllocError). IfOk r (IsTold query root form proof)) said told)
+  headline {E} text report result said told = shown text.items report (subst (λ (r : Result Told E). IfOk r (IsTold query root form proof)) said told)
 
   -- the reason that is owed is told
-  pub only_told : (why : Why) (result : Result Told AllocError) → ((answer : List ℕ) → TellsOf p query answer proof (verdicts.No why)) → IfOk result (IsTold query root form proof)
+  pub only_told : {E : Type 0} (why : Why) (result : Result Told E) → ((answer : List ℕ) → TellsOf p query answer proof (verdicts.No why)) → IfOk result (IsTold query root form proof)
       → IfOk result (λ told. told ≡ No why) ⊎ Clash (IsNodeIn p) (StandsIn proof)
   only_told why (Ok (Answer text report)) tells h = elim (shown text.items report h) [
     | inl proved ↦ (let opl = in_opl query root proof form p is root_is text.items proved in absurd (one_verdict query opl.0 proof p is (verdicts.Yes report) (verdicts.No why) opl.1 (tells opl.0)))

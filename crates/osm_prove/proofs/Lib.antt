@@ -1,4 +1,5 @@
 pub mod shared
+mod BudgetLemmas
 mod FormLemmas
 mod NodeCounts
 mod NodeLengths

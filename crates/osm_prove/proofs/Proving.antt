@@ -7,30 +7,19 @@ use Rattle.tree_node.specs.Outcomes.{GrownByAll}
 use Rattle.tree_node.specs.Parts.{HaveNode, HaveRisingDigests}
 use Rattle.tree_node.specs.Shelves.{IsEmptySet, SameNodes}
 use Rattle.tree_node.specs.Stocks.{HasNode}
-use Rattle.tree_node.specs.Trees.{IsNodeOf}
 use Rattle.tree_node.specs.declared.part.Part.{Part}
 use Rattle.tree_node.specs.declared.stock.Stock.{Stock}
-use Rattle.tree_node.specs.declared.tree.Tree.{Tree}
-use Rattle.osm_keys.specs.Publications.{IsNodeIn, IsPublication, Publication, tree_in}
+use Rattle.osm_keys.specs.Publications.{IsNodeIn, IsPublication, Publication}
 use Rattle.ql_syntax.specs.Statements.{Statements}
 use Rattle.ql_eval.specs.Asks.{IsNeeded}
-use Rattle.ql_eval.specs.Questions.{Ask, Counted, Listed, NeedsAsk}
+use Rattle.ql_eval.specs.Work as work
 use Rattle.osm_prove.specs.Proofs.{AreRising, FitsProof, listing, nodes_of}
 use Rattle.osm_prove.specs.Proved.{IsProofOf}
 use Rattle.osm_prove.proofs.NodeCounts.{few_nodes}
 use Rattle.osm_prove.proofs.NodeLengths.{short_nodes}
 use Rattle.osm_prove.proofs.shared.ListingLaws.{IsShort}
+use Rattle.osm_prove.proofs.shared.NeededNodes.{askable_in, needed_in}
 use Rattle.osm_prove.proofs.shared.PartNodes.{among_parts, node_among, nodes_rise}
-
--- a node that an ask needs is one of a tree
-ask_in : (p : Publication) (ask : Ask) (x : List ℕ) → NeedsAsk p ask x → (tree : Tree) × IsNodeOf (tree_in p tree) x
-ask_in p (Listed tree range) x needs = (tree, (needs.0, needs.1, needs.2))
-ask_in p (Counted tree range) x needs = (tree, (needs.0, needs.1, needs.2))
-
--- a node that a query needs is one of the publication
-pub needed_in : (p : Publication) (statements : Statements) (x : List ℕ) → IsNeeded p statements x → IsNodeIn p x
-needed_in p statements x (inl e) = inl e
-needed_in p statements x (inr needed) = inr (ask_in p needed.ask x needed.needs)
 
 -- these nodes are just those that the query needs, by rising digest
 pub record AreNeeded (p : Publication) (statements : Statements) (nodes : List (List ℕ)) : Type 0 where
@@ -68,6 +57,11 @@ pub all_held : (p : Publication) (statements : Statements) (stock : Stock) (old 
     → ((x : List ℕ) → HasNode stock x ↔ IsNodeIn p x) → (x : List ℕ) → IsNeeded p statements x → new x
 all_held p statements stock old new holds stays nodes x needed =
     (stays x).1 ((holds x).1 ((nodes x).1 (needed_in p statements x needed)))
+
+-- and so it holds whatever may be asked for
+pub askable_held : (p : Publication) (stock : Stock) (old new : List ℕ → Type 0) → SameNodes (HasNode stock) old → SameNodes old new
+    → ((x : List ℕ) → HasNode stock x ↔ IsNodeIn p x) → (x : List ℕ) → work.IsNodeOf p x → new x
+askable_held p stock old new holds stays nodes x askable = (stays x).1 ((holds x).1 ((nodes x).1 (askable_in p x askable)))
 
 -- what fits a proof isn't known of one publication alone
 pub fits_from : (nodes : List (List ℕ)) → ∥ FitsProof nodes ∥₁ → FitsProof nodes

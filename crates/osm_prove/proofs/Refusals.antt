@@ -1,12 +1,12 @@
 -- What a query that isn't read makes of an answer.
-use Rattle.std.proofs.Common.{◌≡◌, ◌⊎◌, inl, inr, Err, List, ℕ, Result, refl, ap, subst, sym, ◌∙◌}
+use Rattle.std.proofs.Common.{◌≡◌, ◌≢◌, ◌⊎◌, inl, inr, Err, List, ℕ, Result, refl, ap, subst, sym, ◌∙◌}
 use Rattle.ql_syntax.specs.Queries.{HasFault, memory_fault}
 use Rattle.ql_syntax.specs.declared.cause.QlCause.{QlCause}
 use Rattle.ql_syntax.specs.declared.cause.QlCause.TheVariants as causes
 use Rattle.ql_syntax.specs.declared.fault.QlFault.{QlFault}
 use Rattle.osm_prove.specs.Refusals.{refusal_of, refusal_of_cause}
 use Rattle.osm_prove.specs.declared.prove_fault.ProveFault.{ProveFault}
-use Rattle.osm_prove.specs.declared.prove_fault.ProveFault.TheVariants.{Memory, Query}
+use Rattle.osm_prove.specs.declared.prove_fault.ProveFault.TheVariants.{Memory, Query, Work}
 
 by_cause : (fault : QlFault) (cause : QlCause) → (refusal_of_cause fault cause ≡ Query fault) ⊎ (refusal_of_cause fault cause ≡ Memory)
 by_cause fault causes.Memory = inr refl
@@ -25,6 +25,14 @@ fault_told told fault (inr same) = subst (λ (f : QlFault). (refusal_of told ≡
 pub told_fault : (query : List ℕ) (told fault : QlFault) → (told ≡ memory_fault) ⊎ HasFault query told → refusal_of told ≡ Query fault → HasFault query fault
 told_fault query told fault (inl memory) is = let bad : Memory ≡ Query fault = ap refusal_of (sym memory) ∙ is in absurd (cc)
 told_fault query told fault (inr has) is = subst (λ (f : QlFault). HasFault query f) (of_cause told fault told.cause is) has
+
+-- no budget has a part in it
+never_work : (fault : QlFault) (cause : QlCause) → refusal_of_cause fault cause ≢ Work
+never_work fault causes.Memory is = cc
+never_work fault _ is = cc
+
+pub unlimited : (told : QlFault) → refusal_of told ≢ Work
+unlimited told = never_work told told.cause
 
 -- a refusal that is passed on is of the same query
 pub passed_on : {A B : Type 0} (result : Result B ProveFault) (told of : ProveFault) (fault : QlFault) → result ≡ Err told → told ≡ of

@@ -1,5 +1,6 @@
 -- Lemmas that crates above cite too.
 pub mod ListingLaws
+pub mod NeededNodes
 pub mod NodeOrder
 pub mod PartNodes
 pub mod ProofLaws

@@ -1,6 +1,6 @@
 //! Queries as they are read.
 
-ghost use Rattle.std.specs.Prelude.{◌≡◌, ◌⊎◌, Err, IfErr, IfOk};
+ghost use Rattle.std.specs.Prelude.{◌≡◌, ◌≢◌, ◌⊎◌, Err, IfErr, IfOk};
 ghost use Rattle.ql_syntax.specs.Queries.{HasFault, Reads};
 ghost use Rattle.ql_syntax.specs.StatementViews.{statements_of};
 ghost use Rattle.ql_syntax.specs.Statements.{Statements};
@@ -20,6 +20,7 @@ pub(crate) fn read_query(alloc: Global, query: &[u8]) -> Result<Query<'_>, Prove
         → HasFault query.now fault }
     ensures only { (statements : Statements) → Reads query.now statements
         → IfErr result (λ fault. fault ≡ ProveFault.Memory) }
+    ensures unlimited { IfErr result (λ fault. fault ≢ ProveFault.Work) }
 {
     Ok(parse(alloc, query)?)
 }

@@ -1,7 +1,6 @@
 -- From the one proof of a query its meaning is told, and nothing else.
 use Rattle.std.proofs.Common.{◌≡◌, ◌⊎◌, inl, inr, ℕ, List, Result, Ok, Err, IfOk, subst}
 use Rattle.std.specs.List.{Contains}
-use Rattle.std.specs.declared.alloc.AllocError.{AllocError}
 use Rattle.tree_node.specs.Outcomes.{Clash}
 use Rattle.osm_forms.specs.Forms.{form_text}
 use Rattle.osm_forms.specs.declared.form.Form.{Form}
@@ -52,7 +51,7 @@ module _ (query root proof : List ℕ) (form : Form) (p : Publication) (is : IsP
       let opl = in_opl text right in verdict.honest query root opl.0 proof p is root_is (Ok (verdicts.No why)) opl.1 (h.1 opl.0)
 
   -- from the right proof the meaning is told
-  pub honest : (text : List ℕ) (result : Result Told AllocError) → IsProvedIn p query form text proof → IfOk result (IsTold query root form proof) → IfOk result (TellsText text)
+  pub honest : {E : Type 0} (text : List ℕ) (result : Result Told E) → IsProvedIn p query form text proof → IfOk result (IsTold query root form proof) → IfOk result (TellsText text)
   honest text (Ok (Answer told report)) right h = shown_is text told.items report right h
   honest text (Ok (No why)) right h = not_refused text why right h
   honest text (Err e) right h = tt
