@@ -61,11 +61,11 @@ ATTACKS = {
     "recursions": repeated(b'node["a"]->.a;', b"(.a;._;)->.a;.a<<;"),
     "answers": repeated(b"node;", b"out;"),
     "whole answers": repeated(b"", b"node;out;"),
-    "ids": repeated(b"node(" + b",".join(b"%d" % number for number in range(1, NODES // 2)) + b");", b'node["a"];out;'),
+    "ids": repeated(b"node(id:" + b",".join(b"%d" % number for number in range(1, NODES // 2)) + b");", b'node["a"];out;'),
 }
 
 # Queries that the budget has room for.
-WITHIN = [b"", SMALL, b"node(1);way(bn);out;", b"way(3);>;out ids;", b'node["a"];out ids 5;', b"node(1,2,20000,20001);out meta;"]
+WITHIN = [b"", SMALL, b"node(1);way(bn);out;", b"way(3);>;out ids;", b'node["a"];out ids 5;', b"node(id:1,2,20000,20001);out meta;"]
 
 
 def set_text():
