@@ -39,7 +39,7 @@ def explains_each_code(tally):
 
 def explains_other_words(tally):
     """Lines that stand in place of a code, letters of the other case, and what is no code."""
-    for words in ["bad root", "bad form", "bad edition", "no memory", "too large", "device"]:
+    for words in ["bad root", "bad form", "bad edition", "no memory", "too large", "no work", "device"]:
         outcome = run([PROGRAM, "explain", words])
         tally.check(f"explain {words}", outcome.status == 0 and outcome.stdout.startswith(f"{words}: ".encode()), outcome)
     tally.check("explain o9", run([PROGRAM, "explain", "o9"]) == run([PROGRAM, "explain", "O9"]))

@@ -272,6 +272,24 @@ def check_queries(tally, page):
     check_found(tally, "worked queries", met, 18)
 
 
+def check_works(tally, page):
+    """The works of the worked queries: by them and no less the checker says yes."""
+    table = page.table_with("Query", "Steps", "Work")
+    for query, steps, size, work in table[1:]:
+        query, work = query.strip("`"), int(work)
+        tally.check(f"work of {query}", work == 100 * int(steps) + int(size), steps, size, work)
+        with tempfile.TemporaryDirectory() as room:
+            files = [Path(room) / name for name in ("set", "query", "answer", "proof")]
+            files[0].write_text("".join(f"{it}\n" for it in FOUR), encoding="utf-8")
+            files[1].write_text(query, encoding="utf-8")
+            root = run([PROGRAM, "prove", *files]).stdout.strip()
+            size_is = files[2].stat().st_size == int(size)
+            for budget, want in [(work, Outcome(b"yes\n", b"", 0)), (work - 1, Outcome(b"", b"no work\n", 3))]:
+                outcome = run([PROGRAM, "check", "--max-work", str(budget), root, *files[1:]])
+                tally.check(f"{query} within {budget}", outcome == want and size_is, outcome)
+    check_found(tally, "works", len(table) - 1, 6)
+
+
 # ---- The command line and HTTP
 
 
@@ -543,6 +561,7 @@ def main():
     check_escapes(tally, page)
     check_boxes(tally, page)
     check_queries(tally, page)
+    check_works(tally, page)
     check_statuses(tally, page)
     check_http(tally, page)
     boxes = check_ranges_of_boxes(tally, page)

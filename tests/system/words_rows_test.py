@@ -53,6 +53,20 @@ OF_CLAP = [
         "error: the argument '--max-size <BYTES>' cannot be used multiple times\n",
     ),
     ("prove a b c d --max-size 1", "error: unexpected argument '--max-size' found\n"),
+    ("prove a b c d --max-work 1", "error: unexpected argument '--max-work' found\n"),
+    (
+        "check a b c d --max-work 18446744073709551616",
+        "error: invalid value '18446744073709551616' for '--max-work <N>': number too large to fit in target type\n",
+    ),
+    (
+        "serve a 80 --max-work=-1",
+        "error: invalid value '-1' for '--max-work <N>': invalid digit found in string\n",
+    ),
+    ("fetch a b c --max-work", "error: a value is required for '--max-work <N>' but none was supplied\n"),
+    (
+        "relay a b 80 --max-work 1 --max-work 2",
+        "error: the argument '--max-work <N>' cannot be used multiple times\n",
+    ),
     ("ask a --form", "error: a value is required for '--form <FORM>' but none was supplied\n"),
     (
         "ask a --form opl --form json",
@@ -175,6 +189,7 @@ OF_CLAP = [
         "\n"
         "Options:\n"
         "      --connections <N>    Number of connections to serve; 4294967295 if it isn't given\n"
+        "      --max-work <N>       Most work for a query: 1 for a byte of the answer, 100 for a step; no limit if it isn't given\n"
         "      --changes <DIR>      Folder of change files: DIR/<sequence + 1>.opl is applied as soon as it is there\n"
         "      --strict-changes     Refuse change files that don't tell which root they give\n"
         "      --edition <EDITION>  Edition of the root: 1, or 2 with a sequence number; 2 if it isn't given\n"
@@ -195,6 +210,7 @@ OF_CLAP = [
         "\n"
         "Options:\n"
         "      --max-size <BYTES>  Most bytes of the answer, and of the proof; no limit if it isn't given\n"
+        "      --max-work <N>      Most work for a query: 1 for a byte of the answer, 100 for a step; no limit if it isn't given\n"
         "  -h, --help              Print help\n",
     ),
     (
@@ -222,6 +238,7 @@ OF_CLAP = [
         "Options:\n"
         "      --form <FORM>       Form of the answer: opl, json or xml; opl if it isn't given\n"
         "      --max-size <BYTES>  Most bytes of the answer, and of the proof; no limit if it isn't given\n"
+        "      --max-work <N>      Most work for a query: 1 for a byte of the answer, 100 for a step; no limit if it isn't given\n"
         "  -h, --help              Print help\n",
     ),
     (
@@ -239,6 +256,7 @@ OF_CLAP = [
         "      --fallback <HOST:PORT>  Another mirror, asked where those before it fail; may be given several times\n"
         "      --root-file <FILE>      File with the root that is in force; ROOT if it isn't given\n"
         "      --connections <N>       Number of connections to serve; 4294967295 if it isn't given\n"
+        "      --max-work <N>          Most work for a query: 1 for a byte of the answer, 100 for a step; no limit if it isn't given\n"
         "  -h, --help                  Print help\n",
     ),
 ]

@@ -1,3 +1,4 @@
+pub mod BudgetsRead
 pub mod Commands
 pub mod FlagsRead
 pub mod NumbersRead

@@ -40,33 +40,37 @@ Gives (Prove file query answer proof edition) name rows = (name ≡ prove_name)
     × (string_bytes answer ≡ text_of (codes "ANSWERFILE") rows)
     × (string_bytes proof ≡ text_of (codes "PROOFFILE") rows)
     × AsksForEdition (first_of (codes "edition") rows) (one_of (codes "sequence") rows) edition
-Gives (Check root query answer proof max_size) name rows = (name ≡ check_name)
+Gives (Check root query answer proof max_size max_work) name rows = (name ≡ check_name)
     × (decode_of (text_of (codes "ROOT") rows) ≡ Ok root.0)
     × (string_bytes query ≡ text_of (codes "QUERYFILE") rows)
     × (string_bytes answer ≡ text_of (codes "ANSWERFILE") rows)
     × (string_bytes proof ≡ text_of (codes "PROOFFILE") rows)
     × IsNumberOrNone 64 (one_of (codes "max-size") rows) max_size
-Gives (Fetch root mirror query form max_size) name rows = (name ≡ fetch_name)
+    × IsNumberOrNone 64 (one_of (codes "max-work") rows) max_work
+Gives (Fetch root mirror query form max_size max_work) name rows = (name ≡ fetch_name)
     × (decode_of (text_of (codes "ROOT") rows) ≡ Ok root.0)
     × (string_bytes mirror ≡ text_of (codes "HOST:PORT") rows)
     × (string_bytes query ≡ text_of (codes "QUERY") rows)
     × AsksForForm (first_of (codes "form") rows) form
     × IsNumberOrNone 64 (one_of (codes "max-size") rows) max_size
-Gives (Serve file port connections edition changes strict_changes) name rows = (name ≡ serve_name)
+    × IsNumberOrNone 64 (one_of (codes "max-work") rows) max_work
+Gives (Serve file port connections max_work edition changes strict_changes) name rows = (name ≡ serve_name)
     × (string_bytes file ≡ text_of (codes "FILE") rows)
     × IsNumber 16 0 (one_of (codes "PORT") rows) port
     × IsNumber 32 4294967295 (one_of (codes "connections") rows) connections
+    × IsNumberOrNone 64 (one_of (codes "max-work") rows) max_work
     × AsksForEdition (first_of (codes "edition") rows) (one_of (codes "sequence") rows) edition
     × (option_map string_bytes changes ≡ first_of (codes "changes") rows)
     × MayTake changes edition
     × IsFlag (one_of (codes "strict-changes") rows) strict_changes
-Gives (Relay root mirror fallbacks port root_file connections) name rows = (name ≡ relay_name)
+Gives (Relay root mirror fallbacks port root_file connections max_work) name rows = (name ≡ relay_name)
     × (decode_of (text_of (codes "ROOT") rows) ≡ Ok root.0)
     × (string_bytes mirror ≡ text_of (codes "HOST:PORT") rows)
     × (map string_bytes fallbacks.items ≡ texts_of (codes "fallback") rows)
     × IsNumber 16 0 (one_of (codes "LISTENPORT") rows) port
     × (option_map string_bytes root_file ≡ first_of (codes "root-file") rows)
     × IsNumber 32 4294967295 (one_of (codes "connections") rows) connections
+    × IsNumberOrNone 64 (one_of (codes "max-work") rows) max_work
 Gives (Explain code) name rows = (name ≡ explain_name) × (string_bytes code ≡ text_of (codes "CODE") rows)
 
 -- the job is that of the command that was matched

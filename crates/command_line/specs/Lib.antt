@@ -11,6 +11,7 @@ pub mod FormOption
 pub mod Jobs
 pub mod ListenOptions
 pub mod MaxSizeOption
+pub mod MaxWorkOption
 pub mod Numbers
 pub mod ProveCommand
 pub mod PublishCommand

@@ -1,4 +1,4 @@
--- The command `relay ROOT HOST:PORT LISTENPORT [--fallback HOST:PORT].. [--root-file FILE] [--connections N]`.
+-- The command `relay ROOT HOST:PORT LISTENPORT [--fallback HOST:PORT].. [--root-file FILE] [--connections N] [--max-work N]`.
 -- Source: this project.
 use Rattle.std.specs.Prelude.{Some, codes}
 use Rattle.clap.specs.Words.{App, Rule, Text, new_app, with_rule}
@@ -6,6 +6,7 @@ use Rattle.clap.specs.declared.builder.action.ArgAction.TheVariants.{Append}
 use Rattle.command_line.specs.Arguments.{wanted}
 use Rattle.command_line.specs.EditionOptions.{option_rule}
 use Rattle.command_line.specs.ListenOptions.{connections_rule, port_rule}
+use Rattle.command_line.specs.MaxWorkOption.{max_work_rule}
 
 abbrev pub relay_name : Text
 relay_name = codes "relay"
@@ -19,4 +20,4 @@ abbrev pub root_file_rule : Rule
 root_file_rule = option_rule (codes "root-file")
 
 abbrev pub relay_app : App
-relay_app = with_rule (with_rule (with_rule (with_rule (with_rule (with_rule (new_app relay_name) (wanted (codes "ROOT"))) (wanted (codes "HOST:PORT"))) (port_rule (codes "LISTENPORT"))) fallback_rule) root_file_rule) connections_rule
+relay_app = with_rule (with_rule (with_rule (with_rule (with_rule (with_rule (with_rule (new_app relay_name) (wanted (codes "ROOT"))) (wanted (codes "HOST:PORT"))) (port_rule (codes "LISTENPORT"))) fallback_rule) root_file_rule) connections_rule) max_work_rule

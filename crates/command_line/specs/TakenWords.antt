@@ -1,11 +1,12 @@
 -- Words that the command line takes.
 -- Source: this project; what `clap` takes, and what it matches, is its own.
-use Rattle.std.specs.Prelude.{◌≡◌, [], ◌∷◌, List, Option, Some, None, codes, true}
-use Rattle.clap.specs.Words.{Row, Text, subcommand_of, takes}
+use Rattle.std.specs.Prelude.{◌≡◌, ℕ, [], ◌∷◌, List, Option, Some, None, codes, false, true}
+use Rattle.clap.specs.Words.{Row, Text, one_of, subcommand_of, takes}
 use Rattle.command_line.specs.AskCommand.{ask_name}
 use Rattle.command_line.specs.CheckCommand.{check_name}
 use Rattle.command_line.specs.CommandLine.{program_app}
 use Rattle.command_line.specs.FetchCommand.{fetch_name}
+use Rattle.command_line.specs.Numbers.{IsNumberOrNone}
 use Rattle.command_line.specs.RelayCommand.{relay_name}
 use Rattle.command_line.specs.ServeCommand.{serve_name}
 
@@ -48,3 +49,21 @@ fetch_words program root mirror query = program ∷ fetch_name ∷ codes "--form
 abbrev pub relay_words : (program root mirror : Text) → List Text
 relay_words program root mirror = program ∷ relay_name ∷ codes "--fallback" ∷ codes "b:1" ∷ codes "--root-file" ∷ codes "root"
     ∷ codes "--connections" ∷ codes "9" ∷ codes "--fallback" ∷ codes "c:2" ∷ texts_follow ∷ root ∷ mirror ∷ codes "65535" ∷ []
+
+-- ---- budgets
+
+-- the same of a command with a budget for the work of a query
+abbrev pub budget_words : (program command budget : Text) → (texts : List Text) → List Text
+budget_words program command budget texts = program ∷ command ∷ codes "--max-work" ∷ budget ∷ texts_follow ∷ texts
+
+-- the budget that is read of the matches is this number
+abbrev pub HasBudget : ℕ → List Row → Type 0
+HasBudget number rows = (most : Option ℕ) → IsNumberOrNone 64 (one_of (codes "max-work") rows) most → most ≡ Some number
+
+-- the command takes the text as a budget, before such texts, and it is this number
+abbrev pub TakesBudget : (command : Text) → (texts : List Text) → (budget : Text) → ℕ → Type 0
+TakesBudget command texts budget number = (program : Text) → AreTaken (budget_words program command budget texts) command (HasBudget number)
+
+-- `clap` doesn't take it as a budget
+abbrev pub RefusesBudget : (command : Text) → (texts : List Text) → (budget : Text) → Type 0
+RefusesBudget command texts budget = (program : Text) → takes program_app (budget_words program command budget texts) ≡ false

@@ -1,4 +1,4 @@
-//! The command `check ROOT QUERYFILE ANSWERFILE PROOFFILE [--max-size BYTES]`.
+//! The command `check ROOT QUERYFILE ANSWERFILE PROOFFILE [--max-size BYTES] [--max-work N]`.
 
 ghost use Rattle.std.specs.Prelude.{◌≡◌, ◌⊎◌, IfErr, IfOk, codes};
 ghost use Rattle.clap.specs.Words.{found_of, rows_of};
@@ -11,6 +11,7 @@ ghost use Rattle.command_line.specs.RootArgument.{IsRootText};
 use crate::arguments::{Argument, QUERY_FILE, and_all_wanted, and_option, text_of};
 use crate::job::Job;
 use crate::max_size_option::{max_size_of, max_size_option};
+use crate::max_work_option::{max_work_of, max_work_option};
 use crate::root_argument::{ROOT, root_of};
 use crate::words_fault::WordsFault;
 use clap::{ArgMatches, Command};
@@ -39,7 +40,8 @@ pub(crate) fn check_command<'a>(alloc: Global) -> Result<Command<'a>, AllocError
     let arguments = [ROOT, QUERY_FILE, ANSWER_FILE, PROOF_FILE];
     let command = Command::new(alloc, CHECK).about(ABOUT);
     let command = and_all_wanted(alloc, command, &arguments)?;
-    and_option(command, max_size_option(alloc))
+    let command = and_option(command, max_size_option(alloc))?;
+    and_option(command, max_work_option(alloc))
 }
 
 /// What the matches of this command ask for. `BadRoot` where ROOT isn't 64 hexadecimal digits.
@@ -59,5 +61,6 @@ pub(crate) fn check_job(alloc: Global, matches: &ArgMatches<'_>) -> Result<Job, 
         answer_file,
         proof_file,
         max_size: max_size_of(matches),
+        max_work: max_work_of(matches),
     })
 }

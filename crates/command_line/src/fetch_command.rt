@@ -1,4 +1,4 @@
-//! The command `fetch ROOT HOST:PORT QUERY [--form opl|json|xml] [--max-size BYTES]`.
+//! The command `fetch ROOT HOST:PORT QUERY [--form opl|json|xml] [--max-size BYTES] [--max-work N]`.
 
 ghost use Rattle.std.specs.Prelude.{◌≡◌, ◌⊎◌, IfErr, IfOk, codes};
 ghost use Rattle.clap.specs.Words.{first_of, found_of, rows_of};
@@ -13,6 +13,7 @@ use crate::arguments::{MIRROR, QUERY, and_all_wanted, and_option, text_of};
 use crate::form_option::{form_of, form_option};
 use crate::job::Job;
 use crate::max_size_option::{max_size_of, max_size_option};
+use crate::max_work_option::{max_work_of, max_work_option};
 use crate::root_argument::{ROOT, root_of};
 use crate::words_fault::WordsFault;
 use clap::{ArgMatches, Command};
@@ -31,7 +32,8 @@ pub(crate) fn fetch_command<'a>(alloc: Global) -> Result<Command<'a>, AllocError
     let command = Command::new(alloc, FETCH).about(ABOUT);
     let command = and_all_wanted(alloc, command, &[ROOT, MIRROR, QUERY])?;
     let command = and_option(command, form_option(alloc))?;
-    and_option(command, max_size_option(alloc))
+    let command = and_option(command, max_size_option(alloc))?;
+    and_option(command, max_work_option(alloc))
 }
 
 /// What the matches of this command ask for. `BadRoot` where ROOT isn't 64 hexadecimal digits; where it is, `BadForm`
@@ -55,5 +57,6 @@ pub(crate) fn fetch_job(alloc: Global, matches: &ArgMatches<'_>) -> Result<Job, 
         query,
         form,
         max_size: max_size_of(matches),
+        max_work: max_work_of(matches),
     })
 }

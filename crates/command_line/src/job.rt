@@ -46,7 +46,7 @@ pub enum Job {
         /// The edition of the root.
         edition: Edition,
     },
-    /// `check ROOT QUERYFILE ANSWERFILE PROOFFILE [--max-size BYTES]`: tell whether an answer is right.
+    /// `check ROOT QUERYFILE ANSWERFILE PROOFFILE [--max-size BYTES] [--max-work N]`: tell whether an answer is right.
     Check {
         /// The root, which the word ROOT tells in 64 hexadecimal digits of either case.
         root: Digest,
@@ -58,9 +58,11 @@ pub enum Job {
         proof_file: String,
         /// The most bytes that the answer may have, and the proof, if there is a limit.
         max_size: Option<u64>,
+        /// The most work that the query may take, if there is a limit.
+        max_work: Option<u64>,
     },
-    /// `fetch ROOT HOST:PORT QUERY [--form opl|json|xml] [--max-size BYTES]`: ask a mirror, check the proof on this
-    /// machine and print the answer.
+    /// `fetch ROOT HOST:PORT QUERY [--form opl|json|xml] [--max-size BYTES] [--max-work N]`: ask a mirror, check the proof
+    /// on this machine and print the answer.
     Fetch {
         /// The root, which the word ROOT tells in 64 hexadecimal digits of either case.
         root: Digest,
@@ -72,9 +74,11 @@ pub enum Job {
         form: Form,
         /// The most bytes that the answer may have, and the proof, if there is a limit.
         max_size: Option<u64>,
+        /// The most work that the query may take, if there is a limit.
+        max_work: Option<u64>,
     },
-    /// `serve FILE PORT [--connections N] [--changes DIR] [--strict-changes] [--edition 1|2] [--sequence N]`: answer
-    /// queries over HTTP.
+    /// `serve FILE PORT [--connections N] [--max-work N] [--changes DIR] [--strict-changes] [--edition 1|2]
+    /// [--sequence N]`: answer queries over HTTP.
     Serve {
         /// The OPL file with the set's objects.
         file: String,
@@ -82,6 +86,8 @@ pub enum Job {
         port: u16,
         /// The number of connections to serve.
         connections: u32,
+        /// The most work that a query may take, if there is a limit.
+        max_work: Option<u64>,
         /// The edition of the root; the second where there is a folder of changes.
         edition: Edition,
         /// The folder in which change files are looked for, if any.
@@ -90,8 +96,8 @@ pub enum Job {
         /// folder of changes.
         strict_changes: bool,
     },
-    /// `relay ROOT HOST:PORT LISTENPORT [--fallback HOST:PORT].. [--root-file FILE] [--connections N]`: serve programs of
-    /// this machine as an Overpass server does, with answers that a mirror has proved and no others.
+    /// `relay ROOT HOST:PORT LISTENPORT [--fallback HOST:PORT].. [--root-file FILE] [--connections N] [--max-work N]`:
+    /// serve programs of this machine as an Overpass server does, with answers that a mirror has proved and no others.
     Relay {
         /// The root, which the word ROOT tells in 64 hexadecimal digits of either case.
         root: Digest,
@@ -105,6 +111,8 @@ pub enum Job {
         root_file: Option<String>,
         /// The number of connections to serve.
         connections: u32,
+        /// The most work that a query may take, if there is a limit.
+        max_work: Option<u64>,
     },
     /// `explain CODE`: say what a code means.
     Explain {

@@ -12,7 +12,7 @@ ghost use Rattle.command_line.specs.ProveCommand.{prove_name};
 ghost use Rattle.command_line.specs.PublishCommand.{publish_name};
 ghost use Rattle.command_line.specs.RelayCommand.{relay_name};
 ghost use Rattle.command_line.specs.ServeCommand.{serve_name};
-ghost use Rattle.command_line.specs.TakenWords.{AreTaken, ask_words, check_words, command_words, fetch_words, relay_words, serve_words};
+ghost use Rattle.command_line.specs.TakenWords.{AreTaken, RefusesBudget, TakesBudget, ask_words, check_words, command_words, fetch_words, relay_words, serve_words};
 
 /// A law: each command takes words. After the word `--` it takes any texts, and they are the texts that its matches
 /// have, in order. So what [`crate::read_words`] promises of words that are taken is no empty promise.
@@ -81,4 +81,24 @@ pub fn each_command_takes_words()
         × (all_of (codes "fallback") rows ≡ Some (codes "b:1" ∷ codes "c:2" ∷ []))
         × (first_of (codes "root-file") rows ≡ Some (codes "root"))
         × (one_of (codes "connections") rows ≡ Some (codes "9"))) }
+{}
+
+/// A law: `serve`, `check`, `fetch` and `relay` take each number below 2^64 as a budget, 0 too, and it is the number that
+/// the text writes; a greater one they don't take.
+pub fn budgets_are_numbers()
+    ensures serve { (file : Text) → TakesBudget serve_name (file ∷ codes "80" ∷ []) (codes "0") 0
+        × TakesBudget serve_name (file ∷ codes "80" ∷ []) (codes "18446744073709551615") 18446744073709551615
+        × RefusesBudget serve_name (file ∷ codes "80" ∷ []) (codes "18446744073709551616") }
+    ensures check { (root query answer proof : Text)
+        → TakesBudget check_name (root ∷ query ∷ answer ∷ proof ∷ []) (codes "0") 0
+        × TakesBudget check_name (root ∷ query ∷ answer ∷ proof ∷ []) (codes "18446744073709551615") 18446744073709551615
+        × RefusesBudget check_name (root ∷ query ∷ answer ∷ proof ∷ []) (codes "18446744073709551616") }
+    ensures fetch { (root mirror query : Text)
+        → TakesBudget fetch_name (root ∷ mirror ∷ query ∷ []) (codes "0") 0
+        × TakesBudget fetch_name (root ∷ mirror ∷ query ∷ []) (codes "18446744073709551615") 18446744073709551615
+        × RefusesBudget fetch_name (root ∷ mirror ∷ query ∷ []) (codes "18446744073709551616") }
+    ensures relay { (root mirror : Text)
+        → TakesBudget relay_name (root ∷ mirror ∷ codes "80" ∷ []) (codes "0") 0
+        × TakesBudget relay_name (root ∷ mirror ∷ codes "80" ∷ []) (codes "18446744073709551615") 18446744073709551615
+        × RefusesBudget relay_name (root ∷ mirror ∷ codes "80" ∷ []) (codes "18446744073709551616") }
 {}

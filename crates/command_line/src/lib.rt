@@ -17,6 +17,7 @@ mod job;
 mod laws;
 mod listen_options;
 mod max_size_option;
+mod max_work_option;
 mod program_command;
 mod prove_command;
 mod publish_command;
@@ -27,7 +28,7 @@ mod words;
 mod words_fault;
 
 pub use job::Job;
-pub use laws::each_command_takes_words;
+pub use laws::{budgets_are_numbers, each_command_takes_words};
 pub use osm_forms::Form;
 pub use osm_keys::Edition;
 pub use words::read_words;

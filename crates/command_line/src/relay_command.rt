@@ -1,4 +1,5 @@
-//! The command `relay ROOT HOST:PORT LISTENPORT [--fallback HOST:PORT].. [--root-file FILE] [--connections N]`.
+//! The command `relay ROOT HOST:PORT LISTENPORT [--fallback HOST:PORT].. [--root-file FILE] [--connections N]
+//! [--max-work N]`.
 
 ghost use Rattle.std.specs.Prelude.{◌≡◌, ◌⊎◌, IfErr, IfOk, codes, false};
 ghost use Rattle.clap.specs.Words.{found_of, rows_of, rule_of};
@@ -9,12 +10,13 @@ ghost use Rattle.command_line.specs.RelayCommand.{fallback_rule, relay_app, rela
 ghost use Rattle.command_line.specs.RootArgument.{IsRootText};
 
 use crate::arguments::{
-    Argument, MIRROR, all_texts_of, and_option, and_wanted, optional_text_of, text_of,
+    Argument, MIRROR, all_texts_of, and_all_wanted, and_option, optional_text_of, text_of,
 };
 use crate::job::Job;
 use crate::listen_options::{
     PORT_HELP, connections_of, connections_option, port_argument, port_of,
 };
+use crate::max_work_option::{max_work_of, max_work_option};
 use crate::root_argument::{ROOT, root_of};
 use crate::words_fault::WordsFault;
 use clap::{Arg, ArgAction, ArgMatches, Command};
@@ -45,12 +47,13 @@ const ROOT_FILE_HELP: &str = "File with the root that is in force; ROOT if it is
 pub(crate) fn relay_command<'a>(alloc: Global) -> Result<Command<'a>, AllocError>
     ensures { IfOk result (IsCommand relay_app) }
 {
-    let command = and_wanted(alloc, Command::new(alloc, RELAY).about(ABOUT), ROOT)?;
-    let command = and_wanted(alloc, command, MIRROR)?;
+    let command = Command::new(alloc, RELAY).about(ABOUT);
+    let command = and_all_wanted(alloc, command, &[ROOT, MIRROR])?;
     let command = and_option(command, port_argument(alloc, LISTEN_PORT))?;
     let command = and_option(command, fallback_option(alloc))?;
     let command = and_option(command, root_file_option(alloc))?;
-    and_option(command, connections_option(alloc))
+    let command = and_option(command, connections_option(alloc))?;
+    and_option(command, max_work_option(alloc))
 }
 
 fn fallback_option<'a>(alloc: Global) -> Arg<'a>
@@ -92,5 +95,6 @@ pub(crate) fn relay_job(alloc: Global, matches: &ArgMatches<'_>) -> Result<Job, 
         port: port_of(matches, LISTEN_PORT),
         root_file,
         connections: connections_of(matches),
+        max_work: max_work_of(matches),
     })
 }

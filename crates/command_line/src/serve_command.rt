@@ -1,4 +1,5 @@
-//! The command `serve FILE PORT [--connections N] [--changes DIR] [--strict-changes] [--edition 1|2] [--sequence N]`.
+//! The command `serve FILE PORT [--connections N] [--max-work N] [--changes DIR] [--strict-changes] [--edition 1|2]
+//! [--sequence N]`.
 
 ghost use Rattle.std.specs.Prelude.{◌≡◌, ◌⊎◌, IfErr, IfOk, codes, false, is_some, option_map, true};
 ghost use Rattle.std.specs.String.{string_bytes};
@@ -14,6 +15,7 @@ use crate::job::Job;
 use crate::listen_options::{
     PORT_HELP, connections_of, connections_option, port_argument, port_of,
 };
+use crate::max_work_option::{max_work_of, max_work_option};
 use crate::words_fault::WordsFault;
 use clap::{Arg, ArgAction, ArgMatches, Command};
 use osm_keys::Edition;
@@ -46,6 +48,7 @@ pub(crate) fn serve_command<'a>(alloc: Global) -> Result<Command<'a>, AllocError
     let command = and_wanted(alloc, Command::new(alloc, SERVE).about(ABOUT), FILE)?;
     let command = and_option(command, port_argument(alloc, PORT))?;
     let command = and_option(command, connections_option(alloc))?;
+    let command = and_option(command, max_work_option(alloc))?;
     let command = and_option(command, changes_option(alloc))?;
     let command = and_option(command, strict_changes_option(alloc))?;
     and_edition_options(alloc, command)
@@ -86,6 +89,7 @@ pub(crate) fn serve_job(alloc: Global, matches: &ArgMatches<'_>) -> Result<Job, 
         file,
         port: port_of(matches, PORT),
         connections: connections_of(matches),
+        max_work: max_work_of(matches),
         edition,
         changes,
         strict_changes: strict_changes_of(matches),

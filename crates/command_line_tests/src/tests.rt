@@ -151,42 +151,54 @@ fn reads_changes(rt: HostRuntime) -> Result<(), Fail> {
     are_shown(&rt, rt.alloc(), &CHANGES)
 }
 
-const SERVE: [(&str, &str); 9] = [
+const SERVE: [(&str, &str); 12] = [
     (
         "m serve a.opl 80",
-        "Serve { file: \"a.opl\", port: 80, connections: 4294967295, edition: Two { sequence: 0 }, changes: None, strict_changes: false }",
+        "Serve { file: \"a.opl\", port: 80, connections: 4294967295, max_work: None, edition: Two { sequence: 0 }, changes: None, strict_changes: false }",
     ),
     (
         "m serve a.opl 65535 --connections 1 --edition 2 --sequence 7",
-        "Serve { file: \"a.opl\", port: 65535, connections: 1, edition: Two { sequence: 7 }, changes: None, strict_changes: false }",
+        "Serve { file: \"a.opl\", port: 65535, connections: 1, max_work: None, edition: Two { sequence: 7 }, changes: None, strict_changes: false }",
     ),
     (
         "m serve a.opl 0 --edition=1 --connections=4294967295",
-        "Serve { file: \"a.opl\", port: 0, connections: 4294967295, edition: One, changes: None, strict_changes: false }",
+        "Serve { file: \"a.opl\", port: 0, connections: 4294967295, max_work: None, edition: One, changes: None, strict_changes: false }",
     ),
     (
         "m serve a.opl +8080 --connections 0",
-        "Serve { file: \"a.opl\", port: 8080, connections: 0, edition: Two { sequence: 0 }, changes: None, strict_changes: false }",
+        "Serve { file: \"a.opl\", port: 8080, connections: 0, max_work: None, edition: Two { sequence: 0 }, changes: None, strict_changes: false }",
     ),
     (
         "m serve a.opl 80 --changes new --sequence 7",
-        "Serve { file: \"a.opl\", port: 80, connections: 4294967295, edition: Two { sequence: 7 }, changes: Some(\"new\"), strict_changes: false }",
+        "Serve { file: \"a.opl\", port: 80, connections: 4294967295, max_work: None, edition: Two { sequence: 7 }, changes: Some(\"new\"), strict_changes: false }",
     ),
     (
         "m serve a.opl 80 --changes= --edition 2",
-        "Serve { file: \"a.opl\", port: 80, connections: 4294967295, edition: Two { sequence: 0 }, changes: Some(\"\"), strict_changes: false }",
+        "Serve { file: \"a.opl\", port: 80, connections: 4294967295, max_work: None, edition: Two { sequence: 0 }, changes: Some(\"\"), strict_changes: false }",
     ),
     (
         "m serve a.opl 80 --changes new --strict-changes",
-        "Serve { file: \"a.opl\", port: 80, connections: 4294967295, edition: Two { sequence: 0 }, changes: Some(\"new\"), strict_changes: true }",
+        "Serve { file: \"a.opl\", port: 80, connections: 4294967295, max_work: None, edition: Two { sequence: 0 }, changes: Some(\"new\"), strict_changes: true }",
     ),
     (
         "m serve --strict-changes a.opl 80",
-        "Serve { file: \"a.opl\", port: 80, connections: 4294967295, edition: Two { sequence: 0 }, changes: None, strict_changes: true }",
+        "Serve { file: \"a.opl\", port: 80, connections: 4294967295, max_work: None, edition: Two { sequence: 0 }, changes: None, strict_changes: true }",
+    ),
+    (
+        "m serve a.opl 80 --max-work 0",
+        "Serve { file: \"a.opl\", port: 80, connections: 4294967295, max_work: Some(0), edition: Two { sequence: 0 }, changes: None, strict_changes: false }",
+    ),
+    (
+        "m serve --max-work=18446744073709551615 a.opl 80 --connections 3",
+        "Serve { file: \"a.opl\", port: 80, connections: 3, max_work: Some(18446744073709551615), edition: Two { sequence: 0 }, changes: None, strict_changes: false }",
+    ),
+    (
+        "m serve a.opl 80 --sequence 7 --max-work +9",
+        "Serve { file: \"a.opl\", port: 80, connections: 4294967295, max_work: Some(9), edition: Two { sequence: 7 }, changes: None, strict_changes: false }",
     ),
     (
         "m serve a.opl 80 --edition 1 --strict-changes",
-        "Serve { file: \"a.opl\", port: 80, connections: 4294967295, edition: One, changes: None, strict_changes: true }",
+        "Serve { file: \"a.opl\", port: 80, connections: 4294967295, max_work: None, edition: One, changes: None, strict_changes: true }",
     ),
 ];
 
@@ -195,8 +207,8 @@ fn reads_serve(rt: HostRuntime) -> Result<(), Fail> {
     are_shown(&rt, rt.alloc(), &SERVE)
 }
 
-/// The job is to check the files `b`, `c` and `d`, by the digest of the empty message and within this limit.
-fn is_check(rt: &impl Abort, job: &Job, limit: Option<u64>) {
+/// The job is to check the files `b`, `c` and `d`, by the digest of the empty message, within this limit and this budget.
+fn is_check(rt: &impl Abort, job: &Job, limit: Option<u64>, most: Option<u64>) {
     match job {
         Job::Check {
             root,
@@ -204,10 +216,11 @@ fn is_check(rt: &impl Abort, job: &Job, limit: Option<u64>) {
             answer_file,
             proof_file,
             max_size,
+            max_work,
         } => {
             assert!(rt; *root == tree_node::digest_of(b""));
             assert!(rt; query_file.as_str() == "b" && answer_file.as_str() == "c");
-            assert!(rt; proof_file.as_str() == "d" && *max_size == limit);
+            assert!(rt; proof_file.as_str() == "d" && *max_size == limit && *max_work == most);
         }
         job => panic!(rt; "{job:?}"),
     }
@@ -221,15 +234,19 @@ fn read_check(alloc: Global, options: &str) -> Result<Result<Job, WordsFault>, A
 
 #[test]
 fn reads_check(rt: HostRuntime) -> Result<(), Fail> {
-    for (options, limit) in [
-        ("", None),
-        (" --max-size 0", Some(0)),
-        (" --max-size=65536", Some(65_536)),
-        (" --max-size +7", Some(7)),
-        (" --max-size 18446744073709551615", Some(u64::MAX)),
+    for (options, limit, most) in [
+        ("", None, None),
+        (" --max-size 0", Some(0), None),
+        (" --max-size=65536", Some(65_536), None),
+        (" --max-size +7", Some(7), None),
+        (" --max-size 18446744073709551615", Some(u64::MAX), None),
+        (" --max-work 0", None, Some(0)),
+        (" --max-work=65536 --max-size 1", Some(1), Some(65_536)),
+        (" --max-work +7", None, Some(7)),
+        (" --max-work 18446744073709551615", None, Some(u64::MAX)),
     ] {
         let job = read_check(rt.alloc(), options)??;
-        is_check(&rt, &job, limit);
+        is_check(&rt, &job, limit, most);
     }
     Ok(())
 }
@@ -259,8 +276,8 @@ fn reads_within_memory(rt: HostRuntime) -> Result<(), Fail> {
 /// The same of `check`, whose root is decoded.
 #[test]
 fn reads_check_within_memory(rt: HostRuntime) -> Result<(), AllocError> {
-    match read_check(rt.alloc(), " --max-size 9")? {
-        Ok(job) => is_check(&rt, &job, Some(9)),
+    match read_check(rt.alloc(), " --max-size 9 --max-work 8")? {
+        Ok(job) => is_check(&rt, &job, Some(9), Some(8)),
         Err(WordsFault::Memory) => {}
         Err(fault) => panic!(rt; "{fault}"),
     }
@@ -275,63 +292,87 @@ struct Row {
     fields: &'static str,
 }
 
-const FETCH: [Row; 4] = [
+const FETCH: [Row; 6] = [
     Row {
         before: "fetch",
         after: "h:1 q",
         name: "Fetch",
-        fields: "mirror: \"h:1\", query: \"q\", form: Opl, max_size: None",
+        fields: "mirror: \"h:1\", query: \"q\", form: Opl, max_size: None, max_work: None",
     },
     Row {
         before: "fetch --form json",
         after: "h:1 q --max-size 9",
         name: "Fetch",
-        fields: "mirror: \"h:1\", query: \"q\", form: Json, max_size: Some(9)",
+        fields: "mirror: \"h:1\", query: \"q\", form: Json, max_size: Some(9), max_work: None",
     },
     Row {
         before: "fetch --max-size=18446744073709551615",
         after: "h q --form=xml",
         name: "Fetch",
-        fields: "mirror: \"h\", query: \"q\", form: Xml, max_size: Some(18446744073709551615)",
+        fields: "mirror: \"h\", query: \"q\", form: Xml, max_size: Some(18446744073709551615), max_work: None",
+    },
+    Row {
+        before: "fetch --max-work 18446744073709551615",
+        after: "h:1 q --max-size 9",
+        name: "Fetch",
+        fields: "mirror: \"h:1\", query: \"q\", form: Opl, max_size: Some(9), max_work: Some(18446744073709551615)",
+    },
+    Row {
+        before: "fetch",
+        after: "h:1 q --max-work=0",
+        name: "Fetch",
+        fields: "mirror: \"h:1\", query: \"q\", form: Opl, max_size: None, max_work: Some(0)",
     },
     Row {
         before: "fetch --",
         after: "q --form",
         name: "Fetch",
-        fields: "mirror: \"q\", query: \"--form\", form: Opl, max_size: None",
+        fields: "mirror: \"q\", query: \"--form\", form: Opl, max_size: None, max_work: None",
     },
 ];
 
-const RELAY: [Row; 5] = [
+const RELAY: [Row; 7] = [
     Row {
         before: "relay",
         after: "h:1 80",
         name: "Relay",
-        fields: "mirror: \"h:1\", fallbacks: [], port: 80, root_file: None, connections: 4294967295",
+        fields: "mirror: \"h:1\", fallbacks: [], port: 80, root_file: None, connections: 4294967295, max_work: None",
     },
     Row {
         before: "relay --fallback b:1",
         after: "h:1 0 --fallback c:2 --root-file r --connections 9",
         name: "Relay",
-        fields: "mirror: \"h:1\", fallbacks: [\"b:1\", \"c:2\"], port: 0, root_file: Some(\"r\"), connections: 9",
+        fields: "mirror: \"h:1\", fallbacks: [\"b:1\", \"c:2\"], port: 0, root_file: Some(\"r\"), connections: 9, max_work: None",
     },
     Row {
         before: "relay --fallback=c:2 --fallback=b:1 --fallback=c:2",
         after: "h:1 65535",
         name: "Relay",
-        fields: "mirror: \"h:1\", fallbacks: [\"c:2\", \"b:1\", \"c:2\"], port: 65535, root_file: None, connections: 4294967295",
+        fields: "mirror: \"h:1\", fallbacks: [\"c:2\", \"b:1\", \"c:2\"], port: 65535, root_file: None, connections: 4294967295, max_work: None",
     },
     Row {
         before: "relay",
         after: "h:1 +8080 --connections 0 --root-file=",
         name: "Relay",
-        fields: "mirror: \"h:1\", fallbacks: [], port: 8080, root_file: Some(\"\"), connections: 0",
+        fields: "mirror: \"h:1\", fallbacks: [], port: 8080, root_file: Some(\"\"), connections: 0, max_work: None",
+    },
+    Row {
+        before: "relay --max-work 18446744073709551615",
+        after: "h:1 80 --connections 9",
+        name: "Relay",
+        fields: "mirror: \"h:1\", fallbacks: [], port: 80, root_file: None, connections: 9, max_work: Some(18446744073709551615)",
+    },
+    Row {
+        before: "relay",
+        after: "h:1 80 --max-work=0",
+        name: "Relay",
+        fields: "mirror: \"h:1\", fallbacks: [], port: 80, root_file: None, connections: 4294967295, max_work: Some(0)",
     },
     Row {
         before: "relay --connections=1 --",
         after: "-h 2",
         name: "Relay",
-        fields: "mirror: \"-h\", fallbacks: [], port: 2, root_file: None, connections: 1",
+        fields: "mirror: \"-h\", fallbacks: [], port: 2, root_file: None, connections: 1, max_work: None",
     },
 ];
 
@@ -421,7 +462,7 @@ fn refuses_forms_of_fetch(rt: HostRuntime) -> Result<(), Fail> {
 }
 
 /// Words that `clap` refuses, and how its text begins.
-const OF_CLAP: [(&str, &str); 16] = [
+const OF_CLAP: [(&str, &str); 22] = [
     ("m fetch a b", "error: the following required arguments"),
     ("m fetch a b c d", "error: unexpected argument 'd' found"),
     (
@@ -431,6 +472,30 @@ const OF_CLAP: [(&str, &str); 16] = [
     (
         "m fetch a b c --max-size x",
         "error: invalid value 'x' for '--max-size <BYTES>'",
+    ),
+    (
+        "m check a b c d --max-work 18446744073709551616",
+        "error: invalid value '18446744073709551616' for '--max-work <N>'",
+    ),
+    (
+        "m fetch a b c --max-work 18446744073709551616",
+        "error: invalid value '18446744073709551616' for '--max-work <N>'",
+    ),
+    (
+        "m serve a 80 --max-work=-1",
+        "error: invalid value '-1' for '--max-work <N>'",
+    ),
+    (
+        "m serve a 80 --max-work=1e9",
+        "error: invalid value '1e9' for '--max-work <N>'",
+    ),
+    (
+        "m relay a b 80 --max-work 1 --max-work 2",
+        "error: the argument '--max-work <N>' cannot be used multiple times",
+    ),
+    (
+        "m prove a b c d --max-work 1",
+        "error: unexpected argument '--max-work' found",
     ),
     (
         "m ask a --form",

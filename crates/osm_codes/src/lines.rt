@@ -3,7 +3,7 @@
 use crate::explanation::Explanation;
 
 /// Lines that are no codes.
-pub(crate) const LINES: [Explanation; 6] = [
+pub(crate) const LINES: [Explanation; 7] = [
     Explanation {
         code: "bad root",
         meaning: "ROOT isn't 64 hexadecimal digits",
@@ -33,6 +33,12 @@ pub(crate) const LINES: [Explanation; 6] = [
         meaning: "the answer or the proof to check has more bytes than --max-size allows",
         place: "standard error, status 3",
         advice: "Nothing was checked. If an answer may be that large, give a greater --max-size.",
+    },
+    Explanation {
+        code: "no work",
+        meaning: "the query takes more work than --max-work allows",
+        place: "standard error, status 3",
+        advice: "Nothing was decided. If a query may take that much, give a greater --max-work.",
     },
     Explanation {
         code: "device",

@@ -1,5 +1,5 @@
 -- Faults of `ask` from the faults of the calls that it makes, and its answer from what they make.
-use Rattle.std.proofs.Common.{◌≡◌, ℕ, List, Option, None, Some, Result, Ok, Err, IfSome, IfErr, IsErrAnd, refl, sym, subst, ap, ◌∙◌}
+use Rattle.std.proofs.Common.{◌≡◌, ◌≢◌, ◌⊎◌, ℕ, List, Option, None, Some, Result, Ok, Err, IfSome, IfErr, IsErrAnd, inl, inr, refl, sym, subst, ap, ◌∙◌}
 use Rattle.osm_model.specs.Elements.{Element}
 use Rattle.opl_codec.specs.Files.{HoldsSet}
 use Rattle.osm_keys.specs.Publications.{Publication}
@@ -9,6 +9,7 @@ use Rattle.osm_index.specs.declared.snapshot.Snapshot.{Snapshot}
 use Rattle.ql_syntax.specs.Queries.{HasFault, Reads}
 use Rattle.ql_syntax.specs.Statements.{Statements}
 use Rattle.ql_syntax.specs.declared.fault.QlFault.{QlFault}
+use Rattle.ql_syntax.proofs.shared.QueryLaws.{one_of_both}
 use Rattle.osm_forms.specs.Documents.{document_in}
 use Rattle.osm_forms.specs.Forms.{form_text}
 use Rattle.osm_forms.specs.declared.form.Form.{Form}
@@ -22,12 +23,13 @@ use Rattle.osm_check.specs.declared.told.Told.{Told}
 use Rattle.osm_check.specs.declared.told.Told.TheVariants.{Answer}
 use Rattle.osm_prove.specs.Proved.{IsProved}
 use Rattle.osm_prove.specs.declared.prove_fault.ProveFault.{ProveFault}
+use Rattle.osm_prove.specs.declared.proved.Proved.{Proved}
 use Rattle.osm_prove.specs.declared.prove_fault.ProveFault.TheVariants as refusals
 use Rattle.osm_commands.specs.Ask.{Explains, HoldsTrees, IsAnswer}
 use Rattle.osm_commands.specs.Faults.{fault_of_prove}
 use Rattle.osm_commands.specs.TreeRoots.{ExplainsTrees, IsOutsideOrTrees, IsPublicationIn}
 use Rattle.osm_commands.specs.declared.command_fault.CommandFault.{CommandFault}
-use Rattle.osm_commands.specs.declared.command_fault.CommandFault.TheVariants.{Opl, Query, Endless, TooLarge, Clash, TooMany, Apply, Memory, Device}
+use Rattle.osm_commands.specs.declared.command_fault.CommandFault.TheVariants.{Opl, Query, Endless, TooLarge, Work, Clash, TooMany, Apply, Memory, Device}
 
 -- ---- no trees
 
@@ -38,6 +40,7 @@ explains file left edition query (Opl load) why = why
 explains file left edition query (Query refused) why = absurd why
 explains file left edition query Endless why = absurd why
 explains file left edition query TooLarge why = absurd why
+explains file left edition query Work why = absurd why
 explains file left edition query Clash why = why
 explains file left edition query TooMany why = why
 explains file left edition query (Apply refused) why = why
@@ -65,6 +68,10 @@ outside_unmade form (Some file) edition query fault (Err other) told only = λ t
 
 -- ---- trees, and no answer
 
+-- the call of the prover ends with this refusal
+abbrev IsOf : ProveFault → ProveFault → Type 0
+IsOf refusal other = let ended : Result Proved ProveFault = Err refusal in ended ≡ Err other
+
 -- the file's trees are there
 pub trees_held : (known : Option (List ℕ)) (edition : Edition) (snapshot : Snapshot) (p : Publication)
     → HoldsPublication snapshot p → IfSome known (λ file. IsPublicationIn file edition p) → IfSome known (λ file. HoldsTrees file edition)
@@ -72,20 +79,32 @@ trees_held None edition snapshot p held is = tt
 trees_held (Some file) edition snapshot p held is = record { p = p; published = is; no_clash = held.no_clash }
 
 refusal_explained : (file : List ℕ) (left : Option (List ℕ)) (edition : Edition) (query : List ℕ) (refusal : ProveFault) → HoldsTrees file edition
-    → ((fault : QlFault) → refusal ≡ refusals.Query fault → HasFault query fault) → Explains file left edition query (fault_of_prove refusal)
-refusal_explained file left edition query (refusals.Query fault) holds why = (holds, why fault refl)
-refusal_explained file left edition query refusals.Memory holds why = tt
+    → ((fault : QlFault) → refusal ≡ refusals.Query fault → HasFault query fault) → refusal ≢ refusals.Work → Explains file left edition query (fault_of_prove refusal)
+refusal_explained file left edition query (refusals.Query fault) holds why free = (holds, why fault refl)
+refusal_explained file left edition query refusals.Memory holds why free = tt
+refusal_explained file left edition query refusals.Work holds why free = absurd (free refl)
+
+-- what is refused without a budget isn't refused for one: a query reads or has a fault
+pub no_work : (query : List ℕ) (refusal : ProveFault)
+    → ((statements : Statements) → Reads query statements → refusal ≡ refusals.Memory)
+    → ((fault : QlFault) → HasFault query fault → IsOf refusal (refusals.Query fault) ⊎ IsOf refusal refusals.Memory)
+    → refusal ≢ refusals.Work
+no_work query refusal only refused = λ is. elim (one_of_both query) [
+  | inl reads ↦ (let memory : refusal ≡ refusals.Memory = only reads.0 reads.1 in cc)
+  | inr has ↦ elim (refused has.0 has.1) [ inl fault ↦ cc | inr memory ↦ cc ]
+]
 
 -- the query is refused for its fault
 pub explained_unproved : (known left : Option (List ℕ)) (edition : Edition) (query : List ℕ) (refusal : ProveFault) (result : Result (Unit {0}) CommandFault)
     → IsErrAnd result (λ told. told ≡ fault_of_prove refusal)
     → IfSome known (λ file. HoldsTrees file edition)
     → ((fault : QlFault) → refusal ≡ refusals.Query fault → HasFault query fault)
+    → refusal ≢ refusals.Work
     → IfSome known (λ file. IfErr result (Explains file left edition query))
-explained_unproved None left edition query refusal result told holds why = tt
-explained_unproved (Some file) left edition query refusal (Ok done) told holds why = tt
-explained_unproved (Some file) left edition query refusal (Err other) told holds why =
-    subst (Explains file left edition query) (sym told) (refusal_explained file left edition query refusal holds why)
+explained_unproved None left edition query refusal result told holds why free = tt
+explained_unproved (Some file) left edition query refusal (Ok done) told holds why free = tt
+explained_unproved (Some file) left edition query refusal (Err other) told holds why free =
+    subst (Explains file left edition query) (sym told) (refusal_explained file left edition query refusal holds why free)
 
 -- where the query reads, the fault lies outside
 pub outside_unproved : (form : Form) (known : Option (List ℕ)) (edition : Edition) (query : List ℕ) (refusal : ProveFault) (result : Result (Unit {0}) CommandFault)

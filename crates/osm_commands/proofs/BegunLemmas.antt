@@ -1,6 +1,5 @@
 -- What `prove`, `ask` and `check` have written where they end.
 use Rattle.std.proofs.Common.{◌≡◌, ◌≢◌, ◌⊎◌, ℕ, List, Option, None, Some, Result, Ok, Err, IfErr, IfSome, OnOk, ap, inl, inr, subst, sym, take, ◌∙◌}
-use Rattle.std.specs.declared.alloc.AllocError.{AllocError}
 use Rattle.std.proofs.KnownBytes.{Keeps-refl}
 use Rattle.std.specs.Io.KnownBytes.{Appends, Keeps}
 use Rattle.tree_node.specs.Outcomes.{Clash}
@@ -10,6 +9,7 @@ use Rattle.osm_keys.specs.declared.edition.Edition.{Edition}
 use Rattle.osm_prove.specs.Proved.{IsProved}
 use Rattle.ql_eval.specs.declared.evaluation.Report.{Report}
 use Rattle.osm_check.specs.Verdicts.{IsVerdict, IsYes, StandsIn}
+use Rattle.osm_check.specs.declared.check_fault.CheckFault.{CheckFault}
 use Rattle.osm_check.specs.declared.verdict.Verdict.{Verdict}
 use Rattle.osm_check.specs.declared.verdict.Verdict.TheVariants.{Yes}
 use Rattle.osm_commands.specs.Ask.{IsAnswer, IsBegun}
@@ -168,7 +168,7 @@ honest_told first second third root query answer proof x y z verdict e f g q a n
 
 -- what a yes says of the bytes that were checked it says of those that the readers told
 pub headline_told : (first second third : Option (List ℕ)) (root query answer proof query_read answer_read proof_read : List ℕ) (verdict : Verdict)
-    (told : Result Verdict AllocError) (result : Result Verdict CommandFault) → told ≡ Ok verdict → result ≡ Ok verdict
+    (told : Result Verdict CheckFault) (result : Result Verdict CommandFault) → told ≡ Ok verdict → result ≡ Ok verdict
     → query ≡ query_read → answer ≡ answer_read → proof ≡ proof_read
     → IfSome first (ReadsAs query_read) → IfSome second (λ left. answer_read ≡ left) → IfSome third (λ left. proof_read ≡ left)
     → ((p : Publication) (report : Report) → IsPublication p → root ≡ root_of p → told ≡ Ok (Yes report) → IsProved p query answer proof ⊎ Clash (IsNodeIn p) (StandsIn proof))

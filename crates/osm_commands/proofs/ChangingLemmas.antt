@@ -24,7 +24,7 @@ use Rattle.osm_commands.specs.internal.Announcing.{ExplainsUnmade, IsOutsideUnma
 use Rattle.osm_commands.proofs.HeldLemmas.{held_again}
 use Rattle.osm_commands.proofs.RootLineLemmas.{root_announced}
 use Rattle.osm_commands.specs.declared.command_fault.CommandFault.{CommandFault}
-use Rattle.osm_commands.specs.declared.command_fault.CommandFault.TheVariants.{Opl, Query, Endless, TooLarge, Clash, TooMany, Apply, Memory, Device}
+use Rattle.osm_commands.specs.declared.command_fault.CommandFault.TheVariants.{Opl, Query, Endless, TooLarge, Work, Clash, TooMany, Apply, Memory, Device}
 
 -- ---- a change file that isn't read, and changes that make nothing
 
@@ -102,6 +102,7 @@ explains_untaken file left sequence text (Opl load) why = inl why
 explains_untaken file left sequence text (Query refused) why = why
 explains_untaken file left sequence text Endless why = absurd why
 explains_untaken file left sequence text TooLarge why = why
+explains_untaken file left sequence text Work why = why
 explains_untaken file left sequence text Clash why = why
 explains_untaken file left sequence text TooMany why = why
 explains_untaken file left sequence text (Apply refused) why = absurd why
@@ -128,6 +129,7 @@ outside_trees file set sequence all (Opl load) why = why
 outside_trees file set sequence all (Query refused) why = why
 outside_trees file set sequence all Endless why = tt
 outside_trees file set sequence all TooLarge why = why
+outside_trees file set sequence all Work why = why
 outside_trees file set sequence all Clash why = why
 outside_trees file set sequence all TooMany why = why
 outside_trees file set sequence all (Apply refused) why = absurd why
@@ -190,6 +192,7 @@ outside_made file set sequence all p (Opl load) is why = why
 outside_made file set sequence all p (Query refused) is why = why
 outside_made file set sequence all p Endless is why = tt
 outside_made file set sequence all p TooLarge is why = why
+outside_made file set sequence all p Work is why = why
 outside_made file set sequence all p Clash is why = absurd why
 outside_made file set sequence all p TooMany is why = absurd why
 outside_made file set sequence all p (Apply refused) is why = (p, is, why)
@@ -212,6 +215,7 @@ explains_made file left sequence text p (Opl load) is trees why = inr (trees, wh
 explains_made file left sequence text p (Query refused) is trees why = why
 explains_made file left sequence text p Endless is trees why = absurd why
 explains_made file left sequence text p TooLarge is trees why = why
+explains_made file left sequence text p Work is trees why = why
 explains_made file left sequence text p Clash is trees why = absurd why
 explains_made file left sequence text p TooMany is trees why = absurd why
 explains_made file left sequence text p (Apply refused) is trees (changes, holds, why) = (p, changes, is, holds, why)

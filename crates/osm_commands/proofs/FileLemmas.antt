@@ -7,7 +7,7 @@ use Rattle.osm_commands.specs.Ask.{Explains, HoldsTrees, IsAnswer}
 use Rattle.osm_commands.specs.Files.{ExplainsFiles, IfBoth, IsEndless, IsOutsideFiles, IsUnread}
 use Rattle.osm_commands.specs.TreeRoots.{IsOutsideOrTrees}
 use Rattle.osm_commands.specs.declared.command_fault.CommandFault.{CommandFault}
-use Rattle.osm_commands.specs.declared.command_fault.CommandFault.TheVariants.{Opl, Query, Endless, TooLarge, Clash, TooMany, Apply, Memory, Device}
+use Rattle.osm_commands.specs.declared.command_fault.CommandFault.TheVariants.{Opl, Query, Endless, TooLarge, Work, Clash, TooMany, Apply, Memory, Device}
 
 -- the bytes that were read are those that the reader told
 pub same_read : (second : Option (List ℕ)) (read bytes : List ℕ) → second ≡ Some bytes → IfSome second (λ left. read ≡ left) → read ≡ bytes
@@ -31,6 +31,7 @@ explains_files file left edition bytes (Opl load) why = why
 explains_files file left edition bytes (Query refused) why = why
 explains_files file left edition bytes Endless why = absurd why
 explains_files file left edition bytes TooLarge why = absurd why
+explains_files file left edition bytes Work why = absurd why
 explains_files file left edition bytes Clash why = why
 explains_files file left edition bytes TooMany why = why
 explains_files file left edition bytes (Apply refused) why = why

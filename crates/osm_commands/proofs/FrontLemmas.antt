@@ -9,7 +9,7 @@ use Rattle.osm_commands.specs.Files.{FitsWithin, IsUnread, IsUnreadOrTooLarge}
 use Rattle.osm_commands.specs.WholeFiles.{AreRead, BreaksOff, HasRead, HasReadUpTo, IsLimitedRead, IsPiece, IsQueryRead, IsReadSo, IsReadWithin, IsTooLarge, ReadsAs, TakesAtMost, TakesWithin, longest_query, most_reads}
 use Rattle.osm_commands.specs.internal.Fronts.{IsFrontRead, IsLimited}
 use Rattle.osm_commands.specs.declared.command_fault.CommandFault.{CommandFault}
-use Rattle.osm_commands.specs.declared.command_fault.CommandFault.TheVariants.{Opl, Query, Endless, TooLarge, Clash, TooMany, Apply, Memory, Device}
+use Rattle.osm_commands.specs.declared.command_fault.CommandFault.TheVariants.{Opl, Query, Endless, TooLarge, Work, Clash, TooMany, Apply, Memory, Device}
 use Rattle.osm_commands.proofs.WholeFileLemmas.{long}
 
 -- as if there were no limit
@@ -49,6 +49,7 @@ loosen most unread left (Opl load) why = absurd why
 loosen most unread left (Query refused) why = absurd why
 loosen most unread left Endless (pieces, are, (fits, number)) = (pieces, are, number)
 loosen most unread left TooLarge why = absurd why
+loosen most unread left Work why = absurd why
 loosen most unread left Clash why = absurd why
 loosen most unread left TooMany why = absurd why
 loosen most unread left (Apply refused) why = absurd why
@@ -60,6 +61,7 @@ broken_unread Has (Opl load) why = absurd why
 broken_unread Has (Query refused) why = absurd why
 broken_unread Has Endless why = inl refl
 broken_unread Has TooLarge why = absurd why
+broken_unread Has Work why = absurd why
 broken_unread Has Clash why = absurd why
 broken_unread Has TooMany why = absurd why
 broken_unread Has (Apply refused) why = absurd why
@@ -71,6 +73,7 @@ broken_takes most unread left (Opl load) why = absurd why
 broken_takes most unread left (Query refused) why = absurd why
 broken_takes most unread left Endless (pieces, are, (fits, number)) = (concat pieces, are.consumed, fits)
 broken_takes most unread left TooLarge why = absurd why
+broken_takes most unread left Work why = absurd why
 broken_takes most unread left Clash why = absurd why
 broken_takes most unread left TooMany why = absurd why
 broken_takes most unread left (Apply refused) why = absurd why
@@ -116,6 +119,7 @@ limited_fault limit unread left (Opl load) why = why
 limited_fault limit unread left (Query refused) why = why
 limited_fault limit unread left Endless why = why
 limited_fault limit unread left TooLarge why = absurd why
+limited_fault limit unread left Work why = why
 limited_fault limit unread left Clash why = why
 limited_fault limit unread left TooMany why = why
 limited_fault limit unread left (Apply refused) why = why
@@ -150,6 +154,7 @@ parted (Some limit) unread left (Err (Opl load)) why = absurd why
 parted (Some limit) unread left (Err (Query refused)) why = absurd why
 parted (Some limit) unread left (Err Endless) why = inl (loosen (limit + 1) unread left Endless why)
 parted (Some limit) unread left (Err TooLarge) why = inr (refl, why)
+parted (Some limit) unread left (Err Work) why = absurd why
 parted (Some limit) unread left (Err Clash) why = absurd why
 parted (Some limit) unread left (Err TooMany) why = absurd why
 parted (Some limit) unread left (Err (Apply refused)) why = absurd why
@@ -217,6 +222,7 @@ within_takes (Some limit) unread left (Err (Opl load)) why = absurd why
 within_takes (Some limit) unread left (Err (Query refused)) why = absurd why
 within_takes (Some limit) unread left (Err Endless) why = broken_takes (limit + 1) unread left Endless why
 within_takes (Some limit) unread left (Err TooLarge) (pieces, are, (few, number)) = (concat pieces, are.consumed, omega (arith, number))
+within_takes (Some limit) unread left (Err Work) why = absurd why
 within_takes (Some limit) unread left (Err Clash) why = absurd why
 within_takes (Some limit) unread left (Err TooMany) why = absurd why
 within_takes (Some limit) unread left (Err (Apply refused)) why = absurd why
@@ -247,6 +253,7 @@ query_broken unread left (Opl load) why = absurd why
 query_broken unread left (Query refused) why = absurd why
 query_broken unread left Endless (pieces, are, (fits, number)) = absurd (omega (arith, number, fits, long pieces are.sized))
 query_broken unread left TooLarge why = absurd why
+query_broken unread left Work why = absurd why
 query_broken unread left Clash why = absurd why
 query_broken unread left TooMany why = absurd why
 query_broken unread left (Apply refused) why = absurd why

@@ -1,5 +1,6 @@
 pub mod AskLemmas
 pub mod BegunLemmas
+pub mod BudgetLemmas
 pub mod ChangingLemmas
 pub mod DocumentLemmas
 pub mod FileLemmas

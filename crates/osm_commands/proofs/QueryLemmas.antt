@@ -1,7 +1,9 @@
 -- A query that is too long is refused whatever follows, so what is said of its front is said of its file.
 use Rattle.std.proofs.Common.{ℕ, List, inl, inr, sym, subst, arith}
 use Rattle.osm_keys.specs.Publications.{Publication}
+use Rattle.osm_prove.specs.Budgets.{IsWorkOf}
 use Rattle.osm_prove.specs.Proved.{IsProved}
+use Rattle.ql_meaning.specs.Meanings.{Telling}
 use Rattle.ql_syntax.specs.Queries.{HasFault, Long, NoQuery, NoText, Reads}
 use Rattle.ql_syntax.specs.Statements.{Statements}
 use Rattle.ql_syntax.specs.declared.fault.QlFault.{QlFault}
@@ -52,3 +54,18 @@ same_proved p query file answer proof (inr long) proved = absurd (unread_long fi
 pub proved_same : (p : Publication) (query file answer proof : List ℕ) → ReadsAs query file → IsProved p query answer proof → IsProved p file answer proof
 proved_same p query file answer proof (inl same) proved = subst (λ (q : List ℕ). IsProved p q answer proof) same proved
 proved_same p query file answer proof (inr long) proved = absurd (unread_long query proved.statements long.0 proved.reads)
+
+-- the file reads where what was read does
+pub readable_same : (query file : List ℕ) → ReadsAs query file → IsReadable query → IsReadable file
+readable_same query file (inl same) readable = subst IsReadable same readable
+readable_same query file (inr long) readable = absurd (unreadable_long query long.0 readable)
+
+-- the work of what was read is that of the file
+pub same_work : (tell : Telling) (p : Publication) (query file : List ℕ) (n : ℕ) → ReadsAs query file → IsWorkOf tell p query n → IsWorkOf tell p file n
+same_work tell p query file n (inl same) work = subst (λ (q : List ℕ). IsWorkOf tell p q n) same work
+same_work tell p query file n (inr long) work = absurd (unread_long query work.statements long.0 work.reads)
+
+-- and the other way round
+pub work_same : (tell : Telling) (p : Publication) (query file : List ℕ) (n : ℕ) → ReadsAs query file → IsWorkOf tell p file n → IsWorkOf tell p query n
+work_same tell p query file n (inl same) work = subst (λ (q : List ℕ). IsWorkOf tell p q n) (sym same) work
+work_same tell p query file n (inr long) work = absurd (unread_long file work.statements long.1 work.reads)

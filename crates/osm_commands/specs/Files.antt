@@ -15,7 +15,7 @@ use Rattle.byte_io.specs.Written.{AppendsFront}
 use Rattle.osm_commands.specs.WholeFiles.{IsTooLarge}
 use Rattle.osm_commands.specs.Written.{AppendInTurn, IsUntouched, Output}
 use Rattle.osm_commands.specs.declared.command_fault.CommandFault.{CommandFault}
-use Rattle.osm_commands.specs.declared.command_fault.CommandFault.TheVariants.{Endless, TooLarge, Memory, Device}
+use Rattle.osm_commands.specs.declared.command_fault.CommandFault.TheVariants.{Endless, TooLarge, Work, Memory, Device}
 
 -- what is said of two readers' bytes, where both tell them
 abbrev pub IfBoth : Option (List ℕ) → Option (List ℕ) → (List ℕ → List ℕ → Type 0) → Type 0
@@ -64,6 +64,10 @@ IsUnread fault = (fault ≡ Endless) ⊎ ((fault ≡ Memory) ⊎ (fault ≡ Devi
 -- a file wasn't read whole
 abbrev pub IsUnreadOrTooLarge : CommandFault → Type 0
 IsUnreadOrTooLarge fault = (fault ≡ TooLarge) ⊎ IsUnread fault
+
+-- or there is more to do for the query than the budget has
+abbrev pub IsUnchecked : CommandFault → Type 0
+IsUnchecked fault = (fault ≡ Work) ⊎ IsUnreadOrTooLarge fault
 
 -- a file that tells its bytes isn't too large
 abbrev pub FitsWithin : Option ℕ → Option (List ℕ) → Type 0

@@ -1,5 +1,6 @@
 pub mod AnnouncedChanges
 pub mod Ask
+pub mod Budgets
 pub mod Faults
 pub mod Files
 pub mod ListeningLines

@@ -12,7 +12,7 @@ use Rattle.osm_keys.specs.declared.edition.Edition.{Edition}
 use Rattle.osm_commands.specs.RootLines.{digest_line}
 use Rattle.byte_io.specs.Written.{AppendsFront}
 use Rattle.osm_commands.specs.declared.command_fault.CommandFault.{CommandFault}
-use Rattle.osm_commands.specs.declared.command_fault.CommandFault.TheVariants.{Opl, Query, Endless, TooLarge, Clash, TooMany, Apply, Memory, Device}
+use Rattle.osm_commands.specs.declared.command_fault.CommandFault.TheVariants.{Opl, Query, Endless, TooLarge, Work, Clash, TooMany, Apply, Memory, Device}
 
 -- a publication in this edition of a set that the file holds
 pub record IsPublicationIn (file : List ℕ) (edition : Edition) (p : Publication) : Type 0 where
@@ -42,6 +42,7 @@ IsOutsideOrTrees set edition (Opl load) = load.fault.cause ≡ causes.Endless
 IsOutsideOrTrees set edition (Query refused) = ⊥
 IsOutsideOrTrees set edition Endless = ⊥
 IsOutsideOrTrees set edition TooLarge = ⊥
+IsOutsideOrTrees set edition Work = ⊥
 IsOutsideOrTrees set edition Clash = HasClashingNodes set edition
 IsOutsideOrTrees set edition TooMany = HasTooMany set
 IsOutsideOrTrees set edition (Apply refused) = ⊥
@@ -55,6 +56,7 @@ ExplainsTrees file left edition (Opl load) = IsUnheld file left load
 ExplainsTrees file left edition (Query refused) = ⊥
 ExplainsTrees file left edition Endless = ⊥
 ExplainsTrees file left edition TooLarge = ⊥
+ExplainsTrees file left edition Work = ⊥
 ExplainsTrees file left edition Clash = (set : List Element) × HoldsSet file set × HasClashingNodes set edition
 ExplainsTrees file left edition TooMany = (set : List Element) × HoldsSet file set × HasTooMany set
 ExplainsTrees file left edition (Apply refused) = ⊥

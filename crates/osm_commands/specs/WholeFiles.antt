@@ -5,7 +5,7 @@ use Rattle.std.specs.Io.KnownBytes.{Consumes, IsAtEnd}
 use Rattle.std.specs.List.{All, concat}
 use Rattle.std.specs.Prelude.{◌≡◌, ◌<◌, ◌≤◌, ◌+◌, ◌⊎◌, ℕ, List, Option, Some, None, Result, Ok, Err, length, ⊤}
 use Rattle.osm_commands.specs.declared.command_fault.CommandFault.{CommandFault}
-use Rattle.osm_commands.specs.declared.command_fault.CommandFault.TheVariants.{Opl, Query, Endless, TooLarge, Clash, TooMany, Apply, Memory, Device}
+use Rattle.osm_commands.specs.declared.command_fault.CommandFault.TheVariants.{Opl, Query, Endless, TooLarge, Work, Clash, TooMany, Apply, Memory, Device}
 
 -- a read gives so many bytes at most, and a byte at least, but at the end
 abbrev pub longest_piece : ℕ
@@ -42,6 +42,7 @@ BreaksOff Has (Opl load) = ⊥
 BreaksOff Has (Query refused) = ⊥
 BreaksOff Has Endless = Has (λ pieces. length pieces ≡ most_reads)
 BreaksOff Has TooLarge = ⊥
+BreaksOff Has Work = ⊥
 BreaksOff Has Clash = ⊥
 BreaksOff Has TooMany = ⊥
 BreaksOff Has (Apply refused) = ⊥

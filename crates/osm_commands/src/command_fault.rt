@@ -1,11 +1,12 @@
 //! Why a command isn't carried out.
 
 ghost use Rattle.std.specs.Prelude.{◌≡◌};
-ghost use Rattle.osm_commands.specs.Faults.{fault_of_apply, fault_of_index, fault_of_load, fault_of_prove, status_of};
+ghost use Rattle.osm_commands.specs.Faults.{fault_of_apply, fault_of_check, fault_of_index, fault_of_load, fault_of_prove, status_of};
 ghost use Rattle.osm_commands.specs.declared.command_fault.CommandFault.TheVariants.{Memory};
 
 use crate::status::Status;
 use opl_codec::{LoadFault, OplCause};
+use osm_check::CheckFault;
 use osm_index::{ApplyFault, IndexFault};
 use osm_prove::ProveFault;
 use ql_syntax::QlFault;
@@ -27,6 +28,9 @@ pub enum CommandFault {
     /// The file of an answer or a proof has more bytes than the limit that was given.
     #[error("too large")]
     TooLarge,
+    /// More is to be done for the query than the budget has.
+    #[error("no work")]
+    Work,
     /// Two different nodes of the set's trees have one digest.
     #[error("I1")]
     Clash,
@@ -56,7 +60,10 @@ impl CommandFault {
             | CommandFault::Clash
             | CommandFault::TooMany
             | CommandFault::Apply(_) => Status::Refused,
-            CommandFault::TooLarge | CommandFault::Memory | CommandFault::Device => Status::Failed,
+            CommandFault::TooLarge
+            | CommandFault::Work
+            | CommandFault::Memory
+            | CommandFault::Device => Status::Failed,
         }
     }
 }
@@ -81,6 +88,18 @@ impl From<ProveFault> for CommandFault {
         match refused {
             ProveFault::Query(fault) => CommandFault::Query(fault),
             ProveFault::Memory => CommandFault::Memory,
+            ProveFault::Work => CommandFault::Work,
+        }
+    }
+}
+
+impl From<CheckFault> for CommandFault {
+    ghost from_gives = { λ refused fault. fault ≡ fault_of_check refused };
+
+    fn from(refused: CheckFault) -> CommandFault {
+        match refused {
+            CheckFault::Memory => CommandFault::Memory,
+            CheckFault::Work => CommandFault::Work,
         }
     }
 }

@@ -14,7 +14,7 @@ pub enum Status {
     No,
     /// The words, the input or the query are refused.
     Refused,
-    /// Out of memory, or a device failed, or a file is larger than it may be.
+    /// Out of memory, or a device failed, or a file is larger than it may be, or a query is more work.
     Failed,
 }
 

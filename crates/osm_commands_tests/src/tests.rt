@@ -62,6 +62,7 @@ fn faults_have_their_texts(rt: HostRuntime) -> Result<(), Fail> {
     for (fault, text, status) in [
         (CommandFault::Endless, "O15", Status::Refused),
         (CommandFault::TooLarge, "too large", Status::Failed),
+        (CommandFault::Work, "no work", Status::Failed),
         (CommandFault::Clash, "I1", Status::Refused),
         (CommandFault::TooMany, "I4", Status::Refused),
         (CommandFault::Memory, "no memory", Status::Failed),

@@ -108,11 +108,21 @@ fn run_job(rt: &HostRuntime, job: Job) -> Status {
             answer_file,
             proof_file,
             max_size,
-        } => check_files(rt, &root, &query_file, &answer_file, &proof_file, max_size),
+            max_work,
+        } => check_files(
+            rt,
+            &root,
+            &query_file,
+            &answer_file,
+            &proof_file,
+            max_size,
+            max_work,
+        ),
         Job::Serve {
             file,
             port,
             connections,
+            max_work,
             edition,
             changes,
             strict_changes,
@@ -123,6 +133,7 @@ fn run_job(rt: &HostRuntime, job: Job) -> Status {
                 &file,
                 port,
                 connections,
+                max_work,
                 edition,
                 folder,
                 strict_changes,
@@ -134,6 +145,8 @@ fn run_job(rt: &HostRuntime, job: Job) -> Status {
             query,
             form,
             max_size,
+            // For the lead: `fetch` is to be given this budget.
+            max_work: _max_work,
         } => fetch_answer(rt, &root, &mirror, &query, form, max_size),
         Job::Relay {
             root,
@@ -142,6 +155,8 @@ fn run_job(rt: &HostRuntime, job: Job) -> Status {
             port,
             root_file,
             connections,
+            // For the lead: `relay` is to be given this budget.
+            max_work: _max_work,
         } => relay_clients(
             rt,
             root,
@@ -281,7 +296,8 @@ fn prove_into(
     report(rt, outcome, subject)
 }
 
-/// Tells whether the answer of a file is right, where answer and proof have no more bytes than this, if there is a limit.
+/// Tells whether the answer of a file is right, where answer and proof have no more bytes than this, if there is a limit, and
+/// the query takes no more work than this, if there is one.
 fn check_files(
     rt: &HostRuntime,
     root: &Digest,
@@ -289,6 +305,7 @@ fn check_files(
     answer_file: &str,
     proof_file: &str,
     max_size: Option<u64>,
+    max_work: Option<u64>,
 ) -> Status {
     let mut query = quiet_file(rt, query_file);
     let mut answer = quiet_file(rt, answer_file);
@@ -300,6 +317,7 @@ fn check_files(
         &mut answer,
         &mut proof,
         max_size,
+        max_work,
         &mut rt.stdout(),
     );
     let troubles = &[
@@ -322,12 +340,13 @@ fn check_files(
 }
 
 /// Serves the set of this file on this port, with the changes of this folder if there is one, each of which has to say which
-/// root it gives where that is asked for.
+/// root it gives where that is asked for. A query that takes more work than this is refused, if there is a limit.
 fn serve_file(
     rt: &HostRuntime,
     file: &str,
     port: u16,
     connections: u32,
+    max_work: Option<u64>,
     edition: Edition,
     changes: Option<&str>,
     is_strict: bool,
@@ -339,7 +358,15 @@ fn serve_file(
     building.clear();
     let fault = match read {
         Ok(snapshot) => {
-            return serve_snapshot(rt, snapshot, port, connections, changes, is_strict);
+            return serve_snapshot(
+                rt,
+                snapshot,
+                port,
+                connections,
+                max_work,
+                changes,
+                is_strict,
+            );
         }
         Err(fault) => fault,
     };
@@ -361,6 +388,7 @@ fn serve_snapshot(
     snapshot: Snapshot,
     port: u16,
     connections: u32,
+    max_work: Option<u64>,
     changes: Option<&str>,
     is_strict: bool,
 ) -> Status {
@@ -372,7 +400,15 @@ fn serve_snapshot(
             } else {
                 ChangeLookout::new(rt.alloc(), folder)
             };
-            let outcome = serve_over(rt, snapshot, sockets, address, connections, lookout);
+            let outcome = serve_over(
+                rt,
+                snapshot,
+                sockets,
+                address,
+                connections,
+                max_work,
+                lookout,
+            );
             report_served(rt, outcome)
         }
         Err(error) => port_refused(rt, port, &error),
@@ -400,6 +436,7 @@ fn serve_over(
     mut sockets: Sockets<'_>,
     address: SocketAddr,
     connections: u32,
+    max_work: Option<u64>,
     mut lookout: ChangeLookout<ChangeFolder<'_>>,
 ) -> Result<(), CommandFault> {
     let alloc = rt.alloc();
@@ -414,6 +451,7 @@ fn serve_over(
         &mut lookout,
         &mut sockets,
         connections,
+        max_work,
         &mut errors,
     ) {
         Ok(()) => {

@@ -7,7 +7,7 @@ use Rattle.osm_keys.specs.Publications.{Publication}
 use Rattle.osm_desk.specs.Made.{IsMade}
 use Rattle.osm_commands.specs.AnnouncedChanges.{HoldsNoChanges}
 use Rattle.osm_commands.specs.declared.command_fault.CommandFault.{CommandFault}
-use Rattle.osm_commands.specs.declared.command_fault.CommandFault.TheVariants.{Opl, Query, Endless, TooLarge, Clash, TooMany, Apply, Memory, Device}
+use Rattle.osm_commands.specs.declared.command_fault.CommandFault.TheVariants.{Opl, Query, Endless, TooLarge, Work, Clash, TooMany, Apply, Memory, Device}
 
 -- why nothing is made of the text where this publication is that of the set
 abbrev pub ExplainsUnmade : (text : List ℕ) (p : Publication) → CommandFault → Type 0
@@ -15,6 +15,7 @@ ExplainsUnmade text p (Opl load) = HoldsNoChanges text load
 ExplainsUnmade text p (Query refused) = ⊥
 ExplainsUnmade text p Endless = ⊥
 ExplainsUnmade text p TooLarge = ⊥
+ExplainsUnmade text p Work = ⊥
 ExplainsUnmade text p Clash = ⊥
 ExplainsUnmade text p TooMany = ⊥
 ExplainsUnmade text p (Apply refused) = (changes : List Change) × HoldsChanges text changes × IsMade p changes (Err refused)
@@ -27,6 +28,7 @@ IsOutsideUnmade p changes (Opl load) = load.fault.cause ≡ causes.Endless
 IsOutsideUnmade p changes (Query refused) = ⊥
 IsOutsideUnmade p changes Endless = ⊥
 IsOutsideUnmade p changes TooLarge = ⊥
+IsOutsideUnmade p changes Work = ⊥
 IsOutsideUnmade p changes Clash = ⊥
 IsOutsideUnmade p changes TooMany = ⊥
 IsOutsideUnmade p changes (Apply refused) = IsMade p changes (Err refused)

@@ -14,6 +14,9 @@ const SEVENTH: Edition = Edition::Two { sequence: 7 };
 /// The root of the objects of all kinds in the second edition, with sequence number 7, and LF.
 const ROOT: &str = "271e49a5432b1f23937721950d20e4003dfb01c994b9332797dac312f4e5a077\n";
 
+/// The work of the first query, by hand: 33 bytes and seven steps.
+const WORK: u64 = 733;
+
 /// Whether the root is told.
 fn is_published(rt: &impl Abort, alloc: Global) -> bool {
     let mut output = Vec::new(alloc);
@@ -104,6 +107,7 @@ fn is_judged(
         &mut answer,
         &mut proof,
         Some(447),
+        Some(WORK),
         &mut output,
     ) {
         Ok(verdict) => {
@@ -129,6 +133,54 @@ fn checks_within_memory(rt: HostRuntime) -> Result<(), Fail> {
         assert!(rt;
             is_judged(&rt, alloc, &root, answer, &made.proof, told)
                 || is_judged(&rt, alloc, &root, answer, &made.proof, told)
+        );
+    }
+    Ok(())
+}
+
+/// Whether there is no verdict on an answer and its proof with a budget of one less; else it is out of memory. Nothing is
+/// written.
+fn is_too_much(
+    rt: &impl Abort,
+    alloc: Global,
+    root: &Digest,
+    mut answer: &[u8],
+    mut proof: &[u8],
+) -> bool {
+    let mut output = Vec::new(alloc);
+    let query = &mut FIRST.as_bytes();
+    let most = Some(WORK - 1);
+    let outcome = check(
+        alloc,
+        root,
+        query,
+        &mut answer,
+        &mut proof,
+        None,
+        most,
+        &mut output,
+    );
+    assert!(rt; output.is_empty());
+    match outcome {
+        Err(CommandFault::Work) => true,
+        outcome => {
+            assert!(rt; matches!(outcome, Err(CommandFault::Memory)));
+            false
+        }
+    }
+}
+
+#[test]
+fn refuses_work_within_memory(rt: HostRuntime) -> Result<(), Fail> {
+    let alloc = rt.alloc();
+    let root = root_of(alloc, ROOT)?;
+    let mut made = nothing(alloc);
+    write_proof(alloc, &mut made)?;
+    for answer in [FIRST_ANSWER, "n1 T x13.4 y52.5\n"] {
+        let answer = answer.as_bytes();
+        assert!(rt;
+            is_too_much(&rt, alloc, &root, answer, &made.proof)
+                || is_too_much(&rt, alloc, &root, answer, &made.proof)
         );
     }
     Ok(())

@@ -14,4 +14,5 @@ pub returns : goal.returns
 returns c =
     let begun : app_of c.about-command.result ≡ new_app check_name = search rules in
     let told = c.in_ok-command.ensures.0 ∙ ap with_arguments begun in
-    IfOk-weaker c.and_option.result _ _ (λ r h. (h.0 ∙ ap₂ with_rule told c.max_size_option.ensures.rule, h.1)) c.and_option.ensures
+    let sized = c.in_ok-command-2.ensures.0 ∙ ap₂ with_rule told c.max_size_option.ensures.rule in
+    IfOk-weaker c.and_option-2.result _ _ (λ r h. (h.0 ∙ ap₂ with_rule sized c.max_work_option.ensures.rule, h.1)) c.and_option-2.ensures

@@ -15,4 +15,5 @@ returns c =
     let begun : app_of c.about-command.result ≡ new_app fetch_name = search rules in
     let told = c.in_ok-command.ensures.0 ∙ ap with_arguments begun in
     let formed = c.in_ok-command-2.ensures.0 ∙ ap₂ with_rule told c.form_option.ensures.rule in
-    IfOk-weaker c.and_option-2.result _ _ (λ r h. (h.0 ∙ ap₂ with_rule formed c.max_size_option.ensures.rule, h.1)) c.and_option-2.ensures
+    let sized = c.in_ok-command-3.ensures.0 ∙ ap₂ with_rule formed c.max_size_option.ensures.rule in
+    IfOk-weaker c.and_option-3.result _ _ (λ r h. (h.0 ∙ ap₂ with_rule sized c.max_work_option.ensures.rule, h.1)) c.and_option-3.ensures

@@ -1,7 +1,7 @@
 use Rattle.std.proofs.Common.{List, ℕ, Err, ap, sym, subst}
 use Rattle.osm_prove.specs.Proved.{IsProved}
 use Rattle.osm_commands.specs.Ask.{ask_edition}
-use Rattle.osm_commands.proofs.AskLemmas.{explained_unmade, explained_unproved, explained_unwritten, outside_unmade, outside_unproved, outside_unwritten, in_form, told_is, trees_held}
+use Rattle.osm_commands.proofs.AskLemmas.{explained_unmade, explained_unproved, explained_unwritten, outside_unmade, outside_unproved, outside_unwritten, in_form, no_work, told_is, trees_held}
 use Rattle.osm_commands.proofs.BegunLemmas.{begun_answer, whole_answer}
 use Rattle.osm_commands.proofs.ask_command.ask.Goals as goal
 
@@ -23,6 +23,7 @@ returns-in_err-proved-clause-refused g c =
     let (p, held, of_file) = c.in_ok-snapshot.ensures.made in
     explained_unproved known _ ask_edition c.args.query.now c.in_err-proved.field-0.0 c.from_residual-in_err-proved.result c.from_residual-in_err-proved.ensures.1
     (trees_held known ask_edition c.in_ok-snapshot.snapshot p held of_file) (λ fault told. c.in_err-proved.ensures.told fault (ap Err told))
+    (no_work c.args.query.now c.in_err-proved.field-0.0 c.in_err-proved.ensures.only c.in_err-proved.ensures.refused)
 
 pub unreachable-requires : goal.unreachable-requires
 unreachable-requires g c =

@@ -1,6 +1,8 @@
-use Rattle.std.proofs.Common.{◌∙◌, Ok, refl}
+use Rattle.std.proofs.Common.{◌∙◌, Err, Ok, inl, inr, refl}
 use Rattle.osm_commands.proofs.BegunLemmas.{begun_verdict, headline_told, honest_told, verdict_told, whole_verdict}
+use Rattle.osm_commands.proofs.BudgetLemmas.{budget_other, budget_refused, budget_told, failed_not_work, large_not_work, limited_told, other_told, over_other, over_told}
 use Rattle.osm_commands.proofs.FrontLemmas.{untaken}
+use Rattle.osm_commands.specs.declared.command_fault.CommandFault.TheVariants.{Memory}
 use Rattle.osm_commands.proofs.check_command.check.Goals as goal
 
 pub returns-in_err-write_whole-clause-begun : goal.returns-in_err-write_whole-clause-begun
@@ -59,3 +61,72 @@ returns-in_err-query-clause-takes g c = (c.in_err-query.ensures.takes, untaken c
 
 pub returns-in_err-answer-clause-takes : goal.returns-in_err-answer-clause-takes
 returns-in_err-answer-clause-takes g c = (c.in_ok-query.ensures.takes, c.in_err-answer.ensures.takes, untaken c.args.limit (g.P.Read.remaining c.args.proof.now))
+
+pub returns-in_err-query-clause-limited : goal.returns-in_err-query-clause-limited
+returns-in_err-query-clause-limited g c = λ none. other_told c.from_residual.result c.in_err-query.field-0.0 c.from_residual.ensures.1 (failed_not_work c.in_err-query.field-0.0 c.in_err-query.ensures.refused)
+
+pub returns-in_err-query-clause-over : goal.returns-in_err-query-clause-over
+returns-in_err-query-clause-over g c = over_other (g.Q.Read.remaining c.args.query.now) (g.P.Read.remaining c.args.proof.now) c.from_residual.result (other_told c.from_residual.result c.in_err-query.field-0.0 c.from_residual.ensures.1 (failed_not_work c.in_err-query.field-0.0 c.in_err-query.ensures.refused))
+
+pub returns-in_err-query-clause-budget : goal.returns-in_err-query-clause-budget
+returns-in_err-query-clause-budget g c = budget_other (g.Q.Read.remaining c.args.query.now) (g.P.Read.remaining c.args.proof.now) c.args.root.now.0 c.args.most c.from_residual.result c.in_err-query.field-0.0 c.from_residual.ensures.1 (failed_not_work c.in_err-query.field-0.0 c.in_err-query.ensures.refused)
+
+pub returns-in_err-answer-clause-limited : goal.returns-in_err-answer-clause-limited
+returns-in_err-answer-clause-limited g c = λ none. other_told c.from_residual-in_err-answer.result c.in_err-answer.field-0.0 c.from_residual-in_err-answer.ensures.1 (large_not_work c.in_err-answer.field-0.0 c.in_err-answer.ensures.refused)
+
+pub returns-in_err-answer-clause-over : goal.returns-in_err-answer-clause-over
+returns-in_err-answer-clause-over g c = over_other (g.Q.Read.remaining c.args.query.now) (g.P.Read.remaining c.args.proof.now) c.from_residual-in_err-answer.result (other_told c.from_residual-in_err-answer.result c.in_err-answer.field-0.0 c.from_residual-in_err-answer.ensures.1 (large_not_work c.in_err-answer.field-0.0 c.in_err-answer.ensures.refused))
+
+pub returns-in_err-answer-clause-budget : goal.returns-in_err-answer-clause-budget
+returns-in_err-answer-clause-budget g c = budget_other (g.Q.Read.remaining c.args.query.now) (g.P.Read.remaining c.args.proof.now) c.args.root.now.0 c.args.most c.from_residual-in_err-answer.result c.in_err-answer.field-0.0 c.from_residual-in_err-answer.ensures.1 (large_not_work c.in_err-answer.field-0.0 c.in_err-answer.ensures.refused)
+
+pub returns-in_err-proof-clause-limited : goal.returns-in_err-proof-clause-limited
+returns-in_err-proof-clause-limited g c = λ none. other_told c.from_residual-in_err-proof.result c.in_err-proof.field-0.0 c.from_residual-in_err-proof.ensures.1 (large_not_work c.in_err-proof.field-0.0 c.in_err-proof.ensures.refused)
+
+pub returns-in_err-proof-clause-over : goal.returns-in_err-proof-clause-over
+returns-in_err-proof-clause-over g c = over_other (g.Q.Read.remaining c.args.query.now) (g.P.Read.remaining c.args.proof.now) c.from_residual-in_err-proof.result (other_told c.from_residual-in_err-proof.result c.in_err-proof.field-0.0 c.from_residual-in_err-proof.ensures.1 (large_not_work c.in_err-proof.field-0.0 c.in_err-proof.ensures.refused))
+
+pub returns-in_err-proof-clause-budget : goal.returns-in_err-proof-clause-budget
+returns-in_err-proof-clause-budget g c = budget_other (g.Q.Read.remaining c.args.query.now) (g.P.Read.remaining c.args.proof.now) c.args.root.now.0 c.args.most c.from_residual-in_err-proof.result c.in_err-proof.field-0.0 c.from_residual-in_err-proof.ensures.1 (large_not_work c.in_err-proof.field-0.0 c.in_err-proof.ensures.refused)
+
+pub returns-in_err-line-clause-limited : goal.returns-in_err-line-clause-limited
+returns-in_err-line-clause-limited g c = λ none. other_told c.from_residual-in_err-line.result Memory c.from_residual-in_err-line.ensures.1 (failed_not_work Memory (inl refl))
+
+pub returns-in_err-line-clause-over : goal.returns-in_err-line-clause-over
+returns-in_err-line-clause-over g c = over_other (g.Q.Read.remaining c.args.query.now) (g.P.Read.remaining c.args.proof.now) c.from_residual-in_err-line.result (other_told c.from_residual-in_err-line.result Memory c.from_residual-in_err-line.ensures.1 (failed_not_work Memory (inl refl)))
+
+pub returns-in_err-line-clause-budget : goal.returns-in_err-line-clause-budget
+returns-in_err-line-clause-budget g c = budget_other (g.Q.Read.remaining c.args.query.now) (g.P.Read.remaining c.args.proof.now) c.args.root.now.0 c.args.most c.from_residual-in_err-line.result Memory c.from_residual-in_err-line.ensures.1 (failed_not_work Memory (inl refl))
+
+pub returns-in_err-write_whole-clause-limited : goal.returns-in_err-write_whole-clause-limited
+returns-in_err-write_whole-clause-limited g c = λ none. other_told c.from_residual-in_err-write_whole.result c.in_err-write_whole.field-0.0 c.from_residual-in_err-write_whole.ensures.1 (failed_not_work c.in_err-write_whole.field-0.0 (inr c.in_err-write_whole.ensures.device))
+
+pub returns-in_err-write_whole-clause-over : goal.returns-in_err-write_whole-clause-over
+returns-in_err-write_whole-clause-over g c = over_other (g.Q.Read.remaining c.args.query.now) (g.P.Read.remaining c.args.proof.now) c.from_residual-in_err-write_whole.result (other_told c.from_residual-in_err-write_whole.result c.in_err-write_whole.field-0.0 c.from_residual-in_err-write_whole.ensures.1 (failed_not_work c.in_err-write_whole.field-0.0 (inr c.in_err-write_whole.ensures.device)))
+
+pub returns-in_err-write_whole-clause-budget : goal.returns-in_err-write_whole-clause-budget
+returns-in_err-write_whole-clause-budget g c = budget_other (g.Q.Read.remaining c.args.query.now) (g.P.Read.remaining c.args.proof.now) c.args.root.now.0 c.args.most c.from_residual-in_err-write_whole.result c.in_err-write_whole.field-0.0 c.from_residual-in_err-write_whole.ensures.1 (failed_not_work c.in_err-write_whole.field-0.0 (inr c.in_err-write_whole.ensures.device))
+
+pub returns-in_err-verdict-clause-limited : goal.returns-in_err-verdict-clause-limited
+returns-in_err-verdict-clause-limited g c = limited_told c.args.most c.in_err-verdict.field-0.0 c.from_residual-in_err-verdict.result (Err c.in_err-verdict.field-0.0) refl c.from_residual-in_err-verdict.ensures.1 c.in_err-verdict.ensures.limited
+
+pub returns-in_err-verdict-clause-over : goal.returns-in_err-verdict-clause-over
+returns-in_err-verdict-clause-over g c =
+    over_told (g.Q.Read.remaining c.args.query.now) (g.P.Read.remaining c.args.proof.now) c.deref.result.now c.deref-3.result.now c.in_ok-query.query.items c.in_ok-proof.proof.items c.in_err-verdict.field-0.0 c.from_residual-in_err-verdict.result (Err c.in_err-verdict.field-0.0) refl c.from_residual-in_err-verdict.ensures.1
+    c.deref.ensures.value c.deref-3.ensures.value c.in_ok-query.ensures.read c.in_ok-proof.ensures.read c.in_err-verdict.ensures.over
+
+pub returns-in_err-verdict-clause-budget : goal.returns-in_err-verdict-clause-budget
+returns-in_err-verdict-clause-budget g c =
+    budget_refused (g.Q.Read.remaining c.args.query.now) (g.P.Read.remaining c.args.proof.now) c.args.root.now.0 c.args.most c.deref.result.now c.deref-3.result.now c.in_ok-query.query.items c.in_ok-proof.proof.items c.in_err-verdict.field-0.0 c.from_residual-in_err-verdict.result c.from_residual-in_err-verdict.ensures.1
+    c.deref.ensures.value c.deref-3.ensures.value c.in_ok-query.ensures.read c.in_ok-proof.ensures.read c.in_err-verdict.ensures.budget
+
+pub returns-clause-limited : goal.returns-clause-limited
+returns-clause-limited g c = λ none is. cc
+
+pub returns-clause-over : goal.returns-clause-over
+returns-clause-over g c = over_other (g.Q.Read.remaining c.args.query.now) (g.P.Read.remaining c.args.proof.now) (Ok c.in_ok-verdict.verdict) (λ is. cc)
+
+pub returns-clause-budget : goal.returns-clause-budget
+returns-clause-budget g c =
+    budget_told (g.Q.Read.remaining c.args.query.now) (g.P.Read.remaining c.args.proof.now) c.args.root.now.0 c.args.most c.deref.result.now c.deref-3.result.now c.in_ok-query.query.items c.in_ok-proof.proof.items c.in_ok-verdict.verdict
+    c.deref.ensures.value c.deref-3.ensures.value c.in_ok-query.ensures.read c.in_ok-proof.ensures.read c.in_ok-verdict.ensures.budget

@@ -6,7 +6,7 @@ use Rattle.osm_forms.specs.declared.form.Form.TheVariants as forms
 use Rattle.osm_prove.specs.declared.prove_fault.ProveFault.TheVariants as refusals
 use Rattle.osm_commands.specs.RootLines.{digest_line}
 use Rattle.osm_commands.specs.declared.command_fault.CommandFault.TheVariants.{Memory}
-use Rattle.osm_commands.proofs.AskLemmas.{explained_unmade, explained_unproved, outside_unmade, outside_unproved, trees_held}
+use Rattle.osm_commands.proofs.AskLemmas.{explained_unmade, explained_unproved, no_work, outside_unmade, outside_unproved, trees_held}
 use Rattle.osm_commands.proofs.BegunLemmas.{begun_kept, gained_kept, kept, unwritten, proved_files, answer_begun, proof_begun, root_begun, written_in_turn, written_whole}
 use Rattle.osm_commands.proofs.FileLemmas.{device_failed, explained_failed, explained_files, explained_unread, failed, outside_failed, outside_files, outside_unread, same_read, unread}
 use Rattle.osm_commands.proofs.prove_command.prove.Goals as goal
@@ -57,7 +57,8 @@ returns-in_err-proved-clause-refused g c =
     (λ bytes is. explained_unproved (g.R.Read.remaining c.args.input.now) _ c.args.edition bytes c.in_err-proved.field-0.0 c.from_residual-in_err-proved.result c.from_residual-in_err-proved.ensures.1
     (trees_held (g.R.Read.remaining c.args.input.now) c.args.edition c.in_ok-snapshot.snapshot p held of_file)
     (subst (λ (b : List ℕ). (fault : QlFault) → c.in_err-proved.field-0.0 ≡ refusals.Query fault → HasFault b fault)
-    (c.deref.ensures.value ∙ same_read _ c.in_ok-query.query.items bytes is c.in_ok-query.ensures.read) (λ fault told. c.in_err-proved.ensures.told fault (ap Err told))))
+    (c.deref.ensures.value ∙ same_read _ c.in_ok-query.query.items bytes is c.in_ok-query.ensures.read) (λ fault told. c.in_err-proved.ensures.told fault (ap Err told)))
+    (no_work c.deref.result.now c.in_err-proved.field-0.0 c.in_err-proved.ensures.only c.in_err-proved.ensures.refused))
 
 pub returns-in_err-proved-clause-nothing : goal.returns-in_err-proved-clause-nothing
 returns-in_err-proved-clause-nothing g c =
