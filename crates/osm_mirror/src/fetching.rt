@@ -25,6 +25,7 @@ pub(crate) fn fetch_answer(
     query: &str,
     form: Form,
     max_size: Option<u64>,
+    max_work: Option<u64>,
 ) -> Status {
     let mut dial = TcpDial::new(rt, place);
     let outcome = fetch(
@@ -34,6 +35,7 @@ pub(crate) fn fetch_answer(
         place,
         query.as_bytes(),
         max_size.unwrap_or(SIZE_LIMIT).saturating_add(PREFIX_SIZE),
+        max_work,
         &mut dial,
         &mut CleanOutput::new(rt),
     );
@@ -66,6 +68,7 @@ fn explain_fault(
         NotFetched::Mirror(MirrorFault::Unreached | MirrorFault::Silent) => {
             tell_of_system(rt, place, error);
         }
+        NotFetched::Mirror(MirrorFault::Work) => tell_in_words(rt, CommandFault::Work, subject),
         NotFetched::Mirror(_) => {}
     }
 }

@@ -145,9 +145,8 @@ fn run_job(rt: &HostRuntime, job: Job) -> Status {
             query,
             form,
             max_size,
-            // For the lead: `fetch` is to be given this budget.
-            max_work: _max_work,
-        } => fetch_answer(rt, &root, &mirror, &query, form, max_size),
+            max_work,
+        } => fetch_answer(rt, &root, &mirror, &query, form, max_size, max_work),
         Job::Relay {
             root,
             mirror,
@@ -155,8 +154,7 @@ fn run_job(rt: &HostRuntime, job: Job) -> Status {
             port,
             root_file,
             connections,
-            // For the lead: `relay` is to be given this budget.
-            max_work: _max_work,
+            max_work,
         } => relay_clients(
             rt,
             root,
@@ -165,6 +163,7 @@ fn run_job(rt: &HostRuntime, job: Job) -> Status {
             port,
             root_file.as_deref(),
             connections,
+            max_work,
         ),
         Job::Explain { code } => explain_code(rt, &code),
     }

@@ -12,7 +12,7 @@ use std::net::SocketAddr;
 use tree_node::Digest;
 
 /// Serves this number of clients on this port, with what the mirrors at these places have proved under the root that is in
-/// force: the one that is given, or that a file tells.
+/// force: the one that is given, or that a file tells. Each check of a proof has this budget, if there is one.
 pub(crate) fn relay_clients(
     rt: &HostRuntime,
     root: Digest,
@@ -21,6 +21,7 @@ pub(crate) fn relay_clients(
     port: u16,
     root_file: Option<&str>,
     connections: u32,
+    max_work: Option<u64>,
 ) -> Status {
     let mirrors = match find_mirrors(rt, place, fallbacks) {
         Ok(mirrors) => mirrors,
@@ -35,7 +36,7 @@ pub(crate) fn relay_clients(
         Err(error) => return port_refused(rt, port, &error),
     };
     let roots = RootFile::new(rt, root_file, root);
-    let outcome = relay_over(rt, roots, place, sockets, address, connections);
+    let outcome = relay_over(rt, roots, place, sockets, address, connections, max_work);
     report(rt, outcome, &NOTHING)
 }
 
@@ -76,7 +77,7 @@ fn add_mirror(
     }
 }
 
-/// Serves clients over sockets that listen at this address. At first it says where, and which mirror is asked under which
+/// Serves clients over sockets that listen at this address, within this budget. At first it says where, and which mirror is asked under which
 /// root. A line that standard error can't take at once is dropped.
 fn relay_over(
     rt: &HostRuntime,
@@ -85,12 +86,13 @@ fn relay_over(
     mut sockets: Sockets<'_>,
     address: SocketAddr,
     connections: u32,
+    max_work: Option<u64>,
 ) -> Result<(), CommandFault> {
     let line = first_line(rt, &roots.root(), place, address)?;
     let mut errors = WholeLines::new(ServerErrors::new(rt));
     // Where standard error takes nothing, it serves all the same.
     let _ = write!(errors, "{line}");
-    match relay_many(rt.alloc(), &mut roots, &mut sockets, connections) {
+    match relay_many(rt.alloc(), &mut roots, &mut sockets, connections, max_work) {
         Ok(()) => {
             sockets.settle();
             Ok(())
