@@ -7,6 +7,7 @@ mod proofs;
 mod query_rows;
 mod texts_of_sets;
 mod verdicts;
+mod work_rows;
 
 use opl_codec::read_set;
 use osm_index::{Edition, Snapshot};

@@ -1,7 +1,7 @@
 -- What the outcome of an evaluation over the nodes of a proof says of a publication.
-use Rattle.std.proofs.Common.{◌≡◌, ◌⊎◌, inl, inr, ℕ, List, [], ◌++◌, Option, Some, Result, Ok, Err, IfOk, refl, sym, ap, subst, ◌∙◌}
+use Rattle.std.proofs.Common.{◌≡◌, ◌⊎◌, inl, inr, ℕ, List, [], Some, Result, Ok, Err, IfOk, sym, subst, ◌∙◌}
 use Rattle.std.specs.List.{Contains}
-use Rattle.tree_node.specs.Outcomes.{Cause, Clash, NoMemory, NodeMissing as CauseMissing, OtherCause, Outcome, RefusedFor}
+use Rattle.tree_node.specs.Outcomes.{Clash, Outcome, RefusedFor}
 use Rattle.tree_node.specs.Bags.{BagHolds}
 use Rattle.tree_node.specs.Parts.{HaveNode}
 use Rattle.tree_node.specs.Shelves.{IsEmptySet, SameNodes}

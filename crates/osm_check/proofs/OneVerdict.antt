@@ -13,19 +13,17 @@ use Rattle.ql_meaning.proofs.shared.Laws.{one_meaning}
 use Rattle.tree_node.specs.Digests.{digest}
 use Rattle.tree_node.specs.Order.{IsBelow}
 use Rattle.tree_node.specs.Outcomes.{Clash}
-use Rattle.tree_node.specs.Shelves.{SameNodes}
 use Rattle.tree_node.specs.internal.OrderLemmas.{not_itself}
 use Rattle.osm_keys.specs.Publications.{IsNodeIn, IsPublication, Publication, root_of}
 use Rattle.ql_eval.specs.Asks.{IsNeeded}
 use Rattle.ql_eval.specs.declared.evaluation.Report.{Report}
 use Rattle.osm_prove.specs.Proofs.{AreRising, IsProof, Lists}
-use Rattle.osm_prove.specs.Proved.{IsProofOf, IsProved}
+use Rattle.osm_prove.specs.Proved.{IsProved}
 use Rattle.osm_prove.proofs.shared.ListingLaws.{one_listing}
 use Rattle.osm_check.specs.Matching.{IsFirstDifference}
-use Rattle.osm_check.specs.Verdicts.{AreAlike, HasMissing, HasOtherAnswer, HasUnused, IsReadable, IsRisingProof, IsVerdict, IsWalked, IsWhole, IsYes, StandsIn, Tells, TellsOf}
+use Rattle.osm_check.specs.Verdicts.{AreAlike, HasMissing, HasOtherAnswer, HasUnused, IsRisingProof, IsVerdict, IsWalked, IsWhole, IsYes, StandsIn, TellsOf}
 use Rattle.osm_check.specs.declared.verdict.Verdict.{Verdict}
 use Rattle.osm_check.specs.declared.verdict.Verdict.TheVariants.{Yes, No}
-use Rattle.osm_check.specs.declared.why.Why.{Why}
 use Rattle.osm_check.specs.declared.why.Why.TheVariants.{QueryRefused, ProofMalformed, ProofNotRising, NodeMissing, NodeMalformed, NodesDisagree, EntriesDisagree, NodeUnused, AnswerDiffers}
 use Rattle.osm_prove.proofs.shared.NeededNodes.{needed_in}
 

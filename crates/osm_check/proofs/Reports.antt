@@ -1,18 +1,16 @@
 -- What a report counts, of the walks over the nodes of a proof.
-use Rattle.std.proofs.Common.{◌≡◌, ◌≢◌, ◌⊎◌, inl, inr, ℕ, zero, suc, ◌+◌, ◌*◌, ◌-◌, ◌^◌, ◌<◌, ◌≤◌, min, List, [], ◌∷◌, ◌++◌, length, slice_index_or, refl, sym, ap, subst, ◌∙◌, arith}
+use Rattle.std.proofs.Common.{◌≡◌, ◌≢◌, ◌⊎◌, inl, inr, ℕ, zero, suc, ◌+◌, ◌*◌, ◌-◌, ◌^◌, ◌<◌, ◌≤◌, min, List, [], ◌∷◌, ◌++◌, length, slice_index_or, refl, sym, subst, ◌∙◌, arith}
 use Rattle.std.proofs.lemmas.Bool.{cases_lt}
 use Rattle.std.specs.List.{AllByRecursion, Contains}
 use Rattle.tree_node.specs.Digests.{digest}
 use Rattle.tree_node.specs.Order.{IsBelow}
-use Rattle.tree_node.specs.Parts.{HaveNode, node_of}
 use Rattle.tree_node.specs.Shelves.{IsEmptySet, SameNodes}
-use Rattle.tree_node.specs.declared.part.Part.{Part}
 use Rattle.tree_node.specs.internal.OrderLemmas.{not_itself}
 use Rattle.tree_node.proofs.shared.OutcomeLaws.{Nodes, uses}
 use Rattle.tree_walk.specs.Fetches.{AreDifferent, IsAmong, IsNodeText, counted_up}
 use Rattle.tree_walk.specs.Walked.{HasWalked, fetched_in}
 use Rattle.tree_walk.proofs.shared.WalkedLaws.{at_most, different_fit, no_node_text, without}
-use Rattle.osm_keys.specs.Manifests.{all_tops, edition_bytes, magic, manifest, manifest_bytes, top_among}
+use Rattle.osm_keys.specs.Manifests.{manifest, manifest_bytes}
 use Rattle.osm_keys.specs.declared.manifest.Manifest.{Manifest}
 use Rattle.ql_eval.specs.declared.evaluation.Report.{Report}
 use Rattle.osm_prove.specs.Proofs.{AreRising, FitsProof}

@@ -3,18 +3,17 @@ use Rattle.std.proofs.Common.{◌≡◌, ◌∙◌, ◌↔◌, ℕ, Bool, true, 
 use Rattle.std.specs.FinMap.{empty, get, insert, len}
 use Rattle.std.specs.Global.{Vec}
 use Rattle.std.specs.Prelude.{◌==◌, Option, Some, None, Result, Ok, Err, IfErr, IfOk, MatchBool, OnErr, if◌then◌else◌, nat_lt}
-use Rattle.osm_gate.specs.Connections.{Responds, Rest, open_rest}
+use Rattle.osm_gate.specs.Connections.{Rest, open_rest}
 use Rattle.osm_keys.specs.Publications.{Publication}
 use Rattle.osm_index.specs.Snapshots.{HoldsPublication, IsAsBefore}
 use Rattle.osm_index.specs.declared.apply_fault.ApplyFault.{ApplyFault}
 use Rattle.osm_desk.specs.Contents.{Contents, desk_over}
 use Rattle.osm_desk.specs.Desks.{Connections, Desk, Told, arrive_step, end_step, fresh, open_step, publish_step, quietly, refuse, step}
-use Rattle.osm_desk.specs.Events.{AreTurns, HasRoom, IsRoomFor, IsTold, IsToldFrom, IsToldPiece, IsTurn, Turn, answer_of, event_if, events_of, own_events, is_of_connection, texts_if, texts_to}
+use Rattle.osm_desk.specs.Events.{AreTurns, HasRoom, IsRoomFor, IsTold, IsToldFrom, IsToldPiece, IsTurn, Turn, answer_of, events_of, own_events, texts_to}
 use Rattle.osm_desk.specs.Happenings.{Happening, arrived, ended, opened, published}
-use Rattle.osm_desk.specs.Made.{IsMade}
-use Rattle.osm_desk.specs.Runs.{Done, IsRefusedBy, Ran, RespondAll, got, stands, stood, texts_in}
+use Rattle.osm_desk.specs.Runs.{Done, Ran, RespondAll, got, stands, stood, texts_in}
 use Rattle.osm_desk.specs.Stepping.{Gives, HasStepped, IsOf, IsRefusal, texts_of}
-use Rattle.osm_desk.specs.Told.{FindsRoom, MeetsRoom, begun, ending, in_force, longer, told, told_from, told_piece}
+use Rattle.osm_desk.specs.Told.{FindsRoom, MeetsRoom, begun, in_force, longer, told, told_from, told_piece}
 use Rattle.osm_desk.specs.declared.desk_fault.DeskFault.{DeskFault}
 use Rattle.osm_desk.specs.declared.desk_fault.DeskFault.TheVariants.{AlreadyOpen, Memory, NoRoom, NotOpen, Refused}
 use Rattle.osm_desk.specs.declared.event.Event.{Event}
@@ -219,7 +218,7 @@ pub turns-told : (c : ℕ) (before : Contents) (turns : List Turn) (p : Publicat
 turns-told c before turns p none held are room =
     let mirror : Mirrors c (fresh p) turns =
     subst (λ (connections : Connections). Mirrors c (with_connections p connections) turns) none (mirrors c turns before p held are room) in
-    let all = run-told c mirror.run p mirror.ran mirror.room in
+    let all = run-told None c mirror.run p mirror.ran mirror.room in
     told-events c (events_of turns) (stood mirror.run) p None (texts_to c turns) mirror.are
     (subst (λ texts. RespondAll (told c (stood mirror.run) p) texts) mirror.same all)
 

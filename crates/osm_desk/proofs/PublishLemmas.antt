@@ -1,5 +1,5 @@
 -- What the clauses of a snapshot's changes say of a desk.
-use Rattle.std.proofs.Common.{◌≡◌, ◌≢◌, ◌↔◌, ◌∙◌, ℕ, List, Result, Err, sym, refl, subst}
+use Rattle.std.proofs.Common.{◌≡◌, ◌≢◌, ◌↔◌, ℕ, List, Result, Err, sym, subst}
 use Rattle.opl_codec.specs.declared.change.Change.{Change}
 use Rattle.osm_model.specs.Elements.{Element}
 use Rattle.osm_model.specs.declared.reference.Ref.{Ref}

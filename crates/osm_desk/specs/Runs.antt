@@ -1,10 +1,10 @@
 -- What the code did, one happening after the other, and what each connection got.
 -- Source: this project.
-use Rattle.std.specs.Prelude.{◌≡◌, ◌==◌, ℕ, Bool, true, false, List, [], ◌∷◌, ◌++◌, Result, Ok, Err, if◌then◌else◌}
-use Rattle.osm_gate.specs.Connections.{Responds}
+use Rattle.std.specs.Prelude.{◌≡◌, ◌==◌, ℕ, Bool, true, false, List, [], ◌∷◌, ◌++◌, Option, None, Result, Ok, Err, if◌then◌else◌}
+use Rattle.osm_gate.specs.Connections.{RespondsWithin}
 use Rattle.osm_desk.specs.Desks.{Desk, Told, step}
 use Rattle.osm_desk.specs.Happenings.{Happening}
-use Rattle.osm_desk.specs.Stepping.{Gives}
+use Rattle.osm_desk.specs.Stepping.{GivesWithin}
 use Rattle.osm_desk.specs.declared.desk_fault.DeskFault.{DeskFault}
 use Rattle.osm_desk.specs.declared.desk_fault.DeskFault.TheVariants.{AlreadyOpen, Memory, NoRoom, NotOpen, Refused}
 
@@ -24,11 +24,15 @@ stands Memory = false
 abbrev pub IsRefusedBy : Desk → Happening → DeskFault → Type 0
 IsRefusedBy d h fault = stands fault ≡ true → (step d h).reply ≡ Err fault
 
--- each answer is one that a step may give, and a refusal changes nothing
+-- each answer is one that a step may give, where there may be a budget for each query, and a refusal changes nothing
+abbrev pub RanWithin : Option ℕ → Desk → List Done → Type 0
+RanWithin most d [] = Unit {0}
+RanWithin most d ((h, Ok answers) ∷ more) = GivesWithin most (step d h).reply answers × RanWithin most (step d h).desk more
+RanWithin most d ((h, Err fault) ∷ more) = IsRefusedBy d h fault × RanWithin most d more
+
+-- the same without a budget
 abbrev pub Ran : Desk → List Done → Type 0
-Ran d [] = Unit {0}
-Ran d ((h, Ok answers) ∷ more) = Gives (step d h).reply answers × Ran (step d h).desk more
-Ran d ((h, Err fault) ∷ more) = IsRefusedBy d h fault × Ran d more
+Ran d run = RanWithin None d run
 
 -- what happened, without what was refused out of memory
 abbrev pub stood : List Done → List Happening
@@ -46,9 +50,13 @@ got c [] = []
 got c ((h, Ok answers) ∷ more) = texts_in c answers ++ got c more
 got c ((h, Err fault) ∷ more) = got c more
 
--- text by text the responses to what is told
+-- text by text the responses to what is told, where there may be a budget for each query
+abbrev pub RespondAllWithin : Option ℕ → List Told → List (List ℕ) → Type 0
+RespondAllWithin most [] [] = Unit {0}
+RespondAllWithin most [] (text ∷ texts) = ⊥
+RespondAllWithin most (t ∷ ts) [] = ⊥
+RespondAllWithin most (t ∷ ts) (text ∷ texts) = RespondsWithin most t.publication t.requests text × RespondAllWithin most ts texts
+
+-- the same without a budget
 abbrev pub RespondAll : List Told → List (List ℕ) → Type 0
-RespondAll [] [] = Unit {0}
-RespondAll [] (text ∷ texts) = ⊥
-RespondAll (t ∷ ts) [] = ⊥
-RespondAll (t ∷ ts) (text ∷ texts) = Responds t.publication t.requests text × RespondAll ts texts
+RespondAll ts texts = RespondAllWithin None ts texts

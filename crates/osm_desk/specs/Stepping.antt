@@ -1,8 +1,8 @@
 -- What a step of the code may answer.
 -- Source: this project.
 use Rattle.std.specs.Global.{Vec}
-use Rattle.std.specs.Prelude.{◌≡◌, ℕ, List, [], ◌∷◌, map, Result, Ok, Err, IsOk}
-use Rattle.osm_gate.specs.Connections.{Responds}
+use Rattle.std.specs.Prelude.{◌≡◌, ℕ, List, [], ◌∷◌, map, Option, None, Result, Ok, Err, IsOk}
+use Rattle.osm_gate.specs.Connections.{RespondsWithin}
 use Rattle.osm_index.specs.Applying.{IsLast}
 use Rattle.osm_keys.specs.Publications.{Publication}
 use Rattle.osm_desk.specs.Contents.{Contents, StandsFor}
@@ -25,17 +25,22 @@ IsOf p (Publish changes) h = (made : Result Publication _) × IsMade p changes.i
 abbrev pub texts_of : List (ℕ × Vec ℕ) → List (ℕ × List ℕ)
 texts_of answers = map (λ (answer : ℕ × Vec ℕ). (answer.0, answer.1.items)) answers
 
--- pair by pair the number, and the responses to what is told
-abbrev pub RespondEach : List (ℕ × Told) → List (ℕ × List ℕ) → Type 0
-RespondEach [] [] = Unit {0}
-RespondEach [] (a ∷ answers) = ⊥
-RespondEach (t ∷ ts) [] = ⊥
-RespondEach (t ∷ ts) (a ∷ answers) = (a.0 ≡ t.0) × Responds t.1.publication t.1.requests a.1 × RespondEach ts answers
+-- pair by pair the number, and the responses to what is told, where there may be a budget for each query
+abbrev pub RespondEachWithin : Option ℕ → List (ℕ × Told) → List (ℕ × List ℕ) → Type 0
+RespondEachWithin most [] [] = Unit {0}
+RespondEachWithin most [] (a ∷ answers) = ⊥
+RespondEachWithin most (t ∷ ts) [] = ⊥
+RespondEachWithin most (t ∷ ts) (a ∷ answers) =
+    (a.0 ≡ t.0) × RespondsWithin most t.1.publication t.1.requests a.1 × RespondEachWithin most ts answers
 
 -- the step isn't refused, and these are the answers to what it tells
+abbrev pub GivesWithin : Option ℕ → Result (List (ℕ × Told)) DeskFault → List (ℕ × List ℕ) → Type 0
+GivesWithin most (Err fault) answers = ⊥
+GivesWithin most (Ok told) answers = RespondEachWithin most told answers
+
+-- the same without a budget
 abbrev pub Gives : Result (List (ℕ × Told)) DeskFault → List (ℕ × List ℕ) → Type 0
-Gives (Err fault) answers = ⊥
-Gives (Ok told) answers = RespondEach told answers
+Gives reply answers = GivesWithin None reply answers
 
 -- the event is a happening whose step gives the answers, and leaves a desk that the contents stand for
 abbrev pub HasStepped : Desk → Event → List (ℕ × List ℕ) → Contents → Type 0

@@ -3,7 +3,7 @@
 ghost use Rattle.std.specs.Bool.{OnFalse};
 ghost use Rattle.std.specs.FinMap.{empty, get, len};
 ghost use Rattle.std.specs.Prelude.{◌≡◌, ◌<◌, ◌≤◌, ◌↔◌, IfErr, IfOk, IsSome, IsTrue, None, OnErr, OnOk, [], is_some};
-ghost use Rattle.osm_gate.specs.Connections.{Responds, requests_next, open_rest};
+ghost use Rattle.osm_gate.specs.Connections.{Responds, RespondsWithin, requests_next, open_rest};
 ghost use Rattle.osm_keys.specs.Publications.{Publication};
 ghost use Rattle.osm_index.specs.Snapshots.{HoldsPublication, IsAsBefore};
 ghost use Rattle.osm_desk.specs.AnnouncedRoots.{RefusesAnnounced, root_digits};
@@ -188,10 +188,33 @@ impl Desk {
         ensures others { without self.new number ≡ without self.old number }
         ensures unchanged { OnErr result (self.new ≡ self.old) }
     {
+        self.hear_within(number, piece, None)
+    }
+
+    /// Takes a piece of a connection, as [`Desk::hear`] does, where each query has a budget, or none: one that passes it is
+    /// answered with 503 `too much work`, as by [`Gate::feed_within`]. Refused only where memory runs out, and then no part
+    /// of the piece was taken.
+    pub fn hear_within(
+        &mut self,
+        number: u32,
+        piece: &[u8],
+        most: Option<u64>,
+    ) -> Result<Vec<u8>, AllocError>
+        ensures responses { (p : Publication) → HoldsPublication self.old.snapshot p
+            → IfOk result (λ text. RespondsWithin most p
+            (requests_next (rest_of self.old number) piece.now).complete text.items) }
+        ensures rest { OnOk result (rest_of self.new number
+            ≡ (requests_next (rest_of self.old number) piece.now).rest) }
+        ensures open { IsSome (get self.old.connections number)
+            → OnOk result (self.new ≡ with_rest self.old number
+            (requests_next (rest_of self.old number) piece.now).rest) }
+        ensures others { without self.new number ≡ without self.old number }
+        ensures unchanged { OnErr result (self.new ≡ self.old) }
+    {
         let Some(gate) = self.gates.get_mut(&number) else {
             return Ok(Vec::new(self.alloc));
         };
-        gate.feed(piece, &self.snapshot)
+        gate.feed_within(piece, &self.snapshot, most)
     }
 
     /// Takes a piece of a connection, and gives the responses with its number.

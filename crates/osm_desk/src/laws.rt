@@ -2,11 +2,11 @@
 //! they run.
 
 ghost use Rattle.std.specs.FinMap.{empty};
-ghost use Rattle.std.specs.Prelude.{◌≡◌, ◌↔◌, ℕ, List, Some, Ok, Err};
+ghost use Rattle.std.specs.Prelude.{◌≡◌, ◌↔◌, ℕ, List, Option, Some, Ok, Err};
 ghost use Rattle.opl_codec.specs.declared.change.Change.{Change};
 ghost use Rattle.http_messages.specs.Requests.{Asked};
 ghost use Rattle.osm_gate.specs.ResponseTexts.{Response};
-ghost use Rattle.osm_gate.specs.Responses.{IsResponse};
+ghost use Rattle.osm_gate.specs.Responses.{IsResponse, IsResponseWithin};
 ghost use Rattle.osm_keys.specs.Publications.{Publication, root_of};
 ghost use Rattle.osm_index.specs.Snapshots.{HoldsPublication};
 ghost use Rattle.osm_index.specs.declared.apply_fault.ApplyFault.{ApplyFault};
@@ -15,7 +15,7 @@ ghost use Rattle.osm_desk.specs.Desks.{fresh, replies};
 ghost use Rattle.osm_desk.specs.Events.{AreTurns, HasRoom, IsTold, Turn, events_of, own_events, texts_to};
 ghost use Rattle.osm_desk.specs.Happenings.{Happening};
 ghost use Rattle.osm_desk.specs.Made.{IsMade};
-ghost use Rattle.osm_desk.specs.Runs.{Done, Ran, RespondAll, got, stood};
+ghost use Rattle.osm_desk.specs.Runs.{Done, Ran, RanWithin, RespondAll, RespondAllWithin, got, stood};
 ghost use Rattle.osm_desk.specs.Told.{FindsRoom, alone, given, told};
 ghost use Rattle.osm_desk.specs.declared.event.Event.{Event};
 ghost use Rattle.osm_desk.specs.declared.limits.TheConstants.{CONNECTION_LIMIT};
@@ -55,14 +55,22 @@ pub fn others_change_nothing()
 /// A law: what a connection gets in a run of the code are the responses to what it is told, by all that happened but
 /// what was refused out of memory. That each step of the code is a step of such a run, the clauses of `Desk::step` say.
 pub fn runs_tell_each_its_own()
-    ensures { (c : ℕ) (run : List Done) (p : Publication) → Ran (fresh p) run
+    ensures told { (c : ℕ) (run : List Done) (p : Publication) → Ran (fresh p) run
         → FindsRoom c (fresh p) (stood run)
         → RespondAll (told c (stood run) p) (got c run) }
+    // The same where each query has a budget.
+    ensures within { (most : Option ℕ) (c : ℕ) (run : List Done) (p : Publication)
+        → RanWithin most (fresh p) run → FindsRoom c (fresh p) (stood run)
+        → RespondAllWithin most (told c (stood run) p) (got c run) }
 {}
 
 /// A law: a response of status 200 carries the root of the publication that it is over.
 pub fn success_carries_the_root()
-    ensures { (p : Publication) (a : Asked) (r : Response) → IsResponse p a r → r.head.status ≡ 200
+    ensures root { (p : Publication) (a : Asked) (r : Response) → IsResponse p a r
+        → r.head.status ≡ 200 → r.head.root ≡ Some (root_of p) }
+    // The same where each query has a budget.
+    ensures within { (most : Option ℕ) (p : Publication) (a : Asked) (r : Response)
+        → IsResponseWithin most p a r → r.head.status ≡ 200
         → r.head.root ≡ Some (root_of p) }
 {}
 

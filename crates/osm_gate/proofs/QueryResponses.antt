@@ -1,25 +1,69 @@
 -- What was written is a response to a query.
-use Rattle.std.proofs.Common.{◌≡◌, ◌++◌, ℕ, true, List, ap, inl, inr, refl, subst, sym}
-use Rattle.std.specs.Prelude.{Some}
-use Rattle.ql_syntax.specs.Queries.{HasFault}
-use Rattle.ql_syntax.specs.declared.fault.QlFault.{QlFault}
+use Rattle.std.proofs.Common.{◌≡◌, ◌⊎◌, ◌++◌, ℕ, Bool, false, true, List, ap, inl, inr, refl, subst, sym}
+use Rattle.std.specs.Prelude.{Option, Some, None, Result, Err}
+use Rattle.osm_forms.specs.Forms.{form_text}
+use Rattle.osm_forms.specs.declared.form.Form.TheVariants.{Opl}
 use Rattle.osm_keys.specs.Publications.{Publication, root_of}
-use Rattle.osm_prove.specs.Proved.{IsProved}
-use Rattle.osm_gate.specs.ResponseTexts.{response_text}
-use Rattle.osm_gate.specs.Responses.{ByQuery, GivesAt, checked_body, fault_text, ok_response, refusal}
+use Rattle.osm_prove.specs.Budgets.{IsTooMuch, IsWithin, IsWorkOf, KeepsBudget}
+use Rattle.osm_prove.specs.Proved.{IsAnswer, IsProved}
+use Rattle.osm_prove.specs.declared.prove_fault.ProveFault.{ProveFault}
+use Rattle.osm_prove.specs.declared.prove_fault.ProveFault.TheVariants as faults
+use Rattle.ql_syntax.specs.Queries.{HasFault, Reads}
+use Rattle.ql_syntax.specs.Statements.{Statements}
+use Rattle.ql_syntax.specs.declared.fault.QlFault.{QlFault}
+use Rattle.ql_syntax.proofs.shared.QueryLaws.{one_of_both}
+use Rattle.osm_gate.specs.ResponseTexts.{Response, response_text}
+use Rattle.osm_gate.specs.Responses.{ByQueryWithin, GivesAt, GivesWithin, checked_body, fault_text, ok_response, refusal, too_much_response}
 use Rattle.osm_gate.specs.declared.endpoint.Endpoint.{Endpoint}
-use Rattle.osm_gate.specs.declared.endpoint.Endpoint.TheVariants.{AnswerWithProof}
+use Rattle.osm_gate.specs.declared.endpoint.Endpoint.TheVariants.{Answer, AnswerWithProof}
 use Rattle.osm_gate.specs.declared.reply.Reply.{Reply}
-use Rattle.osm_gate.specs.internal.Adding.{AddsResponse}
+use Rattle.osm_gate.specs.internal.Adding.{AddsFault, AddsResponse}
 
-module _ (reply : Reply) (p : Publication) (query old new : List ℕ) where
+-- ---- budgets
+
+given_within : (most : Option ℕ) (endpoint : Endpoint) (closes : Bool) (p : Publication) (query : List ℕ) (r : Response) → GivesAt endpoint closes p query r
+    → IsWithin (IsWorkOf (form_text Opl) p query) most → GivesWithin most endpoint closes p query r
+given_within None endpoint closes p query r gives within = gives
+given_within (Some most) endpoint closes p query r gives within = inl (gives, within)
+
+too_much_within : (most : Option ℕ) (endpoint : Endpoint) (closes : Bool) (p : Publication) (query : List ℕ) (statements : Statements) → Reads query statements
+    → IsTooMuch (IsWorkOf (form_text Opl) p query) most → (most ≡ None → ⊥) → GivesWithin most endpoint closes p query (too_much_response closes)
+too_much_within None endpoint closes p query statements reads much some = absurd (some refl)
+too_much_within (Some most) endpoint closes p query statements reads much some = inr (statements, reads, much, refl)
+
+-- ---- what was added
+
+module _ (most : Option ℕ) (reply : Reply) (p : Publication) (query old new : List ℕ) where
+  given_added : (endpoint : Endpoint) (r : Response) → reply.endpoint ≡ endpoint → GivesAt endpoint reply.closes p query r → IsWithin (IsWorkOf (form_text Opl) p query) most
+      → new ≡ old ++ response_text r → AddsResponse (ByQueryWithin most reply p (Some query)) old new
+  given_added endpoint r at gives within added =
+      (r, inr (given_within most reply.endpoint reply.closes p query r (subst (λ (endpoint : Endpoint). GivesAt endpoint reply.closes p query r) (sym at) gives) within), added)
+
+  pub answer_added : (root answer : List ℕ) → reply.endpoint ≡ Answer → (root ≡ root_of p) × IsAnswer p query answer → IsWithin (IsWorkOf (form_text Opl) p query) most
+      → new ≡ old ++ response_text (ok_response reply.closes root false answer) → AddsResponse (ByQueryWithin most reply p (Some query)) old new
+  answer_added root answer at (under, is) within added =
+      given_added Answer (ok_response reply.closes root false answer) at
+      (answer, is, ap (λ (root : List ℕ). ok_response reply.closes root false answer) under) within added
+
   pub proved_added : (root answer proof : List ℕ) → reply.endpoint ≡ AnswerWithProof → (root ≡ root_of p) × IsProved p query answer proof
-      → new ≡ old ++ response_text (ok_response reply.closes root true (checked_body root answer proof)) → AddsResponse (ByQuery reply p (Some query)) old new
-  proved_added root answer proof at (under, is) added =
-      let r = ok_response reply.closes root true (checked_body root answer proof) in
-      let gives : GivesAt AnswerWithProof reply.closes p query r = (answer, proof, is, ap (λ (root : List ℕ). ok_response reply.closes root true (checked_body root answer proof)) under) in
-      (r, inr (subst (λ (endpoint : Endpoint). GivesAt endpoint reply.closes p query r) (sym at) gives), added)
+      → IsWithin (IsWorkOf (form_text Opl) p query) most
+      → new ≡ old ++ response_text (ok_response reply.closes root true (checked_body root answer proof)) → AddsResponse (ByQueryWithin most reply p (Some query)) old new
+  proved_added root answer proof at (under, is) within added =
+      given_added AnswerWithProof (ok_response reply.closes root true (checked_body root answer proof)) at
+      (answer, proof, is, ap (λ (root : List ℕ). ok_response reply.closes root true (checked_body root answer proof)) under) within added
 
-  pub fault_added : (fault : QlFault) → HasFault query fault
-      → new ≡ old ++ response_text (refusal reply.closes 400 (fault_text fault)) → AddsResponse (ByQuery reply p (Some query)) old new
-  fault_added fault has added = (refusal reply.closes 400 (fault_text fault), inl (fault, has, refl), added)
+  -- why there is no answer: where the query has no fault, it reads
+  pub fault_added : {A : Type 0} (fault : ProveFault)
+      → ((of : QlFault) → ◌≡◌ {A = Result A ProveFault} (Err fault) (Err (faults.Query of)) → HasFault query of)
+      → ((of : QlFault) → HasFault query of
+      → (◌≡◌ {A = Result A ProveFault} (Err fault) (Err (faults.Query of))) ⊎ (◌≡◌ {A = Result A ProveFault} (Err fault) (Err faults.Memory)))
+      → KeepsBudget {A = A} (IsWorkOf (form_text Opl) p query) most (Err fault)
+      → (most ≡ None → ◌≡◌ {A = Result A ProveFault} (Err fault) (Err faults.Work) → ⊥)
+      → AddsFault reply.closes fault old new → AddsResponse (ByQueryWithin most reply p (Some query)) old new
+  fault_added (faults.Query of) told refused budget limited added = (refusal reply.closes 400 (fault_text of), inl (of, told of refl, refl), added)
+  fault_added faults.Work told refused budget limited added = elim (one_of_both query) [
+    | inl (statements, reads) ↦
+        (too_much_response reply.closes, inr (too_much_within most reply.endpoint reply.closes p query statements reads budget (λ none. limited none refl)), added)
+    | inr (of, has) ↦ absurd (elim (refused of has) [ inl is ↦ cc | inr is ↦ cc ])
+  ]
+  fault_added faults.Memory told refused budget limited added = absurd added

@@ -105,7 +105,7 @@ pub responds-on : (p : Publication) (pieces : List (List ℕ)) (piece x y : List
     → RespondsTo p (concat pieces) x → Responds p (requests_next gate piece).complete y → RespondsTo p (concat (pieces ++ piece ∷ [])) (x ++ y)
 responds-on p pieces piece x y gate is one two =
     let front = concat pieces in
-    rw (concat-more pieces piece, asked_on front piece gate is) (responds-append p (requests_in front).complete (requests_next gate piece).complete x y one two)
+    rw (concat-more pieces piece, asked_on front piece gate is) (responds-append None p (requests_in front).complete (requests_next gate piece).complete x y one two)
 
 -- what was read before one piece more has its responses
 pub responds-before : (p : Publication) (pieces : List (List ℕ)) (piece x : List ℕ) → RespondsTo p (concat pieces) x

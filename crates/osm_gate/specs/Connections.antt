@@ -6,7 +6,7 @@ use Rattle.osm_keys.specs.Publications.{Publication}
 use Rattle.http_messages.specs.HeadEnds.{skip_breaks}
 use Rattle.http_messages.specs.Requests.{Decided, Request, asked, first_request, refused}
 use Rattle.osm_gate.specs.ResponseTexts.{Response, response_text}
-use Rattle.osm_gate.specs.Responses.{IsResponse, ends, refused_response}
+use Rattle.osm_gate.specs.Responses.{IsResponseWithin, ends, refused_response}
 
 -- what is left of a connection: whether it is closed, and the bytes after the last complete request
 pub record Rest : Type 0 where
@@ -58,17 +58,21 @@ requests_on false bytes = requests_in bytes
 abbrev pub requests_next : Rest → List ℕ → Requests
 requests_next rest piece = requests_on rest.is_closed (rest.bytes ++ piece)
 
--- the text is the response to this request
-abbrev pub RespondsToOne : Publication → Request → List ℕ → Type 0
-RespondsToOne p (refused refusal) text = text ≡ response_text (refused_response refusal)
-RespondsToOne p (asked a) text = (r : Response) × IsResponse p a r × (text ≡ response_text r)
+-- the text is the response to this request, where there may be a budget for each query
+abbrev pub RespondsToOneWithin : Option ℕ → Publication → Request → List ℕ → Type 0
+RespondsToOneWithin most p (refused refusal) text = text ≡ response_text (refused_response refusal)
+RespondsToOneWithin most p (asked a) text = (r : Response) × IsResponseWithin most p a r × (text ≡ response_text r)
 
 -- the text is the responses to these requests, one after the other
+abbrev pub RespondsWithin : Option ℕ → Publication → List Request → List ℕ → Type 0
+RespondsWithin most p [] text = text ≡ []
+RespondsWithin most p (request ∷ requests) text =
+    (first : List ℕ) × (later : List ℕ) × RespondsToOneWithin most p request first
+    × RespondsWithin most p requests later × (text ≡ first ++ later)
+
+-- the same without a budget
 abbrev pub Responds : Publication → List Request → List ℕ → Type 0
-Responds p [] text = text ≡ []
-Responds p (request ∷ requests) text =
-    (first : List ℕ) × (later : List ℕ) × RespondsToOne p request first
-    × Responds p requests later × (text ≡ first ++ later)
+Responds p requests text = RespondsWithin None p requests text
 
 -- the text is the responses to all requests of these bytes
 abbrev pub RespondsTo : Publication → List ℕ → List ℕ → Type 0

@@ -6,10 +6,14 @@ use Rattle.std.specs.Int.{to_be_bytes, w64}
 use Rattle.std.specs.Str.{bytes_eq}
 use Rattle.hex.specs.Hex.{encode_lower}
 use Rattle.osm_model.specs.Bytes.{line_feed}
+use Rattle.osm_forms.specs.Forms.{form_text}
+use Rattle.osm_forms.specs.declared.form.Form.TheVariants.{Opl}
 use Rattle.osm_keys.specs.Publications.{Publication, root_of}
+use Rattle.osm_prove.specs.Budgets.{IsTooMuch, IsWithin, IsWorkOf}
 use Rattle.osm_prove.specs.Proved.{IsAnswer, IsProved}
-use Rattle.ql_syntax.specs.Queries.{HasFault}
+use Rattle.ql_syntax.specs.Queries.{HasFault, Reads}
 use Rattle.ql_syntax.specs.Refusals.{code_text}
+use Rattle.ql_syntax.specs.Statements.{Statements}
 use Rattle.ql_syntax.specs.declared.fault.QlFault.{QlFault}
 use Rattle.http_messages.specs.Forms.{query_of}
 use Rattle.http_messages.specs.Refusals.{refusal_status, refusal_text}
@@ -42,6 +46,10 @@ not_allowed_response closes methods = record {
   body = codes "method not allowed" ++ line_feed ∷ [];
 }
 
+-- the refusal of a query whose work passes the budget
+abbrev pub too_much_response : Bool → Response
+too_much_response closes = refusal closes 503 (codes "too much work")
+
 -- what was asked for, under this root
 abbrev pub ok_response : Bool → List ℕ → Bool → List ℕ → Response
 ok_response closes root is_binary body = record {
@@ -73,20 +81,33 @@ GivesAt AnswerWithProof closes p query r =
     (answer : List ℕ) × (proof : List ℕ) × IsProved p query answer proof
     × (r ≡ ok_response closes (root_of p) true (checked_body (root_of p) answer proof))
 
-abbrev pub ByQuery : Reply → Publication → Option (List ℕ) → Response → Type 0
-ByQuery reply p None r = r ≡ refusal reply.closes 400 (codes "no data")
-ByQuery reply p (Some query) r =
-    TellsFault reply.closes query r ⊎ GivesAt reply.endpoint reply.closes p query r
+-- the response says that the query, which reads, is too much work
+abbrev pub TellsTooMuch : Option ℕ → Bool → Publication → List ℕ → Response → Type 0
+TellsTooMuch most closes p query r =
+    (statements : Statements) × Reads query statements × IsTooMuch (IsWorkOf (form_text Opl) p query) most
+    × (r ≡ too_much_response closes)
+
+-- the same where there may be a budget: what is asked for where the query's work is within it, and else that it is too much
+abbrev pub GivesWithin : Option ℕ → Endpoint → Bool → Publication → List ℕ → Response → Type 0
+GivesWithin None endpoint closes p query r = GivesAt endpoint closes p query r
+GivesWithin (Some most) endpoint closes p query r =
+    (GivesAt endpoint closes p query r × IsWithin (IsWorkOf (form_text Opl) p query) (Some most))
+    ⊎ TellsTooMuch (Some most) closes p query r
+
+abbrev pub ByQueryWithin : Option ℕ → Reply → Publication → Option (List ℕ) → Response → Type 0
+ByQueryWithin most reply p None r = r ≡ refusal reply.closes 400 (codes "no data")
+ByQueryWithin most reply p (Some query) r =
+    TellsFault reply.closes query r ⊎ GivesWithin most reply.endpoint reply.closes p query r
 
 -- ---- methods and routes
 
 abbrev pub method_of : List ℕ → Method
 method_of method = if bytes_eq method (codes "GET") then Get else (if bytes_eq method (codes "POST") then Post else Other)
 
-abbrev pub ByMethod : Reply → Publication → Asked → Method → Response → Type 0
-ByMethod reply p a Get r = ByQuery reply p (query_of Target a) r
-ByMethod reply p a Post r = ByQuery reply p (query_of Body a) r
-ByMethod reply p a Other r = r ≡ not_allowed_response reply.closes (codes "GET, POST")
+abbrev pub ByMethodWithin : Option ℕ → Reply → Publication → Asked → Method → Response → Type 0
+ByMethodWithin most reply p a Get r = ByQueryWithin most reply p (query_of Target a) r
+ByMethodWithin most reply p a Post r = ByQueryWithin most reply p (query_of Body a) r
+ByMethodWithin most reply p a Other r = r ≡ not_allowed_response reply.closes (codes "GET, POST")
 
 -- the root in hexadecimal digits
 abbrev pub root_by_method : Bool → List ℕ → Method → Response
@@ -94,18 +115,23 @@ root_by_method closes root Get = ok_response closes root false (encode_lower roo
 root_by_method closes root Post = not_allowed_response closes (codes "GET")
 root_by_method closes root Other = not_allowed_response closes (codes "GET")
 
-abbrev pub ByRoute : Bool → Publication → Asked → Option Route → Response → Type 0
-ByRoute closes p a None r = r ≡ refusal closes 404 (codes "not found")
-ByRoute closes p a (Some (Query endpoint)) r = ByMethod (record { endpoint = endpoint; closes = closes }) p a (method_of a.method) r
-ByRoute closes p a (Some Root) r = r ≡ root_by_method closes (root_of p) (method_of a.method)
+abbrev pub ByRouteWithin : Option ℕ → Bool → Publication → Asked → Option Route → Response → Type 0
+ByRouteWithin most closes p a None r = r ≡ refusal closes 404 (codes "not found")
+ByRouteWithin most closes p a (Some (Query endpoint)) r =
+    ByMethodWithin most (record { endpoint = endpoint; closes = closes }) p a (method_of a.method) r
+ByRouteWithin most closes p a (Some Root) r = r ≡ root_by_method closes (root_of p) (method_of a.method)
 
 -- the connection ends after the response to this request
 abbrev pub ends : Asked → Bool
 ends a = a.closes || bytes_eq a.method (codes "HEAD")
 
--- the response to a complete request
-unfoldable pub IsResponse : Publication → Asked → Response → Type 0
-IsResponse p a r = ByRoute (ends a) p a (route_of (path_of a.target)) r
+-- the response to a complete request, where there may be a budget for each query
+unfoldable pub IsResponseWithin : Option ℕ → Publication → Asked → Response → Type 0
+IsResponseWithin most p a r = ByRouteWithin most (ends a) p a (route_of (path_of a.target)) r
+
+-- and where there is none
+abbrev pub IsResponse : Publication → Asked → Response → Type 0
+IsResponse p a r = IsResponseWithin None p a r
 
 -- ---- requests that are refused as they stand
 

@@ -3,7 +3,7 @@
 ghost use Rattle.std.specs.Prelude.{◌≡◌, ◌≤◌, IfOk, OnErr, [], drop, length};
 ghost use Rattle.osm_keys.specs.Publications.{Publication};
 ghost use Rattle.osm_index.specs.Snapshots.{HoldsPublication};
-ghost use Rattle.osm_gate.specs.Connections.{Responds, Rest, requests_next, open_rest};
+ghost use Rattle.osm_gate.specs.Connections.{Responds, RespondsWithin, Rest, requests_next, open_rest};
 ghost use Rattle.osm_gate.specs.internal.Kept.{IsKept};
 
 use crate::requests::respond_to_all;
@@ -83,6 +83,28 @@ impl Gate {
         // Out of memory the gate is as before: no part of the piece was taken.
         ensures unchanged { OnErr result (self.new ≡ self.old) }
     {
+        self.feed_within(piece, snapshot, None)
+    }
+
+    /// Takes the next piece, as [`Gate::feed`] does, where each query has a budget, or none: one that passes it is answered
+    /// with 503 `too much work`, and the connection goes on. What is counted says [`ql_eval::evaluate_within`]. Refused only
+    /// where memory runs out.
+    pub fn feed_within(
+        &mut self,
+        piece: &[u8],
+        snapshot: &Snapshot,
+        most: Option<u64>,
+    ) -> Result<Vec<u8>, AllocError>
+        // What is given responds to the requests of what was left and of this piece,
+        ensures responses { (p : Publication) → HoldsPublication snapshot.now p
+            → IfOk result (λ responses.
+            RespondsWithin most p (requests_next self.old piece.now).complete responses.items) }
+        // and what is left of both is left.
+        ensures rest { IfOk result (λ responses.
+            self.new ≡ (requests_next self.old piece.now).rest) }
+        // Out of memory the gate is as before: no part of the piece was taken.
+        ensures unchanged { OnErr result (self.new ≡ self.old) }
+    {
         if self.is_closed {
             return Ok(Vec::new(self.alloc));
         }
@@ -100,6 +122,7 @@ impl Gate {
             snapshot,
             rest,
             scanned,
+            most,
         ) {
             Ok(both) => both,
             Err(error) => {

@@ -1,8 +1,8 @@
 //! Laws of connections, and of their limits.
 
-ghost use Rattle.std.specs.Prelude.{◌≡◌, ◌++◌, ◌+◌, ◌^◌, ◌<◌, ℕ, List, [], length, true};
+ghost use Rattle.std.specs.Prelude.{◌≡◌, ◌++◌, ◌+◌, ◌^◌, ◌<◌, ℕ, List, Option, [], length, true};
 ghost use Rattle.osm_keys.specs.Publications.{IsPublication, Publication};
-ghost use Rattle.osm_gate.specs.Connections.{Responds, Rest, closed_rest, requests_in, requests_next, joined_requests};
+ghost use Rattle.osm_gate.specs.Connections.{Responds, RespondsWithin, Rest, closed_rest, requests_in, requests_next, joined_requests};
 ghost use Rattle.http_messages.specs.Requests.{Request};
 ghost use Rattle.http_messages.specs.declared.limits.TheConstants.{BODY_LIMIT, HEAD_LIMIT};
 ghost use Rattle.osm_gate.specs.declared.limits.TheConstants.{PIECE_LIMIT, READ_LIMIT};
@@ -34,6 +34,14 @@ pub fn responses_stand_in_order()
 pub fn one_response()
     ensures { (p : Publication) (requests : List Request) (first second : List ℕ) → IsPublication p
         → Responds p requests first → Responds p requests second → first ≡ second }
+{}
+
+/// A law: the same with a budget for each query, so all mirrors of a set that have the same budget give the same
+/// responses.
+pub fn one_response_within()
+    ensures { (most : Option ℕ) (p : Publication) (requests : List Request) (first second : List ℕ)
+        → IsPublication p → RespondsWithin most p requests first
+        → RespondsWithin most p requests second → first ≡ second }
 {}
 
 /// A law: what is left of a connection is shorter than the longest head and the longest body together.

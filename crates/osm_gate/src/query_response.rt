@@ -4,39 +4,39 @@ ghost use Rattle.std.specs.Prelude.{◌≡◌, ◌++◌, IfOk, OnOk, Some, false
 ghost use Rattle.std.specs.String.{string_bytes};
 ghost use Rattle.osm_keys.specs.Publications.{Publication};
 ghost use Rattle.osm_index.specs.Snapshots.{HoldsPublication};
-ghost use Rattle.ql_syntax.specs.declared.fault.QlFault.{QlFault};
 ghost use Rattle.osm_gate.specs.ResponseTexts.{response_text};
-ghost use Rattle.osm_gate.specs.Responses.{ByQuery, checked_body, fault_text, ok_response, refusal};
-ghost use Rattle.osm_gate.specs.internal.Adding.{AddsResponse};
+ghost use Rattle.osm_gate.specs.Responses.{ByQueryWithin, checked_body, fault_text, ok_response};
+ghost use Rattle.osm_gate.specs.internal.Adding.{AddsFault, AddsResponse};
 
 use crate::endpoint::Endpoint;
 use crate::reply::Reply;
 use crate::response::{write_ok, write_refusal};
 use http::StatusCode;
 use osm_index::Snapshot;
-use osm_prove::{Answered, ProveFault, Proved, answer, prove};
+use osm_prove::{Answered, ProveFault, Proved, answer_within, prove_within};
 use ql_syntax::QlFault;
 use std::alloc::{AllocError, Global};
 
-/// Appends the response to a query: what its endpoint gives, or why the query doesn't read. Out of memory it leaves
-/// what it wrote.
+/// Appends the response to a query: what its endpoint gives, why the query doesn't read, or that it is too much work for
+/// the budget, where there is one. Out of memory it leaves what it wrote.
 pub(crate) fn respond_to_query(
     alloc: Global,
     output: &mut Vec<u8>,
     reply: Reply,
     snapshot: &Snapshot,
     query: &[u8],
+    most: Option<u64>,
 ) -> Result<(), AllocError>
     ensures { (p : Publication) → HoldsPublication snapshot.now p
-        → OnOk result (AddsResponse (ByQuery reply p (Some query.now))
+        → OnOk result (AddsResponse (ByQueryWithin most reply p (Some query.now))
         output.old.items output.new.items) }
 {
     match reply.endpoint {
-        Endpoint::Answer => match answer(alloc, snapshot, query) {
+        Endpoint::Answer => match answer_within(alloc, snapshot, query, most) {
             Ok(answered) => write_answer(alloc, output, reply.closes, &answered),
             Err(fault) => write_fault(alloc, output, reply.closes, fault),
         },
-        Endpoint::AnswerWithProof => match prove(alloc, snapshot, query) {
+        Endpoint::AnswerWithProof => match prove_within(alloc, snapshot, query, most) {
             Ok(proved) => write_answer_with_proof(alloc, output, reply.closes, &proved),
             Err(fault) => write_fault(alloc, output, reply.closes, fault),
         },
@@ -79,22 +79,24 @@ fn write_answer_with_proof(
     write_ok(alloc, output, closes, &proved.root, true, &body)
 }
 
-/// Appends why a query doesn't read. It is refused where memory had run out already.
+/// Appends why a query has no answer. It is refused where memory had run out already.
 fn write_fault(
     alloc: Global,
     output: &mut Vec<u8>,
     closes: bool,
     fault: ProveFault,
 ) -> Result<(), AllocError>
-    ensures { OnOk result ((of_query : QlFault) × (fault ≡ ProveFault.Query of_query)
-        × (output.new.items ≡ output.old.items
-        ++ response_text (refusal closes 400 (fault_text of_query)))) }
+    ensures { OnOk result (AddsFault closes fault output.old.items output.new.items) }
 {
     match fault {
         ProveFault::Query(fault) => {
             let text = fault_text(alloc, &fault)?;
             let status = StatusCode::BAD_REQUEST;
             write_refusal(alloc, output, closes, status, text.as_str())
+        }
+        ProveFault::Work => {
+            let status = StatusCode::SERVICE_UNAVAILABLE;
+            write_refusal(alloc, output, closes, status, "too much work")
         }
         ProveFault::Memory => Err(AllocError),
     }

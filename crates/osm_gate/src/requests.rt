@@ -3,7 +3,7 @@
 ghost use Rattle.std.specs.Prelude.{◌≡◌, ◌≤◌, IfOk, IfSome, None, drop, false, length, take};
 ghost use Rattle.osm_keys.specs.Publications.{Publication};
 ghost use Rattle.osm_index.specs.Snapshots.{HoldsPublication};
-ghost use Rattle.osm_gate.specs.Connections.{RespondsTo, requests_in};
+ghost use Rattle.osm_gate.specs.Connections.{RespondsWithin, requests_in};
 ghost use Rattle.http_messages.specs.HeadEnds.{begins_with_break, head_length, skip_breaks};
 ghost use Rattle.http_messages.specs.Requests.{first_request};
 ghost use Rattle.osm_gate.specs.Routes.{route_rows};
@@ -37,19 +37,21 @@ pub(crate) enum Step {
     Next { used: usize },
 }
 
-/// The responses to all complete requests, and what is left unless the connection ends. The first `scanned` bytes,
-/// those without CR and LF before them, are known to hold no complete head.
+/// The responses to all complete requests, each query of which has the budget, where there is one, and what is left unless
+/// the connection ends. The first `scanned` bytes, those without CR and LF before them, are known to hold no complete head.
 pub(crate) fn respond_to_all(
     alloc: Global,
     router: &Router<Route>,
     snapshot: &Snapshot,
     bytes: &[u8],
     scanned: usize,
+    most: Option<u64>,
 ) -> Result<(Vec<u8>, Option<Open>), AllocError>
     requires router { router.now ≡ route_rows }
     requires scanned { head_length (take scanned (take HEAD_LIMIT (skip_breaks bytes.now))) ≡ None }
     ensures responses { (p : Publication) → HoldsPublication snapshot.now p
-        → IfOk result (λ both. RespondsTo p bytes.now both.0.items) }
+        → IfOk result (λ both.
+        RespondsWithin most p (requests_in bytes.now).complete both.0.items) }
     ensures rest { IfOk result (λ both. (requests_in bytes.now).rest ≡ rest_at bytes.now both.1) }
     ensures open { IfOk result (λ both. IfSome both.1 (λ open_at. (open_at.at ≤ length bytes.now)
         × IsOpen open_at.needed (drop open_at.at bytes.now))) }
@@ -59,7 +61,15 @@ pub(crate) fn respond_to_all(
     let mut scanned = scanned;
     loop {
         let start = without_breaks(rest);
-        match respond_to_first(alloc, &mut responses, router, snapshot, start, scanned)? {
+        match respond_to_first(
+            alloc,
+            &mut responses,
+            router,
+            snapshot,
+            start,
+            scanned,
+            most,
+        )? {
             Step::Open { needed } => {
                 let at = bytes.len() - start.len();
                 return Ok((responses, Some(Open { at, needed })));
@@ -82,12 +92,13 @@ fn respond_to_first(
     snapshot: &Snapshot,
     bytes: &[u8],
     scanned: usize,
+    most: Option<u64>,
 ) -> Result<Step, AllocError>
     requires router { router.now ≡ route_rows }
     requires begins { begins_with_break bytes.now ≡ false }
     requires scanned { head_length (take scanned (take HEAD_LIMIT bytes.now)) ≡ None }
     ensures { IfOk result
-        (λ step. StepIs step snapshot.now bytes.now responses.old.items responses.new.items) }
+        (λ step. StepIs most step snapshot.now bytes.now responses.old.items responses.new.items) }
 {
     match first_request(bytes, scanned) {
         Decision::HeadOpen => Ok(Step::Open { needed: 0 }),
@@ -97,7 +108,7 @@ fn respond_to_first(
             Ok(Step::Ended)
         }
         Decision::Complete { request, used } => {
-            if respond(alloc, responses, router, snapshot, &request)? {
+            if respond(alloc, responses, router, snapshot, &request, most)? {
                 return Ok(Step::Ended);
             }
             Ok(Step::Next { used })

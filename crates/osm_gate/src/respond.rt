@@ -5,7 +5,7 @@ ghost use Rattle.osm_keys.specs.Publications.{Publication};
 ghost use Rattle.osm_index.specs.Snapshots.{HoldsPublication};
 ghost use Rattle.http_messages.specs.Forms.{query_of};
 ghost use Rattle.osm_gate.specs.ResponseTexts.{response_text};
-ghost use Rattle.osm_gate.specs.Responses.{ByMethod, ByQuery, ByRoute, IsResponse, ends, refused_response, root_by_method};
+ghost use Rattle.osm_gate.specs.Responses.{ByMethodWithin, ByQueryWithin, ByRouteWithin, IsResponseWithin, ends, refused_response, root_by_method};
 ghost use Rattle.osm_gate.specs.Routes.{route_rows};
 ghost use Rattle.osm_gate.specs.internal.Adding.{AddsResponse};
 ghost use Rattle.http_messages.specs.Decisions.{asked_of};
@@ -21,26 +21,27 @@ use matchit::Router;
 use osm_index::Snapshot;
 use std::alloc::{AllocError, Global};
 
-/// Appends the response to a complete request, and tells whether the connection ends after it. Out of memory it
-/// leaves what it wrote.
-#[tactic(auto, unfolding(crate::specs::Responses::IsResponse))]
+/// Appends the response to a complete request, whose query has the budget, where there is one, and tells whether the
+/// connection ends after it. Out of memory it leaves what it wrote.
+#[tactic(auto, unfolding(crate::specs::Responses::IsResponseWithin))]
 pub(crate) fn respond(
     alloc: Global,
     output: &mut Vec<u8>,
     router: &Router<Route>,
     snapshot: &Snapshot,
     request: &Request<'_>,
+    most: Option<u64>,
 ) -> Result<bool, AllocError>
     requires { router.now ≡ route_rows }
     ensures text { (p : Publication) → HoldsPublication snapshot.now p
-        → OnOk result (AddsResponse (IsResponse p (asked_of request.now))
+        → OnOk result (AddsResponse (IsResponseWithin most p (asked_of request.now))
         output.old.items output.new.items) }
     ensures closes { IfOk result (λ closes. closes ≡ ends (asked_of request.now)) }
 {
     let closes = request.closes || request.method == b"HEAD".as_slice();
     let (path, _) = split_target(request.target);
     let route = route_of(router, path);
-    respond_on(alloc, output, closes, snapshot, request, route)?;
+    respond_on(alloc, output, closes, snapshot, request, route, most)?;
     Ok(closes)
 }
 
@@ -51,9 +52,10 @@ fn respond_on(
     snapshot: &Snapshot,
     request: &Request<'_>,
     route: Option<Route>,
+    most: Option<u64>,
 ) -> Result<(), AllocError>
     ensures { (p : Publication) → HoldsPublication snapshot.now p
-        → OnOk result (AddsResponse (ByRoute closes p (asked_of request.now) route)
+        → OnOk result (AddsResponse (ByRouteWithin most closes p (asked_of request.now) route)
         output.old.items output.new.items) }
 {
     let method = method_of(request.method);
@@ -61,7 +63,7 @@ fn respond_on(
         None => write_refusal(alloc, output, closes, StatusCode::NOT_FOUND, "not found"),
         Some(Route::Query(endpoint)) => {
             let reply = Reply { endpoint, closes };
-            respond_query(alloc, output, reply, snapshot, request, method)
+            respond_query(alloc, output, reply, snapshot, request, method, most)
         }
         Some(Route::Root) => respond_root(alloc, output, closes, snapshot, method),
     }
@@ -74,14 +76,31 @@ fn respond_query(
     snapshot: &Snapshot,
     request: &Request<'_>,
     method: Method,
+    most: Option<u64>,
 ) -> Result<(), AllocError>
     ensures { (p : Publication) → HoldsPublication snapshot.now p
-        → OnOk result (AddsResponse (ByMethod reply p (asked_of request.now) method)
+        → OnOk result (AddsResponse (ByMethodWithin most reply p (asked_of request.now) method)
         output.old.items output.new.items) }
 {
     match method {
-        Method::Get => answer(alloc, output, reply, snapshot, QuerySource::Target, request),
-        Method::Post => answer(alloc, output, reply, snapshot, QuerySource::Body, request),
+        Method::Get => answer(
+            alloc,
+            output,
+            reply,
+            snapshot,
+            QuerySource::Target,
+            request,
+            most,
+        ),
+        Method::Post => answer(
+            alloc,
+            output,
+            reply,
+            snapshot,
+            QuerySource::Body,
+            request,
+            most,
+        ),
         Method::Other => write_not_allowed(alloc, output, reply.closes, "GET, POST"),
     }
 }
@@ -93,16 +112,17 @@ fn answer(
     snapshot: &Snapshot,
     source: QuerySource,
     request: &Request<'_>,
+    most: Option<u64>,
 ) -> Result<(), AllocError>
     ensures { (p : Publication) → HoldsPublication snapshot.now p
-        → OnOk result (AddsResponse (ByQuery reply p (query_of source (asked_of request.now)))
+        → OnOk result (AddsResponse (ByQueryWithin most reply p (query_of source (asked_of request.now)))
         output.old.items output.new.items) }
 {
     let Some(query) = query_of(alloc, source, request)? else {
         let status = StatusCode::BAD_REQUEST;
         return write_refusal(alloc, output, reply.closes, status, "no data");
     };
-    respond_to_query(alloc, output, reply, snapshot, query.as_bytes())
+    respond_to_query(alloc, output, reply, snapshot, query.as_bytes(), most)
 }
 
 fn respond_root(

@@ -4,3 +4,4 @@ pub mod NeededNodes
 pub mod NodeOrder
 pub mod PartNodes
 pub mod ProofLaws
+pub mod QueryWorks

@@ -4,7 +4,6 @@ use Rattle.std.specs.Prelude.{ℕ, List, Option, Result, Ok, Err, ⊤}
 use Rattle.osm_keys.specs.Publications.{Publication}
 use Rattle.ql_syntax.specs.Queries.{Reads}
 use Rattle.ql_syntax.specs.Statements.{Statements}
-use Rattle.ql_syntax.specs.declared.fault.QlFault.{QlFault}
 use Rattle.ql_meaning.specs.Meanings.{Telling}
 use Rattle.ql_eval.specs.Work.{Passes, WorkOfQuery}
 use Rattle.osm_prove.specs.declared.prove_fault.ProveFault.{ProveFault}

@@ -1,6 +1,6 @@
 //! Queries, evaluated over a snapshot.
 
-ghost use Rattle.std.specs.Prelude.{◌≡◌, ◌≢◌, ◌⊎◌, Err, IfErr, IfOk, IsTrue, MatchResult, None, OnOk};
+ghost use Rattle.std.specs.Prelude.{◌≡◌, ◌≢◌, ◌↔◌, ◌⊎◌, Err, IfErr, IfOk, IsTrue, None, OnOk};
 ghost use Rattle.tree_node.specs.Outcomes.{GrownByAll, NoMemory};
 ghost use Rattle.tree_node.specs.Recorders.{RecorderHolds, RecorderUsed};
 ghost use Rattle.tree_node.specs.Shelves.{SameNodes};
@@ -66,13 +66,20 @@ fn refusal_of(fault: EvalFault) -> ProveFault
     ensures work { (result ≡ ProveFault.Work) ↔ (fault ≡ EvalFault.Work) }
     ensures only { (result ≡ ProveFault.Memory) ⊎ (result ≡ ProveFault.Work) }
 {
-    if matches!(fault, EvalFault::Work) {
+    if is_work(fault) {
         return ProveFault::Work;
     }
     if !is_memory(fault) {
         unreachable!("the snapshot holds each node that a query needs");
     }
     ProveFault::Memory
+}
+
+/// Whether an evaluation was refused for its budget.
+fn is_work(fault: EvalFault) -> bool
+    ensures { IsTrue result ↔ (fault ≡ EvalFault.Work) }
+{
+    matches!(fault, EvalFault::Work)
 }
 
 /// Whether an evaluation was refused for memory, wherever it ran out.

@@ -15,7 +15,7 @@ use osm_desk::Desk;
 use osm_gate::GateFault;
 use std::io::Write;
 
-/// Reads a piece of a connection that has nothing coming any more, and answers it.
+/// Reads a piece of a connection that has nothing coming any more, and answers it, where each query has the budget, or none.
 pub(crate) fn listen<T: Traffic, E: Write>(
     desk: &mut Desk,
     outputs: &mut Outputs,
@@ -23,8 +23,9 @@ pub(crate) fn listen<T: Traffic, E: Write>(
     errors: &mut E,
     number: u32,
     piece: &mut [u8],
+    most: Option<u64>,
 )
-    ensures kept { Keeps (T.log traffic.old) (T.log traffic.new)
+    ensures kept { Keeps most (T.log traffic.old) (T.log traffic.new)
         outputs.old outputs.new desk.old desk.new }
     ensures snapshot { desk.new.snapshot ≡ desk.old.snapshot }
 {
@@ -33,7 +34,7 @@ pub(crate) fn listen<T: Traffic, E: Write>(
     }
     match traffic.read(number, piece) {
         Reading::Got(count) => {
-            hear(desk, outputs, errors, number, &piece[..count]);
+            hear(desk, outputs, errors, number, &piece[..count], most);
             hand(desk, outputs, traffic, errors, number);
         }
         Reading::Later => {}
@@ -56,16 +57,23 @@ fn may_read(desk: &Desk, outputs: &Outputs, number: u32) -> bool
 }
 
 /// Takes a piece that was read.
-fn hear<E: Write>(desk: &mut Desk, outputs: &mut Outputs, errors: &mut E, number: u32, piece: &[u8])
+fn hear<E: Write>(
+    desk: &mut Desk,
+    outputs: &mut Outputs,
+    errors: &mut E,
+    number: u32,
+    piece: &[u8],
+    most: Option<u64>,
+)
     requires idle { get outputs.old number ≡ Some [] }
     requires open { IsSome (get desk.old.connections number) }
     requires cut { IsCut piece.now }
     ensures kept { (log : Option (List Entry))
-        → Keeps log (noted (brought number piece.now) log)
+        → Keeps most log (noted (brought number piece.now) log)
         outputs.old outputs.new desk.old desk.new }
     ensures snapshot { desk.new.snapshot ≡ desk.old.snapshot }
 {
-    let Ok(text) = desk.hear(number, piece) else {
+    let Ok(text) = desk.hear_within(number, piece, most) else {
         tell(errors, GateFault::Memory);
         // Nothing more of it is heard.
         desk.forget(number);

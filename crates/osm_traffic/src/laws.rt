@@ -1,9 +1,9 @@
 //! Laws of what the server did. There is nothing to do when they run.
 
-ghost use Rattle.std.specs.Prelude.{◌++◌, ◌∷◌, ℕ, List, Result, true};
+ghost use Rattle.std.specs.Prelude.{◌++◌, ◌∷◌, ℕ, List, Option, Result, true};
 ghost use Rattle.osm_desk.specs.Desks.{Desk, fresh};
 ghost use Rattle.osm_desk.specs.Happenings.{arrived};
-ghost use Rattle.osm_desk.specs.Runs.{Ran, stood};
+ghost use Rattle.osm_desk.specs.Runs.{RanWithin, stood};
 ghost use Rattle.osm_desk.specs.Told.{FindsRoom};
 ghost use Rattle.osm_desk.specs.declared.desk_fault.DeskFault.{DeskFault};
 ghost use Rattle.osm_keys.specs.Publications.{Publication};
@@ -14,26 +14,27 @@ use osm_desk::runs_tell_each_its_own;
 
 /// A law: what the server did is a run of the desk, and each connection finds room.
 pub fn serving_is_a_run()
-    ensures run { (wanted : ℕ) (d : Desk) (deeds : List Deed) → Serves wanted d deeds
-        → Ran d (in_order deeds) }
-    ensures room { (c wanted : ℕ) (d : Desk) (deeds : List Deed) → Serves wanted d deeds
-        → FindsRoom c d (stood (in_order deeds)) }
+    ensures run { (most : Option ℕ) (wanted : ℕ) (d : Desk) (deeds : List Deed)
+        → Serves most wanted d deeds → RanWithin most d (in_order deeds) }
+    ensures room { (most : Option ℕ) (c wanted : ℕ) (d : Desk) (deeds : List Deed)
+        → Serves most wanted d deeds → FindsRoom c d (stood (in_order deeds)) }
 {}
 
 /// A law: whatever happens, in whatever order, a connection's socket took a beginning of the responses to what that
 /// connection's own bytes ask, piece by piece, over the publications that were in force; and where memory has run out
-/// for it, of the response that says so, after them.
+/// for it, of the response that says so, after them. That holds with a budget for each query, and without one.
 pub fn each_is_handed_its_own()
-    ensures own { (c wanted : ℕ) (p : Publication) (deeds : List Deed)
-        → Serves wanted (fresh p) deeds → IsHandedItsOwn c p deeds }
+    ensures own { (most : Option ℕ) (c wanted : ℕ) (p : Publication) (deeds : List Deed)
+        → Serves most wanted (fresh p) deeds → IsHandedItsOwn most c p deeds }
     // It had taken all of them whenever it was let go as a whole one,
-    ensures whole { (c wanted : ℕ) (p : Publication) (after before : List Deed)
-        → Serves wanted (fresh p) (after ++ parted c true ∷ before) → IsHandedAll c p before }
+    ensures whole { (most : Option ℕ) (c wanted : ℕ) (p : Publication) (after before : List Deed)
+        → Serves most wanted (fresh p) (after ++ parted c true ∷ before)
+        → IsHandedAll most c p before }
     // and whenever it was read.
-    ensures read { (c wanted : ℕ) (p : Publication) (piece : List ℕ)
+    ensures read { (most : Option ℕ) (c wanted : ℕ) (p : Publication) (piece : List ℕ)
         (r : Result (List (ℕ × List ℕ)) DeskFault) (after before : List Deed)
-        → Serves wanted (fresh p) (after ++ stepped (arrived c piece) r ∷ before)
-        → IsHandedAll c p before }
+        → Serves most wanted (fresh p) (after ++ stepped (arrived c piece) r ∷ before)
+        → IsHandedAll most c p before }
 {
     runs_tell_each_its_own();
 }

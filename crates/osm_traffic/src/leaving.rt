@@ -1,7 +1,7 @@
 //! Connections that end.
 
 ghost use Rattle.std.specs.FinMap.{get};
-ghost use Rattle.std.specs.Prelude.{◌≡◌, true, IsSome, Some, []};
+ghost use Rattle.std.specs.Prelude.{◌≡◌, ℕ, true, IsSome, Option, Some, []};
 ghost use Rattle.osm_traffic.specs.internal.Standing.{Keeps};
 
 use crate::outputs::Outputs;
@@ -20,7 +20,7 @@ pub(crate) fn part<T: Traffic>(
 )
     requires known { IsSome (get outputs.old number) }
     requires idle { whole ≡ true → get outputs.old number ≡ Some [] }
-    ensures kept { Keeps (T.log traffic.old) (T.log traffic.new)
+    ensures kept { (most : Option ℕ) → Keeps most (T.log traffic.old) (T.log traffic.new)
         outputs.old outputs.new desk.old desk.new }
     ensures snapshot { desk.new.snapshot ≡ desk.old.snapshot }
 {
@@ -39,7 +39,7 @@ pub(crate) fn break_off<T: Traffic, E: Write>(
     fault: GateFault,
 )
     requires { IsSome (get outputs.old number) }
-    ensures kept { Keeps (T.log traffic.old) (T.log traffic.new)
+    ensures kept { (most : Option ℕ) → Keeps most (T.log traffic.old) (T.log traffic.new)
         outputs.old outputs.new desk.old desk.new }
     ensures snapshot { desk.new.snapshot ≡ desk.old.snapshot }
 {
@@ -56,7 +56,7 @@ pub(crate) fn let_go<T: Traffic, E: Write>(
     errors: &mut E,
     number: u32,
 )
-    ensures kept { Keeps (T.log traffic.old) (T.log traffic.new)
+    ensures kept { (most : Option ℕ) → Keeps most (T.log traffic.old) (T.log traffic.new)
         outputs.old outputs.new desk.old desk.new }
     ensures snapshot { desk.new.snapshot ≡ desk.old.snapshot }
 {

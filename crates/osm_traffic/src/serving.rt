@@ -27,7 +27,8 @@ const PIECE_LIMIT: usize = 8192;
 
 /// Serves this number of connections on the desk, up to 64 at a time, numbered from 0 as they come. Each is read only
 /// where it has nothing coming any more, a piece at a time, and gets the responses to the requests that the piece
-/// completes. The lookout is asked at each connection that comes, before its bytes are read, and whenever the traffic says
+/// completes. A query that passes the budget, where there is one, is answered with 503 `too much work`; what is counted says
+/// [`ql_eval::evaluate_within`]. The lookout is asked at each connection that comes, before its bytes are read, and whenever the traffic says
 /// that it is time. A connection that ends badly is told in one line of `errors` (`G1` to `G3`), and leaves the others.
 ///
 /// # Errors
@@ -41,6 +42,7 @@ pub fn serve_many<L: Lookout, T: Traffic, E: Write>(
     lookout: &mut L,
     traffic: &mut T,
     connections: u32,
+    most: Option<u64>,
     errors: &mut E,
 ) -> Result<(), TrafficFault>
     requires { desk.old.connections ≡ empty }
@@ -48,7 +50,7 @@ pub fn serve_many<L: Lookout, T: Traffic, E: Write>(
     ensures served { (p : Publication) (base : List Entry) → HoldsPublication desk.old.snapshot p
         → T.log traffic.old ≡ Some base
         → (deeds : List Deed) × (T.log traffic.new ≡ Some (log_of deeds ++ base))
-        × Serves connections (fresh p) deeds
+        × Serves most connections (fresh p) deeds
         × StandsFor desk.new (desk_after (fresh p) deeds)
         × OnOk result (arrivals deeds ≡ connections) }
     // What is in force has been made by what the lookout found, one after the other, but what was refused.
@@ -75,6 +77,7 @@ pub fn serve_many<L: Lookout, T: Traffic, E: Write>(
             news,
             taken,
             room,
+            most,
         )? {
             taken += 1;
         }
@@ -116,13 +119,14 @@ fn turn<L: Lookout, T: Traffic, E: Write>(
     news: News,
     number: u32,
     room: Room,
+    most: Option<u64>,
 ) -> Result<bool, TrafficFault>
     requires room { room ≡ Room.Free → len desk.old.connections < CONNECTION_LIMIT }
     ensures stands { IfOk result
-        (λ is. Moves (T.log traffic.old) (T.log traffic.new)
+        (λ is. Moves most (T.log traffic.old) (T.log traffic.new)
         outputs.old outputs.new desk.old desk.new
         number (if is then number + 1 else number)) }
-    ensures refused { OnErr result (Stops (T.log traffic.old) (T.log traffic.new)
+    ensures refused { OnErr result (Stops most (T.log traffic.old) (T.log traffic.new)
         outputs.old outputs.new desk.old desk.new number) }
     ensures only_room { IfOk result (λ is. is ≡ true → room ≡ Room.Free) }
     ensures found { TakesFound (L.found lookout.old) (L.found lookout.new)
@@ -133,7 +137,7 @@ fn turn<L: Lookout, T: Traffic, E: Write>(
             Room::Free => return welcome(desk, lookout, outputs, traffic, errors, number),
             Room::Full | Room::Closed => {}
         },
-        News::Readable(number) => listen(desk, outputs, traffic, errors, number, piece),
+        News::Readable(number) => listen(desk, outputs, traffic, errors, number, piece, most),
         News::Writable(number) => hand(desk, outputs, traffic, errors, number),
         News::Silent(number) => let_go(desk, outputs, traffic, errors, number),
         News::Look => lookout.look(desk, errors),

@@ -1,7 +1,7 @@
 //! Connections that come.
 
 ghost use Rattle.std.specs.FinMap.{len};
-ghost use Rattle.std.specs.Prelude.{◌≡◌, ◌<◌, ◌+◌, IfOk, List, OnErr, Option, if◌then◌else◌};
+ghost use Rattle.std.specs.Prelude.{◌≡◌, ◌<◌, ◌+◌, ℕ, IfOk, List, OnErr, Option, if◌then◌else◌};
 ghost use Rattle.osm_traffic.specs.Entries.{Entry, noted, came};
 ghost use Rattle.osm_desk.specs.Published.{TakesFound};
 ghost use Rattle.osm_traffic.specs.internal.Standing.{Moves, Stops};
@@ -27,11 +27,11 @@ pub(crate) fn welcome<L: Lookout, T: Traffic, E: Write>(
     number: u32,
 ) -> Result<bool, TrafficFault>
     requires room { len desk.old.connections < CONNECTION_LIMIT }
-    ensures stands { IfOk result
-        (λ is. Moves (T.log traffic.old) (T.log traffic.new)
+    ensures stands { (most : Option ℕ) → IfOk result
+        (λ is. Moves most (T.log traffic.old) (T.log traffic.new)
         outputs.old outputs.new desk.old desk.new
         number (if is then number + 1 else number)) }
-    ensures refused { OnErr result (Stops (T.log traffic.old) (T.log traffic.new)
+    ensures refused { (most : Option ℕ) → OnErr result (Stops most (T.log traffic.old) (T.log traffic.new)
         outputs.old outputs.new desk.old desk.new number) }
     ensures found { TakesFound (L.found lookout.old) (L.found lookout.new)
         desk.old.snapshot desk.new.snapshot }
@@ -57,8 +57,8 @@ fn open<E: Write>(
     number: u32,
 ) -> Result<(), AllocError>
     requires room { len desk.old.connections < CONNECTION_LIMIT }
-    ensures stands { (log : Option (List Entry))
-        → Moves log (noted (came number) log) outputs.old outputs.new desk.old desk.new
+    ensures stands { (most : Option ℕ) (log : Option (List Entry))
+        → Moves most log (noted (came number) log) outputs.old outputs.new desk.old desk.new
         number (number + 1) }
     ensures snapshot { desk.new.snapshot ≡ desk.old.snapshot }
 {

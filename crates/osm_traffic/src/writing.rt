@@ -1,6 +1,6 @@
 //! What goes out.
 
-ghost use Rattle.std.specs.Prelude.{◌≡◌};
+ghost use Rattle.std.specs.Prelude.{◌≡◌, ℕ, Option};
 ghost use Rattle.osm_traffic.specs.internal.Standing.{Keeps};
 
 use crate::leaving::{break_off, part};
@@ -19,7 +19,7 @@ pub(crate) fn hand<T: Traffic, E: Write>(
     errors: &mut E,
     number: u32,
 )
-    ensures kept { Keeps (T.log traffic.old) (T.log traffic.new)
+    ensures kept { (most : Option ℕ) → Keeps most (T.log traffic.old) (T.log traffic.new)
         outputs.old outputs.new desk.old desk.new }
     ensures snapshot { desk.new.snapshot ≡ desk.old.snapshot }
 {

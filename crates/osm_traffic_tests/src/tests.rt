@@ -3,6 +3,7 @@
 ghost use Rattle.std.specs.FinMap.{empty};
 ghost use Rattle.std.specs.Prelude.{◌≡◌, IfOk};
 
+mod budgets;
 mod memory;
 mod network;
 mod orders;
@@ -37,17 +38,26 @@ fn desk_over(alloc: Global, edition: Edition) -> Result<Desk, Fail>
     Ok(Desk::new(alloc, Snapshot::build(alloc, set, edition)?))
 }
 
-/// Serves so many connections of a network.
+/// Serves so many connections of a network, whose queries have a budget, or none.
 fn serve(
     alloc: Global,
     desk: &mut Desk,
     network: &mut Network,
     connections: u32,
+    most: Option<u64>,
 ) -> Result<(), TrafficFault>
     requires { desk.old.connections ≡ empty }
 {
     let mut errors = Vec::new(alloc);
-    serve_many(alloc, desk, &mut Quiet, network, connections, &mut errors)
+    serve_many(
+        alloc,
+        desk,
+        &mut Quiet,
+        network,
+        connections,
+        most,
+        &mut errors,
+    )
 }
 
 /// The responses to these bytes alone.

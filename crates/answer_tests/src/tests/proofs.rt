@@ -1,5 +1,6 @@
 //! Proofs over small sets, and what is no proof.
 
+mod budgets;
 mod larger_rows;
 mod memory;
 mod proofs;

@@ -1,5 +1,6 @@
 //! Verdicts on answers and proofs: right, spoiled, and made by hand.
 
+mod budgets;
 mod by_hand;
 mod memory;
 mod spoiled;

@@ -1,5 +1,5 @@
 -- From the one proof of a query its meaning is told, and nothing else.
-use Rattle.std.proofs.Common.{◌≡◌, ◌⊎◌, inl, inr, ℕ, List, Result, Ok, Err, IfOk, subst}
+use Rattle.std.proofs.Common.{◌≡◌, inl, inr, ℕ, List, Result, Ok, Err, IfOk, subst}
 use Rattle.std.specs.List.{Contains}
 use Rattle.tree_node.specs.Outcomes.{Clash}
 use Rattle.osm_forms.specs.Forms.{form_text}
@@ -17,6 +17,7 @@ use Rattle.osm_check.specs.Telling.{IsProvedIn, IsShown, IsTold, TellsText}
 use Rattle.osm_check.specs.Verdicts.{IsWhole}
 use Rattle.osm_check.specs.declared.told.Told.{Told}
 use Rattle.osm_check.specs.declared.told.Told.TheVariants.{Answer, No}
+use Rattle.osm_check.specs.declared.verdict.Verdict.{Verdict}
 use Rattle.osm_check.specs.declared.verdict.Verdict.TheVariants as verdicts
 use Rattle.osm_check.specs.declared.why.Why.{Why}
 use Rattle.osm_check.proofs.OneVerdict as verdict
@@ -48,7 +49,9 @@ module _ (query root proof : List ℕ) (form : Form) (p : Publication) (is : IsP
   -- the right proof isn't refused
   pub not_refused : (text : List ℕ) (why : Why) → IsProvedIn p query form text proof → IsTold query root form proof (No why) → ⊥
   not_refused text why right h =
-      let opl = in_opl text right in verdict.honest query root opl.0 proof p is root_is (Ok (verdicts.No why)) opl.1 (h.1 opl.0)
+      let opl = in_opl text right in
+      let denied : Result Verdict (Unit {0}) = Ok (verdicts.No why) in
+      verdict.honest query root opl.0 proof p is root_is denied opl.1 (h.1 opl.0)
 
   -- from the right proof the meaning is told
   pub honest : {E : Type 0} (text : List ℕ) (result : Result Told E) → IsProvedIn p query form text proof → IfOk result (IsTold query root form proof) → IfOk result (TellsText text)

@@ -4,7 +4,7 @@ use Rattle.std.specs.Prelude.{Option, Some, None}
 use Rattle.http_messages.specs.Forms.{query_of}
 use Rattle.http_messages.specs.Requests.{Asked}
 use Rattle.osm_gate.specs.ResponseTexts.{Response}
-use Rattle.osm_gate.specs.Responses.{ByMethod, ByQuery, ByRoute, GivesAt, IsResponse, ends, method_of, root_by_method}
+use Rattle.osm_gate.specs.Responses.{ByMethodWithin, ByQueryWithin, ByRouteWithin, GivesAt, GivesWithin, IsResponseWithin, ends, method_of, root_by_method}
 use Rattle.osm_gate.specs.Routes.{route_of}
 use Rattle.http_messages.specs.Targets.{path_of}
 use Rattle.osm_gate.specs.declared.endpoint.Endpoint.{Endpoint}
@@ -24,27 +24,34 @@ given-root : (endpoint : Endpoint) (closes : Bool) (p : Publication) (query : Li
 given-root Answer closes p query r (answer, is_answer, is) = ap (λ (r : Response). r.head.root) is
 given-root AnswerWithProof closes p query r (answer, proof, is_proved, is) = ap (λ (r : Response). r.head.root) is
 
-query-root : (reply : Reply) (p : Publication) (q : Option (List ℕ)) (r : Response) → ByQuery reply p q r → r.head.status ≡ 200 → r.head.root ≡ Some (root_of p)
-query-root reply p None r is ok = other-status r 400 (root_of p) (ap (λ (r : Response). r.head.status) is) (λ e. omega arith) ok
-query-root reply p (Some query) r (inl (fault, has, is)) ok = other-status r 400 (root_of p) (ap (λ (r : Response). r.head.status) is) (λ e. omega arith) ok
-query-root reply p (Some query) r (inr gives) ok = given-root reply.endpoint reply.closes p query r gives
+within-root : (most : Option ℕ) (endpoint : Endpoint) (closes : Bool) (p : Publication) (query : List ℕ) (r : Response) → GivesWithin most endpoint closes p query r
+    → r.head.status ≡ 200 → r.head.root ≡ Some (root_of p)
+within-root None endpoint closes p query r gives ok = given-root endpoint closes p query r gives
+within-root (Some most) endpoint closes p query r (inl (gives, fits)) ok = given-root endpoint closes p query r gives
+within-root (Some most) endpoint closes p query r (inr (statements, reads, much, is)) ok =
+    other-status r 503 (root_of p) (ap (λ (r : Response). r.head.status) is) (λ e. omega arith) ok
 
-method-root : (reply : Reply) (p : Publication) (a : Asked) (m : Method) (r : Response) → ByMethod reply p a m r → r.head.status ≡ 200 → r.head.root ≡ Some (root_of p)
-method-root reply p a Get r is ok = query-root reply p (query_of Target a) r is ok
-method-root reply p a Post r is ok = query-root reply p (query_of Body a) r is ok
-method-root reply p a Other r is ok = other-status r 405 (root_of p) (ap (λ (r : Response). r.head.status) is) (λ e. omega arith) ok
+query-root : (most : Option ℕ) (reply : Reply) (p : Publication) (q : Option (List ℕ)) (r : Response) → ByQueryWithin most reply p q r → r.head.status ≡ 200 → r.head.root ≡ Some (root_of p)
+query-root most reply p None r is ok = other-status r 400 (root_of p) (ap (λ (r : Response). r.head.status) is) (λ e. omega arith) ok
+query-root most reply p (Some query) r (inl (fault, has, is)) ok = other-status r 400 (root_of p) (ap (λ (r : Response). r.head.status) is) (λ e. omega arith) ok
+query-root most reply p (Some query) r (inr gives) ok = within-root most reply.endpoint reply.closes p query r gives ok
+
+method-root : (most : Option ℕ) (reply : Reply) (p : Publication) (a : Asked) (m : Method) (r : Response) → ByMethodWithin most reply p a m r → r.head.status ≡ 200 → r.head.root ≡ Some (root_of p)
+method-root most reply p a Get r is ok = query-root most reply p (query_of Target a) r is ok
+method-root most reply p a Post r is ok = query-root most reply p (query_of Body a) r is ok
+method-root most reply p a Other r is ok = other-status r 405 (root_of p) (ap (λ (r : Response). r.head.status) is) (λ e. omega arith) ok
 
 root-root : (closes : Bool) (root : List ℕ) (m : Method) (r : Response) → r ≡ root_by_method closes root m → r.head.status ≡ 200 → r.head.root ≡ Some root
 root-root closes root Get r is ok = ap (λ (r : Response). r.head.root) is
 root-root closes root Post r is ok = other-status r 405 root (ap (λ (r : Response). r.head.status) is) (λ e. omega arith) ok
 root-root closes root Other r is ok = other-status r 405 root (ap (λ (r : Response). r.head.status) is) (λ e. omega arith) ok
 
-route-root : (closes : Bool) (p : Publication) (a : Asked) (route : Option Route) (r : Response) → ByRoute closes p a route r → r.head.status ≡ 200 → r.head.root ≡ Some (root_of p)
-route-root closes p a None r is ok = other-status r 404 (root_of p) (ap (λ (r : Response). r.head.status) is) (λ e. omega arith) ok
-route-root closes p a (Some (Query endpoint)) r is ok =
-    method-root (record { endpoint = endpoint; closes = closes }) p a (method_of a.method) r is ok
-route-root closes p a (Some Root) r is ok = root-root closes (root_of p) (method_of a.method) r is ok
+route-root : (most : Option ℕ) (closes : Bool) (p : Publication) (a : Asked) (route : Option Route) (r : Response) → ByRouteWithin most closes p a route r → r.head.status ≡ 200 → r.head.root ≡ Some (root_of p)
+route-root most closes p a None r is ok = other-status r 404 (root_of p) (ap (λ (r : Response). r.head.status) is) (λ e. omega arith) ok
+route-root most closes p a (Some (Query endpoint)) r is ok =
+    method-root most (record { endpoint = endpoint; closes = closes }) p a (method_of a.method) r is ok
+route-root most closes p a (Some Root) r is ok = root-root closes (root_of p) (method_of a.method) r is ok
 
-pub success_root : (p : Publication) (a : Asked) (r : Response) → IsResponse p a r → r.head.status ≡ 200 → r.head.root ≡ Some (root_of p)
-unfolding IsResponse
-success_root p a r is ok = route-root (ends a) p a (route_of (path_of a.target)) r is ok
+pub success_root : (most : Option ℕ) (p : Publication) (a : Asked) (r : Response) → IsResponseWithin most p a r → r.head.status ≡ 200 → r.head.root ≡ Some (root_of p)
+unfolding IsResponseWithin
+success_root most p a r is ok = route-root most (ends a) p a (route_of (path_of a.target)) r is ok

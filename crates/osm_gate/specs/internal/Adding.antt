@@ -1,8 +1,11 @@
 -- What the code writes responses from, and what it has added to its output.
-use Rattle.std.specs.Prelude.{◌≡◌, ℕ, List, ◌++◌, option_map}
+use Rattle.std.specs.Prelude.{◌≡◌, ℕ, Bool, List, ◌++◌, option_map}
 use Rattle.std.specs.Borrow.{Bor}
 use Rattle.std.specs.List.{flat_map}
+use Rattle.osm_prove.specs.declared.prove_fault.ProveFault.{ProveFault}
+use Rattle.osm_prove.specs.declared.prove_fault.ProveFault.TheVariants.{Memory, Query, Work}
 use Rattle.osm_gate.specs.ResponseTexts.{HeadParts, Response, response_text}
+use Rattle.osm_gate.specs.Responses.{fault_text, refusal, too_much_response}
 use Rattle.osm_gate.specs.declared.response.ResponseHead.{ResponseHead}
 
 abbrev pub parts_of : ResponseHead → HeadParts
@@ -24,3 +27,9 @@ response_of head body = record { head = parts_of head; body = body_of body }
 -- a response was added of which this is so
 abbrev pub AddsResponse : (Response → Type 0) → List ℕ → List ℕ → Type 0
 AddsResponse P old new = (r : Response) × P r × (new ≡ old ++ response_text r)
+
+-- the response was added that says why a query has no answer; out of memory there is none
+abbrev pub AddsFault : Bool → ProveFault → List ℕ → List ℕ → Type 0
+AddsFault closes (Query fault) old new = new ≡ old ++ response_text (refusal closes 400 (fault_text fault))
+AddsFault closes Work old new = new ≡ old ++ response_text (too_much_response closes)
+AddsFault closes Memory old new = ⊥

@@ -15,9 +15,9 @@ abbrev pub IsOwed : Option (List ℕ) → List ℕ → List ℕ → Type 0
 IsOwed None given all = (rest : List ℕ) × (given ++ rest ≡ all)
 IsOwed (Some left) given all = given ++ left ≡ all
 
-pub record Stands (wanted : ℕ) (d : Desk) (base : List Entry) (deeds : List Deed) (log : Option (List Entry)) (outputs : Waiting) (contents : Contents) (taken : ℕ) : Type 0 where
+pub record Stands (most : Option ℕ) (wanted : ℕ) (d : Desk) (base : List Entry) (deeds : List Deed) (log : Option (List Entry)) (outputs : Waiting) (contents : Contents) (taken : ℕ) : Type 0 where
   pub logged : log ≡ Some (log_of deeds ++ base)
-  pub ran : Runs d deeds
+  pub ran : Runs most d deeds
   pub desk : StandsFor contents (desk_after d deeds)
   pub owes : (c : ℕ) → IsOwed (get outputs c) (sent c deeds) (owed c deeds)
   pub known : (c : ℕ) → taken ≤ c → get outputs c ≡ None
@@ -33,18 +33,19 @@ pub record Stands (wanted : ℕ) (d : Desk) (base : List Entry) (deeds : List De
   pub open_are : len outputs ≡ open_count deeds
   pub makes_room : MakesRoom wanted d deeds
 
--- however it stood with so many connections taken, it stands again with that many, with more done
-abbrev pub Moves : Option (List Entry) → Option (List Entry) → Waiting → Waiting → Contents → Contents → ℕ → ℕ → Type 0
-Moves log log' outputs outputs' contents contents' taken taken' =
-    (wanted : ℕ) (d : Desk) (base : List Entry) (deeds : List Deed) → Stands wanted d base deeds log outputs contents taken
-    → (more : List Deed) × Stands wanted d base more log' outputs' contents' taken'
+-- however it stood with so many connections taken, where there may be a budget for each query, it stands again with that
+-- many, with more done
+abbrev pub Moves : Option ℕ → Option (List Entry) → Option (List Entry) → Waiting → Waiting → Contents → Contents → ℕ → ℕ → Type 0
+Moves most log log' outputs outputs' contents contents' taken taken' =
+    (wanted : ℕ) (d : Desk) (base : List Entry) (deeds : List Deed) → Stands most wanted d base deeds log outputs contents taken
+    → (more : List Deed) × Stands most wanted d base more log' outputs' contents' taken'
 
 -- with as many as before
-abbrev pub Keeps : Option (List Entry) → Option (List Entry) → Waiting → Waiting → Contents → Contents → Type 0
-Keeps log log' outputs outputs' contents contents' = (taken : ℕ) → Moves log log' outputs outputs' contents contents' taken taken
+abbrev pub Keeps : Option ℕ → Option (List Entry) → Option (List Entry) → Waiting → Waiting → Contents → Contents → Type 0
+Keeps most log log' outputs outputs' contents contents' = (taken : ℕ) → Moves most log log' outputs outputs' contents contents' taken taken
 
 -- with any number
-abbrev pub Stops : Option (List Entry) → Option (List Entry) → Waiting → Waiting → Contents → Contents → ℕ → Type 0
-Stops log log' outputs outputs' contents contents' taken =
-    (wanted : ℕ) (d : Desk) (base : List Entry) (deeds : List Deed) → Stands wanted d base deeds log outputs contents taken
-    → (more : List Deed) × (taken' : ℕ) × Stands wanted d base more log' outputs' contents' taken'
+abbrev pub Stops : Option ℕ → Option (List Entry) → Option (List Entry) → Waiting → Waiting → Contents → Contents → ℕ → Type 0
+Stops most log log' outputs outputs' contents contents' taken =
+    (wanted : ℕ) (d : Desk) (base : List Entry) (deeds : List Deed) → Stands most wanted d base deeds log outputs contents taken
+    → (more : List Deed) × (taken' : ℕ) × Stands most wanted d base more log' outputs' contents' taken'

@@ -36,8 +36,8 @@ fn check(
 /// Serves four connections.
 fn serve_four(rt: &(impl Abort + AllocGlobal)) -> Result<(), Fail> {
     let mut desk = desk_over(rt.alloc(), Edition::Two { sequence: 0 })?;
-    let mut network = Network::new(rt.alloc(), 11, 0, 0);
-    match serve(rt.alloc(), &mut desk, &mut network, 4) {
+    let mut network = Network::new(rt.alloc(), TEXT, 11, 0, 0);
+    match serve(rt.alloc(), &mut desk, &mut network, 4, None) {
         Ok(()) => assert_eq!(rt; network.clients.len(), 4),
         Err(fault) => assert_eq!(rt; fault, TrafficFault::Memory),
     }

@@ -1,6 +1,5 @@
 //! A network that a test plays.
 
-use super::TEXT;
 use osm_traffic::{News, Reading, Room, Traffic, TrafficFault, Writing, give_piece};
 use std::alloc::Global;
 
@@ -37,11 +36,12 @@ pub(super) struct Client {
     pub(super) end: Option<bool>,
 }
 
-/// Clients that send the text in pieces that are cut anywhere, and take what they are given in pieces, too. What happens
+/// Clients that send a text in pieces that are cut anywhere, and take what they are given in pieces, too. What happens
 /// next depends on a seed, and may be told in vain. Some connections break.
 #[derive(Drop)]
 pub(super) struct Network {
     alloc: Global,
+    text: &'static [u8],
     numbers: Numbers,
     /// One in so many reads and writes finds that the connection is broken; none does where it is 0.
     breaks: u32,
@@ -58,9 +58,16 @@ pub(super) struct Network {
 
 impl Network {
     /// A network to which nobody has come yet.
-    pub(super) fn new(alloc: Global, seed: u64, breaks: u32, fails_at: u32) -> Network {
+    pub(super) fn new(
+        alloc: Global,
+        text: &'static [u8],
+        seed: u64,
+        breaks: u32,
+        fails_at: u32,
+    ) -> Network {
         Network {
             alloc,
+            text,
             numbers: Numbers { state: seed },
             breaks,
             fails_at,
@@ -128,10 +135,11 @@ impl Traffic for Network {
 
     fn read(&mut self, number: u32, piece: &mut [u8]) -> Reading {
         let most = self.numbers.below(90) as usize;
+        let text = self.text;
         let Some(client) = self.client(number) else {
             return Reading::Gone;
         };
-        let left = TEXT.get(client.sent..).unwrap_or(b"");
+        let left = text.get(client.sent..).unwrap_or(b"");
         if left.is_empty() {
             return Reading::Ended;
         }

@@ -33,7 +33,7 @@ fn run(
     connections: u32,
 ) -> Result<Result<(), TrafficFault>, Fail> {
     let mut desk = desk_over(rt.alloc(), edition)?;
-    let outcome = serve(rt.alloc(), &mut desk, network, connections);
+    let outcome = serve(rt.alloc(), &mut desk, network, connections, None);
     for client in &network.clients {
         check(rt, client, desk.snapshot())?;
     }
@@ -42,7 +42,7 @@ fn run(
 
 /// 150 connections in one order, of which some break and some are let go.
 fn run_seed(rt: &(impl Abort + AllocGlobal), seed: u64, edition: Edition) -> Result<(), Fail> {
-    let mut network = Network::new(rt.alloc(), seed, 100, 0);
+    let mut network = Network::new(rt.alloc(), TEXT, seed, 100, 0);
     assert_eq!(rt; run(rt, &mut network, edition, 150)?, Ok(()));
     assert_eq!(rt; network.clients.len(), 150);
     assert!(rt; network.clients.iter().all(|client| client.end.is_some()));
@@ -62,7 +62,7 @@ fn each_is_as_if_alone(rt: HostRuntime) -> Result<(), Fail> {
 /// Where no connection breaks, each gets all, and 64 are open at some time.
 #[test]
 fn sixty_four_are_served_at_once(rt: HostRuntime) -> Result<(), Fail> {
-    let mut network = Network::new(rt.alloc(), 5, 0, 0);
+    let mut network = Network::new(rt.alloc(), TEXT, 5, 0, 0);
     assert_eq!(rt; run(&rt, &mut network, Edition::One, 200)?, Ok(()));
     assert!(rt;
         network
@@ -78,7 +78,7 @@ fn sixty_four_are_served_at_once(rt: HostRuntime) -> Result<(), Fail> {
 #[test]
 fn each_wait_may_fail(rt: HostRuntime) -> Result<(), Fail> {
     for number in 1..400 {
-        let mut network = Network::new(rt.alloc(), 3, 100, number);
+        let mut network = Network::new(rt.alloc(), TEXT, 3, 100, number);
         assert_eq!(rt;
             run(&rt, &mut network, Edition::One, 60)?,
             Err(TrafficFault::Device)

@@ -1,5 +1,6 @@
 //! Budgets: the work of a query, and what is refused with a budget that is one less.
 
+use crate::tests::work_rows::WORK_ROWS;
 use crate::tests::{snapshot_of, texts_of_sets};
 use osm_forms::Form;
 use osm_index::{Edition, Snapshot};
@@ -9,21 +10,11 @@ use std::alloc::Global;
 use std::test::Fail;
 use tree_node::Recorder;
 
-/// A query over four objects, and its work in OPL, by hand: 1 for a byte, 100 for a step.
-const ROWS: [(&str, u64); 6] = [
-    ("node(1);out;", 733),
-    ("node(99);out;", 400),
-    ("way(10);>;out ids;", 1206),
-    ("nwr[highway];out ids;", 1107),
-    ("node[highway][!name];out ids;", 1003),
-    ("(node(1);way(10););out ids;", 1607),
-];
-
 #[test]
 fn work_is_counted(rt: HostRuntime) -> Result<(), Fail> {
     let alloc = rt.alloc();
     let snapshot = snapshot_of(alloc, texts_of_sets::ALL_KINDS, Edition::One)?;
-    for (text, work) in &ROWS {
+    for (text, work) in &WORK_ROWS {
         let query = parse(alloc, text.as_bytes())?;
         let report = evaluated(alloc, &snapshot, &query, None)?;
         assert_eq!(rt; report.map(|report| report.work), Ok(*work), "{text}");

@@ -1,4 +1,4 @@
-use Rattle.std.proofs.Common.{◌≡◌, ℕ, List, Option, None, Some, subst, ap, ◌∙◌, arith}
+use Rattle.std.proofs.Common.{ℕ, List, Option, subst, ap, ◌∙◌, arith}
 use Rattle.osm_check.specs.Matching.{IsParted, Matches, common}
 use Rattle.osm_check.proofs.Fronts.{all_after, parted_before, parted_here, parted_nowhere}
 use Rattle.osm_check.proofs.matcher.parting.Goals as goal

@@ -1,13 +1,7 @@
-use Rattle.osm_check.proofs.ToldLemmas.{headline, only_told}
-use Rattle.osm_check.proofs.shared.HonestLemmas.{honest}
+use Rattle.std.proofs.Common.{◌≡◌, Ok, ap}
+use Rattle.osm_check.specs.declared.told.Told.TheVariants.{Answer}
 use Rattle.osm_check.proofs.teller.tell.Goals as goal
 
-pub returns : goal.returns
-returns c =
-    let told = c.told_of.ensures in
-    record {
-      headline = λ p text report is root said. headline c.args.query.now c.args.root.now.0 c.args.proof.now c.args.form p is root text report c.told_of.result said told;
-      honest = λ p text is root right. honest c.args.query.now c.args.root.now.0 c.args.proof.now c.args.form p is root text c.told_of.result right told;
-      told = told;
-      only = λ p why is root tells. only_told c.args.query.now c.args.root.now.0 c.args.proof.now c.args.form p is root why c.told_of.result tells told;
-    }
+pub returns-in-Ok-clause-headline : goal.returns-in-Ok-clause-headline
+returns-in-Ok-clause-headline c = λ p text report is root said.
+    c.in-Ok.ensures.headline p text report is root (let same : c.in-Ok.told ≡ Answer text report = cc in ap Ok same)

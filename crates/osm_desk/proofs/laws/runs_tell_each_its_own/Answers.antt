@@ -1,5 +1,9 @@
+use Rattle.std.specs.Prelude.{None}
 use Rattle.osm_desk.proofs.RunLemmas.{run-told}
 use Rattle.osm_desk.proofs.laws.runs_tell_each_its_own.Goals as goal
 
-pub returns : goal.returns
-returns c = λ number run p ran room. run-told number run p ran room
+pub returns-clause-told : goal.returns-clause-told
+returns-clause-told c = λ number run p ran room. run-told None number run p ran room
+
+pub returns-clause-within : goal.returns-clause-within
+returns-clause-within c = λ most number run p ran room. run-told most number run p ran room

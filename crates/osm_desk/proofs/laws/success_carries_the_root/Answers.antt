@@ -1,5 +1,9 @@
+use Rattle.std.specs.Prelude.{None}
 use Rattle.osm_gate.proofs.shared.Roots.{success_root}
 use Rattle.osm_desk.proofs.laws.success_carries_the_root.Goals as goal
 
-pub returns : goal.returns
-returns c = λ p asked response is status. success_root p asked response is status
+pub returns-clause-root : goal.returns-clause-root
+returns-clause-root c = λ p asked response is status. success_root None p asked response is status
+
+pub returns-clause-within : goal.returns-clause-within
+returns-clause-within c = λ most p asked response is status. success_root most p asked response is status

@@ -15,7 +15,7 @@ returns-then-branch c =
       sym c.in-Complete.ensures.decided,
       sym c.in_ok-respond-in-Complete.ensures.closes ∙ c.if-branch.true,
       λ p holds. let (r, is, added) = c.in_ok-respond-in-Complete.ensures.text p holds in
-          (response_text r, responds-one p (asked a) (response_text r) (r, is, refl), added),
+          (response_text r, responds-one c.args.most p (asked a) (response_text r) (r, is, refl), added),
     )
 
 pub returns-else-branch : goal.returns-else-branch
@@ -26,7 +26,7 @@ returns-else-branch c =
       sym c.in-Complete.ensures.decided,
       sym c.in_ok-respond-in-Complete.ensures.closes ∙ c.if-branch.false,
       λ p holds. let (r, is, added) = c.in_ok-respond-in-Complete.ensures.text p holds in
-          (response_text r, responds-one p (asked a) (response_text r) (r, is, refl), added),
+          (response_text r, responds-one c.args.most p (asked a) (response_text r) (r, is, refl), added),
       refl,
     )
 
@@ -48,5 +48,5 @@ returns-in_ok-refuse-in-Refused c =
       d,
       sym c.in-Refused.ensures.decided,
       refl,
-      λ p holds. (text, responds-one p (refused c.in-Refused.refusal) text refl, c.in_ok-refuse-in-Refused.ensures),
+      λ p holds. (text, responds-one c.args.most p (refused c.in-Refused.refusal) text refl, c.in_ok-refuse-in-Refused.ensures),
     )

@@ -1,4 +1,12 @@
-use Rattle.std.proofs.Common.{subst}
+use Rattle.std.proofs.Common.{ℕ, Err, ap, sym, subst, ◌∙◌}
+use Rattle.std.specs.declared.alloc.Global.{Global}
+use Rattle.std.specs.declared.vec.Vec.{Vec}
+use Rattle.osm_forms.specs.Forms.{form_text}
+use Rattle.osm_forms.specs.declared.form.Form.TheVariants.{Opl}
+use Rattle.ql_syntax.specs.StatementViews.{statements_of}
+use Rattle.osm_prove.specs.Budgets.{IsWorkOf, KeepsBudget}
+use Rattle.osm_prove.specs.declared.answered.Answered.{Answered}
+use Rattle.osm_prove.proofs.BudgetLemmas.{query_refused}
 use Rattle.std.proofs.lemmas.Result.{err_from_is_err_and}
 use Rattle.tree_node.specs.Recorders.{RecorderHolds}
 use Rattle.tree_node.specs.Shelves.{SameNodes}
@@ -14,3 +22,9 @@ returns-in_err-parsed-clause-refused c =
 
 pub evaluate_over-requires : goal.evaluate_over-requires
 evaluate_over-requires c = subst (λ (s : Stock). SameNodes (HasNode s) (RecorderHolds c.new-shelf.result)) c.stock.ensures c.new-shelf.ensures.holds
+
+pub returns-in_err-answer-clause-budget : goal.returns-in_err-answer-clause-budget
+returns-in_err-answer-clause-budget c =
+    let told = err_from_is_err_and c.from_residual-in_err-answer.result c.from_residual-in_err-answer.ensures.1 in
+    λ p held. subst (KeepsBudget (IsWorkOf (form_text Opl) p c.args.query.now) c.args.most) (sym (told.1 ∙ ap Err told.2))
+    (query_refused (form_text Opl) p c.args.query.now (statements_of c.in_ok-parsed.parsed) c.in_ok-parsed.ensures.read (Vec ℕ Global) Answered c.args.most c.in_err-answer.field-0.0 (c.in_err-answer.ensures.budget p held))

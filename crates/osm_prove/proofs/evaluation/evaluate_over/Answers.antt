@@ -1,5 +1,7 @@
 use Rattle.std.proofs.Common.{[], List, ℕ, Err, ap, subst, sym, ◌∙◌}
 use Rattle.std.proofs.Math.Logic.{∥∥₁_map}
+use Rattle.std.specs.declared.alloc.Global.{Global}
+use Rattle.std.specs.declared.vec.Vec.{Vec}
 use Rattle.tree_node.specs.Recorders.{RecorderHolds}
 use Rattle.osm_forms.specs.Forms.{form_text}
 use Rattle.osm_forms.specs.declared.form.Form.TheVariants.{Opl}
@@ -37,7 +39,7 @@ returns-in-Ok-clause-budget c = λ p held.
 
 pub returns-in-Err-clause-budget : goal.returns-in-Err-clause-budget
 returns-in-Err-clause-budget c = λ p held.
-    refused_within (WorkOfQuery (form_text Opl) p (statements_of c.args.query.now)) c.args.most c.in-Err.fault c.refusal_of.result c.refusal_of.ensures.work c.refusal_of.ensures.only
+    refused_within (Vec ℕ Global) (WorkOfQuery (form_text Opl) p (statements_of c.args.query.now)) c.args.most c.in-Err.fault c.refusal_of.result c.refusal_of.ensures.work c.refusal_of.ensures.only
     (c.in-Err.ensures.whole p held.is.published (ap (λ d. d.0) c.root.ensures ∙ held.root)
     (askable_held p c.args.snapshot.now.stock (RecorderHolds c.args.shelf.now) (RecorderHolds c.evaluate_within.new.shelf) c.requires c.in-Err.ensures.stays held.nodes))
 

@@ -21,8 +21,8 @@ write_proof-requires c =
     let needed = parts_needed p st (RecorderUsed c.new-shelf.result) (RecorderUsed c.evaluate_over.new.shelf) c.in_ok-parts.parts.items c.new-shelf.ensures.unused (c.in_ok-answer.ensures.needed p held.1) c.in_ok-parts.ensures.rising c.in_ok-parts.ensures.used in
     needed_fit p st (nodes_of c.deref.result.now) held.1.is.published (subst (λ (ps : List Part). AreNeeded p st (nodes_of ps)) (sym c.deref.ensures.value) needed)))
 
-pub returns : goal.returns
-returns c = λ p held.
+pub returns-clause-proved : goal.returns-clause-proved
+returns-clause-proved c = λ p held.
     let st = statements_of c.args.query.now in
     let needed = parts_needed p st (RecorderUsed c.new-shelf.result) (RecorderUsed c.evaluate_over.new.shelf) c.in_ok-parts.parts.items c.new-shelf.ensures.unused (c.in_ok-answer.ensures.needed p held) c.in_ok-parts.ensures.rising c.in_ok-parts.ensures.used in (
       c.in_ok-answer.ensures.means p held,

@@ -13,6 +13,6 @@ abbrev pub invariant-loop : goal.invariant-loop
 invariant-loop g l = record {
   few : l.taken ≤ l.connections;
   stands : (p : Publication) (base : List Entry) → HoldsPublication l.fn.desk.snapshot p → g.T.Traffic.log l.fn.traffic ≡ Some base
-      → (deeds : List Deed) × Stands l.connections (fresh p) base deeds (g.T.Traffic.log l.traffic) l.outputs l.desk l.taken;
+      → (deeds : List Deed) × Stands l.most l.connections (fresh p) base deeds (g.T.Traffic.log l.traffic) l.outputs l.desk l.taken;
   found : TakesFound (g.L.Lookout.found l.fn.lookout) (g.L.Lookout.found l.lookout) l.fn.desk.snapshot l.desk.snapshot;
 }

@@ -10,19 +10,19 @@ pub returns-in-Readable-clause-found : goal.returns-in-Readable-clause-found
 returns-in-Readable-clause-found g c = none_found (g.L.Lookout.found c.args.lookout.now) (g.L.Lookout.found c.args.lookout.now) c.args.desk.now.snapshot c.listen.new.desk.snapshot refl c.listen.ensures.snapshot
 
 pub returns-in-Writable-clause-stands : goal.returns-in-Writable-clause-stands
-returns-in-Writable-clause-stands g c = c.hand.ensures.kept c.args.number
+returns-in-Writable-clause-stands g c = c.hand.ensures.kept c.args.most c.args.number
 
 pub returns-in-Writable-clause-found : goal.returns-in-Writable-clause-found
 returns-in-Writable-clause-found g c = none_found (g.L.Lookout.found c.args.lookout.now) (g.L.Lookout.found c.args.lookout.now) c.args.desk.now.snapshot c.hand.new.desk.snapshot refl c.hand.ensures.snapshot
 
 pub returns-in-Silent-clause-stands : goal.returns-in-Silent-clause-stands
-returns-in-Silent-clause-stands g c = c.let_go.ensures.kept c.args.number
+returns-in-Silent-clause-stands g c = c.let_go.ensures.kept c.args.most c.args.number
 
 pub returns-in-Silent-clause-found : goal.returns-in-Silent-clause-found
 returns-in-Silent-clause-found g c = none_found (g.L.Lookout.found c.args.lookout.now) (g.L.Lookout.found c.args.lookout.now) c.args.desk.now.snapshot c.let_go.new.desk.snapshot refl c.let_go.ensures.snapshot
 
 pub returns-in-Look-clause-stands : goal.returns-in-Look-clause-stands
-returns-in-Look-clause-stands g c = λ wanted d base deeds s. looked wanted d base deeds _ _ _ _ c.args.number s c.look.ensures.connections c.look.ensures.in_force
+returns-in-Look-clause-stands g c = λ wanted d base deeds s. looked c.args.most wanted d base deeds _ _ _ _ c.args.number s c.look.ensures.connections c.look.ensures.in_force
 
 pub returns-in-Look-clause-found : goal.returns-in-Look-clause-found
 returns-in-Look-clause-found g c = c.look.ensures.found

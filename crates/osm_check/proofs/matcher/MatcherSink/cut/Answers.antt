@@ -1,4 +1,4 @@
-use Rattle.std.proofs.Common.{◌≡◌, ℕ, List, Option, take, subst, sym, arith}
+use Rattle.std.proofs.Common.{ℕ, take, subst, sym, arith}
 use Rattle.osm_check.specs.Matching.{Matches}
 use Rattle.osm_check.proofs.Fronts.{cut_place}
 use Rattle.osm_check.proofs.matcher.MatcherSink.cut.Goals as goal

@@ -1,4 +1,4 @@
-use Rattle.std.proofs.Common.{[], inr, refl, rules, sym, ◌≡◌}
+use Rattle.std.proofs.Common.{rules, sym, ◌≡◌}
 use Rattle.osm_gate.proofs.shared.GivenUp.{given_up_at_once}
 use Rattle.osm_desk.specs.OneConnection.{without}
 use Rattle.osm_desk.proofs.ServingLemmas.{forgotten, opened_rest}

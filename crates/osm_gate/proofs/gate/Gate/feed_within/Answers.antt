@@ -2,8 +2,8 @@ use Rattle.std.proofs.Common.{rules, ◌≡◌, ◌∙◌, ap, sym, arith, [], �
 use Rattle.std.specs.Prelude.{◌⊎◌}
 use Rattle.osm_gate.specs.Connections.{Requests, Rest, requests_next}
 use Rattle.osm_gate.proofs.FeedLemmas.{next-open, still-waits, waits-requests_in, scanned-before}
-use Rattle.osm_gate.proofs.gate.Gate.feed.Goals as goal
-use Rattle.osm_gate.proofs.gate.Gate.feed.Goals.{then-self-eq0, else-self-eq0}
+use Rattle.osm_gate.proofs.gate.Gate.feed_within.Goals as goal
+use Rattle.osm_gate.proofs.gate.Gate.feed_within.Goals.{then-self-eq0, else-self-eq0}
 
 pub invariant_of-self-then-len-self : goal.invariant_of-self-then-len-self
 invariant_of-self-then-len-self c =
