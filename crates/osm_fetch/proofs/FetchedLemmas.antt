@@ -1,9 +1,10 @@
 -- What is fetched, from the calls that are made.
-use Rattle.std.proofs.Common.{◌≡◌, ◌⊎◌, ◌∙◌, ℕ, ◌<◌, Bool, true, false, List, [], ◌∷◌, ◌++◌, Option, None, Some, Result, Ok, Err, IfErr, IsErrAnd, ap, append-nil, arith, inl, inr, refl, subst, sym}
+use Rattle.std.proofs.Common.{◌≡◌, ◌≢◌, ◌⊎◌, ◌∙◌, ℕ, ◌<◌, Bool, true, false, List, [], ◌∷◌, ◌++◌, Option, None, Some, Result, Ok, Err, IfErr, IsErrAnd, ap, append-nil, arith, inl, inr, refl, subst, sym}
 use Rattle.std.proofs.lemmas.List.{append_cancel_right}
 use Rattle.std.specs.declared.alloc.Global.{Global}
 use Rattle.std.specs.declared.vec.Vec.{Vec}
 use Rattle.ql_syntax.specs.Queries.{HasFault, memory_fault}
+use Rattle.ql_syntax.proofs.shared.QueryLaws.{reads_or_not}
 use Rattle.ql_syntax.specs.declared.cause.QlCause.{QlCause}
 use Rattle.ql_syntax.specs.declared.cause.QlCause.TheVariants as causes
 use Rattle.ql_syntax.specs.declared.fault.QlFault.{QlFault}
@@ -19,12 +20,15 @@ use Rattle.mirror_reply.specs.declared.fetch_fault.FetchFault.{FetchFault}
 use Rattle.mirror_reply.specs.declared.fetch_fault.FetchFault.TheVariants as fetches
 use Rattle.mirror_reply.proofs.SpelledLemmas.{reply-iff, reply-no_fault}
 use Rattle.mirror_reply.proofs.StandingLemmas.{stands-unique}
-use Rattle.mirror_answer.specs.Showing.{IsFaultOf}
+use Rattle.mirror_answer.specs.Showing.{IsFaultOf, IsRightly, ShowsText}
 use Rattle.mirror_answer.specs.declared.mirror_fault.MirrorFault.{MirrorFault}
-use Rattle.mirror_answer.specs.declared.mirror_fault.MirrorFault.TheVariants.{OtherRoot, Proof, Reply, Silent, Unreached}
-use Rattle.osm_fetch.specs.Fetching.{Calls, Explains, Fetching, HasCalled, IsMirrorFault, IsOutside, IsRefused, fetch_keeping, fetch_of}
-use Rattle.osm_fetch.specs.internal.Fetched.{fault_of_cause, fault_of_fetch, fault_of_query}
+use Rattle.mirror_answer.specs.declared.mirror_fault.MirrorFault.TheVariants.{OtherRoot, Proof, Reply, Silent, Unreached, Work}
+use Rattle.mirror_answer.specs.declared.shown.Shown.{Shown}
+use Rattle.mirror_answer.specs.declared.shown.Shown.TheVariants as shows
+use Rattle.osm_fetch.specs.Fetching.{Calls, Explains, Fetching, HasCalled, IsExcused, IsMirrorFault, IsOutside, IsRefused, fetch_keeping, fetch_of}
+use Rattle.osm_fetch.specs.internal.Fetched.{fault_of_cause, fault_of_fetch, fault_of_query, result_of}
 use Rattle.osm_fetch.specs.declared.not_fetched.NotFetched.{NotFetched}
+use Rattle.osm_fetch.specs.declared.not_fetched.NotFetched.TheVariants.{Device, Memory, Mirror, Query}
 
 -- ---- the log
 
@@ -135,9 +139,46 @@ refused f calls named answer proof Silent asked reply for = absurd for
 refused f calls named answer proof (Reply fault) asked reply for = absurd for
 refused f calls named answer proof OtherRoot asked reply for = (asked, record { named = named; answer = answer; proof = proof; replied = reply; for = for })
 refused f calls named answer proof (Proof why) asked reply for = (asked, record { named = named; answer = answer; proof = proof; replied = reply; for = for })
+refused f calls named answer proof Work asked reply for = (asked, record { named = named; answer = answer; proof = proof; replied = reply; for = for })
+
+-- ---- what it shows
+
+-- a query that reads has no fault, and what else is shown is what is to be told
+pub shown_calls : (f : Fetching) (calls : List Call) (named answer proof : List ℕ) → IsReadable f.wanted.query → (HasAsked (fetch_of f) calls)
+    → HasReply f.limit (bytes_received calls) named answer proof → (shown : Shown) → IsRightly f.wanted named proof shown → Calls f calls (result_of shown)
+shown_calls f calls named answer proof reads asked reply (shows.Answer text) (report, shown) =
+    (asked, record { proof = proof; held = (named, answer, reply); report = report; shown = shown })
+shown_calls f calls named answer proof reads asked reply (shows.Unread fault) has = absurd (reads_or_not _ _ _ reads.1 has)
+shown_calls f calls named answer proof reads asked reply (shows.Refused fault) for = (reads, refused f calls named answer proof fault asked reply for)
+
+-- no device has failed
+pub shown_no_device : (shown : Shown) → IfErr (result_of shown) (λ fault. fault ≢ Device)
+shown_no_device (shows.Answer text) = tt
+shown_no_device (shows.Unread fault) = cc
+shown_no_device (shows.Refused fault) = cc
+
+-- without a budget no work is too much
+pub shown_limited : (shown : Shown) → shown ≢ shows.Refused Work → result_of shown ≢ Err (Mirror Work)
+shown_limited (shows.Answer text) other same = absurd (cc)
+shown_limited (shows.Unread fault) other same = absurd (cc)
+shown_limited (shows.Refused fault) other same = let is : fault ≡ Work = cc in other (ap shows.Refused is)
+
+-- from the one proof a text is shown, unless there is a budget and it is passed
+pub shown_excused : (most : Option ℕ) (text : List ℕ) (shown : Shown) → ShowsText text shown ⊎ (shown ≡ shows.Refused Work) → (most ≡ None → shown ≢ shows.Refused Work)
+    → IfErr (result_of shown) (IsExcused most)
+shown_excused most text (shows.Answer told) is limited = tt
+shown_excused most text (shows.Unread fault) (inl is) limited = absurd is
+shown_excused most text (shows.Unread fault) (inr same) limited = absurd (cc)
+shown_excused most text (shows.Refused fault) (inl is) limited = absurd is
+shown_excused most text (shows.Refused fault) (inr same) limited = let is : fault ≡ Work = cc in inr (λ none. limited none same, ap Mirror is)
 
 -- ---- handed on
 
-pub outside_told : (result : Result (Unit {0}) NotFetched) (fault : NotFetched) → IsErrAnd result (λ told. told ≡ fault) → IsOutside fault → IfErr result IsOutside
-outside_told (Ok done) fault told outside = tt
-outside_told (Err other) fault told outside = subst IsOutside (sym told) outside
+pub excused_told : (most : Option ℕ) (result : Result (Unit {0}) NotFetched) (fault : NotFetched) → IsErrAnd result (λ told. told ≡ fault) → IsExcused most fault
+    → IfErr result (IsExcused most)
+excused_told most (Ok done) fault told excused = tt
+excused_told most (Err other) fault told excused = subst (IsExcused most) (sym told) excused
+
+pub limited_told : (result : Result (Unit {0}) NotFetched) (fault : NotFetched) → IsErrAnd result (λ told. told ≡ fault) → fault ≢ Mirror Work → result ≢ Err (Mirror Work)
+limited_told (Ok done) fault told other same = absurd told
+limited_told (Err given) fault told other same = let is : given ≡ Mirror Work = cc in other (sym told ∙ is)

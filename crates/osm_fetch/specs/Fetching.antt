@@ -1,6 +1,6 @@
 -- What is fetched: what was called at the mirror, what it sent, and what is written of it.
 -- Source: this project.
-use Rattle.std.specs.Prelude.{◌≡◌, ◌⊎◌, ℕ, List, [], ◌∷◌, ◌++◌, false, Option, Some, None, Result, Ok, Err, ⊤}
+use Rattle.std.specs.Prelude.{◌≡◌, ◌≢◌, ◌⊎◌, ℕ, List, [], ◌∷◌, ◌++◌, false, Option, Some, None, Result, Ok, Err, ⊤}
 use Rattle.std.specs.Io.KnownBytes.{Appends, Keeps}
 use Rattle.std.specs.declared.alloc.Global.{Global}
 use Rattle.std.specs.declared.vec.Vec.{Vec}
@@ -17,7 +17,7 @@ use Rattle.mirror_reply.specs.Requests.{is_host_text, request_text}
 use Rattle.mirror_reply.specs.Standings.{HasFault as HasReplyFault}
 use Rattle.mirror_answer.specs.Showing.{IsFaultOf, Wanted}
 use Rattle.mirror_answer.specs.declared.mirror_fault.MirrorFault.{MirrorFault}
-use Rattle.mirror_answer.specs.declared.mirror_fault.MirrorFault.TheVariants.{OtherRoot, Proof, Reply, Silent, Unreached}
+use Rattle.mirror_answer.specs.declared.mirror_fault.MirrorFault.TheVariants.{OtherRoot, Proof, Reply, Silent, Unreached, Work}
 use Rattle.osm_commands.specs.Written.{Output}
 use Rattle.osm_commands.specs.declared.status.Status.{Status}
 use Rattle.osm_commands.specs.declared.status.Status.TheVariants.{Failed, No, Refused}
@@ -113,6 +113,10 @@ IsOutside (Mirror fault) = ⊥
 IsOutside Memory = ⊤
 IsOutside Device = ⊤
 
+-- an honest mirror's fault it is neither: it lies outside, or there is a budget, and its proof passes it
+abbrev pub IsExcused : Option ℕ → NotFetched → Type 0
+IsExcused most fault = IsOutside fault ⊎ ((most ≢ None) × (fault ≡ Mirror Work))
+
 -- ---- how the program ends
 
 abbrev pub status_of_mirror : MirrorFault → Status
@@ -121,6 +125,7 @@ status_of_mirror Silent = Failed
 status_of_mirror (Reply fault) = Failed
 status_of_mirror OtherRoot = No
 status_of_mirror (Proof why) = No
+status_of_mirror Work = Failed
 
 abbrev pub status_of : NotFetched → Status
 status_of (Query fault) = Refused

@@ -29,7 +29,7 @@ pub enum NotFetched {
 
 impl NotFetched {
     /// How the program ends after it: `No` where the mirror's proof is refused, `Refused` where the query is, else
-    /// `Failed`.
+    /// `Failed`: so too where the proof passes the budget, since nothing is known of it then.
     pub fn status(self) -> Status
         ensures { result ≡ status_of self }
     {

@@ -4,6 +4,7 @@ use Rattle.std.specs.Prelude.{Bool, Option, Some, None, option_map}
 use Rattle.std.specs.Option.{is_some}
 use Rattle.osm_relay.specs.Logs.{Log, fresh, takes}
 use Rattle.osm_relay.specs.declared.stage.Stage.{Stage}
+use Rattle.osm_relay.specs.declared.terms.Terms.{Terms}
 use Rattle.osm_relay.specs.internal.Stages.{StandsAt}
 
 -- a wire that took no bytes
@@ -13,7 +14,7 @@ took_none old new count bytes z e =
 
 -- there is a fresh connection, or none
 pub dialled : {W : Type 0} (log : W → Log) (wire : Option W) (tells : Bool) → tells ≡ true → IfSome wire (λ w. tells ≡ true → log w ≡ fresh)
-    → (root : List ℕ) (c : Log) (stage : Stage)
-    → (is_some wire ≡ true → StandsAt root stage c (Some fresh)) → (is_some wire ≡ false → StandsAt root stage c None) → StandsAt root stage c (option_map log wire)
-dialled log None tells told new root c stage asking choosing = choosing refl
-dialled log (Some w) tells told new root c stage asking choosing = subst (λ (l : Log). StandsAt root stage c (Some l)) (sym (new told)) (asking refl)
+    → (terms : Terms) (c : Log) (stage : Stage)
+    → (is_some wire ≡ true → StandsAt terms stage c (Some fresh)) → (is_some wire ≡ false → StandsAt terms stage c None) → StandsAt terms stage c (option_map log wire)
+dialled log None tells told new terms c stage asking choosing = choosing refl
+dialled log (Some w) tells told new terms c stage asking choosing = subst (λ (l : Log). StandsAt terms stage c (Some l)) (sym (new told)) (asking refl)

@@ -14,7 +14,8 @@ use Rattle.osm_relay.specs.declared.network.Room.{Room}
 use Rattle.osm_relay.specs.declared.network.Room.TheVariants.{Closed, Free, Full}
 use Rattle.osm_relay.specs.declared.relay_fault.RelayFault.{RelayFault}
 use Rattle.osm_relay.specs.declared.relay_fault.RelayFault.TheVariants.{Endless, Memory}
-use Rattle.osm_relay.specs.internal.Relaying.{AreTrusted, IsRun, Moves, Setting, Stands, Stops, Turns, numbers}
+use Rattle.osm_relay.specs.declared.terms.Terms.{Terms}
+use Rattle.osm_relay.specs.internal.Relaying.{AreTrusted, IsRun, IsTrusted, Moves, Setting, Stands, Stops, Turns, numbers}
 
 -- ---- the numbers of the conversations
 
@@ -38,11 +39,17 @@ old_at [] i old one short is = absurd (omega arith)
 old_at (x ∷ xs) zero old one short is = is
 old_at (x ∷ xs) (suc i) old one short is = old_at xs i old one (omega arith) is
 
--- ---- roots
+-- ---- roots and budgets
 
-trusted_rest : (trusts : List ℕ → Bool) (xs : List Standing) (i : ℕ) → AreTrusted trusts xs → AreTrusted trusts (remove xs i)
-trusted_rest trusts xs i is =
-    let P : Standing → Type 0 = λ s. trusts s.root ≡ true in All-append P (take i xs) (drop (suc i) xs) (All-take P i xs is) (All-drop P (suc i) xs is)
+trusted_rest : (trusts : List ℕ → Bool) (most : Option ℕ) (xs : List Standing) (i : ℕ) → AreTrusted trusts most xs → AreTrusted trusts most (remove xs i)
+trusted_rest trusts most xs i is =
+    let P : Standing → Type 0 = IsTrusted trusts most in All-append P (take i xs) (drop (suc i) xs) (All-take P i xs is) (All-drop P (suc i) xs is)
+
+-- terms are those of a conversation
+pub trusted_by : (trusts : List ℕ → Bool) (most : Option ℕ) (one : Standing) (terms : Terms) → one.terms ≡ terms → trusts terms.root.0 ≡ true → terms.most ≡ most
+    → IsTrusted trusts most one
+trusted_by trusts most one terms same told budget =
+    let P : Terms → Type 0 = λ t. (trusts t.root.0 ≡ true) × (t.most ≡ most) in subst P (sym same) (told, budget)
 
 -- ---- room
 
@@ -117,7 +124,7 @@ module _ (s : Setting) (before : List Event) (rounds taken : ℕ) (old : Option 
       next : IsNext s.wanted taken before
       next = record { invited = invited; number = sym is.taken_are; few = omega (arith, is.taken_are); room = omega (arith, count) }
 
-      pub one_more : (one : Standing) → one.number ≡ taken → s.trusts one.root ≡ true → new ≡ noted (came taken) old
+      pub one_more : (one : Standing) → one.number ≡ taken → IsTrusted s.trusts s.most one → new ≡ noted (came taken) old
           → Moves s rounds (taken + 1) new (there ++ one ∷ [])
       one_more one number trusted e = (
         came taken ∷ before,
@@ -129,7 +136,7 @@ module _ (s : Setting) (before : List Event) (rounds taken : ℕ) (old : Option 
           open_are =
               ap (λ (t : List ℕ). t ++ taken ∷ []) is.open_are ∙ ap (λ (n : ℕ). numbers there ++ n ∷ []) (sym number)
               ∙ sym (map-append (λ (x : Standing). x.number) there (one ∷ []));
-          trusted = All-push (λ (x : Standing). s.trusts x.root ≡ true) there one is.trusted trusted;
+          trusted = All-push (IsTrusted s.trusts s.most) there one is.trusted trusted;
         },
         refl,
       )
@@ -175,15 +182,15 @@ module _ (s : Setting) (before : List Event) (rounds taken : ℕ) (old : Option 
       heeded,
     )
 
-    module _ (i : ℕ) (one : Standing) (short : i < length there) (root : one.root ≡ (get_or there i one).root) (number : one.number ≡ (get_or there i one).number) where
+    module _ (i : ℕ) (one : Standing) (short : i < length there) (terms : one.terms ≡ (get_or there i one).terms) (number : one.number ≡ (get_or there i one).number) where
       same_numbers : numbers (set there i one) ≡ numbers there
       same_numbers = map-set_same (λ (x : Standing). x.number) there i one one number
 
-      trusted_here : s.trusts one.root ≡ true
-      trusted_here = rw root (is.trusted i one short)
+      trusted_here : IsTrusted s.trusts s.most one
+      trusted_here = let was = is.trusted i one short in trusted_by s.trusts s.most one (get_or there i one).terms terms was.0 was.1
 
-      trusted_there : AreTrusted s.trusts (set there i one)
-      trusted_there = All-set (λ (x : Standing). s.trusts x.root ≡ true) there i one trusted_here is.trusted
+      trusted_there : AreTrusted s.trusts s.most (set there i one)
+      trusted_there = All-set (IsTrusted s.trusts s.most) there i one trusted_here is.trusted
 
       pub goes_on : is_invited before ≡ false → new ≡ old → Moves s rounds taken new (set there i one)
       goes_on heeded e = (
@@ -204,9 +211,9 @@ module _ (s : Setting) (before : List Event) (rounds taken : ℕ) (old : Option 
       leaves n whole called at ending promised tells e =
           let first = position-Some (λ (x : Standing). x.number == n) there i one at in
           let same : (get_or there i one).number ≡ n = eqb-true _ _ first.1 in
-          let told : s.tells ≡ true → IsToldRightly s.trusts whole one.client =
+          let told : s.tells ≡ true → IsToldRightly s.trusts s.most whole one.client =
           (λ yes. let (taken_so, asked) = promised (tells ∙ yes) in
-          (one.root, one.mirror, trusted_here, subst (λ (o : Option Bool). IsTakenAt o one.root one.client one.mirror) ending taken_so, asked)) in (
+          (one.terms, one.mirror, trusted_here.0, trusted_here.1, subst (λ (o : Option Bool). IsTakenAt o one.terms one.client one.mirror) ending taken_so, asked)) in (
             left n whole one.client ∷ before,
             record {
               logged = logs (left n whole one.client) e;
@@ -221,7 +228,7 @@ module _ (s : Setting) (before : List Event) (rounds taken : ℕ) (old : Option 
                   ∙ removed_first n (set there i one) i one (rw length-set short)
                   (ap (λ (x : Standing). x.number) (get_or-set_same there i one one short) ∙ number ∙ same)
                   (λ k h. let ne : k ≢ i = omega arith in rw get_or-set_other (first.2 k h));
-              trusted = trusted_rest s.trusts (set there i one) i trusted_there;
+              trusted = trusted_rest s.trusts s.most (set there i one) i trusted_there;
             },
             refl,
           )

@@ -11,6 +11,7 @@ use Rattle.osm_relay.specs.declared.network.Room.{Room}
 use Rattle.osm_relay.specs.declared.network.Room.TheVariants.{Closed, Free, Full}
 use Rattle.osm_relay.specs.declared.relay_fault.RelayFault.{RelayFault}
 use Rattle.osm_relay.specs.declared.relay_fault.RelayFault.TheVariants.{Endless, Memory}
+use Rattle.osm_relay.specs.declared.terms.Terms.{Terms}
 
 -- with this room for a further client it was waited for what is next, and this was told; a client was taken for the
 -- conversation of this number, there was none any more, or taking one was refused; the client of the conversation was let
@@ -136,26 +137,28 @@ IsOrderly wanted (left n whole wire ∷ before) = IsLeaving n before × IsOrderl
 
 -- ---- what clients are told
 
--- what a client has taken when it is let go is what the promise of its conversation says, under a root that may be told
-abbrev pub IsToldRightly : (trusts : List ℕ → Bool) → Bool → Log → Type 0
-IsToldRightly trusts whole wire =
-    (root : List ℕ) × (mirror : Option Log) × (trusts root ≡ true) × IsTakenAt (Some whole) root wire mirror × IsAskedFor wire.brought mirror
+-- what a client has taken when it is let go is what the promise of its conversation says, under a root that may be told and
+-- with this budget
+abbrev pub IsToldRightly : (trusts : List ℕ → Bool) → (most : Option ℕ) → Bool → Log → Type 0
+IsToldRightly trusts most whole wire =
+    (terms : Terms) × (mirror : Option Log) × (trusts terms.root.0 ≡ true) × (terms.most ≡ most) × IsTakenAt (Some whole) terms wire mirror
+    × IsAskedFor wire.brought mirror
 
 -- where wires tell what went over them
-abbrev pub AreToldRightly : (tells : Bool) → (trusts : List ℕ → Bool) → List Event → Type 0
-AreToldRightly tells trusts [] = Unit {0}
-AreToldRightly tells trusts (waited room told ∷ before) = AreToldRightly tells trusts before
-AreToldRightly tells trusts (came n ∷ before) = AreToldRightly tells trusts before
-AreToldRightly tells trusts (missed n ∷ before) = AreToldRightly tells trusts before
-AreToldRightly tells trusts (failed n fault ∷ before) = AreToldRightly tells trusts before
-AreToldRightly tells trusts (left n whole wire ∷ before) = (tells ≡ true → IsToldRightly trusts whole wire) × AreToldRightly tells trusts before
+abbrev pub AreToldRightly : (tells : Bool) → (trusts : List ℕ → Bool) → (most : Option ℕ) → List Event → Type 0
+AreToldRightly tells trusts most [] = Unit {0}
+AreToldRightly tells trusts most (waited room told ∷ before) = AreToldRightly tells trusts most before
+AreToldRightly tells trusts most (came n ∷ before) = AreToldRightly tells trusts most before
+AreToldRightly tells trusts most (missed n ∷ before) = AreToldRightly tells trusts most before
+AreToldRightly tells trusts most (failed n fault ∷ before) = AreToldRightly tells trusts most before
+AreToldRightly tells trusts most (left n whole wire ∷ before) = (tells ≡ true → IsToldRightly trusts most whole wire) × AreToldRightly tells trusts most before
 
 -- ---- a run
 
--- the run of a relay of which so many clients are wanted
-pub record Relays (wanted : ℕ) (tells : Bool) (trusts : List ℕ → Bool) (events : List Event) : Type 0 where
+-- the run of a relay of which so many clients are wanted, with this budget for the check of each proof
+pub record Relays (wanted : ℕ) (tells : Bool) (trusts : List ℕ → Bool) (most : Option ℕ) (events : List Event) : Type 0 where
   pub orderly : IsOrderly wanted events
-  pub told : AreToldRightly tells trusts events
+  pub told : AreToldRightly tells trusts most events
 
 -- the last that happened is why it ended: the network told this fault, or there was no memory for a client that came
 abbrev pub IsCause : RelayFault → List Event → Type 0

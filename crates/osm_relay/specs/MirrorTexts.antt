@@ -1,4 +1,4 @@
--- The texts of faults.
+-- The texts of faults, and the status of a response that tells a fault of a mirror.
 -- Source: this project.
 use Rattle.std.specs.Prelude.{ℕ, List, ◌++◌, codes}
 use Rattle.std.specs.Fmt.{decimal}
@@ -8,7 +8,7 @@ use Rattle.osm_check.specs.VerdictTexts.{why_text}
 use Rattle.mirror_reply.specs.declared.reply_fault.ReplyFault.{ReplyFault}
 use Rattle.mirror_reply.specs.declared.reply_fault.ReplyFault.TheVariants.{BadBody, BadHead, BadLength, BadStatus, ClosedEarly, TooLong}
 use Rattle.mirror_answer.specs.declared.mirror_fault.MirrorFault.{MirrorFault}
-use Rattle.mirror_answer.specs.declared.mirror_fault.MirrorFault.TheVariants.{OtherRoot, Proof, Reply, Silent, Unreached}
+use Rattle.mirror_answer.specs.declared.mirror_fault.MirrorFault.TheVariants.{OtherRoot, Proof, Reply, Silent, Unreached, Work}
 
 -- of a query that doesn't read: the code of the cause, and the place: `Q7 byte 5`
 abbrev pub fault_text : QlFault → List ℕ
@@ -28,3 +28,13 @@ mirror_text Silent = codes "the mirror went silent"
 mirror_text (Reply fault) = reply_text fault
 mirror_text OtherRoot = codes "the mirror answers under another root"
 mirror_text (Proof why) = codes "the mirror's proof is refused: " ++ why_text why
+mirror_text Work = codes "too much work"
+
+-- no mirror is at fault where the budget of the client's own check is passed
+abbrev pub status_of_fault : MirrorFault → ℕ
+status_of_fault Unreached = 502
+status_of_fault Silent = 502
+status_of_fault (Reply fault) = 502
+status_of_fault OtherRoot = 502
+status_of_fault (Proof why) = 502
+status_of_fault Work = 503

@@ -43,6 +43,10 @@ slots_response = record {
 unfoldable pub starved : List ℕ
 starved = response_text (error_response 503 (codes "out of memory"))
 
+-- what is said where the budget of the client's check is passed
+abbrev pub too_much_work : List ℕ
+too_much_work = response_text (error_response 503 (codes "too much work"))
+
 -- the document of an answer, and the root that it was checked by
 abbrev pub document_response : Form → (root text : List ℕ) → Response
 document_response form root text = record {

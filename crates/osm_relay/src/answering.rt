@@ -1,7 +1,8 @@
 //! The response to the client.
 
-ghost use Rattle.std.specs.Prelude.{◌≡◌, ◌≤◌, List, Option, length, take, true, ℕ};
+ghost use Rattle.std.specs.Prelude.{◌≡◌, ◌≤◌, Option, length, take, true};
 ghost use Rattle.osm_relay.specs.Logs.{Log, takes};
+ghost use Rattle.osm_relay.specs.declared.terms.Terms.{Terms};
 ghost use Rattle.osm_relay.specs.internal.Stages.{StandsAt};
 
 use crate::output::Output;
@@ -12,9 +13,9 @@ use crate::wire::{Wire, Writing};
 
 /// Writes the response to the client, as far as it takes it.
 pub(crate) fn answer<W: Wire>(client: &mut W, response: Output) -> Step
-    ensures { (root : List ℕ) (mirror : Option Log) → W.tells ≡ true
-        → StandsAt root (Stage.Answering response) (W.log client.old) mirror
-        → StandsAt root result.stage (W.log client.new) mirror }
+    ensures { (terms : Terms) (mirror : Option Log) → W.tells ≡ true
+        → StandsAt terms (Stage.Answering response) (W.log client.old) mirror
+        → StandsAt terms result.stage (W.log client.new) mirror }
 {
     match client.write(response.bytes()) {
         Writing::Took(0) => Step {
@@ -35,8 +36,8 @@ pub(crate) fn answer<W: Wire>(client: &mut W, response: Output) -> Step
 /// Where the conversation stands once the client has taken so many bytes of the response.
 fn answer_on(mut response: Output, count: usize) -> Stage
     requires { count ≤ length response }
-    ensures { (root : List ℕ) (c : Log) (m : Option Log) → StandsAt root (Stage.Answering response) c m
-        → StandsAt root result (takes (take count response) c) m }
+    ensures { (terms : Terms) (c : Log) (m : Option Log) → StandsAt terms (Stage.Answering response) c m
+        → StandsAt terms result (takes (take count response) c) m }
 {
     response.advance(count);
     if response.is_empty() {

@@ -1,7 +1,8 @@
 //! The request to a mirror.
 
-ghost use Rattle.std.specs.Prelude.{◌≡◌, ◌≤◌, List, Some, true, length, take, ℕ};
+ghost use Rattle.std.specs.Prelude.{◌≡◌, ◌≤◌, Some, true, length, take};
 ghost use Rattle.osm_relay.specs.Logs.{Log, takes};
+ghost use Rattle.osm_relay.specs.declared.terms.Terms.{Terms};
 ghost use Rattle.osm_relay.specs.internal.Stages.{StandsAt};
 
 use crate::limits::REPLY_LIMIT;
@@ -16,9 +17,9 @@ use std::alloc::Global;
 
 /// Writes the request to the mirror, as far as it takes it. A mirror that is gone before it has taken a byte can't be reached.
 pub(crate) fn ask<W: Wire>(alloc: Global, mirror: &mut W, search: Search, request: Output) -> Step
-    ensures { (root : List ℕ) (client : Log) → W.tells ≡ true
-        → StandsAt root (Stage.Asking search request) client (Some (W.log mirror.old))
-        → StandsAt root result.stage client (Some (W.log mirror.new)) }
+    ensures { (terms : Terms) (client : Log) → W.tells ≡ true
+        → StandsAt terms (Stage.Asking search request) client (Some (W.log mirror.old))
+        → StandsAt terms result.stage client (Some (W.log mirror.new)) }
 {
     match mirror.write(request.bytes()) {
         Writing::Took(0) => Step {
@@ -39,8 +40,8 @@ pub(crate) fn ask<W: Wire>(alloc: Global, mirror: &mut W, search: Search, reques
 /// Where the conversation stands once the mirror has taken so many bytes of the request.
 fn ask_on(alloc: Global, search: Search, mut request: Output, count: usize) -> Stage
     requires { count ≤ length request }
-    ensures { (root : List ℕ) (c : Log) (m : Log) → StandsAt root (Stage.Asking search request) c (Some m)
-        → StandsAt root result c (Some (takes (take count request) m)) }
+    ensures { (terms : Terms) (c : Log) (m : Log) → StandsAt terms (Stage.Asking search request) c (Some m)
+        → StandsAt terms result c (Some (takes (take count request) m)) }
 {
     request.advance(count);
     let search = search.failed(MirrorFault::Silent);

@@ -8,20 +8,20 @@ use crate::hearing::Heard;
 use crate::network::Network;
 use crate::stage::Stage;
 use crate::stepping::{impatient, step_on};
+use crate::terms::Terms;
 use crate::turn::{Awaits, Turn};
 use crate::wire::Wire;
 use std::alloc::Global;
 use std::marker::Model;
 use std::mem;
-use tree_node::Digest;
 
-/// One client, and the mirror that is asked for it. Contracts see the root, what went over both wires, and whether it is over.
+/// One client, and the mirror that is asked for it. Contracts see its terms, what went over both wires, and whether it is over.
 ///
 /// Only the client's first request is answered, and the connection ends after it. The mirror isn't trusted.
 #[derive(Drop)]
 pub struct Conversation<W: Wire> {
     number: u32,
-    root: Digest,
+    terms: Terms,
     client: W,
     /// The wire of the last mirror asked, if there is one.
     mirror: Option<W>,
@@ -38,7 +38,7 @@ impl<W: Wire> Model for Conversation<W> {
 
     ghost view = { λ s. record {
       number = s.number;
-      root = s.root.0;
+      terms = s.terms;
       tells = W.tells;
       client = W.log s.client;
       mirror = option_map W.log s.mirror;
@@ -46,18 +46,18 @@ impl<W: Wire> Model for Conversation<W> {
     } };
 
     ghost invariant = { λ s. W.tells ≡ true
-        → StandsAt s.root.0 s.stage (W.log s.client) (option_map W.log s.mirror) };
+        → StandsAt s.terms s.stage (W.log s.client) (option_map W.log s.mirror) };
 }
 
 impl<W: Wire> Conversation<W> {
     /// A client that has just come. It takes no memory.
-    pub fn new(alloc: Global, number: u32, root: Digest, client: W) -> Conversation<W>
+    pub fn new(alloc: Global, number: u32, terms: Terms, client: W) -> Conversation<W>
         requires { W.tells ≡ true → W.log client ≡ fresh }
-        ensures { result ≡ record { number = number; root = root.0; tells = W.tells; client = W.log client; mirror = None; ending = None } }
+        ensures { result ≡ record { number = number; terms = terms; tells = W.tells; client = W.log client; mirror = None; ending = None } }
     {
         Conversation {
             number,
-            root,
+            terms,
             client,
             mirror: None,
             stage: Stage::Hearing(Heard::new(alloc)),
@@ -104,7 +104,7 @@ impl<W: Wire> Conversation<W> {
     /// Goes on, by one read or one write at most. Where memory runs out, the client is told so.
     pub fn turn<N: Network<W>>(&mut self, alloc: Global, network: &mut N) -> Turn
         ensures promised { IsPromised self.new }
-        ensures root { self.new.root ≡ self.old.root }
+        ensures terms { self.new.terms ≡ self.old.terms }
         ensures number { self.new.number ≡ self.old.number }
         ensures tells { self.new.tells ≡ W.tells }
         ensures log { N.log network.new ≡ N.log network.old }
@@ -112,7 +112,7 @@ impl<W: Wire> Conversation<W> {
         let stage = mem::replace(&mut self.stage, Stage::Over { whole: false });
         let step = step_on(
             alloc,
-            &self.root,
+            &self.terms,
             &mut self.client,
             &mut self.mirror,
             network,
@@ -126,7 +126,7 @@ impl<W: Wire> Conversation<W> {
     /// What it waits for has taken too long. A client is given up, and in place of a mirror the next one is asked.
     pub fn lose_patience(&mut self)
         ensures promised { IsPromised self.new }
-        ensures root { self.new.root ≡ self.old.root }
+        ensures terms { self.new.terms ≡ self.old.terms }
         ensures number { self.new.number ≡ self.old.number }
         ensures client { self.new.client ≡ self.old.client }
         ensures mirror { self.new.mirror ≡ self.old.mirror }
@@ -142,7 +142,7 @@ impl<W: Wire> Conversation<W> {
     {
         let Conversation {
             number: _,
-            root: _,
+            terms: _,
             client,
             mirror: _,
             stage: _,

@@ -31,6 +31,7 @@ pub(crate) fn mirror_text(alloc: Global, fault: MirrorFault) -> Result<String, A
             String::from_str(alloc, "the mirror answers under another root")
         }
         MirrorFault::Proof(why) => proof_text(alloc, why),
+        MirrorFault::Work => String::from_str(alloc, "too much work"),
     }
 }
 

@@ -7,6 +7,7 @@ ghost use Rattle.osm_relay.specs.ResponseTexts.{response_text};
 
 use crate::question::Question;
 use crate::response::{ResponseHead, joined_response};
+use crate::terms::Terms;
 use http::StatusCode;
 use mirror_answer::{MirrorFault, Shown, show};
 use mirror_reply::Parts;
@@ -25,13 +26,15 @@ pub(crate) enum Judged {
 /// What the parts of a reply come to: the document, or why there is none. Refused only where memory runs out.
 pub(crate) fn judge(
     alloc: Global,
-    root: &Digest,
+    terms: &Terms,
     question: &Question,
     parts: Parts<'_>,
 ) -> Result<Judged, AllocError>
-    ensures { IfOk result (Judges question.now root.now.0 parts.entry.root.now parts.entry.proof.now) }
+    ensures { IfOk result (Judges question.now terms.now parts.entry.root.now parts.entry.proof.now) }
 {
-    match show(alloc, question.form, &question.query, root, parts)? {
+    let root = &terms.root;
+    let most = terms.most;
+    match show(alloc, question.form, &question.query, root, parts, most)? {
         Shown::Answer(text) => Ok(Judged::Given(document(alloc, question.form, root, &text)?)),
         Shown::Refused(fault) => Ok(Judged::Refused(fault)),
         Shown::Unread(_) => unreachable!("the query reads"),

@@ -32,6 +32,7 @@ mod stage;
 mod starved;
 mod step;
 mod stepping;
+mod terms;
 mod turn;
 mod wire;
 
@@ -43,5 +44,6 @@ pub use relay_fault::RelayFault;
 pub use relaying::relay_many;
 pub use roots::Roots;
 pub use starved::starved_response;
+pub use terms::Terms;
 pub use turn::{Awaits, Turn};
 pub use wire::{Reading, Wire, Writing};

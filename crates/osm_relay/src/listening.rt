@@ -12,29 +12,29 @@ use crate::limits::MIRROR_PIECE;
 use crate::output::Output;
 use crate::stage::{Search, Stage};
 use crate::step::{Step, starved};
+use crate::terms::Terms;
 use crate::turn::Turn;
 use crate::wire::{Reading, Wire};
 use mirror_answer::MirrorFault;
 use mirror_reply::{Parts, Progress, Reply};
 use std::alloc::Global;
-use tree_node::Digest;
 
 /// Reads a piece of the mirror's response.
 pub(crate) fn listen<W: Wire>(
     alloc: Global,
-    root: &Digest,
+    terms: &Terms,
     mirror: &mut W,
     search: Search,
     reply: Reply,
 ) -> Step
     ensures { (client : Log) → W.tells ≡ true
-        → StandsAt root.now.0 (Stage.Listening search reply) client (Some (W.log mirror.old))
-        → StandsAt root.now.0 result.stage client (Some (W.log mirror.new)) }
+        → StandsAt terms.now (Stage.Listening search reply) client (Some (W.log mirror.old))
+        → StandsAt terms.now result.stage client (Some (W.log mirror.new)) }
 {
     let mut piece = [0; MIRROR_PIECE];
     match mirror.read(&mut piece) {
         Reading::Got(count) => Step {
-            stage: listen_piece(alloc, root, search, reply, &piece[..count]),
+            stage: listen_piece(alloc, terms, search, reply, &piece[..count]),
             turn: Turn::Moved(count),
         },
         Reading::Later => Step {
@@ -42,7 +42,7 @@ pub(crate) fn listen<W: Wire>(
             turn: Turn::Waits,
         },
         Reading::Ended => Step {
-            stage: listen_end(alloc, root, search, reply),
+            stage: listen_end(alloc, terms, search, reply),
             turn: Turn::Moved(0),
         },
         Reading::Gone => Step {
@@ -55,51 +55,51 @@ pub(crate) fn listen<W: Wire>(
 /// Where the conversation stands once this piece has come.
 fn listen_piece(
     alloc: Global,
-    root: &Digest,
+    terms: &Terms,
     search: Search,
     mut reply: Reply,
     piece: &[u8],
 ) -> Stage
-    ensures { (c : Log) (m : Log) → StandsAt root.now.0 (Stage.Listening search reply) c (Some m)
-        → StandsAt root.now.0 result c (Some (brings piece.now m)) }
+    ensures { (c : Log) (m : Log) → StandsAt terms.now (Stage.Listening search reply) c (Some m)
+        → StandsAt terms.now result c (Some (brings piece.now m)) }
 {
     match reply.take(piece) {
         Ok(Progress::More) => Stage::Listening { search, reply },
-        Ok(Progress::Whole) => settle(alloc, root, search, reply),
+        Ok(Progress::Whole) => settle(alloc, terms, search, reply),
         Ok(Progress::Failed(fault)) => { Stage::Choosing(search.failed(MirrorFault::Reply(fault))) }
         Err(_) => starved(),
     }
 }
 
 /// Where the conversation stands once the mirror has closed.
-fn listen_end(alloc: Global, root: &Digest, search: Search, reply: Reply) -> Stage
-    ensures { (c : Log) (m : Log) → StandsAt root.now.0 (Stage.Listening search reply) c (Some m)
-        → StandsAt root.now.0 result c (Some (ends m)) }
+fn listen_end(alloc: Global, terms: &Terms, search: Search, reply: Reply) -> Stage
+    ensures { (c : Log) (m : Log) → StandsAt terms.now (Stage.Listening search reply) c (Some m)
+        → StandsAt terms.now result c (Some (ends m)) }
 {
     match reply.close() {
-        Ok(()) => settle(alloc, root, search, reply),
+        Ok(()) => settle(alloc, terms, search, reply),
         Err(fault) => Stage::Choosing(search.failed(MirrorFault::Reply(fault))),
     }
 }
 
 /// Where the conversation stands once the reply is whole.
-fn settle(alloc: Global, root: &Digest, search: Search, reply: Reply) -> Stage
-    ensures { (c : Log) (m : Log) → IsHeard search reply c m → StandsAt root.now.0 result c (Some m) }
+fn settle(alloc: Global, terms: &Terms, search: Search, reply: Reply) -> Stage
+    ensures { (c : Log) (m : Log) → IsHeard search reply c m → StandsAt terms.now result c (Some m) }
 {
     match reply.parts() {
-        Some(parts) => settle_parts(alloc, root, search, parts),
+        Some(parts) => settle_parts(alloc, terms, search, parts),
         // A whole reply has its parts.
         None => Stage::Choosing(search.failed(MirrorFault::Silent)),
     }
 }
 
 /// Where the conversation stands by the parts of a whole reply.
-fn settle_parts(alloc: Global, root: &Digest, search: Search, parts: Parts<'_>) -> Stage
+fn settle_parts(alloc: Global, terms: &Terms, search: Search, parts: Parts<'_>) -> Stage
     ensures { (reply : Kept) (c : Log) (m : Log) → IsHeard search reply c m
         → HasReply REPLY_LIMIT m.brought parts.entry.root.now parts.entry.answer.now parts.entry.proof.now
-        → StandsAt root.now.0 result c (Some m) }
+        → StandsAt terms.now result c (Some m) }
 {
-    match judge(alloc, root, &search.question, parts) {
+    match judge(alloc, terms, &search.question, parts) {
         Ok(Judged::Given(response)) => Stage::Answering(Output::new(response)),
         Ok(Judged::Refused(fault)) => Stage::Choosing(search.failed(fault)),
         Err(_) => starved(),

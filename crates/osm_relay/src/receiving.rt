@@ -1,7 +1,8 @@
 //! The client's request.
 
-ghost use Rattle.std.specs.Prelude.{◌≡◌, List, Option, false, true, ℕ};
+ghost use Rattle.std.specs.Prelude.{◌≡◌, Option, false, true};
 ghost use Rattle.osm_relay.specs.Logs.{Log, brings};
+ghost use Rattle.osm_relay.specs.declared.terms.Terms.{Terms};
 ghost use Rattle.osm_relay.specs.internal.Stages.{StandsAt};
 
 use crate::hearing::{Heard, Reaction, hear_piece};
@@ -17,9 +18,9 @@ use std::alloc::Global;
 /// Reads a piece of the client's request. A client that is gone, or sends no more, before its request is complete is answered
 /// nothing.
 pub(crate) fn receive<W: Wire>(alloc: Global, client: &mut W, heard: Heard) -> Step
-    ensures { (root : List ℕ) (mirror : Option Log) → W.tells ≡ true
-        → StandsAt root (Stage.Hearing heard) (W.log client.old) mirror
-        → StandsAt root result.stage (W.log client.new) mirror }
+    ensures { (terms : Terms) (mirror : Option Log) → W.tells ≡ true
+        → StandsAt terms (Stage.Hearing heard) (W.log client.old) mirror
+        → StandsAt terms result.stage (W.log client.new) mirror }
 {
     let mut piece = [0; CLIENT_PIECE];
     match client.read(&mut piece) {
@@ -48,8 +49,8 @@ fn over() -> Step
 
 /// Where the conversation stands once this piece has come.
 fn receive_piece(alloc: Global, heard: Heard, piece: &[u8]) -> Stage
-    ensures { (root : List ℕ) (c : Log) (m : Option Log) → StandsAt root (Stage.Hearing heard) c m
-        → StandsAt root result (brings piece.now c) m }
+    ensures { (terms : Terms) (c : Log) (m : Option Log) → StandsAt terms (Stage.Hearing heard) c m
+        → StandsAt terms result (brings piece.now c) m }
 {
     match hear_piece(alloc, heard, piece) {
         Ok(Reaction::More(heard)) => Stage::Hearing(heard),

@@ -11,13 +11,16 @@ use crate::limits::CONVERSATION_LIMIT;
 use crate::network::{Network, News, Room};
 use crate::relay_fault::RelayFault;
 use crate::roots::Roots;
+use crate::terms::Terms;
 use crate::turn::{Awaits, Turn};
 use crate::wire::Wire;
 use std::alloc::Global;
 
 /// Answers this number of clients, up to 64 at a time, each by the root that is in force when it comes. They are numbered from
 /// 0 as they come, and each is let go once, when its conversation is over. What a client is told is promised by
-/// [`Conversation::promise`], which holds of what went over its wire when it is let go.
+/// [`Conversation::promise`], which holds of what went over its wire when it is let go. Where a budget is given, the check of
+/// each proof has it: a proof that passes it is refused as one that shows nothing, and where it is the last mirror's, the
+/// client is told 503 `too much work`.
 ///
 /// # Errors
 ///
@@ -28,11 +31,12 @@ pub fn relay_many<W: Wire, N: Network<W>, R: Roots>(
     roots: &mut R,
     network: &mut N,
     connections: u32,
+    most: Option<u64>,
 ) -> Result<(), RelayFault>
     // Where the network tells: which clients came and were let go, what each was told, and how it ends.
     ensures { (base : List Event) → N.log network.old ≡ Some base → (events : List Event)
         × (N.log network.new ≡ Some (events ++ base))
-        × Relays connections W.tells (R.may_tell roots.old) events
+        × Relays connections W.tells (R.may_tell roots.old) most events
         × Ends connections events result }
 {
     let mut conversations = Vec::new(alloc);
@@ -43,7 +47,16 @@ pub fn relay_many<W: Wire, N: Network<W>, R: Roots>(
     for _round in 0..u64::MAX {
         let room = room_for(conversations.len(), taken, connections);
         let news = network.next(room)?;
-        if turn(alloc, roots, network, &mut conversations, taken, news, room)? {
+        if turn(
+            alloc,
+            roots,
+            network,
+            &mut conversations,
+            taken,
+            most,
+            news,
+            room,
+        )? {
             taken += 1;
         }
         if is_done(conversations.len(), taken, connections) {
@@ -80,11 +93,12 @@ fn turn<W: Wire, N: Network<W>, R: Roots>(
     network: &mut N,
     conversations: &mut Vec<Conversation<W>>,
     number: u32,
+    most: Option<u64>,
     news: News,
     room: Room,
 ) -> Result<bool, RelayFault>
     ensures stands { (s : Setting) (before : List Event) (rounds : ℕ) → s.tells ≡ W.tells
-        → Stands s (waited room (Ok news) ∷ before) rounds number (N.log network.old)
+        → s.most ≡ most → Stands s (waited room (Ok news) ∷ before) rounds number (N.log network.old)
         conversations.old.items → Trusts s (R.may_tell roots.old)
         → room ≡ room_at s.wanted number (length conversations.old.items)
         → Turns s rounds number (N.log network.new) conversations.new.items result }
@@ -94,7 +108,7 @@ fn turn<W: Wire, N: Network<W>, R: Roots>(
 {
     match news {
         News::Waiting => match room {
-            Room::Free => return welcome(alloc, roots, network, conversations, number),
+            Room::Free => return welcome(alloc, roots, network, conversations, number, most),
             Room::Full | Room::Closed => {}
         },
         News::Ready(number) => go_on(alloc, network, conversations, number, false),
@@ -110,8 +124,9 @@ fn welcome<W: Wire, N: Network<W>, R: Roots>(
     network: &mut N,
     conversations: &mut Vec<Conversation<W>>,
     number: u32,
+    most: Option<u64>,
 ) -> Result<bool, RelayFault>
-    ensures stands { (s : Setting) (before : List Event) (rounds : ℕ)
+    ensures stands { (s : Setting) (before : List Event) (rounds : ℕ) → s.most ≡ most
         → Stands s before rounds number (N.log network.old) conversations.old.items
         → Trusts s (R.may_tell roots.old) → is_invited before ≡ true → number < s.wanted
         → length conversations.old.items < CONVERSATION_LIMIT
@@ -122,8 +137,10 @@ fn welcome<W: Wire, N: Network<W>, R: Roots>(
     let Some(client) = network.take(number)? else {
         return Ok(false);
     };
+    let root = roots.root();
+    let terms = Terms { root, most };
     if conversations
-        .push(Conversation::new(alloc, number, roots.root(), client))
+        .push(Conversation::new(alloc, number, terms, client))
         .is_err()
     {
         return Err(RelayFault::Memory);
@@ -175,7 +192,7 @@ fn take_turn<W: Wire, N: Network<W>>(
     is_late: bool,
 ) -> Turn
     ensures promised { IsPromised conversation.new }
-    ensures root { conversation.new.root ≡ conversation.old.root }
+    ensures terms { conversation.new.terms ≡ conversation.old.terms }
     ensures number { conversation.new.number ≡ conversation.old.number }
     ensures tells { conversation.new.tells ≡ W.tells }
     ensures log { N.log network.new ≡ N.log network.old }

@@ -1,7 +1,8 @@
 //! The next step of a conversation.
 
-ghost use Rattle.std.specs.Prelude.{◌≡◌, List, Option, option_map, true, ℕ};
+ghost use Rattle.std.specs.Prelude.{◌≡◌, Option, option_map, true};
 ghost use Rattle.osm_relay.specs.Logs.{Log};
+ghost use Rattle.osm_relay.specs.declared.terms.Terms.{Terms as TermsWord};
 ghost use Rattle.osm_relay.specs.internal.Stages.{StandsAt};
 
 use crate::answering::answer;
@@ -13,17 +14,17 @@ use crate::output::Output;
 use crate::receiving::receive;
 use crate::stage::{Search, Stage};
 use crate::step::Step;
+use crate::terms::Terms;
 use crate::turn::Turn;
 use crate::wire::Wire;
 use mirror_answer::MirrorFault;
 use mirror_reply::Reply;
 use std::alloc::Global;
-use tree_node::Digest;
 
 /// Does the next step.
 pub(crate) fn step_on<W: Wire, N: Network<W>>(
     alloc: Global,
-    root: &Digest,
+    terms: &Terms,
     client: &mut W,
     mirror: &mut Option<W>,
     network: &mut N,
@@ -32,8 +33,8 @@ pub(crate) fn step_on<W: Wire, N: Network<W>>(
 ) -> Step
     ensures log { N.log network.new ≡ N.log network.old }
     ensures stage { W.tells ≡ true
-        → StandsAt root.now.0 stage (W.log client.old) (option_map W.log mirror.old)
-        → StandsAt root.now.0 result.stage (W.log client.new) (option_map W.log mirror.new) }
+        → StandsAt terms.now stage (W.log client.old) (option_map W.log mirror.old)
+        → StandsAt terms.now result.stage (W.log client.new) (option_map W.log mirror.new) }
 {
     match stage {
         Stage::Hearing(heard) => receive(alloc, client, heard),
@@ -42,7 +43,7 @@ pub(crate) fn step_on<W: Wire, N: Network<W>>(
             turn: Turn::Moved(0),
         },
         Stage::Asking { search, request } => ask_mirror(alloc, mirror, search, request),
-        Stage::Listening { search, reply } => listen_to(alloc, root, mirror, search, reply),
+        Stage::Listening { search, reply } => listen_to(alloc, terms, mirror, search, reply),
         Stage::Answering(response) => answer(client, response),
         Stage::Over { whole } => Step {
             stage: Stage::Over { whole },
@@ -57,9 +58,9 @@ fn ask_mirror<W: Wire>(
     search: Search,
     request: Output,
 ) -> Step
-    ensures { (root : List ℕ) (client : Log) → W.tells ≡ true
-        → StandsAt root (Stage.Asking search request) client (option_map W.log mirror.old)
-        → StandsAt root result.stage client (option_map W.log mirror.new) }
+    ensures { (terms : TermsWord) (client : Log) → W.tells ≡ true
+        → StandsAt terms (Stage.Asking search request) client (option_map W.log mirror.old)
+        → StandsAt terms result.stage client (option_map W.log mirror.new) }
 {
     match mirror {
         Some(wire) => ask(alloc, wire, search, request),
@@ -72,17 +73,17 @@ fn ask_mirror<W: Wire>(
 
 fn listen_to<W: Wire>(
     alloc: Global,
-    root: &Digest,
+    terms: &Terms,
     mirror: &mut Option<W>,
     search: Search,
     reply: Reply,
 ) -> Step
     ensures { (client : Log) → W.tells ≡ true
-        → StandsAt root.now.0 (Stage.Listening search reply) client (option_map W.log mirror.old)
-        → StandsAt root.now.0 result.stage client (option_map W.log mirror.new) }
+        → StandsAt terms.now (Stage.Listening search reply) client (option_map W.log mirror.old)
+        → StandsAt terms.now result.stage client (option_map W.log mirror.new) }
 {
     match mirror {
-        Some(wire) => listen(alloc, root, wire, search, reply),
+        Some(wire) => listen(alloc, terms, wire, search, reply),
         None => Step {
             stage: Stage::Choosing(search),
             turn: Turn::Moved(0),
@@ -92,8 +93,8 @@ fn listen_to<W: Wire>(
 
 /// Where the conversation stands once what it waits for has taken too long.
 pub(crate) fn impatient(stage: Stage) -> Stage
-    ensures { (root : List ℕ) (c : Log) (m : Option Log) → StandsAt root stage c m
-        → StandsAt root result c m }
+    ensures { (terms : TermsWord) (c : Log) (m : Option Log) → StandsAt terms stage c m
+        → StandsAt terms result c m }
 {
     match stage {
         Stage::Asking { search, .. } => Stage::Choosing(search),

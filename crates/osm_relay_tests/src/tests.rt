@@ -1,5 +1,6 @@
 //! Conversations over a network that a test plays.
 
+mod budgets;
 mod crowd;
 mod faults;
 mod memory;
@@ -61,8 +62,18 @@ fn honest_mirror(rt: &(impl Abort + AllocGlobal), set: &str, query: &[u8]) -> Re
 
 /// What the only client of a scene got, which was all of its response.
 fn got(rt: &(impl Abort + AllocGlobal), root: &Digest, scene: &mut Scene) -> Result<Vec<u8>, Fail> {
+    got_within(rt, root, scene, None)
+}
+
+/// The same, where the check of each proof has this budget.
+fn got_within(
+    rt: &(impl Abort + AllocGlobal),
+    root: &Digest,
+    scene: &mut Scene,
+    most: Option<u64>,
+) -> Result<Vec<u8>, Fail> {
     let mut roots = *root;
-    relay_many(rt.alloc(), &mut roots, scene, 1)?;
+    relay_many(rt.alloc(), &mut roots, scene, 1, most)?;
     assert_eq!(rt; scene.gone.len(), 1);
     let gone = scene.gone.pop().ok_or("a client")?;
     assert!(rt; gone.whole);

@@ -30,6 +30,7 @@ fn each_form_within_memory(rt: HostRuntime) -> Result<(), Fail> {
             "mirror",
             query,
             LIMIT,
+            None,
             &mut dial,
             &mut output,
         );
@@ -43,6 +44,7 @@ fn each_form_within_memory(rt: HostRuntime) -> Result<(), Fail> {
                 "mirror",
                 query,
                 LIMIT,
+                None,
                 &mut dial,
                 &mut output,
             )?;
@@ -70,6 +72,7 @@ fn lies_about_the_answer(rt: HostRuntime) -> Result<(), Fail> {
         "mirror",
         query,
         LIMIT,
+        None,
         &mut dial,
         &mut output,
     )?;
@@ -135,12 +138,44 @@ fn refusals(rt: HostRuntime) -> Result<(), Fail> {
             "mirror",
             query,
             limit,
+            None,
             &mut dial,
             &mut output,
         );
         assert_eq!(rt; told, Err(NotFetched::Mirror(fault)));
         assert_eq!(rt; NotFetched::Mirror(fault).status(), status);
         assert!(rt; output.is_empty());
+    }
+    Ok(())
+}
+
+/// The work of the query in OPL, by hand: seven steps of 100, and the 33 bytes of the line. The steps are the filter and the
+/// id that it reads, the candidate, the statement and the node that it finds, the object that is printed, and the statement
+/// that prints it.
+#[test]
+fn keeps_a_budget(rt: HostRuntime) -> Result<(), Fail> {
+    let alloc = rt.alloc();
+    let right = proved(alloc, QUERY)?;
+    let bytes = response(alloc, &right.root.0, &right.answer, &right.proof)?;
+    let passed = NotFetched::Mirror(MirrorFault::Work);
+    assert_eq!(rt; passed.status(), Status::Failed);
+    for (most, told, want) in [(733, Ok(()), OPL), (732, Err(passed), "")] {
+        let mut output = Vec::new(alloc);
+        let mut dial = FakeDial::new(&bytes, 100, 0);
+        let query = QUERY.as_bytes();
+        let result = fetch(
+            alloc,
+            Form::Opl,
+            &right.root,
+            "mirror",
+            query,
+            LIMIT,
+            Some(most),
+            &mut dial,
+            &mut output,
+        );
+        assert_eq!(rt; result, told);
+        assert!(rt; output.as_slice() == want.as_bytes());
     }
     Ok(())
 }
@@ -173,6 +208,7 @@ fn nobody_is_asked(rt: HostRuntime) -> Result<(), Fail> {
             host,
             bytes,
             LIMIT,
+            None,
             &mut dial,
             &mut output,
         );
@@ -199,6 +235,7 @@ fn each_call_fails(rt: HostRuntime) -> Result<(), Fail> {
             "mirror",
             query,
             LIMIT,
+            None,
             &mut dial,
             &mut output,
         );

@@ -16,9 +16,9 @@ fn shows_within_memory(rt: HostRuntime) -> Result<(), Fail> {
         answer: b"",
         proof: &right.proof,
     };
-    let shown = match show(alloc, Form::Opl, QUERY.as_bytes(), &right.root, parts) {
+    let shown = match show(alloc, Form::Opl, QUERY.as_bytes(), &right.root, parts, None) {
         Ok(shown) => shown,
-        Err(_) => show(alloc, Form::Opl, QUERY.as_bytes(), &right.root, parts)?,
+        Err(_) => show(alloc, Form::Opl, QUERY.as_bytes(), &right.root, parts, None)?,
     };
     let Shown::Answer(text) = shown else {
         assert!(rt; false);
@@ -48,7 +48,14 @@ fn shows_no_answer(rt: HostRuntime) -> Result<(), Fail> {
             answer: &right.answer,
             proof: &right.proof,
         };
-        let told = match show(alloc, Form::Json, query.as_bytes(), &right.root, parts)? {
+        let told = match show(
+            alloc,
+            Form::Json,
+            query.as_bytes(),
+            &right.root,
+            parts,
+            None,
+        )? {
             Shown::Refused(told) => Some(told),
             Shown::Unread(_) => None,
             Shown::Answer(_) => Some(MirrorFault::Unreached),

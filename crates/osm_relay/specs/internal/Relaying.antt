@@ -5,21 +5,26 @@ use Rattle.osm_relay.specs.Events.{Event, IsCause, IsDone, Relays, arrivals, is_
 use Rattle.osm_relay.specs.Relayed.{Standing}
 use Rattle.osm_relay.specs.declared.relay_fault.RelayFault.{RelayFault}
 
--- what stays the same: how many clients are wanted, which roots may be told, whether wires tell, and what the log was
+-- what stays the same: how many clients are wanted, which roots may be told, the budget, whether wires tell, and what the log was
 pub record Setting : Type 0 where
   pub wanted : ℕ
   pub trusts : List ℕ → Bool
+  pub most : Option ℕ
   pub tells : Bool
   pub base : List Event
 
 abbrev pub numbers : List Standing → List ℕ
 numbers there = map (λ (s : Standing). s.number) there
 
-abbrev pub AreTrusted : (List ℕ → Bool) → List Standing → Type 0
-AreTrusted trusts there = All (λ (s : Standing). trusts s.root ≡ true) there
+-- its root may be told, and its budget is this
+abbrev pub IsTrusted : (List ℕ → Bool) → Option ℕ → Standing → Type 0
+IsTrusted trusts most s = (trusts s.terms.root.0 ≡ true) × (s.terms.most ≡ most)
+
+abbrev pub AreTrusted : (List ℕ → Bool) → Option ℕ → List Standing → Type 0
+AreTrusted trusts most there = All (IsTrusted trusts most) there
 
 abbrev pub IsRun : Setting → List Event → Type 0
-IsRun s events = Relays s.wanted s.tells s.trusts events
+IsRun s events = Relays s.wanted s.tells s.trusts s.most events
 
 -- so many times it was waited, so many clients were taken, and these conversations are open
 pub record Stands (s : Setting) (events : List Event) (rounds taken : ℕ) (log : Option (List Event)) (there : List Standing) : Type 0 where
@@ -28,7 +33,7 @@ pub record Stands (s : Setting) (events : List Event) (rounds taken : ℕ) (log 
   pub rounds_are : waits events ≡ rounds
   pub taken_are : arrivals events ≡ taken
   pub open_are : open_ones events ≡ numbers there
-  pub trusted : AreTrusted s.trusts there
+  pub trusted : AreTrusted s.trusts s.most there
 
 -- its roots are among those that may be told
 abbrev pub Trusts : Setting → (List ℕ → Bool) → Type 0

@@ -12,6 +12,7 @@ use Rattle.osm_relay.specs.declared.question.Question.{Question}
 use Rattle.osm_relay.specs.declared.stage.Search.{Search}
 use Rattle.osm_relay.specs.declared.stage.Stage.{Stage}
 use Rattle.osm_relay.specs.declared.stage.Stage.TheVariants.{Answering, Asking, Choosing, Hearing, Listening, Over}
+use Rattle.osm_relay.specs.declared.terms.Terms.{Terms}
 use Rattle.osm_relay.specs.internal.Judging.{wanted}
 
 -- the client waits for the answer to this question
@@ -20,13 +21,13 @@ pub record IsWaiting (question : Question) (c : Log) : Type 0 where
   pub wants : Wants c.brought question.query question.form
 
 -- the mirror has taken a front of the request
-pub record IsAsking (search : Search) (root request : List ℕ) (c m : Log) : Type 0 where
+pub record IsAsking (search : Search) (terms : Terms) (request : List ℕ) (c m : Log) : Type 0 where
   pub host : List ℕ
   pub is_host : is_host_text host ≡ true
   pub front : request_text host search.question.query ≡ m.took ++ request
   pub silent : m.brought ≡ []
   pub open_is : m.ended ≡ false
-  pub fails : IsMirrorFault (wanted search.question root) (Some m) search.fault
+  pub fails : IsMirrorFault (wanted search.question terms) (Some m) search.fault
 
 -- what the mirror has sent decides nothing yet
 pub record IsListening (reply : Kept) (m : Log) : Type 0 where
@@ -44,19 +45,19 @@ pub record IsHeard (search : Search) (reply : Kept) (c m : Log) : Type 0 where
   pub whole : (named : List ℕ) × (answer : List ℕ) × (proof : List ℕ) × HasReply REPLY_LIMIT m.brought named answer proof
 
 -- the client has taken all of the response but this
-abbrev pub IsAnswering : List ℕ → List ℕ → Log → Option Log → Type 0
-IsAnswering root left c m = (response : List ℕ) × (response ≡ c.took ++ left) × Relayed root c.brought m response
+abbrev pub IsAnswering : Terms → List ℕ → Log → Option Log → Type 0
+IsAnswering terms left c m = (response : List ℕ) × (response ≡ c.took ++ left) × Relayed terms c.brought m response
 
-abbrev pub StandsAt : List ℕ → Stage → Log → Option Log → Type 0
-StandsAt root (Hearing heard) c m = (c.took ≡ []) × (m ≡ None) × (heard ≡ skip_breaks c.brought)
-StandsAt root (Choosing search) c m =
-    IsWaiting search.question c × IsMirrorFault (wanted search.question root) m search.fault × IsAskedFor c.brought m
-StandsAt root (Asking search request) c m =
-    IsWaiting search.question c × ((log : Log) × (m ≡ Some log) × IsAsking search root request c log)
-StandsAt root (Listening search reply) c m =
+abbrev pub StandsAt : Terms → Stage → Log → Option Log → Type 0
+StandsAt terms (Hearing heard) c m = (c.took ≡ []) × (m ≡ None) × (heard ≡ skip_breaks c.brought)
+StandsAt terms (Choosing search) c m =
+    IsWaiting search.question c × IsMirrorFault (wanted search.question terms) m search.fault × IsAskedFor c.brought m
+StandsAt terms (Asking search request) c m =
+    IsWaiting search.question c × ((log : Log) × (m ≡ Some log) × IsAsking search terms request c log)
+StandsAt terms (Listening search reply) c m =
     IsWaiting search.question c × ((log : Log) × (m ≡ Some log) × IsListening reply log) × IsAskedFor c.brought m
-StandsAt root (Answering left) c m = IsAnswering root left c m × IsAskedFor c.brought m
-StandsAt root (Over whole) c m = IsTakenAt (Some whole) root c m × IsAskedFor c.brought m
+StandsAt terms (Answering left) c m = IsAnswering terms left c m × IsAskedFor c.brought m
+StandsAt terms (Over whole) c m = IsTakenAt (Some whole) terms c m × IsAskedFor c.brought m
 
 abbrev pub ending_of : Stage → Option Bool
 ending_of (Hearing heard) = None

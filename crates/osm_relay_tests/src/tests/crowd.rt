@@ -12,7 +12,7 @@ fn answers_65(rt: HostRuntime) -> Result<(), Fail> {
     let mut scene = Scene::new(rt.alloc(), POST, 100)?;
     scene.add(&mirror.request, &mirror.response, Then::Closes)?;
     let mut root = mirror.root;
-    relay_many(rt.alloc(), &mut root, &mut scene, 65)?;
+    relay_many(rt.alloc(), &mut root, &mut scene, 65, None)?;
     assert_eq!(rt; scene.most_open, 64);
     assert_eq!(rt; scene.gone.len(), 65);
     for gone in &scene.gone {

@@ -12,7 +12,7 @@ fn relay_one(rt: &(impl Abort + AllocGlobal), mirror: &Honest) -> Result<(), Fai
     let mut scene = Scene::new(rt.alloc(), POST, 400)?;
     scene.add(&mirror.request, &mirror.response, Then::Closes)?;
     let mut root = mirror.root;
-    match relay_many(rt.alloc(), &mut root, &mut scene, 1) {
+    match relay_many(rt.alloc(), &mut root, &mut scene, 1, None) {
         Ok(()) => {}
         Err(fault) => assert!(rt; fault == RelayFault::Memory || fault == RelayFault::Device),
     }

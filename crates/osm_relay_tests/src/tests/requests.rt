@@ -145,7 +145,7 @@ fn says_nothing_to_the_gone(rt: HostRuntime) -> Result<(), Fail> {
         let mut scene = Scene::new(rt.alloc(), b"GET /api", 3)?;
         scene.then(then);
         let mut root = mirror.root;
-        osm_relay::relay_many(rt.alloc(), &mut root, &mut scene, 1)?;
+        osm_relay::relay_many(rt.alloc(), &mut root, &mut scene, 1, None)?;
         for gone in &scene.gone {
             assert!(rt; gone.got.is_empty() && !gone.whole);
         }

@@ -8,6 +8,6 @@ use Rattle.osm_relay.proofs.StageLemmas.{asking_done}
 use Rattle.osm_relay.proofs.asking.ask_on.Goals as goal
 
 pub returns-then-is_empty : goal.returns-then-is_empty
-returns-then-is_empty c = λ root log m is.
-    subst (λ (s : Search). StandsAt root (Listening s c.new-reply.result) log (Some (takes (take c.args.count c.args.request) m))) (sym c.failed-search.ensures)
-    (asking_done root c.args.search c.args.request log m is c.args.count c.new-reply.result c.new-reply.ensures)
+returns-then-is_empty c = λ terms log m is.
+    subst (λ (s : Search). StandsAt terms (Listening s c.new-reply.result) log (Some (takes (take c.args.count c.args.request) m))) (sym c.failed-search.ensures)
+    (asking_done terms c.args.search c.args.request log m is c.args.count c.new-reply.result c.new-reply.ensures)

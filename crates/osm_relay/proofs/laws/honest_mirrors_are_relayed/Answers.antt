@@ -3,6 +3,6 @@ use Rattle.osm_relay.proofs.laws.honest_mirrors_are_relayed.Goals as goal
 
 pub returns : goal.returns
 returns c = record {
-  begun = λ root response c m ending served taken. begun root response c m served ending taken;
-  whole = λ root response c m served taken. whole root response c m served taken;
+  begun = λ terms response c m ending served taken. begun terms response c m served ending taken;
+  whole = λ terms response c m served taken. whole terms response c m served taken;
 }

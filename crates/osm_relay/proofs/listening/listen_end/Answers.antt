@@ -9,9 +9,9 @@ use Rattle.osm_relay.proofs.listening.listen_end.Goals as goal
 
 pub returns-in-Ok : goal.returns-in-Ok
 returns-in-Ok c = λ log m is.
-    c.settle.ensures log (ends m) (heard_at_end c.args.root.now.0 c.args.search c.args.reply log m is c.in-Ok.ensures.whole)
+    c.settle.ensures log (ends m) (heard_at_end c.args.terms.now c.args.search c.args.reply log m is c.in-Ok.ensures.whole)
 
 pub returns-in-Err : goal.returns-in-Err
 returns-in-Err c = λ log m is.
-    subst (λ (s : Search). StandsAt c.args.root.now.0 (Choosing s) log (Some (ends m))) (sym c.failed.ensures)
-    (listening_ends c.args.root.now.0 c.args.search c.args.reply log m is c.in-Err.fault c.in-Err.ensures.fault)
+    subst (λ (s : Search). StandsAt c.args.terms.now (Choosing s) log (Some (ends m))) (sym c.failed.ensures)
+    (listening_ends c.args.terms.now c.args.search c.args.reply log m is c.in-Err.fault c.in-Err.ensures.fault)

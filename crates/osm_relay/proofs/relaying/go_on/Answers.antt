@@ -18,7 +18,7 @@ returns-in-None g c = λ s before rounds taken tells is heeded called.
     let first = position-Some (λ (x : Standing). x.number == c.args.number) there c.in-Some.at one at in
     let was = old_at there c.in-Some.at _ one first.0 c.index_mut-conversation.ensures.value in
     goes_on s before rounds taken _ there is _ c.in-Some.at one first.0
-    (c.take_turn-turn.ensures.root ∙ ap (λ (x : Standing). x.root) was)
+    (c.take_turn-turn.ensures.terms ∙ ap (λ (x : Standing). x.terms) was)
     (c.take_turn-turn.ensures.number ∙ ap (λ (x : Standing). x.number) was) heeded (c.note.ensures ∙ c.take_turn-turn.ensures.log)
 
 pub returns-in-Some-ending : goal.returns-in-Some-ending
@@ -35,6 +35,6 @@ returns-in-Some-ending g c = λ s before rounds taken tells is heeded called.
     ∙ ap (noted (left c.args.number whole one.client)) c.take_turn-turn.ensures.log in
     subst (λ (xs : List Standing). Moves s rounds taken (g.N.Network.log c.let_go.new.self) xs) (sym c.remove.ensures.items)
     (leaves s before rounds taken _ there is _ c.in-Some.at one first.0
-    (c.take_turn-turn.ensures.root ∙ ap (λ (x : Standing). x.root) was)
+    (c.take_turn-turn.ensures.terms ∙ ap (λ (x : Standing). x.terms) was)
     (c.take_turn-turn.ensures.number ∙ ap (λ (x : Standing). x.number) was)
     c.args.number whole called at (sym c.in-Some-ending.ensures) c.take_turn-turn.ensures.promised (c.take_turn-turn.ensures.tells ∙ sym tells) logged)

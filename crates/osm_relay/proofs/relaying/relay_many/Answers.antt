@@ -14,7 +14,7 @@ pub loop-round-init : goal.loop-round-init
 loop-round-init g c = record {
   few = omega arith;
   stands = λ base is.
-      let s : Setting = record { wanted = c.args.connections; trusts = g.R.Roots.may_tell c.args.roots.now; tells = g.W.Wire.tells; base = base } in
+      let s : Setting = record { wanted = c.args.connections; trusts = g.R.Roots.may_tell c.args.roots.now; most = c.args.most; tells = g.W.Wire.tells; base = base } in
       subst (λ (xs : List Standing). Moves s 0 0 (g.N.Network.log c.args.network.now) xs) (sym c.new-conversations.ensures.items) ([], begins s _ is, refl);
   more = λ all none. c.if-connections-eq0.false (sym all);
   roots = λ root e. e;
@@ -35,11 +35,11 @@ loop-round-preserved g c =
         | else-branch w ↦ (let is = w.taken-is in let few = c.loop-round.invariant.few in omega arith)
       ];
       stands = λ base is.
-          let s : Setting = record { wanted = c.args.connections; trusts = g.R.Roots.may_tell c.args.roots.now; tells = g.W.Wire.tells; base = base } in
+          let s : Setting = record { wanted = c.args.connections; trusts = g.R.Roots.may_tell c.args.roots.now; most = c.args.most; tells = g.W.Wire.tells; base = base } in
           let (events, st, heeded) = c.loop-round.invariant.stands base is in
           let room_is : c.room_for-room.result ≡ room_at c.args.connections c.loop-round.taken (length c.loop-round.conversations.items) = search rules in
           let w = waits_on s events _ _ _ _ st _ c.room_for-room.result (Ok c.in_ok-news.news) heeded room_is c.loop-round.invariant.more c.in_ok-news.ensures in
-          let t = c.in_ok-turn.ensures.stands s events _ refl w c.loop-round.invariant.roots room_is in
+          let t = c.in_ok-turn.ensures.stands s events _ refl refl w c.loop-round.invariant.roots room_is in
           subst (λ (n : ℕ). Moves s (c.loop-round._round + 1) n (g.N.Network.log c.turn.new.network) c.turn.new.conversations.items) (sym next) t;
       more = λ all none.
           let count : c.len-in-loop-round.result ≡ 0 = search rules in
@@ -50,7 +50,7 @@ loop-round-preserved g c =
 
 pub returns-in_err-news : goal.returns-in_err-news
 returns-in_err-news g c = λ base is.
-    let s : Setting = record { wanted = c.args.connections; trusts = g.R.Roots.may_tell c.args.roots.now; tells = g.W.Wire.tells; base = base } in
+    let s : Setting = record { wanted = c.args.connections; trusts = g.R.Roots.may_tell c.args.roots.now; most = c.args.most; tells = g.W.Wire.tells; base = base } in
     let (events, st, heeded) = c.loop-round.invariant.stands base is in
     let room_is : c.room_for-room.result ≡ room_at c.args.connections c.loop-round.taken (length c.loop-round.conversations.items) = search rules in
     shows_stop s _ c.from_residual.result c.in_err-news.field-0.0 c.from_residual.ensures.1
@@ -58,12 +58,12 @@ returns-in_err-news g c = λ base is.
 
 pub returns-in_err-turn : goal.returns-in_err-turn
 returns-in_err-turn g c = λ base is.
-    let s : Setting = record { wanted = c.args.connections; trusts = g.R.Roots.may_tell c.args.roots.now; tells = g.W.Wire.tells; base = base } in
+    let s : Setting = record { wanted = c.args.connections; trusts = g.R.Roots.may_tell c.args.roots.now; most = c.args.most; tells = g.W.Wire.tells; base = base } in
     let (events, st, heeded) = c.loop-round.invariant.stands base is in
     let room_is : c.room_for-room.result ≡ room_at c.args.connections c.loop-round.taken (length c.loop-round.conversations.items) = search rules in
     let w = waits_on s events _ _ _ _ st _ c.room_for-room.result (Ok c.in_ok-news.news) heeded room_is c.loop-round.invariant.more c.in_ok-news.ensures in
     shows_stop s _ c.from_residual-in_err-turn.result c.in_err-turn.field-0.0 c.from_residual-in_err-turn.ensures.1
-    (c.in_err-turn.ensures.stands s events _ refl w c.loop-round.invariant.roots room_is)
+    (c.in_err-turn.ensures.stands s events _ refl refl w c.loop-round.invariant.roots room_is)
 
 pub returns-then-is_done : goal.returns-then-is_done
 returns-then-is_done g c = λ base is.
@@ -71,11 +71,11 @@ returns-then-is_done g c = λ base is.
       | then-branch w ↦ w.taken-is ∙ sym (ap (λ b. if b then c.loop-round.taken + 1 else c.loop-round.taken) w.if-branch.true)
       | else-branch w ↦ w.taken-is ∙ sym (ap (λ b. if b then c.loop-round.taken + 1 else c.loop-round.taken) w.if-branch.false)
     ] in
-    let s : Setting = record { wanted = c.args.connections; trusts = g.R.Roots.may_tell c.args.roots.now; tells = g.W.Wire.tells; base = base } in
+    let s : Setting = record { wanted = c.args.connections; trusts = g.R.Roots.may_tell c.args.roots.now; most = c.args.most; tells = g.W.Wire.tells; base = base } in
     let (events, st, heeded) = c.loop-round.invariant.stands base is in
     let room_is : c.room_for-room.result ≡ room_at c.args.connections c.loop-round.taken (length c.loop-round.conversations.items) = search rules in
     let w = waits_on s events _ _ _ _ st _ c.room_for-room.result (Ok c.in_ok-news.news) heeded room_is c.loop-round.invariant.more c.in_ok-news.ensures in
-    let (all, u, quiet) = c.in_ok-turn.ensures.stands s events _ refl w c.loop-round.invariant.roots room_is in
+    let (all, u, quiet) = c.in_ok-turn.ensures.stands s events _ refl refl w c.loop-round.invariant.roots room_is in
     let facts = c.is_done.ensures.0 c.if-is_done.true in
     let count : c.len-in-loop-round.result ≡ 0 = facts.1 in
     let none : length c.turn.new.conversations.items ≡ 0 = search rules in
@@ -83,7 +83,7 @@ returns-then-is_done g c = λ base is.
 
 pub returns : goal.returns
 returns g c = λ base is.
-    let s : Setting = record { wanted = c.args.connections; trusts = g.R.Roots.may_tell c.args.roots.now; tells = g.W.Wire.tells; base = base } in
+    let s : Setting = record { wanted = c.args.connections; trusts = g.R.Roots.may_tell c.args.roots.now; most = c.args.most; tells = g.W.Wire.tells; base = base } in
     let (events, st, heeded) = c.loop-round.invariant.stands base is in
     let last : c.loop-round._round ≡ 18446744073709551615 = omega arith in
     (events, st.logged, st.run, endless s events _ _ _ _ st last c.loop-round.invariant.more)

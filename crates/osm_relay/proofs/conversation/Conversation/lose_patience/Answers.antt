@@ -10,5 +10,5 @@ returns-clause-promised g c = λ tells.
     let s = c.self.inside in
     let client = g.W.Wire.log s.client in
     let mirror = option_map g.W.Wire.log s.mirror in
-    let old = subst (λ (stage : Stage). StandsAt s.root.0 stage client mirror) (sym c.replace-stage.ensures.value) (c.self.invariant tells) in
-    promised s.root.0 c.impatient.result client mirror (c.impatient.ensures s.root.0 client mirror old)
+    let old = subst (λ (stage : Stage). StandsAt s.terms stage client mirror) (sym c.replace-stage.ensures.value) (c.self.invariant tells) in
+    promised s.terms c.impatient.result client mirror (c.impatient.ensures s.terms client mirror old)

@@ -7,4 +7,4 @@ use Rattle.osm_relay.proofs.conversation.Conversation.promise.Goals as goal
 pub returns : goal.returns
 returns g c =
     let s = c.self.inside in
-    subst IsPromised c.self.view_is (λ tells. promised s.root.0 s.stage (g.W.Wire.log s.client) (option_map g.W.Wire.log s.mirror) (c.self.invariant tells))
+    subst IsPromised c.self.view_is (λ tells. promised s.terms s.stage (g.W.Wire.log s.client) (option_map g.W.Wire.log s.mirror) (c.self.invariant tells))

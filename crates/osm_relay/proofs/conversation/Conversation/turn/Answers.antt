@@ -8,5 +8,5 @@ use Rattle.osm_relay.proofs.conversation.Conversation.turn.Goals as goal
 pub returns-clause-promised : goal.returns-clause-promised
 returns-clause-promised g c = λ tells.
     let s = c.self.inside in
-    let old = subst (λ (stage : Stage). StandsAt s.root.0 stage (g.W.Wire.log s.client) (option_map g.W.Wire.log s.mirror)) (sym c.replace-stage.ensures.value) (c.self.invariant tells) in
-    promised s.root.0 c.step_on-step.result.stage (g.W.Wire.log c.step_on-step.new.client) (option_map g.W.Wire.log c.step_on-step.new.mirror) (c.step_on-step.ensures.stage tells old)
+    let old = subst (λ (stage : Stage). StandsAt s.terms stage (g.W.Wire.log s.client) (option_map g.W.Wire.log s.mirror)) (sym c.replace-stage.ensures.value) (c.self.invariant tells) in
+    promised s.terms c.step_on-step.result.stage (g.W.Wire.log c.step_on-step.new.client) (option_map g.W.Wire.log c.step_on-step.new.mirror) (c.step_on-step.ensures.stage tells old)
