@@ -13,10 +13,10 @@ use Rattle.osm_check.specs.declared.verdict.Verdict.{Verdict}
 use Rattle.osm_check.specs.declared.verdict.Verdict.TheVariants.{Yes, No}
 use Rattle.osm_commands.specs.Budgets.{KeepsBudget}
 use Rattle.osm_commands.specs.Faults.{fault_of_check}
-use Rattle.osm_commands.specs.Files.{IfBoth, IsUnread, IsUnreadOrTooLarge}
+use Rattle.osm_commands.specs.Files.{IfBoth, IsUnreadOrTooLarge}
 use Rattle.osm_commands.specs.WholeFiles.{ReadsAs}
 use Rattle.osm_commands.specs.declared.command_fault.CommandFault.{CommandFault}
-use Rattle.osm_commands.specs.declared.command_fault.CommandFault.TheVariants.{Endless, TooLarge, Work, Memory, Device}
+use Rattle.osm_commands.specs.declared.command_fault.CommandFault.TheVariants.{Work, Memory, Device}
 use Rattle.osm_commands.proofs.QueryLemmas.{readable_same, same_work, work_same}
 
 -- ---- a fault that isn't the budget's

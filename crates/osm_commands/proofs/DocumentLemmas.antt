@@ -1,5 +1,5 @@
 -- What is written of two texts, one after the other.
-use Rattle.std.proofs.Common.{◌≡◌, ℕ, ◌+◌, ◌≤◌, List, ◌++◌, Option, ap, arith, length, length-append, subst, sym, take}
+use Rattle.std.proofs.Common.{ℕ, ◌+◌, List, ◌++◌, Option, arith, length, length-append, subst, sym, take}
 use Rattle.std.proofs.KnownBytes.{Appends-trans}
 use Rattle.std.specs.Io.KnownBytes.{Appends}
 use Rattle.std.proofs.Math.Seq.{take-append-add}

@@ -1,5 +1,4 @@
-use Rattle.std.proofs.Common.{List, ℕ, subst}
-use Rattle.osm_forms.specs.Documents.{document_in}
+use Rattle.std.proofs.Common.{subst}
 use Rattle.byte_io.specs.Written.{AppendsFront}
 use Rattle.osm_commands.proofs.DocumentLemmas.{front_of_both, front_of_first}
 use Rattle.osm_commands.proofs.document_writer.write_parts.Goals as goal
