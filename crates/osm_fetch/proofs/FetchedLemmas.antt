@@ -154,8 +154,8 @@ shown_calls f calls named answer proof reads asked reply (shows.Refused fault) f
 -- no device has failed
 pub shown_no_device : (shown : Shown) → IfErr (result_of shown) (λ fault. fault ≢ Device)
 shown_no_device (shows.Answer text) = tt
-shown_no_device (shows.Unread fault) = cc
-shown_no_device (shows.Refused fault) = cc
+shown_no_device (shows.Unread fault) = λ same. absurd (cc)
+shown_no_device (shows.Refused fault) = λ same. absurd (cc)
 
 -- without a budget no work is too much
 pub shown_limited : (shown : Shown) → shown ≢ shows.Refused Work → result_of shown ≢ Err (Mirror Work)
