@@ -1,5 +1,5 @@
 -- What is fetched, from the calls that are made.
-use Rattle.std.proofs.Common.{◌≡◌, ◌≢◌, ◌⊎◌, ◌∙◌, ℕ, ◌<◌, Bool, true, false, List, [], ◌∷◌, ◌++◌, Option, None, Some, Result, Ok, Err, IfErr, IsErrAnd, ap, append-nil, arith, inl, inr, refl, subst, sym}
+use Rattle.std.proofs.Common.{◌≡◌, ◌≢◌, ◌⊎◌, ◌∙◌, ℕ, false, List, [], ◌∷◌, ◌++◌, Option, None, Some, Result, Ok, Err, IfErr, IsErrAnd, ap, append-nil, arith, inl, inr, refl, subst, sym}
 use Rattle.std.proofs.lemmas.List.{append_cancel_right}
 use Rattle.std.specs.declared.alloc.Global.{Global}
 use Rattle.std.specs.declared.vec.Vec.{Vec}
@@ -10,7 +10,7 @@ use Rattle.ql_syntax.specs.declared.cause.QlCause.TheVariants as causes
 use Rattle.ql_syntax.specs.declared.fault.QlFault.{QlFault}
 use Rattle.osm_check.specs.Verdicts.{IsReadable}
 use Rattle.mirror_reply.specs.Calls.{Call, broken, bytes_received, ended, opened, received, sent, unsent}
-use Rattle.mirror_reply.specs.Fetches.{Ends, Fetch, HasAsked, HasFetched, HasStopped, IsSilent, IsWaiting, is_closed}
+use Rattle.mirror_reply.specs.Fetches.{Ends, Fetch, HasAsked, HasFetched, HasStopped, IsSilent, is_closed}
 use Rattle.mirror_reply.specs.Heads.{unfinished}
 use Rattle.mirror_reply.specs.Replies.{HasReply}
 use Rattle.mirror_reply.specs.Requests.{request_text}
@@ -25,10 +25,10 @@ use Rattle.mirror_answer.specs.declared.mirror_fault.MirrorFault.{MirrorFault}
 use Rattle.mirror_answer.specs.declared.mirror_fault.MirrorFault.TheVariants.{OtherRoot, Proof, Reply, Silent, Unreached, Work}
 use Rattle.mirror_answer.specs.declared.shown.Shown.{Shown}
 use Rattle.mirror_answer.specs.declared.shown.Shown.TheVariants as shows
-use Rattle.osm_fetch.specs.Fetching.{Calls, Explains, Fetching, HasCalled, IsExcused, IsMirrorFault, IsOutside, IsRefused, fetch_keeping, fetch_of}
+use Rattle.osm_fetch.specs.Fetching.{Calls, Explains, Fetching, HasCalled, IsExcused, IsMirrorFault, IsOutside, fetch_of}
 use Rattle.osm_fetch.specs.internal.Fetched.{fault_of_cause, fault_of_fetch, fault_of_query, result_of}
 use Rattle.osm_fetch.specs.declared.not_fetched.NotFetched.{NotFetched}
-use Rattle.osm_fetch.specs.declared.not_fetched.NotFetched.TheVariants.{Device, Memory, Mirror, Query}
+use Rattle.osm_fetch.specs.declared.not_fetched.NotFetched.TheVariants.{Device, Memory, Mirror}
 
 -- ---- the log
 
@@ -154,8 +154,8 @@ shown_calls f calls named answer proof reads asked reply (shows.Refused fault) f
 -- no device has failed
 pub shown_no_device : (shown : Shown) → IfErr (result_of shown) (λ fault. fault ≢ Device)
 shown_no_device (shows.Answer text) = tt
-shown_no_device (shows.Unread fault) = cc
-shown_no_device (shows.Refused fault) = cc
+shown_no_device (shows.Unread fault) = λ same. absurd (cc)
+shown_no_device (shows.Refused fault) = λ same. absurd (cc)
 
 -- without a budget no work is too much
 pub shown_limited : (shown : Shown) → shown ≢ shows.Refused Work → result_of shown ≢ Err (Mirror Work)

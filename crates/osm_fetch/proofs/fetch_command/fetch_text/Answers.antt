@@ -1,9 +1,7 @@
-use Rattle.std.proofs.Common.{◌≡◌, ◌≢◌, ◌∙◌, ◌++◌, IfErr, List, [], Err, Ok, Some, ap, inl, inr, refl, subst, sym, ℕ}
+use Rattle.std.proofs.Common.{◌≡◌, ◌≢◌, ◌∙◌, IfErr, List, [], Err, ap, inl, refl, subst, sym, ℕ}
 use Rattle.osm_check.specs.Telling.{IsProvedIn}
 use Rattle.mirror_reply.specs.Calls.{Call, bytes_received}
-use Rattle.mirror_reply.specs.Fetches.{Ends, Fetch, HasAsked}
 use Rattle.mirror_reply.specs.Replies.{HasReply}
-use Rattle.mirror_reply.specs.Requests.{request_text}
 use Rattle.mirror_reply.proofs.SpelledLemmas.{reply-unique}
 use Rattle.osm_fetch.specs.Fetching.{Calls, Explains, Fetching, HasCalled, IsExcused, IsOutside}
 use Rattle.osm_fetch.specs.declared.not_fetched.NotFetched.TheVariants.{Device}

@@ -1,7 +1,7 @@
 use Rattle.std.proofs.Common.{◌≡◌, ◌⊎◌, ℕ, List, inl, inr}
 use Rattle.tree_node.specs.Outcomes.{Clash}
 use Rattle.osm_keys.specs.Publications.{IsNodeIn, IsPublication, Publication, root_of}
-use Rattle.osm_check.specs.Telling.{IsProvedIn, IsShown}
+use Rattle.osm_check.specs.Telling.{IsProvedIn}
 use Rattle.osm_check.specs.Verdicts.{StandsIn}
 use Rattle.osm_prove.proofs.shared.NeededNodes.{needed_in}
 use Rattle.osm_fetch.specs.Fetching.{Fetching, HasShown}
