@@ -5,7 +5,7 @@ use Rattle.ql_eval.specs.declared.evaluation.Report.{Report}
 use Rattle.tree_node.specs.Outcomes.{Clash}
 use Rattle.osm_keys.specs.Publications.{IsNodeIn, IsPublication, Publication, root_of}
 use Rattle.ql_syntax.specs.Queries.{HasFault}
-use Rattle.osm_prove.specs.Budgets.{IsTooMuch, IsWorkOf}
+use Rattle.osm_prove.specs.Budgets.{IsTooMuch, IsWithin, IsWorkOf}
 use Rattle.osm_check.specs.Telling.{IsShown, IsTold}
 use Rattle.osm_check.specs.Verdicts.{IsReadable, IsRisingProof, StandsIn}
 use Rattle.osm_check.specs.declared.told.Told.TheVariants.{No}
@@ -47,9 +47,16 @@ IsFaultOf w named proof OtherRoot = (named ≢ w.root) × ((why : Why) × IsOfPr
 IsFaultOf w named proof Work = IsPassed w proof
 IsFaultOf w named proof fault = ⊥
 
+-- the proof shows the text; and under the root of a publication the query's work is within the budget, with the same
+-- exception
+pub record IsShownWithin (w : Wanted) (proof text : List ℕ) (report : Report) : Type 0 where
+  pub shown : IsShown w.query w.root w.form proof text report
+  pub within : (p : Publication) → IsPublication p → w.root ≡ root_of p → ¬ Clash (IsNodeIn p) (StandsIn proof)
+      → IsWithin (IsWorkOf (form_text w.form) p w.query) w.most
+
 -- what is shown is right: an answer is shown by the proof, and a fault is true of the query, or of the reply
 abbrev pub IsRightly : Wanted → (named proof : List ℕ) → Shown → Type 0
-IsRightly w named proof (Answer text) = (report : Report) × IsShown w.query w.root w.form proof text.items report
+IsRightly w named proof (Answer text) = (report : Report) × IsShownWithin w proof text.items report
 IsRightly w named proof (Unread fault) = HasFault w.query fault
 IsRightly w named proof (Refused fault) = IsFaultOf w named proof fault
 

@@ -8,14 +8,13 @@ use Rattle.byte_io.specs.Written.{AppendsFront}
 use Rattle.osm_forms.specs.Documents.{document_in}
 use Rattle.ql_eval.specs.declared.evaluation.Report.{Report}
 use Rattle.ql_syntax.specs.Queries.{HasFault}
-use Rattle.osm_check.specs.Telling.{IsShown}
 use Rattle.osm_check.specs.Verdicts.{IsReadable}
 use Rattle.mirror_reply.specs.Calls.{Call, bytes_received, opened}
 use Rattle.mirror_reply.specs.Fetches.{Fetch, HasAsked, IsSilent, is_closed}
 use Rattle.mirror_reply.specs.Replies.{HasReply}
 use Rattle.mirror_reply.specs.Requests.{is_host_text, request_text}
 use Rattle.mirror_reply.specs.Standings.{HasFault as HasReplyFault}
-use Rattle.mirror_answer.specs.Showing.{IsFaultOf, Wanted}
+use Rattle.mirror_answer.specs.Showing.{IsFaultOf, IsShownWithin, Wanted}
 use Rattle.mirror_answer.specs.declared.mirror_fault.MirrorFault.{MirrorFault}
 use Rattle.mirror_answer.specs.declared.mirror_fault.MirrorFault.TheVariants.{OtherRoot, Proof, Reply, Silent, Unreached, Work}
 use Rattle.osm_commands.specs.Written.{Output}
@@ -46,7 +45,7 @@ pub record HasShown (f : Fetching) (received text : List ℕ) : Type 0 where
   pub proof : List ℕ
   pub held : HasProof f received proof
   pub report : Report
-  pub shown : IsShown f.wanted.query f.wanted.root f.wanted.form proof text report
+  pub shown : IsShownWithin f.wanted proof text report
 
 -- they hold a reply that is refused so
 pub record IsRefused (f : Fetching) (received : List ℕ) (fault : MirrorFault) : Type 0 where

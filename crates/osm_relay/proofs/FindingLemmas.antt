@@ -1,5 +1,5 @@
 -- What comes of a client's bytes.
-use Rattle.std.proofs.Common.{◌≡◌, ◌∙◌, ◌++◌, ℕ, List, refl, sym, ap, subst, IfOk, inl, inr}
+use Rattle.std.proofs.Common.{◌≡◌, ℕ, List, refl, ap, IfOk, inl, inr}
 use Rattle.std.specs.Prelude.{◌≢◌, ◌⊎◌, Result, Ok, Err, Some}
 use Rattle.std.specs.declared.alloc.AllocError.{AllocError}
 use Rattle.ql_syntax.specs.Queries.{HasFault, memory_fault}

@@ -7,7 +7,7 @@ use Rattle.std.proofs.Math.Seq.{take-append-add, take-append_seam}
 use Rattle.http_messages.specs.HeadEnds.{begins_with_break, head_length, skip_breaks}
 use Rattle.http_messages.specs.Requests.{first_request}
 use Rattle.http_messages.specs.declared.limits.TheConstants.{HEAD_LIMIT}
-use Rattle.http_messages.proofs.shared.BreakLemmas.{skip-none, skip-some, skip-twice, skip-begins}
+use Rattle.http_messages.proofs.shared.BreakLemmas.{skip-none, skip-some}
 use Rattle.osm_relay.specs.internal.Kept.{IsOpen}
 
 pub open-head : (bytes : List ℕ) → begins_with_break bytes ≡ false → head_length (take HEAD_LIMIT bytes) ≡ None → IsOpen 0 bytes

@@ -1,9 +1,8 @@
 -- What a client is told where the last mirror that was asked is an honest one.
-use Rattle.std.proofs.Common.{◌≡◌, ◌∙◌, ◌⊎◌, ◌++◌, ℕ, List, [], ap, append-nil, arith, false, inl, inr, refl, subst, sym, true}
+use Rattle.std.proofs.Common.{◌≡◌, ◌∙◌, ◌++◌, ℕ, List, [], ap, append-nil, arith, false, inl, inr, refl, subst, sym, true}
 use Rattle.std.specs.Prelude.{Bool, Option, Some, None}
-use Rattle.ql_eval.specs.declared.evaluation.Report.{Report}
 use Rattle.ql_syntax.proofs.FormatLemmas.{one_format}
-use Rattle.osm_check.specs.Telling.{IsProvedIn, IsShown, IsTold}
+use Rattle.osm_check.specs.Telling.{IsProvedIn, IsTold}
 use Rattle.osm_check.specs.declared.told.Told.TheVariants.{No}
 use Rattle.osm_check.specs.declared.why.Why.{Why}
 use Rattle.osm_check.proofs.shared.HonestLemmas.{not_refused, shown_is}
@@ -13,16 +12,16 @@ use Rattle.mirror_reply.specs.Replies.{HasReply}
 use Rattle.mirror_reply.specs.Standings.{Stands, replied, waits}
 use Rattle.mirror_reply.proofs.SpelledLemmas.{reply-no_fault, reply-stands, reply-unique}
 use Rattle.mirror_reply.proofs.StandingLemmas.{stands-unique}
-use Rattle.mirror_answer.specs.Showing.{IsFaultOf, IsPassed}
+use Rattle.mirror_answer.specs.Showing.{IsPassed}
 use Rattle.mirror_answer.specs.declared.mirror_fault.MirrorFault.{MirrorFault}
 use Rattle.mirror_answer.specs.declared.mirror_fault.MirrorFault.TheVariants as faults
 use Rattle.osm_relay.specs.Errands.{BeginsErrand, answer_to}
 use Rattle.osm_relay.specs.Honest.{IsHonestlyTold, IsServed}
 use Rattle.osm_relay.specs.Logs.{Log}
 use Rattle.osm_relay.specs.MirrorTexts.{mirror_text, status_of_fault}
-use Rattle.osm_relay.specs.Pages.{document_response, error_response, starved, too_much_work}
+use Rattle.osm_relay.specs.Pages.{document_response, error_response, too_much_work}
 use Rattle.osm_relay.specs.Questions.{WantsForm, form_for}
-use Rattle.osm_relay.specs.Relayed.{Alone, Given, IsMirrorFault, IsTaken, IsTakenAt, NotGiven, Relayed, ShowsNone, Starved, Wants, wanted_under}
+use Rattle.osm_relay.specs.Relayed.{Alone, Given, IsMirrorFault, IsTaken, IsTakenAt, NotGiven, Relayed, Starved, Wants, wanted_under}
 use Rattle.osm_relay.specs.ResponseTexts.{response_text}
 use Rattle.osm_relay.specs.declared.limits.TheConstants.{REPLY_LIMIT}
 use Rattle.osm_relay.specs.declared.terms.Terms.{Terms}
@@ -103,7 +102,7 @@ module _ (terms : Terms) (response : List ℕ) (c m : Log) (is : IsServed terms 
       let same_brought : log.brought ≡ m.brought = cc in
       let here = subst (λ (t : List ℕ). HasReply REPLY_LIMIT t named answer proof) same_brought reply in
       let proved = proved_of query form wants named answer proof here in
-      let text_is = shown_is query terms.root.0 proof form is.publication is.published is.root_is is.text shown report proved.1 shows in
+      let text_is = shown_is query terms.root.0 proof form is.publication is.published is.root_is is.text shown report proved.1 shows.shown in
       inl (e ∙ ap (λ (t : List ℕ). response_text (document_response form terms.root.0 t)) text_is
       ∙ ap (λ (f : Form). response_text (document_response f terms.root.0 is.text)) (sym proved.0) ∙ sym is.response_is)
   relayed_as text (NotGiven query form fault wants fails e) =

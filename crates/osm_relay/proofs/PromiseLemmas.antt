@@ -1,9 +1,9 @@
 -- What is known of the wires at each stage keeps the promise.
-use Rattle.std.proofs.Common.{◌≡◌, ◌∙◌, List, ℕ, [], ap, sym, refl, subst, inl, inr, false, true}
-use Rattle.std.specs.Prelude.{Bool, Option, Some, None}
+use Rattle.std.proofs.Common.{◌≡◌, [], ap, sym, refl, subst, inl, inr}
+use Rattle.std.specs.Prelude.{Option, Some, None}
 use Rattle.http_messages.specs.HeadEnds.{skip_breaks}
 use Rattle.osm_relay.specs.Logs.{Log, fresh}
-use Rattle.osm_relay.specs.Relayed.{IsAskedFor, IsTaken, IsTakenAt}
+use Rattle.osm_relay.specs.Relayed.{IsAskedFor, IsTakenAt}
 use Rattle.osm_relay.specs.declared.stage.Stage.{Stage}
 use Rattle.osm_relay.specs.declared.stage.Stage.TheVariants.{Answering, Asking, Choosing, Hearing, Listening, Over}
 use Rattle.osm_relay.specs.declared.terms.Terms.{Terms}

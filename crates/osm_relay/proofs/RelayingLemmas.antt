@@ -1,15 +1,14 @@
 -- How the loop stands after each happening.
-use Rattle.std.specs.List.{All, Contains, position, remove}
-use Rattle.std.proofs.Common.{◌≡◌, ◌≢◌, ◌∙◌, ◌<◌, ◌+◌, ◌-◌, ◌^◌, ◌==◌, List, ℕ, [], ◌∷◌, ◌++◌, ap, sym, refl, subst, arith, length, map, take, drop, get_or, set, inl, inr, eq-eqb, eqb-true, ltb-true, length-append, length-set, get_or-set_same, get_or-set_other}
-use Rattle.std.specs.Prelude.{Bool, true, false, Option, Some, None, Result, Ok, Err, IsErrAnd, zero, suc, if◌then◌else◌}
+use Rattle.std.specs.List.{Contains, position, remove}
+use Rattle.std.proofs.Common.{◌≡◌, ◌≢◌, ◌∙◌, ◌<◌, ◌+◌, ◌-◌, ◌^◌, ◌==◌, List, ℕ, [], ◌∷◌, ◌++◌, ap, sym, refl, subst, arith, length, take, drop, get_or, set, inl, inr, eq-eqb, eqb-true, ltb-true, length-append, length-set, get_or-set_same, get_or-set_other}
+use Rattle.std.specs.Prelude.{Bool, true, false, Option, Some, Result, Ok, Err, IsErrAnd, zero, suc, if◌then◌else◌}
 use Rattle.std.proofs.Math.Seq.{map-set_same}
 use Rattle.std.proofs.lemmas.List.{get_or-map, length-map, map-append, nil_from_length}
 use Rattle.std.proofs.lemmas.List.Elements.{All-append, All-drop, All-push, All-set, All-take}
 use Rattle.std.proofs.lemmas.List.Quantifiers.{position-Some}
-use Rattle.osm_relay.specs.Events.{Event, Ends, IsCause, IsDone, IsDue, IsNext, IsToldRightly, arrivals, came, failed, is_called, is_invited, left, missed, noted, open_ones, room_at, waited, waits, without}
-use Rattle.osm_relay.specs.Relayed.{IsAskedFor, IsPromised, IsTakenAt, Standing}
+use Rattle.osm_relay.specs.Events.{Event, Ends, IsCause, IsDone, IsDue, IsNext, IsToldRightly, came, failed, is_called, is_invited, left, missed, noted, open_ones, room_at, waited, without}
+use Rattle.osm_relay.specs.Relayed.{IsPromised, IsTakenAt, Standing}
 use Rattle.osm_relay.specs.declared.limits.TheConstants.{CONVERSATION_LIMIT}
-use Rattle.osm_relay.specs.declared.network.News.{News}
 use Rattle.osm_relay.specs.declared.network.Room.{Room}
 use Rattle.osm_relay.specs.declared.network.Room.TheVariants.{Closed, Free, Full}
 use Rattle.osm_relay.specs.declared.relay_fault.RelayFault.{RelayFault}

@@ -1,11 +1,10 @@
 -- What is known of the wires after each step.
-use Rattle.std.proofs.Common.{◌≡◌, ◌∙◌, ◌≤◌, List, ℕ, [], ◌∷◌, ◌++◌, ap, sym, refl, subst, false, true, take, drop, length, inl, inr, append_assoc, append-nil, arith}
-use Rattle.std.specs.Prelude.{◌⊎◌, Bool, Option, Some, None, option_map}
+use Rattle.std.proofs.Common.{◌≡◌, ◌∙◌, List, ℕ, [], ◌++◌, ap, sym, refl, subst, false, true, take, drop, inl, inr, append_assoc, append-nil, arith}
+use Rattle.std.specs.Prelude.{Option, Some, None}
 use Rattle.std.proofs.lemmas.List.{take-append-drop}
 use Rattle.http_messages.specs.HeadEnds.{skip_breaks}
 use Rattle.http_messages.proofs.shared.BreakLemmas.{skip-append}
 use Rattle.ql_eval.specs.declared.evaluation.Report.{Report}
-use Rattle.osm_check.specs.Telling.{IsShown}
 use Rattle.mirror_reply.specs.Heads.{unfinished}
 use Rattle.mirror_reply.specs.Replies.{HasReply}
 use Rattle.mirror_reply.specs.Requests.{is_host_text, request_text}
@@ -14,7 +13,7 @@ use Rattle.mirror_reply.specs.Standings as standings
 use Rattle.mirror_reply.specs.Taken.{HasTaken, Kept, Tells}
 use Rattle.mirror_reply.specs.declared.reply_fault.ReplyFault.{ReplyFault}
 use Rattle.mirror_reply.specs.declared.progress.Progress.TheVariants.{More, Whole, Failed}
-use Rattle.mirror_answer.specs.Showing.{IsFaultOf}
+use Rattle.mirror_answer.specs.Showing.{IsFaultOf, IsShownWithin}
 use Rattle.mirror_answer.specs.declared.mirror_fault.MirrorFault.{MirrorFault}
 use Rattle.mirror_answer.specs.declared.mirror_fault.MirrorFault.TheVariants as faults
 use Rattle.osm_relay.specs.Errands.{BeginsErrand, Errand, answer_to, not_allowed, slots, unmet}
@@ -22,12 +21,11 @@ use Rattle.osm_relay.specs.Logs.{Log, brings, ends, fresh, takes}
 use Rattle.osm_relay.specs.MirrorTexts.{mirror_text, status_of_fault}
 use Rattle.osm_relay.specs.Pages.{document_response, error_response, starved}
 use Rattle.osm_relay.specs.Questions.{WantsForm}
-use Rattle.osm_relay.specs.Relayed.{Alone, Given, IsAlone, IsAskedFor, IsMirrorFault, IsTaken, NotGiven, Relayed, Starved, Wants}
+use Rattle.osm_relay.specs.Relayed.{Alone, Given, IsAlone, IsAskedFor, IsMirrorFault, NotGiven, Relayed, Starved, Wants}
 use Rattle.osm_relay.specs.ResponseTexts.{response_text}
 use Rattle.osm_relay.specs.declared.limits.TheConstants.{REPLY_LIMIT}
 use Rattle.osm_relay.specs.declared.question.Question.{Question}
 use Rattle.osm_relay.specs.declared.stage.Search.{Search}
-use Rattle.osm_relay.specs.declared.stage.Stage.{Stage}
 use Rattle.osm_relay.specs.declared.stage.Stage.TheVariants.{Answering, Asking, Choosing, Hearing, Listening, Over}
 use Rattle.osm_relay.specs.declared.terms.Terms.{Terms}
 use Rattle.osm_relay.specs.internal.Finding.{IsQuestionOf}
@@ -257,7 +255,7 @@ module _ (terms : Terms) (search : Search) (reply : Kept) (c : Log) (m : Log) (i
   reply_is named answer proof has = subst (λ n. HasReply n m.brought named answer proof) is.limit (has m.brought is.taken)
 
   module _ (named answer proof : List ℕ) (whole_is : HasReply REPLY_LIMIT m.brought named answer proof) where
-    pub settled_given : (response text : List ℕ) (report : Report) → IsShown search.question.query terms.root.0 search.question.form proof text report
+    pub settled_given : (response text : List ℕ) (report : Report) → IsShownWithin (wanted search.question terms) proof text report
         → response ≡ response_text (document_response search.question.form terms.root.0 text) → StandsAt terms (Answering response) c (Some m)
     settled_given response text report shows e = (
       begins terms c (Some m) response is.waits_for.silent

@@ -4,13 +4,12 @@ use Rattle.std.specs.Prelude.{◌≡◌, ◌⊎◌, ℕ, Bool, true, false, List
 use Rattle.ql_syntax.specs.Queries.{HasFault}
 use Rattle.ql_syntax.specs.declared.fault.QlFault.{QlFault}
 use Rattle.ql_eval.specs.declared.evaluation.Report.{Report}
-use Rattle.osm_check.specs.Telling.{IsShown}
 use Rattle.osm_forms.specs.declared.form.Form.{Form}
 use Rattle.mirror_reply.specs.Replies.{HasReply}
 use Rattle.mirror_reply.specs.Requests.{is_host_text, request_text}
 use Rattle.mirror_reply.specs.Standings as standings
 use Rattle.mirror_reply.specs.Standings.{Stands, waits}
-use Rattle.mirror_answer.specs.Showing.{IsFaultOf, Wanted}
+use Rattle.mirror_answer.specs.Showing.{IsFaultOf, IsShownWithin, Wanted}
 use Rattle.mirror_answer.specs.declared.mirror_fault.MirrorFault.{MirrorFault}
 use Rattle.mirror_answer.specs.declared.mirror_fault.MirrorFault.TheVariants.{OtherRoot, Proof, Reply, Silent, Unreached, Work}
 use Rattle.osm_relay.specs.Errands.{Errand, HasErrand, answer_to, not_allowed, slots, unmet}
@@ -68,7 +67,7 @@ pub data Relayed (terms : Terms) (brought : List ℕ) (mirror : Option Log) (res
   Alone : (e : Errand) → HasErrand brought e → mirror ≡ None → IsAlone e response → Relayed terms brought mirror response
   -- the document of the text that the proof of the reply shows
   Given : (query : List ℕ) (form : Form) (m : Log) (named answer proof text : List ℕ) (report : Report) → Wants brought query form → mirror ≡ Some m
-      → HasReply REPLY_LIMIT m.brought named answer proof → IsShown query terms.root.0 form proof text report
+      → HasReply REPLY_LIMIT m.brought named answer proof → IsShownWithin (wanted_under terms query form) proof text report
       → response ≡ response_text (document_response form terms.root.0 text) → Relayed terms brought mirror response
   -- why there is none
   NotGiven : (query : List ℕ) (form : Form) (fault : MirrorFault) → Wants brought query form

@@ -1,12 +1,11 @@
 -- What the code finds of a client's bytes.
-use Rattle.std.specs.Prelude.{◌≡◌, ℕ, List, None, Some}
+use Rattle.std.specs.Prelude.{◌≡◌, ℕ, List, None}
 use Rattle.http_messages.specs.Requests.{first_request}
 use Rattle.osm_relay.specs.Errands.{BeginsErrand, Errand, answer_to, not_allowed, slots, unmet}
 use Rattle.osm_relay.specs.Questions.{WantsForm}
 use Rattle.osm_relay.specs.Relayed.{IsAlone}
 use Rattle.osm_relay.specs.declared.finding.Found.{Found}
 use Rattle.osm_relay.specs.declared.finding.Found.TheVariants.{Ask, Open, Respond}
-use Rattle.osm_relay.specs.declared.hearing.Heard.{Heard}
 use Rattle.osm_relay.specs.declared.hearing.Reaction.{Reaction}
 use Rattle.osm_relay.specs.declared.hearing.Reaction.TheVariants as reactions
 use Rattle.osm_relay.specs.declared.question.Question.{Question}

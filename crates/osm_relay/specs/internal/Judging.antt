@@ -1,8 +1,7 @@
 -- What a reply comes to.
 use Rattle.std.specs.Prelude.{◌≡◌, ℕ, List}
 use Rattle.ql_eval.specs.declared.evaluation.Report.{Report}
-use Rattle.osm_check.specs.Telling.{IsShown}
-use Rattle.mirror_answer.specs.Showing.{IsFaultOf, Wanted}
+use Rattle.mirror_answer.specs.Showing.{IsFaultOf, IsShownWithin, Wanted}
 use Rattle.osm_relay.specs.Pages.{document_response}
 use Rattle.osm_relay.specs.Relayed.{wanted_under}
 use Rattle.osm_relay.specs.ResponseTexts.{response_text}
@@ -17,6 +16,6 @@ wanted q terms = wanted_under terms q.query q.form
 -- the proof shows the text of the document, or the fault is true of the reply
 abbrev pub Judges : Question → Terms → (named proof : List ℕ) → Judged → Type 0
 Judges q terms named proof (Given response) =
-    (text : List ℕ) × (report : Report) × IsShown q.query terms.root.0 q.form proof text report
+    (text : List ℕ) × (report : Report) × IsShownWithin (wanted q terms) proof text report
     × (response.items ≡ response_text (document_response q.form terms.root.0 text))
 Judges q terms named proof (Refused fault) = IsFaultOf (wanted q terms) named proof fault

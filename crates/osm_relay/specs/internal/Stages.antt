@@ -6,7 +6,7 @@ use Rattle.mirror_reply.specs.Standings.{Stands, waits}
 use Rattle.mirror_reply.specs.Requests.{is_host_text, request_text}
 use Rattle.mirror_reply.specs.Taken.{HasTaken, Kept}
 use Rattle.osm_relay.specs.Logs.{Log}
-use Rattle.osm_relay.specs.Relayed.{IsAskedFor, IsMirrorFault, IsTaken, IsTakenAt, IsTakenWhole, Relayed, Standing, Wants}
+use Rattle.osm_relay.specs.Relayed.{IsAskedFor, IsMirrorFault, IsTakenAt, Relayed, Wants}
 use Rattle.osm_relay.specs.declared.limits.TheConstants.{REPLY_LIMIT}
 use Rattle.osm_relay.specs.declared.question.Question.{Question}
 use Rattle.osm_relay.specs.declared.stage.Search.{Search}

@@ -10,7 +10,7 @@ use Rattle.osm_fetch.proofs.laws.fetched_answers_are_right.Goals as goal
 right : (p : Publication) (f : Fetching) (received text : List ℕ) → IsPublication p → f.wanted.root ≡ root_of p → (h : HasShown f received text)
     → IsProvedIn p f.wanted.query f.wanted.form text h.proof ⊎ Clash (IsNodeIn p) (StandsIn h.proof)
 right p f received text is root h =
-    let s = h.shown in
+    let s = h.shown.shown in
     elim (s.shows p is root) [
       | inl (just, means) ↦ inl (record { statements = s.statements; reads = s.whole.reads; means = means; proof_is = record { nodes = s.nodes; lists = s.whole.lists; rising = s.whole.rising; needed = just } })
       | inr (a, b, needed, stands, differ, same) ↦ inr (a, b, needed_in p s.statements a needed, (s.nodes, s.whole.lists, stands), differ, same)

@@ -1,4 +1,4 @@
-use Rattle.std.proofs.Common.{sym, ◌∙◌}
+use Rattle.std.proofs.Common.{◌∙◌}
 use Rattle.std.specs.Prelude.{option_map}
 use Rattle.osm_relay.proofs.DialledLemmas.{dialled}
 use Rattle.osm_relay.proofs.choosing.choose.Goals as goal

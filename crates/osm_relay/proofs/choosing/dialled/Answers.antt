@@ -1,8 +1,4 @@
-use Rattle.std.proofs.Common.{sym, subst, List, ℕ, ◌∙◌}
-use Rattle.std.specs.Prelude.{Some}
-use Rattle.osm_relay.specs.Logs.{fresh}
-use Rattle.osm_relay.specs.declared.stage.Stage.TheVariants.{Asking}
-use Rattle.osm_relay.specs.internal.Stages.{StandsAt}
+use Rattle.std.proofs.Common.{◌∙◌}
 use Rattle.osm_relay.proofs.StageLemmas.{choosing_none, choosing_some}
 use Rattle.osm_relay.proofs.choosing.dialled.Goals as goal
 

@@ -5,7 +5,6 @@ use Rattle.http_messages.specs.HeadEnds.{begins_with_break, skip_breaks}
 use Rattle.osm_relay.specs.declared.finding.Found.{Found}
 use Rattle.osm_relay.specs.declared.finding.Found.TheVariants.{Ask, Respond}
 use Rattle.osm_relay.specs.internal.Finding.{IsFound}
-use Rattle.osm_relay.specs.internal.Kept.{IsOpen}
 use Rattle.osm_relay.proofs.HeardLemmas.{later-all, scanned-before, still-waits}
 use Rattle.osm_relay.proofs.hearing.hear_piece.Goals as goal
 use Rattle.osm_relay.proofs.hearing.hear_piece.Goals.{then-needed-eq0, else-needed-eq0}

@@ -1,7 +1,7 @@
 use Rattle.std.proofs.Common.{◌≡◌, ◌++◌, IfOk, List, ℕ, codes, rules, subst}
 use Rattle.std.specs.Prelude.{None, option_map}
 use Rattle.osm_relay.specs.Pages.{escaped, page}
-use Rattle.osm_relay.specs.ResponseTexts.{HeadParts, Response, response_text}
+use Rattle.osm_relay.specs.ResponseTexts.{HeadParts, response_text}
 use Rattle.osm_relay.specs.declared.page.TheConstants.{PAGE_END, PAGE_START}
 use Rattle.osm_relay.proofs.page.page_response.Goals as goal
 

@@ -1,4 +1,4 @@
-use Rattle.std.proofs.Common.{◌∙◌, false, sym, subst}
+use Rattle.std.proofs.Common.{false, sym, subst}
 use Rattle.osm_relay.specs.Logs.{Log}
 use Rattle.osm_relay.specs.declared.stage.Stage.{Stage}
 use Rattle.osm_relay.specs.declared.stage.Stage.TheVariants.{Hearing, Over}

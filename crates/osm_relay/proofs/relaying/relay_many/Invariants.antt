@@ -2,7 +2,7 @@
 use Rattle.std.proofs.Common.{◌≡◌, ◌≤◌, List, ℕ, Some, true}
 use Rattle.std.specs.Prelude.{length}
 use Rattle.osm_relay.specs.Events.{Event}
-use Rattle.osm_relay.specs.internal.Relaying.{Moves, Setting}
+use Rattle.osm_relay.specs.internal.Relaying.{Moves}
 use Rattle.osm_relay.proofs.relaying.relay_many.Given as goal
 
 abbrev pub invariant-loop-round : goal.invariant-loop-round

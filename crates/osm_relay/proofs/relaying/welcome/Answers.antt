@@ -1,4 +1,4 @@
-use Rattle.std.proofs.Common.{◌≡◌, ◌∙◌, ◌++◌, ◌∷◌, ◌+◌, List, ℕ, [], ap, rules, subst, sym, true}
+use Rattle.std.proofs.Common.{◌≡◌, ◌∙◌, ◌++◌, ◌∷◌, ◌+◌, List, [], ap, rules, subst, sym}
 use Rattle.std.specs.Prelude.{Ok}
 use Rattle.osm_relay.specs.Events.{noted, taken_as}
 use Rattle.osm_relay.specs.Relayed.{Standing}
