@@ -105,6 +105,7 @@ function refusalOf(mirror, status, body) {
   if (status === 413) return new NotAnswered(SAY.tooLarge);
   if (status === 429) return new NotAnswered(SAY.tooMany);
   if (status === 503 && line === "no memory") return new NotAnswered(SAY.mirrorMemory);
+  if (status === 503 && line === "too much work") return new NotAnswered(SAY.tooMuchWork);
   if (status >= 502 && status <= 504) return new NotAnswered(SAY.mirrorDown(status));
   return new NotAnswered(SAY.status(status, line.startsWith("<") ? "" : line));
 }

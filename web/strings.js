@@ -180,6 +180,7 @@ export const SAY = {
   tooLarge: "The mirror takes no query of this size (413).",
   tooMany: "Too many requests: the mirror wants you to wait a moment (429).",
   mirrorMemory: "The mirror is out of memory (503). Ask later, or another mirror.",
+  tooMuchWork: "The query is too much work for this mirror (503). Ask for less: a smaller box, or fewer statements.",
   mirrorDown: (status) => `The server before the mirror answers, but the mirror doesn't (${status}). Ask later, or another mirror.`,
   status: (status, text) => `The mirror says ${status}${text ? `: ${text}` : ""}.`,
 

@@ -96,6 +96,7 @@ STATUSES = {
     "too-many": (429, b"<html>slow down</html>"),
     "bad-gateway": (502, b"<html>bad gateway</html>"),
     "no-memory": (503, b"no memory\n"),
+    "too-much-work": (503, b"too much work\n"),
     "garbage": (200, b"this is no answer"),
     "short": (200, bytes(32) + (1 << 40).to_bytes(8, "big") + b"n1\n"),
 }

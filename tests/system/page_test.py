@@ -317,8 +317,9 @@ def check_no_answer(tally, page, liar):
     """Whatever keeps a mirror from answering is told in words."""
     for name, want in [
         ("not-found", "there is no /api/checked"), ("too-large", "413"), ("too-many", "429"), ("bad-gateway", "502"),
-        ("no-memory", "out of memory (503)"), ("garbage", "something else"), ("short", "something else"),
-        ("broken-off", "broke off"), ("closed", "no Access-Control-Allow-Origin"),
+        ("no-memory", "out of memory (503)"), ("too-much-work", "too much work for this mirror (503)"),
+        ("garbage", "something else"), ("short", "something else"), ("broken-off", "broke off"),
+        ("closed", "no Access-Control-Allow-Origin"),
     ]:
         state, verdict, _ = ask(page, f"{liar}/{name}", QUERY)
         tally.check(f"no answer: {name}", state == "fault" and want in verdict, state, verdict)
