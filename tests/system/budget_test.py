@@ -1,5 +1,6 @@
 """Budgets for the work of a query: `serve --max-work` refuses at once what would take long, and serves on; on each side of a
-query's work all mirrors of a set say the same; `check --max-work` has no verdict on what takes more."""
+query's work all mirrors of a set say the same; `check --max-work` has no verdict on what takes more, and `fetch` and `relay`
+give no answer."""
 
 import shutil
 import socket
@@ -7,6 +8,7 @@ import tempfile
 import time
 from pathlib import Path
 
+from relay_test import asked, error_of, relay
 from runs import PROGRAM, TOP, Outcome, Tally, run
 from serve_test import all_of, nginx_before, server, told
 
@@ -23,6 +25,8 @@ YES = Outcome(b"yes\n", b"", 0)
 NO_WORK = Outcome(b"", b"no work\n", 3)
 TOO_LARGE = Outcome(b"", b"too large\n", 3)
 DEVICE = Outcome(b"", b"device\n", 3)
+TOO_MUCH_WORK = Outcome(b"", b"too much work\n", 3)
+STRICT = Outcome(b"", b"the mirror answered with status 503\n", 3)
 
 # Queries over the four objects, and their work, by hand: 1 for a byte, 100 for a step (docs/FORMATS.md).
 WORKS = [
@@ -183,6 +187,38 @@ def check_verdicts(tally):
                 tally.check(f"check {query}: {name}", outcome == want, outcome)
 
 
+def check_fetch(tally):
+    """`fetch` on each side of a query's work; and from a mirror that has no work to give."""
+    with server(FOUR) as free, server(FOUR, "--max-work", 0) as strict:
+        root = told(free, [b"GET /api/root HTTP/1.1\r\n\r\n"]).split()[-1]
+        for query, work in WORKS:
+            words = [root, f"127.0.0.1:{free.port}", query]
+            whole = run([PROGRAM, "fetch", *words])
+            tally.check(f"fetch {query}", whole.status == 0 and whole.stderr == b"", whole)
+            for budget, want in [(work - 1, TOO_MUCH_WORK), (work, whole), (GREATEST, whole)]:
+                outcome = run([PROGRAM, "fetch", "--max-work", str(budget), *words])
+                tally.check(f"fetch {query} within {budget}", outcome == want, outcome)
+            outcome = run([PROGRAM, "fetch", root, f"127.0.0.1:{strict.port}", query])
+            tally.check(f"fetch {query} from a strict mirror", outcome == STRICT, outcome)
+
+
+def check_relay(tally):
+    """A relay answers within its budget what it answers without one, and else says that it is too much work."""
+    query = "[out:json];node(1);out;"
+    with server(FOUR) as free:
+        root = told(free, [b"GET /api/root HTTP/1.1\r\n\r\n"]).split()[-1]
+        place = f"127.0.0.1:{free.port}"
+        with relay(place, root=root) as running:
+            status, _, whole = asked(running.site, query)
+        tally.check("the relay answers", status == 200, status, whole)
+        # It takes seven steps, and the bytes of an object.
+        for budget, want in [(700, 503), (GREATEST, 200)]:
+            with relay(place, "--max-work", str(budget), root=root) as running:
+                status, _, body = asked(running.site, query)
+                said = body == whole if want == 200 else error_of(body) == "too much work"
+                tally.check(f"the relay within {budget}", status == want and said, status, body)
+
+
 def check_nginx(tally):
     """Behind nginx a query that is too much work for one mirror isn't asked of the next one as well."""
     if missing := [name for name in ("nginx", "openssl", "curl") if shutil.which(name) is None]:
@@ -205,6 +241,8 @@ def main():
     check_sides(tally)
     check_nothing(tally)
     check_verdicts(tally)
+    check_fetch(tally)
+    check_relay(tally)
     with tempfile.TemporaryDirectory() as room:
         file = Path(room) / "set.opl"
         file.write_text(set_text(), encoding="ascii")
