@@ -175,6 +175,8 @@ def page_server(data=None):
             super().end_headers()
 
         def do_GET(self):
+            # One handler serves all requests of a connection, each from its own folder.
+            self.directory = str(WEB)
             if data is not None and self.path.startswith("/data/"):
                 self.directory, self.path = str(data), self.path.removeprefix("/data")
             where = re.match(r"/limit-(\d+)(/.*)", self.path)
