@@ -1,9 +1,9 @@
 #!/usr/bin/env bash
 # Checking in the page: an answer with a proof of 13 KB, one of 1 MB and one of 40 MB over the mixed extract of 1,155,000
 # objects. In headless Chromium by out/osm_check.wasm and, where web/build made it, osm_check_32.wasm; beside the same
-# static library as machine code in a process of its own, in the same run. Prints the check alone, the first one and the mean
-# of the later half, beside the median of the machine code; and the median of the whole call in the page, with an instance of
-# its own and the bytes handed over. Besides, what the module's size is.
+# static library as machine code in a process of its own, in turn. Prints the check alone, the first one and the mean of the
+# later half, beside the median of the machine code; and the median of the whole call in the page, with an instance of its
+# own and the bytes handed over; of five rounds the least of each. Besides, what the module's size is.
 #
 #   apt-get install chromium
 #   bench/page.sh [RUNS]
